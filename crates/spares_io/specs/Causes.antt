@@ -1,0 +1,18 @@
+-- When a count of faults shows a fault.
+use Rattle.std.specs.Prelude.{◌≤◌, ◌+◌, ◌-◌, ◌^◌, ℕ, min}
+
+-- a count after one more fault, which stands still at its end
+abbrev pub next_count : ℕ → ℕ
+next_count count = min (count + 1) (2 ^ 64 - 1)
+
+-- the count rose in the call, or it stands at its end
+abbrev pub Rose : ℕ → ℕ → Type 0
+Rose before now = next_count before ≤ now
+
+-- a count is at most 2 ^ 64 - 1
+abbrev pub Fits64 : ℕ → Type 0
+Fits64 n = n ≤ 2 ^ 64 - 1
+
+-- the count of a field that the code keeps as a `u64`
+abbrev pub count64 : ℕ → ℕ
+count64 n = min n (2 ^ 64 - 1)

@@ -1,0 +1,25 @@
+//! The edge of the planner: names that hold bytes, and a place to put bytes.
+#![tactic(auto)]
+
+mod files;
+mod list;
+mod memory_shelf;
+mod memory_sink;
+mod schedule;
+mod shelf;
+mod sink;
+mod std_sink;
+mod stop;
+#[cfg(test)]
+mod tests;
+mod text;
+
+pub use files::FileShelf;
+pub use list::List;
+pub use memory_shelf::MemShelf;
+pub use memory_sink::MemSink;
+pub use shelf::{Shelf, ShelfError};
+pub use sink::{Sink, SinkFailed};
+pub use std_sink::StdSink;
+pub use stop::{NoMemory, Stop};
+pub use text::Text;

@@ -1,0 +1,33 @@
+//! Which calls of a shelf or a sink in memory are to fail.
+ghost use Rattle.std.specs.Prelude.{◌≡◌};
+ghost use Rattle.spares_io.specs.Causes.{next_count};
+ghost use Rattle.spares_io.specs.Memory.{is_listed};
+
+/// The numbers of the calls that are to fail, and how many calls there were.
+#[derive(Drop)]
+pub(crate) struct Schedule {
+    fails: Vec<u32>,
+    calls: u64,
+}
+
+impl Schedule {
+    /// The calls of these numbers are to fail, and none has come yet.
+    pub(crate) fn new(fails: Vec<u32>) -> Schedule
+        ensures fails { result.fails.items ≡ fails.items }
+        ensures calls { result.calls ≡ 0 }
+    {
+        Schedule { fails, calls: 0 }
+    }
+
+    /// Numbers the next call, and says whether it is to fail. The number stands still at
+    /// `u64::MAX`, past all that can be listed.
+    pub(crate) fn begin_call(&mut self) -> bool
+        ensures fails { self.new.fails.items ≡ self.old.fails.items }
+        ensures calls { self.new.calls ≡ next_count self.old.calls }
+        ensures listed { result ≡ is_listed self.old.fails.items (next_count self.old.calls) }
+    {
+        let number = self.calls.saturating_add(1);
+        self.calls = number;
+        self.fails.iter().any(|listed| u64::from(*listed) == number)
+    }
+}
