@@ -1,0 +1,10 @@
+//! Exact decimals and ratios: the numbers that a user writes, read without rounding.
+#![tactic(auto)]
+
+mod decimal;
+mod ratio;
+#[cfg(test)]
+mod tests;
+
+pub use decimal::{Decimal, NumberFault, read_decimal, reads_as_defined, reads_one_answer};
+pub use ratio::Ratio;
