@@ -1,0 +1,62 @@
+-- Intervals by their ends, and the rounding of each operation. An end is a whole number in units of 2^-f.
+use Rattle.std.specs.Prelude.{ℕ, ◌+◌, ◌-◌, ◌*◌, ◌/◌, ◌^◌, ◌≤◌, ◌<◌, min, max}
+use Rattle.std.specs.Int.{div_ceil}
+use Rattle.exact_model.specs.Fraction.{Fraction, Contains}
+
+-- the two ends of an interval
+pub record Ends : Type 0 where
+  pub lo : ℕ
+  pub hi : ℕ
+
+-- how many binary places the ends may have
+abbrev pub InScale : ℕ → Type 0
+InScale f = (24 ≤ f) × (f ≤ 52)
+
+-- what is true of every interval with f places
+pub record IsInterval (f : ℕ) (x : Ends) : Type 0 where
+  pub least_scale : 24 ≤ f
+  pub most_scale : f ≤ 52
+  pub ordered : x.lo ≤ x.hi
+  pub room : x.hi < 2 ^ 127
+
+-- the interval contains the fraction q
+abbrev pub In : ℕ → Ends → Fraction → Type 0
+In f x q = Contains f x.lo x.hi q
+
+-- ---- the ends of each operation: `a / b` is a quotient rounded down, and `div_ceil a b` rounded up
+
+-- the whole number k
+abbrev pub ends_exact : ℕ → ℕ → Ends
+ends_exact f k = record { lo = k * 2 ^ f; hi = k * 2 ^ f }
+
+-- num / den
+abbrev pub ends_ratio : ℕ → ℕ → ℕ → Ends
+ends_ratio f num den = record { lo = num * 2 ^ f / den; hi = div_ceil (num * 2 ^ f) den }
+
+abbrev pub ends_add : Ends → Ends → Ends
+ends_add a b = record { lo = a.lo + b.lo; hi = a.hi + b.hi }
+
+-- a difference below 0 is cut at 0, as `-` is
+abbrev pub ends_less : Ends → Ends → Ends
+ends_less a b = record { lo = a.lo - b.hi; hi = a.hi - b.lo }
+
+-- k times a
+abbrev pub ends_times : Ends → ℕ → Ends
+ends_times a k = record { lo = a.lo * k; hi = a.hi * k }
+
+-- a over k
+abbrev pub ends_over : Ends → ℕ → Ends
+ends_over a k = record { lo = a.lo / k; hi = div_ceil a.hi k }
+
+abbrev pub ends_mul : ℕ → Ends → Ends → Ends
+ends_mul f a b = record { lo = a.lo * b.lo / 2 ^ f; hi = div_ceil (a.hi * b.hi) (2 ^ f) }
+
+abbrev pub ends_div : ℕ → Ends → Ends → Ends
+ends_div f a b = record { lo = a.lo * 2 ^ f / b.hi; hi = div_ceil (a.hi * 2 ^ f) b.lo }
+
+abbrev pub ends_max : Ends → Ends → Ends
+ends_max a b = record { lo = max a.lo b.lo; hi = max a.hi b.hi }
+
+-- a, known to be at most c units
+abbrev pub ends_capped : Ends → ℕ → Ends
+ends_capped a c = record { lo = min a.lo c; hi = min a.hi c }
