@@ -1,0 +1,59 @@
+-- The bound on the ratios, the remainder and the pivot, as the code finds them.
+use Rattle.std.proofs.Common.{◌≡◌, ℕ, ◌+◌, ◌-◌, ◌*◌, ◌/◌, ◌<◌, ◌≤◌, ◌^◌, max, true, false, ap, ap₂, sym, ◌∙◌, subst, refl, arith, pow_pos, mul-le-mul_right}
+use Rattle.std.specs.Int.{div_ceil}
+use Rattle.std.proofs.Math.Nat.{mul-pos, lt_of_mul-lt-mul_right, zero-div}
+use Rattle.std.proofs.lemmas.Bool.{lt-ltb, le-ltb}
+use Rattle.fixed_interval.specs.Ends.{Ends, ends_less, ends_mul}
+use Rattle.series_bounds.specs.Profile.{ratio_ends, far_ratio, ratio_bound, has_remainder, remainder_from, pivot_at}
+use Rattle.series_bounds.proofs.Ranges.{ceil_most, ceil_above}
+
+pub bound_is : (f : ℕ) (m d : Ends) (K b hi far : ℕ) (r : Ends) → hi ≡ r.hi → r ≡ ratio_ends f m d (K + 1) → far ≡ far_ratio f d → b ≡ max hi far → b ≡ ratio_bound f m d K
+unfolding ratio_bound
+bound_is f m d K b hi far r h hr hf hb = rw (hb, h, hr, hf) refl
+
+pub exists_is : (f : ℕ) (m d : Ends) (K b : ℕ) → b ≡ ratio_bound f m d K → b < 2 ^ f → has_remainder f m d K ≡ true
+unfolding has_remainder
+exists_is f m d K b h l = lt-ltb (ratio_bound f m d K) (2 ^ f) (subst (λ z. z < 2 ^ f) h l)
+
+pub missing_is : (f : ℕ) (m d : Ends) (K b : ℕ) → b ≡ ratio_bound f m d K → 2 ^ f ≤ b → has_remainder f m d K ≡ false
+unfolding has_remainder
+missing_is f m d K b h l = le-ltb (ratio_bound f m d K) (2 ^ f) (subst (λ z. 2 ^ f ≤ z) h l)
+
+pub rest_is : (f : ℕ) (m d : Ends) (K b top t : ℕ) → b ≡ ratio_bound f m d K → t ≡ top → div_ceil (t * b) (2 ^ f - b) ≡ remainder_from f m d top K
+unfolding remainder_from
+rest_is f m d K b top t h e = rw (e, h) refl
+
+pub pivot_is : (f : ℕ) (m d : Ends) (n x o : ℕ) (e : Ends) → x ≡ e.lo → e ≡ ends_less m d → o ≡ 2 ^ f → n ≡ x / o → n ≡ pivot_at f m d
+unfolding pivot_at
+pivot_is f m d n x o e h k ho hn = hn ∙ ap₂ (λ y z. y / z) (h ∙ ap (λ (z : Ends). z.lo) k) ho
+
+-- product / gap rounded up is at most t where the product is at most t gaps, and above t where it is more
+pub few_gaps : (n gap t : ℕ) → 0 < gap → n ≤ t * gap → div_ceil n gap ≤ t
+few_gaps n gap t p h = ceil_most n gap t p h
+
+pub many_gaps : (n gap t : ℕ) → 0 < gap → t * gap < n → t < div_ceil n gap
+many_gaps n gap t p h =
+    let a : n ≤ div_ceil n gap * gap = ceil_above n gap (div_ceil n gap) p refl in
+    lt_of_mul-lt-mul_right gap (omega arith)
+
+-- from 0 to 1 unit, times a ratio above 0 and at most 1
+one_of : (n d : ℕ) → 0 < n → n ≤ d → div_ceil (1 * n) d ≡ 1
+one_of n d p h =
+    let a : div_ceil (1 * n) d ≤ 1 = ceil_most (1 * n) d 1 (omega arith) (omega arith) in
+    let b : 0 < div_ceil (1 * n) d = many_gaps (1 * n) d 0 (omega arith) (omega arith) in
+    omega arith
+
+small_stays : (f : ℕ) (r : Ends) → 0 < r.hi → r.hi ≤ 2 ^ f → ends_mul f (record { lo = 0; hi = 1 }) r ≡ record { lo = 0; hi = 1 }
+small_stays f r p h =
+    let e : 0 * r.lo ≡ 0 = omega arith in
+    ap₂ (λ y z. record { lo = y; hi = z }) (ap (λ y. y / 2 ^ f) e ∙ zero-div (2 ^ f)) (one_of r.hi (2 ^ f) p h)
+
+pub weight_stays : (f : ℕ) (m d w : Ends) (x : ℕ) → 0 < x → 0 < m.hi → w.lo ≡ 0 → w.hi ≡ 1 → m.hi + d.hi * (x - 1) ≤ (1 * 2 ^ f + d.lo) * x → w ≡ ends_mul f w (ratio_ends f m d x)
+unfolding ratio_ends
+weight_stays f m d w x p q l h k =
+    let o : 0 < 2 ^ f = pow_pos f in
+    let b : 0 < (1 * 2 ^ f + d.lo) * x = mul-pos {m = 1 * 2 ^ f + d.lo} {n = x} (omega arith) p in
+    let i : w ≡ record { lo = 0; hi = 1 } = ap₂ (λ y z. record { lo = y; hi = z }) l h in
+    let top : (ratio_ends f m d x).hi ≤ 2 ^ f = ceil_most ((m.hi + d.hi * (x - 1)) * 2 ^ f) ((1 * 2 ^ f + d.lo) * x) (2 ^ f) b (omega (arith, mul-le-mul_right (2 ^ f) k)) in
+    let least : 0 < (ratio_ends f m d x).hi = many_gaps ((m.hi + d.hi * (x - 1)) * 2 ^ f) ((1 * 2 ^ f + d.lo) * x) 0 b (omega (arith, mul-pos {m = m.hi + d.hi * (x - 1)} {n = 2 ^ f} (omega arith) o)) in
+    i ∙ sym (small_stays f (ratio_ends f m d x) least top) ∙ ap (λ (z : Ends). ends_mul f z (ratio_ends f m d x)) (sym i)

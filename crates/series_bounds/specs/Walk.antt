@@ -1,0 +1,21 @@
+-- What the walks down and up from the pivot find.
+use Rattle.std.specs.Prelude.{◌≡◌, ℕ, suc, false, ◌-◌, ◌*◌, ◌^◌, ◌<◌, ◌≤◌, List}
+use Rattle.fixed_interval.specs.Ends.{Ends}
+use Rattle.series_bounds.specs.Profile.{remainder_at, weight_ends, least_end, last_index, pivot_at, listed, is_wide}
+
+-- the weights from 0 to the pivot, none of which passes 8
+pub record ToPivot (f : ℕ) (m d : Ends) (list : List Ends) : Type 0 where
+  pub weights : list ≡ listed (weight_ends f m d) (suc (pivot_at f m d))
+  pub tops : (x : ℕ) → x ≤ pivot_at f m d → (weight_ends f m d x).hi ≤ 8 * 2 ^ f
+
+-- the weights below the first index at which the list may end, the last of them in last, none of which passes 8
+pub record ToLeastEnd (f : ℕ) (m d : Ends) (list : List Ends) (last : Ends) : Type 0 where
+  pub weights : list ≡ listed (weight_ends f m d) (least_end f m d)
+  pub last_is : last ≡ weight_ends f m d (least_end f m d - 1)
+  pub tops : (x : ℕ) → x < least_end f m d → (weight_ends f m d x).hi ≤ 8 * 2 ^ f
+
+-- all weights with the remainder, where the answer isn't wide
+pub record ToEnd (f : ℕ) (m d : Ends) (list : List Ends) (rem : ℕ) : Type 0 where
+  pub weights : list ≡ listed (weight_ends f m d) (suc (last_index f m d))
+  pub rest : rem ≡ remainder_at f m d (last_index f m d)
+  pub narrow : is_wide f m d ≡ false
