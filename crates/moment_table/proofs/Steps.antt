@@ -1,0 +1,126 @@
+-- The steps of a table from a stock to the next one.
+use Rattle.std.proofs.Common.{◌≡◌, ℕ, suc, ◌+◌, ◌*◌, ◌<◌, ◌≤◌, ◌^◌, List, [], ◌∷◌, ◌++◌, length, get_or, refl, sym, ap, ap₂, ◌∙◌, arith, subst, le_trans, add-one, mul-le-mul_left, mul-le-mul_right, pow_pos}
+use Rattle.std.proofs.lemmas.List.{get_or_default}
+use Rattle.fixed_interval.specs.Ends.{Ends, ends_exact, ends_add, ends_less, ends_times, ends_mul, ends_div, ends_max}
+use Rattle.series_bounds.specs.Profile.{listed}
+use Rattle.series_bounds.specs.Answer.{Sized, at_place}
+use Rattle.series_bounds.proofs.Ranges.{ceil_most}
+use Rattle.moment_table.specs.declared.kinds.Row.{Row}
+use Rattle.moment_table.specs.Profile.{chance_ends, below_ends, tail_ends, ebo_ends, vbo_ends, known_row, wide_row, empty_row}
+
+pub listed_next : {X : Type 0} (u : ℕ → X) (n : ℕ) (xs : List X) (x : X) → xs ≡ listed u n → x ≡ u n → xs ++ x ∷ [] ≡ listed u (n + 1)
+unfolding listed
+listed_next u n xs x h k = rw add-one (ap₂ (λ y z. y ++ z ∷ []) h k)
+
+pub listed_none : {X : Type 0} (u : ℕ → X) (xs : List X) → xs ≡ [] → xs ≡ listed u 0
+unfolding listed
+listed_none u xs h = h
+
+-- what a loop holds before the stock s
+pub record Tabled (f : ℕ) (m v : Ends) (list : List Ends) (sum expected spread below : Ends) (rows : List (Row f)) (s : ℕ) : Type 0 where
+  pub rows_are : rows ≡ listed (known_row f m v list sum) s
+  pub expected_is : expected ≡ ebo_ends f m list sum s
+  pub spread_is : spread ≡ vbo_ends f m v list sum s
+  pub below_is : below ≡ below_ends f list sum s
+  pub expected_top : expected.hi ≤ 256 * 2 ^ f
+  pub below_top : below.hi ≤ s * (8 * 2 ^ f)
+
+pub tabled_start : (f : ℕ) (m v : Ends) (list : List Ends) (sum spread below : Ends) (rows : List (Row f)) → m.hi ≤ 256 * 2 ^ f
+    → rows ≡ [] → spread ≡ ends_max v m → below ≡ ends_exact f 0 → Tabled f m v list sum m spread below rows 0
+unfolding ebo_ends vbo_ends below_ends
+tabled_start f m v list sum spread below rows t r h k = record {
+  rows_are = listed_none (known_row f m v list sum) rows r;
+  expected_is = refl;
+  spread_is = h;
+  below_is = k;
+  expected_top = t;
+  below_top = rw k (omega arith);
+}
+
+chance_top : (f : ℕ) (list : List Ends) (sum : Ends) (x : ℕ) → Sized f list sum → x < length list → (chance_ends f list sum x).hi ≤ 8 * 2 ^ f
+unfolding chance_ends
+chance_top f list sum x z l =
+    ceil_most ((at_place list x).hi * 2 ^ f) sum.lo (8 * 2 ^ f) (omega (arith, pow_pos f, z.sum_least))
+    (le_trans (mul-le-mul_right (2 ^ f) (z.tops x l)) (mul-le-mul_left (8 * 2 ^ f) z.sum_least))
+
+pub entry_is : (list : List Ends) (x : ℕ) (e : Ends) → x < length list → e ≡ get_or list x e → e ≡ at_place list x
+entry_is list x e l h = h ∙ get_or_default list x e (record { lo = 0; hi = 0 }) l
+
+pub chance_is : (f : ℕ) (list : List Ends) (sum e p : Ends) (x : ℕ) → e ≡ at_place list x → p ≡ ends_div f e sum → p ≡ chance_ends f list sum x
+unfolding chance_ends
+chance_is f list sum e p x h k = k ∙ ap (λ (z : Ends). ends_div f z sum) h
+
+tail_is : (f : ℕ) (list : List Ends) (sum tail below : Ends) (s : ℕ) → below ≡ below_ends f list sum (suc s) → tail ≡ ends_less (ends_exact f 1) below → tail ≡ tail_ends f list sum s
+unfolding tail_ends
+tail_is f list sum tail below s h k = k ∙ ap (λ (z : Ends). ends_less (ends_exact f 1) z) h
+
+below_next : (f : ℕ) (list : List Ends) (sum : Ends) (s : ℕ) → below_ends f list sum (suc s) ≡ ends_add (below_ends f list sum s) (chance_ends f list sum s)
+unfolding below_ends
+below_next f list sum s = refl
+
+ebo_next : (f : ℕ) (m : Ends) (list : List Ends) (sum : Ends) (s : ℕ) → ebo_ends f m list sum (suc s) ≡ ends_less (ebo_ends f m list sum s) (tail_ends f list sum s)
+unfolding ebo_ends
+ebo_next f m list sum s = refl
+
+vbo_next : (f : ℕ) (m v : Ends) (list : List Ends) (sum : Ends) (s : ℕ) → vbo_ends f m v list sum (suc s) ≡ ends_less (vbo_ends f m v list sum s)
+    (ends_mul f (ends_add (ends_times (ebo_ends f m list sum (suc s)) 2) (tail_ends f list sum s)) (ends_less (ends_exact f 1) (tail_ends f list sum s)))
+unfolding vbo_ends
+vbo_next f m v list sum s = refl
+
+row_is : (f : ℕ) (m v : Ends) (list : List Ends) (sum : Ends) (s : ℕ) (e w t : Ends) → e ≡ ebo_ends f m list sum s → w ≡ vbo_ends f m v list sum s → t ≡ tail_ends f list sum s
+    → record { ebo = e; vbo = w; tail = t } ≡ known_row f m v list sum s
+unfolding known_row
+row_is f m v list sum s e w t h k l = rw (h, k, l) refl
+
+pub tabled_next : (f : ℕ) (m v : Ends) (list : List Ends) (sum expected spread below : Ends) (rows : List (Row f)) (s : ℕ)
+    → Tabled f m v list sum expected spread below rows s → Sized f list sum → s < length list
+    → (e p below' tail expected' fall spread' : Ends) → e ≡ get_or list s e → p ≡ ends_div f e sum
+    → below' ≡ ends_add below p → tail ≡ ends_less (ends_exact f 1) below' → expected' ≡ ends_less expected tail
+    → fall ≡ ends_mul f (ends_add (ends_times expected' 2) tail) (ends_less (ends_exact f 1) tail) → spread' ≡ ends_less spread fall
+    → Tabled f m v list sum expected' spread' below' (rows ++ record { ebo = expected; vbo = spread; tail = tail } ∷ []) (s + 1)
+tabled_next f m v list sum expected spread below rows s h z l e p below' tail expected' fall spread' he hp hb ht hx hf hs =
+    let pi : p ≡ chance_ends f list sum s = chance_is f list sum e p s (entry_is list s e l he) hp in
+    let bi : below' ≡ below_ends f list sum (suc s) = hb ∙ ap₂ ends_add h.below_is pi ∙ sym (below_next f list sum s) in
+    let ti : tail ≡ tail_ends f list sum s = tail_is f list sum tail below' s bi ht in
+    let xi : expected' ≡ ebo_ends f m list sum (suc s) = hx ∙ ap₂ ends_less h.expected_is ti ∙ sym (ebo_next f m list sum s) in
+    let fi : fall ≡ ends_mul f (ends_add (ends_times (ebo_ends f m list sum (suc s)) 2) (tail_ends f list sum s)) (ends_less (ends_exact f 1) (tail_ends f list sum s)) =
+    hf ∙ ap₂ (λ (y t : Ends). ends_mul f (ends_add (ends_times y 2) t) (ends_less (ends_exact f 1) t)) xi ti in
+    let si : spread' ≡ vbo_ends f m v list sum (suc s) = hs ∙ ap₂ ends_less h.spread_is fi ∙ sym (vbo_next f m v list sum s) in
+    let pt : p.hi ≤ 8 * 2 ^ f = subst (λ (y : Ends). y.hi ≤ 8 * 2 ^ f) (sym pi) (chance_top f list sum s z l) in
+    record {
+      rows_are = listed_next (known_row f m v list sum) s rows (record { ebo = expected; vbo = spread; tail = tail }) h.rows_are
+          (row_is f m v list sum s expected spread tail h.expected_is h.spread_is ti);
+      expected_is = xi ∙ ap (ebo_ends f m list sum) (sym (add-one s));
+      spread_is = si ∙ ap (vbo_ends f m v list sum) (sym (add-one s));
+      below_is = bi ∙ ap (below_ends f list sum) (sym (add-one s));
+      expected_top = (let a = ap (λ (y : Ends). y.hi) hx in omega (arith, a, h.expected_top));
+      below_top = (let a = ap (λ (y : Ends). y.hi) hb in omega (arith, a, pt, h.below_top));
+    }
+
+-- sizes inside a step
+pub step_chance : (f : ℕ) (list : List Ends) (sum e p : Ends) (s : ℕ) → Sized f list sum → s < length list → e ≡ get_or list s e → p ≡ ends_div f e sum → p.hi ≤ 8 * 2 ^ f
+step_chance f list sum e p s z l he hp =
+    subst (λ (y : Ends). y.hi ≤ 8 * 2 ^ f) (sym (chance_is f list sum e p s (entry_is list s e l he) hp)) (chance_top f list sum s z l)
+
+pub step_weight : (f : ℕ) (list : List Ends) (sum e : Ends) (s : ℕ) → Sized f list sum → s < length list → e ≡ get_or list s e → e.hi ≤ 8 * 2 ^ f
+step_weight f list sum e s z l he = subst (λ (y : Ends). y.hi ≤ 8 * 2 ^ f) (sym (entry_is list s e l he)) (z.tops s l)
+
+-- ---- the other rows
+
+pub wide_is : (f : ℕ) (m v short start one ebo vbo tail : Ends) (s lo hi top unit : ℕ) → start ≡ ends_max v m → short ≡ ends_less m (ends_exact f s) → one ≡ ends_exact f 1
+    → lo ≡ short.lo → hi ≡ m.hi → top ≡ start.hi → unit ≡ one.hi
+    → ebo ≡ record { lo = lo; hi = hi } → vbo ≡ record { lo = 0; hi = top } → tail ≡ record { lo = 0; hi = unit }
+    → record { ebo = ebo; vbo = vbo; tail = tail } ≡ wide_row f m v s
+unfolding wide_row
+wide_is f m v short start one ebo vbo tail s lo hi top unit hs hh ho hl hi' ht hu he hv hg = rw (he, hv, hg, hl, hi', ht, hu, hs, hh, ho) refl
+
+pub empty_is : (f : ℕ) (a : Ends) → a ≡ ends_exact f 0 → record { ebo = a; vbo = a; tail = a } ≡ empty_row f
+unfolding empty_row
+empty_is f a h = rw h refl
+
+-- the same weight has the same chance
+pub same_chance : (f : ℕ) (sum w b p : Ends) (wl wh bl bh : ℕ) → wl ≡ w.lo → wh ≡ w.hi → bl ≡ b.lo → bh ≡ b.hi → wl ≡ bl → wh ≡ bh
+    → p ≡ ends_div f b sum → p ≡ ends_div f w sum
+same_chance f sum w b p wl wh bl bh h k i j l m e =
+    let q : b ≡ w = ap₂ (λ y z. record { lo = y; hi = z }) (sym i ∙ sym l ∙ h) (sym j ∙ sym m ∙ k) in
+    e ∙ ap (λ (z : Ends). ends_div f z sum) q

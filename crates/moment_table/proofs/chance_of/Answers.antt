@@ -1,0 +1,15 @@
+use Rattle.std.proofs.Common.{arith, lit<, rules, pow_pos}
+use Rattle.fixed_interval.specs.Ends.{InScale}
+use Rattle.series_bounds.proofs.Ranges.{room_over}
+use Rattle.moment_table.proofs.Steps.{same_chance}
+use Rattle.moment_table.proofs.chance_of.Goals as goal
+
+pub div-requires : goal.div-requires
+div-requires g c =
+    let s : InScale g.row.F = search rules in
+    (lit< tt, (c.requires.divisor, room_over g.row.F c.args.weight.hi s.1 (omega (arith, pow_pos g.row.F, c.requires.top))))
+
+pub returns-then-hi : goal.returns-then-hi
+returns-then-hi g c =
+    same_chance g.row.F c.args.sum c.args.weight c.args.before c.args.chance c.lo.result c.hi.result c.lo-2.result c.hi-then-lo.result
+    c.lo.ensures.end c.hi.ensures.end c.lo-2.ensures.end c.hi-then-lo.ensures.end c.if-lo.true c.if-hi.true c.requires.chance
