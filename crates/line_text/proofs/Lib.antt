@@ -1,0 +1,9 @@
+pub mod Laws
+pub mod LineLaws
+pub mod Files
+pub mod FieldLaws
+pub mod Cursors
+pub mod Numerals
+pub mod Loops
+pub mod MoreFields
+pub mod FixedLaws

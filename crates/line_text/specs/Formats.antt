@@ -1,0 +1,122 @@
+-- A format says at once how values are written and how they are read.
+-- A file is a list of lines, each with its line feed, and a line is a list of fields: both are lists of tokens.
+use Rattle.std.specs.Prelude.{ℕ, Bool, true, false, ◌&&◌, List, [], ◌∷◌, ◌++◌, Option, Some, None, Result, Ok, Err, if◌then◌else◌, bytes_eq}
+
+abbrev pub Token : Type 0
+Token = List ℕ
+
+-- how one token is written and read, and of which values
+pub record Text (A : Type 0) : Type 0 where
+  pub print : A → Token
+  pub read : Token → Option A
+  pub fits : A → Bool
+
+-- the same of several tokens; reading answers the value and the tokens after it, or else the tokens from the first bad one on
+pub record Format (A : Type 0) : Type 0 where
+  pub print : A → List Token
+  pub read : List Token → Result (A × List Token) (List Token)
+  pub fits : A → Bool
+
+infixl 10 ◌>>=◌
+abbrev pub ◌>>=◌ : {A B E : Type 0} → Result A E → (A → Result B E) → Result B E
+(Ok x) >>= f = f x
+(Err e) >>= f = Err e
+
+infixl 10 ◌>>-◌
+abbrev pub ◌>>-◌ : {A B : Type 0} → Option A → (A → Option B) → Option B
+None >>- f = None
+(Some x) >>- f = f x
+
+-- A text with one spelling for each value: what is read is the one value that could be meant,
+-- where the text has it and its spelling is this token.
+abbrev pub spelled : {A : Type 0} → (A → Token) → (Token → A) → (A → Bool) → Text A
+spelled print meant fits = record {
+  print = print;
+  read = λ t. if fits (meant t) && bytes_eq (print (meant t)) t then Some (meant t) else None;
+  fits = fits;
+}
+
+-- ---- formats of tokens
+
+-- the value of a token, or the token is the first bad one
+abbrev pub taken : {A : Type 0} → Token → List Token → Option A → Result (A × List Token) (List Token)
+taken t ts None = Err (t ∷ ts)
+taken t ts (Some a) = Ok (a, ts)
+
+abbrev pub read_one : {A : Type 0} → Text A → List Token → Result (A × List Token) (List Token)
+read_one text [] = Err []
+read_one text (t ∷ ts) = taken t ts (text.read t)
+
+-- one token
+abbrev pub one : {A : Type 0} → Text A → Format A
+one text = record {
+  print = λ a. text.print a ∷ [];
+  read = read_one text;
+  fits = text.fits;
+}
+
+-- no token
+abbrev pub nothing : {A : Type 0} → A → Format A
+nothing a = record {
+  print = λ _. [];
+  read = λ ts. Ok (a, ts);
+  fits = λ _. true;
+}
+
+-- a value, and then one whose format the first one tells
+abbrev pub and_then : {A B : Type 0} → Format A → (A → Format B) → Format (A × B)
+and_then first next = record {
+  print = λ x. first.print x.0 ++ (next x.0).print x.1;
+  read = λ ts. first.read ts >>= λ a. (next a.0).read a.1 >>= λ b. Ok ((a.0, b.0), b.1);
+  fits = λ x. first.fits x.0 && (next x.0).fits x.1;
+}
+
+-- the same values in another shape, of which some have no such value
+abbrev pub as_shape : {A B : Type 0} → Format A → (A → B) → (B → A) → (B → Bool) → Format B
+as_shape format to from has = record {
+  print = λ b. format.print (from b);
+  read = λ ts. format.read ts >>= λ a. Ok (to a.0, a.1);
+  fits = λ b. has b && format.fits (from b);
+}
+
+-- ---- a value for each key, in the order of the keys
+
+abbrev pub print_after : {K A : Type 0} → (List A → K → Format A) → List A → List K → List A → List Token
+print_after format before [] xs = []
+print_after format before (k ∷ ks) [] = []
+print_after format before (k ∷ ks) (x ∷ xs) = (format before k).print x ++ print_after format (before ++ x ∷ []) ks xs
+
+abbrev pub read_after : {K A : Type 0} → (List A → K → Format A) → List A → List K → List Token → Result (List A × List Token) (List Token)
+read_after format before [] ts = Ok ([], ts)
+read_after format before (k ∷ ks) ts = (format before k).read ts >>= λ x. read_after format (before ++ x.0 ∷ []) ks x.1 >>= λ xs. Ok (x.0 ∷ xs.0, xs.1)
+
+abbrev pub fits_after : {K A : Type 0} → (List A → K → Format A) → List A → List K → List A → Bool
+fits_after format before [] [] = true
+fits_after format before [] (x ∷ xs) = false
+fits_after format before (k ∷ ks) [] = false
+fits_after format before (k ∷ ks) (x ∷ xs) = (format before k).fits x && fits_after format (before ++ x ∷ []) ks xs
+
+-- each in the format that its key and the values before it tell
+abbrev pub each_after : {K A : Type 0} → List A → List K → (List A → K → Format A) → Format (List A)
+each_after before keys format = record {
+  print = print_after format before keys;
+  read = read_after format before keys;
+  fits = fits_after format before keys;
+}
+
+-- each in the format of its key
+abbrev pub each : {K A : Type 0} → List K → (K → Format A) → Format (List A)
+each keys format = each_after [] keys (λ _ k. format k)
+
+-- ---- tokens that are all of a format
+
+abbrev pub all_read : {A : Type 0} → A × List Token → Result A (List Token)
+all_read (a, []) = Ok a
+all_read (a, t ∷ ts) = Err (t ∷ ts)
+
+abbrev pub read_all : {A : Type 0} → Format A → List Token → Result A (List Token)
+read_all format ts = format.read ts >>= all_read
+
+abbrev pub accepted : {A E : Type 0} → Result A E → Option A
+accepted (Ok a) = Some a
+accepted (Err e) = None

@@ -1,0 +1,5 @@
+pub mod Formats
+pub mod Texts
+pub mod Files
+pub mod Exact
+pub mod Reading

@@ -1,0 +1,40 @@
+-- What a step of reading answers.
+use Rattle.std.specs.Prelude.{◌≡◌, ⊤, ℕ, List, [], ◌∷◌, Option, Some, None, option_map, Result, Ok, Err}
+use Rattle.std.specs.Borrow.{Bor}
+use Rattle.std.specs.List.{slice_split}
+use Rattle.spares_io.specs.declared.stop.Stop.{Stop}
+use Rattle.spares_io.specs.declared.stop.Stop.TheVariants as stop
+use Rattle.line_text.specs.Formats.{Token, accepted}
+use Rattle.line_text.specs.Files.{comma, unended}
+use Rattle.line_text.specs.declared.bad_line.BadLine.{BadLine}
+
+-- a value was read and left is what stands after it, or left begins at the first bad line
+abbrev pub Reads : {X Y : Type 0} → (X → Y) → Result X BadLine → List Token → Result (Y × List Token) (List Token) → Type 0
+Reads view (Ok x) left read = read ≡ Ok (view x, left)
+Reads view (Err bad) left read = read ≡ Err left
+
+-- the same of a step that may find no memory, of which nothing is said then
+abbrev pub Gathers : {X Y : Type 0} → (X → Y) → Result X (Stop BadLine) → List Token → Result (Y × List Token) (List Token) → Type 0
+Gathers view (Ok x) left read = read ≡ Ok (view x, left)
+Gathers view (Err (stop.Fault bad)) left read = read ≡ Err left
+Gathers view (Err stop.NoMemory) left read = ⊤
+
+-- a value was read and left is what stands after it, or what stands there isn't of the format
+abbrev pub Takes : {X Y : Type 0} → (X → Y) → Option X → List Token → Result (Y × List Token) (List Token) → Type 0
+Takes view (Some x) left read = read ≡ Ok (view x, left)
+Takes view None left read = accepted read ≡ None
+
+-- the fields of the first line, where it is there and ends with its line feed
+abbrev pub first_fields : List Token → Option (List Token)
+first_fields [] = None
+first_fields (l ∷ ls) = option_map (slice_split comma) (unended l)
+
+-- what stands after the first token
+abbrev pub later : List Token → List Token
+later [] = []
+later (t ∷ ts) = ts
+
+-- the fields of the bytes that a cursor has left
+abbrev pub fields_left : Option (Bor (List ℕ)) → List Token
+fields_left None = []
+fields_left (Some bytes) = slice_split comma bytes.now

@@ -1,0 +1,89 @@
+//! Numbers with fixed places as fields: whole numbers of units of the last place.
+
+ghost use Rattle.std.specs.Prelude.{◌≡◌, ℕ, List, ◌^◌, ◌≤◌, ◌++◌, ◌∷◌, length, MatchOption, OnOk};
+ghost use Rattle.line_text.specs.Texts.{fixed, fixed_text, last_digits};
+
+use crate::numbers::{are_digits, number, put_number, value_after};
+use spares_io::NoMemory;
+
+// What stands before the point and after it, where the point stands before so many places.
+#[tactic(auto, using(crate::proofs::FixedLaws::too_short, crate::proofs::FixedLaws::no_point, crate::proofs::FixedLaws::point_found))]
+fn halves(text: &[u8], places: usize) -> Option<(&[u8], &[u8])>
+    ensures { MatchOption result ((xs ys : List ℕ) → length ys ≡ places → text.now ≡ xs ++ (46 ∷ ys) → ⊥)
+        (λ h. (text.now ≡ h.0.now ++ (46 ∷ h.1.now)) × (length h.1.now ≡ places)) }
+{
+    if text.len() <= places {
+        return None;
+    }
+    let (whole, rest) = text.split_at(text.len() - places - 1);
+    let (point, part) = rest.split_at(1);
+    if point[0] == b'.' {
+        Some((whole, part))
+    } else {
+        None
+    }
+}
+
+/// The number of units from `least` to `most` that this is the text of: the last of exactly so many `places` is one unit.
+#[tactic(auto, using(crate::proofs::FixedLaws::no_halves, crate::proofs::FixedLaws::no_whole))]
+pub fn fixed(text: &[u8], places: usize, least: u128, most: u128) -> Option<u128>
+    ensures { result ≡ (fixed places least most).read text.now }
+{
+    let Some((whole, part)) = halves(text, places) else {
+        return None;
+    };
+    let Some(front) = number(whole, 0, u128::MAX) else {
+        return None;
+    };
+    if !are_digits(part) {
+        return None;
+    }
+    let Some(n) = value_after(front, part) else {
+        return None;
+    };
+    if n < least {
+        return None;
+    }
+    if n > most {
+        return None;
+    }
+    Some(n)
+}
+
+// The units of one whole.
+fn power_of_ten(places: usize) -> u128
+    requires { places ≤ 18 }
+    ensures { result ≡ 10 ^ places }
+{
+    10_u128.pow(places as u32)
+}
+
+// Writes the last decimal digits of a number.
+fn put_last_digits(
+    out: &mut Vec<u8>,
+    places: usize,
+    power: u128,
+    number: u128,
+) -> Result<(), NoMemory>
+    requires { power ≡ 10 ^ places }
+    ensures { OnOk result (out.new.items ≡ out.old.items ++ last_digits places number) }
+{
+    let mut unit = power;
+    for _k in 0..places {
+        unit /= 10;
+        out.push(b'0' + (number / unit % 10) as u8)?;
+    }
+    Ok(())
+}
+
+/// Writes a number of units of the last of so many `places`, with all of them.
+pub fn put_fixed(out: &mut Vec<u8>, places: usize, number: u128) -> Result<(), NoMemory>
+    requires { places ≤ 18 }
+    ensures { OnOk result (out.new.items ≡ out.old.items ++ fixed_text places number) }
+{
+    let power = power_of_ten(places);
+    put_number(out, number / power)?;
+    out.push(b'.')?;
+    put_last_digits(out, places, power, number)?;
+    Ok(())
+}

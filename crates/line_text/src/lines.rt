@@ -1,0 +1,225 @@
+//! Cursors: bytes as lines, and lines as fields.
+
+ghost use Rattle.std.specs.Prelude.{◌≡◌, ◌≤◌, ◌∷◌, ◌↔◌, [], length, Some, None, IsTrue, MatchOption, MatchResult};
+ghost use Rattle.std.specs.List.{position_or_len, slice_split};
+ghost use Rattle.line_text.specs.Formats.{one};
+ghost use Rattle.line_text.specs.Texts.{word, number, fixed};
+ghost use Rattle.line_text.specs.Files.{lines_of, comma};
+ghost use Rattle.line_text.specs.Exact.{is_end};
+ghost use Rattle.line_text.specs.Reading.{first_fields, later, fields_left, Takes};
+
+use crate::bad_line::BadLine;
+use crate::decimals::fixed;
+use crate::numbers::number;
+use std::marker::Model;
+
+/// The fields of a line that are left.
+#[derive(Drop)]
+pub struct Fields<'a> {
+    rest: Option<&'a [u8]>,
+}
+
+impl<'a> Model for Fields<'a> {
+    ghost use Rattle.std.specs.Prelude.{List, ℕ};
+    ghost use Rattle.line_text.specs.Reading.{fields_left};
+
+    ghost Value = { List (List ℕ) };
+
+    ghost view = { λ f. fields_left f.rest };
+}
+
+/// The lines that are left, each with its line feed.
+#[derive(Drop)]
+pub struct Lines<'a> {
+    rest: &'a [u8],
+}
+
+impl<'a> Model for Lines<'a> {
+    ghost use Rattle.std.specs.Prelude.{List, ℕ};
+    ghost use Rattle.line_text.specs.Files.{lines_of};
+
+    ghost Value = { List (List ℕ) };
+
+    ghost view = { λ l. lines_of l.rest.now };
+}
+
+// Where a line feed stands, or the length.
+fn line_end(bytes: &[u8]) -> usize
+    ensures place { result ≡ position_or_len is_end bytes.now }
+    ensures within { result ≤ length bytes.now }
+{
+    for (i, b) in bytes.iter().enumerate() {
+        if *b == b'\n' {
+            return i;
+        }
+    }
+    bytes.len()
+}
+
+// Where a comma stands, or the length.
+fn field_end(bytes: &[u8]) -> usize
+    ensures place { result ≡ position_or_len comma bytes.now }
+    ensures within { result ≤ length bytes.now }
+{
+    for (i, b) in bytes.iter().enumerate() {
+        if *b == b',' {
+            return i;
+        }
+    }
+    bytes.len()
+}
+
+// The first line without its line feed, where it has one.
+#[tactic(auto, using(crate::proofs::Cursors::fields_found, crate::proofs::Cursors::fields_missing))]
+fn first_line(bytes: &[u8]) -> Option<&[u8]>
+    ensures { MatchOption result (first_fields (lines_of bytes.now) ≡ None)
+        (λ t. first_fields (lines_of bytes.now) ≡ Some (slice_split comma t.now)) }
+{
+    let end = line_end(bytes);
+    if end < bytes.len() {
+        Some(&bytes[..end])
+    } else {
+        None
+    }
+}
+
+// What stands after the first line.
+#[tactic(auto, using(crate::proofs::Cursors::passed, crate::proofs::Cursors::passed_last, crate::proofs::Cursors::empty_lines))]
+fn after_line(bytes: &[u8]) -> &[u8]
+    ensures { lines_of result.now ≡ later (lines_of bytes.now) }
+{
+    let end = line_end(bytes);
+    if end < bytes.len() {
+        let (_line, rest) = bytes.split_at(end + 1);
+        rest
+    } else {
+        &bytes[bytes.len()..]
+    }
+}
+
+// The first field, and what stands after its comma, where it has one.
+#[tactic(auto, using(crate::proofs::Cursors::field_found, crate::proofs::Cursors::last_field))]
+fn first_field(bytes: &[u8]) -> (&[u8], Option<&[u8]>)
+    ensures { slice_split comma bytes.now ≡ result.0.now ∷ fields_left result.1 }
+{
+    let end = field_end(bytes);
+    if end < bytes.len() {
+        let (_field, rest) = bytes.split_at(end + 1);
+        (&bytes[..end], Some(rest))
+    } else {
+        (bytes, None)
+    }
+}
+
+impl<'a> Lines<'a> {
+    /// The lines of these bytes, of which the last may have no line feed.
+    pub fn of(bytes: &'a [u8]) -> Lines<'a>
+        ensures { result ≡ lines_of bytes.now }
+    {
+        Lines { rest: bytes }
+    }
+
+    /// Whether there is no line left.
+    pub fn is_empty(&self) -> bool
+        ensures { IsTrue result ↔ (self.now ≡ []) }
+    {
+        self.rest.is_empty()
+    }
+
+    /// The fields of the next line, which stays the next one. `BadLine` where there is none, or none with a line feed.
+    pub fn fields(&self) -> Result<Fields<'a>, BadLine>
+        ensures { MatchResult result (λ f. first_fields self.now ≡ Some f) (λ _. first_fields self.now ≡ None) }
+    {
+        match first_line(self.rest) {
+            Some(line) => Ok(Fields { rest: Some(line) }),
+            None => Err(BadLine),
+        }
+    }
+
+    /// How many lines are left.
+    pub fn count(&self) -> usize
+        ensures { result ≡ length self.now }
+    {
+        count_lines(self.rest)
+    }
+
+    /// Passes the next line, if there is one.
+    pub fn pass(&mut self)
+        ensures { self.new ≡ later self.old }
+    {
+        self.rest = after_line(self.rest);
+    }
+}
+
+impl<'a> Fields<'a> {
+    /// The next field.
+    pub fn next(&mut self) -> Option<&'a [u8]>
+        ensures { MatchOption result ((self.old ≡ []) × (self.new ≡ []))
+            (λ t. self.old ≡ t.now ∷ self.new) }
+    {
+        match self.rest {
+            Some(bytes) => {
+                let (field, rest) = first_field(bytes);
+                self.rest = rest;
+                Some(field)
+            }
+            None => None,
+        }
+    }
+
+    /// Whether no field is left.
+    pub fn is_empty(&self) -> bool
+        ensures { IsTrue result ↔ (self.now ≡ []) }
+    {
+        match self.rest {
+            Some(_bytes) => false,
+            None => true,
+        }
+    }
+
+    /// Takes a field with these bytes.
+    #[tactic(auto, using(crate::proofs::Cursors::word_found, crate::proofs::Cursors::word_differs, crate::proofs::Cursors::none_left))]
+    pub fn word(&mut self, wanted: &[u8]) -> Option<()>
+        ensures { Takes (λ _. tt) result self.new ((word wanted.now).read self.old) }
+    {
+        let Some(field) = self.next() else {
+            return None;
+        };
+        if field == wanted { Some(()) } else { None }
+    }
+
+    /// Takes a whole number from `least` to `most`.
+    #[tactic(auto, using(crate::proofs::Cursors::field_read, crate::proofs::Cursors::field_refused, crate::proofs::Cursors::none_left))]
+    pub fn number(&mut self, least: u128, most: u128) -> Option<u128>
+        ensures { Takes (λ n. n) result self.new ((one (number least most)).read self.old) }
+    {
+        let Some(field) = self.next() else {
+            return None;
+        };
+        number(field, least, most)
+    }
+
+    /// Takes a number with exactly these `places` from `least` to `most`, all in units of the last place.
+    #[tactic(auto, using(crate::proofs::Cursors::field_read, crate::proofs::Cursors::field_refused, crate::proofs::Cursors::none_left))]
+    pub fn fixed(&mut self, places: usize, least: u128, most: u128) -> Option<u128>
+        ensures { Takes (λ n. n) result self.new ((one (fixed places least most)).read self.old) }
+    {
+        let Some(field) = self.next() else {
+            return None;
+        };
+        fixed(field, places, least, most)
+    }
+}
+
+// How many lines there are.
+fn count_lines(bytes: &[u8]) -> usize
+    ensures { result ≡ length (lines_of bytes.now) }
+{
+    let mut left = Lines::of(bytes);
+    let mut count: usize = 0;
+    while !left.is_empty() {
+        left.pass();
+        count += 1;
+    }
+    count
+}

@@ -1,0 +1,84 @@
+//! Lines of a word, and of a word and a number.
+
+ghost use Rattle.std.specs.Prelude.{◌≡◌, ℕ, ◌++◌, OnOk};
+ghost use Rattle.line_text.specs.Formats.{accepted, read_all};
+ghost use Rattle.line_text.specs.Files.{file_text};
+ghost use Rattle.line_text.specs.Texts.{word, count_fields, count_line, word_line};
+ghost use Rattle.line_text.specs.Reading.{Reads, Takes};
+
+use crate::bad_line::BadLine;
+use crate::lines::{Fields, Lines};
+use crate::numbers::put_number;
+use spares_io::NoMemory;
+
+// Takes a word and a number from a line's fields.
+fn count_of(fields: &mut Fields<'_>, name: &[u8], least: u128, most: u128) -> Option<u128>
+    ensures { Takes (λ n. n) result fields.new ((count_fields name.now least most).read fields.old) }
+{
+    fields.word(name)?;
+    fields.number(least, most)
+}
+
+// The number of a line whose fields are a word and a number.
+#[tactic(auto, using(crate::proofs::Cursors::whole_read, crate::proofs::Cursors::whole_left, crate::proofs::Cursors::whole_refused))]
+fn count_all(mut fields: Fields<'_>, name: &[u8], least: u128, most: u128) -> Option<u128>
+    ensures { result ≡ accepted (read_all (count_fields name.now least most) fields.entry) }
+{
+    let count = count_of(&mut fields, name, least, most)?;
+    if fields.is_empty() { Some(count) } else { None }
+}
+
+/// Reads the line of a word and a number from `least` to `most`.
+#[tactic(auto, using(crate::proofs::Cursors::line_read, crate::proofs::Cursors::line_refused, crate::proofs::Cursors::line_missing))]
+pub fn count_line(
+    lines: &mut Lines<'_>,
+    name: &[u8],
+    least: u128,
+    most: u128,
+) -> Result<u128, BadLine>
+    ensures { Reads (λ n. n) result lines.new ((count_line name.now least most).read lines.old) }
+{
+    let fields = lines.fields()?;
+    match count_all(fields, name, least, most) {
+        Some(count) => {
+            lines.pass();
+            Ok(count)
+        }
+        None => Err(BadLine),
+    }
+}
+
+// Whether a line's only field is a word.
+#[tactic(auto, using(crate::proofs::Cursors::whole_read, crate::proofs::Cursors::whole_left, crate::proofs::Cursors::whole_refused))]
+fn word_all(mut fields: Fields<'_>, name: &[u8]) -> Option<()>
+    ensures { result ≡ accepted (read_all (word name.now) fields.entry) }
+{
+    fields.word(name)?;
+    if fields.is_empty() { Some(()) } else { None }
+}
+
+/// Reads the line of one word.
+#[tactic(auto, using(crate::proofs::Cursors::line_read, crate::proofs::Cursors::line_refused, crate::proofs::Cursors::line_missing))]
+pub fn word_line(lines: &mut Lines<'_>, name: &[u8]) -> Result<(), BadLine>
+    ensures { Reads (λ _. tt) result lines.new ((word_line name.now).read lines.old) }
+{
+    let fields = lines.fields()?;
+    match word_all(fields, name) {
+        Some(()) => {
+            lines.pass();
+            Ok(())
+        }
+        None => Err(BadLine),
+    }
+}
+
+/// Writes the line of a word and a number.
+pub fn put_count_line(out: &mut Vec<u8>, name: &[u8], number: u128) -> Result<(), NoMemory>
+    ensures { OnOk result ((least most : ℕ) → out.new.items ≡ out.old.items ++ file_text (count_line name.now least most) number) }
+{
+    out.extend_from_slice(name)?;
+    out.push(b',')?;
+    put_number(out, number)?;
+    out.push(b'\n')?;
+    Ok(())
+}
