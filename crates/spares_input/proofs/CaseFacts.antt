@@ -1,0 +1,41 @@
+-- Rows of rates that break no rule make a case.
+use Rattle.std.proofs.Common.{◌≡◌, ℕ, ◌+◌, ◌*◌, ◌<◌, List, length, get_or, None, unwrap_or, arith}
+use Rattle.std.specs.List.{All}
+use Rattle.std.proofs.lemmas.List.Elements.{All-from_get_or}
+use Rattle.std.proofs.lemmas.List.FromFn.{length-map-range_with_len}
+use Rattle.std.proofs.lemmas.Nat.{same_from_place}
+use Rattle.std.proofs.lemmas.Nat.{rows as rows_fit}
+use Rattle.spares_input.specs.First.{first}
+use Rattle.spares_input.specs.Rows.{no_rate}
+use Rattle.spares_input.specs.Frames.{FrameRows, IsFrame}
+use Rattle.spares_input.specs.Pairs.{row_at, rows_in_order}
+use Rattle.spares_input.specs.Cases.{double_rate, IsCase, IsRateOf, missing_rate, pair_count, rate_place, rates_fault}
+use Rattle.spares_input.specs.Building.{missing_rate_at}
+use Rattle.spares_input.specs.declared.rows.RateRow.{RateRow}
+use Rattle.spares_input.proofs.Firsts.{or_else-none}
+use Rattle.spares_input.proofs.PlaceFacts.{at-place}
+
+module _ (f : FrameRows) (rows : List RateRow) (valid : All (IsRateOf f) rows) (none : rates_fault (length f.sites) (pair_count f) rows ≡ None) where
+  -- what the case has at a place
+  pair-at : (i : ℕ) → i < pair_count f
+      → IsRateOf f (get_or (rows_in_order (rate_place (length f.sites)) no_rate (pair_count f) rows) i no_rate)
+      × (rate_place (length f.sites) (get_or (rows_in_order (rate_place (length f.sites)) no_rate (pair_count f) rows) i no_rate) ≡ i)
+  pair-at i within =
+      let missing = or_else-none (first (double_rate (length f.sites) rows) (length rows)) _ none in
+      let all = or_else-none (first (missing_rate (length f.sites) rows) (pair_count f)) None missing.1 in
+      at-place (rate_place (length f.sites)) (missing_rate_at (length f.sites)) (IsRateOf f) rows no_rate (pair_count f) valid all.0 i within
+
+  pub case-valid : (found : List RateRow) → IsFrame f → found ≡ rows_in_order (rate_place (length f.sites)) no_rate (pair_count f) rows
+      → IsCase (record { sites = f.sites; parts = f.parts; rates = found })
+  case-valid found frame e =
+      let long : length found ≡ pair_count f = rw e (length-map-range_with_len (λ k. unwrap_or (row_at (rate_place (length f.sites)) rows k) no_rate) 0 (pair_count f)) in
+      record {
+        frame = frame;
+        rate_count = long;
+        pairs = λ p k part site.
+            let within : p * length f.sites + k < pair_count f = grind (arith, rows_fit) in
+            let at = pair-at (p * length f.sites + k) within in
+            let r = get_or (rows_in_order (rate_place (length f.sites)) no_rate (pair_count f) rows) (p * length f.sites + k) no_rate in
+            rw e (same_from_place r.part.0 r.site.0 p k (length f.sites) at.0.site site at.1);
+        rate_rows = All-from_get_or (IsRateOf f) found no_rate (λ i within. rw e (pair-at i (omega (arith, within, long))).0);
+      }

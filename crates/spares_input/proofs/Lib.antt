@@ -1,0 +1,9 @@
+pub mod NameFacts
+pub mod Firsts
+pub mod Outcomes
+pub mod SiteFacts
+pub mod PartFacts
+pub mod FrameFacts
+pub mod PlaceFacts
+pub mod CaseFacts
+pub mod StockFacts

@@ -1,0 +1,16 @@
+use Rattle.std.proofs.Common.{refl, sym, length}
+use Rattle.spares_input.specs.First.{first}
+use Rattle.spares_input.specs.Frames.{parent_fault}
+use Rattle.spares_input.proofs.Firsts.{first-more, first-found}
+use Rattle.spares_input.proofs.frame.parents_fault.Goals as goal
+
+pub loop-k-init : goal.loop-k-init
+unfolding first
+loop-k-init c = refl
+
+pub returns-in-Some : goal.returns-in-Some
+returns-in-Some c =
+    sym (first-found (parent_fault c.args.parts.now) c.loop-k.k (length c.args.parts.now) c.in-Some.fault c.loop-k.invariant (sym c.in-Some.ensures) c.loop-k-test.true)
+
+pub loop-k-preserved : goal.loop-k-preserved
+loop-k-preserved c = first-more (parent_fault c.args.parts.now) c.loop-k.k c.loop-k.invariant (sym c.in_default.ensures)

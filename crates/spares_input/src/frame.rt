@@ -1,0 +1,357 @@
+//! The frame of a case: its sites and its parts.
+
+ghost use Rattle.std.specs.Prelude.{◌≡◌, ◌==◌, ◌+◌, ◌≤◌, ◌<◌, ◌∷◌, [], ◌++◌, true, not, take, length, position, count_by, slice_get, All, Some, None, IfSome, IfOk, OnOk, MatchResult, is_none, vec_len};
+ghost use Rattle.std.specs.List.{list_any};
+ghost use Rattle.std.specs.Option.{option_map};
+ghost use Rattle.indexmap.specs.IndexSet.{index_set_len};
+ghost use Rattle.indexmap.specs.IndexMap.{move_index};
+ghost use Rattle.spares_io.specs.Answers.{Gives};
+ghost use Rattle.spares_input.specs.First.{first};
+ghost use Rattle.spares_input.specs.Rows.{is_line, IsSiteRow, IsPartRow};
+ghost use Rattle.spares_input.specs.Frames.{site_at, part_at, site_names, part_names, is_among, place_of, line_of, is_shop_of, is_depot, is_base, site_fault, kinds_fault, double_part, shop_fault, parent_fault, frame_fault, frame_of, sites_in_order, IsFrame};
+ghost use Rattle.spares_input.specs.Stocks.{limit_at};
+ghost use Rattle.spares_input.specs.Building.{IsNumbered, StopsAt, site_rule};
+
+use crate::fault::CaseFault;
+use crate::name::Name;
+use crate::rows::{PartId, PartRow, SiteId, SiteRow};
+use indexmap::IndexSet;
+use spares_io::{NoMemory, Stop};
+use std::alloc::Global;
+use std::marker::Model;
+
+/// The sites and the parts of a case: the depot and then the bases in file order, and the parts in file order.
+#[derive(Drop)]
+pub struct Frame {
+    sites: Vec<SiteRow>,
+    parts: Vec<PartRow>,
+    site_index: IndexSet<Name>,
+    part_index: IndexSet<Name>,
+}
+
+impl Model for Frame {
+    ghost use Rattle.std.specs.Prelude.{◌≡◌};
+    ghost use Rattle.spares_input.specs.Frames.{FrameRows, IsFrame, site_names, part_names};
+
+    ghost Value = { FrameRows };
+
+    ghost view = { λ f. record { sites = f.sites.items; parts = f.parts.items } };
+
+    ghost invariant = { λ f. IsFrame (record { sites = f.sites.items; parts = f.parts.items })
+        × (f.site_index.keys ≡ site_names f.sites.items) × (f.part_index.keys ≡ part_names f.parts.items) };
+}
+
+impl Frame {
+    /// The frame of these rows. A fault is the first rule that they break: the sites row by row, the sites as a whole,
+    /// the names of the parts row by row, and then the parents row by row.
+    pub fn build(
+        alloc: Global,
+        sites: Vec<SiteRow>,
+        parts: Vec<PartRow>,
+    ) -> Result<Frame, Stop<CaseFault>>
+        requires few_sites { length sites.items ≤ 16 }
+        requires few_parts { length parts.items ≤ 2000 }
+        requires site_rows { All IsSiteRow sites.items }
+        requires part_rows { All IsPartRow parts.items }
+        ensures { Gives (frame_of sites.items parts.items) result }
+    {
+        let (mut site_index, part_index, depot) = number_rows(
+            alloc,
+            sites.as_slice(),
+            parts.as_slice(),
+        )?;
+        let mut sites = sites;
+        let Ok(()) = put_first(&mut sites, depot) else {
+            return Err(Stop::NoMemory);
+        };
+        site_index.move_index(depot, 0);
+        Ok(Frame {
+            sites,
+            parts,
+            site_index,
+            part_index,
+        })
+    }
+
+    /// How many sites there are.
+    pub fn site_count(&self) -> u8
+        ensures count { result ≡ length self.now.sites }
+        ensures valid { IsFrame self.now }
+    {
+        self.sites.len() as u8
+    }
+
+    /// How many parts there are.
+    pub fn part_count(&self) -> u16
+        ensures count { result ≡ length self.now.parts }
+        ensures valid { IsFrame self.now }
+    {
+        self.parts.len() as u16
+    }
+
+    /// The row of a site.
+    pub fn site(&self, site: SiteId) -> &SiteRow
+        requires { site.0 < length self.now.sites }
+        ensures row { result.now ≡ site_at self.now.sites site.0 }
+        ensures fields { IsSiteRow result.now }
+        ensures depot { result.now.depot ≡ (site.0 == 0) }
+    {
+        &self.sites[site.0 as usize]
+    }
+
+    /// The row of a part.
+    pub fn part(&self, part: PartId) -> &PartRow
+        requires { part.0 < length self.now.parts }
+        ensures row { result.now ≡ part_at self.now.parts part.0 }
+        ensures fields { IsPartRow result.now }
+    {
+        &self.parts[part.0 as usize]
+    }
+
+    /// The line unit of a shop unit. None exactly at a line unit.
+    pub fn parent(&self, part: PartId) -> Option<PartId>
+        requires { part.0 < length self.now.parts }
+        ensures line { option_map (λ p. p.0) result ≡ line_of self.now.parts part.0 }
+        ensures row { IfSome result (λ p. (p.0 < length self.now.parts) × (is_line (part_at self.now.parts p.0) ≡ true)) }
+        ensures none { is_none result ≡ is_line (part_at self.now.parts part.0) }
+    {
+        match &self.parts[part.0 as usize].parent {
+            Some(name) => self.find_part(name),
+            None => None,
+        }
+    }
+
+    /// Whether a part is a line unit.
+    pub fn is_line(&self, part: PartId) -> bool
+        requires { part.0 < length self.now.parts }
+        ensures { result ≡ is_line (part_at self.now.parts part.0) }
+    {
+        self.parts[part.0 as usize].parent.is_none()
+    }
+
+    /// The most of a part that a site may hold, 0 to 63.
+    pub fn limit(&self, part: PartId, site: SiteId) -> u8
+        requires part { part.0 < length self.now.parts }
+        requires site { site.0 < length self.now.sites }
+        ensures limit { result ≡ limit_at self.now.parts part.0 site.0 }
+        ensures most { result ≤ 63 }
+    {
+        let row = self.part(part);
+        if site.0 == 0 {
+            row.max_depot
+        } else {
+            row.max_base
+        }
+    }
+
+    /// The part of this name. None exactly where no row has it.
+    pub fn find_part(&self, name: &Name) -> Option<PartId>
+        ensures place { option_map (λ p. p.0) result ≡ place_of name.now (part_names self.now.parts) }
+        ensures row { IfSome result (λ p. (p.0 < length self.now.parts) × ((part_at self.now.parts p.0).name ≡ name.now)) }
+    {
+        match self.part_index.get_index_of(name) {
+            Some(place) => Some(PartId(place as u16)),
+            None => None,
+        }
+    }
+
+    /// The site of this name. None exactly where no row has it.
+    pub fn find_site(&self, name: &Name) -> Option<SiteId>
+        ensures place { option_map (λ s. s.0) result ≡ place_of name.now (site_names self.now.sites) }
+        ensures row { IfSome result (λ s. (s.0 < length self.now.sites) × ((site_at self.now.sites s.0).name ≡ name.now)) }
+    {
+        match self.site_index.get_index_of(name) {
+            Some(place) => Some(SiteId(place as u8)),
+            None => None,
+        }
+    }
+}
+
+// The names of sites and of parts, each at its row's place, and the depot's place, where no rule is broken.
+fn number_rows(
+    alloc: Global,
+    sites: &[SiteRow],
+    parts: &[PartRow],
+) -> Result<(IndexSet<Name>, IndexSet<Name>, usize), Stop<CaseFault>>
+    requires sites { length sites.now ≤ 16 }
+    requires parts { length parts.now ≤ 2000 }
+    ensures fault { StopsAt (frame_fault sites.now parts.now) result }
+    ensures numbered { IfOk result (λ n. IsNumbered sites.now parts.now n.0.keys n.1.keys n.2) }
+{
+    let site_names = number_sites(alloc, sites)?;
+    let depot = match depot_place(sites) {
+        Ok(depot) => depot,
+        Err(fault) => return Err(Stop::Fault(fault)),
+    };
+    let part_names = number_parts(alloc, parts)?;
+    if let Some(fault) = parents_fault(&part_names, parts) {
+        return Err(Stop::Fault(fault));
+    }
+    let _ = part_names.len();
+    Ok((site_names, part_names, depot))
+}
+
+// The names of the sites, each at its row's place, where no row repeats a name or is a second depot.
+fn number_sites(alloc: Global, sites: &[SiteRow]) -> Result<IndexSet<Name>, Stop<CaseFault>>
+    requires { length sites.now ≤ 16 }
+    ensures fault { StopsAt (first (site_fault sites.now) (length sites.now)) result }
+    ensures names { IfOk result (λ names. names.keys ≡ site_names sites.now) }
+{
+    let mut names = IndexSet::new(alloc);
+    let mut has_depot = false;
+    for k in 0..sites.len() {
+        let site = sites[k];
+        let fresh = add_name(&mut names, site.name)?;
+        if let Some(fault) = site_fault(&site, !fresh, has_depot, k as u32 + 2) {
+            return Err(Stop::Fault(fault));
+        }
+        has_depot = has_depot || site.depot;
+    }
+    Ok(names)
+}
+
+// Adds a name, and says whether it is a new one.
+fn add_name(names: &mut IndexSet<Name>, name: Name) -> Result<bool, NoMemory>
+    ensures fresh { IfOk result (λ fresh. fresh ≡ not (is_among name names.old.keys)) }
+    ensures added { IfOk result (λ fresh. fresh ≡ true → names.new.keys ≡ names.old.keys ++ name ∷ []) }
+{
+    match names.insert_full(name) {
+        Ok((_, fresh)) => Ok(fresh),
+        Err(_) => Err(NoMemory),
+    }
+}
+
+// The rule that a row of sites breaks.
+fn site_fault(site: &SiteRow, is_known: bool, has_depot: bool, row: u32) -> Option<CaseFault>
+    ensures { result ≡ site_rule site.now is_known has_depot row }
+{
+    if is_known {
+        return Some(CaseFault::DoubleSite(row));
+    }
+    if site.depot && has_depot {
+        return Some(CaseFault::TwoDepots(row));
+    }
+    None
+}
+
+// The place of the depot, where there are a depot and a base.
+fn depot_place(sites: &[SiteRow]) -> Result<usize, CaseFault>
+    ensures { MatchResult result
+        (λ d. (kinds_fault sites.now ≡ None) × (position is_depot sites.now ≡ Some d))
+        (λ e. kinds_fault sites.now ≡ Some e) }
+{
+    let Some(depot) = first_depot(sites) else {
+        return Err(CaseFault::NoDepot);
+    };
+    if !has_base(sites) {
+        return Err(CaseFault::NoBase);
+    }
+    Ok(depot)
+}
+
+// The place of the first depot.
+fn first_depot(sites: &[SiteRow]) -> Option<usize>
+    ensures { result ≡ position is_depot sites.now }
+{
+    sites.iter().position(|site| site.depot)
+}
+
+// Whether one of the sites is a base.
+fn has_base(sites: &[SiteRow]) -> bool
+    ensures { result ≡ list_any is_base sites.now }
+{
+    sites.iter().any(|site| !site.depot)
+}
+
+// Puts one row before all others.
+fn put_first(sites: &mut Vec<SiteRow>, place: usize) -> Result<(), NoMemory>
+    requires { place < vec_len sites.old }
+    ensures { OnOk result (sites.new.items ≡ move_index sites.old.items place 0) }
+{
+    let row = sites.remove(place);
+    sites.insert(0, row)?;
+    Ok(())
+}
+
+// The names of the parts, each at its row's place, where no row repeats one.
+fn number_parts(alloc: Global, parts: &[PartRow]) -> Result<IndexSet<Name>, Stop<CaseFault>>
+    requires { length parts.now ≤ 2000 }
+    ensures fault { StopsAt (first (double_part parts.now) (length parts.now)) result }
+    ensures names { IfOk result (λ names. names.keys ≡ part_names parts.now) }
+{
+    let mut names = IndexSet::new(alloc);
+    for k in 0..parts.len() {
+        let part = parts[k];
+        let fresh = add_name(&mut names, part.name)?;
+        if !fresh {
+            return Err(Stop::Fault(CaseFault::DoublePart(k as u32 + 2)));
+        }
+    }
+    Ok(names)
+}
+
+// The first rule that a row breaks by its parent.
+fn parents_fault(names: &IndexSet<Name>, parts: &[PartRow]) -> Option<CaseFault>
+    requires few { length parts.now ≤ 2000 }
+    requires numbered { names.now.keys ≡ part_names parts.now }
+    ensures { result ≡ first (parent_fault parts.now) (length parts.now) }
+{
+    for k in 0..parts.len() {
+        if let Some(fault) = parent_fault(names, parts, k) {
+            return Some(fault);
+        }
+    }
+    None
+}
+
+// The rule that row k breaks by its parent.
+fn parent_fault(names: &IndexSet<Name>, parts: &[PartRow], k: usize) -> Option<CaseFault>
+    requires few { length parts.now ≤ 2000 }
+    requires within { k < length parts.now }
+    requires numbered { names.now.keys ≡ part_names parts.now }
+    ensures { result ≡ parent_fault parts.now k }
+{
+    let part = parts[k];
+    match part.parent {
+        Some(line) => shop_fault(parts, k, names.get_index_of(&line)),
+        None => None,
+    }
+}
+
+// The rule that row k breaks as a shop unit, whose parent has this place or is none of the parts.
+fn shop_fault(parts: &[PartRow], k: usize, line: Option<usize>) -> Option<CaseFault>
+    requires few { length parts.now ≤ 2000 }
+    requires within { k < length parts.now }
+    requires line { IfSome line (λ l. l < length parts.now) }
+    ensures { result ≡ shop_fault parts.now k line }
+{
+    let row = k as u32 + 2;
+    let Some(place) = line else {
+        return Some(CaseFault::UnknownParent(row));
+    };
+    let line = parts[place];
+    if line.parent.is_some() {
+        return Some(CaseFault::ParentNotLine(row));
+    }
+    if count_shop_units(&line, &parts[..k]) >= 8 {
+        return Some(CaseFault::TooManyShopUnits(row));
+    }
+    None
+}
+
+// How many of these rows are shop units of this line unit.
+fn count_shop_units(line: &PartRow, parts: &[PartRow]) -> usize
+    ensures { result ≡ count_by (is_shop_of line.now) parts.now }
+{
+    parts.iter().filter(|part| is_shop_of(line, part)).count()
+}
+
+// Whether a row is a shop unit of this line unit.
+fn is_shop_of(line: &PartRow, part: &PartRow) -> bool
+    ensures { result ≡ is_shop_of line.now part.now }
+{
+    match part.parent {
+        Some(parent) => line.name == parent,
+        None => false,
+    }
+}

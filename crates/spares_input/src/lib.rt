@@ -1,0 +1,17 @@
+//! The input of the planner: names, rows, and cases that are valid by their type.
+#![tactic(auto)]
+
+mod case;
+mod fault;
+mod frame;
+mod name;
+mod pairs;
+mod rows;
+mod stocks;
+
+pub use case::Case;
+pub use fault::{CaseFault, StockFault};
+pub use frame::Frame;
+pub use name::Name;
+pub use rows::{PartId, PartRow, RateRow, SiteId, SiteRow, StockRow};
+pub use stocks::{Stocks, stocks_from};

@@ -1,0 +1,32 @@
+//! Pairs of a part and a site, and their places: by part and then by site.
+
+ghost use Rattle.std.specs.Prelude.{◌≡◌, ◌*◌, ◌≤◌, ◌<◌};
+ghost use Rattle.spares_input.specs.Pairs.{pair_place, part_of_place, site_of_place};
+
+use crate::rows::{PartId, SiteId};
+
+/// The place of a pair.
+pub fn pair_place(part: PartId, site: SiteId, sites: usize, parts: usize) -> usize
+    requires few_sites { sites ≤ 16 }
+    requires few_parts { parts ≤ 2000 }
+    requires part { part.0 < parts }
+    requires site { site.0 < sites }
+    ensures place { result ≡ pair_place sites part.0 site.0 }
+    ensures within { result < parts * sites }
+{
+    part.0 as usize * sites + site.0 as usize
+}
+
+/// The pair at a place.
+pub fn pair_at(place: usize, sites: usize) -> (PartId, SiteId)
+    requires some_sites { 0 < sites }
+    requires few_sites { sites ≤ 16 }
+    requires within { place < 2000 * sites }
+    ensures part { result.0 ≡ part_of_place sites place }
+    ensures site { result.1 ≡ site_of_place sites place }
+{
+    (
+        PartId((place / sites) as u16),
+        SiteId((place % sites) as u8),
+    )
+}
