@@ -1,0 +1,4 @@
+pub mod Exact
+pub mod Shape
+pub mod Written
+pub mod Valid
