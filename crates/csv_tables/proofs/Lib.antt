@@ -1,0 +1,5 @@
+pub mod RestFacts
+pub mod TrimFacts
+pub mod TableFacts
+pub mod FieldFacts
+pub mod RowFacts

@@ -1,0 +1,49 @@
+-- What the table of rates says, and how rows name the pairs of a frame.
+use Rattle.std.specs.Prelude.{ℕ, ◌==◌, ◌&&◌, not, List, [], ◌∷◌, Option, Some, None, Result, Ok, Err, codes}
+use Rattle.spares_input.specs.Rows.{is_line}
+use Rattle.spares_input.specs.Frames.{FrameRows, part_at, part_names, place_of, site_names}
+use Rattle.spares_input.specs.declared.rows.RateRow.{RateRow}
+use Rattle.csv_tables.specs.Rest.{Record, all_records}
+use Rattle.csv_tables.specs.Fields.{◌>>=◌, field, name_in, number_in, used_in}
+use Rattle.csv_tables.specs.Tables.{table_of}
+use Rattle.csv_tables.specs.declared.fault.TableFault.{TableFault}
+use Rattle.csv_tables.specs.declared.fault.TableFault.TheVariants as fault
+
+-- a place that is found, or else a fault
+abbrev pub found_or : {A : Type 0} → TableFault → Option A → Result A TableFault
+found_or fault None = Err fault
+found_or fault (Some x) = Ok x
+
+-- the number of the part that a field names
+abbrev pub part_in : FrameRows → ℕ → ℕ → List ℕ → Result ℕ TableFault
+part_in f row column text = name_in row column text >>= λ name. found_or (fault.UnknownPart row) (place_of name (part_names f.parts))
+
+-- the number of the site that a field names
+abbrev pub site_in : FrameRows → ℕ → ℕ → List ℕ → Result ℕ TableFault
+site_in f row column text = name_in row column text >>= λ name. found_or (fault.UnknownSite row) (place_of name (site_names f.sites))
+
+-- the rates of a record, with 4 decimals, and 2 for days: which fields are used goes by the pair; site 0 is the depot
+unfoldable pub rate_of : FrameRows → ℕ → Record → Result RateRow TableFault
+rate_of f row r = do
+  part ← part_in f row 1 (field r 0)
+  site ← site_in f row 2 (field r 1)
+  demand ← used_in (is_line (part_at f.parts part) && not (site == 0)) row 3 4 0 1000000000 (field r 2)
+  repair_here ← used_in (not (site == 0)) row 4 4 0 10000 (field r 3)
+  share ← used_in (not (is_line (part_at f.parts part))) row 5 4 0 10000 (field r 4)
+  repair_days ← number_in row 6 2 0 999999 (field r 5)
+  Ok (record {
+    part = record { 0 = part };
+    site = record { 0 = site };
+    demand = demand;
+    repair_here = repair_here;
+    share = share;
+    repair_days = repair_days;
+  })
+
+abbrev pub rates_header : List (List ℕ)
+rates_header =
+    codes "part" ∷ codes "site" ∷ codes "demand" ∷ codes "repair_here" ∷ codes "share" ∷ codes "repair_days" ∷ []
+
+-- the rows of a table of rates, or its first fault
+abbrev pub rates_of : FrameRows → List ℕ → Result (List RateRow) TableFault
+rates_of f bytes = table_of (rate_of f) 32000 6 rates_header (all_records bytes)

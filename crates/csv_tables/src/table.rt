@@ -1,0 +1,133 @@
+//! A table of any kind, read record by record.
+
+ghost use Rattle.std.specs.Prelude.{◌≡◌, ◌+◌, ◌<◌, ◌≤◌, ◌^◌, ℕ, Result, IfOk, length, map};
+ghost use Rattle.csv.specs.Records.{fields_of};
+ghost use Rattle.spares_io.specs.Answers.{Gives};
+ghost use Rattle.csv_tables.specs.Rest.{all_records, rest_of, IsTable, Record};
+ghost use Rattle.csv_tables.specs.Tables.{column_fault, header_in, row_with, rows_from, rows_of, table_of};
+ghost use Rattle.csv_tables.specs.declared.fault.TableFault.{TableFault};
+
+use crate::fault::TableFault;
+use crate::fields::{counted, field};
+use crate::reader::{next_record, table_of};
+use csv::{ByteRecord, Reader};
+use spares_io::Stop;
+use std::alloc::Global;
+
+/// A kind of table: what one of its records says.
+pub trait Table {
+    /// A row of this table.
+    type Row: Drop;
+
+    /// What the record of a row of the file says.
+    ghost row_of: { Self → ℕ → Record → Result Self.Row TableFault };
+
+    /// The row that a record says, or its first fault.
+    fn row(&self, row: u32, record: &ByteRecord) -> Result<Self::Row, TableFault>
+        ensures { result ≡ row_of self.now row (fields_of «record».now) };
+}
+
+/// The rows of a table of these columns, of which the last may be left out down to `least`, or its first fault.
+pub fn read_table<T: Table>(
+    alloc: Global,
+    bytes: &[u8],
+    table: &T,
+    least: u8,
+    header: &[&[u8]],
+    limit: u32,
+) -> Result<Vec<T::Row>, Stop<TableFault>>
+    requires small { length bytes.now ≤ 4194304 }
+    requires columns { length header.now < 256 }
+    requires few { limit ≤ 32000 }
+    ensures { Gives (table_of (T.row_of table.now) limit least (map (λ f. f.now) header.now) (all_records bytes.now)) (rows_of result) }
+{
+    let mut rdr = table_of(alloc, bytes);
+    let mut record = ByteRecord::new(alloc);
+    if !next_record(&mut rdr, &mut record)? {
+        return Err(Stop::Fault(TableFault::NoHeader));
+    }
+    match header_in(least, header, &record) {
+        Ok(columns) => read_rows(alloc, &mut rdr, &mut record, table, columns, limit),
+        Err(fault) => Err(Stop::Fault(fault)),
+    }
+}
+
+// How many columns a header has, or its first fault.
+fn header_in(least: u8, header: &[&[u8]], record: &ByteRecord) -> Result<u8, TableFault>
+    requires columns { length header.now < 256 }
+    requires fields { length (fields_of «record».now) < 2 ^ 32 }
+    ensures { result ≡ header_in least (map (λ f. f.now) header.now) (fields_of «record».now) }
+{
+    let columns = record.len();
+    if columns < least as usize || columns > header.len() {
+        return Err(TableFault::FieldCount {
+            row: 1,
+            found: columns as u32,
+        });
+    }
+    for k in 0..columns {
+        if let Some(fault) = column_fault(header, record, k) {
+            return Err(fault);
+        }
+    }
+    Ok(columns as u8)
+}
+
+// The fault of a column of the header.
+fn column_fault(header: &[&[u8]], record: &ByteRecord, k: usize) -> Option<TableFault>
+    requires columns { length header.now < 256 }
+    requires within { k < length header.now }
+    ensures { result ≡ column_fault (map (λ f. f.now) header.now) (fields_of «record».now) k }
+{
+    let wanted = header[k];
+    if field(record, k) == wanted {
+        None
+    } else {
+        Some(TableFault::Header {
+            column: k as u8 + 1,
+        })
+    }
+}
+
+// The rows that the records left say, of which the first is row 2 of the file.
+fn read_rows<T: Table>(
+    alloc: Global,
+    rdr: &mut Reader<&[u8]>,
+    record: &mut ByteRecord,
+    table: &T,
+    columns: u8,
+    limit: u32,
+) -> Result<Vec<T::Row>, Stop<TableFault>>
+    requires reader { IsTable rdr.old }
+    requires few { limit ≤ 32000 }
+    ensures { Gives (rows_from (T.row_of table.now) limit columns 2 (rest_of rdr.old)) (rows_of result) }
+{
+    let mut rows = Vec::new(alloc);
+    for row in 2..limit + 2 {
+        if !next_record(rdr, record)? {
+            return Ok(rows);
+        }
+        match row_in(table, row, columns, record) {
+            Ok(found) => rows.push(found)?,
+            Err(fault) => return Err(Stop::Fault(fault)),
+        }
+    }
+    if next_record(rdr, record)? {
+        return Err(Stop::Fault(TableFault::TooManyRows));
+    }
+    Ok(rows)
+}
+
+// The row that a record with so many fields says.
+fn row_in<T: Table>(
+    table: &T,
+    row: u32,
+    columns: u8,
+    record: &ByteRecord,
+) -> Result<T::Row, TableFault>
+    requires { length (fields_of «record».now) < 2 ^ 32 }
+    ensures { result ≡ row_with (T.row_of table.now) row columns (fields_of «record».now) }
+{
+    counted(row, columns, record)?;
+    table.row(row, record)
+}
