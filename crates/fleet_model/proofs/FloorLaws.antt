@@ -1,0 +1,136 @@
+-- The floors of the families at a price show a bound for each allocation within the budget,
+-- and two allocations around the budget show how high a price can bound.
+use Rattle.std.proofs.Common.{◌≡◌, ℕ, ◌+◌, ◌*◌, ◌^◌, ◌<◌, ◌≤◌, true, List, [], ◌∷◌, length, sum_by, refl, sym, ap, ◌∙◌, subst, arith, mul-le-mul_left}
+use Rattle.std.proofs.lemmas.List.Sums.{sum_by-cons}
+use Rattle.exact_model.specs.Fraction.{Fraction, whole, ◌≈◌, ◌≤ℚ◌, ◌+ℚ◌, ◌*ℚ◌}
+use Rattle.exact_model.proofs.Fractions.{same, turned, ◌≈≈◌, add-same, mul-same, le-same, le-refl, le-chain, times_right_comm}
+use Rattle.spares_input.specs.Cases.{CaseRows, IsCase}
+use Rattle.spares_input.specs.Frames.{part_at}
+use Rattle.spares_input.specs.Rows.{is_line}
+use Rattle.fleet_model.specs.Sums.{sum_over}
+use Rattle.fleet_model.specs.Rows.{line_units}
+use Rattle.fleet_model.specs.Fleet.{family_total, total, cost, family_cost, IsAllocation}
+use Rattle.fleet_model.specs.Headline.{AreFloors, NoAllocationHasFewer, NoPriceIsHigher, HasAtMost, AreAround}
+use Rattle.fleet_model.proofs.Order.{le-add, le-mul, le-cancel}
+use Rattle.fleet_model.proofs.SumLaws.{sum-most_in, passed, sum-times, sum-same}
+use Rattle.fleet_model.proofs.FamilyLaws.{HasFamilies, cost-families}
+use Rattle.fleet_model.proofs.FrameLaws.{has_families}
+use Rattle.fleet_model.proofs.PriceLaws.{cancel_plus, whole-most, bound_within, bound_between}
+
+whole-plus : (a b : ℕ) → whole a +ℚ whole b ≈ whole (a + b)
+unfolding whole ◌+ℚ◌
+whole-plus a b = record { cross = omega arith }
+
+whole-product : (a b : ℕ) → whole a *ℚ whole b ≈ whole (a * b)
+unfolding whole ◌*ℚ◌
+whole-product a b = record { cross = omega arith }
+
+whole-same : {a b : ℕ} → a ≡ b → whole a ≈ whole b
+whole-same {a} {b} h = subst (λ z. whole a ≈ whole z) h (same (whole a))
+
+sum-whole : (xs : List ℕ) (g : ℕ → ℕ) → sum_over xs (λ x. whole (g x)) ≈ whole (sum_by g xs)
+unfolding sum_over
+sum-whole [] g = same (whole 0)
+sum-whole (x ∷ xs) g =
+    add-same (same (whole (g x))) (sum-whole xs g) ≈≈ whole-plus (g x) (sum_by g xs) ≈≈ whole-same (sym (sum_by-cons g x xs))
+
+swap_step : (a b c d : Fraction) → (a +ℚ b) +ℚ (c +ℚ d) ≈ (a +ℚ c) +ℚ (b +ℚ d)
+unfolding ◌+ℚ◌
+swap_step a b c d = record { cross = omega arith }
+
+nothing_twice : whole 0 ≈ whole 0 +ℚ whole 0
+unfolding ◌+ℚ◌ whole
+nothing_twice = record { cross = refl }
+
+sum-plus : (xs : List ℕ) (f g : ℕ → Fraction) → sum_over xs (λ x. f x +ℚ g x) ≈ sum_over xs f +ℚ sum_over xs g
+unfolding sum_over
+sum-plus [] f g = nothing_twice
+sum-plus (x ∷ xs) f g = add-same (same (f x +ℚ g x)) (sum-plus xs f g) ≈≈ swap_step (f x) (g x) (sum_over xs f) (sum_over xs g)
+
+times_comm : (q r : Fraction) → q *ℚ r ≈ r *ℚ q
+unfolding ◌*ℚ◌
+times_comm q r = record { cross = omega arith }
+
+-- a common factor at the right
+sum-times_right : (xs : List ℕ) (f : ℕ → Fraction) (x : Fraction) → sum_over xs (λ i. f i *ℚ x) ≈ sum_over xs f *ℚ x
+sum-times_right xs f x = sum-same xs _ _ (λ i. times_comm (f i) x) ≈≈ turned (sum-times xs x f) ≈≈ times_comm x (sum_over xs f)
+
+sum-scaled : (xs : List ℕ) (m : ℕ) (g : ℕ → ℕ) → sum_by (λ x. m * g x) xs ≡ m * sum_by g xs
+sum-scaled [] m g = omega arith
+sum-scaled (x ∷ xs) m g =
+    omega (arith, sum_by-cons (λ y. m * g y) x xs, ap (λ z. m * z) (sum_by-cons g x xs), sum-scaled xs m g)
+
+floors_sum : (c : CaseRows) (units money : ℕ) (floor : ℕ → ℕ) → HasFamilies c → AreFloors c units money floor
+    → (n : ℕ) → 1024 ≤ n → (s : List ℕ) → IsAllocation c s
+    → whole (sum_by floor (line_units c)) ≤ℚ whole units *ℚ (total c s n *ℚ whole (2 ^ 48)) +ℚ whole (money * cost c s)
+unfolding total
+floors_sum c units money floor fam h n l s a =
+    le-same (sum-whole (line_units c) floor)
+    (sum-plus (line_units c) (λ i. whole units *ℚ (family_total c s n i *ℚ whole (2 ^ 48))) (λ i. whole (money * family_cost c s i))
+    ≈≈ add-same
+    (turned (sum-times (line_units c) (whole units) (λ i. family_total c s n i *ℚ whole (2 ^ 48)))
+    ≈≈ mul-same (same (whole units)) (sum-times_right (line_units c) (family_total c s n) (whole (2 ^ 48))))
+    (sum-whole (line_units c) (λ i. money * family_cost c s i)
+    ≈≈ whole-same (sum-scaled (line_units c) money (family_cost c s) ∙ ap (λ z. money * z) (cost-families c s fam))))
+    (sum-most_in (line_units c) (λ i. (i < length c.parts) × (is_line (part_at c.parts i) ≡ true)) _ _
+    (passed (λ i. is_line (part_at c.parts i)) (length c.parts) (length c.parts) 0 (omega arith)) (λ i p. h n l s a i p.0 p.1))
+
+bound_step : (t : Fraction) (bound units most floors paid : ℕ) → 0 < units → bound * units + most ≤ floors → paid ≤ most
+    → whole floors ≤ℚ whole units *ℚ t +ℚ whole paid → whole bound ≤ℚ t
+bound_step t bound units most floors paid p low fits h =
+    le-cancel (whole units) (unfold whole in p)
+    (cancel_plus (whole most)
+    (le-same (turned (add-same (whole-product bound units) (same (whole most)) ≈≈ whole-plus (bound * units) most))
+    (add-same (times_comm (whole units) t) (same (whole most)))
+    (le-chain (whole-most low) (le-chain h (le-add (le-refl (whole units *ℚ t)) (whole-most fits))))))
+
+pub floors_bound : (c : CaseRows) (budget bound units money : ℕ) (floor : ℕ → ℕ) → IsCase c → 0 < units → AreFloors c units money floor
+    → bound * units + money * budget ≤ sum_by floor (line_units c) → NoAllocationHasFewer c budget bound
+floors_bound c budget bound units money floor fam p h low n l s a fits =
+    bound_step (total c s n *ℚ whole (2 ^ 48)) bound units (money * budget) (sum_by floor (line_units c)) (money * cost c s) p low
+    (mul-le-mul_left money fits) (floors_sum c units money floor (has_families c fam) h n l s a)
+
+-- ---- no price is higher
+
+times_out : (t0 t1 a b w : Fraction) → (t0 *ℚ a +ℚ t1 *ℚ b) *ℚ w ≈ (t0 *ℚ w) *ℚ a +ℚ (t1 *ℚ w) *ℚ b
+unfolding ◌+ℚ◌ ◌*ℚ◌
+times_out t0 t1 a b w = record { cross = omega arith }
+
+around_step : (x t0 t1 w : Fraction) (left over h0 h1 most : ℕ) → 0 < left + over → h0 * over + h1 * left ≤ most * (left + over)
+    → x *ℚ whole (left + over) ≤ℚ t0 *ℚ whole over +ℚ t1 *ℚ whole left → t0 *ℚ w ≤ℚ whole h0 → t1 *ℚ w ≤ℚ whole h1
+    → x *ℚ w ≤ℚ whole most
+around_step x t0 t1 w left over h0 h1 most p low h k0 k1 =
+    le-cancel (whole (left + over)) (unfold whole in p)
+    (le-chain (le-same (times_right_comm x (whole (left + over)) w) (times_out t0 t1 (whole over) (whole left) w) (le-mul h (le-refl w)))
+    (le-chain (le-add (le-mul k0 (le-refl (whole over))) (le-mul k1 (le-refl (whole left))))
+    (le-same (turned (add-same (whole-product h0 over) (whole-product h1 left) ≈≈ whole-plus (h0 * over) (h1 * left)))
+    (turned (whole-product most (left + over)))
+    (whole-most low))))
+
+pub no_price_around : (c : CaseRows) (budget most : ℕ) (s t : List ℕ) (left over h0 h1 : ℕ) → AreAround c budget s t left over
+    → HasAtMost c s h0 → HasAtMost c t h1 → h0 * over + h1 * left ≤ most * (left + over) → NoPriceIsHigher c budget most
+no_price_around c budget most s t left over h0 h1 a k0 k1 low n l price x bound =
+    around_step x (total c s n) (total c t n) (whole (2 ^ 48)) left over h0 h1 most a.apart low
+    (bound_between c budget n price x bound s t left over a.first a.second a.below a.above) (k0 n l) (k1 n l)
+
+pub no_price_within : (c : CaseRows) (budget most : ℕ) (s : List ℕ) → IsAllocation c s → cost c s ≤ budget → HasAtMost c s most
+    → NoPriceIsHigher c budget most
+no_price_within c budget most s a fits k n l price x bound =
+    le-chain (le-mul (bound_within c budget n price x bound s a fits) (le-refl (whole (2 ^ 48)))) (k n l)
+
+hull_step : (bound lo0 lo1 fall width last cost0 budget left over : ℕ) → cost0 + left ≡ budget → lo1 + fall ≡ lo0
+    → (left + over) * lo0 + fall * cost0 < (bound + 1) * (left + over) + fall * budget
+    → (lo0 + width) * over + (lo1 + width + last) * left ≤ (bound + (width + last + 1)) * (left + over)
+hull_step bound lo0 lo1 fall width last cost0 budget left over b f h =
+    let i : fall * (cost0 + left) ≡ fall * budget = ap (λ z. fall * z) b in
+    let j : left * (lo1 + fall) ≡ left * lo0 = ap (λ z. left * z) f in
+    omega arith
+
+-- the choice s and the critical step to t: `fall` of backorders for left + over of money
+pub hull_limit : (c : CaseRows) (budget bound lo0 lo1 fall width last : ℕ) (s t : List ℕ) (left over : ℕ) → AreAround c budget s t left over
+    → HasAtMost c s (lo0 + width) → HasAtMost c t (lo1 + width + last) → lo1 + fall ≡ lo0
+    → (left + over) * lo0 + fall * cost c s < (bound + 1) * (left + over) + fall * budget
+    → NoPriceIsHigher c budget (bound + (width + last + 1))
+hull_limit c budget bound lo0 lo1 fall width last s t left over a k0 k1 f h =
+    no_price_around c budget (bound + (width + last + 1)) s t left over (lo0 + width) (lo1 + width + last) a k0 k1
+    (hull_step bound lo0 lo1 fall width last (cost c s) budget left over a.below f h)

@@ -1,0 +1,70 @@
+-- The inputs of a case by part p and site k. Site 0 is the depot, and sites 1 to J are the bases. A place that the case
+-- doesn't have holds zeros.
+use Rattle.std.specs.Prelude.{ℕ, ◌-◌, List, length, get_or, filter}
+use Rattle.std.specs.List.{range_with_len}
+use Rattle.std.proofs.Common.{zero-lt-suc}
+use Rattle.exact_model.specs.Fraction.{Fraction, whole, ◌-ℚ◌}
+use Rattle.spares_input.specs.Rows.{is_line}
+use Rattle.spares_input.specs.Frames.{site_at, part_at, is_shop_of}
+use Rattle.spares_input.specs.Pairs.{pair_place}
+use Rattle.spares_input.specs.Cases.{CaseRows, rate_at}
+
+-- all sites, the bases, and all parts
+abbrev pub all_sites : CaseRows → List ℕ
+all_sites c = range_with_len 0 (length c.sites)
+
+abbrev pub bases : CaseRows → List ℕ
+bases c = range_with_len 1 (length c.sites - 1)
+
+abbrev pub all_parts : CaseRows → List ℕ
+all_parts c = range_with_len 0 (length c.parts)
+
+-- the line units, and the shop units of the line unit l, in part order
+abbrev pub line_units : CaseRows → List ℕ
+line_units c = filter (λ p. is_line (part_at c.parts p)) (all_parts c)
+
+abbrev pub shop_units : CaseRows → ℕ → List ℕ
+shop_units c l = filter (λ p. is_shop_of (part_at c.parts l) (part_at c.parts p)) (all_parts c)
+
+-- n ten-thousandths
+unfoldable pub ten_thousandths : ℕ → Fraction
+ten_thousandths n = record { num = n; den = 10000; positive = zero-lt-suc 9999 }
+
+-- n hundredths of a day, in years of 365 days
+unfoldable pub years : ℕ → Fraction
+years n = record { num = n; den = 36500; positive = zero-lt-suc 36499 }
+
+-- r, the probability that part p is repaired at base j, and 1 - r, that it is sent to the depot
+unfoldable pub here : CaseRows → ℕ → ℕ → Fraction
+here c p j = ten_thousandths (rate_at c p j).repair_here
+
+unfoldable pub sent : CaseRows → ℕ → ℕ → Fraction
+sent c p j = whole 1 -ℚ here c p j
+
+-- q, the probability that a repair of the line unit at site k needs its shop unit i
+unfoldable pub needed : CaseRows → ℕ → ℕ → Fraction
+needed c i k = ten_thousandths (rate_at c i k).share
+
+-- T, the mean time of a repair of part p at site k
+unfoldable pub repair : CaseRows → ℕ → ℕ → Fraction
+repair c p k = years (rate_at c p k).repair_days
+
+-- O, the mean time of order and shipment from the depot to base j
+unfoldable pub ship : CaseRows → ℕ → Fraction
+ship c j = years (site_at c.sites j).ship
+
+-- N, the systems at base j
+abbrev pub systems : CaseRows → ℕ → ℕ
+systems c j = (site_at c.sites j).systems
+
+-- Z, how many of the line unit l a system has
+abbrev pub per_system : CaseRows → ℕ → ℕ
+per_system c l = (part_at c.parts l).per_system
+
+-- how much a backorder of the line unit l counts
+abbrev pub weight : CaseRows → ℕ → ℕ
+weight c l = (part_at c.parts l).weight
+
+-- the stock of part p at site k, where stocks are listed by part and then by site
+abbrev pub stock : CaseRows → List ℕ → ℕ → ℕ → ℕ
+stock c s p k = get_or s (pair_place (length c.sites) p k) 0
