@@ -1,0 +1,6 @@
+pub mod Sums
+pub mod Grown
+pub mod Within
+pub mod DepotFacts
+pub mod WaitFacts
+pub mod RateFacts

@@ -1,0 +1,36 @@
+-- What the shop units of a line unit add to its zero-stock mean at a site.
+use Rattle.std.specs.Prelude.{◌≡◌, ℕ, zero, suc, ◌*◌, ◌<◌, ◌≤◌, List, [], length, get_or, filter, sum_by}
+use Rattle.std.specs.List.{range_with_len}
+use Rattle.spares_input.specs.Frames.{part_at, is_shop_of}
+use Rattle.spares_input.specs.Cases.{CaseRows, rate_at}
+use Rattle.fleet_model.specs.Rows.{shop_units}
+use Rattle.fleet_model.specs.Units.{zero_stock_units_ij}
+
+-- q_i0 T_i0, in 10^-6 days, at the depot; M_ij at base j
+abbrev pub wait : CaseRows → ℕ → ℕ → ℕ → ℕ
+wait c l zero i = (rate_at c i 0).share * (rate_at c i 0).repair_days
+wait c l (suc j) i = zero_stock_units_ij c l i (suc j)
+
+-- the sum over all shop units of the line unit l at site k
+abbrev pub wait_sum : CaseRows → ℕ → ℕ → ℕ
+wait_sum c l k = sum_by (wait c l k) (shop_units c l)
+
+-- the shop units of l among the first n parts
+abbrev pub shops_below : CaseRows → ℕ → ℕ → List ℕ
+shops_below c l n = filter (λ p. is_shop_of (part_at c.parts l) (part_at c.parts p)) (range_with_len 0 n)
+
+-- the most that one shop unit adds
+abbrev pub wait_most : ℕ → ℕ
+wait_most zero = 10000000000
+wait_most (suc j) = 3000000000000000000000000000
+
+-- the sums of all parts at site k, within what 2,000 parts can add
+pub record AreWaits (c : CaseRows) (k : ℕ) (sums : List ℕ) : Type 0 where
+  pub count : length sums ≡ length c.parts
+  pub each : (l : ℕ) → l < length c.parts → get_or sums l 0 ≡ wait_sum c l k
+  pub small : (l : ℕ) → get_or sums l 0 ≤ 2000 * wait_most k
+
+-- the sums of all parts at each site
+pub record AreAllWaits (c : CaseRows) (sums : List (List ℕ)) : Type 0 where
+  pub count : length sums ≡ length c.sites
+  pub each : (k : ℕ) → k < length c.sites → AreWaits c k (get_or sums k [])

@@ -1,0 +1,59 @@
+//! The limits of a single pipeline.
+ghost use Rattle.std.specs.Prelude.{◌≡◌, OnOk};
+ghost use Rattle.std.specs.Result.{result_err};
+ghost use Rattle.demand_rates.specs.Single.{WithinLimits, limit_fault_of, single_fault_of, ten_thousandths};
+
+use crate::{Place, RateFault};
+use exact_ratio::{Decimal, Ratio};
+
+/// The most that a mean or a variance may be: 256 units, in ten-thousandths.
+const LIMIT: u64 = 256 * 10_000;
+
+/// How many times its mean a variance may be.
+const MOST_TIMES: u64 = 1024;
+
+/// So many ten-thousandths as a ratio.
+fn ten_thousandths(units: u64) -> Ratio
+    ensures { result ≡ ten_thousandths units }
+{
+    Ratio {
+        num: units as u128,
+        den: 10_000,
+    }
+}
+
+/// Refuses a mean or a variance over the limit.
+fn check_limit(units: u64) -> Result<(), RateFault>
+    ensures { result_err result ≡ limit_fault_of units }
+{
+    if units > LIMIT {
+        return Err(RateFault::PipelineTooLarge {
+            place: Place::Single,
+            mean: ten_thousandths(units),
+        });
+    }
+    Ok(())
+}
+
+/// Refuses a single pipeline that the model can't take. Both numbers are units with 4 places.
+///
+/// The answer is the first of these that holds: `PipelineTooLarge` with the mean where that is over
+/// 256; `PipelineTooLarge` with the variance where that is over 256; `PipelineRatio` where the variance
+/// is over 1024 times the mean.
+pub fn check_single(mean: Decimal, variance: Decimal) -> Result<(), RateFault>
+    requires mean_places { mean.places ≡ 4 }
+    requires variance_places { variance.places ≡ 4 }
+    ensures fault { result_err result ≡ single_fault_of mean.units variance.units }
+    ensures accepted { OnOk result (WithinLimits mean.units variance.units) }
+{
+    check_limit(mean.units)?;
+    check_limit(variance.units)?;
+    if variance.units > MOST_TIMES * mean.units {
+        return Err(RateFault::PipelineRatio {
+            place: Place::Single,
+            mean: ten_thousandths(variance.units),
+            direct: ten_thousandths(mean.units),
+        });
+    }
+    Ok(())
+}
