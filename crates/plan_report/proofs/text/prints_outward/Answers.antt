@@ -1,0 +1,5 @@
+use Rattle.fixed_interval.proofs.Laws.{down_below, up_above}
+use Rattle.plan_report.proofs.text.prints_outward.Goals as goal
+
+pub returns : goal.returns
+returns c f x q h = (down_below f 6 x q h, up_above f 6 x q h)

@@ -1,0 +1,30 @@
+//! What is printed of a single pipeline.
+ghost use Rattle.std.specs.Prelude.{◌≡◌, ◌<◌, ◌^◌, IfOk};
+ghost use Rattle.plan_report.specs.Texts.{single_text};
+
+use crate::text::put_interval_line;
+use fixed_interval::Iv;
+use spares_io::NoMemory;
+use std::alloc::Global;
+
+/// The expected backorders of a single pipeline and the variance of its backorders, in units.
+#[derive(Clone, Copy, Debug, PartialEq, Eq)]
+pub struct SingleReport {
+    pub backorders: Iv<48>,
+    pub spread: Iv<48>,
+}
+
+impl SingleReport {
+    /// Two lines, `backorders,LO,HI` and `variance,LO,HI`, with 6 decimals, the lower ends rounded down
+    /// and the upper ends up.
+    pub fn text(&self, alloc: Global) -> Result<Vec<u8>, NoMemory>
+        requires backorders { self.now.backorders.hi < 2 ^ 86 }
+        requires spread { self.now.spread.hi < 2 ^ 86 }
+        ensures { IfOk result (λ text. text.items ≡ single_text self.now) }
+    {
+        let mut text = Vec::new(alloc);
+        put_interval_line(&mut text, b"backorders", &self.backorders)?;
+        put_interval_line(&mut text, b"variance", &self.spread)?;
+        Ok(text)
+    }
+}
