@@ -1,0 +1,65 @@
+-- What `single` makes of the words that a user may write, in terms of these words alone.
+use Rattle.std.specs.Prelude.{◌≡◌, ◌≢◌, ⊤, List, [], ◌∷◌, ◌++◌, Some, None, Err, codes}
+use Rattle.clap.specs.Words.{Text}
+use Rattle.spares_words.specs.Order.{order_of, single_from}
+use Rattle.spares_words.specs.declared.order.WordsFault.TheVariants.{Shape}
+
+-- the word begins with no hyphen (45), or is one alone
+abbrev pub IsPlain : Text → Type 0
+IsPlain [] = ⊤
+IsPlain (_ ∷ []) = ⊤
+IsPlain (c ∷ _ ∷ _) = c ≢ 45
+
+-- the words after `single`
+abbrev pub single_words : List Text → List Text
+single_words words = codes "single" ∷ words
+
+-- two plain words are the mean and the stock
+abbrev pub TakesTwoWords : Type 0
+TakesTwoWords = (mean stock : Text) → IsPlain mean → IsPlain stock
+    → order_of (single_words (mean ∷ stock ∷ [])) ≡ single_from mean None stock
+
+-- after two hyphens these are any words
+abbrev pub TakesAnyWords : Type 0
+TakesAnyWords = (mean stock : Text)
+    → order_of (single_words (codes "--" ∷ mean ∷ stock ∷ [])) ≡ single_from mean None stock
+
+-- `--variance V` stands before, between or after them
+pub record TakesOption (mean stock variance : Text) : Type 0 where
+  pub before : order_of (single_words (codes "--variance" ∷ variance ∷ mean ∷ stock ∷ []))
+      ≡ single_from mean (Some variance) stock
+  pub between : order_of (single_words (mean ∷ codes "--variance" ∷ variance ∷ stock ∷ []))
+      ≡ single_from mean (Some variance) stock
+  pub after : order_of (single_words (mean ∷ stock ∷ codes "--variance" ∷ variance ∷ []))
+      ≡ single_from mean (Some variance) stock
+
+abbrev pub TakesOptionAnywhere : Type 0
+TakesOptionAnywhere = (mean stock variance : Text) → IsPlain mean → IsPlain stock → IsPlain variance
+    → TakesOption mean stock variance
+
+-- `--variance=V` does too, and there V is any text
+pub record TakesJoined (mean stock variance : Text) : Type 0 where
+  pub before : order_of (single_words ((codes "--variance=" ++ variance) ∷ mean ∷ stock ∷ []))
+      ≡ single_from mean (Some variance) stock
+  pub between : order_of (single_words (mean ∷ (codes "--variance=" ++ variance) ∷ stock ∷ []))
+      ≡ single_from mean (Some variance) stock
+  pub after : order_of (single_words (mean ∷ stock ∷ (codes "--variance=" ++ variance) ∷ []))
+      ≡ single_from mean (Some variance) stock
+
+abbrev pub TakesJoinedAnywhere : Type 0
+TakesJoinedAnywhere = (mean stock variance : Text) → IsPlain mean → IsPlain stock
+    → TakesJoined mean stock variance
+
+-- one plain word and three are refused, and so is an option with no value
+pub record Refuses (a b c : Text) : Type 0 where
+  pub one_word : order_of (single_words (a ∷ [])) ≡ Err Shape
+  pub three_words : order_of (single_words (a ∷ b ∷ c ∷ [])) ≡ Err Shape
+  pub no_value : order_of (single_words (a ∷ b ∷ codes "--variance" ∷ [])) ≡ Err Shape
+
+abbrev pub RefusesOtherCounts : Type 0
+RefusesOtherCounts = (a b c : Text) → IsPlain a → IsPlain b → IsPlain c → Refuses a b c
+
+-- a second variance is refused, whatever follows
+abbrev pub RefusesSecondOption : Type 0
+RefusesSecondOption = (variance second : Text) (rest : List Text)
+    → order_of (single_words ((codes "--variance=" ++ variance) ∷ (codes "--variance=" ++ second) ∷ rest)) ≡ Err Shape

@@ -1,0 +1,83 @@
+-- The order that the words of a command line give.
+use Rattle.std.specs.Prelude.{◌≡◌, ◌≤◌, ⊤, false, ℕ, List, [], ◌∷◌, Option, Some, None, IfSome, Result, Ok, Err, if◌then◌else◌, nat_le, codes, unwrap_or}
+use Rattle.std.specs.Str.{bytes_eq}
+use Rattle.clap.specs.Words.{App, Row, Text, first_of, found_of, rows_of, matches_of, fault_of}
+use Rattle.clap.specs.Walk.{is_empty}
+use Rattle.clap.specs.declared.parser.matches.ArgMatches.{ArgMatches}
+use Rattle.exact_ratio.specs.Decimal.{decimal_of}
+use Rattle.exact_ratio.specs.declared.Decimal.{Decimal}
+use Rattle.exact_ratio.specs.declared.NumberFault.{NumberFault}
+use Rattle.spares_io.specs.declared.stop.Stop.{Stop}
+use Rattle.spares_io.specs.declared.stop.Stop.TheVariants as stop
+use Rattle.spares_words.specs.Commands.{single_app}
+use Rattle.spares_words.specs.declared.order.Order.{Order}
+use Rattle.spares_words.specs.declared.order.Order.TheVariants.{Single}
+use Rattle.spares_words.specs.declared.order.Which.{Which}
+use Rattle.spares_words.specs.declared.order.Which.TheVariants.{Mean, Stock, Variance}
+use Rattle.spares_words.specs.declared.order.WordsFault.{WordsFault}
+use Rattle.spares_words.specs.declared.order.WordsFault.TheVariants.{Shape, Number, Range}
+
+-- goes on with the value; the first fault is the answer
+abbrev pub and_then : {T U : Type 0} → Result T WordsFault → (T → Result U WordsFault) → Result U WordsFault
+and_then (Ok value) next = next value
+and_then (Err fault) next = Err fault
+
+-- the value of an argument that may not be left out
+abbrev pub text_of : List Row → Text → Text
+text_of rows id = unwrap_or (first_of id rows) []
+
+-- a fault of a number is named by the argument
+abbrev pub named : Which → Result Decimal NumberFault → Result Decimal WordsFault
+named which (Ok number) = Ok number
+named which (Err fault) = Err (Number which fault)
+
+-- the number that the text of an argument gives with these places
+abbrev pub number_of : Which → ℕ → Text → Result Decimal WordsFault
+number_of which places text = named which (decimal_of text places)
+
+-- the same, of an argument that may be left out
+abbrev pub optional_of : Which → ℕ → Option Text → Result (Option Decimal) WordsFault
+optional_of which places None = Ok None
+optional_of which places (Some text) = and_then (number_of which places text) (λ number. Ok (Some number))
+
+-- a whole number that may be at most this
+abbrev pub whole_of : Which → ℕ → Text → Result ℕ WordsFault
+whole_of which most text =
+    and_then (number_of which 0 text) (λ number.
+    if nat_le number.units most then Ok number.units else Err (Range which))
+
+-- `single` by the texts of its arguments: the mean, then the variance, then the stock of at most 63
+abbrev pub single_from : Text → Option Text → Text → Result Order WordsFault
+single_from mean_text variance_text stock_text =
+    and_then (number_of Mean 4 mean_text) (λ mean.
+    and_then (optional_of Variance 4 variance_text) (λ variance.
+    and_then (whole_of Stock 63 stock_text) (λ stock.
+    Ok (Single mean variance stock))))
+
+abbrev pub single_of : List Row → Result Order WordsFault
+single_of rows =
+    single_from (text_of rows (codes "mean")) (first_of (codes "variance") rows) (text_of rows (codes "stock"))
+
+-- what a command makes of its words, where it takes them
+unfoldable pub by_command : App → (List Row → Result Order WordsFault) → List Text → Result Order WordsFault
+by_command app order words =
+    if is_empty (fault_of app words) then order (matches_of app words) else Err Shape
+
+-- the first word names the command
+unfoldable pub order_of : List Text → Result Order WordsFault
+order_of [] = Err Shape
+order_of (name ∷ rest) =
+    if bytes_eq name (codes "single") then by_command single_app single_of (name ∷ rest)
+    else Err Shape
+
+-- the ranges of the numbers of an order
+abbrev pub IsInRange : Order → Type 0
+IsInRange (Single mean variance stock) =
+    (mean.places ≡ 4) × IfSome variance (λ v. v.places ≡ 4) × (stock ≤ 63)
+
+-- what `clap` makes of the words of a command: its rows where it takes them, and else the fault
+abbrev pub Parses : App → List Text → Result ArgMatches (Stop WordsFault) → Type 0
+Parses app words (Ok matches) =
+    (fault_of app words ≡ []) × (rows_of (found_of matches) ≡ matches_of app words)
+Parses app words (Err stop.NoMemory) = ⊤
+Parses app words (Err (stop.Fault fault)) = (is_empty (fault_of app words) ≡ false) × (fault ≡ Shape)

@@ -1,0 +1,44 @@
+//! What `single` makes of the words that a user may write, for every text.
+//!
+//! `order_of` is defined by what `clap` takes. These laws say the same in terms of the words alone.
+ghost use Rattle.spares_words.specs.Laws.{
+  RefusesOtherCounts,
+  RefusesSecondOption,
+  TakesAnyWords,
+  TakesJoinedAnywhere,
+  TakesOptionAnywhere,
+  TakesTwoWords,
+};
+
+/// Two words that begin with no hyphen are the mean and the stock.
+#[tactic(auto, using(crate::proofs::Plain::takes_two_words))]
+pub fn takes_two_words()
+    ensures { TakesTwoWords }
+{}
+
+/// After two hyphens any two words are the mean and the stock.
+#[tactic(auto, using(crate::proofs::Plain::takes_any_words))]
+pub fn takes_any_words()
+    ensures { TakesAnyWords }
+{}
+
+/// `--variance V` may stand before, between or after them.
+pub fn takes_option()
+    ensures { TakesOptionAnywhere }
+{}
+
+/// So may `--variance=V`, where V is any text.
+#[tactic(auto, using(crate::proofs::Plain::takes_joined))]
+pub fn takes_joined_option()
+    ensures { TakesJoinedAnywhere }
+{}
+
+/// One word, three words and an option with no value are refused.
+pub fn refuses_other_counts()
+    ensures { RefusesOtherCounts }
+{}
+
+/// A second variance is refused.
+pub fn refuses_second_option()
+    ensures { RefusesSecondOption }
+{}

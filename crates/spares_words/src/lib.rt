@@ -1,0 +1,17 @@
+//! The words of the command line.
+#![tactic(auto)]
+
+mod commands;
+mod laws;
+mod number;
+mod order;
+mod read;
+#[cfg(test)]
+mod tests;
+
+pub use laws::{
+    refuses_other_counts, refuses_second_option, takes_any_words, takes_joined_option,
+    takes_option, takes_two_words,
+};
+pub use order::{Order, Which, WordsFault};
+pub use read::read_words;

@@ -1,0 +1,47 @@
+//! The numbers of a command line.
+ghost use Rattle.std.specs.Prelude.{◌≡◌, ◌≤◌, IfOk, IfSome, option_map};
+ghost use Rattle.spares_words.specs.Order.{number_of, optional_of, whole_of};
+
+use crate::{Which, WordsFault};
+use exact_ratio::{Decimal, read_decimal};
+
+/// The number that a text gives with these places.
+pub(crate) fn number(which: Which, places: u8, text: &str) -> Result<Decimal, WordsFault>
+    requires { places ≤ 4 }
+    ensures value { result ≡ number_of which places text.now }
+    ensures places { IfOk result (λ number. number.places ≡ places) }
+{
+    match read_decimal(text.as_bytes(), places) {
+        Ok(number) => Ok(number),
+        Err(fault) => Err(WordsFault::Number(which, fault)),
+    }
+}
+
+/// The number of a text that may be left out.
+pub(crate) fn optional(
+    which: Which,
+    places: u8,
+    text: Option<&str>,
+) -> Result<Option<Decimal>, WordsFault>
+    requires { places ≤ 4 }
+    ensures value { result ≡ optional_of which places (option_map (λ s. s.now) text.entry) }
+    ensures places { IfOk result (λ number. IfSome number (λ n. n.places ≡ places)) }
+{
+    match text {
+        None => Ok(None),
+        Some(text) => Ok(Some(number(which, places, text)?)),
+    }
+}
+
+/// The whole number that a text gives, if it is at most `most`.
+pub(crate) fn whole(which: Which, most: u8, text: &str) -> Result<u8, WordsFault>
+    ensures value { result ≡ whole_of which most text.now }
+    ensures range { IfOk result (λ number. number ≤ most) }
+{
+    let number = number(which, 0, text)?;
+    if number.units <= most as u64 {
+        Ok(number.units as u8)
+    } else {
+        Err(WordsFault::Range(which))
+    }
+}

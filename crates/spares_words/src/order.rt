@@ -1,0 +1,36 @@
+//! What a command line asks for.
+use exact_ratio::{Decimal, NumberFault};
+
+/// A number of the command line.
+#[derive(Clone, Copy, Debug, PartialEq, Eq)]
+pub enum Which {
+    /// `MEAN`, with up to 4 decimals.
+    Mean,
+    /// `STOCK`, a whole number from 0 to 63.
+    Stock,
+    /// `--variance V`, with up to 4 decimals.
+    Variance,
+}
+
+/// Why the words of a command line give no order.
+#[derive(Clone, Copy, Debug, PartialEq, Eq)]
+pub enum WordsFault {
+    /// The first word names no command, or the command doesn't take the words after it.
+    Shape,
+    /// The text of an argument is no number, or has too many decimals, or is too large for any number.
+    Number(Which, NumberFault),
+    /// A number that is outside its range.
+    Range(Which),
+}
+
+/// What a command line asks for.
+#[derive(Debug, Drop, PartialEq, Eq)]
+pub enum Order {
+    /// `single MEAN STOCK [--variance V]`: the backorders of one pipeline. Mean and variance are units,
+    /// in ten-thousandths (4 places); the stock is at most 63 units. Without a variance it is the mean.
+    Single {
+        mean: Decimal,
+        variance: Option<Decimal>,
+        stock: u8,
+    },
+}

@@ -1,0 +1,116 @@
+use crate::Which::{Mean, Stock, Variance};
+use crate::WordsFault::{Number, Range, Shape};
+use crate::{Order, WordsFault, read_words};
+use exact_ratio::Decimal;
+use exact_ratio::NumberFault::{BadByte, Empty, TooLarge, TooManyPlaces};
+use spares_io::{Stop, Text};
+use std::alloc::Global;
+use std::test::Fail;
+
+/// The order of words that are parted by single spaces. Between two spaces stands an empty word.
+fn order_of_line(alloc: Global, line: &str) -> Result<Order, Stop<WordsFault>> {
+    let mut words = Vec::new(alloc);
+    for word in line.split(' ') {
+        words.push(Text::from_str(alloc, word)?)?;
+    }
+    read_words(alloc, words.as_slice())
+}
+
+fn ten_thousandths(units: u64) -> Decimal {
+    Decimal { units, places: 4 }
+}
+
+#[test]
+fn takes_single_with_its_option_anywhere(rt: HostRuntime) -> Result<(), Fail> {
+    let cases = [
+        ("single 1 1", 10_000, 1, None),
+        ("single .0001 63.0", 1, 63, None),
+        ("single 1 1 --variance 2", 10_000, 1, Some(20_000)),
+        ("single 1 --variance 2 1", 10_000, 1, Some(20_000)),
+        ("single --variance 2 1 1", 10_000, 1, Some(20_000)),
+        ("single --variance=2 1 1", 10_000, 1, Some(20_000)),
+        ("single 1 1 --variance=2.", 10_000, 1, Some(20_000)),
+        // Two hyphens end the options, also where no word follows.
+        ("single -- 1 1", 10_000, 1, None),
+        ("single 1 -- 1", 10_000, 1, None),
+        ("single 1 1 --", 10_000, 1, None),
+        ("single --variance 2 -- 1 1", 10_000, 1, Some(20_000)),
+    ];
+    for (line, mean, stock, variance) in cases {
+        let want = Order::Single {
+            mean: ten_thousandths(mean),
+            variance: variance.map(ten_thousandths),
+            stock,
+        };
+        assert_eq!(rt; order_of_line(rt.alloc(), line), Ok(want), "at {line}");
+    }
+    Ok(())
+}
+
+#[test]
+fn refuses_words_and_numbers(rt: HostRuntime) -> Result<(), Fail> {
+    let none: [Text; 0] = [];
+    assert_eq!(rt;
+        read_words(rt.alloc(), none.as_slice()),
+        Err(Stop::Fault(Shape))
+    );
+    let cases = [
+        ("", Shape),
+        ("help", Shape),
+        ("--help", Shape),
+        ("plan", Shape),
+        ("Single 1 1", Shape),
+        ("sing 1 1", Shape),
+        ("single", Shape),
+        ("single 1", Shape),
+        ("single 1 1 1", Shape),
+        ("single --variance 2", Shape),
+        ("single help", Shape),
+        ("single 1 1 --help", Shape),
+        ("single 1 1 -h", Shape),
+        ("single 1 1 --version", Shape),
+        ("single 1 1 -V", Shape),
+        ("single -1 1", Shape),
+        ("single 1 -1", Shape),
+        // An option needs a value, is there at most once, and isn't abbreviated.
+        ("single 1 1 --variance", Shape),
+        ("single 1 1 --variance -1", Shape),
+        ("single 1 1 --variance --", Shape),
+        ("single 1 1 --variance -- 2", Shape),
+        ("single 1 1 --variance 2 --variance 2", Shape),
+        ("single --variance=2 1 1 --variance=2", Shape),
+        ("single 1 1 --var 2", Shape),
+        ("single 1 1 -v 2", Shape),
+        ("single 1 1 --stock 2", Shape),
+        // After two hyphens each word stands by itself.
+        ("single -- 1 1 --variance 2", Shape),
+        ("single -- -1 1", Number(Mean, BadByte(0))),
+        ("single 1 1 --variance=-1", Number(Variance, BadByte(0))),
+        ("single 1 1 --variance -", Number(Variance, BadByte(0))),
+        ("single 1 1 --variance=", Number(Variance, Empty)),
+        ("single 1 1 --variance ", Number(Variance, Empty)),
+        ("single  1", Number(Mean, Empty)),
+        ("single - 1", Number(Mean, BadByte(0))),
+        ("single 1 - ", Shape),
+        ("single 1 -", Number(Stock, BadByte(0))),
+        ("single x 1", Number(Mean, BadByte(0))),
+        ("single 1.00001 1", Number(Mean, TooManyPlaces)),
+        ("single 1844674407370955.1616 1", Number(Mean, TooLarge)),
+        ("single 1 0.5", Number(Stock, TooManyPlaces)),
+        ("single 1 18446744073709551616", Number(Stock, TooLarge)),
+        ("single 1 64", Range(Stock)),
+        // The mean is read first, then the variance, then the stock.
+        ("single x y --variance z", Number(Mean, BadByte(0))),
+        ("single 1 y --variance z", Number(Variance, BadByte(0))),
+        ("single 1 64 --variance z", Number(Variance, BadByte(0))),
+        ("single 1 y --variance 2", Number(Stock, BadByte(0))),
+    ];
+    for (line, want) in cases {
+        assert_eq!(rt;
+            order_of_line(rt.alloc(), line),
+            Err(Stop::Fault(want)),
+            "at {line}"
+        );
+    }
+    Ok(())
+}
