@@ -1,0 +1,4 @@
+pub mod Printed
+pub mod Room
+pub mod Shown
+pub mod Whole

@@ -1,0 +1,24 @@
+-- What is printed of an interval encloses what the interval does.
+use Rattle.std.proofs.Common.{◌≡◌, ◌<◌, ℕ, List}
+use Rattle.exact_model.specs.Fraction.{Encloses, Fraction}
+use Rattle.exact_model.specs.Series.{ebo, vbo}
+use Rattle.fixed_interval.proofs.Laws.{down_below, up_above}
+use Rattle.fixed_interval.specs.Ends.{Ends, In}
+use Rattle.moment_table.specs.Rows.{EncloseRows, at_stock}
+use Rattle.moment_table.specs.declared.kinds.Row.{Row}
+use Rattle.spares_top.specs.Model.{Shows, ShowsModel}
+
+pub shown : (x : Ends) (value : ℕ → Fraction) → Encloses 48 x.lo x.hi value → Shows x value
+shown x value h = record {
+  encloses = h;
+  above_low = λ n deep. down_below 48 6 x (value n) (h n deep);
+  below_high = λ n deep. up_above 48 6 x (value n) (h n deep);
+}
+
+-- a report of a row of a table that encloses the model
+pub model_shown : (m v b s : Ends) (rows : List (Row 48)) (u w : Fraction) (stock : ℕ) → EncloseRows 48 m v rows → In 48 m u → In 48 v w → stock < 64
+    → b ≡ (at_stock rows stock).ebo → s ≡ (at_stock rows stock).vbo → ShowsModel u w stock (record { backorders = b; spread = s })
+model_shown m v b s rows u w stock h a c l e f = record {
+  backorders = shown b (λ n. ebo n u w stock) (λ n deep. rw e (h u w a c n deep stock l).ebo);
+  spread = shown s (λ n. vbo n u w stock) (λ n deep. rw f (h u w a c n deep stock l).vbo);
+}
