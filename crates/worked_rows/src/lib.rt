@@ -1,0 +1,6 @@
+//! The program's worked rows: words, and what the program puts on its two outputs for them. They are
+//! run by the tests of this crate, over a shelf and sinks in memory.
+#![tactic(auto)]
+
+#[cfg(test)]
+mod tests;

@@ -1,0 +1,208 @@
+use spares_io::{MemShelf, MemSink, NoMemory, Text};
+use spares_top::{Done, Refusal, run, status};
+use std::alloc::Global;
+use std::test::Fail;
+
+/// Words, parted by blanks, and the report that is printed for them.
+const PRINTED: [(&str, &str); 18] = [
+    (
+        "single 1 1",
+        "backorders,0.367879,0.367880\nvariance,0.496785,0.496786\n",
+    ),
+    (
+        "single -- 1 1",
+        "backorders,0.367879,0.367880\nvariance,0.496785,0.496786\n",
+    ),
+    (
+        "single 1 0",
+        "backorders,1.000000,1.000000\nvariance,1.000000,1.000000\n",
+    ),
+    (
+        "single .5 1",
+        "backorders,0.106530,0.106531\nvariance,0.132120,0.132121\n",
+    ),
+    (
+        "single 1 1 --variance 2",
+        "backorders,0.499999,0.500001\nvariance,1.249999,1.250001\n",
+    ),
+    (
+        "single --variance=2 1 1",
+        "backorders,0.499999,0.500001\nvariance,1.249999,1.250001\n",
+    ),
+    (
+        "single 1 --variance 2 1",
+        "backorders,0.499999,0.500001\nvariance,1.249999,1.250001\n",
+    ),
+    (
+        "single 0 0",
+        "backorders,0.000000,0.000000\nvariance,0.000000,0.000000\n",
+    ),
+    (
+        "single 0 5",
+        "backorders,0.000000,0.000000\nvariance,0.000000,0.000000\n",
+    ),
+    (
+        "single 256 0",
+        "backorders,256.000000,256.000000\nvariance,256.000000,256.000000\n",
+    ),
+    (
+        "single 256 63 --variance 256",
+        "backorders,193.000000,193.000001\nvariance,255.999999,256.000000\n",
+    ),
+    (
+        "single 200 63",
+        "backorders,137.000000,137.000001\nvariance,199.999999,200.000000\n",
+    ),
+    (
+        "single 2 1",
+        "backorders,1.135335,1.135336\nvariance,1.575678,1.575679\n",
+    ),
+    (
+        "single 2 1 --variance 1.5",
+        "backorders,1.135335,1.135336\nvariance,1.575678,1.575679\n",
+    ),
+    (
+        "single 0.5 1 --variance 40",
+        "backorders,0.472646,0.472647\nvariance,39.053958,39.053959\n",
+    ),
+    (
+        "single 0.0001 0 --variance 0.1024",
+        "backorders,0.000099,0.000101\nvariance,0.102399,0.102401\n",
+    ),
+    (
+        "single 1 1 --variance 256",
+        "backorders,0.978485,0.978504\nvariance,254.064010,254.064097\n",
+    ),
+    (
+        "single 1 1.0",
+        "backorders,0.367879,0.367880\nvariance,0.496785,0.496786\n",
+    ),
+];
+
+/// Words, parted by blanks, with the line of their refusal and the exit status.
+const REFUSED: [(&str, &str, u8); 19] = [
+    ("", "fault,words\n", 2),
+    ("help", "fault,words\n", 2),
+    ("plan", "fault,words\n", 2),
+    ("single 1", "fault,words\n", 2),
+    ("single 1 1 1", "fault,words\n", 2),
+    ("single --help", "fault,words\n", 2),
+    ("single 1 1 --variance", "fault,words\n", 2),
+    ("single 1 1 --variance -1", "fault,words\n", 2),
+    ("single 1 1 --variance 2 --variance 2", "fault,words\n", 2),
+    ("single x 1", "fault,number,mean\n", 2),
+    ("single 1.00001 0", "fault,number,mean\n", 2),
+    ("single 1 1 --variance=-1", "fault,number,variance\n", 2),
+    ("single 1 64", "fault,range,stock\n", 2),
+    ("single 257 64", "fault,range,stock\n", 2),
+    ("single 256.0001 0", "fault,pipeline-too-large,single\n", 3),
+    (
+        "single 1 1 --variance 256.0001",
+        "fault,pipeline-too-large,single\n",
+        3,
+    ),
+    (
+        "single 0 0 --variance 300",
+        "fault,pipeline-too-large,single\n",
+        3,
+    ),
+    (
+        "single 0 0 --variance 1",
+        "fault,pipeline-ratio,single\n",
+        3,
+    ),
+    (
+        "single 0.0001 0 --variance 0.1025",
+        "fault,pipeline-ratio,single\n",
+        3,
+    ),
+];
+
+fn words_of(alloc: Global, line: &str) -> Result<Vec<Text>, NoMemory> {
+    let mut words = Vec::new(alloc);
+    for word in line.split(' ') {
+        if !word.is_empty() {
+            words.push(Text::from_str(alloc, word)?)?;
+        }
+    }
+    Ok(words)
+}
+
+/// A sink of that room, whose puts fail as listed.
+fn sink(alloc: Global, room: usize, fails: &[u32]) -> Result<MemSink, NoMemory> {
+    MemSink::new(alloc, room, fails.to_vec(alloc)?)
+}
+
+fn empty_shelf(alloc: Global) -> Result<MemShelf, NoMemory> {
+    MemShelf::new(alloc, Vec::new(alloc), Vec::new(alloc))
+}
+
+#[test]
+fn prints_the_worked_rows(rt: HostRuntime) -> Result<(), Fail> {
+    let alloc = rt.alloc();
+    for (line, report) in PRINTED {
+        let words = words_of(alloc, line)?;
+        let mut shelf = empty_shelf(alloc)?;
+        let mut out = sink(alloc, 100, &[])?;
+        let mut err = sink(alloc, 100, &[])?;
+        let answer = run(alloc, words.as_slice(), &mut shelf, &mut out, &mut err);
+        assert_eq!(rt; status(&answer), 0, "{line}");
+        assert_eq!(rt; out.bytes(), report.as_bytes(), "{line}");
+        assert_eq!(rt; err.bytes(), b"".as_slice(), "{line}");
+    }
+    Ok(())
+}
+
+#[test]
+fn refuses_the_worked_rows(rt: HostRuntime) -> Result<(), Fail> {
+    let alloc = rt.alloc();
+    for (line, refusal, code) in REFUSED {
+        let words = words_of(alloc, line)?;
+        let mut shelf = empty_shelf(alloc)?;
+        let mut out = sink(alloc, 100, &[])?;
+        let mut err = sink(alloc, 100, &[])?;
+        let answer = run(alloc, words.as_slice(), &mut shelf, &mut out, &mut err);
+        assert_eq!(rt; status(&answer), code, "{line}");
+        assert_eq!(rt; out.bytes(), b"".as_slice(), "{line}");
+        assert_eq!(rt; err.bytes(), refusal.as_bytes(), "{line}");
+    }
+    Ok(())
+}
+
+/// What the output holds after a report of 56 bytes that it doesn't take, and what the standard error.
+#[test]
+fn keeps_a_prefix_of_the_report(rt: HostRuntime) -> Result<(), Fail> {
+    let alloc = rt.alloc();
+    let words = words_of(alloc, "single 1 1")?;
+    let cases = [
+        (100, [1u32].as_slice(), "backorders,0.367879,0.367880"),
+        (20, [].as_slice(), "backorders,0.367879,"),
+        (0, [].as_slice(), ""),
+    ];
+    for (room, fails, held) in cases {
+        let mut shelf = empty_shelf(alloc)?;
+        let mut out = sink(alloc, room, fails)?;
+        let mut err = sink(alloc, 100, &[])?;
+        let answer = run(alloc, words.as_slice(), &mut shelf, &mut out, &mut err);
+        assert_eq!(rt; answer, Err::<Done, Refusal>(Refusal::WriteFault));
+        assert_eq!(rt; status(&answer), 6);
+        assert_eq!(rt; out.bytes(), held.as_bytes());
+        assert_eq!(rt; err.bytes(), b"fault,write\n".as_slice());
+    }
+    Ok(())
+}
+
+/// A refusal stays the same where its line can't be put.
+#[test]
+fn refuses_without_a_line(rt: HostRuntime) -> Result<(), Fail> {
+    let alloc = rt.alloc();
+    let words = words_of(alloc, "single 1 64")?;
+    let mut shelf = empty_shelf(alloc)?;
+    let mut out = sink(alloc, 100, &[])?;
+    let mut err = sink(alloc, 8, &[])?;
+    let answer = run(alloc, words.as_slice(), &mut shelf, &mut out, &mut err);
+    assert_eq!(rt; status(&answer), 2);
+    assert_eq!(rt; out.bytes(), b"".as_slice());
+    assert_eq!(rt; err.bytes(), b"fault,ra".as_slice());
+    Ok(())
+}
