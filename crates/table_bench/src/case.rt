@@ -1,0 +1,63 @@
+//! A case: how many tables, and of which moments.
+
+use anyhow::{Context, anyhow};
+use fixed_interval::Iv;
+use moment_table::table;
+use std::alloc::Global;
+
+/// The most of a mean or a variance, in ten-thousandths.
+const MOST: u32 = 2_560_000;
+
+/// How many tables, and the mean and the variance of the first one, in ten-thousandths.
+#[derive(Clone, Copy, Drop)]
+pub struct Case {
+    pub count: u32,
+    pub mean: u32,
+    pub variance: u32,
+}
+
+impl Case {
+    /// The case of three words.
+    pub fn read(count: &str, mean: &str, variance: &str) -> anyhow::Result<Case> {
+        Ok(Case {
+            count: count.parse().context("COUNT")?,
+            mean: mean.parse().context("MEAN")?,
+            variance: variance.parse().context("VARIANCE")?,
+        })
+    }
+
+    /// The ends of all tables taken together: the lower one of the backorders at 7, and the upper one of their variance at 9.
+    pub fn checksum(self, alloc: Global) -> anyhow::Result<u128> {
+        let mut sum = 0;
+        for i in 0..self.count {
+            sum ^= ends(
+                alloc,
+                moment(self.mean, i % 97)?,
+                moment(self.variance, i % 89)?,
+            )?;
+        }
+        Ok(sum)
+    }
+}
+
+/// The moment of this many ten-thousandths and `more`.
+fn moment(units: u32, more: u32) -> anyhow::Result<Iv<48>> {
+    if units > MOST || more > MOST - units {
+        return Err(anyhow!("a moment is at most {MOST}"));
+    }
+    Ok(Iv::of_ratio(u128::from(units + more), 10_000))
+}
+
+/// Two ends of one table, where a mean and a variance of these sizes have one.
+fn ends(alloc: Global, mean: Iv<48>, variance: Iv<48>) -> anyhow::Result<u128> {
+    let most = Iv::<48>::exact(256).hi();
+    if mean.hi() > most || variance.hi() > most {
+        return Err(anyhow!("the mean and the variance are at most 256"));
+    }
+    let room = mean.lo() * 2048;
+    if mean.hi() > room || variance.hi() > room {
+        return Err(anyhow!("the variance is at most 2048 times the mean"));
+    }
+    let table = table(alloc, mean, variance).map_err(|_| anyhow!("out of memory"))?;
+    Ok(table.ebo(7).lo() ^ table.vbo(9).hi())
+}

@@ -1,0 +1,69 @@
+//! Times the making of tables, and checks their ends by a checksum.
+//!
+//! With the words `COUNT MEAN VARIANCE` it makes COUNT tables, number i of the mean MEAN + i mod 97 and of the variance
+//! VARIANCE + i mod 89, both in ten-thousandths, and prints the checksum. With a fourth word `timed` it prints the
+//! nanoseconds of a table too. With no words it makes a few tables of each of five cases.
+#![tactic(auto)]
+
+mod case;
+
+use anyhow::anyhow;
+use case::Case;
+use std::env;
+use std::time::Instant;
+
+/// The means and variances of a run with no words, in ten-thousandths, and how many tables it makes of each.
+const MOMENTS: [(u32, u32); 5] = [
+    (5_000, 5_000),
+    (46_594, 60_000),
+    (200_000, 200_000),
+    (200_000, 800_000),
+    (2_000_000, 2_000_000),
+];
+
+const FEW: u32 = 5;
+
+/// Makes the tables of a case, and prints the checksum and, where it is asked for, the time of one.
+fn report(rt: &HostRuntime, case: Case, timed: bool) -> anyhow::Result<()> {
+    let start = Instant::now(rt)?;
+    let sum = case.checksum(rt.alloc())?;
+    let spent = start.elapsed(rt)?;
+    print!(rt;
+        "mean {} variance {} checksum {sum}",
+        case.mean, case.variance
+    )?;
+    if timed {
+        print!(rt;
+            " nanoseconds {}",
+            spent.as_nanos() / u128::from(case.count.max(1))
+        )?;
+    }
+    println!(rt; "")?;
+    Ok(())
+}
+
+fn main(rt: HostRuntime) -> anyhow::Result<()> {
+    let words: Vec<String> = env::args(&rt)?.collect(rt.alloc())?;
+    match words.as_slice() {
+        [_] => {
+            for (mean, variance) in MOMENTS {
+                let count = FEW;
+                report(
+                    &rt,
+                    Case {
+                        count,
+                        mean,
+                        variance,
+                    },
+                    false,
+                )?;
+            }
+            Ok(())
+        }
+        [_, count, mean, variance] => report(&rt, Case::read(count, mean, variance)?, false),
+        [_, count, mean, variance, timed] if timed.as_str() == "timed" => {
+            report(&rt, Case::read(count, mean, variance)?, true)
+        }
+        _ => Err(anyhow!("words: [COUNT MEAN VARIANCE [timed]]")),
+    }
+}
