@@ -169,7 +169,9 @@ impl Shelf for MemShelf {
         ensures failed { IsErrOf result ShelfError.Failed
             → Rose (count64 self.old.failed_reads) (count64 self.new.failed_reads) ⊎ Lacks (Some self.old.files) name.now }
         ensures reads { (n : prelude.List ℕ) → count64 self.old.failed_reads ≤ count64 self.new.failed_reads }
-        ensures writes { (n : prelude.List ℕ) → count64 self.old.failed_writes ≤ count64 self.new.failed_writes }
+        ensures still { OnOk result
+            ((n : prelude.List ℕ) → count64 self.new.failed_reads ≡ count64 self.old.failed_reads) }
+        ensures writes { (n : prelude.List ℕ) → count64 self.new.failed_writes ≡ count64 self.old.failed_writes }
         ensures answer { Reads (read_of self.old name.now limit) result into.new.items }
         ensures state { self.new ≡ after_read self.old }
     {
@@ -197,8 +199,10 @@ impl Shelf for MemShelf {
         ensures not_too_long { ¬ IsErrOf result ShelfError.TooLong }
         ensures failed { IsErrOf result ShelfError.Failed
             → Rose (count64 self.old.failed_writes) (count64 self.new.failed_writes) }
-        ensures reads { (n : prelude.List ℕ) → count64 self.old.failed_reads ≤ count64 self.new.failed_reads }
         ensures writes { (n : prelude.List ℕ) → count64 self.old.failed_writes ≤ count64 self.new.failed_writes }
+        ensures still { OnOk result
+            ((n : prelude.List ℕ) → count64 self.new.failed_writes ≡ count64 self.old.failed_writes) }
+        ensures reads { (n : prelude.List ℕ) → count64 self.new.failed_reads ≡ count64 self.old.failed_reads }
         ensures calls { Writes self.old name.now bytes.now result self.new }
     {
         if self.schedule.begin_call() {

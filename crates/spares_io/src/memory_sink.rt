@@ -90,7 +90,7 @@ impl Sink for MemSink {
         ensures whole { OnOk result (Gains (Some self.old.bytes) (Some self.new.bytes) piece.now) }
         ensures part { OnErr result (GainsPart (Some self.old.bytes) (Some self.new.bytes) piece.now) }
         ensures failed { OnErr result (Rose (count64 self.old.faults) (count64 self.new.faults)) }
-        ensures later { count64 self.old.faults ≤ count64 self.new.faults }
+        ensures still { OnOk result (count64 self.new.faults ≡ count64 self.old.faults) }
         ensures answer { is_ok result ≡ can_put self.old piece.now }
         ensures state { self.new ≡ after_put self.old piece.now }
     {

@@ -44,7 +44,8 @@ impl<T: Drop> From<AllocFailed<T>> for ShelfError {
 }
 
 /// Names that hold bytes, as a folder's files do. A shelf that tells what it holds goes on telling
-/// it. Each name has a count of reads that failed and one of writes, which never fall.
+/// it. Each name has a count of reads that failed and one of writes, which never fall, and stand
+/// still at a call that answers Ok.
 pub trait Shelf {
     /// What the names hold, where the shelf tells it.
     ghost held: { Self → Option Files };
@@ -72,7 +73,8 @@ pub trait Shelf {
         ensures failed { IsErrOf result ShelfError.Failed
             → Rose (read_faults self.old name.now) (read_faults self.new name.now) ⊎ Lacks (held self.old) name.now }
         ensures reads { (n : List ℕ) → read_faults self.old n ≤ read_faults self.new n }
-        ensures writes { (n : List ℕ) → write_faults self.old n ≤ write_faults self.new n };
+        ensures still { OnOk result ((n : List ℕ) → read_faults self.new n ≡ read_faults self.old n) }
+        ensures writes { (n : List ℕ) → write_faults self.new n ≡ write_faults self.old n };
 
     /// Lets a name hold these bytes alone. All other names stay as they are.
     ///
@@ -88,8 +90,9 @@ pub trait Shelf {
         ensures not_too_long { ¬ IsErrOf result ShelfError.TooLong }
         ensures failed { IsErrOf result ShelfError.Failed
             → Rose (write_faults self.old name.now) (write_faults self.new name.now) }
-        ensures reads { (n : List ℕ) → read_faults self.old n ≤ read_faults self.new n }
-        ensures writes { (n : List ℕ) → write_faults self.old n ≤ write_faults self.new n };
+        ensures writes { (n : List ℕ) → write_faults self.old n ≤ write_faults self.new n }
+        ensures still { OnOk result ((n : List ℕ) → write_faults self.new n ≡ write_faults self.old n) }
+        ensures reads { (n : List ℕ) → read_faults self.new n ≡ read_faults self.old n };
 
     /// Each count of failed reads is at most `u64::MAX`.
     ghost read_end: { (s : Self) (n : List ℕ) → Fits64 (read_faults s n) };

@@ -1,5 +1,5 @@
 //! A place to put bytes.
-ghost use Rattle.std.specs.Prelude.{◌≡◌, ◌≤◌, List, ℕ, Option, take, length, OnOk, OnErr};
+ghost use Rattle.std.specs.Prelude.{◌≡◌, List, ℕ, Option, take, length, OnOk, OnErr};
 ghost use Rattle.std.specs.Io.KnownBytes.{append_known};
 ghost use Rattle.spares_io.specs.Causes.{Rose, Fits64};
 ghost use Rattle.spares_io.specs.Sink.{Gains, GainsPart};
@@ -9,7 +9,7 @@ ghost use Rattle.spares_io.specs.Sink.{Gains, GainsPart};
 pub struct SinkFailed;
 
 /// A place to put bytes, as a report. A sink that tells its bytes goes on telling them. Its count of
-/// puts that failed never falls.
+/// puts that failed rises at those alone.
 pub trait Sink {
     /// All bytes that were put, where the sink tells them.
     ghost bytes: { Self → Option (List ℕ) };
@@ -26,7 +26,7 @@ pub trait Sink {
         ensures whole { OnOk result (Gains (bytes self.old) (bytes self.new) piece.now) }
         ensures part { OnErr result (GainsPart (bytes self.old) (bytes self.new) piece.now) }
         ensures failed { OnErr result (Rose (faults self.old) (faults self.new)) }
-        ensures later { faults self.old ≤ faults self.new };
+        ensures still { OnOk result (faults self.new ≡ faults self.old) };
 
     /// The count of failed puts is at most `u64::MAX`.
     ghost end: { (s : Self) → Fits64 (faults s) };

@@ -50,8 +50,7 @@ impl<W: Write + Drop> Sink for StdSink<W> {
         ensures whole { OnOk result (Gains None None piece.now) }
         ensures part { OnErr result (GainsPart None None piece.now) }
         ensures failed { OnErr result (Rose (count64 self.old.faults) (count64 self.new.faults)) }
-        ensures later { count64 self.old.faults ≤ count64 self.new.faults }
-        ensures still { OnOk result (self.new.faults ≡ self.old.faults) }
+        ensures still { OnOk result (count64 self.new.faults ≡ count64 self.old.faults) }
         ensures written { OnOk result
             (Appends (W.contents self.old.writer) (W.contents self.new.writer) piece.now) }
     {
