@@ -3,6 +3,7 @@ use Rattle.std.proofs.Common.{ℕ, suc, ◌≤◌, inl, inr}
 use Rattle.std.specs.Prelude.{List}
 use Rattle.exact_model.specs.Fraction.{Fraction, whole, larger, ◌≤ℚ◌, ◌+ℚ◌, ◌-ℚ◌, ◌*ℚ◌}
 use Rattle.exact_model.specs.Series.{ebo, vbo}
+use Rattle.exact_model.specs.Shares.{shared}
 use Rattle.exact_model.proofs.Fractions.{same, turned, le-refl, le-same, le-chain, larger_is}
 use Rattle.exact_model.proofs.Sums.{ebo_within as ebo_most, vbo_within as vbo_most}
 use Rattle.spares_input.specs.Cases.{CaseRows}
@@ -10,7 +11,7 @@ use Rattle.fleet_model.specs.Sums.{sum_over}
 use Rattle.fleet_model.specs.Rows.{shop_units, stock}
 use Rattle.fleet_model.specs.Demand.{f_i0, f_ij, f_0j}
 use Rattle.fleet_model.specs.ZeroStock.{direct_i0, direct_00, direct_ij, direct_0j, zero_stock_i0, zero_stock_00, zero_stock_ij, zero_stock_0j}
-use Rattle.fleet_model.specs.Pipelines.{shared, pipeline_i0, pipeline_00, pipeline_ij, pipeline_0j, ebo_i0, ebo_00, ebo_ij, ebo_0j, vbo_i0, vbo_00, vbo_ij, vbo_0j}
+use Rattle.fleet_model.specs.Pipelines.{pipeline_i0, pipeline_00, pipeline_ij, pipeline_0j, ebo_i0, ebo_00, ebo_ij, ebo_0j, vbo_i0, vbo_00, vbo_ij, vbo_0j}
 use Rattle.fleet_model.specs.Laws.{IsBase, Reaches, IsCapped}
 use Rattle.fleet_model.proofs.Order.{le-of-same, le-add, le-mul, shared-same}
 use Rattle.fleet_model.proofs.SumLaws.{sum-most}

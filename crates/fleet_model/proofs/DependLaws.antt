@@ -3,6 +3,7 @@ use Rattle.std.proofs.Common.{◌≡◌, ℕ, List, [], ◌∷◌, subst}
 use Rattle.std.specs.List.{AllByRecursion}
 use Rattle.exact_model.specs.Fraction.{Fraction, whole, ◌≈◌, ◌-ℚ◌, ◌*ℚ◌}
 use Rattle.exact_model.specs.Series.{ebo, vbo}
+use Rattle.exact_model.specs.Shares.{shared}
 use Rattle.exact_model.proofs.Fractions.{same, add-same, mul-same}
 use Rattle.spares_input.specs.Cases.{CaseRows}
 use Rattle.exact_model.proofs.Same.{ebo-same, vbo-same}
@@ -10,7 +11,7 @@ use Rattle.fleet_model.specs.Sums.{sum_over}
 use Rattle.fleet_model.specs.Rows.{bases, shop_units, stock, weight}
 use Rattle.fleet_model.specs.Demand.{f_i0, f_ij, f_0j}
 use Rattle.fleet_model.specs.ZeroStock.{direct_00, direct_ij, direct_0j}
-use Rattle.fleet_model.specs.Pipelines.{Moments, shared, pipeline_i0, pipeline_00, pipeline_ij, pipeline_0j, ebo_i0, ebo_00, ebo_ij, ebo_0j, vbo_i0, vbo_00, vbo_ij}
+use Rattle.fleet_model.specs.Pipelines.{Moments, pipeline_i0, pipeline_00, pipeline_ij, pipeline_0j, ebo_i0, ebo_00, ebo_ij, ebo_0j, vbo_i0, vbo_00, vbo_ij}
 use Rattle.fleet_model.specs.Fleet.{family_total}
 use Rattle.fleet_model.specs.Laws.{SameStocks}
 use Rattle.fleet_model.proofs.SumLaws.{sum-same}

@@ -3,12 +3,13 @@ use Rattle.std.specs.Prelude.{◌≡◌, ◌*◌, ℕ, true, false, List, [], �
 use Rattle.std.proofs.Common.{refl}
 use Rattle.exact_model.specs.Fraction.{Fraction, whole, ◌+ℚ◌, ◌-ℚ◌, ◌*ℚ◌, ◌/ℚ◌, scaled, sum_below, larger}
 use Rattle.exact_model.specs.Series.{excess, weight, weight_sum, chance, unless_zero, ebo, second, vbo}
+use Rattle.exact_model.specs.Shares.{shared}
 use Rattle.spares_input.specs.Cases.{CaseRows}
 use Rattle.fleet_model.specs.Sums.{sum_over, product_over, power}
 use Rattle.fleet_model.specs.Rows.{ten_thousandths, years, here, sent, needed, repair, ship, line_units, shop_units}
 use Rattle.fleet_model.specs.Demand.{m_0j, m_00, m_ij, m_i0, f_i0, f_ij, f_0j}
 use Rattle.fleet_model.specs.ZeroStock.{direct_i0, direct_00, time_at, direct_ij, direct_0j, zero_stock_i0, zero_stock_00, zero_stock_ij, zero_stock_0j}
-use Rattle.fleet_model.specs.Pipelines.{shared, pipeline_i0, pipeline_00, pipeline_ij, pipeline_0j, ebo_i0, ebo_00, ebo_ij, ebo_0j, vbo_i0, vbo_00, vbo_ij, vbo_0j}
+use Rattle.fleet_model.specs.Pipelines.{pipeline_i0, pipeline_00, pipeline_ij, pipeline_0j, ebo_i0, ebo_00, ebo_ij, ebo_0j, vbo_i0, vbo_00, vbo_ij, vbo_0j}
 use Rattle.fleet_model.specs.Fleet.{factor, availability, fleet, family_total, total, cost}
 use Rattle.fleet_model.specs.Pairs.{demand, share, direct, zero_stock, mean, variance, backorders, spread}
 
