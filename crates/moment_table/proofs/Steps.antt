@@ -5,7 +5,8 @@ use Rattle.fixed_interval.specs.Ends.{Ends, ends_exact, ends_add, ends_less, end
 use Rattle.series_bounds.specs.Profile.{listed}
 use Rattle.series_bounds.specs.Answer.{Sized, at_place}
 use Rattle.series_bounds.proofs.Ranges.{ceil_most}
-use Rattle.moment_table.specs.declared.kinds.Row.{Row}
+use Rattle.moment_table.specs.declared.figures.Figures.{Figures}
+use Rattle.moment_table.specs.Figures.{AreFigures, AreSmall}
 use Rattle.moment_table.specs.Profile.{chance_ends, below_ends, tail_ends, ebo_ends, vbo_ends, known_row, wide_row, empty_row}
 
 pub listed_next : {X : Type 0} (u : ℕ → X) (n : ℕ) (xs : List X) (x : X) → xs ≡ listed u n → x ≡ u n → xs ++ x ∷ [] ≡ listed u (n + 1)
@@ -16,26 +17,14 @@ pub listed_none : {X : Type 0} (u : ℕ → X) (xs : List X) → xs ≡ [] → x
 unfolding listed
 listed_none u xs h = h
 
--- what a loop holds before the stock s
-pub record Tabled (f : ℕ) (m v : Ends) (list : List Ends) (sum expected spread below : Ends) (rows : List (Row f)) (s : ℕ) : Type 0 where
-  pub rows_are : rows ≡ listed (known_row f m v list sum) s
-  pub expected_is : expected ≡ ebo_ends f m list sum s
-  pub spread_is : spread ≡ vbo_ends f m v list sum s
-  pub below_is : below ≡ below_ends f list sum s
-  pub expected_top : expected.hi ≤ 256 * 2 ^ f
-  pub below_top : below.hi ≤ s * (8 * 2 ^ f)
-
-pub tabled_start : (f : ℕ) (m v : Ends) (list : List Ends) (sum spread below : Ends) (rows : List (Row f)) → m.hi ≤ 256 * 2 ^ f
-    → rows ≡ [] → spread ≡ ends_max v m → below ≡ ends_exact f 0 → Tabled f m v list sum m spread below rows 0
+pub figures_first : (f : ℕ) (m v : Ends) (list : List Ends) (sum spread below weight chance : Ends) → spread ≡ ends_max v m → below ≡ ends_exact f 0
+    → AreFigures f m v list sum 0 (record { expected = m; spread = spread; below = below; weight = weight; chance = chance })
 unfolding ebo_ends vbo_ends below_ends
-tabled_start f m v list sum spread below rows t r h k = record {
-  rows_are = listed_none (known_row f m v list sum) rows r;
-  expected_is = refl;
-  spread_is = h;
-  below_is = k;
-  expected_top = t;
-  below_top = rw k (omega arith);
-}
+figures_first f m v list sum spread below weight chance h k = record { expected = refl; spread = h; below = k }
+
+pub small_first : (f : ℕ) (sum expected spread below weight chance : Ends) → expected.hi ≤ 256 * 2 ^ f → below ≡ ends_exact f 0 → chance ≡ ends_div f weight sum
+    → AreSmall f sum 0 (record { expected = expected; spread = spread; below = below; weight = weight; chance = chance })
+small_first f sum expected spread below weight chance t k h = record { expected = t; below = rw k (omega arith); chance = h }
 
 chance_top : (f : ℕ) (list : List Ends) (sum : Ends) (x : ℕ) → Sized f list sum → x < length list → (chance_ends f list sum x).hi ≤ 8 * 2 ^ f
 unfolding chance_ends
@@ -49,6 +38,14 @@ entry_is list x e l h = h ∙ get_or_default list x e (record { lo = 0; hi = 0 }
 pub chance_is : (f : ℕ) (list : List Ends) (sum e p : Ends) (x : ℕ) → e ≡ at_place list x → p ≡ ends_div f e sum → p ≡ chance_ends f list sum x
 unfolding chance_ends
 chance_is f list sum e p x h k = k ∙ ap (λ (z : Ends). ends_div f z sum) h
+
+-- sizes inside a step
+pub step_chance : (f : ℕ) (list : List Ends) (sum e p : Ends) (s : ℕ) → Sized f list sum → s < length list → e ≡ get_or list s e → p ≡ ends_div f e sum → p.hi ≤ 8 * 2 ^ f
+step_chance f list sum e p s z l he hp =
+    subst (λ (y : Ends). y.hi ≤ 8 * 2 ^ f) (sym (chance_is f list sum e p s (entry_is list s e l he) hp)) (chance_top f list sum s z l)
+
+pub step_weight : (f : ℕ) (list : List Ends) (sum e : Ends) (s : ℕ) → Sized f list sum → s < length list → e ≡ get_or list s e → e.hi ≤ 8 * 2 ^ f
+step_weight f list sum e s z l he = subst (λ (y : Ends). y.hi ≤ 8 * 2 ^ f) (sym (entry_is list s e l he)) (z.tops s l)
 
 tail_is : (f : ℕ) (list : List Ends) (sum tail below : Ends) (s : ℕ) → below ≡ below_ends f list sum (suc s) → tail ≡ ends_less (ends_exact f 1) below → tail ≡ tail_ends f list sum s
 unfolding tail_ends
@@ -72,38 +69,46 @@ row_is : (f : ℕ) (m v : Ends) (list : List Ends) (sum : Ends) (s : ℕ) (e w t
 unfolding known_row
 row_is f m v list sum s e w t h k l = rw (h, k, l) refl
 
-pub tabled_next : (f : ℕ) (m v : Ends) (list : List Ends) (sum expected spread below : Ends) (rows : List (Row f)) (s : ℕ)
-    → Tabled f m v list sum expected spread below rows s → Sized f list sum → s < length list
-    → (e p below' tail expected' fall spread' : Ends) → e ≡ get_or list s e → p ≡ ends_div f e sum
-    → below' ≡ ends_add below p → tail ≡ ends_less (ends_exact f 1) below' → expected' ≡ ends_less expected tail
-    → fall ≡ ends_mul f (ends_add (ends_times expected' 2) tail) (ends_less (ends_exact f 1) tail) → spread' ≡ ends_less spread fall
-    → Tabled f m v list sum expected' spread' below' (rows ++ record { ebo = expected; vbo = spread; tail = tail } ∷ []) (s + 1)
-tabled_next f m v list sum expected spread below rows s h z l e p below' tail expected' fall spread' he hp hb ht hx hf hs =
-    let pi : p ≡ chance_ends f list sum s = chance_is f list sum e p s (entry_is list s e l he) hp in
-    let bi : below' ≡ below_ends f list sum (suc s) = hb ∙ ap₂ ends_add h.below_is pi ∙ sym (below_next f list sum s) in
-    let ti : tail ≡ tail_ends f list sum s = tail_is f list sum tail below' s bi ht in
-    let xi : expected' ≡ ebo_ends f m list sum (suc s) = hx ∙ ap₂ ends_less h.expected_is ti ∙ sym (ebo_next f m list sum s) in
+-- the chance of at most s, by that of less than s and by the weight at s
+below_is : (f : ℕ) (m v : Ends) (list : List Ends) (sum : Ends) (s : ℕ) (figures : Figures f) → AreFigures f m v list sum s figures → s < length list
+    → (e p below : Ends) → e ≡ get_or list s e → p ≡ ends_div f e sum → below ≡ ends_add figures.below p → below ≡ below_ends f list sum (suc s)
+below_is f m v list sum s figures h l e p below he hp hb =
+    hb ∙ ap₂ ends_add h.below (chance_is f list sum e p s (entry_is list s e l he) hp) ∙ sym (below_next f list sum s)
+
+pub row_known : (f : ℕ) (m v : Ends) (list : List Ends) (sum : Ends) (s : ℕ) (figures : Figures f) → AreFigures f m v list sum s figures → s < length list
+    → (e p below tail : Ends) → e ≡ get_or list s e → p ≡ ends_div f e sum → below ≡ ends_add figures.below p → tail ≡ ends_less (ends_exact f 1) below
+    → record { ebo = figures.expected; vbo = figures.spread; tail = tail } ≡ known_row f m v list sum s
+row_known f m v list sum s figures h l e p below tail he hp hb ht =
+    row_is f m v list sum s figures.expected figures.spread tail h.expected h.spread
+    (tail_is f list sum tail below s (below_is f m v list sum s figures h l e p below he hp hb) ht)
+
+pub figures_next : (f : ℕ) (m v : Ends) (list : List Ends) (sum : Ends) (s : ℕ) (figures : Figures f) → AreFigures f m v list sum s figures → s < length list
+    → (e p below tail expected fall spread : Ends) → e ≡ get_or list s e → p ≡ ends_div f e sum → below ≡ ends_add figures.below p → tail ≡ ends_less (ends_exact f 1) below
+    → expected ≡ ends_less figures.expected tail → fall ≡ ends_mul f (ends_add (ends_times expected 2) tail) (ends_less (ends_exact f 1) tail) → spread ≡ ends_less figures.spread fall
+    → AreFigures f m v list sum (s + 1) (record { expected = expected; spread = spread; below = below; weight = e; chance = p })
+figures_next f m v list sum s figures h l e p below tail expected fall spread he hp hb ht hx hf hs =
+    let bi : below ≡ below_ends f list sum (suc s) = below_is f m v list sum s figures h l e p below he hp hb in
+    let ti : tail ≡ tail_ends f list sum s = tail_is f list sum tail below s bi ht in
+    let xi : expected ≡ ebo_ends f m list sum (suc s) = hx ∙ ap₂ ends_less h.expected ti ∙ sym (ebo_next f m list sum s) in
     let fi : fall ≡ ends_mul f (ends_add (ends_times (ebo_ends f m list sum (suc s)) 2) (tail_ends f list sum s)) (ends_less (ends_exact f 1) (tail_ends f list sum s)) =
     hf ∙ ap₂ (λ (y t : Ends). ends_mul f (ends_add (ends_times y 2) t) (ends_less (ends_exact f 1) t)) xi ti in
-    let si : spread' ≡ vbo_ends f m v list sum (suc s) = hs ∙ ap₂ ends_less h.spread_is fi ∙ sym (vbo_next f m v list sum s) in
-    let pt : p.hi ≤ 8 * 2 ^ f = subst (λ (y : Ends). y.hi ≤ 8 * 2 ^ f) (sym pi) (chance_top f list sum s z l) in
+    let si : spread ≡ vbo_ends f m v list sum (suc s) = hs ∙ ap₂ ends_less h.spread fi ∙ sym (vbo_next f m v list sum s) in
     record {
-      rows_are = listed_next (known_row f m v list sum) s rows (record { ebo = expected; vbo = spread; tail = tail }) h.rows_are
-          (row_is f m v list sum s expected spread tail h.expected_is h.spread_is ti);
-      expected_is = xi ∙ ap (ebo_ends f m list sum) (sym (add-one s));
-      spread_is = si ∙ ap (vbo_ends f m v list sum) (sym (add-one s));
-      below_is = bi ∙ ap (below_ends f list sum) (sym (add-one s));
-      expected_top = (let a = ap (λ (y : Ends). y.hi) hx in omega (arith, a, h.expected_top));
-      below_top = (let a = ap (λ (y : Ends). y.hi) hb in omega (arith, a, pt, h.below_top));
+      expected = xi ∙ ap (ebo_ends f m list sum) (sym (add-one s));
+      spread = si ∙ ap (vbo_ends f m v list sum) (sym (add-one s));
+      below = bi ∙ ap (below_ends f list sum) (sym (add-one s));
     }
 
--- sizes inside a step
-pub step_chance : (f : ℕ) (list : List Ends) (sum e p : Ends) (s : ℕ) → Sized f list sum → s < length list → e ≡ get_or list s e → p ≡ ends_div f e sum → p.hi ≤ 8 * 2 ^ f
-step_chance f list sum e p s z l he hp =
-    subst (λ (y : Ends). y.hi ≤ 8 * 2 ^ f) (sym (chance_is f list sum e p s (entry_is list s e l he) hp)) (chance_top f list sum s z l)
-
-pub step_weight : (f : ℕ) (list : List Ends) (sum e : Ends) (s : ℕ) → Sized f list sum → s < length list → e ≡ get_or list s e → e.hi ≤ 8 * 2 ^ f
-step_weight f list sum e s z l he = subst (λ (y : Ends). y.hi ≤ 8 * 2 ^ f) (sym (entry_is list s e l he)) (z.tops s l)
+pub small_next : (f : ℕ) (list : List Ends) (sum : Ends) (s : ℕ) (figures : Figures f) → AreSmall f sum s figures → Sized f list sum → s < length list
+    → (e p below tail expected spread : Ends) → e ≡ get_or list s e → p ≡ ends_div f e sum → below ≡ ends_add figures.below p → expected ≡ ends_less figures.expected tail
+    → AreSmall f sum (s + 1) (record { expected = expected; spread = spread; below = below; weight = e; chance = p })
+small_next f list sum s figures h z l e p below tail expected spread he hp hb hx =
+    let pt : p.hi ≤ 8 * 2 ^ f = step_chance f list sum e p s z l he hp in
+    record {
+      expected = (let a = ap (λ (y : Ends). y.hi) hx in omega (arith, a, h.expected));
+      below = (let a = ap (λ (y : Ends). y.hi) hb in omega (arith, a, pt, h.below));
+      chance = hp;
+    }
 
 -- ---- the other rows
 

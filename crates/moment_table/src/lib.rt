@@ -7,12 +7,13 @@
 #![tactic(auto)]
 
 ghost use Rattle.std.specs.Prelude.{◌≡◌, ℕ, suc, ◌+◌, ◌-◌, ◌*◌, ◌^◌, ◌<◌, ◌≤◌, ◌⊎◌, IfOk, length, List};
-ghost use Rattle.fixed_interval.specs.Ends.{Ends, InScale, ends_div};
-ghost use Rattle.series_bounds.specs.Profile.{listed};
-ghost use Rattle.series_bounds.specs.Answer.{Sized};
-ghost use Rattle.moment_table.specs.Profile.{known_row, wide_row, empty_row, table_rows};
-ghost use Rattle.moment_table.specs.Rows.{EncloseRows};
+ghost use Rattle.fixed_interval.specs.Ends.{Ends, InScale, ends_max};
+ghost use Rattle.series_bounds.specs.Profile.{listed, weights_of};
+ghost use Rattle.series_bounds.specs.Answer.{Sized, SizedAnswer, Weighs};
+ghost use Rattle.moment_table.specs.Profile.{known_row, wide_row, empty_row, table_rows, excess_ends};
+ghost use Rattle.moment_table.specs.Rows.{EncloseRows, EnclosesRow, IsBelow, at_stock};
 
+use crate::figures::Figures;
 use crate::kinds::{Row, Table};
 use fixed_interval::Iv;
 use series_bounds::kinds::Weights;
@@ -20,23 +21,30 @@ use series_bounds::weights;
 use spares_io::NoMemory;
 use std::alloc::Global;
 
+mod figures;
 pub mod kinds;
 
 /// The stocks of a table are 0 to 63.
 const STOCKS: u32 = 64;
 
-/// `weight / sum`, where `chance` is `before / sum`. The weights far out are mostly the same, and need no division then.
-fn chance_of<const F: u32>(weight: Iv<F>, sum: Iv<F>, before: Iv<F>, chance: Iv<F>) -> Iv<F>
-    requires top { weight.hi ≤ 8 * 2 ^ F }
-    requires divisor { 0 < sum.lo }
-    requires chance { chance ≡ ends_div F before sum }
-    ensures { result ≡ ends_div F weight.entry sum.entry }
+/// The row at a stock from known weights.
+fn known_row<const F: u32>(
+    mean: Iv<F>,
+    variance: Iv<F>,
+    list: &[Iv<F>],
+    sum: Iv<F>,
+    stock: u8,
+) -> Row<F>
+    requires mean_top { mean.hi ≤ 256 * 2 ^ F }
+    requires sized { Sized F list.now sum }
+    requires stock { stock ≤ 63 }
+    ensures { result ≡ known_row F mean.entry variance.entry list.now sum.entry stock }
 {
-    if weight.lo() == before.lo() && weight.hi() == before.hi() {
-        chance
-    } else {
-        weight.div(sum)
+    let mut figures = Figures::first(mean, variance, list, sum);
+    for s in 0..u32::from(stock) {
+        figures.row(list, sum, s);
     }
+    figures.row(list, sum, u32::from(stock))
 }
 
 /// The rows from known weights, each from the one before.
@@ -51,44 +59,49 @@ fn known<const F: u32>(
     requires sized { Sized F list.now sum }
     ensures { IfOk result (λ rows. rows.items ≡ listed (known_row F mean.entry variance.entry list.now sum.entry) 64) }
 {
-    let mut expected = mean;
-    let mut spread = variance.max_of(mean);
-    let mut below = Iv::exact(0);
-    let mut weight = list[0];
-    let mut chance = weight.div(sum);
+    let mut figures = Figures::first(mean, variance, list, sum);
     let mut rows = Vec::with_capacity(alloc, STOCKS as usize)?;
     for s in 0..STOCKS {
-        let next = list[s as usize];
-        chance = chance_of(next, sum, weight, chance);
-        weight = next;
-        below = below.add(chance);
-        let tail = Iv::exact(1).less(below);
-        rows.push(Row {
-            ebo: expected,
-            vbo: spread,
-            tail,
-        })?;
-        expected = expected.less(tail);
-        let fall = expected.times(2).add(tail).mul(Iv::exact(1).less(tail));
-        spread = spread.less(fall);
+        rows.push(figures.row(list, sum, s))?;
     }
     Ok(rows)
 }
 
-/// The rows where the weights aren't known: what holds of any distribution with this mean and variance.
+/// The row at a stock where the weights aren't known: what holds of any distribution with this mean and variance.
+fn wide_row<const F: u32>(mean: Iv<F>, variance: Iv<F>, stock: u32) -> Row<F>
+    ensures { result ≡ wide_row F mean.entry variance.entry stock }
+{
+    let start = variance.max_of(mean);
+    let short = mean.less(Iv::exact(stock));
+    Row {
+        ebo: Iv::of_ends(short.lo(), mean.hi()),
+        vbo: Iv::of_ends(0, start.hi()),
+        tail: Iv::of_ends(0, Iv::<F>::exact(1).hi()),
+    }
+}
+
+/// The rows where the weights aren't known.
 fn wide<const F: u32>(alloc: Global, mean: Iv<F>, variance: Iv<F>) -> Result<Vec<Row<F>>, NoMemory>
     ensures { IfOk result (λ rows. rows.items ≡ listed (wide_row F mean.entry variance.entry) 64) }
 {
-    let start = variance.max_of(mean);
     let mut rows = Vec::with_capacity(alloc, STOCKS as usize)?;
     for s in 0..STOCKS {
-        let short = mean.less(Iv::exact(s));
-        let ebo = Iv::of_ends(short.lo(), mean.hi());
-        let vbo = Iv::of_ends(0, start.hi());
-        let tail = Iv::of_ends(0, Iv::<F>::exact(1).hi());
-        rows.push(Row { ebo, vbo, tail })?;
+        rows.push(wide_row(mean, variance, s))?;
     }
     Ok(rows)
+}
+
+/// The row of a pipeline that is always empty, at every stock.
+fn empty_row<const F: u32>() -> Row<F>
+    requires { InScale F }
+    ensures { result ≡ empty_row F }
+{
+    let none = Iv::exact(0);
+    Row {
+        ebo: none,
+        vbo: none,
+        tail: none,
+    }
 }
 
 /// The rows of a pipeline that is always empty.
@@ -96,16 +109,25 @@ fn empty<const F: u32>(alloc: Global) -> Result<Vec<Row<F>>, NoMemory>
     requires { InScale F }
     ensures { IfOk result (λ rows. rows.items ≡ listed (λ s. empty_row F) 64) }
 {
-    let none = Iv::exact(0);
     let mut rows = Vec::with_capacity(alloc, STOCKS as usize)?;
     for _s in 0..STOCKS {
-        rows.push(Row {
-            ebo: none,
-            vbo: none,
-            tail: none,
-        })?;
+        rows.push(empty_row())?;
     }
     Ok(rows)
+}
+
+/// The weights of a pipeline with this mean and variance, which isn't always empty.
+fn weigh<const F: u32>(alloc: Global, mean: Iv<F>, variance: Iv<F>) -> Result<Weights<F>, NoMemory>
+    requires mean_least { 0 < mean.lo }
+    requires mean_top { mean.hi ≤ 256 * 2 ^ F }
+    requires variance_top { variance.hi ≤ 256 * 2 ^ F }
+    requires ratio { variance.hi ≤ 2048 * mean.lo }
+    ensures ends { IfOk result (λ w. w ≡ weights_of F mean.entry (excess_ends F mean.entry variance.entry)) }
+    ensures encloses { IfOk result (λ w. Weighs w mean.entry (excess_ends F mean.entry variance.entry)) }
+    ensures sized { IfOk result SizedAnswer }
+{
+    let excess = variance.div(mean).less(Iv::exact(1));
+    weights(alloc, mean, excess)
 }
 
 /// The rows of a pipeline with this mean and variance.
@@ -119,8 +141,7 @@ fn rows<const F: u32>(alloc: Global, mean: Iv<F>, variance: Iv<F>) -> Result<Vec
     if mean.hi() == 0 {
         return empty(alloc);
     }
-    let excess = variance.div(mean).less(Iv::exact(1));
-    match weights(alloc, mean, excess)? {
+    match weigh(alloc, mean, variance)? {
         Weights::Known {
             pivot: _,
             list,
@@ -146,9 +167,42 @@ pub fn table<const F: u32>(
     ensures ends { IfOk result (λ t. t ≡ table_rows F mean.entry variance.entry) }
     ensures encloses { IfOk result (λ t. EncloseRows F mean.entry variance.entry t) }
     ensures stocks { IfOk result (λ t. length t ≡ 64) }
+    ensures most { IfOk result (λ t. (s : ℕ) → s < 64 → IsBelow F mean.entry variance.entry (at_stock t s)) }
 {
     let rows = rows(alloc, mean, variance)?;
     Ok(Table::of_rows(rows))
+}
+
+/// The row of the table at one stock, at most 63, for a mean and a variance as `table` takes them. The rows at the stocks
+/// above it aren't made, and no list of rows is.
+///
+/// The figures enclose the model's at this stock, at each depth from 1024 on. Want of memory is the only error.
+pub fn row_at<const F: u32>(
+    alloc: Global,
+    mean: Iv<F>,
+    variance: Iv<F>,
+    stock: u8,
+) -> Result<Row<F>, NoMemory>
+    requires mean_top { mean.hi ≤ 256 * 2 ^ F }
+    requires variance_top { variance.hi ≤ 256 * 2 ^ F }
+    requires ratio { ((mean.hi ≡ 0) × (variance.hi ≡ 0)) ⊎ ((0 < mean.lo) × ((mean.hi ≤ 2048 * mean.lo) × (variance.hi ≤ 2048 * mean.lo))) }
+    requires stock { stock ≤ 63 }
+    ensures ends { IfOk result (λ row. row ≡ at_stock (table_rows F mean.entry variance.entry) stock) }
+    ensures encloses { IfOk result (EnclosesRow F mean.entry variance.entry stock) }
+    ensures ebo_most { IfOk result (λ row. row.ebo.hi ≤ mean.entry.hi) }
+    ensures vbo_most { IfOk result (λ row. row.vbo.hi ≤ (ends_max variance.entry mean.entry).hi) }
+{
+    if mean.hi() == 0 {
+        return Ok(empty_row());
+    }
+    match weigh(alloc, mean, variance)? {
+        Weights::Known {
+            pivot: _,
+            list,
+            sum,
+        } => Ok(known_row(mean, variance, list.as_slice(), sum, stock)),
+        Weights::Wide => Ok(wide_row(mean, variance, u32::from(stock))),
+    }
 }
 
 #[cfg(test)]

@@ -88,6 +88,9 @@ fn meets<const F: u32>(rt: &impl Abort, alloc: Global, rows: &[&str]) -> Result<
         let (ebo, vbo, tail) = (table.ebo(stock), table.vbo(stock), table.tail(stock));
         let found = [ebo.lo(), ebo.hi(), vbo.lo(), vbo.hi(), tail.lo(), tail.hi()];
         assert_eq!(rt; found.as_slice(), &row[5..]);
+        let Row { ebo, vbo, tail } = row_at(alloc, mean, variance, stock)?;
+        let found = [ebo.lo(), ebo.hi(), vbo.lo(), vbo.hi(), tail.lo(), tail.hi()];
+        assert_eq!(rt; found.as_slice(), &row[5..]);
     }
     Ok(())
 }
@@ -109,5 +112,7 @@ fn has_the_last_stock_and_the_empty_pipeline(rt: HostRuntime) -> Result<(), Fail
     let empty = super::table(rt.alloc(), none, none)?;
     assert_eq!(rt; empty.vbo(63).hi(), 0);
     assert_eq!(rt; empty.tail(62).hi(), 0);
+    assert_eq!(rt; row_at(rt.alloc(), none, none, 63)?.vbo.hi(), 0);
+    assert_eq!(rt; row_at(rt.alloc(), one, one, 63)?.vbo.hi(), 4093);
     Ok(())
 }

@@ -1,10 +1,12 @@
 use Rattle.std.proofs.Common.{◌≡◌}
-use Rattle.fixed_interval.specs.Ends.{ends_div}
-use Rattle.moment_table.proofs.Steps.{Tabled}
+use Rattle.series_bounds.specs.Profile.{listed}
+use Rattle.moment_table.specs.Figures.{AreFigures, AreSmall}
+use Rattle.moment_table.specs.Profile.{known_row}
 use Rattle.moment_table.proofs.known.Given as goal
 
 abbrev pub invariant-loop-s : goal.invariant-loop-s
 invariant-loop-s g l = record {
-  tabled : Tabled g.row.F l.fn.mean l.fn.variance l.list l.sum l.expected l.spread l.below l.rows.items l.s;
-  chance : l.chance ≡ ends_div g.row.F l.weight l.sum;
+  rows : l.rows.items ≡ listed (known_row g.row.F l.fn.mean l.fn.variance l.list l.sum) l.s;
+  figures : AreFigures g.row.F l.fn.mean l.fn.variance l.list l.sum l.s l.figures;
+  small : AreSmall g.row.F l.sum l.s l.figures;
 }

@@ -2,7 +2,7 @@ use Rattle.std.proofs.Common.{arith, lit<, rules, pow_pos}
 use Rattle.fixed_interval.specs.Ends.{InScale}
 use Rattle.series_bounds.proofs.Ranges.{room_over}
 use Rattle.moment_table.proofs.Steps.{same_chance}
-use Rattle.moment_table.proofs.chance_of.Goals as goal
+use Rattle.moment_table.proofs.figures.chance_of.Goals as goal
 
 pub div-requires : goal.div-requires
 div-requires g c =

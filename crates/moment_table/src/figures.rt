@@ -1,0 +1,87 @@
+//! The figures of a pipeline at one stock after the other, from known weights.
+
+ghost use Rattle.std.specs.Prelude.{◌≡◌, ℕ, ◌+◌, ◌*◌, ◌^◌, ◌<◌, ◌≤◌};
+ghost use Rattle.fixed_interval.specs.Ends.{Ends, ends_div};
+ghost use Rattle.series_bounds.specs.Answer.{Sized};
+ghost use Rattle.moment_table.specs.Profile.{known_row};
+ghost use Rattle.moment_table.specs.Figures.{AreFigures, AreSmall};
+
+use crate::kinds::Row;
+use fixed_interval::Iv;
+
+/// The figures at a stock before its tail is known, and what the tail is made of.
+#[derive(Drop)]
+pub(crate) struct Figures<const F: u32> {
+    /// The expected backorders.
+    expected: Iv<F>,
+    /// The variance of the backorders.
+    spread: Iv<F>,
+    /// The chance of less than the stock in the pipeline.
+    below: Iv<F>,
+    /// A weight before the stock's.
+    weight: Iv<F>,
+    /// The chance of that weight.
+    chance: Iv<F>,
+}
+
+impl<const F: u32> Figures<F> {
+    /// The figures at the stock 0.
+    pub(crate) fn first(mean: Iv<F>, variance: Iv<F>, list: &[Iv<F>], sum: Iv<F>) -> Figures<F>
+        requires mean_top { mean.hi ≤ 256 * 2 ^ F }
+        requires sized { Sized F list.now sum }
+        ensures figures { AreFigures F mean.entry variance.entry list.now sum.entry 0 result }
+        ensures small { AreSmall F sum.entry 0 result }
+    {
+        let weight = list[0];
+        Figures {
+            expected: mean,
+            spread: variance.max_of(mean),
+            below: Iv::exact(0),
+            weight,
+            chance: weight.div(sum),
+        }
+    }
+
+    /// The row at the stock `s`, at which the figures are. They go on to the next stock.
+    pub(crate) fn row(&mut self, list: &[Iv<F>], sum: Iv<F>, s: u32) -> Row<F>
+        requires stock { s < 64 }
+        requires sized { Sized F list.now sum }
+        requires small { AreSmall F sum s self.old }
+        ensures small { AreSmall F sum.entry (s + 1) self.new }
+        ensures figures { (m v : Ends) → AreFigures F m v list.now sum.entry s self.old → AreFigures F m v list.now sum.entry (s + 1) self.new }
+        ensures row { (m v : Ends) → AreFigures F m v list.now sum.entry s self.old → result ≡ known_row F m v list.now sum.entry s }
+    {
+        let next = list[s as usize];
+        self.chance = chance_of(next, sum, self.weight, self.chance);
+        self.weight = next;
+        self.below = self.below.add(self.chance);
+        let tail = Iv::exact(1).less(self.below);
+        let row = Row {
+            ebo: self.expected,
+            vbo: self.spread,
+            tail,
+        };
+        self.expected = self.expected.less(tail);
+        let fall = self
+            .expected
+            .times(2)
+            .add(tail)
+            .mul(Iv::exact(1).less(tail));
+        self.spread = self.spread.less(fall);
+        row
+    }
+}
+
+/// `weight / sum`, where `chance` is `before / sum`. The weights far out are mostly the same, and need no division then.
+fn chance_of<const F: u32>(weight: Iv<F>, sum: Iv<F>, before: Iv<F>, chance: Iv<F>) -> Iv<F>
+    requires top { weight.hi ≤ 8 * 2 ^ F }
+    requires divisor { 0 < sum.lo }
+    requires chance { chance ≡ ends_div F before sum }
+    ensures { result ≡ ends_div F weight.entry sum.entry }
+{
+    if weight.lo() == before.lo() && weight.hi() == before.hi() {
+        chance
+    } else {
+        weight.div(sum)
+    }
+}
