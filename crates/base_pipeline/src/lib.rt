@@ -1,0 +1,91 @@
+//! The mean and the variance of what a base's pipelines hold, for a shop unit and for a line unit.
+//!
+//! A base's pipeline holds the units that are in repair there or on their way from the depot. Its direct part D is what it
+//! would hold if the depot were never short. Of the depot's backorders, which are E on average and have the variance V, the
+//! share f is this base's; and a line unit's repair at the base waits for each shop unit i that the base is short of:
+//!
+//! ```text
+//! a shop unit   mean     = D + f E
+//!               variance = D + f (1 - f) E + f^2 V
+//! a line unit   mean     = D + f E + sum of E_i
+//!               variance = D + f (1 - f) E + f^2 V + sum of V_i
+//! ```
+//!
+//! These are the formulas of VARI-METRIC: C. C. Sherbrooke, *Optimal Inventory Modeling of Systems*, 2nd edition, and
+//! *Operations Research* 34 (1986). All numbers are intervals. No call refuses, and none takes memory.
+#![tactic(auto)]
+
+ghost use Rattle.std.specs.Prelude.{◌≡◌, ℕ, ◌+◌, ◌*◌, ◌^◌, ◌<◌, ◌≤◌, length};
+ghost use Rattle.std.specs.List.{All};
+ghost use Rattle.exact_model.specs.Fraction.{Fraction, sum_below, ◌+ℚ◌, ◌*ℚ◌};
+ghost use Rattle.exact_model.specs.Shares.{shared};
+ghost use Rattle.fixed_interval.specs.Ends.{In};
+ghost use Rattle.depot_pipeline.specs.Exact.{IsAtMost, FeedIn, IsSmallFeed};
+ghost use Rattle.base_pipeline.specs.Profile.{base_shop_ends, base_line_ends};
+ghost use Rattle.base_pipeline.specs.Exact.{AllHeldIn, IsSmallHeld};
+
+#[cfg(test)]
+mod tests;
+
+use depot_pipeline::{Feed, Moments, mean_of, variance_of};
+use fixed_interval::Iv;
+
+/// The backorders of a shop unit at the same base, which hold a line unit's repair there: their mean and their variance.
+#[derive(Clone, Copy, Drop)]
+pub struct Held<const F: u32> {
+    pub backorders: Iv<F>,
+    pub spread: Iv<F>,
+}
+
+/// The pipeline of a shop unit at a base: its direct part, at most 256 units, and what the depot feeds into it.
+///
+/// `cap` is what the caller knows the mean and the variance to be at most, in units of `2^-F`: each is capped there, and
+/// encloses the exact value where that is at most the cap.
+pub fn base_shop<const F: u32>(direct: Iv<F>, cap: u128, depot: Feed<F>) -> Moments<F>
+    requires direct { direct.hi ≤ 256 * 2 ^ F }
+    requires small { IsSmallFeed F depot }
+    ensures ends { result ≡ base_shop_ends F direct.entry cap depot.entry }
+    ensures mean { (d f e v : Fraction) → In F direct.entry d → FeedIn F depot.entry f e v
+        → IsAtMost F cap (d +ℚ f *ℚ e) → In F result.mean (d +ℚ f *ℚ e) }
+    ensures variance { (d f e v : Fraction) → In F direct.entry d → FeedIn F depot.entry f e v
+        → IsAtMost F cap (d +ℚ shared f e v) → In F result.variance (d +ℚ shared f e v) }
+{
+    Moments {
+        mean: direct.add(mean_of(&depot)).capped(cap),
+        variance: direct.add(variance_of(&depot)).capped(cap),
+    }
+}
+
+/// The pipeline of a line unit at a base: its direct part, at most 256 units, what the depot feeds into it, and the
+/// backorders of its shop units at this base, at most 8 of them.
+///
+/// `cap` is as in [`base_shop`].
+pub fn base_line<const F: u32>(
+    direct: Iv<F>,
+    cap: u128,
+    depot: Feed<F>,
+    shops: &[Held<F>],
+) -> Moments<F>
+    requires direct { direct.hi ≤ 256 * 2 ^ F }
+    requires small { IsSmallFeed F depot }
+    requires few { length shops.now ≤ 8 }
+    requires held { All (IsSmallHeld F) shops.now }
+    ensures ends { result ≡ base_line_ends F direct.entry cap depot.entry shops.now }
+    ensures mean { (d f e v : Fraction) (b s : ℕ → Fraction) → In F direct.entry d → FeedIn F depot.entry f e v → AllHeldIn F shops.now b s
+        → IsAtMost F cap (d +ℚ f *ℚ e +ℚ sum_below b (length shops.now))
+        → In F result.mean (d +ℚ f *ℚ e +ℚ sum_below b (length shops.now)) }
+    ensures variance { (d f e v : Fraction) (b s : ℕ → Fraction) → In F direct.entry d → FeedIn F depot.entry f e v → AllHeldIn F shops.now b s
+        → IsAtMost F cap (d +ℚ shared f e v +ℚ sum_below s (length shops.now))
+        → In F result.variance (d +ℚ shared f e v +ℚ sum_below s (length shops.now)) }
+{
+    let mut mean = direct.add(mean_of(&depot));
+    let mut variance = direct.add(variance_of(&depot));
+    for shop in shops {
+        mean = mean.add(shop.backorders);
+        variance = variance.add(shop.spread);
+    }
+    Moments {
+        mean: mean.capped(cap),
+        variance: variance.capped(cap),
+    }
+}
