@@ -1,0 +1,6 @@
+pub mod Tables
+pub mod Ranges
+pub mod Units
+pub mod Enclosed
+pub mod Items
+pub mod Families

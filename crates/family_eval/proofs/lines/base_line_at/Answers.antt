@@ -1,0 +1,61 @@
+use Rattle.std.proofs.Common.{◌∙◌, lit<, subst, sym}
+use Rattle.std.proofs.lemmas.Result.{IfOk-weaker}
+use Rattle.family_eval.specs.Encloses.{IsSmallItem}
+use Rattle.family_eval.proofs.Enclosed.{small_00}
+use Rattle.family_eval.proofs.Items.{all_held_small, base_line_is, feed_small, held_are, held_few, ids_few}
+use Rattle.family_eval.proofs.lines.base_line_at.Goals as goal
+
+pub held_at-requires : goal.held_at-requires
+held_at-requires g c =
+    let valid = c.sites-sites.ensures.valid.valid in (
+      lit< tt,
+      (
+        lit< tt,
+        (
+          c.requires.scale,
+          (
+            c.requires.site,
+            (ids_few c.args.inputs.now.case c.args.line.0 c.args.shops.now valid c.requires.line c.requires.shops, c.requires.items),
+          ),
+        ),
+      ),
+    )
+
+pub base_line_item-requires : goal.base_line_item-requires
+base_line_item-requires g c =
+    let sound = c.sites-sites.ensures.valid in
+    let small = subst (IsSmallItem g.row.F) (sym c.requires.depot)
+    (small_00 g.row.F c.args.inputs.now.case c.args.inputs.now.stocks.list c.requires.scale.0 sound c.args.line.0 c.requires.line) in
+    let held = c.as_slice.ensures.value ∙ c.in_ok-held.ensures
+    ∙ held_are g.row.F c.args.inputs.now.case c.args.inputs.now.stocks.list c.args.line.0 c.args.site.0 c.args.shops.now c.requires.base sound.valid c.requires.line c.requires.shops in (
+      lit< tt,
+      (
+        lit< tt,
+        (
+          lit< tt,
+          (
+            lit< tt,
+            (
+              c.pair.ensures.valid,
+              (
+                feed_small g.row.F c.share.result c.args.depot.now c.feed_of-feed.result c.feed_of-feed.ensures c.share.ensures.most small,
+                (
+                  held_few g.row.F c.args.inputs.now.case c.args.inputs.now.stocks.list c.args.line.0 c.args.site.0 c.as_slice.result.now sound c.requires.line held,
+                  all_held_small g.row.F c.args.inputs.now.case c.args.inputs.now.stocks.list c.args.line.0 c.args.site.0 c.as_slice.result.now c.requires.scale.0 sound c.requires.line
+                      c.requires.site held,
+                ),
+              ),
+            ),
+          ),
+        ),
+      ),
+    )
+
+pub returns : goal.returns
+returns g c =
+    let sound = c.sites-sites.ensures.valid in
+    IfOk-weaker c.base_line_item.result _ _
+    (λ x h. base_line_is g.row.F c.args.inputs.now.case c.args.inputs.now.stocks.list c.args.line.0 c.args.site.0 c.pair.result c.feed_of-feed.result c.share.result c.args.depot.now x
+    _ c.as_slice.result.now c.pair.ensures.pair c.feed_of-feed.ensures c.share.ensures.share c.requires.depot (c.as_slice.ensures.value ∙ c.in_ok-held.ensures)
+    (held_are g.row.F c.args.inputs.now.case c.args.inputs.now.stocks.list c.args.line.0 c.args.site.0 c.args.shops.now c.requires.base sound.valid c.requires.line c.requires.shops) h)
+    c.base_line_item.ensures

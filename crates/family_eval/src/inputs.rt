@@ -1,0 +1,106 @@
+//! The numbers that a family is computed from.
+
+ghost use Rattle.std.specs.Prelude.{◌≡◌, ◌*◌, ◌^◌, ◌<◌, ◌≤◌, length};
+ghost use Rattle.fixed_interval.specs.Ends.{InScale};
+ghost use Rattle.spares_input.specs.Stocks.{IsFor, IsWithinLimits};
+ghost use Rattle.demand_rates.specs.Rates.{AreRatesOf};
+ghost use Rattle.fleet_model.specs.Rows.{weight};
+ghost use Rattle.family_eval.specs.Profile.{pair_of, share_of};
+ghost use Rattle.family_eval.specs.Inputs.{IsPair, IsSound};
+
+use crate::pair::Pair;
+use demand_rates::kinds::Rates;
+use fixed_interval::Iv;
+use spares_input::{Case, PartId, SiteId, Stocks};
+use std::marker::Model;
+
+/// How many units of a pipeline's rates make 1.
+const PIPELINE_SCALE: u128 = 365_000_000_000_000_000_000;
+
+/// A case, its rates, and stocks of it within its limits.
+#[derive(Drop)]
+pub(crate) struct Inputs<'a> {
+    case: &'a Case,
+    rates: &'a Rates,
+    stocks: &'a Stocks,
+}
+
+impl<'a> Model for Inputs<'a> {
+    ghost use Rattle.family_eval.specs.Inputs.{InputRows, AreInputs};
+
+    ghost Value = { InputRows };
+
+    ghost view = { λ x. record { case = x.case.now; rates = x.rates.now; stocks = x.stocks.now } };
+
+    ghost invariant = { λ x. AreInputs (record { case = x.case.now; rates = x.rates.now; stocks = x.stocks.now }) };
+}
+
+impl<'a> Inputs<'a> {
+    /// A case, rates of it, and stocks of it within its limits.
+    pub(crate) fn of(case: &'a Case, rates: &'a Rates, stocks: &'a Stocks) -> Inputs<'a>
+        requires rates { AreRatesOf case.now rates.now }
+        requires stocks { IsFor case.now stocks.now }
+        requires limits { IsWithinLimits case.now stocks.now }
+        ensures { result ≡ record { case = case.now; rates = rates.now; stocks = stocks.now } }
+    {
+        let _valid = case.site_count();
+        Inputs {
+            case,
+            rates,
+            stocks,
+        }
+    }
+
+    /// The case.
+    pub(crate) fn case(&self) -> &Case
+        ensures { result.now ≡ self.now.case }
+    {
+        self.case
+    }
+
+    /// How many sites there are.
+    pub(crate) fn sites(&self) -> u8
+        ensures count { result ≡ length self.now.case.sites }
+        ensures valid { IsSound self.now.case self.now.stocks.list }
+    {
+        self.case.site_count()
+    }
+
+    /// How much a backorder of a line unit counts, 1 to 100.
+    pub(crate) fn weight(&self, line: PartId) -> u32
+        requires { line.0 < length self.now.case.parts }
+        ensures weight { result ≡ weight self.now.case line.0 }
+        ensures most { result ≤ 100 }
+    {
+        u32::from(self.case.part(line).weight)
+    }
+
+    /// A pair with what its pipeline has of its own.
+    pub(crate) fn pair<const F: u32>(&self, part: PartId, site: SiteId) -> Pair<F>
+        requires scale { InScale F }
+        requires part { part.0 < length self.now.case.parts }
+        requires site { site.0 < length self.now.case.sites }
+        ensures pair { result ≡ pair_of F self.now.case self.now.stocks.list part.0 site.0 }
+        ensures valid { IsPair F result }
+    {
+        Pair {
+            part,
+            site,
+            stock: self.stocks.get(part, site),
+            direct: Iv::of_ratio(self.rates.direct(part, site), PIPELINE_SCALE),
+            cap: Iv::<F>::of_ratio(self.rates.zero_stock(part, site), PIPELINE_SCALE).hi(),
+        }
+    }
+
+    /// The share of a pair in the backorders at the depot, at most 1.
+    pub(crate) fn share<const F: u32>(&self, part: PartId, site: SiteId) -> Iv<F>
+        requires scale { InScale F }
+        requires part { part.0 < length self.now.case.parts }
+        requires site { site.0 < length self.now.case.sites }
+        ensures share { result ≡ share_of F self.now.case part.0 site.0 }
+        ensures most { result.hi ≤ 2 ^ F }
+    {
+        let share = self.rates.share(part, site);
+        Iv::of_ratio(share.num, share.den)
+    }
+}

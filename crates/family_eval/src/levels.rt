@@ -1,0 +1,117 @@
+//! A pair's item from what feeds its pipeline.
+
+ghost use Rattle.std.specs.Prelude.{◌≡◌, ◌*◌, ◌^◌, ◌<◌, ◌≤◌, IfOk, length, All};
+ghost use Rattle.fixed_interval.specs.Ends.{InScale};
+ghost use Rattle.depot_pipeline.specs.Exact.{IsSmallFeed};
+ghost use Rattle.depot_pipeline.specs.Profile.{depot_shop_ends, depot_line_ends};
+ghost use Rattle.base_pipeline.specs.Exact.{IsSmallHeld};
+ghost use Rattle.base_pipeline.specs.Profile.{base_shop_ends, base_line_ends};
+ghost use Rattle.family_eval.specs.Profile.{stocked, feed_of, held_of};
+ghost use Rattle.family_eval.specs.Encloses.{IsSmallItem};
+ghost use Rattle.family_eval.specs.Inputs.{CanTable, IsPair};
+
+use crate::item::Item;
+use crate::pair::Pair;
+use base_pipeline::{Held, base_line, base_shop};
+use depot_pipeline::{Feed, Moments, depot_line, depot_shop};
+use fixed_interval::Iv;
+use moment_table::row_at;
+use spares_io::NoMemory;
+use std::alloc::Global;
+
+/// The pipeline of a pair with its backorders at the pair's stock.
+fn stocked<const F: u32>(
+    alloc: Global,
+    pair: Pair<F>,
+    moments: Moments<F>,
+) -> Result<Item<F>, NoMemory>
+    requires table { CanTable F moments }
+    requires stock { pair.stock ≤ 63 }
+    ensures { IfOk result (λ x. x ≡ stocked F pair.entry moments.entry) }
+{
+    let row = row_at(alloc, moments.mean, moments.variance, pair.stock)?;
+    Ok(Item {
+        part: pair.part,
+        site: pair.site,
+        stock: pair.stock,
+        mean: moments.mean,
+        variance: moments.variance,
+        backorders: row.ebo,
+        spread: row.vbo,
+    })
+}
+
+/// What an item feeds to another pair, by that pair's share.
+pub(crate) fn feed_of<const F: u32>(share: Iv<F>, item: &Item<F>) -> Feed<F>
+    ensures { result ≡ feed_of F share.entry item.now }
+{
+    Feed {
+        share,
+        backorders: item.backorders,
+        spread: item.spread,
+    }
+}
+
+/// What a shop unit at a base holds back of its line unit there.
+pub(crate) fn held_of<const F: u32>(item: &Item<F>) -> Held<F>
+    ensures { result ≡ held_of F item.now }
+{
+    Held {
+        backorders: item.backorders,
+        spread: item.spread,
+    }
+}
+
+/// A shop unit at the depot.
+pub(crate) fn depot_shop_item<const F: u32>(
+    alloc: Global,
+    pair: Pair<F>,
+) -> Result<Item<F>, NoMemory>
+    requires { IsPair F pair }
+    ensures { IfOk result (λ x. x ≡ stocked F pair.entry (depot_shop_ends F pair.entry.direct pair.entry.cap)) }
+{
+    stocked(alloc, pair, depot_shop(pair.direct, pair.cap))
+}
+
+/// A line unit at the depot, which its shop units there feed.
+pub(crate) fn depot_line_item<const F: u32>(
+    alloc: Global,
+    pair: Pair<F>,
+    feeds: &[Feed<F>],
+) -> Result<Item<F>, NoMemory>
+    requires pair { IsPair F pair }
+    requires few { length feeds.now ≤ 8 }
+    requires small { All (IsSmallFeed F) feeds.now }
+    ensures { IfOk result (λ x. x ≡ stocked F pair.entry (depot_line_ends F pair.entry.direct pair.entry.cap feeds.now)) }
+{
+    stocked(alloc, pair, depot_line(pair.direct, pair.cap, feeds))
+}
+
+/// A shop unit at a base, which the depot feeds.
+pub(crate) fn base_shop_item<const F: u32>(
+    alloc: Global,
+    pair: Pair<F>,
+    depot: Feed<F>,
+) -> Result<Item<F>, NoMemory>
+    requires pair { IsPair F pair }
+    requires small { IsSmallFeed F depot }
+    ensures { IfOk result (λ x. x ≡ stocked F pair.entry (base_shop_ends F pair.entry.direct pair.entry.cap depot.entry)) }
+{
+    stocked(alloc, pair, base_shop(pair.direct, pair.cap, depot))
+}
+
+/// A line unit at a base, which the depot and the shop units at that base feed.
+pub(crate) fn base_line_item<const F: u32>(
+    alloc: Global,
+    pair: Pair<F>,
+    depot: Feed<F>,
+    shops: &[Held<F>],
+) -> Result<Item<F>, NoMemory>
+    requires pair { IsPair F pair }
+    requires small { IsSmallFeed F depot }
+    requires few { length shops.now ≤ 8 }
+    requires held { All (IsSmallHeld F) shops.now }
+    ensures { IfOk result (λ x. x ≡ stocked F pair.entry (base_line_ends F pair.entry.direct pair.entry.cap depot.entry shops.now)) }
+{
+    stocked(alloc, pair, base_line(pair.direct, pair.cap, depot, shops))
+}

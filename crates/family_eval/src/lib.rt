@@ -1,0 +1,140 @@
+//! The pipelines of a family, a line unit with its shop units, and its backorders at given stocks.
+//!
+//! A pipeline waits for what another is short of, and so the levels are computed in this order: each shop unit at the depot;
+//! the line unit there, whose repairs need the shop units; each shop unit at a base, which the depot sends; and the line unit
+//! at a base, which waits for the depot and for the base's own shop units. At each level the mean and the variance of the
+//! pipeline give the backorders at the stock and their variance, by the table of `moment_table`. This is VARI-METRIC: C. C.
+//! Sherbrooke, *Optimal Inventory Modeling of Systems*, 2nd edition, and *Operations Research* 34 (1986).
+//!
+//! Mean and variance of a pipeline are capped at its mean where there is no stock anywhere: with stock they are never above it.
+//! All figures are intervals in units of `2^-F`, with F from 24 to 52. Their ends are pinned by the definitions in
+//! `specs/Profile.antt`, and that they hold the model's values is a law of these definitions ([`items_enclose`],
+//! [`families_enclose`]).
+#![tactic(auto)]
+
+ghost use Rattle.std.specs.Prelude.{◌≡◌, ℕ, ◌<◌, IfOk, length};
+ghost use Rattle.exact_model.specs.Fraction.{Encloses};
+ghost use Rattle.fixed_interval.specs.Ends.{InScale};
+ghost use Rattle.spares_input.specs.Cases.{CaseRows};
+ghost use Rattle.spares_input.specs.Stocks.{StockList, IsFor, IsWithinLimits};
+ghost use Rattle.demand_rates.specs.Rates.{AreRatesOf};
+ghost use Rattle.std.specs.List.{AllZip};
+ghost use Rattle.fleet_model.specs.Rows.{line_units};
+ghost use Rattle.fleet_model.specs.Pipelines.{ebo_0j};
+ghost use Rattle.fleet_model.specs.Laws.{IsBase};
+ghost use Rattle.family_eval.specs.Profile.{item_of, family_of, families_of};
+ghost use Rattle.family_eval.specs.Encloses.{CanEvaluate, EnclosesItem, EnclosesFamily, IsSmallItem, IsSmallFamily};
+ghost use Rattle.family_eval.specs.Inputs.{IsLine};
+
+use crate::inputs::Inputs;
+use crate::lines::{line_items, total_of};
+use crate::shops::{all_shop_items, shop_units};
+use demand_rates::kinds::Rates;
+use spares_input::{Case, PartId, Stocks};
+use spares_io::{List, NoMemory};
+use std::alloc::Global;
+
+mod inputs;
+mod item;
+mod levels;
+mod lines;
+mod pair;
+mod shops;
+#[cfg(test)]
+mod tests;
+
+pub use item::{FamilyResult, Item};
+
+/// The item of each pair encloses the model's figures at every depth from 1024 on, and none of them is above 256.
+pub fn items_enclose()
+    ensures encloses { (f : ℕ) (c : CaseRows) (s : StockList) (p k : ℕ) → CanEvaluate f c s → p < length c.parts → k < length c.sites
+        → EnclosesItem f c s.list p k (item_of f c s.list p k) }
+    // The backorders of a line unit at a base, of which availability and the total are made.
+    ensures line { (f : ℕ) (c : CaseRows) (s : StockList) (l j : ℕ) → CanEvaluate f c s → IsLine c l → IsBase c j
+        → Encloses f (item_of f c s.list l j).backorders.lo (item_of f c s.list l j).backorders.hi (λ n. ebo_0j c s.list n l j) }
+    ensures small { (f : ℕ) (c : CaseRows) (s : StockList) (p k : ℕ) → CanEvaluate f c s → p < length c.parts → k < length c.sites
+        → IsSmallItem f (item_of f c s.list p k) }
+{}
+
+/// The items of a family enclose its pairs' figures at every depth from 1024 on, and its total the family's.
+pub fn families_enclose()
+    ensures encloses { (f : ℕ) (c : CaseRows) (s : StockList) (l : ℕ) → CanEvaluate f c s → IsLine c l
+        → EnclosesFamily f c s.list l (family_of f c l s) }
+    ensures small { (f : ℕ) (c : CaseRows) (s : StockList) (l : ℕ) → CanEvaluate f c s → IsLine c l
+        → IsSmallFamily f c l (family_of f c l s) }
+{}
+
+/// The family of a line unit.
+fn evaluate_family<const F: u32>(
+    alloc: Global,
+    inputs: &Inputs<'_>,
+    line: PartId,
+) -> Result<FamilyResult<F>, NoMemory>
+    requires scale { InScale F }
+    requires line { IsLine inputs.now.case line.0 }
+    ensures { IfOk result (λ r. r ≡ family_of F inputs.now.case line.0 inputs.now.stocks) }
+{
+    let _sites = inputs.sites();
+    let units = shop_units(alloc, inputs.case(), line)?;
+    let shops = units.as_slice();
+    let mut shop_items = all_shop_items(alloc, inputs, shops)?;
+    let mut items = line_items(alloc, inputs, line, shops, shop_items.as_slice())?;
+    let total = total_of(items.as_slice(), inputs.weight(line));
+    items.append(&mut shop_items)?;
+    Ok(FamilyResult {
+        items: List::of(items),
+        total,
+    })
+}
+
+/// The items of a line unit and of its shop units at these stocks, and the family's total, in units of `2^-F`.
+///
+/// The rates are those of the case, `line` is one of its line units, and the stocks are of this case and within its limits.
+/// Each end is exactly that of the definitions, which round once at each step. Each item encloses the model's figures at every
+/// depth from 1024 on, and the total encloses the family's. Want of memory is the only error.
+pub fn evaluate<const F: u32>(
+    alloc: Global,
+    case: &Case,
+    rates: &Rates,
+    line: PartId,
+    stocks: &Stocks,
+) -> Result<FamilyResult<F>, NoMemory>
+    requires scale { InScale F }
+    requires rates { AreRatesOf case.now rates.now }
+    requires line { IsLine case.now line.0 }
+    requires stocks { IsFor case.now stocks.now }
+    requires limits { IsWithinLimits case.now stocks.now }
+    ensures ends { IfOk result (λ r. r ≡ family_of F case.now line.0 stocks.now) }
+    ensures encloses { IfOk result (EnclosesFamily F case.now stocks.now.list line.0) }
+    ensures small { IfOk result (IsSmallFamily F case.now line.0) }
+{
+    let _valid = case.site_count();
+    let inputs = Inputs::of(case, rates, stocks);
+    evaluate_family(alloc, &inputs, line)
+}
+
+/// The families of all line units in part order, each as [`evaluate`] gives it. Want of memory is the only error.
+pub fn evaluate_all<const F: u32>(
+    alloc: Global,
+    case: &Case,
+    rates: &Rates,
+    stocks: &Stocks,
+) -> Result<Vec<FamilyResult<F>>, NoMemory>
+    requires scale { InScale F }
+    requires rates { AreRatesOf case.now rates.now }
+    requires stocks { IsFor case.now stocks.now }
+    requires limits { IsWithinLimits case.now stocks.now }
+    ensures ends { IfOk result (λ v. v.items ≡ families_of F case.now stocks.now) }
+    ensures encloses { IfOk result (λ v. AllZip (EnclosesFamily F case.now stocks.now.list) (line_units case.now) v.items) }
+    ensures small { IfOk result (λ v. AllZip (IsSmallFamily F case.now) (line_units case.now) v.items) }
+{
+    let inputs = Inputs::of(case, rates, stocks);
+    let mut families = Vec::new(alloc);
+    for p in 0..case.part_count() {
+        let part = PartId(p);
+        if case.is_line(part) {
+            families.push(evaluate_family(alloc, &inputs, part)?)?;
+        }
+    }
+    Ok(families)
+}

@@ -1,0 +1,112 @@
+//! The items of shop units.
+
+ghost use Rattle.std.specs.Prelude.{◌≡◌, ◌<◌, IfOk, length, map, flat_map, All};
+ghost use Rattle.fixed_interval.specs.Ends.{InScale};
+ghost use Rattle.spares_input.specs.Frames.{is_shop_of};
+ghost use Rattle.fleet_model.specs.Rows.{shop_units};
+ghost use Rattle.family_eval.specs.Profile.{base_shop, depot_shop, part_items};
+ghost use Rattle.family_eval.specs.Inputs.{IsShopUnit};
+
+use crate::inputs::Inputs;
+use crate::item::Item;
+use crate::levels::{base_shop_item, depot_shop_item, feed_of};
+use spares_input::{Case, PartId, PartRow, SiteId};
+use spares_io::NoMemory;
+use std::alloc::Global;
+
+/// Whether a part is a shop unit of this line unit.
+fn is_shop_of(line: &PartRow, part: &PartRow) -> bool
+    ensures { result ≡ is_shop_of line.now part.now }
+{
+    match part.parent {
+        Some(parent) => line.name == parent,
+        None => false,
+    }
+}
+
+/// The shop units of a line unit, in part order.
+pub(crate) fn shop_units(alloc: Global, case: &Case, line: PartId) -> Result<Vec<PartId>, NoMemory>
+    requires { line.0 < length case.now.parts }
+    ensures { IfOk result (λ v. map (λ p. p.0) v.items ≡ shop_units case.now line.0) }
+{
+    let row = case.part(line);
+    let mut shops = Vec::new(alloc);
+    for p in 0..case.part_count() {
+        let part = PartId(p);
+        if is_shop_of(row, case.part(part)) {
+            shops.push(part)?;
+        }
+    }
+    Ok(shops)
+}
+
+/// A shop unit at the depot.
+fn depot_shop_at<const F: u32>(
+    alloc: Global,
+    inputs: &Inputs<'_>,
+    part: PartId,
+) -> Result<Item<F>, NoMemory>
+    requires scale { InScale F }
+    requires part { part.0 < length inputs.now.case.parts }
+    ensures { IfOk result (λ x. x ≡ depot_shop F inputs.now.case inputs.now.stocks.list part.0) }
+{
+    let _sites = inputs.sites();
+    depot_shop_item(alloc, inputs.pair(part, SiteId(0)))
+}
+
+/// A shop unit at a base, from its item at the depot.
+fn base_shop_at<const F: u32>(
+    alloc: Global,
+    inputs: &Inputs<'_>,
+    part: PartId,
+    site: SiteId,
+    depot: &Item<F>,
+) -> Result<Item<F>, NoMemory>
+    requires scale { InScale F }
+    requires part { part.0 < length inputs.now.case.parts }
+    requires site { site.0 < length inputs.now.case.sites }
+    requires depot { depot.now ≡ depot_shop F inputs.now.case inputs.now.stocks.list part.0 }
+    ensures { IfOk result (λ x. x ≡ base_shop F inputs.now.case inputs.now.stocks.list part.0 site.0) }
+{
+    let _sites = inputs.sites();
+    let feed = feed_of(inputs.share(part, site), depot);
+    base_shop_item(alloc, inputs.pair(part, site), feed)
+}
+
+/// The items of a shop unit, by site.
+fn shop_items<const F: u32>(
+    alloc: Global,
+    inputs: &Inputs<'_>,
+    part: PartId,
+) -> Result<Vec<Item<F>>, NoMemory>
+    requires scale { InScale F }
+    requires shop { IsShopUnit inputs.now.case part.0 }
+    ensures { IfOk result (λ v. v.items ≡ part_items F inputs.now.case inputs.now.stocks.list part.0) }
+{
+    let depot = depot_shop_at(alloc, inputs, part)?;
+    let mut items = Vec::new(alloc);
+    items.push(depot)?;
+    for j in 1..inputs.sites() {
+        let item = base_shop_at(alloc, inputs, part, SiteId(j), &depot)?;
+        items.push(item)?;
+    }
+    Ok(items)
+}
+
+/// The items of these shop units, each by site.
+pub(crate) fn all_shop_items<const F: u32>(
+    alloc: Global,
+    inputs: &Inputs<'_>,
+    shops: &[PartId],
+) -> Result<Vec<Item<F>>, NoMemory>
+    requires scale { InScale F }
+    requires shops { All (λ p. IsShopUnit inputs.now.case p.0) shops.now }
+    ensures { IfOk result (λ v. v.items ≡ flat_map (λ p. part_items F inputs.now.case inputs.now.stocks.list p.0) shops.now) }
+{
+    let mut items = Vec::new(alloc);
+    for part in shops {
+        let mut row = shop_items(alloc, inputs, *part)?;
+        items.append(&mut row)?;
+    }
+    Ok(items)
+}
