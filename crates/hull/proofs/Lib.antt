@@ -1,0 +1,9 @@
+pub mod Prices
+pub mod Stand
+pub mod Chains
+pub mod Steps_of
+pub mod Judged
+pub mod Runs
+pub mod Stops
+pub mod Sums
+pub mod Shapes

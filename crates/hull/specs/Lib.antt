@@ -1,0 +1,4 @@
+pub mod Curves
+pub mod Laws
+pub mod Scores
+pub mod Verdicts

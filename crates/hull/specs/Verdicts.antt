@@ -1,0 +1,25 @@
+-- What a verdict on the last of some points says.
+use Rattle.std.specs.Prelude.{◌≡◌, ℕ, ◌-◌, ◌<◌, List, [], ◌∷◌, ◌++◌, length, take}
+use Rattle.hull.specs.declared.point.Point.{Point}
+use Rattle.hull.specs.declared.scan.Verdict.{Verdict}
+use Rattle.hull.specs.declared.scan.Verdict.TheVariants.{Keep, Drop, Refuse}
+use Rattle.hull.specs.declared.walk.Turn.{Turn}
+use Rattle.hull.specs.declared.walk.Turn.TheVariants.{Left, Right, End}
+use Rattle.hull.specs.Curves.{Among, IsVertexAt, StandFor, IsChain}
+
+abbrev pub Tells : List Point → Point → Verdict → Type 0
+Tells stack p Keep = IsChain (stack ++ p ∷ [])
+Tells stack p Drop = (0 < length stack) × StandFor (stack ++ p ∷ []) (take (length stack - 1) stack ++ p ∷ [])
+Tells stack p Refuse = (0 < length stack) × StandFor (stack ++ p ∷ []) stack
+
+-- no vertex of a chain past its head goes with the head of the other
+abbrev pub Blocks : List Point → Point → List Point → List Point → Type 0
+Blocks left v right rest = (p q : ℕ) → IsVertexAt p q left v → (w : Point) → Among w rest → IsVertexAt p q right w → ⊥
+
+-- what a turn says of two chains
+abbrev pub LeadsTo : List Point → List Point → Turn → Type 0
+LeadsTo [] right t = ⊥
+LeadsTo (v ∷ ls) [] t = ⊥
+LeadsTo (v ∷ ls) (u ∷ rs) Left = (0 < length ls) × Blocks (v ∷ ls) v (u ∷ rs) rs
+LeadsTo (v ∷ ls) (u ∷ rs) Right = (0 < length rs) × Blocks (u ∷ rs) u (v ∷ ls) ls
+LeadsTo (v ∷ ls) (u ∷ rs) End = (length ls ≡ 0) × (length rs ≡ 0)

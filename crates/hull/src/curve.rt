@@ -1,0 +1,148 @@
+//! Curves, seen as their vertices in order of cost.
+
+ghost use Rattle.std.specs.Prelude.{◌≡◌, ℕ, ◌+◌, ◌^◌, ◌<◌, ◌≤◌, ◌∷◌, [], ◌++◌, List, length, IfOk, OnOk, OnErr};
+ghost use Rattle.hull.specs.declared.point.Point.{Point};
+ghost use Rattle.hull.specs.Curves.{Among, InRange, IsCurve, IsShape, IsBestAt, IsLeastAt, point_at, plus, sums};
+
+use crate::scan::scan;
+use crate::walk::path;
+use crate::{Point, Price};
+use spares_io::NoMemory;
+use std::alloc::Global;
+use std::marker::Model;
+use std::mem;
+
+/// The strict lower vertices of points, seen as their list by rising cost.
+///
+/// There is at least one, at most 2^31, and all have stocks of one length. Costs rise, lower ends fall, and each fall per
+/// money is smaller than the one before.
+#[derive(Debug, Drop)]
+pub struct Curve {
+    vertices: Vec<Point>,
+}
+
+impl Model for Curve {
+    ghost use Rattle.std.specs.Prelude.{List};
+    ghost use Rattle.hull.specs.declared.point.Point.{Point};
+    ghost use Rattle.hull.specs.Curves.{IsShape};
+
+    ghost Value = { List Point };
+
+    ghost view = { λ c. c.vertices.items };
+
+    ghost invariant = { λ c. IsShape c.vertices.items };
+}
+
+impl Curve {
+    /// The curve of a single point.
+    pub fn one(alloc: Global, first: Point) -> Result<Curve, NoMemory>
+        requires { InRange first }
+        ensures { IfOk result (λ curve. curve ≡ first ∷ []) }
+    {
+        let mut vertices = Vec::with_capacity(alloc, 1)?;
+        vertices.push(first)?;
+        Ok(Curve { vertices })
+    }
+
+    /// Makes this the curve of its points and one more, whose stocks have the curve's length. Of points with the same cost
+    /// and the same lower end it keeps the one whose stocks are first in the order of a dictionary.
+    ///
+    /// After `NoMemory` the curve is as before.
+    pub fn add_point(&mut self, point: Point) -> Result<(), NoMemory>
+        requires few { length self.old + 1 ≤ 2 ^ 31 }
+        requires range { InRange point }
+        requires widths { (v : Point) → Among v self.old → length v.stocks ≡ length point.stocks }
+        ensures ok { OnOk result (IsCurve (self.old ++ point ∷ []) self.new) }
+        ensures err { OnErr result (self.new ≡ self.old) }
+    {
+        let alloc = *self.vertices.allocator();
+        let one = Curve::one(alloc, point)?;
+        self.merge(one)
+    }
+
+    /// Makes this the curve of the points of both, whose stocks have one length. Ties are broken as in [`Curve::add_point`].
+    ///
+    /// After `NoMemory` the curve is as before.
+    pub fn merge(&mut self, mut other: Curve) -> Result<(), NoMemory>
+        requires few { length self.old + length other ≤ 2 ^ 31 }
+        requires widths { (v w : Point) → Among v self.old → Among w other → length v.stocks ≡ length w.stocks }
+        ensures ok { OnOk result (IsCurve (self.old ++ other) self.new) }
+        ensures err { OnErr result (self.new ≡ self.old) }
+    {
+        let alloc = *self.vertices.allocator();
+        let count = self.vertices.len() + other.vertices.len();
+        let room = Vec::with_capacity(alloc, count)?;
+        self.vertices.append(&mut other.vertices)?;
+        self.vertices.sort_unstable_by_key(|v| v.cost);
+        let points = mem::replace(&mut self.vertices, Vec::new(alloc));
+        self.vertices = scan(points, room);
+        Ok(())
+    }
+
+    /// The curve of all sums of a point of the one and a point of the other. In a sum the stocks of `a` stand before those of
+    /// `b`. Ties are broken as in [`Curve::add_point`].
+    pub fn sum(alloc: Global, a: &Curve, b: &Curve) -> Result<Curve, NoMemory>
+        requires few { length a.now + length b.now ≤ 2 ^ 31 }
+        requires ranges { (v w : Point) → Among v a.now → Among w b.now → InRange (plus v w) }
+        ensures { IfOk result (λ curve. IsCurve (sums a.now b.now) curve) }
+    {
+        let mut points = path(alloc, a.vertices.as_slice(), b.vertices.as_slice())?;
+        let room = Vec::with_capacity(alloc, points.len())?;
+        points.sort_unstable_by_key(|v| v.cost);
+        let vertices = scan(points, room);
+        Ok(Curve { vertices })
+    }
+
+    /// How many vertices there are. What is true of each curve is told with it.
+    pub fn len(&self) -> u32
+        ensures len { result ≡ length self.now }
+        ensures shape { IsShape self.now }
+    {
+        self.vertices.len() as u32
+    }
+
+    /// The vertex at the place `k`, below the number of vertices.
+    pub fn point(&self, k: u32) -> &Point
+        requires { k < length self.now }
+        ensures { result.now ≡ point_at self.now k }
+    {
+        &self.vertices[k as usize]
+    }
+
+    /// The place of the first vertex whose Lagrangian `q * lo + p * cost` is least, `p` being at most 2^74 and `q` at most
+    /// 10^12. Where `q` is above 0, no point of which this is the curve has a smaller one.
+    pub fn best_at(&self, p: u128, q: u64) -> u32
+        requires p_range { p ≤ 2 ^ 74 }
+        requires q_range { q ≤ 1000000000000 }
+        ensures first { IsBestAt p q self.now result }
+        ensures reaches { (points : List Point) → IsCurve points self.now → 0 < q → IsLeastAt p q points (point_at self.now result) }
+    {
+        let mut best = 0;
+        let mut least = self.vertices[0].lagrangian_at(p, q);
+        for k in 1..self.vertices.len() {
+            let value = self.vertices[k].lagrangian_at(p, q);
+            if value < least {
+                best = k;
+                least = value;
+            }
+        }
+        best as u32
+    }
+
+    /// The step from the vertex at `k` to the next, `k + 1` being below the number of vertices: the fall of the lower end and
+    /// the rise of the cost. Both are above 0.
+    pub fn slope(&self, k: u32) -> Price
+        requires { k + 1 < length self.now }
+        ensures fall { result.p + (point_at self.now (k + 1)).lo ≡ (point_at self.now k).lo }
+        ensures rise { result.q + (point_at self.now k).cost ≡ (point_at self.now (k + 1)).cost }
+        ensures positive { (0 < result.p) × (0 < result.q) }
+        ensures small { (result.p < 2 ^ 74) × (result.q ≤ 1000000000000) }
+    {
+        let start = &self.vertices[k as usize];
+        let end = &self.vertices[k as usize + 1];
+        Price {
+            p: start.lo - end.lo,
+            q: end.cost - start.cost,
+        }
+    }
+}

@@ -1,0 +1,27 @@
+//! Curves: the strict lower vertices of points, each with a cost and a lower end of backorders, and the score of a line
+//! unit's backorders that is added up over the bases.
+//!
+//! A point is a vertex where at some price it alone has the least Lagrangian, which is a multiple of its lower end and a
+//! multiple of its cost together. At every price the least over all points is reached at a vertex, so a curve is all that
+//! is needed of its points. Marginal analysis walks such curves (C. C. Sherbrooke, *Optimal Inventory Modeling of Systems*,
+//! 2nd ed.).
+#![tactic(auto)]
+
+mod curve;
+mod laws;
+mod point;
+mod price;
+mod scan;
+mod score;
+#[cfg(test)]
+mod tests;
+mod walk;
+
+pub use curve::Curve;
+pub use laws::{
+    adds_curves, begins_cheapest, ends_lowest, has_one_curve, is_convex, is_of_members,
+    is_own_curve, joins_curves, reaches_least,
+};
+pub use point::Point;
+pub use price::Price;
+pub use score::{Plain, Score};

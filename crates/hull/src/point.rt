@@ -1,0 +1,57 @@
+//! Points: stocks with what they cost and the ends of their backorders.
+
+ghost use Rattle.std.specs.Prelude.{◌≡◌, ◌^◌, ◌≤◌, ◌++◌, IfOk};
+ghost use Rattle.hull.specs.Curves.{lagrangian, InRange, plus};
+
+use spares_io::{List, NoMemory};
+use std::alloc::Global;
+
+/// Stocks, with their cost and the ends of their score. Curves take points with a cost of at most 10^12, a lower end that
+/// is at most the upper one, and both below 2^74.
+#[derive(Debug, Drop, PartialEq, Eq)]
+pub struct Point {
+    /// What the stocks cost, in whole money.
+    pub cost: u64,
+    /// The lower end of the score, in units of 2^-48.
+    pub lo: u128,
+    /// The upper end of the score, in units of 2^-48.
+    pub hi: u128,
+    /// The units in stock, in a fixed order of parts and sites.
+    pub stocks: List<u8>,
+}
+
+/// The elements of the one list and then those of the other.
+fn joined(alloc: Global, a: &[u8], b: &[u8]) -> Result<List<u8>, NoMemory>
+    ensures { IfOk result (λ both. both ≡ a.now ++ b.now) }
+{
+    let mut both = Vec::new(alloc);
+    both.extend_from_slice(a)?;
+    both.extend_from_slice(b)?;
+    Ok(List::of(both))
+}
+
+impl Point {
+    /// The two points together: the stocks of the first stand before those of the second.
+    pub(crate) fn plus(alloc: Global, a: &Point, b: &Point) -> Result<Point, NoMemory>
+        requires { InRange (plus a.now b.now) }
+        ensures { IfOk result (λ sum. sum ≡ plus a.now b.now) }
+    {
+        let stocks = joined(alloc, a.stocks.as_slice(), b.stocks.as_slice())?;
+        Ok(Point {
+            cost: a.cost + b.cost,
+            lo: a.lo + b.lo,
+            hi: a.hi + b.hi,
+            stocks,
+        })
+    }
+
+    /// The Lagrangian at the price `p / q`: `q` times the lower end and `p` times the cost.
+    pub(crate) fn lagrangian_at(&self, p: u128, q: u64) -> u128
+        requires p_range { p ≤ 2 ^ 74 }
+        requires q_range { q ≤ 1000000000000 }
+        requires range { InRange self.now }
+        ensures { result ≡ lagrangian p q self.now }
+    {
+        u128::from(q) * self.lo + p * u128::from(self.cost)
+    }
+}
