@@ -1,0 +1,22 @@
+pub mod Told
+pub mod Mixture
+pub mod Duality
+pub mod Least
+pub mod Greedy
+pub mod Taking
+pub mod Along
+pub mod Lowest
+pub mod Waiting
+pub mod Turns
+pub mod Bounds
+pub mod Filled
+pub mod One
+pub mod AtCritical
+pub mod Best
+pub mod Costs
+pub mod Ends
+pub mod Units
+pub mod Kept
+pub mod Vectors
+pub mod OnePlan
+mod Worked

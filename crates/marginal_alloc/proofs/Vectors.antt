@@ -1,0 +1,142 @@
+-- Choices of points are allocations.
+use Rattle.std.proofs.Common.{◌≡◌, ℕ, zero, suc, ◌+◌, ◌*◌, ◌^◌, ◌<◌, ◌≤◌, inl, inr, List, [], ◌∷◌, map, refl, sym, ap, ◌∙◌, subst, arith}
+use Rattle.std.proofs.Math.Nat.{le_of_mul-le-mul_right}
+use Rattle.exact_model.specs.Fraction.{Fraction, whole, ◌+ℚ◌, ◌*ℚ◌, ◌≤ℚ◌, Contains}
+use Rattle.hull.specs.declared.point.Point.{Point}
+use Rattle.hull.specs.Curves.{Among}
+use Rattle.marginal_alloc.specs.Sums.{cost_of, Picks}
+use Rattle.marginal_alloc.specs.declared.plans.Figures.{Figures}
+use Rattle.marginal_alloc.specs.Values.{sum_of, AllContain, IsAtLeast, IsAtMost}
+use Rattle.marginal_alloc.specs.Plans.{IsPlan}
+use Rattle.marginal_alloc.specs.Certificates.{Claims, IsAcceptable}
+use Rattle.marginal_alloc.specs.Promises.{AreIntervals, PlanPromises, CertificatePromises}
+use Rattle.marginal_alloc.specs.Allocations.{Family, point_of, points_of, AreEnclosed, IsAllocation, cost_at, total_at, IsBoundAtPrice}
+use Rattle.marginal_alloc.specs.Soundness.{stocks_of, NoneHasFewerThan, IsSoundPlan, IsSoundCertificate}
+use Rattle.marginal_alloc.proofs.Kept.{plan_kept, certificate_kept}
+
+-- a point of a family is that of its stocks
+pub record IsOwn (family : Family) (v : Point) : Type 0 where
+  pub is : v ≡ point_of family v.stocks
+  pub vector : Among v.stocks family.vectors
+
+own : (family : Family) (vectors : List (List ℕ)) (v : Point) → Among v (map (point_of family) vectors) → (v ≡ point_of family v.stocks) × Among v.stocks vectors
+own family [] v a = absurd a
+own family (s ∷ vectors) v (inl e) = (e ∙ ap (λ z. point_of family z) (sym (ap (λ z. z.stocks) e)), inl (ap (λ z. z.stocks) e))
+own family (s ∷ vectors) v (inr a) = (let r = own family vectors v a in (r.0, inr r.1))
+
+there : (family : Family) (vectors : List (List ℕ)) (s : List ℕ) → Among s vectors → Among (point_of family s) (map (point_of family) vectors)
+there family [] s a = absurd a
+there family (t ∷ vectors) s (inl e) = inl (ap (λ z. point_of family z) e)
+there family (t ∷ vectors) s (inr a) = inr (there family vectors s a)
+
+-- the points of an allocation, and what the model says of them
+abbrev pub points_at : List Family → List (List ℕ) → List Point
+points_at [] allocation = []
+points_at (family ∷ families) [] = []
+points_at (family ∷ families) (stocks ∷ rest) = point_of family stocks ∷ points_at families rest
+
+abbrev pub values_at : ℕ → List Family → List (List ℕ) → List Fraction
+values_at n [] allocation = []
+values_at n (family ∷ families) [] = []
+values_at n (family ∷ families) (stocks ∷ rest) = family.backorders n stocks ∷ values_at n families rest
+
+pub total_is : (n : ℕ) (families : List Family) (allocation : List (List ℕ)) → sum_of (values_at n families allocation) ≡ total_at n families allocation
+unfolding sum_of total_at
+total_is n [] allocation = refl
+total_is n (family ∷ families) [] = refl
+total_is n (family ∷ families) (stocks ∷ rest) = ap (λ z. family.backorders n stocks +ℚ z) (total_is n families rest)
+
+pub allocation_picks : (families : List Family) (allocation : List (List ℕ)) → IsAllocation families allocation → Picks (map points_of families) (points_at families allocation)
+allocation_picks [] [] a = tt
+allocation_picks [] (s ∷ rest) a = absurd a
+allocation_picks (family ∷ families) [] a = absurd a
+allocation_picks (family ∷ families) (s ∷ rest) a = (there family family.vectors s a.0, allocation_picks families rest a.1)
+
+pub allocation_cost : (families : List Family) (allocation : List (List ℕ)) → cost_of (points_at families allocation) ≡ cost_at families allocation
+allocation_cost [] allocation = refl
+allocation_cost (family ∷ families) [] = refl
+allocation_cost (family ∷ families) (s ∷ rest) = ap (λ z. family.cost s + z) (allocation_cost families rest)
+
+pub allocation_values : (n : ℕ) (families : List Family) (allocation : List (List ℕ)) → 1024 ≤ n → AreEnclosed families → IsAllocation families allocation → AllContain (points_at families allocation) (values_at n families allocation)
+allocation_values n [] [] l e a = tt
+allocation_values n [] (s ∷ rest) l e a = absurd a
+allocation_values n (family ∷ families) [] l e a = absurd a
+allocation_values n (family ∷ families) (s ∷ rest) l e a = (e.0 s a.0 n l, allocation_values n families rest l e.1 a.1)
+
+-- and the other way round
+pub choice_allocation : (families : List Family) (points : List Point) → Picks (map points_of families) points → IsAllocation families (stocks_of points)
+choice_allocation [] [] p = tt
+choice_allocation [] (v ∷ vs) p = absurd p
+choice_allocation (family ∷ families) [] p = absurd p
+choice_allocation (family ∷ families) (v ∷ vs) p = ((own family family.vectors v p.0).1, choice_allocation families vs p.1)
+
+pub choice_points : (families : List Family) (points : List Point) → Picks (map points_of families) points → points_at families (stocks_of points) ≡ points
+choice_points [] [] p = refl
+choice_points [] (v ∷ vs) p = absurd p
+choice_points (family ∷ families) [] p = absurd p
+choice_points (family ∷ families) (v ∷ vs) p =
+    ap (λ z. z ∷ points_at families (stocks_of vs)) (sym (own family family.vectors v p.0).0) ∙ ap (λ z. v ∷ z) (choice_points families vs p.1)
+
+pub choice_cost : (families : List Family) (points : List Point) → Picks (map points_of families) points → cost_of points ≡ cost_at families (stocks_of points)
+choice_cost families points p = ap cost_of (sym (choice_points families points p)) ∙ allocation_cost families (stocks_of points)
+
+pub choice_values : (n : ℕ) (families : List Family) (points : List Point) → 1024 ≤ n → AreEnclosed families → Picks (map points_of families) points → AllContain points (values_at n families (stocks_of points))
+choice_values n families points l e p = subst (λ z. AllContain z (values_at n families (stocks_of points))) (choice_points families points p)
+    (allocation_values n families (stocks_of points) l e (choice_allocation families points p))
+
+-- what is enclosed lies between its ends
+ends_step : (E l h n d : ℕ) → 0 < d → l * d ≤ n * E → n * E ≤ h * d → l ≤ h
+ends_step E l h n d p a b = (let i : l * d ≤ h * d = omega (arith, a, b) in le_of_mul-le-mul_right i p)
+
+ends_of : (lo hi : ℕ) (q : Fraction) → Contains 48 lo hi q → lo ≤ hi
+ends_of lo hi q c = ends_step (2 ^ 48) lo hi q.num q.den q.positive c.low c.high
+
+pub intervals : (families : List Family) → AreEnclosed families → AreIntervals (map points_of families)
+intervals [] e f v a = absurd a
+intervals (family ∷ families) e zero v a =
+    let o = own family family.vectors v a in
+    let l : family.lo v.stocks ≤ family.hi v.stocks = ends_of (family.lo v.stocks) (family.hi v.stocks) (family.backorders 1024 v.stocks) (e.0 v.stocks o.1 1024 (omega arith)) in
+    subst (λ z. z.lo ≤ z.hi) (sym o.0) l
+intervals (family ∷ families) e (suc f) v a = intervals families e.1 f v a
+
+none_fewer : (families : List Family) (budget bound : ℕ) → AreEnclosed families
+    → ((points : List Point) (values : List Fraction) → Picks (map points_of families) points → cost_of points ≤ budget → AllContain points values → IsAtLeast bound (sum_of values))
+    → NoneHasFewerThan bound families budget
+none_fewer families budget bound e h n allocation l a fits = subst (λ z. IsAtLeast bound z) (total_is n families allocation)
+    (h (points_at families allocation) (values_at n families allocation) (allocation_picks families allocation a) (let c = allocation_cost families allocation in omega (arith, c, fits)) (allocation_values n families allocation l e a))
+
+pub plan_sound : (families : List Family) (budget : ℕ) (chosen : List Point) (floors : List ℕ) (figures : Figures) → AreEnclosed families
+    → IsPlan (map points_of families) budget chosen floors figures → IsSoundPlan families budget (stocks_of chosen) figures
+plan_sound families budget chosen floors figures e plan = sound (plan_kept (map points_of families) budget chosen floors figures plan (intervals families e))
+  where
+    at_price : (n : ℕ) (price bound : Fraction) → IsBoundAtPrice families budget n price bound → (points : List Point) → Picks (map points_of families) points
+        → bound +ℚ price *ℚ whole budget ≤ℚ sum_of (values_at n families (stocks_of points)) +ℚ price *ℚ whole (cost_of points)
+    at_price n price bound h points p =
+        subst (λ z. bound +ℚ price *ℚ whole budget ≤ℚ z +ℚ price *ℚ whole (cost_of points)) (sym (total_is n families (stocks_of points)))
+        (subst (λ z. bound +ℚ price *ℚ whole budget ≤ℚ total_at n families (stocks_of points) +ℚ price *ℚ whole z) (sym (choice_cost families points p))
+        (h (stocks_of points) (choice_allocation families points p)))
+
+    sound : PlanPromises (map points_of families) budget chosen figures → IsSoundPlan families budget (stocks_of chosen) figures
+    sound k = record {
+      allocation = choice_allocation families chosen k.within;
+      cost = plan.cost ∙ choice_cost families chosen k.within;
+      fits = k.fits;
+      upper = λ n l. subst (λ z. IsAtMost figures.upper z) (total_is n families (stocks_of chosen)) (k.upper (values_at n families (stocks_of chosen)) (choice_values n families chosen l e k.within));
+      fewer = none_fewer families budget figures.bound e k.fewer;
+      price = λ n price bound l h. k.higher (λ points. values_at n families (stocks_of points)) price bound (λ points p. choice_values n families points l e p) (at_price n price bound h);
+      certificate = k.certificates;
+      gap = k.gap;
+      small_gap = k.small;
+    }
+
+pub certificate_sound : (families : List Family) (budget : ℕ) (claims : Claims) → AreEnclosed families
+    → IsAcceptable (map points_of families) budget claims → IsSoundCertificate families budget claims
+certificate_sound families budget claims e a = sound (certificate_kept (map points_of families) budget claims a)
+  where
+    sound : CertificatePromises (map points_of families) budget claims → IsSoundCertificate families budget claims
+    sound k = record {
+      allocation = choice_allocation families claims.chosen a.within;
+      fits = subst (λ z. z ≤ budget) (choice_cost families claims.chosen a.within) a.fits;
+      upper = λ n l. subst (λ z. IsAtMost claims.upper z) (total_is n families (stocks_of claims.chosen)) (k.upper (values_at n families (stocks_of claims.chosen)) (choice_values n families claims.chosen l e a.within));
+      fewer = none_fewer families budget claims.bound e k.fewer;
+    }

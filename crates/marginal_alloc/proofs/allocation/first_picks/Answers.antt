@@ -1,0 +1,19 @@
+use Rattle.std.proofs.Common.{◌≡◌, ◌+◌, inl, inr, [], ◌∷◌, ◌++◌, length, slice_index, sym, ap, ◌∙◌, subst, arith, length-append, rules}
+use Rattle.hull.specs.Curves.{IsShape}
+use Rattle.marginal_alloc.specs.Choice.{curve_at}
+use Rattle.marginal_alloc.proofs.Greedy.{below_or, curve_is}
+use Rattle.marginal_alloc.proofs.Taking.{zeros_more}
+use Rattle.marginal_alloc.proofs.allocation.first_picks.Goals as goal
+
+pub loop-f-preserved : goal.loop-f-preserved
+loop-f-preserved c =
+    let e : c.push.new.self.items ≡ c.loop-f.picks.items ++ 0 ∷ [] = search rules in
+    record {
+      count = ap length e ∙ length-append c.loop-f.picks.items (0 ∷ []) ∙ ap (λ n. n + 1) c.loop-f.invariant.count;
+      zero = λ g. subst (λ l. slice_index l g ≡ 0) (sym e) (zeros_more c.loop-f.picks.items c.loop-f.invariant.zero g);
+      shapes = λ g l. elim (below_or g c.loop-f.f l) [
+        | inl k ↦ c.loop-f.invariant.shapes g k
+        | inr k ↦ subst (λ z. IsShape (curve_at c.args.curves.now z)) (sym k)
+            (subst IsShape (curve_is c.args.curves.now c.loop-f.f 0 0 0 c.index-curves-f.result c.index-curves-f.is (omega arith)) c.len-some.ensures.shape)
+      ];
+    }

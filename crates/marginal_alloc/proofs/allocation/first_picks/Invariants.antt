@@ -1,0 +1,11 @@
+use Rattle.std.proofs.Common.{◌≡◌, ℕ, ◌<◌, length, slice_index}
+use Rattle.hull.specs.Curves.{IsShape}
+use Rattle.marginal_alloc.specs.Choice.{curve_at}
+use Rattle.marginal_alloc.proofs.allocation.first_picks.Given as goal
+
+abbrev pub invariant-loop-f : goal.invariant-loop-f
+invariant-loop-f l = record {
+  count : length l.picks.items ≡ l.f;
+  zero : (g : ℕ) → slice_index l.picks.items g ≡ 0;
+  shapes : (g : ℕ) → g < l.f → IsShape (curve_at l.curves g);
+}

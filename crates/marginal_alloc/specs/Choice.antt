@@ -1,0 +1,106 @@
+-- The hull choice: the steps of all curves by falling slope, as far as the budget goes.
+use Rattle.std.specs.Prelude.{◌≡◌, ℕ, ◌+◌, ◌-◌, ◌*◌, ◌<◌, ◌≤◌, ◌⊎◌, Option, Some, None, List, [], ◌∷◌, length, slice_index, slice_index_or}
+use Rattle.hull.specs.declared.point.Point.{Point}
+use Rattle.hull.specs.declared.price.Price.{Price}
+use Rattle.hull.specs.Curves.{lagrangian, IsCurve, IsShape, point_at}
+use Rattle.marginal_alloc.specs.declared.allocation.Critical.{Critical}
+use Rattle.marginal_alloc.specs.declared.allocation.Chosen.{Chosen}
+use Rattle.marginal_alloc.specs.Sums.{cost_of, width_of, total, bound_of, Picks, IsWithin}
+
+-- the curve of a family, and its vertex at a place
+abbrev pub curve_at : List (List Point) → ℕ → List Point
+curve_at curves f = slice_index_or curves f []
+
+abbrev pub vertex_at : List (List Point) → ℕ → ℕ → Point
+vertex_at curves f k = point_at (curve_at curves f) k
+
+-- the step from a place of a family's curve to the next
+pub record HasStep (curves : List (List Point)) (f k : ℕ) : Type 0 where
+  pub family : f < length curves
+  pub place : k + 1 < length (curve_at curves f)
+
+abbrev pub fall : List (List Point) → ℕ → ℕ → ℕ
+fall curves f k = (vertex_at curves f k).lo - (vertex_at curves f (k + 1)).lo
+
+abbrev pub rise : List (List Point) → ℕ → ℕ → ℕ
+rise curves f k = (vertex_at curves f (k + 1)).cost - (vertex_at curves f k).cost
+
+-- the one step comes before the other: it falls more per money, or as much and its family is the first, or then its place
+abbrev pub IsBefore : List (List Point) → ℕ → ℕ → ℕ → ℕ → Type 0
+IsBefore curves f k g j =
+    (fall curves g j * rise curves f k < fall curves f k * rise curves g j)
+    ⊎ ((fall curves g j * rise curves f k ≡ fall curves f k * rise curves g j) × ((f < g) ⊎ ((f ≡ g) × (k < j))))
+
+-- the vertices at the picks
+abbrev pub picked : List (List Point) → List ℕ → List Point
+picked [] picks = []
+picked (curve ∷ curves) [] = []
+picked (curve ∷ curves) (k ∷ picks) = point_at curve k ∷ picked curves picks
+
+-- the picks are one vertex of each curve
+pub record AreVertices (curves : List (List Point)) (picks : List ℕ) : Type 0 where
+  pub count : length picks ≡ length curves
+  pub below : (f : ℕ) → f < length curves → slice_index picks f < length (curve_at curves f)
+
+-- The picks have taken a prefix of all steps in that order: each taken step comes before each other one.
+pub record IsPrefix (curves : List (List Point)) (picks : List ℕ) : Type 0 where
+  pub vertices : AreVertices curves picks
+  pub before : (f k g j : ℕ) → HasStep curves f k → HasStep curves g j → k < slice_index picks f → slice_index picks g ≤ j → IsBefore curves f k g j
+
+-- the first step that isn't taken
+pub record IsNext (curves : List (List Point)) (picks : List ℕ) (f : ℕ) : Type 0 where
+  pub step : HasStep curves f (slice_index picks f)
+  pub first : (g j : ℕ) → HasStep curves g j → slice_index picks g ≤ j → ((g ≡ f) × (j ≡ slice_index picks f)) ⊎ IsBefore curves f (slice_index picks f) g j
+
+-- no step is left
+abbrev pub AllTaken : List (List Point) → List ℕ → Type 0
+AllTaken curves picks = (f : ℕ) → f < length curves → slice_index picks f + 1 ≡ length (curve_at curves f)
+
+-- where the choice stops: at a critical step that passes the budget, or where no step is left
+abbrev pub StopsWith : List (List Point) → ℕ → List ℕ → ℕ → Price → Option Critical → Type 0
+StopsWith curves budget picks cost price None = AllTaken curves picks × (price.p ≡ 0) × (price.q ≡ 1)
+StopsWith curves budget picks cost price (Some c) =
+    IsNext curves picks c.family × (c.vertex ≡ slice_index picks c.family + 1)
+    × (price.p ≡ fall curves c.family (slice_index picks c.family)) × (price.q ≡ rise curves c.family (slice_index picks c.family))
+    × (budget < cost + rise curves c.family (slice_index picks c.family))
+
+-- The hull choice: the longest prefix of the steps whose cost is within the budget.
+pub record IsHullChoice (curves : List (List Point)) (budget : ℕ) (chosen : Chosen) : Type 0 where
+  pub prefix : IsPrefix curves chosen.picks
+  pub cost_is : chosen.cost ≡ cost_of (picked curves chosen.picks)
+  pub fits : chosen.cost ≤ budget
+  pub stops : StopsWith curves budget chosen.picks chosen.cost chosen.price chosen.critical
+
+-- each list of vertices has the shape of a curve
+abbrev pub HaveShapes : List (List Point) → Type 0
+HaveShapes curves = (f : ℕ) → f < length curves → IsShape (curve_at curves f)
+
+-- each curve is that of its family's points
+pub record AreCurves (families curves : List (List Point)) : Type 0 where
+  pub count : length families ≡ length curves
+  pub each : (f : ℕ) → f < length curves → IsCurve (curve_at families f) (curve_at curves f)
+
+-- the bound at the price of a hull choice: at it the chosen vertices are the floors of their families
+abbrev pub choice_bound : List (List Point) → ℕ → Chosen → ℕ
+choice_bound curves budget chosen = bound_of chosen.price.p chosen.price.q (total (lagrangian chosen.price.p chosen.price.q) (picked curves chosen.picks)) budget
+
+-- the widths at the picks, that at the critical vertex where there is one, and a unit
+abbrev pub rounding_at : List (List Point) → List ℕ → Option Critical → ℕ
+rounding_at curves picks None = width_of (picked curves picks) + 1
+rounding_at curves picks (Some c) = width_of (picked curves picks) + ((vertex_at curves c.family c.vertex).hi - (vertex_at curves c.family c.vertex).lo) + 1
+
+-- how far the bound may be from that of another price
+abbrev pub rounding_of : List (List Point) → Chosen → ℕ
+rounding_of curves chosen = rounding_at curves chosen.picks chosen.critical
+
+-- The curves are those of the families' points, and this is their hull choice.
+pub record IsChoiceFor (families curves : List (List Point)) (budget : ℕ) (chosen : Chosen) : Type 0 where
+  pub areas : AreCurves families curves
+  pub shapes : HaveShapes curves
+  pub choice : IsHullChoice curves budget chosen
+
+-- Some choice of one point for each family is no dearer than a sum and the budget, where a unit of the upper end costs b, and one of money a.
+pub record HasChoice (families : List (List Point)) (a b sum budget : ℕ) : Type 0 where
+  pub points : List Point
+  pub picks : Picks families points
+  pub within : IsWithin a b sum budget points

@@ -1,0 +1,14 @@
+pub mod Sums
+pub mod Choice
+pub mod Steps
+pub mod Order
+pub mod Filling
+pub mod Changes
+pub mod Fillings
+pub mod Laws
+pub mod Values
+pub mod Certificates
+pub mod Plans
+pub mod Promises
+pub mod Allocations
+pub mod Soundness

@@ -1,0 +1,46 @@
+//! The filling: the best change of one family at a time, until there is none.
+ghost use Rattle.std.specs.Prelude.{◌≡◌, ℕ, ◌<◌, ◌≤◌, length, slice_index};
+ghost use Rattle.marginal_alloc.specs.Sums.{cost_of};
+ghost use Rattle.marginal_alloc.specs.Choice.{AreVertices, picked};
+ghost use Rattle.marginal_alloc.specs.Filling.{Fills};
+
+use crate::change::best_change;
+use hull::Curve;
+
+/// What the picks cost together.
+fn cost_at(curves: &[Curve], picks: &[u32]) -> u64
+    requires few { length curves.now ≤ 2000 }
+    requires vertices { AreVertices curves.now picks.now }
+    ensures { result ≡ cost_of (picked curves.now picks.now) }
+{
+    let mut cost = 0;
+    for f in 0..curves.len() {
+        let curve = &curves[f];
+        let pick = picks[f];
+        let within = pick < curve.len();
+        prove!(within);
+        cost += curve.point(pick).cost;
+    }
+    cost
+}
+
+/// Fills the picks: takes the best change until there is none.
+///
+/// A change moves one family to another vertex of its curve, fits the budget in whole money, and lowers that family's upper
+/// end. The best one lowers it most, of equal ones it is the first by family and then by vertex. It takes no memory. There are
+/// at most 2,000 curves, with one pick for each, below its curve's `len`, and together the picks fit the budget.
+pub fn fill(curves: &[Curve], picks: &mut Vec<u32>, budget: u64)
+    requires few { length curves.now ≤ 2000 }
+    requires vertices { AreVertices curves.now picks.old.items }
+    requires fits { cost_of (picked curves.now picks.old.items) ≤ budget }
+    ensures fills { Fills curves.now budget picks.old.items picks.new.items }
+    ensures vertices { AreVertices curves.now picks.new.items }
+{
+    let mut left = budget - cost_at(curves, picks.as_slice());
+    'changes: while let Some(change) = best_change(curves, picks.as_slice(), left) {
+        let curve = &curves[change.family as usize];
+        let pick = picks[change.family as usize];
+        left = left + curve.point(pick).cost - curve.point(change.vertex).cost;
+        picks[change.family as usize] = change.vertex;
+    }
+}

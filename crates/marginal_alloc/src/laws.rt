@@ -1,0 +1,64 @@
+//! What a hull choice and a filling are good for: laws that stand as contracts of functions that do nothing.
+ghost use Rattle.marginal_alloc.specs.Laws.{PicksAreLeast, CriticalIsLeast, NoneHasFewer, NoPriceIsHigher, GapIsNotNegative, GapIsSmall, ChoicesAreOne};
+ghost use Rattle.marginal_alloc.specs.Fillings.{FillingIsFull, FillingFits, FillingPicksVertices, FillingNeverRaises, FillingsAreOne};
+
+/// Each vertex of a hull choice is least at its price among all points of its family: no point `v` has a smaller
+/// `q * lo + p * cost`.
+pub fn picks_are_least()
+    ensures { PicksAreLeast }
+{}
+
+/// The vertex that the critical step would reach is least at the price too.
+pub fn critical_is_least()
+    ensures { CriticalIsLeast }
+{}
+
+/// No choice of one point for each family that fits the budget has a smaller sum of lower ends than the bound.
+pub fn none_has_fewer()
+    ensures { NoneHasFewer }
+{}
+
+/// No other price gives a bound that is higher by more than the rounding.
+pub fn no_price_is_higher()
+    ensures { NoPriceIsHigher }
+{}
+
+/// The upper ends of the filled picks are together not below the bound.
+pub fn gap_is_not_negative()
+    ensures { GapIsNotNegative }
+{}
+
+/// How far they can be above it.
+pub fn gap_is_small()
+    ensures { GapIsSmall }
+{}
+
+/// Curves have one hull choice under a budget, so it is a function of both.
+pub fn choices_are_one()
+    ensures { ChoicesAreOne }
+{}
+
+/// A filling ends where no change of one family to another vertex of its curve fits the budget and lowers its upper end.
+pub fn filling_is_full()
+    ensures { FillingIsFull }
+{}
+
+/// The cost of a filling stays within the budget.
+pub fn filling_fits()
+    ensures { FillingFits }
+{}
+
+/// The picks of a filling stay one vertex of each curve.
+pub fn filling_picks_vertices()
+    ensures { FillingPicksVertices }
+{}
+
+/// No family's upper end rises in a filling.
+pub fn filling_never_raises()
+    ensures { FillingNeverRaises }
+{}
+
+/// Picks have one filling under a budget, so it is a function of the curves, the budget and the picks.
+pub fn fillings_are_one()
+    ensures { FillingsAreOne }
+{}

@@ -1,0 +1,15 @@
+//! Marginal analysis: which vertex of each family's curve to buy under a budget.
+#![tactic(auto)]
+
+mod allocation;
+mod change;
+mod filling;
+pub mod laws;
+mod order;
+pub mod plans;
+mod step;
+#[cfg(test)]
+mod tests;
+
+pub use allocation::{Chosen, Critical, allocate};
+pub use filling::fill;
