@@ -1,1 +1,4 @@
 pub mod Texts
+pub mod Figures
+pub mod Shows
+pub mod Gathering

@@ -2,7 +2,8 @@
 ghost use Rattle.std.specs.Prelude.{◌≡◌, ◌<◌, ◌^◌, IfOk};
 ghost use Rattle.plan_report.specs.Texts.{single_text};
 
-use crate::text::put_interval_line;
+use crate::figures::Span;
+use crate::text::put_span_line;
 use fixed_interval::Iv;
 use spares_io::NoMemory;
 use std::alloc::Global;
@@ -23,8 +24,8 @@ impl SingleReport {
         ensures { IfOk result (λ text. text.items ≡ single_text self.now) }
     {
         let mut text = Vec::new(alloc);
-        put_interval_line(&mut text, b"backorders", &self.backorders)?;
-        put_interval_line(&mut text, b"variance", &self.spread)?;
+        put_span_line(&mut text, b"backorders", &Span::Bits48(self.backorders))?;
+        put_span_line(&mut text, b"variance", &Span::Bits48(self.spread))?;
         Ok(text)
     }
 }

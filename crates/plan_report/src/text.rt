@@ -1,21 +1,23 @@
 //! Pieces that reports are printed from.
-ghost use Rattle.std.specs.Prelude.{◌≡◌, ◌++◌, ◌∷◌, [], ◌<◌, ◌^◌, ℕ, OnOk};
+ghost use Rattle.std.specs.Prelude.{◌≡◌, ◌++◌, ◌∷◌, [], ◌<◌, ◌^◌, ℕ, All, OnOk};
+ghost use Rattle.std.specs.List.{flat_map};
+ghost use Rattle.std.specs.Fmt.{decimal};
 ghost use Rattle.fixed_interval.specs.Ends.{Ends};
-ghost use Rattle.plan_report.specs.Texts.{PrintsOutward, interval_text, line};
+ghost use Rattle.plan_report.specs.Texts.{BaseFits, FitsPrint, ItemFits, PrintsOutward, SpanFits, base_text, ends, figures_text, interval_text, intervals_text, item_text, line, pair_text, places, span_text};
 
+use crate::figures::{BaseLine, Figures, ItemLine, Span};
 use fixed_interval::Iv;
+use line_text::{put_count_line, put_number};
 use spares_io::NoMemory;
 
 /// The two numbers that are printed of an interval enclose all that it contains.
 pub fn prints_outward()
-    ensures { (f : ℕ) (x : Ends) → PrintsOutward f x }
+    ensures intervals { (f : ℕ) (x : Ends) → PrintsOutward f x }
+    ensures spans { (x : Span) → PrintsOutward (places x) (ends x) }
 {}
 
 /// Appends both ends of an interval with 6 decimals, the lower one rounded down, the upper one up.
-pub(crate) fn put_interval<const F: u32>(
-    text: &mut Vec<u8>,
-    interval: &Iv<F>,
-) -> Result<(), NoMemory>
+fn put_interval<const F: u32>(text: &mut Vec<u8>, interval: &Iv<F>) -> Result<(), NoMemory>
     requires { interval.now.hi < 2 ^ 86 }
     ensures { OnOk result (text.new.items ≡ text.old.items ++ interval_text F interval.now) }
 {
@@ -25,18 +27,119 @@ pub(crate) fn put_interval<const F: u32>(
     Ok(())
 }
 
+/// Appends both ends of an interval of any of the three kinds.
+fn put_span(text: &mut Vec<u8>, span: &Span) -> Result<(), NoMemory>
+    requires { SpanFits span.now }
+    ensures { OnOk result (text.new.items ≡ text.old.items ++ span_text span.now) }
+{
+    match span {
+        Span::Bits32(interval) => put_interval(text, interval),
+        Span::Bits48(interval) => put_interval(text, interval),
+        Span::Bits52(interval) => put_interval(text, interval),
+    }
+}
+
 /// Appends a line of a name and an interval.
-pub(crate) fn put_interval_line<const F: u32>(
-    text: &mut Vec<u8>,
-    name: &[u8],
-    interval: &Iv<F>,
-) -> Result<(), NoMemory>
-    requires { interval.now.hi < 2 ^ 86 }
-    ensures { OnOk result (text.new.items ≡ text.old.items ++ line name.now (interval_text F interval.now)) }
+pub(crate) fn put_span_line(text: &mut Vec<u8>, name: &[u8], span: &Span) -> Result<(), NoMemory>
+    requires { SpanFits span.now }
+    ensures { OnOk result (text.new.items ≡ text.old.items ++ line name.now (span_text span.now)) }
 {
     text.extend_from_slice(name)?;
     text.push(b',')?;
-    put_interval(text, interval)?;
+    put_span(text, span)?;
     text.push(b'\n')?;
+    Ok(())
+}
+
+/// Appends a line of a name and a whole number.
+pub(crate) fn put_number_line(text: &mut Vec<u8>, name: &[u8], number: u64) -> Result<(), NoMemory>
+    ensures { OnOk result (text.new.items ≡ text.old.items ++ line name.now (decimal number)) }
+{
+    put_count_line(text, name, number as u128)
+}
+
+/// Appends a field with an interval, and the comma before it.
+fn put_span_field(text: &mut Vec<u8>, span: &Span) -> Result<(), NoMemory>
+    requires { SpanFits span.now }
+    ensures { OnOk result (text.new.items ≡ text.old.items ++ (44 ∷ span_text span.now)) }
+{
+    text.push(b',')?;
+    put_span(text, span)
+}
+
+/// Appends the names and the stock of a pair.
+fn put_pair(text: &mut Vec<u8>, item: &ItemLine) -> Result<(), NoMemory>
+    ensures { OnOk result (text.new.items ≡ text.old.items ++ pair_text item.now) }
+{
+    text.extend_from_slice(item.part.as_bytes())?;
+    text.push(b',')?;
+    text.extend_from_slice(item.site.as_bytes())?;
+    text.push(b',')?;
+    put_number(text, item.stock as u128)
+}
+
+/// Appends the intervals of a pair, each with the comma before it.
+fn put_intervals(text: &mut Vec<u8>, item: &ItemLine) -> Result<(), NoMemory>
+    requires { ItemFits item.now }
+    ensures { OnOk result (text.new.items ≡ text.old.items ++ intervals_text item.now) }
+{
+    put_span_field(text, &item.mean)?;
+    put_span_field(text, &item.variance)?;
+    put_span_field(text, &item.backorders)?;
+    put_span_field(text, &item.spread)
+}
+
+/// Appends the line of a pair.
+fn put_item(text: &mut Vec<u8>, item: &ItemLine) -> Result<(), NoMemory>
+    requires { ItemFits item.now }
+    ensures { OnOk result (text.new.items ≡ text.old.items ++ item_text item.now) }
+{
+    text.extend_from_slice(b"item,")?;
+    put_pair(text, item)?;
+    put_intervals(text, item)?;
+    Ok(text.push(b'\n')?)
+}
+
+/// Appends the line of a base.
+fn put_base(text: &mut Vec<u8>, base: &BaseLine) -> Result<(), NoMemory>
+    requires { BaseFits base.now }
+    ensures { OnOk result (text.new.items ≡ text.old.items ++ base_text base.now) }
+{
+    text.extend_from_slice(b"base,")?;
+    put_span_line(text, base.site.as_bytes(), &base.availability)
+}
+
+/// Appends the lines of all pairs.
+fn put_items(text: &mut Vec<u8>, items: &[ItemLine]) -> Result<(), NoMemory>
+    requires { All ItemFits items.now }
+    ensures { OnOk result (text.new.items ≡ text.old.items ++ flat_map item_text items.now) }
+{
+    for item in items {
+        put_item(text, item)?;
+    }
+    Ok(())
+}
+
+/// Appends the lines of all bases.
+fn put_bases(text: &mut Vec<u8>, bases: &[BaseLine]) -> Result<(), NoMemory>
+    requires { All BaseFits bases.now }
+    ensures { OnOk result (text.new.items ≡ text.old.items ++ flat_map base_text bases.now) }
+{
+    for base in bases {
+        put_base(text, base)?;
+    }
+    Ok(())
+}
+
+/// Appends the lines from the cost to the total.
+pub(crate) fn put_figures(text: &mut Vec<u8>, figures: &Figures) -> Result<(), NoMemory>
+    requires { FitsPrint figures.now }
+    ensures { OnOk result (text.new.items ≡ text.old.items ++ figures_text figures.now) }
+{
+    put_number_line(text, b"cost", figures.cost)?;
+    put_items(text, figures.items.as_slice())?;
+    put_bases(text, figures.bases.as_slice())?;
+    put_span_line(text, b"fleet", &figures.fleet)?;
+    put_span_line(text, b"total", &figures.total)?;
     Ok(())
 }

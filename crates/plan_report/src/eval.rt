@@ -1,0 +1,31 @@
+//! What is printed of given stocks.
+ghost use Rattle.std.specs.Prelude.{◌≡◌, IfOk};
+ghost use Rattle.plan_report.specs.Texts.{FitsPrint, eval_text};
+
+use crate::figures::Figures;
+use crate::text::{put_figures, put_number_line};
+use spares_io::NoMemory;
+use std::alloc::Global;
+
+/// The figures of a case at given stocks.
+#[derive(Drop, PartialEq, Eq)]
+pub struct EvalReport {
+    /// The binary places of the intervals: 32, 48 or 52.
+    pub bits: u8,
+    pub figures: Figures,
+}
+
+impl EvalReport {
+    /// The lines `eval,BITS`, `cost,COST`, `item,PART,SITE,STOCK` with four intervals for each item, `base,SITE,LO,HI`
+    /// for each base, `fleet,LO,HI` and `total,LO,HI`. An interval is `LO,HI` with 6 decimals, the lower end rounded
+    /// down and the upper end up.
+    pub fn text(&self, alloc: Global) -> Result<Vec<u8>, NoMemory>
+        requires { FitsPrint self.now.figures }
+        ensures { IfOk result (λ text. text.items ≡ eval_text self.now) }
+    {
+        let mut text = Vec::new(alloc);
+        put_number_line(&mut text, b"eval", self.bits as u64)?;
+        put_figures(&mut text, &self.figures)?;
+        Ok(text)
+    }
+}
