@@ -1,12 +1,18 @@
 -- What is printed of an interval encloses what the interval does.
-use Rattle.std.proofs.Common.{◌≡◌, ◌<◌, ℕ, List}
+use Rattle.std.proofs.Common.{◌≡◌, ◌<◌, ℕ, List, refl, subst, sym}
 use Rattle.exact_model.specs.Fraction.{Encloses, Fraction}
 use Rattle.exact_model.specs.Series.{ebo, vbo}
 use Rattle.fixed_interval.proofs.Laws.{down_below, up_above}
 use Rattle.fixed_interval.specs.Ends.{Ends, In}
 use Rattle.moment_table.specs.Rows.{EncloseRows, at_stock}
 use Rattle.moment_table.specs.declared.kinds.Row.{Row}
-use Rattle.spares_top.specs.Model.{Shows, ShowsModel}
+use Rattle.plan_report.specs.Shows.{ShowsFigures, ShowsSpan}
+use Rattle.plan_report.specs.Texts.{ends, places}
+use Rattle.plan_report.specs.declared.figures.Figures.{Figures}
+use Rattle.plan_report.specs.declared.figures.Span.{Span}
+use Rattle.spares_input.specs.Cases.{CaseRows}
+use Rattle.spares_input.specs.Stocks.{StockList}
+use Rattle.spares_top.specs.Model.{PrintsAround, Shows, ShowsCase, ShowsModel}
 
 pub shown : (x : Ends) (value : ℕ → Fraction) → Encloses 48 x.lo x.hi value → Shows x value
 shown x value h = record {
@@ -22,3 +28,17 @@ model_shown m v b s rows u w stock h a c l e f = record {
   backorders = shown b (λ n. ebo n u w stock) (λ n deep. rw e (h u w a c n deep stock l).ebo);
   spread = shown s (λ n. vbo n u w stock) (λ n deep. rw f (h u w a c n deep stock l).vbo);
 }
+
+-- the two numbers that are printed of a span enclose what it does
+pub span_prints : (bits : ℕ) (x : Span) (value : ℕ → Fraction) → ShowsSpan bits value x → PrintsAround x value
+span_prints bits x value h =
+    let e : Encloses (places x) (ends x).lo (ends x).hi value =
+    subst (λ f. Encloses f (ends x).lo (ends x).hi value) (sym h.places_are) h.encloses in
+    record {
+      above_low = λ n deep. down_below (places x) 6 (ends x) (value n) (e n deep);
+      below_high = λ n deep. up_above (places x) 6 (ends x) (value n) (e n deep);
+    }
+
+pub case_shown : (bits : ℕ) (c : CaseRows) (s : StockList) (figures : Figures) → ShowsFigures bits c s figures
+    → ShowsCase bits c s (record { bits = bits; figures = figures })
+case_shown bits c s figures h = record { bits_are = refl; shows = h; prints = span_prints bits }

@@ -1,26 +1,53 @@
 -- What `run` promises, from what its order does.
-use Rattle.std.proofs.Common.{◌≡◌, inl, inr, refl, sym, subst, Result, Ok, Err, IsOkAnd, IsErrOf, MatchResult, List, ℕ}
+use Rattle.std.proofs.Common.{◌≡◌, [], inl, inr, refl, sym, subst, Result, Ok, Err, IsOkAnd, IsErrOf, MatchResult, List, ℕ}
 use Rattle.spares_words.specs.Order.{order_of}
+use Rattle.spares_top.specs.declared.failure.Failure.{Failure}
+use Rattle.spares_top.specs.declared.refusal.File.{File}
 use Rattle.spares_top.specs.declared.refusal.Refusal.{Refusal}
-use Rattle.spares_top.specs.declared.refusal.Refusal.TheVariants.{Words, Rate, WriteFault, NoMemory}
+use Rattle.spares_top.specs.declared.refusal.Refusal.TheVariants as refusal
 use Rattle.spares_top.specs.declared.report.Done.{Done}
-use Rattle.spares_top.specs.Answer.{Answers, Completes, Fulfils, Task, task_of}
-use Rattle.spares_top.specs.State.{Performs, Scene, WriteFailed}
-use Rattle.spares_top.specs.Promises.{Runs}
+use Rattle.spares_top.specs.Answer.{AnswersBy, Completes, Fulfils, Task, task_of}
+use Rattle.spares_top.specs.State.{Performs, Scene, FailsToRead, WriteFailed}
+use Rattle.spares_top.specs.Promises.{Errors, PutsLine, Runs}
 
-refused : (task : Result Task Refusal) (r : Refusal) → task ≡ Err r → Completes task (Err r)
-refused task r e = inr (subst (λ t. MatchResult t (λ a. IsOkAnd (Err r) (Fulfils a)) (λ refusal. IsErrOf {T = Done} (Err r) refusal)) (sym e) refl)
+answered : (task : Result Task Failure) (failure : Failure) → task ≡ Err failure → Completes task (Err failure)
+answered task failure e =
+    inr (subst (λ t. MatchResult t (λ a. IsOkAnd (Err failure) (Fulfils a)) (λ f. IsErrOf {T = Done} (Err failure) f)) (sym e) refl)
 
-whole : (task : Result Task Refusal) (may_write : Type 0) (result : Result Done Refusal) → Answers task may_write result → ¬ may_write → Completes task result
-whole (Ok task) may_write (Ok done) h w = inr h
-whole (Err refusal) may_write (Ok done) h w = absurd h
-whole task may_write (Err (Words fault)) h w = refused task (Words fault) h
-whole task may_write (Err (Rate fault)) h w = refused task (Rate fault) h
-whole task may_write (Err WriteFault) h w = absurd (w h.0)
-whole task may_write (Err NoMemory) h w = inl refl
+module _ (task : Result Task Failure) (may_read : File → Type 0) (may_write : Type 0) (no_read : (file : File) → ¬ may_read file) (no_write : ¬ may_write) where
+  refused_by : (r : Refusal) (line : List ℕ) → AnswersBy task may_read may_write (record { refusal = r; line = line }) r
+      → Completes task (Err (record { refusal = r; line = line }))
+  refused_by (refusal.ReadFault file) line (inl h) = absurd (no_read file h)
+  refused_by (refusal.ReadFault file) line (inr h) = answered task (record { refusal = refusal.ReadFault file; line = line }) h
+  refused_by (refusal.TooLong file) line h = answered task (record { refusal = refusal.TooLong file; line = line }) h
+  refused_by (refusal.Words fault) line h = answered task (record { refusal = refusal.Words fault; line = line }) h
+  refused_by (refusal.Table file fault) line h = answered task (record { refusal = refusal.Table file fault; line = line }) h
+  refused_by (refusal.Case fault) line h = answered task (record { refusal = refusal.Case fault; line = line }) h
+  refused_by (refusal.Stock fault) line h = answered task (record { refusal = refusal.Stock fault; line = line }) h
+  refused_by (refusal.Rate fault) line h = answered task (record { refusal = refusal.Rate fault; line = line }) h
+  refused_by refusal.WriteFault line h = absurd (no_write h.0)
+  refused_by refusal.NoMemory line h = inl refl
 
-pub all : (words : List (List ℕ)) (old new : Scene) (result : Result Done Refusal) → Performs (order_of words) old new result → Runs words old new result
-all words old new result h = record {
+printed : (task : Result Task Failure) (done : Done) → IsOkAnd task (λ t. Fulfils t done) → Completes task (Ok done)
+printed (Ok task) done h = inr h
+printed (Err failure) done h = absurd h
+
+pub done : (words : List (List ℕ)) (old new : Scene) (before after : Errors) (report : Done) → Performs (order_of words) old new (Ok report)
+    → after.bytes ≡ before.bytes → after.faults ≡ before.faults → Runs words old new before after (Ok report)
+done words old new before after report h b f = record {
+  line = [];
   performs = h;
-  completes = λ held serves w. whole (task_of (order_of words) held) (WriteFailed old new) result (h.told held serves) w;
+  completes = λ held serves r w. printed (task_of (order_of words) held) report (h.told held serves);
+  puts = (b, f);
+}
+
+pub refused : (words : List (List ℕ)) (old new : Scene) (before after : Errors) (failure : Failure) → Performs (order_of words) old new (Err failure)
+    → PutsLine failure.line before.bytes before.faults after.bytes after.faults → Runs words old new before after (Err failure.refusal)
+refused words old new before after failure h puts = record {
+  line = failure.line;
+  performs = h;
+  completes = λ held serves r w.
+      refused_by (task_of (order_of words) held) (FailsToRead (order_of words) held old new) (WriteFailed old new) (λ file f. r file f.failed) w
+      failure.refusal failure.line (h.told held serves);
+  puts = puts;
 }

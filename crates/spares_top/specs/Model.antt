@@ -1,5 +1,5 @@
--- The report of a single pipeline, and what it says of the model. Means and variances are counted in ten-thousandths.
-use Rattle.std.specs.Prelude.{ℕ, ◌≤◌, Option, unwrap_or}
+-- The reports of a single pipeline and of a case, and what they say of the model. Means and variances are counted in ten-thousandths.
+use Rattle.std.specs.Prelude.{◌≡◌, ℕ, ◌≤◌, Option, unwrap_or}
 use Rattle.std.proofs.Common.{lit<}
 use Rattle.exact_model.specs.Fraction.{Fraction, Encloses, ◌≤ℚ◌}
 use Rattle.exact_model.specs.Series.{ebo, vbo}
@@ -9,7 +9,13 @@ use Rattle.fixed_interval.specs.Text.{text_value}
 use Rattle.moment_table.specs.declared.kinds.Row.{Row}
 use Rattle.moment_table.specs.Profile.{table_rows}
 use Rattle.moment_table.specs.Rows.{at_stock}
-use Rattle.plan_report.specs.Texts.{lower_millionths, upper_millionths}
+use Rattle.plan_report.specs.Figures.{figures_of}
+use Rattle.plan_report.specs.Shows.{ShowsFigures, ShowsSpan}
+use Rattle.plan_report.specs.Texts.{ends, lower_millionths, places, upper_millionths}
+use Rattle.plan_report.specs.declared.eval.EvalReport.{EvalReport}
+use Rattle.plan_report.specs.declared.figures.Span.{Span}
+use Rattle.spares_input.specs.Cases.{CaseRows}
+use Rattle.spares_input.specs.Stocks.{StockList}
 use Rattle.plan_report.specs.declared.single.SingleReport.{SingleReport}
 
 -- that many ten-thousandths
@@ -46,3 +52,28 @@ pub record Shows (x : Ends) (value : ℕ → Fraction) : Type 0 where
 pub record ShowsModel (mean variance : Fraction) (stock : ℕ) (report : SingleReport) : Type 0 where
   pub backorders : Shows report.backorders (λ n. ebo n mean variance stock)
   pub spread : Shows report.spread (λ n. vbo n mean variance stock)
+
+-- ---- a case
+
+-- the report of a case at stocks, with so many bits
+abbrev pub eval_of : ℕ → CaseRows → StockList → EvalReport
+eval_of bits c s = record { bits = bits; figures = figures_of bits c s }
+
+-- the values of the two texts that are printed of a span
+abbrev pub span_low : Span → Fraction
+span_low x = text_value 6 (lower_millionths (places x) (ends x))
+
+abbrev pub span_high : Span → Fraction
+span_high x = text_value 6 (upper_millionths (places x) (ends x))
+
+-- a value lies between the two numbers that are printed of a span, at each depth from 1024 on
+pub record PrintsAround (x : Span) (value : ℕ → Fraction) : Type 0 where
+  pub above_low : (n : ℕ) → 1024 ≤ n → span_low x ≤ℚ value n
+  pub below_high : (n : ℕ) → 1024 ≤ n → value n ≤ℚ span_high x
+
+-- The report shows the figures of the case at the stocks with so many bits; and of each span that encloses a value two
+-- numbers are printed that do.
+pub record ShowsCase (bits : ℕ) (c : CaseRows) (s : StockList) (report : EvalReport) : Type 0 where
+  pub bits_are : report.bits ≡ bits
+  pub shows : ShowsFigures bits c s report.figures
+  pub prints : (x : Span) (value : ℕ → Fraction) → ShowsSpan bits value x → PrintsAround x value

@@ -1,14 +1,16 @@
 //! The whole program over a shelf and two sinks that are handed in.
 #![tactic(auto)]
 
+mod case;
+mod failure;
 mod line;
 mod perform;
 mod refusal;
 mod report;
 mod single;
+mod tables;
 mod top;
 
-pub use line::{Line, refusal_line};
-pub use refusal::{Refusal, status};
+pub use refusal::{File, Refusal, status};
 pub use report::Done;
 pub use top::{refuse, run};

@@ -1,19 +1,28 @@
 //! The top call.
-ghost use Rattle.spares_top.specs.Promises.{PutsLine, PutsLineOf, Runs};
+ghost use Rattle.spares_top.specs.Lines.{line_of, no_names};
+ghost use Rattle.spares_top.specs.Promises.{PutsLine, Runs, errors};
 ghost use Rattle.spares_top.specs.State.{scene};
 
-use crate::line::refusal_line;
+use crate::failure::Failure;
+use crate::line::Line;
 use crate::perform::work;
 use crate::{Done, Refusal};
 use spares_io::{Shelf, Sink, Text};
 use std::alloc::Global;
 
-/// Puts the line of a refusal, by one put. Where that fails nothing else is done.
-pub fn refuse<E: Sink>(refusal: &Refusal, err: &mut E)
-    ensures { PutsLine refusal.now (E.bytes err.old) (E.faults err.old) (E.bytes err.new) (E.faults err.new) }
+/// Puts a line, by one put. Where that fails nothing else is done.
+fn put_line<E: Sink>(line: &Line, err: &mut E)
+    ensures { PutsLine line.now (E.bytes err.old) (E.faults err.old) (E.bytes err.new) (E.faults err.new) }
 {
-    let line = refusal_line(refusal);
     let _ = err.put(line.as_slice());
+}
+
+/// Puts the line of a refusal that stands at no pair of a case, by one put. Where that fails nothing else is done.
+pub fn refuse<E: Sink>(refusal: &Refusal, err: &mut E)
+    ensures { PutsLine (line_of no_names refusal.now) (E.bytes err.old) (E.faults err.old) (E.bytes err.new) (E.faults err.new) }
+{
+    let failure = Failure::of(*refusal);
+    put_line(&failure.line, err);
 }
 
 /// Carries out the words that follow the program's name, over a shelf, an output and a place for refusals.
@@ -23,10 +32,12 @@ pub fn refuse<E: Sink>(refusal: &Refusal, err: &mut E)
 ///
 /// # Errors
 ///
-/// In this order: `Words` where the words give no order, `Rate` where a pipeline is beyond the model's
-/// limits, `NoMemory`, and `WriteFault` where the put of the report fails. After `WriteFault` the output
-/// holds a prefix of the report, and after the others it is as before.
-#[tactic(auto, using(crate::proofs::Whole::all))]
+/// In this order: `Words` where the words give no order; `ReadFault` or `TooLong` at the first file that isn't read;
+/// of `eval` the first `Table` or `Case` of its sites, parts and rates, and then `Table` or `Stock` of its stocks;
+/// `Rate` where a pipeline is beyond the model's limits; and `WriteFault` where the put of the report fails. After
+/// `WriteFault` the output holds a prefix of the report, and after the others it is as before. `NoMemory` may come
+/// at any step before the put.
+#[tactic(auto, using(crate::proofs::Whole::done, crate::proofs::Whole::refused))]
 pub fn run<H: Shelf, W: Sink, E: Sink>(
     alloc: Global,
     words: &[Text],
@@ -34,19 +45,18 @@ pub fn run<H: Shelf, W: Sink, E: Sink>(
     out: &mut W,
     err: &mut E,
 ) -> Result<Done, Refusal>
-    ensures answer { Runs words.now
+    ensures { Runs words.now
         (scene (H.held shelf.old) (H.read_faults shelf.old) (H.write_faults shelf.old)
         (W.bytes out.old) (W.faults out.old))
         (scene (H.held shelf.new) (H.read_faults shelf.new) (H.write_faults shelf.new)
-        (W.bytes out.new) (W.faults out.new)) result }
-    // A report puts no line, and a refusal its own.
-    ensures line { PutsLineOf result (E.bytes err.old) (E.faults err.old) (E.bytes err.new) (E.faults err.new) }
+        (W.bytes out.new) (W.faults out.new))
+        (errors (E.bytes err.old) (E.faults err.old)) (errors (E.bytes err.new) (E.faults err.new)) result }
 {
     match work(alloc, words, shelf, out) {
         Ok(done) => Ok(done),
-        Err(refusal) => {
-            refuse(&refusal, err);
-            Err(refusal)
+        Err(failure) => {
+            put_line(&failure.line, err);
+            Err(failure.refusal)
         }
     }
 }

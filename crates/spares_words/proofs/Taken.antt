@@ -6,7 +6,7 @@ use Rattle.clap.specs.declared.parser.matches.ArgMatches.{ArgMatches}
 use Rattle.spares_io.specs.declared.stop.Stop.TheVariants.{Fault, NoMemory}
 use Rattle.spares_io.specs.declared.stop.Stop.{Stop}
 use Rattle.spares_io.specs.Answers.{Gives}
-use Rattle.spares_words.specs.Commands.{single_app}
+use Rattle.spares_words.specs.Commands.{eval_app, single_app}
 use Rattle.spares_words.specs.Order.{by_command, Parses}
 use Rattle.spares_words.specs.declared.order.Order.{Order}
 use Rattle.spares_words.specs.declared.order.WordsFault.{WordsFault}
@@ -15,6 +15,10 @@ use Rattle.spares_words.specs.declared.order.WordsFault.TheVariants.{Shape}
 pub single_simple : is_simple_and_free single_app ≡ true
 unfolding single_app
 single_simple = refl
+
+pub eval_simple : is_simple_and_free eval_app ≡ true
+unfolding eval_app
+eval_simple = refl
 
 pub taken : (made app : App) → made ≡ app → (order : List Row → Result Order WordsFault) (words : List Text) (m : ArgMatches)
     → Parses made words (Ok m) → by_command app order words ≡ order (rows_of (found_of m))

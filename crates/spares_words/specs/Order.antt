@@ -1,5 +1,5 @@
 -- The order that the words of a command line give.
-use Rattle.std.specs.Prelude.{◌≡◌, ◌≤◌, ⊤, false, ℕ, List, [], ◌∷◌, Option, Some, None, IfSome, Result, Ok, Err, if◌then◌else◌, nat_le, codes, unwrap_or}
+use Rattle.std.specs.Prelude.{◌≡◌, ◌≤◌, ⊤, true, false, Bool, ◌==◌, ◌||◌, ℕ, List, [], ◌∷◌, Option, Some, None, IfSome, Result, Ok, Err, if◌then◌else◌, nat_le, codes, unwrap_or}
 use Rattle.std.specs.Str.{bytes_eq}
 use Rattle.clap.specs.Words.{App, Row, Text, first_of, found_of, rows_of, matches_of, fault_of}
 use Rattle.clap.specs.Walk.{is_empty}
@@ -9,11 +9,11 @@ use Rattle.exact_ratio.specs.declared.Decimal.{Decimal}
 use Rattle.exact_ratio.specs.declared.NumberFault.{NumberFault}
 use Rattle.spares_io.specs.declared.stop.Stop.{Stop}
 use Rattle.spares_io.specs.declared.stop.Stop.TheVariants as stop
-use Rattle.spares_words.specs.Commands.{single_app}
+use Rattle.spares_words.specs.Commands.{eval_app, single_app}
 use Rattle.spares_words.specs.declared.order.Order.{Order}
-use Rattle.spares_words.specs.declared.order.Order.TheVariants.{Single}
+use Rattle.spares_words.specs.declared.order.Order.TheVariants.{Single, Eval}
 use Rattle.spares_words.specs.declared.order.Which.{Which}
-use Rattle.spares_words.specs.declared.order.Which.TheVariants.{Mean, Stock, Variance}
+use Rattle.spares_words.specs.declared.order.Which.TheVariants.{Mean, Stock, Variance, Bits}
 use Rattle.spares_words.specs.declared.order.WordsFault.{WordsFault}
 use Rattle.spares_words.specs.declared.order.WordsFault.TheVariants.{Shape, Number, Range}
 
@@ -58,6 +58,26 @@ abbrev pub single_of : List Row → Result Order WordsFault
 single_of rows =
     single_from (text_of rows (codes "mean")) (first_of (codes "variance") rows) (text_of rows (codes "stock"))
 
+-- how many bits an interval may have after the point
+abbrev pub is_width : ℕ → Bool
+is_width bits = (bits == 32) || (bits == 48) || (bits == 52)
+
+-- the bits that a text gives, and 48 where there is none
+abbrev pub bits_of : Option Text → Result ℕ WordsFault
+bits_of None = Ok 48
+bits_of (Some text) =
+    and_then (number_of Bits 0 text) (λ number.
+    if is_width number.units then Ok number.units else Err (Range Bits))
+
+-- `eval` by the texts of its options: four names as they stand, and the bits
+abbrev pub eval_from : Text → Text → Text → Text → Option Text → Result Order WordsFault
+eval_from sites parts rates stocks bits_text = and_then (bits_of bits_text) (λ bits. Ok (Eval sites parts rates stocks bits))
+
+abbrev pub eval_of : List Row → Result Order WordsFault
+eval_of rows =
+    eval_from (text_of rows (codes "sites")) (text_of rows (codes "parts")) (text_of rows (codes "rates"))
+    (text_of rows (codes "stocks")) (first_of (codes "bits") rows)
+
 -- what a command makes of its words, where it takes them
 unfoldable pub by_command : App → (List Row → Result Order WordsFault) → List Text → Result Order WordsFault
 by_command app order words =
@@ -68,12 +88,14 @@ unfoldable pub order_of : List Text → Result Order WordsFault
 order_of [] = Err Shape
 order_of (name ∷ rest) =
     if bytes_eq name (codes "single") then by_command single_app single_of (name ∷ rest)
+    else if bytes_eq name (codes "eval") then by_command eval_app eval_of (name ∷ rest)
     else Err Shape
 
 -- the ranges of the numbers of an order
 abbrev pub IsInRange : Order → Type 0
 IsInRange (Single mean variance stock) =
     (mean.places ≡ 4) × IfSome variance (λ v. v.places ≡ 4) × (stock ≤ 63)
+IsInRange (Eval sites parts rates stocks bits) = is_width bits ≡ true
 
 -- what `clap` makes of the words of a command: its rows where it takes them, and else the fault
 abbrev pub Parses : App → List Text → Result ArgMatches (Stop WordsFault) → Type 0

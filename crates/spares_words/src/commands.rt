@@ -1,7 +1,7 @@
 //! The commands, for `clap`.
 ghost use Rattle.std.specs.Prelude.{◌≡◌, IfOk, false};
 ghost use Rattle.clap.specs.Words.{app_of, rule_of, with_rule};
-ghost use Rattle.spares_words.specs.Commands.{bare, option, positional, single_app};
+ghost use Rattle.spares_words.specs.Commands.{bare, eval_app, option, positional, required_option, single_app, with_tables};
 
 use clap::{Arg, Command};
 use std::alloc::{AllocError, Global};
@@ -20,6 +20,14 @@ fn option<'a>(alloc: Global, id: &'a str) -> Arg<'a>
     ensures local { result.global ≡ false }
 {
     Arg::new(alloc, id).long(id)
+}
+
+/// The same, where it may not be left out.
+fn required_option<'a>(alloc: Global, id: &'a str) -> Arg<'a>
+    ensures rule { rule_of result ≡ required_option id.entry.now }
+    ensures local { result.global ≡ false }
+{
+    Arg::new(alloc, id).long(id).required(true)
 }
 
 /// A command that takes no words but its own name, neither help nor version.
@@ -46,4 +54,23 @@ pub(crate) fn single_command<'a>(alloc: Global) -> Result<Command<'a>, AllocErro
     let command = with_arg(bare(alloc, "single"), positional(alloc, "mean"))?;
     let command = with_arg(command, positional(alloc, "stock"))?;
     with_arg(command, option(alloc, "variance"))
+}
+
+/// The options that name the tables of a case.
+fn with_tables<'a>(alloc: Global, command: Command<'a>) -> Result<Command<'a>, AllocError>
+    ensures { IfOk result (λ c. app_of c ≡ with_tables (app_of command.entry)) }
+{
+    let command = with_arg(command, required_option(alloc, "sites"))?;
+    let command = with_arg(command, required_option(alloc, "parts"))?;
+    with_arg(command, required_option(alloc, "rates"))
+}
+
+/// `eval --sites F --parts F --rates F --stocks F [--bits N]`.
+#[tactic(auto, unfolding(crate::specs::Commands::eval_app))]
+pub(crate) fn eval_command<'a>(alloc: Global) -> Result<Command<'a>, AllocError>
+    ensures { IfOk result (λ c. app_of c ≡ eval_app) }
+{
+    let command = with_tables(alloc, bare(alloc, "eval"))?;
+    let command = with_arg(command, required_option(alloc, "stocks"))?;
+    with_arg(command, option(alloc, "bits"))
 }

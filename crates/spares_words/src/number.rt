@@ -1,6 +1,6 @@
 //! The numbers of a command line.
-ghost use Rattle.std.specs.Prelude.{◌≡◌, ◌≤◌, IfOk, IfSome, option_map};
-ghost use Rattle.spares_words.specs.Order.{number_of, optional_of, whole_of};
+ghost use Rattle.std.specs.Prelude.{◌≡◌, ◌≤◌, IfOk, IfSome, option_map, true};
+ghost use Rattle.spares_words.specs.Order.{bits_of, is_width, number_of, optional_of, whole_of};
 
 use crate::{Which, WordsFault};
 use exact_ratio::{Decimal, read_decimal};
@@ -43,5 +43,28 @@ pub(crate) fn whole(which: Which, most: u8, text: &str) -> Result<u8, WordsFault
         Ok(number.units as u8)
     } else {
         Err(WordsFault::Range(which))
+    }
+}
+
+/// Whether an interval may have so many bits.
+fn is_width(bits: u64) -> bool
+    ensures { result ≡ is_width bits }
+{
+    bits == 32 || bits == 48 || bits == 52
+}
+
+/// The bits of a text that may be left out: then they are 48.
+pub(crate) fn bits(text: Option<&str>) -> Result<u8, WordsFault>
+    ensures value { result ≡ bits_of (option_map (λ s. s.now) text.entry) }
+    ensures range { IfOk result (λ bits. is_width bits ≡ true) }
+{
+    let Some(text) = text else {
+        return Ok(48);
+    };
+    let number = number(Which::Bits, 0, text)?;
+    if is_width(number.units) {
+        Ok(number.units as u8)
+    } else {
+        Err(WordsFault::Range(Which::Bits))
     }
 }

@@ -1,5 +1,6 @@
 //! What a command line asks for.
 use exact_ratio::{Decimal, NumberFault};
+use spares_io::Text;
 
 /// A number of the command line.
 #[derive(Clone, Copy, Debug, PartialEq, Eq)]
@@ -10,6 +11,8 @@ pub enum Which {
     Stock,
     /// `--variance V`, with up to 4 decimals.
     Variance,
+    /// `--bits 32`, `48` or `52`.
+    Bits,
 }
 
 /// Why the words of a command line give no order.
@@ -32,5 +35,14 @@ pub enum Order {
         mean: Decimal,
         variance: Option<Decimal>,
         stock: u8,
+    },
+    /// `eval --sites F --parts F --rates F --stocks F [--bits N]`: the figures of a case at given stocks. The
+    /// texts are the names of its four tables; intervals have 32, 48 or 52 bits, and 48 where none are given.
+    Eval {
+        sites: Text,
+        parts: Text,
+        rates: Text,
+        stocks: Text,
+        bits: u8,
     },
 }

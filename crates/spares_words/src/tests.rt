@@ -1,9 +1,9 @@
-use crate::Which::{Mean, Stock, Variance};
+use crate::Which::{Bits, Mean, Stock, Variance};
 use crate::WordsFault::{Number, Range, Shape};
 use crate::{Order, WordsFault, read_words};
 use exact_ratio::Decimal;
 use exact_ratio::NumberFault::{BadByte, Empty, TooLarge, TooManyPlaces};
-use spares_io::{Stop, Text};
+use spares_io::{NoMemory, Stop, Text};
 use std::alloc::Global;
 use std::test::Fail;
 
@@ -43,6 +43,50 @@ fn takes_single_with_its_option_anywhere(rt: HostRuntime) -> Result<(), Fail> {
             stock,
         };
         assert_eq!(rt; order_of_line(rt.alloc(), line), Ok(want), "at {line}");
+    }
+    Ok(())
+}
+
+/// The order of `eval` with these names of files, parted by single spaces, and bits.
+fn eval_order(alloc: Global, names: [&str; 4], bits: u8) -> Result<Order, NoMemory> {
+    let [sites, parts, rates, stocks] = names;
+    Ok(Order::Eval {
+        sites: Text::from_str(alloc, sites)?,
+        parts: Text::from_str(alloc, parts)?,
+        rates: Text::from_str(alloc, rates)?,
+        stocks: Text::from_str(alloc, stocks)?,
+        bits,
+    })
+}
+
+#[test]
+fn takes_eval_with_its_options_in_any_order(rt: HostRuntime) -> Result<(), Fail> {
+    let alloc = rt.alloc();
+    let cases = [
+        (
+            "eval --sites a --parts b --rates c --stocks d",
+            ["a", "b", "c", "d"],
+            48,
+        ),
+        (
+            "eval --bits 32 --stocks d --rates c --parts b --sites a",
+            ["a", "b", "c", "d"],
+            32,
+        ),
+        (
+            "eval --sites=a --parts=-b --rates= --stocks d --bits=52.0",
+            ["a", "-b", "", "d"],
+            52,
+        ),
+        (
+            "eval --sites a --parts a --rates a --stocks a --bits 048 --",
+            ["a", "a", "a", "a"],
+            48,
+        ),
+    ];
+    for (line, names, bits) in cases {
+        let want = eval_order(alloc, names, bits)?;
+        assert_eq!(rt; order_of_line(alloc, line), Ok(want), "at {line}");
     }
     Ok(())
 }
@@ -99,6 +143,52 @@ fn refuses_words_and_numbers(rt: HostRuntime) -> Result<(), Fail> {
         ("single 1 0.5", Number(Stock, TooManyPlaces)),
         ("single 1 18446744073709551616", Number(Stock, TooLarge)),
         ("single 1 64", Range(Stock)),
+        ("eval", Shape),
+        ("eval --sites a --parts b --rates c", Shape),
+        ("eval --sites a --parts b --stocks d", Shape),
+        ("eval --sites a --parts b --rates c --stocks", Shape),
+        ("eval --sites a --parts b --rates c --stocks d e", Shape),
+        (
+            "eval --sites a --parts b --rates c --stocks d --sites a",
+            Shape,
+        ),
+        ("eval --sites -a --parts b --rates c --stocks d", Shape),
+        (
+            "eval --sites a --parts b --rates c --stocks d --budget 1",
+            Shape,
+        ),
+        (
+            "eval --sites a --parts b --rates c --stocks d --bits",
+            Shape,
+        ),
+        (
+            "eval --sites a --parts b --rates c --stocks d --bits 40",
+            Range(Bits),
+        ),
+        (
+            "eval --sites a --parts b --rates c --stocks d --bits 33",
+            Range(Bits),
+        ),
+        (
+            "eval --sites a --parts b --rates c --stocks d --bits 0",
+            Range(Bits),
+        ),
+        (
+            "eval --sites a --parts b --rates c --stocks d --bits 304",
+            Range(Bits),
+        ),
+        (
+            "eval --sites a --parts b --rates c --stocks d --bits=",
+            Number(Bits, Empty),
+        ),
+        (
+            "eval --sites a --parts b --rates c --stocks d --bits x",
+            Number(Bits, BadByte(0)),
+        ),
+        (
+            "eval --sites a --parts b --rates c --stocks d --bits 48.5",
+            Number(Bits, TooManyPlaces),
+        ),
         // The mean is read first, then the variance, then the stock.
         ("single x y --variance z", Number(Mean, BadByte(0))),
         ("single 1 y --variance z", Number(Variance, BadByte(0))),

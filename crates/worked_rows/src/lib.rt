@@ -1,6 +1,10 @@
-//! The program's worked rows: words, and what the program puts on its two outputs for them. They are
+//! The program's worked rows: words and files, and what the program puts on its two outputs for them. They are
 //! run by the tests of this crate, over a shelf and sinks in memory.
 #![tactic(auto)]
 
+#[cfg(test)]
+mod eval_tests;
+#[cfg(test)]
+mod helpers;
 #[cfg(test)]
 mod tests;

@@ -11,8 +11,8 @@ returns-clause-shows c =
 
 pub returns-clause-backorders : goal.returns-clause-backorders
 returns-clause-backorders c =
-    ebo_room c.interval_of.result c.interval_of-2.result c.ebo.result c.in_ok-table.table c.args.stock c.in_ok-table.ensures.ends c.ebo.ensures c.requires.stock c.interval_of.ensures.small
+    ebo_room c.interval_of.result c.interval_of-2.result c.ebo.result c.in_ok-table.table c.args.stock c.in_ok-table.ensures.most c.ebo.ensures c.requires.stock c.interval_of.ensures.small
 
 pub returns-clause-spread : goal.returns-clause-spread
 returns-clause-spread c =
-    vbo_room c.interval_of.result c.interval_of-2.result c.vbo.result c.in_ok-table.table c.args.stock c.in_ok-table.ensures.ends c.vbo.ensures c.requires.stock c.interval_of.ensures.small c.interval_of-2.ensures.small
+    vbo_room c.interval_of.result c.interval_of-2.result c.vbo.result c.in_ok-table.table c.args.stock c.in_ok-table.ensures.most c.vbo.ensures c.requires.stock c.interval_of.ensures.small c.interval_of-2.ensures.small

@@ -1,0 +1,71 @@
+//! What the tests of the worked rows share.
+use spares_io::{List, MemShelf, MemSink, NoMemory, Text};
+use spares_top::{run, status};
+use std::alloc::Global;
+
+/// Words, parted by blanks.
+pub(crate) fn words_of(alloc: Global, line: &str) -> Result<Vec<Text>, NoMemory> {
+    let mut words = Vec::new(alloc);
+    for word in line.split(' ') {
+        if !word.is_empty() {
+            words.push(Text::from_str(alloc, word)?)?;
+        }
+    }
+    Ok(words)
+}
+
+/// A sink of that room, whose puts fail as listed.
+pub(crate) fn sink(alloc: Global, room: usize, fails: &[u32]) -> Result<MemSink, NoMemory> {
+    MemSink::new(alloc, room, fails.to_vec(alloc)?)
+}
+
+/// A shelf with no names.
+pub(crate) fn empty_shelf(alloc: Global) -> Result<MemShelf, NoMemory> {
+    MemShelf::new(alloc, Vec::new(alloc), Vec::new(alloc))
+}
+
+/// The files `sites`, `parts`, `rates` and `stocks`, and the numbers of the calls that fail.
+pub(crate) fn shelf_of(
+    alloc: Global,
+    tables: [&str; 4],
+    fails: &[u32],
+) -> Result<MemShelf, NoMemory> {
+    let names = ["sites", "parts", "rates", "stocks"];
+    let mut files = Vec::new(alloc);
+    for (name, table) in names.iter().zip(tables) {
+        files.push((
+            Text::from_str(alloc, name)?,
+            List::of(table.as_bytes().to_vec(alloc)?),
+        ))?;
+    }
+    if !MemShelf::are_distinct(files.as_slice()) {
+        return Err(NoMemory);
+    }
+    MemShelf::new(alloc, files, fails.to_vec(alloc)?)
+}
+
+/// How a run ended, and what it put on its two outputs.
+#[derive(Drop)]
+pub(crate) struct Ended {
+    pub(crate) status: u8,
+    pub(crate) out: MemSink,
+    pub(crate) err: MemSink,
+}
+
+/// Runs words that are parted by blanks. The puts of the output fail as listed.
+pub(crate) fn run_over(
+    alloc: Global,
+    line: &str,
+    shelf: &mut MemShelf,
+    fails: &[u32],
+) -> Result<Ended, NoMemory> {
+    let words = words_of(alloc, line)?;
+    let mut out = sink(alloc, 2000, fails)?;
+    let mut err = sink(alloc, 200, &[])?;
+    let answer = run(alloc, words.as_slice(), shelf, &mut out, &mut err);
+    Ok(Ended {
+        status: status(&answer),
+        out,
+        err,
+    })
+}
