@@ -77,6 +77,7 @@ def main():
     for line in range(1, LINE_UNITS + 1):
         for table, rows in zip(('parts', 'rates', 'stocks'), line_unit(draws, line)):
             tables[table] += rows
+    os.makedirs(folder, exist_ok=True)
     for table, rows in tables.items():
         with open(os.path.join(folder, table + '.csv'), 'w', newline='') as file:
             file.write('\n'.join(rows) + '\n')
