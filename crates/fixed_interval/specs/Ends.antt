@@ -23,6 +23,10 @@ pub record IsInterval (f : ℕ) (x : Ends) : Type 0 where
 abbrev pub In : ℕ → Ends → Fraction → Type 0
 In f x q = Contains f x.lo x.hi q
 
+-- no end is above 256, the limit of means and variances
+abbrev pub IsWithinLimit : ℕ → Ends → Type 0
+IsWithinLimit f x = x.hi ≤ 256 * 2 ^ f
+
 -- ---- the ends of each operation: `a / b` is a quotient rounded down, and `div_ceil a b` rounded up
 
 -- the whole number k

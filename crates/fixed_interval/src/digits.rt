@@ -54,6 +54,12 @@ impl Digits {
     }
 }
 
+/// A text of decimals reads as the number that it was made of, and has one spelling: digits on both sides of a point,
+/// as many as there are places behind it, and no needless 0 in front. It holds where the whole part has at most 64 digits.
+pub fn texts_read()
+    ensures { (places n : ℕ) → n / 10 ^ places < 10 ^ 64 → IsFixedText places n (fixed_text places n) }
+{}
+
 /// `n` units of the last of `places` decimal places, as a text: the whole part without leading zeros, a point, and each
 /// place.
 pub(crate) fn text_of(n: u128, places: u8) -> Digits

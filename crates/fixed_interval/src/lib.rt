@@ -23,7 +23,7 @@ mod rounding;
 mod tests;
 mod texts;
 
-pub use digits::{Digits, ratio_down};
+pub use digits::{Digits, ratio_down, texts_read};
 use rounding::{quotient_up, scaled};
 use std::marker::Model;
 
