@@ -1,0 +1,8 @@
+-- The counts of binary places that can be asked for.
+use Rattle.std.specs.Prelude.{◌≡◌, ℕ, Bool, true, ◌==◌, ◌||◌}
+
+abbrev pub is_width : ℕ → Bool
+is_width f = (f == 32) || (f == 48) || (f == 52)
+
+abbrev pub IsWidth : ℕ → Type 0
+IsWidth f = is_width f ≡ true
