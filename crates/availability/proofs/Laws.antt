@@ -8,12 +8,13 @@ use Rattle.std.proofs.lemmas.Nat.{mul-le}
 use Rattle.std.proofs.lemmas.Grind.{div_ceil_times}
 use Rattle.std.proofs.lemmas.List.Sums.{fold_more}
 use Rattle.exact_model.specs.Fraction.{Fraction, whole, sum_below, ◌≈◌, ◌+ℚ◌, ◌-ℚ◌, ◌*ℚ◌, ◌/ℚ◌}
+use Rattle.exact_model.specs.Sums.{power, product_below}
 use Rattle.exact_model.proofs.Fractions.{same, turned, ◌≈≈◌, add-same, div-same, contains-same}
 use Rattle.fixed_interval.specs.Ends.{Ends, In, ends_exact, ends_add, ends_less, ends_times, ends_over, ends_mul}
 use Rattle.fixed_interval.proofs.Laws.{add_encloses, less_encloses, exact_encloses, mul_encloses, over_encloses, times_encloses, mul_below, up_to}
 use Rattle.availability.specs.declared.Weighted.{Weighted}
 use Rattle.availability.specs.Profile.{filled_ends, multiplied, factor_ends, base_ends, weighted_sum, all_systems, fleet_ends}
-use Rattle.availability.specs.Exact.{power, product_below, factor_of, weighted_mean, AllIn, base_at, BaseIn, BasesIn}
+use Rattle.availability.specs.Exact.{factor_of, weighted_mean, AllIn, base_at, BaseIn, BasesIn}
 
 -- one element more
 pub next_fold : {X Y : Type 0} (f : Y → X → Y) (a : Y) (xs : List X) (i : ℕ) (d : X) → i < length xs

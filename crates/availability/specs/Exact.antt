@@ -1,18 +1,9 @@
 -- The exact availability, and what it is for intervals to hold the numbers that it is made of.
-use Rattle.std.specs.Prelude.{◌≡◌, ℕ, zero, suc, ◌*◌, ◌^◌, ◌<◌, ◌≤◌, List, length, get_or}
+use Rattle.std.specs.Prelude.{◌≡◌, ℕ, ◌*◌, ◌^◌, ◌<◌, ◌≤◌, List, length, get_or}
 use Rattle.exact_model.specs.Fraction.{Fraction, whole, sum_below, ◌-ℚ◌, ◌*ℚ◌, ◌/ℚ◌}
+use Rattle.exact_model.specs.Sums.{power}
 use Rattle.fixed_interval.specs.Ends.{Ends, In, ends_exact}
 use Rattle.availability.specs.declared.Weighted.{Weighted}
-
--- q multiplied n times
-unfoldable pub power : Fraction → ℕ → Fraction
-power q zero = whole 1
-power q (suc n) = power q n *ℚ q
-
--- q(0) q(1) .. q(n - 1)
-unfoldable pub product_below : (ℕ → Fraction) → ℕ → Fraction
-product_below q zero = whole 1
-product_below q (suc n) = product_below q n *ℚ q n
 
 -- max(0, 1 - e / (N Z))^Z
 abbrev pub factor_of : Fraction → (systems per_system : ℕ) → Fraction

@@ -15,6 +15,7 @@
 ghost use Rattle.std.specs.Prelude.{◌≡◌, ℕ, ◌*◌, ◌^◌, ◌≤◌, length};
 ghost use Rattle.std.specs.List.{All};
 ghost use Rattle.exact_model.specs.Fraction.{Fraction};
+ghost use Rattle.exact_model.specs.Sums.{product_below};
 ghost use Rattle.fixed_interval.specs.Ends.{In, InScale};
 ghost use Rattle.availability.specs.Profile.{factor_ends, base_ends, fleet_ends};
 ghost use Rattle.availability.specs.Exact.{
@@ -22,7 +23,6 @@ ghost use Rattle.availability.specs.Exact.{
   BasesIn,
   IsWeighted,
   factor_of,
-  product_below,
   weighted_mean,
 };
 

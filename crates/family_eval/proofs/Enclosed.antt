@@ -20,7 +20,7 @@ use Rattle.base_pipeline.specs.Exact.{HeldIn}
 use Rattle.base_pipeline.specs.Profile.{base_line_ends, base_shop_ends, held_at}
 use Rattle.spares_input.specs.Frames.{line_of}
 use Rattle.spares_input.specs.Cases.{CaseRows}
-use Rattle.fleet_model.specs.Sums.{sum_over}
+use Rattle.exact_model.specs.Sums.{sum_over}
 use Rattle.fleet_model.specs.Rows.{shop_units, stock}
 use Rattle.fleet_model.specs.Demand.{f_i0, f_ij, f_0j}
 use Rattle.fleet_model.specs.ZeroStock.{direct_i0, direct_00, direct_ij, direct_0j, zero_stock_i0, zero_stock_00, zero_stock_ij, zero_stock_0j}

@@ -7,7 +7,7 @@ use Rattle.exact_model.specs.Shares.{shared}
 use Rattle.exact_model.proofs.Fractions.{same, add-same, mul-same}
 use Rattle.spares_input.specs.Cases.{CaseRows}
 use Rattle.exact_model.proofs.Same.{ebo-same, vbo-same}
-use Rattle.fleet_model.specs.Sums.{sum_over}
+use Rattle.exact_model.specs.Sums.{sum_over}
 use Rattle.fleet_model.specs.Rows.{bases, shop_units, stock, weight}
 use Rattle.fleet_model.specs.Demand.{f_i0, f_ij, f_0j}
 use Rattle.fleet_model.specs.ZeroStock.{direct_00, direct_ij, direct_0j}

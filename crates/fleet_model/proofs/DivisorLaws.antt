@@ -4,7 +4,7 @@ use Rattle.exact_model.specs.Fraction.{Fraction, whole, ◌≤ℚ◌}
 use Rattle.spares_input.specs.Rows.{is_line, no_site, no_part, IsField}
 use Rattle.spares_input.specs.Frames.{site_at, part_at}
 use Rattle.spares_input.specs.Cases.{CaseRows, IsCase}
-use Rattle.fleet_model.specs.Sums.{sum_over}
+use Rattle.exact_model.specs.Sums.{sum_over}
 use Rattle.fleet_model.specs.Rows.{bases, systems, per_system}
 use Rattle.fleet_model.specs.Laws.{IsBase}
 use Rattle.fleet_model.proofs.Order.{none_below}

@@ -7,7 +7,7 @@ use Rattle.exact_model.proofs.Fractions.{same, turned, ◌≈≈◌, add-same, m
 use Rattle.spares_input.specs.Cases.{CaseRows, IsCase}
 use Rattle.spares_input.specs.Frames.{part_at}
 use Rattle.spares_input.specs.Rows.{is_line}
-use Rattle.fleet_model.specs.Sums.{sum_over}
+use Rattle.exact_model.specs.Sums.{sum_over}
 use Rattle.fleet_model.specs.Rows.{line_units}
 use Rattle.fleet_model.specs.Fleet.{family_total, total, cost, family_cost, IsAllocation}
 use Rattle.fleet_model.specs.Headline.{AreFloors, NoAllocationHasFewer, NoPriceIsHigher, HasAtMost, AreAround}

@@ -4,7 +4,7 @@ use Rattle.std.specs.Prelude.{length}
 use Rattle.exact_model.specs.Fraction.{Fraction, whole, ◌≈◌, ◌≤ℚ◌, ◌+ℚ◌, ◌*ℚ◌}
 use Rattle.exact_model.proofs.Fractions.{same, turned, ◌≈≈◌, add-same, mul-same, times_assoc, le-chain, le_plus}
 use Rattle.spares_input.specs.Cases.{CaseRows}
-use Rattle.fleet_model.specs.Sums.{sum_over}
+use Rattle.exact_model.specs.Sums.{sum_over}
 use Rattle.fleet_model.specs.Rows.{bases, shop_units, sent, needed, repair}
 use Rattle.fleet_model.specs.Demand.{m_0j, m_00, m_ij, m_i0, f_i0, f_ij, f_0j}
 use Rattle.fleet_model.specs.ZeroStock.{direct_i0, direct_00, direct_ij, direct_0j, zero_stock_i0, zero_stock_00, zero_stock_ij, zero_stock_0j}

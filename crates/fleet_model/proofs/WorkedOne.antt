@@ -9,7 +9,7 @@ use Rattle.exact_model.proofs.Same.{ebo-same, vbo-same}
 use Rattle.spares_input.specs.Cases.{CaseRows}
 use Rattle.spares_input.specs.Frames.{line_of}
 use Rattle.spares_input.specs.Stocks.{limit_at}
-use Rattle.fleet_model.specs.Sums.{sum_over, product_over, power}
+use Rattle.exact_model.specs.Sums.{sum_over, product_over, power}
 use Rattle.fleet_model.specs.Rows.{ten_thousandths, years, here, sent, needed, repair, ship, line_units, shop_units, stock}
 use Rattle.fleet_model.specs.Demand.{m_0j, m_00, m_ij, m_i0, f_i0, f_ij, f_0j}
 use Rattle.fleet_model.specs.ZeroStock.{direct_i0, direct_00, time_at, direct_ij, direct_0j, zero_stock_i0, zero_stock_00, zero_stock_ij, zero_stock_0j}

@@ -2,7 +2,7 @@
 use Rattle.std.specs.Prelude.{ℕ}
 use Rattle.exact_model.specs.Fraction.{Fraction, ◌+ℚ◌, ◌*ℚ◌, ◌/ℚ◌}
 use Rattle.spares_input.specs.Cases.{CaseRows, rate_at}
-use Rattle.fleet_model.specs.Sums.{sum_over}
+use Rattle.exact_model.specs.Sums.{sum_over}
 use Rattle.fleet_model.specs.Rows.{bases, ten_thousandths, here, sent, needed}
 
 -- m_0j, for the line unit at base j

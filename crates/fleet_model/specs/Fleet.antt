@@ -4,7 +4,7 @@ use Rattle.exact_model.specs.Fraction.{Fraction, whole, ◌-ℚ◌, ◌*ℚ◌, 
 use Rattle.spares_input.specs.Frames.{part_at}
 use Rattle.spares_input.specs.Cases.{CaseRows, frame_rows, pair_count}
 use Rattle.spares_input.specs.Stocks.{limit_at}
-use Rattle.fleet_model.specs.Sums.{sum_over, product_over, power}
+use Rattle.exact_model.specs.Sums.{sum_over, product_over, power}
 use Rattle.fleet_model.specs.Rows.{all_sites, bases, all_parts, line_units, shop_units, systems, per_system, weight, stock}
 use Rattle.fleet_model.specs.Pipelines.{ebo_0j}
 

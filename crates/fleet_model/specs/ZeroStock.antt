@@ -2,7 +2,7 @@
 use Rattle.std.specs.Prelude.{ℕ}
 use Rattle.exact_model.specs.Fraction.{Fraction, ◌+ℚ◌, ◌*ℚ◌}
 use Rattle.spares_input.specs.Cases.{CaseRows}
-use Rattle.fleet_model.specs.Sums.{sum_over}
+use Rattle.exact_model.specs.Sums.{sum_over}
 use Rattle.fleet_model.specs.Rows.{shop_units, here, sent, needed, repair, ship}
 use Rattle.fleet_model.specs.Demand.{m_0j, m_00, m_ij, m_i0}
 

@@ -5,7 +5,7 @@ ghost use Rattle.exact_model.specs.Fraction.{whole, ◌≈◌, ◌≤ℚ◌, ◌
 ghost use Rattle.spares_input.specs.Rows.{is_line};
 ghost use Rattle.spares_input.specs.Frames.{part_at};
 ghost use Rattle.spares_input.specs.Cases.{CaseRows, IsCase};
-ghost use Rattle.fleet_model.specs.Sums.{sum_over};
+ghost use Rattle.exact_model.specs.Sums.{sum_over};
 ghost use Rattle.fleet_model.specs.Rows.{bases, here, per_system, sent, shop_units, systems};
 ghost use Rattle.fleet_model.specs.Demand.{f_i0, f_ij, f_0j};
 ghost use Rattle.fleet_model.specs.ZeroStock.{direct_00, direct_ij, direct_0j, zero_stock_i0, zero_stock_00, zero_stock_ij, zero_stock_0j};

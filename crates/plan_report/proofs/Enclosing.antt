@@ -13,8 +13,7 @@ use Rattle.fixed_interval.proofs.Laws.{add_encloses, mul_encloses, exact_enclose
 use Rattle.spares_input.specs.Rows.{is_line}
 use Rattle.spares_input.specs.Frames.{part_at, part_names, place_of, line_of}
 use Rattle.spares_input.specs.Cases.{CaseRows, IsCase}
-use Rattle.fleet_model.specs.Sums.{sum_over, product_over}
-use Rattle.fleet_model.specs.Sums as model
+use Rattle.exact_model.specs.Sums.{sum_over, product_over}
 use Rattle.fleet_model.specs.Rows.{bases, line_units, systems, per_system, stock}
 use Rattle.fleet_model.specs.Pipelines.{Moments, pipeline_i0, pipeline_00, pipeline_ij, pipeline_0j, ebo_0j}
 use Rattle.fleet_model.specs.Pairs.{by_pair, pipeline, backorders}
@@ -25,7 +24,7 @@ use Rattle.fleet_model.proofs.SumLaws.{sum-range}
 use Rattle.fleet_model.proofs.DivisorLaws.{systems-positive, per_system-positive, all_systems-positive}
 use Rattle.availability.specs.declared.Weighted.{Weighted}
 use Rattle.availability.specs.Profile.{all_systems}
-use Rattle.availability.specs.Exact.{power, factor_of, weighted_mean, BaseIn, BasesIn}
+use Rattle.availability.specs.Exact.{factor_of, weighted_mean, BaseIn, BasesIn}
 use Rattle.availability.proofs.Laws.{factor_in, fleet_in}
 use Rattle.family_eval.specs.Profile.{item_of}
 use Rattle.family_eval.specs.Profile as family
@@ -81,14 +80,9 @@ line_backorders c s n l (suc j) h p = ap (λ (m : Moments). ebo n m.mean m.varia
 
 -- ---- availability
 
-power_is : (q : Fraction) (n : ℕ) → power q n ≡ model.power q n
-unfolding power model.power
-power_is q zero = refl
-power_is q (suc n) = ap (λ (p : Fraction). p *ℚ q) (power_is q n)
-
 factor_is : (c : CaseRows) (s : List ℕ) (n l j : ℕ) → factor_of (ebo_0j c s n l j) (systems c j) (per_system c l) ≡ factor c s n l j
 unfolding factor
-factor_is c s n l j = power_is (whole 1 -ℚ ebo_0j c s n l j /ℚ whole (systems c j * per_system c l)) (per_system c l)
+factor_is c s n l j = refl
 
 -- the backorders of each line unit at base j are enclosed at depth n
 abbrev LinesIn : ℕ → CaseRows → List ℕ → ℕ → ℕ → Type 0

@@ -4,7 +4,7 @@ use Rattle.std.proofs.lemmas.List.Elements.{All-get_or}
 use Rattle.std.proofs.lemmas.List.Sums.{fold_more}
 use Rattle.fixed_interval.specs.Ends.{Ends, In, ends_exact, ends_mul}
 use Rattle.availability.specs.Profile.{base_ends}
-use Rattle.availability.specs.Exact.{product_below}
+use Rattle.exact_model.specs.Sums.{product_below}
 use Rattle.availability.proofs.Laws.{base_in, product_most}
 use Rattle.availability.proofs.base_availability.Goals as goal
 
