@@ -1,7 +1,7 @@
 -- The bytes of fields that a line has or leaves empty, and of the lines that have them.
 use Rattle.std.specs.Prelude.{ℕ, Bool, not, ◌&&◌, List, [], ◌∷◌, ◌++◌, Option, Some, None, if◌then◌else◌}
 use Rattle.std.specs.Fmt.{decimal}
-use Rattle.line_text.specs.Texts.{fixed_text}
+use Rattle.fixed_interval.specs.Text.{fixed_text}
 use Rattle.spares_input.specs.declared.rows.PartRow.{PartRow}
 use Rattle.spares_input.specs.declared.rows.RateRow.{RateRow}
 

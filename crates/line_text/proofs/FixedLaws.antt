@@ -10,12 +10,14 @@ use Rattle.std.proofs.lemmas.Nat.{div-add-mod'}
 use Rattle.std.proofs.lemmas.Str.{digit_value_digit}
 use Rattle.std.proofs.lemmas.List.{take-append-drop, length-drop}
 use Rattle.std.proofs.lemmas.Slice.Eq.{bytes_eq-Decides}
+use Rattle.fixed_interval.specs.Text.{last_digits, fixed_text}
+use Rattle.fixed_interval.proofs.Text.{length-last_digits, after_last_digits, last_digits_none}
 use Rattle.line_text.specs.Formats.{Token, Text, spelled}
-use Rattle.line_text.specs.Texts.{AreDigits, number, fixed, fixed_text, last_digits, without_point, in_range}
+use Rattle.line_text.specs.Texts.{AreDigits, number, fixed, without_point, in_range}
 use Rattle.line_text.specs.Exact.{IsExactText, IsField}
 use Rattle.line_text.proofs.FieldLaws.{number_is_exact}
 use Rattle.line_text.proofs.Numerals.{digs_at, plus_one}
-use Rattle.line_text.proofs.MoreFields.{digs_last, meant_fixed, whole_small, after_last_digits}
+use Rattle.line_text.proofs.MoreFields.{digs_last, meant_fixed, whole_small}
 
 -- ---- the point
 
@@ -71,23 +73,14 @@ append_parts (x ∷ xs) (u ∷ us) ys vs l e =
     let p = append_parts xs us ys vs l b in
     (rw (a, p.0) refl, p.1)
 
-length_last : (k n : ℕ) → length (last_digits k n) ≡ k
-unfolding last_digits
-length_last zero n = refl
-length_last (suc k) n = omega (arith, length_last k n)
-
 sides : (places n : ℕ) (xs ys : List ℕ) → length ys ≡ places → fixed_text places n ≡ xs ++ 46 ∷ ys → (decimal (n / 10 ^ places) ≡ xs) × (last_digits places n ≡ ys)
 sides places n xs ys l e =
-    let p = append_parts (decimal (n / 10 ^ places)) xs (46 ∷ last_digits places n) (46 ∷ ys) (omega (arith, l, length_last places n)) e in
+    let p = append_parts (decimal (n / 10 ^ places)) xs (46 ∷ last_digits places n) (46 ∷ ys) (omega (arith, l, length-last_digits places n)) e in
     (p.0, ap (drop 1) p.1)
 
 cons_back : (d k n : ℕ) (xs : List ℕ) → 48 + n / 10 ^ k % 10 ≡ d → last_digits k n ≡ xs → last_digits (suc k) n ≡ d ∷ xs
 unfolding last_digits
 cons_back d k n xs h e = rw (h, e) refl
-
-nil_back : (n : ℕ) → last_digits 0 n ≡ []
-unfolding last_digits
-nil_back n = refl
 
 digits_tail : (x : ℕ) (xs : List ℕ) → AreDigits (x ∷ xs) → AreDigits xs
 digits_tail x xs d k h = d (suc k) (omega (arith, h))
@@ -97,7 +90,7 @@ one_digit_more m d h = (omega (arith, h), omega (arith, h))
 
 -- the number and the digits after it come back
 pub digits_back : (m : ℕ) (xs : List ℕ) → AreDigits xs → (digits_value_after 10 m xs / 10 ^ length xs ≡ m) × (last_digits (length xs) (digits_value_after 10 m xs) ≡ xs)
-digits_back m [] d = (omega arith, nil_back m)
+digits_back m [] d = (omega arith, last_digits_none m)
 digits_back m (x ∷ xs) d =
     let b = d 0 (omega arith) in
     let v = digit_value_digit x b in
@@ -172,7 +165,7 @@ module _ (text xs ys : List ℕ) (places least most : ℕ) (small : most < 2 ^ 1
 pub no_halves : (text : List ℕ) (places least most : ℕ) → ((xs ys : List ℕ) → length ys ≡ places → text ≡ xs ++ 46 ∷ ys → ⊥) → None ≡ (fixed places least most).read text
 no_halves text places least most h =
     spelled_refused (fixed_text places) (λ t. digits_value 10 (without_point t)) (in_range least most) text
-    (λ n f e. h (decimal (n / 10 ^ places)) (last_digits places n) (length_last places n) (sym e))
+    (λ n f e. h (decimal (n / 10 ^ places)) (last_digits places n) (length-last_digits places n) (sym e))
 
 -- ---- writing
 
@@ -197,13 +190,10 @@ pub last_front : (k n : ℕ) → last_digits (suc k) n ≡ (48 + n / 10 ^ k % 10
 unfolding last_digits
 last_front k n = refl
 
-pub last_none : (n : ℕ) → last_digits 0 n ≡ []
-last_none n = nil_back n
-
 pub front_more : (places k n unit : ℕ) → k < places → unit ≡ 10 ^ (places - (k + 1)) → last_digits (places - k) n ≡ (48 + n / unit % 10) ∷ last_digits (places - (k + 1)) n
 front_more places k n unit h e =
     let s : places - k ≡ suc (places - (k + 1)) = omega (arith, h) in
     rw (s, e) (last_front (places - (k + 1)) n)
 
 pub last_at : (places k n : ℕ) → places ≤ k → last_digits (places - k) n ≡ []
-last_at places k n h = let z : places - k ≡ 0 = omega (arith, h) in rw z (last_none n)
+last_at places k n h = let z : places - k ≡ 0 = omega (arith, h) in rw z (last_digits_none n)

@@ -9,12 +9,14 @@ use Rattle.std.proofs.Math.Nat.{pow-suc, one-le-pow, div-div-eq-div-mul, le-mul_
 use Rattle.std.proofs.lemmas.Bool.{and_parts, and_from, leb-true, le-leb, ne_eqb}
 use Rattle.std.proofs.lemmas.Nat.{div-add-mod', mod_below, div_below}
 use Rattle.std.proofs.lemmas.Fmt.{decimal_is_IsNumeral_wide}
+use Rattle.fixed_interval.specs.Text.{last_digits, fixed_text}
+use Rattle.fixed_interval.proofs.Text.{after_append, after_last_digits}
 use Rattle.line_text.specs.Formats.{Token, Text}
-use Rattle.line_text.specs.Texts.{in_range, last_digits, fixed_text, without_point, fixed, Either, Left, Right, left_or, either, if_any, read_any, kept_by, only}
+use Rattle.line_text.specs.Texts.{in_range, without_point, fixed, Either, Left, Right, left_or, either, if_any, read_any, kept_by, only}
 use Rattle.line_text.specs.Exact.{IsExactText, IsField}
 use Rattle.line_text.proofs.LineLaws.{spelled_is_exact}
 use Rattle.line_text.proofs.FieldLaws.{decimal_is_field, field_append, digit_is_plain}
-use Rattle.line_text.proofs.Numerals.{IsDig, decimal_digs, after_append}
+use Rattle.line_text.proofs.Numerals.{IsDig, decimal_digs}
 
 keep : (xs ys : List ℕ) → AllByRecursion IsDig xs → without_point (xs ++ ys) ≡ xs ++ without_point ys
 keep [] ys h = refl
@@ -33,31 +35,6 @@ field_last (suc k) n = (digit_is_plain (n / 10 ^ k % 10) (mod_below (n / 10 ^ k)
 all_kept : (xs : List ℕ) → AllByRecursion IsDig xs → without_point xs ≡ xs
 all_kept [] h = refl
 all_kept (x ∷ xs) h = rw (ne_eqb x 46 (λ e. omega (arith, e, h.0.0))) (ap (λ (t : Token). x ∷ t) (all_kept xs h.1))
-
-pub digit_of_character : (d : ℕ) → d < 10 → digit_value (48 + d) ≡ d
-digit_of_character d h = grind arith
-
--- one more digit in front
-split_at_place : (n p q : ℕ) → q ≡ p * 10 → n % q ≡ n / p % 10 * p + n % p
-split_at_place n p q e =
-    let a = div-add-mod' n p in
-    let b = div-add-mod' n q in
-    let d = ap (λ x. x * p) (div-add-mod' (n / p) 10) in
-    let f : n / p / 10 ≡ n / q = rw e (div-div-eq-div-mul n p 10) in
-    let g = ap (λ x. x * q) f in
-    let h : n / q * q ≡ n / q * p * 10 = rw e (omega arith) in
-    let k = ap (λ x. x * p * 10) f in
-    omega (arith, a, b, d, h, k)
-
-pub after_last_digits : (m k n : ℕ) → digits_value_after 10 m (last_digits k n) ≡ m * 10 ^ k + n % 10 ^ k
-unfolding last_digits
-after_last_digits m zero n = omega arith
-after_last_digits m (suc k) n =
-    let d = digit_of_character (n / 10 ^ k % 10) (mod_below (n / 10 ^ k) 10 (lit< tt)) in
-    let p = pow-suc 10 k in
-    ap (λ v. digits_value_after 10 (m * 10 + v) (last_digits k n)) d
-    ∙ after_last_digits (m * 10 + n / 10 ^ k % 10) k n
-    ∙ omega (arith, split_at_place n (10 ^ k) (10 ^ (suc k)) p, ap (λ x. m * x) p)
 
 -- the value of the digits on both sides of the point
 pub meant_fixed : (places n : ℕ) → n / 10 ^ places < 10 ^ 64 → digits_value 10 (without_point (fixed_text places n)) ≡ n

@@ -13,11 +13,8 @@ use Rattle.std.proofs.lemmas.Fmt.{decimal_by_steps_wide, decimal_step_wide, deci
 use Rattle.std.proofs.lemmas.List.{take-append-drop}
 use Rattle.std.proofs.lemmas.Grind.{take_at_read}
 use Rattle.std.proofs.lemmas.Slice.Eq.{bytes_eq-Decides}
+use Rattle.fixed_interval.proofs.Text.{after_append, first_digit}
 use Rattle.line_text.specs.Texts.{AreDigits, IsShort, number, in_range}
-
-pub after_append : (m : ℕ) (xs ys : List ℕ) → digits_value_after 10 m (xs ++ ys) ≡ digits_value_after 10 (digits_value_after 10 m xs) ys
-after_append m [] ys = refl
-after_append m (x ∷ xs) ys = after_append (m * 10 + digit_value x) xs ys
 
 after_grows : (m : ℕ) (xs : List ℕ) → m ≤ digits_value_after 10 m xs
 after_grows m [] = omega arith
@@ -126,16 +123,6 @@ digs_at (x ∷ xs) h (suc k) lt = digs_at xs h.1 k (omega (arith, lt))
 
 pub decimal_digits : (n : ℕ) → n < 10 ^ 64 → AreDigits (decimal n)
 decimal_digits n h = digs_at (decimal n) (decimal_digs n h)
-
--- the first digit of a number above 0 is not 0
-first_digit : (n : ℕ) → n < 10 ^ 64 → 0 < n → (0 < length (decimal n)) × (48 < get_or (decimal n) 0 0)
-first_digit n h =
-    decimal_by_steps_wide (λ m ds. 0 < m → (0 < length ds) × (48 < get_or ds 0 0))
-    (λ m s p. (omega arith, omega arith))
-    (λ m ds t i p.
-    let j = i (le-div 1 m 10 (lit< tt) (omega arith)) in
-    (omega (arith, j.0, length-append ds ((48 + m % 10) ∷ [])), rw (get_or-append ds ((48 + m % 10) ∷ []) 0 0 j.0) j.1))
-    n h
 
 pub decimal_short : (n : ℕ) → n < 10 ^ 64 → IsShort (decimal n)
 decimal_short zero h = let e = decimal_digit 0 (lit< tt) in (omega (arith, ap length e), λ _. ap length e)

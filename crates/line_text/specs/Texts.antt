@@ -2,6 +2,7 @@
 use Rattle.std.specs.Prelude.{◌≡◌, ℕ, zero, suc, ◌+◌, ◌/◌, ◌%◌, ◌^◌, ◌≤◌, ◌<◌, slice_index, Bool, true, not, ◌&&◌, ◌==◌, nat_le, List, [], ◌∷◌, ◌++◌, length, filter, Option, Some, None, option_map, if◌then◌else◌}
 use Rattle.std.specs.Fmt.{decimal}
 use Rattle.std.specs.Str.Parse.{digits_value}
+use Rattle.fixed_interval.specs.Text.{fixed_text}
 use Rattle.line_text.specs.Formats.{Token, Text, Format, spelled, one, nothing, and_then, each, as_shape}
 use Rattle.line_text.specs.Files.{line}
 
@@ -20,15 +21,6 @@ in_range least most n = nat_le least n && nat_le n most
 
 abbrev pub number : ℕ → ℕ → Text ℕ
 number least most = spelled decimal (digits_value 10) (in_range least most)
-
--- the last k decimal digits of n
-unfoldable pub last_digits : ℕ → ℕ → List ℕ
-last_digits zero n = []
-last_digits (suc k) n = (48 + n / 10 ^ k % 10) ∷ last_digits k n
-
--- n units of the last of these places
-abbrev pub fixed_text : ℕ → ℕ → List ℕ
-fixed_text places n = decimal (n / 10 ^ places) ++ (46 ∷ last_digits places n)
 
 abbrev pub without_point : Token → Token
 without_point t = filter (λ b. not (b == 46)) t

@@ -1,7 +1,8 @@
 //! Numbers with fixed places as fields: whole numbers of units of the last place.
 
 ghost use Rattle.std.specs.Prelude.{◌≡◌, ℕ, List, ◌^◌, ◌≤◌, ◌++◌, ◌∷◌, length, MatchOption, OnOk};
-ghost use Rattle.line_text.specs.Texts.{fixed, fixed_text, last_digits};
+ghost use Rattle.fixed_interval.specs.Text.{fixed_text, last_digits};
+ghost use Rattle.line_text.specs.Texts.{fixed};
 
 use crate::numbers::{are_digits, number, put_number, value_after};
 use spares_io::NoMemory;

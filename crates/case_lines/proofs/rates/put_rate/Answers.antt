@@ -1,6 +1,6 @@
 use Rattle.std.proofs.Common.{◌≡◌, ◌++◌, [], Bool, List, ℕ, ap, sym, ◌∙◌}
 use Rattle.std.specs.Prelude.{is_none, not, ◌&&◌}
-use Rattle.line_text.specs.Texts.{fixed_text}
+use Rattle.fixed_interval.specs.Text.{fixed_text}
 use Rattle.case_lines.specs.Fields.{rate_text, fixed_text_if}
 use Rattle.case_lines.proofs.Written.{seven_steps, is_none_of, rate_printed, nothing_more}
 use Rattle.case_lines.proofs.rates.put_rate.Goals as goal

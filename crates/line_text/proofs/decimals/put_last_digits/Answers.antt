@@ -1,6 +1,6 @@
 use Rattle.std.proofs.Common.{◌+◌, ◌-◌, ◌/◌, ◌%◌, ◌++◌, ◌∷◌, [], List, ℕ, sym, ap, ◌∙◌, append_assoc, arith}
 use Rattle.std.proofs.lemmas.List.{append-nil}
-use Rattle.line_text.specs.Texts.{last_digits}
+use Rattle.fixed_interval.specs.Text.{last_digits}
 use Rattle.line_text.proofs.FixedLaws.{unit_falls, ten_positive, front_more, last_at}
 use Rattle.line_text.proofs.decimals.put_last_digits.Goals as goal
 
