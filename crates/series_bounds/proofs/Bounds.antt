@@ -5,6 +5,7 @@ use Rattle.std.proofs.Math.Nat.{mul-pos, lt_of_mul-lt-mul_right, zero-div}
 use Rattle.std.proofs.lemmas.Bool.{lt-ltb, le-ltb}
 use Rattle.fixed_interval.specs.Ends.{Ends, ends_less, ends_mul}
 use Rattle.series_bounds.specs.Profile.{ratio_ends, far_ratio, ratio_bound, has_remainder, remainder_from, pivot_at}
+use Rattle.series_bounds.specs.Walk.{StaysFrom}
 use Rattle.series_bounds.proofs.Ranges.{ceil_most, ceil_above}
 
 pub bound_is : (f : ℕ) (m d : Ends) (K b hi far : ℕ) (r : Ends) → hi ≡ r.hi → r ≡ ratio_ends f m d (K + 1) → far ≡ far_ratio f d → b ≡ max hi far → b ≡ ratio_bound f m d K
@@ -57,3 +58,16 @@ weight_stays f m d w x p q l h k =
     let top : (ratio_ends f m d x).hi ≤ 2 ^ f = ceil_most ((m.hi + d.hi * (x - 1)) * 2 ^ f) ((1 * 2 ^ f + d.lo) * x) (2 ^ f) b (omega (arith, mul-le-mul_right (2 ^ f) k)) in
     let least : 0 < (ratio_ends f m d x).hi = many_gaps ((m.hi + d.hi * (x - 1)) * 2 ^ f) ((1 * 2 ^ f + d.lo) * x) 0 b (omega (arith, mul-pos {m = m.hi + d.hi * (x - 1)} {n = 2 ^ f} (omega arith) o)) in
     i ∙ sym (small_stays f (ratio_ends f m d x) least top) ∙ ap (λ (z : Ends). ends_mul f z (ratio_ends f m d x)) (sym i)
+
+-- ratios of at most 1 stay so where the numerator gains no more than the denominator
+falls_on : (m e q x y : ℕ) → 0 < x → x ≤ y → m + e * (x - 1) ≤ q * x → e ≤ q → m + e * (y - 1) ≤ q * y
+falls_on m e q x y p h l s =
+    let i : y - 1 ≡ (x - 1) + (y - x) = omega arith in
+    let j : y ≡ x + (y - x) = omega arith in
+    let a : e * (y - 1) ≡ e * (x - 1) + e * (y - x) = ap (λ z. e * z) i ∙ omega arith in
+    let b : q * y ≡ q * x + q * (y - x) = ap (λ z. q * z) j ∙ omega arith in
+    omega (arith, a, b, l, mul-le-mul_right (y - x) s)
+
+pub weight_stays_on : (f : ℕ) (m d w : Ends) (x y : ℕ) → 0 < x → x ≤ y → 0 < m.hi → StaysFrom f m d w x → w ≡ ends_mul f w (ratio_ends f m d y)
+weight_stays_on f m d w x y p h q s =
+    weight_stays f m d w y (omega arith) q s.least s.most (falls_on m.hi d.hi (1 * 2 ^ f + d.lo) x y p h s.falls s.goes_on)

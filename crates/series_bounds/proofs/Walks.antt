@@ -6,8 +6,8 @@ use Rattle.std.proofs.lemmas.Bool.{lt-ltb, le-ltb, le-leb, lt-leb, cond-true, co
 use Rattle.std.proofs.lemmas.List.{reverse-append}
 use Rattle.fixed_interval.specs.Ends.{Ends, ends_exact, ends_mul}
 use Rattle.series_bounds.specs.Profile.{ratio_ends, back_ends, pivot_at, weight_before, weight_past, weight_ends, has_remainder, ratio_bound, remainder_from, remainder_at, may_end, first_from, least_end, last_index, any_below, is_wide, listed}
-use Rattle.series_bounds.proofs.Bounds.{exists_is, missing_is, rest_is}
-use Rattle.series_bounds.specs.Walk.{ToPivot, ToLeastEnd, ToEnd}
+use Rattle.series_bounds.proofs.Bounds.{exists_is, missing_is, rest_is, weight_stays_on}
+use Rattle.series_bounds.specs.Walk.{ToPivot, ToNext, ToLeastEnd, ToEnd, StaysFrom}
 
 -- ---- the weights by their index
 
@@ -300,14 +300,62 @@ least_is : (f : ℕ) (m d : Ends) (x : ℕ) → pivot_at f m d < x → 63 ≤ x 
 unfolding least_end
 least_is f m d x p q r = omega (arith, max_most (pivot_at f m d + 1) 63 x (omega arith) q)
 
-pub ascent_least : (f : ℕ) (m d : Ends) (list : List Ends) (term : Ends) (x : ℕ) → Ascent f m d list term x → 63 ≤ x → x ≤ max (pivot_at f m d + 1) 63 → ToLeastEnd f m d list term
-ascent_least f m d list term x h q r =
-    let e : x ≡ least_end f m d = least_is f m d x h.past q r in
+pub ascent_least : (f : ℕ) (m d : Ends) (list : List Ends) (term : Ends) (x : ℕ) → Ascent f m d list term x → x ≡ least_end f m d → ToNext f m d list term x
+ascent_least f m d list term x h e = record {
+  weights = h.weights;
+  past = h.past;
+  before_end = omega (arith, e);
+  last_is = h.last;
+  tops = h.tops;
+  same = λ y a b. absurd (omega (arith, a, b, e));
+}
+
+stay_past : (f : ℕ) (m d : Ends) (term : Ends) (x k : ℕ) → pivot_at f m d < x → 0 < m.hi → term ≡ weight_ends f m d (x - 1) → StaysFrom f m d term x
+    → weight_ends f m d (x - 1 + k) ≡ term
+stay_past f m d term x zero p q e s = ap (weight_ends f m d) (omega arith) ∙ sym e
+stay_past f m d term x (suc k) p q e s =
+    let i : x - 1 + suc k - 1 ≡ x - 1 + k = omega arith in
+    weight_up f m d (x - 1 + suc k) (omega (arith, p)) ∙ ap (λ z. ends_mul f (weight_ends f m d z) (ratio_ends f m d (x - 1 + suc k))) i
+    ∙ ap (λ z. ends_mul f z (ratio_ends f m d (x - 1 + suc k))) (stay_past f m d term x k p q e s)
+    ∙ sym (weight_stays_on f m d term x (x - 1 + suc k) (omega (arith, p)) (omega (arith, p)) q s)
+
+-- the walk may stop where the weights stay the same
+pub ascent_stays : (f : ℕ) (m d : Ends) (list : List Ends) (term : Ends) (x : ℕ) → Ascent f m d list term x → 0 < m.hi → x ≤ least_end f m d → StaysFrom f m d term x
+    → ToNext f m d list term x
+ascent_stays f m d list term x h q l s = record {
+  weights = h.weights;
+  past = h.past;
+  before_end = l;
+  last_is = h.last;
+  tops = h.tops;
+  same = λ y a b.
+      let i : y ≡ x - 1 + (y - (x - 1)) = omega (arith, h.past, a) in
+      ap (weight_ends f m d) i ∙ stay_past f m d term x (y - (x - 1)) h.past q h.last s;
+}
+
+pub next_same : (f : ℕ) (m d : Ends) (list more : List Ends) (last : Ends) (next y : ℕ) → ToNext f m d list last next → next ≤ y → y < least_end f m d
+    → more ≡ listed (weight_ends f m d) y → more ++ last ∷ [] ≡ listed (weight_ends f m d) (y + 1)
+next_same f m d list more last next y h a b e = ap₂ (λ z w. z ++ w ∷ []) e (sym (h.same y a b)) ∙ sym (listed_next (weight_ends f m d) y)
+
+pub next_least : (f : ℕ) (m d : Ends) (list more : List Ends) (last : Ends) (next : ℕ) → ToNext f m d list last next
+    → more ≡ listed (weight_ends f m d) (least_end f m d) → ToLeastEnd f m d more last
+next_least f m d list more last next h e =
+    let p : 0 < next = omega (arith, h.past) in
+    let top : last.hi ≤ 8 * 2 ^ f = subst (λ (z : Ends). z.hi ≤ 8 * 2 ^ f) (sym h.last_is) (h.tops (next - 1) (omega arith)) in
     record {
-      weights = h.weights ∙ ap (listed (weight_ends f m d)) e;
-      last_is = h.last ∙ ap (λ y. weight_ends f m d (y - 1)) e;
-      tops = λ y l. h.tops y (omega arith);
+      weights = e;
+      last_is = elim (eq-or-lt_of_le {n = next} {m = least_end f m d} h.before_end) [
+        | inl i ↦ h.last_is ∙ ap (λ y. weight_ends f m d (y - 1)) i
+        | inr l ↦ sym (h.same (least_end f m d - 1) (omega (arith, l)) (omega (arith, l)))
+      ];
+      tops = λ x l. elim (cases_lt x next) [
+        | inl k ↦ h.tops x k
+        | inr k ↦ subst (λ (z : Ends). z.hi ≤ 8 * 2 ^ f) (sym (h.same x k l)) top
+      ];
     }
+
+pub next_done : (f : ℕ) (m d : Ends) (list : List Ends) (last : Ends) (next : ℕ) → ToNext f m d list last next → next ≡ least_end f m d → ToLeastEnd f m d list last
+next_done f m d list last next h e = next_least f m d list list last next h (h.weights ∙ ap (listed (weight_ends f m d)) e)
 
 pub ascent_again : (f : ℕ) (m d : Ends) (list : List Ends) (term : Ends) → pivot_at f m d ≤ 256 → ToLeastEnd f m d list term → Ascent f m d list term (least_end f m d)
 ascent_again f m d list term q h = record {

@@ -1,5 +1,5 @@
 -- What the walks down and up from the pivot find.
-use Rattle.std.specs.Prelude.{◌≡◌, ℕ, suc, false, ◌-◌, ◌*◌, ◌^◌, ◌<◌, ◌≤◌, List}
+use Rattle.std.specs.Prelude.{◌≡◌, ℕ, suc, false, ◌+◌, ◌-◌, ◌*◌, ◌^◌, ◌<◌, ◌≤◌, List}
 use Rattle.fixed_interval.specs.Ends.{Ends}
 use Rattle.series_bounds.specs.Profile.{remainder_at, weight_ends, least_end, last_index, pivot_at, listed, is_wide}
 
@@ -7,6 +7,22 @@ use Rattle.series_bounds.specs.Profile.{remainder_at, weight_ends, least_end, la
 pub record ToPivot (f : ℕ) (m d : Ends) (list : List Ends) : Type 0 where
   pub weights : list ≡ listed (weight_ends f m d) (suc (pivot_at f m d))
   pub tops : (x : ℕ) → x ≤ pivot_at f m d → (weight_ends f m d x).hi ≤ 8 * 2 ^ f
+
+-- a weight before x is from 0 to 1 unit, and the ratios from x on are at most 1
+pub record StaysFrom (f : ℕ) (m d before : Ends) (x : ℕ) : Type 0 where
+  pub least : before.lo ≡ 0
+  pub most : before.hi ≡ 1
+  pub falls : m.hi + d.hi * (x - 1) ≤ (1 * 2 ^ f + d.lo) * x
+  pub goes_on : d.hi ≤ 1 * 2 ^ f + d.lo
+
+-- the weights below next, the last of them in last, where all that follow before the list may end are the same
+pub record ToNext (f : ℕ) (m d : Ends) (list : List Ends) (last : Ends) (next : ℕ) : Type 0 where
+  pub weights : list ≡ listed (weight_ends f m d) next
+  pub past : pivot_at f m d < next
+  pub before_end : next ≤ least_end f m d
+  pub last_is : last ≡ weight_ends f m d (next - 1)
+  pub tops : (x : ℕ) → x < next → (weight_ends f m d x).hi ≤ 8 * 2 ^ f
+  pub same : (x : ℕ) → next ≤ x → x < least_end f m d → weight_ends f m d x ≡ last
 
 -- the weights below the first index at which the list may end, the last of them in last, none of which passes 8
 pub record ToLeastEnd (f : ℕ) (m d : Ends) (list : List Ends) (last : Ends) : Type 0 where

@@ -14,28 +14,38 @@
 ghost use Rattle.std.specs.Prelude.{◌≡◌, ◌+◌, ◌-◌, ◌*◌, ◌/◌, ◌^◌, ◌<◌, ◌≤◌, true, false, max, ℕ, ◌⊎◌, IfOk, IfSome, IfNone, length};
 ghost use Rattle.std.specs.List.{All};
 ghost use Rattle.std.specs.Int.{div_ceil};
-ghost use Rattle.fixed_interval.specs.Ends.{Ends, InScale, ends_exact, ends_mul};
+ghost use Rattle.fixed_interval.specs.Ends.{Ends, InScale, IsWithinLimit, ends_exact, ends_mul};
 ghost use Rattle.series_bounds.specs.Profile.{
   ratio_ends,
   back_ends,
   pivot_at,
+  least_end,
   weight_ends,
   may_end,
   last_index,
-  far_ratio,
   is_wide,
   ends_sum,
   weights_of,
 };
-ghost use Rattle.series_bounds.specs.Walk.{ToPivot, ToLeastEnd, ToEnd};
+ghost use Rattle.series_bounds.specs.Ratios.{AreRatios};
+ghost use Rattle.series_bounds.specs.Walk.{ToPivot, ToNext, ToLeastEnd, ToEnd, StaysFrom};
 ghost use Rattle.series_bounds.specs.Answer.{Weighs, SizedAnswer};
 
 use crate::kinds::Weights;
+use crate::ratios::Ratios;
+use crate::shares::div_near;
+use crate::short::product;
 use fixed_interval::Iv;
+use quotients::{inverse_of, inverse_refined};
 use spares_io::{List, NoMemory};
 use std::alloc::Global;
 
+mod inverses;
 pub mod kinds;
+mod parts;
+mod ratios;
+mod shares;
+pub mod short;
 
 /// What the weights' definition says by the index: 1 at the pivot, and from there down and up by the ratios.
 pub fn weights_by_index()
@@ -67,11 +77,14 @@ const MOST_REMAINDER: u128 = 256;
 /// A weight above this makes the answer wide.
 const MOST_WEIGHT: u32 = 8;
 
-/// The weights below the first index at which the list may end, and the last of them.
+/// The weights below an index, the last of them, and the ratio there.
 #[derive(Drop)]
 struct Begun<const F: u32> {
     list: Vec<Iv<F>>,
     last: Iv<F>,
+    /// The index.
+    next: u32,
+    ratios: Ratios<F>,
 }
 
 /// All weights, and what the ones past them come to at most.
@@ -97,72 +110,73 @@ fn most_weight<const F: u32>() -> u128
     Iv::<F>::exact(MOST_WEIGHT).hi()
 }
 
-/// The ratio of the weight at `x` to the one before it.
-fn ratio_at<const F: u32>(mean: Iv<F>, excess: Iv<F>, x: u32) -> Iv<F>
-    requires mean_top { mean.hi ≤ 256 * 2 ^ F }
-    requires excess_top { excess.hi ≤ 2048 * 2 ^ F }
+/// What the ratio of the weight before `x` to the one at `x` is divided by at most, where that has 64 bits.
+fn back_divisor<const F: u32>(mean: Iv<F>, excess: Iv<F>, x: u32) -> u64
+    requires mean_top { IsWithinLimit F mean }
+    requires above { 2 ^ F + excess.hi ≤ mean.lo }
     requires from { 0 < x }
-    requires depth { x ≤ 1025 }
-    ensures ends { result ≡ ratio_ends F mean.entry excess.entry x }
-    ensures top { result.hi ≤ 2048 * 2 ^ F }
+    requires depth { x ≤ 256 }
+    ensures { 0 < result }
 {
-    let above = mean.add(excess.times(x - 1));
-    let below = Iv::exact(1).add(excess).times(x);
-    above.div(below)
+    let below = mean.add(excess.times(x - 1));
+    below.hi().clamp(1, u128::from(u64::MAX)) as u64
 }
 
-/// The ratio of the weight before `x` to the one at `x`, where the mean is at least 1 above the excess.
-fn back_at<const F: u32>(mean: Iv<F>, excess: Iv<F>, x: u32) -> Iv<F>
-    requires mean_top { mean.hi ≤ 256 * 2 ^ F }
+/// The ratio of the weight before `x` to the one at `x`, where the mean is at least 1 above the excess. `inverse` is taken for
+/// that of the upper end of what it is divided by.
+fn back_at<const F: u32>(mean: Iv<F>, excess: Iv<F>, x: u32, inverse: u64) -> Iv<F>
+    requires mean_top { IsWithinLimit F mean }
     requires above { 2 ^ F + excess.hi ≤ mean.lo }
     requires from { 0 < x }
     requires depth { x ≤ 256 }
     ensures ends { result ≡ back_ends F mean.entry excess.entry x }
-    ensures top { result.hi ≤ 256 * 2 ^ F }
+    ensures top { IsWithinLimit F result }
 {
     let above = Iv::exact(1).add(excess).times(x);
     let below = mean.add(excess.times(x - 1));
-    above.div(below)
+    div_near(above, below, inverse)
 }
 
-/// Whether the ratio of the weight at `x` to the one before it is at most 1.
-fn falls<const F: u32>(mean: Iv<F>, excess: Iv<F>, x: u32) -> bool
-    requires mean_top { mean.hi ≤ 256 * 2 ^ F }
+/// A weight times a ratio.
+#[inline(always)]
+fn times<const F: u32>(weight: Iv<F>, ratio: Iv<F>) -> Iv<F>
+    requires top { weight.hi ≤ 8 * 2 ^ F }
+    requires ratio_top { ratio.hi ≤ 2048 * 2 ^ F }
+    ensures { result ≡ ends_mul F weight.entry ratio.entry }
+{
+    product(weight, ratio)
+}
+
+/// Whether a weight before the index `x` is from 0 to 1 unit, and all ratios from there on are at most 1. Then all weights
+/// from there on are the same.
+fn stays<const F: u32>(mean: Iv<F>, excess: Iv<F>, before: Iv<F>, x: u32) -> bool
+    requires mean_top { IsWithinLimit F mean }
     requires excess_top { excess.hi ≤ 2048 * 2 ^ F }
     requires from { 0 < x }
     requires depth { x ≤ 1025 }
-    ensures { result ≡ true → mean.entry.hi + excess.entry.hi * (x - 1) ≤ (1 * 2 ^ F + excess.entry.lo) * x }
+    ensures { result ≡ true → StaysFrom F mean.entry excess.entry before.entry x }
 {
-    let above = mean.add(excess.times(x - 1));
-    let below = Iv::exact(1).add(excess).times(x);
-    above.hi() <= below.lo()
-}
-
-/// The weight at `x`, from the one before it. From a weight of 0 to 1 unit on, falling weights stay the same.
-fn next_weight<const F: u32>(mean: Iv<F>, excess: Iv<F>, before: Iv<F>, x: u32) -> Iv<F>
-    requires positive { 0 < mean.lo }
-    requires mean_top { mean.hi ≤ 256 * 2 ^ F }
-    requires excess_top { excess.hi ≤ 2048 * 2 ^ F }
-    requires before_top { before.hi ≤ 8 * 2 ^ F }
-    requires from { 0 < x }
-    requires depth { x ≤ 1025 }
-    ensures { result ≡ ends_mul F before.entry (ratio_ends F mean.entry excess.entry x) }
-{
-    if before.lo() == 0 && before.hi() == 1 && falls(mean, excess, x) {
-        before
-    } else {
-        before.mul(ratio_at(mean, excess, x))
+    if before.lo() != 0 || before.hi() != 1 {
+        return false;
     }
+    let above = mean.add(excess.times(x - 1));
+    let step = Iv::exact(1).add(excess);
+    let below = step.times(x);
+    above.hi() <= below.lo() && excess.hi() <= step.lo()
 }
 
-/// What bounds all ratios far out: the excess over 1 more than it.
-fn far_ratio_of<const F: u32>(excess: Iv<F>) -> u128
-    requires excess_top { excess.hi ≤ 2048 * 2 ^ F }
-    ensures { result ≡ far_ratio F excess.entry }
+/// `num / den`, rounded up, without a division where that is at most 1.
+fn quotient_few(num: u128, den: u128) -> u128
+    requires { 0 < den }
+    ensures { result ≡ div_ceil num den }
 {
-    let unit = unit::<F>();
-    let spread = excess.hi();
-    (spread * unit).div_ceil(unit + spread)
+    if num == 0 {
+        0
+    } else if num <= den {
+        1
+    } else {
+        num.div_ceil(den)
+    }
 }
 
 /// What the weights past `x` come to at most, where the list ends there: `top` is the weight at `x`, and `bound` bounds the
@@ -184,18 +198,30 @@ fn rest_at<const F: u32>(top: u128, bound: u128, x: u32) -> Option<u128>
     if product > MOST_REMAINDER * gap && x < LAST_END {
         return None;
     }
-    Some(product.div_ceil(gap))
+    Some(quotient_few(product, gap))
 }
 
 /// The mode, rounded down.
 fn pivot_of<const F: u32>(mean: Iv<F>, excess: Iv<F>) -> u16
-    requires mean_top { mean.hi ≤ 256 * 2 ^ F }
+    requires mean_top { IsWithinLimit F mean }
     ensures place { result ≡ pivot_at F mean.entry excess.entry }
     ensures most { result ≤ 256 }
     ensures above { 0 < result → 2 ^ F + excess.entry.hi ≤ mean.entry.lo }
 {
     let unit = unit::<F>();
     (mean.less(excess).lo() / unit) as u16
+}
+
+/// The inverse of `den`, at the first step by a division and later from that of the one before it.
+fn next_inverse<const F: u32>(inverse: u64, den: u64, step: u32) -> u64
+    requires scale { F ≤ 52 }
+    requires divisor { 0 < den }
+{
+    if step == 0 {
+        inverse_of::<F>(den)
+    } else {
+        inverse_refined::<F>(inverse, den)
+    }
 }
 
 /// The weights from 0 to the pivot, and None where one passes 8.
@@ -205,7 +231,7 @@ fn down<const F: u32>(
     excess: Iv<F>,
     pivot: u16,
 ) -> Result<Option<Vec<Iv<F>>>, NoMemory>
-    requires mean_top { mean.hi ≤ 256 * 2 ^ F }
+    requires mean_top { IsWithinLimit F mean }
     requires depth { pivot ≤ 256 }
     requires above { 0 < pivot → 2 ^ F + excess.hi ≤ mean.lo }
     requires place { pivot ≡ pivot_at F mean excess }
@@ -216,8 +242,11 @@ fn down<const F: u32>(
     let mut term = Iv::exact(1);
     let mut list = Vec::with_capacity(alloc, usize::from(pivot) + 64)?;
     list.push(term)?;
+    let mut inverse = u64::MAX;
     for step in 0..u32::from(pivot) {
-        term = term.mul(back_at(mean, excess, u32::from(pivot) - step));
+        let x = u32::from(pivot) - step;
+        inverse = next_inverse::<F>(inverse, back_divisor(mean, excess, x), step);
+        term = times(term, back_at(mean, excess, x, inverse));
         if term.hi() > most {
             return Ok(None);
         }
@@ -227,7 +256,8 @@ fn down<const F: u32>(
     Ok(Some(list))
 }
 
-/// The weights from the pivot on to the first index at which the list may end, and None where one passes 8.
+/// The weights from the pivot on to the first index at which the list may end, or to where they stay the same, and None where
+/// one passes 8.
 fn climb<const F: u32>(
     mean: Iv<F>,
     excess: Iv<F>,
@@ -235,25 +265,78 @@ fn climb<const F: u32>(
     begun: Vec<Iv<F>>,
 ) -> Result<Option<Begun<F>>, NoMemory>
     requires positive { 0 < mean.lo }
-    requires mean_top { mean.hi ≤ 256 * 2 ^ F }
+    requires mean_top { IsWithinLimit F mean }
     requires excess_top { excess.hi ≤ 2048 * 2 ^ F }
     requires depth { pivot ≤ 256 }
     requires place { pivot ≡ pivot_at F mean excess }
     requires begun { ToPivot F mean excess begun.items }
     ensures wide { IfOk result (λ found. IfNone found (is_wide F mean.entry excess.entry ≡ true)) }
-    ensures known { IfOk result (λ found. IfSome found (λ b. ToLeastEnd F mean.entry excess.entry b.list.items b.last)) }
+    ensures known { IfOk result (λ found. IfSome found (λ b. ToNext F mean.entry excess.entry b.list.items b.last b.next)) }
+    ensures ratios { IfOk result (λ found. IfSome found (λ b. AreRatios F mean.entry excess.entry b.next b.ratios)) }
 {
     let most = most_weight::<F>();
+    let first = u32::from(pivot) + 1;
     let mut list = begun;
     let mut last = Iv::exact(1);
-    for x in u32::from(pivot) + 1..FIRST_END {
-        last = next_weight(mean, excess, last, x);
+    let mut ratios = Ratios::at(mean, excess, first);
+    for x in first..FIRST_END {
+        last = times(last, ratios.take(mean, excess, x));
         if last.hi() > most {
             return Ok(None);
         }
         list.push(last)?;
+        if stays(mean, excess, last, x + 1) {
+            return Ok(Some(Begun {
+                list,
+                last,
+                next: x + 1,
+                ratios,
+            }));
+        }
     }
-    Ok(Some(Begun { list, last }))
+    let next = first.max(FIRST_END);
+    Ok(Some(Begun {
+        list,
+        last,
+        next,
+        ratios,
+    }))
+}
+
+/// The weights below the first index at which the list may end, from where they stay the same.
+fn level<const F: u32>(
+    mean: Iv<F>,
+    excess: Iv<F>,
+    start: u32,
+    begun: Begun<F>,
+) -> Result<Begun<F>, NoMemory>
+    requires mean_top { IsWithinLimit F mean }
+    requires excess_top { excess.hi ≤ 2048 * 2 ^ F }
+    requires depth { start ≤ 1025 }
+    requires start { start ≡ least_end F mean excess }
+    requires begun { ToNext F mean excess begun.list.items begun.last begun.next }
+    requires ratios { AreRatios F mean excess begun.next begun.ratios }
+    ensures known { IfOk result (λ b. ToLeastEnd F mean.entry excess.entry b.list.items b.last) }
+    ensures ratios { IfOk result (λ b. AreRatios F mean.entry excess.entry start b.ratios) }
+{
+    if begun.next == start {
+        return Ok(begun);
+    }
+    let Begun {
+        mut list,
+        last,
+        next,
+        ratios,
+    } = begun;
+    for _x in next..start {
+        list.push(last)?;
+    }
+    Ok(Begun {
+        list,
+        last,
+        next: start,
+        ratios: ratios.again(mean, excess, start),
+    })
 }
 
 /// The list of weights to its last place, with what the rest comes to, and None where a weight passes 8 or the rest needn't
@@ -261,30 +344,35 @@ fn climb<const F: u32>(
 fn finish<const F: u32>(
     mean: Iv<F>,
     excess: Iv<F>,
-    pivot: u16,
+    start: u32,
     begun: Begun<F>,
 ) -> Result<Option<Ended<F>>, NoMemory>
-    requires mean_top { mean.hi ≤ 256 * 2 ^ F }
+    requires mean_top { IsWithinLimit F mean }
     requires excess_top { excess.hi ≤ 2048 * 2 ^ F }
-    requires depth { pivot ≤ 256 }
-    requires place { pivot ≡ pivot_at F mean excess }
+    requires depth { pivot_at F mean excess ≤ 256 }
+    requires start { start ≡ least_end F mean excess }
     requires begun { ToLeastEnd F mean excess begun.list.items begun.last }
+    requires ratios { AreRatios F mean excess start begun.ratios }
     ensures wide { IfOk result (λ found. IfNone found (is_wide F mean.entry excess.entry ≡ true)) }
     ensures known { IfOk result (λ found. IfSome found (λ e. ToEnd F mean.entry excess.entry e.list.items e.rest)) }
 {
     let most = most_weight::<F>();
-    let far = far_ratio_of(excess);
-    let start = (u32::from(pivot) + 1).max(FIRST_END);
-    let Begun { mut list, mut last } = begun;
-    let mut ratio = ratio_at(mean, excess, start);
+    let far = begun.ratios.far(excess);
+    let Begun {
+        mut list,
+        mut last,
+        next: _,
+        mut ratios,
+    } = begun;
+    let mut ratio = ratios.take(mean, excess, start);
     for x in start..LAST_END + 1 {
-        last = last.mul(ratio);
+        last = times(last, ratio);
         let top = last.hi();
         if top > most {
             return Ok(None);
         }
         list.push(last)?;
-        ratio = ratio_at(mean, excess, x + 1);
+        ratio = ratios.take(mean, excess, x + 1);
         let bound = ratio.hi().max(far);
         if let Some(rest) = rest_at::<F>(top, bound, x) {
             return Ok(Some(Ended { list, rest }));
@@ -319,7 +407,7 @@ pub fn weights<const F: u32>(
     excess: Iv<F>,
 ) -> Result<Weights<F>, NoMemory>
     requires positive { 0 < mean.lo }
-    requires mean_top { mean.hi ≤ 256 * 2 ^ F }
+    requires mean_top { IsWithinLimit F mean }
     requires excess_top { excess.hi ≤ 2048 * 2 ^ F }
     ensures ends { IfOk result (λ found. found ≡ weights_of F mean.entry excess.entry) }
     ensures encloses { IfOk result (λ found. Weighs found mean.entry excess.entry) }
@@ -332,7 +420,9 @@ pub fn weights<const F: u32>(
     let Some(begun) = climb(mean, excess, pivot, low)? else {
         return Ok(Weights::Wide);
     };
-    let Some(ended) = finish(mean, excess, pivot, begun)? else {
+    let start = (u32::from(pivot) + 1).max(FIRST_END);
+    let begun = level(mean, excess, start, begun)?;
+    let Some(ended) = finish(mean, excess, start, begun)? else {
         return Ok(Weights::Wide);
     };
     let Ended { list, rest } = ended;

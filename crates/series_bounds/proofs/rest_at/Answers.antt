@@ -19,5 +19,5 @@ pub returns-clause-small : goal.returns-clause-small
 returns-clause-small g c = λ l. elim c.else-product-gap.branch [
   | else-product-gap-via-then-product-gap+else-x-lt-LAST_END w ↦ absurd (omega (arith, w.if-x-lt-LAST_END.false))
   | else-product-gap-via-else-product-gap w ↦
-      rw c.div_ceil.ensures (few_gaps (c.args.top * c.args.bound) (c.unit-unit.result - c.args.bound) 256 (omega arith) w.if-product-gap.false)
+      rw c.quotient_few.ensures (few_gaps (c.args.top * c.args.bound) (c.unit-unit.result - c.args.bound) 256 (omega arith) w.if-product-gap.false)
 ]

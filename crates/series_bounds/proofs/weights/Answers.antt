@@ -1,7 +1,9 @@
 use Rattle.std.proofs.Common.{◌+◌, ◌≤◌, ◌≡◌, ◌∙◌, arith, ap, ap₂, rules, lit<}
 use Rattle.fixed_interval.specs.Ends.{Ends, InScale, IsInterval}
-use Rattle.series_bounds.specs.Profile.{ends_sum, ends_raised, pivot_at}
-use Rattle.series_bounds.specs.Walk.{ToEnd}
+use Rattle.series_bounds.specs.Profile.{ends_sum, ends_raised, pivot_at, least_end}
+use Rattle.series_bounds.specs.Walk.{ToNext, ToEnd}
+use Rattle.series_bounds.specs.Ratios.{AreRatios}
+use Rattle.series_bounds.proofs.Walks.{least_from, end_most}
 use Rattle.series_bounds.proofs.Ranges.{unit_most}
 use Rattle.series_bounds.proofs.Enclosure.{wide_answer, end_answer, end_encloses, end_sized, end_long, end_tops, end_rest}
 use Rattle.series_bounds.proofs.weights.Goals as goal
@@ -14,6 +16,21 @@ returns-in_default-2-clause-ends g c = wide_answer g.row.F c.args.mean c.args.ex
 
 pub returns-in_default-3-clause-ends : goal.returns-in_default-3-clause-ends
 returns-in_default-3-clause-ends g c = wide_answer g.row.F c.args.mean c.args.excess (rw c.in_default-3.is at c.in_ok-ended.ensures.wide)
+
+pub level-requires : goal.level-requires
+level-requires g c =
+    let p : c.from.result ≡ pivot_at g.row.F c.args.mean c.args.excess = c.from.ensures ∙ c.pivot_of-pivot.ensures.place in
+    let e : c.max-start.result ≡ least_end g.row.F c.args.mean c.args.excess = least_from g.row.F c.args.mean c.args.excess c.from.result c.max-start.result p c.max-start.ensures in
+    let b : least_end g.row.F c.args.mean c.args.excess ≤ 1024 = end_most g.row.F c.args.mean c.args.excess 1024 (omega (arith, c.pivot_of-pivot.ensures.place, c.pivot_of-pivot.ensures.most)) (omega arith) in
+    let h : ToNext g.row.F c.args.mean c.args.excess c.in-Some-2.begun.list.items c.in-Some-2.begun.last c.in-Some-2.begun.next = rw c.in-Some-2.is at c.in_ok-begun.ensures.known in
+    let r : AreRatios g.row.F c.args.mean c.args.excess c.in-Some-2.begun.next c.in-Some-2.begun.ratios = rw c.in-Some-2.is at c.in_ok-begun.ensures.ratios in
+    (lit< tt, (lit< tt, (c.requires.mean_top, (c.requires.excess_top, (omega (arith, b, e), (e, (h, r)))))))
+
+pub finish-requires : goal.finish-requires
+finish-requires g c =
+    let p : c.from.result ≡ pivot_at g.row.F c.args.mean c.args.excess = c.from.ensures ∙ c.pivot_of-pivot.ensures.place in
+    let e : c.max-start.result ≡ least_end g.row.F c.args.mean c.args.excess = least_from g.row.F c.args.mean c.args.excess c.from.result c.max-start.result p c.max-start.ensures in
+    (lit< tt, (lit< tt, (lit< tt, (c.requires.mean_top, (c.requires.excess_top, (omega (arith, c.pivot_of-pivot.ensures.place, c.pivot_of-pivot.ensures.most), (e, (c.in_ok-begun-2.ensures.known, c.in_ok-begun-2.ensures.ratios))))))))
 
 pub sum_of-sum-requires : goal.sum_of-sum-requires
 sum_of-sum-requires g c =

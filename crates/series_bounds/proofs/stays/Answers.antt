@@ -1,7 +1,7 @@
 use Rattle.std.proofs.Common.{◌-◌, ◌^◌, arith, lit<, rules}
 use Rattle.fixed_interval.specs.Ends.{InScale}
 use Rattle.series_bounds.proofs.Ranges.{unit_most, product_most}
-use Rattle.series_bounds.proofs.falls.Goals as goal
+use Rattle.series_bounds.proofs.stays.Goals as goal
 
 pub times-requires : goal.times-requires
 times-requires g c =

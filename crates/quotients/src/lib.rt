@@ -1,0 +1,127 @@
+//! Quotients of whole numbers, found without a division where they can be guessed.
+//!
+//! Nothing rests on a guess: each is tried, and where it fails a division is made. So what makes guesses has no clauses.
+#![tactic(auto)]
+
+ghost use Rattle.std.specs.Prelude.{◌≡◌, ◌/◌, ◌<◌, ◌≤◌};
+ghost use Rattle.std.specs.Int.{div_ceil};
+
+/// `num / den`, rounded down. Where `guess` is that, or one less, no division is made; with any other guess it is.
+pub fn quotient_near(num: u128, den: u64, guess: u64) -> u128
+    requires { 0 < den }
+    ensures { result ≡ num / den }
+{
+    let guess = u128::from(guess);
+    let den = u128::from(den);
+    let product = guess * den;
+    if product <= num {
+        let left = num - product;
+        if left < den {
+            return guess;
+        }
+        if left - den < den {
+            return guess + 1;
+        }
+    }
+    num / den
+}
+
+/// The same for a number of 64 bits.
+pub fn short_quotient_near(num: u64, den: u64, guess: u64) -> u64
+    requires { 0 < den }
+    ensures { result ≡ num / den }
+{
+    let product = u128::from(guess) * u128::from(den);
+    if product <= u128::from(num) {
+        let left = num - product as u64;
+        if left < den {
+            return guess;
+        }
+        if left - den < den {
+            return guess + 1;
+        }
+    }
+    num / den
+}
+
+/// `num / den`, rounded up. Where `guess` is the quotient rounded down, or one less, no division is made; with any other
+/// guess it is.
+pub fn quotient_up_near(num: u128, den: u64, guess: u64) -> u128
+    requires { 0 < den }
+    ensures { result ≡ div_ceil num den }
+{
+    let guess = u128::from(guess);
+    let den = u128::from(den);
+    let product = guess * den;
+    if product <= num {
+        let left = num - product;
+        if left == 0 {
+            return guess;
+        }
+        if left <= den {
+            return guess + 1;
+        }
+        if left - den <= den {
+            return guess + 2;
+        }
+    }
+    num.div_ceil(den)
+}
+
+/// About `2^(F + 62) / den`, by which [`guess_by`] guesses, for a `den` of `2^F` or more.
+pub fn inverse_of<const F: u32>(den: u64) -> u64
+    requires scale { F ≤ 52 }
+    requires divisor { 0 < den }
+{
+    let inverse = (1u128 << (F + 62)) / u128::from(den);
+    inverse.min(u128::from(u64::MAX)) as u64
+}
+
+/// The inverse of a number that is `den` or somewhat less, from that of `den`, mostly without a division.
+pub fn inverse_beside<const F: u32>(inverse: u64, den: u64, below: u64) -> u64
+    requires scale { F ≤ 52 }
+    requires divisor { 0 < below }
+{
+    let gap = den.saturating_sub(below);
+    if gap > below >> 26 {
+        return inverse_of::<F>(below);
+    }
+    let part = (u128::from(gap) * u128::from(inverse)) >> F;
+    with_part(inverse, part.min(u128::from(u64::MAX)) as u64)
+}
+
+/// The inverse of a number from that of a larger one, by a few of Newton's steps. It is the better the nearer the two are.
+pub fn inverse_refined<const F: u32>(inverse: u64, den: u64) -> u64
+    requires { F ≤ 52 }
+{
+    let mut inverse = inverse;
+    for _step in 0..5 {
+        let part = missing_part::<F>(inverse, den);
+        inverse = with_part(inverse, part);
+        if part < 1 << 36 {
+            return inverse;
+        }
+    }
+    inverse
+}
+
+/// What an inverse is too small by, in parts of `2^62`.
+fn missing_part<const F: u32>(inverse: u64, den: u64) -> u64
+    requires { F ≤ 52 }
+{
+    let product = u128::from(inverse) * u128::from(den);
+    let missing = (1u128 << (F + 62)).saturating_sub(product) >> F;
+    missing.min(u128::from(u64::MAX)) as u64
+}
+
+/// An inverse and so many parts of `2^62` of it.
+fn with_part(inverse: u64, part: u64) -> u64 {
+    let more = (u128::from(inverse) * u128::from(part)) >> 62;
+    (u128::from(inverse) + more).min(u128::from(u64::MAX)) as u64
+}
+
+/// About `num` times `2^F` over the number that has this inverse.
+pub fn guess_by(num: u64, inverse: u64) -> u64 {
+    let guess = (u128::from(num) * u128::from(inverse)) >> 62;
+    guess.min(u128::from(u64::MAX)) as u64
+}

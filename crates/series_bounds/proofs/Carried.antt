@@ -1,0 +1,83 @@
+-- The ratios in parts: their sizes, their ends, and the step to the next index.
+use Rattle.std.proofs.Common.{◌≡◌, ℕ, ◌+◌, ◌-◌, ◌*◌, ◌/◌, ◌^◌, ◌<◌, ◌≤◌, refl, ap, ◌∙◌, subst, arith, pow_pos, mul-le-mul_right, mul-le-mul}
+use Rattle.std.specs.Int.{div_ceil}
+use Rattle.std.proofs.Math.Nat.{mul-pos, le-mul_of_pos_right}
+use Rattle.fixed_interval.specs.Ends.{Ends, ends_add, ends_exact}
+use Rattle.fixed_interval.proofs.Laws.{floor_below_ceil, ceil_le}
+use Rattle.series_bounds.specs.Profile.{ratio_ends}
+use Rattle.series_bounds.specs.Ratios.{AreParts}
+use Rattle.series_bounds.specs.declared.parts.Parts.{Parts}
+use Rattle.series_bounds.proofs.Ranges.{unit_most, above_most}
+
+below_room : (n d t : ℕ) (p : Parts) → 0 < d → AreParts n d p → n < t → p.whole < t
+below_room n d t p q h l = omega (arith, h.sum, le-mul_of_pos_right p.whole q)
+
+num_room : (o m e k : ℕ) → o ≤ 2 ^ 52 → 0 < o → m ≤ 256 * o → e ≤ 2048 * o → k ≤ 1025 → (m + e * (k - 1)) * o < 2 ^ 126
+num_room o m e k p q h l d =
+    let a : m + e * (k - 1) < 4194304 * o = above_most o m e k q h l d in
+    let b : (m + e * (k - 1)) * o ≤ (4194304 * o - 1) * o = mul-le-mul_right o (omega (arith, a)) in
+    let c : (4194304 * o - 1) * o ≤ (4194304 * 2 ^ 52 - 1) * 2 ^ 52 =
+    mul-le-mul {n₁ = 4194304 * o - 1} {m₁ = o} {n₂ = 4194304 * 2 ^ 52 - 1} {m₂ = 2 ^ 52} (omega (arith, p)) p in
+    omega (arith, b, c)
+
+-- the parts of the numerator and of its step have room
+pub whole_room : (f m e k d : ℕ) (p : Parts) → f ≤ 52 → m ≤ 256 * 2 ^ f → e ≤ 2048 * 2 ^ f → k ≤ 1025 → 0 < d → AreParts ((m + e * (k - 1)) * 2 ^ f) d p → p.whole < 2 ^ 126
+whole_room f m e k d p s h l i q a = below_room ((m + e * (k - 1)) * 2 ^ f) d (2 ^ 126) p q a (num_room (2 ^ f) m e k (unit_most f s) (pow_pos f) h l i)
+
+pub step_room : (f e d : ℕ) (p : Parts) → f ≤ 52 → e ≤ 2048 * 2 ^ f → 0 < d → AreParts (e * 2 ^ f) d p → p.whole < 2 ^ 126
+step_room f e d p s l q a =
+    let u = unit_most f s in
+    let b : e * 2 ^ f ≤ (2048 * 2 ^ 52) * 2 ^ 52 = mul-le-mul {n₁ = e} {m₁ = 2 ^ f} {n₂ = 2048 * 2 ^ 52} {m₂ = 2 ^ 52} (omega (arith, u, l)) u in
+    below_room (e * 2 ^ f) d (2 ^ 126) p q a (omega (arith, b))
+
+-- the divisors
+pub below_is : (f : ℕ) (d one below : Ends) → one ≡ ends_exact f 1 → below ≡ ends_add one d → below ≡ record { lo = 1 * 2 ^ f + d.lo; hi = 1 * 2 ^ f + d.hi }
+below_is f d one below h k = k ∙ ap (λ (z : Ends). ends_add z d) h
+
+-- the ends of the ratio
+pub ends_are : (f : ℕ) (m d : Ends) (x lo hi : ℕ) (r : Ends) → r ≡ record { lo = lo; hi = hi }
+    → lo ≡ (m.lo + d.lo * (x - 1)) * 2 ^ f / ((1 * 2 ^ f + d.hi) * x) → hi ≡ div_ceil ((m.hi + d.hi * (x - 1)) * 2 ^ f) ((1 * 2 ^ f + d.lo) * x)
+    → r ≡ ratio_ends f m d x
+unfolding ratio_ends
+ends_are f m d x lo hi r e h k = rw (e, h, k) refl
+
+pub ends_ordered : (f : ℕ) (m d : Ends) (x lo hi : ℕ) → 0 < x → m.lo ≤ m.hi → d.lo ≤ d.hi
+    → lo ≡ (m.lo + d.lo * (x - 1)) * 2 ^ f / ((1 * 2 ^ f + d.hi) * x) → hi ≡ div_ceil ((m.hi + d.hi * (x - 1)) * 2 ^ f) ((1 * 2 ^ f + d.lo) * x)
+    → lo ≤ hi
+ends_ordered f m d x lo hi p om od h k =
+    let a : d.lo * (x - 1) ≤ d.hi * (x - 1) = mul-le-mul_right (x - 1) od in
+    let b : (m.lo + d.lo * (x - 1)) * 2 ^ f ≤ (m.hi + d.hi * (x - 1)) * 2 ^ f = mul-le-mul_right (2 ^ f) (omega (arith, a, om)) in
+    let c : (1 * 2 ^ f + d.lo) * x ≤ (1 * 2 ^ f + d.hi) * x = mul-le-mul_right x (omega (arith, od)) in
+    rw (h, k) (floor_below_ceil ((m.lo + d.lo * (x - 1)) * 2 ^ f) ((1 * 2 ^ f + d.hi) * x) ((m.hi + d.hi * (x - 1)) * 2 ^ f) ((1 * 2 ^ f + d.lo) * x) b
+    (mul-pos {m = 1 * 2 ^ f + d.lo} {n = x} (omega (arith, pow_pos f)) p) c)
+
+-- the next numerator
+next_num : (m e x o : ℕ) → 0 < x → (m + e * (x - 1)) * o + e * o ≡ (m + e * (x + 1 - 1)) * o
+next_num m e x o p =
+    let a : e * (x - 1) + e ≡ e * x = (let i : x - 1 + 1 ≡ x = omega arith in omega (arith, ap (λ z. e * z) i)) in
+    let b : m + e * (x - 1) + e ≡ m + e * (x + 1 - 1) = (let i : x + 1 - 1 ≡ x = omega arith in rw i (omega (arith, a))) in
+    omega (arith, ap (λ z. z * o) b)
+
+pub next_parts : (m e x o den d : ℕ) (p : Parts) → 0 < x → den ≡ d → AreParts ((m + e * (x - 1)) * o + e * o) den p → AreParts ((m + e * (x + 1 - 1)) * o) d p
+next_parts m e x o den d p q h a = subst (λ z. AreParts z d p) (next_num m e x o q) (subst (λ z. AreParts ((m + e * (x - 1)) * o + e * o) z p) h a)
+
+pub same_parts : (n k d e : ℕ) (p : Parts) → n ≡ k → d ≡ e → AreParts n d p → AreParts k e p
+same_parts n k d e p h i a = subst (λ z. AreParts z e p) h (subst (λ z. AreParts n z p) i a)
+
+pub scaled_room : (f n o : ℕ) → f ≤ 52 → o ≡ 2 ^ f → n < 4194304 * 2 ^ f → n * o < 2 ^ 126
+scaled_room f n o s e l =
+    let u = unit_most f s in
+    let c : n * o ≤ (4194304 * 2 ^ 52 - 1) * 2 ^ 52 = mul-le-mul {n₁ = n} {m₁ = o} {n₂ = 4194304 * 2 ^ 52 - 1} {m₂ = 2 ^ 52} (omega (arith, u, l)) (omega (arith, u, e)) in
+    omega (arith, c)
+
+pub share_room : (f n o : ℕ) → f ≤ 52 → o ≡ 2 ^ f → n ≤ 65536 * 2 ^ f → n * o ≤ 2 ^ 120
+share_room f n o s e l =
+    let u = unit_most f s in
+    let c : n * o ≤ (65536 * 2 ^ 52) * 2 ^ 52 = mul-le-mul {n₁ = n} {m₁ = o} {n₂ = 65536 * 2 ^ 52} {m₂ = 2 ^ 52} (omega (arith, u, l)) (omega (arith, u, e)) in
+    omega (arith, c)
+
+pub share_ordered : (f al ah bl bh lower upper : ℕ) → al ≤ ah → 0 < bl → bl ≤ bh → lower ≡ al * 2 ^ f / bh → upper ≡ div_ceil (ah * 2 ^ f) bl → lower ≤ upper
+share_ordered f al ah bl bh lower upper h p k e i = rw (e, i) (floor_below_ceil (al * 2 ^ f) bh (ah * 2 ^ f) bl (mul-le-mul_right (2 ^ f) h) p k)
+
+pub share_most : (f ah bl upper : ℕ) → f ≤ 52 → ah ≤ 65536 * 2 ^ f → 0 < bl → upper ≡ div_ceil (ah * 2 ^ f) bl → upper < 2 ^ 127
+share_most f ah bl upper s h p e = omega (arith, e, ceil_le (ah * 2 ^ f) bl p, share_room f ah (2 ^ f) s refl h)
