@@ -6,6 +6,7 @@ use Rattle.series_bounds.specs.Profile.{listed}
 use Rattle.series_bounds.specs.Answer.{Sized, at_place}
 use Rattle.series_bounds.proofs.Ranges.{ceil_most}
 use Rattle.moment_table.specs.declared.figures.Figures.{Figures}
+use Rattle.moment_table.specs.declared.shares.Inverses.{Inverses}
 use Rattle.moment_table.specs.Figures.{AreFigures, AreSmall}
 use Rattle.moment_table.specs.Profile.{chance_ends, below_ends, tail_ends, ebo_ends, vbo_ends, known_row, wide_row, empty_row}
 
@@ -17,14 +18,14 @@ pub listed_none : {X : Type 0} (u : ℕ → X) (xs : List X) → xs ≡ [] → x
 unfolding listed
 listed_none u xs h = h
 
-pub figures_first : (f : ℕ) (m v : Ends) (list : List Ends) (sum spread below weight chance : Ends) → spread ≡ ends_max v m → below ≡ ends_exact f 0
-    → AreFigures f m v list sum 0 (record { expected = m; spread = spread; below = below; weight = weight; chance = chance })
+pub figures_first : (f : ℕ) (m v : Ends) (list : List Ends) (sum spread below weight chance : Ends) (inverses : Inverses) → spread ≡ ends_max v m → below ≡ ends_exact f 0
+    → AreFigures f m v list sum 0 (record { expected = m; spread = spread; below = below; weight = weight; chance = chance; inverses = inverses })
 unfolding ebo_ends vbo_ends below_ends
-figures_first f m v list sum spread below weight chance h k = record { expected = refl; spread = h; below = k }
+figures_first f m v list sum spread below weight chance inverses h k = record { expected = refl; spread = h; below = k }
 
-pub small_first : (f : ℕ) (sum expected spread below weight chance : Ends) → expected.hi ≤ 256 * 2 ^ f → below ≡ ends_exact f 0 → chance ≡ ends_div f weight sum
-    → AreSmall f sum 0 (record { expected = expected; spread = spread; below = below; weight = weight; chance = chance })
-small_first f sum expected spread below weight chance t k h = record { expected = t; below = rw k (omega arith); chance = h }
+pub small_first : (f : ℕ) (sum expected spread below weight chance : Ends) (inverses : Inverses) → expected.hi ≤ 256 * 2 ^ f → below ≡ ends_exact f 0 → chance ≡ ends_div f weight sum
+    → AreSmall f sum 0 (record { expected = expected; spread = spread; below = below; weight = weight; chance = chance; inverses = inverses })
+small_first f sum expected spread below weight chance inverses t k h = record { expected = t; below = rw k (omega arith); chance = h }
 
 chance_top : (f : ℕ) (list : List Ends) (sum : Ends) (x : ℕ) → Sized f list sum → x < length list → (chance_ends f list sum x).hi ≤ 8 * 2 ^ f
 unfolding chance_ends
@@ -85,7 +86,7 @@ row_known f m v list sum s figures h l e p below tail he hp hb ht =
 pub figures_next : (f : ℕ) (m v : Ends) (list : List Ends) (sum : Ends) (s : ℕ) (figures : Figures f) → AreFigures f m v list sum s figures → s < length list
     → (e p below tail expected fall spread : Ends) → e ≡ get_or list s e → p ≡ ends_div f e sum → below ≡ ends_add figures.below p → tail ≡ ends_less (ends_exact f 1) below
     → expected ≡ ends_less figures.expected tail → fall ≡ ends_mul f (ends_add (ends_times expected 2) tail) (ends_less (ends_exact f 1) tail) → spread ≡ ends_less figures.spread fall
-    → AreFigures f m v list sum (s + 1) (record { expected = expected; spread = spread; below = below; weight = e; chance = p })
+    → AreFigures f m v list sum (s + 1) (record { expected = expected; spread = spread; below = below; weight = e; chance = p; inverses = figures.inverses })
 figures_next f m v list sum s figures h l e p below tail expected fall spread he hp hb ht hx hf hs =
     let bi : below ≡ below_ends f list sum (suc s) = below_is f m v list sum s figures h l e p below he hp hb in
     let ti : tail ≡ tail_ends f list sum s = tail_is f list sum tail below s bi ht in
@@ -101,7 +102,7 @@ figures_next f m v list sum s figures h l e p below tail expected fall spread he
 
 pub small_next : (f : ℕ) (list : List Ends) (sum : Ends) (s : ℕ) (figures : Figures f) → AreSmall f sum s figures → Sized f list sum → s < length list
     → (e p below tail expected spread : Ends) → e ≡ get_or list s e → p ≡ ends_div f e sum → below ≡ ends_add figures.below p → expected ≡ ends_less figures.expected tail
-    → AreSmall f sum (s + 1) (record { expected = expected; spread = spread; below = below; weight = e; chance = p })
+    → AreSmall f sum (s + 1) (record { expected = expected; spread = spread; below = below; weight = e; chance = p; inverses = figures.inverses })
 small_next f list sum s figures h z l e p below tail expected spread he hp hb hx =
     let pt : p.hi ≤ 8 * 2 ^ f = step_chance f list sum e p s z l he hp in
     record {

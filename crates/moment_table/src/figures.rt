@@ -1,13 +1,15 @@
 //! The figures of a pipeline at one stock after the other, from known weights.
 
 ghost use Rattle.std.specs.Prelude.{◌≡◌, ℕ, ◌+◌, ◌*◌, ◌^◌, ◌<◌, ◌≤◌};
-ghost use Rattle.fixed_interval.specs.Ends.{Ends, ends_div};
+ghost use Rattle.fixed_interval.specs.Ends.{Ends, IsWithinLimit, ends_div};
 ghost use Rattle.series_bounds.specs.Answer.{Sized};
 ghost use Rattle.moment_table.specs.Profile.{known_row};
 ghost use Rattle.moment_table.specs.Figures.{AreFigures, AreSmall};
 
 use crate::kinds::Row;
+use crate::shares::Inverses;
 use fixed_interval::Iv;
+use series_bounds::short::product;
 
 /// The figures at a stock before its tail is known, and what the tail is made of.
 #[derive(Drop)]
@@ -22,27 +24,32 @@ pub(crate) struct Figures<const F: u32> {
     weight: Iv<F>,
     /// The chance of that weight.
     chance: Iv<F>,
+    /// The inverses of the sum of all weights.
+    inverses: Inverses,
 }
 
 impl<const F: u32> Figures<F> {
     /// The figures at the stock 0.
     pub(crate) fn first(mean: Iv<F>, variance: Iv<F>, list: &[Iv<F>], sum: Iv<F>) -> Figures<F>
-        requires mean_top { mean.hi ≤ 256 * 2 ^ F }
+        requires mean_top { IsWithinLimit F mean }
         requires sized { Sized F list.now sum }
         ensures figures { AreFigures F mean.entry variance.entry list.now sum.entry 0 result }
         ensures small { AreSmall F sum.entry 0 result }
     {
         let weight = list[0];
+        let inverses = Inverses::of(sum);
         Figures {
             expected: mean,
             spread: variance.max_of(mean),
             below: Iv::exact(0),
             weight,
-            chance: weight.div(sum),
+            chance: inverses.share(weight, sum),
+            inverses,
         }
     }
 
     /// The row at the stock `s`, at which the figures are. They go on to the next stock.
+    #[inline(always)]
     pub(crate) fn row(&mut self, list: &[Iv<F>], sum: Iv<F>, s: u32) -> Row<F>
         requires stock { s < 64 }
         requires sized { Sized F list.now sum }
@@ -52,7 +59,7 @@ impl<const F: u32> Figures<F> {
         ensures row { (m v : Ends) → AreFigures F m v list.now sum.entry s self.old → result ≡ known_row F m v list.now sum.entry s }
     {
         let next = list[s as usize];
-        self.chance = chance_of(next, sum, self.weight, self.chance);
+        self.chance = chance_of(next, sum, self.weight, self.chance, self.inverses);
         self.weight = next;
         self.below = self.below.add(self.chance);
         let tail = Iv::exact(1).less(self.below);
@@ -62,18 +69,20 @@ impl<const F: u32> Figures<F> {
             tail,
         };
         self.expected = self.expected.less(tail);
-        let fall = self
-            .expected
-            .times(2)
-            .add(tail)
-            .mul(Iv::exact(1).less(tail));
+        let fall = product(self.expected.times(2).add(tail), Iv::exact(1).less(tail));
         self.spread = self.spread.less(fall);
         row
     }
 }
 
 /// `weight / sum`, where `chance` is `before / sum`. The weights far out are mostly the same, and need no division then.
-fn chance_of<const F: u32>(weight: Iv<F>, sum: Iv<F>, before: Iv<F>, chance: Iv<F>) -> Iv<F>
+fn chance_of<const F: u32>(
+    weight: Iv<F>,
+    sum: Iv<F>,
+    before: Iv<F>,
+    chance: Iv<F>,
+    inverses: Inverses,
+) -> Iv<F>
     requires top { weight.hi ≤ 8 * 2 ^ F }
     requires divisor { 0 < sum.lo }
     requires chance { chance ≡ ends_div F before sum }
@@ -82,6 +91,6 @@ fn chance_of<const F: u32>(weight: Iv<F>, sum: Iv<F>, before: Iv<F>, chance: Iv<
     if weight.lo() == before.lo() && weight.hi() == before.hi() {
         chance
     } else {
-        weight.div(sum)
+        inverses.share(weight, sum)
     }
 }

@@ -7,9 +7,10 @@
 #![tactic(auto)]
 
 ghost use Rattle.std.specs.Prelude.{◌≡◌, ℕ, suc, ◌+◌, ◌-◌, ◌*◌, ◌^◌, ◌<◌, ◌≤◌, ◌⊎◌, IfOk, length, List};
-ghost use Rattle.fixed_interval.specs.Ends.{Ends, InScale, ends_max};
+ghost use Rattle.fixed_interval.specs.Ends.{Ends, InScale, IsWithinLimit, ends_max};
 ghost use Rattle.series_bounds.specs.Profile.{listed, weights_of};
 ghost use Rattle.series_bounds.specs.Answer.{Sized, SizedAnswer, Weighs};
+ghost use Rattle.moment_table.specs.Inputs.{CanTable};
 ghost use Rattle.moment_table.specs.Profile.{known_row, wide_row, empty_row, table_rows, excess_ends};
 ghost use Rattle.moment_table.specs.Rows.{EncloseRows, EnclosesRow, IsBelow, at_stock};
 
@@ -21,8 +22,12 @@ use series_bounds::weights;
 use spares_io::NoMemory;
 use std::alloc::Global;
 
+mod backorders;
 mod figures;
 pub mod kinds;
+mod shares;
+
+pub use backorders::backorders_to;
 
 /// The stocks of a table are 0 to 63.
 const STOCKS: u32 = 64;
@@ -35,7 +40,7 @@ fn known_row<const F: u32>(
     sum: Iv<F>,
     stock: u8,
 ) -> Row<F>
-    requires mean_top { mean.hi ≤ 256 * 2 ^ F }
+    requires mean_top { IsWithinLimit F mean }
     requires sized { Sized F list.now sum }
     requires stock { stock ≤ 63 }
     ensures { result ≡ known_row F mean.entry variance.entry list.now sum.entry stock }
@@ -55,7 +60,7 @@ fn known<const F: u32>(
     list: &[Iv<F>],
     sum: Iv<F>,
 ) -> Result<Vec<Row<F>>, NoMemory>
-    requires mean_top { mean.hi ≤ 256 * 2 ^ F }
+    requires mean_top { IsWithinLimit F mean }
     requires sized { Sized F list.now sum }
     ensures { IfOk result (λ rows. rows.items ≡ listed (known_row F mean.entry variance.entry list.now sum.entry) 64) }
 {
@@ -119,8 +124,8 @@ fn empty<const F: u32>(alloc: Global) -> Result<Vec<Row<F>>, NoMemory>
 /// The weights of a pipeline with this mean and variance, which isn't always empty.
 fn weigh<const F: u32>(alloc: Global, mean: Iv<F>, variance: Iv<F>) -> Result<Weights<F>, NoMemory>
     requires mean_least { 0 < mean.lo }
-    requires mean_top { mean.hi ≤ 256 * 2 ^ F }
-    requires variance_top { variance.hi ≤ 256 * 2 ^ F }
+    requires mean_top { IsWithinLimit F mean }
+    requires variance_top { IsWithinLimit F variance }
     requires ratio { variance.hi ≤ 2048 * mean.lo }
     ensures ends { IfOk result (λ w. w ≡ weights_of F mean.entry (excess_ends F mean.entry variance.entry)) }
     ensures encloses { IfOk result (λ w. Weighs w mean.entry (excess_ends F mean.entry variance.entry)) }
@@ -132,9 +137,7 @@ fn weigh<const F: u32>(alloc: Global, mean: Iv<F>, variance: Iv<F>) -> Result<We
 
 /// The rows of a pipeline with this mean and variance.
 fn rows<const F: u32>(alloc: Global, mean: Iv<F>, variance: Iv<F>) -> Result<Vec<Row<F>>, NoMemory>
-    requires mean_top { mean.hi ≤ 256 * 2 ^ F }
-    requires variance_top { variance.hi ≤ 256 * 2 ^ F }
-    requires ratio { ((mean.hi ≡ 0) × (variance.hi ≡ 0)) ⊎ ((0 < mean.lo) × (variance.hi ≤ 2048 * mean.lo)) }
+    requires { CanTable F mean variance }
     ensures ends { IfOk result (λ rows. rows.items ≡ table_rows F mean.entry variance.entry) }
     ensures encloses { IfOk result (λ rows. EncloseRows F mean.entry variance.entry rows.items) }
 {
@@ -161,9 +164,7 @@ pub fn table<const F: u32>(
     mean: Iv<F>,
     variance: Iv<F>,
 ) -> Result<Table<F>, NoMemory>
-    requires mean_top { mean.hi ≤ 256 * 2 ^ F }
-    requires variance_top { variance.hi ≤ 256 * 2 ^ F }
-    requires ratio { ((mean.hi ≡ 0) × (variance.hi ≡ 0)) ⊎ ((0 < mean.lo) × ((mean.hi ≤ 2048 * mean.lo) × (variance.hi ≤ 2048 * mean.lo))) }
+    requires { CanTable F mean variance }
     ensures ends { IfOk result (λ t. t ≡ table_rows F mean.entry variance.entry) }
     ensures encloses { IfOk result (λ t. EncloseRows F mean.entry variance.entry t) }
     ensures stocks { IfOk result (λ t. length t ≡ 64) }
@@ -183,9 +184,7 @@ pub fn row_at<const F: u32>(
     variance: Iv<F>,
     stock: u8,
 ) -> Result<Row<F>, NoMemory>
-    requires mean_top { mean.hi ≤ 256 * 2 ^ F }
-    requires variance_top { variance.hi ≤ 256 * 2 ^ F }
-    requires ratio { ((mean.hi ≡ 0) × (variance.hi ≡ 0)) ⊎ ((0 < mean.lo) × ((mean.hi ≤ 2048 * mean.lo) × (variance.hi ≤ 2048 * mean.lo))) }
+    requires table { CanTable F mean variance }
     requires stock { stock ≤ 63 }
     ensures ends { IfOk result (λ row. row ≡ at_stock (table_rows F mean.entry variance.entry) stock) }
     ensures encloses { IfOk result (EnclosesRow F mean.entry variance.entry stock) }

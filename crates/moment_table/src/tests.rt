@@ -91,6 +91,9 @@ fn meets<const F: u32>(rt: &impl Abort, alloc: Global, rows: &[&str]) -> Result<
         let Row { ebo, vbo, tail } = row_at(alloc, mean, variance, stock)?;
         let found = [ebo.lo(), ebo.hi(), vbo.lo(), vbo.hi(), tail.lo(), tail.hi()];
         assert_eq!(rt; found.as_slice(), &row[5..]);
+        let list = backorders_to(alloc, mean, variance, stock)?;
+        let last = list[usize::from(stock)];
+        assert_eq!(rt; [last.lo(), last.hi()].as_slice(), &row[5..7]);
     }
     Ok(())
 }

@@ -27,13 +27,13 @@ returns-then-hi-eq0-clause-vbo_most g c =
 pub weigh-requires : goal.weigh-requires
 weigh-requires g c =
     let r : (0 < c.args.mean.lo) × ((c.args.mean.hi ≤ 2048 * c.args.mean.lo) × (c.args.variance.hi ≤ 2048 * c.args.mean.lo)) =
-    elim c.requires.ratio [ inl e ↦ absurd (c.if-hi-eq0.false (omega (arith, e.0, c.hi.ensures.end))) | inr e ↦ e ] in
-    (lit< tt, (lit< tt, (r.0, (c.requires.mean_top, (c.requires.variance_top, r.1.1)))))
+    elim c.requires.table.ratio [ inl e ↦ absurd (c.if-hi-eq0.false (omega (arith, e.0, c.hi.ensures.end))) | inr e ↦ e ] in
+    (lit< tt, (lit< tt, (r.0, (c.requires.table.mean_top, (c.requires.table.variance_top, r.1.1)))))
 
 pub returns-in-Known-clause-ends : goal.returns-in-Known-clause-ends
 returns-in-Known-clause-ends g c =
     let v : IsInterval g.row.F c.args.mean = search rules in
-    let p : 0 < c.args.mean.lo = elim c.requires.ratio [ inl e ↦ absurd (c.if-hi-eq0.false (omega (arith, e.0, c.hi.ensures.end))) | inr e ↦ e.0 ] in
+    let p : 0 < c.args.mean.lo = elim c.requires.table.ratio [ inl e ↦ absurd (c.if-hi-eq0.false (omega (arith, e.0, c.hi.ensures.end))) | inr e ↦ e.0 ] in
     let q : 0 < c.args.mean.hi = omega (arith, p, v.ordered) in
     let e : Known c.in-Known.pivot c.in-Known.list c.in-Known.sum ≡ weights_of g.row.F c.args.mean (excess_ends g.row.F c.args.mean c.args.variance) = rw c.in-Known.is at c.in_ok-list.ensures.ends in
     row_of_known g.row.F c.args.mean c.args.variance c.in-Known.pivot c.in-Known.list c.in-Known.sum c.known_row.result c.args.stock c.requires.stock q e
@@ -42,7 +42,7 @@ returns-in-Known-clause-ends g c =
 pub returns-in-Known-clause-encloses : goal.returns-in-Known-clause-encloses
 returns-in-Known-clause-encloses g c =
     let v : IsInterval g.row.F c.args.mean = search rules in
-    let p : 0 < c.args.mean.lo = elim c.requires.ratio [ inl e ↦ absurd (c.if-hi-eq0.false (omega (arith, e.0, c.hi.ensures.end))) | inr e ↦ e.0 ] in
+    let p : 0 < c.args.mean.lo = elim c.requires.table.ratio [ inl e ↦ absurd (c.if-hi-eq0.false (omega (arith, e.0, c.hi.ensures.end))) | inr e ↦ e.0 ] in
     let w : IsInterval g.row.F c.in-Known.sum = search rules in
     let n : EncloseWeights g.row.F c.args.mean (excess_ends g.row.F c.args.mean c.args.variance) c.in-Known.pivot c.in-Known.list c.in-Known.sum = rw c.in-Known.is at c.in_ok-list.ensures.encloses in
     let z : Sized g.row.F c.in-Known.list c.in-Known.sum = rw c.in-Known.is at c.in_ok-list.ensures.sized in
@@ -61,7 +61,7 @@ returns-in-Known-clause-vbo_most g c =
 pub returns-in-Wide-clause-ends : goal.returns-in-Wide-clause-ends
 returns-in-Wide-clause-ends g c =
     let v : IsInterval g.row.F c.args.mean = search rules in
-    let p : 0 < c.args.mean.lo = elim c.requires.ratio [ inl e ↦ absurd (c.if-hi-eq0.false (omega (arith, e.0, c.hi.ensures.end))) | inr e ↦ e.0 ] in
+    let p : 0 < c.args.mean.lo = elim c.requires.table.ratio [ inl e ↦ absurd (c.if-hi-eq0.false (omega (arith, e.0, c.hi.ensures.end))) | inr e ↦ e.0 ] in
     let q : 0 < c.args.mean.hi = omega (arith, p, v.ordered) in
     let e : Wide ≡ weights_of g.row.F c.args.mean (excess_ends g.row.F c.args.mean c.args.variance) = rw c.in-Wide.is at c.in_ok-list.ensures.ends in
     row_of_wide g.row.F c.args.mean c.args.variance c.wide_row.result c.args.stock c.requires.stock q e
@@ -69,7 +69,7 @@ returns-in-Wide-clause-ends g c =
 
 pub returns-in-Wide-clause-encloses : goal.returns-in-Wide-clause-encloses
 returns-in-Wide-clause-encloses g c =
-    let p : 0 < c.args.mean.lo = elim c.requires.ratio [ inl e ↦ absurd (c.if-hi-eq0.false (omega (arith, e.0, c.hi.ensures.end))) | inr e ↦ e.0 ] in
+    let p : 0 < c.args.mean.lo = elim c.requires.table.ratio [ inl e ↦ absurd (c.if-hi-eq0.false (omega (arith, e.0, c.hi.ensures.end))) | inr e ↦ e.0 ] in
     wide_row_in g.row.F c.args.mean c.args.variance c.wide_row.result c.args.stock c.requires.stock
     (c.wide_row.ensures ∙ ap (wide_row g.row.F c.args.mean c.args.variance) c.from.ensures) p
 

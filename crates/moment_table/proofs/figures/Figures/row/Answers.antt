@@ -18,8 +18,8 @@ add-self-requires g c =
     let m : c.args.s * (8 * 2 ^ g.row.F) ≤ 64 * (8 * 2 ^ g.row.F) = mul-le-mul_right (8 * 2 ^ g.row.F) (omega (arith, c.requires.stock)) in
     (lit< tt, omega (arith, q, m, c.requires.small.below, unit_most g.row.F s.1))
 
-pub mul-fall-requires : goal.mul-fall-requires
-mul-fall-requires g c =
+pub product-fall-requires : goal.product-fall-requires
+product-fall-requires g c =
     let s : InScale g.row.F = search rules in
     let u = ap (λ (z : Ends). z.hi) c.exact-2.ensures.ends in
     let w = ap (λ (z : Ends). z.hi) c.exact.ensures.ends in
@@ -32,7 +32,8 @@ mul-fall-requires g c =
     let t : c.less-tail.result.hi ≤ 2 ^ g.row.F = omega (arith, y, w) in
     let e : c.less-self.result.hi ≤ 256 * 2 ^ g.row.F = omega (arith, z, c.requires.small.expected) in
     let b : c.add.result.hi ≤ 2048 * 2 ^ g.row.F = omega (arith, i, j, e, t) in
-    (lit< tt, omega (arith, pair_room (2 ^ g.row.F) c.less.result.hi c.add.result.hi (unit_most g.row.F s.1) a b))
+    let o = unit_most g.row.F s.1 in
+    (lit< tt, (omega (arith, b, o), (omega (arith, a, o), omega (arith, pair_room (2 ^ g.row.F) c.less.result.hi c.add.result.hi o a b))))
 
 pub returns-clause-small : goal.returns-clause-small
 returns-clause-small g c =
@@ -45,10 +46,10 @@ pub returns-clause-figures : goal.returns-clause-figures
 returns-clause-figures g c m v h =
     let l : c.args.s < length c.args.list.now = omega (arith, c.requires.sized.enough, c.requires.stock) in
     figures_next g.row.F m v c.args.list.now c.args.sum c.args.s c.args.self.now h l
-    c.index-list-s.result c.chance_of-self.result c.add-self.result c.less-tail.result c.less-self.result c.mul-fall.result c.less-self-2.result
+    c.index-list-s.result c.chance_of-self.result c.add-self.result c.less-tail.result c.less-self.result c.product-fall.result c.less-self-2.result
     c.index-list-s.is c.chance_of-self.ensures c.add-self.ensures.ends (c.less-tail.ensures.ends ∙ ap (λ (z : Ends). ends_less z c.add-self.result) c.exact.ensures.ends)
     c.less-self.ensures.ends
-    (c.mul-fall.ensures.ends ∙ ap₂ (ends_mul g.row.F) (c.add.ensures.ends ∙ ap (λ (z : Ends). ends_add z c.less-tail.result) c.times.ensures.ends)
+    (c.product-fall.ensures ∙ ap₂ (ends_mul g.row.F) (c.add.ensures.ends ∙ ap (λ (z : Ends). ends_add z c.less-tail.result) c.times.ensures.ends)
     (c.less.ensures.ends ∙ ap (λ (z : Ends). ends_less z c.less-tail.result) c.exact-2.ensures.ends))
     c.less-self-2.ensures.ends
 

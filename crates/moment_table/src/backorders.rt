@@ -1,0 +1,99 @@
+//! The backorders alone, at the stocks up to a limit.
+
+ghost use Rattle.std.specs.Prelude.{◌≡◌, ◌+◌, ◌*◌, ◌^◌, ◌<◌, ◌≤◌, ◌⊎◌, IfOk};
+ghost use Rattle.series_bounds.specs.Answer.{Sized};
+ghost use Rattle.series_bounds.specs.Profile.{listed};
+ghost use Rattle.fixed_interval.specs.Ends.{InScale, IsWithinLimit};
+ghost use Rattle.moment_table.specs.Inputs.{CanTable};
+ghost use Rattle.moment_table.specs.Profile.{known_row, wide_row, empty_row};
+ghost use Rattle.moment_table.specs.Rows.{AreBackorders, EncloseBackorders};
+
+use crate::figures::Figures;
+use crate::{empty_row, weigh, wide_row};
+use fixed_interval::Iv;
+use series_bounds::kinds::Weights;
+use spares_io::NoMemory;
+use std::alloc::Global;
+
+/// The backorders from known weights.
+fn known<const F: u32>(
+    alloc: Global,
+    mean: Iv<F>,
+    variance: Iv<F>,
+    list: &[Iv<F>],
+    sum: Iv<F>,
+    count: u32,
+) -> Result<Vec<Iv<F>>, NoMemory>
+    requires mean_top { IsWithinLimit F mean }
+    requires sized { Sized F list.now sum }
+    requires count { count ≤ 64 }
+    ensures { IfOk result (λ found. found.items ≡ listed (λ s. (known_row F mean.entry variance.entry list.now sum.entry s).ebo) count) }
+{
+    let mut figures = Figures::first(mean, variance, list, sum);
+    let mut found = Vec::with_capacity(alloc, count as usize)?;
+    for s in 0..count {
+        let row = figures.row(list, sum, s);
+        found.push(row.ebo)?;
+    }
+    Ok(found)
+}
+
+/// The backorders where the weights aren't known.
+fn wide<const F: u32>(
+    alloc: Global,
+    mean: Iv<F>,
+    variance: Iv<F>,
+    count: u32,
+) -> Result<Vec<Iv<F>>, NoMemory>
+    ensures { IfOk result (λ found. found.items ≡ listed (λ s. (wide_row F mean.entry variance.entry s).ebo) count) }
+{
+    let mut found = Vec::with_capacity(alloc, count as usize)?;
+    for s in 0..count {
+        let row = wide_row(mean, variance, s);
+        found.push(row.ebo)?;
+    }
+    Ok(found)
+}
+
+/// The backorders of a pipeline that is always empty.
+fn empty<const F: u32>(alloc: Global, count: u32) -> Result<Vec<Iv<F>>, NoMemory>
+    requires { InScale F }
+    ensures { IfOk result (λ found. found.items ≡ listed (λ s. (empty_row F).ebo) count) }
+{
+    let mut found = Vec::with_capacity(alloc, count as usize)?;
+    for _s in 0..count {
+        let row = empty_row();
+        found.push(row.ebo)?;
+    }
+    Ok(found)
+}
+
+/// The expected backorders of the table at the stocks 0 to `limit`, at most 63, for a mean and a variance as `table` takes
+/// them. Nothing else of the table is made.
+///
+/// They enclose the model's, at each depth from 1024 on, for every mean and every variance in the two intervals. Want of memory
+/// is the only error.
+pub fn backorders_to<const F: u32>(
+    alloc: Global,
+    mean: Iv<F>,
+    variance: Iv<F>,
+    limit: u8,
+) -> Result<Vec<Iv<F>>, NoMemory>
+    requires table { CanTable F mean variance }
+    requires limit { limit ≤ 63 }
+    ensures ends { IfOk result (λ found. AreBackorders F mean.entry variance.entry limit found.items) }
+    ensures encloses { IfOk result (λ found. EncloseBackorders F mean.entry variance.entry found.items) }
+{
+    let count = u32::from(limit) + 1;
+    if mean.hi() == 0 {
+        return empty(alloc, count);
+    }
+    match weigh(alloc, mean, variance)? {
+        Weights::Known {
+            pivot: _,
+            list,
+            sum,
+        } => known(alloc, mean, variance, list.as_slice(), sum, count),
+        Weights::Wide => wide(alloc, mean, variance, count),
+    }
+}
