@@ -1,103 +1,117 @@
--- A family's backorders depend on the stocks of the family alone.
-use Rattle.std.proofs.Common.{◌≡◌, ℕ, List, [], ◌∷◌, subst}
-use Rattle.std.specs.List.{AllByRecursion}
-use Rattle.exact_model.specs.Fraction.{Fraction, whole, ◌≈◌, ◌-ℚ◌, ◌*ℚ◌}
+-- A family's backorders and cost depend on its own stocks alone.
+use Rattle.std.proofs.Common.{◌≡◌, ℕ, zero, suc, ◌+◌, ◌-◌, ◌*◌, ◌<◌, ◌≤◌, List, [], ◌∷◌, length, sum_by, refl, sym, ap, ap₂, ◌∙◌, arith}
+use Rattle.std.specs.List.{AllByRecursion, range_with_len}
+use Rattle.std.proofs.lemmas.List.Sums.{sum_by-cons}
+use Rattle.exact_model.specs.Fraction.{Fraction, ◌+ℚ◌, ◌*ℚ◌}
+use Rattle.exact_model.specs.Sums.{sum_over}
 use Rattle.exact_model.specs.Series.{ebo, vbo}
 use Rattle.exact_model.specs.Shares.{shared}
-use Rattle.exact_model.proofs.Fractions.{same, add-same, mul-same}
-use Rattle.spares_input.specs.Cases.{CaseRows}
-use Rattle.exact_model.proofs.Same.{ebo-same, vbo-same}
-use Rattle.exact_model.specs.Sums.{sum_over}
-use Rattle.fleet_model.specs.Rows.{bases, shop_units, stock, weight}
+use Rattle.spares_input.specs.Frames.{part_at}
+use Rattle.spares_input.specs.Cases.{CaseRows, IsCase}
+use Rattle.fleet_model.specs.Rows.{all_parts, all_sites, bases, shop_units, stock, systems, per_system, weight}
 use Rattle.fleet_model.specs.Demand.{f_i0, f_ij, f_0j}
 use Rattle.fleet_model.specs.ZeroStock.{direct_00, direct_ij, direct_0j}
 use Rattle.fleet_model.specs.Pipelines.{Moments, pipeline_i0, pipeline_00, pipeline_ij, pipeline_0j, ebo_i0, ebo_00, ebo_ij, ebo_0j, vbo_i0, vbo_00, vbo_ij}
-use Rattle.fleet_model.specs.Fleet.{family_total}
-use Rattle.fleet_model.specs.Laws.{SameStocks}
-use Rattle.fleet_model.proofs.SumLaws.{sum-same}
-
-sum-same_in : (xs : List ℕ) (f g : ℕ → Fraction) → AllByRecursion (λ i. f i ≈ g i) xs → sum_over xs f ≈ sum_over xs g
-unfolding sum_over
-sum-same_in [] f g h = same (whole 0)
-sum-same_in (x ∷ xs) f g h = add-same h.0 (sum-same_in xs f g h.1)
+use Rattle.fleet_model.specs.Fleet.{family}
+use Rattle.fleet_model.specs.Aims.{Value, family_aim, part_cost_beyond, family_cost_beyond}
+use Rattle.fleet_model.specs.Laws.{AgreeOnFamily}
 
 each : (P Q : ℕ → Type 0) (xs : List ℕ) → ((i : ℕ) → P i → Q i) → AllByRecursion P xs → AllByRecursion Q xs
 each P Q [] h a = a
 each P Q (x ∷ xs) h a = (h x a.0, each P Q xs h a.1)
 
-ebo-at : (n : ℕ) (u u' v v' : Fraction) (k k' : ℕ) → k ≡ k' → u ≈ u' → v ≈ v' → ebo n u v k ≈ ebo n u' v' k'
-ebo-at n u u' v v' k k' e h g = subst (λ j. ebo n u v k ≈ ebo n u' v' j) e (ebo-same n k h g)
+sum-each : (xs : List ℕ) (f g : ℕ → Fraction) → AllByRecursion (λ i. f i ≡ g i) xs → sum_over xs f ≡ sum_over xs g
+unfolding sum_over
+sum-each [] f g h = refl
+sum-each (x ∷ xs) f g h = ap₂ (λ a b. a +ℚ b) h.0 (sum-each xs f g h.1)
 
-vbo-at : (n : ℕ) (u u' v v' : Fraction) (k k' : ℕ) → k ≡ k' → u ≈ u' → v ≈ v' → vbo n u v k ≈ vbo n u' v' k'
-vbo-at n u u' v v' k k' e h g = subst (λ j. vbo n u v k ≈ vbo n u' v' j) e (vbo-same n k h g)
+pub count-each : (xs : List ℕ) (f g : ℕ → ℕ) → AllByRecursion (λ i. f i ≡ g i) xs → sum_by f xs ≡ sum_by g xs
+count-each [] f g h = refl
+count-each (x ∷ xs) f g h = sum_by-cons f x xs ∙ ap₂ (λ a b. a + b) h.0 (count-each xs f g h.1) ∙ sym (sum_by-cons g x xs)
 
-shared-by : (f : Fraction) {e e' v v' : Fraction} → e ≈ e' → v ≈ v' → shared f e v ≈ shared f e' v'
-unfolding shared
-shared-by f h k = add-same (mul-same (same (f *ℚ (whole 1 -ℚ f))) h) (mul-same (same (f *ℚ f)) k)
+all_in_range : (P : ℕ → Type 0) (n a m : ℕ) → a + n ≤ m → ((k : ℕ) → k < m → P k) → AllByRecursion P (range_with_len a n)
+all_in_range P zero a m l h = tt
+all_in_range P (suc n) a m l h = (h a (omega arith), all_in_range P n (a + 1) m (omega arith) h)
 
--- the same backorders and variance of backorders
-record Alike (e e' v v' : Fraction) : Type 0 where
-  backorders : e ≈ e'
-  spread : v ≈ v'
+-- a fact of each site, of each part and of each base
+pub at_sites : (c : CaseRows) (P : ℕ → Type 0) → ((k : ℕ) → k < length c.sites → P k) → AllByRecursion P (all_sites c)
+at_sites c P h = all_in_range P (length c.sites) 0 (length c.sites) (omega arith) h
 
-alike-at : (n : ℕ) (a b : Moments) (k k' : ℕ) → k ≡ k' → a.mean ≈ b.mean → a.variance ≈ b.variance
-    → Alike (ebo n a.mean a.variance k) (ebo n b.mean b.variance k') (vbo n a.mean a.variance k) (vbo n b.mean b.variance k')
-alike-at n a b k k' e h g = record { backorders = ebo-at n _ _ _ _ k k' e h g; spread = vbo-at n _ _ _ _ k k' e h g }
+pub at_parts : (c : CaseRows) (P : ℕ → Type 0) → ((p : ℕ) → p < length c.parts → P p) → AllByRecursion P (all_parts c)
+at_parts c P h = all_in_range P (length c.parts) 0 (length c.parts) (omega arith) h
 
-abbrev Agree : CaseRows → List ℕ → List ℕ → ℕ → Type 0
-Agree c s t p = (k : ℕ) → stock c s p k ≡ stock c t p k
+pub at_bases : (c : CaseRows) (P : ℕ → Type 0) → 0 < length c.sites → ((k : ℕ) → k < length c.sites → P k) → AllByRecursion P (bases c)
+at_bases c P some h = all_in_range P (length c.sites - 1) 1 (length c.sites) (omega arith) h
 
-alike_i0 : (c : CaseRows) (s t : List ℕ) (n l i : ℕ) → Agree c s t i → Alike (ebo_i0 c s n l i) (ebo_i0 c t n l i) (vbo_i0 c s n l i) (vbo_i0 c t n l i)
-unfolding ebo_i0 vbo_i0
-alike_i0 c s t n l i h = alike-at n (pipeline_i0 c l i) (pipeline_i0 c l i) _ _ (h 0) (same (pipeline_i0 c l i).mean) (same (pipeline_i0 c l i).variance)
+module _ (c : CaseRows) (s t : List ℕ) (some : 0 < length c.sites) where
+  abbrev Agree : ℕ → Type 0
+  Agree p = (k : ℕ) → k < length c.sites → stock c s p k ≡ stock c t p k
 
-mean_00 : (c : CaseRows) (s t : List ℕ) (n l : ℕ) → SameStocks c s t l → (pipeline_00 c s n l).mean ≈ (pipeline_00 c t n l).mean
-unfolding pipeline_00
-mean_00 c s t n l h =
-    add-same (same (direct_00 c l)) (sum-same_in (shop_units c l) _ _ (each (Agree c s t) _ (shop_units c l)
-    (λ i a. mul-same (same (f_i0 c l i)) (alike_i0 c s t n l i a).backorders) h.1))
+  ebo_i0-same : (n l i : ℕ) → Agree i → ebo_i0 c s n l i ≡ ebo_i0 c t n l i
+  unfolding ebo_i0
+  ebo_i0-same n l i h = ap (λ z. ebo n (pipeline_i0 c l i).mean (pipeline_i0 c l i).variance z) (h 0 some)
 
-variance_00 : (c : CaseRows) (s t : List ℕ) (n l : ℕ) → SameStocks c s t l → (pipeline_00 c s n l).variance ≈ (pipeline_00 c t n l).variance
-unfolding pipeline_00
-variance_00 c s t n l h =
-    add-same (same (direct_00 c l)) (sum-same_in (shop_units c l) _ _ (each (Agree c s t) _ (shop_units c l)
-    (λ i a. shared-by (f_i0 c l i) (alike_i0 c s t n l i a).backorders (alike_i0 c s t n l i a).spread) h.1))
+  vbo_i0-same : (n l i : ℕ) → Agree i → vbo_i0 c s n l i ≡ vbo_i0 c t n l i
+  unfolding vbo_i0
+  vbo_i0-same n l i h = ap (λ z. vbo n (pipeline_i0 c l i).mean (pipeline_i0 c l i).variance z) (h 0 some)
 
-alike_00 : (c : CaseRows) (s t : List ℕ) (n l : ℕ) → SameStocks c s t l → Alike (ebo_00 c s n l) (ebo_00 c t n l) (vbo_00 c s n l) (vbo_00 c t n l)
-unfolding ebo_00 vbo_00
-alike_00 c s t n l h = alike-at n (pipeline_00 c s n l) (pipeline_00 c t n l) _ _ (h.0 0) (mean_00 c s t n l h) (variance_00 c s t n l h)
+  moments : (a b u v : Fraction) → a ≡ b → u ≡ v → ◌≡◌ {A = Moments} (record { mean = a; variance = u }) (record { mean = b; variance = v })
+  moments a b u v h k = ap₂ (λ x y. let m : Moments = record { mean = x; variance = y } in m) h k
 
-mean_ij : (c : CaseRows) (s t : List ℕ) (n l i j : ℕ) → Agree c s t i → (pipeline_ij c s n l i j).mean ≈ (pipeline_ij c t n l i j).mean
-unfolding pipeline_ij
-mean_ij c s t n l i j h = add-same (same (direct_ij c l i j)) (mul-same (same (f_ij c l i j)) (alike_i0 c s t n l i h).backorders)
+  pipeline_00-same : (n l : ℕ) → AgreeOnFamily c s t l → pipeline_00 c s n l ≡ pipeline_00 c t n l
+  unfolding pipeline_00
+  pipeline_00-same n l h =
+      moments _ _ _ _
+      (ap (λ z. direct_00 c l +ℚ z) (sum-each (shop_units c l) _ _ (each Agree _ (shop_units c l) (λ i a. ap (λ z. f_i0 c l i *ℚ z) (ebo_i0-same n l i a)) h.1)))
+      (ap (λ z. direct_00 c l +ℚ z) (sum-each (shop_units c l) _ _ (each Agree _ (shop_units c l)
+      (λ i a. ap₂ (λ y z. shared (f_i0 c l i) y z) (ebo_i0-same n l i a) (vbo_i0-same n l i a)) h.1)))
 
-variance_ij : (c : CaseRows) (s t : List ℕ) (n l i j : ℕ) → Agree c s t i → (pipeline_ij c s n l i j).variance ≈ (pipeline_ij c t n l i j).variance
-unfolding pipeline_ij
-variance_ij c s t n l i j h =
-    add-same (same (direct_ij c l i j)) (shared-by (f_ij c l i j) (alike_i0 c s t n l i h).backorders (alike_i0 c s t n l i h).spread)
+  ebo_00-same : (n l : ℕ) → AgreeOnFamily c s t l → ebo_00 c s n l ≡ ebo_00 c t n l
+  unfolding ebo_00
+  ebo_00-same n l h = ap₂ (λ (m : Moments) (z : ℕ). ebo n m.mean m.variance z) (pipeline_00-same n l h) (h.0 0 some)
 
-alike_ij : (c : CaseRows) (s t : List ℕ) (n l i j : ℕ) → Agree c s t i
-    → Alike (ebo_ij c s n l i j) (ebo_ij c t n l i j) (vbo_ij c s n l i j) (vbo_ij c t n l i j)
-unfolding ebo_ij vbo_ij
-alike_ij c s t n l i j h =
-    alike-at n (pipeline_ij c s n l i j) (pipeline_ij c t n l i j) _ _ (h j) (mean_ij c s t n l i j h) (variance_ij c s t n l i j h)
+  vbo_00-same : (n l : ℕ) → AgreeOnFamily c s t l → vbo_00 c s n l ≡ vbo_00 c t n l
+  unfolding vbo_00
+  vbo_00-same n l h = ap₂ (λ (m : Moments) (z : ℕ). vbo n m.mean m.variance z) (pipeline_00-same n l h) (h.0 0 some)
 
-mean_0j : (c : CaseRows) (s t : List ℕ) (n l j : ℕ) → SameStocks c s t l → (pipeline_0j c s n l j).mean ≈ (pipeline_0j c t n l j).mean
-unfolding pipeline_0j
-mean_0j c s t n l j h =
-    add-same (add-same (same (direct_0j c l j)) (mul-same (same (f_0j c l j)) (alike_00 c s t n l h).backorders))
-    (sum-same_in (shop_units c l) _ _ (each (Agree c s t) _ (shop_units c l) (λ i a. (alike_ij c s t n l i j a).backorders) h.1))
+  pipeline_ij-same : (n l i j : ℕ) → Agree i → pipeline_ij c s n l i j ≡ pipeline_ij c t n l i j
+  unfolding pipeline_ij
+  pipeline_ij-same n l i j h =
+      moments _ _ _ _
+      (ap (λ z. direct_ij c l i j +ℚ f_ij c l i j *ℚ z) (ebo_i0-same n l i h))
+      (ap₂ (λ y z. direct_ij c l i j +ℚ shared (f_ij c l i j) y z) (ebo_i0-same n l i h) (vbo_i0-same n l i h))
 
-variance_0j : (c : CaseRows) (s t : List ℕ) (n l j : ℕ) → SameStocks c s t l → (pipeline_0j c s n l j).variance ≈ (pipeline_0j c t n l j).variance
-unfolding pipeline_0j
-variance_0j c s t n l j h =
-    add-same (add-same (same (direct_0j c l j)) (shared-by (f_0j c l j) (alike_00 c s t n l h).backorders (alike_00 c s t n l h).spread))
-    (sum-same_in (shop_units c l) _ _ (each (Agree c s t) _ (shop_units c l) (λ i a. (alike_ij c s t n l i j a).spread) h.1))
+  ebo_ij-same : (n l i j : ℕ) → j < length c.sites → Agree i → ebo_ij c s n l i j ≡ ebo_ij c t n l i j
+  unfolding ebo_ij
+  ebo_ij-same n l i j lj h = ap₂ (λ (m : Moments) (z : ℕ). ebo n m.mean m.variance z) (pipeline_ij-same n l i j h) (h j lj)
 
-alike_0j : (c : CaseRows) (s t : List ℕ) (n l j : ℕ) → SameStocks c s t l → ebo_0j c s n l j ≈ ebo_0j c t n l j
-unfolding ebo_0j
-alike_0j c s t n l j h = ebo-at n _ _ _ _ _ _ (h.0 j) (mean_0j c s t n l j h) (variance_0j c s t n l j h)
+  vbo_ij-same : (n l i j : ℕ) → j < length c.sites → Agree i → vbo_ij c s n l i j ≡ vbo_ij c t n l i j
+  unfolding vbo_ij
+  vbo_ij-same n l i j lj h = ap₂ (λ (m : Moments) (z : ℕ). vbo n m.mean m.variance z) (pipeline_ij-same n l i j h) (h j lj)
 
-pub family_total-same : (c : CaseRows) (s t : List ℕ) (n l : ℕ) → SameStocks c s t l → family_total c s n l ≈ family_total c t n l
-unfolding family_total
-family_total-same c s t n l h = sum-same (bases c) _ _ (λ j. mul-same (same (whole (weight c l))) (alike_0j c s t n l j h))
+  pipeline_0j-same : (n l j : ℕ) → j < length c.sites → AgreeOnFamily c s t l → pipeline_0j c s n l j ≡ pipeline_0j c t n l j
+  unfolding pipeline_0j
+  pipeline_0j-same n l j lj h =
+      moments _ _ _ _
+      (ap₂ (λ y z. direct_0j c l j +ℚ f_0j c l j *ℚ y +ℚ z) (ebo_00-same n l h)
+      (sum-each (shop_units c l) _ _ (each Agree _ (shop_units c l) (λ i a. ebo_ij-same n l i j lj a) h.1)))
+      (ap₂ (λ y z. direct_0j c l j +ℚ y +ℚ z)
+      (ap₂ (λ y z. shared (f_0j c l j) y z) (ebo_00-same n l h) (vbo_00-same n l h))
+      (sum-each (shop_units c l) _ _ (each Agree _ (shop_units c l) (λ i a. vbo_ij-same n l i j lj a) h.1)))
+
+  pub ebo_0j-same : (n l j : ℕ) → j < length c.sites → AgreeOnFamily c s t l → ebo_0j c s n l j ≡ ebo_0j c t n l j
+  unfolding ebo_0j
+  ebo_0j-same n l j lj h = ap₂ (λ (m : Moments) (z : ℕ). ebo n m.mean m.variance z) (pipeline_0j-same n l j lj h) (h.0 j lj)
+
+  pub family_aim-same : (value : Value) (n l : ℕ) → AgreeOnFamily c s t l → family_aim value c s n l ≡ family_aim value c t n l
+  unfolding family_aim
+  family_aim-same value n l h =
+      sum-each (bases c) _ _ (at_bases c _ some (λ j lj. ap (λ z. value (systems c j) (per_system c l) (weight c l) z n) (ebo_0j-same n l j lj h)))
+
+  pub family_cost_beyond-same : (held : List ℕ) (l : ℕ) → AgreeOnFamily c s t l → family_cost_beyond c held s l ≡ family_cost_beyond c held t l
+  family_cost_beyond-same held l h =
+      count-each (family c l) (part_cost_beyond c held s) (part_cost_beyond c held t)
+      (each Agree _ (family c l) (λ p a. count-each (all_sites c) _ _ (at_sites c _ (λ k lk. ap (λ z. (z - stock c held p k) * (part_at c.parts p).cost) (a k lk)))) h)
+
+pub has_sites : (c : CaseRows) → IsCase c → 0 < length c.sites
+has_sites c valid = (let h = valid.frame.fewest_sites in omega (arith, h))

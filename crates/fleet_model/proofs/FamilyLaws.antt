@@ -1,14 +1,14 @@
 -- The families make up the parts: costs add up over them.
 use Rattle.std.proofs.Common.{◌≡◌, ◌≢◌, ℕ, zero, suc, ◌+◌, ◌*◌, ◌<◌, ◌≤◌, ◌⊎◌, Bool, true, false, cond, ◌&&◌, List, [], ◌∷◌, length, filter, sum_by, count_by, bytes_eq, Option, Some, None, is_none, IfSome, inl, inr, refl, sym, ap, ap₂, ◌∙◌, arith}
-use Rattle.std.specs.List.{range_with_len, AllByRecursion}
+use Rattle.std.specs.List.{range_with_len}
 use Rattle.std.proofs.lemmas.List.Sums.{sum_by-cons}
 use Rattle.spares_input.specs.Cases.{CaseRows}
 use Rattle.std.specs.Option.{option_map_or}
 use Rattle.spares_input.specs.Frames.{is_shop_of, part_at}
 use Rattle.spares_input.specs.Rows.{is_line}
-use Rattle.fleet_model.specs.Rows.{all_parts, all_sites, stock, line_units, shop_units}
+use Rattle.fleet_model.specs.Rows.{all_parts, line_units, shop_units}
 use Rattle.fleet_model.specs.Fleet.{part_cost, cost, family, family_cost}
-use Rattle.fleet_model.specs.Laws.{SameStocks}
+use Rattle.fleet_model.specs.Aims.{part_cost_beyond, family_cost_beyond, cost_beyond}
 
 -- one part alone has this name, and it is a line unit
 pub record HasLine (c : CaseRows) (name : List ℕ) : Type 0 where
@@ -37,11 +37,11 @@ sum-filter t g (x ∷ xs) =
     ∙ ap (λ z. where_true (t x) (g x) + z) (sum-filter t g xs)
     ∙ sym (sum_by-cons (λ y. where_true (t y) (g y)) x xs)
 
-sum-plus : (f g : ℕ → ℕ) (xs : List ℕ) → sum_by (λ x. f x + g x) xs ≡ sum_by f xs + sum_by g xs
+pub sum-plus : (f g : ℕ → ℕ) (xs : List ℕ) → sum_by (λ x. f x + g x) xs ≡ sum_by f xs + sum_by g xs
 sum-plus f g [] = refl
 sum-plus f g (x ∷ xs) = omega (arith, sum_by-cons (λ y. f y + g y) x xs, sum_by-cons f x xs, sum_by-cons g x xs, sum-plus f g xs)
 
-sum-each : (f g : ℕ → ℕ) (xs : List ℕ) → ((x : ℕ) → f x ≡ g x) → sum_by f xs ≡ sum_by g xs
+pub sum-each : (f g : ℕ → ℕ) (xs : List ℕ) → ((x : ℕ) → f x ≡ g x) → sum_by f xs ≡ sum_by g xs
 sum-each f g [] h = refl
 sum-each f g (x ∷ xs) h = omega (arith, sum_by-cons f x xs, sum_by-cons g x xs, h x, sum-each f g xs h)
 
@@ -172,13 +172,5 @@ sum-families c g h =
 pub cost-families : (c : CaseRows) (s : List ℕ) → HasFamilies c → sum_by (family_cost c s) (line_units c) ≡ cost c s
 cost-families c s h = sum-families c (part_cost c s) h
 
-family_cost_same_in : (c : CaseRows) (s t : List ℕ) (ps : List ℕ) → AllByRecursion (λ p. (k : ℕ) → stock c s p k ≡ stock c t p k) ps
-    → sum_by (part_cost c s) ps ≡ sum_by (part_cost c t) ps
-family_cost_same_in c s t [] h = refl
-family_cost_same_in c s t (p ∷ ps) h =
-    sum_by-cons (part_cost c s) p ps
-    ∙ ap₂ (λ a b. a + b) (sum-each _ _ (all_sites c) (λ k. ap (λ z. z * (part_at c.parts p).cost) (h.0 k))) (family_cost_same_in c s t ps h.1)
-    ∙ sym (sum_by-cons (part_cost c t) p ps)
-
-pub family_cost-same : (c : CaseRows) (s t : List ℕ) (l : ℕ) → SameStocks c s t l → family_cost c s l ≡ family_cost c t l
-family_cost-same c s t l h = family_cost_same_in c s t (family c l) h
+pub cost_beyond-families : (c : CaseRows) (held s : List ℕ) → HasFamilies c → sum_by (family_cost_beyond c held s) (line_units c) ≡ cost_beyond c held s
+cost_beyond-families c held s h = sum-families c (part_cost_beyond c held s) h

@@ -1,6 +1,7 @@
 -- The floors of the families at a price show a bound for each allocation within the budget,
 -- and two allocations around the budget show how high a price can bound.
-use Rattle.std.proofs.Common.{◌≡◌, ℕ, ◌+◌, ◌*◌, ◌^◌, ◌<◌, ◌≤◌, true, List, [], ◌∷◌, length, sum_by, refl, sym, ap, ◌∙◌, subst, arith, mul-le-mul_left}
+use Rattle.std.proofs.Common.{◌≡◌, ℕ, ◌+◌, ◌-◌, ◌*◌, ◌^◌, ◌<◌, ◌≤◌, ◌⊎◌, inl, inr, true, List, [], ◌∷◌, length, sum_by, refl, sym, ap, ◌∙◌, subst, arith, mul-le-mul_left}
+use Rattle.std.proofs.Math.Nat.{mul-pos}
 use Rattle.std.proofs.lemmas.List.Sums.{sum_by-cons}
 use Rattle.exact_model.specs.Fraction.{Fraction, whole, ◌≈◌, ◌≤ℚ◌, ◌+ℚ◌, ◌*ℚ◌}
 use Rattle.exact_model.proofs.Fractions.{same, turned, ◌≈≈◌, add-same, mul-same, le-same, le-refl, le-chain, times_right_comm}
@@ -9,11 +10,11 @@ use Rattle.spares_input.specs.Frames.{part_at}
 use Rattle.spares_input.specs.Rows.{is_line}
 use Rattle.exact_model.specs.Sums.{sum_over}
 use Rattle.fleet_model.specs.Rows.{line_units}
-use Rattle.fleet_model.specs.Fleet.{family_total, total, cost, family_cost, IsAllocation}
-use Rattle.fleet_model.specs.Headline.{AreFloors, NoAllocationHasFewer, NoPriceIsHigher, HasAtMost, AreAround}
-use Rattle.fleet_model.proofs.Order.{le-add, le-mul, le-cancel}
+use Rattle.fleet_model.specs.Aims.{Value, family_aim, aim, IsHeldAllocation, family_cost_beyond, cost_beyond}
+use Rattle.fleet_model.specs.Bounds.{AreFloors, NoneHasLess, NoPriceShowsMore, HasNoMore, AreAround}
+use Rattle.fleet_model.proofs.Order.{le-add, le-mul, le-cancel, zero_or_more}
 use Rattle.fleet_model.proofs.SumLaws.{sum-most_in, passed, sum-times, sum-same}
-use Rattle.fleet_model.proofs.FamilyLaws.{HasFamilies, cost-families}
+use Rattle.fleet_model.proofs.FamilyLaws.{HasFamilies, cost_beyond-families}
 use Rattle.fleet_model.proofs.FrameLaws.{has_families}
 use Rattle.fleet_model.proofs.PriceLaws.{cancel_plus, whole-most, bound_within, bound_between}
 
@@ -60,18 +61,18 @@ sum-scaled [] m g = omega arith
 sum-scaled (x ∷ xs) m g =
     omega (arith, sum_by-cons (λ y. m * g y) x xs, ap (λ z. m * z) (sum_by-cons g x xs), sum-scaled xs m g)
 
-floors_sum : (c : CaseRows) (units money : ℕ) (floor : ℕ → ℕ) → HasFamilies c → AreFloors c units money floor
-    → (n : ℕ) → 1024 ≤ n → (s : List ℕ) → IsAllocation c s
-    → whole (sum_by floor (line_units c)) ≤ℚ whole units *ℚ (total c s n *ℚ whole (2 ^ 48)) +ℚ whole (money * cost c s)
-unfolding total
-floors_sum c units money floor fam h n l s a =
+floors_sum : (value : Value) (c : CaseRows) (held : List ℕ) (units money : ℕ) (floor : ℕ → ℕ) → HasFamilies c → AreFloors value c held units money floor
+    → (n : ℕ) → 1024 ≤ n → (s : List ℕ) → IsHeldAllocation c held s
+    → whole (sum_by floor (line_units c)) ≤ℚ whole units *ℚ (aim value c s n *ℚ whole (2 ^ 48)) +ℚ whole (money * cost_beyond c held s)
+unfolding aim
+floors_sum value c held units money floor fam h n l s a =
     le-same (sum-whole (line_units c) floor)
-    (sum-plus (line_units c) (λ i. whole units *ℚ (family_total c s n i *ℚ whole (2 ^ 48))) (λ i. whole (money * family_cost c s i))
+    (sum-plus (line_units c) (λ i. whole units *ℚ (family_aim value c s n i *ℚ whole (2 ^ 48))) (λ i. whole (money * family_cost_beyond c held s i))
     ≈≈ add-same
-    (turned (sum-times (line_units c) (whole units) (λ i. family_total c s n i *ℚ whole (2 ^ 48)))
-    ≈≈ mul-same (same (whole units)) (sum-times_right (line_units c) (family_total c s n) (whole (2 ^ 48))))
-    (sum-whole (line_units c) (λ i. money * family_cost c s i)
-    ≈≈ whole-same (sum-scaled (line_units c) money (family_cost c s) ∙ ap (λ z. money * z) (cost-families c s fam))))
+    (turned (sum-times (line_units c) (whole units) (λ i. family_aim value c s n i *ℚ whole (2 ^ 48)))
+    ≈≈ mul-same (same (whole units)) (sum-times_right (line_units c) (family_aim value c s n) (whole (2 ^ 48))))
+    (sum-whole (line_units c) (λ i. money * family_cost_beyond c held s i)
+    ≈≈ whole-same (sum-scaled (line_units c) money (family_cost_beyond c held s) ∙ ap (λ z. money * z) (cost_beyond-families c held s fam))))
     (sum-most_in (line_units c) (λ i. (i < length c.parts) × (is_line (part_at c.parts i) ≡ true)) _ _
     (passed (λ i. is_line (part_at c.parts i)) (length c.parts) (length c.parts) 0 (omega arith)) (λ i p. h n l s a i p.0 p.1))
 
@@ -84,11 +85,26 @@ bound_step t bound units most floors paid p low fits h =
     (add-same (times_comm (whole units) t) (same (whole most)))
     (le-chain (whole-most low) (le-chain h (le-add (le-refl (whole units *ℚ t)) (whole-most fits))))))
 
-pub floors_bound : (c : CaseRows) (budget bound units money : ℕ) (floor : ℕ → ℕ) → IsCase c → 0 < units → AreFloors c units money floor
-    → bound * units + money * budget ≤ sum_by floor (line_units c) → NoAllocationHasFewer c budget bound
-floors_bound c budget bound units money floor fam p h low n l s a fits =
-    bound_step (total c s n *ℚ whole (2 ^ 48)) bound units (money * budget) (sum_by floor (line_units c)) (money * cost c s) p low
-    (mul-le-mul_left money fits) (floors_sum c units money floor (has_families c fam) h n l s a)
+-- a bound that is cut at 0 is 0
+nothing_most : (bound : ℕ) (t : Fraction) → bound ≡ 0 → whole bound ≤ℚ t
+unfolding whole
+nothing_most bound t e = record { cross = omega (arith, ap (λ z. z * t.den) e) }
+
+cut_step : (bound units floors most : ℕ) → 0 < units → bound * units ≤ floors - most → (bound ≡ 0) ⊎ (bound * units + most ≤ floors)
+cut_step bound units floors most p h = elim (zero_or_more bound) [
+  | inl e ↦ inl e
+  | inr m ↦ (let positive : 0 < bound * units = mul-pos m p in inr (omega arith))
+]
+
+pub floors_bound : (value : Value) (c : CaseRows) (held : List ℕ) (budget bound units money : ℕ) (floor : ℕ → ℕ) → IsCase c → 0 < units
+    → AreFloors value c held units money floor → bound * units ≤ sum_by floor (line_units c) - money * budget → NoneHasLess value c held budget bound
+floors_bound value c held budget bound units money floor valid p h low n l s a fits =
+    elim (cut_step bound units (sum_by floor (line_units c)) (money * budget) p low) [
+      | inl e ↦ nothing_most bound (aim value c s n *ℚ whole (2 ^ 48)) e
+      | inr under ↦
+          bound_step (aim value c s n *ℚ whole (2 ^ 48)) bound units (money * budget) (sum_by floor (line_units c)) (money * cost_beyond c held s) p under
+          (mul-le-mul_left money fits) (floors_sum value c held units money floor (has_families c valid) h n l s a)
+    ]
 
 -- ---- no price is higher
 
@@ -107,16 +123,17 @@ around_step x t0 t1 w left over h0 h1 most p low h k0 k1 =
     (turned (whole-product most (left + over)))
     (whole-most low))))
 
-pub no_price_around : (c : CaseRows) (budget most : ℕ) (s t : List ℕ) (left over h0 h1 : ℕ) → AreAround c budget s t left over
-    → HasAtMost c s h0 → HasAtMost c t h1 → h0 * over + h1 * left ≤ most * (left + over) → NoPriceIsHigher c budget most
-no_price_around c budget most s t left over h0 h1 a k0 k1 low n l price x bound =
-    around_step x (total c s n) (total c t n) (whole (2 ^ 48)) left over h0 h1 most a.apart low
-    (bound_between c budget n price x bound s t left over a.first a.second a.below a.above) (k0 n l) (k1 n l)
+pub no_price_around : (value : Value) (c : CaseRows) (held : List ℕ) (budget most : ℕ) (s t : List ℕ) (left over h0 h1 : ℕ)
+    → AreAround c held budget s t left over → HasNoMore value c s h0 → HasNoMore value c t h1 → h0 * over + h1 * left ≤ most * (left + over)
+    → NoPriceShowsMore value c held budget most
+no_price_around value c held budget most s t left over h0 h1 a k0 k1 low n l price x bound =
+    around_step x (aim value c s n) (aim value c t n) (whole (2 ^ 48)) left over h0 h1 most a.apart low
+    (bound_between value c held budget n price x bound s t left over a) (k0 n l) (k1 n l)
 
-pub no_price_within : (c : CaseRows) (budget most : ℕ) (s : List ℕ) → IsAllocation c s → cost c s ≤ budget → HasAtMost c s most
-    → NoPriceIsHigher c budget most
-no_price_within c budget most s a fits k n l price x bound =
-    le-chain (le-mul (bound_within c budget n price x bound s a fits) (le-refl (whole (2 ^ 48)))) (k n l)
+pub no_price_within : (value : Value) (c : CaseRows) (held : List ℕ) (budget most : ℕ) (s : List ℕ) → IsHeldAllocation c held s → cost_beyond c held s ≤ budget
+    → HasNoMore value c s most → NoPriceShowsMore value c held budget most
+no_price_within value c held budget most s a fits k n l price x bound =
+    le-chain (le-mul (bound_within value c held budget n price x bound s a fits) (le-refl (whole (2 ^ 48)))) (k n l)
 
 hull_step : (bound lo0 lo1 fall width last cost0 budget left over : ℕ) → cost0 + left ≡ budget → lo1 + fall ≡ lo0
     → (left + over) * lo0 + fall * cost0 < (bound + 1) * (left + over) + fall * budget
@@ -126,11 +143,11 @@ hull_step bound lo0 lo1 fall width last cost0 budget left over b f h =
     let j : left * (lo1 + fall) ≡ left * lo0 = ap (λ z. left * z) f in
     omega arith
 
--- the choice s and the critical step to t: `fall` of backorders for left + over of money
-pub hull_limit : (c : CaseRows) (budget bound lo0 lo1 fall width last : ℕ) (s t : List ℕ) (left over : ℕ) → AreAround c budget s t left over
-    → HasAtMost c s (lo0 + width) → HasAtMost c t (lo1 + width + last) → lo1 + fall ≡ lo0
-    → (left + over) * lo0 + fall * cost c s < (bound + 1) * (left + over) + fall * budget
-    → NoPriceIsHigher c budget (bound + (width + last + 1))
-hull_limit c budget bound lo0 lo1 fall width last s t left over a k0 k1 f h =
-    no_price_around c budget (bound + (width + last + 1)) s t left over (lo0 + width) (lo1 + width + last) a k0 k1
-    (hull_step bound lo0 lo1 fall width last (cost c s) budget left over a.below f h)
+-- the choice s and the critical step to t: `fall` of the aim for left + over of money
+pub hull_limit : (value : Value) (c : CaseRows) (held : List ℕ) (budget bound lo0 lo1 fall width last : ℕ) (s t : List ℕ) (left over : ℕ)
+    → AreAround c held budget s t left over → HasNoMore value c s (lo0 + width) → HasNoMore value c t (lo1 + width + last) → lo1 + fall ≡ lo0
+    → (left + over) * lo0 + fall * cost_beyond c held s < (bound + 1) * (left + over) + fall * budget
+    → NoPriceShowsMore value c held budget (bound + (width + last + 1))
+hull_limit value c held budget bound lo0 lo1 fall width last s t left over a k0 k1 f h =
+    no_price_around value c held budget (bound + (width + last + 1)) s t left over (lo0 + width) (lo1 + width + last) a k0 k1
+    (hull_step bound lo0 lo1 fall width last (cost_beyond c held s) budget left over a.below f h)

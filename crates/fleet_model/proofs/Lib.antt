@@ -8,6 +8,7 @@ pub mod PriceLaws
 pub mod FamilyLaws
 pub mod FrameLaws
 pub mod DependLaws
+pub mod WordLaws
 pub mod FloorLaws
 pub mod UnitLaws
 pub mod AllocationLaws

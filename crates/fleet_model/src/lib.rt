@@ -1,5 +1,5 @@
-//! The model of a case: its demands, pipelines and backorders, its availability, and its allocations with their cost
-//! and their total, in exact fractions; and the laws of these.
+//! The model of a case: its demands, pipelines and backorders, its availability, and its allocations with their cost and
+//! their total, or another aim, in exact fractions; and the laws of these.
 //!
 //! The definitions stand in `specs/`, and no code computes with them: the crates above print intervals that hold their
 //! values. Each law is the contract of a public function with an empty body. `p` is a part, `l` a line unit, `i` a shop
@@ -8,9 +8,11 @@
 #![tactic(auto)]
 
 mod allocations;
+mod bounds;
 mod pipelines;
 
-pub use allocations::{families, floors_bound, price_limits, stocks_allocate};
+pub use allocations::{families, stocks_allocate, words_agree};
+pub use bounds::{floors_bound, price_limits};
 pub use pipelines::{
     divisors_positive, nothing_cut, whole_units, within_zero_stock_means, zero_stock_means,
 };
