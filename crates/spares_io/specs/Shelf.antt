@@ -11,6 +11,10 @@ use Rattle.spares_io.specs.declared.shelf.ShelfError.TheVariants.{NoMemory, Fail
 abbrev pub Files : Type 0
 Files = FinMap (slice_cmp nat_cmp) (List ℕ)
 
+-- what a shelf that doesn't tell what it holds says of it
+abbrev pub untold : Option Files
+untold = None
+
 -- what a name holds
 abbrev pub file_of : Files → List ℕ → Option (List ℕ)
 file_of files name = get files name

@@ -1,32 +1,35 @@
-//! A shelf over the files of the runtime.
-ghost use Rattle.std.specs.Prelude.{◌≡◌, ◌≢◌, ◌≤◌, ℕ, List, ◌<◌, ◌^◌, [], length, None, if◌then◌else◌, IsErrOf, IsOkUnless, OnOk, OnErr, IfSome};
+//! A shelf over the files of a folder.
+ghost use Rattle.std.specs.Prelude.{◌≡◌, ◌≢◌, ◌⊎◌, ◌≤◌, ℕ, List, ◌<◌, ◌^◌, [], length, if◌then◌else◌, IsErrOf, IsOkUnless, OnOk, OnErr, IfSome};
+ghost use Rattle.std.specs.Option.{option_map};
 ghost use Rattle.std.proofs.Common.{arith};
-ghost use Rattle.spares_io.specs.Causes.{count64, next_count};
-ghost use Rattle.spares_io.specs.Shelf.{is_failed};
+ghost use Rattle.spares_io.specs.Causes.{Rose, count64, next_count};
+ghost use Rattle.spares_io.specs.Files.{ReadsAll, WritesAll};
+ghost use Rattle.spares_io.specs.Shelf.{untold, with_file, Holds, HoldsMore, KeepsOthers, Lacks, is_failed};
 
 use crate::std_sink::write_and_flush;
-use crate::{Shelf, ShelfError};
+use crate::{Folder, Shelf, ShelfError};
+use std::io;
 use std::io::{ErrorKind, Read};
-use std::rt::Files;
-use std::{fs, io};
 
-/// The files of a runtime under their paths. It doesn't tell what they hold. It keeps one count of
-/// reads that failed and one of writes, each of them that of every name.
+/// The files of a folder under their names, as those of a runtime under their paths. It doesn't tell
+/// what they hold. It keeps one count of reads that failed and one of writes, each of them that of
+/// every name.
 #[derive(Drop)]
-pub struct FileShelf<'a, R: Files> {
-    rt: &'a R,
+pub struct FileShelf<F: Folder + Drop> {
+    folder: F,
     read_faults: u64,
     write_faults: u64,
 }
 
-impl<'a, R: Files> FileShelf<'a, R> {
-    /// The files of `rt`, none of whose reads and writes has failed yet.
-    pub fn new(rt: &'a R) -> FileShelf<'a, R>
-        ensures reads { (n : List ℕ) → ⟦<FileShelf<'a, R> as Shelf>⟧.read_faults result n ≡ 0 }
-        ensures writes { (n : List ℕ) → ⟦<FileShelf<'a, R> as Shelf>⟧.write_faults result n ≡ 0 }
+impl<F: Folder + Drop> FileShelf<F> {
+    /// The files of a folder, none of whose reads and writes has failed yet.
+    pub fn new(folder: F) -> FileShelf<F>
+        ensures folder { result.folder ≡ folder }
+        ensures reads { (n : List ℕ) → ⟦<FileShelf<F> as Shelf>⟧.read_faults result n ≡ 0 }
+        ensures writes { (n : List ℕ) → ⟦<FileShelf<F> as Shelf>⟧.write_faults result n ≡ 0 }
     {
         FileShelf {
-            rt,
+            folder,
             read_faults: 0,
             write_faults: 0,
         }
@@ -60,18 +63,20 @@ fn read_rest<F: Read + Drop>(file: F, limit: usize, into: &mut Vec<u8>) -> Resul
     }
 }
 
-fn read_named<R: Files>(
-    rt: &R,
+// Reads the file of that name.
+fn read_named<F: Folder>(
+    folder: &F,
     name: &str,
     limit: usize,
     into: &mut Vec<u8>,
 ) -> Result<(), ShelfError>
     requires { limit < 2 ^ 32 }
     ensures size { OnOk result (length into.new.items ≤ limit) }
+    ensures content { OnOk result (ReadsAll (F.opens folder.now name.now) F.Input.remaining into.new.items) }
     ensures nothing { OnErr result (into.new.items ≡ []) }
 {
     into.clear();
-    let answer = match fs::open(rt, name) {
+    let answer = match folder.open(name) {
         Ok(file) => read_rest(file, limit, into),
         Err(error) => Err(read_error(&error)),
     };
@@ -81,10 +86,12 @@ fn read_named<R: Files>(
     answer
 }
 
-fn write_named<R: Files>(rt: &R, name: &str, bytes: &[u8]) -> Result<(), ShelfError>
-    ensures { IsOkUnless result ShelfError.Failed }
+// Writes these bytes alone into the file of that name.
+fn write_named<F: Folder>(folder: &F, name: &str, bytes: &[u8]) -> Result<(), ShelfError>
+    ensures answer { IsOkUnless result ShelfError.Failed }
+    ensures content { OnOk result (WritesAll (F.creates folder.now name.now) F.Output.contents bytes.now) }
 {
-    let mut file = fs::create(rt, name).map_err(|_| ShelfError::Failed)?;
+    let mut file = folder.create(name).map_err(|_| ShelfError::Failed)?;
     write_and_flush(&mut file, bytes).map_err(|_| ShelfError::Failed)
 }
 
@@ -99,8 +106,8 @@ fn count_failure(faults: &mut u64, answer: Result<(), ShelfError>) -> Result<(),
     answer
 }
 
-impl<'a, R: Files> Shelf for FileShelf<'a, R> {
-    ghost held = { λ _. None };
+impl<F: Folder + Drop> Shelf for FileShelf<F> {
+    ghost held = { λ _. untold };
 
     ghost read_faults = { λ s _. count64 s.read_faults };
 
@@ -111,15 +118,44 @@ impl<'a, R: Files> Shelf for FileShelf<'a, R> {
     ghost write_end = { λ s _. Prim.omega arith };
 
     /// Reads the file. Of one that is longer than `limit` it reads one byte more than that.
-    fn read(&mut self, name: &str, limit: usize, into: &mut Vec<u8>) -> Result<(), ShelfError> {
-        let answer = read_named(self.rt, name, limit, into);
+    fn read(&mut self, name: &str, limit: usize, into: &mut Vec<u8>) -> Result<(), ShelfError>
+        requires { limit < 2 ^ 32 }
+        ensures held { untold ≡ untold }
+        ensures content { OnOk result (Holds untold name.now into.new.items) }
+        ensures size { OnOk result (length into.new.items ≤ limit) }
+        ensures nothing { OnErr result (into.new.items ≡ []) }
+        ensures too_long { IsErrOf result ShelfError.TooLong → HoldsMore untold name.now limit }
+        ensures failed { IsErrOf result ShelfError.Failed
+            → Rose (count64 self.old.read_faults) (count64 self.new.read_faults) ⊎ Lacks untold name.now }
+        ensures reads { (n : List ℕ) → count64 self.old.read_faults ≤ count64 self.new.read_faults }
+        ensures still { OnOk result ((n : List ℕ) → count64 self.new.read_faults ≡ count64 self.old.read_faults) }
+        ensures writes { (n : List ℕ) → count64 self.new.write_faults ≡ count64 self.old.write_faults }
+        ensures opened { OnOk result
+            (ReadsAll (F.opens self.old.folder name.now) F.Input.remaining into.new.items) }
+        ensures folder { self.new.folder ≡ self.old.folder }
+    {
+        let answer = read_named(&self.folder, name, limit, into);
         count_failure(&mut self.read_faults, answer)
     }
 
     /// Creates the file, or empties the one that is there, and writes these bytes. It answers Ok only
     /// once they are written and flushed, and else `Failed`.
-    fn write(&mut self, name: &str, bytes: &[u8]) -> Result<(), ShelfError> {
-        let answer = write_named(self.rt, name, bytes);
+    fn write(&mut self, name: &str, bytes: &[u8]) -> Result<(), ShelfError>
+        ensures content { OnOk result (untold ≡ option_map (λ files. with_file files name.now bytes.now) untold) }
+        ensures unchanged { IsErrOf result ShelfError.NoMemory → untold ≡ untold }
+        ensures others { IsErrOf result ShelfError.Failed → KeepsOthers name.now untold untold }
+        ensures not_too_long { ¬ IsErrOf result ShelfError.TooLong }
+        ensures failed { IsErrOf result ShelfError.Failed
+            → Rose (count64 self.old.write_faults) (count64 self.new.write_faults) }
+        ensures writes { (n : List ℕ) → count64 self.old.write_faults ≤ count64 self.new.write_faults }
+        ensures still { OnOk result
+            ((n : List ℕ) → count64 self.new.write_faults ≡ count64 self.old.write_faults) }
+        ensures reads { (n : List ℕ) → count64 self.new.read_faults ≡ count64 self.old.read_faults }
+        ensures created { OnOk result
+            (WritesAll (F.creates self.old.folder name.now) F.Output.contents bytes.now) }
+        ensures folder { self.new.folder ≡ self.old.folder }
+    {
+        let answer = write_named(&self.folder, name, bytes);
         count_failure(&mut self.write_faults, answer)
     }
 }

@@ -2,6 +2,7 @@
 #![tactic(auto)]
 
 mod files;
+mod folder;
 mod list;
 mod memory_shelf;
 mod memory_sink;
@@ -15,6 +16,7 @@ mod tests;
 mod text;
 
 pub use files::FileShelf;
+pub use folder::Folder;
 pub use list::List;
 pub use memory_shelf::MemShelf;
 pub use memory_sink::MemSink;

@@ -1,0 +1,13 @@
+-- What a call does to the file that it opened, where the file tells its bytes.
+use Rattle.std.specs.Prelude.{◌≡◌, ℕ, List, Option, IfSome}
+use Rattle.std.specs.Io.KnownBytes.{Appends}
+
+-- these are all the bytes that such a file had left
+abbrev pub ReadsAll : {File : Type 0} → (File → Type 0) → (File → Option (List ℕ)) → List ℕ → Type 0
+ReadsAll {File} IsOpened remaining bytes =
+    (file : File) × IsOpened file × IfSome (remaining file) (λ left. bytes ≡ left)
+
+-- such a file gained exactly these bytes
+abbrev pub WritesAll : {File : Type 0} → (File → Type 0) → (File → Option (List ℕ)) → List ℕ → Type 0
+WritesAll {File} IsOpened contents bytes =
+    (file : File) × IsOpened file × (after : File) × Appends (contents file) (contents after) bytes
