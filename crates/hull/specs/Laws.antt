@@ -1,11 +1,11 @@
 -- Laws of curves.
-use Rattle.std.specs.Prelude.{◌≡◌, ℕ, ◌<◌, ◌≤◌, ◌↔◌, List, [], ◌∷◌, ◌++◌}
+use Rattle.std.specs.Prelude.{◌≡◌, ℕ, ◌<◌, ◌≤◌, ◌↔◌, List, ◌∷◌, [], ◌++◌}
 use Rattle.hull.specs.declared.point.Point.{Point}
 use Rattle.hull.specs.Curves.{Among, IsChain, IsCurve, IsLeastAt, HaveOneWidth, sums}
 
--- a point is its own curve
-abbrev pub IsOwnCurve : Type 0
-IsOwnCurve = (v : Point) → IsCurve (v ∷ []) (v ∷ [])
+-- a chain is its own curve, as a single point is
+abbrev pub ChainIsOwnCurve : Type 0
+ChainIsOwnCurve = (points : List Point) → IsChain points → IsCurve points points
 
 -- the curve of what two curves have together is the curve of all their points
 abbrev pub JoinsCurves : Type 0

@@ -2,7 +2,7 @@
 
 ghost use Rattle.std.specs.Prelude.{◌≡◌, ℕ, ◌+◌, ◌^◌, ◌<◌, ◌≤◌, ◌∷◌, [], ◌++◌, List, length, IfOk, OnOk, OnErr};
 ghost use Rattle.hull.specs.declared.point.Point.{Point};
-ghost use Rattle.hull.specs.Curves.{Among, InRange, IsCurve, IsShape, IsBestAt, IsLeastAt, point_at, plus, sums};
+ghost use Rattle.hull.specs.Curves.{Among, InRange, HaveOneWidth, IsCurve, IsShape, IsBestAt, IsLeastAt, point_at, plus, sums};
 
 use crate::scan::scan;
 use crate::walk::path;
@@ -44,6 +44,23 @@ impl Curve {
         Ok(Curve { vertices })
     }
 
+    /// The curve of one point or more, whose stocks have one length. Of points with the same cost and the same lower end it
+    /// keeps the one whose stocks are first in the order of a dictionary.
+    pub fn of(alloc: Global, mut points: Vec<Point>) -> Result<Curve, NoMemory>
+        requires some { 0 < length points.items }
+        requires few { length points.items ≤ 2 ^ 31 }
+        requires ranges { (v : Point) → Among v points.items → InRange v }
+        requires widths { HaveOneWidth points.items }
+        ensures curve { IfOk result (λ curve. IsCurve points.items curve) }
+        ensures few { IfOk result (λ curve. length curve ≤ length points.items) }
+    {
+        let count = points.len();
+        let room = Vec::with_capacity(alloc, count)?;
+        points.sort_unstable_by_key(|v| v.cost);
+        let vertices = scan(points, room);
+        Ok(Curve { vertices })
+    }
+
     /// Makes this the curve of its points and one more, whose stocks have the curve's length. Of points with the same cost
     /// and the same lower end it keeps the one whose stocks are first in the order of a dictionary.
     ///
@@ -53,6 +70,7 @@ impl Curve {
         requires range { InRange point }
         requires widths { (v : Point) → Among v self.old → length v.stocks ≡ length point.stocks }
         ensures ok { OnOk result (IsCurve (self.old ++ point ∷ []) self.new) }
+        ensures few { OnOk result (length self.new ≤ length self.old + 1) }
         ensures err { OnErr result (self.new ≡ self.old) }
     {
         let alloc = *self.vertices.allocator();
@@ -67,6 +85,7 @@ impl Curve {
         requires few { length self.old + length other ≤ 2 ^ 31 }
         requires widths { (v w : Point) → Among v self.old → Among w other → length v.stocks ≡ length w.stocks }
         ensures ok { OnOk result (IsCurve (self.old ++ other) self.new) }
+        ensures few { OnOk result (length self.new ≤ length self.old + length other) }
         ensures err { OnErr result (self.new ≡ self.old) }
     {
         let alloc = *self.vertices.allocator();
@@ -84,13 +103,11 @@ impl Curve {
     pub fn sum(alloc: Global, a: &Curve, b: &Curve) -> Result<Curve, NoMemory>
         requires few { length a.now + length b.now ≤ 2 ^ 31 }
         requires ranges { (v w : Point) → Among v a.now → Among w b.now → InRange (plus v w) }
-        ensures { IfOk result (λ curve. IsCurve (sums a.now b.now) curve) }
+        ensures curve { IfOk result (λ curve. IsCurve (sums a.now b.now) curve) }
+        ensures few { IfOk result (λ curve. length curve ≤ length a.now + length b.now) }
     {
-        let mut points = path(alloc, a.vertices.as_slice(), b.vertices.as_slice())?;
-        let room = Vec::with_capacity(alloc, points.len())?;
-        points.sort_unstable_by_key(|v| v.cost);
-        let vertices = scan(points, room);
-        Ok(Curve { vertices })
+        let points = path(alloc, a.vertices.as_slice(), b.vertices.as_slice())?;
+        Curve::of(alloc, points)
     }
 
     /// How many vertices there are. What is true of each curve is told with it.

@@ -1,7 +1,7 @@
 //! Laws of curves, by which what is said of old vertices holds of all points so far.
 
 ghost use Rattle.hull.specs.Laws.{
-  IsOwnCurve,
+  ChainIsOwnCurve,
   JoinsCurves,
   AddsCurves,
   IsOfMembers,
@@ -12,9 +12,9 @@ ghost use Rattle.hull.specs.Laws.{
   EndsLowest,
 };
 
-/// A point is its own curve.
-pub fn is_own_curve()
-    ensures { IsOwnCurve }
+/// A chain is its own curve: so are the vertices of a curve, and a single point.
+pub fn chain_is_own_curve()
+    ensures { ChainIsOwnCurve }
 {}
 
 /// The curve of what two curves have together is the curve of all their points.

@@ -19,8 +19,8 @@ mod walk;
 
 pub use curve::Curve;
 pub use laws::{
-    adds_curves, begins_cheapest, ends_lowest, has_one_curve, is_convex, is_of_members,
-    is_own_curve, joins_curves, reaches_least,
+    adds_curves, begins_cheapest, chain_is_own_curve, ends_lowest, has_one_curve, is_convex,
+    is_of_members, joins_curves, reaches_least,
 };
 pub use point::Point;
 pub use price::Price;

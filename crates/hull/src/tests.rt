@@ -1,6 +1,6 @@
 //! Curves of a few points, as a program that was written apart from this one makes them, and a score.
 
-ghost use Rattle.std.specs.Prelude.{◌≡◌, ◌^◌, ◌≤◌, IfOk, length};
+ghost use Rattle.std.specs.Prelude.{◌≡◌, ◌^◌, ◌<◌, ◌≤◌, IfOk, length};
 ghost use Rattle.hull.specs.declared.point.Point.{Point};
 ghost use Rattle.hull.specs.Curves.{Among};
 ghost use Rattle.hull.specs.Scores.{InLimits};
@@ -75,6 +75,19 @@ fn curve_of(rt: &impl Abort, alloc: Global, rows: &[Row]) -> Result<Curve, Fail>
     Ok(curve)
 }
 
+fn points_of(rt: &impl Abort, alloc: Global, rows: &[Row]) -> Result<Vec<Point>, Fail>
+    ensures count { IfOk result (λ points. (0 < length points.items) × (length points.items ≤ 100)) }
+    ensures each { IfOk result (λ points. (v : Point) → Among v points.items → (v.cost ≤ 1000) × ((v.lo ≤ v.hi) × ((v.hi ≤ 2 ^ 60) × (length v.stocks ≡ 2)))) }
+{
+    let mut points = Vec::new(alloc);
+    for row in rows {
+        let next = point(rt, alloc, row)?;
+        points.push(next)?;
+    }
+    assert!(rt; points.len() > 0 && points.len() <= 100);
+    Ok(points)
+}
+
 fn has(rt: &impl Abort, curve: &Curve, rows: &[Row]) {
     assert_eq!(rt; curve.len() as usize, rows.len());
     for k in 0..curve.len() {
@@ -128,6 +141,14 @@ fn makes_curves_of_points(rt: HostRuntime) -> Result<(), Fail> {
         let curve = curve_of(&rt, rt.alloc(), points)?;
         has(&rt, &curve, vertices);
     }
+    Ok(())
+}
+
+#[test]
+fn makes_one_curve_of_all_points_at_once(rt: HostRuntime) -> Result<(), Fail> {
+    let points = points_of(&rt, rt.alloc(), &LINE_UNIT)?;
+    let curve = Curve::of(rt.alloc(), points)?;
+    has(&rt, &curve, &ITS_CURVE);
     Ok(())
 }
 

@@ -1,9 +1,8 @@
-use Rattle.std.proofs.Common.{◌≡◌, ◌+◌, ◌^◌, ◌<◌, ◌≤◌, List, length, sym, ap, ◌∙◌, subst, arith, vec_len, rules, length-append}
-use Rattle.std.proofs.lemmas.List.Sorted.{IsNonDecreasingBy-from_sort_by_key}
+use Rattle.std.proofs.Common.{◌≡◌, ◌+◌, ◌≤◌, List, length, sym, ap, ◌∙◌, subst, arith, vec_len, length-append}
+use Rattle.std.proofs.lemmas.Result.{IfOk-weaker}
 use Rattle.hull.specs.declared.point.Point.{Point}
 use Rattle.hull.specs.Curves.{Among, StandFor, InRange, IsCurve, IsShape, plus, sums}
-use Rattle.hull.proofs.Steps_of.{stand_trans}
-use Rattle.hull.proofs.Runs.{among_permuted, permuted_stands, curve_made}
+use Rattle.hull.proofs.Stand.{stand_for}
 use Rattle.hull.proofs.Sums.{Parts, parts_of}
 use Rattle.hull.proofs.curve.Curve.sum.Goals as goal
 
@@ -15,10 +14,6 @@ path-requires-clause-b_ranges c = λ v m. c.b.invariant.ranges v (subst (λ l. A
 
 pub path-requires-clause-ranges : goal.path-requires-clause-ranges
 path-requires-clause-ranges c = λ v w m n. c.requires.ranges v w (subst (λ l. Among v l) (c.as_slice.ensures.value ∙ c.a.view_is) m) (subst (λ l. Among w l) (c.as_slice-2.ensures.value ∙ c.b.view_is) n)
-
-pub scan-vertices-requires-clause-sorted : goal.scan-vertices-requires-clause-sorted
-scan-vertices-requires-clause-sorted c =
-    IsNonDecreasingBy-from_sort_by_key (λ x. x.cost) _ c.sort_unstable_by_key.ensures.sorted (λ a r q k. search rules)
 
 -- each sum is in range, and as wide as the others
 sum_range : (a b : List Point) → ((v w : Point) → Among v a → Among w b → InRange (plus v w)) → (s : Point) → Among s (sums a b) → InRange s
@@ -34,40 +29,44 @@ sum_width a b sa sb s t m n =
     let f : length t.stocks ≡ length q.first.stocks + length q.second.stocks = ap (λ z. length z.stocks) q.is ∙ length-append q.first.stocks q.second.stocks in
     omega (arith, x, y, e, f)
 
-pub scan-vertices-requires-clause-ranges : goal.scan-vertices-requires-clause-ranges
-scan-vertices-requires-clause-ranges c = λ v m.
-    let x = c.as_slice.result.now in
-    let y = c.as_slice-2.result.now in
-    let inside : Among v (sums x y) = c.in_ok-points.ensures.stands.among v (among_permuted c.in_ok-points.points.items c.sort_unstable_by_key.new.self.items c.sort_unstable_by_key.ensures.permutation v m) in
-    sum_range x y (λ v w m n. c.requires.ranges v w (subst (λ l. Among v l) (c.as_slice.ensures.value ∙ c.a.view_is) m) (subst (λ l. Among w l) (c.as_slice-2.ensures.value ∙ c.b.view_is) n)) v inside
-
-pub invariant_of-result : goal.invariant_of-result
-invariant_of-result c =
-    let x = c.as_slice.result.now in
-    let y = c.as_slice-2.result.now in
-    let made = c.scan-vertices.result.items in
-    let stands : StandFor (sums x y) made = stand_trans (sums x y) c.in_ok-points.points.items made c.in_ok-points.ensures.stands
-    (permuted_stands c.in_ok-points.points.items c.sort_unstable_by_key.new.self.items made c.sort_unstable_by_key.ensures.permutation c.scan-vertices.ensures.stands) in
-    let lx : length x ≡ length c.args.a.now = ap length (c.as_slice.ensures.value ∙ c.a.view_is) in
-    let ly : length y ≡ length c.args.b.now = ap length (c.as_slice-2.ensures.value ∙ c.b.view_is) in
-    let l1 = c.scan-vertices.ensures.len in
-    let l2 = c.in_ok-points.ensures.few in
-    let l3 : vec_len c.sort_unstable_by_key.new.self ≡ vec_len c.in_ok-points.points = c.sort_unstable_by_key.ensures.len in
+pub of-requires-clause-few : goal.of-requires-clause-few
+of-requires-clause-few c =
+    let lx : length c.as_slice.result.now ≡ length c.args.a.now = ap length (c.as_slice.ensures.value ∙ c.a.view_is) in
+    let ly : length c.as_slice-2.result.now ≡ length c.args.b.now = ap length (c.as_slice-2.ensures.value ∙ c.b.view_is) in
+    let l = c.in_ok-points.ensures.few in
     let few = c.requires.few in
-    record {
-      some = subst (λ n. 0 < n) c.scan-vertices.result.ok.0 c.scan-vertices.ensures.some;
-      few = subst (λ n. n ≤ 2 ^ 31) c.scan-vertices.result.ok.0 (let k : vec_len c.scan-vertices.result ≤ 2 ^ 31 = omega (arith, l1, l2, l3, few, lx, ly) in k);
-      chain = c.scan-vertices.ensures.chain;
-      ranges = λ v m. sum_range x y (λ v w m n. c.requires.ranges v w (subst (λ l. Among v l) (c.as_slice.ensures.value ∙ c.a.view_is) m) (subst (λ l. Among w l) (c.as_slice-2.ensures.value ∙ c.b.view_is) n)) v (stands.among v m);
-      widths = λ v w m n. sum_width x y (subst IsShape (sym c.as_slice.ensures.value) c.a.invariant) (subst IsShape (sym c.as_slice-2.ensures.value) c.b.invariant) v w (stands.among v m) (stands.among w n);
-    }
+    let e : vec_len c.in_ok-points.points ≡ length c.in_ok-points.points.items = c.in_ok-points.points.ok.0 in
+    omega (arith, l, few, lx, ly, e)
 
-pub returns : goal.returns
-returns c =
+pub of-requires-clause-ranges : goal.of-requires-clause-ranges
+of-requires-clause-ranges c = λ v m.
     let x = c.as_slice.result.now in
     let y = c.as_slice-2.result.now in
-    let made = c.scan-vertices.result.items in
-    let stands : StandFor (sums x y) made = stand_trans (sums x y) c.in_ok-points.points.items made c.in_ok-points.ensures.stands
-    (permuted_stands c.in_ok-points.points.items c.sort_unstable_by_key.new.self.items made c.sort_unstable_by_key.ensures.permutation c.scan-vertices.ensures.stands) in
-    let curve : IsCurve (sums x y) made = curve_made (sums x y) made stands c.scan-vertices.ensures.chain in
-    subst (λ l. IsCurve (sums l c.args.b.now) made) (c.as_slice.ensures.value ∙ c.a.view_is) (subst (λ l. IsCurve (sums x l) made) (c.as_slice-2.ensures.value ∙ c.b.view_is) curve)
+    sum_range x y (λ v w m n. c.requires.ranges v w (subst (λ l. Among v l) (c.as_slice.ensures.value ∙ c.a.view_is) m) (subst (λ l. Among w l) (c.as_slice-2.ensures.value ∙ c.b.view_is) n))
+    v (c.in_ok-points.ensures.stands.among v m)
+
+pub of-requires-clause-widths : goal.of-requires-clause-widths
+of-requires-clause-widths c = λ v w m n.
+    let x = c.as_slice.result.now in
+    let y = c.as_slice-2.result.now in
+    let stands = c.in_ok-points.ensures.stands in
+    sum_width x y (subst IsShape (sym c.as_slice.ensures.value) c.a.invariant) (subst IsShape (sym c.as_slice-2.ensures.value) c.b.invariant) v w (stands.among v m) (stands.among w n)
+
+pub returns-clause-curve : goal.returns-clause-curve
+returns-clause-curve c =
+    let x = c.as_slice.result.now in
+    let y = c.as_slice-2.result.now in
+    let points = c.in_ok-points.points.items in
+    let stands : StandFor (sums c.args.a.now c.args.b.now) points =
+    subst (λ l. StandFor (sums l c.args.b.now) points) (c.as_slice.ensures.value ∙ c.a.view_is)
+    (subst (λ l. StandFor (sums x l) points) (c.as_slice-2.ensures.value ∙ c.b.view_is) c.in_ok-points.ensures.stands) in
+    IfOk-weaker c.of.result (IsCurve points) (IsCurve (sums c.args.a.now c.args.b.now)) (λ made. stand_for (sums c.args.a.now c.args.b.now) points made stands) c.of.ensures.curve
+
+pub returns-clause-few : goal.returns-clause-few
+returns-clause-few c =
+    let lx : length c.as_slice.result.now ≡ length c.args.a.now = ap length (c.as_slice.ensures.value ∙ c.a.view_is) in
+    let ly : length c.as_slice-2.result.now ≡ length c.args.b.now = ap length (c.as_slice-2.ensures.value ∙ c.b.view_is) in
+    let l = c.in_ok-points.ensures.few in
+    let e : vec_len c.in_ok-points.points ≡ length c.in_ok-points.points.items = c.in_ok-points.points.ok.0 in
+    let least : length c.in_ok-points.points.items ≤ length c.args.a.now + length c.args.b.now = omega (arith, l, lx, ly, e) in
+    IfOk-weaker c.of.result _ _ (λ (made : List Point) (m : length made ≤ length c.in_ok-points.points.items). omega (arith, least, m)) c.of.ensures.few
