@@ -35,9 +35,9 @@ fault-at c n i part site r e p s t =
     ∙ ap (λ (q : SiteId). pair_fault c (part_of_place n i) q) s
     ∙ ap (λ m. pair_fault c (part_of_place m i) (site_of_place m i)) e
 
-pub rates-at : (c : CaseRows) (n i : ℕ) (part : PartId) (site : SiteId) (r : PairRates) → n ≡ length c.sites
+pub place-rates : (c : CaseRows) (n i : ℕ) (part : PartId) (site : SiteId) (r : PairRates) → n ≡ length c.sites
     → part ≡ part_of_place n i → site ≡ site_of_place n i → r ≡ pair_rates c part.0 site.0 → r ≡ place_rates c i
-rates-at c n i part site r e p s t =
+place-rates c n i part site r e p s t =
     t
     ∙ ap (λ (q : PartId). pair_rates c q.0 site.0) p
     ∙ ap (λ (q : SiteId). pair_rates c (part_of_place n i).0 q.0) s
@@ -159,6 +159,7 @@ place-is c p k l m =
 
 list-model : (c : CaseRows) → IsCase c → rate_fault_of c ≡ None → AreRatesOf c (record { sites = length c.sites; pairs = all_rates c })
 list-model c v h = record {
+  no_fault = h;
   sites = refl;
   has = λ p k l m. record {
     site = m;

@@ -1,5 +1,5 @@
 -- The rates of a case: demand, share, direct pipeline and zero-stock mean of each pair, as whole numbers.
-use Rattle.std.specs.Prelude.{◌≡◌, ℕ, zero, suc, ◌<◌, ◌≤◌, ◌^◌, List, length, map, Option, Result}
+use Rattle.std.specs.Prelude.{◌≡◌, ℕ, zero, suc, ◌<◌, ◌≤◌, ◌^◌, List, length, map, Option, None, Result}
 use Rattle.std.specs.List.{range_with_len}
 use Rattle.exact_ratio.specs.declared.ratio.Ratio.{Ratio}
 use Rattle.exact_model.specs.Fraction.{Fraction, whole, ◌≈◌, ◌/ℚ◌}
@@ -58,8 +58,9 @@ pub record ArePairRates (c : CaseRows) (p k : ℕ) (r : PairRates) : Type 0 wher
   pub some_share : 0 < r.share.den
   pub share_small : r.share.den ≤ 2 ^ 75
 
--- the rates of every pair of the case
+-- the rates of every pair of the case, none of which is refused
 pub record AreRatesOf (c : CaseRows) (r : RateList) : Type 0 where
+  pub no_fault : rate_fault_of c ≡ None
   pub sites : r.sites ≡ length c.sites
   pub has : (p k : ℕ) → p < length c.parts → k < length c.sites → HasRates r p k
   pub pairs : (p k : ℕ) → p < length c.parts → k < length c.sites → ArePairRates c p k (rates_at r p k)

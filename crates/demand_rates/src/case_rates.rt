@@ -13,7 +13,7 @@ use crate::depot::depot_demands;
 use crate::fault::{Place, RateFault};
 use crate::kinds::{PairRates, Rates};
 use crate::limits::pipeline_fault;
-use crate::pairs::rates_at;
+use crate::pairs::pair_rates;
 use crate::waits::all_waits;
 use spares_input::{Case, PartId, SiteId};
 use spares_io::Stop;
@@ -50,7 +50,7 @@ fn all_pairs(
     let mut pairs = Vec::new(alloc);
     for i in 0..places {
         let (part, site) = pair_at(i, sites);
-        let rates = rates_at(case, part, site, demands, waits);
+        let rates = pair_rates(case, part, site, demands, waits);
         if let Some(fault) = pipeline_fault(Place::Pair(part, site), &rates) {
             return Err(Stop::Fault(fault));
         }
@@ -67,7 +67,7 @@ fn all_pairs(
 /// - `PipelineRatio` where that mean is above 1024 times the direct pipeline.
 pub fn rates(alloc: Global, case: &Case) -> Result<Rates, Stop<RateFault>>
     ensures answer { Gives (rates_of case.now) result }
-    // Each number is the model's fraction, and within its limits.
+    // No pair is refused: each number is the model's fraction, and within its limits.
     ensures model { IfOk result (AreRatesOf case.now) }
 {
     let demands = depot_demands(alloc, case)?;

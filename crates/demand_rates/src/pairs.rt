@@ -206,7 +206,7 @@ fn line_rates(
 }
 
 /// The rates of a pair, given the demands at the depot and what shop units add.
-pub(crate) fn rates_at(
+pub(crate) fn pair_rates(
     case: &Case,
     part: PartId,
     site: SiteId,

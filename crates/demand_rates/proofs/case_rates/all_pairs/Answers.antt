@@ -4,7 +4,7 @@ use Rattle.spares_input.proofs.Firsts.{first-found, first-more}
 use Rattle.demand_rates.specs.Limits.{place_fault}
 use Rattle.demand_rates.specs.Rates.{place_rates}
 use Rattle.demand_rates.proofs.Grown.{mapped_more}
-use Rattle.demand_rates.proofs.RateFacts.{fault-at, rates-at, within-pairs}
+use Rattle.demand_rates.proofs.RateFacts.{fault-at, place-rates, within-pairs}
 use Rattle.demand_rates.proofs.case_rates.all_pairs.Goals as goal
 
 pub loop-i-init : goal.loop-i-init
@@ -13,8 +13,8 @@ loop-i-init c = record { pairs = c.new-pairs.ensures.items; faultless = refl }
 
 pub returns-in-Some-clause-fault : goal.returns-in-Some-clause-fault
 returns-in-Some-clause-fault c =
-    let rule = fault-at c.args.case.now c.site_count-sites.result c.loop-i.i c.pair_at.result.0 c.pair_at.result.1 c.rates_at-rates.result
-    c.site_count-sites.ensures.count c.pair_at.ensures.part c.pair_at.ensures.site c.rates_at-rates.ensures.rates in
+    let rule = fault-at c.args.case.now c.site_count-sites.result c.loop-i.i c.pair_at.result.0 c.pair_at.result.1 c.pair_rates-rates.result
+    c.site_count-sites.ensures.count c.pair_at.ensures.part c.pair_at.ensures.site c.pair_rates-rates.ensures.rates in
     let within = within-pairs c.loop-i.i c.part_count.result c.site_count-sites.result (length c.args.case.now.parts) (length c.args.case.now.sites)
     c.part_count.ensures.count c.site_count-sites.ensures.count c.loop-i-test.true in
     first-found (place_fault c.args.case.now) c.loop-i.i (length c.args.case.now.parts * length c.args.case.now.sites) c.in-Some.fault
@@ -22,12 +22,12 @@ returns-in-Some-clause-fault c =
 
 pub loop-i-preserved : goal.loop-i-preserved
 loop-i-preserved c =
-    let rule = fault-at c.args.case.now c.site_count-sites.result c.loop-i.i c.pair_at.result.0 c.pair_at.result.1 c.rates_at-rates.result
-    c.site_count-sites.ensures.count c.pair_at.ensures.part c.pair_at.ensures.site c.rates_at-rates.ensures.rates in
+    let rule = fault-at c.args.case.now c.site_count-sites.result c.loop-i.i c.pair_at.result.0 c.pair_at.result.1 c.pair_rates-rates.result
+    c.site_count-sites.ensures.count c.pair_at.ensures.part c.pair_at.ensures.site c.pair_rates-rates.ensures.rates in
     record {
-      pairs = mapped_more (place_rates c.args.case.now) c.loop-i.i c.loop-i.pairs.items c.push.new.self.items c.rates_at-rates.result c.in_ok-push.ensures.items
+      pairs = mapped_more (place_rates c.args.case.now) c.loop-i.i c.loop-i.pairs.items c.push.new.self.items c.pair_rates-rates.result c.in_ok-push.ensures.items
           c.loop-i.invariant.pairs
-          (rates-at c.args.case.now c.site_count-sites.result c.loop-i.i c.pair_at.result.0 c.pair_at.result.1 c.rates_at-rates.result
-          c.site_count-sites.ensures.count c.pair_at.ensures.part c.pair_at.ensures.site c.rates_at-rates.ensures.rates);
+          (place-rates c.args.case.now c.site_count-sites.result c.loop-i.i c.pair_at.result.0 c.pair_at.result.1 c.pair_rates-rates.result
+          c.site_count-sites.ensures.count c.pair_at.ensures.part c.pair_at.ensures.site c.pair_rates-rates.ensures.rates);
       faultless = first-more (place_fault c.args.case.now) c.loop-i.i c.loop-i.invariant.faultless (sym rule ∙ sym c.in_default.ensures);
     }
