@@ -19,7 +19,7 @@ ghost use Rattle.std.specs.Prelude.{◌≡◌, ℕ, ◌+◌, ◌*◌, ◌^◌, �
 ghost use Rattle.std.specs.List.{All};
 ghost use Rattle.exact_model.specs.Fraction.{Fraction, sum_below, ◌+ℚ◌, ◌*ℚ◌};
 ghost use Rattle.exact_model.specs.Shares.{shared};
-ghost use Rattle.fixed_interval.specs.Ends.{In};
+ghost use Rattle.fixed_interval.specs.Ends.{In, IsWithinLimit};
 ghost use Rattle.depot_pipeline.specs.Exact.{IsAtMost, FeedIn, IsSmallFeed};
 ghost use Rattle.base_pipeline.specs.Profile.{base_shop_ends, base_line_ends};
 ghost use Rattle.base_pipeline.specs.Exact.{AllHeldIn, IsSmallHeld};
@@ -42,7 +42,7 @@ pub struct Held<const F: u32> {
 /// `cap` is what the caller knows the mean and the variance to be at most, in units of `2^-F`: each is capped there, and
 /// encloses the exact value where that is at most the cap.
 pub fn base_shop<const F: u32>(direct: Iv<F>, cap: u128, depot: Feed<F>) -> Moments<F>
-    requires direct { direct.hi ≤ 256 * 2 ^ F }
+    requires direct { IsWithinLimit F direct }
     requires small { IsSmallFeed F depot }
     ensures ends { result ≡ base_shop_ends F direct.entry cap depot.entry }
     ensures mean { (d f e v : Fraction) → In F direct.entry d → FeedIn F depot.entry f e v
@@ -66,7 +66,7 @@ pub fn base_line<const F: u32>(
     depot: Feed<F>,
     shops: &[Held<F>],
 ) -> Moments<F>
-    requires direct { direct.hi ≤ 256 * 2 ^ F }
+    requires direct { IsWithinLimit F direct }
     requires small { IsSmallFeed F depot }
     requires few { length shops.now ≤ 8 }
     requires held { All (IsSmallHeld F) shops.now }

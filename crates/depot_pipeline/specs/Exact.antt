@@ -1,7 +1,7 @@
 -- What it is for feeds to hold exact shares and backorders, and for a value to be within a cap.
 use Rattle.std.specs.Prelude.{ℕ, ◌*◌, ◌^◌, ◌<◌, ◌≤◌, List, length}
 use Rattle.exact_model.specs.Fraction.{Fraction}
-use Rattle.fixed_interval.specs.Ends.{In}
+use Rattle.fixed_interval.specs.Ends.{In, IsWithinLimit}
 use Rattle.depot_pipeline.specs.declared.Feed.{Feed}
 use Rattle.depot_pipeline.specs.Profile.{feed_at}
 
@@ -22,5 +22,5 @@ FeedsIn bits feeds f e v = (k : ℕ) → k < length feeds → FeedIn bits (feed_
 -- the shares are at most 1, backorders and spreads at most 256
 pub record IsSmallFeed (bits : ℕ) (feed : Feed bits) : Type 0 where
   pub share : feed.share.hi ≤ 2 ^ bits
-  pub backorders : feed.backorders.hi ≤ 256 * 2 ^ bits
-  pub spread : feed.spread.hi ≤ 256 * 2 ^ bits
+  pub backorders : IsWithinLimit bits feed.backorders
+  pub spread : IsWithinLimit bits feed.spread

@@ -17,7 +17,7 @@ ghost use Rattle.std.specs.Prelude.{◌≡◌, ℕ, ◌+◌, ◌*◌, ◌^◌, �
 ghost use Rattle.std.specs.List.{All};
 ghost use Rattle.exact_model.specs.Fraction.{Fraction, sum_below, ◌+ℚ◌, ◌*ℚ◌};
 ghost use Rattle.exact_model.specs.Shares.{shared};
-ghost use Rattle.fixed_interval.specs.Ends.{In, InScale, ends_mul};
+ghost use Rattle.fixed_interval.specs.Ends.{In, InScale, IsWithinLimit, ends_mul};
 ghost use Rattle.depot_pipeline.specs.Profile.{mean_part, variance_part, depot_shop_ends, depot_line_ends};
 ghost use Rattle.depot_pipeline.specs.Exact.{IsAtMost, FeedIn, FeedsIn, IsSmallFeed};
 
@@ -44,7 +44,7 @@ pub struct Feed<const F: u32> {
 /// This share, at most 1, of a number that is at most 256.
 fn part_of<const F: u32>(share: Iv<F>, number: Iv<F>) -> Iv<F>
     requires share { share.hi ≤ 2 ^ F }
-    requires small { number.hi ≤ 256 * 2 ^ F }
+    requires small { IsWithinLimit F number }
     ensures ends { result ≡ ends_mul F share.entry number.entry }
     ensures most { result.hi ≤ number.entry.hi }
 {
@@ -56,7 +56,7 @@ pub fn mean_of<const F: u32>(feed: &Feed<F>) -> Iv<F>
     requires scale { InScale F }
     requires small { IsSmallFeed F feed.now }
     ensures ends { result ≡ mean_part F feed.now }
-    ensures most { result.hi ≤ 256 * 2 ^ F }
+    ensures most { IsWithinLimit F result }
 {
     part_of(feed.share, feed.backorders)
 }
@@ -80,7 +80,7 @@ pub fn variance_of<const F: u32>(feed: &Feed<F>) -> Iv<F>
 /// `cap` is what the caller knows the mean and the variance to be at most, in units of `2^-F`: each is capped there, and
 /// encloses the exact value where that is at most the cap.
 pub fn depot_shop<const F: u32>(direct: Iv<F>, cap: u128) -> Moments<F>
-    requires direct { direct.hi ≤ 256 * 2 ^ F }
+    requires direct { IsWithinLimit F direct }
     ensures ends { result ≡ depot_shop_ends F direct.entry cap }
     ensures mean { (d : Fraction) → In F direct.entry d → IsAtMost F cap d → In F result.mean d }
     ensures variance { (d : Fraction) → In F direct.entry d → IsAtMost F cap d → In F result.variance d }
@@ -96,7 +96,7 @@ pub fn depot_shop<const F: u32>(direct: Iv<F>, cap: u128) -> Moments<F>
 ///
 /// `cap` is as in [`depot_shop`].
 pub fn depot_line<const F: u32>(direct: Iv<F>, cap: u128, feeds: &[Feed<F>]) -> Moments<F>
-    requires direct { direct.hi ≤ 256 * 2 ^ F }
+    requires direct { IsWithinLimit F direct }
     requires few { length feeds.now ≤ 8 }
     requires small { All (IsSmallFeed F) feeds.now }
     ensures ends { result ≡ depot_line_ends F direct.entry cap feeds.now }
