@@ -50,7 +50,7 @@ sum-zero [] = refl
 sum-zero (x ∷ xs) = omega (arith, sum_by-cons (λ y. 0) x xs, sum-zero xs)
 
 -- the order of two sums
-sum-turned : (f : ℕ → ℕ → ℕ) (xs ys : List ℕ) → sum_by (λ x. sum_by (f x) ys) xs ≡ sum_by (λ y. sum_by (λ x. f x y) xs) ys
+pub sum-turned : (f : ℕ → ℕ → ℕ) (xs ys : List ℕ) → sum_by (λ x. sum_by (f x) ys) xs ≡ sum_by (λ y. sum_by (λ x. f x y) xs) ys
 sum-turned f [] ys = sym (sum-zero ys)
 sum-turned f (x ∷ xs) ys =
     sum_by-cons (λ z. sum_by (f z) ys) x xs
