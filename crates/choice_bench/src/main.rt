@@ -7,7 +7,7 @@
 #![tactic(auto)]
 
 ghost use Rattle.std.specs.Prelude.{◌≡◌, ℕ, ◌<◌, length, IsTrue};
-ghost use Rattle.marginal_alloc.specs.Choice.{vertex_at};
+ghost use Rattle.step_walk.specs.Prefix.{vertex_at};
 
 mod families;
 

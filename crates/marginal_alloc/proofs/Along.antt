@@ -3,7 +3,7 @@ use Rattle.std.proofs.Common.{◌≡◌, ℕ, zero, suc, ◌+◌, ◌<◌, ◌�
 use Rattle.hull.specs.declared.point.Point.{Point}
 use Rattle.hull.specs.Curves.{Steps, IsChain, IsShape, nowhere, point_at}
 use Rattle.hull.proofs.Runs.{among_at}
-use Rattle.marginal_alloc.proofs.Taking.{own_step}
+use Rattle.step_walk.proofs.Taking.{own_step}
 
 up_or : (k j : ℕ) → k ≤ suc j → (k ≡ suc j) ⊎ (k ≤ j)
 up_or k j l = grind arith

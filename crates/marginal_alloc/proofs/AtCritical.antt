@@ -7,12 +7,13 @@ use Rattle.hull.specs.Curves.{Steps, IsLeastAt, nowhere}
 use Rattle.hull.proofs.Runs.{among_at}
 use Rattle.marginal_alloc.specs.declared.allocation.Critical.{Critical}
 use Rattle.marginal_alloc.specs.Sums.{cost_of, hi_of, width_of}
-use Rattle.marginal_alloc.specs.Choice.{curve_at, vertex_at, fall, rise, picked, IsPrefix, IsNext, AreVertices, HaveShapes, IsHullChoice, AreCurves, rounding_at}
+use Rattle.step_walk.specs.Prefix.{curve_at, vertex_at, fall, rise, picked, IsPrefix, IsNext, AreVertices, HaveShapes}
+use Rattle.marginal_alloc.specs.Choice.{IsHullChoice, AreCurves, rounding_at}
 use Rattle.marginal_alloc.specs.Filling.{Fills, full, change}
 use Rattle.marginal_alloc.proofs.Told.{told, bound_at}
 use Rattle.marginal_alloc.proofs.Duality.{ends_add, gap_within}
 use Rattle.marginal_alloc.proofs.Least.{critical_least}
-use Rattle.marginal_alloc.proofs.Taking.{own_step, rises_at}
+use Rattle.step_walk.proofs.Taking.{own_step, rises_at}
 use Rattle.marginal_alloc.proofs.Bounds.{all_picked, all_ends, choice_no_fewer, choice_least, own_ends}
 use Rattle.marginal_alloc.proofs.Filled.{hi_falls, fills_cost, fills_vertices}
 

@@ -2,7 +2,7 @@
 use Rattle.std.proofs.Common.{◌≡◌, ℕ, zero, suc, ◌<◌, ◌≤◌, ◌≢◌, ◌⊎◌, inl, inr, List, [], ◌∷◌, length, set, slice_index, ap, ◌∙◌, arith, get_or-set_other, get_or-set_same, length-set}
 use Rattle.hull.specs.declared.point.Point.{Point}
 use Rattle.marginal_alloc.specs.Sums.{cost_of, hi_of}
-use Rattle.marginal_alloc.specs.Choice.{curve_at, vertex_at, AreVertices, picked}
+use Rattle.step_walk.specs.Prefix.{curve_at, vertex_at, AreVertices, picked}
 use Rattle.marginal_alloc.specs.Filling.{IsFull, Fills, full, change}
 
 same_or_not : (g f : ℕ) → (g ≡ f) ⊎ (g ≢ f)

@@ -9,7 +9,8 @@ use Rattle.hull.specs.Curves.{lagrangian, nowhere}
 use Rattle.hull.proofs.Runs.{among_at}
 use Rattle.marginal_alloc.specs.declared.allocation.Critical.{Critical}
 use Rattle.marginal_alloc.specs.Sums.{total, cost_of, lo_of, hi_of, width_of, Picks, AllLeast, bound_of}
-use Rattle.marginal_alloc.specs.Choice.{curve_at, vertex_at, AreVertices, picked, IsHullChoice, rounding_at, HasChoice}
+use Rattle.step_walk.specs.Prefix.{curve_at, vertex_at, AreVertices, picked}
+use Rattle.marginal_alloc.specs.Choice.{IsHullChoice, rounding_at, HasChoice}
 use Rattle.marginal_alloc.proofs.Duality.{lagrangian_of_all, gap_within}
 use Rattle.marginal_alloc.proofs.Bounds.{all_picked, choice_least, choice_no_fewer, choice_no_price, own_ends}
 use Rattle.marginal_alloc.proofs.Filled.{fills_cost, fills_vertices}

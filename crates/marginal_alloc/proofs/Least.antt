@@ -3,14 +3,8 @@ use Rattle.std.proofs.Common.{◌≡◌, ℕ, zero, suc, ◌+◌, ◌-◌, ◌*�
 use Rattle.hull.specs.declared.point.Point.{Point}
 use Rattle.hull.specs.Curves.{IsChain, IsCurve, StopsAt, IsLeastAt, nowhere, point_at}
 use Rattle.hull.proofs.Stops.{least_at_stop, least_of_all}
-use Rattle.marginal_alloc.specs.Choice.{curve_at, vertex_at, fall, rise, IsBefore, IsPrefix, IsNext}
-
--- the falls and rises of one curve
-abbrev pub own_fall : List Point → ℕ → ℕ
-own_fall c k = (point_at c k).lo - (point_at c (k + 1)).lo
-
-abbrev pub own_rise : List Point → ℕ → ℕ
-own_rise c k = (point_at c (k + 1)).cost - (point_at c k).cost
+use Rattle.step_walk.specs.Prefix.{curve_at, vertex_at, fall, rise, IsPrefix, IsNext}
+use Rattle.step_walk.proofs.Taking.{own_fall, own_rise, before_is_steeper}
 
 -- a price stops a chain by what it says of each step
 pub stops_by_steps : (p q : ℕ) (c : List Point) (m : ℕ) → m < length c → ((k : ℕ) → k < m → p * own_rise c k ≤ own_fall c k * q) → (m + 1 < length c → own_fall c m * q ≤ p * own_rise c m) → StopsAt p q c m
@@ -31,9 +25,6 @@ stops_by_steps p q (v ∷ w ∷ c) (suc m) b h n = (
 
     last : (k : ℕ) → own_fall (v ∷ w ∷ c) (suc k) * q ≤ p * own_rise (v ∷ w ∷ c) (suc k) → own_fall (w ∷ c) k * q ≤ p * own_rise (w ∷ c) k
     last k h = subst (λ i. ((point_at (w ∷ c) k).lo - (point_at (v ∷ w ∷ c) i).lo) * q ≤ p * ((point_at (v ∷ w ∷ c) i).cost - (point_at (w ∷ c) k).cost)) (one_more k) h
-
-pub before_is_steeper : (curves : List (List Point)) (f k g j : ℕ) → IsBefore curves f k g j → fall curves g j * rise curves f k ≤ fall curves f k * rise curves g j
-before_is_steeper curves f k g j h = elim h [ inl l ↦ omega (arith, l) | inr e ↦ (let z = e.0 in omega (arith, z)) ]
 
 -- the critical price stops each curve at its pick
 pub critical_stops : (curves : List (List Point)) (picks : List ℕ) (f : ℕ) → IsPrefix curves picks → IsNext curves picks f → (g : ℕ) → g < length curves

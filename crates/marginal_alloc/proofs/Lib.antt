@@ -2,12 +2,9 @@ pub mod Told
 pub mod Mixture
 pub mod Duality
 pub mod Least
-pub mod Greedy
-pub mod Taking
+pub mod Walking
 pub mod Along
 pub mod Lowest
-pub mod Waiting
-pub mod Turns
 pub mod Bounds
 pub mod Filled
 pub mod One

@@ -3,7 +3,7 @@ use Rattle.std.proofs.Common.{◌≡◌, ℕ, ◌+◌, ◌<◌, ◌≤◌, ◌�
 use Rattle.hull.specs.declared.point.Point.{Point}
 use Rattle.hull.specs.Curves.{IsShape, point_at}
 use Rattle.marginal_alloc.specs.Changes.{hi_at, IsLowest}
-use Rattle.marginal_alloc.proofs.Greedy.{below_or}
+use Rattle.step_walk.proofs.Greedy.{below_or}
 use Rattle.marginal_alloc.proofs.Along.{costs_up, lo_below}
 
 less_or : (a b : ℕ) → a ≤ b → (a < b) ⊎ (a ≡ b)

@@ -6,9 +6,11 @@ use Rattle.hull.specs.declared.price.Price.{Price}
 use Rattle.hull.specs.Curves.{point_at}
 use Rattle.marginal_alloc.specs.declared.allocation.Critical.{Critical}
 use Rattle.marginal_alloc.specs.Sums.{cost_of}
-use Rattle.marginal_alloc.specs.Choice.{curve_at, HasStep, fall, rise, IsBefore, picked, IsPrefix, IsNext, HaveShapes, IsHullChoice}
+use Rattle.step_walk.specs.Prefix.{curve_at, HasStep, fall, rise, IsBefore, picked, IsPrefix, IsNext, HaveShapes}
+use Rattle.marginal_alloc.specs.Choice.{IsHullChoice}
 use Rattle.marginal_alloc.proofs.Told.{told}
-use Rattle.marginal_alloc.proofs.Taking.{cost_taken, cost_rises}
+use Rattle.marginal_alloc.proofs.Walking.{cost_taken}
+use Rattle.step_walk.proofs.Taking.{cost_rises}
 use Rattle.marginal_alloc.proofs.Along.{costs_up}
 
 -- of two steps not each comes before the other

@@ -6,7 +6,8 @@ use Rattle.hull.specs.declared.price.Price.{Price}
 use Rattle.hull.proofs.Shapes.{one_curve}
 use Rattle.marginal_alloc.specs.declared.plans.Figures.{Figures}
 use Rattle.marginal_alloc.specs.Sums.{cost_of, hi_of, bound_of}
-use Rattle.marginal_alloc.specs.Choice.{curve_at, picked, IsHullChoice, rounding_of}
+use Rattle.step_walk.specs.Prefix.{curve_at, picked}
+use Rattle.marginal_alloc.specs.Choice.{IsHullChoice, rounding_of}
 use Rattle.marginal_alloc.specs.Filling.{Fills}
 use Rattle.marginal_alloc.specs.Certificates.{AreLeastFloors}
 use Rattle.marginal_alloc.specs.Plans.{IsPlan}

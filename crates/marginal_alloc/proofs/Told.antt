@@ -6,7 +6,7 @@ use Rattle.hull.specs.Curves.{lagrangian}
 use Rattle.marginal_alloc.specs.declared.allocation.Critical.{Critical}
 use Rattle.marginal_alloc.specs.declared.allocation.Chosen.{Chosen}
 use Rattle.marginal_alloc.specs.Sums.{total, bound_of}
-use Rattle.marginal_alloc.specs.Choice.{picked}
+use Rattle.step_walk.specs.Prefix.{picked}
 
 abbrev pub told : List ℕ → ℕ → Price → Option Critical → Chosen
 told picks cost price critical = record { picks = picks; cost = cost; price = price; critical = critical }

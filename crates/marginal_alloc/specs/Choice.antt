@@ -1,60 +1,12 @@
 -- The hull choice: the steps of all curves by falling slope, as far as the budget goes.
-use Rattle.std.specs.Prelude.{◌≡◌, ℕ, ◌+◌, ◌-◌, ◌*◌, ◌<◌, ◌≤◌, ◌⊎◌, Option, Some, None, List, [], ◌∷◌, length, slice_index, slice_index_or}
+use Rattle.std.specs.Prelude.{◌≡◌, ℕ, ◌+◌, ◌-◌, ◌<◌, ◌≤◌, Option, Some, None, List, length, slice_index}
 use Rattle.hull.specs.declared.point.Point.{Point}
 use Rattle.hull.specs.declared.price.Price.{Price}
-use Rattle.hull.specs.Curves.{lagrangian, IsCurve, IsShape, point_at}
+use Rattle.hull.specs.Curves.{lagrangian, IsCurve}
+use Rattle.step_walk.specs.Prefix.{AllTaken, HaveShapes, IsNext, IsPrefix, curve_at, fall, picked, rise, vertex_at}
 use Rattle.marginal_alloc.specs.declared.allocation.Critical.{Critical}
 use Rattle.marginal_alloc.specs.declared.allocation.Chosen.{Chosen}
 use Rattle.marginal_alloc.specs.Sums.{cost_of, width_of, total, bound_of, Picks, IsWithin}
-
--- the curve of a family, and its vertex at a place
-abbrev pub curve_at : List (List Point) → ℕ → List Point
-curve_at curves f = slice_index_or curves f []
-
-abbrev pub vertex_at : List (List Point) → ℕ → ℕ → Point
-vertex_at curves f k = point_at (curve_at curves f) k
-
--- the step from a place of a family's curve to the next
-pub record HasStep (curves : List (List Point)) (f k : ℕ) : Type 0 where
-  pub family : f < length curves
-  pub place : k + 1 < length (curve_at curves f)
-
-abbrev pub fall : List (List Point) → ℕ → ℕ → ℕ
-fall curves f k = (vertex_at curves f k).lo - (vertex_at curves f (k + 1)).lo
-
-abbrev pub rise : List (List Point) → ℕ → ℕ → ℕ
-rise curves f k = (vertex_at curves f (k + 1)).cost - (vertex_at curves f k).cost
-
--- the one step comes before the other: it falls more per money, or as much and its family is the first, or then its place
-abbrev pub IsBefore : List (List Point) → ℕ → ℕ → ℕ → ℕ → Type 0
-IsBefore curves f k g j =
-    (fall curves g j * rise curves f k < fall curves f k * rise curves g j)
-    ⊎ ((fall curves g j * rise curves f k ≡ fall curves f k * rise curves g j) × ((f < g) ⊎ ((f ≡ g) × (k < j))))
-
--- the vertices at the picks
-abbrev pub picked : List (List Point) → List ℕ → List Point
-picked [] picks = []
-picked (curve ∷ curves) [] = []
-picked (curve ∷ curves) (k ∷ picks) = point_at curve k ∷ picked curves picks
-
--- the picks are one vertex of each curve
-pub record AreVertices (curves : List (List Point)) (picks : List ℕ) : Type 0 where
-  pub count : length picks ≡ length curves
-  pub below : (f : ℕ) → f < length curves → slice_index picks f < length (curve_at curves f)
-
--- The picks have taken a prefix of all steps in that order: each taken step comes before each other one.
-pub record IsPrefix (curves : List (List Point)) (picks : List ℕ) : Type 0 where
-  pub vertices : AreVertices curves picks
-  pub before : (f k g j : ℕ) → HasStep curves f k → HasStep curves g j → k < slice_index picks f → slice_index picks g ≤ j → IsBefore curves f k g j
-
--- the first step that isn't taken
-pub record IsNext (curves : List (List Point)) (picks : List ℕ) (f : ℕ) : Type 0 where
-  pub step : HasStep curves f (slice_index picks f)
-  pub first : (g j : ℕ) → HasStep curves g j → slice_index picks g ≤ j → ((g ≡ f) × (j ≡ slice_index picks f)) ⊎ IsBefore curves f (slice_index picks f) g j
-
--- no step is left
-abbrev pub AllTaken : List (List Point) → List ℕ → Type 0
-AllTaken curves picks = (f : ℕ) → f < length curves → slice_index picks f + 1 ≡ length (curve_at curves f)
 
 -- where the choice stops: at a critical step that passes the budget, or where no step is left
 abbrev pub StopsWith : List (List Point) → ℕ → List ℕ → ℕ → Price → Option Critical → Type 0
@@ -70,10 +22,6 @@ pub record IsHullChoice (curves : List (List Point)) (budget : ℕ) (chosen : Ch
   pub cost_is : chosen.cost ≡ cost_of (picked curves chosen.picks)
   pub fits : chosen.cost ≤ budget
   pub stops : StopsWith curves budget chosen.picks chosen.cost chosen.price chosen.critical
-
--- each list of vertices has the shape of a curve
-abbrev pub HaveShapes : List (List Point) → Type 0
-HaveShapes curves = (f : ℕ) → f < length curves → IsShape (curve_at curves f)
 
 -- each curve is that of its family's points
 pub record AreCurves (families curves : List (List Point)) : Type 0 where

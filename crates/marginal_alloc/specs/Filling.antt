@@ -2,7 +2,7 @@
 use Rattle.std.specs.Prelude.{◌≡◌, ℕ, ◌-◌, ◌<◌, ◌≤◌, ◌⊎◌, List, length, set, slice_index}
 use Rattle.hull.specs.declared.point.Point.{Point}
 use Rattle.marginal_alloc.specs.Sums.{cost_of}
-use Rattle.marginal_alloc.specs.Choice.{curve_at, vertex_at, picked}
+use Rattle.step_walk.specs.Prefix.{curve_at, vertex_at, picked}
 
 -- moving family f to its vertex k fits the budget and lowers its upper end
 pub record HasChange (curves : List (List Point)) (budget : ℕ) (picks : List ℕ) (f k : ℕ) : Type 0 where

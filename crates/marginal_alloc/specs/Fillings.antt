@@ -2,7 +2,7 @@
 use Rattle.std.specs.Prelude.{◌≡◌, ℕ, ◌≤◌, List, length, slice_index}
 use Rattle.hull.specs.declared.point.Point.{Point}
 use Rattle.marginal_alloc.specs.Sums.{cost_of}
-use Rattle.marginal_alloc.specs.Choice.{vertex_at, AreVertices, picked}
+use Rattle.step_walk.specs.Prefix.{vertex_at, AreVertices, picked}
 use Rattle.marginal_alloc.specs.Filling.{IsFull, Fills}
 
 -- It ends where no change is left.

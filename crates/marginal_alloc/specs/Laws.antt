@@ -5,7 +5,8 @@ use Rattle.hull.specs.Curves.{IsLeastAt}
 use Rattle.marginal_alloc.specs.declared.allocation.Critical.{Critical}
 use Rattle.marginal_alloc.specs.declared.allocation.Chosen.{Chosen}
 use Rattle.marginal_alloc.specs.Sums.{cost_of, lo_of, hi_of, Picks, AllLeast}
-use Rattle.marginal_alloc.specs.Choice.{curve_at, vertex_at, picked, HaveShapes, IsHullChoice, IsChoiceFor, choice_bound, rounding_of, HasChoice}
+use Rattle.step_walk.specs.Prefix.{curve_at, vertex_at, picked, HaveShapes}
+use Rattle.marginal_alloc.specs.Choice.{IsHullChoice, IsChoiceFor, choice_bound, rounding_of, HasChoice}
 use Rattle.marginal_alloc.specs.Filling.{Fills}
 
 -- Each pick is least at the price, among all points of its family.

@@ -1,7 +1,5 @@
 pub mod Sums
 pub mod Choice
-pub mod Steps
-pub mod Order
 pub mod Filling
 pub mod Changes
 pub mod Fillings

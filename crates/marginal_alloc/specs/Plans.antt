@@ -4,7 +4,8 @@ use Rattle.hull.specs.declared.point.Point.{Point}
 use Rattle.marginal_alloc.specs.declared.allocation.Chosen.{Chosen}
 use Rattle.marginal_alloc.specs.declared.plans.Figures.{Figures}
 use Rattle.marginal_alloc.specs.Sums.{cost_of, hi_of, bound_of}
-use Rattle.marginal_alloc.specs.Choice.{picked, IsChoiceFor, rounding_of}
+use Rattle.step_walk.specs.Prefix.{picked}
+use Rattle.marginal_alloc.specs.Choice.{IsChoiceFor, rounding_of}
 use Rattle.marginal_alloc.specs.Filling.{Fills}
 use Rattle.marginal_alloc.specs.Certificates.{AreLeastFloors}
 

@@ -5,7 +5,7 @@ use Rattle.hull.specs.declared.point.Point.{Point}
 use Rattle.hull.specs.Curves.{Among}
 use Rattle.hull.specs.Laws.{StocksTell}
 use Rattle.marginal_alloc.specs.Sums.{cost_of, Picks}
-use Rattle.marginal_alloc.specs.Choice.{curve_at}
+use Rattle.step_walk.specs.Prefix.{curve_at}
 use Rattle.marginal_alloc.specs.declared.plans.Figures.{Figures}
 use Rattle.marginal_alloc.specs.Values.{sum_of, AllContain, IsAtLeast, IsAtMost}
 use Rattle.marginal_alloc.specs.Plans.{IsPlan}

@@ -1,7 +1,7 @@
 //! The filling: the best change of one family at a time, until there is none.
 ghost use Rattle.std.specs.Prelude.{◌≡◌, ℕ, ◌<◌, ◌≤◌, length, slice_index};
 ghost use Rattle.marginal_alloc.specs.Sums.{cost_of};
-ghost use Rattle.marginal_alloc.specs.Choice.{AreVertices, picked};
+ghost use Rattle.step_walk.specs.Prefix.{AreVertices, picked};
 ghost use Rattle.marginal_alloc.specs.Filling.{Fills};
 
 use crate::change::best_change;

@@ -5,9 +5,7 @@ mod allocation;
 mod change;
 mod filling;
 pub mod laws;
-mod order;
 pub mod plans;
-mod step;
 #[cfg(test)]
 mod tests;
 

@@ -3,7 +3,7 @@
 ghost use Rattle.std.specs.Prelude.{◌≡◌, ℕ, ◌^◌, ◌<◌, ◌≤◌, IfOk, IsTrue, length};
 ghost use Rattle.hull.specs.declared.point.Point.{Point};
 ghost use Rattle.hull.specs.Curves.{Among, InRange};
-ghost use Rattle.marginal_alloc.specs.Choice.{vertex_at};
+ghost use Rattle.step_walk.specs.Prefix.{vertex_at};
 
 use crate::{Chosen, allocate, fill};
 use hull::{Curve, Point};

@@ -1,5 +1,5 @@
 use Rattle.std.proofs.Common.{◌≡◌, ℕ, ◌<◌}
-use Rattle.marginal_alloc.specs.Choice.{vertex_at}
+use Rattle.step_walk.specs.Prefix.{vertex_at}
 use Rattle.choice_bench.proofs.begin_free.Given as goal
 
 abbrev pub invariant-loop-curve : goal.invariant-loop-curve

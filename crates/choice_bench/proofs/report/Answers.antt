@@ -1,5 +1,5 @@
 use Rattle.std.proofs.Common.{sym, subst}
-use Rattle.marginal_alloc.specs.Choice.{AreVertices}
+use Rattle.step_walk.specs.Prefix.{AreVertices}
 use Rattle.choice_bench.proofs.report.Goals as goal
 
 pub fill-requires-clause-vertices : goal.fill-requires-clause-vertices

@@ -2,10 +2,10 @@ use Rattle.std.proofs.Common.{◌≡◌, ◌+◌, ◌-◌, ◌<◌, [], length, 
 use Rattle.hull.specs.Curves.{IsShape, point_at}
 use Rattle.marginal_alloc.specs.declared.change.Change.{Change}
 use Rattle.marginal_alloc.specs.Sums.{cost_of}
-use Rattle.marginal_alloc.specs.Choice.{curve_at, vertex_at, picked}
+use Rattle.step_walk.specs.Prefix.{curve_at, vertex_at, picked}
 use Rattle.marginal_alloc.specs.Filling.{gain}
 use Rattle.marginal_alloc.specs.Changes.{IsBestAmong}
-use Rattle.marginal_alloc.proofs.Greedy.{read_at, vertex_is}
+use Rattle.step_walk.proofs.Greedy.{read_at, vertex_is}
 use Rattle.marginal_alloc.proofs.Along.{lo_below}
 use Rattle.marginal_alloc.proofs.Best.{part_of_cost, lowest_is, bounded, no_better, better}
 use Rattle.marginal_alloc.proofs.change.better_of.Goals as goal

@@ -1,8 +1,8 @@
 use Rattle.std.proofs.Common.{◌≡◌, ◌+◌, slice_index, ap, ◌∙◌, subst, arith}
 use Rattle.marginal_alloc.specs.Sums.{cost_of}
-use Rattle.marginal_alloc.specs.Choice.{vertex_at, picked}
+use Rattle.step_walk.specs.Prefix.{vertex_at, picked}
 use Rattle.marginal_alloc.specs.Filling.{IsBestChange, IsFull, full, change}
-use Rattle.marginal_alloc.proofs.Greedy.{read_at, vertex_is}
+use Rattle.step_walk.proofs.Greedy.{read_at, vertex_is}
 use Rattle.marginal_alloc.proofs.Filled.{hi_falls, changed_vertices}
 use Rattle.marginal_alloc.proofs.Best.{part_of_cost}
 use Rattle.marginal_alloc.proofs.Costs.{left_on}

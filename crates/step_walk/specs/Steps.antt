@@ -4,8 +4,8 @@ use Rattle.std.specs.declared.cmp.Ordering.{Ordering}
 use Rattle.std.specs.Ordering.{nat_cmp, on, flip_args, then_cmp}
 use Rattle.std.specs.List.{AllByRecursion}
 use Rattle.hull.specs.declared.point.Point.{Point}
-use Rattle.marginal_alloc.specs.declared.step.Step.{Step}
-use Rattle.marginal_alloc.specs.Choice.{HasStep, fall, rise}
+use Rattle.step_walk.specs.declared.step.Step.{Step}
+use Rattle.step_walk.specs.Prefix.{HasStep, fall, rise}
 
 -- by cross products
 abbrev pub slope_cmp : Step → Step → Ordering

@@ -3,16 +3,15 @@ use Rattle.std.proofs.Common.{◌≡◌, ℕ, ◌+◌, ◌<◌, List, ◌∷◌,
 use Rattle.std.specs.List.Sorted.{IsPermutation}
 use Rattle.std.specs.BinaryHeap.{IsUpperBound}
 use Rattle.hull.specs.declared.point.Point.{Point}
-use Rattle.marginal_alloc.specs.declared.step.Step.{Step}
-use Rattle.marginal_alloc.specs.Sums.{cost_of}
-use Rattle.marginal_alloc.specs.Choice.{curve_at, rise, picked, IsPrefix, IsNext, HaveShapes}
-use Rattle.marginal_alloc.specs.Steps.{step_cmp, TellsStep, HoldsNext}
-use Rattle.marginal_alloc.proofs.Greedy.{read_at}
-use Rattle.marginal_alloc.proofs.Taking.{next_of, taken_prefix, cost_taken, cost_rises, left_falls, steps_left}
-use Rattle.marginal_alloc.proofs.Waiting.{HoldsOthers, steepest_of, own_of, others_of}
+use Rattle.step_walk.specs.declared.step.Step.{Step}
+use Rattle.step_walk.specs.Prefix.{curve_at, IsPrefix, IsNext, HaveShapes}
+use Rattle.step_walk.specs.Steps.{step_cmp, TellsStep, HoldsNext}
+use Rattle.step_walk.proofs.Greedy.{read_at}
+use Rattle.step_walk.proofs.Taking.{next_of, taken_prefix, left_falls, steps_left}
+use Rattle.step_walk.proofs.Waiting.{HoldsOthers, steepest_of, own_of, others_of}
 
 -- what holds of the popped step, and of the picks with its vertex
-pub record Turn (curves : List (List Point)) (picks : List ℕ) (x : Step) (rest : List Step) (cost vertex : ℕ) : Type 0 where
+pub record Turn (curves : List (List Point)) (picks : List ℕ) (x : Step) (rest : List Step) (vertex : ℕ) : Type 0 where
   pub family : x.family < length curves
   pub in_picks : x.family < length picks
   pub vertex_is : vertex ≡ slice_index picks x.family + 1
@@ -20,20 +19,17 @@ pub record Turn (curves : List (List Point)) (picks : List ℕ) (x : Step) (rest
   pub told : TellsStep curves x.family (slice_index picks x.family) x
   pub next : IsNext curves picks x.family
   pub prefix : IsPrefix curves (set picks x.family vertex)
-  pub cost_is : cost + x.price.q ≡ cost_of (picked curves (set picks x.family vertex))
   pub others : HoldsOthers curves (set picks x.family vertex) (length curves) x.family rest
   pub own : slice_index (set picks x.family vertex) x.family ≡ vertex
   pub smaller : steps_left curves (set picks x.family vertex) < steps_left curves picks
 
-module _ (curves : List (List Point)) (picks : List ℕ) (x : Step) (old rest : List Step) (cost : ℕ) (shapes : HaveShapes curves) (pre : IsPrefix curves picks) (popped : IsPermutation old (x ∷ rest)) (top : IsUpperBound step_cmp x old) (held : HoldsNext curves picks (length curves) old) (cost_is : cost ≡ cost_of (picked curves picks)) where
-  by_pick : Turn curves picks x rest cost (slice_index picks x.family + 1)
+module _ (curves : List (List Point)) (picks : List ℕ) (x : Step) (old rest : List Step) (shapes : HaveShapes curves) (pre : IsPrefix curves picks) (popped : IsPermutation old (x ∷ rest)) (top : IsUpperBound step_cmp x old) (held : HoldsNext curves picks (length curves) old) where
+  by_pick : Turn curves picks x rest (slice_index picks x.family + 1)
   by_pick =
       let told = own_of curves picks x old rest popped held in
       let next = next_of curves picks x.family shapes (steepest_of curves picks x old rest popped top held) in
       let family = told.step.family in
       let count = pre.vertices.count in
-      let more : cost_of (picked curves (set picks x.family (slice_index picks x.family + 1))) ≡ cost_of (picked curves picks) + rise curves x.family (slice_index picks x.family) =
-      cost_taken curves picks x.family family count (cost_rises curves x.family (slice_index picks x.family) (shapes x.family family).chain told.step) in
       record {
         family = family;
         in_picks = omega (arith, family, count);
@@ -42,15 +38,14 @@ module _ (curves : List (List Point)) (picks : List ℕ) (x : Step) (old rest : 
         told = told;
         next = next;
         prefix = taken_prefix curves picks x.family pre next;
-        cost_is = (let q = told.q in omega (arith, q, cost_is, more));
         others = others_of curves picks x old rest (slice_index picks x.family + 1) popped held;
         own = get_or-set_same picks x.family (slice_index picks x.family + 1) 0 (omega (arith, family, count));
         smaller = left_falls curves picks x.family family count (pre.vertices.below x.family family);
       }
 
   -- with the pick as it is read
-  pub turn_of : (pick : ℕ) → pick ≡ get_or picks x.family pick → Turn curves picks x rest cost (pick + 1)
+  pub turn_of : (pick : ℕ) → pick ≡ get_or picks x.family pick → Turn curves picks x rest (pick + 1)
   turn_of pick is =
       let known = by_pick in
       let e : pick ≡ slice_index picks x.family = is ∙ read_at picks x.family pick 0 known.in_picks in
-      subst (λ n. Turn curves picks x rest cost (n + 1)) (sym e) known
+      subst (λ n. Turn curves picks x rest (n + 1)) (sym e) known

@@ -11,10 +11,10 @@ use Rattle.std.proofs.lemmas.List.Elements.{All-from_recursion, recursion_from_A
 use Rattle.std.proofs.lemmas.List.Sorted.{All-permutation, sum_by_pushed, sum_by_popped}
 use Rattle.std.proofs.lemmas.List.Recursion.{is_sum_by}
 use Rattle.hull.specs.declared.point.Point.{Point}
-use Rattle.marginal_alloc.specs.declared.step.Step.{Step}
-use Rattle.marginal_alloc.specs.Choice.{HasStep, fall, rise, IsBefore}
-use Rattle.marginal_alloc.specs.Steps.{step_cmp, TellsStep, is_of, count_of, IsNextOfOwn, HoldsNext}
-use Rattle.marginal_alloc.proofs.Taking.{IsSteepest}
+use Rattle.step_walk.specs.declared.step.Step.{Step}
+use Rattle.step_walk.specs.Prefix.{HasStep, fall, rise, IsBefore}
+use Rattle.step_walk.specs.Steps.{step_cmp, TellsStep, is_of, count_of, IsNextOfOwn, HoldsNext}
+use Rattle.step_walk.proofs.Taking.{IsSteepest}
 
 -- a fact of each goes along with a permutation
 moved : (P : Step → Type 0) (xs ys : List Step) → IsPermutation xs ys → AllByRecursion P xs → AllByRecursion P ys

@@ -1,9 +1,9 @@
 use Rattle.std.proofs.Common.{◌≡◌, ◌+◌, inl, inr, [], ◌∷◌, ◌++◌, length, slice_index, sym, ap, ◌∙◌, subst, arith, length-append, rules}
 use Rattle.hull.specs.Curves.{IsShape}
-use Rattle.marginal_alloc.specs.Choice.{curve_at}
-use Rattle.marginal_alloc.proofs.Greedy.{below_or, curve_is}
-use Rattle.marginal_alloc.proofs.Taking.{zeros_more}
-use Rattle.marginal_alloc.proofs.allocation.first_picks.Goals as goal
+use Rattle.step_walk.specs.Prefix.{curve_at}
+use Rattle.step_walk.proofs.Greedy.{below_or, curve_is}
+use Rattle.step_walk.proofs.Taking.{zeros_more}
+use Rattle.step_walk.proofs.walk.first_picks.Goals as goal
 
 pub loop-f-preserved : goal.loop-f-preserved
 loop-f-preserved c =

@@ -4,9 +4,17 @@ use Rattle.hull.specs.declared.point.Point.{Point}
 use Rattle.hull.specs.Curves.{Steps, IsChain, IsShape, point_at}
 use Rattle.hull.proofs.Chains.{falls_on}
 use Rattle.hull.proofs.Stops.{falls_after}
-use Rattle.marginal_alloc.specs.Choice.{curve_at, vertex_at, HasStep, fall, rise, IsBefore, picked, IsPrefix, IsNext}
-use Rattle.marginal_alloc.specs.Sums.{cost_of}
-use Rattle.marginal_alloc.proofs.Least.{own_fall, own_rise, before_is_steeper}
+use Rattle.step_walk.specs.Prefix.{curve_at, vertex_at, HasStep, fall, rise, IsBefore, IsPrefix, IsNext}
+
+-- the falls and rises of one curve
+abbrev pub own_fall : List Point → ℕ → ℕ
+own_fall c k = (point_at c k).lo - (point_at c (k + 1)).lo
+
+abbrev pub own_rise : List Point → ℕ → ℕ
+own_rise c k = (point_at c (k + 1)).cost - (point_at c k).cost
+
+pub before_is_steeper : (curves : List (List Point)) (f k g j : ℕ) → IsBefore curves f k g j → fall curves g j * rise curves f k ≤ fall curves f k * rise curves g j
+before_is_steeper curves f k g j h = elim h [ inl l ↦ omega (arith, l) | inr e ↦ (let z = e.0 in omega (arith, z)) ]
 
 one_more : (k : ℕ) → suc k + 1 ≡ suc (k + 1)
 one_more k = omega arith
@@ -148,14 +156,6 @@ module _ (curves : List (List Point)) (picks : List ℕ) (f : ℕ) (pre : IsPref
         | inr h ↦ h
       ]
 
--- what the picks cost with one step more
-pub cost_taken : (curves : List (List Point)) (picks : List ℕ) (f : ℕ) → f < length curves → length picks ≡ length curves → (vertex_at curves f (slice_index picks f)).cost ≤ (vertex_at curves f (slice_index picks f + 1)).cost
-    → cost_of (picked curves (set picks f (slice_index picks f + 1))) ≡ cost_of (picked curves picks) + rise curves f (slice_index picks f)
-cost_taken [] picks f b n h = absurd (let l : f < 0 = b in omega arith)
-cost_taken (c ∷ curves) [] f b n h = absurd (let l : 0 ≡ suc (length curves) = n in omega arith)
-cost_taken (c ∷ curves) (k ∷ picks) zero b n h = omega (arith, h)
-cost_taken (c ∷ curves) (k ∷ picks) (suc f) b n h = (let r = cost_taken curves picks f (omega arith) (let l : suc (length picks) ≡ suc (length curves) = n in omega arith) h in omega (arith, r))
-
 -- how many steps are left
 abbrev pub steps_left : List (List Point) → List ℕ → ℕ
 steps_left [] picks = 0
@@ -177,15 +177,6 @@ none_taken curves picks n z shapes = record {
   vertices = record { count = n; below = λ f b. (let e = z f in let s = (shapes f b).some in omega (arith, e, s)) };
   before = λ f k g j sf sg l m. absurd (let e = z f in omega (arith, e, l));
 }
-
-pub free_at_first : (curves : List (List Point)) (picks : List ℕ) → length picks ≡ length curves → ((f : ℕ) → slice_index picks f ≡ 0) → ((f : ℕ) → f < length curves → (vertex_at curves f 0).cost ≡ 0) → cost_of (picked curves picks) ≡ 0
-free_at_first [] picks n z h = refl
-free_at_first (c ∷ curves) [] n z h = refl
-free_at_first (c ∷ curves) (k ∷ picks) n z h =
-    let r = free_at_first curves picks (let l : suc (length picks) ≡ suc (length curves) = n in omega arith) (λ f. z (suc f)) (λ f b. h (suc f) (omega arith)) in
-    let e : k ≡ 0 = z zero in
-    let g : (point_at c k).cost ≡ 0 = subst (λ x. (point_at c x).cost ≡ 0) (sym e) (h zero (omega arith)) in
-    omega (arith, r, g)
 
 pub zeros_more : (xs : List ℕ) → ((g : ℕ) → slice_index xs g ≡ 0) → (g : ℕ) → slice_index (xs ++ 0 ∷ []) g ≡ 0
 zeros_more [] h zero = refl

@@ -1,7 +1,7 @@
 use Rattle.std.proofs.Common.{◌≡◌, ℕ, ◌<◌, length, slice_index}
 use Rattle.hull.specs.Curves.{IsShape}
-use Rattle.marginal_alloc.specs.Choice.{curve_at}
-use Rattle.marginal_alloc.proofs.allocation.first_picks.Given as goal
+use Rattle.step_walk.specs.Prefix.{curve_at}
+use Rattle.step_walk.proofs.walk.first_picks.Given as goal
 
 abbrev pub invariant-loop-f : goal.invariant-loop-f
 invariant-loop-f l = record {

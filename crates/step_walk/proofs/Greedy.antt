@@ -2,7 +2,7 @@
 use Rattle.hull.specs.Curves.{point_at}
 use Rattle.std.proofs.Common.{◌≡◌, ℕ, zero, suc, ◌+◌, ◌<◌, ◌⊎◌, List, [], ◌∷◌, length, get_or, refl, ap, ◌∙◌, subst, arith}
 use Rattle.hull.specs.declared.point.Point.{Point}
-use Rattle.marginal_alloc.specs.Choice.{curve_at, vertex_at, HasStep, fall, rise}
+use Rattle.step_walk.specs.Prefix.{curve_at, vertex_at, HasStep, fall, rise}
 
 pub below_or : (g f : ℕ) → g < f + 1 → (g < f) ⊎ (g ≡ f)
 below_or g f h = grind arith

@@ -1,0 +1,53 @@
+-- A walk under a budget.
+use Rattle.std.proofs.Common.{◌≡◌, ℕ, zero, suc, ◌+◌, ◌<◌, ◌≤◌, List, [], ◌∷◌, length, set, slice_index, refl, sym, ◌∙◌, subst, arith}
+use Rattle.hull.specs.declared.point.Point.{Point}
+use Rattle.hull.specs.Curves.{point_at}
+use Rattle.step_walk.specs.declared.walk.Next.{Next}
+use Rattle.step_walk.specs.Prefix.{vertex_at, rise, picked}
+use Rattle.step_walk.specs.Walks.{Walked, TellsFirst, MovesOn}
+use Rattle.step_walk.proofs.Taking.{cost_rises, steps_left, left_falls}
+use Rattle.marginal_alloc.specs.Sums.{cost_of}
+
+-- what the picks cost with one step more
+pub cost_taken : (curves : List (List Point)) (picks : List ℕ) (f : ℕ) → f < length curves → length picks ≡ length curves → (vertex_at curves f (slice_index picks f)).cost ≤ (vertex_at curves f (slice_index picks f + 1)).cost
+    → cost_of (picked curves (set picks f (slice_index picks f + 1))) ≡ cost_of (picked curves picks) + rise curves f (slice_index picks f)
+cost_taken [] picks f b n h = absurd (let l : f < 0 = b in omega arith)
+cost_taken (c ∷ curves) [] f b n h = absurd (let l : 0 ≡ suc (length curves) = n in omega arith)
+cost_taken (c ∷ curves) (k ∷ picks) zero b n h = omega (arith, h)
+cost_taken (c ∷ curves) (k ∷ picks) (suc f) b n h = (let r = cost_taken curves picks f (omega arith) (let l : suc (length picks) ≡ suc (length curves) = n in omega arith) h in omega (arith, r))
+
+-- and with none
+pub free_at_first : (curves : List (List Point)) (picks : List ℕ) → length picks ≡ length curves → ((f : ℕ) → slice_index picks f ≡ 0) → ((f : ℕ) → f < length curves → (vertex_at curves f 0).cost ≡ 0) → cost_of (picked curves picks) ≡ 0
+free_at_first [] picks n z h = refl
+free_at_first (c ∷ curves) [] n z h = refl
+free_at_first (c ∷ curves) (k ∷ picks) n z h =
+    let r = free_at_first curves picks (let l : suc (length picks) ≡ suc (length curves) = n in omega arith) (λ f. z (suc f)) (λ f b. h (suc f) (omega arith)) in
+    let e : k ≡ 0 = z zero in
+    let g : (point_at c k).cost ≡ 0 = subst (λ x. (point_at c x).cost ≡ 0) (sym e) (h zero (omega arith)) in
+    omega (arith, r, g)
+
+-- what one step more says
+pub record Stepped (curves : List (List Point)) (picks : List ℕ) (new : Walked) (cost : ℕ) : Type 0 where
+  pub same : new.curves ≡ curves
+  pub cost_is : cost ≡ cost_of (picked curves new.picks)
+  pub smaller : steps_left curves new.picks < steps_left curves picks
+
+at_own : (curves : List (List Point)) (w : Walked) (next : Next) → w.curves ≡ curves → TellsFirst w next → TellsFirst (record { curves = curves; picks = w.picks }) next
+at_own curves w next same t = subst (λ (cs : List (List Point)). TellsFirst (record { curves = cs; picks = w.picks }) next) same t
+
+pub stepped : (curves : List (List Point)) (old new : Walked) (next : Next) (cost : ℕ) → old.curves ≡ curves → TellsFirst old next → MovesOn old new
+    → cost ≡ cost_of (picked curves old.picks) → Stepped curves old.picks new (cost + next.price.q)
+stepped curves old new next cost same t on is =
+    let own = at_own curves old next same t in
+    let pre = own.way.prefix in
+    let family = own.first.step.family in
+    let count = pre.vertices.count in
+    let more = cost_taken curves old.picks next.family family count (cost_rises curves next.family (slice_index old.picks next.family) (own.way.shapes next.family family).chain own.first.step) in
+    let q = own.q in
+    let are = on.picks next.family t.first in
+    record {
+      same = on.curves ∙ same;
+      cost_is = subst (λ ks. cost + next.price.q ≡ cost_of (picked curves ks)) (sym are) (omega (arith, more, q, is));
+      smaller = subst (λ ks. steps_left curves ks < steps_left curves old.picks) (sym are)
+          (left_falls curves old.picks next.family family count (pre.vertices.below next.family family));
+    }

@@ -1,0 +1,5 @@
+pub mod Greedy
+pub mod Taking
+pub mod Waiting
+pub mod Turns
+pub mod Going

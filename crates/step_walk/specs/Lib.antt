@@ -1,0 +1,4 @@
+pub mod Prefix
+pub mod Steps
+pub mod Order
+pub mod Walks
