@@ -7,3 +7,4 @@ pub mod FrameFacts
 pub mod PlaceFacts
 pub mod CaseFacts
 pub mod StockFacts
+pub mod Standing

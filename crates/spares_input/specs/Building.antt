@@ -1,10 +1,10 @@
 -- What the steps of a build have shown of the rows.
-use Rattle.std.specs.Prelude.{◌≡◌, ℕ, ◌<◌, Bool, ◌&&◌, List, length, slice_get, Option, Some, None, is_some, Result, Ok, Err, if◌then◌else◌, position, bytes_eq, ⊤}
+use Rattle.std.specs.Prelude.{◌≡◌, ℕ, ◌<◌, Bool, ◌&&◌, List, length, slice_get, Option, Some, None, is_some, Result, Ok, Err, if◌then◌else◌, position, bytes_eq, get_or, ⊤}
 use Rattle.spares_io.specs.declared.stop.Stop.{Stop}
 use Rattle.spares_io.specs.declared.stop.Stop.TheVariants as stop
 use Rattle.std.specs.List.{IsDistinct}
-use Rattle.std.specs.Option.{option_flatten}
-use Rattle.spares_input.specs.Frames.{site_names, part_names, frame_fault, is_depot}
+use Rattle.std.specs.Option.{option_flatten, option_map}
+use Rattle.spares_input.specs.Frames.{site_names, part_names, line_of, frame_fault, is_depot}
 use Rattle.spares_input.specs.Pairs.{row_at, part_of_place, site_of_place}
 use Rattle.spares_input.specs.declared.rows.SiteRow.{SiteRow}
 use Rattle.spares_input.specs.declared.rows.PartRow.{PartRow}
@@ -35,6 +35,11 @@ pub record IsNumbered (sites : List SiteRow) (parts : List PartRow) (sites_by_na
   pub parts_named : parts_by_name ≡ part_names parts
   pub distinct_parts : IsDistinct bytes_eq parts_by_name
   pub depot_place : position is_depot sites ≡ Some depot
+
+-- the places of the line units of the parts, each at its shop unit's place
+pub record AreParents (parts : List PartRow) (parents : List (Option PartId)) : Type 0 where
+  pub whole : length parents ≡ length parts
+  pub each : (p : ℕ) → p < length parts → option_map (λ line. line.0) (get_or parents p None) ≡ line_of parts p
 
 -- what is kept at each of so many places: the first row there, if any
 pub record ArePlaced {A : Type 0} (place : A → ℕ) (count : ℕ) (rows : List A) (slots : List (Option A)) : Type 0 where

@@ -4,5 +4,6 @@ pub mod Rows
 pub mod Frames
 pub mod Pairs
 pub mod Cases
+pub mod Edits
 pub mod Stocks
 pub mod Building

@@ -5,9 +5,10 @@ ghost use Rattle.std.specs.Option.{option_map};
 ghost use Rattle.spares_io.specs.Answers.{Gives};
 ghost use Rattle.spares_input.specs.First.{first};
 ghost use Rattle.spares_input.specs.Rows.{is_line, no_rate, IsSiteRow, IsPartRow, IsRateRow};
-ghost use Rattle.spares_input.specs.Frames.{site_at, part_at, line_of};
+ghost use Rattle.spares_input.specs.Frames.{site_at, part_at, line_of, is_shop_of};
 ghost use Rattle.spares_input.specs.Pairs.{rows_in_order};
 ghost use Rattle.spares_input.specs.Cases.{frame_rows, rate_at, rate_place, pair_count, double_rate, missing_rate, rates_fault, case_of, without_frame, IsRateOf, IsCase};
+ghost use Rattle.spares_input.specs.Edits.{with_rate};
 ghost use Rattle.spares_input.specs.Stocks.{limit_at};
 ghost use Rattle.spares_input.specs.Building.{ArePlaced, IsPairOf, StopsAt, vacant, missing_rate_at};
 
@@ -110,6 +111,15 @@ impl Case {
         self.frame.parent(part)
     }
 
+    /// Whether a part is a shop unit of this line unit.
+    pub fn is_shop_of(&self, part: PartId, line: PartId) -> bool
+        requires part { part.0 < length self.now.parts }
+        requires line { line.0 < length self.now.parts }
+        ensures { result ≡ is_shop_of (part_at self.now.parts line.0) (part_at self.now.parts part.0) }
+    {
+        self.frame.is_shop_of(part, line)
+    }
+
     /// Whether a part is a line unit.
     pub fn is_line(&self, part: PartId) -> bool
         requires { part.0 < length self.now.parts }
@@ -139,6 +149,16 @@ impl Case {
         let sites = self.frame.site_count() as usize;
         let parts = self.frame.part_count() as usize;
         &self.rates[pair_place(part, site, sites, parts)]
+    }
+
+    /// Puts a row in the place of its pair's row. All else stays.
+    pub fn set_rate(&mut self, row: RateRow)
+        requires { IsRateOf (frame_rows self.old) row }
+        ensures { self.new ≡ with_rate self.old row }
+    {
+        let sites = self.frame.site_count() as usize;
+        let parts = self.frame.part_count() as usize;
+        self.rates[pair_place(row.part, row.site, sites, parts)] = row;
     }
 }
 

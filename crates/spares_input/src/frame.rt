@@ -2,7 +2,7 @@
 
 ghost use Rattle.std.specs.Prelude.{◌≡◌, ◌==◌, ◌+◌, ◌≤◌, ◌<◌, ◌∷◌, [], ◌++◌, true, not, take, length, position, count_by, slice_get, All, Some, None, IfSome, IfOk, OnOk, MatchResult, is_none, vec_len};
 ghost use Rattle.std.specs.List.{list_any};
-ghost use Rattle.std.specs.Option.{option_map};
+ghost use Rattle.std.specs.Option.{option_map, option_and_then};
 ghost use Rattle.indexmap.specs.IndexSet.{index_set_len};
 ghost use Rattle.indexmap.specs.IndexMap.{move_index};
 ghost use Rattle.spares_io.specs.Answers.{Gives};
@@ -10,7 +10,7 @@ ghost use Rattle.spares_input.specs.First.{first};
 ghost use Rattle.spares_input.specs.Rows.{is_line, IsSiteRow, IsPartRow};
 ghost use Rattle.spares_input.specs.Frames.{site_at, part_at, site_names, part_names, is_among, place_of, line_of, is_shop_of, is_depot, is_base, site_fault, kinds_fault, double_part, shop_fault, parent_fault, frame_fault, frame_of, sites_in_order, IsFrame};
 ghost use Rattle.spares_input.specs.Stocks.{limit_at};
-ghost use Rattle.spares_input.specs.Building.{IsNumbered, StopsAt, site_rule};
+ghost use Rattle.spares_input.specs.Building.{AreParents, IsNumbered, StopsAt, site_rule};
 
 use crate::fault::CaseFault;
 use crate::name::Name;
@@ -25,6 +25,7 @@ use std::marker::Model;
 pub struct Frame {
     sites: Vec<SiteRow>,
     parts: Vec<PartRow>,
+    parents: Vec<Option<PartId>>,
     site_index: IndexSet<Name>,
     part_index: IndexSet<Name>,
 }
@@ -32,13 +33,15 @@ pub struct Frame {
 impl Model for Frame {
     ghost use Rattle.std.specs.Prelude.{◌≡◌};
     ghost use Rattle.spares_input.specs.Frames.{FrameRows, IsFrame, site_names, part_names};
+    ghost use Rattle.spares_input.specs.Building.{AreParents};
 
     ghost Value = { FrameRows };
 
     ghost view = { λ f. record { sites = f.sites.items; parts = f.parts.items } };
 
     ghost invariant = { λ f. IsFrame (record { sites = f.sites.items; parts = f.parts.items })
-        × (f.site_index.keys ≡ site_names f.sites.items) × (f.part_index.keys ≡ part_names f.parts.items) };
+        × (f.site_index.keys ≡ site_names f.sites.items) × (f.part_index.keys ≡ part_names f.parts.items)
+        × AreParents f.parts.items f.parents.items };
 }
 
 impl Frame {
@@ -60,6 +63,7 @@ impl Frame {
             sites.as_slice(),
             parts.as_slice(),
         )?;
+        let parents = parents_of(alloc, &part_index, parts.as_slice())?;
         let mut sites = sites;
         let Ok(()) = put_first(&mut sites, depot) else {
             return Err(Stop::NoMemory);
@@ -68,6 +72,7 @@ impl Frame {
         Ok(Frame {
             sites,
             parts,
+            parents,
             site_index,
             part_index,
         })
@@ -115,9 +120,19 @@ impl Frame {
         ensures row { IfSome result (λ p. (p.0 < length self.now.parts) × (is_line (part_at self.now.parts p.0) ≡ true)) }
         ensures none { is_none result ≡ is_line (part_at self.now.parts part.0) }
     {
-        match &self.parts[part.0 as usize].parent {
-            Some(name) => self.find_part(name),
-            None => None,
+        self.parents[part.0 as usize]
+    }
+
+    /// Whether a part is a shop unit of this line unit.
+    pub fn is_shop_of(&self, part: PartId, line: PartId) -> bool
+        requires part { part.0 < length self.now.parts }
+        requires line { line.0 < length self.now.parts }
+        ensures { result ≡ is_shop_of (part_at self.now.parts line.0) (part_at self.now.parts part.0) }
+    {
+        let _count = self.part_count();
+        match self.parent(part) {
+            Some(parent) => parent.0 == line.0,
+            None => false,
         }
     }
 
@@ -288,6 +303,32 @@ fn number_parts(alloc: Global, parts: &[PartRow]) -> Result<IndexSet<Name>, Stop
         }
     }
     Ok(names)
+}
+
+// The place of the line unit of each shop unit.
+fn parents_of(
+    alloc: Global,
+    names: &IndexSet<Name>,
+    parts: &[PartRow],
+) -> Result<Vec<Option<PartId>>, NoMemory>
+    requires few { length parts.now ≤ 2000 }
+    requires numbered { names.now.keys ≡ part_names parts.now }
+    ensures { IfOk result (λ v. AreParents parts.now v.items) }
+{
+    let mut parents = Vec::new(alloc);
+    for part in parts {
+        parents.push(parent_of(names, part))?;
+    }
+    Ok(parents)
+}
+
+// The place of the part whose name is the parent of this one.
+fn parent_of(names: &IndexSet<Name>, part: &PartRow) -> Option<PartId>
+    requires { length names.now.keys ≤ 2000 }
+    ensures { option_map (λ line. line.0) result ≡ option_and_then (λ name. place_of name names.now.keys) part.now.parent }
+{
+    let place = names.get_index_of(&part.parent?)?;
+    Some(PartId(place as u16))
 }
 
 // The first rule that a row breaks by its parent.

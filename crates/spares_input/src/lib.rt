@@ -4,6 +4,7 @@
 mod case;
 mod fault;
 mod frame;
+mod laws;
 mod name;
 mod pairs;
 mod rows;
@@ -12,6 +13,8 @@ mod stocks;
 pub use case::Case;
 pub use fault::{CaseFault, StockFault};
 pub use frame::Frame;
+pub use laws::cases_break_no_rule;
 pub use name::Name;
+pub use pairs::{pair_at, pair_place};
 pub use rows::{PartId, PartRow, RateRow, SiteId, SiteRow, StockRow};
 pub use stocks::{Stocks, stocks_from};

@@ -7,7 +7,7 @@ ghost use Rattle.spares_input.specs.First.{first};
 ghost use Rattle.spares_input.specs.Rows.{no_stock};
 ghost use Rattle.spares_input.specs.Pairs.{pair_place, rows_in_order};
 ghost use Rattle.spares_input.specs.Cases.{frame_rows};
-ghost use Rattle.spares_input.specs.Stocks.{stock_at, stock_place, stock_fault, stocks_fault, stocks_in_order, stocks_of, limit_at, cost_of, HasPair, IsFor, IsStockOf, IsWithinLimits};
+ghost use Rattle.spares_input.specs.Stocks.{stock_at, stock_place, stock_fault, stocks_fault, stocks_in_order, stocks_of, limit_at, cost_of, HasPair, IsFor, IsStockList, IsStockOf, IsWithinLimits};
 ghost use Rattle.spares_input.specs.Building.{ArePlaced, StopsAt, vacant, missing_stock_at};
 
 use crate::case::Case;
@@ -44,6 +44,14 @@ impl Stocks {
         ensures { result ≡ record { sites = sites; list = list.items } }
     {
         Stocks { list, sites }
+    }
+
+    /// The stocks, by part and then by site.
+    pub fn as_slice(&self) -> &[u8]
+        ensures list { result.now ≡ self.now.list }
+        ensures valid { IsStockList self.now }
+    {
+        self.list.as_slice()
     }
 
     /// The stock of a part at a site.
