@@ -7,6 +7,9 @@ use exact_ratio::Ratio;
 use spares_input::{PartId, SiteId};
 use std::marker::Model;
 
+/// Pipelines are numerators over this: 365 days, in units of 10^-18.
+pub const PIPELINE_SCALE: u128 = 365_000_000_000_000_000_000;
+
 /// The rates of a pair.
 #[derive(Clone, Copy, Debug, PartialEq, Eq)]
 pub struct PairRates {
@@ -14,9 +17,9 @@ pub struct PairRates {
     pub demand: Ratio,
     /// The pair's part of the demand at the depot.
     pub share: Ratio,
-    /// The direct pipeline, a numerator over 365 * 10^18.
+    /// The direct pipeline, a numerator over [`PIPELINE_SCALE`].
     pub direct: u128,
-    /// The pipeline's mean without any stock, a numerator over 365 * 10^18.
+    /// The pipeline's mean without any stock, a numerator over [`PIPELINE_SCALE`].
     pub zero_stock: u128,
 }
 
@@ -70,7 +73,7 @@ impl Rates {
         self.at(part, site).share
     }
 
-    /// The direct pipeline of a pair, a numerator over 365 * 10^18.
+    /// The direct pipeline of a pair, a numerator over [`PIPELINE_SCALE`].
     pub fn direct(&self, part: PartId, site: SiteId) -> u128
         requires { HasRates self.now part.0 site.0 }
         ensures { result ≡ (rates_at self.now part.0 site.0).direct }
@@ -78,7 +81,7 @@ impl Rates {
         self.at(part, site).direct
     }
 
-    /// The mean of a pair's pipeline without any stock, a numerator over 365 * 10^18.
+    /// The mean of a pair's pipeline without any stock, a numerator over [`PIPELINE_SCALE`].
     pub fn zero_stock(&self, part: PartId, site: SiteId) -> u128
         requires { HasRates self.now part.0 site.0 }
         ensures { result ≡ (rates_at self.now part.0 site.0).zero_stock }

@@ -4,17 +4,17 @@ ghost use Rattle.std.specs.Prelude.{◌≡◌, ◌≤◌};
 ghost use Rattle.demand_rates.specs.Limits.{in_days, pipeline_rule};
 
 use crate::fault::{Place, RateFault};
-use crate::kinds::PairRates;
+use crate::kinds::{PIPELINE_SCALE, PairRates};
 use exact_ratio::Ratio;
-
-/// 1 in the pipelines' units.
-const SCALE: u128 = 365_000_000_000_000_000_000;
 
 /// A pipeline by its numerator.
 fn in_days(num: u128) -> Ratio
     ensures { result ≡ in_days num }
 {
-    Ratio { num, den: SCALE }
+    Ratio {
+        num,
+        den: PIPELINE_SCALE,
+    }
 }
 
 /// The rule that a pair's pipeline breaks first.
@@ -28,13 +28,13 @@ pub(crate) fn pipeline_fault(place: Place, rates: &PairRates) -> Option<RateFaul
         zero_stock: mean,
         ..
     } = *rates;
-    if 0 < demand.num && direct * 10_000_000 < SCALE {
+    if 0 < demand.num && direct * 10_000_000 < PIPELINE_SCALE {
         return Some(RateFault::ThinPipeline {
             place,
             direct: in_days(direct),
         });
     }
-    if 256 * SCALE < mean {
+    if 256 * PIPELINE_SCALE < mean {
         return Some(RateFault::PipelineTooLarge {
             place,
             mean: in_days(mean),
