@@ -32,13 +32,13 @@ use Rattle.fleet_model.proofs.SumLaws.{sum-places}
 use Rattle.fleet_model.proofs.CapLaws.{capped_i0, capped_00, capped_ij, capped_0j}
 use Rattle.fleet_model.proofs.AllocationLaws.{allocation_reaches}
 use Rattle.demand_rates.proofs.DepotFacts.{line-none}
-use Rattle.family_eval.specs.declared.pair.Pair.{Pair}
+use Rattle.family_eval.specs.declared.pipeline.Pipeline.{Pipeline}
 use Rattle.family_eval.specs.declared.item.Item.{Item}
-use Rattle.family_eval.specs.Profile.{base_line, base_shop, depot_feed, depot_line, depot_shop, feed_of, held_of, item_of, pair_of, share_of, stocked}
+use Rattle.family_eval.specs.Profile.{base_line, base_shop, depot_feed, depot_line, depot_shop, feed_of, held_of, item_of, pipeline_of, share_of, stocked}
 use Rattle.family_eval.specs.Encloses.{EnclosesItem, IsSmallItem}
-use Rattle.family_eval.specs.Inputs.{CanTable, IsLine, IsPair, IsShop, IsSound}
+use Rattle.family_eval.specs.Inputs.{HasTable, IsLine, IsPipeline, IsShop, IsSound}
 use Rattle.family_eval.proofs.Tables.{table_encloses}
-use Rattle.family_eval.proofs.Ranges.{added_least, can_table, cap_in, direct_in, pair_is, share_in}
+use Rattle.family_eval.proofs.Ranges.{added_least, can_table, cap_in, direct_in, pipeline_is, share_in}
 use Rattle.family_eval.proofs.Units.{line_at, shop_at}
 
 -- the four intervals contain a mean, a variance, backorders and their variance
@@ -48,7 +48,7 @@ pub record FiguresIn (f : ℕ) (x : Item f) (u w e v : Fraction) : Type 0 where
   pub backorders : In f x.backorders e
   pub spread : In f x.spread v
 
-stocked_in : (f : ℕ) (x : Pair f) (m : Moments f) → CanTable f m → x.stock ≤ 63 → (u w : Fraction) → In f m.mean u → In f m.variance w
+stocked_in : (f : ℕ) (x : Pipeline f) (m : Moments f) → HasTable f m → x.stock ≤ 63 → (u w : Fraction) → In f m.mean u → In f m.variance w
     → (n : ℕ) → 1024 ≤ n → FiguresIn f (stocked f x m) u w (ebo n u w x.stock) (vbo n u w x.stock)
 unfolding stocked
 stocked_in f x m can few u w a b n deep =
@@ -58,7 +58,7 @@ stocked_in f x m can few u w a b n deep =
 max_most : (a b c : ℕ) → a ≤ c → b ≤ c → max a b ≤ c
 max_most a b c h k = grind arith
 
-stocked_small : (f : ℕ) (x : Pair f) (m : Moments f) → CanTable f m → x.stock ≤ 63 → IsSmallItem f (stocked f x m)
+stocked_small : (f : ℕ) (x : Pipeline f) (m : Moments f) → HasTable f m → x.stock ≤ 63 → IsSmallItem f (stocked f x m)
 unfolding stocked
 stocked_small f x m can few =
     let r = rows_below f m.mean m.variance (table_rows f m.mean m.variance) refl x.stock (omega (arith, few)) in
@@ -82,15 +82,15 @@ module _ (f : ℕ) (c : CaseRows) (s : List ℕ) (least : 24 ≤ f) (sound : IsS
   reach : (n : ℕ) → 1024 ≤ n → Reaches c s n
   reach n deep = allocation_reaches c s n sound.valid sound.allocation (omega (arith, deep))
 
-  pair : (p k : ℕ) → p < length c.parts → k < length c.sites → IsPair f (pair_of f c s p k)
-  pair p k lp lk = pair_is f c s p k least sound lp lk
+  pair : (p k : ℕ) → p < length c.parts → k < length c.sites → IsPipeline f (pipeline_of f c s p k)
+  pair p k lp lk = pipeline_is f c s p k least sound lp lk
 
   -- ---- a pair's direct part, cap and share, by its level
 
   direct_level : (o : Option ℕ) (p k : ℕ) → line_of c.parts p ≡ o → p < length c.parts → k < length c.sites
-      → In f (pair_of f c s p k).direct (by_pair (direct_i0 c) (direct_00 c) (direct_ij c) (direct_0j c) o p k)
+      → In f (pipeline_of f c s p k).direct (by_pair (direct_i0 c) (direct_00 c) (direct_ij c) (direct_0j c) o p k)
   direct_level o p k e lp lk =
-      subst (λ o. In f (pair_of f c s p k).direct (by_pair (direct_i0 c) (direct_00 c) (direct_ij c) (direct_0j c) o p k)) e
+      subst (λ o. In f (pipeline_of f c s p k).direct (by_pair (direct_i0 c) (direct_00 c) (direct_ij c) (direct_0j c) o p k)) e
       (direct_in f c p k (sound.pairs p k lp lk))
 
   share_level : (o : Option ℕ) (p k : ℕ) → line_of c.parts p ≡ o → p < length c.parts → k < length c.sites
@@ -99,7 +99,7 @@ module _ (f : ℕ) (c : CaseRows) (s : List ℕ) (least : 24 ≤ f) (sound : IsS
       subst (λ o. In f (share_of f c p k) (by_pair (f_i0 c) (λ l. whole 1) (f_ij c) (f_0j c) o p k)) e (share_in f c p k (sound.pairs p k lp lk))
 
   cap_level : (o : Option ℕ) (p k : ℕ) (q : Fraction) → line_of c.parts p ≡ o → p < length c.parts → k < length c.sites
-      → q ≤ℚ by_pair (zero_stock_i0 c) (zero_stock_00 c) (zero_stock_ij c) (zero_stock_0j c) o p k → IsAtMost f (pair_of f c s p k).cap q
+      → q ≤ℚ by_pair (zero_stock_i0 c) (zero_stock_00 c) (zero_stock_ij c) (zero_stock_0j c) o p k → IsAtMost f (pipeline_of f c s p k).cap q
   cap_level o p k q e lp lk h =
       cap_in f c p k q (sound.pairs p k lp lk)
       (subst (λ o. q ≤ℚ by_pair (zero_stock_i0 c) (zero_stock_00 c) (zero_stock_ij c) (zero_stock_0j c) o p k) (sym e) h)
@@ -109,22 +109,22 @@ module _ (f : ℕ) (c : CaseRows) (s : List ℕ) (least : 24 ≤ f) (sound : IsS
 
   -- ---- the shop unit at the depot
 
-  can_i0 : (i : ℕ) → i < length c.parts → CanTable f (depot_shop_ends f (pair_of f c s i 0).direct (pair_of f c s i 0).cap)
-  can_i0 i l = can_table f (pair_of f c s i 0) (pair_of f c s i 0).direct (pair_of f c s i 0).direct (pair i 0 l some_sites) (le_refl (pair_of f c s i 0).direct.lo)
+  can_i0 : (i : ℕ) → i < length c.parts → HasTable f (depot_shop_ends f (pipeline_of f c s i 0).direct (pipeline_of f c s i 0).cap)
+  can_i0 i l = can_table f (pipeline_of f c s i 0) (pipeline_of f c s i 0).direct (pipeline_of f c s i 0).direct (pair i 0 l some_sites) (le_refl (pipeline_of f c s i 0).direct.lo)
 
   pub small_i0 : (i : ℕ) → i < length c.parts → IsSmallItem f (depot_shop f c s i)
   unfolding depot_shop
-  small_i0 i l = stocked_small f (pair_of f c s i 0) _ (can_i0 i l) (pair i 0 l some_sites).stock_most
+  small_i0 i l = stocked_small f (pipeline_of f c s i 0) _ (can_i0 i l) (pair i 0 l some_sites).stock_most
 
   pub in_i0 : (l i n : ℕ) → IsShop c l i → 1024 ≤ n
       → FiguresIn f (depot_shop f c s i) (pipeline_i0 c l i).mean (pipeline_i0 c l i).variance (ebo_i0 c s n l i) (vbo_i0 c s n l i)
   unfolding depot_shop pipeline_i0 ebo_i0 vbo_i0
   in_i0 l i n shop deep =
       let capped = capped_i0 c s n l i (reach n deep) in
-      let d : In f (pair_of f c s i 0).direct (direct_i0 c l i) = direct_level (Some l) i 0 shop.line_is shop.is_part some_sites in
+      let d : In f (pipeline_of f c s i 0).direct (direct_i0 c l i) = direct_level (Some l) i 0 shop.line_is shop.is_part some_sites in
       let b = cap_level (Some l) i 0 (direct_i0 c l i) shop.line_is shop.is_part some_sites capped.mean_most in
-      let x = capped_encloses f (pair_of f c s i 0).direct (pair_of f c s i 0).cap (direct_i0 c l i) b d in
-      stocked_in f (pair_of f c s i 0) _ (can_i0 i shop.is_part) (pair i 0 shop.is_part some_sites).stock_most _ _ x x n deep
+      let x = capped_encloses f (pipeline_of f c s i 0).direct (pipeline_of f c s i 0).cap (direct_i0 c l i) b d in
+      stocked_in f (pipeline_of f c s i 0) _ (can_i0 i shop.is_part) (pair i 0 shop.is_part some_sites).stock_most _ _ x x n deep
 
   fed_i0 : (l i n : ℕ) → IsShop c l i → 1024 ≤ n → FeedIn f (depot_feed f c s i) (f_i0 c l i) (ebo_i0 c s n l i) (vbo_i0 c s n l i)
   fed_i0 l i n shop deep =
@@ -141,30 +141,30 @@ module _ (f : ℕ) (c : CaseRows) (s : List ℕ) (least : 24 ≤ f) (sound : IsS
       (sym (get_or-map (depot_feed f c s) (shop_units c l) k 0 (no_feed f) w))
       (fed_i0 l (get_or (shop_units c l) k 0) n (shop_at c l k sound.valid line w) deep)
 
-  can_00 : (l : ℕ) → IsLine c l → CanTable f (depot_line_ends f (pair_of f c s l 0).direct (pair_of f c s l 0).cap (map (depot_feed f c s) (shop_units c l)))
+  can_00 : (l : ℕ) → IsLine c l → HasTable f (depot_line_ends f (pipeline_of f c s l 0).direct (pipeline_of f c s l 0).cap (map (depot_feed f c s) (shop_units c l)))
   can_00 l line =
-      can_table f (pair_of f c s l 0) _ _ (pair l 0 line.is_part some_sites)
-      (added_least (pair_of f c s l 0).direct (λ k. mean_part f (feed_at (map (depot_feed f c s) (shop_units c l)) k)) (length (map (depot_feed f c s) (shop_units c l))))
+      can_table f (pipeline_of f c s l 0) _ _ (pair l 0 line.is_part some_sites)
+      (added_least (pipeline_of f c s l 0).direct (λ k. mean_part f (feed_at (map (depot_feed f c s) (shop_units c l)) k)) (length (map (depot_feed f c s) (shop_units c l))))
 
   pub small_00 : (l : ℕ) → IsLine c l → IsSmallItem f (depot_line f c s l)
   unfolding depot_line
-  small_00 l line = stocked_small f (pair_of f c s l 0) _ (can_00 l line) (pair l 0 line.is_part some_sites).stock_most
+  small_00 l line = stocked_small f (pipeline_of f c s l 0) _ (can_00 l line) (pair l 0 line.is_part some_sites).stock_most
 
   mean_00 : (l n : ℕ) → IsLine c l → 1024 ≤ n
-      → In f (added (pair_of f c s l 0).direct (λ k. mean_part f (feed_at (map (depot_feed f c s) (shop_units c l)) k)) (length (map (depot_feed f c s) (shop_units c l)))) (pipeline_00 c s n l).mean
+      → In f (added (pipeline_of f c s l 0).direct (λ k. mean_part f (feed_at (map (depot_feed f c s) (shop_units c l)) k)) (length (map (depot_feed f c s) (shop_units c l)))) (pipeline_00 c s n l).mean
   unfolding pipeline_00
   mean_00 l n line deep =
       contains-same (places (shop_units c l) (λ i. f_i0 c l i *ℚ ebo_i0 c s n l i) (direct_00 c l) _ (length-map (shop_units c l) (depot_feed f c s)))
-      (added_in f (pair_of f c s l 0).direct _ (direct_00 c l) (λ k. f_i0 c l (get_or (shop_units c l) k 0) *ℚ ebo_i0 c s n l (get_or (shop_units c l) k 0)) _
+      (added_in f (pipeline_of f c s l 0).direct _ (direct_00 c l) (λ k. f_i0 c l (get_or (shop_units c l) k 0) *ℚ ebo_i0 c s n l (get_or (shop_units c l) k 0)) _
       (direct_level None l 0 (line-none c.parts l line.no_parent) line.is_part some_sites)
       (λ k h. mean_part_in f (feed_at (map (depot_feed f c s) (shop_units c l)) k) _ _ _ (feeds_in l n k line deep h)))
 
   variance_00 : (l n : ℕ) → IsLine c l → 1024 ≤ n
-      → In f (added (pair_of f c s l 0).direct (λ k. variance_part f (feed_at (map (depot_feed f c s) (shop_units c l)) k)) (length (map (depot_feed f c s) (shop_units c l)))) (pipeline_00 c s n l).variance
+      → In f (added (pipeline_of f c s l 0).direct (λ k. variance_part f (feed_at (map (depot_feed f c s) (shop_units c l)) k)) (length (map (depot_feed f c s) (shop_units c l)))) (pipeline_00 c s n l).variance
   unfolding pipeline_00
   variance_00 l n line deep =
       contains-same (places (shop_units c l) (λ i. shared (f_i0 c l i) (ebo_i0 c s n l i) (vbo_i0 c s n l i)) (direct_00 c l) _ (length-map (shop_units c l) (depot_feed f c s)))
-      (added_in f (pair_of f c s l 0).direct _ (direct_00 c l)
+      (added_in f (pipeline_of f c s l 0).direct _ (direct_00 c l)
       (λ k. shared (f_i0 c l (get_or (shop_units c l) k 0)) (ebo_i0 c s n l (get_or (shop_units c l) k 0)) (vbo_i0 c s n l (get_or (shop_units c l) k 0))) _
       (direct_level None l 0 (line-none c.parts l line.no_parent) line.is_part some_sites)
       (λ k h. variance_part_in f (feed_at (map (depot_feed f c s) (shop_units c l)) k) _ _ _ (feeds_in l n k line deep h)))
@@ -177,33 +177,33 @@ module _ (f : ℕ) (c : CaseRows) (s : List ℕ) (least : 24 ≤ f) (sound : IsS
       let capped = capped_00 c s n l (reach n deep) in
       let bm = cap_level None l 0 (pipeline_00 c s n l).mean e line.is_part some_sites capped.mean_most in
       let bv = cap_level None l 0 (pipeline_00 c s n l).variance e line.is_part some_sites capped.variance_most in
-      stocked_in f (pair_of f c s l 0) _ (can_00 l line) (pair l 0 line.is_part some_sites).stock_most _ _
-      (capped_encloses f _ (pair_of f c s l 0).cap _ bm (mean_00 l n line deep)) (capped_encloses f _ (pair_of f c s l 0).cap _ bv (variance_00 l n line deep)) n deep
+      stocked_in f (pipeline_of f c s l 0) _ (can_00 l line) (pair l 0 line.is_part some_sites).stock_most _ _
+      (capped_encloses f _ (pipeline_of f c s l 0).cap _ bm (mean_00 l n line deep)) (capped_encloses f _ (pipeline_of f c s l 0).cap _ bv (variance_00 l n line deep)) n deep
 
   -- ---- the shop unit at base j + 1
 
   can_ij : (i k : ℕ) → i < length c.parts → k < length c.sites
-      → CanTable f (base_shop_ends f (pair_of f c s i k).direct (pair_of f c s i k).cap (feed_of f (share_of f c i k) (depot_shop f c s i)))
-  can_ij i k li lk = can_table f (pair_of f c s i k) _ _ (pair i k li lk) (omega arith)
+      → HasTable f (base_shop_ends f (pipeline_of f c s i k).direct (pipeline_of f c s i k).cap (feed_of f (share_of f c i k) (depot_shop f c s i)))
+  can_ij i k li lk = can_table f (pipeline_of f c s i k) _ _ (pair i k li lk) (omega arith)
 
   pub small_ij : (i k : ℕ) → i < length c.parts → k < length c.sites → IsSmallItem f (base_shop f c s i k)
   unfolding base_shop
-  small_ij i k li lk = stocked_small f (pair_of f c s i k) _ (can_ij i k li lk) (pair i k li lk).stock_most
+  small_ij i k li lk = stocked_small f (pipeline_of f c s i k) _ (can_ij i k li lk) (pair i k li lk).stock_most
 
   pub in_ij : (l i j n : ℕ) → IsShop c l i → suc j < length c.sites → 1024 ≤ n
       → FiguresIn f (base_shop f c s i (suc j)) (pipeline_ij c s n l i (suc j)).mean (pipeline_ij c s n l i (suc j)).variance (ebo_ij c s n l i (suc j)) (vbo_ij c s n l i (suc j))
   unfolding base_shop pipeline_ij ebo_ij vbo_ij
   in_ij l i j n shop lj deep =
       let capped = capped_ij c s n l i (suc j) (reach n deep) (zero-lt-suc j, lj) in
-      let d : In f (pair_of f c s i (suc j)).direct (direct_ij c l i (suc j)) = direct_level (Some l) i (suc j) shop.line_is shop.is_part lj in
+      let d : In f (pipeline_of f c s i (suc j)).direct (direct_ij c l i (suc j)) = direct_level (Some l) i (suc j) shop.line_is shop.is_part lj in
       let fed : FeedIn f (feed_of f (share_of f c i (suc j)) (depot_shop f c s i)) (f_ij c l i (suc j)) (ebo_i0 c s n l i) (vbo_i0 c s n l i) =
       feed_in f (share_of f c i (suc j)) (depot_shop f c s i) _ _ _ _ _ (share_level (Some l) i (suc j) shop.line_is shop.is_part lj) (in_i0 l i n shop deep) in
-      let m = add_encloses f (pair_of f c s i (suc j)).direct _ (direct_ij c l i (suc j)) (f_ij c l i (suc j) *ℚ ebo_i0 c s n l i) d (mean_part_in f _ _ _ _ fed) in
-      let v = add_encloses f (pair_of f c s i (suc j)).direct _ (direct_ij c l i (suc j)) (shared (f_ij c l i (suc j)) (ebo_i0 c s n l i) (vbo_i0 c s n l i)) d (variance_part_in f _ _ _ _ fed) in
+      let m = add_encloses f (pipeline_of f c s i (suc j)).direct _ (direct_ij c l i (suc j)) (f_ij c l i (suc j) *ℚ ebo_i0 c s n l i) d (mean_part_in f _ _ _ _ fed) in
+      let v = add_encloses f (pipeline_of f c s i (suc j)).direct _ (direct_ij c l i (suc j)) (shared (f_ij c l i (suc j)) (ebo_i0 c s n l i) (vbo_i0 c s n l i)) d (variance_part_in f _ _ _ _ fed) in
       let bm = cap_level (Some l) i (suc j) _ shop.line_is shop.is_part lj capped.mean_most in
       let bv = cap_level (Some l) i (suc j) _ shop.line_is shop.is_part lj capped.variance_most in
-      stocked_in f (pair_of f c s i (suc j)) _ (can_ij i (suc j) shop.is_part lj) (pair i (suc j) shop.is_part lj).stock_most _ _
-      (capped_encloses f _ (pair_of f c s i (suc j)).cap _ bm m) (capped_encloses f _ (pair_of f c s i (suc j)).cap _ bv v) n deep
+      stocked_in f (pipeline_of f c s i (suc j)) _ (can_ij i (suc j) shop.is_part lj) (pair i (suc j) shop.is_part lj).stock_most _ _
+      (capped_encloses f _ (pipeline_of f c s i (suc j)).cap _ bm m) (capped_encloses f _ (pipeline_of f c s i (suc j)).cap _ bv v) n deep
 
   -- ---- the line unit at base j + 1
 
@@ -218,19 +218,19 @@ module _ (f : ℕ) (c : CaseRows) (s : List ℕ) (least : 24 ≤ f) (sound : IsS
       (record { backorders = x.backorders; spread = x.spread })
 
   can_0j : (l k : ℕ) → IsLine c l → k < length c.sites
-      → CanTable f (base_line_ends f (pair_of f c s l k).direct (pair_of f c s l k).cap (feed_of f (share_of f c l k) (depot_line f c s l))
+      → HasTable f (base_line_ends f (pipeline_of f c s l k).direct (pipeline_of f c s l k).cap (feed_of f (share_of f c l k) (depot_line f c s l))
       (map (λ i. held_of f (base_shop f c s i k)) (shop_units c l)))
   can_0j l k line lk =
-      can_table f (pair_of f c s l k) _ _ (pair l k line.is_part lk)
+      can_table f (pipeline_of f c s l k) _ _ (pair l k line.is_part lk)
       (omega (
         arith,
-        added_least (ends_add (pair_of f c s l k).direct (mean_part f (feed_of f (share_of f c l k) (depot_line f c s l))))
+        added_least (ends_add (pipeline_of f c s l k).direct (mean_part f (feed_of f (share_of f c l k) (depot_line f c s l))))
             (λ n. (held_at (map (λ i. held_of f (base_shop f c s i k)) (shop_units c l)) n).backorders) (length (map (λ i. held_of f (base_shop f c s i k)) (shop_units c l))),
       ))
 
   pub small_0j : (l k : ℕ) → IsLine c l → k < length c.sites → IsSmallItem f (base_line f c s l k)
   unfolding base_line
-  small_0j l k line lk = stocked_small f (pair_of f c s l k) _ (can_0j l k line lk) (pair l k line.is_part lk).stock_most
+  small_0j l k line lk = stocked_small f (pipeline_of f c s l k) _ (can_0j l k line lk) (pair l k line.is_part lk).stock_most
 
   fed_0j : (l j n : ℕ) → IsLine c l → suc j < length c.sites → 1024 ≤ n
       → FeedIn f (feed_of f (share_of f c l (suc j)) (depot_line f c s l)) (f_0j c l (suc j)) (ebo_00 c s n l) (vbo_00 c s n l)
@@ -238,26 +238,26 @@ module _ (f : ℕ) (c : CaseRows) (s : List ℕ) (least : 24 ≤ f) (sound : IsS
       feed_in f (share_of f c l (suc j)) (depot_line f c s l) _ _ _ _ _ (share_level None l (suc j) (line-none c.parts l line.no_parent) line.is_part lj) (in_00 l n line deep)
 
   mean_0j : (l j n : ℕ) → IsLine c l → suc j < length c.sites → 1024 ≤ n
-      → In f (added (ends_add (pair_of f c s l (suc j)).direct (mean_part f (feed_of f (share_of f c l (suc j)) (depot_line f c s l))))
+      → In f (added (ends_add (pipeline_of f c s l (suc j)).direct (mean_part f (feed_of f (share_of f c l (suc j)) (depot_line f c s l))))
       (λ k. (held_at (map (λ i. held_of f (base_shop f c s i (suc j))) (shop_units c l)) k).backorders) (length (map (λ i. held_of f (base_shop f c s i (suc j))) (shop_units c l))))
       (pipeline_0j c s n l (suc j)).mean
   unfolding pipeline_0j
   mean_0j l j n line lj deep =
       let d = direct_level None l (suc j) (line-none c.parts l line.no_parent) line.is_part lj in
-      let first = add_encloses f (pair_of f c s l (suc j)).direct _ (direct_0j c l (suc j)) (f_0j c l (suc j) *ℚ ebo_00 c s n l) d (mean_part_in f _ _ _ _ (fed_0j l j n line lj deep)) in
+      let first = add_encloses f (pipeline_of f c s l (suc j)).direct _ (direct_0j c l (suc j)) (f_0j c l (suc j) *ℚ ebo_00 c s n l) d (mean_part_in f _ _ _ _ (fed_0j l j n line lj deep)) in
       contains-same (places (shop_units c l) (λ i. ebo_ij c s n l i (suc j)) (direct_0j c l (suc j) +ℚ f_0j c l (suc j) *ℚ ebo_00 c s n l) _
       (length-map (shop_units c l) (λ i. held_of f (base_shop f c s i (suc j)))))
       (added_in f _ _ (direct_0j c l (suc j) +ℚ f_0j c l (suc j) *ℚ ebo_00 c s n l) (λ k. ebo_ij c s n l (get_or (shop_units c l) k 0) (suc j)) _ first
       (λ k h. (helds_in l j n k line lj deep h).backorders))
 
   variance_0j : (l j n : ℕ) → IsLine c l → suc j < length c.sites → 1024 ≤ n
-      → In f (added (ends_add (pair_of f c s l (suc j)).direct (variance_part f (feed_of f (share_of f c l (suc j)) (depot_line f c s l))))
+      → In f (added (ends_add (pipeline_of f c s l (suc j)).direct (variance_part f (feed_of f (share_of f c l (suc j)) (depot_line f c s l))))
       (λ k. (held_at (map (λ i. held_of f (base_shop f c s i (suc j))) (shop_units c l)) k).spread) (length (map (λ i. held_of f (base_shop f c s i (suc j))) (shop_units c l))))
       (pipeline_0j c s n l (suc j)).variance
   unfolding pipeline_0j
   variance_0j l j n line lj deep =
       let d = direct_level None l (suc j) (line-none c.parts l line.no_parent) line.is_part lj in
-      let first = add_encloses f (pair_of f c s l (suc j)).direct _ (direct_0j c l (suc j)) (shared (f_0j c l (suc j)) (ebo_00 c s n l) (vbo_00 c s n l)) d
+      let first = add_encloses f (pipeline_of f c s l (suc j)).direct _ (direct_0j c l (suc j)) (shared (f_0j c l (suc j)) (ebo_00 c s n l) (vbo_00 c s n l)) d
       (variance_part_in f _ _ _ _ (fed_0j l j n line lj deep)) in
       contains-same (places (shop_units c l) (λ i. vbo_ij c s n l i (suc j)) (direct_0j c l (suc j) +ℚ shared (f_0j c l (suc j)) (ebo_00 c s n l) (vbo_00 c s n l)) _
       (length-map (shop_units c l) (λ i. held_of f (base_shop f c s i (suc j)))))
@@ -272,8 +272,8 @@ module _ (f : ℕ) (c : CaseRows) (s : List ℕ) (least : 24 ≤ f) (sound : IsS
       let capped = capped_0j c s n l (suc j) (reach n deep) (zero-lt-suc j, lj) in
       let bm = cap_level None l (suc j) (pipeline_0j c s n l (suc j)).mean e line.is_part lj capped.mean_most in
       let bv = cap_level None l (suc j) (pipeline_0j c s n l (suc j)).variance e line.is_part lj capped.variance_most in
-      stocked_in f (pair_of f c s l (suc j)) _ (can_0j l (suc j) line lj) (pair l (suc j) line.is_part lj).stock_most _ _
-      (capped_encloses f _ (pair_of f c s l (suc j)).cap _ bm (mean_0j l j n line lj deep)) (capped_encloses f _ (pair_of f c s l (suc j)).cap _ bv (variance_0j l j n line lj deep)) n deep
+      stocked_in f (pipeline_of f c s l (suc j)) _ (can_0j l (suc j) line lj) (pair l (suc j) line.is_part lj).stock_most _ _
+      (capped_encloses f _ (pipeline_of f c s l (suc j)).cap _ bm (mean_0j l j n line lj deep)) (capped_encloses f _ (pipeline_of f c s l (suc j)).cap _ bv (variance_0j l j n line lj deep)) n deep
 
   -- ---- by pair
 

@@ -21,9 +21,9 @@ use Rattle.fleet_model.specs.Rows.{shop_units, weight}
 use Rattle.fleet_model.specs.Pairs.{by_pair}
 use Rattle.demand_rates.specs.Rates.{pair_rates}
 use Rattle.demand_rates.proofs.DepotFacts.{line-none}
-use Rattle.family_eval.specs.declared.pair.Pair.{Pair}
+use Rattle.family_eval.specs.declared.pipeline.Pipeline.{Pipeline}
 use Rattle.family_eval.specs.declared.item.Item.{Item}
-use Rattle.family_eval.specs.Profile.{base_line, base_shop, depot_feed, depot_line, depot_shop, family_of, feed_of, held_of, item_of, pair_of, part_items, share_of, stocked, total_of, weighed}
+use Rattle.family_eval.specs.Profile.{base_line, base_shop, depot_feed, depot_line, depot_shop, family_of, feed_of, held_of, item_of, pipeline_of, part_items, share_of, stocked, total_of, weighed}
 use Rattle.family_eval.specs.Encloses.{IsSmallItem, no_item}
 use Rattle.family_eval.specs.Inputs.{IsLine, IsShop, IsSound}
 use Rattle.family_eval.proofs.Ranges.{share_most}
@@ -106,33 +106,33 @@ base_line_item f c s l (suc j) line h = ap (λ o. item_by f c s o l (suc j)) (sy
 
 -- ---- what a step computed is the definition's
 
-pub depot_shop_is : (f : ℕ) (c : CaseRows) (s : List ℕ) (p : ℕ) (x : Pair f) (y : Item f) → x ≡ pair_of f c s p 0
+pub depot_shop_is : (f : ℕ) (c : CaseRows) (s : List ℕ) (p : ℕ) (x : Pipeline f) (y : Item f) → x ≡ pipeline_of f c s p 0
     → y ≡ stocked f x (depot_shop_ends f x.direct x.cap) → y ≡ depot_shop f c s p
 unfolding depot_shop
-depot_shop_is f c s p x y hx h = h ∙ ap (λ (z : Pair f). stocked f z (depot_shop_ends f z.direct z.cap)) hx
+depot_shop_is f c s p x y hx h = h ∙ ap (λ (z : Pipeline f). stocked f z (depot_shop_ends f z.direct z.cap)) hx
 
-pub base_shop_is : (f : ℕ) (c : CaseRows) (s : List ℕ) (p k : ℕ) (x : Pair f) (feed : Feed f) (share : Ends) (depot y : Item f) → x ≡ pair_of f c s p k
+pub base_shop_is : (f : ℕ) (c : CaseRows) (s : List ℕ) (p k : ℕ) (x : Pipeline f) (feed : Feed f) (share : Ends) (depot y : Item f) → x ≡ pipeline_of f c s p k
     → feed ≡ feed_of f share depot → share ≡ share_of f c p k → depot ≡ depot_shop f c s p
     → y ≡ stocked f x (base_shop_ends f x.direct x.cap feed) → y ≡ base_shop f c s p k
 unfolding base_shop
 base_shop_is f c s p k x feed share depot y hx hf hs hd h =
-    h ∙ ap₂ (λ (z : Pair f) (w : Feed f). stocked f z (base_shop_ends f z.direct z.cap w)) hx (hf ∙ ap₂ (feed_of f) hs hd)
+    h ∙ ap₂ (λ (z : Pipeline f) (w : Feed f). stocked f z (base_shop_ends f z.direct z.cap w)) hx (hf ∙ ap₂ (feed_of f) hs hd)
 
-pub depot_line_is : (f : ℕ) (c : CaseRows) (s : List ℕ) (l : ℕ) (x : Pair f) (feeds list : List (Feed f)) (y : Item f) → x ≡ pair_of f c s l 0
+pub depot_line_is : (f : ℕ) (c : CaseRows) (s : List ℕ) (l : ℕ) (x : Pipeline f) (feeds list : List (Feed f)) (y : Item f) → x ≡ pipeline_of f c s l 0
     → list ≡ feeds → feeds ≡ map (depot_feed f c s) (shop_units c l)
     → y ≡ stocked f x (depot_line_ends f x.direct x.cap list) → y ≡ depot_line f c s l
 unfolding depot_line
 depot_line_is f c s l x feeds list y hx hl hf h =
-    h ∙ ap₂ (λ (z : Pair f) (w : List (Feed f)). stocked f z (depot_line_ends f z.direct z.cap w)) hx (hl ∙ hf)
+    h ∙ ap₂ (λ (z : Pipeline f) (w : List (Feed f)). stocked f z (depot_line_ends f z.direct z.cap w)) hx (hl ∙ hf)
 
-pub base_line_is : (f : ℕ) (c : CaseRows) (s : List ℕ) (l k : ℕ) (x : Pair f) (feed : Feed f) (share : Ends) (depot y : Item f) (held list : List (Held f)) → x ≡ pair_of f c s l k
+pub base_line_is : (f : ℕ) (c : CaseRows) (s : List ℕ) (l k : ℕ) (x : Pipeline f) (feed : Feed f) (share : Ends) (depot y : Item f) (held list : List (Held f)) → x ≡ pipeline_of f c s l k
     → feed ≡ feed_of f share depot → share ≡ share_of f c l k → depot ≡ depot_line f c s l
     → list ≡ held → held ≡ map (λ i. held_of f (base_shop f c s i k)) (shop_units c l)
     → y ≡ stocked f x (base_line_ends f x.direct x.cap feed list) → y ≡ base_line f c s l k
 unfolding base_line
 base_line_is f c s l k x feed share depot y held list hx hf hs hd hl hh h =
-    h ∙ ap (λ (z : Pair f). stocked f z (base_line_ends f z.direct z.cap feed list)) hx
-    ∙ ap₂ (λ (v : Feed f) (w : List (Held f)). stocked f (pair_of f c s l k) (base_line_ends f (pair_of f c s l k).direct (pair_of f c s l k).cap v w))
+    h ∙ ap (λ (z : Pipeline f). stocked f z (base_line_ends f z.direct z.cap feed list)) hx
+    ∙ ap₂ (λ (v : Feed f) (w : List (Held f)). stocked f (pipeline_of f c s l k) (base_line_ends f (pipeline_of f c s l k).direct (pipeline_of f c s l k).cap v w))
     (hf ∙ ap₂ (feed_of f) hs hd) (hl ∙ hh)
 
 -- ---- ranges of what is passed on

@@ -18,9 +18,9 @@ use Rattle.fleet_model.proofs.AllocationLaws.{allocation_reaches, stocks-allocat
 use Rattle.demand_rates.specs.declared.kinds.PairRates.{PairRates}
 use Rattle.demand_rates.specs.Limits.{IsAccepted}
 use Rattle.demand_rates.specs.Rates.{pair_rates, value, ArePairRates}
-use Rattle.family_eval.specs.declared.pair.Pair.{Pair}
-use Rattle.family_eval.specs.Profile.{pair_from, pair_of, share_from, share_of}
-use Rattle.family_eval.specs.Inputs.{AreInputs, CanTable, InputRows, IsPair, IsRated, IsSound}
+use Rattle.family_eval.specs.declared.pipeline.Pipeline.{Pipeline}
+use Rattle.family_eval.specs.Profile.{pipeline_from, pipeline_of, share_from, share_of}
+use Rattle.family_eval.specs.Inputs.{AreInputs, HasTable, InputRows, IsPipeline, IsRated, IsSound}
 
 -- ---- what the checks of the rates leave
 
@@ -108,8 +108,8 @@ sound_of x h = record {
   allocation = stocks-allocation x.case x.stocks h.are_stocks h.limits;
 }
 
-pub pair_from_is : (f p k s : ℕ) (r : PairRates) → 24 ≤ f → s ≤ 63 → IsRated r.direct r.zero_stock → IsPair f (pair_from f p k r s)
-pair_from_is f p k s r h few rated = record {
+pub pipeline_from_is : (f p k s : ℕ) (r : PairRates) → 24 ≤ f → s ≤ 63 → IsRated r.direct r.zero_stock → IsPipeline f (pipeline_from f p k r s)
+pipeline_from_is f p k s r h few rated = record {
   some = elim rated.some [
     | inl e ↦ inl (nothing_cap f r.zero_stock e)
     | inr t ↦ let l = least f r.direct h t in inr (l, spread_out f r.direct r.zero_stock rated.ratio l)
@@ -123,9 +123,9 @@ pair_from_is f p k s r h few rated = record {
 pub stock_most : (c : CaseRows) (s : List ℕ) (p k : ℕ) → IsSound c s → stock c s p k ≤ 63
 stock_most c s p k h = allocation_reaches c s 62 h.valid h.allocation (le_refl 62) p k
 
-pub pair_is : (f : ℕ) (c : CaseRows) (s : List ℕ) (p k : ℕ) → 24 ≤ f → IsSound c s → p < length c.parts → k < length c.sites → IsPair f (pair_of f c s p k)
-pair_is f c s p k h sound lp lk =
-    pair_from_is f p k (stock c s p k) (pair_rates c p k) h (stock_most c s p k sound) (rated c p k (pair_rates c p k) (sound.pairs p k lp lk))
+pub pipeline_is : (f : ℕ) (c : CaseRows) (s : List ℕ) (p k : ℕ) → 24 ≤ f → IsSound c s → p < length c.parts → k < length c.sites → IsPipeline f (pipeline_of f c s p k)
+pipeline_is f c s p k h sound lp lk =
+    pipeline_from_is f p k (stock c s p k) (pair_rates c p k) h (stock_most c s p k sound) (rated c p k (pair_rates c p k) (sound.pairs p k lp lk))
 
 pub share_most : (f : ℕ) (r : PairRates) → r.share.num ≤ r.share.den → 0 < r.share.den → (share_from f r).hi ≤ 2 ^ f
 share_most f r h p = ceil_most (r.share.num * 2 ^ f) r.share.den (2 ^ f) p (omega (arith, mul-le-mul_right (2 ^ f) h))
@@ -162,12 +162,17 @@ unfolding added
 added_least first part zero = le_refl first.lo
 added_least first part (suc n) = omega (arith, added_least first part n)
 
-pub can_table : (f : ℕ) (x : Pair f) (m v : Ends) → IsPair f x → x.direct.lo ≤ m.lo → CanTable f (capped_at f x.cap m v)
-can_table f x m v h l = record {
-  mean_top = omega (arith, h.cap_most);
-  variance_top = omega (arith, h.cap_most);
-  ratio = elim h.some [
+-- by a cap and what of the pipeline is direct
+pub can_capped : (f cap : ℕ) (direct m v : Ends) → (cap ≡ 0) ⊎ ((0 < direct.lo) × (cap ≤ 2048 * direct.lo)) → direct.lo ≤ cap → cap ≤ 256 * 2 ^ f → direct.lo ≤ m.lo
+    → HasTable f (capped_at f cap m v)
+can_capped f cap direct m v some order most l = record {
+  mean_top = omega (arith, most);
+  variance_top = omega (arith, most);
+  ratio = elim some [
     | inl e ↦ inl (omega (arith, e), omega (arith, e))
-    | inr r ↦ inr (omega (arith, r.0, h.order, l), (omega (arith, r.0, r.1, h.order, l), omega (arith, r.0, r.1, h.order, l)))
+    | inr r ↦ inr (omega (arith, r.0, order, l), (omega (arith, r.0, r.1, order, l), omega (arith, r.0, r.1, order, l)))
   ];
 }
+
+pub can_table : (f : ℕ) (x : Pipeline f) (m v : Ends) → IsPipeline f x → x.direct.lo ≤ m.lo → HasTable f (capped_at f x.cap m v)
+can_table f x m v h l = can_capped f x.cap x.direct m v h.some h.order h.cap_most l

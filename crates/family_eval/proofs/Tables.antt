@@ -14,7 +14,7 @@ use Rattle.moment_table.specs.Profile.{empty_row, excess_ends, known_row, table_
 use Rattle.moment_table.specs.Rows.{at_stock, EnclosesRow}
 use Rattle.moment_table.proofs.Enclosure as tables
 use Rattle.depot_pipeline.specs.declared.Moments.{Moments}
-use Rattle.family_eval.specs.Inputs.{CanTable}
+use Rattle.family_eval.specs.Inputs.{HasTable}
 
 -- an interval that contains a fraction has its ends in order
 ordered : (f : ℕ) (x : Ends) (q : Fraction) → In f x q → x.lo ≤ x.hi
@@ -61,7 +61,7 @@ module _ (f : ℕ) (m v : Ends) (s : ℕ) (few : s ≤ 63) where
       subst (EnclosesRow f m v s) (tables.row_of_empty f m v (empty_row f) s few z refl) (tables.empty_row_in f m v (empty_row f) s refl z)
 
 -- the row at a stock encloses the model, for each mean and variance in the intervals and each depth from 1024 on
-pub table_encloses : (f : ℕ) (m : Moments f) (s : ℕ) → CanTable f m → s ≤ 63 → EnclosesRow f m.mean m.variance s (at_stock (table_rows f m.mean m.variance) s)
+pub table_encloses : (f : ℕ) (m : Moments f) (s : ℕ) → HasTable f m → s ≤ 63 → EnclosesRow f m.mean m.variance s (at_stock (table_rows f m.mean m.variance) s)
 table_encloses f m s can few u w a b = elim can.ratio [
   | inl e ↦ empty_table f m.mean m.variance s few e.0 u w a b
   | inr e ↦ full_table f m.mean m.variance s few e.0 (ordered f m.mean u a) (ordered f m.variance w b) can.mean_top u w a b

@@ -1,7 +1,7 @@
 -- What items and families enclose of the model, and how large they are.
 use Rattle.std.specs.Prelude.{◌≡◌, ℕ, ◌*◌, ◌^◌, ◌<◌, ◌≤◌, List, length, get_or, None}
 use Rattle.exact_model.specs.Fraction.{Encloses}
-use Rattle.fixed_interval.specs.Ends.{InScale, ends_exact}
+use Rattle.fixed_interval.specs.Ends.{InScale, IsWithinLimit, ends_exact}
 use Rattle.spares_input.specs.Pairs.{pair_place}
 use Rattle.spares_input.specs.Cases.{CaseRows, IsCase}
 use Rattle.spares_input.specs.Stocks.{StockList, IsFor, IsWithinLimits}
@@ -11,7 +11,7 @@ use Rattle.demand_rates.specs.Limits.{rate_fault_of}
 use Rattle.family_eval.specs.declared.item.Item.{Item}
 use Rattle.family_eval.specs.declared.item.FamilyResult.{FamilyResult}
 
--- a case whose rates break no rule, and stocks of it within its limits
+-- what an evaluation takes: a width, a case whose rates break no rule, and stocks of it within its limits
 pub record CanEvaluate (f : ℕ) (c : CaseRows) (s : StockList) : Type 0 where
   pub scale : InScale f
   pub valid : IsCase c
@@ -26,12 +26,12 @@ pub record EnclosesItem (f : ℕ) (c : CaseRows) (s : List ℕ) (p k : ℕ) (x :
   pub backorders_in : Encloses f x.backorders.lo x.backorders.hi (backorders c s p k)
   pub spread_in : Encloses f x.spread.lo x.spread.hi (spread c s p k)
 
--- each end of an item is at most 256
+-- no end of an item is above 256
 pub record IsSmallItem (f : ℕ) (x : Item f) : Type 0 where
-  pub mean_most : x.mean.hi ≤ 256 * 2 ^ f
-  pub variance_most : x.variance.hi ≤ 256 * 2 ^ f
-  pub backorders_most : x.backorders.hi ≤ 256 * 2 ^ f
-  pub spread_most : x.spread.hi ≤ 256 * 2 ^ f
+  pub mean_most : IsWithinLimit f x.mean
+  pub variance_most : IsWithinLimit f x.variance
+  pub backorders_most : IsWithinLimit f x.backorders
+  pub spread_most : IsWithinLimit f x.spread
 
 abbrev pub no_item : (f : ℕ) → Item f
 no_item f = record {

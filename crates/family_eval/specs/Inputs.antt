@@ -1,5 +1,7 @@
 -- What the calls take, and what the steps between them need.
 use Rattle.std.specs.Prelude.{◌≡◌, true, ℕ, ◌*◌, ◌^◌, ◌<◌, ◌≤◌, ◌⊎◌, List, length, Some}
+use Rattle.fixed_interval.specs.Ends.{IsWithinLimit}
+use Rattle.moment_table.specs.Inputs.{CanTable}
 use Rattle.depot_pipeline.specs.declared.Moments.{Moments}
 use Rattle.spares_input.specs.Rows.{is_line}
 use Rattle.spares_input.specs.Frames.{part_at, line_of}
@@ -8,7 +10,7 @@ use Rattle.spares_input.specs.Stocks.{StockList, IsFor, IsWithinLimits}
 use Rattle.fleet_model.specs.Fleet.{IsAllocation}
 use Rattle.demand_rates.specs.RateLists.{RateList}
 use Rattle.demand_rates.specs.Rates.{pair_rates, ArePairRates, AreRatesOf}
-use Rattle.family_eval.specs.declared.pair.Pair.{Pair}
+use Rattle.family_eval.specs.declared.pipeline.Pipeline.{Pipeline}
 
 -- a case, rates and stocks
 pub record InputRows : Type 0 where
@@ -52,15 +54,13 @@ pub record IsRated (d z : ℕ) : Type 0 where
   pub ratio : z ≤ 1024 * d
 
 -- the same of the ends: the cap is 0, or the direct part is above 0, and neither is the cap far from it
-pub record IsPair (f : ℕ) (x : Pair f) : Type 0 where
+pub record IsPipeline (f : ℕ) (x : Pipeline f) : Type 0 where
   pub some : (x.cap ≡ 0) ⊎ ((0 < x.direct.lo) × (x.cap ≤ 2048 * x.direct.lo))
   pub order : x.direct.lo ≤ x.cap
-  pub direct_most : x.direct.hi ≤ 256 * 2 ^ f
+  pub direct_most : IsWithinLimit f x.direct
   pub cap_most : x.cap ≤ 256 * 2 ^ f
   pub stock_most : x.stock ≤ 63
 
 -- what a table asks of a pipeline
-pub record CanTable (f : ℕ) (m : Moments f) : Type 0 where
-  pub mean_top : m.mean.hi ≤ 256 * 2 ^ f
-  pub variance_top : m.variance.hi ≤ 256 * 2 ^ f
-  pub ratio : ((m.mean.hi ≡ 0) × (m.variance.hi ≡ 0)) ⊎ ((0 < m.mean.lo) × ((m.mean.hi ≤ 2048 * m.mean.lo) × (m.variance.hi ≤ 2048 * m.mean.lo)))
+abbrev pub HasTable : (f : ℕ) → Moments f → Type 0
+HasTable f m = CanTable f m.mean m.variance

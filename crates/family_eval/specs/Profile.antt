@@ -17,15 +17,15 @@ use Rattle.fleet_model.specs.Pairs.{by_pair}
 use Rattle.fleet_model.specs.Fleet.{family}
 use Rattle.demand_rates.specs.declared.kinds.PairRates.{PairRates}
 use Rattle.demand_rates.specs.Rates.{pair_rates}
-use Rattle.family_eval.specs.declared.pair.Pair.{Pair}
+use Rattle.family_eval.specs.declared.pipeline.Pipeline.{Pipeline}
 use Rattle.family_eval.specs.declared.item.Item.{Item}
 use Rattle.family_eval.specs.declared.item.FamilyResult.{FamilyResult}
 
 -- ---- a pair by itself
 
 -- the direct part D of a pair, the cap that its zero-stock mean M sets, and its stock
-abbrev pub pair_from : (f p k : ℕ) → PairRates → ℕ → Pair f
-pair_from f p k r s = record {
+abbrev pub pipeline_from : (f p k : ℕ) → PairRates → ℕ → Pipeline f
+pipeline_from f p k r s = record {
   part = record { 0 = p };
   site = record { 0 = k };
   stock = s;
@@ -33,8 +33,8 @@ pair_from f p k r s = record {
   cap = (ends_ratio f r.zero_stock pipeline_scale).hi;
 }
 
-abbrev pub pair_of : (f : ℕ) → CaseRows → List ℕ → ℕ → ℕ → Pair f
-pair_of f c s p k = pair_from f p k (pair_rates c p k) (stock c s p k)
+abbrev pub pipeline_of : (f : ℕ) → CaseRows → List ℕ → ℕ → ℕ → Pipeline f
+pipeline_of f c s p k = pipeline_from f p k (pair_rates c p k) (stock c s p k)
 
 -- the share of a pair in the depot's backorders
 abbrev pub share_from : ℕ → PairRates → Ends
@@ -44,7 +44,7 @@ abbrev pub share_of : ℕ → CaseRows → ℕ → ℕ → Ends
 share_of f c p k = share_from f (pair_rates c p k)
 
 -- the pipeline of a pair, with its backorders and their variance at the pair's stock
-unfoldable pub stocked : (f : ℕ) → Pair f → Moments f → Item f
+unfoldable pub stocked : (f : ℕ) → Pipeline f → Moments f → Item f
 stocked f x m = record {
   part = x.part;
   site = x.site;
@@ -67,7 +67,7 @@ held_of f x = record { backorders = x.backorders; spread = x.spread }
 
 -- the shop unit i at the depot
 unfoldable pub depot_shop : (f : ℕ) → CaseRows → List ℕ → ℕ → Item f
-depot_shop f c s i = stocked f (pair_of f c s i 0) (depot_shop_ends f (pair_of f c s i 0).direct (pair_of f c s i 0).cap)
+depot_shop f c s i = stocked f (pipeline_of f c s i 0) (depot_shop_ends f (pipeline_of f c s i 0).direct (pipeline_of f c s i 0).cap)
 
 -- what it feeds to its line unit there
 abbrev pub depot_feed : (f : ℕ) → CaseRows → List ℕ → ℕ → Feed f
@@ -76,20 +76,20 @@ depot_feed f c s i = feed_of f (share_of f c i 0) (depot_shop f c s i)
 -- the line unit l at the depot
 unfoldable pub depot_line : (f : ℕ) → CaseRows → List ℕ → ℕ → Item f
 depot_line f c s l =
-    stocked f (pair_of f c s l 0)
-    (depot_line_ends f (pair_of f c s l 0).direct (pair_of f c s l 0).cap (map (depot_feed f c s) (shop_units c l)))
+    stocked f (pipeline_of f c s l 0)
+    (depot_line_ends f (pipeline_of f c s l 0).direct (pipeline_of f c s l 0).cap (map (depot_feed f c s) (shop_units c l)))
 
 -- the shop unit i at base j
 unfoldable pub base_shop : (f : ℕ) → CaseRows → List ℕ → ℕ → ℕ → Item f
 base_shop f c s i j =
-    stocked f (pair_of f c s i j)
-    (base_shop_ends f (pair_of f c s i j).direct (pair_of f c s i j).cap (feed_of f (share_of f c i j) (depot_shop f c s i)))
+    stocked f (pipeline_of f c s i j)
+    (base_shop_ends f (pipeline_of f c s i j).direct (pipeline_of f c s i j).cap (feed_of f (share_of f c i j) (depot_shop f c s i)))
 
 -- the line unit l at base j
 unfoldable pub base_line : (f : ℕ) → CaseRows → List ℕ → ℕ → ℕ → Item f
 base_line f c s l j =
-    stocked f (pair_of f c s l j)
-    (base_line_ends f (pair_of f c s l j).direct (pair_of f c s l j).cap (feed_of f (share_of f c l j) (depot_line f c s l))
+    stocked f (pipeline_of f c s l j)
+    (base_line_ends f (pipeline_of f c s l j).direct (pipeline_of f c s l j).cap (feed_of f (share_of f c l j) (depot_line f c s l))
     (map (λ i. held_of f (base_shop f c s i j)) (shop_units c l)))
 
 -- ---- families

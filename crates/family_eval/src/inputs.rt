@@ -5,17 +5,14 @@ ghost use Rattle.fixed_interval.specs.Ends.{InScale};
 ghost use Rattle.spares_input.specs.Stocks.{IsFor, IsWithinLimits};
 ghost use Rattle.demand_rates.specs.Rates.{AreRatesOf};
 ghost use Rattle.fleet_model.specs.Rows.{weight};
-ghost use Rattle.family_eval.specs.Profile.{pair_of, share_of};
-ghost use Rattle.family_eval.specs.Inputs.{IsPair, IsSound};
+ghost use Rattle.family_eval.specs.Profile.{pipeline_of, share_of};
+ghost use Rattle.family_eval.specs.Inputs.{IsPipeline, IsSound};
 
-use crate::pair::Pair;
-use demand_rates::kinds::Rates;
+use crate::pipeline::Pipeline;
+use demand_rates::kinds::{PIPELINE_SCALE, Rates};
 use fixed_interval::Iv;
 use spares_input::{Case, PartId, SiteId, Stocks};
 use std::marker::Model;
-
-/// How many units of a pipeline's rates make 1.
-const PIPELINE_SCALE: u128 = 365_000_000_000_000_000_000;
 
 /// A case, its rates, and stocks of it within its limits.
 #[derive(Drop)]
@@ -75,15 +72,15 @@ impl<'a> Inputs<'a> {
         u32::from(self.case.part(line).weight)
     }
 
-    /// A pair with what its pipeline has of its own.
-    pub(crate) fn pair<const F: u32>(&self, part: PartId, site: SiteId) -> Pair<F>
+    /// The pipeline of a pair by itself.
+    pub(crate) fn pipeline<const F: u32>(&self, part: PartId, site: SiteId) -> Pipeline<F>
         requires scale { InScale F }
         requires part { part.0 < length self.now.case.parts }
         requires site { site.0 < length self.now.case.sites }
-        ensures pair { result ≡ pair_of F self.now.case self.now.stocks.list part.0 site.0 }
-        ensures valid { IsPair F result }
+        ensures pipeline { result ≡ pipeline_of F self.now.case self.now.stocks.list part.0 site.0 }
+        ensures valid { IsPipeline F result }
     {
-        Pair {
+        Pipeline {
             part,
             site,
             stock: self.stocks.get(part, site),

@@ -2,16 +2,17 @@
 
 ghost use Rattle.std.specs.Prelude.{◌≡◌, ◌*◌, ◌^◌, ◌<◌, ◌≤◌, IfOk, length, All};
 ghost use Rattle.fixed_interval.specs.Ends.{InScale};
+ghost use Rattle.moment_table.specs.Inputs.{CanTable};
 ghost use Rattle.depot_pipeline.specs.Exact.{IsSmallFeed};
 ghost use Rattle.depot_pipeline.specs.Profile.{depot_shop_ends, depot_line_ends};
 ghost use Rattle.base_pipeline.specs.Exact.{IsSmallHeld};
 ghost use Rattle.base_pipeline.specs.Profile.{base_shop_ends, base_line_ends};
 ghost use Rattle.family_eval.specs.Profile.{stocked, feed_of, held_of};
 ghost use Rattle.family_eval.specs.Encloses.{IsSmallItem};
-ghost use Rattle.family_eval.specs.Inputs.{CanTable, IsPair};
+ghost use Rattle.family_eval.specs.Inputs.{IsPipeline};
 
 use crate::item::Item;
-use crate::pair::Pair;
+use crate::pipeline::Pipeline;
 use base_pipeline::{Held, base_line, base_shop};
 use depot_pipeline::{Feed, Moments, depot_line, depot_shop};
 use fixed_interval::Iv;
@@ -22,10 +23,10 @@ use std::alloc::Global;
 /// The pipeline of a pair with its backorders at the pair's stock.
 fn stocked<const F: u32>(
     alloc: Global,
-    pair: Pair<F>,
+    pair: Pipeline<F>,
     moments: Moments<F>,
 ) -> Result<Item<F>, NoMemory>
-    requires table { CanTable F moments }
+    requires table { CanTable F moments.mean moments.variance }
     requires stock { pair.stock ≤ 63 }
     ensures { IfOk result (λ x. x ≡ stocked F pair.entry moments.entry) }
 {
@@ -65,9 +66,9 @@ pub(crate) fn held_of<const F: u32>(item: &Item<F>) -> Held<F>
 /// A shop unit at the depot.
 pub(crate) fn depot_shop_item<const F: u32>(
     alloc: Global,
-    pair: Pair<F>,
+    pair: Pipeline<F>,
 ) -> Result<Item<F>, NoMemory>
-    requires { IsPair F pair }
+    requires { IsPipeline F pair }
     ensures { IfOk result (λ x. x ≡ stocked F pair.entry (depot_shop_ends F pair.entry.direct pair.entry.cap)) }
 {
     stocked(alloc, pair, depot_shop(pair.direct, pair.cap))
@@ -76,10 +77,10 @@ pub(crate) fn depot_shop_item<const F: u32>(
 /// A line unit at the depot, which its shop units there feed.
 pub(crate) fn depot_line_item<const F: u32>(
     alloc: Global,
-    pair: Pair<F>,
+    pair: Pipeline<F>,
     feeds: &[Feed<F>],
 ) -> Result<Item<F>, NoMemory>
-    requires pair { IsPair F pair }
+    requires pair { IsPipeline F pair }
     requires few { length feeds.now ≤ 8 }
     requires small { All (IsSmallFeed F) feeds.now }
     ensures { IfOk result (λ x. x ≡ stocked F pair.entry (depot_line_ends F pair.entry.direct pair.entry.cap feeds.now)) }
@@ -90,10 +91,10 @@ pub(crate) fn depot_line_item<const F: u32>(
 /// A shop unit at a base, which the depot feeds.
 pub(crate) fn base_shop_item<const F: u32>(
     alloc: Global,
-    pair: Pair<F>,
+    pair: Pipeline<F>,
     depot: Feed<F>,
 ) -> Result<Item<F>, NoMemory>
-    requires pair { IsPair F pair }
+    requires pair { IsPipeline F pair }
     requires small { IsSmallFeed F depot }
     ensures { IfOk result (λ x. x ≡ stocked F pair.entry (base_shop_ends F pair.entry.direct pair.entry.cap depot.entry)) }
 {
@@ -103,11 +104,11 @@ pub(crate) fn base_shop_item<const F: u32>(
 /// A line unit at a base, which the depot and the shop units at that base feed.
 pub(crate) fn base_line_item<const F: u32>(
     alloc: Global,
-    pair: Pair<F>,
+    pair: Pipeline<F>,
     depot: Feed<F>,
     shops: &[Held<F>],
 ) -> Result<Item<F>, NoMemory>
-    requires pair { IsPair F pair }
+    requires pair { IsPipeline F pair }
     requires small { IsSmallFeed F depot }
     requires few { length shops.now ≤ 8 }
     requires held { All (IsSmallHeld F) shops.now }

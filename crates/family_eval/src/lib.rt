@@ -16,7 +16,7 @@ ghost use Rattle.std.specs.Prelude.{◌≡◌, ℕ, ◌<◌, IfOk, length};
 ghost use Rattle.exact_model.specs.Fraction.{Encloses};
 ghost use Rattle.fixed_interval.specs.Ends.{InScale};
 ghost use Rattle.spares_input.specs.Cases.{CaseRows};
-ghost use Rattle.spares_input.specs.Stocks.{StockList, IsFor, IsWithinLimits};
+ghost use Rattle.spares_input.specs.Stocks.{StockList};
 ghost use Rattle.demand_rates.specs.Rates.{AreRatesOf};
 ghost use Rattle.std.specs.List.{AllZip};
 ghost use Rattle.fleet_model.specs.Rows.{line_units};
@@ -28,7 +28,7 @@ ghost use Rattle.family_eval.specs.Inputs.{IsLine};
 
 use crate::inputs::Inputs;
 use crate::lines::{line_items, total_of};
-use crate::shops::{all_shop_items, shop_units};
+use crate::shops::all_shop_items;
 use demand_rates::kinds::Rates;
 use spares_input::{Case, PartId, Stocks};
 use spares_io::{List, NoMemory};
@@ -38,12 +38,13 @@ mod inputs;
 mod item;
 mod levels;
 mod lines;
-mod pair;
+mod pipeline;
 mod shops;
 #[cfg(test)]
 mod tests;
 
 pub use item::{FamilyResult, Item};
+pub use shops::shop_units;
 
 /// The item of each pair encloses the model's figures at every depth from 1024 on, and none of them is above 256.
 pub fn items_enclose()
@@ -99,16 +100,13 @@ pub fn evaluate<const F: u32>(
     line: PartId,
     stocks: &Stocks,
 ) -> Result<FamilyResult<F>, NoMemory>
-    requires scale { InScale F }
+    requires inputs { CanEvaluate F case.now stocks.now }
     requires rates { AreRatesOf case.now rates.now }
     requires line { IsLine case.now line.0 }
-    requires stocks { IsFor case.now stocks.now }
-    requires limits { IsWithinLimits case.now stocks.now }
     ensures ends { IfOk result (λ r. r ≡ family_of F case.now line.0 stocks.now) }
     ensures encloses { IfOk result (EnclosesFamily F case.now stocks.now.list line.0) }
     ensures small { IfOk result (IsSmallFamily F case.now line.0) }
 {
-    let _valid = case.site_count();
     let inputs = Inputs::of(case, rates, stocks);
     evaluate_family(alloc, &inputs, line)
 }
@@ -120,10 +118,8 @@ pub fn evaluate_all<const F: u32>(
     rates: &Rates,
     stocks: &Stocks,
 ) -> Result<Vec<FamilyResult<F>>, NoMemory>
-    requires scale { InScale F }
+    requires inputs { CanEvaluate F case.now stocks.now }
     requires rates { AreRatesOf case.now rates.now }
-    requires stocks { IsFor case.now stocks.now }
-    requires limits { IsWithinLimits case.now stocks.now }
     ensures ends { IfOk result (λ v. v.items ≡ families_of F case.now stocks.now) }
     ensures encloses { IfOk result (λ v. AllZip (EnclosesFamily F case.now stocks.now.list) (line_units case.now) v.items) }
     ensures small { IfOk result (λ v. AllZip (IsSmallFamily F case.now) (line_units case.now) v.items) }

@@ -78,7 +78,7 @@ fn depot_line_at<const F: u32>(
 {
     let _sites = inputs.sites();
     let feeds = depot_feeds(alloc, inputs, shops, items)?;
-    depot_line_item(alloc, inputs.pair(line, SiteId(0)), feeds.as_slice())
+    depot_line_item(alloc, inputs.pipeline(line, SiteId(0)), feeds.as_slice())
 }
 
 /// A line unit at a base, from its item at the depot and the items of its shop units.
@@ -103,7 +103,7 @@ fn base_line_at<const F: u32>(
     let _sites = inputs.sites();
     let held = held_at(alloc, inputs, site, shops, items)?;
     let feed = feed_of(inputs.share(line, site), depot);
-    base_line_item(alloc, inputs.pair(line, site), feed, held.as_slice())
+    base_line_item(alloc, inputs.pipeline(line, site), feed, held.as_slice())
 }
 
 /// The items of a line unit, by site, from those of its shop units.

@@ -24,8 +24,8 @@ fn is_shop_of(line: &PartRow, part: &PartRow) -> bool
     }
 }
 
-/// The shop units of a line unit, in part order.
-pub(crate) fn shop_units(alloc: Global, case: &Case, line: PartId) -> Result<Vec<PartId>, NoMemory>
+/// The shop units of a line unit, in part order. Want of memory is the only error.
+pub fn shop_units(alloc: Global, case: &Case, line: PartId) -> Result<Vec<PartId>, NoMemory>
     requires { line.0 < length case.now.parts }
     ensures { IfOk result (λ v. map (λ p. p.0) v.items ≡ shop_units case.now line.0) }
 {
@@ -51,7 +51,7 @@ fn depot_shop_at<const F: u32>(
     ensures { IfOk result (λ x. x ≡ depot_shop F inputs.now.case inputs.now.stocks.list part.0) }
 {
     let _sites = inputs.sites();
-    depot_shop_item(alloc, inputs.pair(part, SiteId(0)))
+    depot_shop_item(alloc, inputs.pipeline(part, SiteId(0)))
 }
 
 /// A shop unit at a base, from its item at the depot.
@@ -70,7 +70,7 @@ fn base_shop_at<const F: u32>(
 {
     let _sites = inputs.sites();
     let feed = feed_of(inputs.share(part, site), depot);
-    base_shop_item(alloc, inputs.pair(part, site), feed)
+    base_shop_item(alloc, inputs.pipeline(part, site), feed)
 }
 
 /// The items of a shop unit, by site.

@@ -3,9 +3,8 @@ use Rattle.std.specs.List.{range_with_len}
 use Rattle.spares_input.specs.Rows.{is_line}
 use Rattle.spares_input.specs.Frames.{part_at}
 use Rattle.family_eval.specs.Profile.{families_of, family_of}
-use Rattle.family_eval.specs.Inputs.{InputRows, IsSound}
-use Rattle.family_eval.proofs.Ranges.{sound_of}
-use Rattle.family_eval.proofs.Families.{families_in, families_small, family_kept, family_more}
+use Rattle.family_eval.specs.Inputs.{InputRows}
+use Rattle.family_eval.proofs.Families.{evaluable, families_in, families_small, family_kept, family_more}
 use Rattle.family_eval.proofs.evaluate_all.Goals as goal
 use Rattle.family_eval.proofs.evaluate_all.Goals.{else-is_line, then-is_line+in_ok-evaluate_family+in_ok-push}
 
@@ -23,13 +22,12 @@ loop-p-preserved g c = elim c.if-is_line.branch [
 pub returns : goal.returns
 returns g c =
     let all : c.loop-p.p ≡ length c.args.case.now.parts = omega (arith, c.loop-p-test.false, c.loop-p.auto.p-end, c.part_count-p-end.ensures.count) in
-    let sound : IsSound c.args.case.now c.args.stocks.now.list = sound_of (record { case = c.args.case.now; rates = c.args.rates.now; stocks = c.args.stocks.now })
-    (record { valid = c.part_count-p-end.ensures.valid; are_rates = c.requires.rates; are_stocks = c.requires.stocks; limits = c.requires.limits }) in
+    let sound = evaluable g.row.F c.args.case.now c.args.stocks.now c.requires.inputs in
     let ends : c.loop-p.families.items ≡ families_of g.row.F c.args.case.now c.args.stocks.now =
     subst (λ n. c.loop-p.families.items ≡ map (λ l. family_of g.row.F c.args.case.now l c.args.stocks.now) (filter (λ q. is_line (part_at c.args.case.now.parts q)) (range_with_len 0 n))) all
     c.loop-p.invariant in
     record {
       ends = ends;
-      encloses = families_in g.row.F c.args.case.now c.args.stocks.now c.loop-p.families.items c.requires.scale.0 sound ends;
-      small = families_small g.row.F c.args.case.now c.args.stocks.now c.loop-p.families.items c.requires.scale.0 sound ends;
+      encloses = families_in g.row.F c.args.case.now c.args.stocks.now c.loop-p.families.items c.requires.inputs.scale.0 sound ends;
+      small = families_small g.row.F c.args.case.now c.args.stocks.now c.loop-p.families.items c.requires.inputs.scale.0 sound ends;
     }

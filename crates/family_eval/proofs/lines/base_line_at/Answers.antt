@@ -36,7 +36,7 @@ base_line_item-requires g c =
           (
             lit< tt,
             (
-              c.pair.ensures.valid,
+              c.pipeline.ensures.valid,
               (
                 feed_small g.row.F c.share.result c.args.depot.now c.feed_of-feed.result c.feed_of-feed.ensures c.share.ensures.most small,
                 (
@@ -55,7 +55,7 @@ pub returns : goal.returns
 returns g c =
     let sound = c.sites-sites.ensures.valid in
     IfOk-weaker c.base_line_item.result _ _
-    (λ x h. base_line_is g.row.F c.args.inputs.now.case c.args.inputs.now.stocks.list c.args.line.0 c.args.site.0 c.pair.result c.feed_of-feed.result c.share.result c.args.depot.now x
-    _ c.as_slice.result.now c.pair.ensures.pair c.feed_of-feed.ensures c.share.ensures.share c.requires.depot (c.as_slice.ensures.value ∙ c.in_ok-held.ensures)
+    (λ x h. base_line_is g.row.F c.args.inputs.now.case c.args.inputs.now.stocks.list c.args.line.0 c.args.site.0 c.pipeline.result c.feed_of-feed.result c.share.result c.args.depot.now x
+    _ c.as_slice.result.now c.pipeline.ensures.pipeline c.feed_of-feed.ensures c.share.ensures.share c.requires.depot (c.as_slice.ensures.value ∙ c.in_ok-held.ensures)
     (held_are g.row.F c.args.inputs.now.case c.args.inputs.now.stocks.list c.args.line.0 c.args.site.0 c.args.shops.now c.requires.base sound.valid c.requires.line c.requires.shops) h)
     c.base_line_item.ensures

@@ -33,7 +33,7 @@ depot_line_item-requires g c =
         (
           lit< tt,
           (
-            c.pair.ensures.valid,
+            c.pipeline.ensures.valid,
             (
               feeds_few g.row.F c.args.inputs.now.case c.args.inputs.now.stocks.list c.args.line.0 c.as_slice.result.now sound c.requires.line feeds,
               depot_feeds_small g.row.F c.args.inputs.now.case c.args.inputs.now.stocks.list c.args.line.0 c.as_slice.result.now c.requires.scale.0 sound c.requires.line feeds,
@@ -47,6 +47,6 @@ pub returns : goal.returns
 returns g c =
     let sound = c.sites-sites.ensures.valid in
     IfOk-weaker c.depot_line_item.result _ _
-    (λ x h. depot_line_is g.row.F c.args.inputs.now.case c.args.inputs.now.stocks.list c.args.line.0 c.pair.result _ c.as_slice.result.now x c.pair.ensures.pair
+    (λ x h. depot_line_is g.row.F c.args.inputs.now.case c.args.inputs.now.stocks.list c.args.line.0 c.pipeline.result _ c.as_slice.result.now x c.pipeline.ensures.pipeline
     (c.as_slice.ensures.value ∙ c.in_ok-feeds.ensures)
     (feeds_are g.row.F c.args.inputs.now.case c.args.inputs.now.stocks.list c.args.line.0 c.args.shops.now sound.valid c.requires.line c.requires.shops) h) c.depot_line_item.ensures

@@ -2,8 +2,8 @@ use Rattle.std.proofs.Common.{◌<◌, ◌≤◌, ◌∙◌, length, subst, sym}
 use Rattle.fleet_model.proofs.AllocationLaws.{stock-is}
 use Rattle.demand_rates.specs.RateLists.{rates_at}
 use Rattle.family_eval.specs.Inputs.{InputRows}
-use Rattle.family_eval.proofs.Ranges.{pair_from_is, rated, sound_of, stock_most}
-use Rattle.family_eval.proofs.inputs.Inputs.pair.Goals as goal
+use Rattle.family_eval.proofs.Ranges.{pipeline_from_is, rated, sound_of, stock_most}
+use Rattle.family_eval.proofs.inputs.Inputs.pipeline.Goals as goal
 
 pub returns-clause-valid : goal.returns-clause-valid
 returns-clause-valid g c =
@@ -15,5 +15,5 @@ returns-clause-valid g c =
     (stock_most c.self.inside.case.now c.self.inside.stocks.now.list c.args.part.0 c.args.site.0
     (sound_of (record { case = c.self.inside.case.now; rates = c.self.inside.rates.now; stocks = c.self.inside.stocks.now }) c.self.invariant)) in
     rw (c.of_ratio.ensures.ends, c.hi.ensures.end, c.of_ratio-2.ensures.ends, c.direct.ensures, c.zero_stock.ensures)
-    (pair_from_is g.row.F c.args.part.0 c.args.site.0 c.get.result (rates_at c.self.inside.rates.now c.args.part.0 c.args.site.0) c.requires.scale.0 few
+    (pipeline_from_is g.row.F c.args.part.0 c.args.site.0 c.get.result (rates_at c.self.inside.rates.now c.args.part.0 c.args.site.0) c.requires.scale.0 few
     (rated c.self.inside.case.now c.args.part.0 c.args.site.0 (rates_at c.self.inside.rates.now c.args.part.0 c.args.site.0) r))

@@ -3,9 +3,9 @@
 use fixed_interval::Iv;
 use spares_input::{PartId, SiteId};
 
-/// A pair of a part and a site, with what its pipeline has of its own, in units of `2^-F`.
+/// The pipeline of a pair by itself: what it has of its own, in units of `2^-F`.
 #[derive(Clone, Copy, Drop)]
-pub(crate) struct Pair<const F: u32> {
+pub(crate) struct Pipeline<const F: u32> {
     pub(crate) part: PartId,
     pub(crate) site: SiteId,
     pub(crate) stock: u8,

@@ -1,0 +1,86 @@
+-- The tables of keys.
+use Rattle.std.proofs.Common.{◌≡◌, ℕ, zero, suc, ◌+◌, ◌-◌, ◌<◌, ◌≤◌, List, [], ◌∷◌, ◌++◌, length, map, flat_map, sym, ap, ap₂, ◌∙◌, refl, arith, add-one, append-nil, append_assoc, subst}
+use Rattle.std.specs.List.{All, range_with_len}
+use Rattle.std.proofs.lemmas.List.Elements.{All-append}
+use Rattle.depot_pipeline.specs.declared.Feed.{Feed}
+use Rattle.depot_pipeline.specs.Profile.{depot_shop_ends, depot_line_ends}
+use Rattle.base_pipeline.specs.Profile.{base_shop_ends}
+use Rattle.family_tables.specs.declared.numbers.PairNumbers.{PairNumbers}
+use Rattle.family_tables.specs.Kept.{IsKey, key_at, keys_of, moments_at}
+use Rattle.family_tables.proofs.Served.{all_numbered}
+use Rattle.family_tables.specs.Numbers.{AreNumbers, FamilyNumbers, shop_numbers, nth_stock, depot_feeds, depot_shop_row, feed_from, pair_at, rows_of}
+
+module _ (f : ℕ) (x : FamilyNumbers f) where
+  pub line_made : (p k : ℕ) (s : List ℕ) (w : PairNumbers f) (feeds : List (Feed f)) → p ≡ 0 → k ≡ 0 → w ≡ pair_at x p k → feeds ≡ depot_feeds f x s
+      → rows_of f (depot_line_ends f w.direct w.cap feeds) ≡ rows_of f (moments_at f x p k s)
+  line_made zero zero s w feeds ep ek hw hf = ap₂ (λ (z : PairNumbers f) (y : List (Feed f)). rows_of f (depot_line_ends f z.direct z.cap y)) hw hf
+  line_made zero (suc k) s w feeds ep ek hw hf = absurd (omega arith)
+  line_made (suc p) k s w feeds ep ek hw hf = absurd (omega arith)
+
+  pub shop_made : (p k : ℕ) (s : List ℕ) (w : PairNumbers f) → (p ≡ 0 → ⊥) → k ≡ 0 → w ≡ pair_at x p k
+      → rows_of f (depot_shop_ends f w.direct w.cap) ≡ rows_of f (moments_at f x p k s)
+  shop_made zero k s w n e h = absurd (n refl)
+  shop_made (suc i) (suc k) s w n e h = absurd (omega arith)
+  shop_made (suc i) zero s w n e h = ap (λ (z : PairNumbers f). rows_of f (depot_shop_ends f z.direct z.cap)) (h ∙ ap (λ m. pair_at x m 0) (sym (add-one i)))
+
+  pub base_made : (p k : ℕ) (s : List ℕ) (w : PairNumbers f) (feed : Feed f) → (p ≡ 0 → ⊥) → (k ≡ 0 → ⊥) → w ≡ pair_at x p k
+      → feed ≡ feed_from f (pair_at x (p - 1 + 1) k).share (depot_shop_row f x (p - 1) (nth_stock s 0))
+      → rows_of f (base_shop_ends f w.direct w.cap feed) ≡ rows_of f (moments_at f x p k s)
+  base_made zero k s w feed n m h e = absurd (n refl)
+  base_made (suc i) zero s w feed n m h e = absurd (m refl)
+  base_made (suc i) (suc k) s w feed n m h e =
+      let less : suc i - 1 ≡ i = omega arith in
+      ap₂ (λ (z : PairNumbers f) (y : Feed f). rows_of f (base_shop_ends f z.direct z.cap y)) (h ∙ ap (λ b. pair_at x b (suc k)) (sym (add-one i)))
+      (e ∙ ap (λ b. feed_from f (pair_at x (b + 1) (suc k)).share (depot_shop_row f x b (nth_stock s 0))) less)
+
+-- ---- the keys of stocks
+
+flat_more : {X : Type 0} (h : ℕ → List X) (a n : ℕ) → flat_map h (range_with_len a (suc n)) ≡ flat_map h (range_with_len a n) ++ h (a + n)
+flat_more h a zero = let same : a ≡ a + 0 = omega arith in append-nil (h a) ∙ ap h same
+flat_more h a (suc n) =
+    let next : a + 1 + n ≡ a + suc n = omega arith in
+    ap (λ v. h a ++ v) (flat_more h (a + 1) n) ∙ sym (append_assoc (h a) (flat_map h (range_with_len (a + 1) n)) (h (a + 1 + n)))
+    ∙ ap (λ m. (h a ++ flat_map h (range_with_len (a + 1) n)) ++ h m) next
+
+pub flat_next : {X : Type 0} (h : ℕ → List X) (n : ℕ) → flat_map h (range_with_len 0 (n + 1)) ≡ flat_map h (range_with_len 0 n) ++ h n
+flat_next h n =
+    let same : 0 + n ≡ n = omega arith in
+    ap (λ m. flat_map h (range_with_len 0 m)) (add-one n) ∙ flat_more h 0 n ∙ ap (λ m. flat_map h (range_with_len 0 n) ++ h m) same
+
+all_one : {X : Type 0} (P : X → Type 0) (y : X) → P y → All P (y ∷ [])
+all_one P y p zero d l = p
+all_one P y p (suc k) d l = absurd (omega arith)
+
+all_flat : {X : Type 0} (P : X → Type 0) (h : ℕ → List X) (a n : ℕ) → ((k : ℕ) → k < n → All P (h (a + k))) → All P (flat_map h (range_with_len a n))
+all_flat P h a zero e = λ k d l. absurd (omega arith)
+all_flat P h a (suc n) e =
+    let first : a + 0 ≡ a = omega arith in
+    All-append P (h a) (flat_map h (range_with_len (a + 1) n)) (subst (λ m. All P (h m)) first (e 0 (omega arith)))
+    (all_flat P h (a + 1) n (λ k l. let next : a + suc k ≡ a + 1 + k = omega arith in subst (λ m. All P (h m)) next (e (suc k) (omega (arith, l)))))
+
+pub keys_valid : (f : ℕ) (x : FamilyNumbers f) (d : List ℕ) → AreNumbers f x → length d ≡ length x.parts - 1 → All (λ n. n ≤ 63) d → All (IsKey x) (keys_of x d)
+keys_valid f x d are same few =
+    All-append (IsKey x) (map (λ i. key_at (i + 1) 0 []) (shop_numbers x)) _
+    (all_numbered (IsKey x) (λ i. key_at (i + 1) 0 []) (length x.parts - 1) (λ i l. record {
+      place = omega (arith, l);
+      site = omega (arith, are.fewest_sites);
+      depot = λ e. absurd (omega (arith, e));
+      base = λ p q. absurd (omega (arith, q));
+      stocks = λ k e m. absurd (omega (arith, m));
+    }))
+    (All-append (IsKey x) (key_at 0 0 d ∷ []) _
+    (all_one (IsKey x) (key_at 0 0 d) (record {
+      place = are.some;
+      site = omega (arith, are.fewest_sites);
+      depot = λ e. (refl, same);
+      base = λ p q. absurd (omega (arith, p));
+      stocks = few;
+    }))
+    (all_flat (IsKey x) (λ i. map (λ j. key_at (i + 1) (j + 1) (nth_stock d i ∷ [])) (range_with_len 0 (x.sites - 1))) 0 (length x.parts - 1) (λ i l.
+    all_numbered (IsKey x) (λ j. key_at (0 + i + 1) (j + 1) (nth_stock d (0 + i) ∷ [])) (x.sites - 1) (λ j m. record {
+      place = omega (arith, l);
+      site = omega (arith, m);
+      depot = λ e. absurd (omega (arith, e));
+      base = λ p q. refl;
+      stocks = all_one (λ n. n ≤ 63) (nth_stock d (0 + i)) (few (0 + i) 0 (omega (arith, l, same)));
+    }))))

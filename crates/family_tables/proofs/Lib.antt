@@ -1,0 +1,6 @@
+pub mod FromNumbers
+pub mod Local
+pub mod Gathered
+pub mod Served
+pub mod Found
+pub mod Keyed

@@ -1,0 +1,9 @@
+use Rattle.std.proofs.Common.{◌+◌, ◌∙◌, ap, get_or}
+use Rattle.spares_input.specs.Stocks.{stock_at}
+use Rattle.demand_rates.proofs.Grown.{mapped_more}
+use Rattle.family_tables.proofs.making.depot_stocks.Goals as goal
+
+pub loop-i-preserved : goal.loop-i-preserved
+loop-i-preserved g c =
+    mapped_more (λ i. stock_at c.args.stocks.now (get_or c.args.numbers.now.parts (i + 1) 0) 0) c.loop-i.i c.loop-i.depot.items c.push.new.self.items c.get.result
+    c.in_ok-push.ensures.items c.loop-i.invariant (c.get.ensures ∙ ap (λ p. stock_at c.args.stocks.now p 0) c.part.ensures)

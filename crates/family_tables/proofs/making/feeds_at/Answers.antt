@@ -1,0 +1,9 @@
+use Rattle.std.proofs.Common.{◌+◌}
+use Rattle.demand_rates.proofs.Grown.{mapped_more}
+use Rattle.family_tables.specs.Numbers.{nth_stock, depot_shop_row, feed_from, pair_at}
+use Rattle.family_tables.proofs.making.feeds_at.Goals as goal
+
+pub loop-i-preserved : goal.loop-i-preserved
+loop-i-preserved g c =
+    mapped_more (λ i. feed_from g.row.F (pair_at c.args.numbers.now (i + 1) 0).share (depot_shop_row g.row.F c.args.numbers.now i (nth_stock c.args.depot.now i)))
+    c.loop-i.i c.loop-i.feeds.items c.push.new.self.items c.in_ok-feed.feed c.in_ok-push.ensures.items c.loop-i.invariant c.in_ok-feed.ensures
