@@ -1,7 +1,4 @@
-pub mod Contents
-pub mod Evaluated
-pub mod Printed
-pub mod OfCase
+pub mod ReadInputs
 pub mod Room
 pub mod Shown
 pub mod Stops

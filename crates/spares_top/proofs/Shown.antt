@@ -12,7 +12,7 @@ use Rattle.plan_report.specs.declared.figures.Figures.{Figures}
 use Rattle.plan_report.specs.declared.figures.Span.{Span}
 use Rattle.spares_input.specs.Cases.{CaseRows}
 use Rattle.spares_input.specs.Stocks.{StockList}
-use Rattle.spares_top.specs.Model.{PrintsAround, Shows, ShowsCase, ShowsModel}
+use Rattle.spares_top.specs.Headline.{PrintsAround, Shows, ShowsCase, ShowsModel}
 
 pub shown : (x : Ends) (value : ℕ → Fraction) → Encloses 48 x.lo x.hi value → Shows x value
 shown x value h = record {

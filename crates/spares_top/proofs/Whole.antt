@@ -1,43 +1,263 @@
--- What `run` promises, from what its order does.
-use Rattle.std.proofs.Common.{◌≡◌, [], inl, inr, refl, sym, subst, Result, Ok, Err, IsOkAnd, IsErrOf, MatchResult, List, ℕ}
+-- What an order promises, from what is made and delivered; and what `run` promises.
+use Rattle.std.proofs.Common.{◌≡◌, ◌∙◌, [], ◌∷◌, ap, arith, inl, inr, refl, sym, subst, Option, Some, None, Result, Ok, Err, IsSomeAnd, MatchResult, List, ℕ}
+use Rattle.std.specs.Option.{option_map}
+use Rattle.std.specs.Prelude.{IfSome, ⊤}
+use Rattle.demand_rates.specs.declared.fault.RateFault.{RateFault}
+use Rattle.spares_io.specs.Causes.{Rose}
+use Rattle.spares_io.specs.Shelf.{Files, KeepsOthers}
+use Rattle.spares_io.specs.Sink.{Gains, GainsPart}
+use Rattle.spares_io.specs.declared.stop.Stop.{Stop}
+use Rattle.spares_io.specs.declared.stop.Stop.TheVariants as stop
 use Rattle.spares_words.specs.Order.{order_of}
-use Rattle.spares_top.specs.declared.failure.Failure.{Failure}
-use Rattle.spares_top.specs.declared.refusal.File.{File}
-use Rattle.spares_top.specs.declared.refusal.Refusal.{Refusal}
+use Rattle.spares_words.specs.declared.order.Order.{Order}
+use Rattle.spares_words.specs.declared.order.Order.TheVariants as order
+use Rattle.spares_words.specs.declared.order.WordsFault.{WordsFault}
+use Rattle.spares_top.specs.declared.done.Done.{Done}
+use Rattle.spares_top.specs.declared.done.Outcome.{Outcome}
+use Rattle.spares_top.specs.declared.done.Written.{Written}
+use Rattle.spares_top.specs.declared.refusal.failure.Failure.{Failure}
+use Rattle.spares_top.specs.declared.files.Input.{Input}
+use Rattle.spares_top.specs.declared.refusal.File.TheVariants.{Sites, Parts, Rates, Stocks}
 use Rattle.spares_top.specs.declared.refusal.Refusal.TheVariants as refusal
-use Rattle.spares_top.specs.declared.report.Done.{Done}
-use Rattle.spares_top.specs.Answer.{AnswersBy, Completes, Fulfils, Task, task_of}
-use Rattle.spares_top.specs.State.{Performs, Scene, FailsToRead, WriteFailed}
-use Rattle.spares_top.specs.Promises.{Errors, PutsLine, Runs}
+use Rattle.spares_top.specs.Answer.{Answers, HaveGiven, IsDue, RefusesBy}
+use Rattle.spares_top.specs.Causes.{◌>>=◌, Kind, of_words, of_reading, of_writing, of_memory, of_task, kind_of, plain_failure, stopped}
+use Rattle.spares_top.specs.Files.{Reads, StandStill, StopsAt, inputs, inputs_of, output_of, reads, table_in}
+use Rattle.spares_top.specs.Headline.{IsTrue}
+use Rattle.spares_top.specs.Making.{ComesOf, Delivers, Is, IsMade, MakesBy}
+use Rattle.spares_top.specs.Promises.{Completes, Errors, NoneFailed, Performs, PutsLine, Runs, Serves}
+use Rattle.spares_top.specs.Reading.{ReadsGive}
+use Rattle.spares_top.specs.State.{HasDelivered, HasFailed, HasFailedToWrite, IsUntouched, Scene, after_write}
+use Rattle.spares_top.specs.Task.{Fulfils, Task, evaluate, show_pipeline, bytes_at, task_of, task_on, task_on_words, unless_refused}
+use Rattle.spares_top.specs.Texts.{text_of}
+use Rattle.spares_top.proofs.ReadInputs.{none_is, read_is, stops_kind, stops_of_work}
+use Rattle.spares_top.proofs.Stops.{eval_kind}
 
-answered : (task : Result Task Failure) (failure : Failure) → task ≡ Err failure → Completes task (Err failure)
-answered task failure e =
-    inr (subst (λ t. MatchResult t (λ a. IsOkAnd (Err failure) (Fulfils a)) (λ f. IsErrOf {T = Done} (Err failure) f)) (sym e) refl)
+-- ---- refusals
 
-module _ (task : Result Task Failure) (may_read : File → Type 0) (may_write : Type 0) (no_read : (file : File) → ¬ may_read file) (no_write : ¬ may_write) where
-  refused_by : (r : Refusal) (line : List ℕ) → AnswersBy task may_read may_write (record { refusal = r; line = line }) r
-      → Completes task (Err (record { refusal = r; line = line }))
-  refused_by (refusal.ReadFault file) line (inl h) = absurd (no_read file h)
-  refused_by (refusal.ReadFault file) line (inr h) = answered task (record { refusal = refusal.ReadFault file; line = line }) h
-  refused_by (refusal.TooLong file) line h = answered task (record { refusal = refusal.TooLong file; line = line }) h
-  refused_by (refusal.Words fault) line h = answered task (record { refusal = refusal.Words fault; line = line }) h
-  refused_by (refusal.Table file fault) line h = answered task (record { refusal = refusal.Table file fault; line = line }) h
-  refused_by (refusal.Case fault) line h = answered task (record { refusal = refusal.Case fault; line = line }) h
-  refused_by (refusal.Stock fault) line h = answered task (record { refusal = refusal.Stock fault; line = line }) h
-  refused_by (refusal.Rate fault) line h = answered task (record { refusal = refusal.Rate fault; line = line }) h
-  refused_by refusal.WriteFault line h = absurd (no_write h.0)
-  refused_by refusal.NoMemory line h = inl refl
+rate_kind : (fault : Option RateFault) (task : Task) (failure : Failure) → unless_refused fault task ≡ Err failure → kind_of failure.refusal ≡ of_task
+rate_kind None task failure e = grind (arith, e)
+rate_kind (Some fault) task failure e = subst (λ (r : Result Task Failure). MatchResult r (λ t. ⊤) (λ f. kind_of f.refusal ≡ of_task)) e refl
 
-printed : (task : Result Task Failure) (done : Done) → IsOkAnd task (λ t. Fulfils t done) → Completes task (Ok done)
-printed (Ok task) done h = inr h
-printed (Err failure) done h = absurd h
+-- a task's own refusals are of its kind
+pub task_kind : (o : Order) (bytes : List (List ℕ)) (failure : Failure) → task_on o bytes ≡ Err failure → kind_of failure.refusal ≡ of_task
+task_kind (order.Single mean variance stock) bytes failure e = rate_kind _ _ failure e
+task_kind (order.Eval sites parts rates stocks bits) bytes failure e =
+    eval_kind (bytes_at bytes 0) (bytes_at bytes 1) (bytes_at bytes 2) (bytes_at bytes 3) bits failure e
+
+-- ---- what is due
+
+-- the inputs of four tables
+pub inputs_are : (a b c d : Input) (sites parts rates stocks : List ℕ) (bits : ℕ) → a ≡ table_in Sites sites → b ≡ table_in Parts parts → c ≡ table_in Rates rates
+    → d ≡ table_in Stocks stocks → (a ∷ b ∷ c ∷ d ∷ []) ≡ inputs (order.Eval sites parts rates stocks bits)
+inputs_are a b c d sites parts rates stocks bits e f g h = rw (e, f, g, h) refl
+
+made_by : (P Q : Result Task Failure → Type 0) → ((t : Result Task Failure) → P t → Q t) → (r : Result Outcome (Stop Failure)) → MakesBy P r → MakesBy Q r
+made_by P Q f (Ok outcome) h = record { task = h.task; is_due = f (Ok h.task) h.is_due; fulfils = h.fulfils; is_true = h.is_true; prints = h.prints }
+made_by P Q f (Err stop.NoMemory) h = tt
+made_by P Q f (Err (stop.Fault failure)) h = (f (Err failure) h.0, h.1)
+
+module _ (o : Order) (told : Option Files) (before now : List ℕ → ℕ) where
+  -- what is made of the bytes of the inputs comes of the order
+  pub made_of : (files : List (List ℕ)) (r : Result Outcome (Stop Failure)) → Reads told before now (inputs o) (Ok files) → MakesBy (Is (task_on o files)) r
+      → MakesBy (ComesOf o told before now) r
+  made_of files r h m = made_by (Is (task_on o files)) (ComesOf o told before now) (λ t e. record { read = Ok files; reads = h; task_is = e }) r m
+
+  -- where the reading stops, its refusal does
+  pub unread : (e : Stop Failure) → ReadsGive told before now (inputs o) (Err e) → MakesBy (ComesOf o told before now) (Err e)
+  unread stop.NoMemory h = tt
+  unread (stop.Fault failure) h = (record { read = Err failure; reads = h; task_is = refl }, stops_of_work told before now (inputs o) failure h)
+
+-- a task that is fulfilled with nothing written
+pub writes_none : (task : Task) (outcome : Outcome) → Fulfils task outcome → outcome.writes ≡ None
+writes_none (show_pipeline mean variance stock) outcome h = ap (λ (o : Outcome). o.writes) h
+writes_none (evaluate case stocks bits) outcome h = ap (λ (o : Outcome). o.writes) h
+
+-- what is written has the name that the order writes
+names_are : (o : Order) (bytes : List (List ℕ)) (task : Task) (outcome : Outcome) → task_on o bytes ≡ Ok task → Fulfils task outcome
+    → option_map (λ (w : Written). w.name) outcome.writes ≡ output_of (Ok o)
+names_are (order.Single mean variance stock) bytes task outcome e f = ap (option_map (λ (w : Written). w.name)) (writes_none task outcome f)
+names_are (order.Eval sites parts rates stocks bits) bytes task outcome e f = ap (option_map (λ (w : Written). w.name)) (writes_none task outcome f)
+
+nothing_of : (written : Option Written) (name : Option (List ℕ)) → option_map (λ (w : Written). w.name) written ≡ name → name ≡ None → written ≡ None
+nothing_of None name e n = refl
+nothing_of (Some w) name e n = grind (arith, e, n)
+
+names_due : (order : Result Order WordsFault) (bytes : List (List ℕ)) (task : Task) (outcome : Outcome) → task_on_words order bytes ≡ Ok task → Fulfils task outcome
+    → option_map (λ (w : Written). w.name) outcome.writes ≡ output_of order
+names_due (Ok o) bytes task outcome e f = names_are o bytes task outcome e f
+names_due (Err fault) bytes task outcome e f = grind (arith, e)
+
+-- ---- an order
+
+module _ (o : Order) (old new : Scene) where
+  -- what is due stays due while no read fails
+  due_by : (mid : List ℕ → ℕ) (task : Task) (read : Result (List (List ℕ)) Failure) → StandStill mid new.read_faults
+      → Reads old.held old.read_faults mid (inputs o) read → Ok task ≡ (read >>= task_on o) → IsDue (Ok o) old new task
+  due_by mid task (Ok files) still h e = record { bytes = files; given = record { reads = (h.0, λ name. still name ∙ h.1 name) }; is_due = sym e }
+  due_by mid task (Err failure) still h e = grind (arith, e)
+
+  module _ (failure : Failure) (untouched : IsUntouched old new) where
+    -- where all inputs gave their bytes, the task is refused
+    given_by : (files : List (List ℕ)) (k : Kind) → kind_of failure.refusal ≡ k → Reads old.held old.read_faults new.read_faults (inputs o) (Ok files)
+        → task_on o files ≡ Err failure → RefusesBy (Ok o) old new failure k
+    given_by files k is h e =
+        subst (λ x. RefusesBy (Ok o) old new failure x) (sym (task_kind o files failure e) ∙ is)
+        (record { bytes = files; given = record { reads = h }; is_refused = e; has_order = refl; untouched = untouched })
+
+    -- where one didn't, the reading is refused
+    stopped_by : (k : Kind) → kind_of failure.refusal ≡ k → StopsAt old.held old.read_faults new.read_faults (inputs o) failure → RefusesBy (Ok o) old new failure k
+    stopped_by k is h =
+        let s = stops_kind old.held old.read_faults new.read_faults (inputs o) failure h in
+        subst (λ x. RefusesBy (Ok o) old new failure x) (sym s.1 ∙ is) (record { stops = h; untouched = untouched })
+
+    refuses_by : (read : Result (List (List ℕ)) Failure) → Reads old.held old.read_faults new.read_faults (inputs o) read → Err failure ≡ (read >>= task_on o)
+        → RefusesBy (Ok o) old new failure (kind_of failure.refusal)
+    refuses_by (Ok files) h e = given_by files (kind_of failure.refusal) refl h (sym e)
+    refuses_by (Err f) h e = stopped_by (kind_of failure.refusal) refl (subst (StopsAt old.held old.read_faults new.read_faults (inputs o)) (sym (subst (λ (r : Result Task Failure). MatchResult r (λ t. ⊥) (λ x. x ≡ f)) (sym e) refl)) h)
+
+  module _ (untouched : IsUntouched old new) (reads : inputs o ≡ [] → StandStill old.read_faults new.read_faults) (writes : StandStill old.write_faults new.write_faults) where
+    -- there was no memory
+    pub wanting : Performs (Ok o) old new (Err (plain_failure refusal.NoMemory))
+    wanting = record { answers = record { failure_is = refl; untouched = untouched }; reads = reads; writes = λ none. writes }
+
+    -- nothing was made
+    pub stops : (e : Stop Failure) → MakesBy (ComesOf o old.held old.read_faults new.read_faults) (Err e) → Performs (Ok o) old new (Err (stopped e))
+    stops stop.NoMemory h = wanting
+    stops (stop.Fault failure) h = record {
+      answers = refuses_by failure untouched h.0.read h.0.reads h.0.task_is;
+      reads = reads;
+      writes = λ none. writes;
+    }
+
+-- the scene in the middle, when all was read and nothing was written
+pub record IsBefore (old mid new : Scene) : Type 0 where
+  pub untouched : IsUntouched old mid
+  pub writes : StandStill old.write_faults mid.write_faults
+  pub reads : StandStill mid.read_faults new.read_faults
+
+module _ (outcome : Outcome) (old mid new : Scene) (b : IsBefore old mid new) where
+  untouched_from : IsUntouched mid new → IsUntouched old new
+  untouched_from h = record { held = h.held ∙ b.untouched.held; out = h.out ∙ b.untouched.out; faults = h.faults ∙ b.untouched.faults }
+
+  delivered_from : HasDelivered outcome mid new → HasDelivered outcome old new
+  delivered_from h = record {
+    held = h.held ∙ ap (after_write outcome.writes) b.untouched.held;
+    out = subst (λ out. Gains out new.out (text_of outcome.done)) b.untouched.out h.out;
+    faults = h.faults ∙ b.untouched.faults;
+    writes = λ name. h.writes name ∙ b.writes name;
+  }
+
+  unwritten_from : (written : Option Written) → IsSomeAnd written (λ w. HasFailedToWrite w mid new) → IsSomeAnd written (λ w. HasFailedToWrite w old new)
+  unwritten_from None h = absurd h
+  unwritten_from (Some w) h = record {
+    held = subst (λ held. KeepsOthers w.name held new.held) b.untouched.held h.held;
+    out = h.out ∙ b.untouched.out;
+    faults = h.faults ∙ b.untouched.faults;
+    rose = subst (λ count. Rose count (new.write_faults w.name)) (b.writes w.name) h.rose;
+  }
+
+  failed_from : HasFailed outcome mid new → HasFailed outcome old new
+  failed_from (inl h) = inl (unwritten_from outcome.writes h)
+  failed_from (inr h) = inr (record {
+    held = h.held ∙ ap (after_write outcome.writes) b.untouched.held;
+    out = subst (λ out. GainsPart out new.out (text_of outcome.done)) b.untouched.out h.out;
+    rose = subst (λ count. Rose count new.faults) b.untouched.faults h.rose;
+    writes = λ name. h.writes name ∙ b.writes name;
+  })
+
+  module _ (o : Order) (made : IsMade (ComesOf o old.held old.read_faults mid.read_faults) outcome)
+      (reads : inputs o ≡ [] → StandStill old.read_faults mid.read_faults) (nothing : outcome.writes ≡ None → StandStill mid.write_faults new.write_faults) where
+    due_still : IsDue (Ok o) old new made.task
+    due_still = due_by o old new mid.read_faults made.task made.is_due.read b.reads made.is_due.reads made.is_due.task_is
+
+    answers : (result : Result Done Failure) → Delivers outcome mid new result → Answers (Ok o) old new result
+    answers (Ok done) (is, h) = record {
+      task = made.task;
+      is_due = due_still;
+      outcome = outcome;
+      done_is = is;
+      fulfils = made.fulfils;
+      is_true = subst (IsTrue made.task) is made.is_true;
+      delivered = delivered_from h;
+    }
+    answers (Err failure) (inl (is, h)) = subst (λ (f : Failure). Answers (Ok o) old new (Err f)) (sym is) (record { failure_is = refl; untouched = untouched_from h })
+    answers (Err failure) (inr (is, h)) = subst (λ (f : Failure). Answers (Ok o) old new (Err f)) (sym is) (record {
+      failure_is = refl;
+      task = made.task;
+      is_due = due_still;
+      outcome = outcome;
+      fulfils = made.fulfils;
+      failed = failed_from h;
+    })
+
+    -- what was made is delivered
+    pub delivers : (result : Result Done Failure) → Delivers outcome mid new result → Performs (Ok o) old new result
+    delivers result h = record {
+      answers = answers result h;
+      reads = λ none name. b.reads name ∙ reads none name;
+      writes = λ none name. nothing (nothing_of outcome.writes (output_of (Ok o)) (names_due (Ok o) due_still.bytes made.task outcome due_still.is_due made.fulfils) none) name ∙ b.writes name;
+    }
+
+-- ---- the words
+
+-- a fault of the words
+pub wordless : (order : Result Order WordsFault) (fault : WordsFault) (scene : Scene) → order ≡ Err fault
+    → Performs order scene scene (Err (plain_failure (refusal.Words fault)))
+wordless (Ok o) fault scene e = grind (arith, e)
+wordless (Err f) fault scene e = record {
+  answers = record { order_is = e; failure_is = refl; untouched = record { held = refl; out = refl; faults = refl } };
+  reads = λ none name. refl;
+  writes = λ none name. refl;
+}
+
+-- ---- completeness
+
+module _ (order : Result Order WordsFault) (old new : Scene) (held : Files) (failed : NoneFailed order old new) where
+  told_due : (read : Result (List (List ℕ)) Failure) → Serves order old.held held → Reads old.held old.read_faults new.read_faults (inputs_of order) read
+      → reads held (inputs_of order) ≡ read
+  told_due read (inl told) h =
+      read_is held old.read_faults new.read_faults (inputs_of order) read failed.reads
+      (subst (λ t. Reads t old.read_faults new.read_faults (inputs_of order) read) told h)
+  told_due read (inr none) h =
+      subst (λ i. reads held i ≡ read) (sym none) (none_is held old.held old.read_faults new.read_faults read
+      (subst (λ i. Reads old.held old.read_faults new.read_faults i read) none h))
+
+  module _ (serves : Serves order old.held held) where
+    -- the task over the files that are held is that of the bytes that were given
+    given_is : (bytes : List (List ℕ)) → HaveGiven order old new bytes → task_of order held ≡ task_on_words order bytes
+    given_is bytes h = ap (λ r. r >>= task_on_words order) (told_due (Ok bytes) serves h.reads)
+
+    is_answer : (failure : Failure) → task_of order held ≡ Err failure → Completes (task_of order held) (Err failure)
+    is_answer failure e = inr (rw e refl)
+
+    no_write : (written : Option Written) → option_map (λ (w : Written). w.name) written ≡ output_of order → ¬ IsSomeAnd written (λ w. HasFailedToWrite w old new)
+    no_write None e h = absurd h
+    no_write (Some w) e h = subst (λ (n : Option (List ℕ)). IfSome n (λ name. ¬ Rose (old.write_faults name) (new.write_faults name))) (sym e) failed.writes h.rose
+
+    undelivered : (outcome : Outcome) → option_map (λ (w : Written). w.name) outcome.writes ≡ output_of order → ¬ HasFailed outcome old new
+    undelivered outcome e (inl w) = no_write outcome.writes e w
+    undelivered outcome e (inr p) = failed.puts p.rose
+
+    complete_by : (failure : Failure) (k : Kind) → RefusesBy order old new failure k → Completes (task_of order held) (Err failure)
+    complete_by failure (of_words fault) h =
+        is_answer failure (subst (λ (f : Failure). task_of order held ≡ Err f) (sym h.failure_is) (ap (λ o. task_of o held) h.order_is))
+    complete_by failure (of_reading file) h = is_answer failure (ap (λ r. r >>= task_on_words order) (told_due (Err failure) serves h.stops))
+    complete_by failure of_task h = is_answer failure (given_is h.bytes h.given ∙ h.is_refused)
+    complete_by failure of_memory h = inl (ap Err h.failure_is)
+    complete_by failure of_writing h = absurd (undelivered h.outcome (names_due order h.is_due.bytes h.task h.outcome h.is_due.is_due h.fulfils) h.failed)
+
+    pub complete : (result : Result Done Failure) → Answers order old new result → Completes (task_of order held) result
+    complete (Ok done) h = inr (rw (given_is h.is_due.bytes h.is_due.given ∙ h.is_due.is_due) (h.outcome, (h.fulfils, h.done_is)))
+    complete (Err failure) h = complete_by failure (kind_of failure.refusal) h
+
+-- ---- run
 
 pub done : (words : List (List ℕ)) (old new : Scene) (before after : Errors) (report : Done) → Performs (order_of words) old new (Ok report)
     → after.bytes ≡ before.bytes → after.faults ≡ before.faults → Runs words old new before after (Ok report)
 done words old new before after report h b f = record {
   line = [];
   performs = h;
-  completes = λ held serves r w. printed (task_of (order_of words) held) report (h.told held serves);
+  completes = λ held serves failed. complete (order_of words) old new held failed serves (Ok report) h.answers;
   puts = (b, f);
 }
 
@@ -46,8 +266,6 @@ pub refused : (words : List (List ℕ)) (old new : Scene) (before after : Errors
 refused words old new before after failure h puts = record {
   line = failure.line;
   performs = h;
-  completes = λ held serves r w.
-      refused_by (task_of (order_of words) held) (FailsToRead (order_of words) held old new) (WriteFailed old new) (λ file f. r file f.failed) w
-      failure.refusal failure.line (h.told held serves);
+  completes = λ held serves none. complete (order_of words) old new held none serves (Err failure) h.answers;
   puts = puts;
 }

@@ -1,8 +1,12 @@
 pub mod Answer
+pub mod Causes
+pub mod Files
+pub mod Headline
 pub mod Lines
-pub mod Model
+pub mod Making
 pub mod Promises
 pub mod Reading
 pub mod State
 pub mod Tables
+pub mod Task
 pub mod Texts

@@ -18,7 +18,7 @@ use Rattle.spares_words.specs.declared.order.Which.{Which}
 use Rattle.spares_words.specs.declared.order.Which.TheVariants.{Mean, Stock, Variance, Bits}
 use Rattle.spares_words.specs.declared.order.WordsFault.{WordsFault}
 use Rattle.spares_words.specs.declared.order.WordsFault.TheVariants.{Shape, Number, Range}
-use Rattle.spares_top.specs.declared.report.Done.{Done}
+use Rattle.spares_top.specs.declared.done.Done.{Done}
 use Rattle.spares_top.specs.declared.refusal.File.{File}
 use Rattle.spares_top.specs.declared.refusal.File.TheVariants as file
 use Rattle.spares_top.specs.declared.refusal.Refusal.{Refusal}

@@ -1,15 +1,47 @@
 -- What `run` promises.
-use Rattle.std.specs.Prelude.{◌≡◌, ◌⊎◌, ℕ, List, Option, Result, Ok, Err}
+use Rattle.std.specs.Prelude.{◌≡◌, ◌⊎◌, [], ℕ, List, Option, Some, None, IsErrOf, IsOkAnd, IfSome, MatchResult, Result, Ok, Err}
 use Rattle.spares_io.specs.Causes.{Rose}
-use Rattle.spares_io.specs.Sink.{Gains, GainsPart}
 use Rattle.spares_io.specs.Shelf.{Files}
+use Rattle.spares_io.specs.Sink.{Gains, GainsPart}
 use Rattle.spares_words.specs.Order.{order_of}
-use Rattle.spares_top.specs.declared.failure.Failure.{Failure}
-use Rattle.spares_top.specs.declared.refusal.File.{File}
+use Rattle.spares_words.specs.declared.order.Order.{Order}
+use Rattle.spares_words.specs.declared.order.WordsFault.{WordsFault}
+use Rattle.spares_top.specs.declared.done.Done.{Done}
+use Rattle.spares_top.specs.declared.done.Outcome.{Outcome}
+use Rattle.spares_top.specs.declared.refusal.failure.Failure.{Failure}
 use Rattle.spares_top.specs.declared.refusal.Refusal.{Refusal}
-use Rattle.spares_top.specs.declared.report.Done.{Done}
-use Rattle.spares_top.specs.Answer.{Completes, Serves, task_of}
-use Rattle.spares_top.specs.State.{Scene, Performs, ReadFailed, WriteFailed}
+use Rattle.spares_top.specs.declared.refusal.Refusal.TheVariants as refusal
+use Rattle.spares_top.specs.Answer.{Answers}
+use Rattle.spares_top.specs.Causes.{plain_failure}
+use Rattle.spares_top.specs.Files.{NoneRose, StandStill, inputs_of, output_of}
+use Rattle.spares_top.specs.State.{Scene}
+use Rattle.spares_top.specs.Task.{Fulfils, Task, task_of}
+
+-- The promises of an order's answer.
+pub record Performs (order : Result Order WordsFault) (old new : Scene) (result : Result Done Failure) : Type 0 where
+  -- the answer, its cause, what it leaves, and the headline
+  pub answers : Answers order old new result
+  -- no read is counted where no file is used, and no write where none is written
+  pub reads : inputs_of order ≡ [] → StandStill old.read_faults new.read_faults
+  pub writes : output_of order ≡ None → StandStill old.write_faults new.write_faults
+
+-- these are the files that the shelf tells, or none is used
+abbrev pub Serves : Result Order WordsFault → Option Files → Files → Type 0
+Serves order told held = (told ≡ Some held) ⊎ (inputs_of order ≡ [])
+
+-- no read of an input failed, no write of the output's name, and no put
+pub record NoneFailed (order : Result Order WordsFault) (old new : Scene) : Type 0 where
+  pub reads : NoneRose old.read_faults new.read_faults (inputs_of order)
+  pub writes : IfSome (output_of order) (λ name. ¬ Rose (old.write_faults name) (new.write_faults name))
+  pub puts : ¬ Rose old.faults new.faults
+
+-- the answer is a report that fulfils this task
+abbrev pub IsReportOf : Result Done Failure → Task → Type 0
+IsReportOf result task = IsOkAnd result (λ done. (outcome : Outcome) × (Fulfils task outcome × (outcome.done ≡ done)))
+
+-- the answer is the task's, but for want of memory
+abbrev pub Completes : Result Task Failure → Result Done Failure → Type 0
+Completes task result = IsErrOf result (plain_failure refusal.NoMemory) ⊎ MatchResult task (IsReportOf result) (IsErrOf result)
 
 -- an answer whose refusal has this line
 abbrev pub with_line : List ℕ → Result Done Refusal → Result Done Failure
@@ -37,11 +69,11 @@ errors bytes faults = record { bytes = bytes; faults = faults }
 pub record Runs (words : List (List ℕ)) (old new : Scene) (before after : Errors) (result : Result Done Refusal) : Type 0 where
   -- the line of a refusal
   pub line : List ℕ
-  -- the answer to the words' order with that line, its causes, what the shelf and the output hold afterwards, and the headline
+  -- the answer to the words' order with that line, its cause, what it leaves, and the headline
   pub performs : Performs (order_of words) old new (with_line line result)
-  -- where no read and no write fails, it is the task's answer, but for want of memory
-  pub completes : (held : Files) → Serves (order_of words) old.held held
-      → ((file : File) → ¬ ReadFailed (order_of words) old new file) → ¬ WriteFailed old new
+  -- where the shelf tells what it holds, or no file is used, and no read, no write and no put fails, it is the task's answer, but for
+  -- want of memory
+  pub completes : (held : Files) → Serves (order_of words) old.held held → NoneFailed (order_of words) old new
       → Completes (task_of (order_of words) held) (with_line line result)
   -- `err` got that line, and nothing with a report
   pub puts : PutsLineOf line result before.bytes before.faults after.bytes after.faults

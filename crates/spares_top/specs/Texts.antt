@@ -1,10 +1,15 @@
 -- The texts of the reports.
-use Rattle.std.specs.Prelude.{ℕ, List}
-use Rattle.plan_report.specs.Texts.{eval_text, single_text}
-use Rattle.spares_top.specs.declared.report.Done.{Done}
-use Rattle.spares_top.specs.declared.report.Done.TheVariants.{Single, Evaluated}
+use Rattle.std.specs.Prelude.{ℕ, List, ◌<◌, ◌^◌}
+use Rattle.plan_report.specs.Texts.{FitsPrint, eval_text, single_text}
+use Rattle.spares_top.specs.declared.done.Done.{Done}
+use Rattle.spares_top.specs.declared.done.Done.TheVariants.{Single, Evaluated}
 
 -- the text of a report
 abbrev pub text_of : Done → List ℕ
 text_of (Single report) = single_text report
 text_of (Evaluated report) = eval_text report
+
+-- all numbers of a report have a text
+abbrev pub CanPrint : Done → Type 0
+CanPrint (Single report) = (report.backorders.hi < 2 ^ 86) × (report.spread.hi < 2 ^ 86)
+CanPrint (Evaluated report) = FitsPrint report.figures

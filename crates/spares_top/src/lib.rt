@@ -2,15 +2,15 @@
 #![tactic(auto)]
 
 mod case;
-mod failure;
-mod line;
-mod perform;
+mod deliver;
+mod done;
+mod eval;
+mod files;
 mod refusal;
-mod report;
 mod single;
-mod tables;
 mod top;
+mod work;
 
+pub use done::Done;
 pub use refusal::{File, Refusal, status};
-pub use report::Done;
 pub use top::{refuse, run};

@@ -2,7 +2,12 @@
 ghost use Rattle.std.specs.Prelude.{◌≡◌};
 ghost use Rattle.spares_top.specs.Lines.{status_of};
 
-use crate::Done;
+pub(crate) mod failure;
+pub(crate) mod line;
+mod of_cases;
+mod of_tables;
+
+use crate::done::Done;
 use csv_tables::TableFault;
 use demand_rates::RateFault;
 use spares_input::{CaseFault, StockFault};

@@ -2,13 +2,21 @@
 ghost use Rattle.std.specs.Prelude.{◌≡◌, ◌≤◌, ◌<◌, ◌*◌, ◌^◌, IfOk};
 ghost use Rattle.demand_rates.specs.Single.{WithinLimits};
 ghost use Rattle.fixed_interval.specs.Ends.{In, ends_ratio};
-ghost use Rattle.spares_top.specs.Model.{ShowsModel, fraction_of, single_of};
+ghost use Rattle.spares_words.specs.Order.{IsInRange};
+ghost use Rattle.spares_words.specs.declared.order.Order.TheVariants as order;
+ghost use Rattle.spares_top.specs.Headline.{ShowsModel, fraction_of};
+ghost use Rattle.spares_top.specs.Making.{Is, MakesBy};
+ghost use Rattle.spares_top.specs.Task.{single_of, single_task, variance_of};
 
+use crate::done::{Done, Outcome};
+use crate::refusal::Refusal;
+use crate::refusal::failure::Failure;
+use demand_rates::check_single;
 use exact_ratio::Decimal;
 use fixed_interval::Iv;
 use moment_table::table;
 use plan_report::SingleReport;
-use spares_io::NoMemory;
+use spares_io::{NoMemory, Stop};
 use std::alloc::Global;
 
 const TEN_THOUSAND: u128 = 10_000;
@@ -24,7 +32,7 @@ fn interval_of(units: u64) -> Iv<48>
 }
 
 /// The expected backorders of a pipeline at a stock and their variance.
-pub(crate) fn single_report(
+fn single_report(
     alloc: Global,
     mean: Decimal,
     variance: Decimal,
@@ -42,4 +50,24 @@ pub(crate) fn single_report(
         backorders: table.ebo(stock),
         spread: table.vbo(stock),
     })
+}
+
+/// Carries out `single`. Without a variance it is the mean.
+pub(crate) fn single(
+    alloc: Global,
+    mean: Decimal,
+    variance: Option<Decimal>,
+    stock: u8,
+) -> Result<Outcome, Stop<Failure>>
+    requires { IsInRange (order.Single mean variance stock) }
+    ensures { MakesBy (Is (single_task mean.units (variance_of mean variance).units stock)) result }
+{
+    let variance = variance.unwrap_or(mean);
+    if let Err(fault) = check_single(mean, variance) {
+        return Err(Stop::Fault(Failure::of(Refusal::Rate(fault))));
+    }
+    match single_report(alloc, mean, variance, stock) {
+        Ok(report) => Ok(Outcome::printed(Done::Single(report))),
+        Err(NoMemory) => Err(Stop::NoMemory),
+    }
 }

@@ -3,10 +3,11 @@ ghost use Rattle.spares_top.specs.Lines.{line_of, no_names};
 ghost use Rattle.spares_top.specs.Promises.{PutsLine, Runs, errors};
 ghost use Rattle.spares_top.specs.State.{scene};
 
-use crate::failure::Failure;
-use crate::line::Line;
-use crate::perform::work;
-use crate::{Done, Refusal};
+use crate::done::Done;
+use crate::refusal::Refusal;
+use crate::refusal::failure::Failure;
+use crate::refusal::line::Line;
+use crate::work::work;
 use spares_io::{Shelf, Sink, Text};
 use std::alloc::Global;
 
@@ -37,7 +38,7 @@ pub fn refuse<E: Sink>(refusal: &Refusal, err: &mut E)
 /// `Rate` where a pipeline is beyond the model's limits; and `WriteFault` where the put of the report fails. After
 /// `WriteFault` the output holds a prefix of the report, and after the others it is as before. `NoMemory` may come
 /// at any step before the put.
-#[tactic(auto, using(crate::proofs::Whole::done, crate::proofs::Whole::refused))]
+
 pub fn run<H: Shelf, W: Sink, E: Sink>(
     alloc: Global,
     words: &[Text],

@@ -1,7 +1,7 @@
 use Rattle.std.proofs.Common.{arith}
 use Rattle.spares_top.proofs.Room.{ebo_room, vbo_room}
 use Rattle.spares_top.proofs.Shown.{model_shown}
-use Rattle.spares_top.specs.Model.{fraction_of}
+use Rattle.spares_top.specs.Headline.{fraction_of}
 use Rattle.spares_top.proofs.single.single_report.Goals as goal
 
 pub returns-clause-shows : goal.returns-clause-shows

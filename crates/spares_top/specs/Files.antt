@@ -1,0 +1,96 @@
+-- The files that an order reads, and what reading them gives.
+use Rattle.std.specs.Prelude.{◌≡◌, ◌⊎◌, ◌≤◌, ⊤, ℕ, List, [], ◌∷◌, length, Option, Some, None, Result, Ok, Err, if◌then◌else◌, nat_le}
+use Rattle.spares_io.specs.Causes.{Rose}
+use Rattle.spares_io.specs.Shelf.{Files, Holds, HoldsMore, Lacks, file_of}
+use Rattle.spares_words.specs.declared.order.Order.{Order}
+use Rattle.spares_words.specs.declared.order.Order.TheVariants as order
+use Rattle.spares_words.specs.declared.order.WordsFault.{WordsFault}
+use Rattle.spares_top.specs.declared.refusal.failure.Failure.{Failure}
+use Rattle.spares_top.specs.declared.files.Input.{Input}
+use Rattle.spares_top.specs.declared.refusal.File.{File}
+use Rattle.spares_top.specs.declared.refusal.File.TheVariants.{Sites, Parts, Rates, Stocks}
+use Rattle.spares_top.specs.declared.refusal.Refusal.TheVariants as refusal
+use Rattle.spares_top.specs.Causes.{◌>>=◌, plain_failure}
+
+-- most bytes of a table
+abbrev pub table_limit : ℕ
+table_limit = 4194304
+
+-- the input of a table
+abbrev pub table_in : File → List ℕ → Input
+table_in file name = record { file = file; name = name; limit = table_limit }
+
+-- the inputs of an order, in the order in which they are read
+abbrev pub inputs : Order → List Input
+inputs (order.Single mean variance stock) = []
+inputs (order.Eval sites parts rates stocks bits) = table_in Sites sites ∷ table_in Parts parts ∷ table_in Rates rates ∷ table_in Stocks stocks ∷ []
+
+abbrev pub inputs_of : Result Order WordsFault → List Input
+inputs_of (Ok o) = inputs o
+inputs_of (Err fault) = []
+
+-- the name that an order writes
+abbrev pub output_of : Result Order WordsFault → Option (List ℕ)
+output_of (Ok (order.Single mean variance stock)) = None
+output_of (Ok (order.Eval sites parts rates stocks bits)) = None
+output_of (Err fault) = None
+
+-- ---- over the files that are held
+
+-- what an input holds, or why it is refused
+abbrev pub content_of : Input → Option (List ℕ) → Result (List ℕ) Failure
+content_of input None = Err (plain_failure (refusal.ReadFault input.file))
+content_of input (Some bytes) =
+    if nat_le (length bytes) input.limit then Ok bytes else Err (plain_failure (refusal.TooLong input.file))
+
+-- what all of the inputs hold, or the first refusal
+abbrev pub reads : Files → List Input → Result (List (List ℕ)) Failure
+reads held [] = Ok []
+reads held (input ∷ rest) = do
+  bytes ← content_of input (file_of held input.name)
+  more ← reads held rest
+  Ok (bytes ∷ more)
+
+-- ---- over a shelf
+
+-- all counts are as before
+abbrev pub StandStill : (List ℕ → ℕ) → (List ℕ → ℕ) → Type 0
+StandStill before now = (name : List ℕ) → now name ≡ before name
+
+-- these bytes are what an input gave: they are within its limit and, where the shelf tells what it holds, they are what its name holds
+abbrev pub Gave : Option Files → Input → List ℕ → Type 0
+Gave told input bytes = Holds told input.name bytes × (length bytes ≤ input.limit)
+
+abbrev pub AllGave : Option Files → List Input → List (List ℕ) → Type 0
+AllGave told [] [] = ⊤
+AllGave told (input ∷ rest) (bytes ∷ more) = Gave told input bytes × AllGave told rest more
+AllGave told [] (bytes ∷ more) = ⊥
+AllGave told (input ∷ rest) [] = ⊥
+
+-- why an input wasn't read: the count of its name's failed reads rose, or the shelf tells that it hasn't the name
+abbrev pub IsUnread : Option Files → (List ℕ → ℕ) → (List ℕ → ℕ) → Input → Failure → Type 0
+IsUnread told before now input failure =
+    (failure ≡ plain_failure (refusal.ReadFault input.file)) × (Rose (before input.name) (now input.name) ⊎ Lacks told input.name)
+
+-- an input is too long, where the shelf tells it. A shelf that tells nothing shows no bytes of a file that is too long, so over it
+-- this says no more than which input was refused.
+abbrev pub IsTooLong : Option Files → Input → Failure → Type 0
+IsTooLong told input failure = (failure ≡ plain_failure (refusal.TooLong input.file)) × HoldsMore told input.name input.limit
+
+-- the first input that isn't read is refused, after those before it gave their bytes
+abbrev pub StopsAt : Option Files → (List ℕ → ℕ) → (List ℕ → ℕ) → List Input → Failure → Type 0
+StopsAt told before now [] failure = ⊥
+StopsAt told before now (input ∷ rest) failure =
+    IsUnread told before now input failure ⊎ (IsTooLong told input failure
+    ⊎ ((bytes : List ℕ) × (Gave told input bytes × StopsAt told before now rest failure)))
+
+-- no count of failed reads of an input's name rose
+abbrev pub NoneRose : (List ℕ → ℕ) → (List ℕ → ℕ) → List Input → Type 0
+NoneRose before now [] = ⊤
+NoneRose before now (input ∷ rest) = ¬ Rose (before input.name) (now input.name) × NoneRose before now rest
+
+-- What reading the inputs in turn gave: the bytes of all, with no failed read, or the first refusal. The counts are those of failed
+-- reads before and now.
+abbrev pub Reads : Option Files → (List ℕ → ℕ) → (List ℕ → ℕ) → List Input → Result (List (List ℕ)) Failure → Type 0
+Reads told before now inputs (Ok bytes) = AllGave told inputs bytes × StandStill before now
+Reads told before now inputs (Err failure) = StopsAt told before now inputs failure

@@ -1,0 +1,97 @@
+-- What an order asks for, as a task, over the bytes of its files. Means and variances are counted in ten-thousandths.
+use Rattle.std.specs.Prelude.{◌≡◌, ℕ, List, [], get_or, Option, Some, None, Result, Ok, Err, unwrap_or}
+use Rattle.demand_rates.specs.Single.{single_fault_of}
+use Rattle.demand_rates.specs.declared.fault.RateFault.{RateFault}
+use Rattle.exact_ratio.specs.declared.decimal.Decimal.{Decimal}
+use Rattle.fixed_interval.specs.Ends.{ends_ratio}
+use Rattle.moment_table.specs.Profile.{table_rows}
+use Rattle.moment_table.specs.Rows.{at_stock}
+use Rattle.moment_table.specs.declared.kinds.Row.{Row}
+use Rattle.plan_report.specs.Figures.{figures_of}
+use Rattle.plan_report.specs.declared.eval.EvalReport.{EvalReport}
+use Rattle.plan_report.specs.declared.single.SingleReport.{SingleReport}
+use Rattle.spares_input.specs.Cases.{CaseRows}
+use Rattle.spares_input.specs.Stocks.{StockList}
+use Rattle.spares_io.specs.Shelf.{Files}
+use Rattle.spares_words.specs.declared.order.Order.{Order}
+use Rattle.spares_words.specs.declared.order.Order.TheVariants as order
+use Rattle.spares_words.specs.declared.order.WordsFault.{WordsFault}
+use Rattle.spares_top.specs.declared.done.Done.{Done}
+use Rattle.spares_top.specs.declared.done.Done.TheVariants.{Single, Evaluated}
+use Rattle.spares_top.specs.declared.done.Outcome.{Outcome}
+use Rattle.spares_top.specs.declared.refusal.failure.Failure.{Failure}
+use Rattle.spares_top.specs.declared.refusal.Refusal.TheVariants as refusal
+use Rattle.spares_top.specs.Causes.{◌>>=◌, plain_failure}
+use Rattle.spares_top.specs.Files.{inputs_of, reads}
+use Rattle.spares_top.specs.Tables.{stocked_of}
+
+-- What is to be done once it is accepted.
+pub data Task : Type 0 where
+  -- the backorders of a pipeline with this mean and variance, and their variance, at this stock
+  show_pipeline : ℕ → ℕ → ℕ → Task
+  -- the figures of a case at these stocks, with so many bits
+  evaluate : CaseRows → StockList → ℕ → Task
+
+-- ---- the task of an order
+
+-- the variance of a pipeline: its mean, where none is given
+abbrev pub variance_of : Decimal → Option Decimal → Decimal
+variance_of mean variance = unwrap_or variance mean
+
+-- the task, unless the rates are refused
+abbrev pub unless_refused : Option RateFault → Task → Result Task Failure
+unless_refused None task = Ok task
+unless_refused (Some fault) task = Err (plain_failure (refusal.Rate fault))
+
+-- a single pipeline is refused by its mean or its variance
+abbrev pub single_task : ℕ → ℕ → ℕ → Result Task Failure
+single_task mean variance stock = unless_refused (single_fault_of mean variance) (show_pipeline mean variance stock)
+
+-- the case and the stocks of four tables are evaluated
+abbrev pub eval_task : List ℕ → List ℕ → List ℕ → List ℕ → ℕ → Result Task Failure
+eval_task sites parts rates stocks bits = do
+  stocked ← stocked_of sites parts rates stocks
+  Ok (evaluate stocked.case stocked.stocks bits)
+
+-- the bytes at a place of the inputs
+abbrev pub bytes_at : List (List ℕ) → ℕ → List ℕ
+bytes_at bytes place = get_or bytes place []
+
+-- the task of an order on the bytes of its inputs, or why it is refused
+abbrev pub task_on : Order → List (List ℕ) → Result Task Failure
+task_on (order.Single mean variance stock) bytes = single_task mean.units (variance_of mean variance).units stock
+task_on (order.Eval sites parts rates stocks bits) bytes = eval_task (bytes_at bytes 0) (bytes_at bytes 1) (bytes_at bytes 2) (bytes_at bytes 3) bits
+
+-- words without an order are refused
+abbrev pub task_on_words : Result Order WordsFault → List (List ℕ) → Result Task Failure
+task_on_words (Ok o) bytes = task_on o bytes
+task_on_words (Err fault) bytes = Err (plain_failure (refusal.Words fault))
+
+-- the task of an order over the files that are held, or the first refusal, with its line
+abbrev pub task_of : Result Order WordsFault → Files → Result Task Failure
+task_of order held = do
+  bytes ← reads held (inputs_of order)
+  task_on_words order bytes
+
+-- ---- what fulfils it
+
+-- the row of the table at 48 bits for the stock
+abbrev pub row_of : ℕ → ℕ → ℕ → Row 48
+row_of mean variance stock = at_stock (table_rows 48 (ends_ratio 48 mean 10000) (ends_ratio 48 variance 10000)) stock
+
+-- the report of a single pipeline
+abbrev pub single_of : ℕ → ℕ → ℕ → SingleReport
+single_of mean variance stock = record { backorders = (row_of mean variance stock).ebo; spread = (row_of mean variance stock).vbo }
+
+-- the report of a case at stocks, with so many bits
+abbrev pub eval_of : ℕ → CaseRows → StockList → EvalReport
+eval_of bits c s = record { bits = bits; figures = figures_of bits c s }
+
+-- a report that is printed, with nothing written beside it
+abbrev pub printed : Done → Outcome
+printed done = record { done = done; writes = None }
+
+-- This outcome fulfils the task.
+abbrev pub Fulfils : Task → Outcome → Type 0
+Fulfils (show_pipeline mean variance stock) outcome = outcome ≡ printed (Single (single_of mean variance stock))
+Fulfils (evaluate case stocks bits) outcome = outcome ≡ printed (Evaluated (eval_of bits case stocks))

@@ -1,0 +1,72 @@
+//! The delivery of an outcome: what is written to the shelf, and then the report.
+ghost use Rattle.std.specs.Prelude.{◌≡◌, None, IfErr, OnOk, OnErr};
+ghost use Rattle.spares_io.specs.Causes.{Rose};
+ghost use Rattle.spares_io.specs.Sink.{Gains, GainsPart};
+ghost use Rattle.spares_top.specs.declared.refusal.Refusal.TheVariants as refusal;
+ghost use Rattle.spares_top.specs.Causes.{plain_failure};
+ghost use Rattle.spares_top.specs.Files.{StandStill};
+ghost use Rattle.spares_top.specs.Making.{Delivers, WriteRefused};
+ghost use Rattle.spares_top.specs.State.{after_write, scene};
+ghost use Rattle.spares_top.specs.Texts.{text_of};
+
+use crate::done::{Done, Outcome, Written};
+use crate::refusal::Refusal;
+use crate::refusal::failure::Failure;
+use spares_io::{Shelf, ShelfError, Sink, SinkFailed};
+
+/// Writes what an outcome writes.
+fn write<H: Shelf>(writes: &Option<Written>, shelf: &mut H) -> Result<(), Failure>
+    ensures held { OnOk result (H.held shelf.new ≡ after_write writes.now (H.held shelf.old)) }
+    ensures still { OnOk result (StandStill (H.write_faults shelf.old) (H.write_faults shelf.new)) }
+    ensures refused { IfErr result (WriteRefused writes.now (H.held shelf.old) (H.held shelf.new) (H.write_faults shelf.old) (H.write_faults shelf.new)) }
+    ensures nothing { writes.now ≡ None → StandStill (H.write_faults shelf.old) (H.write_faults shelf.new) }
+    ensures reads { StandStill (H.read_faults shelf.old) (H.read_faults shelf.new) }
+{
+    let Some(written) = writes else {
+        return Ok(());
+    };
+    match shelf.write(written.name.as_str(), written.bytes.as_slice()) {
+        Ok(()) => Ok(()),
+        Err(ShelfError::NoMemory) => Err(Failure::of(Refusal::NoMemory)),
+        Err(_) => Err(Failure::of(Refusal::WriteFault)),
+    }
+}
+
+/// Puts the text of a report to the output.
+fn print<W: Sink>(out: &mut W, text: &[u8]) -> Result<(), Failure>
+    ensures ok { OnOk result (Gains (W.bytes out.old) (W.bytes out.new) text.now) }
+    ensures err { OnErr result (GainsPart (W.bytes out.old) (W.bytes out.new) text.now) }
+    ensures cause { OnErr result (Rose (W.faults out.old) (W.faults out.new)) }
+    ensures still { OnOk result (W.faults out.new ≡ W.faults out.old) }
+    ensures fault { IfErr result (λ failure. failure ≡ plain_failure refusal.WriteFault) }
+{
+    match out.put(text) {
+        Ok(()) => Ok(()),
+        Err(SinkFailed) => Err(Failure::of(Refusal::WriteFault)),
+    }
+}
+
+/// Delivers an outcome whose report has this text.
+pub(crate) fn deliver<H: Shelf, W: Sink>(
+    outcome: Outcome,
+    text: &[u8],
+    shelf: &mut H,
+    out: &mut W,
+) -> Result<Done, Failure>
+    requires { text.now ≡ text_of outcome.done }
+    ensures delivers { Delivers outcome
+        (scene (H.held shelf.old) (H.read_faults shelf.old) (H.write_faults shelf.old)
+        (W.bytes out.old) (W.faults out.old))
+        (scene (H.held shelf.new) (H.read_faults shelf.new) (H.write_faults shelf.new)
+        (W.bytes out.new) (W.faults out.new)) result }
+    ensures nothing { outcome.writes ≡ None → StandStill (H.write_faults shelf.old) (H.write_faults shelf.new) }
+    ensures reads { StandStill (H.read_faults shelf.old) (H.read_faults shelf.new) }
+{
+    if let Err(failure) = write(&outcome.writes, shelf) {
+        return Err(failure);
+    }
+    match print(out, text) {
+        Ok(()) => Ok(outcome.done),
+        Err(failure) => Err(failure),
+    }
+}
