@@ -1,4 +1,1 @@
 pub mod Texts
-pub mod Figures
-pub mod Shows
-pub mod Gathering

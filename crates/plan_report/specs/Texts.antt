@@ -1,18 +1,18 @@
 -- The texts of the reports. Fields are parted by commas (44), and each line ends with a line feed (10).
-use Rattle.std.specs.Prelude.{ℕ, ◌*◌, ◌/◌, ◌^◌, ◌<◌, List, [], ◌∷◌, ◌++◌, All, codes}
+use Rattle.std.specs.Prelude.{ℕ, ◌*◌, ◌/◌, ◌^◌, List, [], ◌∷◌, ◌++◌, codes}
 use Rattle.std.specs.Int.{div_ceil}
 use Rattle.std.specs.List.{flat_map}
 use Rattle.std.specs.Fmt.{decimal}
 use Rattle.exact_model.specs.Fraction.{Fraction, ◌≤ℚ◌}
 use Rattle.fixed_interval.specs.Ends.{Ends, In}
 use Rattle.fixed_interval.specs.Text.{fixed_text, text_value}
+use Rattle.case_figures.specs.Spans.{places, ends}
+use Rattle.case_figures.specs.declared.figures.BaseLine.{BaseLine}
+use Rattle.case_figures.specs.declared.figures.Figures.{Figures}
+use Rattle.case_figures.specs.declared.figures.ItemLine.{ItemLine}
+use Rattle.case_figures.specs.declared.figures.Span.{Span}
 use Rattle.plan_report.specs.declared.single.SingleReport.{SingleReport}
 use Rattle.plan_report.specs.declared.eval.EvalReport.{EvalReport}
-use Rattle.plan_report.specs.declared.figures.Figures.{Figures}
-use Rattle.plan_report.specs.declared.figures.ItemLine.{ItemLine}
-use Rattle.plan_report.specs.declared.figures.BaseLine.{BaseLine}
-use Rattle.plan_report.specs.declared.figures.Span.{Span}
-use Rattle.plan_report.specs.declared.figures.Span.TheVariants.{Bits32, Bits48, Bits52}
 
 -- the ends of an interval in units of `2 ^ f`-ths as millionths, the lower one rounded down, the upper one up
 abbrev pub lower_millionths : ℕ → Ends → ℕ
@@ -34,17 +34,7 @@ PrintsOutward f x = (q : Fraction) → In f x q
 abbrev pub line : List ℕ → List ℕ → List ℕ
 line name fields = name ++ (44 ∷ fields ++ (10 ∷ []))
 
--- how many binary places a span has, and its ends
-abbrev pub places : Span → ℕ
-places (Bits32 x) = 32
-places (Bits48 x) = 48
-places (Bits52 x) = 52
-
-abbrev pub ends : Span → Ends
-ends (Bits32 x) = x
-ends (Bits48 x) = x
-ends (Bits52 x) = x
-
+-- both ends of a span
 abbrev pub span_text : Span → List ℕ
 span_text x = interval_text (places x) (ends x)
 
@@ -86,23 +76,3 @@ figures_text figures =
 -- the report of given stocks
 abbrev pub eval_text : EvalReport → List ℕ
 eval_text report = line (codes "eval") (decimal report.bits) ++ figures_text report.figures
-
--- ---- what can be printed: upper ends below 2 ^ 86
-
-abbrev pub SpanFits : Span → Type 0
-SpanFits x = (ends x).hi < 2 ^ 86
-
-pub record ItemFits (item : ItemLine) : Type 0 where
-  pub mean : SpanFits item.mean
-  pub variance : SpanFits item.variance
-  pub backorders : SpanFits item.backorders
-  pub spread : SpanFits item.spread
-
-abbrev pub BaseFits : BaseLine → Type 0
-BaseFits base = SpanFits base.availability
-
-pub record FitsPrint (figures : Figures) : Type 0 where
-  pub items : All ItemFits figures.items
-  pub bases : All BaseFits figures.bases
-  pub fleet : SpanFits figures.fleet
-  pub total : SpanFits figures.total

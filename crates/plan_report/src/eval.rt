@@ -1,9 +1,10 @@
 //! What is printed of given stocks.
 ghost use Rattle.std.specs.Prelude.{◌≡◌, IfOk};
-ghost use Rattle.plan_report.specs.Texts.{FitsPrint, eval_text};
+ghost use Rattle.case_figures.specs.Fits.{FitsPrint};
+ghost use Rattle.plan_report.specs.Texts.{eval_text};
 
-use crate::figures::Figures;
 use crate::text::{put_figures, put_number_line};
+use case_figures::Figures;
 use spares_io::NoMemory;
 use std::alloc::Global;
 

@@ -2,8 +2,8 @@
 ghost use Rattle.std.specs.Prelude.{◌≡◌, ◌<◌, ◌^◌, IfOk};
 ghost use Rattle.plan_report.specs.Texts.{single_text};
 
-use crate::figures::Span;
 use crate::text::put_span_line;
+use case_figures::Span;
 use fixed_interval::Iv;
 use spares_io::NoMemory;
 use std::alloc::Global;

@@ -3,9 +3,11 @@ ghost use Rattle.std.specs.Prelude.{◌≡◌, ◌++◌, ◌∷◌, [], ◌<◌,
 ghost use Rattle.std.specs.List.{flat_map};
 ghost use Rattle.std.specs.Fmt.{decimal};
 ghost use Rattle.fixed_interval.specs.Ends.{Ends};
-ghost use Rattle.plan_report.specs.Texts.{BaseFits, FitsPrint, ItemFits, PrintsOutward, SpanFits, base_text, ends, figures_text, interval_text, intervals_text, item_text, line, pair_text, places, span_text};
+ghost use Rattle.case_figures.specs.Fits.{BaseFits, FitsPrint, ItemFits, SpanFits};
+ghost use Rattle.case_figures.specs.Spans.{ends, places};
+ghost use Rattle.plan_report.specs.Texts.{PrintsOutward, base_text, figures_text, interval_text, intervals_text, item_text, line, pair_text, span_text};
 
-use crate::figures::{BaseLine, Figures, ItemLine, Span};
+use case_figures::{BaseLine, Figures, ItemLine, Span};
 use fixed_interval::Iv;
 use line_text::{put_count_line, put_number};
 use spares_io::NoMemory;

@@ -1,15 +1,15 @@
 -- What is printed of an interval encloses what the interval does.
-use Rattle.std.proofs.Common.{◌≡◌, ◌<◌, ℕ, List, refl, subst, sym}
+use Rattle.std.proofs.Common.{ℕ, refl, subst, sym}
 use Rattle.exact_model.specs.Fraction.{Encloses, Fraction}
 use Rattle.exact_model.specs.Series.{ebo, vbo}
 use Rattle.fixed_interval.proofs.Laws.{down_below, up_above}
 use Rattle.fixed_interval.specs.Ends.{Ends, In}
-use Rattle.moment_table.specs.Rows.{EncloseRows, at_stock}
+use Rattle.moment_table.specs.Rows.{EnclosesRow}
 use Rattle.moment_table.specs.declared.kinds.Row.{Row}
-use Rattle.plan_report.specs.Shows.{ShowsFigures, ShowsSpan}
-use Rattle.plan_report.specs.Texts.{ends, places}
-use Rattle.plan_report.specs.declared.figures.Figures.{Figures}
-use Rattle.plan_report.specs.declared.figures.Span.{Span}
+use Rattle.case_figures.specs.Shows.{ShowsFigures, ShowsSpan}
+use Rattle.case_figures.specs.Spans.{ends, places}
+use Rattle.case_figures.specs.declared.figures.Figures.{Figures}
+use Rattle.case_figures.specs.declared.figures.Span.{Span}
 use Rattle.spares_input.specs.Cases.{CaseRows}
 use Rattle.spares_input.specs.Stocks.{StockList}
 use Rattle.spares_top.specs.Headline.{PrintsAround, Shows, ShowsCase, ShowsModel}
@@ -21,12 +21,12 @@ shown x value h = record {
   below_high = λ n deep. up_above 48 6 x (value n) (h n deep);
 }
 
--- a report of a row of a table that encloses the model
-pub model_shown : (m v b s : Ends) (rows : List (Row 48)) (u w : Fraction) (stock : ℕ) → EncloseRows 48 m v rows → In 48 m u → In 48 v w → stock < 64
-    → b ≡ (at_stock rows stock).ebo → s ≡ (at_stock rows stock).vbo → ShowsModel u w stock (record { backorders = b; spread = s })
-model_shown m v b s rows u w stock h a c l e f = record {
-  backorders = shown b (λ n. ebo n u w stock) (λ n deep. rw e (h u w a c n deep stock l).ebo);
-  spread = shown s (λ n. vbo n u w stock) (λ n deep. rw f (h u w a c n deep stock l).vbo);
+-- a report of a row that encloses the model
+pub model_shown : (m v : Ends) (row : Row 48) (u w : Fraction) (stock : ℕ) → EnclosesRow 48 m v stock row → In 48 m u → In 48 v w
+    → ShowsModel u w stock (record { backorders = row.ebo; spread = row.vbo })
+model_shown m v row u w stock h a c = record {
+  backorders = shown row.ebo (λ n. ebo n u w stock) (λ n deep. (h u w a c n deep).ebo);
+  spread = shown row.vbo (λ n. vbo n u w stock) (λ n deep. (h u w a c n deep).vbo);
 }
 
 -- the two numbers that are printed of a span enclose what it does

@@ -1,14 +1,15 @@
 -- The headline: what a report says of the model is true.
 use Rattle.std.specs.Prelude.{◌≡◌, ℕ, ◌≤◌}
-use Rattle.std.proofs.Common.{lit<}
 use Rattle.exact_model.specs.Fraction.{Fraction, Encloses, ◌≤ℚ◌}
 use Rattle.exact_model.specs.Series.{ebo, vbo}
 use Rattle.fixed_interval.specs.Ends.{Ends}
 use Rattle.fixed_interval.specs.Text.{text_value}
-use Rattle.plan_report.specs.Shows.{ShowsFigures, ShowsSpan}
-use Rattle.plan_report.specs.Texts.{ends, lower_millionths, places, upper_millionths}
+use Rattle.fleet_model.specs.Rows.{ten_thousandths}
+use Rattle.case_figures.specs.Shows.{ShowsFigures, ShowsSpan}
+use Rattle.case_figures.specs.Spans.{ends, places}
+use Rattle.plan_report.specs.Texts.{lower_millionths, upper_millionths}
 use Rattle.plan_report.specs.declared.eval.EvalReport.{EvalReport}
-use Rattle.plan_report.specs.declared.figures.Span.{Span}
+use Rattle.case_figures.specs.declared.figures.Span.{Span}
 use Rattle.plan_report.specs.declared.single.SingleReport.{SingleReport}
 use Rattle.spares_input.specs.Cases.{CaseRows}
 use Rattle.spares_input.specs.Stocks.{StockList}
@@ -17,10 +18,6 @@ use Rattle.spares_top.specs.declared.done.Done.TheVariants.{Single, Evaluated}
 use Rattle.spares_top.specs.Task.{Task, show_pipeline, evaluate}
 
 -- ---- a single pipeline
-
--- that many ten-thousandths
-abbrev pub fraction_of : ℕ → Fraction
-fraction_of units = record { num = units; den = 10000; positive = lit< tt }
 
 -- the values of the two texts that are printed of an interval: its lower end rounded down, its upper end up
 abbrev pub printed_low : Ends → Fraction
@@ -66,7 +63,7 @@ pub record ShowsCase (bits : ℕ) (c : CaseRows) (s : StockList) (report : EvalR
 
 -- What this report says of the model is true of the task's subject.
 abbrev pub IsTrue : Task → Done → Type 0
-IsTrue (show_pipeline mean variance stock) (Single report) = ShowsModel (fraction_of mean) (fraction_of variance) stock report
+IsTrue (show_pipeline mean variance stock) (Single report) = ShowsModel (ten_thousandths mean) (ten_thousandths variance) stock report
 IsTrue (show_pipeline mean variance stock) (Evaluated report) = ⊥
 IsTrue (evaluate case stocks bits) (Single report) = ⊥
 IsTrue (evaluate case stocks bits) (Evaluated report) = ShowsCase bits case stocks report

@@ -1,7 +1,7 @@
 -- How the calls that carry out a command answer, before anything is written. No promise of the top rests on these words.
 use Rattle.std.specs.Prelude.{◌≡◌, ◌⊎◌, ◌≤◌, ⊤, All, ℕ, List, length, Option, IsSomeAnd, Result, Ok, Err}
 use Rattle.plan_report.specs.declared.eval.EvalReport.{EvalReport}
-use Rattle.plan_report.specs.Texts.{FitsPrint}
+use Rattle.case_figures.specs.Fits.{FitsPrint}
 use Rattle.spares_io.specs.Causes.{Rose}
 use Rattle.spares_io.specs.Shelf.{Files, KeepsOthers}
 use Rattle.spares_io.specs.declared.stop.Stop.{Stop}

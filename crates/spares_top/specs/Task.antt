@@ -7,7 +7,7 @@ use Rattle.fixed_interval.specs.Ends.{ends_ratio}
 use Rattle.moment_table.specs.Profile.{table_rows}
 use Rattle.moment_table.specs.Rows.{at_stock}
 use Rattle.moment_table.specs.declared.kinds.Row.{Row}
-use Rattle.plan_report.specs.Figures.{figures_of}
+use Rattle.case_figures.specs.Figures.{figures_of}
 use Rattle.plan_report.specs.declared.eval.EvalReport.{EvalReport}
 use Rattle.plan_report.specs.declared.single.SingleReport.{SingleReport}
 use Rattle.spares_input.specs.Cases.{CaseRows}

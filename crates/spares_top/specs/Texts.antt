@@ -1,6 +1,7 @@
 -- The texts of the reports.
 use Rattle.std.specs.Prelude.{ℕ, List, ◌<◌, ◌^◌}
-use Rattle.plan_report.specs.Texts.{FitsPrint, eval_text, single_text}
+use Rattle.case_figures.specs.Fits.{FitsPrint}
+use Rattle.plan_report.specs.Texts.{eval_text, single_text}
 use Rattle.spares_top.specs.declared.done.Done.{Done}
 use Rattle.spares_top.specs.declared.done.Done.TheVariants.{Single, Evaluated}
 

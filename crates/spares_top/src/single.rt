@@ -2,9 +2,10 @@
 ghost use Rattle.std.specs.Prelude.{◌≡◌, ◌≤◌, ◌<◌, ◌*◌, ◌^◌, IfOk};
 ghost use Rattle.demand_rates.specs.Single.{WithinLimits};
 ghost use Rattle.fixed_interval.specs.Ends.{In, ends_ratio};
+ghost use Rattle.fleet_model.specs.Rows.{ten_thousandths};
 ghost use Rattle.spares_words.specs.Order.{IsInRange};
 ghost use Rattle.spares_words.specs.declared.order.Order.TheVariants as order;
-ghost use Rattle.spares_top.specs.Headline.{ShowsModel, fraction_of};
+ghost use Rattle.spares_top.specs.Headline.{ShowsModel};
 ghost use Rattle.spares_top.specs.Making.{Is, MakesBy};
 ghost use Rattle.spares_top.specs.Task.{single_of, single_task, variance_of};
 
@@ -14,7 +15,7 @@ use crate::refusal::failure::Failure;
 use demand_rates::check_single;
 use exact_ratio::Decimal;
 use fixed_interval::Iv;
-use moment_table::table;
+use moment_table::row_at;
 use plan_report::SingleReport;
 use spares_io::{NoMemory, Stop};
 use std::alloc::Global;
@@ -22,10 +23,11 @@ use std::alloc::Global;
 const TEN_THOUSAND: u128 = 10_000;
 
 /// So many ten-thousandths, as an interval.
+#[tactic(auto, unfolding(fleet_model::specs::Rows::ten_thousandths))]
 fn interval_of(units: u64) -> Iv<48>
     requires { units ≤ 2560000 }
     ensures ends { result ≡ ends_ratio 48 units 10000 }
-    ensures encloses { In 48 result (fraction_of units) }
+    ensures encloses { In 48 result (ten_thousandths units) }
     ensures small { result.hi ≤ 256 * 2 ^ 48 }
 {
     Iv::of_ratio(u128::from(units), TEN_THOUSAND)
@@ -41,14 +43,16 @@ fn single_report(
     requires limits { WithinLimits mean.units variance.units }
     requires stock { stock ≤ 63 }
     ensures report { IfOk result (λ report. report ≡ single_of mean.units variance.units stock) }
-    ensures shows { IfOk result (ShowsModel (fraction_of mean.units) (fraction_of variance.units) stock) }
+    ensures shows { IfOk result (ShowsModel (ten_thousandths mean.units) (ten_thousandths variance.units) stock) }
     ensures backorders { IfOk result (λ report. report.backorders.hi < 2 ^ 86) }
     ensures spread { IfOk result (λ report. report.spread.hi < 2 ^ 86) }
 {
-    let table = table(alloc, interval_of(mean.units), interval_of(variance.units))?;
+    let mean = interval_of(mean.units);
+    let variance = interval_of(variance.units);
+    let row = row_at(alloc, mean, variance, stock)?;
     Ok(SingleReport {
-        backorders: table.ebo(stock),
-        spread: table.vbo(stock),
+        backorders: row.ebo,
+        spread: row.vbo,
     })
 }
 

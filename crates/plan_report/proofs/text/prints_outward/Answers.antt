@@ -1,5 +1,5 @@
 use Rattle.fixed_interval.proofs.Laws.{down_below, up_above}
-use Rattle.plan_report.specs.Texts.{ends, places}
+use Rattle.case_figures.specs.Spans.{ends, places}
 use Rattle.plan_report.proofs.text.prints_outward.Goals as goal
 
 pub returns : goal.returns

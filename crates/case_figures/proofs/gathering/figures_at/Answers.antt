@@ -1,0 +1,150 @@
+use Rattle.std.proofs.Common.{◌≡◌, ℕ, ◌-◌, None, List, length, map, lit<, sym, ap, ◌∙◌, subst, arith}
+use Rattle.std.specs.Prelude.{All}
+use Rattle.std.proofs.lemmas.List.FromFn.{length-map-range_with_len}
+use Rattle.fleet_model.specs.Rows.{bases}
+use Rattle.availability.specs.declared.Weighted.{Weighted}
+use Rattle.availability.specs.Profile.{fleet_ends}
+use Rattle.availability.specs.Exact.{IsWeighted}
+use Rattle.family_eval.specs.declared.item.Item.{Item}
+use Rattle.family_eval.specs.declared.item.FamilyResult.{FamilyResult}
+use Rattle.family_eval.specs.Encloses.{CanEvaluate}
+use Rattle.family_eval.specs.Profile.{families_of}
+use Rattle.spares_input.specs.Cases.{CaseRows, IsCase}
+use Rattle.spares_input.specs.Stocks.{StockList, IsFor, IsWithinLimits}
+use Rattle.demand_rates.specs.Limits.{rate_fault_of}
+use Rattle.case_figures.specs.Fits.{FitsPrint}
+use Rattle.case_figures.specs.Figures.{HasSpan, named}
+use Rattle.case_figures.specs.Shows.{ShowsFigures}
+use Rattle.case_figures.specs.Gathering.{IsItemOf, IsFamilyOf, weighted_from, base_line_from, items_by_pair}
+use Rattle.case_figures.proofs.Families.{are_families, are_all_items, few_families, items_made, made}
+use Rattle.case_figures.proofs.Shown.{few_places, evaluated_as, figures_shown, figures_fit}
+use Rattle.case_figures.proofs.gathering.figures_at.Goals as goal
+
+families_of_case : (f : ℕ) (c : CaseRows) (t : StockList) (rs : List (FamilyResult f)) → CanEvaluate f c t → rs ≡ families_of f c t → All (IsFamilyOf f c) rs
+families_of_case f c t rs can e =
+    subst (λ (xs : List (FamilyResult f)). All (IsFamilyOf f c) xs) (sym e) (are_families f c t (evaluated_as f c t can).totals_most)
+
+items_of_case : (f : ℕ) (c : CaseRows) (t : StockList) (rs : List (FamilyResult f)) (xs ys : List (Item f)) → IsCase c → rs ≡ families_of f c t
+    → xs ≡ items_by_pair c rs → ys ≡ xs → All (IsItemOf f c) ys
+items_of_case f c t rs xs ys v e h k =
+    subst (λ (zs : List (Item f)). All (IsItemOf f c) zs) (sym (k ∙ items_made f c t v rs xs e h)) (are_all_items f c t v)
+
+count_bases : (f : ℕ) (c : CaseRows) (rs : List (FamilyResult f)) (xs ys : List (Weighted f)) → xs ≡ map (weighted_from f c rs) (bases c) → ys ≡ xs
+    → length ys ≡ length c.sites - 1
+count_bases f c rs xs ys e h = ap length (h ∙ e) ∙ length-map-range_with_len (weighted_from f c rs) 1 (length c.sites - 1)
+
+can_evaluate : (f : ℕ) (c : CaseRows) (t : StockList) → HasSpan f → IsCase c → rate_fault_of c ≡ None → IsFor c t → IsWithinLimits c t → CanEvaluate f c t
+can_evaluate f c t h v a s l = record { scale = few_places f h; valid = v; no_fault = a; are_stocks = s; limits = l }
+
+pub items_by_pair-requires : goal.items_by_pair-requires
+items_by_pair-requires g c =
+    let f = g.row.F in
+    let rows = c.args.case.now in
+    let stocks = c.args.stocks.now in
+    let can = can_evaluate f rows stocks c.requires.span c.site_count-valid.ensures.valid c.requires.accepted c.requires.stocks c.requires.limits in
+    (lit< tt, (lit< tt, (can.scale, families_of_case f rows stocks c.args.families.now can c.requires.families)))
+
+pub weighted_bases-requires : goal.weighted_bases-requires
+weighted_bases-requires g c =
+    let f = g.row.F in
+    let rows = c.args.case.now in
+    let stocks = c.args.stocks.now in
+    let can = can_evaluate f rows stocks c.requires.span c.site_count-valid.ensures.valid c.requires.accepted c.requires.stocks c.requires.limits in
+    (lit< tt, (lit< tt, (can.scale, families_of_case f rows stocks c.args.families.now can c.requires.families)))
+
+pub item_lines-requires : goal.item_lines-requires
+item_lines-requires g c = (
+  lit< tt,
+  (
+    c.requires.span,
+    items_of_case g.row.F c.args.case.now c.args.stocks.now c.args.families.now c.in_ok-items.items.items c.as_slice.result.now
+        c.site_count-valid.ensures.valid c.requires.families c.in_ok-items.ensures c.as_slice.ensures.value,
+  ),
+)
+
+pub base_lines-requires : goal.base_lines-requires
+base_lines-requires g c = (
+  lit< tt,
+  (
+    c.requires.span,
+    count_bases g.row.F c.args.case.now c.args.families.now c.in_ok-bases.bases.items c.as_slice-2.result.now c.in_ok-bases.ensures.bases c.as_slice-2.ensures.value,
+  ),
+)
+
+pub fleet-requires : goal.fleet-requires
+fleet-requires g c =
+    let f = g.row.F in
+    let valid = c.site_count-valid.ensures.valid in
+    let count = count_bases f c.args.case.now c.args.families.now c.in_ok-bases.bases.items c.as_slice-3.result.now c.in_ok-bases.ensures.bases c.as_slice-3.ensures.value in (
+      lit< tt,
+      (
+        lit< tt,
+        (
+          few_places f c.requires.span,
+          (
+            omega (arith, count, valid.frame.fewest_sites),
+            (
+              omega (arith, count, valid.frame.most_sites),
+              subst (λ (xs : List (Weighted f)). All (IsWeighted f) xs) (sym c.as_slice-3.ensures.value) c.in_ok-bases.ensures.weighted,
+            ),
+          ),
+        ),
+      ),
+    )
+
+pub total_of-requires : goal.total_of-requires
+total_of-requires g c =
+    let f = g.row.F in
+    let rows = c.args.case.now in
+    let stocks = c.args.stocks.now in
+    let valid = c.site_count-valid.ensures.valid in
+    let can = can_evaluate f rows stocks c.requires.span valid c.requires.accepted c.requires.stocks c.requires.limits in
+    let all = families_of_case f rows stocks c.args.families.now can c.requires.families in (
+      lit< tt,
+      (
+        lit< tt,
+        (
+          can.scale,
+          (
+            (λ k d h. (all k d h).total_most),
+            omega (arith, ap length c.requires.families, few_families f rows stocks valid),
+          ),
+        ),
+      ),
+    )
+
+pub returns-clause-figures : goal.returns-clause-figures
+returns-clause-figures g c =
+    let f = g.row.F in
+    let rows = c.args.case.now in
+    made f rows c.args.stocks.now c.site_count-valid.ensures.valid c.args.families.now c.in_ok-items.items.items c.in_ok-bases.bases.items
+    c.fleet.result c.total_of.result _
+    (record {
+      families_are = c.requires.families;
+      items_are = c.in_ok-items.ensures;
+      weighted_from_families = c.in_ok-bases.ensures.bases;
+      fleet_is = c.fleet.ensures.ends ∙ ap (λ (ws : List (Weighted f)). fleet_ends f ws) c.as_slice-3.ensures.value;
+      total_is = c.total_of.ensures;
+      cost_is = c.cost.ensures;
+      item_lines = c.of.ensures ∙ c.in_ok-item_lines.ensures ∙ ap (map (named f rows)) c.as_slice.ensures.value;
+      base_lines =
+          c.of-2.ensures ∙ c.in_ok-base_lines.ensures ∙ ap (λ (ws : List (Weighted f)). map (base_line_from f rows ws) (bases rows)) c.as_slice-2.ensures.value;
+      fleet_span = c.span_of.ensures;
+      total_span = c.span_of-2.ensures;
+    })
+
+pub returns-clause-shows : goal.returns-clause-shows
+returns-clause-shows g c =
+    let f = g.row.F in
+    let rows = c.args.case.now in
+    let stocks = c.args.stocks.now in
+    let can = can_evaluate f rows stocks c.requires.span c.site_count-valid.ensures.valid c.requires.accepted c.requires.stocks c.requires.limits in
+    subst (ShowsFigures f rows stocks) (sym (returns-clause-figures g c)) (figures_shown f rows stocks c.requires.span can (evaluated_as f rows stocks can))
+
+pub returns-clause-printed : goal.returns-clause-printed
+returns-clause-printed g c =
+    let f = g.row.F in
+    let rows = c.args.case.now in
+    let stocks = c.args.stocks.now in
+    let can = can_evaluate f rows stocks c.requires.span c.site_count-valid.ensures.valid c.requires.accepted c.requires.stocks c.requires.limits in
+    subst FitsPrint (sym (returns-clause-figures g c)) (figures_fit f rows stocks c.requires.span can (evaluated_as f rows stocks can))

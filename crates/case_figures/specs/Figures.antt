@@ -1,0 +1,78 @@
+-- The figures of a case at its stocks, from the ends of its pairs and its families.
+use Rattle.std.specs.Prelude.{◌≡◌, ℕ, ◌==◌, ◌⊎◌, if◌then◌else◌, List, map, length}
+use Rattle.std.specs.List.{fold, range_with_len}
+use Rattle.fixed_interval.specs.Ends.{Ends, ends_exact, ends_add}
+use Rattle.spares_input.specs.Frames.{part_at, site_at}
+use Rattle.spares_input.specs.Pairs.{part_of_place, site_of_place}
+use Rattle.spares_input.specs.Cases.{CaseRows, frame_rows, pair_count}
+use Rattle.spares_input.specs.Stocks.{StockList, cost_of}
+use Rattle.fleet_model.specs.Rows.{bases, line_units, systems, per_system}
+use Rattle.availability.specs.declared.Weighted.{Weighted}
+use Rattle.availability.specs.Profile.{factor_ends, base_ends, fleet_ends}
+use Rattle.family_eval.specs.declared.item.Item.{Item}
+use Rattle.family_eval.specs.Profile as family
+use Rattle.family_eval.specs.Profile.{item_of}
+use Rattle.case_figures.specs.declared.figures.Span.{Span}
+use Rattle.case_figures.specs.declared.figures.Span.TheVariants.{Bits32, Bits48, Bits52}
+use Rattle.case_figures.specs.declared.figures.ItemLine.{ItemLine}
+use Rattle.case_figures.specs.declared.figures.BaseLine.{BaseLine}
+use Rattle.case_figures.specs.declared.figures.Figures.{Figures}
+
+-- the counts of binary places that a report can have
+abbrev pub HasSpan : ℕ → Type 0
+HasSpan f = (f ≡ 32) ⊎ ((f ≡ 48) ⊎ (f ≡ 52))
+
+-- an interval of f such places
+abbrev pub span_of : ℕ → Ends → Span
+span_of f x = if f == 32 then Bits32 x else if f == 48 then Bits48 x else Bits52 x
+
+-- an item under the names of its part and its site
+abbrev pub named : (f : ℕ) → CaseRows → Item f → ItemLine
+named f c x = record {
+  part = (part_at c.parts x.part.0).name;
+  site = (site_at c.sites x.site.0).name;
+  stock = x.stock;
+  mean = span_of f x.mean;
+  variance = span_of f x.variance;
+  backorders = span_of f x.backorders;
+  spread = span_of f x.spread;
+}
+
+-- the items of a case c at the list s of its stocks, by part and then by site
+abbrev pub item_at_place : (f : ℕ) → CaseRows → List ℕ → ℕ → Item f
+item_at_place f c s i = item_of f c s (part_of_place (length c.sites) i).0 (site_of_place (length c.sites) i).0
+
+abbrev pub all_items : (f : ℕ) → CaseRows → List ℕ → List (Item f)
+all_items f c s = map (item_at_place f c s) (range_with_len 0 (pair_count (frame_rows c)))
+
+-- what the line unit l leaves of the availability of base j
+abbrev pub factor_at : ℕ → CaseRows → List ℕ → ℕ → ℕ → Ends
+factor_at f c s j l = factor_ends f (item_of f c s l j).backorders (systems c j) (per_system c l)
+
+-- the availability of base j, by all line units in their order
+abbrev pub availability_at : ℕ → CaseRows → List ℕ → ℕ → Ends
+availability_at f c s j = base_ends f (map (factor_at f c s j) (line_units c))
+
+abbrev pub base_line : ℕ → CaseRows → List ℕ → ℕ → BaseLine
+base_line f c s j = record { site = (site_at c.sites j).name; availability = span_of f (availability_at f c s j) }
+
+-- that of the fleet, by the systems of each base
+abbrev pub weighted_at : (f : ℕ) → CaseRows → List ℕ → ℕ → Weighted f
+weighted_at f c s j = record { systems = systems c j; value = availability_at f c s j }
+
+abbrev pub fleet_of : ℕ → CaseRows → List ℕ → Ends
+fleet_of f c s = fleet_ends f (map (weighted_at f c s) (bases c))
+
+-- the sum of the families' totals in their order
+abbrev pub total_of : ℕ → CaseRows → List ℕ → Ends
+total_of f c s = fold ends_add (ends_exact f 0) (map (family.total_of f c s) (line_units c))
+
+-- the figures with f binary places
+abbrev pub figures_of : ℕ → CaseRows → StockList → Figures
+figures_of f c s = record {
+  cost = cost_of c s;
+  items = map (named f c) (all_items f c s.list);
+  bases = map (base_line f c s.list) (bases c);
+  fleet = span_of f (fleet_of f c s.list);
+  total = span_of f (total_of f c s.list);
+}

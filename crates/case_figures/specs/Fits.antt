@@ -1,0 +1,25 @@
+-- What figures a text can show: those whose upper ends are below 2 ^ 86 units.
+use Rattle.std.specs.Prelude.{◌^◌, ◌<◌, All}
+use Rattle.case_figures.specs.Spans.{ends}
+use Rattle.case_figures.specs.declared.figures.BaseLine.{BaseLine}
+use Rattle.case_figures.specs.declared.figures.Figures.{Figures}
+use Rattle.case_figures.specs.declared.figures.ItemLine.{ItemLine}
+use Rattle.case_figures.specs.declared.figures.Span.{Span}
+
+abbrev pub SpanFits : Span → Type 0
+SpanFits x = (ends x).hi < 2 ^ 86
+
+pub record ItemFits (item : ItemLine) : Type 0 where
+  pub mean : SpanFits item.mean
+  pub variance : SpanFits item.variance
+  pub backorders : SpanFits item.backorders
+  pub spread : SpanFits item.spread
+
+abbrev pub BaseFits : BaseLine → Type 0
+BaseFits base = SpanFits base.availability
+
+pub record FitsPrint (figures : Figures) : Type 0 where
+  pub items : All ItemFits figures.items
+  pub bases : All BaseFits figures.bases
+  pub fleet : SpanFits figures.fleet
+  pub total : SpanFits figures.total

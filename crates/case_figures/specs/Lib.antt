@@ -1,0 +1,5 @@
+pub mod Spans
+pub mod Fits
+pub mod Figures
+pub mod Shows
+pub mod Gathering

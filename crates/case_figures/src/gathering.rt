@@ -1,0 +1,73 @@
+//! The figures of a case from the evaluation of its families.
+ghost use Rattle.std.specs.Prelude.{◌≡◌, ℕ, None, ◌*◌, ◌^◌, ◌≤◌, All, IfOk, length, map};
+ghost use Rattle.std.specs.List.{fold};
+ghost use Rattle.fixed_interval.specs.Ends.{InScale, ends_add, ends_exact};
+ghost use Rattle.spares_input.specs.Cases.{CaseRows};
+ghost use Rattle.spares_input.specs.Stocks.{StockList, IsFor, IsWithinLimits};
+ghost use Rattle.demand_rates.specs.Limits.{rate_fault_of};
+ghost use Rattle.family_eval.specs.Profile.{families_of};
+ghost use Rattle.family_eval.specs.Encloses.{CanEvaluate};
+ghost use Rattle.case_figures.specs.Fits.{FitsPrint};
+ghost use Rattle.case_figures.specs.Figures.{HasSpan, figures_of};
+ghost use Rattle.case_figures.specs.Shows.{ShowsFigures};
+
+use crate::bases::{base_lines, weighted_bases};
+use crate::figures::Figures;
+use crate::items::{item_lines, items_by_pair, span_of};
+use availability::fleet;
+use family_eval::FamilyResult;
+use fixed_interval::Iv;
+use spares_input::{Case, Stocks};
+use spares_io::{List, NoMemory};
+use std::alloc::Global;
+
+/// The figures of a case enclose the model's at every depth, and can be printed.
+pub fn figures_enclose()
+    ensures shows { (f : ℕ) (c : CaseRows) (s : StockList) → HasSpan f → CanEvaluate f c s → ShowsFigures f c s (figures_of f c s) }
+    ensures printed { (f : ℕ) (c : CaseRows) (s : StockList) → HasSpan f → CanEvaluate f c s → FitsPrint (figures_of f c s) }
+{}
+
+/// The sum of the families' totals in their order.
+fn total_of<const F: u32>(families: &[FamilyResult<F>]) -> Iv<F>
+    requires scale { InScale F }
+    requires totals { All (λ r. r.total.hi ≤ 384000 * 2 ^ F) families.now }
+    requires few { length families.now ≤ 2000 }
+    ensures { result ≡ fold ends_add (ends_exact F 0) (map (λ r. r.total) families.now) }
+{
+    let mut total = Iv::exact(0);
+    for family in families {
+        total = total.add(family.total);
+    }
+    total
+}
+
+/// The figures of a case at stocks of it, from the evaluation of its families at them, with 32, 48 or 52 binary places.
+///
+/// The items stand by part in file order and then by site, in whatever order the families have them. Want of memory is the
+/// only error.
+pub fn figures_at<const F: u32>(
+    alloc: Global,
+    case: &Case,
+    families: &[FamilyResult<F>],
+    stocks: &Stocks,
+) -> Result<Figures, NoMemory>
+    requires span { HasSpan F }
+    requires accepted { rate_fault_of case.now ≡ None }
+    requires stocks { IsFor case.now stocks.now }
+    requires limits { IsWithinLimits case.now stocks.now }
+    requires families { families.now ≡ families_of F case.now stocks.now }
+    ensures figures { IfOk result (λ x. x ≡ figures_of F case.now stocks.now) }
+    ensures shows { IfOk result (ShowsFigures F case.now stocks.now) }
+    ensures printed { IfOk result FitsPrint }
+{
+    let _valid = case.site_count();
+    let items = items_by_pair(alloc, case, families)?;
+    let bases = weighted_bases(alloc, case, families)?;
+    Ok(Figures {
+        cost: stocks.cost(case),
+        items: List::of(item_lines(alloc, case, items.as_slice())?),
+        bases: List::of(base_lines(alloc, case, bases.as_slice())?),
+        fleet: span_of(fleet(bases.as_slice())),
+        total: span_of(total_of(families)),
+    })
+}

@@ -1,0 +1,10 @@
+//! The figures of a case at its stocks: the cost, the items, the availabilities and the total.
+#![tactic(auto)]
+
+mod bases;
+mod figures;
+mod gathering;
+mod items;
+
+pub use figures::{BaseLine, Figures, ItemLine, Span};
+pub use gathering::{figures_at, figures_enclose};

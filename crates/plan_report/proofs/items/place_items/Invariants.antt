@@ -1,9 +1,0 @@
-use Rattle.std.proofs.Common.{◌≡◌, ◌*◌, length, take}
-use Rattle.plan_report.specs.Gathering.{placed}
-use Rattle.plan_report.proofs.items.place_items.Given as goal
-
-abbrev pub invariant-loop-item : goal.invariant-loop-item
-invariant-loop-item g l = record {
-  places : l.places ≡ placed l.case l.initial.places (take l.item-index l.items);
-  room : length l.places ≡ length l.case.parts * length l.case.sites;
-}
