@@ -1,6 +1,9 @@
 //! The planner over the real files, the standard output and the standard error.
 #![tactic(auto)]
 
+ghost use Rattle.std.specs.Prelude.{IfErr};
+ghost use Rattle.spares_top.specs.Lines.{NamesNoPair};
+
 use spares_io::{FileShelf, NoMemory, StdSink, Text};
 use spares_top::{Refusal, refuse, run, status};
 use spares_words::WordsFault;
@@ -19,7 +22,9 @@ fn words_of(alloc: Global, args: &[String]) -> Result<Vec<Text>, NoMemory> {
 }
 
 /// Why there are no arguments: no memory for them, or one of them isn't text.
-fn refusal_of(error: &io::Error) -> Refusal {
+fn refusal_of(error: &io::Error) -> Refusal
+    ensures { NamesNoPair result }
+{
     if error.kind() == ErrorKind::OutOfMemory {
         Refusal::NoMemory
     } else {
@@ -28,7 +33,9 @@ fn refusal_of(error: &io::Error) -> Refusal {
 }
 
 /// The words of the command line.
-fn command_line(rt: &HostRuntime) -> Result<Vec<Text>, Refusal> {
+fn command_line(rt: &HostRuntime) -> Result<Vec<Text>, Refusal>
+    ensures { IfErr result NamesNoPair }
+{
     let args = env::args(rt).map_err(|error| refusal_of(&error))?;
     let args = args
         .collect::<Vec<String>>(rt.alloc())

@@ -1,5 +1,5 @@
 -- The line and the exit status of a refusal. Fields are parted by commas (44), and the line ends with a line feed (10).
-use Rattle.std.specs.Prelude.{ℕ, List, [], ◌∷◌, ◌++◌, codes, Option, Some, None, Result, Ok, Err}
+use Rattle.std.specs.Prelude.{◌≡◌, ℕ, List, [], ◌∷◌, ◌++◌, codes, Option, Some, None, Result, Ok, Err}
 use Rattle.std.specs.Fmt.{decimal}
 use Rattle.csv_tables.specs.declared.fault.TableFault.{TableFault}
 use Rattle.csv_tables.specs.declared.fault.TableFault.TheVariants as table
@@ -111,6 +111,10 @@ refusal_text names (refusal.Stock fault) = stock_text names fault
 refusal_text names (refusal.Rate fault) = rate_text names fault
 refusal_text names refusal.WriteFault = codes "write"
 refusal_text names refusal.NoMemory = codes "memory"
+
+-- a refusal that stands at no pair of a case: its text is the same whatever the names
+abbrev pub NamesNoPair : Refusal → Type 0
+NamesNoPair refusal = (names : FrameRows) → refusal_text names refusal ≡ refusal_text no_names refusal
 
 -- the line of a refusal, with the names of the frame at hand
 unfoldable pub line_of : FrameRows → Refusal → List ℕ

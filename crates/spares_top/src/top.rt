@@ -1,5 +1,5 @@
 //! The top call.
-ghost use Rattle.spares_top.specs.Lines.{line_of, no_names};
+ghost use Rattle.spares_top.specs.Lines.{NamesNoPair, line_of, no_names};
 ghost use Rattle.spares_top.specs.Promises.{PutsLine, Runs, errors};
 ghost use Rattle.spares_top.specs.State.{scene};
 
@@ -20,6 +20,7 @@ fn put_line<E: Sink>(line: &Line, err: &mut E)
 
 /// Puts the line of a refusal that stands at no pair of a case, by one put. Where that fails nothing else is done.
 pub fn refuse<E: Sink>(refusal: &Refusal, err: &mut E)
+    requires { NamesNoPair refusal.now }
     ensures { PutsLine (line_of no_names refusal.now) (E.bytes err.old) (E.faults err.old) (E.bytes err.new) (E.faults err.new) }
 {
     let failure = Failure::of(*refusal);
@@ -38,7 +39,6 @@ pub fn refuse<E: Sink>(refusal: &Refusal, err: &mut E)
 /// `Rate` where a pipeline is beyond the model's limits; and `WriteFault` where the put of the report fails. After
 /// `WriteFault` the output holds a prefix of the report, and after the others it is as before. `NoMemory` may come
 /// at any step before the put.
-
 pub fn run<H: Shelf, W: Sink, E: Sink>(
     alloc: Global,
     words: &[Text],
