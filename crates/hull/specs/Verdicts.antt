@@ -1,4 +1,5 @@
 -- What a verdict on the last of some points says.
+-- No promise rests on this file: it speaks of the code's own steps.
 use Rattle.std.specs.Prelude.{◌≡◌, ℕ, ◌-◌, ◌<◌, List, [], ◌∷◌, ◌++◌, length, take}
 use Rattle.hull.specs.declared.point.Point.{Point}
 use Rattle.hull.specs.declared.scan.Verdict.{Verdict}

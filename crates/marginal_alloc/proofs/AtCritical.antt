@@ -1,21 +1,17 @@
 -- The critical vertex, and what a filling of the choice keeps.
-use Rattle.std.proofs.Common.{◌≡◌, ℕ, ◌+◌, ◌-◌, ◌*◌, ◌<◌, ◌≤◌, Option, Some, None, List, length, set, slice_index, sym, ap, ◌∙◌, subst, arith, length-set}
-use Rattle.std.proofs.Math.Nat.{mul-le-mul_left}
+use Rattle.std.proofs.Common.{◌≡◌, ℕ, ◌+◌, ◌-◌, ◌*◌, ◌<◌, ◌≤◌, Some, List, length, set, slice_index, sym, ap, ◌∙◌, subst, arith, length-set}
 use Rattle.hull.specs.declared.point.Point.{Point}
 use Rattle.hull.specs.declared.price.Price.{Price}
-use Rattle.hull.specs.Curves.{Steps, IsLeastAt, nowhere}
-use Rattle.hull.proofs.Runs.{among_at}
+use Rattle.hull.specs.Curves.{Steps, IsLeastAt}
 use Rattle.marginal_alloc.specs.declared.allocation.Critical.{Critical}
-use Rattle.marginal_alloc.specs.Sums.{cost_of, hi_of, width_of}
-use Rattle.step_walk.specs.Prefix.{curve_at, vertex_at, fall, rise, picked, IsPrefix, IsNext, AreVertices, HaveShapes}
-use Rattle.marginal_alloc.specs.Choice.{IsHullChoice, AreCurves, rounding_at}
+use Rattle.price_bounds.specs.Sums.{hi_of}
+use Rattle.step_walk.specs.Prefix.{curve_at, vertex_at, fall, rise, picked, IsPrefix, IsNext, HaveShapes}
+use Rattle.marginal_alloc.specs.Choice.{IsHullChoice, AreCurves}
 use Rattle.marginal_alloc.specs.Filling.{Fills, full, change}
-use Rattle.marginal_alloc.proofs.Told.{told, bound_at}
-use Rattle.marginal_alloc.proofs.Duality.{ends_add, gap_within}
+use Rattle.marginal_alloc.proofs.Told.{told}
 use Rattle.marginal_alloc.proofs.Least.{critical_least}
 use Rattle.step_walk.proofs.Taking.{own_step, rises_at}
-use Rattle.marginal_alloc.proofs.Bounds.{all_picked, all_ends, choice_no_fewer, choice_least, own_ends}
-use Rattle.marginal_alloc.proofs.Filled.{hi_falls, fills_cost, fills_vertices}
+use Rattle.marginal_alloc.proofs.Filled.{hi_falls}
 
 -- at the price of a step its two ends have the same lagrangian
 even : (a b c d : ℕ) → b < a → c < d → (d - c) * b + (a - b) * d ≡ (d - c) * a + (a - b) * c
@@ -52,29 +48,3 @@ module _ (families curves : List (List Point)) (budget : ℕ) (picks : List ℕ)
           let own = critical_least curves picks f pre next (rises_at curves f (slice_index picks f) chain next.step) f fam (curve_at families f) chain (areas.each f fam) w m in
           let e = even (vertex_at curves f (slice_index picks f)).lo (vertex_at curves f (slice_index picks f + 1)).lo (vertex_at curves f (slice_index picks f)).cost (vertex_at curves f (slice_index picks f + 1)).cost step.lo step.cost in
           omega (arith, own, e)
-
-  -- no allocation that fits has upper ends below the bound
-  pub bound_below : (critical : Option Critical) → IsHullChoice curves budget (told picks cost price critical) → (end : List ℕ) → AreVertices curves end → cost_of (picked curves end) ≤ budget → bound_at curves budget picks price ≤ hi_of (picked curves end)
-  bound_below critical h end a fits =
-      let low = choice_no_fewer families curves budget picks cost price areas shapes critical h (picked curves end)
-      (all_picked families curves end areas.count a.count (λ g b. (areas.each g b).among (vertex_at curves g (slice_index end g)) (among_at (curve_at curves g) (slice_index end g) nowhere (a.below g b)))) fits in
-      let sum = ends_add (picked curves end) (all_ends curves end a.count (λ g b. ((shapes g b).ranges (vertex_at curves g (slice_index end g)) (among_at (curve_at curves g) (slice_index end g) nowhere (a.below g b))).ends)) in
-      omega (arith, low, sum)
-
-  pub gap_not_negative : (critical : Option Critical) → IsHullChoice curves budget (told picks cost price critical) → (end : List ℕ) → Fills curves budget picks end → bound_at curves budget picks price ≤ hi_of (picked curves end)
-  gap_not_negative critical h end f =
-      let fit = h.fits in let is = h.cost_is in
-      bound_below critical h end (fills_vertices f h.prefix.vertices) (fills_cost f (omega (arith, fit, is)))
-
-  pub gap_of_filling : (critical : Option Critical) → IsHullChoice curves budget (told picks cost price critical) → (end : List ℕ) → Fills curves budget picks end
-      → price.q * (hi_of (picked curves end) - bound_at curves budget picks price) ≤ price.p * (budget - cost) + price.q * rounding_at curves picks critical
-  gap_of_filling critical h end f =
-      let gap : price.q * (hi_of (picked curves end) - bound_at curves budget picks price) ≤ price.p * (budget - cost) + price.q * (width_of (picked curves picks) + 1) =
-      subst (λ x. price.q * (hi_of (picked curves end) - bound_at curves budget picks price) ≤ price.p * (budget - x) + price.q * (width_of (picked curves picks) + 1)) (sym h.cost_is)
-      (gap_within price.p price.q budget (hi_of (picked curves end)) (picked curves picks) (choice_least families curves budget picks cost price areas shapes critical h).0 (own_ends families curves budget picks cost price areas shapes h.prefix) (subst (λ x. x ≤ budget) h.cost_is h.fits) (filled_hi f h.prefix.vertices.count)) in
-      let more : price.q * (width_of (picked curves picks) + 1) ≤ price.q * rounding_at curves picks critical = mul-le-mul_left price.q (wide critical) in
-      omega (arith, gap, more)
-    where
-      wide : (critical : Option Critical) → width_of (picked curves picks) + 1 ≤ rounding_at curves picks critical
-      wide None = omega arith
-      wide (Some c) = omega arith

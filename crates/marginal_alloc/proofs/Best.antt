@@ -3,12 +3,12 @@ use Rattle.std.proofs.Common.{◌≡◌, ℕ, zero, suc, ◌+◌, ◌-◌, ◌<�
 use Rattle.hull.specs.declared.point.Point.{Point}
 use Rattle.hull.specs.Curves.{IsShape}
 use Rattle.marginal_alloc.specs.declared.change.Change.{Change}
-use Rattle.marginal_alloc.specs.Sums.{cost_of}
+use Rattle.price_bounds.specs.Sums.{cost_of}
 use Rattle.step_walk.specs.Prefix.{curve_at, vertex_at, picked}
 use Rattle.marginal_alloc.specs.Filling.{HasChange, IsBestChange, IsFull, gain}
 use Rattle.marginal_alloc.specs.Changes.{IsLower, IsLowest, IsBestAmong, IsBestBefore}
 use Rattle.step_walk.proofs.Greedy.{below_or}
-use Rattle.marginal_alloc.proofs.Duality.{swapped}
+use Rattle.price_bounds.proofs.Duality.{swapped}
 use Rattle.marginal_alloc.proofs.Bounds.{Around, around}
 use Rattle.marginal_alloc.proofs.Along.{lo_below}
 

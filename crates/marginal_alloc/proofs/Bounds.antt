@@ -6,13 +6,19 @@ use Rattle.hull.specs.Curves.{lagrangian, Among, IsShape, Steps, IsLeastAt, nowh
 use Rattle.hull.proofs.Stops.{least_at_stop, least_of_all}
 use Rattle.hull.proofs.Runs.{among_at}
 use Rattle.marginal_alloc.specs.declared.allocation.Critical.{Critical}
-use Rattle.marginal_alloc.specs.Sums.{total, cost_of, lo_of, width_of, Picks, AllLeast, bound_of, IsWithin}
+use Rattle.price_bounds.specs.Sums.{total, cost_of, lo_of, width_of, Picks, AllLeast, bound_of, IsWithin}
 use Rattle.step_walk.specs.Prefix.{curve_at, vertex_at, HasStep, fall, rise, picked, IsPrefix, IsNext, AllTaken}
-use Rattle.marginal_alloc.specs.Choice.{IsHullChoice, AreCurves, rounding_at, HasChoice}
+use Rattle.marginal_alloc.specs.Choice.{IsHullChoice, AreCurves, rounding_at}
 use Rattle.marginal_alloc.proofs.Told.{told, bound_at}
-use Rattle.marginal_alloc.proofs.Duality.{AreEnds, no_fewer, no_price, no_price_at_end}
+use Rattle.price_bounds.proofs.Duality.{AreEnds, no_fewer, no_price, no_price_at_end}
 use Rattle.marginal_alloc.proofs.Least.{critical_least, stops_by_steps}
 use Rattle.step_walk.proofs.Taking.{own_step, taken_prefix}
+
+-- Some choice of one point for each family is no dearer than a sum and the budget, where a unit of the upper end costs b, and one of money a.
+pub record HasChoice (families : List (List Point)) (a b sum budget : ℕ) : Type 0 where
+  pub points : List Point
+  pub picks : Picks families points
+  pub within : IsWithin a b sum budget points
 
 -- by family
 pub all_least : (p q : ℕ) (families curves : List (List Point)) (picks : List ℕ) → length families ≡ length curves → length picks ≡ length curves

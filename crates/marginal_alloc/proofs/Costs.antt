@@ -1,7 +1,7 @@
 -- What the picks cost together, from a family on.
 use Rattle.std.proofs.Common.{◌≡◌, ℕ, zero, suc, ◌+◌, ◌-◌, ◌<◌, ◌≤◌, List, [], ◌∷◌, length, set, slice_index, refl, ap, ◌∙◌, arith}
 use Rattle.hull.specs.declared.point.Point.{Point}
-use Rattle.marginal_alloc.specs.Sums.{cost_of}
+use Rattle.price_bounds.specs.Sums.{cost_of}
 use Rattle.step_walk.specs.Prefix.{vertex_at, picked}
 use Rattle.marginal_alloc.specs.Filling.{IsBestChange}
 use Rattle.marginal_alloc.proofs.Best.{changed_cost, part_of_cost}

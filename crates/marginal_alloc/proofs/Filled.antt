@@ -1,7 +1,7 @@
 -- What a filling keeps.
 use Rattle.std.proofs.Common.{◌≡◌, ℕ, zero, suc, ◌<◌, ◌≤◌, ◌≢◌, ◌⊎◌, inl, inr, List, [], ◌∷◌, length, set, slice_index, ap, ◌∙◌, arith, get_or-set_other, get_or-set_same, length-set}
 use Rattle.hull.specs.declared.point.Point.{Point}
-use Rattle.marginal_alloc.specs.Sums.{cost_of, hi_of}
+use Rattle.price_bounds.specs.Sums.{cost_of, hi_of}
 use Rattle.step_walk.specs.Prefix.{curve_at, vertex_at, AreVertices, picked}
 use Rattle.marginal_alloc.specs.Filling.{IsFull, Fills, full, change}
 

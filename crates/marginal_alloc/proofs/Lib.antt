@@ -1,6 +1,4 @@
 pub mod Told
-pub mod Mixture
-pub mod Duality
 pub mod Least
 pub mod Walking
 pub mod Along
@@ -12,8 +10,7 @@ pub mod AtCritical
 pub mod Best
 pub mod Costs
 pub mod Ends
-pub mod Units
 pub mod Kept
-pub mod Vectors
+pub mod Sound
 pub mod OnePlan
 mod Worked

@@ -5,7 +5,7 @@ use Rattle.hull.specs.declared.point.Point.{Point}
 use Rattle.hull.specs.declared.price.Price.{Price}
 use Rattle.hull.specs.Curves.{point_at}
 use Rattle.marginal_alloc.specs.declared.allocation.Critical.{Critical}
-use Rattle.marginal_alloc.specs.Sums.{cost_of}
+use Rattle.price_bounds.specs.Sums.{cost_of}
 use Rattle.step_walk.specs.Prefix.{curve_at, HasStep, fall, rise, IsBefore, picked, IsPrefix, IsNext, HaveShapes}
 use Rattle.marginal_alloc.specs.Choice.{IsHullChoice}
 use Rattle.marginal_alloc.proofs.Told.{told}

@@ -4,12 +4,12 @@ use Rattle.std.proofs.lemmas.List.{ext_get_or}
 use Rattle.hull.specs.declared.point.Point.{Point}
 use Rattle.hull.specs.declared.price.Price.{Price}
 use Rattle.hull.proofs.Shapes.{one_curve}
-use Rattle.marginal_alloc.specs.declared.plans.Figures.{Figures}
-use Rattle.marginal_alloc.specs.Sums.{cost_of, hi_of, bound_of}
+use Rattle.marginal_alloc.specs.declared.plans.PlanNumbers.{PlanNumbers}
+use Rattle.price_bounds.specs.Sums.{cost_of, hi_of, bound_of}
 use Rattle.step_walk.specs.Prefix.{curve_at, picked}
 use Rattle.marginal_alloc.specs.Choice.{IsHullChoice, rounding_of}
 use Rattle.marginal_alloc.specs.Filling.{Fills}
-use Rattle.marginal_alloc.specs.Certificates.{AreLeastFloors}
+use Rattle.price_bounds.specs.Certificates.{AreLeastFloors}
 use Rattle.marginal_alloc.specs.Plans.{IsPlan}
 use Rattle.marginal_alloc.specs.Promises.{StocksTellAll, IsSamePlan}
 use Rattle.marginal_alloc.proofs.One.{choices_are_one}
@@ -31,18 +31,19 @@ one_floors price (x ∷ xs) (c ∷ cs) (d ∷ ds) a b =
     let here : c ≡ d = one_floor c d _ _ (a.0 w.0 w.1) (b.0 v.0 v.1) v.2 w.2 in
     ap (λ z. z ∷ cs) here ∙ ap (λ z. d ∷ z) (one_floors price xs cs ds a.2 b.2)
 
-same_figures : (a b : Figures) → a.hull_cost ≡ b.hull_cost → a.price ≡ b.price → a.cost ≡ b.cost → a.upper ≡ b.upper → a.bound ≡ b.bound → a.rounding ≡ b.rounding → a.gap ≡ b.gap → a ≡ b
-same_figures a b h p c u n r g =
-    ap (λ z. let f : Figures = record { hull_cost = z; price = a.price; cost = a.cost; upper = a.upper; bound = a.bound; rounding = a.rounding; gap = a.gap } in f) h
-    ∙ ap (λ z. let f : Figures = record { hull_cost = b.hull_cost; price = z; cost = a.cost; upper = a.upper; bound = a.bound; rounding = a.rounding; gap = a.gap } in f) p
-    ∙ ap (λ z. let f : Figures = record { hull_cost = b.hull_cost; price = b.price; cost = z; upper = a.upper; bound = a.bound; rounding = a.rounding; gap = a.gap } in f) c
-    ∙ ap (λ z. let f : Figures = record { hull_cost = b.hull_cost; price = b.price; cost = b.cost; upper = z; bound = a.bound; rounding = a.rounding; gap = a.gap } in f) u
-    ∙ ap (λ z. let f : Figures = record { hull_cost = b.hull_cost; price = b.price; cost = b.cost; upper = b.upper; bound = z; rounding = a.rounding; gap = a.gap } in f) n
-    ∙ ap (λ z. let f : Figures = record { hull_cost = b.hull_cost; price = b.price; cost = b.cost; upper = b.upper; bound = b.bound; rounding = z; gap = a.gap } in f) r
-    ∙ ap (λ z. let f : Figures = record { hull_cost = b.hull_cost; price = b.price; cost = b.cost; upper = b.upper; bound = b.bound; rounding = b.rounding; gap = z } in f) g
+same_numbers : (a b : PlanNumbers) → a.hull_cost ≡ b.hull_cost → a.price ≡ b.price → a.cost ≡ b.cost → a.upper ≡ b.upper → a.bound ≡ b.bound → a.rounding ≡ b.rounding → a.gap ≡ b.gap → a.critical ≡ b.critical → a ≡ b
+same_numbers a b h p c u n r g k =
+    ap (λ z. let f : PlanNumbers = record { hull_cost = z; price = a.price; cost = a.cost; upper = a.upper; bound = a.bound; rounding = a.rounding; gap = a.gap; critical = a.critical } in f) h
+    ∙ ap (λ z. let f : PlanNumbers = record { hull_cost = b.hull_cost; price = z; cost = a.cost; upper = a.upper; bound = a.bound; rounding = a.rounding; gap = a.gap; critical = a.critical } in f) p
+    ∙ ap (λ z. let f : PlanNumbers = record { hull_cost = b.hull_cost; price = b.price; cost = z; upper = a.upper; bound = a.bound; rounding = a.rounding; gap = a.gap; critical = a.critical } in f) c
+    ∙ ap (λ z. let f : PlanNumbers = record { hull_cost = b.hull_cost; price = b.price; cost = b.cost; upper = z; bound = a.bound; rounding = a.rounding; gap = a.gap; critical = a.critical } in f) u
+    ∙ ap (λ z. let f : PlanNumbers = record { hull_cost = b.hull_cost; price = b.price; cost = b.cost; upper = b.upper; bound = z; rounding = a.rounding; gap = a.gap; critical = a.critical } in f) n
+    ∙ ap (λ z. let f : PlanNumbers = record { hull_cost = b.hull_cost; price = b.price; cost = b.cost; upper = b.upper; bound = b.bound; rounding = z; gap = a.gap; critical = a.critical } in f) r
+    ∙ ap (λ z. let f : PlanNumbers = record { hull_cost = b.hull_cost; price = b.price; cost = b.cost; upper = b.upper; bound = b.bound; rounding = b.rounding; gap = z; critical = a.critical } in f) g
+    ∙ ap (λ z. let f : PlanNumbers = record { hull_cost = b.hull_cost; price = b.price; cost = b.cost; upper = b.upper; bound = b.bound; rounding = b.rounding; gap = b.gap; critical = z } in f) k
 
-module _ (families : List (List Point)) (budget : ℕ) (chosen other : List Point) (floors other_floors : List ℕ) (figures other_figures : Figures) (tell : StocksTellAll families)
-    (p : IsPlan families budget chosen floors figures) (q : IsPlan families budget other other_floors other_figures) where
+module _ (families : List (List Point)) (budget : ℕ) (chosen other : List Point) (floors other_floors : List ℕ) (numbers other_numbers : PlanNumbers) (tell : StocksTellAll families)
+    (p : IsPlan families budget chosen floors numbers) (q : IsPlan families budget other other_floors other_numbers) where
   curves : p.curves ≡ q.curves
   curves = ext_get_or [] p.curves q.curves (sym p.choice.areas.count ∙ q.choice.areas.count) (λ f b.
       one_curve (curve_at families f) (curve_at p.curves f) (curve_at q.curves f) (tell f (let n = p.choice.areas.count in omega (arith, n, b)))
@@ -59,27 +60,28 @@ module _ (families : List (List Point)) (budget : ℕ) (chosen other : List Poin
   chosen_same : chosen ≡ other
   chosen_same = p.chosen_is ∙ ap (λ z. picked z p.end) curves ∙ ap (λ z. picked q.curves z) ends ∙ sym q.chosen_is
 
-  prices : figures.price ≡ other_figures.price
+  prices : numbers.price ≡ other_numbers.price
   prices = p.price ∙ ap (λ z. z.price) hulls ∙ sym q.price
 
   floors_same : floors ≡ other_floors
-  floors_same = one_floors figures.price families floors other_floors p.floors_are (subst (λ z. AreLeastFloors z families other_floors) (sym prices) q.floors_are)
+  floors_same = one_floors numbers.price families floors other_floors p.floors_are (subst (λ z. AreLeastFloors z families other_floors) (sym prices) q.floors_are)
 
-  costs : figures.cost ≡ other_figures.cost
+  costs : numbers.cost ≡ other_numbers.cost
   costs = p.cost ∙ ap cost_of chosen_same ∙ sym q.cost
 
-  uppers : figures.upper ≡ other_figures.upper
+  uppers : numbers.upper ≡ other_numbers.upper
   uppers = p.upper ∙ ap hi_of chosen_same ∙ sym q.upper
 
-  bounds : figures.bound ≡ other_figures.bound
-  bounds = p.bound ∙ ap (λ z. bound_of z.p z.q (sum floors) budget) prices ∙ ap (λ z. bound_of other_figures.price.p other_figures.price.q (sum z) budget) floors_same ∙ sym q.bound
+  bounds : numbers.bound ≡ other_numbers.bound
+  bounds = p.bound ∙ ap (λ z. bound_of z.p z.q (sum floors) budget) prices ∙ ap (λ z. bound_of other_numbers.price.p other_numbers.price.q (sum z) budget) floors_same ∙ sym q.bound
 
-  pub one_plan : IsSamePlan chosen other floors other_floors figures other_figures
+  pub one_plan : IsSamePlan chosen other floors other_floors numbers other_numbers
   one_plan = record {
     chosen = chosen_same;
     floors = floors_same;
-    figures = same_figures figures other_figures
+    numbers = same_numbers numbers other_numbers
         (p.hull_cost ∙ ap (λ z. z.cost) hulls ∙ sym q.hull_cost) prices costs uppers bounds
         (p.rounding ∙ ap (λ z. rounding_of z p.hull) curves ∙ ap (λ z. rounding_of q.curves z) hulls ∙ sym q.rounding)
-        (p.gap ∙ ap (λ z. z - figures.bound) uppers ∙ ap (λ z. other_figures.upper - z) bounds ∙ sym q.gap);
+        (p.gap ∙ ap (λ z. z - numbers.bound) uppers ∙ ap (λ z. other_numbers.upper - z) bounds ∙ sym q.gap)
+        (p.critical ∙ ap (λ z. z.critical) hulls ∙ sym q.critical);
   }

@@ -5,7 +5,7 @@ use Rattle.hull.specs.declared.price.Price.{Price}
 use Rattle.hull.specs.Curves.{lagrangian}
 use Rattle.marginal_alloc.specs.declared.allocation.Critical.{Critical}
 use Rattle.marginal_alloc.specs.declared.allocation.Chosen.{Chosen}
-use Rattle.marginal_alloc.specs.Sums.{total, bound_of}
+use Rattle.price_bounds.specs.Sums.{total, bound_of}
 use Rattle.step_walk.specs.Prefix.{picked}
 
 abbrev pub told : List ℕ → ℕ → Price → Option Critical → Chosen

@@ -6,7 +6,7 @@ use Rattle.step_walk.specs.declared.walk.Next.{Next}
 use Rattle.step_walk.specs.Prefix.{vertex_at, rise, picked}
 use Rattle.step_walk.specs.Walks.{Walked, TellsFirst, MovesOn}
 use Rattle.step_walk.proofs.Taking.{cost_rises, steps_left, left_falls}
-use Rattle.marginal_alloc.specs.Sums.{cost_of}
+use Rattle.price_bounds.specs.Sums.{cost_of}
 
 -- what the picks cost with one step more
 pub cost_taken : (curves : List (List Point)) (picks : List ℕ) (f : ℕ) → f < length curves → length picks ≡ length curves → (vertex_at curves f (slice_index picks f)).cost ≤ (vertex_at curves f (slice_index picks f + 1)).cost

@@ -3,7 +3,8 @@
 use Rattle.std.specs.Prelude.{◌≡◌, ℕ, List, [], ◌∷◌, Some, None, refl}
 use Rattle.hull.specs.declared.point.Point.{Point}
 use Rattle.marginal_alloc.specs.declared.allocation.Chosen.{Chosen}
-use Rattle.marginal_alloc.specs.Choice.{choice_bound, rounding_of}
+use Rattle.marginal_alloc.specs.Choice.{rounding_of}
+use Rattle.marginal_alloc.proofs.Told.{bound_at}
 
 abbrev vertex : ℕ → ℕ → ℕ → Point
 vertex cost lo hi = record { cost = cost; lo = lo; hi = hi; stocks = [] }
@@ -28,7 +29,7 @@ nothing = record {
   critical = Some (record { family = 0; vertex = 1 });
 }
 
-bound_of_nothing : choice_bound curves 0 nothing ≡ 844424930131968
+bound_of_nothing : bound_at curves 0 nothing.picks nothing.price ≡ 844424930131968
 bound_of_nothing = refl
 
 -- the pick's interval is a point, and that of the critical vertex is 2 wide
@@ -44,7 +45,7 @@ two_steps = record {
   critical = Some (record { family = 0; vertex = 3 });
 }
 
-bound_of_two_steps : choice_bound curves 250 two_steps ≡ 270365267016681
+bound_of_two_steps : bound_at curves 250 two_steps.picks two_steps.price ≡ 270365267016681
 bound_of_two_steps = refl
 
 -- 7 at the pick, 17 at the critical vertex
@@ -55,7 +56,7 @@ rounding_of_two_steps = refl
 abbrev all_steps : Chosen
 all_steps = record { picks = 5 ∷ []; cost = 500; price = record { p = 0; q = 1 }; critical = None }
 
-bound_of_all_steps : choice_bound curves 500 all_steps ≡ 39901707478309
+bound_of_all_steps : bound_at curves 500 all_steps.picks all_steps.price ≡ 39901707478309
 bound_of_all_steps = refl
 
 rounding_of_all_steps : rounding_of curves all_steps ≡ 227
@@ -65,7 +66,7 @@ rounding_of_all_steps = refl
 abbrev no_choice : Chosen
 no_choice = record { picks = []; cost = 0; price = record { p = 0; q = 1 }; critical = None }
 
-bound_of_none : choice_bound [] 250 no_choice ≡ 0
+bound_of_none : bound_at [] 250 no_choice.picks no_choice.price ≡ 0
 bound_of_none = refl
 
 rounding_of_none : rounding_of [] no_choice ≡ 1

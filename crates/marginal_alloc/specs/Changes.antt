@@ -1,4 +1,5 @@
 -- The best change within one curve, and among those of the first families.
+-- No promise rests on this file: it speaks of the code's own steps.
 use Rattle.hull.specs.Curves.{point_at}
 use Rattle.std.specs.Prelude.{◌≡◌, ℕ, ◌<◌, ◌≤◌, ◌⊎◌, List, Option, Some, None, length}
 use Rattle.hull.specs.declared.point.Point.{Point}

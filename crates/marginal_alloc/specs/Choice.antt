@@ -2,11 +2,11 @@
 use Rattle.std.specs.Prelude.{◌≡◌, ℕ, ◌+◌, ◌-◌, ◌<◌, ◌≤◌, Option, Some, None, List, length, slice_index}
 use Rattle.hull.specs.declared.point.Point.{Point}
 use Rattle.hull.specs.declared.price.Price.{Price}
-use Rattle.hull.specs.Curves.{lagrangian, IsCurve}
+use Rattle.hull.specs.Curves.{IsCurve}
 use Rattle.step_walk.specs.Prefix.{AllTaken, HaveShapes, IsNext, IsPrefix, curve_at, fall, picked, rise, vertex_at}
 use Rattle.marginal_alloc.specs.declared.allocation.Critical.{Critical}
 use Rattle.marginal_alloc.specs.declared.allocation.Chosen.{Chosen}
-use Rattle.marginal_alloc.specs.Sums.{cost_of, width_of, total, bound_of, Picks, IsWithin}
+use Rattle.price_bounds.specs.Sums.{cost_of, width_of}
 
 -- where the choice stops: at a critical step that passes the budget, or where no step is left
 abbrev pub StopsWith : List (List Point) → ℕ → List ℕ → ℕ → Price → Option Critical → Type 0
@@ -28,10 +28,6 @@ pub record AreCurves (families curves : List (List Point)) : Type 0 where
   pub count : length families ≡ length curves
   pub each : (f : ℕ) → f < length curves → IsCurve (curve_at families f) (curve_at curves f)
 
--- the bound at the price of a hull choice: at it the chosen vertices are the floors of their families
-abbrev pub choice_bound : List (List Point) → ℕ → Chosen → ℕ
-choice_bound curves budget chosen = bound_of chosen.price.p chosen.price.q (total (lagrangian chosen.price.p chosen.price.q) (picked curves chosen.picks)) budget
-
 -- the widths at the picks, that at the critical vertex where there is one, and a unit
 abbrev pub rounding_at : List (List Point) → List ℕ → Option Critical → ℕ
 rounding_at curves picks None = width_of (picked curves picks) + 1
@@ -46,9 +42,3 @@ pub record IsChoiceFor (families curves : List (List Point)) (budget : ℕ) (cho
   pub areas : AreCurves families curves
   pub shapes : HaveShapes curves
   pub choice : IsHullChoice curves budget chosen
-
--- Some choice of one point for each family is no dearer than a sum and the budget, where a unit of the upper end costs b, and one of money a.
-pub record HasChoice (families : List (List Point)) (a b sum budget : ℕ) : Type 0 where
-  pub points : List Point
-  pub picks : Picks families points
-  pub within : IsWithin a b sum budget points

@@ -1,7 +1,7 @@
 -- What a filling keeps and where it ends.
 use Rattle.std.specs.Prelude.{◌≡◌, ℕ, ◌≤◌, List, length, slice_index}
 use Rattle.hull.specs.declared.point.Point.{Point}
-use Rattle.marginal_alloc.specs.Sums.{cost_of}
+use Rattle.price_bounds.specs.Sums.{cost_of}
 use Rattle.step_walk.specs.Prefix.{vertex_at, AreVertices, picked}
 use Rattle.marginal_alloc.specs.Filling.{IsFull, Fills}
 

@@ -1,12 +1,8 @@
-pub mod Sums
 pub mod Choice
 pub mod Filling
 pub mod Changes
 pub mod Fillings
 pub mod Laws
-pub mod Values
-pub mod Certificates
 pub mod Plans
 pub mod Promises
-pub mod Allocations
 pub mod Soundness

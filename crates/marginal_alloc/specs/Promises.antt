@@ -1,15 +1,15 @@
--- What a plan and a certificate promise of the model's values.
+-- What a plan promises of the model's values, and which plans are the same.
 use Rattle.std.specs.Prelude.{◌≡◌, ℕ, ◌+◌, ◌-◌, ◌*◌, ◌<◌, ◌≤◌, List, length}
 use Rattle.exact_model.specs.Fraction.{Fraction, whole, ◌+ℚ◌, ◌*ℚ◌, ◌≤ℚ◌}
 use Rattle.hull.specs.declared.point.Point.{Point}
 use Rattle.hull.specs.Curves.{Among}
 use Rattle.hull.specs.Laws.{StocksTell}
-use Rattle.marginal_alloc.specs.Sums.{cost_of, Picks}
+use Rattle.price_bounds.specs.Sums.{cost_of, Picks}
 use Rattle.step_walk.specs.Prefix.{curve_at}
-use Rattle.marginal_alloc.specs.declared.plans.Figures.{Figures}
-use Rattle.marginal_alloc.specs.Values.{sum_of, AllContain, IsAtLeast, IsAtMost}
+use Rattle.marginal_alloc.specs.declared.plans.PlanNumbers.{PlanNumbers}
+use Rattle.price_bounds.specs.Values.{sum_of, AllContain, IsAtLeast, IsAtMost}
 use Rattle.marginal_alloc.specs.Plans.{IsPlan}
-use Rattle.marginal_alloc.specs.Certificates.{Claims, IsAcceptable}
+use Rattle.price_bounds.specs.Certificates.{Claims, IsAcceptable}
 
 -- No allocation within the budget has fewer backorders than the bound.
 abbrev pub NoAllocationHasFewer : List (List Point) → ℕ → ℕ → Type 0
@@ -39,46 +39,37 @@ abbrev pub NoCertificateIsHigher : List (List Point) → ℕ → ℕ → Type 0
 NoCertificateIsHigher families budget limit = (claims : Claims) → IsAcceptable families budget claims → claims.bound ≤ limit
 
 -- What holds of each plan.
-pub record PlanPromises (families : List (List Point)) (budget : ℕ) (chosen : List Point) (figures : Figures) : Type 0 where
+pub record PlanPromises (families : List (List Point)) (budget : ℕ) (chosen : List Point) (numbers : PlanNumbers) : Type 0 where
   pub within : Picks families chosen
-  pub fits : figures.cost ≤ budget
-  pub upper : (values : List Fraction) → AllContain chosen values → IsAtMost figures.upper (sum_of values)
-  pub fewer : NoAllocationHasFewer families budget figures.bound
-  pub higher : NoPriceBoundIsHigher families budget (figures.bound + figures.rounding)
-  pub certificates : NoCertificateIsHigher families budget (figures.bound + figures.rounding)
-  pub gap : figures.bound + figures.gap ≡ figures.upper
-  pub small : figures.price.q * figures.gap ≤ figures.price.p * (budget - figures.hull_cost) + figures.price.q * figures.rounding
+  pub fits : numbers.cost ≤ budget
+  pub upper : (values : List Fraction) → AllContain chosen values → IsAtMost numbers.upper (sum_of values)
+  pub fewer : NoAllocationHasFewer families budget numbers.bound
+  pub higher : NoPriceBoundIsHigher families budget (numbers.bound + numbers.rounding)
+  pub certificates : NoCertificateIsHigher families budget (numbers.bound + numbers.rounding)
+  pub gap : numbers.bound + numbers.gap ≡ numbers.upper
+  pub small : numbers.price.q * numbers.gap ≤ numbers.price.p * (budget - numbers.hull_cost) + numbers.price.q * numbers.rounding
 
 abbrev pub PlansKeepTheirPromises : Type 0
-PlansKeepTheirPromises = (families : List (List Point)) (budget : ℕ) (chosen : List Point) (floors : List ℕ) (figures : Figures)
-    → AreIntervals families → IsPlan families budget chosen floors figures → PlanPromises families budget chosen figures
+PlansKeepTheirPromises = (families : List (List Point)) (budget : ℕ) (chosen : List Point) (floors : List ℕ) (numbers : PlanNumbers)
+    → AreIntervals families → IsPlan families budget chosen floors numbers → PlanPromises families budget chosen numbers
 
 -- The certificate of a plan is acceptable.
 abbrev pub PlansAreAcceptable : Type 0
-PlansAreAcceptable = (families : List (List Point)) (budget : ℕ) (chosen : List Point) (floors : List ℕ) (figures : Figures)
-    → IsPlan families budget chosen floors figures
-    → IsAcceptable families budget (record { chosen = chosen; price = figures.price; floors = floors; upper = figures.upper; bound = figures.bound })
-
--- What holds of each acceptable certificate.
-pub record CertificatePromises (families : List (List Point)) (budget : ℕ) (claims : Claims) : Type 0 where
-  pub fewer : NoAllocationHasFewer families budget claims.bound
-  pub upper : (values : List Fraction) → AllContain claims.chosen values → IsAtMost claims.upper (sum_of values)
-
-abbrev pub CertificatesKeepTheirPromises : Type 0
-CertificatesKeepTheirPromises = (families : List (List Point)) (budget : ℕ) (claims : Claims)
-    → IsAcceptable families budget claims → CertificatePromises families budget claims
+PlansAreAcceptable = (families : List (List Point)) (budget : ℕ) (chosen : List Point) (floors : List ℕ) (numbers : PlanNumbers)
+    → IsPlan families budget chosen floors numbers
+    → IsAcceptable families budget (record { chosen = chosen; price = numbers.price; floors = floors; upper = numbers.upper; bound = numbers.bound })
 
 -- In each family points with the same stocks are the same.
 abbrev pub StocksTellAll : List (List Point) → Type 0
 StocksTellAll families = (f : ℕ) → f < length families → StocksTell (curve_at families f)
 
 -- two plans agree in all they say
-pub record IsSamePlan (one other : List Point) (one_floors other_floors : List ℕ) (one_figures other_figures : Figures) : Type 0 where
+pub record IsSamePlan (one other : List Point) (one_floors other_floors : List ℕ) (one_numbers other_numbers : PlanNumbers) : Type 0 where
   pub chosen : one ≡ other
   pub floors : one_floors ≡ other_floors
-  pub figures : one_figures ≡ other_figures
+  pub numbers : one_numbers ≡ other_numbers
 
 -- Such families have one plan under a budget.
 abbrev pub PlansAreOne : Type 0
-PlansAreOne = (families : List (List Point)) (budget : ℕ) (chosen other : List Point) (floors other_floors : List ℕ) (figures other_figures : Figures) → StocksTellAll families
-    → IsPlan families budget chosen floors figures → IsPlan families budget other other_floors other_figures → IsSamePlan chosen other floors other_floors figures other_figures
+PlansAreOne = (families : List (List Point)) (budget : ℕ) (chosen other : List Point) (floors other_floors : List ℕ) (numbers other_numbers : PlanNumbers) → StocksTellAll families
+    → IsPlan families budget chosen floors numbers → IsPlan families budget other other_floors other_numbers → IsSamePlan chosen other floors other_floors numbers other_numbers

@@ -1,53 +1,24 @@
--- What a plan and an acceptable certificate promise of all allocations, at each depth.
+-- What a plan promises of all allocations, at each depth.
 use Rattle.std.specs.Prelude.{◌≡◌, ℕ, ◌+◌, ◌-◌, ◌*◌, ◌≤◌, List, map}
-use Rattle.exact_model.specs.Fraction.{Fraction}
 use Rattle.hull.specs.declared.point.Point.{Point}
-use Rattle.marginal_alloc.specs.declared.plans.Figures.{Figures}
-use Rattle.marginal_alloc.specs.Values.{IsAtLeast, IsAtMost}
+use Rattle.marginal_alloc.specs.declared.plans.PlanNumbers.{PlanNumbers}
+use Rattle.price_bounds.specs.Values.{IsAtMost}
+use Rattle.price_bounds.specs.Allocations.{Family, points_of, AreEnclosed, IsAllocation, cost_at, total_at}
+use Rattle.price_bounds.specs.Soundness.{stocks_of, NoneHasFewerThan, NoPriceGivesMoreThan, NoCertificateHasMoreThan}
 use Rattle.marginal_alloc.specs.Plans.{IsPlan}
-use Rattle.marginal_alloc.specs.Certificates.{Claims, IsAcceptable}
-use Rattle.marginal_alloc.specs.Allocations.{Family, points_of, AreEnclosed, IsAllocation, cost_at, total_at, IsBoundAtPrice}
 
-abbrev pub stocks_of : List Point → List (List ℕ)
-stocks_of points = map (λ v. v.stocks) points
-
--- no allocation within the budget has fewer backorders than the bound
-abbrev pub NoneHasFewerThan : ℕ → List Family → ℕ → Type 0
-NoneHasFewerThan bound families budget = (n : ℕ) (allocation : List (List ℕ)) → 1024 ≤ n → IsAllocation families allocation
-    → cost_at families allocation ≤ budget → IsAtLeast bound (total_at n families allocation)
-
--- no price gives a bound above the limit
-abbrev pub NoPriceGivesMoreThan : ℕ → List Family → ℕ → Type 0
-NoPriceGivesMoreThan limit families budget = (n : ℕ) (price bound : Fraction) → 1024 ≤ n
-    → IsBoundAtPrice families budget n price bound → IsAtMost limit bound
-
--- no acceptable certificate has a bound above the limit
-abbrev pub NoCertificateHasMoreThan : ℕ → List Family → ℕ → Type 0
-NoCertificateHasMoreThan limit families budget = (claims : Claims) → IsAcceptable (map points_of families) budget claims → claims.bound ≤ limit
-
--- The promises of a plan's stocks and figures.
-pub record IsSoundPlan (families : List Family) (budget : ℕ) (stocks : List (List ℕ)) (figures : Figures) : Type 0 where
+-- The promises of a plan's stocks and numbers.
+pub record IsSoundPlan (families : List Family) (budget : ℕ) (stocks : List (List ℕ)) (numbers : PlanNumbers) : Type 0 where
   pub allocation : IsAllocation families stocks
-  pub cost : figures.cost ≡ cost_at families stocks
-  pub fits : figures.cost ≤ budget
-  pub upper : (n : ℕ) → 1024 ≤ n → IsAtMost figures.upper (total_at n families stocks)
-  pub fewer : NoneHasFewerThan figures.bound families budget
-  pub price : NoPriceGivesMoreThan (figures.bound + figures.rounding) families budget
-  pub certificate : NoCertificateHasMoreThan (figures.bound + figures.rounding) families budget
-  pub gap : figures.bound + figures.gap ≡ figures.upper
-  pub small_gap : figures.price.q * figures.gap ≤ figures.price.p * (budget - figures.hull_cost) + figures.price.q * figures.rounding
+  pub cost : numbers.cost ≡ cost_at families stocks
+  pub fits : numbers.cost ≤ budget
+  pub upper : (n : ℕ) → 1024 ≤ n → IsAtMost numbers.upper (total_at n families stocks)
+  pub fewer : NoneHasFewerThan numbers.bound families budget
+  pub price : NoPriceGivesMoreThan (numbers.bound + numbers.rounding) families budget
+  pub certificate : NoCertificateHasMoreThan (numbers.bound + numbers.rounding) families budget
+  pub gap : numbers.bound + numbers.gap ≡ numbers.upper
+  pub small_gap : numbers.price.q * numbers.gap ≤ numbers.price.p * (budget - numbers.hull_cost) + numbers.price.q * numbers.rounding
 
 abbrev pub PlansAreSound : Type 0
-PlansAreSound = (families : List Family) (budget : ℕ) (chosen : List Point) (floors : List ℕ) (figures : Figures) → AreEnclosed families
-    → IsPlan (map points_of families) budget chosen floors figures → IsSoundPlan families budget (stocks_of chosen) figures
-
--- The promises of an acceptable certificate.
-pub record IsSoundCertificate (families : List Family) (budget : ℕ) (claims : Claims) : Type 0 where
-  pub allocation : IsAllocation families (stocks_of claims.chosen)
-  pub fits : cost_at families (stocks_of claims.chosen) ≤ budget
-  pub upper : (n : ℕ) → 1024 ≤ n → IsAtMost claims.upper (total_at n families (stocks_of claims.chosen))
-  pub fewer : NoneHasFewerThan claims.bound families budget
-
-abbrev pub CertificatesAreSound : Type 0
-CertificatesAreSound = (families : List Family) (budget : ℕ) (claims : Claims) → AreEnclosed families
-    → IsAcceptable (map points_of families) budget claims → IsSoundCertificate families budget claims
+PlansAreSound = (families : List Family) (budget : ℕ) (chosen : List Point) (floors : List ℕ) (numbers : PlanNumbers) → AreEnclosed families
+    → IsPlan (map points_of families) budget chosen floors numbers → IsSoundPlan families budget (stocks_of chosen) numbers

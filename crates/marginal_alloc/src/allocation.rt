@@ -9,7 +9,7 @@ use std::alloc::Global;
 use step_walk::Walk;
 
 /// The first step that doesn't fit the budget: its family, and the vertex that it would reach.
-#[derive(Clone, Copy, Drop)]
+#[derive(Clone, Copy, Debug, Drop, PartialEq, Eq)]
 pub struct Critical {
     pub family: u32,
     pub vertex: u32,

@@ -1,6 +1,6 @@
 //! The filling: the best change of one family at a time, until there is none.
 ghost use Rattle.std.specs.Prelude.{◌≡◌, ℕ, ◌<◌, ◌≤◌, length, slice_index};
-ghost use Rattle.marginal_alloc.specs.Sums.{cost_of};
+ghost use Rattle.price_bounds.specs.Sums.{cost_of};
 ghost use Rattle.step_walk.specs.Prefix.{AreVertices, picked};
 ghost use Rattle.marginal_alloc.specs.Filling.{Fills};
 

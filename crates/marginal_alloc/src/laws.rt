@@ -1,5 +1,5 @@
 //! What a hull choice and a filling are good for: laws that stand as contracts of functions that do nothing.
-ghost use Rattle.marginal_alloc.specs.Laws.{PicksAreLeast, CriticalIsLeast, NoneHasFewer, NoPriceIsHigher, GapIsNotNegative, GapIsSmall, ChoicesAreOne};
+ghost use Rattle.marginal_alloc.specs.Laws.{PicksAreLeast, CriticalIsLeast, ChoicesAreOne};
 ghost use Rattle.marginal_alloc.specs.Fillings.{FillingIsFull, FillingFits, FillingPicksVertices, FillingNeverRaises, FillingsAreOne};
 
 /// Each vertex of a hull choice is least at its price among all points of its family: no point `v` has a smaller
@@ -11,26 +11,6 @@ pub fn picks_are_least()
 /// The vertex that the critical step would reach is least at the price too.
 pub fn critical_is_least()
     ensures { CriticalIsLeast }
-{}
-
-/// No choice of one point for each family that fits the budget has a smaller sum of lower ends than the bound.
-pub fn none_has_fewer()
-    ensures { NoneHasFewer }
-{}
-
-/// No other price gives a bound that is higher by more than the rounding.
-pub fn no_price_is_higher()
-    ensures { NoPriceIsHigher }
-{}
-
-/// The upper ends of the filled picks are together not below the bound.
-pub fn gap_is_not_negative()
-    ensures { GapIsNotNegative }
-{}
-
-/// How far they can be above it.
-pub fn gap_is_small()
-    ensures { GapIsSmall }
 {}
 
 /// Curves have one hull choice under a budget, so it is a function of both.

@@ -1,15 +1,15 @@
-//! Plans and certificates: what they promise, as contracts of functions that do nothing.
+//! Plans: what they promise, as contracts of functions that do nothing.
 //!
-//! A plan is the filled hull choice of the curves of all families. A certificate claims a bound by a price and by a floor for
-//! each family, and an upper end by chosen points.
-ghost use Rattle.marginal_alloc.specs.Promises.{PlansKeepTheirPromises, PlansAreAcceptable, CertificatesKeepTheirPromises, PlansAreOne};
-ghost use Rattle.marginal_alloc.specs.Soundness.{PlansAreSound, CertificatesAreSound};
+//! A plan is the filled hull choice of the curves of all families.
+ghost use Rattle.marginal_alloc.specs.Promises.{PlansKeepTheirPromises, PlansAreAcceptable, PlansAreOne};
+ghost use Rattle.marginal_alloc.specs.Soundness.{PlansAreSound};
 
+use crate::Critical;
 use hull::Price;
 
 /// The numbers of a plan. Costs are in whole money; the upper end, the bound, the rounding and the gap are in units of 2^-48.
 #[derive(Clone, Copy, Debug, Drop, PartialEq, Eq)]
-pub struct Figures {
+pub struct PlanNumbers {
     /// What the hull choice costs.
     pub hull_cost: u64,
     /// The price at which the hull choice is least.
@@ -24,6 +24,8 @@ pub struct Figures {
     pub rounding: u128,
     /// How far the upper end is above the bound.
     pub gap: u128,
+    /// The critical step of the hull choice.
+    pub critical: Option<Critical>,
 }
 
 /// A plan's choice is within its families and its budget, no choice has fewer, no price gives a bound higher by more than the
@@ -37,20 +39,9 @@ pub fn plans_are_acceptable()
     ensures { PlansAreAcceptable }
 {}
 
-/// No choice within the budget has fewer than an acceptable certificate's bound, and its own choice has no more than its upper
-/// end.
-pub fn certificates_keep_their_promises()
-    ensures { CertificatesKeepTheirPromises }
-{}
-
 /// What a plan promises of all allocations of stocks, and of the model's backorders at each depth from 1024 on.
 pub fn plans_are_sound()
     ensures { PlansAreSound }
-{}
-
-/// What an acceptable certificate promises of them.
-pub fn certificates_are_sound()
-    ensures { CertificatesAreSound }
 {}
 
 /// Families whose points are told apart by their stocks have one plan under a budget, so it is a function of both.

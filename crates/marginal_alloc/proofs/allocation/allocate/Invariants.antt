@@ -1,5 +1,5 @@
 use Rattle.std.proofs.Common.{◌≡◌, ◌≤◌}
-use Rattle.marginal_alloc.specs.Sums.{cost_of}
+use Rattle.price_bounds.specs.Sums.{cost_of}
 use Rattle.step_walk.specs.Prefix.{picked}
 use Rattle.step_walk.proofs.Taking.{steps_left}
 use Rattle.marginal_alloc.proofs.allocation.allocate.Given as goal

@@ -1,7 +1,7 @@
 use Rattle.std.proofs.Common.{◌≡◌, ◌+◌, ◌-◌, ◌<◌, [], length, slice_index, sym, ap, ◌∙◌, subst, arith}
 use Rattle.hull.specs.Curves.{IsShape, point_at}
 use Rattle.marginal_alloc.specs.declared.change.Change.{Change}
-use Rattle.marginal_alloc.specs.Sums.{cost_of}
+use Rattle.price_bounds.specs.Sums.{cost_of}
 use Rattle.step_walk.specs.Prefix.{curve_at, vertex_at, picked}
 use Rattle.marginal_alloc.specs.Filling.{gain}
 use Rattle.marginal_alloc.specs.Changes.{IsBestAmong}

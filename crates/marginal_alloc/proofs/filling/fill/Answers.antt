@@ -1,5 +1,5 @@
 use Rattle.std.proofs.Common.{◌≡◌, ◌+◌, slice_index, ap, ◌∙◌, subst, arith}
-use Rattle.marginal_alloc.specs.Sums.{cost_of}
+use Rattle.price_bounds.specs.Sums.{cost_of}
 use Rattle.step_walk.specs.Prefix.{vertex_at, picked}
 use Rattle.marginal_alloc.specs.Filling.{IsBestChange, IsFull, full, change}
 use Rattle.step_walk.proofs.Greedy.{read_at, vertex_is}

@@ -1,5 +1,5 @@
 use Rattle.std.proofs.Common.{◌≡◌, ℕ, ◌+◌, List}
-use Rattle.marginal_alloc.specs.Sums.{cost_of, hi_of}
+use Rattle.price_bounds.specs.Sums.{cost_of, hi_of}
 use Rattle.step_walk.specs.Prefix.{AreVertices, picked}
 use Rattle.marginal_alloc.specs.Filling.{Fills}
 use Rattle.marginal_alloc.proofs.filling.fill.Given as goal

@@ -1,5 +1,5 @@
 -- Each vertex of the new curve is one of the old ones or the new point.
-use Rattle.std.proofs.Common.{◌≡◌, inl, inr, [], ◌∷◌, length, ◌∙◌, ap}
+use Rattle.std.proofs.Common.{inl, inr, [], ◌∷◌, length, ◌∙◌, ap}
 use Rattle.hull.proofs.Stand.{among_either}
 use Rattle.marginal_alloc.proofs.tests.curve_of.Goals as goal
 

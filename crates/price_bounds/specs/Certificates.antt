@@ -3,7 +3,7 @@ use Rattle.std.specs.Prelude.{◌≡◌, ℕ, ◌<◌, ◌≤◌, List, [], ◌�
 use Rattle.hull.specs.declared.point.Point.{Point}
 use Rattle.hull.specs.declared.price.Price.{Price}
 use Rattle.hull.specs.Curves.{lagrangian, Among}
-use Rattle.marginal_alloc.specs.Sums.{cost_of, hi_of, Picks, bound_of}
+use Rattle.price_bounds.specs.Sums.{cost_of, hi_of, Picks, bound_of}
 
 -- no point of a family has a Lagrangian below its claimed floor
 abbrev pub AreFloors : Price → List (List Point) → List ℕ → Type 0

@@ -3,8 +3,8 @@ use Rattle.std.proofs.Common.{◌≡◌, ℕ, ◌+◌, ◌-◌, ◌*◌, ◌<◌
 use Rattle.std.proofs.Math.Nat.{mul-le-mul_left, le_of_mul-le-mul_left}
 use Rattle.hull.specs.declared.point.Point.{Point}
 use Rattle.hull.specs.Curves.{lagrangian}
-use Rattle.marginal_alloc.specs.Sums.{total, cost_of, lo_of, hi_of, width_of, Picks, AllLeast, bound_of, IsWithin}
-use Rattle.marginal_alloc.proofs.Mixture.{mixed_at}
+use Rattle.price_bounds.specs.Sums.{total, cost_of, lo_of, hi_of, width_of, Picks, AllLeast, bound_of, IsWithin}
+use Rattle.price_bounds.proofs.Mixture.{mixed_at}
 
 -- the lagrangian of all is that of their sums
 pub lagrangian_of_all : (p q : ℕ) (vs : List Point) → total (lagrangian p q) vs ≡ q * lo_of vs + p * cost_of vs

@@ -3,8 +3,8 @@ use Rattle.std.proofs.Common.{ℕ, ◌+◌, ◌*◌, ◌^◌, ◌<◌, ◌≤◌
 use Rattle.std.proofs.Math.Nat.{mul-le-mul_left, mul-le-mul_right, le_of_mul-le-mul_left, mul-pos}
 use Rattle.exact_model.specs.Fraction.{Fraction, whole, ◌+ℚ◌, ◌*ℚ◌, ◌≤ℚ◌, Contains}
 use Rattle.hull.specs.declared.point.Point.{Point}
-use Rattle.marginal_alloc.specs.Sums.{lo_of, hi_of}
-use Rattle.marginal_alloc.specs.Values.{sum_of, AllContain, IsAtLeast, IsAtMost}
+use Rattle.price_bounds.specs.Sums.{lo_of, hi_of}
+use Rattle.price_bounds.specs.Values.{sum_of, AllContain, IsAtLeast, IsAtMost}
 
 low_step : (E a b l n m d : ℕ) → a * d ≤ n * E → b * l ≤ m * E → (a + b) * (d * l) ≤ (n * l + m * d) * E
 low_step E a b l n m d h k =

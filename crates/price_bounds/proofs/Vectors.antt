@@ -1,25 +1,22 @@
 -- Choices of points are allocations.
-use Rattle.std.proofs.Common.{◌≡◌, ℕ, zero, suc, ◌+◌, ◌*◌, ◌^◌, ◌<◌, ◌≤◌, inl, inr, List, [], ◌∷◌, map, refl, sym, ap, ◌∙◌, subst, arith}
+use Rattle.std.proofs.Common.{◌≡◌, ℕ, ◌+◌, ◌*◌, ◌^◌, ◌<◌, ◌≤◌, inl, inr, List, [], ◌∷◌, map, refl, sym, ap, ◌∙◌, subst, arith}
 use Rattle.std.proofs.Math.Nat.{le_of_mul-le-mul_right}
-use Rattle.exact_model.specs.Fraction.{Fraction, whole, ◌+ℚ◌, ◌*ℚ◌, ◌≤ℚ◌, Contains}
+use Rattle.exact_model.specs.Fraction.{Fraction, ◌+ℚ◌, Contains}
 use Rattle.hull.specs.declared.point.Point.{Point}
 use Rattle.hull.specs.Curves.{Among}
-use Rattle.marginal_alloc.specs.Sums.{cost_of, Picks}
-use Rattle.marginal_alloc.specs.declared.plans.Figures.{Figures}
-use Rattle.marginal_alloc.specs.Values.{sum_of, AllContain, IsAtLeast, IsAtMost}
-use Rattle.marginal_alloc.specs.Plans.{IsPlan}
-use Rattle.marginal_alloc.specs.Certificates.{Claims, IsAcceptable}
-use Rattle.marginal_alloc.specs.Promises.{AreIntervals, PlanPromises, CertificatePromises}
-use Rattle.marginal_alloc.specs.Allocations.{Family, point_of, points_of, AreEnclosed, IsAllocation, cost_at, total_at, IsBoundAtPrice}
-use Rattle.marginal_alloc.specs.Soundness.{stocks_of, NoneHasFewerThan, IsSoundPlan, IsSoundCertificate}
-use Rattle.marginal_alloc.proofs.Kept.{plan_kept, certificate_kept}
+use Rattle.price_bounds.specs.Sums.{cost_of, Picks}
+use Rattle.price_bounds.specs.Values.{sum_of, AllContain, IsAtLeast, IsAtMost}
+use Rattle.price_bounds.specs.Certificates.{Claims, IsAcceptable}
+use Rattle.price_bounds.specs.Allocations.{Family, point_of, points_of, AreEnclosed, IsAllocation, cost_at, total_at}
+use Rattle.price_bounds.specs.Soundness.{stocks_of, NoneHasFewerThan, IsSoundCertificate}
+use Rattle.price_bounds.proofs.Kept.{CertificateKept, certificate_kept}
 
 -- a point of a family is that of its stocks
 pub record IsOwn (family : Family) (v : Point) : Type 0 where
   pub is : v ≡ point_of family v.stocks
   pub vector : Among v.stocks family.vectors
 
-own : (family : Family) (vectors : List (List ℕ)) (v : Point) → Among v (map (point_of family) vectors) → (v ≡ point_of family v.stocks) × Among v.stocks vectors
+pub own : (family : Family) (vectors : List (List ℕ)) (v : Point) → Among v (map (point_of family) vectors) → (v ≡ point_of family v.stocks) × Among v.stocks vectors
 own family [] v a = absurd a
 own family (s ∷ vectors) v (inl e) = (e ∙ ap (λ z. point_of family z) (sym (ap (λ z. z.stocks) e)), inl (ap (λ z. z.stocks) e))
 own family (s ∷ vectors) v (inr a) = (let r = own family vectors v a in (r.0, inr r.1))
@@ -88,52 +85,20 @@ choice_values n families points l e p = subst (λ z. AllContain z (values_at n f
 ends_step : (E l h n d : ℕ) → 0 < d → l * d ≤ n * E → n * E ≤ h * d → l ≤ h
 ends_step E l h n d p a b = (let i : l * d ≤ h * d = omega (arith, a, b) in le_of_mul-le-mul_right i p)
 
-ends_of : (lo hi : ℕ) (q : Fraction) → Contains 48 lo hi q → lo ≤ hi
+pub ends_of : (lo hi : ℕ) (q : Fraction) → Contains 48 lo hi q → lo ≤ hi
 ends_of lo hi q c = ends_step (2 ^ 48) lo hi q.num q.den q.positive c.low c.high
 
-pub intervals : (families : List Family) → AreEnclosed families → AreIntervals (map points_of families)
-intervals [] e f v a = absurd a
-intervals (family ∷ families) e zero v a =
-    let o = own family family.vectors v a in
-    let l : family.lo v.stocks ≤ family.hi v.stocks = ends_of (family.lo v.stocks) (family.hi v.stocks) (family.backorders 1024 v.stocks) (e.0 v.stocks o.1 1024 (omega arith)) in
-    subst (λ z. z.lo ≤ z.hi) (sym o.0) l
-intervals (family ∷ families) e (suc f) v a = intervals families e.1 f v a
-
-none_fewer : (families : List Family) (budget bound : ℕ) → AreEnclosed families
+pub none_fewer : (families : List Family) (budget bound : ℕ) → AreEnclosed families
     → ((points : List Point) (values : List Fraction) → Picks (map points_of families) points → cost_of points ≤ budget → AllContain points values → IsAtLeast bound (sum_of values))
     → NoneHasFewerThan bound families budget
 none_fewer families budget bound e h n allocation l a fits = subst (λ z. IsAtLeast bound z) (total_is n families allocation)
     (h (points_at families allocation) (values_at n families allocation) (allocation_picks families allocation a) (let c = allocation_cost families allocation in omega (arith, c, fits)) (allocation_values n families allocation l e a))
 
-pub plan_sound : (families : List Family) (budget : ℕ) (chosen : List Point) (floors : List ℕ) (figures : Figures) → AreEnclosed families
-    → IsPlan (map points_of families) budget chosen floors figures → IsSoundPlan families budget (stocks_of chosen) figures
-plan_sound families budget chosen floors figures e plan = sound (plan_kept (map points_of families) budget chosen floors figures plan (intervals families e))
-  where
-    at_price : (n : ℕ) (price bound : Fraction) → IsBoundAtPrice families budget n price bound → (points : List Point) → Picks (map points_of families) points
-        → bound +ℚ price *ℚ whole budget ≤ℚ sum_of (values_at n families (stocks_of points)) +ℚ price *ℚ whole (cost_of points)
-    at_price n price bound h points p =
-        subst (λ z. bound +ℚ price *ℚ whole budget ≤ℚ z +ℚ price *ℚ whole (cost_of points)) (sym (total_is n families (stocks_of points)))
-        (subst (λ z. bound +ℚ price *ℚ whole budget ≤ℚ total_at n families (stocks_of points) +ℚ price *ℚ whole z) (sym (choice_cost families points p))
-        (h (stocks_of points) (choice_allocation families points p)))
-
-    sound : PlanPromises (map points_of families) budget chosen figures → IsSoundPlan families budget (stocks_of chosen) figures
-    sound k = record {
-      allocation = choice_allocation families chosen k.within;
-      cost = plan.cost ∙ choice_cost families chosen k.within;
-      fits = k.fits;
-      upper = λ n l. subst (λ z. IsAtMost figures.upper z) (total_is n families (stocks_of chosen)) (k.upper (values_at n families (stocks_of chosen)) (choice_values n families chosen l e k.within));
-      fewer = none_fewer families budget figures.bound e k.fewer;
-      price = λ n price bound l h. k.higher (λ points. values_at n families (stocks_of points)) price bound (λ points p. choice_values n families points l e p) (at_price n price bound h);
-      certificate = k.certificates;
-      gap = k.gap;
-      small_gap = k.small;
-    }
-
 pub certificate_sound : (families : List Family) (budget : ℕ) (claims : Claims) → AreEnclosed families
     → IsAcceptable (map points_of families) budget claims → IsSoundCertificate families budget claims
 certificate_sound families budget claims e a = sound (certificate_kept (map points_of families) budget claims a)
   where
-    sound : CertificatePromises (map points_of families) budget claims → IsSoundCertificate families budget claims
+    sound : CertificateKept (map points_of families) budget claims → IsSoundCertificate families budget claims
     sound k = record {
       allocation = choice_allocation families claims.chosen a.within;
       fits = subst (λ z. z ≤ budget) (choice_cost families claims.chosen a.within) a.fits;

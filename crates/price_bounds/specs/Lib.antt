@@ -1,0 +1,5 @@
+pub mod Sums
+pub mod Values
+pub mod Certificates
+pub mod Allocations
+pub mod Soundness
