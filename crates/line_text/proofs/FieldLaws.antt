@@ -8,7 +8,7 @@ use Rattle.std.proofs.lemmas.Bool.{and_parts, and_from, leb-true, le-leb, ne_eqb
 use Rattle.std.proofs.lemmas.Nat.{mod_below}
 use Rattle.std.proofs.lemmas.Fmt.{decimal_by_steps_wide, decimal_is_IsNumeral_wide}
 use Rattle.line_text.specs.Formats.{Token, Format, one, nothing, and_then, as_shape, each, fits_after}
-use Rattle.line_text.specs.Texts.{in_range, number, plain, word, word_line, count_line, numbers_from, counted, one_for_each, no_field, empty_field}
+use Rattle.line_text.specs.Texts.{in_range, number, plain, word, word_line, number_line, count_line, numbers_from, counted, one_for_each, no_field, empty_field}
 use Rattle.line_text.specs.Exact.{IsExactText, IsExact, IsField, IsPlain, IsLine}
 use Rattle.line_text.proofs.Laws.{one_is_exact, both_are_exact, as_shape_is_exact, nothing_is_exact, each_after_is_exact, all_are, length-after}
 use Rattle.line_text.proofs.LineLaws.{spelled_is_exact, line_is_exact}
@@ -59,6 +59,9 @@ word_is_exact w h = one_is_exact IsField _ (spelled_is_exact IsField (λ _. w) (
 
 pub word_line_is_exact : (w : Token) → IsField w → IsExact IsLine (word_line w)
 word_line_is_exact w h = one_is_exact IsLine _ (line_is_exact (word w) (word_is_exact w h) (λ a. omega arith))
+
+pub number_line_is_exact : (most : ℕ) → most < 10 ^ 64 → IsExact IsLine (number_line most)
+number_line_is_exact most m = one_is_exact IsLine _ (line_is_exact (one (number 0 most)) (one_is_exact IsField (number 0 most) (number_is_exact 0 most (omega arith) m)) (λ a. omega arith))
 
 pub count_fields_are_exact : (w : Token) (least most : ℕ) → IsField w → least ≤ most → most < 10 ^ 64
     → IsExact IsField (as_shape (and_then (word w) (λ _. one (number least most))) (λ x. x.1) (λ n. (tt, n)) (λ _. true))

@@ -7,3 +7,5 @@ pub mod Numerals
 pub mod Loops
 pub mod MoreFields
 pub mod FixedLaws
+pub mod Parts
+pub mod Steps

@@ -4,7 +4,8 @@ use Rattle.std.proofs.lemmas.Grind.{take_at_read}
 use Rattle.std.proofs.lemmas.List.{append-nil}
 use Rattle.std.specs.List.{concat}
 use Rattle.std.proofs.lemmas.List.Folds.{concat-append}
-use Rattle.line_text.specs.Formats.{Token, Text, Format, ◌>>=◌, one, and_then, each_after, read_after, print_after}
+use Rattle.spares_io.specs.Steps.{◌>>=◌}
+use Rattle.line_text.specs.Formats.{Token, Text, Format, one, and_then, each_after, read_after, print_after}
 use Rattle.line_text.specs.Texts.{numbers_from}
 use Rattle.line_text.specs.Reading.{Gathers}
 use Rattle.line_text.specs.declared.bad_line.BadLine.{BadLine}

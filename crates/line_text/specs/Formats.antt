@@ -1,6 +1,7 @@
 -- A format says at once how values are written and how they are read.
 -- A file is a list of lines, each with its line feed, and a line is a list of fields: both are lists of tokens.
 use Rattle.std.specs.Prelude.{ℕ, Bool, true, false, ◌&&◌, List, [], ◌∷◌, ◌++◌, Option, Some, None, Result, Ok, Err, if◌then◌else◌, bytes_eq}
+use Rattle.spares_io.specs.Steps.{◌>>=◌}
 
 abbrev pub Token : Type 0
 Token = List ℕ
@@ -16,11 +17,6 @@ pub record Format (A : Type 0) : Type 0 where
   pub print : A → List Token
   pub read : List Token → Result (A × List Token) (List Token)
   pub fits : A → Bool
-
-infixl 10 ◌>>=◌
-abbrev pub ◌>>=◌ : {A B E : Type 0} → Result A E → (A → Result B E) → Result B E
-(Ok x) >>= f = f x
-(Err e) >>= f = Err e
 
 infixl 10 ◌>>-◌
 abbrev pub ◌>>-◌ : {A B : Type 0} → Option A → (A → Option B) → Option B

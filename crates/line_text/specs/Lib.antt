@@ -3,3 +3,4 @@ pub mod Texts
 pub mod Files
 pub mod Exact
 pub mod Reading
+pub mod Writing

@@ -1,5 +1,5 @@
 -- The kinds of fields and lines that files are made of.
-use Rattle.std.specs.Prelude.{◌≡◌, ℕ, zero, suc, ◌+◌, ◌/◌, ◌%◌, ◌^◌, ◌≤◌, ◌<◌, slice_index, Bool, true, not, ◌&&◌, ◌==◌, nat_le, List, [], ◌∷◌, ◌++◌, length, filter, Option, Some, None, option_map, if◌then◌else◌}
+use Rattle.std.specs.Prelude.{◌≡◌, ℕ, zero, suc, ◌≤◌, ◌<◌, slice_index, Bool, true, not, ◌&&◌, ◌==◌, nat_le, List, [], ◌∷◌, length, filter, Option, Some, None, option_map, if◌then◌else◌}
 use Rattle.std.specs.Fmt.{decimal}
 use Rattle.std.specs.Str.Parse.{digits_value}
 use Rattle.fixed_interval.specs.Text.{fixed_text}
@@ -59,6 +59,10 @@ count_fields w least most = as_shape (and_then (word w) (λ _. one (number least
 
 abbrev pub count_line : Token → ℕ → ℕ → Format ℕ
 count_line w least most = one (line (count_fields w least most))
+
+-- the line of one number alone
+abbrev pub number_line : ℕ → Format ℕ
+number_line most = one (line (one (number 0 most)))
 
 -- so many numbers, from one on
 abbrev pub numbers_from : ℕ → ℕ → List ℕ

@@ -3,6 +3,7 @@
 ghost use Rattle.std.specs.Prelude.{◌≡◌, ℕ, List, ◌^◌, ◌≤◌, ◌++◌, ◌∷◌, length, MatchOption, OnOk};
 ghost use Rattle.fixed_interval.specs.Text.{fixed_text, last_digits};
 ghost use Rattle.line_text.specs.Texts.{fixed};
+ghost use Rattle.line_text.specs.Writing.{Puts};
 
 use crate::numbers::{are_digits, number, put_number, value_after};
 use spares_io::NoMemory;
@@ -67,7 +68,7 @@ fn put_last_digits(
     number: u128,
 ) -> Result<(), NoMemory>
     requires { power ≡ 10 ^ places }
-    ensures { OnOk result (out.new.items ≡ out.old.items ++ last_digits places number) }
+    ensures { Puts result out.old.items out.new.items (last_digits places number) }
 {
     let mut unit = power;
     for _k in 0..places {
@@ -77,10 +78,11 @@ fn put_last_digits(
     Ok(())
 }
 
-/// Writes a number of units of the last of so many `places`, with all of them.
+/// Writes a number of units of the last of so many `places`, with all of them. Want of memory leaves a
+/// part of it.
 pub fn put_fixed(out: &mut Vec<u8>, places: usize, number: u128) -> Result<(), NoMemory>
     requires { places ≤ 18 }
-    ensures { OnOk result (out.new.items ≡ out.old.items ++ fixed_text places number) }
+    ensures { Puts result out.old.items out.new.items (fixed_text places number) }
 {
     let power = power_of_ten(places);
     put_number(out, number / power)?;

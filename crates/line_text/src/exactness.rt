@@ -3,7 +3,7 @@
 ghost use Rattle.std.specs.Prelude.{◌≡◌, ◌≢◌, ℕ, suc, ◌^◌, ◌<◌, ◌≤◌, Bool, true, List, [], Ok, Err, length};
 ghost use Rattle.std.specs.List.{AllByRecursion};
 ghost use Rattle.line_text.specs.Formats.{Token, Text, Format, spelled, one, nothing, and_then, as_shape, each, each_after};
-ghost use Rattle.line_text.specs.Texts.{number, fixed, plain, word, no_field, empty_field, word_line, count_line, counted, one_for_each, either, if_any, only};
+ghost use Rattle.line_text.specs.Texts.{number, fixed, plain, word, no_field, empty_field, word_line, count_line, number_line, counted, one_for_each, either, if_any, only};
 ghost use Rattle.line_text.specs.Files.{line, file_text, file_answer, IsFirstBad};
 ghost use Rattle.line_text.specs.Exact.{Level, IsToken, IsField, IsLine, IsExactText, IsExact};
 
@@ -78,8 +78,8 @@ pub fn fields_are_exact<A>()
         → IsExact IsField (empty_field x has) }
 {}
 
-/// Lines are exact: of any exact fields of which there are some, of a word, of a word and a number, and of
-/// a word and a number with so many lines after it.
+/// Lines are exact: of any exact fields of which there are some, of a word, of a number, of a word and a number, and
+/// of a word and a number with so many lines after it.
 pub fn lines_are_exact<K, A>()
     ensures line { (fields : Format A)
         → IsExact IsField fields
@@ -91,6 +91,7 @@ pub fn lines_are_exact<K, A>()
         → least ≤ most
         → most < 10 ^ 64
         → IsExact IsLine (count_line w least most) }
+    ensures number_line { (most : ℕ) → most < 10 ^ 64 → IsExact IsLine (number_line most) }
     ensures counted { (w : Token) (least most : ℕ) (format : ℕ → Format A)
         → IsField w
         → least ≤ most

@@ -21,4 +21,4 @@ pub use exactness::{
 };
 pub use lines::{Fields, Lines};
 pub use numbers::{number, put_number};
-pub use rows::{count_line, put_count_line, word_line};
+pub use rows::{count_line, number_line, put_count_line, put_number_line, word_line};

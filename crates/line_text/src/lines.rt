@@ -152,6 +152,13 @@ impl<'a> Lines<'a> {
 }
 
 impl<'a> Fields<'a> {
+    /// The fields of these bytes: of a line that has no line feed.
+    pub fn of(bytes: &'a [u8]) -> Fields<'a>
+        ensures { result ≡ slice_split comma bytes.now }
+    {
+        Fields { rest: Some(bytes) }
+    }
+
     /// The next field.
     pub fn next(&mut self) -> Option<&'a [u8]>
         ensures { MatchOption result ((self.old ≡ []) × (self.new ≡ []))

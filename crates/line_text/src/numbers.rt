@@ -1,9 +1,10 @@
 //! Whole numbers as fields.
 
-ghost use Rattle.std.specs.Prelude.{◌≡◌, ℕ, ◌^◌, ◌≤◌, ◌++◌, ◌↔◌, IsTrue, MatchOption, OnOk};
+ghost use Rattle.std.specs.Prelude.{◌≡◌, ℕ, ◌^◌, ◌≤◌, ◌↔◌, IsTrue, MatchOption};
 ghost use Rattle.std.specs.Fmt.{decimal};
 ghost use Rattle.std.specs.Str.Parse.{digits_value_after};
 ghost use Rattle.line_text.specs.Texts.{AreDigits, IsShort, number};
+ghost use Rattle.line_text.specs.Writing.{Puts};
 
 use itoa::Buffer;
 use spares_io::NoMemory;
@@ -69,9 +70,10 @@ pub fn number(text: &[u8], least: u128, most: u128) -> Option<u128>
     Some(n)
 }
 
-/// Writes a whole number.
+/// Writes a whole number. Want of memory leaves a part of it.
+#[tactic(auto, using(crate::proofs::Parts::none_put))]
 pub fn put_number(out: &mut Vec<u8>, number: u128) -> Result<(), NoMemory>
-    ensures { OnOk result (out.new.items ≡ out.old.items ++ decimal number) }
+    ensures { Puts result out.old.items out.new.items (decimal number) }
 {
     let mut buffer = Buffer::new();
     out.extend_from_slice(buffer.format(number).as_bytes())?;

@@ -1,10 +1,11 @@
 //! Lines of a word, and of a word and a number.
 
-ghost use Rattle.std.specs.Prelude.{◌≡◌, ℕ, ◌++◌, OnOk};
-ghost use Rattle.line_text.specs.Formats.{accepted, read_all};
+ghost use Rattle.std.specs.Prelude.{◌≡◌, ℕ};
+ghost use Rattle.line_text.specs.Formats.{accepted, one, read_all};
 ghost use Rattle.line_text.specs.Files.{file_text};
-ghost use Rattle.line_text.specs.Texts.{word, count_fields, count_line, word_line};
+ghost use Rattle.line_text.specs.Texts.{word, number, count_fields, count_line, number_line, word_line};
 ghost use Rattle.line_text.specs.Reading.{Reads, Takes};
+ghost use Rattle.line_text.specs.Writing.{Puts};
 
 use crate::bad_line::BadLine;
 use crate::lines::{Fields, Lines};
@@ -72,9 +73,48 @@ pub fn word_line(lines: &mut Lines<'_>, name: &[u8]) -> Result<(), BadLine>
     }
 }
 
-/// Writes the line of a word and a number.
+// The number that is a line's only field.
+#[tactic(auto, using(crate::proofs::Cursors::whole_read, crate::proofs::Cursors::whole_left, crate::proofs::Cursors::whole_refused))]
+fn number_all(mut fields: Fields<'_>, most: u128) -> Option<u128>
+    ensures { result ≡ accepted (read_all (one (number 0 most)) fields.entry) }
+{
+    let number = fields.number(0, most)?;
+    if fields.is_empty() {
+        Some(number)
+    } else {
+        None
+    }
+}
+
+/// Reads the line of one number up to `most`.
+#[tactic(auto, using(crate::proofs::Cursors::line_read, crate::proofs::Cursors::line_refused, crate::proofs::Cursors::line_missing))]
+pub fn number_line(lines: &mut Lines<'_>, most: u128) -> Result<u128, BadLine>
+    ensures { Reads (λ n. n) result lines.new ((number_line most).read lines.old) }
+{
+    let fields = lines.fields()?;
+    match number_all(fields, most) {
+        Some(number) => {
+            lines.pass();
+            Ok(number)
+        }
+        None => Err(BadLine),
+    }
+}
+
+/// Writes the line of one number. Want of memory leaves a part of it.
+#[tactic(auto, using(crate::proofs::Loops::one_text))]
+pub fn put_number_line(out: &mut Vec<u8>, number: u128) -> Result<(), NoMemory>
+    ensures { (most : ℕ) → Puts result out.old.items out.new.items (file_text (number_line most) number) }
+{
+    put_number(out, number)?;
+    out.push(b'\n')?;
+    Ok(())
+}
+
+/// Writes the line of a word and a number. Want of memory leaves a part of it.
 pub fn put_count_line(out: &mut Vec<u8>, name: &[u8], number: u128) -> Result<(), NoMemory>
-    ensures { OnOk result ((least most : ℕ) → out.new.items ≡ out.old.items ++ file_text (count_line name.now least most) number) }
+    ensures { (least most : ℕ)
+        → Puts result out.old.items out.new.items (file_text (count_line name.now least most) number) }
 {
     out.extend_from_slice(name)?;
     out.push(b',')?;

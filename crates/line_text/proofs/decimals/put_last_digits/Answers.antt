@@ -1,4 +1,5 @@
-use Rattle.std.proofs.Common.{◌+◌, ◌-◌, ◌/◌, ◌%◌, ◌++◌, ◌∷◌, [], List, ℕ, sym, ap, ◌∙◌, append_assoc, arith}
+use Rattle.line_text.proofs.Parts.{would_be, put_part}
+use Rattle.std.proofs.Common.{◌+◌, ◌-◌, ◌/◌, ◌%◌, ◌++◌, ◌∷◌, [], List, ℕ, sym, ap, ◌∙◌, append_assoc, length, length-append, arith}
 use Rattle.std.proofs.lemmas.List.{append-nil}
 use Rattle.fixed_interval.specs.Text.{last_digits}
 use Rattle.line_text.proofs.FixedLaws.{unit_falls, ten_positive, front_more, last_at}
@@ -17,6 +18,7 @@ loop-k-preserved c =
           ∙ append_assoc c.loop-k.out.items (d ∷ []) rest
           ∙ ap (λ (z : List ℕ). c.loop-k.out.items ++ z) (sym (front_more c.args.places c.loop-k._k c.args.number (c.loop-k.unit / 10) c.loop-k-test.true u))
           ∙ c.loop-k.invariant.1,
+      omega (arith, c.loop-k.invariant.2, ap length c.in_ok-push.ensures.items, length-append c.loop-k.out.items (d ∷ [])),
     )
 
 pub returns : goal.returns
@@ -24,3 +26,13 @@ returns c =
     sym (append-nil c.loop-k.out.items)
     ∙ ap (λ (z : List ℕ). c.loop-k.out.items ++ z) (sym (last_at c.args.places c.loop-k._k c.args.number c.loop-k-test.false))
     ∙ c.loop-k.invariant.1
+
+pub returns-in_err-push : goal.returns-in_err-push
+returns-in_err-push c =
+    let old = c.args.out.now.items in
+    let whole = last_digits c.args.places c.args.number in
+    let rest = last_digits (c.args.places - c.loop-k._k) c.args.number in
+    put_part c.from_residual.result old c.push.new.self.items whole c.from_residual.ensures.0
+    (would_be old c.push.new.self.items rest whole
+    (omega (arith, c.loop-k.invariant.2, ap length (c.in_err-push.ensures.items)))
+    (ap (λ (z : List ℕ). z ++ rest) c.in_err-push.ensures.items ∙ c.loop-k.invariant.1))
