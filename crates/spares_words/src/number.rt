@@ -1,6 +1,7 @@
 //! The numbers of a command line.
-ghost use Rattle.std.specs.Prelude.{◌≡◌, ◌≤◌, IfOk, IfSome, option_map, true};
-ghost use Rattle.spares_words.specs.Order.{bits_of, is_width, number_of, optional_of, whole_of};
+ghost use Rattle.std.specs.Prelude.{◌≡◌, ◌≤◌, IfOk, IfSome, option_map};
+ghost use Rattle.fixed_interval.specs.Widths.{IsWidth, is_width};
+ghost use Rattle.spares_words.specs.Order.{bits_of, number_of, optional_of, whole_of};
 
 use crate::{Which, WordsFault};
 use exact_ratio::{Decimal, read_decimal};
@@ -56,7 +57,7 @@ fn is_width(bits: u64) -> bool
 /// The bits of a text that may be left out: then they are 48.
 pub(crate) fn bits(text: Option<&str>) -> Result<u8, WordsFault>
     ensures value { result ≡ bits_of (option_map (λ s. s.now) text.entry) }
-    ensures range { IfOk result (λ bits. is_width bits ≡ true) }
+    ensures range { IfOk result IsWidth }
 {
     let Some(text) = text else {
         return Ok(48);
