@@ -2,3 +2,4 @@ pub mod Exact
 pub mod Shape
 pub mod Written
 pub mod Valid
+pub mod Few

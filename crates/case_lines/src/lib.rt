@@ -14,4 +14,4 @@ mod tests;
 mod whole;
 
 pub use exactness::case_lines_are_exact;
-pub use whole::{put_case, write_case};
+pub use whole::write_case;

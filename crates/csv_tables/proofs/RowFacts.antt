@@ -13,7 +13,8 @@ use Rattle.spares_input.specs.declared.rows.RateRow.{RateRow}
 use Rattle.spares_input.specs.declared.rows.StockRow.{StockRow}
 use Rattle.spares_input.proofs.PartFacts.{part-named, site-named}
 use Rattle.csv_tables.specs.Rest.{Record}
-use Rattle.csv_tables.specs.Fields.{◌>>=◌, field, has_none, name_in, number_in, used_in}
+use Rattle.spares_io.specs.Steps.{◌>>=◌}
+use Rattle.csv_tables.specs.Fields.{field, has_none, name_in, number_in, used_in}
 use Rattle.csv_tables.specs.Sites.{depot_in, site_of}
 use Rattle.csv_tables.specs.Parts.{parent_in, part_of, weight_in}
 use Rattle.csv_tables.specs.Rates.{found_or, part_in, rate_of, site_in}

@@ -8,7 +8,8 @@ use Rattle.std.proofs.lemmas.List.Elements.{All-nil, All-cons}
 use Rattle.std.proofs.lemmas.Bool.{false≢true, le-leb, lt-leb, leb-false, and_from}
 use Rattle.spares_input.specs.First.{first}
 use Rattle.csv_tables.specs.Rest.{Record, TakesFirst}
-use Rattle.csv_tables.specs.Fields.{◌>>=◌, counted}
+use Rattle.spares_io.specs.Steps.{◌>>=◌}
+use Rattle.csv_tables.specs.Fields.{counted}
 use Rattle.csv_tables.specs.Tables.{column_fault, header_in, row_with, rows_from, rows_of, table_of}
 use Rattle.csv_tables.specs.declared.fault.TableFault.{TableFault}
 use Rattle.csv_tables.specs.declared.fault.TableFault.TheVariants as fault

@@ -33,12 +33,6 @@ trimmed text = trim_end (trim_start text)
 abbrev pub field : Record → ℕ → List ℕ
 field r i = trimmed (unwrap_or (field_at r i) [])
 
--- what is read next of a value, or the fault that came first
-infixl 10 ◌>>=◌
-abbrev pub ◌>>=◌ : {A B : Type 0} → Result A TableFault → (A → Result B TableFault) → Result B TableFault
-(Ok x) >>= f = f x
-(Err e) >>= f = Err e
-
 -- a record has this number of fields
 abbrev pub counted : ℕ → ℕ → Record → Result ℕ TableFault
 counted row columns r = if length r == columns then Ok columns else Err (fault.FieldCount row (length r))

@@ -1,4 +1,4 @@
-//! The tables of a case: bytes of CSV in, rows or the first fault out; and a case as lines of text.
+//! The tables of a case: bytes of CSV in, rows or the first fault out.
 #![tactic(auto)]
 
 mod fault;
@@ -10,7 +10,6 @@ mod sites;
 mod stocks;
 mod table;
 
-pub use case_lines::{case_lines_are_exact, put_case, write_case};
 pub use fault::TableFault;
 pub use parts::read_parts;
 pub use rates::read_rates;

@@ -1,5 +1,5 @@
 -- What stands where only a part was appended.
-use Rattle.std.proofs.Common.{◌≡◌, ℕ, ◌+◌, ◌-◌, ◌≤◌, List, ◌++◌, length, take, drop, Result, Ok, Err, sym, ap, ◌∙◌, append_assoc, arith}
+use Rattle.std.proofs.Common.{◌≡◌, ℕ, ◌+◌, ◌-◌, ◌≤◌, List, ◌++◌, length, take, drop, Result, Ok, Err, OnOk, sym, ap, ◌∙◌, append_assoc, arith}
 use Rattle.std.proofs.lemmas.Bool.{false≢true}
 use Rattle.std.proofs.Math.Seq.{take-append_seam, take-append-add}
 use Rattle.std.proofs.lemmas.List.{append-nil, take-append-drop}
@@ -48,3 +48,8 @@ first_part old new piece after p =
 pub put_part : (result : Result Unit NoMemory) (old new piece : List ℕ) → IsErr result → AppendsPart old new piece → Puts result old new piece
 put_part (Ok x) old new piece h p = absurd (false≢true h)
 put_part (Err e) old new piece h p = p
+
+-- what a call that answered Ok appended
+pub all_put : (result : Result Unit NoMemory) (old new piece : List ℕ) → Puts result old new piece → OnOk result (new ≡ old ++ piece)
+all_put (Ok x) old new piece h = h
+all_put (Err e) old new piece h = tt
