@@ -3,7 +3,6 @@
 ghost use Rattle.std.specs.Prelude.{◌≡◌, ◌*◌, ◌≤◌, ◌<◌, length, map, IfOk};
 ghost use Rattle.spares_io.specs.Answers.{Gives};
 ghost use Rattle.spares_input.specs.Building.{StopsAt};
-ghost use Rattle.spares_input.specs.Pairs.{part_of_place, site_of_place};
 ghost use Rattle.demand_rates.specs.Depot.{AreDepotDemands};
 ghost use Rattle.demand_rates.specs.Limits.{rate_fault_of};
 ghost use Rattle.demand_rates.specs.Waits.{AreAllWaits};
@@ -15,23 +14,9 @@ use crate::kinds::{PairRates, Rates};
 use crate::limits::pipeline_fault;
 use crate::pairs::pair_rates;
 use crate::waits::all_waits;
-use spares_input::{Case, PartId, SiteId};
+use spares_input::{Case, pair_at};
 use spares_io::Stop;
 use std::alloc::Global;
-
-/// The pair at a place, by part and then by site.
-fn pair_at(place: usize, sites: usize) -> (PartId, SiteId)
-    requires some_sites { 0 < sites }
-    requires few_sites { sites ≤ 16 }
-    requires within { place < 2000 * sites }
-    ensures part { result.0 ≡ part_of_place sites place }
-    ensures site { result.1 ≡ site_of_place sites place }
-{
-    (
-        PartId((place / sites) as u16),
-        SiteId((place % sites) as u8),
-    )
-}
 
 /// The rates of all pairs, by part and then by site, or the first rule that they break.
 fn all_pairs(
