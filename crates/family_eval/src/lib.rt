@@ -44,7 +44,7 @@ mod shops;
 mod tests;
 
 pub use item::{FamilyResult, Item};
-pub use shops::shop_units;
+pub use shops::{members, shop_units};
 
 /// The item of each pair encloses the model's figures at every depth from 1024 on, and none of them is above 256.
 pub fn items_enclose()

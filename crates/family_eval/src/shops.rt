@@ -2,7 +2,7 @@
 
 ghost use Rattle.std.specs.Prelude.{◌≡◌, ◌<◌, IfOk, length, map, flat_map, All};
 ghost use Rattle.fixed_interval.specs.Ends.{InScale};
-ghost use Rattle.spares_input.specs.Frames.{is_shop_of};
+ghost use Rattle.fleet_model.specs.Fleet.{family};
 ghost use Rattle.fleet_model.specs.Rows.{shop_units};
 ghost use Rattle.family_eval.specs.Profile.{base_shop, depot_shop, part_items};
 ghost use Rattle.family_eval.specs.Inputs.{IsShopUnit};
@@ -10,34 +10,35 @@ ghost use Rattle.family_eval.specs.Inputs.{IsShopUnit};
 use crate::inputs::Inputs;
 use crate::item::Item;
 use crate::levels::{base_shop_item, depot_shop_item, feed_of};
-use spares_input::{Case, PartId, PartRow, SiteId};
+use spares_input::{Case, PartId, SiteId};
 use spares_io::NoMemory;
 use std::alloc::Global;
-
-/// Whether a part is a shop unit of this line unit.
-fn is_shop_of(line: &PartRow, part: &PartRow) -> bool
-    ensures { result ≡ is_shop_of line.now part.now }
-{
-    match part.parent {
-        Some(parent) => line.name == parent,
-        None => false,
-    }
-}
 
 /// The shop units of a line unit, in part order. Want of memory is the only error.
 pub fn shop_units(alloc: Global, case: &Case, line: PartId) -> Result<Vec<PartId>, NoMemory>
     requires { line.0 < length case.now.parts }
     ensures { IfOk result (λ v. map (λ p. p.0) v.items ≡ shop_units case.now line.0) }
 {
-    let row = case.part(line);
     let mut shops = Vec::new(alloc);
     for p in 0..case.part_count() {
         let part = PartId(p);
-        if is_shop_of(row, case.part(part)) {
+        if case.is_shop_of(part, line) {
             shops.push(part)?;
         }
     }
     Ok(shops)
+}
+
+/// The parts of a family: the line unit, and then its shop units in part order. Want of memory is the only error.
+pub fn members(alloc: Global, case: &Case, line: PartId) -> Result<Vec<PartId>, NoMemory>
+    requires { line.0 < length case.now.parts }
+    ensures { IfOk result (λ v. map (λ p. p.0) v.items ≡ family case.now line.0) }
+{
+    let mut shops = shop_units(alloc, case, line)?;
+    let mut members = Vec::new(alloc);
+    members.push(line)?;
+    members.append(&mut shops)?;
+    Ok(members)
 }
 
 /// A shop unit at the depot.

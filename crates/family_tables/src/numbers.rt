@@ -9,7 +9,7 @@ ghost use Rattle.family_eval.specs.Inputs.{IsLine};
 ghost use Rattle.family_tables.specs.Numbers.{AreNumbers, ArePairNumbers, numbers_of, pair_at, pair_numbers};
 
 use demand_rates::kinds::{PIPELINE_SCALE, Rates};
-use family_eval::shop_units;
+use family_eval::members;
 use fixed_interval::Iv;
 use spares_input::{Case, PartId, SiteId};
 use spares_io::NoMemory;
@@ -47,18 +47,6 @@ impl<const F: u32> Model for Numbers<F> {
     ghost view = { λ x. record { parts = map (λ p. p.0) x.members.items; sites = x.site_count; pairs = x.own.items; weight = x.line_weight } };
 
     ghost invariant = { λ x. AreNumbers F (record { parts = map (λ p. p.0) x.members.items; sites = x.site_count; pairs = x.own.items; weight = x.line_weight }) };
-}
-
-/// The line unit and its shop units in part order.
-fn members(alloc: Global, case: &Case, line: PartId) -> Result<Vec<PartId>, NoMemory>
-    requires { line.0 < length case.now.parts }
-    ensures { IfOk result (λ v. map (λ p. p.0) v.items ≡ family case.now line.0) }
-{
-    let mut shops = shop_units(alloc, case, line)?;
-    let mut members = Vec::new(alloc);
-    members.push(line)?;
-    members.append(&mut shops)?;
-    Ok(members)
 }
 
 /// The place of a part among these.

@@ -1,4 +1,4 @@
-use Rattle.std.proofs.Common.{◌≡◌, ap₂, ◌∙◌, refl, sym}
+use Rattle.std.proofs.Common.{◌≡◌, ◌∙◌, refl, sym}
 use Rattle.spares_input.specs.Frames.{is_shop_of, part_at}
 use Rattle.family_eval.proofs.Items.{kept_id, left_out}
 use Rattle.family_eval.proofs.shops.shop_units.Goals as goal
@@ -7,7 +7,7 @@ use Rattle.family_eval.proofs.shops.shop_units.Goals.{else-is_shop_of, then-is_s
 pub loop-p-preserved : goal.loop-p-preserved
 loop-p-preserved c =
     let found : c.is_shop_of.result ≡ is_shop_of (part_at c.args.case.now.parts c.args.line.0) (part_at c.args.case.now.parts c.loop-p.p) =
-    c.is_shop_of.ensures ∙ ap₂ is_shop_of c.part-row.ensures.row c.part.ensures.row in
+    c.is_shop_of.ensures in
     elim c.if-is_shop_of.branch [
       | then-is_shop_of+in_ok-push w ↦
           rw w.shops-is (kept_id (λ q. is_shop_of (part_at c.args.case.now.parts c.args.line.0) (part_at c.args.case.now.parts q)) c.loop-p.p c.loop-p.shops.items w.push.new.self.items
