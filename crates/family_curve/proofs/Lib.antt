@@ -1,0 +1,15 @@
+pub mod Depend
+pub mod Boxes
+pub mod Sites
+pub mod Separate
+pub mod Numbers
+pub mod Bounded
+pub mod Scores
+pub mod Points
+pub mod Counting
+pub mod Whole
+pub mod Placed
+pub mod TableFacts
+pub mod Turns
+pub mod Vertices
+pub mod Local
