@@ -1,18 +1,21 @@
 -- The figures enclose the model's values, and can be printed.
-use Rattle.std.proofs.Common.{◌≡◌, ℕ, ◌-◌, ◌*◌, ◌/◌, ◌%◌, ◌^◌, ◌<◌, ◌≤◌, true, length, get_or, map, inl, inr, refl, sym, ap, ◌∙◌, subst, arith}
+use Rattle.std.proofs.Common.{None, ◌≡◌, ℕ, ◌-◌, ◌*◌, ◌/◌, ◌%◌, ◌^◌, ◌<◌, ◌≤◌, true, length, get_or, map, inl, inr, refl, sym, ap, ◌∙◌, subst, arith}
+use Rattle.std.specs.Prelude.{◌⊎◌, ◌==◌, ◌||◌}
 use Rattle.std.specs.List.{range_with_len}
 use Rattle.std.proofs.Math.Nat.{div-lt_iff_lt-mul}
+use Rattle.std.proofs.lemmas.Bool.{eqb-true, or_cases}
 use Rattle.std.proofs.lemmas.Nat.{mul-le}
 use Rattle.std.proofs.lemmas.List.{get_or-map, length-map}
 use Rattle.std.proofs.lemmas.List.FromFn.{get_or-map-range_with_len, length-map-range_with_len}
 use Rattle.exact_model.specs.Fraction.{Fraction, Encloses}
-use Rattle.fixed_interval.specs.Ends.{Ends, ends_exact}
+use Rattle.fixed_interval.specs.Ends.{Ends, InScale, ends_exact}
 use Rattle.fixed_interval.proofs.Laws.{up_to}
 use Rattle.spares_input.specs.Rows.{is_line}
 use Rattle.spares_input.specs.Frames.{part_at, site_at}
 use Rattle.spares_input.specs.Pairs.{pair_place}
-use Rattle.spares_input.specs.Cases.{CaseRows, frame_rows, pair_count}
-use Rattle.spares_input.specs.Stocks.{StockList}
+use Rattle.spares_input.specs.Cases.{CaseRows, IsCase, frame_rows, pair_count}
+use Rattle.spares_input.specs.Stocks.{StockList, IsFor, IsWithinLimits}
+use Rattle.demand_rates.specs.Limits.{rate_fault_of}
 use Rattle.fleet_model.specs.Rows.{bases, line_units}
 use Rattle.fleet_model.specs.Fleet.{availability, fleet, family_total, total}
 use Rattle.fleet_model.specs.Laws.{IsBase}
@@ -26,36 +29,49 @@ use Rattle.family_eval.proofs.Enclosed.{item_in, item_small}
 use Rattle.family_eval.proofs.Families.{evaluable, family_in, family_small}
 use Rattle.case_figures.specs.Fits.{SpanFits, ItemFits, BaseFits, FitsPrint}
 use Rattle.case_figures.specs.Spans.{places, ends}
-use Rattle.case_figures.specs.Figures.{HasSpan, span_of, named, item_at_place, all_items, factor_at, availability_at, base_line, weighted_at, fleet_of, total_of, figures_of}
+use Rattle.fixed_interval.specs.Widths.{IsWidth}
+use Rattle.case_figures.specs.Figures.{span_of, named, item_at_place, all_items, factor_at, availability_at, base_line, weighted_at, fleet_of, total_of, figures_of}
 use Rattle.case_figures.specs.Shows.{ShowsSpan, ShowsItem, ShowsBase, ShowsFigures, no_item_line, no_base_line}
 use Rattle.case_figures.proofs.Covering.{item_pair, at_place, pair_within}
 use Rattle.case_figures.proofs.Each.{all_of, each_map, each_in_range, each_that_passes, few_that_pass}
 use Rattle.case_figures.proofs.Enclosing.{availability_in, fleet_at_in, fleet_has_systems, total_at_in}
 use Rattle.case_figures.proofs.Limits.{factor_most, base_most, fleet_most, sum_most}
 
--- ---- spans
+-- ---- widths and spans
+
+widths : (f : ℕ) → IsWidth f → (f ≡ 32) ⊎ ((f ≡ 48) ⊎ (f ≡ 52))
+widths f h = elim (or_cases ((f == 32) || (f == 48)) (f == 52) h) [
+  | inl e ↦ elim (or_cases (f == 32) (f == 48) e) [ inl a ↦ inl (eqb-true f 32 a) | inr b ↦ inr (inl (eqb-true f 48 b)) ]
+  | inr c ↦ inr (inr (eqb-true f 52 c))
+]
 
 pub record IsSpanOf (f : ℕ) (x : Ends) : Type 0 where
   pub places_are : places (span_of f x) ≡ f
   pub ends_are : ends (span_of f x) ≡ x
 
-span_is : (f : ℕ) (x : Ends) → HasSpan f → IsSpanOf f x
-span_is f x (inl e) = subst (λ g. IsSpanOf g x) (sym e) (record { places_are = refl; ends_are = refl })
-span_is f x (inr (inl e)) = subst (λ g. IsSpanOf g x) (sym e) (record { places_are = refl; ends_are = refl })
-span_is f x (inr (inr e)) = subst (λ g. IsSpanOf g x) (sym e) (record { places_are = refl; ends_are = refl })
+span_of_one : (f : ℕ) (x : Ends) → (f ≡ 32) ⊎ ((f ≡ 48) ⊎ (f ≡ 52)) → IsSpanOf f x
+span_of_one f x (inl e) = subst (λ g. IsSpanOf g x) (sym e) (record { places_are = refl; ends_are = refl })
+span_of_one f x (inr (inl e)) = subst (λ g. IsSpanOf g x) (sym e) (record { places_are = refl; ends_are = refl })
+span_of_one f x (inr (inr e)) = subst (λ g. IsSpanOf g x) (sym e) (record { places_are = refl; ends_are = refl })
 
-shown : (f : ℕ) (q : ℕ → Fraction) (x : Ends) → HasSpan f → Encloses f x.lo x.hi q → ShowsSpan f q (span_of f x)
+span_is : (f : ℕ) (x : Ends) → IsWidth f → IsSpanOf f x
+span_is f x h = span_of_one f x (widths f h)
+
+shown : (f : ℕ) (q : ℕ → Fraction) (x : Ends) → IsWidth f → Encloses f x.lo x.hi q → ShowsSpan f q (span_of f x)
 shown f q x h e =
     let s = span_is f x h in
     record { places_are = s.places_are; encloses = subst (λ (y : Ends). Encloses f y.lo y.hi q) (sym s.ends_are) e }
 
-pub few_places : (f : ℕ) → HasSpan f → (24 ≤ f) × (f ≤ 52)
-few_places f (inl e) = (omega (arith, e), omega (arith, e))
-few_places f (inr (inl e)) = (omega (arith, e), omega (arith, e))
-few_places f (inr (inr e)) = (omega (arith, e), omega (arith, e))
+places_of_one : (f : ℕ) → (f ≡ 32) ⊎ ((f ≡ 48) ⊎ (f ≡ 52)) → InScale f
+places_of_one f (inl e) = (omega (arith, e), omega (arith, e))
+places_of_one f (inr (inl e)) = (omega (arith, e), omega (arith, e))
+places_of_one f (inr (inr e)) = (omega (arith, e), omega (arith, e))
+
+pub few_places : (f : ℕ) → IsWidth f → InScale f
+few_places f h = places_of_one f (widths f h)
 
 -- at most so many wholes
-span_fits : (f : ℕ) (x : Ends) (n : ℕ) → HasSpan f → x.hi ≤ n * 2 ^ f → n < 2 ^ 34 → SpanFits (span_of f x)
+span_fits : (f : ℕ) (x : Ends) (n : ℕ) → IsWidth f → x.hi ≤ n * 2 ^ f → n < 2 ^ 34 → SpanFits (span_of f x)
 span_fits f x n h m k =
     let two = up_to f (few_places f h).1 in
     let top : n * 2 ^ f ≤ n * 2 ^ 52 = mul-le n (2 ^ f) n (2 ^ 52) (omega arith) two in
@@ -70,7 +86,7 @@ pub record IsEvaluated (f : ℕ) (c : CaseRows) (t : StockList) : Type 0 where
       → Encloses f (evaluated.total_of f c t.list l).lo (evaluated.total_of f c t.list l).hi (λ n. family_total c t.list n l)
   pub totals_most : (l : ℕ) → l < length c.parts → is_line (part_at c.parts l) ≡ true → (evaluated.total_of f c t.list l).hi ≤ 384000 * 2 ^ f
 
-module _ (f : ℕ) (c : CaseRows) (t : StockList) (has : HasSpan f) (can : CanEvaluate f c t) (is : IsEvaluated f c t) where
+module _ (f : ℕ) (c : CaseRows) (t : StockList) (has : IsWidth f) (can : CanEvaluate f c t) (is : IsEvaluated f c t) where
   abbrev item : ℕ → ℕ → Item f
   item p k = item_of f c t.list p k
 
@@ -189,3 +205,7 @@ evaluated_as f c t h =
       totals_in = λ l p e. (family_in f c t l h.scale.0 sound (record { is_part = p; no_parent = e })).total_in;
       totals_most = λ l p e. (family_small f c t l h.scale.0 sound (record { is_part = p; no_parent = e })).total_most;
     }
+
+-- what an evaluation takes, from what is known of a case, its rates and its stocks
+pub can_evaluate : (f : ℕ) (c : CaseRows) (t : StockList) → IsWidth f → IsCase c → rate_fault_of c ≡ None → IsFor c t → IsWithinLimits c t → CanEvaluate f c t
+can_evaluate f c t h v a s l = record { scale = few_places f h; valid = v; no_fault = a; are_stocks = s; limits = l }

@@ -1,5 +1,5 @@
 -- The figures of a case at its stocks, from the ends of its pairs and its families.
-use Rattle.std.specs.Prelude.{◌≡◌, ℕ, ◌==◌, ◌⊎◌, if◌then◌else◌, List, map, length}
+use Rattle.std.specs.Prelude.{ℕ, ◌==◌, if◌then◌else◌, List, map, length}
 use Rattle.std.specs.List.{fold, range_with_len}
 use Rattle.fixed_interval.specs.Ends.{Ends, ends_exact, ends_add}
 use Rattle.spares_input.specs.Frames.{part_at, site_at}
@@ -17,10 +17,6 @@ use Rattle.case_figures.specs.declared.figures.Span.TheVariants.{Bits32, Bits48,
 use Rattle.case_figures.specs.declared.figures.ItemLine.{ItemLine}
 use Rattle.case_figures.specs.declared.figures.BaseLine.{BaseLine}
 use Rattle.case_figures.specs.declared.figures.Figures.{Figures}
-
--- the counts of binary places that a report can have
-abbrev pub HasSpan : ℕ → Type 0
-HasSpan f = (f ≡ 32) ⊎ ((f ≡ 48) ⊎ (f ≡ 52))
 
 -- an interval of f such places
 abbrev pub span_of : ℕ → Ends → Span

@@ -1,4 +1,4 @@
--- What the steps from the families to the figures take and give.
+-- What the steps from the families to the figures take and give. No promise rests on these words.
 use Rattle.std.specs.Prelude.{◌≡◌, true, ℕ, ◌-◌, ◌*◌, ◌^◌, ◌<◌, ◌≤◌, List, map, length, get_or, replicate, All, slice_set, flat_map}
 use Rattle.std.specs.List.{fold}
 use Rattle.fixed_interval.specs.Ends.{Ends}

@@ -4,7 +4,7 @@ ghost use Rattle.fixed_interval.specs.Ends.{InScale};
 ghost use Rattle.fleet_model.specs.Rows.{bases};
 ghost use Rattle.fleet_model.specs.Laws.{IsBase};
 ghost use Rattle.availability.specs.Exact.{IsWeighted};
-ghost use Rattle.case_figures.specs.Figures.{HasSpan};
+ghost use Rattle.fixed_interval.specs.Widths.{IsWidth};
 ghost use Rattle.case_figures.specs.Gathering.{IsFamilyOf, base_line_from, factor_from, weighted_from};
 
 use crate::figures::BaseLine;
@@ -77,7 +77,7 @@ pub(crate) fn base_lines<const F: u32>(
     case: &Case,
     weighted: &[Weighted<F>],
 ) -> Result<Vec<BaseLine>, NoMemory>
-    requires span { HasSpan F }
+    requires width { IsWidth F }
     requires count { length weighted.now ≡ length case.now.sites - 1 }
     ensures { IfOk result (λ v. v.items ≡ map (base_line_from F case.now weighted.now) (bases case.now)) }
 {

@@ -1,14 +1,14 @@
 //! The figures of a case from the evaluation of its families.
-ghost use Rattle.std.specs.Prelude.{◌≡◌, ℕ, None, ◌*◌, ◌^◌, ◌≤◌, All, IfOk, length, map};
+ghost use Rattle.std.specs.Prelude.{◌≡◌, ℕ, ◌*◌, ◌^◌, ◌≤◌, All, IfOk, length, map};
 ghost use Rattle.std.specs.List.{fold};
 ghost use Rattle.fixed_interval.specs.Ends.{InScale, ends_add, ends_exact};
 ghost use Rattle.spares_input.specs.Cases.{CaseRows};
-ghost use Rattle.spares_input.specs.Stocks.{StockList, IsFor, IsWithinLimits};
-ghost use Rattle.demand_rates.specs.Limits.{rate_fault_of};
+ghost use Rattle.spares_input.specs.Stocks.{StockList};
 ghost use Rattle.family_eval.specs.Profile.{families_of};
 ghost use Rattle.family_eval.specs.Encloses.{CanEvaluate};
 ghost use Rattle.case_figures.specs.Fits.{FitsPrint};
-ghost use Rattle.case_figures.specs.Figures.{HasSpan, figures_of};
+ghost use Rattle.fixed_interval.specs.Widths.{IsWidth};
+ghost use Rattle.case_figures.specs.Figures.{figures_of};
 ghost use Rattle.case_figures.specs.Shows.{ShowsFigures};
 
 use crate::bases::{base_lines, weighted_bases};
@@ -23,8 +23,8 @@ use std::alloc::Global;
 
 /// The figures of a case enclose the model's at every depth, and can be printed.
 pub fn figures_enclose()
-    ensures shows { (f : ℕ) (c : CaseRows) (s : StockList) → HasSpan f → CanEvaluate f c s → ShowsFigures f c s (figures_of f c s) }
-    ensures printed { (f : ℕ) (c : CaseRows) (s : StockList) → HasSpan f → CanEvaluate f c s → FitsPrint (figures_of f c s) }
+    ensures shows { (f : ℕ) (c : CaseRows) (s : StockList) → IsWidth f → CanEvaluate f c s → ShowsFigures f c s (figures_of f c s) }
+    ensures printed { (f : ℕ) (c : CaseRows) (s : StockList) → IsWidth f → CanEvaluate f c s → FitsPrint (figures_of f c s) }
 {}
 
 /// The sum of the families' totals in their order.
@@ -51,16 +51,13 @@ pub fn figures_at<const F: u32>(
     families: &[FamilyResult<F>],
     stocks: &Stocks,
 ) -> Result<Figures, NoMemory>
-    requires span { HasSpan F }
-    requires accepted { rate_fault_of case.now ≡ None }
-    requires stocks { IsFor case.now stocks.now }
-    requires limits { IsWithinLimits case.now stocks.now }
+    requires width { IsWidth F }
+    requires inputs { CanEvaluate F case.now stocks.now }
     requires families { families.now ≡ families_of F case.now stocks.now }
     ensures figures { IfOk result (λ x. x ≡ figures_of F case.now stocks.now) }
     ensures shows { IfOk result (ShowsFigures F case.now stocks.now) }
     ensures printed { IfOk result FitsPrint }
 {
-    let _valid = case.site_count();
     let items = items_by_pair(alloc, case, families)?;
     let bases = weighted_bases(alloc, case, families)?;
     Ok(Figures {

@@ -2,19 +2,20 @@
 ghost use Rattle.std.specs.Prelude.{◌≡◌, ◌*◌, ◌<◌, ◌≤◌, All, IfOk, length, map, vec_len};
 ghost use Rattle.fixed_interval.specs.Ends.{InScale};
 ghost use Rattle.family_eval.specs.Encloses.{no_item};
-ghost use Rattle.case_figures.specs.Figures.{HasSpan, named, span_of};
+ghost use Rattle.fixed_interval.specs.Widths.{IsWidth};
+ghost use Rattle.case_figures.specs.Figures.{named, span_of};
 ghost use Rattle.case_figures.specs.Gathering.{IsFamilyOf, IsItemOf, items_by_pair, placed};
 
 use crate::figures::{ItemLine, Span};
 use family_eval::{FamilyResult, Item};
 use fixed_interval::Iv;
-use spares_input::{Case, PartId, SiteId};
+use spares_input::{Case, PartId, SiteId, pair_place};
 use spares_io::NoMemory;
 use std::alloc::Global;
 
 /// An interval as one of the three kinds that are printed.
 pub(crate) fn span_of<const F: u32>(interval: Iv<F>) -> Span
-    requires { HasSpan F }
+    requires { IsWidth F }
     ensures { result ≡ span_of F interval.entry }
 {
     let (lo, hi) = (interval.lo(), interval.hi());
@@ -49,9 +50,9 @@ fn place_items<const F: u32>(places: &mut [Item<F>], case: &Case, items: &[Item<
     requires room { length places.old ≡ length case.now.parts * length case.now.sites }
     ensures { places.new ≡ placed case.now places.old items.now }
 {
-    let sites = case.site_count() as usize;
+    let (parts, sites) = (case.part_count() as usize, case.site_count() as usize);
     for item in items {
-        places[item.part.0 as usize * sites + item.site.0 as usize] = *item;
+        places[pair_place(item.part, item.site, sites, parts)] = *item;
     }
 }
 
@@ -75,7 +76,7 @@ pub(crate) fn items_by_pair<const F: u32>(
 
 /// An item under the names of its part and its site.
 fn named<const F: u32>(case: &Case, item: &Item<F>) -> ItemLine
-    requires span { HasSpan F }
+    requires width { IsWidth F }
     requires pair { IsItemOf F case.now item.now }
     ensures { result ≡ named F case.now item.now }
 {
@@ -96,7 +97,7 @@ pub(crate) fn item_lines<const F: u32>(
     case: &Case,
     items: &[Item<F>],
 ) -> Result<Vec<ItemLine>, NoMemory>
-    requires span { HasSpan F }
+    requires width { IsWidth F }
     requires pairs { All (IsItemOf F case.now) items.now }
     ensures { IfOk result (λ v. v.items ≡ map (named F case.now) items.now) }
 {

@@ -1,4 +1,4 @@
-use Rattle.std.proofs.Common.{◌≡◌, ℕ, ◌-◌, None, List, length, map, lit<, sym, ap, ◌∙◌, subst, arith}
+use Rattle.std.proofs.Common.{◌≡◌, ℕ, ◌-◌, List, length, map, lit<, sym, ap, ◌∙◌, subst, arith}
 use Rattle.std.specs.Prelude.{All}
 use Rattle.std.proofs.lemmas.List.FromFn.{length-map-range_with_len}
 use Rattle.fleet_model.specs.Rows.{bases}
@@ -10,10 +10,9 @@ use Rattle.family_eval.specs.declared.item.FamilyResult.{FamilyResult}
 use Rattle.family_eval.specs.Encloses.{CanEvaluate}
 use Rattle.family_eval.specs.Profile.{families_of}
 use Rattle.spares_input.specs.Cases.{CaseRows, IsCase}
-use Rattle.spares_input.specs.Stocks.{StockList, IsFor, IsWithinLimits}
-use Rattle.demand_rates.specs.Limits.{rate_fault_of}
+use Rattle.spares_input.specs.Stocks.{StockList}
 use Rattle.case_figures.specs.Fits.{FitsPrint}
-use Rattle.case_figures.specs.Figures.{HasSpan, named}
+use Rattle.case_figures.specs.Figures.{named}
 use Rattle.case_figures.specs.Shows.{ShowsFigures}
 use Rattle.case_figures.specs.Gathering.{IsItemOf, IsFamilyOf, weighted_from, base_line_from, items_by_pair}
 use Rattle.case_figures.proofs.Families.{are_families, are_all_items, few_families, items_made, made}
@@ -33,15 +32,12 @@ count_bases : (f : ℕ) (c : CaseRows) (rs : List (FamilyResult f)) (xs ys : Lis
     → length ys ≡ length c.sites - 1
 count_bases f c rs xs ys e h = ap length (h ∙ e) ∙ length-map-range_with_len (weighted_from f c rs) 1 (length c.sites - 1)
 
-can_evaluate : (f : ℕ) (c : CaseRows) (t : StockList) → HasSpan f → IsCase c → rate_fault_of c ≡ None → IsFor c t → IsWithinLimits c t → CanEvaluate f c t
-can_evaluate f c t h v a s l = record { scale = few_places f h; valid = v; no_fault = a; are_stocks = s; limits = l }
-
 pub items_by_pair-requires : goal.items_by_pair-requires
 items_by_pair-requires g c =
     let f = g.row.F in
     let rows = c.args.case.now in
     let stocks = c.args.stocks.now in
-    let can = can_evaluate f rows stocks c.requires.span c.site_count-valid.ensures.valid c.requires.accepted c.requires.stocks c.requires.limits in
+    let can = c.requires.inputs in
     (lit< tt, (lit< tt, (can.scale, families_of_case f rows stocks c.args.families.now can c.requires.families)))
 
 pub weighted_bases-requires : goal.weighted_bases-requires
@@ -49,16 +45,16 @@ weighted_bases-requires g c =
     let f = g.row.F in
     let rows = c.args.case.now in
     let stocks = c.args.stocks.now in
-    let can = can_evaluate f rows stocks c.requires.span c.site_count-valid.ensures.valid c.requires.accepted c.requires.stocks c.requires.limits in
+    let can = c.requires.inputs in
     (lit< tt, (lit< tt, (can.scale, families_of_case f rows stocks c.args.families.now can c.requires.families)))
 
 pub item_lines-requires : goal.item_lines-requires
 item_lines-requires g c = (
   lit< tt,
   (
-    c.requires.span,
+    c.requires.width,
     items_of_case g.row.F c.args.case.now c.args.stocks.now c.args.families.now c.in_ok-items.items.items c.as_slice.result.now
-        c.site_count-valid.ensures.valid c.requires.families c.in_ok-items.ensures c.as_slice.ensures.value,
+        c.requires.inputs.valid c.requires.families c.in_ok-items.ensures c.as_slice.ensures.value,
   ),
 )
 
@@ -66,7 +62,7 @@ pub base_lines-requires : goal.base_lines-requires
 base_lines-requires g c = (
   lit< tt,
   (
-    c.requires.span,
+    c.requires.width,
     count_bases g.row.F c.args.case.now c.args.families.now c.in_ok-bases.bases.items c.as_slice-2.result.now c.in_ok-bases.ensures.bases c.as_slice-2.ensures.value,
   ),
 )
@@ -74,13 +70,13 @@ base_lines-requires g c = (
 pub fleet-requires : goal.fleet-requires
 fleet-requires g c =
     let f = g.row.F in
-    let valid = c.site_count-valid.ensures.valid in
+    let valid = c.requires.inputs.valid in
     let count = count_bases f c.args.case.now c.args.families.now c.in_ok-bases.bases.items c.as_slice-3.result.now c.in_ok-bases.ensures.bases c.as_slice-3.ensures.value in (
       lit< tt,
       (
         lit< tt,
         (
-          few_places f c.requires.span,
+          few_places f c.requires.width,
           (
             omega (arith, count, valid.frame.fewest_sites),
             (
@@ -97,8 +93,8 @@ total_of-requires g c =
     let f = g.row.F in
     let rows = c.args.case.now in
     let stocks = c.args.stocks.now in
-    let valid = c.site_count-valid.ensures.valid in
-    let can = can_evaluate f rows stocks c.requires.span valid c.requires.accepted c.requires.stocks c.requires.limits in
+    let valid = c.requires.inputs.valid in
+    let can = c.requires.inputs in
     let all = families_of_case f rows stocks c.args.families.now can c.requires.families in (
       lit< tt,
       (
@@ -117,7 +113,7 @@ pub returns-clause-figures : goal.returns-clause-figures
 returns-clause-figures g c =
     let f = g.row.F in
     let rows = c.args.case.now in
-    made f rows c.args.stocks.now c.site_count-valid.ensures.valid c.args.families.now c.in_ok-items.items.items c.in_ok-bases.bases.items
+    made f rows c.args.stocks.now c.requires.inputs.valid c.args.families.now c.in_ok-items.items.items c.in_ok-bases.bases.items
     c.fleet.result c.total_of.result _
     (record {
       families_are = c.requires.families;
@@ -138,13 +134,13 @@ returns-clause-shows g c =
     let f = g.row.F in
     let rows = c.args.case.now in
     let stocks = c.args.stocks.now in
-    let can = can_evaluate f rows stocks c.requires.span c.site_count-valid.ensures.valid c.requires.accepted c.requires.stocks c.requires.limits in
-    subst (ShowsFigures f rows stocks) (sym (returns-clause-figures g c)) (figures_shown f rows stocks c.requires.span can (evaluated_as f rows stocks can))
+    let can = c.requires.inputs in
+    subst (ShowsFigures f rows stocks) (sym (returns-clause-figures g c)) (figures_shown f rows stocks c.requires.width can (evaluated_as f rows stocks can))
 
 pub returns-clause-printed : goal.returns-clause-printed
 returns-clause-printed g c =
     let f = g.row.F in
     let rows = c.args.case.now in
     let stocks = c.args.stocks.now in
-    let can = can_evaluate f rows stocks c.requires.span c.site_count-valid.ensures.valid c.requires.accepted c.requires.stocks c.requires.limits in
-    subst FitsPrint (sym (returns-clause-figures g c)) (figures_fit f rows stocks c.requires.span can (evaluated_as f rows stocks can))
+    let can = c.requires.inputs in
+    subst FitsPrint (sym (returns-clause-figures g c)) (figures_fit f rows stocks c.requires.width can (evaluated_as f rows stocks can))
