@@ -200,7 +200,7 @@ narrow_from f m d h k =
 
 -- ---- lists
 
-listed_next : {X : Type 0} (u : ℕ → X) (n : ℕ) → listed u (n + 1) ≡ listed u n ++ u n ∷ []
+pub listed_next : {X : Type 0} (u : ℕ → X) (n : ℕ) → listed u (n + 1) ≡ listed u n ++ u n ∷ []
 unfolding listed
 listed_next u n = rw add-one refl
 
@@ -374,7 +374,7 @@ least_from f m d c x h k = k ∙ ap (λ y. max (y + 1) 63) h
 pub ascent_top : (f : ℕ) (m d : Ends) (list : List Ends) (term : Ends) (x : ℕ) → Ascent f m d list term x → term.hi ≤ 8 * 2 ^ f
 ascent_top f m d list term x h = subst (λ (z : Ends). z.hi ≤ 8 * 2 ^ f) (sym h.last) (h.tops (x - 1) (omega (arith, h.past)))
 
-next_weight : (f : ℕ) (m d : Ends) (list : List Ends) (term v r : Ends) (x : ℕ) → Ascent f m d list term x
+pub next_weight : (f : ℕ) (m d : Ends) (list : List Ends) (term v r : Ends) (x : ℕ) → Ascent f m d list term x
     → r ≡ ratio_ends f m d x → v ≡ ends_mul f term r → v ≡ weight_ends f m d x
 next_weight f m d list term v r x h er ev = ev ∙ ap₂ (ends_mul f) h.last er ∙ sym (weight_up f m d x h.past)
 
@@ -411,7 +411,7 @@ ascent_unended f m d list term x h q l =
     let e : last_index f m d ≡ 1024 = last_is f m d 1024 (omega arith) (omega arith) (omega arith) (λ y a b. h.passed y a (omega arith)) (λ i. absurd (omega arith)) in
     wide_unended f m d (rw e (h.unended l))
 
-may_from : (f : ℕ) (m d : Ends) (x rem : ℕ) → has_remainder f m d x ≡ true → rem ≡ remainder_at f m d x → rem ≤ 256 → may_end f m d x ≡ true
+pub may_from : (f : ℕ) (m d : Ends) (x rem : ℕ) → has_remainder f m d x ≡ true → rem ≡ remainder_at f m d x → rem ≤ 256 → may_end f m d x ≡ true
 unfolding may_end
 may_from f m d x rem h e l = and_from (has_remainder f m d x) (nat_le (remainder_at f m d x) 256) h (le-leb (remainder_at f m d x) 256 (subst (λ z. z ≤ 256) e l))
 

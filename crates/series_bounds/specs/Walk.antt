@@ -1,7 +1,7 @@
 -- What the walks down and up from the pivot find.
-use Rattle.std.specs.Prelude.{◌≡◌, ℕ, suc, false, ◌+◌, ◌-◌, ◌*◌, ◌^◌, ◌<◌, ◌≤◌, List}
+use Rattle.std.specs.Prelude.{◌≡◌, ℕ, suc, true, false, ◌+◌, ◌-◌, ◌*◌, ◌^◌, ◌<◌, ◌≤◌, List}
 use Rattle.fixed_interval.specs.Ends.{Ends}
-use Rattle.series_bounds.specs.Profile.{remainder_at, weight_ends, least_end, last_index, pivot_at, listed, is_wide}
+use Rattle.series_bounds.specs.Profile.{remainder_at, weight_ends, least_end, last_index, pivot_at, listed, is_wide, may_end, has_remainder, ends_sum, ends_raised}
 
 -- the weights from 0 to the pivot, none of which passes 8
 pub record ToPivot (f : ℕ) (m d : Ends) (list : List Ends) : Type 0 where
@@ -35,3 +35,28 @@ pub record ToEnd (f : ℕ) (m d : Ends) (list : List Ends) (rem : ℕ) : Type 0 
   pub weights : list ≡ listed (weight_ends f m d) (suc (last_index f m d))
   pub rest : rem ≡ remainder_at f m d (last_index f m d)
   pub narrow : is_wide f m d ≡ false
+
+-- ---- without lists
+
+-- the sum of the weights below x, none of which passes 8
+pub record SumsTo (f : ℕ) (m d sum : Ends) (x : ℕ) : Type 0 where
+  pub sum_is : sum ≡ ends_sum (listed (weight_ends f m d) x)
+  pub most : sum.hi ≤ x * (8 * 2 ^ f)
+  pub tops : (y : ℕ) → y < x → (weight_ends f m d y).hi ≤ 8 * 2 ^ f
+
+-- the list doesn't end at x
+pub record GoesOn (f : ℕ) (m d : Ends) (x : ℕ) : Type 0 where
+  pub passed : 63 ≤ x → may_end f m d x ≡ false
+  pub unended : 1024 < x + 1 → has_remainder f m d 1024 ≡ false
+
+-- it ends at x, with this remainder
+pub record EndsAt (f : ℕ) (m d : Ends) (x rest : ℕ) : Type 0 where
+  pub late : 63 ≤ x
+  pub ends : has_remainder f m d x ≡ true
+  pub rest_is : rest ≡ remainder_at f m d x
+  pub small : x < 1024 → rest ≤ 256
+
+-- the sum of all weights, with what the ones past the last come to at most
+pub record IsSum (f : ℕ) (m d sum : Ends) : Type 0 where
+  pub narrow : is_wide f m d ≡ false
+  pub sum_is : sum ≡ ends_raised (ends_sum (listed (weight_ends f m d) (suc (last_index f m d)))) (remainder_at f m d (last_index f m d))

@@ -43,6 +43,7 @@ use std::alloc::Global;
 mod inverses;
 pub mod kinds;
 mod parts;
+pub mod plain;
 mod ratios;
 mod shares;
 pub mod short;

@@ -64,6 +64,10 @@ fn meets<const F: u32>(rt: &impl Abort, alloc: Global, rows: &[&str]) -> Result<
         assert!(rt; mean.lo() > 0 && mean.hi() <= most_mean && excess.hi() <= most_excess);
         let mut found = Vec::new(alloc);
         if let Weights::Known { pivot, list, sum } = weights(alloc, mean, excess)? {
+            for (x, weight) in list.as_slice().iter().enumerate().take(64) {
+                assert!(rt; plain::weight_at(mean, excess, x as u32) == Some(*weight));
+            }
+            assert!(rt; plain::sum_of_weights(mean, excess) == Some(sum));
             found.push(u128::from(pivot))?;
             found.push(list.as_slice().len() as u128 - 1)?;
             found.push(sum.lo())?;
