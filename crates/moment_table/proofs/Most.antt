@@ -10,12 +10,12 @@ use Rattle.moment_table.specs.declared.kinds.Row.{Row}
 use Rattle.moment_table.specs.Profile.{ebo_ends, empty_row, excess_ends, known_row, row_from, table_rows, vbo_ends, wide_row}
 use Rattle.moment_table.specs.Rows.{IsBelow, at_stock}
 
-ebo_below : (f : ℕ) (m : Ends) (list : List Ends) (sum : Ends) (s : ℕ) → (ebo_ends f m list sum s).hi ≤ m.hi
+pub ebo_below : (f : ℕ) (m : Ends) (list : List Ends) (sum : Ends) (s : ℕ) → (ebo_ends f m list sum s).hi ≤ m.hi
 unfolding ebo_ends
 ebo_below f m list sum zero = omega arith
 ebo_below f m list sum (suc s) = omega (arith, ebo_below f m list sum s)
 
-vbo_below : (f : ℕ) (m v : Ends) (list : List Ends) (sum : Ends) (s : ℕ) → (vbo_ends f m v list sum s).hi ≤ (ends_max v m).hi
+pub vbo_below : (f : ℕ) (m v : Ends) (list : List Ends) (sum : Ends) (s : ℕ) → (vbo_ends f m v list sum s).hi ≤ (ends_max v m).hi
 unfolding vbo_ends
 vbo_below f m v list sum zero = omega arith
 vbo_below f m v list sum (suc s) = omega (arith, vbo_below f m v list sum s)

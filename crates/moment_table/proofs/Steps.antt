@@ -5,9 +5,9 @@ use Rattle.fixed_interval.specs.Ends.{Ends, ends_exact, ends_add, ends_less, end
 use Rattle.series_bounds.specs.Profile.{listed}
 use Rattle.series_bounds.specs.Answer.{Sized, at_place}
 use Rattle.series_bounds.proofs.Ranges.{ceil_most}
-use Rattle.moment_table.specs.declared.figures.Figures.{Figures}
+use Rattle.moment_table.specs.declared.running.Running.{Running}
 use Rattle.moment_table.specs.declared.shares.Inverses.{Inverses}
-use Rattle.moment_table.specs.Figures.{AreFigures, AreSmall}
+use Rattle.moment_table.specs.Running.{IsRunning, AreSmall}
 use Rattle.moment_table.specs.Profile.{chance_ends, below_ends, tail_ends, ebo_ends, vbo_ends, known_row, wide_row, empty_row}
 
 pub listed_next : {X : Type 0} (u : ℕ → X) (n : ℕ) (xs : List X) (x : X) → xs ≡ listed u n → x ≡ u n → xs ++ x ∷ [] ≡ listed u (n + 1)
@@ -18,20 +18,21 @@ pub listed_none : {X : Type 0} (u : ℕ → X) (xs : List X) → xs ≡ [] → x
 unfolding listed
 listed_none u xs h = h
 
-pub figures_first : (f : ℕ) (m v : Ends) (list : List Ends) (sum spread below weight chance : Ends) (inverses : Inverses) → spread ≡ ends_max v m → below ≡ ends_exact f 0
-    → AreFigures f m v list sum 0 (record { expected = m; spread = spread; below = below; weight = weight; chance = chance; inverses = inverses })
+pub running_first : (f : ℕ) (m v : Ends) (list : List Ends) (sum spread below weight chance : Ends) (inverses : Inverses) → spread ≡ ends_max v m → below ≡ ends_exact f 0
+    → IsRunning f m v list sum 0 (record { expected = m; spread = spread; below = below; weight = weight; chance = chance; inverses = inverses })
 unfolding ebo_ends vbo_ends below_ends
-figures_first f m v list sum spread below weight chance inverses h k = record { expected = refl; spread = h; below = k }
+running_first f m v list sum spread below weight chance inverses h k = record { expected = refl; spread = h; below = k }
 
 pub small_first : (f : ℕ) (sum expected spread below weight chance : Ends) (inverses : Inverses) → expected.hi ≤ 256 * 2 ^ f → below ≡ ends_exact f 0 → chance ≡ ends_div f weight sum
     → AreSmall f sum 0 (record { expected = expected; spread = spread; below = below; weight = weight; chance = chance; inverses = inverses })
 small_first f sum expected spread below weight chance inverses t k h = record { expected = t; below = rw k (omega arith); chance = h }
 
-chance_top : (f : ℕ) (list : List Ends) (sum : Ends) (x : ℕ) → Sized f list sum → x < length list → (chance_ends f list sum x).hi ≤ 8 * 2 ^ f
-unfolding chance_ends
-chance_top f list sum x z l =
-    ceil_most ((at_place list x).hi * 2 ^ f) sum.lo (8 * 2 ^ f) (omega (arith, pow_pos f, z.sum_least))
-    (le_trans (mul-le-mul_right (2 ^ f) (z.tops x l)) (mul-le-mul_left (8 * 2 ^ f) z.sum_least))
+-- the chance of a weight of at most 8
+pub chance_small : (f : ℕ) (sum e p : Ends) → e.hi ≤ 8 * 2 ^ f → 2 ^ f ≤ sum.lo → p ≡ ends_div f e sum → p.hi ≤ 8 * 2 ^ f
+chance_small f sum e p t l h =
+    let q : (ends_div f e sum).hi ≤ 8 * 2 ^ f = ceil_most (e.hi * 2 ^ f) sum.lo (8 * 2 ^ f) (omega (arith, pow_pos f, l))
+    (le_trans (mul-le-mul_right (2 ^ f) t) (mul-le-mul_left (8 * 2 ^ f) l)) in
+    subst (λ (y : Ends). y.hi ≤ 8 * 2 ^ f) (sym h) q
 
 pub entry_is : (list : List Ends) (x : ℕ) (e : Ends) → x < length list → e ≡ get_or list x e → e ≡ at_place list x
 entry_is list x e l h = h ∙ get_or_default list x e (record { lo = 0; hi = 0 }) l
@@ -39,11 +40,6 @@ entry_is list x e l h = h ∙ get_or_default list x e (record { lo = 0; hi = 0 }
 pub chance_is : (f : ℕ) (list : List Ends) (sum e p : Ends) (x : ℕ) → e ≡ at_place list x → p ≡ ends_div f e sum → p ≡ chance_ends f list sum x
 unfolding chance_ends
 chance_is f list sum e p x h k = k ∙ ap (λ (z : Ends). ends_div f z sum) h
-
--- sizes inside a step
-pub step_chance : (f : ℕ) (list : List Ends) (sum e p : Ends) (s : ℕ) → Sized f list sum → s < length list → e ≡ get_or list s e → p ≡ ends_div f e sum → p.hi ≤ 8 * 2 ^ f
-step_chance f list sum e p s z l he hp =
-    subst (λ (y : Ends). y.hi ≤ 8 * 2 ^ f) (sym (chance_is f list sum e p s (entry_is list s e l he) hp)) (chance_top f list sum s z l)
 
 pub step_weight : (f : ℕ) (list : List Ends) (sum e : Ends) (s : ℕ) → Sized f list sum → s < length list → e ≡ get_or list s e → e.hi ≤ 8 * 2 ^ f
 step_weight f list sum e s z l he = subst (λ (y : Ends). y.hi ≤ 8 * 2 ^ f) (sym (entry_is list s e l he)) (z.tops s l)
@@ -71,24 +67,24 @@ unfolding known_row
 row_is f m v list sum s e w t h k l = rw (h, k, l) refl
 
 -- the chance of at most s, by that of less than s and by the weight at s
-below_is : (f : ℕ) (m v : Ends) (list : List Ends) (sum : Ends) (s : ℕ) (figures : Figures f) → AreFigures f m v list sum s figures → s < length list
-    → (e p below : Ends) → e ≡ get_or list s e → p ≡ ends_div f e sum → below ≡ ends_add figures.below p → below ≡ below_ends f list sum (suc s)
-below_is f m v list sum s figures h l e p below he hp hb =
-    hb ∙ ap₂ ends_add h.below (chance_is f list sum e p s (entry_is list s e l he) hp) ∙ sym (below_next f list sum s)
+below_is : (f : ℕ) (m v : Ends) (list : List Ends) (sum : Ends) (s : ℕ) (running : Running f) → IsRunning f m v list sum s running
+    → (e p below : Ends) → e ≡ at_place list s → p ≡ ends_div f e sum → below ≡ ends_add running.below p → below ≡ below_ends f list sum (suc s)
+below_is f m v list sum s running h e p below he hp hb =
+    hb ∙ ap₂ ends_add h.below (chance_is f list sum e p s he hp) ∙ sym (below_next f list sum s)
 
-pub row_known : (f : ℕ) (m v : Ends) (list : List Ends) (sum : Ends) (s : ℕ) (figures : Figures f) → AreFigures f m v list sum s figures → s < length list
-    → (e p below tail : Ends) → e ≡ get_or list s e → p ≡ ends_div f e sum → below ≡ ends_add figures.below p → tail ≡ ends_less (ends_exact f 1) below
-    → record { ebo = figures.expected; vbo = figures.spread; tail = tail } ≡ known_row f m v list sum s
-row_known f m v list sum s figures h l e p below tail he hp hb ht =
-    row_is f m v list sum s figures.expected figures.spread tail h.expected h.spread
-    (tail_is f list sum tail below s (below_is f m v list sum s figures h l e p below he hp hb) ht)
+pub row_known : (f : ℕ) (m v : Ends) (list : List Ends) (sum : Ends) (s : ℕ) (running : Running f) → IsRunning f m v list sum s running
+    → (e p below tail : Ends) → e ≡ at_place list s → p ≡ ends_div f e sum → below ≡ ends_add running.below p → tail ≡ ends_less (ends_exact f 1) below
+    → record { ebo = running.expected; vbo = running.spread; tail = tail } ≡ known_row f m v list sum s
+row_known f m v list sum s running h e p below tail he hp hb ht =
+    row_is f m v list sum s running.expected running.spread tail h.expected h.spread
+    (tail_is f list sum tail below s (below_is f m v list sum s running h e p below he hp hb) ht)
 
-pub figures_next : (f : ℕ) (m v : Ends) (list : List Ends) (sum : Ends) (s : ℕ) (figures : Figures f) → AreFigures f m v list sum s figures → s < length list
-    → (e p below tail expected fall spread : Ends) → e ≡ get_or list s e → p ≡ ends_div f e sum → below ≡ ends_add figures.below p → tail ≡ ends_less (ends_exact f 1) below
-    → expected ≡ ends_less figures.expected tail → fall ≡ ends_mul f (ends_add (ends_times expected 2) tail) (ends_less (ends_exact f 1) tail) → spread ≡ ends_less figures.spread fall
-    → AreFigures f m v list sum (s + 1) (record { expected = expected; spread = spread; below = below; weight = e; chance = p; inverses = figures.inverses })
-figures_next f m v list sum s figures h l e p below tail expected fall spread he hp hb ht hx hf hs =
-    let bi : below ≡ below_ends f list sum (suc s) = below_is f m v list sum s figures h l e p below he hp hb in
+pub running_next : (f : ℕ) (m v : Ends) (list : List Ends) (sum : Ends) (s : ℕ) (running : Running f) → IsRunning f m v list sum s running
+    → (e p below tail expected fall spread : Ends) → e ≡ at_place list s → p ≡ ends_div f e sum → below ≡ ends_add running.below p → tail ≡ ends_less (ends_exact f 1) below
+    → expected ≡ ends_less running.expected tail → fall ≡ ends_mul f (ends_add (ends_times expected 2) tail) (ends_less (ends_exact f 1) tail) → spread ≡ ends_less running.spread fall
+    → IsRunning f m v list sum (s + 1) (record { expected = expected; spread = spread; below = below; weight = e; chance = p; inverses = running.inverses })
+running_next f m v list sum s running h e p below tail expected fall spread he hp hb ht hx hf hs =
+    let bi : below ≡ below_ends f list sum (suc s) = below_is f m v list sum s running h e p below he hp hb in
     let ti : tail ≡ tail_ends f list sum s = tail_is f list sum tail below s bi ht in
     let xi : expected ≡ ebo_ends f m list sum (suc s) = hx ∙ ap₂ ends_less h.expected ti ∙ sym (ebo_next f m list sum s) in
     let fi : fall ≡ ends_mul f (ends_add (ends_times (ebo_ends f m list sum (suc s)) 2) (tail_ends f list sum s)) (ends_less (ends_exact f 1) (tail_ends f list sum s)) =
@@ -100,11 +96,11 @@ figures_next f m v list sum s figures h l e p below tail expected fall spread he
       below = bi ∙ ap (below_ends f list sum) (sym (add-one s));
     }
 
-pub small_next : (f : ℕ) (list : List Ends) (sum : Ends) (s : ℕ) (figures : Figures f) → AreSmall f sum s figures → Sized f list sum → s < length list
-    → (e p below tail expected spread : Ends) → e ≡ get_or list s e → p ≡ ends_div f e sum → below ≡ ends_add figures.below p → expected ≡ ends_less figures.expected tail
-    → AreSmall f sum (s + 1) (record { expected = expected; spread = spread; below = below; weight = e; chance = p; inverses = figures.inverses })
-small_next f list sum s figures h z l e p below tail expected spread he hp hb hx =
-    let pt : p.hi ≤ 8 * 2 ^ f = step_chance f list sum e p s z l he hp in
+pub small_next : (f : ℕ) (sum : Ends) (s : ℕ) (running : Running f) → AreSmall f sum s running
+    → (e p below tail expected spread : Ends) → e.hi ≤ 8 * 2 ^ f → 2 ^ f ≤ sum.lo → p ≡ ends_div f e sum → below ≡ ends_add running.below p → expected ≡ ends_less running.expected tail
+    → AreSmall f sum (s + 1) (record { expected = expected; spread = spread; below = below; weight = e; chance = p; inverses = running.inverses })
+small_next f sum s running h e p below tail expected spread t l hp hb hx =
+    let pt : p.hi ≤ 8 * 2 ^ f = chance_small f sum e p t l hp in
     record {
       expected = (let a = ap (λ (y : Ends). y.hi) hx in omega (arith, a, h.expected));
       below = (let a = ap (λ (y : Ends). y.hi) hb in omega (arith, a, pt, h.below));

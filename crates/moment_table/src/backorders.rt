@@ -1,17 +1,18 @@
 //! The backorders alone, at the stocks up to a limit.
 
-ghost use Rattle.std.specs.Prelude.{◌≡◌, ◌+◌, ◌*◌, ◌^◌, ◌<◌, ◌≤◌, ◌⊎◌, IfOk};
+ghost use Rattle.std.specs.Prelude.{◌≡◌, ◌+◌, ◌*◌, ◌^◌, ◌<◌, ◌≤◌, IfOk};
 ghost use Rattle.series_bounds.specs.Answer.{Sized};
 ghost use Rattle.series_bounds.specs.Profile.{listed};
-ghost use Rattle.fixed_interval.specs.Ends.{InScale, IsWithinLimit};
+ghost use Rattle.fixed_interval.specs.Ends.{IsWithinLimit};
 ghost use Rattle.moment_table.specs.Inputs.{CanTable};
-ghost use Rattle.moment_table.specs.Profile.{known_row, wide_row, empty_row};
+ghost use Rattle.moment_table.specs.Held.{bare_row};
+ghost use Rattle.moment_table.specs.Profile.{known_row};
 ghost use Rattle.moment_table.specs.Rows.{AreBackorders, EncloseBackorders};
 
-use crate::figures::Figures;
-use crate::{empty_row, weigh, wide_row};
+use crate::rows::bare_row;
+use crate::running::Running;
+use crate::weighed::weigh;
 use fixed_interval::Iv;
-use series_bounds::kinds::Weights;
 use spares_io::NoMemory;
 use std::alloc::Global;
 
@@ -29,40 +30,27 @@ fn known<const F: u32>(
     requires count { count ≤ 64 }
     ensures { IfOk result (λ found. found.items ≡ listed (λ s. (known_row F mean.entry variance.entry list.now sum.entry s).ebo) count) }
 {
-    let mut figures = Figures::first(mean, variance, list, sum);
+    let mut running = Running::first(mean, variance, list[0], sum);
     let mut found = Vec::with_capacity(alloc, count as usize)?;
     for s in 0..count {
-        let row = figures.row(list, sum, s);
+        let row = running.row(list, sum, s);
         found.push(row.ebo)?;
     }
     Ok(found)
 }
 
-/// The backorders where the weights aren't known.
-fn wide<const F: u32>(
+/// The backorders of a pipeline that is always empty, or whose weights aren't known.
+fn bare<const F: u32>(
     alloc: Global,
     mean: Iv<F>,
     variance: Iv<F>,
     count: u32,
 ) -> Result<Vec<Iv<F>>, NoMemory>
-    ensures { IfOk result (λ found. found.items ≡ listed (λ s. (wide_row F mean.entry variance.entry s).ebo) count) }
+    ensures { IfOk result (λ found. found.items ≡ listed (λ s. (bare_row F mean.entry variance.entry s).ebo) count) }
 {
     let mut found = Vec::with_capacity(alloc, count as usize)?;
     for s in 0..count {
-        let row = wide_row(mean, variance, s);
-        found.push(row.ebo)?;
-    }
-    Ok(found)
-}
-
-/// The backorders of a pipeline that is always empty.
-fn empty<const F: u32>(alloc: Global, count: u32) -> Result<Vec<Iv<F>>, NoMemory>
-    requires { InScale F }
-    ensures { IfOk result (λ found. found.items ≡ listed (λ s. (empty_row F).ebo) count) }
-{
-    let mut found = Vec::with_capacity(alloc, count as usize)?;
-    for _s in 0..count {
-        let row = empty_row();
+        let row = bare_row(mean, variance, s);
         found.push(row.ebo)?;
     }
     Ok(found)
@@ -85,15 +73,15 @@ pub fn backorders_to<const F: u32>(
     ensures encloses { IfOk result (λ found. EncloseBackorders F mean.entry variance.entry found.items) }
 {
     let count = u32::from(limit) + 1;
-    if mean.hi() == 0 {
-        return empty(alloc, count);
-    }
     match weigh(alloc, mean, variance)? {
-        Weights::Known {
-            pivot: _,
-            list,
-            sum,
-        } => known(alloc, mean, variance, list.as_slice(), sum, count),
-        Weights::Wide => wide(alloc, mean, variance, count),
+        Some(weighed) => {
+            let list = weighed.list.as_slice();
+            let found = known(alloc, mean, variance, list, weighed.sum, count)?;
+            Ok(found)
+        }
+        None => {
+            let found = bare(alloc, mean, variance, count)?;
+            Ok(found)
+        }
     }
 }

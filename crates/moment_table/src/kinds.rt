@@ -1,8 +1,12 @@
 //! A table and its rows.
 
-ghost use Rattle.std.specs.Prelude.{◌≡◌, ◌≤◌, length};
+ghost use Rattle.std.specs.Prelude.{◌≡◌, ◌≤◌};
+ghost use Rattle.moment_table.specs.Held.{IsHeld};
+ghost use Rattle.moment_table.specs.Profile.{table_rows};
 ghost use Rattle.moment_table.specs.Rows.{at_stock};
 
+use crate::held::{Rows, Span};
+use crate::plain::plain_row;
 use fixed_interval::Iv;
 use std::marker::Model;
 
@@ -17,30 +21,49 @@ pub struct Row<const F: u32> {
     pub tail: Iv<F>,
 }
 
-/// The figures at the stocks 0 to 63.
+/// The figures of a pipeline at the stocks 0 to 63.
+///
+/// It is seen as the list of its rows. It holds the first of them, and its mean and variance, from which the others follow.
 #[derive(Drop)]
 pub struct Table<const F: u32> {
-    rows: Vec<Row<F>>,
+    mean: Span<F>,
+    variance: Span<F>,
+    rows: Rows<F>,
 }
 
 impl<const F: u32> Model for Table<F> {
-    ghost use Rattle.std.specs.Prelude.{◌≡◌, List, length};
+    ghost use Rattle.std.specs.Prelude.{List};
     ghost use Rattle.moment_table.specs.declared.kinds.Row.{Row};
+    ghost use Rattle.moment_table.specs.Held.{IsHeld};
+    ghost use Rattle.moment_table.specs.Profile.{table_rows};
 
     ghost Value = { List (Row F) };
 
-    ghost view = { λ t. t.rows.items };
+    ghost view = { λ t. table_rows F t.mean t.variance };
 
-    ghost invariant = { λ t. length t.rows.items ≡ 64 };
+    // the held rows are a beginning of it
+    ghost invariant = { λ t. IsHeld F t.mean t.variance t.rows };
 }
 
 impl<const F: u32> Table<F> {
-    /// The table with these rows.
-    pub(crate) fn of_rows(rows: Vec<Row<F>>) -> Self
-        requires { length rows.items ≡ 64 }
-        ensures { result ≡ rows.entry.items }
+    /// The table of this mean and variance that holds these rows of it.
+    pub(crate) fn of(mean: Iv<F>, variance: Iv<F>, rows: Rows<F>) -> Self
+        requires { IsHeld F mean variance rows }
+        ensures { result ≡ table_rows F mean.entry variance.entry }
     {
-        Table { rows }
+        Table {
+            mean: Span::of(mean),
+            variance: Span::of(variance),
+            rows,
+        }
+    }
+
+    /// The row at the stock `s`, which isn't held.
+    fn row(&self, s: u8) -> Row<F>
+        requires { s ≤ 63 }
+        ensures { result ≡ at_stock self.now s }
+    {
+        plain_row(self.mean.open(), self.variance.open(), s)
     }
 
     /// The expected backorders at the stock `s`, at most 63.
@@ -48,7 +71,11 @@ impl<const F: u32> Table<F> {
         requires { s ≤ 63 }
         ensures { result ≡ (at_stock self.now s).ebo }
     {
-        self.rows[usize::from(s)].ebo
+        if usize::from(s) < self.rows.held.len() {
+            self.rows.held[usize::from(s)].ebo.open()
+        } else {
+            self.row(s).ebo
+        }
     }
 
     /// The variance of the backorders at the stock `s`, at most 63.
@@ -56,7 +83,11 @@ impl<const F: u32> Table<F> {
         requires { s ≤ 63 }
         ensures { result ≡ (at_stock self.now s).vbo }
     {
-        self.rows[usize::from(s)].vbo
+        if usize::from(s) < self.rows.held.len() {
+            self.rows.held[usize::from(s)].vbo.open()
+        } else {
+            self.row(s).vbo
+        }
     }
 
     /// The chance of more than `s` in the pipeline, `s` being at most 62.
@@ -64,6 +95,10 @@ impl<const F: u32> Table<F> {
         requires { s ≤ 62 }
         ensures { result ≡ (at_stock self.now s).tail }
     {
-        self.rows[usize::from(s)].tail
+        if usize::from(s) < self.rows.tails.len() {
+            self.rows.tails[usize::from(s)].open()
+        } else {
+            self.row(s).tail
+        }
     }
 }

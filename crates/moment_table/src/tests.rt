@@ -81,13 +81,16 @@ fn meets<const F: u32>(rt: &impl Abort, alloc: Global, rows: &[&str]) -> Result<
         let variance = Iv::<F>::of_ends(row[2], row[3]);
         assert!(rt; mean.hi() <= most && variance.hi() <= most);
         assert!(rt; mean.hi() / 2048 < mean.lo() && variance.hi() / 2048 < mean.lo());
-        let table = table(alloc, mean, variance)?;
         let stock = row[4];
         assert!(rt; stock <= 62);
         let stock = stock as u8;
-        let (ebo, vbo, tail) = (table.ebo(stock), table.vbo(stock), table.tail(stock));
-        let found = [ebo.lo(), ebo.hi(), vbo.lo(), vbo.hi(), tail.lo(), tail.hi()];
-        assert_eq!(rt; found.as_slice(), &row[5..]);
+        let whole = table(alloc, mean, variance)?;
+        let held = table_to(alloc, mean, variance, 10)?;
+        for table in [&whole, &held] {
+            let (ebo, vbo, tail) = (table.ebo(stock), table.vbo(stock), table.tail(stock));
+            let found = [ebo.lo(), ebo.hi(), vbo.lo(), vbo.hi(), tail.lo(), tail.hi()];
+            assert_eq!(rt; found.as_slice(), &row[5..]);
+        }
         let Row { ebo, vbo, tail } = row_at(alloc, mean, variance, stock)?;
         let found = [ebo.lo(), ebo.hi(), vbo.lo(), vbo.hi(), tail.lo(), tail.hi()];
         assert_eq!(rt; found.as_slice(), &row[5..]);

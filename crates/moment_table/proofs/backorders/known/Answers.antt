@@ -1,21 +1,27 @@
-use Rattle.std.proofs.Common.{ap}
+use Rattle.std.proofs.Common.{◌<◌, length, arith, ap, lit<}
 use Rattle.moment_table.specs.declared.kinds.Row.{Row}
 use Rattle.moment_table.specs.Profile.{known_row}
-use Rattle.moment_table.proofs.Steps.{listed_none, listed_next}
+use Rattle.moment_table.proofs.Steps.{listed_none, listed_next, step_weight}
 use Rattle.moment_table.proofs.backorders.known.Goals as goal
+
+pub first-running-requires : goal.first-running-requires
+first-running-requires g c =
+    let l : 0 < length c.args.list.now = omega (arith, c.requires.sized.enough) in
+    let t = step_weight g.row.F c.args.list.now c.args.sum c.index-list-0.result 0 c.requires.sized l c.index-list-0.is in
+    (lit< tt, (lit< tt, (c.requires.mean_top, (t, c.requires.sized.sum_least))))
 
 pub loop-s-init : goal.loop-s-init
 loop-s-init g c = record {
   found = listed_none (λ s. (known_row g.row.F c.args.mean c.args.variance c.args.list.now c.args.sum s).ebo) _ c.in_ok-found.ensures.items;
-  figures = c.first-figures.ensures.figures;
-  small = c.first-figures.ensures.small;
+  running = c.first-running.ensures.running c.args.list.now;
+  small = c.first-running.ensures.small;
 }
 
 pub loop-s-preserved : goal.loop-s-preserved
 loop-s-preserved g c = record {
   found = rw c.in_ok-push.ensures.items
       (listed_next (λ s. (known_row g.row.F c.args.mean c.args.variance c.args.list.now c.args.sum s).ebo) c.loop-s.s c.loop-s.found.items _ c.loop-s.invariant.found
-      (ap (λ (r : Row g.row.F). r.ebo) (c.row-row.ensures.row c.args.mean c.args.variance c.loop-s.invariant.figures)));
-  figures = c.row-row.ensures.figures c.args.mean c.args.variance c.loop-s.invariant.figures;
+      (ap (λ (r : Row g.row.F). r.ebo) (c.row-row.ensures.row c.args.mean c.args.variance c.loop-s.invariant.running)));
+  running = c.row-row.ensures.running c.args.mean c.args.variance c.loop-s.invariant.running;
   small = c.row-row.ensures.small;
 }

@@ -1,0 +1,101 @@
+-- The rows that a table holds, as they are made and as they are read.
+use Rattle.std.proofs.Common.{◌≡◌, ℕ, ◌+◌, ◌*◌, ◌<◌, ◌≤◌, ◌^◌, ◌==◌, nat_lt, min, max, cond, List, [], ◌∷◌, ◌++◌, length, sym, ap, ◌∙◌, arith, subst, inl, inr}
+use Rattle.std.proofs.lemmas.Bool.{cond-true, cond-false, cond_both, lt-ltb, le-ltb, cases_lt}
+use Rattle.fixed_interval.specs.Ends.{Ends, IsWithinLimit}
+use Rattle.series_bounds.specs.Profile.{listed}
+use Rattle.series_bounds.specs.Answer.{at_place}
+use Rattle.series_bounds.proofs.Ranges.{unit_most}
+use Rattle.series_bounds.proofs.Walks.{listed_same}
+use Rattle.series_bounds.proofs.Enclosure.{listed_at, length-listed}
+use Rattle.moment_table.specs.declared.kinds.Row.{Row}
+use Rattle.moment_table.specs.declared.held.Rows.{Rows}
+use Rattle.moment_table.specs.Held.{HasRows, IsHeld, IsShort, bare_row, held_row, held_at}
+use Rattle.moment_table.specs.Inputs.{CanTable}
+use Rattle.moment_table.specs.Profile.{known_row, wide_row, empty_row, tail_ends, table_rows}
+use Rattle.moment_table.specs.Rows.{at_stock}
+use Rattle.moment_table.proofs.Steps.{listed_none, listed_next}
+use Rattle.moment_table.proofs.Most.{ebo_below, vbo_below}
+
+-- ---- as they are made
+
+pub rows_none : (f : ℕ) (u : ℕ → Row f) (tails : ℕ) (rows : Rows f) → rows.held.items ≡ [] → rows.tails.items ≡ [] → HasRows f u 0 tails rows
+rows_none f u tails rows h k = record {
+  held = listed_none (λ k. held_row (u k)) rows.held.items h;
+  tails = listed_none (λ k. (u k).tail) rows.tails.items k ∙ ap (listed (λ k. (u k).tail)) (omega arith);
+}
+
+tails_next : {X : Type 0} (u : ℕ → X) (s tails : ℕ) (xs ys : List X) (x : X) → xs ≡ listed u (min s tails) → x ≡ u s
+    → ys ≡ cond (nat_lt s tails) (xs ++ x ∷ []) xs → ys ≡ listed u (min (s + 1) tails)
+tails_next u s tails xs ys x h k e = elim (cases_lt s tails) [
+  | inl l ↦ (
+      let a : min s tails ≡ s = omega arith in
+      let b : min (s + 1) tails ≡ s + 1 = omega arith in
+      e ∙ cond-true (nat_lt s tails) (xs ++ x ∷ []) xs (lt-ltb s tails l) ∙ listed_next u s xs x (h ∙ ap (listed u) a) k ∙ ap (listed u) (sym b))
+  | inr l ↦ (
+      let a : min s tails ≡ min (s + 1) tails = omega arith in
+      e ∙ cond-false (nat_lt s tails) (xs ++ x ∷ []) xs (le-ltb s tails l) ∙ h ∙ ap (listed u) a)
+]
+
+pub rows_next : (f : ℕ) (u : ℕ → Row f) (s tails : ℕ) (rows more : Rows f) (row : Row f) → HasRows f u s tails rows
+    → more.held.items ≡ rows.held.items ++ held_row row ∷ [] → more.tails.items ≡ cond (nat_lt s tails) (rows.tails.items ++ row.tail ∷ []) rows.tails.items
+    → row ≡ u s → HasRows f u (s + 1) tails more
+rows_next f u s tails rows more row h a b e = record {
+  held = a ∙ listed_next (λ k. held_row (u k)) s rows.held.items (held_row row) h.held (ap (λ (z : Row f). held_row z) e);
+  tails = tails_next (λ k. (u k).tail) s tails rows.tails.items more.tails.items row.tail h.tails (ap (λ (z : Row f). z.tail) e) b;
+}
+
+pub rows_same : (f : ℕ) (u v : ℕ → Row f) (n tails : ℕ) (rows : Rows f) → ((s : ℕ) → s < n → u s ≡ v s) → HasRows f u n tails rows → HasRows f v n tails rows
+rows_same f u v n tails rows h r = record {
+  held = r.held ∙ listed_same (λ k. held_row (u k)) (λ k. held_row (v k)) n (λ k l. ap (λ (z : Row f). held_row z) (h k l));
+  tails = r.tails ∙ listed_same (λ k. (u k).tail) (λ k. (v k).tail) (min n tails) (λ k l. ap (λ (z : Row f). z.tail) (h k (omega arith)));
+}
+
+-- ---- their sizes
+
+unit_short : (f n : ℕ) → f ≤ 52 → n ≤ 256 * 2 ^ f → n < 2 ^ 64
+unit_short f n s h = omega (arith, h, unit_most f s)
+
+max_most : (a b c : ℕ) → a ≤ c → b ≤ c → max a b ≤ c
+max_most a b c h k = grind arith
+
+pub limit_short : (f : ℕ) (x : Ends) → f ≤ 52 → IsWithinLimit f x → x.hi < 2 ^ 64
+limit_short f x s h = unit_short f x.hi s h
+
+known_is_short : (f : ℕ) (m v : Ends) (list : List Ends) (sum : Ends) (s : ℕ) → f ≤ 52 → IsWithinLimit f m → IsWithinLimit f v → IsShort f (known_row f m v list sum s)
+unfolding known_row tail_ends
+known_is_short f m v list sum s w a b =
+    let e = ebo_below f m list sum s in
+    let x = vbo_below f m v list sum s in
+    let t : max v.hi m.hi ≤ 256 * 2 ^ f = max_most v.hi m.hi (256 * 2 ^ f) b a in
+    record { ebo = unit_short f _ w (omega (arith, e, a)); vbo = unit_short f _ w (omega (arith, x, t)); tail = unit_short f _ w (omega arith) }
+
+pub known_short : (f : ℕ) (m v : Ends) (list : List Ends) (sum : Ends) (s : ℕ) (row : Row f) → f ≤ 52 → IsWithinLimit f m → IsWithinLimit f v
+    → row ≡ known_row f m v list sum s → IsShort f row
+known_short f m v list sum s row w a b e = subst (λ z. IsShort f z) (sym e) (known_is_short f m v list sum s w a b)
+
+empty_is_short : (f : ℕ) → IsShort f (empty_row f)
+unfolding empty_row
+empty_is_short f = record { ebo = omega arith; vbo = omega arith; tail = omega arith }
+
+wide_is_short : (f : ℕ) (m v : Ends) (s : ℕ) → f ≤ 52 → IsWithinLimit f m → IsWithinLimit f v → IsShort f (wide_row f m v s)
+unfolding wide_row
+wide_is_short f m v s w a b =
+    let t : max v.hi m.hi ≤ 256 * 2 ^ f = max_most v.hi m.hi (256 * 2 ^ f) b a in
+    record { ebo = unit_short f _ w a; vbo = unit_short f _ w t; tail = unit_short f _ w (omega arith) }
+
+pub bare_short : (f : ℕ) (m v : Ends) (s : ℕ) (row : Row f) → f ≤ 52 → IsWithinLimit f m → IsWithinLimit f v → row ≡ bare_row f m v s → IsShort f row
+bare_short f m v s row w a b e =
+    subst (λ z. IsShort f z) (sym e) (cond_both (m.hi == 0) (empty_row f) (wide_row f m v s) (λ z. IsShort f z) (λ h. empty_is_short f) (λ h. wide_is_short f m v s w a b))
+
+-- ---- as they are read
+
+pub rows_held : (f : ℕ) (m v : Ends) (n tails : ℕ) (rows : Rows f) → CanTable f m v → HasRows f (at_stock (table_rows f m v)) n tails rows → IsHeld f m v rows
+rows_held f m v n tails rows can h = record {
+  can = can;
+  held = λ s l.
+      let i : s < n = (let a = ap length h.held ∙ length-listed (λ k. held_row (at_stock (table_rows f m v) k)) n in omega (arith, a, l)) in
+      ap (λ z. held_at z s) h.held ∙ listed_at (λ k. held_row (at_stock (table_rows f m v) k)) n s (held_row (empty_row f)) i;
+  tails = λ s l.
+      let i : s < min n tails = (let a = ap length h.tails ∙ length-listed (λ k. (at_stock (table_rows f m v) k).tail) (min n tails) in omega (arith, a, l)) in
+      ap (λ z. at_place z s) h.tails ∙ listed_at (λ k. (at_stock (table_rows f m v) k).tail) (min n tails) s (record { lo = 0; hi = 0 }) i;
+}

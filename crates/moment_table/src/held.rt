@@ -1,0 +1,96 @@
+//! What a table holds of its rows: ends of 64 bits, which have room for all that is at most 256.
+
+ghost use Rattle.std.specs.Prelude.{◌≡◌, ◌<◌, ◌^◌, ◌++◌, ◌∷◌, [], nat_lt, if◌then◌else◌, OnOk, IfOk};
+ghost use Rattle.moment_table.specs.Held.{IsShort, held_row};
+
+use crate::kinds::Row;
+use fixed_interval::Iv;
+use spares_io::NoMemory;
+use std::alloc::Global;
+use std::marker::Model;
+
+/// An interval with ends of 64 bits.
+#[derive(Clone, Copy, Drop)]
+pub(crate) struct Span<const F: u32> {
+    lo: u64,
+    hi: u64,
+}
+
+impl<const F: u32> Model for Span<F> {
+    ghost use Rattle.fixed_interval.specs.Ends.{Ends, IsInterval};
+
+    ghost Value = { Ends };
+
+    ghost view = { λ a. record { lo = a.lo; hi = a.hi } };
+
+    ghost invariant = { λ a. IsInterval F (record { lo = a.lo; hi = a.hi }) };
+
+    ghost inverse = { λ d. record { lo = d.lo; hi = d.hi } };
+}
+
+impl<const F: u32> Span<F> {
+    /// The same interval.
+    pub(crate) fn of(a: Iv<F>) -> Span<F>
+        requires { a.hi < 2 ^ 64 }
+        ensures { result ≡ a.entry }
+    {
+        Span {
+            lo: a.lo() as u64,
+            hi: a.hi() as u64,
+        }
+    }
+
+    /// The same interval.
+    pub(crate) fn open(self) -> Iv<F>
+        ensures { result ≡ self.entry }
+    {
+        Iv::of_ends(u128::from(self.lo), u128::from(self.hi))
+    }
+}
+
+/// What is held of a row, beside its tail.
+#[derive(Clone, Copy, Drop)]
+pub(crate) struct Held<const F: u32> {
+    /// The expected backorders.
+    pub(crate) ebo: Span<F>,
+    /// Their variance.
+    pub(crate) vbo: Span<F>,
+}
+
+/// The first rows of a table, and the tails of the first of them.
+#[derive(Drop)]
+pub(crate) struct Rows<const F: u32> {
+    pub(crate) held: Vec<Held<F>>,
+    pub(crate) tails: Vec<Span<F>>,
+}
+
+impl<const F: u32> Rows<F> {
+    /// No rows, with room for so many rows and tails.
+    pub(crate) fn with_room(alloc: Global, stocks: u32, tails: u32) -> Result<Rows<F>, NoMemory>
+        ensures held { IfOk result (λ rows. rows.held.items ≡ []) }
+        ensures tails { IfOk result (λ rows. rows.tails.items ≡ []) }
+    {
+        Ok(Rows {
+            held: Vec::with_capacity(alloc, stocks as usize)?,
+            tails: Vec::with_capacity(alloc, tails as usize)?,
+        })
+    }
+
+    /// Adds the row at the stock `s`, with its tail where `s` is below `tails`.
+    #[inline(always)]
+    pub(crate) fn push(&mut self, row: Row<F>, s: u32, tails: u32) -> Result<(), NoMemory>
+        requires { IsShort F row }
+        ensures held { OnOk result (self.new.held.items ≡ self.old.held.items ++ held_row row.entry ∷ []) }
+        ensures tails { OnOk result (self.new.tails.items
+            ≡ (if nat_lt s tails then self.old.tails.items ++ row.entry.tail ∷ [] else self.old.tails.items)) }
+    {
+        self.held.push(Held {
+            ebo: Span::of(row.ebo),
+            vbo: Span::of(row.vbo),
+        })?;
+        if s < tails {
+            self.tails.push(Span::of(row.tail))?;
+        }
+        Ok(())
+    }
+}

@@ -1,0 +1,52 @@
+//! The row at one stock, without memory: what `row_at` finds, in its plain form and slowly.
+
+ghost use Rattle.std.specs.Prelude.{◌≡◌, ◌*◌, ◌^◌, ◌<◌, ◌≤◌, true, IfSome, IfNone};
+ghost use Rattle.fixed_interval.specs.Ends.{IsWithinLimit};
+ghost use Rattle.series_bounds.specs.Profile.{is_wide};
+ghost use Rattle.moment_table.specs.Inputs.{CanTable};
+ghost use Rattle.moment_table.specs.Profile.{excess_ends, table_rows};
+ghost use Rattle.moment_table.specs.Rows.{at_stock};
+
+use crate::kinds::Row;
+use crate::rows::bare_row;
+use crate::running::Running;
+use crate::weighed::excess_of;
+use fixed_interval::Iv;
+use series_bounds::plain::{sum_of_weights, weight_at};
+
+/// The row at a stock where the weights are known, each weight walked to for itself, and None where they aren't.
+fn known<const F: u32>(mean: Iv<F>, variance: Iv<F>, stock: u8) -> Option<Row<F>>
+    requires table { CanTable F mean variance }
+    requires mean_least { 0 < mean.lo }
+    requires ratio { variance.hi ≤ 2048 * mean.lo }
+    requires stock { stock ≤ 63 }
+    ensures wide { IfNone result (is_wide F mean.entry (excess_ends F mean.entry variance.entry) ≡ true) }
+    ensures row { IfSome result (λ row. row ≡ at_stock (table_rows F mean.entry variance.entry) stock) }
+{
+    let excess = excess_of(mean, variance);
+    let sum = sum_of_weights(mean, excess)?;
+    let first = weight_at(mean, excess, 0)?;
+    let mut running = Running::first(mean, variance, first, sum);
+    for s in 0..u32::from(stock) {
+        let weight = weight_at(mean, excess, s)?;
+        running.step(weight, sum, s);
+    }
+    let last = weight_at(mean, excess, u32::from(stock))?;
+    let row = running.step(last, sum, u32::from(stock));
+    Some(row)
+}
+
+/// The row of the table at a stock.
+pub(crate) fn plain_row<const F: u32>(mean: Iv<F>, variance: Iv<F>, stock: u8) -> Row<F>
+    requires table { CanTable F mean variance }
+    requires stock { stock ≤ 63 }
+    ensures { result ≡ at_stock (table_rows F mean.entry variance.entry) stock }
+{
+    if mean.hi() == 0 {
+        return bare_row(mean, variance, u32::from(stock));
+    }
+    match known(mean, variance, stock) {
+        Some(row) => row,
+        None => bare_row(mean, variance, u32::from(stock)),
+    }
+}

@@ -1,0 +1,57 @@
+//! The weights behind a table.
+
+ghost use Rattle.std.specs.Prelude.{◌≡◌, ◌*◌, ◌^◌, ◌<◌, ◌≤◌, IfOk, IfSome, IfNone};
+ghost use Rattle.fixed_interval.specs.Ends.{IsWithinLimit};
+ghost use Rattle.series_bounds.specs.Answer.{Sized};
+ghost use Rattle.moment_table.specs.Held.{AreRowsOf, bare_row};
+ghost use Rattle.moment_table.specs.Inputs.{CanTable};
+ghost use Rattle.moment_table.specs.Profile.{known_row, excess_ends};
+
+use fixed_interval::Iv;
+use series_bounds::kinds::Weights;
+use series_bounds::weights;
+use spares_io::{List, NoMemory};
+use std::alloc::Global;
+
+/// Known weights and their sum.
+#[derive(Drop)]
+pub(crate) struct Weighed<const F: u32> {
+    pub(crate) list: List<Iv<F>>,
+    pub(crate) sum: Iv<F>,
+}
+
+/// The variance over the mean, less 1.
+pub(crate) fn excess_of<const F: u32>(mean: Iv<F>, variance: Iv<F>) -> Iv<F>
+    requires mean_least { 0 < mean.lo }
+    requires variance_top { IsWithinLimit F variance }
+    requires ratio { variance.hi ≤ 2048 * mean.lo }
+    ensures ends { result ≡ excess_ends F mean.entry variance.entry }
+    ensures most { result.hi ≤ 2048 * 2 ^ F }
+{
+    variance.div(mean).less(Iv::exact(1))
+}
+
+/// The weights of a pipeline with this mean and variance, and None where it is always empty, or they aren't known.
+pub(crate) fn weigh<const F: u32>(
+    alloc: Global,
+    mean: Iv<F>,
+    variance: Iv<F>,
+) -> Result<Option<Weighed<F>>, NoMemory>
+    requires { CanTable F mean variance }
+    ensures bare { IfOk result (λ found. IfNone found (AreRowsOf F mean.entry variance.entry (bare_row F mean.entry variance.entry))) }
+    ensures known { IfOk result (λ found. IfSome found (λ w. AreRowsOf F mean.entry variance.entry (known_row F mean.entry variance.entry w.list w.sum))) }
+    ensures sized { IfOk result (λ found. IfSome found (λ w. Sized F w.list w.sum)) }
+{
+    if mean.hi() == 0 {
+        return Ok(None);
+    }
+    let excess = excess_of(mean, variance);
+    match weights(alloc, mean, excess)? {
+        Weights::Known {
+            pivot: _,
+            list,
+            sum,
+        } => Ok(Some(Weighed { list, sum })),
+        Weights::Wide => Ok(None),
+    }
+}
