@@ -19,7 +19,8 @@ use Rattle.spares_top.specs.declared.refusal.failure.Failure.{Failure}
 use Rattle.spares_top.specs.declared.refusal.File.TheVariants.{Sites, Parts, Rates, Stocks}
 use Rattle.spares_top.specs.declared.refusal.Refusal.{Refusal}
 use Rattle.spares_top.specs.declared.refusal.Refusal.TheVariants as refusal
-use Rattle.spares_top.specs.Causes.{◌>>=◌, of_task, kind_of, or_refuse}
+use Rattle.spares_io.specs.Steps.{◌>>=◌}
+use Rattle.spares_top.specs.Causes.{of_task, kind_of, or_refuse}
 use Rattle.spares_top.specs.Lines.{no_names}
 use Rattle.spares_top.specs.Making.{Evaluates, Is, MakesBy}
 use Rattle.spares_top.specs.Tables.{StockedCase, case_of_table, case_of_tables, frame_of_tables, rates_of_case, stocked_of, stocks_of_table}
@@ -127,11 +128,3 @@ pub eval_stops : (sites parts rates stocks : List ℕ) (bits : ℕ) (e : Stop Fa
 eval_stops sites parts rates stocks bits stop.NoMemory h = tt
 eval_stops sites parts rates stocks bits (stop.Fault failure) h =
     (sym (ap (λ (r : Result StockedCase Failure). r >>= λ stocked. Ok (evaluate stocked.case stocked.stocks bits)) h), rw (is_of_task sites parts rates stocks failure h) tt)
-
--- where there are rates, no rule is broken
-none_of : {A E : Type 0} (fault : Option E) (value given : A) → unless fault value ≡ Ok given → fault ≡ None
-none_of None value given e = refl
-none_of (Some fault) value given e = grind arith
-
-pub no_fault : (case : CaseRows) (rates : RateList) → model.rates_of case ≡ Ok rates → rate_fault_of case ≡ None
-no_fault case rates e = none_of (rate_fault_of case) _ rates e

@@ -20,7 +20,8 @@ use Rattle.spares_top.specs.declared.files.Input.{Input}
 use Rattle.spares_top.specs.declared.refusal.File.TheVariants.{Sites, Parts, Rates, Stocks}
 use Rattle.spares_top.specs.declared.refusal.Refusal.TheVariants as refusal
 use Rattle.spares_top.specs.Answer.{Answers, HaveGiven, IsDue, RefusesBy}
-use Rattle.spares_top.specs.Causes.{◌>>=◌, Kind, of_words, of_reading, of_writing, of_memory, of_task, kind_of, plain_failure, stopped}
+use Rattle.spares_io.specs.Steps.{◌>>=◌}
+use Rattle.spares_top.specs.Causes.{Kind, of_words, of_reading, of_writing, of_memory, of_task, kind_of, plain_failure, stopped}
 use Rattle.spares_top.specs.Files.{Reads, StandStill, StopsAt, inputs, inputs_of, output_of, reads, table_in}
 use Rattle.spares_top.specs.Headline.{IsTrue}
 use Rattle.spares_top.specs.Making.{ComesOf, Delivers, Is, IsMade, MakesBy}

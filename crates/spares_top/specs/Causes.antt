@@ -42,12 +42,6 @@ abbrev pub stopped : Stop Failure → Failure
 stopped stop.NoMemory = plain_failure refusal.NoMemory
 stopped (stop.Fault failure) = failure
 
--- what comes next of a value, or the failure that came first
-infixl 10 ◌>>=◌
-abbrev pub ◌>>=◌ : {A B : Type 0} → Result A Failure → (A → Result B Failure) → Result B Failure
-(Ok value) >>= next = next value
-(Err failure) >>= next = Err failure
-
 -- the value, or its fault as a refusal of that kind
 abbrev pub or_refuse : {A E : Type 0} → FrameRows → (E → Refusal) → Result A E → Result A Failure
 or_refuse names kind (Ok value) = Ok value

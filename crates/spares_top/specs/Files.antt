@@ -10,7 +10,8 @@ use Rattle.spares_top.specs.declared.files.Input.{Input}
 use Rattle.spares_top.specs.declared.refusal.File.{File}
 use Rattle.spares_top.specs.declared.refusal.File.TheVariants.{Sites, Parts, Rates, Stocks}
 use Rattle.spares_top.specs.declared.refusal.Refusal.TheVariants as refusal
-use Rattle.spares_top.specs.Causes.{◌>>=◌, plain_failure}
+use Rattle.spares_io.specs.Steps.{◌>>=◌}
+use Rattle.spares_top.specs.Causes.{plain_failure}
 
 -- most bytes of a table
 abbrev pub table_limit : ℕ

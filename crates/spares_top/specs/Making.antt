@@ -12,7 +12,8 @@ use Rattle.spares_top.specs.declared.done.Outcome.{Outcome}
 use Rattle.spares_top.specs.declared.done.Written.{Written}
 use Rattle.spares_top.specs.declared.refusal.failure.Failure.{Failure}
 use Rattle.spares_top.specs.declared.refusal.Refusal.TheVariants as refusal
-use Rattle.spares_top.specs.Causes.{◌>>=◌, Kind, of_words, of_reading, of_writing, of_memory, of_task, kind_of, plain_failure}
+use Rattle.spares_io.specs.Steps.{◌>>=◌}
+use Rattle.spares_top.specs.Causes.{Kind, of_words, of_reading, of_writing, of_memory, of_task, kind_of, plain_failure}
 use Rattle.spares_top.specs.Files.{Reads, inputs, table_limit}
 use Rattle.spares_top.specs.Headline.{IsTrue, ShowsCase}
 use Rattle.spares_top.specs.State.{HasDelivered, HasFailed, IsUntouched, Scene}

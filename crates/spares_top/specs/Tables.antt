@@ -12,7 +12,8 @@ use Rattle.spares_input.specs.Stocks.{StockList, stocks_of}
 use Rattle.spares_top.specs.declared.refusal.failure.Failure.{Failure}
 use Rattle.spares_top.specs.declared.refusal.File.TheVariants.{Sites, Parts, Rates, Stocks}
 use Rattle.spares_top.specs.declared.refusal.Refusal.TheVariants as refusal
-use Rattle.spares_top.specs.Causes.{◌>>=◌, or_refuse}
+use Rattle.spares_io.specs.Steps.{◌>>=◌}
+use Rattle.spares_top.specs.Causes.{or_refuse}
 use Rattle.spares_top.specs.Lines.{no_names}
 
 -- the frame of two tables; there are no names yet

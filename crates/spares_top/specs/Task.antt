@@ -21,7 +21,8 @@ use Rattle.spares_top.specs.declared.done.Done.TheVariants.{Single, Evaluated}
 use Rattle.spares_top.specs.declared.done.Outcome.{Outcome}
 use Rattle.spares_top.specs.declared.refusal.failure.Failure.{Failure}
 use Rattle.spares_top.specs.declared.refusal.Refusal.TheVariants as refusal
-use Rattle.spares_top.specs.Causes.{◌>>=◌, plain_failure}
+use Rattle.spares_io.specs.Steps.{◌>>=◌}
+use Rattle.spares_top.specs.Causes.{plain_failure}
 use Rattle.spares_top.specs.Files.{inputs_of, reads}
 use Rattle.spares_top.specs.Tables.{stocked_of}
 

@@ -1,6 +1,5 @@
 //! From the bytes of tables to a case and its stocks.
-ghost use Rattle.std.specs.Prelude.{◌≡◌, ◌≤◌, None, IfOk, OnOk, length};
-ghost use Rattle.demand_rates.specs.Limits.{rate_fault_of};
+ghost use Rattle.std.specs.Prelude.{◌≤◌, IfOk, length};
 ghost use Rattle.demand_rates.specs.Rates.{AreRatesOf};
 ghost use Rattle.spares_input.specs.Stocks.{IsFor, IsWithinLimits};
 ghost use Rattle.spares_io.specs.Answers.{Gives};
@@ -111,11 +110,10 @@ pub(crate) fn stocks_in(alloc: Global, case: &Case, bytes: &[u8]) -> Result<Stoc
 }
 
 /// The rates of a case that the model takes.
-#[tactic(auto, using(crate::proofs::Stops::no_fault), unfolding(crate::specs::Tables::rates_of_case))]
+#[tactic(auto, unfolding(crate::specs::Tables::rates_of_case))]
 pub(crate) fn rates_of(alloc: Global, case: &Case) -> Result<Rates, Stop<Failure>>
     ensures answer { Gives (rates_of_case case.now) result }
     ensures model { IfOk result (AreRatesOf case.now) }
-    ensures accepted { OnOk result (rate_fault_of case.now ≡ None) }
 {
     match rates(alloc, case) {
         Ok(rates) => Ok(rates),

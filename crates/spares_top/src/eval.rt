@@ -1,10 +1,9 @@
 //! The figures of a case at given stocks.
-ghost use Rattle.std.specs.Prelude.{◌≡◌, ◌≤◌, true, None, IfOk, length};
-ghost use Rattle.demand_rates.specs.Limits.{rate_fault_of};
+ghost use Rattle.std.specs.Prelude.{◌≡◌, ◌≤◌, IfOk, length};
 ghost use Rattle.demand_rates.specs.Rates.{AreRatesOf};
 ghost use Rattle.spares_input.specs.Stocks.{IsFor, IsWithinLimits};
-ghost use Rattle.spares_words.specs.Order.{is_width};
-ghost use Rattle.case_figures.specs.Figures.{HasSpan, figures_of};
+ghost use Rattle.fixed_interval.specs.Widths.{IsWidth};
+ghost use Rattle.case_figures.specs.Figures.{figures_of};
 ghost use Rattle.case_figures.specs.Shows.{ShowsFigures};
 ghost use Rattle.case_figures.specs.Fits.{FitsPrint};
 ghost use Rattle.spares_top.specs.Files.{table_limit};
@@ -31,15 +30,15 @@ fn figures<const F: u32>(
     rates: &Rates,
     stocks: &Stocks,
 ) -> Result<Figures, NoMemory>
-    requires span { HasSpan F }
+    requires width { IsWidth F }
     requires rates { AreRatesOf case.now rates.now }
-    requires accepted { rate_fault_of case.now ≡ None }
     requires whole { IsFor case.now stocks.now }
     requires limits { IsWithinLimits case.now stocks.now }
     ensures figures { IfOk result (λ figures. figures ≡ figures_of F case.now stocks.now) }
     ensures shows { IfOk result (ShowsFigures F case.now stocks.now) }
     ensures prints { IfOk result FitsPrint }
 {
+    let _valid = case.site_count();
     let families = evaluate_all::<F>(alloc, case, rates, stocks)?;
     figures_at(alloc, case, families.as_slice(), stocks)
 }
@@ -53,10 +52,9 @@ fn figures_with(
     bits: u8,
 ) -> Result<Figures, NoMemory>
     requires rates { AreRatesOf case.now rates.now }
-    requires accepted { rate_fault_of case.now ≡ None }
     requires whole { IsFor case.now stocks.now }
     requires limits { IsWithinLimits case.now stocks.now }
-    requires bits { is_width bits ≡ true }
+    requires bits { IsWidth bits }
     ensures figures { IfOk result (λ figures. figures ≡ figures_of bits case.now stocks.now) }
     ensures shows { IfOk result (ShowsFigures bits case.now stocks.now) }
     ensures prints { IfOk result FitsPrint }
@@ -77,10 +75,9 @@ fn evaluated(
     bits: u8,
 ) -> Result<EvalReport, NoMemory>
     requires rates { AreRatesOf case.now rates.now }
-    requires accepted { rate_fault_of case.now ≡ None }
     requires whole { IsFor case.now stocks.now }
     requires limits { IsWithinLimits case.now stocks.now }
-    requires bits { is_width bits ≡ true }
+    requires bits { IsWidth bits }
     ensures report { IfOk result (λ report. report ≡ eval_of bits case.now stocks.now) }
     ensures shows { IfOk result (ShowsCase bits case.now stocks.now) }
     ensures prints { IfOk result (λ report. FitsPrint report.figures) }
@@ -102,7 +99,7 @@ fn report_of(
     requires parts { length parts.now ≤ table_limit }
     requires rates { length rates.now ≤ table_limit }
     requires stocks { length stocks.now ≤ table_limit }
-    requires bits { is_width bits ≡ true }
+    requires bits { IsWidth bits }
     ensures { Evaluates (stocked_of sites.now parts.now rates.now stocks.now) bits result }
 {
     let case = match case_of(alloc, sites, parts, rates) {
@@ -127,7 +124,7 @@ fn report_of(
 #[tactic(auto, using(crate::proofs::Stops::eval_stops))]
 pub(crate) fn eval(alloc: Global, files: &[List<u8>], bits: u8) -> Result<Outcome, Stop<Failure>>
     requires files { AreTables files.now }
-    requires bits { is_width bits ≡ true }
+    requires bits { IsWidth bits }
     ensures { MakesBy (Is (eval_task (bytes_at files.now 0) (bytes_at files.now 1) (bytes_at files.now 2) (bytes_at files.now 3) bits)) result }
 {
     let (sites, parts) = (files[0].as_slice(), files[1].as_slice());

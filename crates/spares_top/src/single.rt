@@ -1,7 +1,7 @@
 //! The report of a single pipeline.
-ghost use Rattle.std.specs.Prelude.{◌≡◌, ◌≤◌, ◌<◌, ◌*◌, ◌^◌, IfOk};
+ghost use Rattle.std.specs.Prelude.{◌≡◌, ◌≤◌, ◌<◌, ◌^◌, IfOk};
 ghost use Rattle.demand_rates.specs.Single.{WithinLimits};
-ghost use Rattle.fixed_interval.specs.Ends.{In, ends_ratio};
+ghost use Rattle.fixed_interval.specs.Ends.{In, IsWithinLimit, ends_ratio};
 ghost use Rattle.fleet_model.specs.Rows.{ten_thousandths};
 ghost use Rattle.spares_words.specs.Order.{IsInRange};
 ghost use Rattle.spares_words.specs.declared.order.Order.TheVariants as order;
@@ -28,7 +28,7 @@ fn interval_of(units: u64) -> Iv<48>
     requires { units ≤ 2560000 }
     ensures ends { result ≡ ends_ratio 48 units 10000 }
     ensures encloses { In 48 result (ten_thousandths units) }
-    ensures small { result.hi ≤ 256 * 2 ^ 48 }
+    ensures small { IsWithinLimit 48 result }
 {
     Iv::of_ratio(u128::from(units), TEN_THOUSAND)
 }

@@ -1,6 +1,7 @@
 //! An order, from the shelf to the output.
-ghost use Rattle.std.specs.Prelude.{◌≡◌, [], true, Ok};
-ghost use Rattle.spares_words.specs.Order.{IsInRange, is_width, order_of};
+ghost use Rattle.std.specs.Prelude.{◌≡◌, [], Ok};
+ghost use Rattle.fixed_interval.specs.Widths.{IsWidth};
+ghost use Rattle.spares_words.specs.Order.{IsInRange, order_of};
 ghost use Rattle.spares_words.specs.declared.order.Order.TheVariants as order;
 ghost use Rattle.spares_top.specs.Files.{StandStill, inputs};
 ghost use Rattle.spares_top.specs.Making.{ComesOf, MakesBy};
@@ -28,7 +29,7 @@ fn eval_files<H: Shelf>(
     bits: u8,
     shelf: &mut H,
 ) -> Result<Outcome, Stop<Failure>>
-    requires { is_width bits ≡ true }
+    requires { IsWidth bits }
     ensures makes { MakesBy (ComesOf (order.Eval sites parts rates stocks bits) (H.held shelf.old) (H.read_faults shelf.old) (H.read_faults shelf.new)) result }
     ensures held { H.held shelf.new ≡ H.held shelf.old }
     ensures writes { StandStill (H.write_faults shelf.old) (H.write_faults shelf.new) }
