@@ -13,3 +13,5 @@ pub mod TableFacts
 pub mod Turns
 pub mod Vertices
 pub mod Local
+pub mod Single
+pub mod Products

@@ -17,8 +17,7 @@ evaluate-requires c =
     (subst (IsFor c.args.self.now.case) (sym c.in_ok-stocks.ensures) (stocks_for c.args.self.now valid (depot_and_base c.args.depot.now c.args.site.0 c.args.base.now))) in
     let within = subst (λ (x : FamilyBox). IsWithinLimits x.case c.in_ok-stocks.stocks) (sym c.self.view_is)
     (subst (IsWithinLimits c.args.self.now.case) (sym c.in_ok-stocks.ensures) (stocks_within c.args.self.now valid c.args.site.0 c.args.depot.now c.args.base.now c.requires.depot c.requires.base)) in
-    let rates = c.self.invariant.0.are_rates in
-    (
+    let rates = c.self.invariant.0.are_rates in (
       omega arith,
       (
         record { scale = (omega arith, omega arith); valid = c.self.invariant.0.valid; no_fault = rates.no_fault; are_stocks = for; limits = within },
