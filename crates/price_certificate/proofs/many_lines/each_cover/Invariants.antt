@@ -1,0 +1,9 @@
+use Rattle.std.proofs.Common.{◌≡◌}
+use Rattle.line_text.specs.Formats.{each}
+use Rattle.line_text.specs.Texts.{numbers_from}
+use Rattle.line_text.proofs.Steps.{read_from}
+use Rattle.price_certificate.specs.Grammar.{cover}
+use Rattle.price_certificate.proofs.many_lines.each_cover.Given as goal
+
+abbrev pub invariant-loop-k : goal.invariant-loop-k
+invariant-loop-k l = read_from (λ _ _. cover) l.found.items l.count l.k l.lines ≡ (each (numbers_from 0 l.count) (λ _. cover)).read l.fn.lines

@@ -1,0 +1,19 @@
+use Rattle.std.proofs.Common.{Vec, Global, ℕ}
+use Rattle.std.proofs.lemmas.Result.{err_from_is_err_and}
+use Rattle.line_text.specs.Formats.{each}
+use Rattle.line_text.specs.Texts.{numbers_from}
+use Rattle.spares_io.specs.declared.stop.Stop.TheVariants as stop
+use Rattle.line_text.proofs.Steps.{step, stops}
+use Rattle.line_text.specs.Texts.{number_line}
+use Rattle.price_certificate.proofs.many_lines.each_stock.Goals as goal
+
+pub returns-in_err-stock : goal.returns-in_err-stock
+returns-in_err-stock c =
+    let p = err_from_is_err_and c.from_residual.result c.from_residual.ensures.1 in
+    rw (p.1, p.2) (stops {V = Vec ℕ Global} (λ v. v.items) (stop.Fault c.in_err-stock.field-0.0) (λ _ _. number_line 63) c.loop-k.found.items c.args.count c.loop-k.k c.loop-k.lines c.number_line.new.lines ((each (numbers_from 0 c.args.count) (λ _. number_line 63)).read c.args.lines.now)
+    c.loop-k-test.true c.in_err-stock.ensures c.loop-k.invariant)
+
+pub loop-k-preserved : goal.loop-k-preserved
+loop-k-preserved c =
+    rw c.in_ok-push.ensures.items (step (λ _ _. number_line 63) c.loop-k.found.items c.args.count c.loop-k.k c.loop-k.lines c.number_line.new.lines c.in_ok-stock.stock ((each (numbers_from 0 c.args.count) (λ _. number_line 63)).read c.args.lines.now)
+    c.loop-k-test.true c.in_ok-stock.ensures c.loop-k.invariant)

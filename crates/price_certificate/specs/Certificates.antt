@@ -1,0 +1,75 @@
+-- Which certificates are well formed, their text, and what bytes tell.
+use Rattle.std.specs.Prelude.{◌≡◌, ⊤, ℕ, ◌^◌, ◌≤◌, List, [], length, All, Result, Ok, Err}
+use Rattle.line_text.specs.Files.{file_text, file_answer}
+use Rattle.spares_input.specs.Frames.{FrameRows, frame_of}
+use Rattle.spares_input.specs.Cases.{IsCase}
+use Rattle.spares_input.specs.Stocks.{IsFor}
+use Rattle.spares_input.specs.declared.fault.CaseFault.{CaseFault}
+use Rattle.price_certificate.specs.declared.certificate.Certificate.{Certificate}
+use Rattle.price_certificate.specs.declared.certificate.Objective.TheVariants as objective
+use Rattle.price_certificate.specs.declared.certificate.Node.{Node}
+use Rattle.price_certificate.specs.declared.certificate.Node.TheVariants as node
+use Rattle.price_certificate.specs.declared.fault.CertFault.{CertFault}
+use Rattle.price_certificate.specs.declared.fault.CertFault.TheVariants as fault
+use Rattle.price_certificate.specs.Grammar.{family_count, certificate_format}
+
+-- ---- well formed
+
+-- no number is above the most
+abbrev pub AreUpTo : ℕ → List ℕ → Type 0
+AreUpTo most numbers = All (λ n. n ≤ most) numbers
+
+abbrev pub IsNode : Node → Type 0
+IsNode (node.Split at from) = (at ≤ 143) × ((1 ≤ from) × (from ≤ 63))
+IsNode node.Cost = ⊤
+IsNode node.Whole = ⊤
+
+pub record IsCover (cover : List Node) : Type 0 where
+  pub some : 1 ≤ length cover
+  pub few : length cover ≤ 100000
+  pub nodes : All IsNode cover
+
+-- format 1 has no covers, and aims at backorders
+pub record IsFirst (c : Certificate) : Type 0 where
+  pub objective : c.objective ≡ objective.Backorders
+  pub covers : c.covers ≡ []
+
+-- format 2 has a cover for each line unit
+pub record IsSecond (c : Certificate) : Type 0 where
+  pub count : length c.covers ≡ family_count c.case.parts
+  pub covers : All IsCover c.covers
+
+-- every number is within its range, and there is a floor for each line unit and a stock for each pair
+pub record IsWellFormed (c : Certificate) : Type 0 where
+  pub fewest : 1 ≤ c.format
+  pub most : c.format ≤ 2
+  pub case : IsCase c.case
+  pub budget : c.budget ≤ 10 ^ 15
+  pub price : c.price.p ≤ 2 ^ 74
+  pub money : (1 ≤ c.price.q) × (c.price.q ≤ 10 ^ 12)
+  pub floor_count : length c.floors ≡ family_count c.case.parts
+  pub floors : AreUpTo (2 ^ 115) c.floors
+  pub first : c.format ≡ 1 → IsFirst c
+  pub second : c.format ≡ 2 → IsSecond c
+  pub stocks : IsFor c.case c.stocks
+  pub stock_numbers : AreUpTo 63 c.stocks.list
+  pub upper : c.upper ≤ 2 ^ 85
+  pub bound : c.bound ≤ 2 ^ 85
+
+-- ---- text and reading
+
+abbrev pub cert_text : Certificate → List ℕ
+cert_text c = file_text (certificate_format 1) c
+
+-- the certificate of these lines, where their sites and parts are a frame's
+abbrev pub with_frame : Certificate → Result FrameRows CaseFault → Result Certificate CertFault
+with_frame c (Ok frame) = Ok c
+with_frame c (Err f) = Err (fault.BadCase f)
+
+abbrev pub judged : Result Certificate ℕ → Result Certificate CertFault
+judged (Ok c) = with_frame c (frame_of c.case.sites c.case.parts)
+judged (Err n) = Err (fault.BadLine n)
+
+-- the certificate whose text the bytes are, or the first bad line, or the case fault where every line is in the grammar
+abbrev pub cert_of : List ℕ → Result Certificate CertFault
+cert_of bytes = judged (file_answer (certificate_format 1) bytes)

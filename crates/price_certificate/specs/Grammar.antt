@@ -1,0 +1,114 @@
+-- The lines of a certificate.
+use Rattle.std.specs.Prelude.{ℕ, ◌^◌, Bool, true, false, ◌==◌, List, [], count_by, length, if◌then◌else◌, bytes_eq}
+use Rattle.line_text.specs.Formats.{Token, Text, Format, spelled, one, and_then, as_shape}
+use Rattle.line_text.specs.Files.{line}
+use Rattle.line_text.specs.Texts.{number, word, no_field, word_line, number_line, count_line, counted, Either, Left, Right, either}
+use Rattle.hull.specs.declared.price.Price.{Price}
+use Rattle.spares_input.specs.Rows.{is_line}
+use Rattle.spares_input.specs.Cases.{CaseRows, frame_rows, pair_count}
+use Rattle.spares_input.specs.Stocks.{StockList}
+use Rattle.spares_input.specs.declared.rows.PartRow.{PartRow}
+use Rattle.case_lines.specs.Grammar.{case_format}
+use Rattle.price_certificate.specs.declared.certificate.Certificate.{Certificate}
+use Rattle.price_certificate.specs.declared.certificate.Objective.{Objective}
+use Rattle.price_certificate.specs.declared.certificate.Objective.TheVariants as objective
+use Rattle.price_certificate.specs.declared.certificate.Node.{Node}
+use Rattle.price_certificate.specs.declared.certificate.Node.TheVariants as node
+use lib.Chars.{codes}
+
+-- ---- what is aimed at
+
+abbrev pub objective_name : Objective → Token
+objective_name objective.Backorders = codes "backorders"
+objective_name objective.LogAvailability = codes "log-availability"
+
+abbrev pub objective_named : Token → Objective
+objective_named t = if bytes_eq t (codes "backorders") then objective.Backorders else objective.LogAvailability
+
+-- objective,NAME
+abbrev pub objective_fields : Format Objective
+objective_fields =
+    as_shape (and_then (word (codes "objective")) (λ _. one (spelled objective_name objective_named (λ _. true)))) (λ x. x.1) (λ o. (tt, o)) (λ _. true)
+
+abbrev pub aims_at_backorders : Objective → Bool
+aims_at_backorders objective.Backorders = true
+aims_at_backorders objective.LogAvailability = false
+
+-- what is aimed at stands in format 2 alone
+abbrev pub objective_line : ℕ → Format Objective
+objective_line format = if format == 2 then one (line objective_fields) else no_field objective.Backorders aims_at_backorders
+
+-- ---- budget and price
+
+abbrev pub budget_line : Format ℕ
+budget_line = count_line (codes "budget") 0 (10 ^ 15)
+
+-- price,P,Q
+abbrev pub price_fields : Format Price
+price_fields =
+    as_shape (and_then (word (codes "price")) (λ _. and_then (one (number 0 (2 ^ 74))) (λ _. one (number 1 (10 ^ 12)))))
+    (λ x. record { p = x.1.0; q = x.1.1 })
+    (λ price. (tt, (price.p, price.q)))
+    (λ _. true)
+
+abbrev pub price_line : Format Price
+price_line = one (line price_fields)
+
+-- ---- floors, one for each line unit
+
+abbrev pub family_count : List PartRow → ℕ
+family_count parts = count_by is_line parts
+
+abbrev pub floors : ℕ → Format (List ℕ)
+floors families = counted (codes "floors") families families (λ _. number_line (2 ^ 115))
+
+-- ---- covers, one for each line unit, in format 2 alone
+
+-- split,AT,FROM
+abbrev pub split_fields : Format (ℕ × ℕ)
+split_fields = as_shape (and_then (word (codes "split")) (λ _. and_then (one (number 0 143)) (λ _. one (number 1 63)))) (λ x. x.1) (λ x. (tt, x)) (λ _. true)
+
+-- split,AT,FROM or cost or whole
+abbrev pub node_text : Text (Either (ℕ × ℕ) (Either (Unit {0}) (Unit {0})))
+node_text = either (line split_fields) (either (line (word (codes "cost"))) (line (word (codes "whole"))))
+
+abbrev pub node_of : Either (ℕ × ℕ) (Either (Unit {0}) (Unit {0})) → Node
+node_of (Left x) = node.Split x.0 x.1
+node_of (Right (Left _)) = node.Cost
+node_of (Right (Right _)) = node.Whole
+
+abbrev pub node_parts : Node → Either (ℕ × ℕ) (Either (Unit {0}) (Unit {0}))
+node_parts (node.Split at from) = Left (at, from)
+node_parts node.Cost = Right (Left tt)
+node_parts node.Whole = Right (Right tt)
+
+abbrev pub node_line : Format Node
+node_line = as_shape (one node_text) node_of node_parts (λ _. true)
+
+abbrev pub cover : Format (List Node)
+cover = counted (codes "cover") 1 100000 (λ _. node_line)
+
+abbrev pub is_empty : List (List Node) → Bool
+is_empty covers = length covers == 0
+
+abbrev pub covers : ℕ → ℕ → Format (List (List Node))
+covers format families = if format == 2 then counted (codes "covers") families families (λ _. cover) else no_field [] is_empty
+
+-- ---- stocks, by part and then by site
+
+abbrev pub stock_lines : ℕ → Format (List ℕ)
+stock_lines pairs = counted (codes "stocks") pairs pairs (λ _. number_line 63)
+
+abbrev pub stocks : CaseRows → Format StockList
+stocks c =
+    as_shape (stock_lines (pair_count (frame_rows c))) (λ list. record { sites = length c.sites; list = list }) (λ s. s.list) (λ s. s.sites == length c.sites)
+
+-- ---- a certificate, of this format or a later one
+
+abbrev pub certificate_format : ℕ → Format Certificate
+certificate_format least =
+    as_shape
+    (and_then (count_line (codes "spares-certificate") least 2) (λ format. and_then (objective_line format) (λ _. and_then case_format (λ c. and_then budget_line (λ _. and_then price_line (λ _. and_then (floors (family_count c.parts)) (λ _. and_then (covers format (family_count c.parts)) (λ _. and_then (stocks c) (λ _. and_then (count_line (codes "upper") 0 (2 ^ 85)) (λ _. and_then (count_line (codes "bound") 0 (2 ^ 85)) (λ _. word_line (codes "end"))))))))))))
+    (λ x. record { format = x.0; objective = x.1.0; case = x.1.1.0; budget = x.1.1.1.0; price = x.1.1.1.1.0; floors = x.1.1.1.1.1.0; covers = x.1.1.1.1.1.1.0; stocks = x.1.1.1.1.1.1.1.0; upper = x.1.1.1.1.1.1.1.1.0; bound = x.1.1.1.1.1.1.1.1.1.0 })
+    (λ c. (c.format, (c.objective, (c.case, (c.budget, (c.price, (c.floors, (c.covers, (c.stocks, (c.upper, (c.bound, tt)))))))))))
+    (λ _. true)

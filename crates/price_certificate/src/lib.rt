@@ -1,0 +1,27 @@
+//! Certificates: what shows how good the stocks of a plan are, as text that says each number exactly once.
+//!
+//! One grammar says how the lines are written and how they are read. Reading gives the certificate whose text the
+//! bytes are, or the first bad line, or the rule that the sites and parts break.
+#![tactic(auto)]
+
+mod certificate;
+mod exactness;
+mod fault;
+mod many_lines;
+mod place;
+mod reading;
+mod single_lines;
+#[cfg(test)]
+mod tests;
+mod trimming;
+mod writing;
+
+pub use certificate::{Certificate, Node, Objective};
+pub use exactness::certificates_are_exact;
+pub use fault::CertFault;
+pub use place::Place;
+pub use reading::{
+    CertificateLines, Ending, Lists, certificate_lines, certificate_of, line_number, read,
+};
+pub use trimming::{trim, trimmed_covers};
+pub use writing::text;

@@ -1,0 +1,185 @@
+//! Reading lines that stand alone.
+
+ghost use Rattle.std.specs.Prelude.{◌≡◌, ◌^◌, ◌<◌, true};
+ghost use Rattle.line_text.specs.Formats.{accepted, read_all, one, spelled};
+ghost use Rattle.line_text.specs.Files.{line};
+ghost use Rattle.line_text.specs.Texts.{number};
+ghost use Rattle.line_text.specs.Reading.{Reads, Takes};
+ghost use Rattle.price_certificate.specs.Reading.{leaf_text, leaf_named};
+ghost use Rattle.price_certificate.specs.Grammar.{objective_name, objective_named, objective_fields, objective_line, price_fields, price_line, split_fields, node_line};
+ghost use Rattle.line_text.specs.Texts.{number_line};
+
+use crate::certificate::{Node, Objective};
+use hull::Price;
+use line_text::{BadLine, Fields, Lines, word_line};
+
+// The objective of this name.
+fn objective_of(name: &[u8]) -> Option<Objective>
+    ensures { result ≡ (spelled objective_name objective_named (λ _. true)).read name.now }
+{
+    if name == b"backorders".as_slice() {
+        return Some(Objective::Backorders);
+    }
+    if name == b"log-availability".as_slice() {
+        return Some(Objective::LogAvailability);
+    }
+    None
+}
+
+// Takes the name of an objective.
+#[tactic(auto, using(line_text::proofs::Cursors::field_read, line_text::proofs::Cursors::field_refused, line_text::proofs::Cursors::none_left))]
+fn objective_in(fields: &mut Fields<'_>) -> Option<Objective>
+    ensures { Takes (λ o. o) result fields.new ((one (spelled objective_name objective_named (λ _. true))).read fields.old) }
+{
+    let Some(name) = fields.next() else {
+        return None;
+    };
+    objective_of(name)
+}
+
+// objective,NAME
+fn aim_of(fields: &mut Fields<'_>) -> Option<Objective>
+    ensures { Takes (λ o. o) result fields.new (objective_fields.read fields.old) }
+{
+    fields.word(b"objective")?;
+    objective_in(fields)
+}
+
+// The objective of all of these fields.
+#[tactic(auto, using(line_text::proofs::Cursors::whole_read, line_text::proofs::Cursors::whole_left, line_text::proofs::Cursors::whole_refused))]
+fn aim_all(mut fields: Fields<'_>) -> Option<Objective>
+    ensures { result ≡ accepted (read_all objective_fields fields.entry) }
+{
+    let objective = aim_of(&mut fields)?;
+    if fields.is_empty() {
+        Some(objective)
+    } else {
+        None
+    }
+}
+
+// Reads the line of the objective.
+#[tactic(auto, using(line_text::proofs::Cursors::line_read, line_text::proofs::Cursors::line_refused, line_text::proofs::Cursors::line_missing))]
+fn aim_line(lines: &mut Lines<'_>) -> Result<Objective, BadLine>
+    ensures { Reads (λ o. o) result lines.new ((one (line objective_fields)).read lines.old) }
+{
+    let fields = lines.fields()?;
+    match aim_all(fields) {
+        Some(objective) => {
+            lines.pass();
+            Ok(objective)
+        }
+        None => Err(BadLine),
+    }
+}
+
+// Reads what is aimed at, which stands in format 2 alone.
+pub(crate) fn objective_line(lines: &mut Lines<'_>, format: u8) -> Result<Objective, BadLine>
+    ensures { Reads (λ o. o) result lines.new ((objective_line format).read lines.old) }
+{
+    if format == 2 {
+        aim_line(lines)
+    } else {
+        Ok(Objective::Backorders)
+    }
+}
+
+// price,P,Q
+fn price_of(fields: &mut Fields<'_>) -> Option<Price>
+    ensures { Takes (λ p. p) result fields.new (price_fields.read fields.old) }
+{
+    fields.word(b"price")?;
+    let p = fields.number(0, 1 << 74)?;
+    let q = fields.number(1, 1_000_000_000_000)?;
+    Some(Price { p, q: q as u64 })
+}
+
+// The price of all of these fields.
+#[tactic(auto, using(line_text::proofs::Cursors::whole_read, line_text::proofs::Cursors::whole_left, line_text::proofs::Cursors::whole_refused))]
+fn price_all(mut fields: Fields<'_>) -> Option<Price>
+    ensures { result ≡ accepted (read_all price_fields fields.entry) }
+{
+    let price = price_of(&mut fields)?;
+    if fields.is_empty() { Some(price) } else { None }
+}
+
+// Reads the line of the price.
+#[tactic(auto, using(line_text::proofs::Cursors::line_read, line_text::proofs::Cursors::line_refused, line_text::proofs::Cursors::line_missing))]
+pub(crate) fn price_line(lines: &mut Lines<'_>) -> Result<Price, BadLine>
+    ensures { Reads (λ p. p) result lines.new (price_line.read lines.old) }
+{
+    let fields = lines.fields()?;
+    match price_all(fields) {
+        Some(price) => {
+            lines.pass();
+            Ok(price)
+        }
+        None => Err(BadLine),
+    }
+}
+
+// split,AT,FROM
+fn split_of(fields: &mut Fields<'_>) -> Option<(u128, u128)>
+    ensures { Takes (λ s. s) result fields.new (split_fields.read fields.old) }
+{
+    fields.word(b"split")?;
+    let at = fields.number(0, 143)?;
+    let from = fields.number(1, 63)?;
+    Some((at, from))
+}
+
+// The split of all of these fields.
+#[tactic(auto, using(line_text::proofs::Cursors::whole_read, line_text::proofs::Cursors::whole_left, line_text::proofs::Cursors::whole_refused))]
+fn split_all(mut fields: Fields<'_>) -> Option<(u128, u128)>
+    ensures { result ≡ accepted (read_all split_fields fields.entry) }
+{
+    let split = split_of(&mut fields)?;
+    if fields.is_empty() { Some(split) } else { None }
+}
+
+// Reads the line of a split.
+#[tactic(auto, using(line_text::proofs::Cursors::line_read, line_text::proofs::Cursors::line_refused, line_text::proofs::Cursors::line_missing))]
+fn split_line(lines: &mut Lines<'_>) -> Result<(u128, u128), BadLine>
+    ensures { Reads (λ s. s) result lines.new ((one (line split_fields)).read lines.old) }
+{
+    let fields = lines.fields()?;
+    match split_all(fields) {
+        Some(split) => {
+            lines.pass();
+            Ok(split)
+        }
+        None => Err(BadLine),
+    }
+}
+
+// Whether a leaf is to be shown by all of its vectors.
+fn leaf_line(lines: &mut Lines<'_>) -> Result<bool, BadLine>
+    ensures { Reads leaf_named result lines.new ((one leaf_text).read lines.old) }
+{
+    match word_line(lines, b"cost") {
+        Ok(()) => Ok(false),
+        Err(BadLine) => {
+            word_line(lines, b"whole")?;
+            Ok(true)
+        }
+    }
+}
+
+// Reads the line of a node.
+pub(crate) fn node_line(lines: &mut Lines<'_>) -> Result<Node, BadLine>
+    ensures { Reads (λ n. n) result lines.new (node_line.read lines.old) }
+{
+    match split_line(lines) {
+        Ok((at, from)) => Ok(Node::Split {
+            at: at as u16,
+            from: from as u8,
+        }),
+        Err(BadLine) => {
+            if leaf_line(lines)? {
+                Ok(Node::Whole)
+            } else {
+                Ok(Node::Cost)
+            }
+        }
+    }
+}

@@ -1,0 +1,202 @@
+//! The cover of a family that is made of cost alone where that is enough.
+
+ghost use Rattle.std.specs.Prelude.{◌≡◌, ◌+◌, ◌^◌, ◌≤◌, ◌<◌, All, List, ℕ, length, map, true, false, nat_le, replicate, MatchOption, IfOk, OnOk, ◌++◌};
+ghost use Rattle.spares_input.specs.Rows.{is_line};
+ghost use Rattle.spares_input.specs.Frames.{is_shop_of, part_at};
+ghost use Rattle.spares_input.specs.Stocks.{limit_at};
+ghost use Rattle.price_certificate.specs.declared.place.Place.{Place};
+ghost use Rattle.price_certificate.specs.declared.certificate.Node.TheVariants as node;
+ghost use Rattle.price_certificate.specs.Covers.{CutsAt, IsHeld, family, place_of, place_count, places_of, IsPlace, IsTrim, nodes_of, reach, trimmed_from, trimmed};
+
+use crate::certificate::Node;
+use crate::place::Place;
+use hull::Price;
+use spares_input::{Case, PartId, PartRow, SiteId};
+use spares_io::NoMemory;
+use std::alloc::Global;
+
+// The least stock above what is held at which a place alone costs the floor, where it may stand there.
+fn reach(p: u128, floor: u128, place: &Place) -> Option<u8>
+    requires some { 1 ≤ p }
+    requires most { p ≤ 2 ^ 74 }
+    requires place { IsPlace place.now }
+    ensures { MatchOption result (nat_le (reach p floor place.now) place.now.most ≡ false)
+        (λ from. (nat_le (reach p floor place.now) place.now.most ≡ true) × (from ≡ reach p floor place.now)) }
+{
+    let price = p * place.cost as u128;
+    let step = floor.div_ceil(price).max(1);
+    let room = (place.most - place.held) as u128;
+    if step <= room {
+        Some(place.held + step as u8)
+    } else {
+        None
+    }
+}
+
+// Writes the cut at a place, where there is one, and answers how many there are.
+fn push_cut(
+    nodes: &mut Vec<Node>,
+    p: u128,
+    floor: u128,
+    at: usize,
+    place: &Place,
+) -> Result<usize, NoMemory>
+    requires some { 1 ≤ p }
+    requires most { p ≤ 2 ^ 74 }
+    requires few { at < 144 }
+    requires place { IsPlace place.now }
+    ensures { IfOk result (λ n. CutsAt p floor at place.now nodes.old.items nodes.new.items n) }
+{
+    match reach(p, floor, place) {
+        Some(from) => {
+            nodes.push(Node::Split {
+                at: at as u16,
+                from,
+            })?;
+            Ok(1)
+        }
+        None => Ok(0),
+    }
+}
+
+// Writes so many leaves that are shown by their cost.
+fn push_costs(nodes: &mut Vec<Node>, count: usize) -> Result<(), NoMemory>
+    ensures { OnOk result (nodes.new.items ≡ nodes.old.items ++ replicate count node.Cost) }
+{
+    for _k in 0..count {
+        nodes.push(Node::Cost)?;
+    }
+    Ok(())
+}
+
+// The nodes of the cover at a price above 0.
+fn trim_places(alloc: Global, places: &[Place], p: u128, floor: u128) -> Result<Vec<Node>, NoMemory>
+    requires some { 1 ≤ p }
+    requires most { p ≤ 2 ^ 74 }
+    requires few { length places.now ≤ 144 }
+    requires places { All IsPlace places.now }
+    ensures { IfOk result (λ v. v.items ≡ nodes_of (trimmed_from p floor 0 places.now)) }
+{
+    let mut nodes = Vec::new(alloc);
+    let mut cuts: usize = 0;
+    for at in 0..places.len() {
+        cuts += push_cut(&mut nodes, p, floor, at, &places[at])?;
+    }
+    nodes.push(Node::Whole)?;
+    push_costs(&mut nodes, cuts)?;
+    Ok(nodes)
+}
+
+// A line unit and its shop units, in part order.
+fn family(alloc: Global, case: &Case, line: PartId) -> Result<Vec<PartId>, NoMemory>
+    requires { line.0 < length case.now.parts }
+    ensures { IfOk result (λ v. map (λ p. p.0) v.items ≡ family case.now line.0) }
+{
+    let mut parts = Vec::new(alloc);
+    parts.push(line)?;
+    for p in 0..case.part_count() {
+        if case.is_shop_of(PartId(p), line) {
+            parts.push(PartId(p))?;
+        }
+    }
+    Ok(parts)
+}
+
+// A part at a site, of which so many are held.
+fn place_of(case: &Case, part: PartId, site: SiteId, held: u8) -> Place
+    requires part { part.0 < length case.now.parts }
+    requires site { site.0 < length case.now.sites }
+    requires held { held ≤ limit_at case.now.parts part.0 site.0 }
+    ensures place { result ≡ place_of case.now part.0 site.0 held }
+    ensures valid { IsPlace result }
+{
+    Place {
+        held,
+        most: case.limit(part, site),
+        cost: case.part(part).cost,
+    }
+}
+
+// The places of a family, of which these are its parts.
+fn places(
+    alloc: Global,
+    case: &Case,
+    line: PartId,
+    parts: &[PartId],
+    held: &[u8],
+) -> Result<Vec<Place>, NoMemory>
+    requires parts { map (λ p. p.0) parts.now ≡ family case.now line.0 }
+    requires few { length parts.now ≤ 9 }
+    requires ids { All (λ p. p.0 < length case.now.parts) parts.now }
+    requires count { length held.now ≡ place_count case.now line.0 }
+    requires within { IsHeld case.now line.0 held.now }
+    ensures places { IfOk result (λ v. v.items ≡ places_of case.now line.0 held.now) }
+    ensures valid { IfOk result (λ v. All IsPlace v.items) }
+{
+    let mut found = Vec::new(alloc);
+    let _sites = case.site_count();
+    let count = parts.len();
+    for m in 0..held.len() {
+        let part = parts[m % count];
+        let site = SiteId((m / count) as u8);
+        found.push(place_of(case, part, site, held[m]))?;
+    }
+    Ok(found)
+}
+
+// The cover at a price above 0.
+fn trim_family(
+    alloc: Global,
+    case: &Case,
+    line: PartId,
+    held: &[u8],
+    p: u128,
+    floor: u128,
+) -> Result<Vec<Node>, NoMemory>
+    requires line { line.0 < length case.now.parts }
+    requires few { length (family case.now line.0) ≤ 9 }
+    requires count { length held.now ≡ place_count case.now line.0 }
+    requires within { IsHeld case.now line.0 held.now }
+    requires some { 1 ≤ p }
+    requires most { p ≤ 2 ^ 74 }
+    ensures { IfOk result (λ v. v.items ≡ nodes_of (trimmed_from p floor 0 (places_of case.now line.0 held.now))) }
+{
+    let _sites = case.site_count();
+    let parts = family(alloc, case, line)?;
+    let places = places(alloc, case, line, parts.as_slice(), held)?;
+    trim_places(alloc, places.as_slice(), p, floor)
+}
+
+/// The cover of a family that is shown by its cost where that is enough: at each place of its vectors in turn, where the
+/// least stock above what is held at which the place alone costs the floor may stand, a cut there, whose second part is
+/// shown by its cost. What is left is shown whole; with the price 0 that is all.
+pub fn trim(
+    alloc: Global,
+    case: &Case,
+    line: PartId,
+    held: &[u8],
+    price: Price,
+    floor: u128,
+) -> Result<Vec<Node>, NoMemory>
+    requires line { line.0 < length case.now.parts }
+    requires is_line { is_line (part_at case.now.parts line.0) ≡ true }
+    requires count { length held.now ≡ place_count case.now line.0 }
+    requires within { IsHeld case.now line.0 held.now }
+    requires price { price.p ≤ 2 ^ 74 }
+    ensures nodes { IfOk result (λ v. v.items ≡ nodes_of (trimmed price.p floor (places_of case.now line.0 held.now))) }
+    ensures shown { IsTrim price.p floor (places_of case.now line.0 held.now) (trimmed price.p floor (places_of case.now line.0 held.now)) }
+{
+    let _sites = case.site_count();
+    if price.p == 0 {
+        let mut nodes = Vec::new(alloc);
+        nodes.push(Node::Whole)?;
+        return Ok(nodes);
+    }
+    trim_family(alloc, case, line, held, price.p, floor)
+}
+
+/// The trimmed cover is lawful, each box that it leaves to its cost costs the floor, and the box that is left begins at
+/// what is held.
+pub fn trimmed_covers()
+    ensures { (p floor : ℕ) (places : List Place) → All IsPlace places → IsTrim p floor places (trimmed p floor places) }
+{}
