@@ -16,7 +16,7 @@ use crate::certificate::{Certificate, Node, Objective};
 use case_lines::write_case;
 use hull::Price;
 use line_text::{put_count_line, put_number, put_number_line};
-use spares_input::{Case, PartId, SiteId, Stocks};
+use spares_input::{Case, Stocks};
 use spares_io::{List, NoMemory};
 use std::alloc::Global;
 
@@ -158,16 +158,12 @@ fn put_covers_of(out: &mut Vec<u8>, format: u8, list: &[List<Node>]) -> Result<(
 }
 
 // Writes a line for each stock.
-fn put_each_stock(out: &mut Vec<u8>, case: &Case, list: &Stocks) -> Result<(), NoMemory>
-    requires { IsFor case.now list.now }
+fn put_each_stock(out: &mut Vec<u8>, list: &[u8]) -> Result<(), NoMemory>
     ensures { OnOk result (out.new.items ≡ out.old.items
-        ++ concat ((each (numbers_from 0 (length list.now.list)) (λ _. number_line 63)).print list.now.list)) }
+        ++ concat ((each (numbers_from 0 (length list.now)) (λ _. number_line 63)).print list.now)) }
 {
-    let sites = case.site_count() as usize;
-    let pairs = case.part_count() as usize * sites;
-    for i in 0..pairs {
-        let stock = list.get(PartId((i / sites) as u16), SiteId((i % sites) as u8));
-        put_number_line(out, stock as u128)?;
+    for k in 0..list.len() {
+        put_number_line(out, list[k] as u128)?;
     }
     Ok(())
 }
@@ -179,7 +175,7 @@ fn put_stocks(out: &mut Vec<u8>, case: &Case, list: &Stocks) -> Result<(), NoMem
 {
     let pairs = case.part_count() as u128 * case.site_count() as u128;
     put_count_line(out, b"stocks", pairs)?;
-    put_each_stock(out, case, list)?;
+    put_each_stock(out, list.as_slice())?;
     Ok(())
 }
 

@@ -1,0 +1,80 @@
+-- Held certificates: their lines, their text, and what bytes tell.
+use Rattle.std.specs.Prelude.{◌≡◌, ℕ, ◌/◌, ◌%◌, true, ◌==◌, List, length, Option, Some, None, Result, Ok, Err}
+use Rattle.std.proofs.Common.{Vec, Global}
+use Rattle.line_text.specs.Formats.{Token, Format, and_then, as_shape}
+use Rattle.line_text.specs.Files.{lines_of, file_text, file_answer}
+use Rattle.line_text.specs.Texts.{word_line, count_line, counted}
+use Rattle.spares_input.specs.Frames.{FrameRows, frame_of}
+use Rattle.spares_input.specs.Cases.{CaseRows, frame_rows, pair_count}
+use Rattle.spares_input.specs.Stocks.{StockList, limit_at, IsFor, IsWithinLimits}
+use Rattle.spares_input.specs.declared.fault.CaseFault.{CaseFault}
+use Rattle.price_certificate.specs.declared.certificate.Certificate.{Certificate}
+use Rattle.price_certificate.specs.declared.fault.CertFault.{CertFault}
+use Rattle.price_certificate.specs.declared.fault.CertFault.TheVariants as fault
+use Rattle.price_certificate.specs.Grammar.{certificate_format}
+use Rattle.line_text.specs.Texts.{number_line}
+use Rattle.price_certificate.specs.Certificates.{IsWellFormed}
+use Rattle.on_hand.specs.declared.held.HeldCertificate.{HeldCertificate}
+use lib.Chars.{codes}
+
+-- ---- lines
+
+-- a number up to the limit of the pair at place i
+abbrev pub held_line : CaseRows → ℕ → Format ℕ
+held_line c i = number_line (limit_at c.parts (i / length c.sites) (i % length c.sites))
+
+abbrev pub held_lines : CaseRows → Format (List ℕ)
+held_lines c = counted (codes "held") (pair_count (frame_rows c)) (pair_count (frame_rows c)) (held_line c)
+
+abbrev pub held : CaseRows → Format StockList
+held c = as_shape (held_lines c) (λ list. record { sites = length c.sites; list = list }) (λ s. s.list) (λ s. s.sites == length c.sites)
+
+-- spares-held,1 and then a certificate of format 2 with its own end
+abbrev pub front : Format Certificate
+front = as_shape (and_then (count_line (codes "spares-held") 1 1) (λ _. certificate_format 2)) (λ x. x.1) (λ c. (1, c)) (λ _. true)
+
+-- what stands after this end
+abbrev pub rest : CaseRows → Format (StockList × Unit {0})
+rest c = and_then (held c) (λ _. word_line (codes "end"))
+
+abbrev pub rest_of : ℕ → Vec ℕ Global → StockList × Unit {0}
+rest_of sites v = (record { sites = sites; list = v.items }, tt)
+
+abbrev pub held_format : Format HeldCertificate
+held_format =
+    as_shape (and_then front (λ c. rest c.case))
+    (λ x. record { certificate = x.0; held = x.1.0 })
+    (λ h. (h.certificate, (h.held, tt)))
+    (λ _. true)
+
+-- ---- text and reading
+
+-- a well formed certificate of format 2, and a held stock for each pair, within its limit
+pub record IsWellHeld (h : HeldCertificate) : Type 0 where
+  pub certificate : IsWellFormed h.certificate
+  pub format : h.certificate.format ≡ 2
+  pub held : IsFor h.certificate.case h.held
+  pub limits : IsWithinLimits h.certificate.case h.held
+
+abbrev pub held_text : HeldCertificate → List ℕ
+held_text h = file_text held_format h
+
+abbrev pub refusal : Result FrameRows CaseFault → Option CaseFault
+refusal (Ok frame) = None
+refusal (Err f) = Some f
+
+-- the rule that sites and parts break, where the lines up to the first `end` are in the grammar
+abbrev pub case_fault : Result (Certificate × List Token) (List Token) → Option CaseFault
+case_fault (Ok x) = refusal (frame_of x.0.case.sites x.0.case.parts)
+case_fault (Err left) = None
+
+-- that fault, or else what the lines tell
+abbrev pub judged : Option CaseFault → Result HeldCertificate ℕ → Result HeldCertificate CertFault
+judged (Some f) answer = Err (fault.BadCase f)
+judged None (Ok h) = Ok h
+judged None (Err n) = Err (fault.BadLine n)
+
+-- The held certificate whose text the bytes are, or the case fault of the lines up to the first `end`, or the first bad
+-- line: the case fault stands before a bad line that follows this `end`.
+abbrev pub held_of : List ℕ → Result HeldCertificate CertFault
+held_of bytes = judged (case_fault (front.read (lines_of bytes))) (file_answer held_format bytes)

@@ -1,0 +1,98 @@
+//! Held certificates, written and read.
+
+use crate::{read, text};
+use price_certificate::CertFault;
+use spares_input::CaseFault;
+use spares_io::Stop;
+use std::alloc::Global;
+use std::test::*;
+
+const HELD: &[u8] =
+    b"spares-held,1\nspares-certificate,2\nobjective,backorders\nsites,2\nD,depot,,\nB,base,12,10.00\n\
+parts,1\nL,,100,1,2,3\nrates,2\nL,D,,,,20.00\nL,B,36.5000,0.0000,,0.00\nbudget,0\nprice,281474976710656,100\n\
+floors,1\n84442493013196800\ncovers,1\ncover,3\nsplit,1,3\nwhole\ncost\nstocks,2\n0\n0\nupper,844424930131968\n\
+bound,844424930131968\nend\nheld,2\n0\n0\nend\n";
+
+#[derive(Clone, Copy, Debug, PartialEq, Eq)]
+enum Outcome {
+    /// The bytes are read, and written again as they are.
+    Read,
+    BadLine(u32),
+    BadCase(CaseFault),
+    /// No memory, too many bytes, or another text.
+    Else,
+}
+
+fn read_again(alloc: Global, bytes: &[u8]) -> Outcome {
+    if bytes.len() > 16_777_216 {
+        return Outcome::Else;
+    }
+    match read(alloc, bytes) {
+        Ok(certificate) => match text(alloc, &certificate) {
+            Ok(again) => {
+                if again.as_slice() == bytes {
+                    Outcome::Read
+                } else {
+                    Outcome::Else
+                }
+            }
+            Err(_memory) => Outcome::Else,
+        },
+        Err(Stop::NoMemory) => Outcome::Else,
+        Err(Stop::Fault(CertFault::BadLine(line))) => Outcome::BadLine(line),
+        Err(Stop::Fault(CertFault::BadCase(fault))) => Outcome::BadCase(fault),
+    }
+}
+
+// The text with another line in place of one, counted from 1.
+fn with_line(alloc: Global, text: &[u8], number: usize, line: &[u8]) -> Result<Vec<u8>, Fail> {
+    let mut changed = Vec::new(alloc);
+    let mut at = 1;
+    for b in text {
+        if at != number || *b == b'\n' {
+            if at == number {
+                changed.extend_from_slice(line)?;
+            }
+            changed.push(*b)?;
+        }
+        if *b == b'\n' {
+            at = at.saturating_add(1);
+        }
+    }
+    Ok(changed)
+}
+
+#[test]
+fn reads_what_is_written_and_names_the_first_bad_line(rt: HostRuntime) -> Result<(), Fail> {
+    assert_eq!(&rt; read_again(rt.alloc(), HELD), Outcome::Read);
+    let lines: [(usize, &[u8], Outcome); 6] = [
+        (1, b"spares-held,2", Outcome::BadLine(1)),
+        (2, b"spares-certificate,1", Outcome::BadLine(2)),
+        (28, b"2", Outcome::Read),
+        (28, b"3", Outcome::BadLine(28)),
+        (29, b"3", Outcome::Read),
+        (30, b"End", Outcome::BadLine(30)),
+    ];
+    for (number, line, due) in lines {
+        let changed = with_line(rt.alloc(), HELD, number, line)?;
+        assert_eq!(&rt; read_again(rt.alloc(), changed.as_slice()), due);
+    }
+    Ok(())
+}
+
+#[test]
+fn a_case_fault_stands_before_a_bad_line_after_the_first_end(rt: HostRuntime) -> Result<(), Fail> {
+    let changed = with_line(rt.alloc(), HELD, 30, b"End")?;
+    let changed = with_line(rt.alloc(), changed.as_slice(), 6, b"D,base,12,10.00")?;
+    let double = with_line(
+        rt.alloc(),
+        changed.as_slice(),
+        11,
+        b"L,D,36.5000,0.0000,,0.00",
+    )?;
+    assert_eq!(&rt;
+        read_again(rt.alloc(), double.as_slice()),
+        Outcome::BadCase(CaseFault::DoubleSite(3))
+    );
+    Ok(())
+}
