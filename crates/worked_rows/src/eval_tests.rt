@@ -1,4 +1,6 @@
-use crate::helpers::{run_over, shelf_of};
+use crate::helpers::{Ended, ends, shelf_of};
+use std::alloc::Global;
+use std::process::Abort;
 use std::test::Fail;
 
 /// The words of `eval` on the files of a shelf.
@@ -138,128 +140,148 @@ const HOSTILE: [(usize, &str, &str); 22] = [
     ),
 ];
 
-#[test]
-fn prints_the_figures_of_tables(rt: HostRuntime) -> Result<(), Fail> {
-    let alloc = rt.alloc();
-    let cases = [
-        (
-            SHOP,
-            "",
-            "eval,48\ncost,1200\nitem,L,D,0,0.612334,0.612335,0.631333,0.631334,0.612334,0.612335,0.631333,0.631334\nitem,L,B,1,1.296585,1.296586,1.326270,1.326271,0.574076,0.574077,0.807178,0.807179\nitem,S,D,1,0.699999,0.700001,0.699999,0.700001,0.196585,0.196586,0.254768,0.254769\nitem,S,B,0,0.184250,0.184251,0.194937,0.194938,0.184250,0.184251,0.194937,0.194938\nbase,B,0.943416,0.943417\nfleet,0.943416,0.943417\ntotal,0.574076,0.574077\n",
-        ),
-        (
-            ONE,
-            "",
-            "eval,48\ncost,0\nitem,L,D,0,2.000000,2.000000,2.000000,2.000000,2.000000,2.000000,2.000000,2.000000\nitem,L,B,0,3.000000,3.000000,3.000000,3.000000,3.000000,3.000000,3.000000,3.000000\nbase,B,0.750000,0.750000\nfleet,0.750000,0.750000\ntotal,3.000000,3.000000\n",
-        ),
-        (
-            ONE,
-            " --bits 32",
-            "eval,32\ncost,0\nitem,L,D,0,2.000000,2.000000,2.000000,2.000000,2.000000,2.000000,2.000000,2.000000\nitem,L,B,0,3.000000,3.000000,3.000000,3.000000,3.000000,3.000000,3.000000,3.000000\nbase,B,0.750000,0.750000\nfleet,0.750000,0.750000\ntotal,3.000000,3.000000\n",
-        ),
-        (
-            ONE,
-            " --bits 52",
-            "eval,52\ncost,0\nitem,L,D,0,2.000000,2.000000,2.000000,2.000000,2.000000,2.000000,2.000000,2.000000\nitem,L,B,0,3.000000,3.000000,3.000000,3.000000,3.000000,3.000000,3.000000,3.000000\nbase,B,0.750000,0.750000\nfleet,0.750000,0.750000\ntotal,3.000000,3.000000\n",
-        ),
-        (
-            QUOTED,
-            "",
-            "eval,48\ncost,0\nitem,L,D,0,2.000000,2.000000,2.000000,2.000000,2.000000,2.000000,2.000000,2.000000\nitem,L,B,0,3.000000,3.000000,3.000000,3.000000,3.000000,3.000000,3.000000,3.000000\nbase,B,0.750000,0.750000\nfleet,0.750000,0.750000\ntotal,3.000000,3.000000\n",
-        ),
-        (
-            WEIGHTED,
-            "",
-            "eval,48\ncost,0\nitem,L,D,0,2.000000,2.000000,2.000000,2.000000,2.000000,2.000000,2.000000,2.000000\nitem,L,B,0,3.000000,3.000000,3.000000,3.000000,3.000000,3.000000,3.000000,3.000000\nbase,B,0.750000,0.750000\nfleet,0.750000,0.750000\ntotal,9.000000,9.000000\n",
-        ),
-        (
-            UNSHARED,
-            "",
-            "eval,48\ncost,0\nitem,L,D,0,0.500000,0.500000,0.500000,0.500000,0.500000,0.500000,0.500000,0.500000\nitem,L,B,0,1.099999,1.100001,1.099999,1.100001,1.099999,1.100001,1.099999,1.100001\nitem,S,D,0,0.000000,0.000000,0.000000,0.000000,0.000000,0.000000,0.000000,0.000000\nitem,S,B,0,0.099999,0.100001,0.099999,0.100001,0.099999,0.100001,0.099999,0.100001\nbase,B,0.893024,0.893026\nfleet,0.893024,0.893026\ntotal,1.099999,1.100001\n",
-        ),
-        (
-            UNSHARED,
-            " --bits=32",
-            "eval,32\ncost,0\nitem,L,D,0,0.500000,0.500000,0.500000,0.500000,0.500000,0.500000,0.500000,0.500000\nitem,L,B,0,1.099999,1.100001,1.099999,1.100001,1.099999,1.100001,1.099999,1.100001\nitem,S,D,0,0.000000,0.000000,0.000000,0.000000,0.000000,0.000000,0.000000,0.000000\nitem,S,B,0,0.099999,0.100001,0.099999,0.100001,0.099999,0.100001,0.099999,0.100001\nbase,B,0.893024,0.893026\nfleet,0.893024,0.893026\ntotal,1.099999,1.100001\n",
-        ),
-    ];
-    for (tables, bits, report) in cases {
-        let line = format!(in alloc; "{EVAL}{bits}")?;
-        let mut shelf = shelf_of(alloc, tables, &[])?;
-        let ended = run_over(alloc, line.as_str(), &mut shelf, &[])?;
-        assert_eq!(rt; ended.err.bytes(), b"".as_slice(), "{line}");
-        assert_eq!(rt; ended.out.bytes(), report.as_bytes(), "{line}");
-        assert_eq!(rt; ended.status, 0, "{line}");
+/// What is printed below the first line: of the first case, also in quotes, with a weight, of the shop unit, and where none is sent.
+const ONE_FIGURES: &str =
+    "cost,0\nitem,L,D,0,2.000000,2.000000,2.000000,2.000000,2.000000,2.000000,2.000000,2.000000\nitem,L,B,0,3.000000,3.000000,3.000000,3.000000,3.000000,3.000000,3.000000,3.000000\nbase,B,0.750000,0.750000\nfleet,0.750000,0.750000\ntotal,3.000000,3.000000\n";
+
+const WEIGHTED_FIGURES: &str =
+    "cost,0\nitem,L,D,0,2.000000,2.000000,2.000000,2.000000,2.000000,2.000000,2.000000,2.000000\nitem,L,B,0,3.000000,3.000000,3.000000,3.000000,3.000000,3.000000,3.000000,3.000000\nbase,B,0.750000,0.750000\nfleet,0.750000,0.750000\ntotal,9.000000,9.000000\n";
+
+const SHOP_FIGURES: &str =
+    "cost,1200\nitem,L,D,0,0.612334,0.612335,0.631333,0.631334,0.612334,0.612335,0.631333,0.631334\nitem,L,B,1,1.296585,1.296586,1.326270,1.326271,0.574076,0.574077,0.807178,0.807179\nitem,S,D,1,0.699999,0.700001,0.699999,0.700001,0.196585,0.196586,0.254768,0.254769\nitem,S,B,0,0.184250,0.184251,0.194937,0.194938,0.184250,0.184251,0.194937,0.194938\nbase,B,0.943416,0.943417\nfleet,0.943416,0.943417\ntotal,0.574076,0.574077\n";
+
+const UNSHARED_FIGURES: &str =
+    "cost,0\nitem,L,D,0,0.500000,0.500000,0.500000,0.500000,0.500000,0.500000,0.500000,0.500000\nitem,L,B,0,1.099999,1.100001,1.099999,1.100001,1.099999,1.100001,1.099999,1.100001\nitem,S,D,0,0.000000,0.000000,0.000000,0.000000,0.000000,0.000000,0.000000,0.000000\nitem,S,B,0,0.099999,0.100001,0.099999,0.100001,0.099999,0.100001,0.099999,0.100001\nbase,B,0.893024,0.893026\nfleet,0.893024,0.893026\ntotal,1.099999,1.100001\n";
+
+/// Tables, the words for the bits, the bits, and the figures.
+const PRINTED: [([&str; 4], &str, u8, &str); 7] = [
+    (SHOP, "", 48, SHOP_FIGURES),
+    (SHOP, " --bits 52", 52, SHOP_FIGURES),
+    (ONE, "", 48, ONE_FIGURES),
+    (QUOTED, "", 48, ONE_FIGURES),
+    (WEIGHTED, "", 48, WEIGHTED_FIGURES),
+    (UNSHARED, "", 48, UNSHARED_FIGURES),
+    (UNSHARED, " --bits=32", 32, UNSHARED_FIGURES),
+];
+
+/// Each call of the shelf, with words that leave its file out, and the line of the refusal.
+const UNREAD: [(u32, &str, &str); 4] = [
+    (
+        1,
+        "eval --sites no --parts parts --rates rates --stocks stocks",
+        "fault,read,sites\n",
+    ),
+    (
+        2,
+        "eval --sites sites --parts no --rates rates --stocks stocks",
+        "fault,read,parts\n",
+    ),
+    (
+        3,
+        "eval --sites sites --parts parts --rates no --stocks stocks",
+        "fault,read,rates\n",
+    ),
+    (
+        4,
+        "eval --sites sites --parts parts --rates rates --stocks no",
+        "fault,read,stocks\n",
+    ),
+];
+
+/// Tables are evaluated with so many bits, and their figures are printed.
+fn prints(
+    rt: &impl Abort,
+    alloc: Global,
+    rows: &[([&str; 4], &str, u8, &str)],
+) -> Result<(), Fail> {
+    for (tables, words, bits, figures) in rows {
+        let line = format!(in alloc; "{EVAL}{words}")?;
+        let report = format!(in alloc; "eval,{bits}\n{figures}")?;
+        let mut shelf = shelf_of(alloc, *tables, &[])?;
+        let wanted = Ended {
+            status: 0,
+            out: report.as_str(),
+            err: "",
+        };
+        ends(rt, alloc, line.as_str(), &mut shelf, &[], wanted)?;
     }
     Ok(())
+}
+
+/// The first case with one file in another form is refused.
+fn refuses(rt: &impl Abort, alloc: Global, rows: &[(usize, &str, &str)]) -> Result<(), Fail> {
+    for (file, table, refusal) in rows {
+        let mut tables = ONE;
+        if let Some(changed) = tables.get_mut(*file) {
+            *changed = table;
+        }
+        let mut shelf = shelf_of(alloc, tables, &[])?;
+        ends(
+            rt,
+            alloc,
+            EVAL,
+            &mut shelf,
+            &[],
+            Ended {
+                status: 3,
+                out: "",
+                err: refusal,
+            },
+        )?;
+    }
+    Ok(())
+}
+
+/// A file isn't read where the call for it fails, and where the shelf doesn't hold it.
+fn stops(rt: &impl Abort, alloc: Global, rows: &[(u32, &str, &str)]) -> Result<(), Fail> {
+    for (call, lacking, refusal) in rows {
+        let wanted = Ended {
+            status: 5,
+            out: "",
+            err: refusal,
+        };
+        let mut failing = shelf_of(alloc, ONE, &[*call])?;
+        ends(rt, alloc, EVAL, &mut failing, &[], wanted)?;
+        let mut whole = shelf_of(alloc, ONE, &[])?;
+        ends(rt, alloc, lacking, &mut whole, &[], wanted)?;
+    }
+    Ok(())
+}
+
+#[test]
+fn prints_the_figures_of_tables(rt: HostRuntime) -> Result<(), Fail> {
+    prints(&rt, rt.alloc(), &PRINTED)
 }
 
 #[test]
 fn refuses_hostile_tables(rt: HostRuntime) -> Result<(), Fail> {
-    let alloc = rt.alloc();
-    for (file, table, refusal) in HOSTILE {
-        let mut tables = ONE;
-        if let Some(changed) = tables.get_mut(file) {
-            *changed = table;
-        }
-        let mut shelf = shelf_of(alloc, tables, &[])?;
-        let ended = run_over(alloc, EVAL, &mut shelf, &[])?;
-        assert_eq!(rt; ended.err.bytes(), refusal.as_bytes(), "{table}");
-        assert_eq!(rt; ended.out.bytes(), b"".as_slice(), "{table}");
-        assert_eq!(rt; ended.status, 3, "{table}");
-    }
-    Ok(())
+    refuses(&rt, rt.alloc(), &HOSTILE)
 }
 
-/// Each call of the shelf fails in turn, and each file is left out, and then the put of the report fails.
 #[test]
 fn stops_at_each_call_that_fails(rt: HostRuntime) -> Result<(), Fail> {
+    stops(&rt, rt.alloc(), &UNREAD)
+}
+
+/// Four calls of the shelf are made, so that the fifth doesn't fail. A failing put keeps the first half of a report of 254 bytes.
+#[test]
+fn keeps_half_of_a_report(rt: HostRuntime) -> Result<(), Fail> {
     let alloc = rt.alloc();
-    let cases = [
-        (
-            1,
-            "--sites no --parts parts --rates rates --stocks stocks",
-            "fault,read,sites\n",
-        ),
-        (
-            2,
-            "--sites sites --parts no --rates rates --stocks stocks",
-            "fault,read,parts\n",
-        ),
-        (
-            3,
-            "--sites sites --parts parts --rates no --stocks stocks",
-            "fault,read,rates\n",
-        ),
-        (
-            4,
-            "--sites sites --parts parts --rates rates --stocks no",
-            "fault,read,stocks\n",
-        ),
-    ];
-    for (call, names, refusal) in cases {
-        let mut failing = shelf_of(alloc, ONE, &[call])?;
-        let mut whole = shelf_of(alloc, ONE, &[])?;
-        let lacking = format!(in alloc; "eval {names}")?;
-        for ended in [
-            run_over(alloc, EVAL, &mut failing, &[])?,
-            run_over(alloc, lacking.as_str(), &mut whole, &[])?,
-        ] {
-            assert_eq!(rt; ended.err.bytes(), refusal.as_bytes());
-            assert_eq!(rt; ended.out.bytes(), b"".as_slice());
-            assert_eq!(rt; ended.status, 5);
-        }
-    }
-    // The fifth call doesn't come. A failing put keeps the first half of a report of 254 bytes.
     let mut shelf = shelf_of(alloc, ONE, &[5])?;
-    let ended = run_over(alloc, EVAL, &mut shelf, &[1])?;
-    assert_eq!(rt; ended.err.bytes(), b"fault,write\n".as_slice());
-    assert_eq!(rt;
-        ended.out.bytes(),
-        b"eval,48\ncost,0\nitem,L,D,0,2.000000,2.000000,2.000000,2.000000,2.000000,2.000000,2.000000,2.000000\nitem,L,B,0,3.000000,3.000000,".as_slice()
-    );
-    assert_eq!(rt; ended.status, 6);
-    Ok(())
+    let half =
+        "eval,48\ncost,0\nitem,L,D,0,2.000000,2.000000,2.000000,2.000000,2.000000,2.000000,2.000000,2.000000\nitem,L,B,0,3.000000,3.000000,";
+    ends(
+        &rt,
+        alloc,
+        EVAL,
+        &mut shelf,
+        &[1],
+        Ended {
+            status: 6,
+            out: half,
+            err: "fault,write\n",
+        },
+    )
 }
 
 #[test]
@@ -267,8 +289,16 @@ fn refuses_other_bits(rt: HostRuntime) -> Result<(), Fail> {
     let alloc = rt.alloc();
     let line = format!(in alloc; "{EVAL} --bits 40")?;
     let mut shelf = shelf_of(alloc, ONE, &[1])?;
-    let ended = run_over(alloc, line.as_str(), &mut shelf, &[])?;
-    assert_eq!(rt; ended.err.bytes(), b"fault,range,bits\n".as_slice());
-    assert_eq!(rt; ended.status, 2);
-    Ok(())
+    ends(
+        &rt,
+        alloc,
+        line.as_str(),
+        &mut shelf,
+        &[],
+        Ended {
+            status: 2,
+            out: "",
+            err: "fault,range,bits\n",
+        },
+    )
 }

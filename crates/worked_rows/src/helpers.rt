@@ -2,6 +2,8 @@
 use spares_io::{List, MemShelf, MemSink, NoMemory, Text};
 use spares_top::{run, status};
 use std::alloc::Global;
+use std::process::Abort;
+use std::test::*;
 
 /// Words, parted by blanks.
 pub(crate) fn words_of(alloc: Global, line: &str) -> Result<Vec<Text>, NoMemory> {
@@ -45,27 +47,28 @@ pub(crate) fn shelf_of(
 }
 
 /// How a run ended, and what it put on its two outputs.
-#[derive(Drop)]
-pub(crate) struct Ended {
+#[derive(Clone, Copy)]
+pub(crate) struct Ended<'a> {
     pub(crate) status: u8,
-    pub(crate) out: MemSink,
-    pub(crate) err: MemSink,
+    pub(crate) out: &'a str,
+    pub(crate) err: &'a str,
 }
 
-/// Runs words that are parted by blanks. The puts of the output fail as listed.
-pub(crate) fn run_over(
+/// Runs words that are parted by blanks, where the puts of the output fail as listed: it ends like this.
+pub(crate) fn ends(
+    rt: &impl Abort,
     alloc: Global,
     line: &str,
     shelf: &mut MemShelf,
     fails: &[u32],
-) -> Result<Ended, NoMemory> {
+    wanted: Ended,
+) -> Result<(), Fail> {
     let words = words_of(alloc, line)?;
     let mut out = sink(alloc, 2000, fails)?;
     let mut err = sink(alloc, 200, &[])?;
     let answer = run(alloc, words.as_slice(), shelf, &mut out, &mut err);
-    Ok(Ended {
-        status: status(&answer),
-        out,
-        err,
-    })
+    assert_eq!(rt; err.bytes(), wanted.err.as_bytes(), "{line}");
+    assert_eq!(rt; out.bytes(), wanted.out.as_bytes(), "{line}");
+    assert_eq!(rt; status(&answer), wanted.status, "{line}");
+    Ok(())
 }

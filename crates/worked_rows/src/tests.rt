@@ -1,5 +1,7 @@
-use crate::helpers::{empty_shelf, sink, words_of};
+use crate::helpers::{Ended, empty_shelf, ends, sink, words_of};
 use spares_top::{Done, Refusal, run, status};
+use std::alloc::Global;
+use std::process::Abort;
 use std::test::Fail;
 
 /// Words, parted by blanks, and the report that is printed for them.
@@ -117,36 +119,42 @@ const REFUSED: [(&str, &str, u8); 19] = [
     ),
 ];
 
-#[test]
-fn prints_the_worked_rows(rt: HostRuntime) -> Result<(), Fail> {
-    let alloc = rt.alloc();
-    for (line, report) in PRINTED {
-        let words = words_of(alloc, line)?;
+/// Each line is carried out, and prints its report.
+fn prints(rt: &impl Abort, alloc: Global, rows: &[(&str, &str)]) -> Result<(), Fail> {
+    for (line, report) in rows {
         let mut shelf = empty_shelf(alloc)?;
-        let mut out = sink(alloc, 100, &[])?;
-        let mut err = sink(alloc, 100, &[])?;
-        let answer = run(alloc, words.as_slice(), &mut shelf, &mut out, &mut err);
-        assert_eq!(rt; status(&answer), 0, "{line}");
-        assert_eq!(rt; out.bytes(), report.as_bytes(), "{line}");
-        assert_eq!(rt; err.bytes(), b"".as_slice(), "{line}");
+        let wanted = Ended {
+            status: 0,
+            out: report,
+            err: "",
+        };
+        ends(rt, alloc, line, &mut shelf, &[], wanted)?;
+    }
+    Ok(())
+}
+
+/// Each line is refused, by its line and its status.
+fn refuses(rt: &impl Abort, alloc: Global, rows: &[(&str, &str, u8)]) -> Result<(), Fail> {
+    for (line, refusal, code) in rows {
+        let mut shelf = empty_shelf(alloc)?;
+        let wanted = Ended {
+            status: *code,
+            out: "",
+            err: refusal,
+        };
+        ends(rt, alloc, line, &mut shelf, &[], wanted)?;
     }
     Ok(())
 }
 
 #[test]
+fn prints_the_worked_rows(rt: HostRuntime) -> Result<(), Fail> {
+    prints(&rt, rt.alloc(), &PRINTED)
+}
+
+#[test]
 fn refuses_the_worked_rows(rt: HostRuntime) -> Result<(), Fail> {
-    let alloc = rt.alloc();
-    for (line, refusal, code) in REFUSED {
-        let words = words_of(alloc, line)?;
-        let mut shelf = empty_shelf(alloc)?;
-        let mut out = sink(alloc, 100, &[])?;
-        let mut err = sink(alloc, 100, &[])?;
-        let answer = run(alloc, words.as_slice(), &mut shelf, &mut out, &mut err);
-        assert_eq!(rt; status(&answer), code, "{line}");
-        assert_eq!(rt; out.bytes(), b"".as_slice(), "{line}");
-        assert_eq!(rt; err.bytes(), refusal.as_bytes(), "{line}");
-    }
-    Ok(())
+    refuses(&rt, rt.alloc(), &REFUSED)
 }
 
 /// What the output holds after a report of 56 bytes that it doesn't take, and what the standard error.
