@@ -37,7 +37,7 @@ use Rattle.family_eval.specs.declared.item.Item.{Item}
 use Rattle.family_eval.specs.Profile.{base_line, base_shop, depot_feed, depot_line, depot_shop, feed_of, held_of, item_of, pipeline_of, share_of, stocked}
 use Rattle.family_eval.specs.Encloses.{EnclosesItem, IsSmallItem}
 use Rattle.family_eval.specs.Inputs.{HasTable, IsLine, IsPipeline, IsShop, IsSound}
-use Rattle.family_eval.proofs.Tables.{table_encloses}
+use Rattle.moment_table.proofs.Tables.{table_encloses}
 use Rattle.family_eval.proofs.Ranges.{added_least, can_table, cap_in, direct_in, pipeline_is, share_in}
 use Rattle.family_eval.proofs.Units.{line_at, shop_at}
 
@@ -52,7 +52,7 @@ stocked_in : (f : ℕ) (x : Pipeline f) (m : Moments f) → HasTable f m → x.s
     → (n : ℕ) → 1024 ≤ n → FiguresIn f (stocked f x m) u w (ebo n u w x.stock) (vbo n u w x.stock)
 unfolding stocked
 stocked_in f x m can few u w a b n deep =
-    let r = table_encloses f m x.stock can few u w a b n deep in
+    let r = table_encloses f m.mean m.variance x.stock can few u w a b n deep in
     record { mean = a; variance = b; backorders = r.ebo; spread = r.vbo }
 
 max_most : (a b c : ℕ) → a ≤ c → b ≤ c → max a b ≤ c

@@ -1,4 +1,3 @@
-pub mod Tables
 pub mod Ranges
 pub mod Units
 pub mod Enclosed

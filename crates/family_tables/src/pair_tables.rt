@@ -13,7 +13,7 @@ use base_pipeline::{Held, base_line, base_shop};
 use depot_pipeline::{Feed, depot_line, depot_shop};
 use fixed_interval::Iv;
 use moment_table::kinds::Table;
-use moment_table::{backorders_to, table};
+use moment_table::{backorders_to, table_to};
 use spares_io::NoMemory;
 use std::alloc::Global;
 
@@ -40,7 +40,7 @@ pub(crate) fn held_from<const F: u32>(table: &Table<F>, stock: u8) -> Held<F>
     }
 }
 
-/// The table of a shop unit at the depot.
+/// The table of a shop unit at the depot, with the rows up to its limit there.
 pub(crate) fn depot_shop_table<const F: u32>(
     alloc: Global,
     pair: PairNumbers<F>,
@@ -49,10 +49,10 @@ pub(crate) fn depot_shop_table<const F: u32>(
     ensures { IfOk result (λ t. t ≡ rows_of F (depot_shop_ends F pair.entry.direct pair.entry.cap)) }
 {
     let moments = depot_shop(pair.direct, pair.cap);
-    table(alloc, moments.mean, moments.variance)
+    table_to(alloc, moments.mean, moments.variance, pair.limit)
 }
 
-/// The table of a line unit at the depot, which its shop units there feed.
+/// The table of a line unit at the depot, which its shop units there feed, with the rows up to its limit there.
 pub(crate) fn depot_line_table<const F: u32>(
     alloc: Global,
     pair: PairNumbers<F>,
@@ -64,10 +64,10 @@ pub(crate) fn depot_line_table<const F: u32>(
     ensures { IfOk result (λ t. t ≡ rows_of F (depot_line_ends F pair.entry.direct pair.entry.cap feeds.now)) }
 {
     let moments = depot_line(pair.direct, pair.cap, feeds);
-    table(alloc, moments.mean, moments.variance)
+    table_to(alloc, moments.mean, moments.variance, pair.limit)
 }
 
-/// The table of a shop unit at a base, which the depot feeds.
+/// The table of a shop unit at a base, which the depot feeds, with the rows up to its limit there.
 pub(crate) fn base_shop_table<const F: u32>(
     alloc: Global,
     pair: PairNumbers<F>,
@@ -78,7 +78,7 @@ pub(crate) fn base_shop_table<const F: u32>(
     ensures { IfOk result (λ t. t ≡ rows_of F (base_shop_ends F pair.entry.direct pair.entry.cap depot.entry)) }
 {
     let moments = base_shop(pair.direct, pair.cap, depot);
-    table(alloc, moments.mean, moments.variance)
+    table_to(alloc, moments.mean, moments.variance, pair.limit)
 }
 
 /// The backorders of a line unit at a base at each of its stocks there up to its limit, where the depot and the shop units at
