@@ -1,6 +1,8 @@
 //! The tables are those of a program that was written apart from this one.
 
+ghost use Rattle.std.specs.Prelude.{◌≤◌};
 ghost use Rattle.fixed_interval.specs.Ends.{InScale};
+ghost use Rattle.moment_table.specs.Inputs.{CanTable};
 
 use super::*;
 use std::process::Abort;
@@ -68,6 +70,45 @@ fn numbers(alloc: Global, row: &str) -> Result<Vec<u128>, Fail> {
     Ok(list)
 }
 
+/// A table has these ends at a stock, whether it holds them or walks to them.
+fn shows<const F: u32>(
+    rt: &impl Abort,
+    table: &Table<F>,
+    stock: u8,
+    ends: &[u128],
+) -> Result<(), Fail>
+    requires { stock ≤ 62 }
+{
+    let (ebo, vbo, tail) = (table.ebo(stock), table.vbo(stock), table.tail(stock));
+    let found = [ebo.lo(), ebo.hi(), vbo.lo(), vbo.hi(), tail.lo(), tail.hi()];
+    assert_eq!(rt; found.as_slice(), ends);
+    Ok(())
+}
+
+/// All calls have these ends at a stock.
+fn all_show<const F: u32>(
+    rt: &impl Abort,
+    alloc: Global,
+    mean: Iv<F>,
+    variance: Iv<F>,
+    stock: u8,
+    ends: &[u128],
+) -> Result<(), Fail>
+    requires table { CanTable F mean variance }
+    requires stock { stock ≤ 62 }
+{
+    assert!(rt; ends.len() == 6);
+    shows(rt, &table(alloc, mean, variance)?, stock, ends)?;
+    shows(rt, &table_to(alloc, mean, variance, 10)?, stock, ends)?;
+    let Row { ebo, vbo, tail } = row_at(alloc, mean, variance, stock)?;
+    let found = [ebo.lo(), ebo.hi(), vbo.lo(), vbo.hi(), tail.lo(), tail.hi()];
+    assert_eq!(rt; found.as_slice(), ends);
+    let list = backorders_to(alloc, mean, variance, stock)?;
+    let last = list[usize::from(stock)];
+    assert_eq!(rt; [last.lo(), last.hi()].as_slice(), &ends[..2]);
+    Ok(())
+}
+
 fn meets<const F: u32>(rt: &impl Abort, alloc: Global, rows: &[&str]) -> Result<(), Fail>
     requires { InScale F }
 {
@@ -84,19 +125,7 @@ fn meets<const F: u32>(rt: &impl Abort, alloc: Global, rows: &[&str]) -> Result<
         let stock = row[4];
         assert!(rt; stock <= 62);
         let stock = stock as u8;
-        let whole = table(alloc, mean, variance)?;
-        let held = table_to(alloc, mean, variance, 10)?;
-        for table in [&whole, &held] {
-            let (ebo, vbo, tail) = (table.ebo(stock), table.vbo(stock), table.tail(stock));
-            let found = [ebo.lo(), ebo.hi(), vbo.lo(), vbo.hi(), tail.lo(), tail.hi()];
-            assert_eq!(rt; found.as_slice(), &row[5..]);
-        }
-        let Row { ebo, vbo, tail } = row_at(alloc, mean, variance, stock)?;
-        let found = [ebo.lo(), ebo.hi(), vbo.lo(), vbo.hi(), tail.lo(), tail.hi()];
-        assert_eq!(rt; found.as_slice(), &row[5..]);
-        let list = backorders_to(alloc, mean, variance, stock)?;
-        let last = list[usize::from(stock)];
-        assert_eq!(rt; [last.lo(), last.hi()].as_slice(), &row[5..7]);
+        all_show(rt, alloc, mean, variance, stock, &row[5..])?;
     }
     Ok(())
 }
