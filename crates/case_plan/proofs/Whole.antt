@@ -1,0 +1,109 @@
+-- The plan of a case from its curves.
+use Rattle.std.proofs.Common.{◌≡◌, ℕ, suc, ◌<◌, ◌≤◌, List, [], ◌∷◌, Option, Some, None, IfSome, length, map, get_or, slice_index, option_map, sym, ap, ap₂, ◌∙◌, subst, arith}
+use Rattle.std.specs.List.{AllZip}
+use Rattle.std.proofs.lemmas.List.{length-map}
+use Rattle.std.proofs.lemmas.List.Elements.{length_all_zip}
+use Rattle.hull.specs.declared.point.Point.{Point}
+use Rattle.hull.specs.Curves.{Among, nowhere, point_at}
+use Rattle.hull.proofs.Runs.{among_at}
+use Rattle.spares_input.specs.Cases.{CaseRows, IsCase}
+use Rattle.spares_input.specs.Stocks.{StockList, IsFor, IsWithinLimits, limit_at}
+use Rattle.spares_input.specs.Rows.{is_line}
+use Rattle.spares_input.specs.Frames.{part_at}
+use Rattle.fleet_model.specs.Rows.{all_parts, stock, line_units}
+use Rattle.fleet_model.proofs.AllocationLaws.{stock-is}
+use Rattle.demand_rates.specs.Limits.{rate_fault_of}
+use Rattle.family_eval.specs.Encloses.{CanEvaluate}
+use Rattle.family_curve.specs.Vectors.{Pair, places, vector_of, limits, stock_list, IsBetween}
+use Rattle.marginal_alloc.specs.declared.allocation.Critical.{Critical}
+use Rattle.marginal_alloc.specs.declared.plans.PlanNumbers.{PlanNumbers}
+use Rattle.step_walk.specs.Prefix.{curve_at, AreVertices, picked}
+use Rattle.price_bounds.specs.Allocations.{IsAllocation}
+use Rattle.price_bounds.specs.Soundness.{stocks_of}
+use Rattle.case_figures.specs.declared.figures.Figures.{Figures}
+use Rattle.case_figures.specs.Figures.{figures_of}
+use Rattle.fleet_model.specs.Aims.{weighted_backorders}
+use Rattle.fleet_plan.specs.Families.{family_at, families_at, vectors_at}
+use Rattle.fleet_plan.specs.Plans.{CasePlan, line_of_step}
+use Rattle.fleet_plan.specs.Laws.{plain_ends}
+use Rattle.fleet_plan.proofs.Lists.{is_among, range_has}
+use Rattle.fleet_plan.proofs.Places.{kept, at_among, zip_each}
+use Rattle.fleet_plan.proofs.Bridge.{held_of}
+use Rattle.case_plan.specs.declared.report.CriticalLine.{CriticalLine}
+use Rattle.case_plan.specs.declared.report.Outcome.{Outcome}
+use Rattle.case_plan.specs.Report.{step_line, outcome_of}
+use Rattle.fleet_plan.specs.Families.{HasWidth}
+use Rattle.case_plan.specs.Parts.{IsPlace}
+
+abbrev IsLow : CaseRows → ℕ → List ℕ → Type 0
+IsLow c l v = AllZip (λ x y. x ≤ y) v (limits c l)
+
+picked_low : (c : CaseRows) (ls : List ℕ) (curves : List (List Point)) (picks : List ℕ) → AllZip (λ l curve. (v : Point) → Among v curve → IsLow c l v.stocks) ls curves → length picks ≡ length curves
+    → ((g : ℕ) → g < length curves → slice_index picks g < length (curve_at curves g)) → AllZip (IsLow c) ls (stocks_of (picked curves picks))
+picked_low c [] [] picks a e b = tt
+picked_low c [] (x ∷ xs) picks a e b = absurd a
+picked_low c (l ∷ ls) [] picks a e b = absurd a
+picked_low c (l ∷ ls) (x ∷ xs) [] a e b = absurd (omega (arith, e))
+picked_low c (l ∷ ls) (x ∷ xs) (k ∷ ks) a e b =
+    (a.0 (point_at x k) (among_at x k nowhere (b 0 (omega arith))), picked_low c ls xs ks a.1 (omega (arith, e)) (λ g h. b (suc g) (omega (arith, h))))
+
+pub low_width : (c : CaseRows) (l : ℕ) (v : List ℕ) → IsLow c l v → HasWidth c l v
+low_width c l v a = length_all_zip (λ x y. x ≤ y) v (limits c l) a ∙ length-map (places c l) (λ (x : Pair). limit_at c.parts x.part x.site)
+
+zeros_least : (c : CaseRows) (xs : List Pair) (v : List ℕ) → length v ≡ length xs → AllZip (λ x y. x ≤ y) (map (λ (x : Pair). stock c [] x.part x.site) xs) v
+zeros_least c [] [] e = tt
+zeros_least c [] (a ∷ v) e = absurd (omega (arith, e))
+zeros_least c (x ∷ xs) [] e = absurd (omega (arith, e))
+zeros_least c (x ∷ xs) (a ∷ v) e = (omega arith, zeros_least c xs v (omega (arith, e)))
+
+low_between : (c : CaseRows) (l : ℕ) (v : List ℕ) → IsLow c l v → IsBetween (vector_of c l []) (limits c l) v
+low_between c l v a = record { least = zeros_least c (places c l) v (low_width c l v a); most = a }
+
+allocated : (c : CaseRows) (ls : List ℕ) (vs : List (List ℕ)) → AllZip (IsLow c) ls vs → IsAllocation (map (family_at plain_ends weighted_backorders c []) ls) vs
+allocated c [] [] a = tt
+allocated c [] (v ∷ vs) a = absurd a
+allocated c (l ∷ ls) [] a = absurd a
+allocated c (l ∷ ls) (v ∷ vs) a = (is_among (vector_of c l []) (limits c l) v (low_between c l v a.0), allocated c ls vs a.1)
+
+module _ (c : CaseRows) (valid : IsCase c) (curves : List (List Point)) (picks : List ℕ) (low : AllZip (λ l curve. (v : Point) → Among v curve → IsLow c l v.stocks) (line_units c) curves) (vertices : AreVertices curves picks) where
+  lows : AllZip (IsLow c) (line_units c) (stocks_of (picked curves picks))
+  lows = picked_low c (line_units c) curves picks low vertices.count vertices.below
+
+  pub widths : AllZip (HasWidth c) (line_units c) (stocks_of (picked curves picks))
+  widths = zip_each (IsLow c) (HasWidth c) (line_units c) (stocks_of (picked curves picks)) (λ l v a h. low_width c l v h) lows
+
+  pub within : (s : StockList) → IsFor c s → vectors_at c s.list ≡ stocks_of (picked curves picks) → IsWithinLimits c s
+  within s is e p k lp lk =
+      let a = held_of plain_ends weighted_backorders c [] valid s.list is.pairs (subst (IsAllocation (families_at plain_ends weighted_backorders c [])) (sym e) (allocated c (line_units c) (stocks_of (picked curves picks)) lows)) in
+      subst (λ n. n ≤ limit_at c.parts p k) (stock-is c s p k is) (a.allocation.within p k lp lk)
+
+  -- such stocks can be evaluated
+  pub can_evaluate : (s : StockList) → rate_fault_of c ≡ None → IsFor c s → vectors_at c s.list ≡ stocks_of (picked curves picks) → CanEvaluate 48 c s
+  can_evaluate s accepted is e = record { scale = (omega arith, omega arith); valid = valid; no_fault = accepted; are_stocks = is; limits = within s is e }
+
+pub place_some : (curves : List (List Point)) (n : ℕ) (o : Option Critical) → length curves ≡ n → IsPlace curves o → IfSome o (λ step. step.family < n)
+place_some curves n None e h = tt
+place_some curves n (Some s) e h = subst (λ m. s.family < m) e h.0
+
+-- the plan that the parts make
+abbrev pub plan_with : StockList → List ℕ → PlanNumbers → CasePlan
+plan_with s floors f = record { stocks = s.list; floors = floors; numbers = f }
+
+abbrev pub outcome : ℕ → StockList → List ℕ → PlanNumbers → Figures → Option CriticalLine → Outcome
+outcome budget s floors f figures line = record {
+  report = record { budget = budget; figures = record figures { cost = f.cost }; bound = f.bound; gap = f.gap; rounding = f.rounding; price = f.price; hull = f.hull_cost; critical = line };
+  stocks = s;
+  price = f.price;
+  floors = floors;
+  upper = f.upper;
+}
+
+pub same_outcome : (c : CaseRows) (budget : ℕ) (s : StockList) (floors : List ℕ) (f : PlanNumbers) (figures : Figures) (line : Option CriticalLine) → s.sites ≡ length c.sites → figures ≡ figures_of 48 c s
+    → line ≡ option_map (step_line c f.price.q) (option_map (line_of_step c) f.critical) → outcome budget s floors f figures line ≡ outcome_of c budget (plan_with s floors f)
+same_outcome c budget s floors f figures line e g l =
+    let same : s ≡ stock_list c s.list = ap (λ n. let t : StockList = record { sites = n; list = s.list } in t) e in
+    ap₂ (λ (x : Figures) (y : Option CriticalLine). outcome budget s floors f x y) g l
+    ∙ ap (λ (t : StockList). outcome budget t floors f (figures_of 48 c t) (option_map (step_line c f.price.q) (option_map (line_of_step c) f.critical))) same
+
+pub line_in : (c : CaseRows) (f : ℕ) → f < length (line_units c) → get_or (line_units c) f 0 < length c.parts
+line_in c f h = (let r = range_has (get_or (line_units c) f 0) 0 (length c.parts) (kept (λ p. is_line (part_at c.parts p)) (all_parts c) (get_or (line_units c) f 0) (at_among (line_units c) f h)).0 in omega (arith, r.1))

@@ -1,0 +1,57 @@
+-- The report of a plan is true of the case, whoever made it.
+use Rattle.std.specs.Prelude.{◌≡◌, ℕ, ◌^◌, ◌≤◌, [], List, length, All}
+use Rattle.hull.specs.Scores.{EnclosesValue, LeavesRoom}
+use Rattle.spares_input.specs.Cases.{CaseRows, IsCase}
+use Rattle.fleet_model.specs.Rows.{line_units}
+use Rattle.family_curve.specs.Points.{ScoreEnds}
+use Rattle.hull.specs.declared.point.Point.{Point}
+use Rattle.step_walk.specs.Prefix.{HaveShapes}
+use Rattle.marginal_alloc.specs.Choice.{AreCurves}
+use Rattle.fleet_model.specs.Aims.{Value, IsHeldAllocation}
+use Rattle.fleet_plan.specs.Families.{case_points}
+use Rattle.fleet_plan.specs.Plans.{CasePlan, IsCasePlan}
+use Rattle.fleet_plan.specs.Laws.{IsAcceptedCase, plain_ends}
+use Rattle.case_plan.specs.declared.report.PlanReport.{PlanReport}
+use Rattle.case_plan.specs.Report.{AreFamilyCurves, IsPlanned}
+use Rattle.case_plan.specs.Truth.{IsTruePlanReport}
+
+-- of some stocks
+pub record HasTrueStocks (c : CaseRows) (budget : ℕ) (report : PlanReport) : Type 0 where
+  pub stocks : List ℕ
+  pub is_true : IsTruePlanReport c budget stocks report
+
+abbrev pub PlannedReportsAreTrue : Type 0
+PlannedReportsAreTrue =
+    (c : CaseRows) (budget : ℕ) (report : PlanReport)
+    → IsAcceptedCase c → IsPlanned plain_ends c [] budget report → HasTrueStocks c budget report
+
+-- and there is one
+abbrev pub PlannedReportsAreOne : Type 0
+PlannedReportsAreOne =
+    (ends : ScoreEnds) (c : CaseRows) (held : List ℕ) (budget : ℕ) (one other : PlanReport)
+    → IsCase c → IsPlanned ends c held budget one → IsPlanned ends c held budget other → one ≡ other
+
+-- the numbers of a plan have room in a certificate and in a report
+pub record FitsItsPlace (c : CaseRows) (p : CasePlan) : Type 0 where
+  pub price : p.numbers.price.p ≤ 2 ^ 74
+  pub money : 1 ≤ p.numbers.price.q
+  pub most_money : p.numbers.price.q ≤ 1000000000000
+  pub floor_count : length p.floors ≡ length (line_units c)
+  pub floors_most : All (λ floor. floor ≤ 2 ^ 115) p.floors
+  pub stocks_most : All (λ stock. stock ≤ 63) p.stocks
+  pub upper : p.numbers.upper ≤ 2 ^ 85
+  pub bound : p.numbers.bound ≤ 2 ^ 85
+  pub gap : p.numbers.gap ≤ 2 ^ 85
+  pub rounding : p.numbers.rounding ≤ 2 ^ 85
+
+abbrev pub PlansFit : Type 0
+PlansFit =
+    (ends : ScoreEnds) (value : Value) (c : CaseRows) (held : List ℕ) (budget : ℕ) (p : CasePlan)
+    → IsAcceptedCase c → EnclosesValue ends value → LeavesRoom ends → IsCasePlan ends c held budget p → FitsItsPlace c p
+
+-- curves of a case's points, from what is held within the limits, are such as a plan takes
+abbrev pub CurvesServe : Type 0
+CurvesServe =
+    (ends : ScoreEnds) (c : CaseRows) (held : List ℕ) (curves : List (List Point))
+    → IsCase c → IsHeldAllocation c held held → HaveShapes curves → AreCurves (case_points ends c held) curves
+    → AreFamilyCurves c curves

@@ -1,0 +1,163 @@
+//! The plan of curves: their filled hull choice with its numbers.
+
+ghost use Rattle.std.specs.Prelude.{◌≡◌, ℕ, ◌+◌, ◌-◌, ◌*◌, ◌/◌, ◌^◌, ◌<◌, ◌≤◌, List, length, map, slice_index, IfOk};
+ghost use Rattle.hull.specs.declared.point.Point.{Point};
+ghost use Rattle.hull.specs.Curves.{lagrangian, InRange, IsShape};
+ghost use Rattle.price_bounds.specs.Sums.{total, cost_of, hi_of, width_of};
+ghost use Rattle.step_walk.specs.Prefix.{curve_at, vertex_at, picked, AreVertices, HaveShapes};
+ghost use Rattle.marginal_alloc.specs.Choice.{AreCurves};
+ghost use Rattle.marginal_alloc.specs.Plans.{IsPlan};
+ghost use Rattle.case_plan.specs.Parts.{slack, IsPlace, IsSmallPrice};
+
+use hull::{Curve, Point, Price};
+use marginal_alloc::plans::PlanNumbers;
+use marginal_alloc::{Critical, allocate, fill};
+use spares_io::NoMemory;
+use std::alloc::Global;
+
+/// The sums over some picks.
+#[derive(Clone, Copy, Drop)]
+struct Totals {
+    lagrangian: u128,
+    width: u128,
+    cost: u64,
+    hi: u128,
+}
+
+/// The Lagrangian of a point at a price.
+fn lagrangian_of(point: &Point, price: Price) -> u128
+    requires price { IsSmallPrice price }
+    requires range { InRange point.now }
+    ensures is { result ≡ lagrangian price.p price.q point.now }
+    ensures small { result < 2 ^ 115 }
+{
+    u128::from(price.q) * point.lo + price.p * u128::from(point.cost)
+}
+
+/// The picked vertex of a family.
+pub(crate) fn pick_of<'a>(curves: &'a [Curve], picks: &[u32], f: usize) -> &'a Point
+    requires vertices { AreVertices curves.now picks.now }
+    requires family { f < length curves.now }
+    ensures is { result.now ≡ vertex_at curves.now f (slice_index picks.now f) }
+    ensures range { InRange result.now }
+{
+    let curve = &curves[f];
+    let pick = picks[f];
+    let within = pick < curve.len();
+    prove!(within);
+    curve.point(pick)
+}
+
+/// The sums over the picks, at a price.
+fn totals_of(curves: &[Curve], picks: &[u32], price: Price) -> Totals
+    requires vertices { AreVertices curves.now picks.now }
+    requires few { length curves.now ≤ 2000 }
+    requires price { IsSmallPrice price }
+    ensures lagrangian { result.lagrangian ≡ total (lagrangian price.p price.q) (picked curves.now picks.now) }
+    ensures width { result.width ≡ width_of (picked curves.now picks.now) }
+    ensures cost { result.cost ≡ cost_of (picked curves.now picks.now) }
+    ensures hi { result.hi ≡ hi_of (picked curves.now picks.now) }
+    ensures small { (result.lagrangian < 2 ^ 126) × (result.width < 2 ^ 86) }
+{
+    let mut lagrangian = 0;
+    let mut width = 0;
+    let mut cost = 0;
+    let mut hi = 0;
+    for f in 0..curves.len() {
+        let point = pick_of(curves, picks, f);
+        lagrangian += lagrangian_of(point, price);
+        width += point.hi - point.lo;
+        cost += point.cost;
+        hi += point.hi;
+    }
+    Totals {
+        lagrangian,
+        width,
+        cost,
+        hi,
+    }
+}
+
+/// The Lagrangians of the picks, one by one.
+fn floors_at(
+    alloc: Global,
+    curves: &[Curve],
+    picks: &[u32],
+    price: Price,
+) -> Result<Vec<u128>, NoMemory>
+    requires vertices { AreVertices curves.now picks.now }
+    requires price { IsSmallPrice price }
+    ensures { IfOk result (λ floors. floors.items ≡ map (lagrangian price.p price.q) (picked curves.now picks.now)) }
+{
+    let mut floors = Vec::new(alloc);
+    for f in 0..curves.len() {
+        let point = pick_of(curves, picks, f);
+        floors.push(lagrangian_of(point, price))?;
+    }
+    Ok(floors)
+}
+
+/// The width of the critical vertex, where there is one.
+fn slack_of(curves: &[Curve], critical: Option<Critical>) -> u128
+    requires { IsPlace curves.now critical }
+    ensures slack { result ≡ slack curves.now critical }
+    ensures small { result < 2 ^ 74 }
+{
+    let Some(step) = critical else {
+        return 0;
+    };
+    let curve = &curves[step.family as usize];
+    let vertex = step.vertex;
+    let within = vertex < curve.len();
+    prove!(within);
+    let point = curve.point(vertex);
+    point.hi - point.lo
+}
+
+/// The filled choice of curves: a vertex of each, a floor of each at the price, and the numbers of the plan.
+#[derive(Drop)]
+pub(crate) struct Choice {
+    pub picks: Vec<u32>,
+    pub floors: Vec<u128>,
+    pub numbers: PlanNumbers,
+}
+
+/// The plan of curves that each begin at cost 0, under a budget: it is that of all points of which these are the curves.
+pub(crate) fn choose(alloc: Global, curves: &[Curve], budget: u64) -> Result<Choice, NoMemory>
+    requires few { length curves.now ≤ 2000 }
+    requires free { (f : ℕ) → f < length curves.now → (vertex_at curves.now f 0).cost ≡ 0 }
+    requires budget { budget ≤ 1000000000000000 }
+    ensures plan { (families : List (List Point)) → AreCurves families curves.now
+        → IfOk result (λ choice.
+        IsPlan families budget (picked curves.now choice.picks.items) choice.floors.items choice.numbers) }
+    ensures vertices { IfOk result (λ choice. AreVertices curves.now choice.picks.items) }
+    ensures critical { IfOk result (λ choice. IsPlace curves.now choice.numbers.critical) }
+{
+    let chosen = allocate(alloc, curves, budget)?;
+    let hull_cost = chosen.cost;
+    let price = chosen.price;
+    let critical = chosen.critical;
+    let mut picks = chosen.picks.into_vec();
+    let hull = totals_of(curves, picks.as_slice(), price);
+    let floors = floors_at(alloc, curves, picks.as_slice(), price)?;
+    let slack = slack_of(curves, critical);
+    let paid = price.p * u128::from(budget);
+    let bound = hull.lagrangian.saturating_sub(paid) / u128::from(price.q);
+    fill(curves, &mut picks, budget);
+    let filled = totals_of(curves, picks.as_slice(), price);
+    let numbers = PlanNumbers {
+        hull_cost,
+        price,
+        cost: filled.cost,
+        upper: filled.hi,
+        bound,
+        rounding: hull.width + slack + 1,
+        gap: filled.hi.saturating_sub(bound),
+        critical,
+    };
+    Ok(Choice {
+        picks,
+        floors,
+        numbers,
+    })
+}

@@ -1,0 +1,95 @@
+//! The plan of a case.
+
+ghost use Rattle.std.specs.Prelude.{◌≡◌, ℕ, ◌<◌, ◌≤◌, IfOk, IfSome, length, get_or, option_map};
+ghost use Rattle.demand_rates.specs.Rates.{AreRatesOf};
+ghost use Rattle.fleet_model.specs.Rows.{line_units};
+ghost use Rattle.fleet_plan.specs.Plans.{line_of_step};
+ghost use Rattle.case_plan.specs.Report.{step_line, AreFamilyCurves, IsPlanOf};
+
+use crate::choose::choose;
+use crate::placing::stocks_of;
+use crate::report::{CriticalLine, Outcome, PlanReport};
+use case_figures::figures_at;
+use demand_rates::kinds::Rates;
+use family_eval::evaluate_all;
+use hull::{Curve, Price};
+use marginal_alloc::Critical;
+use spares_input::{Case, PartId};
+use spares_io::{List, NoMemory};
+use std::alloc::Global;
+
+/// The line unit at a place among the line units.
+fn line_at(case: &Case, place: u32) -> PartId
+    requires { place < length (line_units case.now) }
+    ensures { result.0 ≡ get_or (line_units case.now) place 0 }
+{
+    let mut before = 0;
+    for p in 0..case.part_count() {
+        let part = PartId(p);
+        if case.is_line(part) {
+            if before == place {
+                return part;
+            }
+            before += 1;
+        }
+    }
+    PartId(0)
+}
+
+/// The line of a critical step, where there is one.
+fn line_of(case: &Case, critical: Option<Critical>, price: Price) -> Option<CriticalLine>
+    requires { IfSome critical (λ step. step.family < length (line_units case.now)) }
+    ensures { result ≡ option_map (step_line case.now price.q) (option_map (line_of_step case.now) critical) }
+{
+    let Some(step) = critical else {
+        return None;
+    };
+    let line = line_at(case, step.family);
+    Some(CriticalLine {
+        part: case.part(line).name,
+        cost: price.q,
+    })
+}
+
+/// The plan of a case under a budget in whole money, from a curve for each line unit in order.
+///
+/// Each curve begins at cost 0, and the stocks of its points are vectors of its family within the limits. Of whatever
+/// points, from whatever stocks held, these are the curves, the answer is that of the one plan of these points. Want of
+/// memory is the only error.
+pub fn plan(
+    alloc: Global,
+    case: &Case,
+    rates: &Rates,
+    curves: &[Curve],
+    budget: u64,
+) -> Result<Outcome, NoMemory>
+    requires rates { AreRatesOf case.now rates.now }
+    requires budget { budget ≤ 1000000000000000 }
+    requires curves { AreFamilyCurves case.now curves.now }
+    ensures { IfOk result (IsPlanOf case.now curves.now budget) }
+{
+    let _sites = case.site_count();
+    let choice = choose(alloc, curves, budget)?;
+    let numbers = choice.numbers;
+    let stocks = stocks_of(alloc, case, curves, choice.picks.as_slice())?;
+    let families = evaluate_all::<48>(alloc, case, rates, &stocks)?;
+    let mut figures = figures_at::<48>(alloc, case, families.as_slice(), &stocks)?;
+    figures.cost = numbers.cost;
+    let report = PlanReport {
+        budget,
+        figures,
+        bound: numbers.bound,
+        gap: numbers.gap,
+        rounding: numbers.rounding,
+        price: numbers.price,
+        hull: numbers.hull_cost,
+        critical: line_of(case, numbers.critical, numbers.price),
+    };
+    Ok(Outcome {
+        report,
+        stocks,
+        price: numbers.price,
+        floors: List::of(choice.floors),
+        upper: numbers.upper,
+    })
+}
