@@ -1,23 +1,21 @@
 #!/bin/bash
 # Times `eval` of a large case beside a peer that makes as many tables, in turn on one processor.
-#   bench/eval.sh PEER.rs [RUNS [COUNT]]
-# PEER.rs: a plain Rust program. With a word COUNT it makes COUNT tables of each of five cases and prints a line for each in
-# this order, with 'u128 N ns/table' in it: of the means 0.5, 4.7, 20, 20 and 200. RUNS: how many times each is run, 5 if left
-# out; the best time counts.
+#   bench/eval.sh [RUNS [COUNT]]
+# The peer is peers/literal.rs, which makes COUNT tables (1000 if left out) of each case. RUNS: how many times each is run, 5 if
+# left out; the best time counts.
 #
 # large_case.py writes the case, of 32,000 pipelines. The peer's cost is that of its cheapest table up to the mean 20, for each
 # pipeline, though 3% of them have larger means, whose tables cost it more. Our time is the wall time of the whole program:
 # four files read, all pipelines, the report written. Memory is the peak of the whole process.
 set -eu
 cd "$(dirname "$0")/.."
-peer_source=${1:?words: PEER.rs [RUNS [COUNT]]}
-runs=${2:-5}
-count=${3:-5000}
+runs=${1:-5}
+count=${2:-1000}
 pipelines=32000
 
 work=$(mktemp -d)
 trap 'rm -rf "$work"' EXIT
-rustc -O -C target-cpu=native "$peer_source" -o "$work/peer"
+rustc --edition 2024 -O -C target-cpu=native bench/peers/literal.rs -o "$work/peer"
 python3 bench/large_case.py "$work"
 ./spares single 1 1 > /dev/null
 ours=(crates/spares/out/spares eval)
@@ -29,7 +27,7 @@ command -v taskset > /dev/null && on_one=(taskset -c "$(($(nproc) - 1))")
 
 microseconds() { printf '%s' "${EPOCHREALTIME//[.,]/}"; }
 for _ in $(seq "$runs"); do
-    "${on_one[@]}" "$work/peer" "$count" | sed 's/.*u128 \([0-9]*\) ns.*/\1/' | head -n 4 >> "$work/peer.all"
+    "${on_one[@]}" "$work/peer" "$count" | sed 's/.*nanoseconds //' | head -n 4 >> "$work/peer.all"
     start=$(microseconds)
     "${on_one[@]}" "${ours[@]}" > "$work/report"
     echo $(($(microseconds) - start)) >> "$work/ours.all"

@@ -1,34 +1,41 @@
 #!/bin/bash
-# Times one table beside a peer, both built now and run in turn on one processor.
-#   bench/tables.sh PEER.rs [RUNS [COUNT]]
-# PEER.rs: a plain Rust program. With a word COUNT it makes COUNT tables of each case below, and prints a line for each
-# case in this order with 'u128 N ns/table' in it. RUNS: how many times each is run, 5 if left out; the best time counts.
+# Times one table beside two peers, all built now and run in turn on one processor.
+#   bench/tables.sh [RUNS [COUNT]]
+# The peers are plain Rust: peers/literal.rs follows the definition of a table operation by operation in 128 bits, and
+# peers/fast.rs makes the same tables with few divisions. RUNS: how many times each is run, 9 if left out; the best time
+# counts. COUNT: how many tables of each case a run makes, 1000 if left out. The checksums of all three must agree.
 set -eu
 cd "$(dirname "$0")/.."
-peer_source=${1:?words: PEER.rs [RUNS [COUNT]]}
-runs=${2:-5}
-count=${3:-5000}
+runs=${1:-9}
+count=${2:-1000}
 cases=("5000 5000" "46594 60000" "200000 200000" "200000 800000" "2000000 2000000")
 
 work=$(mktemp -d)
 trap 'rm -rf "$work"' EXIT
-rustc -O -C target-cpu=native "$peer_source" -o "$work/peer"
+for peer in literal fast; do
+    rustc --edition 2024 -O -C target-cpu=native "bench/peers/$peer.rs" -o "$work/$peer"
+done
 (cd crates/table_bench && rt run) > /dev/null 2>&1
 ours=crates/table_bench/out/table_bench
 on_one=()
 command -v taskset > /dev/null && on_one=(taskset -c "$(($(nproc) - 1))")
 
 for _ in $(seq "$runs"); do
-    "${on_one[@]}" "$work/peer" "$count" | sed 's/.*u128 \([0-9]*\) ns.*/\1/' >> "$work/peer.all"
     for case in "${cases[@]}"; do
         # shellcheck disable=SC2086
-        "${on_one[@]}" "$ours" "$count" $case timed | sed 's/.*nanoseconds //'
+        "${on_one[@]}" "$ours" "$count" $case timed
     done >> "$work/ours.all"
+    for peer in literal fast; do
+        "${on_one[@]}" "$work/$peer" "$count" >> "$work/$peer.all"
+    done
+done
+for peer in literal fast; do
+    cmp <(sed 's/ nanoseconds.*//' "$work/ours.all") <(sed 's/ nanoseconds.*//' "$work/$peer.all")
 done
 
-echo "mean variance: ours, peer (nanoseconds a table, best of $runs), ratio"
-for i in "${!cases[@]}"; do
-    best() { awk -v n="${#cases[@]}" -v i="$i" '(NR - 1) % n == i && (!b || $1 < b) { b = $1 } END { print b }' "$1"; }
-    awk -v c="${cases[$i]}" -v a="$(best "$work/ours.all")" -v b="$(best "$work/peer.all")" \
-        'BEGIN { split(c, m, " "); printf "%g %g: %d, %d, %.2f\n", m[1] / 10000, m[2] / 10000, a, b, a / b }'
-done
+echo "mean variance: ours, literal, fast (nanoseconds a table, best of $runs), ratio to the literal peer, to the fast one"
+awk '{ key = $2 / 10000 " " $4 / 10000 } !(key in seen) { seen[key] = ++n; name[n] = key }
+    { file = FILENAME; sub(".*/", "", file); sub("[.]all", "", file) }
+    !((file, key) in best) || $8 < best[file, key] { best[file, key] = $8 }
+    END { for (i = 1; i <= n; i++) { k = name[i]; a = best["ours", k]; b = best["literal", k]; c = best["fast", k]
+        printf "%s: %d, %d, %d, %.2f, %.2f\n", k, a, b, c, a / b, a / c } }' "$work/ours.all" "$work/literal.all" "$work/fast.all"
