@@ -15,3 +15,5 @@ pub mod Vertices
 pub mod Local
 pub mod Single
 pub mod Products
+pub mod Distinct
+pub mod Tabled

@@ -196,7 +196,7 @@ at_block vs a (suc m) (suc q) r h l =
     ∙ at_block vs (a + 1) m q r (omega (arith, h)) l
     ∙ ap (λ k. k ∷ get_or vs r []) next
 
-block_length : (vs : List (List ℕ)) (a m : ℕ) → length (flat_map (λ x. map (λ v. x ∷ v) vs) (range_with_len a m)) ≡ m * length vs
+pub block_length : (vs : List (List ℕ)) (a m : ℕ) → length (flat_map (λ x. map (λ v. x ∷ v) vs) (range_with_len a m)) ≡ m * length vs
 block_length vs a zero = omega arith
 block_length vs a (suc m) =
     omega (arith, length-append (map (λ v. a ∷ v) vs) (flat_map (λ x. map (λ v. x ∷ v) vs) (range_with_len (a + 1) m)), mapped_long a vs, block_length vs (a + 1) m)

@@ -7,3 +7,4 @@ pub mod Boxes
 pub mod Inputs
 pub mod Turned
 pub mod Local
+pub mod Tabled

@@ -1,26 +1,25 @@
 //! A family with the bounds of its vectors.
 
-ghost use Rattle.std.specs.Prelude.{◌≡◌, ◌+◌, ◌*◌, ◌^◌, ◌<◌, ◌≤◌, ◌==◌, IfOk, IfSome, length, map, flat_map, take, drop, get_or, [], ◌++◌, position};
-ghost use Rattle.std.specs.List.{range_with_len};
+ghost use Rattle.std.specs.Prelude.{◌≡◌, ◌+◌, ◌*◌, ◌^◌, ◌<◌, ◌≤◌, IfOk, length, map, take, drop, get_or, []};
+ghost use Rattle.fixed_interval.specs.Ends.{IsWithinLimit};
 ghost use Rattle.fleet_model.specs.Laws.{IsBase};
-ghost use Rattle.family_curve.specs.Vectors.{stock_list, vectors};
-ghost use Rattle.family_curve.specs.Separation.{depot_and_base, base_stocks};
 ghost use Rattle.fleet_model.specs.Fleet.{family};
 ghost use Rattle.fleet_model.specs.Rows.{systems, per_system, weight};
 ghost use Rattle.demand_rates.specs.Rates.{AreRatesOf};
-ghost use Rattle.family_eval.specs.Profile.{item_of};
 ghost use Rattle.family_eval.specs.Inputs.{IsLine};
 ghost use Rattle.family_curve.specs.Points.{AreOrdered, cost_above};
 ghost use Rattle.family_curve.specs.Boxes.{IsBox};
-ghost use Rattle.family_curve.specs.Inputs.{IsFamilyBox, IsAt, low_at, high_at, held_at, stock_of};
+ghost use Rattle.family_curve.specs.Inputs.{AreShopsAt, IsFamilyBox, IsAt, low_at, high_at, held_at, line_high, line_low, shop_vectors};
+ghost use Rattle.family_curve.specs.Tabled.{numbers};
 
 use crate::bounds::Bounds;
 use crate::vectors::{count, vector_at};
 use demand_rates::kinds::Rates;
-use family_eval::{evaluate, members};
+use family_eval::members;
+use family_tables::Evaluator;
 use fixed_interval::Iv;
 use hull::Score;
-use spares_input::{Case, PartId, SiteId, Stocks};
+use spares_input::{Case, PartId, SiteId};
 use spares_io::NoMemory;
 use std::alloc::Global;
 use std::marker::Model;
@@ -58,78 +57,12 @@ pub(crate) fn part_of(vector: &[u8], site: SiteId, size: usize) -> &[u8]
     &vector[from..from + size]
 }
 
-/// The place of a part among the members of a family.
-fn place_of(members: &[PartId], part: PartId) -> Option<usize>
-    ensures { result ≡ position (λ q. q.0 == part.0) members.now }
+/// What stands for the shop units in the stocks of a site.
+pub(crate) fn shops_of(stocks: &[u8]) -> &[u8]
+    requires { 0 < length stocks.now }
+    ensures { result.now ≡ drop 1 stocks.now }
 {
-    members.iter().position(|q| q.0 == part.0)
-}
-
-/// The stock at site k of the member at a place, or none, where there are these stocks at the depot and at a base.
-fn own_stock(depot: &[u8], site: SiteId, base: &[u8], place: Option<usize>, k: u8) -> u8
-    requires depot { IfSome place (λ i. i < length depot.now) }
-    requires base { IfSome place (λ i. i < length base.now) }
-    ensures { result ≡ stock_of (depot_and_base depot.now site.0 base.now) place k }
-{
-    match place {
-        Some(i) => {
-            if k == 0 {
-                depot[i]
-            } else if k == site.0 {
-                base[i]
-            } else {
-                0
-            }
-        }
-        None => 0,
-    }
-}
-
-/// Puts the stocks of a part behind others, site by site: those of the member at this place, or none.
-fn put_part(
-    list: &mut Vec<u8>,
-    place: Option<usize>,
-    sites: u8,
-    depot: &[u8],
-    site: SiteId,
-    base: &[u8],
-) -> Result<(), NoMemory>
-    requires depot { IfSome place (λ i. i < length depot.now) }
-    requires base { IfSome place (λ i. i < length base.now) }
-    ensures { IfOk result (λ _. list.new.items ≡ list.old.items ++ map (stock_of (depot_and_base depot.now site.0 base.now) place) (range_with_len 0 sites)) }
-{
-    for k in 0..sites {
-        list.push(own_stock(depot, site, base, place, k))?;
-    }
-    Ok(())
-}
-
-/// The stocks of all parts, by part and then by site, where the members of a family have these at the depot and at a base.
-fn stocks_by_pair(
-    alloc: Global,
-    members: &[PartId],
-    parts: u16,
-    sites: u8,
-    depot: &[u8],
-    site: SiteId,
-    base: &[u8],
-) -> Result<Vec<u8>, NoMemory>
-    requires depot { length depot.now ≡ length members.now }
-    requires base { length base.now ≡ length members.now }
-    ensures { IfOk result (λ v. v.items ≡ flat_map (λ p. map (stock_of (depot_and_base depot.now site.0 base.now) (position (λ q. q.0 == p) members.now)) (range_with_len 0 sites)) (range_with_len 0 parts)) }
-{
-    let mut list = Vec::new(alloc);
-    for p in 0..parts {
-        put_part(
-            &mut list,
-            place_of(members, PartId(p)),
-            sites,
-            depot,
-            site,
-            base,
-        )?;
-    }
-    Ok(list)
+    &stocks[1..]
 }
 
 impl<'a> Family<'a> {
@@ -194,29 +127,64 @@ impl<'a> Family<'a> {
         part_of(self.bounds.high.as_slice(), site, self.members.len())
     }
 
-    /// How many vectors of stocks a site can have.
-    pub(crate) fn count(&self, site: SiteId) -> u64
+    /// The least stock of the line unit at a site.
+    pub(crate) fn line_low(&self, site: SiteId) -> u8
         requires { site.0 < length self.now.case.sites }
-        ensures count { result ≡ length (vectors (low_at self.now site.0) (high_at self.now site.0)) }
-        ensures some { 0 < result }
+        ensures { result ≡ line_low self.now site.0 }
     {
-        count(self.low(site), self.high(site))
+        let _size = self.size();
+        self.low(site)[0]
     }
 
-    /// The vector of a site of this number, in the order of a dictionary.
-    pub(crate) fn vector(
+    /// The most stock of the line unit at a site.
+    pub(crate) fn line_high(&self, site: SiteId) -> u8
+        requires { site.0 < length self.now.case.sites }
+        ensures high { result ≡ line_high self.now site.0 }
+        ensures order { line_low self.now site.0 ≤ result }
+        ensures most { result ≤ 63 }
+    {
+        let _size = self.size();
+        self.high(site)[0]
+    }
+
+    /// How many vectors of stocks the shop units can have at a site.
+    pub(crate) fn shop_count(&self, site: SiteId) -> u64
+        requires { site.0 < length self.now.case.sites }
+        ensures count { result ≡ length (shop_vectors self.now site.0) }
+        ensures some { 0 < result }
+    {
+        let _size = self.size();
+        let low = shops_of(self.low(site));
+        let high = shops_of(self.high(site));
+        count(low, high)
+    }
+
+    /// The vector of the shop units at a site of this number, in the order of a dictionary.
+    pub(crate) fn shop_vector(
         &self,
         alloc: Global,
         site: SiteId,
         number: u64,
     ) -> Result<Vec<u8>, NoMemory>
         requires site { site.0 < length self.now.case.sites }
-        requires within { number < length (vectors (low_at self.now site.0) (high_at self.now site.0)) }
-        ensures vector { IfOk result (λ v. v.items ≡ get_or (vectors (low_at self.now site.0) (high_at self.now site.0)) number []) }
-        ensures within { IfOk result (λ v. IsAt self.now site.0 v.items) }
+        requires within { number < length (shop_vectors self.now site.0) }
+        ensures vector { IfOk result (λ v. v.items ≡ get_or (shop_vectors self.now site.0) number []) }
+        ensures within { IfOk result (λ v. AreShopsAt self.now site.0 v.items) }
     {
-        let vector = vector_at(alloc, self.low(site), self.high(site), number)?;
+        let _size = self.size();
+        let low = shops_of(self.low(site));
+        let high = shops_of(self.high(site));
+        let vector = vector_at(alloc, low, high, number)?;
         Ok(vector)
+    }
+
+    /// The evaluator of the family, which makes its tables.
+    pub(crate) fn evaluator(&self, alloc: Global) -> Result<Evaluator<48>, NoMemory>
+        ensures { IfOk result (λ e. e.numbers ≡ numbers self.now) }
+    {
+        let _sites = self.case.site_count();
+        let evaluator = Evaluator::new(alloc, self.case, self.rates, self.line)?;
+        Ok(evaluator)
     }
 
     /// What stocks at a site cost, as far as they are above those held.
@@ -236,57 +204,10 @@ impl<'a> Family<'a> {
         cost
     }
 
-    /// The stocks of the case that has these at the depot and at a base, and none elsewhere.
-    fn stocks(
-        &self,
-        alloc: Global,
-        depot: &[u8],
-        site: SiteId,
-        base: &[u8],
-    ) -> Result<Stocks, NoMemory>
-        requires depot { IsAt self.now 0 depot.now }
-        requires base { IsAt self.now site.0 base.now }
-        requires site { IsBase self.now.case site.0 }
-        ensures { IfOk result (λ s. s ≡ stock_list self.now.case (base_stocks self.now.case self.now.line depot.now site.0 base.now)) }
-    {
-        let sites = self.case.site_count();
-        let parts = self.case.part_count();
-        let list = stocks_by_pair(
-            alloc,
-            self.members.as_slice(),
-            parts,
-            sites,
-            depot,
-            site,
-            base,
-        )?;
-        Ok(Stocks::of(list, sites))
-    }
-
-    /// The backorders of the line unit at a base, where the depot and that base have these stocks.
-    pub(crate) fn backorders(
-        &self,
-        alloc: Global,
-        depot: &[u8],
-        site: SiteId,
-        base: &[u8],
-    ) -> Result<Iv<48>, NoMemory>
-        requires depot { IsAt self.now 0 depot.now }
-        requires base { IsAt self.now site.0 base.now }
-        requires site { IsBase self.now.case site.0 }
-        ensures ends { IfOk result (λ x. x ≡ (item_of 48 self.now.case (base_stocks self.now.case self.now.line depot.now site.0 base.now) self.now.line site.0).backorders) }
-        ensures small { IfOk result (λ x. x.hi ≤ 2 ^ 56) }
-    {
-        let _sites = self.case.site_count();
-        let stocks = self.stocks(alloc, depot, site, base)?;
-        let family = evaluate::<48>(alloc, self.case, self.rates, self.line, &stocks)?;
-        Ok(family.items.as_slice()[usize::from(site.0)].backorders)
-    }
-
     /// What backorders at a base, of at most 256, score.
     pub(crate) fn score<S: Score>(&self, score: &S, site: SiteId, backorders: Iv<48>) -> Iv<48>
         requires site { IsBase self.now.case site.0 }
-        requires small { backorders.hi ≤ 2 ^ 56 }
+        requires small { IsWithinLimit 48 backorders }
         ensures ends { result ≡ S.ends (systems self.now.case site.0) (per_system self.now.case self.now.line) (weight self.now.case self.now.line) backorders }
         ensures room { result.hi < 2 ^ 70 }
     {

@@ -29,6 +29,7 @@ use std::alloc::Global;
 pub mod bounds;
 mod counts;
 mod curves;
+mod depot;
 mod family;
 mod laws;
 mod places;

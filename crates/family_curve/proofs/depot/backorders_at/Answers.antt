@@ -1,0 +1,99 @@
+use Rattle.std.proofs.Common.{◌≡◌, ℕ, ◌-◌, ◌+◌, ◌<◌, ◌≤◌, ◌∷◌, List, length, get_or, drop, sym, ap, ◌∙◌, subst, arith, lit<}
+use Rattle.std.specs.List.{All}
+use Rattle.moment_table.specs.declared.kinds.Row.{Row}
+use Rattle.family_tables.specs.Numbers.{AreBaseBackorders, FamilyNumbers, depot_line_moments, rows_of}
+use Rattle.family_curve.specs.Inputs.{line_high}
+use Rattle.family_curve.specs.Tabled.{AreShopStocks, base_shops, numbers}
+use Rattle.family_curve.proofs.Bounded.{stock_small}
+use Rattle.family_curve.proofs.Points.{box_begins, joined_at}
+use Rattle.family_curve.specs.Inputs.{low_at, high_at}
+use Rattle.family_curve.proofs.Bounded.{at_long}
+use Rattle.family_curve.proofs.Tabled.{line_listed, read_base, rest_between, shop_stocks, tabled, tables_long}
+use Rattle.family_curve.proofs.depot.backorders_at.Goals as goal
+
+pub index-base-requires : goal.index-base-requires
+index-base-requires c =
+    let n = c.args.evaluator.now.numbers in
+    omega (
+      arith,
+      c.from.ensures,
+      c.args.tables.now.bases.ok.0,
+      tables_long n (drop 1 c.args.depot.now) c.args.tables.now c.requires.tables,
+      ap (λ (n : FamilyNumbers 48). n.sites) c.requires.evaluator,
+      c.requires.site.0,
+      c.requires.site.1,
+    )
+
+pub bounds-depot-0 : goal.bounds-depot-0
+bounds-depot-0 c =
+    let valid = c.size-size.ensures.valid in
+    let some : 0 < length c.args.depot.now = omega (arith, at_long c.args.family.now valid 0 c.args.depot.now (omega (arith, c.requires.site.1)) c.requires.depot) in
+    some
+
+pub shops_of-requires : goal.shops_of-requires
+shops_of-requires c =
+    let valid = c.size-size.ensures.valid in
+    omega (arith, at_long c.args.family.now valid 0 c.args.depot.now (omega (arith, c.requires.site.1)) c.requires.depot)
+
+pub backorders-requires : goal.backorders-requires
+backorders-requires c =
+    let x = c.args.family.now in
+    let n = c.args.evaluator.now.numbers in
+    let j = c.args.site.0 in
+    let valid = c.size-size.ensures.valid in
+    let some : 0 < length x.case.sites = omega (arith, c.requires.site.1) in
+    let depot = shop_stocks x valid 0 (drop 1 c.args.depot.now) n c.requires.evaluator some (rest_between (low_at x 0) (high_at x 0) c.args.depot.now c.requires.depot) in
+    let base = shop_stocks x valid j c.args.shops.now n c.requires.evaluator c.requires.site.1 c.requires.shops in
+    let inside : j < n.sites = subst (λ (n : FamilyNumbers 48). j < n.sites) (sym c.requires.evaluator) c.requires.site.1 in
+    let place : 1 + (c.from.result - 1) ≡ j = omega (arith, c.from.ensures, c.requires.site.0) in
+    let line : c.args.tables.now.line ≡ rows_of 48 (depot_line_moments 48 n c.shops_of.result.now) =
+    c.requires.tables.line ∙ ap (λ d. rows_of 48 (depot_line_moments 48 n d)) (sym c.shops_of.ensures) in
+    let shops : c.as_slice.result.now ≡ base_shops n c.shops_of.result.now j =
+    c.as_slice.ensures
+    ∙ read_base n (drop 1 c.args.depot.now) c.args.tables.now (c.from.result - 1) j c.index-base.result.now c.requires.tables place
+    (omega (arith, inside, place, c.requires.site.0)) c.index-base.ensures
+    ∙ ap (λ d. base_shops n d j) (sym c.shops_of.ensures) in (
+      lit< tt,
+      (
+        lit< tt,
+        (
+          lit< tt,
+          (
+            line,
+            (
+              stock_small x valid 0 0 c.args.depot.now some c.requires.depot (omega arith),
+              (
+                ap length c.shops_of.ensures ∙ depot.count,
+                (
+                  subst (All (λ s. s ≤ 63)) (sym c.shops_of.ensures) depot.small,
+                  (inside, (shops, (base.count, base.small))),
+                ),
+              ),
+            ),
+          ),
+        ),
+      ),
+    )
+
+pub returns-clause-count : goal.returns-clause-count
+returns-clause-count c =
+    let x = c.args.family.now in
+    let j = c.args.site.0 in
+    let depot = c.args.depot.now in
+    let valid = c.size-size.ensures.valid in
+    let order = (box_begins x valid j c.requires.site.1).0 in
+    let items = c.in_ok-backorders.backorders.items in
+    let is = subst (λ (n : FamilyNumbers 48). AreBaseBackorders 48 n j (get_or depot 0 0) (drop 1 depot) c.args.shops.now items) c.requires.evaluator
+    (subst (λ d. AreBaseBackorders 48 c.args.evaluator.now.numbers j (get_or depot 0 0) d c.args.shops.now items) c.shops_of.ensures c.in_ok-backorders.ensures.ends) in
+    line_listed x valid j depot (line_high x j ∷ c.args.shops.now) items c.requires.site
+    (joined_at x valid j (line_high x j) c.args.shops.now c.requires.site.1 c.requires.shops order (omega arith)) is
+
+pub returns-clause-ends : goal.returns-clause-ends
+returns-clause-ends c = λ s at.
+    (let x = c.args.family.now in
+    let j = c.args.site.0 in
+    let depot = c.args.depot.now in
+    let items = c.in_ok-backorders.backorders.items in
+    let is = subst (λ (n : FamilyNumbers 48). AreBaseBackorders 48 n j (get_or depot 0 0) (drop 1 depot) c.args.shops.now items) c.requires.evaluator
+    (subst (λ d. AreBaseBackorders 48 c.args.evaluator.now.numbers j (get_or depot 0 0) d c.args.shops.now items) c.shops_of.ensures c.in_ok-backorders.ensures.ends) in
+    tabled x c.size-size.ensures.valid j s depot c.args.shops.now items c.requires.site c.requires.depot at is)

@@ -1,0 +1,29 @@
+-- The tables from which the points of a family are made.
+-- No promise rests on this file: it speaks of the code's own steps.
+use Rattle.std.specs.Prelude.{◌≡◌, ℕ, ◌-◌, ◌≤◌, List, length, map}
+use Rattle.std.specs.List.{All, range_with_len}
+use Rattle.moment_table.specs.declared.kinds.Row.{Row}
+use Rattle.family_tables.specs.Numbers.{FamilyNumbers, base_shop_moments, depot_line_moments, depot_shop_moments, nth_stock, numbers_of, rows_of, shop_numbers}
+use Rattle.family_curve.specs.declared.depot.DepotTables.{DepotTables}
+use Rattle.family_curve.specs.Inputs.{FamilyBox}
+
+abbrev pub numbers : FamilyBox → FamilyNumbers 48
+numbers x = numbers_of 48 x.case x.line
+
+-- a stock for each shop unit
+pub record AreShopStocks (n : FamilyNumbers 48) (v : List ℕ) : Type 0 where
+  pub count : length v ≡ length n.parts - 1
+  pub small : All (λ s. s ≤ 63) v
+
+-- the tables of the shop units at the depot
+abbrev pub depot_shops : FamilyNumbers 48 → List (List (Row 48))
+depot_shops n = map (λ i. rows_of 48 (depot_shop_moments 48 n i)) (shop_numbers n)
+
+-- those at base j, where the shop units have the stocks d at the depot
+abbrev pub base_shops : FamilyNumbers 48 → List ℕ → ℕ → List (List (Row 48))
+base_shops n d j = map (λ i. rows_of 48 (base_shop_moments 48 n i j (nth_stock d i))) (shop_numbers n)
+
+-- the tables that serve all vectors with these stocks of the shop units at the depot
+pub record AreTables (n : FamilyNumbers 48) (d : List ℕ) (t : DepotTables) : Type 0 where
+  pub line : t.line ≡ rows_of 48 (depot_line_moments 48 n d)
+  pub bases : t.bases.items ≡ map (base_shops n d) (range_with_len 1 (n.sites - 1))
