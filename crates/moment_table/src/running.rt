@@ -91,6 +91,7 @@ impl<const F: u32> Running<F> {
 }
 
 /// `weight / sum`, where `chance` is `before / sum`. The weights far out are mostly the same, and need no division then.
+#[inline(always)]
 fn chance_of<const F: u32>(
     weight: Iv<F>,
     sum: Iv<F>,

@@ -6,9 +6,9 @@ use Rattle.std.proofs.lemmas.Bool.{and_right, lt-leb}
 use Rattle.std.proofs.lemmas.List.Sums.{fold-append}
 use Rattle.fixed_interval.specs.Ends.{Ends, ends_add, ends_exact, ends_mul}
 use Rattle.series_bounds.specs.Profile.{ratio_ends, back_ends, pivot_at, weight_ends, has_remainder, ratio_bound, remainder_from, remainder_at, may_end, last_index, is_wide, ends_sum, ends_raised, listed, weights_of}
-use Rattle.series_bounds.specs.Walk.{ToPivot, ToEnd, EndsAt, GoesOn, IsSum, SumsTo}
+use Rattle.series_bounds.specs.Walk.{ToPivot, ToEnd, EndsAt, GoesOn, SumsTo}
 use Rattle.series_bounds.specs.declared.kinds.Weights.TheVariants.{Known}
-use Rattle.series_bounds.specs.Answer.{at_place}
+use Rattle.series_bounds.specs.Answer.{IsSum, at_place}
 use Rattle.series_bounds.proofs.Enclosure.{profile_sized, known_answer, listed_at}
 use Rattle.series_bounds.proofs.Bounds.{exists_is, missing_is, rest_is}
 use Rattle.series_bounds.proofs.Walks.{Ascent, ascent_start, ascent_next, ascent_wide, ascent_unended, ascent_done, next_weight, may_not, listed_next, wide_at, last_start, end_from_63, weight_at_pivot, weight_down, weight_up, pivot_below_last}

@@ -1,7 +1,7 @@
--- What the walks down and up from the pivot find.
+-- What the walks down and up from the pivot find. No promise of the crate rests on these words.
 use Rattle.std.specs.Prelude.{◌≡◌, ℕ, suc, true, false, ◌+◌, ◌-◌, ◌*◌, ◌^◌, ◌<◌, ◌≤◌, List}
 use Rattle.fixed_interval.specs.Ends.{Ends}
-use Rattle.series_bounds.specs.Profile.{remainder_at, weight_ends, least_end, last_index, pivot_at, listed, is_wide, may_end, has_remainder, ends_sum, ends_raised}
+use Rattle.series_bounds.specs.Profile.{remainder_at, weight_ends, least_end, last_index, pivot_at, listed, is_wide, may_end, has_remainder, ends_sum}
 
 -- the weights from 0 to the pivot, none of which passes 8
 pub record ToPivot (f : ℕ) (m d : Ends) (list : List Ends) : Type 0 where
@@ -55,8 +55,3 @@ pub record EndsAt (f : ℕ) (m d : Ends) (x rest : ℕ) : Type 0 where
   pub ends : has_remainder f m d x ≡ true
   pub rest_is : rest ≡ remainder_at f m d x
   pub small : x < 1024 → rest ≤ 256
-
--- the sum of all weights, with what the ones past the last come to at most
-pub record IsSum (f : ℕ) (m d sum : Ends) : Type 0 where
-  pub narrow : is_wide f m d ≡ false
-  pub sum_is : sum ≡ ends_raised (ends_sum (listed (weight_ends f m d) (suc (last_index f m d)))) (remainder_at f m d (last_index f m d))

@@ -6,7 +6,8 @@
 ghost use Rattle.std.specs.Prelude.{◌≡◌, ◌+◌, ◌-◌, ◌*◌, ◌^◌, ◌<◌, ◌≤◌, true, IfSome, IfNone};
 ghost use Rattle.fixed_interval.specs.Ends.{IsWithinLimit};
 ghost use Rattle.series_bounds.specs.Profile.{ratio_ends, back_ends, far_ratio, pivot_at, weight_ends, is_wide};
-ghost use Rattle.series_bounds.specs.Walk.{EndsAt, GoesOn, IsSum, SumsTo};
+ghost use Rattle.series_bounds.specs.Walk.{EndsAt, GoesOn, SumsTo};
+ghost use Rattle.series_bounds.specs.Answer.{IsSum};
 
 use crate::{FIRST_END, LAST_END, most_weight, pivot_of, rest_at, times, unit};
 use fixed_interval::Iv;
