@@ -17,3 +17,4 @@ pub mod Single
 pub mod Products
 pub mod Distinct
 pub mod Tabled
+pub mod Stands

@@ -39,7 +39,7 @@ mod vectors;
 
 pub use bounds::Bounds;
 pub use counts::{choices, tables, tables_within, work};
-pub use laws::vectors_are_counted;
+pub use laws::{vectors_are_counted, vectors_stand};
 pub use places::{limits_of, place_parts, vector_of};
 
 /// The points of a family are those that its bases give together, with each choice of stocks at the depot.
