@@ -1,0 +1,8 @@
+-- What vectors cost above what is held, place by place.
+use Rattle.std.specs.Prelude.{ℕ, List, map}
+use Rattle.spares_input.specs.Cases.{CaseRows}
+use Rattle.family_curve.specs.Vectors.{Pair}
+use Rattle.family_curve.specs.Points.{cost_above}
+
+abbrev pub added_at : CaseRows → List Pair → List ℕ → List ℕ → ℕ
+added_at c xs held v = cost_above c (map (λ (x : Pair). x.part) xs) held v

@@ -1,0 +1,121 @@
+//! The check of a certificate.
+
+ghost use Rattle.std.specs.Prelude.{◌≡◌, IfOk};
+ghost use Rattle.std.specs.Option.{option_map};
+ghost use Rattle.spares_io.specs.Answers.{Gives};
+ghost use Rattle.spares_input.specs.Building.{StopsAt};
+ghost use Rattle.spares_input.specs.Stocks.{IsFor, IsWithinLimits};
+ghost use Rattle.demand_rates.specs.Limits.{rate_fault_of};
+ghost use Rattle.demand_rates.specs.Rates.{AreRatesOf};
+ghost use Rattle.price_certificate.specs.Certificates.{IsWellFormed};
+ghost use Rattle.gap_checker.specs.declared.refusal.Reject.TheVariants as reject;
+ghost use Rattle.gap_checker.specs.Refusals.{judged};
+ghost use Rattle.gap_checker.specs.Soundness.{nothing_held, plain_score};
+ghost use Rattle.price_certificate.specs.declared.certificate.Objective.TheVariants as objective;
+
+use crate::bound::largest_bound;
+use crate::covers::work_of;
+use crate::family::line_units;
+use crate::floors::first_low;
+use crate::refusal::{Accepted, Reject};
+use crate::stocks::{below_held, cost_above, over_limit};
+use crate::upper::upper_of;
+use demand_rates::kinds::Rates;
+use demand_rates::rates;
+use hull::{Plain, Score};
+use price_certificate::Certificate;
+use spares_input::{Case, Stocks};
+use spares_io::{NoMemory, Stop};
+use std::alloc::Global;
+
+/// The rates of a case, or the refusal of the first pipeline that the model can't take.
+fn rates_of(alloc: Global, case: &Case) -> Result<Rates, Stop<Reject>>
+    ensures fault { StopsAt (option_map reject.Rate (rate_fault_of case.now)) result }
+    ensures model { IfOk result (AreRatesOf case.now) }
+{
+    match rates(alloc, case) {
+        Ok(rates) => Ok(rates),
+        Err(Stop::NoMemory) => Err(Stop::NoMemory),
+        Err(Stop::Fault(fault)) => Err(Stop::Fault(Reject::Rate(fault))),
+    }
+}
+
+/// Checks a certificate over the stocks that are held, by a score: what it claims, or the first rule that it breaks, in the
+/// order of [`Reject`].
+///
+/// The certificate is well formed, and what is held is a list for its case, within the limits. Costs count what the stocks add
+/// to it. Nothing is computed before the work is known to be at most 1,000,000 tables. A smaller floor, a larger upper end or a
+/// smaller bound than needed is accepted.
+pub fn check_within<S: Score>(
+    alloc: Global,
+    cert: &Certificate,
+    held: &Stocks,
+    score: &S,
+) -> Result<Accepted, Stop<Reject>>
+    requires formed { IsWellFormed cert.now }
+    requires held { IsFor cert.now.case held.now }
+    requires limits { IsWithinLimits cert.now.case held.now }
+    ensures { Gives (judged S.ends cert.now held.now) result }
+{
+    let case = &cert.case;
+    let _valid = case.site_count();
+    let rates = rates_of(alloc, case)?;
+    let units = line_units(alloc, case)?;
+    let lines = units.as_slice();
+    let work = work_of(alloc, cert, held, lines)?;
+    if 1_000_000 < work {
+        return Err(Stop::Fault(Reject::WorkTooLarge(work)));
+    }
+    if let Some(reject) = over_limit(case, &cert.stocks) {
+        return Err(Stop::Fault(reject));
+    }
+    if let Some(reject) = below_held(case, held, &cert.stocks) {
+        return Err(Stop::Fault(reject));
+    }
+    let cost = cost_above(case, held, &cert.stocks);
+    if cert.budget < cost {
+        return Err(Stop::Fault(Reject::OverBudget { cost }));
+    }
+    if let Some(reject) = first_low(alloc, cert, held, &rates, lines, score)? {
+        return Err(Stop::Fault(reject));
+    }
+    let upper = upper_of(alloc, cert, held, &rates, lines, score)?;
+    if cert.upper < upper {
+        return Err(Stop::Fault(Reject::UpperTooLow {
+            claimed: cert.upper,
+            upper,
+        }));
+    }
+    let largest = largest_bound(cert.price, cert.floors.as_slice(), cert.budget);
+    if largest < cert.bound {
+        return Err(Stop::Fault(Reject::BoundTooHigh {
+            claimed: cert.bound,
+            largest,
+        }));
+    }
+    Ok(Accepted {
+        bound: cert.bound,
+        upper: cert.upper,
+        cost,
+    })
+}
+
+/// No stock of any part at any site.
+fn nothing_held(alloc: Global, case: &Case) -> Result<Stocks, NoMemory>
+    ensures { IfOk result (λ held. held ≡ nothing_held case.now) }
+{
+    let sites = case.site_count();
+    let pairs = usize::from(case.part_count()) * usize::from(sites);
+    let list = vec![in alloc; 0; pairs]?;
+    Ok(Stocks::of(list, sites))
+}
+
+/// Checks a certificate of weighted backorders where nothing is held, as [`check_within`] does.
+pub fn check(alloc: Global, cert: &Certificate) -> Result<Accepted, Stop<Reject>>
+    requires formed { IsWellFormed cert.now }
+    requires objective { cert.now.objective ≡ objective.Backorders }
+    ensures { Gives (judged plain_score cert.now (nothing_held cert.now.case)) result }
+{
+    let held = nothing_held(alloc, &cert.case)?;
+    check_within(alloc, cert, &held, &Plain)
+}

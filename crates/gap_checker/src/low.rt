@@ -1,0 +1,64 @@
+//! The first leaf of a cover whose value is below the claimed floor.
+
+ghost use Rattle.std.specs.Prelude.{◌≡◌, ◌∷◌, [], ◌^◌, ◌<◌, ◌≤◌, true, is_some, unwrap_or, IfOk, length, map};
+ghost use Rattle.demand_rates.specs.Rates.{AreRatesOf};
+ghost use Rattle.family_eval.specs.Inputs.{IsLine};
+ghost use Rattle.gap_checker.specs.Boxes.{IsOrdered};
+ghost use Rattle.family_curve.specs.Vectors.{places};
+ghost use Rattle.gap_checker.specs.Covers.{leaves};
+ghost use Rattle.gap_checker.specs.Values.{cover_tables, value_of};
+ghost use Rattle.gap_checker.specs.Refusals.{low_leaf};
+
+use crate::reading::{Read, read_node};
+use crate::value::value_of;
+use demand_rates::kinds::Rates;
+use family_curve::Bounds;
+use hull::{Price, Score};
+use price_certificate::Node;
+use spares_input::{Case, PartId};
+use spares_io::NoMemory;
+use std::alloc::Global;
+
+/// The first leaf whose value is below the floor: its number and its value. The nodes are a tree of the box.
+pub(crate) fn low_leaf<S: Score>(
+    alloc: Global,
+    case: &Case,
+    rates: &Rates,
+    line: PartId,
+    parts: &[PartId],
+    price: Price,
+    bounds: Bounds,
+    nodes: &[Node],
+    floor: u128,
+    score: &S,
+) -> Result<Option<(u32, u128)>, NoMemory>
+    requires rates { AreRatesOf case.now rates.now }
+    requires line { IsLine case.now line.0 }
+    requires parts { map (λ p. p.0) parts.now ≡ map (λ x. x.part) (places case.now line.0) }
+    requires ordered { IsOrdered case.now line.0 bounds }
+    requires few { length nodes.now ≤ 100000 }
+    requires tree { is_some (leaves nodes.now (bounds ∷ [])) ≡ true }
+    requires work { cover_tables case.now line.0 (unwrap_or (leaves nodes.now (bounds ∷ [])) []) ≤ 1000000 }
+    requires money { 0 < price.q }
+    requires most_money { price.q ≤ 1000000000000 }
+    requires price { price.p ≤ 2 ^ 74 }
+    ensures { IfOk result (λ low. low ≡ low_leaf (value_of case.now line.0 S.ends price) floor 0 (unwrap_or (leaves nodes.now (bounds ∷ [])) [])) }
+{
+    let mut waiting = Vec::new(alloc);
+    waiting.push(bounds)?;
+    let mut number: u32 = 0;
+    for node in nodes {
+        match read_node(alloc, &mut waiting, *node)? {
+            Read::Gap => return Ok(None),
+            Read::Inner => {}
+            Read::Leaf(leaf) => {
+                let value = value_of(alloc, case, rates, line, parts, price, &leaf, score)?;
+                if value < floor {
+                    return Ok(Some((number, value)));
+                }
+                number += 1;
+            }
+        }
+    }
+    Ok(None)
+}

@@ -1,0 +1,73 @@
+//! The sum of the upper ends at the stocks.
+
+ghost use Rattle.std.specs.Prelude.{◌≡◌, ◌^◌, ◌<◌, ◌≤◌, None, IfOk, length, map};
+ghost use Rattle.spares_input.specs.First.{first};
+ghost use Rattle.spares_input.specs.Cases.{frame_rows, pair_count};
+ghost use Rattle.spares_input.specs.Stocks.{IsFor, IsWithinLimits};
+ghost use Rattle.fleet_model.specs.Rows.{line_units};
+ghost use Rattle.demand_rates.specs.Rates.{AreRatesOf};
+ghost use Rattle.family_eval.specs.Inputs.{IsLine};
+ghost use Rattle.price_certificate.specs.Certificates.{IsWellFormed};
+ghost use Rattle.gap_checker.specs.Refusals.{over_limit, below_held, chosen_point, upper_of};
+
+use demand_rates::kinds::Rates;
+use family_curve::{Bounds, curve_within, vector_of};
+use hull::Score;
+use price_certificate::Certificate;
+use spares_input::{PartId, Stocks};
+use spares_io::NoMemory;
+use std::alloc::Global;
+
+/// The upper end of a family at the stocks: that of the curve of their vector alone.
+fn family_upper<S: Score>(
+    alloc: Global,
+    cert: &Certificate,
+    held: &Stocks,
+    rates: &Rates,
+    line: PartId,
+    score: &S,
+) -> Result<u128, NoMemory>
+    requires stocks { IsFor cert.now.case cert.now.stocks }
+    requires held { IsFor cert.now.case held.now }
+    requires rates { AreRatesOf cert.now.case rates.now }
+    requires is_line { IsLine cert.now.case line.0 }
+    requires limited { first (over_limit cert.now.case cert.now.stocks) (pair_count (frame_rows cert.now.case)) ≡ None }
+    requires kept { first (below_held cert.now.case held.now cert.now.stocks) (pair_count (frame_rows cert.now.case)) ≡ None }
+    ensures upper { IfOk result (λ hi. hi ≡ (chosen_point S.ends cert.now held.now line.0).hi) }
+    ensures most { IfOk result (λ hi. hi ≤ 2 ^ 74) }
+{
+    let _valid = cert.case.site_count();
+    let bounds = Bounds {
+        held: vector_of(alloc, &cert.case, line, held)?,
+        low: vector_of(alloc, &cert.case, line, &cert.stocks)?,
+        high: vector_of(alloc, &cert.case, line, &cert.stocks)?,
+    };
+    let curve = curve_within(alloc, &cert.case, rates, line, &bounds, score)?;
+    let _shape = curve.len();
+    Ok(curve.point(0).hi)
+}
+
+/// The sum of the families' upper ends at the stocks.
+pub(crate) fn upper_of<S: Score>(
+    alloc: Global,
+    cert: &Certificate,
+    held: &Stocks,
+    rates: &Rates,
+    lines: &[PartId],
+    score: &S,
+) -> Result<u128, NoMemory>
+    requires stocks { IsFor cert.now.case cert.now.stocks }
+    requires held { IsFor cert.now.case held.now }
+    requires rates { AreRatesOf cert.now.case rates.now }
+    requires lines { map (λ p. p.0) lines.now ≡ line_units cert.now.case }
+    requires few { length lines.now ≤ 2000 }
+    requires limited { first (over_limit cert.now.case cert.now.stocks) (pair_count (frame_rows cert.now.case)) ≡ None }
+    requires kept { first (below_held cert.now.case held.now cert.now.stocks) (pair_count (frame_rows cert.now.case)) ≡ None }
+    ensures { IfOk result (λ upper. upper ≡ upper_of S.ends cert.now held.now) }
+{
+    let mut upper = 0;
+    for f in 0..lines.len() {
+        upper += family_upper(alloc, cert, held, rates, lines[f], score)?;
+    }
+    Ok(upper)
+}

@@ -1,0 +1,80 @@
+//! The value of a leaf.
+
+ghost use Rattle.std.specs.Prelude.{◌≡◌, ◌^◌, ◌<◌, ◌≤◌, IfOk, map};
+ghost use Rattle.demand_rates.specs.Rates.{AreRatesOf};
+ghost use Rattle.family_eval.specs.Inputs.{IsLine};
+ghost use Rattle.gap_checker.specs.Boxes.{IsOrdered};
+ghost use Rattle.family_curve.specs.Counts.{tables_between};
+ghost use Rattle.family_curve.specs.Vectors.{places};
+ghost use Rattle.gap_checker.specs.Covers.{box_of};
+ghost use Rattle.gap_checker.specs.Values.{least_within, leaf_tables, value_of};
+
+use crate::cost::added_cost;
+use crate::leaf::Leaf;
+use demand_rates::kinds::Rates;
+use family_curve::{Bounds, curve_within};
+use hull::{Price, Score};
+use spares_input::{Case, PartId};
+use spares_io::NoMemory;
+use std::alloc::Global;
+
+/// The least Lagrangian of the vectors of a box, at a price.
+fn least_within<S: Score>(
+    alloc: Global,
+    case: &Case,
+    rates: &Rates,
+    line: PartId,
+    price: Price,
+    bounds: &Bounds,
+    score: &S,
+) -> Result<u128, NoMemory>
+    requires rates { AreRatesOf case.now rates.now }
+    requires line { IsLine case.now line.0 }
+    requires ordered { IsOrdered case.now line.0 bounds.now }
+    requires work { tables_between case.now line.0 bounds.now.low bounds.now.high ≤ 1000000 }
+    requires money { 0 < price.q }
+    requires most_money { price.q ≤ 1000000000000 }
+    requires price { price.p ≤ 2 ^ 74 }
+    ensures { IfOk result (λ least. least ≡ least_within case.now line.0 S.ends price bounds.now) }
+{
+    let curve = curve_within(alloc, case, rates, line, bounds, score)?;
+    let _shape = curve.len();
+    let vertex = curve.point(curve.best_at(price.p, price.q));
+    Ok(u128::from(price.q) * vertex.lo + price.p * u128::from(vertex.cost))
+}
+
+/// The value of a leaf at a price: by cost alone the price of its low corner, or else the least Lagrangian of its vectors.
+pub(crate) fn value_of<S: Score>(
+    alloc: Global,
+    case: &Case,
+    rates: &Rates,
+    line: PartId,
+    parts: &[PartId],
+    price: Price,
+    leaf: &Leaf,
+    score: &S,
+) -> Result<u128, NoMemory>
+    requires rates { AreRatesOf case.now rates.now }
+    requires line { IsLine case.now line.0 }
+    requires parts { map (λ p. p.0) parts.now ≡ map (λ x. x.part) (places case.now line.0) }
+    requires ordered { IsOrdered case.now line.0 (box_of leaf.now) }
+    requires work { leaf_tables case.now line.0 leaf.now ≤ 1000000 }
+    requires money { 0 < price.q }
+    requires most_money { price.q ≤ 1000000000000 }
+    requires price { price.p ≤ 2 ^ 74 }
+    ensures { IfOk result (λ value. value ≡ value_of case.now line.0 S.ends price leaf.now) }
+{
+    match leaf {
+        Leaf::Cost(bounds) => {
+            let cost = added_cost(
+                case,
+                line,
+                parts,
+                bounds.held.as_slice(),
+                bounds.low.as_slice(),
+            );
+            Ok(price.p * u128::from(cost))
+        }
+        Leaf::Whole(bounds) => least_within(alloc, case, rates, line, price, bounds, score),
+    }
+}
