@@ -1,29 +1,24 @@
 -- The lines of held certificates are exact.
-use Rattle.std.proofs.Common.{◌≡◌, ℕ, ◌+◌, ◌/◌, ◌%◌, ◌^◌, ◌<◌, ◌≤◌, Bool, true, false, ◌&&◌, List, [], ◌∷◌, ◌++◌, length, get_or, refl, sym, ap, subst, ◌∙◌, zero, suc, arith, cond}
+use Rattle.std.proofs.Common.{◌≡◌, ℕ, ◌+◌, ◌/◌, ◌%◌, ◌<◌, ◌≤◌, Bool, true, false, ◌&&◌, List, [], ◌∷◌, ◌++◌, length, get_or, refl, sym, ap, subst, zero, suc, arith, cond}
 use Rattle.std.specs.Prelude.{◌==◌, nat_le}
 use Rattle.std.specs.List.{All}
-use Rattle.std.proofs.lemmas.Bool.{and_parts, and_from, eqb-true, eq-eqb, le-leb, leb-true}
-use Rattle.std.proofs.lemmas.Nat.{div_below, mod_below}
-use Rattle.line_text.specs.Formats.{Format, one, and_then, fits_after}
-use Rattle.line_text.specs.Files.{line}
-use Rattle.line_text.specs.Texts.{number, word_line, count_line, numbers_from}
+use Rattle.std.proofs.lemmas.Bool.{and_parts, and_from, eqb-true, eq-eqb, leb-true}
+use Rattle.line_text.specs.Formats.{Format, and_then, fits_after}
+use Rattle.line_text.specs.Texts.{word_line, count_line, numbers_from}
 use Rattle.line_text.specs.Exact.{IsExact, IsLine}
 use Rattle.line_text.proofs.Laws.{both_are_exact, as_shape_is_exact}
 use Rattle.line_text.proofs.FieldLaws.{a_field, word_line_is_exact, number_line_is_exact, count_line_is_exact, counted_is_exact}
 use Rattle.spares_input.specs.Frames.{part_at}
 use Rattle.spares_input.specs.Rows.{IsPartRow, no_part}
-use Rattle.spares_input.specs.Cases.{CaseRows, frame_rows, pair_count, IsCase}
-use Rattle.spares_input.specs.Stocks.{StockList, limit_at, stock_at, IsFor, IsWithinLimits}
+use Rattle.spares_input.specs.Cases.{CaseRows, frame_rows, pair_count}
+use Rattle.spares_input.specs.Stocks.{StockList, limit_at}
 use Rattle.spares_input.specs.declared.rows.PartRow.{PartRow}
-use Rattle.case_lines.specs.Grammar.{case_format}
 use Rattle.case_lines.proofs.Few.{few_pairs}
 use Rattle.case_reading.proofs.Framed.{are_part_rows}
 use Rattle.price_certificate.specs.declared.certificate.Certificate.{Certificate}
 use Rattle.price_certificate.specs.Grammar.{certificate_format}
-use Rattle.line_text.specs.Texts.{number_line}
 use Rattle.price_certificate.proofs.Exact.{certificate_is_exact}
 use Rattle.price_certificate.proofs.Fits.{fits_case, later_fits}
-use Rattle.on_hand.specs.declared.held.HeldCertificate.{HeldCertificate}
 use Rattle.on_hand.specs.Held.{held_line, held_lines, held, front, held_format}
 use lib.Chars.{codes}
 

@@ -1,9 +1,8 @@
 -- Text and reading of held certificates are inverse.
-use Rattle.std.proofs.Common.{◌≡◌, ◌-◌, ◌≤◌, ◌+◌, ◌*◌, ◌/◌, ◌%◌, ◌<◌, ◌^◌, ℕ, suc, Bool, true, ◌&&◌, List, [], ◌∷◌, ◌++◌, length, get_or, Option, Some, None, Result, Ok, Err, refl, sym, ap, subst, ◌∙◌, append_assoc, arith}
-use Rattle.std.specs.Prelude.{IfOk}
+use Rattle.std.proofs.Common.{◌≡◌, ◌-◌, ◌≤◌, ◌+◌, ◌*◌, ◌/◌, ◌%◌, ◌<◌, ℕ, suc, true, ◌&&◌, List, [], ◌∷◌, ◌++◌, length, get_or, Option, Some, None, Result, Ok, Err, refl, sym, ap, subst, ◌∙◌, append_assoc, arith}
 use Rattle.std.specs.List.{concat}
 use Rattle.std.proofs.lemmas.List.Folds.{concat-append}
-use Rattle.std.proofs.lemmas.Bool.{and_parts, and_from, eq-eqb, le-leb, leb-true}
+use Rattle.std.proofs.lemmas.Bool.{and_parts, and_from, eq-eqb, le-leb}
 use Rattle.std.proofs.Math.Nat.{mul-mod_left}
 use Rattle.std.specs.Prelude.{◌==◌}
 use Rattle.case_lines.proofs.Few.{few_pairs}
@@ -13,7 +12,7 @@ use Rattle.std.proofs.lemmas.Nat.{div-add-mod', div_below, mod_below}
 use Rattle.line_text.specs.Formats.{Token, fits_after}
 use Rattle.line_text.specs.Files.{lines_of, file_text, file_answer, IsFirstBad}
 use Rattle.line_text.specs.Texts.{word_line, count_line, numbers_from}
-use Rattle.line_text.specs.Exact.{IsExact, IsLine}
+use Rattle.line_text.specs.Exact.{IsLine}
 use Rattle.line_text.proofs.LineLaws.{lines_again}
 use Rattle.line_text.proofs.Files.{answer_again, answer_takes, answer_refuses}
 use Rattle.spares_io.specs.Answers.{Gives}
@@ -21,7 +20,7 @@ use Rattle.spares_io.specs.declared.stop.Stop.{Stop}
 use Rattle.spares_io.specs.declared.stop.Stop.TheVariants as stop
 use Rattle.spares_input.specs.Frames.{FrameRows, frame_of}
 use Rattle.spares_input.specs.Cases.{CaseRows, frame_rows, pair_count, IsCase}
-use Rattle.spares_input.specs.Stocks.{StockList, limit_at, stock_at, IsFor, IsWithinLimits}
+use Rattle.spares_input.specs.Stocks.{StockList, limit_at, IsFor, IsWithinLimits}
 use Rattle.spares_input.specs.declared.fault.CaseFault.{CaseFault}
 use Rattle.case_lines.proofs.Valid.{case_fits}
 use Rattle.spares_input.proofs.Standing.{own_frame}

@@ -1,13 +1,15 @@
 //! Reading a held certificate.
 
-ghost use Rattle.std.specs.Prelude.{◌≡◌, ◌*◌, ◌≤◌, ◌<◌, length, true, Ok, IfOk};
+ghost use Rattle.std.specs.Prelude.{◌≡◌, ◌*◌, ◌≤◌, ◌<◌, length, true, List, ℕ, Ok, IfOk};
 ghost use Rattle.line_text.specs.Formats.{each};
 ghost use Rattle.line_text.specs.Files.{lines_of};
 ghost use Rattle.line_text.specs.Texts.{numbers_from};
 ghost use Rattle.line_text.specs.Reading.{Reads, Gathers};
 ghost use Rattle.spares_io.specs.Answers.{Gives};
 ghost use Rattle.price_certificate.specs.Reading.{draft_of};
-ghost use Rattle.on_hand.specs.Held.{held_line, held_lines, rest, rest_of, front, held_of};
+ghost use Rattle.on_hand.specs.Held.{held_line, held_lines, rest, rest_of, front, held_of, held_text, IsWellHeld};
+ghost use Rattle.price_certificate.specs.Certificates.{IsWellFormed};
+ghost use Rattle.on_hand.specs.declared.held.HeldCertificate.{HeldCertificate};
 ghost use Rattle.price_certificate.specs.Grammar.{certificate_format};
 
 use crate::held::HeldCertificate;
@@ -87,7 +89,8 @@ fn after_front(
     requires size { length bytes.now ≤ 16777216 }
     requires front { front.read (lines_of bytes.now) ≡ Ok (draft_of found, lines.old) }
     requires fits { (certificate_format 1).fits (draft_of found) ≡ true }
-    ensures { Gives (held_of bytes.now) result }
+    ensures answer { Gives (held_of bytes.now) result }
+    ensures well_formed { IfOk result (λ h. IsWellFormed h.certificate) }
 {
     let certificate = match certificate_of(alloc, found) {
         Ok(certificate) => certificate,
@@ -112,11 +115,11 @@ fn after_front(
     }
 }
 
-/// The held certificate whose text the bytes are. `BadCase` comes where all lines up to the first `end` are in the
-/// grammar, so it stands before a bad line that follows this `end`; `BadLine` counts from the first line of the file.
-pub fn read(alloc: Global, bytes: &[u8]) -> Result<HeldCertificate, Stop<CertFault>>
+// The held certificate whose text the bytes are, or why there is none.
+fn read_text(alloc: Global, bytes: &[u8]) -> Result<HeldCertificate, Stop<CertFault>>
     requires { length bytes.now ≤ 16777216 }
-    ensures { Gives (held_of bytes.now) result }
+    ensures answer { Gives (held_of bytes.now) result }
+    ensures well_formed { IfOk result (λ h. IsWellFormed h.certificate) }
 {
     let mut lines = Lines::of(bytes);
     match front_lines(alloc, &mut lines) {
@@ -126,4 +129,15 @@ pub fn read(alloc: Global, bytes: &[u8]) -> Result<HeldCertificate, Stop<CertFau
             bytes, &lines,
         )))),
     }
+}
+
+/// The held certificate whose text the bytes are. `BadCase` comes where all lines up to the first `end` are in the
+/// grammar, so it stands before a bad line that follows this `end`; `BadLine` counts from the first line of the file.
+pub fn read(alloc: Global, bytes: &[u8]) -> Result<HeldCertificate, Stop<CertFault>>
+    requires { length bytes.now ≤ 16777216 }
+    ensures answer { Gives (held_of bytes.now) result }
+    ensures found { IfOk result (λ h. IsWellHeld h × (bytes.now ≡ held_text h)) }
+    ensures only { (h : HeldCertificate) → IsWellHeld h → bytes.now ≡ held_text h → Gives (Ok h) result }
+{
+    read_text(alloc, bytes)
 }

@@ -1,4 +1,4 @@
-use Rattle.std.proofs.Common.{◌/◌, ◌%◌, ◌++◌, length, refl, arith}
+use Rattle.std.proofs.Common.{◌/◌, ◌%◌, ◌++◌, length, refl}
 use Rattle.spares_input.specs.Stocks.{limit_at}
 use Rattle.line_text.proofs.Loops.{text_from, print_step, print_end}
 use Rattle.on_hand.specs.Held.{held_line}

@@ -1,4 +1,4 @@
-use Rattle.std.proofs.Common.{◌≡◌, ◌++◌, ℕ, List, ap, sym, ◌∙◌}
+use Rattle.std.proofs.Common.{◌++◌, ℕ, List, ap, sym, ◌∙◌}
 use Rattle.std.specs.List.{concat}
 use Rattle.line_text.specs.Files.{file_text}
 use Rattle.line_text.specs.Texts.{count_line}
