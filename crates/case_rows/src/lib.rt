@@ -3,4 +3,6 @@
 #![tactic(auto)]
 
 #[cfg(test)]
+mod curves;
+#[cfg(test)]
 mod helpers;
