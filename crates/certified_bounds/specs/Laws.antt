@@ -1,0 +1,35 @@
+-- What an accepted certificate says of its case.
+use Rattle.std.specs.Prelude.{◌≡◌, None}
+use Rattle.hull.specs.Scores.{EnclosesValue}
+use Rattle.spares_input.specs.Stocks.{StockList, IsFor}
+use Rattle.fleet_model.specs.Aims.{Value}
+use Rattle.family_curve.specs.Points.{ScoreEnds}
+use Rattle.fleet_plan.specs.Plans.{CaseClaims, AreTrueClaims, ArePlainClaims}
+use Rattle.fleet_plan.specs.Laws.{plain_ends}
+use Rattle.price_certificate.specs.declared.certificate.Certificate.{Certificate}
+use Rattle.price_certificate.specs.Certificates.{IsWellFormed}
+use Rattle.gap_checker.specs.Refusals.{reject_of}
+use Rattle.gap_checker.specs.Soundness.{nothing_held}
+
+-- the claims of a certificate
+abbrev pub claims_of : Certificate → CaseClaims
+claims_of cert = record {
+  stocks = cert.stocks.list;
+  price = cert.price;
+  floors = cert.floors;
+  upper = cert.upper;
+  bound = cert.bound;
+}
+
+-- for every score whose intervals enclose its value, and for stocks that are held
+abbrev pub AcceptedAreTrue : Type 0
+AcceptedAreTrue =
+    (ends : ScoreEnds) (value : Value) (cert : Certificate) (held : StockList)
+    → EnclosesValue ends value → IsWellFormed cert → IsFor cert.case held → reject_of ends cert held ≡ None
+    → AreTrueClaims value cert.case held.list cert.budget (claims_of cert)
+
+-- of weighted backorders, where nothing is held
+abbrev pub PlainAcceptedAreTrue : Type 0
+PlainAcceptedAreTrue =
+    (cert : Certificate) → IsWellFormed cert → reject_of plain_ends cert (nothing_held cert.case) ≡ None
+    → ArePlainClaims cert.case cert.budget (claims_of cert)
