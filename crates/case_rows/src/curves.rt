@@ -136,6 +136,7 @@ fn gives_curves_of_families(rt: HostRuntime) {
     let rows = [
         (ONE, (7, 193977470112981834042434802853193262313)),
         (TWO, (17, 120627936452521600702596185247371634317)),
+        (LARGE, (34, 1562863434190421847038018715338107042)),
     ];
     for (files, want) in rows {
         assert!(&rt; whole(alloc, files) == Some(want), "{} vertices", want.0);
