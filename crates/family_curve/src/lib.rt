@@ -33,8 +33,6 @@ mod depot;
 mod family;
 mod laws;
 mod places;
-#[cfg(test)]
-mod tests;
 mod vectors;
 
 pub use bounds::Bounds;
