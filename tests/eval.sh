@@ -45,15 +45,16 @@ for bits in 32 48 52; do
   evaluates "one line unit at $bits bits" 0 "$(one_report "$bits" 3.000000)" '' "$one" --bits "$bits"
 done
 evaluates 'one line unit' 0 "$(one_report 48 3.000000)" '' "$one"
-evaluates 'a shop unit' 0 'eval,48
-cost,1200
+shop_figures='cost,1200
 item,L,D,0,0.612334,0.612335,0.631333,0.631334,0.612334,0.612335,0.631333,0.631334
 item,L,B,1,1.296585,1.296586,1.326270,1.326271,0.574076,0.574077,0.807178,0.807179
 item,S,D,1,0.699999,0.700001,0.699999,0.700001,0.196585,0.196586,0.254768,0.254769
 item,S,B,0,0.184250,0.184251,0.194937,0.194938,0.184250,0.184251,0.194937,0.194938
 base,B,0.943416,0.943417
 fleet,0.943416,0.943417
-total,0.574076,0.574077\n' '' "$shop"
+total,0.574076,0.574077'
+evaluates 'a shop unit' 0 "eval,48\n$shop_figures\n" '' "$shop"
+evaluates 'a shop unit at 52 bits' 0 "eval,52\n$shop_figures\n" '' "$shop" --bits 52
 evaluates 'a fleet' 0 "$(cat "$here/../examples/fleet/report.txt")\n" '' "$here/../examples/fleet"
 
 changed "$one" parts '1s/$/,weight/;2s/$/,3/'

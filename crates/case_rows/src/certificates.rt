@@ -1,0 +1,303 @@
+//! Certificates as texts, and what their checker answers.
+
+use demand_rates::{Place, RateFault};
+use gap_checker::{Accepted, Reject, check};
+use price_certificate::{CertFault, Objective, read};
+use spares_input::{CaseFault, PartId, SiteId};
+use spares_io::{NoMemory, Stop};
+use std::alloc::Global;
+use std::process::Abort;
+use std::test::*;
+
+/// A line unit at the depot and one base without stock, at a price of one backorder for 100 of money.
+const PLAIN: &str = "spares-certificate,1\n\
+    sites,2\nD,depot,,\nB,base,12,10.00\n\
+    parts,1\nL,,100,1,2,3\n\
+    rates,2\nL,D,,,,20.00\nL,B,36.5000,0.0000,,0.00\n\
+    budget,0\nprice,281474976710656,100\n\
+    floors,1\n84442493013196800\n\
+    stocks,2\n0\n0\n\
+    upper,844424930131968\nbound,844424930131968\nend\n";
+
+/// The same, where the line unit weighs three times as much.
+const WEIGHTED: &str = "spares-certificate,1\n\
+    sites,2\nD,depot,,\nB,base,12,10.00\n\
+    parts,1,weights\nL,,100,1,2,3,3\n\
+    rates,2\nL,D,,,,20.00\nL,B,36.5000,0.0000,,0.00\n\
+    budget,0\nprice,844424930131968,100\n\
+    floors,1\n253327479039590400\n\
+    stocks,2\n0\n0\n\
+    upper,2533274790395904\nbound,2533274790395904\nend\n";
+
+/// A line unit with two shop units, of which there are more tables than are made.
+const LARGE: &str = "spares-certificate,1\n\
+    sites,4\nD,depot,,\nB1,base,12,10.00\nB2,base,12,10.00\nB3,base,12,10.00\n\
+    parts,3\nL,,100,1,9,0\nS0,L,10,,13,13\nS1,L,10,,13,13\n\
+    rates,12\nL,D,,,,20.00\nL,B1,3.6500,0.5000,,0.00\nL,B2,3.6500,0.5000,,0.00\nL,B3,3.6500,0.5000,,0.00\n\
+    S0,D,,,0.2000,20.00\nS0,B1,,0.5000,0.2000,5.00\nS0,B2,,0.5000,0.2000,5.00\nS0,B3,,0.5000,0.2000,5.00\n\
+    S1,D,,,0.2000,20.00\nS1,B1,,0.5000,0.2000,5.00\nS1,B2,,0.5000,0.2000,5.00\nS1,B3,,0.5000,0.2000,5.00\n\
+    budget,0\nprice,1,1\n\
+    floors,1\n0\n\
+    stocks,12\n0\n0\n0\n0\n0\n0\n0\n0\n0\n0\n0\n0\n\
+    upper,38685626227668133590597632\nbound,0\nend\n";
+
+/// The first line where covers show the floors.
+const SECOND: (usize, &str) = (1, "spares-certificate,2\nobjective,backorders");
+
+/// No change.
+const SAME: (usize, &str) = (0, "");
+
+/// What is answered for a certificate's bytes.
+#[derive(Clone, Copy, Debug, PartialEq, Eq)]
+enum Answer {
+    /// The bytes are no certificate.
+    Unread(CertFault),
+    /// The checker refuses.
+    Refused(Reject),
+    /// The direct part of a pipeline is nothing.
+    Thin(Place),
+    Takes(Accepted),
+    /// No memory, too many bytes, or another objective.
+    Else,
+}
+
+/// Nothing is bought, and nothing less can be.
+const THREE: Answer = Answer::Takes(Accepted {
+    bound: 844_424_930_131_968,
+    upper: 844_424_930_131_968,
+    cost: 0,
+});
+
+/// The same with a weight of 3.
+const NINE: Answer = Answer::Takes(Accepted {
+    bound: 2_533_274_790_395_904,
+    upper: 2_533_274_790_395_904,
+    cost: 0,
+});
+
+/// The same with a bound that says nothing.
+const NO_BOUND: Answer = Answer::Takes(Accepted {
+    bound: 0,
+    upper: 844_424_930_131_968,
+    cost: 0,
+});
+
+/// The largest upper end, and a bound that says nothing.
+const ANYTHING: Answer = Answer::Takes(Accepted {
+    bound: 0,
+    upper: 1 << 85,
+    cost: 0,
+});
+
+/// Certificates of which some lines are changed, counted from 1, and what is answered.
+const FIRST_FORMAT: [(&str, [(usize, &str); 3], Answer); 13] = [
+    (PLAIN, [SAME, SAME, SAME], THREE),
+    (WEIGHTED, [SAME, SAME, SAME], NINE),
+    (PLAIN, [(18, "bound,0"), SAME, SAME], NO_BOUND),
+    (
+        PLAIN,
+        [(11, "price,0,1"), (13, "0"), (18, "bound,0")],
+        NO_BOUND,
+    ),
+    (
+        PLAIN,
+        [
+            (11, "price,281474976710656,1"),
+            (13, "844424930131968"),
+            SAME,
+        ],
+        THREE,
+    ),
+    (
+        PLAIN,
+        [(13, "84442493013196801"), SAME, SAME],
+        Answer::Refused(Reject::FloorTooHigh {
+            family: 0,
+            floor: 84_442_493_013_196_801,
+            least: 84_442_493_013_196_800,
+        }),
+    ),
+    (
+        PLAIN,
+        [(17, "upper,844424930131967"), SAME, SAME],
+        Answer::Refused(Reject::UpperTooLow {
+            claimed: 844_424_930_131_967,
+            upper: 844_424_930_131_968,
+        }),
+    ),
+    (
+        PLAIN,
+        [(18, "bound,844424930131969"), SAME, SAME],
+        Answer::Refused(Reject::BoundTooHigh {
+            claimed: 844_424_930_131_969,
+            largest: 844_424_930_131_968,
+        }),
+    ),
+    (
+        PLAIN,
+        [(16, "1"), SAME, SAME],
+        Answer::Refused(Reject::OverBudget { cost: 100 }),
+    ),
+    (
+        PLAIN,
+        [(16, "4"), SAME, SAME],
+        Answer::Refused(Reject::StocksOverLimit {
+            part: PartId(0),
+            site: SiteId(1),
+            stock: 4,
+        }),
+    ),
+    (
+        PLAIN,
+        [(4, "B,base,12,0.00"), SAME, SAME],
+        Answer::Thin(Place::Pair(PartId(0), SiteId(1))),
+    ),
+    (
+        PLAIN,
+        [
+            (4, "D,base,12,10.00"),
+            (9, "L,D,36.5000,0.0000,,0.00"),
+            SAME,
+        ],
+        Answer::Unread(CertFault::BadCase(CaseFault::DoubleSite(3))),
+    ),
+    (
+        LARGE,
+        [SAME, SAME, SAME],
+        Answer::Refused(Reject::WorkTooLarge(1_152_762)),
+    ),
+];
+
+/// The same, where covers show the floors.
+const SECOND_FORMAT: [(&str, [(usize, &str); 3], Answer); 5] = [
+    (
+        PLAIN,
+        [
+            SECOND,
+            (
+                13,
+                "84442493013196800\ncovers,1\ncover,3\nsplit,1,3\nwhole\ncost",
+            ),
+            SAME,
+        ],
+        THREE,
+    ),
+    (
+        PLAIN,
+        [
+            SECOND,
+            (
+                13,
+                "84442493013196800\ncovers,1\ncover,3\nsplit,1,2\nwhole\ncost",
+            ),
+            SAME,
+        ],
+        Answer::Refused(Reject::LeafTooLow {
+            family: 0,
+            leaf: 1,
+            floor: 84_442_493_013_196_800,
+            least: 56_294_995_342_131_200,
+        }),
+    ),
+    (
+        PLAIN,
+        [
+            SECOND,
+            (13, "84442493013196800\ncovers,1\ncover,2\nsplit,1,3\nwhole"),
+            SAME,
+        ],
+        Answer::Refused(Reject::CoverGap { family: 0 }),
+    ),
+    (
+        PLAIN,
+        [
+            SECOND,
+            (
+                13,
+                "84442493013196800\ncovers,1\ncover,3\nsplit,1,4\nwhole\ncost",
+            ),
+            SAME,
+        ],
+        Answer::Refused(Reject::CoverGap { family: 0 }),
+    ),
+    (
+        LARGE,
+        [SECOND, (27, "0\ncovers,1\ncover,1\ncost"), SAME],
+        ANYTHING,
+    ),
+];
+
+/// The line of that number after the changes.
+fn changed<'a>(number: usize, line: &'a str, changes: &[(usize, &'a str)]) -> &'a str {
+    let mut now = line;
+    for (at, new) in changes {
+        if *at == number {
+            now = *new;
+        }
+    }
+    now
+}
+
+/// The bytes of a certificate with these lines changed.
+fn bytes_of<'a>(
+    alloc: Global,
+    text: &'a str,
+    changes: &[(usize, &'a str)],
+) -> Result<Vec<u8>, NoMemory> {
+    let mut bytes = Vec::new(alloc);
+    let mut number: usize = 0;
+    for line in text.split('\n') {
+        if number > 0 {
+            bytes.push(b'\n')?;
+        }
+        number = number.saturating_add(1);
+        bytes.extend_from_slice(changed(number, line, &*changes).as_bytes())?;
+    }
+    Ok(bytes)
+}
+
+/// What is answered for these bytes.
+fn answer_of(alloc: Global, bytes: &[u8]) -> Answer {
+    if bytes.len() > 16_777_216 {
+        return Answer::Else;
+    }
+    let certificate = match read(alloc, bytes) {
+        Ok(certificate) => certificate,
+        Err(Stop::NoMemory) => return Answer::Else,
+        Err(Stop::Fault(fault)) => return Answer::Unread(fault),
+    };
+    let Objective::Backorders = certificate.objective else {
+        return Answer::Else;
+    };
+    match check(alloc, &certificate) {
+        Ok(accepted) => Answer::Takes(accepted),
+        Err(Stop::NoMemory) => Answer::Else,
+        Err(Stop::Fault(Reject::Rate(RateFault::ThinPipeline { place, .. }))) => {
+            Answer::Thin(place)
+        }
+        Err(Stop::Fault(reject)) => Answer::Refused(reject),
+    }
+}
+
+/// Each certificate gets its answer.
+fn meets(
+    rt: &impl Abort,
+    alloc: Global,
+    rows: &[(&'static str, [(usize, &'static str); 3], Answer)],
+) -> Result<(), Fail> {
+    for (text, changes, wanted) in rows {
+        let bytes = bytes_of(alloc, text, changes)?;
+        assert_eq!(rt; answer_of(alloc, bytes.as_slice()), *wanted, "{text}");
+    }
+    Ok(())
+}
+
+#[test]
+fn certificates_of_the_first_format_get_their_answers(rt: HostRuntime) -> Result<(), Fail> {
+    meets(&rt, rt.alloc(), &FIRST_FORMAT)
+}
+
+#[test]
+fn certificates_of_the_second_format_get_their_answers(rt: HostRuntime) -> Result<(), Fail> {
+    meets(&rt, rt.alloc(), &SECOND_FORMAT)
+}
