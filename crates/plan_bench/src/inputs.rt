@@ -6,6 +6,7 @@ use anyhow::anyhow;
 use csv_tables::{read_parts, read_rates, read_sites};
 use spares_input::{Case, Frame};
 use spares_io::{FileShelf, Shelf};
+use std::alloc::Global;
 
 /// The most bytes of a table.
 const TABLE_LIMIT: usize = 4_194_304;
@@ -23,26 +24,31 @@ pub fn bytes_of(rt: &HostRuntime, name: &str, limit: usize) -> anyhow::Result<Ve
     }
 }
 
+/// The case of the bytes of three tables, where they give one.
+fn case_in(alloc: Global, sites: &[u8], parts: &[u8], rates: &[u8]) -> Option<Case>
+    requires sites { length sites.now ≤ TABLE_LIMIT }
+    requires parts { length parts.now ≤ TABLE_LIMIT }
+    requires rates { length rates.now ≤ TABLE_LIMIT }
+{
+    let sites = read_sites(alloc, sites).ok()?;
+    let parts = read_parts(alloc, parts).ok()?;
+    let frame = Frame::build(alloc, sites, parts).ok()?;
+    let rates = read_rates(alloc, rates, &frame).ok()?;
+    Case::build(alloc, frame, rates).ok()
+}
+
 /// The case of three tables.
 pub fn case_of(rt: &HostRuntime, sites: &str, parts: &str, rates: &str) -> anyhow::Result<Case> {
-    let alloc = rt.alloc();
-    let bytes = bytes_of(rt, sites, TABLE_LIMIT)?;
-    let Ok(sites) = read_sites(alloc, bytes.as_slice()) else {
-        return Err(anyhow!("the sites are refused"));
-    };
-    let bytes = bytes_of(rt, parts, TABLE_LIMIT)?;
-    let Ok(parts) = read_parts(alloc, bytes.as_slice()) else {
-        return Err(anyhow!("the parts are refused"));
-    };
-    let Ok(frame) = Frame::build(alloc, sites, parts) else {
-        return Err(anyhow!("sites and parts make no frame"));
-    };
-    let bytes = bytes_of(rt, rates, TABLE_LIMIT)?;
-    let Ok(rows) = read_rates(alloc, bytes.as_slice(), &frame) else {
-        return Err(anyhow!("the rates are refused"));
-    };
-    let Ok(case) = Case::build(alloc, frame, rows) else {
-        return Err(anyhow!("a pair has no rates, or twice"));
-    };
-    Ok(case)
+    let sites = bytes_of(rt, sites, TABLE_LIMIT)?;
+    let parts = bytes_of(rt, parts, TABLE_LIMIT)?;
+    let rates = bytes_of(rt, rates, TABLE_LIMIT)?;
+    match case_in(
+        rt.alloc(),
+        sites.as_slice(),
+        parts.as_slice(),
+        rates.as_slice(),
+    ) {
+        Some(case) => Ok(case),
+        None => Err(anyhow!("the tables give no case")),
+    }
 }

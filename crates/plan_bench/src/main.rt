@@ -2,45 +2,60 @@
 //!
 //! With the words `SITES PARTS RATES CERTIFICATE` it reads the three tables of a case and prints how many tables of pipelines the
 //! curves of its families take and how many vertices they have; then it reads a certificate, which may be of another case, checks it,
-//! and prints what was accepted. With a fifth word `timed` it prints the nanoseconds too: of all curves, made one after another,
-//! of the reading and of the check.
+//! and prints what was accepted. With a fifth word `timed` it prints the nanoseconds too: of all curves, made one after another;
+//! of the reading; and of reading and check together.
 #![tactic(auto)]
+
+ghost use Rattle.std.specs.Prelude.{◌≤◌, length};
+ghost use Rattle.demand_rates.specs.Rates.{AreRatesOf};
 
 mod inputs;
 
 use anyhow::anyhow;
+use demand_rates::kinds::Rates;
 use demand_rates::rates;
 use family_curve::{curve, tables, work};
-use gap_checker::check;
+use gap_checker::{Accepted, check};
 use hull::Plain;
 use inputs::{bytes_of, case_of};
-use price_certificate::read;
+use price_certificate::{Objective, read};
 use spares_input::{Case, PartId};
+use std::alloc::Global;
 use std::env;
 use std::time::Instant;
 
-/// Makes the curve of each family, and prints how many tables and vertices these have.
-fn report_curves(rt: &HostRuntime, case: &Case, timed: bool) -> anyhow::Result<()> {
-    let alloc = rt.alloc();
-    let Ok(count) = work(case) else {
-        return Err(anyhow!("the case has too many tables"));
-    };
-    let Ok(rates) = rates(alloc, case) else {
-        return Err(anyhow!("a rate is refused"));
-    };
-    let start = Instant::now(rt)?;
-    let mut vertices: u64 = 0;
+/// The most bytes of a certificate.
+const CERTIFICATE_LIMIT: usize = 16_777_216;
+
+/// How many vertices the curves of all families have.
+fn vertices(alloc: Global, case: &Case, rates: &Rates) -> Option<u64>
+    requires { AreRatesOf case.now rates.now }
+{
+    let mut count: u64 = 0;
     for p in 0..case.part_count() {
         let part = PartId(p);
         if case.is_line(part) && tables(case, part) <= 1_000_000 {
-            let Ok(curve) = curve(alloc, case, &rates, part, &Plain) else {
-                return Err(anyhow!("out of memory"));
-            };
-            vertices = vertices.wrapping_add(u64::from(curve.len()));
+            let curve = curve(alloc, case, rates, part, &Plain).ok()?;
+            count = count.wrapping_add(u64::from(curve.len()));
         }
     }
+    Some(count)
+}
+
+/// Makes the curve of each family, and prints how many tables and vertices these have.
+fn report_curves(rt: &HostRuntime, case: &Case, timed: bool) -> anyhow::Result<()> {
+    let Ok(count) = work(case) else {
+        return Err(anyhow!("the case has too many tables"));
+    };
+    let Ok(rates) = rates(rt.alloc(), case) else {
+        return Err(anyhow!("a rate is refused"));
+    };
+    let start = Instant::now(rt)?;
+    let Some(found) = vertices(rt.alloc(), case, &rates) else {
+        return Err(anyhow!("out of memory"));
+    };
     let spent = start.elapsed(rt)?;
-    print!(rt; "tables {count} vertices {vertices}")?;
+    print!(rt; "tables {count} vertices {found}")?;
     if timed {
         print!(rt; " nanoseconds {}", spent.as_nanos())?;
     }
@@ -48,25 +63,40 @@ fn report_curves(rt: &HostRuntime, case: &Case, timed: bool) -> anyhow::Result<(
     Ok(())
 }
 
+/// Whether the bytes are a certificate.
+fn is_read(alloc: Global, bytes: &[u8]) -> bool
+    requires { length bytes.now ≤ CERTIFICATE_LIMIT }
+{
+    read(alloc, bytes).is_ok()
+}
+
+/// What the checker accepts of these bytes, whose objective is that of backorders.
+fn accepted(alloc: Global, bytes: &[u8]) -> Option<Accepted>
+    requires { length bytes.now ≤ CERTIFICATE_LIMIT }
+{
+    let certificate = match read(alloc, bytes) {
+        Ok(certificate) => certificate,
+        Err(_) => return None,
+    };
+    let Objective::Backorders = certificate.objective else {
+        return None;
+    };
+    check(alloc, &certificate).ok()
+}
+
 /// Reads and checks a certificate, and prints what was accepted.
 fn report_certificate(rt: &HostRuntime, name: &str, timed: bool) -> anyhow::Result<()> {
-    let alloc = rt.alloc();
-    let bytes = bytes_of(rt, name, 16_777_216)?;
+    let bytes = bytes_of(rt, name, CERTIFICATE_LIMIT)?;
     let start = Instant::now(rt)?;
-    let Ok(certificate) = read(alloc, bytes.as_slice()) else {
-        return Err(anyhow!("the certificate can't be read"));
-    };
+    let reads = is_read(rt.alloc(), bytes.as_slice());
     let reading = start.elapsed(rt)?;
     let start = Instant::now(rt)?;
-    let Ok(accepted) = check(alloc, &certificate) else {
-        return Err(anyhow!("the certificate is rejected"));
-    };
+    let checked = accepted(rt.alloc(), bytes.as_slice());
     let checking = start.elapsed(rt)?;
-    let format = certificate.format;
-    print!(rt;
-        "accepted {format} cost {} bound {}",
-        accepted.cost, accepted.bound
-    )?;
+    let Some(found) = checked else {
+        return Err(anyhow!("the certificate isn't accepted (read: {reads})"));
+    };
+    print!(rt; "accepted cost {} bound {}", found.cost, found.bound)?;
     if timed {
         print!(rt;
             " nanoseconds {} {}",
