@@ -4,7 +4,7 @@
 # PEER: a program without proof that takes `plan --sites F --parts F --rates F --budget N --certificate F`, plans the case and writes its
 # certificate. FOLDER has sites.csv, parts.csv and rates.csv. RUNS: how many times each is run, 5 if left out; the best time counts.
 #
-# The peer's time is the wall time of its whole run. Ours are those of all curves, of reading the peer's certificate and of checking it,
+# The peer's time is the wall time of its whole run. Ours are those of all curves, of reading the peer's certificate, and of reading and checking it,
 # which a program of this repository takes inside. All are run in turn on one processor.
 set -eu
 cd "$(dirname "$0")/.."
@@ -37,6 +37,6 @@ least() { sort -n "$1" | head -n 1; }
 awk -v peer="$(least "$work/peer.all")" -v curves="$(least "$work/curves.all")" \
     -v reading="$(cut -d' ' -f1 "$work/check.all" | sort -n | head -n 1)" -v checking="$(cut -d' ' -f2 "$work/check.all" | sort -n | head -n 1)" \
     -v runs="$runs" 'BEGIN {
-    printf "best of %d: peer %.3f s; curves %.3f s, %.2f of it; reading %.3f s, %.2f of the curves; check %.3f s, %.2f of them\n",
+    printf "best of %d: peer %.3f s; curves %.3f s, %.2f of it; reading %.3f s, %.2f of the curves; reading and check %.3f s, %.2f of them\n",
         runs, peer / 1e6, curves / 1e9, curves / (peer * 1e3), reading / 1e9, reading / curves, checking / 1e9, checking / curves
 }'
