@@ -1,6 +1,7 @@
 -- What runs along while rows are made, from stock to stock. No promise of the crate rests on these words.
-use Rattle.std.specs.Prelude.{ℕ, ◌≡◌, ◌*◌, ◌^◌, ◌≤◌, List}
+use Rattle.std.specs.Prelude.{ℕ, suc, ◌≡◌, ◌*◌, ◌^◌, ◌≤◌, List}
 use Rattle.fixed_interval.specs.Ends.{Ends, ends_div}
+use Rattle.series_bounds.specs.Profile.{last_index, listed, weight_ends}
 use Rattle.moment_table.specs.declared.running.Running.{Running}
 use Rattle.moment_table.specs.Profile.{below_ends, ebo_ends, vbo_ends}
 
@@ -15,3 +16,7 @@ pub record AreSmall (f : ℕ) (sum : Ends) (s : ℕ) (running : Running f) : Typ
   pub expected : running.expected.hi ≤ 256 * 2 ^ f
   pub below : running.below.hi ≤ s * (8 * 2 ^ f)
   pub chance : running.chance ≡ ends_div f running.weight sum
+
+-- all weights up to the last index
+abbrev pub all_weights : ℕ → Ends → Ends → List Ends
+all_weights f m d = listed (weight_ends f m d) (suc (last_index f m d))

@@ -1,17 +1,18 @@
 //! The backorders alone, at the stocks up to a limit.
 
 ghost use Rattle.std.specs.Prelude.{◌≡◌, ◌+◌, ◌*◌, ◌^◌, ◌<◌, ◌≤◌, IfOk};
-ghost use Rattle.series_bounds.specs.Answer.{Sized};
+ghost use Rattle.series_bounds.specs.Answer.{IsBeginning, Sized};
 ghost use Rattle.series_bounds.specs.Profile.{listed};
 ghost use Rattle.fixed_interval.specs.Ends.{IsWithinLimit};
 ghost use Rattle.moment_table.specs.Inputs.{CanTable};
 ghost use Rattle.moment_table.specs.Held.{bare_row};
-ghost use Rattle.moment_table.specs.Profile.{known_row};
+ghost use Rattle.moment_table.specs.Profile.{excess_ends, known_row};
+ghost use Rattle.moment_table.specs.Running.{all_weights};
 ghost use Rattle.moment_table.specs.Rows.{AreBackorders, EncloseBackorders};
 
 use crate::rows::bare_row;
 use crate::running::Running;
-use crate::weighed::weigh;
+use crate::weighed::{weigh, weigh_to};
 use fixed_interval::Iv;
 use spares_io::NoMemory;
 use std::alloc::Global;
@@ -39,6 +40,32 @@ fn known<const F: u32>(
     Ok(found)
 }
 
+/// The backorders from the first weights and the sum of all.
+fn first<const F: u32>(
+    alloc: Global,
+    mean: Iv<F>,
+    variance: Iv<F>,
+    list: &[Iv<F>],
+    sum: Iv<F>,
+    count: u32,
+) -> Result<Vec<Iv<F>>, NoMemory>
+    requires mean_top { IsWithinLimit F mean }
+    requires begun { IsBeginning F mean (excess_ends F mean variance) count list.now sum }
+    requires sum { 2 ^ F ≤ sum.lo }
+    requires some { 0 < count }
+    requires few { count ≤ 63 }
+    ensures { IfOk result (λ found. found.items
+        ≡ listed (λ s. (known_row F mean.entry variance.entry (all_weights F mean.entry (excess_ends F mean.entry variance.entry)) sum.entry s).ebo) count) }
+{
+    let mut running = Running::first(mean, variance, list[0], sum);
+    let mut found = Vec::with_capacity(alloc, count as usize)?;
+    for s in 0..count {
+        let row = running.step(list[s as usize], sum, s);
+        found.push(row.ebo)?;
+    }
+    Ok(found)
+}
+
 /// The backorders of a pipeline that is always empty, or whose weights aren't known.
 fn bare<const F: u32>(
     alloc: Global,
@@ -54,6 +81,56 @@ fn bare<const F: u32>(
         found.push(row.ebo)?;
     }
     Ok(found)
+}
+
+/// The backorders at the stocks 0 to `limit`, at most 62.
+fn few<const F: u32>(
+    alloc: Global,
+    mean: Iv<F>,
+    variance: Iv<F>,
+    limit: u8,
+) -> Result<Vec<Iv<F>>, NoMemory>
+    requires table { CanTable F mean variance }
+    requires limit { limit ≤ 62 }
+    ensures { IfOk result (λ found. AreBackorders F mean.entry variance.entry limit found.items) }
+{
+    let count = u32::from(limit) + 1;
+    match weigh_to(alloc, mean, variance, count as usize)? {
+        Some(begun) => {
+            let list = begun.list.as_slice();
+            let found = first(alloc, mean, variance, list, begun.sum, count)?;
+            Ok(found)
+        }
+        None => {
+            let found = bare(alloc, mean, variance, count)?;
+            Ok(found)
+        }
+    }
+}
+
+/// The backorders at the stocks 0 to `limit`, at most 63, from all weights.
+fn many<const F: u32>(
+    alloc: Global,
+    mean: Iv<F>,
+    variance: Iv<F>,
+    limit: u8,
+) -> Result<Vec<Iv<F>>, NoMemory>
+    requires table { CanTable F mean variance }
+    requires limit { limit ≤ 63 }
+    ensures { IfOk result (λ found. AreBackorders F mean.entry variance.entry limit found.items) }
+{
+    let count = u32::from(limit) + 1;
+    match weigh(alloc, mean, variance)? {
+        Some(weighed) => {
+            let list = weighed.list.as_slice();
+            let found = known(alloc, mean, variance, list, weighed.sum, count)?;
+            Ok(found)
+        }
+        None => {
+            let found = bare(alloc, mean, variance, count)?;
+            Ok(found)
+        }
+    }
 }
 
 /// The expected backorders of the table at the stocks 0 to `limit`, at most 63, for a mean and a variance as `table` takes
@@ -72,16 +149,10 @@ pub fn backorders_to<const F: u32>(
     ensures ends { IfOk result (λ found. AreBackorders F mean.entry variance.entry limit found.items) }
     ensures encloses { IfOk result (λ found. EncloseBackorders F mean.entry variance.entry found.items) }
 {
-    let count = u32::from(limit) + 1;
-    match weigh(alloc, mean, variance)? {
-        Some(weighed) => {
-            let list = weighed.list.as_slice();
-            let found = known(alloc, mean, variance, list, weighed.sum, count)?;
-            Ok(found)
-        }
-        None => {
-            let found = bare(alloc, mean, variance, count)?;
-            Ok(found)
-        }
-    }
+    let found = if limit < 63 {
+        few(alloc, mean, variance, limit)?
+    } else {
+        many(alloc, mean, variance, limit)?
+    };
+    Ok(found)
 }

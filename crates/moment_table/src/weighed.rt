@@ -2,12 +2,13 @@
 
 ghost use Rattle.std.specs.Prelude.{◌≡◌, ◌*◌, ◌^◌, ◌<◌, ◌≤◌, IfOk, IfSome, IfNone};
 ghost use Rattle.fixed_interval.specs.Ends.{IsWithinLimit};
-ghost use Rattle.series_bounds.specs.Answer.{Sized};
+ghost use Rattle.series_bounds.specs.Answer.{IsBeginning, Sized};
 ghost use Rattle.moment_table.specs.Held.{AreRowsOf, bare_row};
 ghost use Rattle.moment_table.specs.Inputs.{CanTable};
 ghost use Rattle.moment_table.specs.Profile.{known_row, excess_ends};
 
 use fixed_interval::Iv;
+use series_bounds::heads::{Beginning, first_weights};
 use series_bounds::kinds::Weights;
 use series_bounds::weights;
 use spares_io::{List, NoMemory};
@@ -54,4 +55,26 @@ pub(crate) fn weigh<const F: u32>(
         } => Ok(Some(Weighed { list, sum })),
         Weights::Wide => Ok(None),
     }
+}
+
+/// The first weights of a pipeline with this mean and variance, `wanted` of them or more, at most 63 being wanted, and the sum of
+/// all. None where it is always empty, or its weights aren't known.
+pub(crate) fn weigh_to<const F: u32>(
+    alloc: Global,
+    mean: Iv<F>,
+    variance: Iv<F>,
+    wanted: usize,
+) -> Result<Option<Beginning<F>>, NoMemory>
+    requires table { CanTable F mean variance }
+    requires wanted { wanted ≤ 63 }
+    ensures bare { IfOk result (λ found. IfNone found (AreRowsOf F mean.entry variance.entry (bare_row F mean.entry variance.entry))) }
+    ensures known { IfOk result (λ found. IfSome found (λ b. IsBeginning F mean.entry (excess_ends F mean.entry variance.entry) wanted b.list.items b.sum)) }
+    ensures least { IfOk result (λ found. IfSome found (λ b. 2 ^ F ≤ b.sum.lo)) }
+    ensures positive { IfOk result (λ found. IfSome found (λ b. 0 < mean.entry.hi)) }
+{
+    if mean.hi() == 0 {
+        return Ok(None);
+    }
+    let excess = excess_of(mean, variance);
+    first_weights(alloc, mean, excess, wanted)
 }

@@ -1,5 +1,5 @@
 -- What the walks down and up from the pivot find. No promise of the crate rests on these words.
-use Rattle.std.specs.Prelude.{◌≡◌, ℕ, suc, true, false, ◌+◌, ◌-◌, ◌*◌, ◌^◌, ◌<◌, ◌≤◌, List}
+use Rattle.std.specs.Prelude.{◌≡◌, ℕ, suc, true, false, ◌+◌, ◌-◌, ◌*◌, ◌^◌, ◌<◌, ◌≤◌, List, length}
 use Rattle.fixed_interval.specs.Ends.{Ends}
 use Rattle.series_bounds.specs.Profile.{remainder_at, weight_ends, least_end, last_index, pivot_at, listed, is_wide, may_end, has_remainder, ends_sum}
 
@@ -55,3 +55,21 @@ pub record EndsAt (f : ℕ) (m d : Ends) (x rest : ℕ) : Type 0 where
   pub ends : has_remainder f m d x ≡ true
   pub rest_is : rest ≡ remainder_at f m d x
   pub small : x < 1024 → rest ≤ 256
+
+-- ---- with the first weights alone
+
+-- the first of u(0), u(1), .., of those below x so many as are wanted, or more
+pub record Begins (u : ℕ → Ends) (wanted x : ℕ) (list : List Ends) : Type 0 where
+  pub entries : list ≡ listed u (length list)
+  pub all : length list < wanted → length list ≡ x
+
+-- the first weights, the sum of those below next, and the last of them, where all that follow before the list may end are the same
+pub record Midway (f : ℕ) (m d : Ends) (wanted : ℕ) (list : List Ends) (sum last : Ends) (next : ℕ) : Type 0 where
+  pub first : Begins (weight_ends f m d) wanted next list
+  pub walk : ToNext f m d (listed (weight_ends f m d) next) last next
+  pub sums : SumsTo f m d sum next
+
+-- the same below the first index at which the list may end
+pub record AtLeastEnd (f : ℕ) (m d : Ends) (sum last : Ends) : Type 0 where
+  pub walk : ToLeastEnd f m d (listed (weight_ends f m d) (least_end f m d)) last
+  pub sums : SumsTo f m d sum (least_end f m d)

@@ -40,6 +40,7 @@ use quotients::{inverse_of, inverse_refined};
 use spares_io::{List, NoMemory};
 use std::alloc::Global;
 
+pub mod heads;
 mod inverses;
 pub mod kinds;
 mod parts;
@@ -225,23 +226,25 @@ fn next_inverse<const F: u32>(inverse: u64, den: u64, step: u32) -> u64
     }
 }
 
-/// The weights from 0 to the pivot, and None where one passes 8.
+/// The weights from 0 to the pivot, with room for so many more, and None where one passes 8.
 fn down<const F: u32>(
     alloc: Global,
     mean: Iv<F>,
     excess: Iv<F>,
     pivot: u16,
+    room: usize,
 ) -> Result<Option<Vec<Iv<F>>>, NoMemory>
     requires mean_top { IsWithinLimit F mean }
     requires depth { pivot ≤ 256 }
     requires above { 0 < pivot → 2 ^ F + excess.hi ≤ mean.lo }
     requires place { pivot ≡ pivot_at F mean excess }
+    requires room { room ≤ 64 }
     ensures wide { IfOk result (λ found. IfNone found (is_wide F mean.entry excess.entry ≡ true)) }
     ensures known { IfOk result (λ found. IfSome found (λ list. ToPivot F mean.entry excess.entry list.items)) }
 {
     let most = most_weight::<F>();
     let mut term = Iv::exact(1);
-    let mut list = Vec::with_capacity(alloc, usize::from(pivot) + 64)?;
+    let mut list = Vec::with_capacity(alloc, usize::from(pivot) + room)?;
     list.push(term)?;
     let mut inverse = u64::MAX;
     for step in 0..u32::from(pivot) {
@@ -388,6 +391,7 @@ fn sum_of<const F: u32>(list: &[Iv<F>]) -> Iv<F>
     requires long { length list.now ≤ 1025 }
     requires tops { All (λ v. v.hi ≤ 8 * 2 ^ F) list.now }
     ensures ends { result ≡ ends_sum list.now }
+    ensures most { result.hi ≤ length list.now * (8 * 2 ^ F) }
     ensures small { result.hi ≤ 1025 * (8 * 2 ^ F) }
 {
     let mut sum = Iv::exact(0);
@@ -415,7 +419,7 @@ pub fn weights<const F: u32>(
     ensures sized { IfOk result (λ found. SizedAnswer found) }
 {
     let pivot = pivot_of(mean, excess);
-    let Some(low) = down(alloc, mean, excess, pivot)? else {
+    let Some(low) = down(alloc, mean, excess, pivot, FIRST_END as usize + 1)? else {
         return Ok(Weights::Wide);
     };
     let Some(begun) = climb(mean, excess, pivot, low)? else {

@@ -1,35 +1,9 @@
-use Rattle.std.proofs.Common.{◌≡◌, ◌+◌, ◌∙◌, arith, ap, List}
-use Rattle.fixed_interval.specs.Ends.{Ends}
-use Rattle.series_bounds.specs.Profile.{listed}
-use Rattle.moment_table.specs.Held.{AreRowsOf, bare_row}
-use Rattle.moment_table.specs.Profile.{known_row}
-use Rattle.moment_table.proofs.Backorder_lists.{are_backorders, enclose_backorders}
+use Rattle.std.proofs.Common.{rules}
+use Rattle.moment_table.specs.Rows.{AreBackorders}
+use Rattle.moment_table.proofs.Backorder_lists.{enclose_backorders}
 use Rattle.moment_table.proofs.backorders.backorders_to.Goals as goal
 
-pub returns-in_ok-found-in-Some-clause-ends : goal.returns-in_ok-found-in-Some-clause-ends
-returns-in_ok-found-in-Some-clause-ends g c =
-    let known : AreRowsOf g.row.F c.args.mean c.args.variance (known_row g.row.F c.args.mean c.args.variance c.in-Some.weighed.list c.in-Some.weighed.sum) =
-    rw c.in-Some.is at c.in_ok-weighed.ensures.known in
-    let k : c.from-count.result + 1 ≡ c.args.limit + 1 = omega (arith, c.from-count.ensures) in
-    are_backorders g.row.F c.args.mean c.args.variance (known_row g.row.F c.args.mean c.args.variance c.in-Some.weighed.list c.in-Some.weighed.sum)
-    c.in_ok-found-in-Some.found.items (c.from-count.result + 1) c.args.limit k c.requires.limit
-    (c.in_ok-found-in-Some.ensures
-    ∙ ap (λ (z : List Ends). listed (λ s. (known_row g.row.F c.args.mean c.args.variance z c.in-Some.weighed.sum s).ebo) (c.from-count.result + 1)) c.as_slice-list.ensures)
-    known
-
-pub returns-in_ok-found-in-Some-clause-encloses : goal.returns-in_ok-found-in-Some-clause-encloses
-returns-in_ok-found-in-Some-clause-encloses g c =
-    enclose_backorders g.row.F c.args.mean c.args.variance c.args.limit c.in_ok-found-in-Some.found.items c.requires.limit c.requires.table
-    (returns-in_ok-found-in-Some-clause-ends g c)
-
-pub returns-in_ok-found-in-None-clause-ends : goal.returns-in_ok-found-in-None-clause-ends
-returns-in_ok-found-in-None-clause-ends g c =
-    let bare : AreRowsOf g.row.F c.args.mean c.args.variance (bare_row g.row.F c.args.mean c.args.variance) = rw c.in-None.is at c.in_ok-weighed.ensures.bare in
-    let k : c.from-count.result + 1 ≡ c.args.limit + 1 = omega (arith, c.from-count.ensures) in
-    are_backorders g.row.F c.args.mean c.args.variance (bare_row g.row.F c.args.mean c.args.variance)
-    c.in_ok-found-in-None.found.items (c.from-count.result + 1) c.args.limit k c.requires.limit c.in_ok-found-in-None.ensures bare
-
-pub returns-in_ok-found-in-None-clause-encloses : goal.returns-in_ok-found-in-None-clause-encloses
-returns-in_ok-found-in-None-clause-encloses g c =
-    enclose_backorders g.row.F c.args.mean c.args.variance c.args.limit c.in_ok-found-in-None.found.items c.requires.limit c.requires.table
-    (returns-in_ok-found-in-None-clause-ends g c)
+pub returns-clause-encloses : goal.returns-clause-encloses
+returns-clause-encloses g c =
+    let ends : AreBackorders g.row.F c.args.mean c.args.variance c.args.limit c.if-limit-lt63.found.items = search rules in
+    enclose_backorders g.row.F c.args.mean c.args.variance c.args.limit c.if-limit-lt63.found.items c.requires.limit c.requires.table ends

@@ -1,0 +1,24 @@
+use Rattle.std.proofs.Common.{◌+◌, ◌<◌, arith}
+use Rattle.series_bounds.specs.Answer.{IsBeginning}
+use Rattle.moment_table.specs.Held.{AreRowsOf, bare_row}
+use Rattle.moment_table.specs.Profile.{excess_ends, known_row}
+use Rattle.moment_table.specs.Running.{all_weights}
+use Rattle.moment_table.proofs.Backorder_lists.{are_backorders}
+use Rattle.moment_table.proofs.Firsts.{first_rows}
+use Rattle.moment_table.proofs.backorders.few.Goals as goal
+
+pub returns-in_ok-found-in-Some : goal.returns-in_ok-found-in-Some
+returns-in_ok-found-in-Some g c =
+    let h : IsBeginning g.row.F c.args.mean (excess_ends g.row.F c.args.mean c.args.variance) (c.from-count.result + 1) c.in-Some.begun.list.items c.in-Some.begun.sum =
+    rw c.in-Some.is at c.in_ok-begun.ensures.known in
+    let p : 0 < c.args.mean.hi = rw c.in-Some.is at c.in_ok-begun.ensures.positive in
+    are_backorders g.row.F c.args.mean c.args.variance
+    (known_row g.row.F c.args.mean c.args.variance (all_weights g.row.F c.args.mean (excess_ends g.row.F c.args.mean c.args.variance)) c.in-Some.begun.sum)
+    c.in_ok-found-in-Some.found.items (c.from-count.result + 1) c.args.limit (omega (arith, c.from-count.ensures)) (omega (arith, c.requires.limit)) c.in_ok-found-in-Some.ensures
+    (first_rows g.row.F c.args.mean c.args.variance (c.from-count.result + 1) c.in-Some.begun.list.items c.in-Some.begun.sum h p)
+
+pub returns-in_ok-found-in-None : goal.returns-in_ok-found-in-None
+returns-in_ok-found-in-None g c =
+    let bare : AreRowsOf g.row.F c.args.mean c.args.variance (bare_row g.row.F c.args.mean c.args.variance) = rw c.in-None.is at c.in_ok-begun.ensures.bare in
+    are_backorders g.row.F c.args.mean c.args.variance (bare_row g.row.F c.args.mean c.args.variance)
+    c.in_ok-found-in-None.found.items (c.from-count.result + 1) c.args.limit (omega (arith, c.from-count.ensures)) (omega (arith, c.requires.limit)) c.in_ok-found-in-None.ensures bare

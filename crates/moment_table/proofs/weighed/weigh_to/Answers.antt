@@ -1,0 +1,29 @@
+use Rattle.std.proofs.Common.{◌≡◌, true, subst, ◌<◌, ◌≤◌, ◌*◌, arith, lit<, inl, inr}
+use Rattle.series_bounds.specs.Profile.{is_wide}
+use Rattle.series_bounds.proofs.Enclosure.{wide_answer}
+use Rattle.moment_table.specs.Profile.{excess_ends}
+use Rattle.moment_table.proofs.Enclosure.{bare_empty, bare_wide}
+use Rattle.moment_table.proofs.Firsts.{none_then}
+use Rattle.moment_table.proofs.weighed.weigh_to.Goals as goal
+
+pub returns-then-hi-eq0-clause-bare : goal.returns-then-hi-eq0-clause-bare
+returns-then-hi-eq0-clause-bare g c = bare_empty g.row.F c.args.mean c.args.variance (omega (arith, c.if-hi-eq0.true, c.hi.ensures.end))
+
+pub excess_of-excess-requires : goal.excess_of-excess-requires
+excess_of-excess-requires g c =
+    let r : (0 < c.args.mean.lo) × ((c.args.mean.hi ≤ 2048 * c.args.mean.lo) × (c.args.variance.hi ≤ 2048 * c.args.mean.lo)) =
+    elim c.requires.table.ratio [ inl e ↦ absurd (c.if-hi-eq0.false (omega (arith, e.0, c.hi.ensures.end))) | inr e ↦ e ] in
+    (lit< tt, (r.0, (c.requires.table.variance_top, r.1.1)))
+
+pub first_weights-requires : goal.first_weights-requires
+first_weights-requires g c =
+    let r : (0 < c.args.mean.lo) × ((c.args.mean.hi ≤ 2048 * c.args.mean.lo) × (c.args.variance.hi ≤ 2048 * c.args.mean.lo)) =
+    elim c.requires.table.ratio [ inl e ↦ absurd (c.if-hi-eq0.false (omega (arith, e.0, c.hi.ensures.end))) | inr e ↦ e ] in
+    (lit< tt, (lit< tt, (r.0, (c.requires.table.mean_top, (c.excess_of-excess.ensures.most, c.requires.wanted)))))
+
+pub returns-clause-bare : goal.returns-clause-bare
+returns-clause-bare g c =
+    none_then c.first_weights.result
+    (λ w. bare_wide g.row.F c.args.mean c.args.variance (omega (arith, c.if-hi-eq0.false, c.hi.ensures.end))
+    (wide_answer g.row.F c.args.mean (excess_ends g.row.F c.args.mean c.args.variance) (subst (λ z. is_wide g.row.F c.args.mean z ≡ true) c.excess_of-excess.ensures.ends w)))
+    c.first_weights.ensures.wide

@@ -1,0 +1,93 @@
+-- The walk with the first weights alone, and the sum of all.
+use Rattle.std.proofs.Common.{◌≡◌, ℕ, zero, suc, ◌+◌, ◌*◌, ◌<◌, ◌≤◌, ◌^◌, List, [], ◌∷◌, ◌++◌, length, get_or, sym, ap, ap₂, ◌∙◌, arith, subst, refl}
+use Rattle.std.proofs.lemmas.List.{length-append}
+use Rattle.fixed_interval.specs.Ends.{Ends, ends_add, ends_times}
+use Rattle.series_bounds.specs.Profile.{pivot_at, least_end, weight_ends, ends_sum, listed}
+use Rattle.series_bounds.specs.Walk.{ToPivot, ToNext, SumsTo, Begins, AtLeastEnd}
+use Rattle.series_bounds.specs.Answer.{IsSum, IsBeginning, at_place}
+use Rattle.series_bounds.proofs.Enclosure.{listed_at, length-listed}
+use Rattle.series_bounds.proofs.Walks.{listed_next, next_least, ascent_again, end_from_63}
+use Rattle.series_bounds.proofs.Unlisted.{Climb, sums_next}
+
+-- ---- the first weights
+
+pub begins_more : (u : ℕ → Ends) (wanted x : ℕ) (list : List Ends) (w : Ends) → Begins u wanted x list → length list < wanted → w ≡ u x → Begins u wanted (x + 1) (list ++ w ∷ [])
+begins_more u wanted x list w h l e =
+    let n : length list ≡ x = h.all l in
+    let k : length (list ++ w ∷ []) ≡ x + 1 = length-append list (w ∷ []) ∙ omega (arith, n) in
+    record {
+      entries = ap₂ (λ y z. y ++ z ∷ []) (h.entries ∙ ap (listed u) n) e ∙ sym (listed_next u x) ∙ ap (listed u) (sym k);
+      all = λ _. k;
+    }
+
+pub begins_same : (u : ℕ → Ends) (wanted x : ℕ) (list : List Ends) → Begins u wanted x list → wanted ≤ length list → Begins u wanted (x + 1) list
+begins_same u wanted x list h l = record { entries = h.entries; all = λ i. absurd (omega (arith, l, i)) }
+
+pub begins_start : (f : ℕ) (m d : Ends) (wanted c : ℕ) (list : List Ends) → c ≡ pivot_at f m d → ToPivot f m d list → Begins (weight_ends f m d) wanted (c + 1) list
+begins_start f m d wanted c list e h =
+    let n : length list ≡ suc (pivot_at f m d) = ap length h.weights ∙ length-listed (weight_ends f m d) (suc (pivot_at f m d)) in
+    record { entries = h.weights ∙ ap (listed (weight_ends f m d)) (sym n); all = λ _. omega (arith, n, e) }
+
+-- ---- the sum
+
+pub sums_low : (f : ℕ) (m d sum : Ends) (c : ℕ) (list : List Ends) → c ≡ pivot_at f m d → ToPivot f m d list → sum ≡ ends_sum list → sum.hi ≤ length list * (8 * 2 ^ f)
+    → SumsTo f m d sum (c + 1)
+sums_low f m d sum c list e h s t =
+    let i : suc (pivot_at f m d) ≡ c + 1 = omega (arith, e) in
+    let n : length list ≡ c + 1 = ap length h.weights ∙ length-listed (weight_ends f m d) (suc (pivot_at f m d)) ∙ i in
+    record {
+      sum_is = s ∙ ap ends_sum (h.weights ∙ ap (listed (weight_ends f m d)) i);
+      most = subst (λ z. sum.hi ≤ z * (8 * 2 ^ f)) n t;
+      tops = λ y l. h.tops y (omega (arith, l, e));
+    }
+
+-- so many equal weights at once
+pub sums_level : (f : ℕ) (m d sum last : Ends) (next k : ℕ) → SumsTo f m d sum next → last.hi ≤ 8 * 2 ^ f → ((x : ℕ) → next ≤ x → x < next + k → weight_ends f m d x ≡ last)
+    → SumsTo f m d (ends_add sum (ends_times last k)) (next + k)
+sums_level f m d sum last next zero h t same =
+    let e : sum ≡ ends_add sum (ends_times last 0) = ap₂ (λ y z. record { lo = y; hi = z }) (omega arith) (omega arith) in
+    let i : next ≡ next + 0 = omega arith in
+    subst (λ (z : Ends). SumsTo f m d z (next + 0)) e (subst (λ z. SumsTo f m d sum z) i h)
+sums_level f m d sum last next (suc k) h t same =
+    let e : ends_add sum (ends_times last (suc k)) ≡ ends_add (ends_add sum (ends_times last k)) last = ap₂ (λ y z. record { lo = y; hi = z }) (omega arith) (omega arith) in
+    let i : next + k + 1 ≡ next + suc k = omega arith in
+    let before = sums_level f m d sum last next k h t (λ x a b. same x a (omega (arith, b))) in
+    subst (λ z. SumsTo f m d (ends_add sum (ends_times last (suc k))) z) i
+    (sums_next f m d (ends_add sum (ends_times last k)) last (ends_add sum (ends_times last (suc k))) (next + k) before (sym (same (next + k) (omega arith) (omega arith))) t e)
+
+-- ---- at the first index at which the list may end
+
+pub at_least_end : (f : ℕ) (m d : Ends) (sum last : Ends) (next : ℕ) → ToNext f m d (listed (weight_ends f m d) next) last next
+    → SumsTo f m d sum (least_end f m d) → AtLeastEnd f m d sum last
+at_least_end f m d sum last next h s = record {
+  walk = next_least f m d (listed (weight_ends f m d) next) (listed (weight_ends f m d) (least_end f m d)) last next h refl;
+  sums = s;
+}
+
+pub climb_again : (f : ℕ) (m d : Ends) (sum last : Ends) → pivot_at f m d ≤ 256 → AtLeastEnd f m d sum last → Climb f m d last sum (least_end f m d)
+climb_again f m d sum last q h = record {
+  ascent = ascent_again f m d (listed (weight_ends f m d) (least_end f m d)) last q h.walk;
+  sums = h.sums;
+}
+
+-- ---- what is answered
+
+pub beginning : (f : ℕ) (m d : Ends) (wanted : ℕ) (list : List Ends) (sum low last : Ends) → wanted ≤ 63 → wanted ≤ length list → Begins (weight_ends f m d) wanted wanted list
+    → AtLeastEnd f m d low last → IsSum f m d sum → IsBeginning f m d wanted list sum
+beginning f m d wanted list sum low last a b h s e = record {
+  enough = b;
+  weights = λ x l. ap (λ z. at_place z x) h.entries ∙ listed_at (weight_ends f m d) (length list) x (record { lo = 0; hi = 0 }) (omega (arith, l, b));
+  tops = λ x l. s.sums.tops x (omega (arith, l, a, end_from_63 f m d));
+  sum_is = e;
+}
+
+-- ---- the list to the pivot
+
+pub low_long : (f : ℕ) (m d : Ends) (list : List Ends) → ToPivot f m d list → pivot_at f m d ≤ 256 → length list ≤ 1025
+low_long f m d list h q = omega (arith, ap length h.weights ∙ length-listed (weight_ends f m d) (suc (pivot_at f m d)), q)
+
+pub low_tops : (f : ℕ) (m d : Ends) (list : List Ends) → ToPivot f m d list → (k : ℕ) (z : Ends) → k < length list → (get_or list k z).hi ≤ 8 * 2 ^ f
+low_tops f m d list h k z l =
+    let i : k < suc (pivot_at f m d) = omega (arith, l, ap length h.weights ∙ length-listed (weight_ends f m d) (suc (pivot_at f m d))) in
+    let e : get_or list k z ≡ weight_ends f m d k = ap (λ y. get_or y k z) h.weights ∙ listed_at (weight_ends f m d) (suc (pivot_at f m d)) k z i in
+    subst (λ (y : Ends). y.hi ≤ 8 * 2 ^ f) (sym e) (h.tops k (omega (arith, i)))

@@ -1,0 +1,251 @@
+//! The first weights and the sum of all, which is what a table of few stocks is made of.
+//!
+//! The weights that nobody asks for are added up as they are found, and those that stay the same all at once.
+
+ghost use Rattle.std.specs.Prelude.{◌≡◌, ℕ, ◌+◌, ◌*◌, ◌^◌, ◌<◌, ◌≤◌, true, IfOk, OnOk, IfSome, IfNone, length};
+ghost use Rattle.fixed_interval.specs.Ends.{Ends, IsWithinLimit};
+ghost use Rattle.series_bounds.specs.Profile.{pivot_at, least_end, weight_ends, is_wide};
+ghost use Rattle.series_bounds.specs.Ratios.{AreRatios};
+ghost use Rattle.series_bounds.specs.Walk.{AtLeastEnd, Begins, Midway, SumsTo, ToPivot};
+ghost use Rattle.series_bounds.specs.Answer.{IsBeginning, IsSum};
+
+use crate::ratios::Ratios;
+use crate::{FIRST_END, LAST_END, down, most_weight, pivot_of, rest_at, stays, sum_of, times};
+use fixed_interval::Iv;
+use spares_io::NoMemory;
+use std::alloc::Global;
+
+/// The first weights of a pipeline's distribution, and the sum of all.
+#[derive(Drop)]
+pub struct Beginning<const F: u32> {
+    /// The weights from place 0 on.
+    pub list: Vec<Iv<F>>,
+    /// The sum of all, whose upper end also covers all weights past the last index.
+    pub sum: Iv<F>,
+}
+
+/// What the walk up has found below an index.
+#[derive(Drop)]
+struct Walked<const F: u32> {
+    /// The first weights.
+    list: Vec<Iv<F>>,
+    /// The sum of all weights below the index.
+    sum: Iv<F>,
+    /// The last of them.
+    last: Iv<F>,
+    /// The index.
+    next: u32,
+    /// The ratio there.
+    ratios: Ratios<F>,
+}
+
+/// Adds a weight where fewer are held than are wanted.
+#[inline(always)]
+fn hold<const F: u32>(list: &mut Vec<Iv<F>>, weight: Iv<F>, wanted: usize) -> Result<(), NoMemory>
+    ensures { OnOk result ((u : ℕ → Ends) (x : ℕ) → Begins u wanted x list.old.items → weight.entry ≡ u x → Begins u wanted (x + 1) list.new.items) }
+{
+    if list.len() < wanted {
+        list.push(weight)?;
+    }
+    Ok(())
+}
+
+/// The first weights and the sum, from the pivot on to the first index at which the list may end, or to where the weights stay
+/// the same, and None where one passes 8. `begun` has those to the pivot, and `low` is their sum.
+fn rise<const F: u32>(
+    mean: Iv<F>,
+    excess: Iv<F>,
+    pivot: u16,
+    begun: Vec<Iv<F>>,
+    low: Iv<F>,
+    wanted: usize,
+) -> Result<Option<Walked<F>>, NoMemory>
+    requires positive { 0 < mean.lo }
+    requires mean_top { IsWithinLimit F mean }
+    requires excess_top { excess.hi ≤ 2048 * 2 ^ F }
+    requires depth { pivot ≤ 256 }
+    requires place { pivot ≡ pivot_at F mean excess }
+    requires begun { Begins (weight_ends F mean excess) wanted (pivot + 1) begun.items }
+    requires low { SumsTo F mean excess low (pivot + 1) }
+    ensures wide { IfOk result (λ found. IfNone found (is_wide F mean.entry excess.entry ≡ true)) }
+    ensures known { IfOk result (λ found. IfSome found (λ b. Midway F mean.entry excess.entry wanted b.list.items b.sum b.last b.next)) }
+    ensures ratios { IfOk result (λ found. IfSome found (λ b. AreRatios F mean.entry excess.entry b.next b.ratios)) }
+{
+    let most = most_weight::<F>();
+    let first = u32::from(pivot) + 1;
+    let mut list = begun;
+    let mut sum = low;
+    let mut last = Iv::exact(1);
+    let mut ratios = Ratios::at(mean, excess, first);
+    for x in first..FIRST_END {
+        last = times(last, ratios.take(mean, excess, x));
+        if last.hi() > most {
+            return Ok(None);
+        }
+        sum = sum.add(last);
+        hold(&mut list, last, wanted)?;
+        if stays(mean, excess, last, x + 1) {
+            return Ok(Some(Walked {
+                list,
+                sum,
+                last,
+                next: x + 1,
+                ratios,
+            }));
+        }
+    }
+    let next = first.max(FIRST_END);
+    Ok(Some(Walked {
+        list,
+        sum,
+        last,
+        next,
+        ratios,
+    }))
+}
+
+/// So many first weights or more, from where they stay the same.
+fn filled<const F: u32>(
+    mean: Iv<F>,
+    excess: Iv<F>,
+    next: u32,
+    last: Iv<F>,
+    begun: Vec<Iv<F>>,
+    wanted: usize,
+) -> Result<Vec<Iv<F>>, NoMemory>
+    requires begun { Begins (weight_ends F mean excess) wanted next begun.items }
+    requires wanted { wanted ≤ least_end F mean excess }
+    requires same { (x : ℕ) → next ≤ x → x < least_end F mean excess → weight_ends F mean excess x ≡ last }
+    ensures begins { IfOk result (λ list. Begins (weight_ends F mean.entry excess.entry) wanted wanted list.items) }
+    ensures enough { IfOk result (λ list. wanted ≤ length list.items) }
+{
+    let mut list = begun;
+    for _x in list.len()..wanted {
+        list.push(last)?;
+    }
+    Ok(list)
+}
+
+/// The sum of the weights below the first index at which the list may end, from where they stay the same.
+fn level_sum<const F: u32>(
+    mean: Iv<F>,
+    excess: Iv<F>,
+    start: u32,
+    sum: Iv<F>,
+    last: Iv<F>,
+    next: u32,
+) -> Iv<F>
+    requires start { start ≡ least_end F mean excess }
+    requires depth { start ≤ 1025 }
+    requires next { next ≤ start }
+    requires top { last.hi ≤ 8 * 2 ^ F }
+    requires sums { SumsTo F mean excess sum next }
+    requires same { (x : ℕ) → next ≤ x → x < start → weight_ends F mean excess x ≡ last }
+    ensures { SumsTo F mean.entry excess.entry result start }
+{
+    sum.add(last.times(start - next))
+}
+
+/// The ratio at an index, from the one at another.
+fn brought<const F: u32>(
+    mean: Iv<F>,
+    excess: Iv<F>,
+    start: u32,
+    next: u32,
+    ratios: Ratios<F>,
+) -> Ratios<F>
+    requires mean_top { IsWithinLimit F mean }
+    requires excess_top { excess.hi ≤ 2048 * 2 ^ F }
+    requires from { 0 < start }
+    requires depth { start ≤ 1025 }
+    requires ratios { AreRatios F mean excess next ratios }
+    ensures { AreRatios F mean.entry excess.entry start result }
+{
+    if next == start {
+        ratios
+    } else {
+        ratios.again(mean, excess, start)
+    }
+}
+
+/// The sum of all weights with what the ones past the list come to at most, from those below the first index at which the list
+/// may end: `low` is their sum, and `before` the last of them. None where a weight passes 8 or the rest needn't fall.
+fn close<const F: u32>(
+    mean: Iv<F>,
+    excess: Iv<F>,
+    start: u32,
+    low: Iv<F>,
+    before: Iv<F>,
+    at: Ratios<F>,
+) -> Option<Iv<F>>
+    requires mean_top { IsWithinLimit F mean }
+    requires excess_top { excess.hi ≤ 2048 * 2 ^ F }
+    requires depth { pivot_at F mean excess ≤ 256 }
+    requires start { start ≡ least_end F mean excess }
+    requires begun { AtLeastEnd F mean excess low before }
+    requires ratios { AreRatios F mean excess start at }
+    ensures wide { IfNone result (is_wide F mean.entry excess.entry ≡ true) }
+    ensures known { IfSome result (IsSum F mean.entry excess.entry) }
+{
+    let most = most_weight::<F>();
+    let far = at.far(excess);
+    let mut sum = low;
+    let mut last = before;
+    let mut ratios = at;
+    let mut ratio = ratios.take(mean, excess, start);
+    for x in start..LAST_END + 1 {
+        last = times(last, ratio);
+        let top = last.hi();
+        if top > most {
+            return None;
+        }
+        sum = sum.add(last);
+        ratio = ratios.take(mean, excess, x + 1);
+        let bound = ratio.hi().max(far);
+        if let Some(rest) = rest_at::<F>(top, bound, x) {
+            return Some(Iv::of_ends(sum.lo(), sum.hi() + rest));
+        }
+    }
+    None
+}
+
+/// The first weights, `wanted` of them or more, at most 63 being wanted, and the sum of all, with a mean and an excess as
+/// [`crate::weights`] takes them. None where its answer is `Wide`. Want of memory is the only error.
+pub fn first_weights<const F: u32>(
+    alloc: Global,
+    mean: Iv<F>,
+    excess: Iv<F>,
+    wanted: usize,
+) -> Result<Option<Beginning<F>>, NoMemory>
+    requires positive { 0 < mean.lo }
+    requires mean_top { IsWithinLimit F mean }
+    requires excess_top { excess.hi ≤ 2048 * 2 ^ F }
+    requires wanted { wanted ≤ 63 }
+    ensures wide { IfOk result (λ found. IfNone found (is_wide F mean.entry excess.entry ≡ true)) }
+    ensures known { IfOk result (λ found. IfSome found (λ b. IsBeginning F mean.entry excess.entry wanted b.list.items b.sum)) }
+    ensures least { IfOk result (λ found. IfSome found (λ b. 2 ^ F ≤ b.sum.lo)) }
+{
+    let pivot = pivot_of(mean, excess);
+    let Some(begun) = down(alloc, mean, excess, pivot, wanted)? else {
+        return Ok(None);
+    };
+    let low = sum_of(&begun);
+    let Some(walked) = rise(mean, excess, pivot, begun, low, wanted)? else {
+        return Ok(None);
+    };
+    let start = (u32::from(pivot) + 1).max(FIRST_END);
+    let Walked {
+        list,
+        sum,
+        last,
+        next,
+        ratios,
+    } = walked;
+    let list = filled(mean, excess, next, last, list, wanted)?;
+    let low = level_sum(mean, excess, start, sum, last, next);
+    let ratios = brought(mean, excess, start, next, ratios);
+    match close(mean, excess, start, low, last, ratios) {
+        Some(sum) => Ok(Some(Beginning { list, sum })),
+        None => Ok(None),
+    }
+}
