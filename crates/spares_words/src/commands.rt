@@ -1,10 +1,47 @@
 //! The commands, for `clap`.
 ghost use Rattle.std.specs.Prelude.{◌≡◌, IfOk, false};
 ghost use Rattle.clap.specs.Words.{app_of, rule_of, with_rule};
-ghost use Rattle.spares_words.specs.Commands.{bare, eval_app, option, positional, required_option, single_app, with_tables};
+ghost use Rattle.spares_words.specs.Commands.{
+  app_named,
+  bare,
+  check_app,
+  command_named,
+  demo_app,
+  eval_app,
+  option,
+  plan_app,
+  positional,
+  required_option,
+  single_app,
+  with_tables,
+};
 
 use clap::{Arg, Command};
 use std::alloc::{AllocError, Global};
+
+/// A command of the program.
+#[derive(Clone, Copy, Debug, PartialEq, Eq)]
+pub(crate) enum CommandName {
+    Single,
+    Eval,
+    Plan,
+    Check,
+    Demo,
+}
+
+/// The command of this name.
+pub(crate) fn command_named(name: &str) -> Option<CommandName>
+    ensures { result ≡ command_named name.now }
+{
+    match name {
+        "single" => Some(CommandName::Single),
+        "eval" => Some(CommandName::Eval),
+        "plan" => Some(CommandName::Plan),
+        "check" => Some(CommandName::Check),
+        "demo" => Some(CommandName::Demo),
+        _ => None,
+    }
+}
 
 /// A value that stands by itself and may not be left out.
 fn positional<'a>(alloc: Global, id: &'a str) -> Arg<'a>
@@ -48,7 +85,7 @@ fn with_arg<'a>(command: Command<'a>, arg: Arg<'a>) -> Result<Command<'a>, Alloc
 
 /// `single MEAN STOCK [--variance V]`.
 #[tactic(auto, unfolding(crate::specs::Commands::single_app))]
-pub(crate) fn single_command<'a>(alloc: Global) -> Result<Command<'a>, AllocError>
+fn single_command<'a>(alloc: Global) -> Result<Command<'a>, AllocError>
     ensures { IfOk result (λ c. app_of c ≡ single_app) }
 {
     let command = with_arg(bare(alloc, "single"), positional(alloc, "mean"))?;
@@ -67,10 +104,51 @@ fn with_tables<'a>(alloc: Global, command: Command<'a>) -> Result<Command<'a>, A
 
 /// `eval --sites F --parts F --rates F --stocks F [--bits N]`.
 #[tactic(auto, unfolding(crate::specs::Commands::eval_app))]
-pub(crate) fn eval_command<'a>(alloc: Global) -> Result<Command<'a>, AllocError>
+fn eval_command<'a>(alloc: Global) -> Result<Command<'a>, AllocError>
     ensures { IfOk result (λ c. app_of c ≡ eval_app) }
 {
     let command = with_tables(alloc, bare(alloc, "eval"))?;
     let command = with_arg(command, required_option(alloc, "stocks"))?;
     with_arg(command, option(alloc, "bits"))
+}
+
+/// `plan --sites F --parts F --rates F --budget N --certificate F [--format N]`.
+#[tactic(auto, unfolding(crate::specs::Commands::plan_app))]
+fn plan_command<'a>(alloc: Global) -> Result<Command<'a>, AllocError>
+    ensures { IfOk result (λ c. app_of c ≡ plan_app) }
+{
+    let command = with_tables(alloc, bare(alloc, "plan"))?;
+    let command = with_arg(command, required_option(alloc, "budget"))?;
+    let command = with_arg(command, required_option(alloc, "certificate"))?;
+    with_arg(command, option(alloc, "format"))
+}
+
+/// `check --certificate F`.
+#[tactic(auto, unfolding(crate::specs::Commands::check_app))]
+fn check_command<'a>(alloc: Global) -> Result<Command<'a>, AllocError>
+    ensures { IfOk result (λ c. app_of c ≡ check_app) }
+{
+    with_arg(bare(alloc, "check"), required_option(alloc, "certificate"))
+}
+
+/// `demo NUMBER LINES`.
+#[tactic(auto, unfolding(crate::specs::Commands::demo_app))]
+fn demo_command<'a>(alloc: Global) -> Result<Command<'a>, AllocError>
+    ensures { IfOk result (λ c. app_of c ≡ demo_app) }
+{
+    let command = with_arg(bare(alloc, "demo"), positional(alloc, "number"))?;
+    with_arg(command, positional(alloc, "lines"))
+}
+
+/// A command with its arguments and options.
+pub(crate) fn command_of<'a>(alloc: Global, name: CommandName) -> Result<Command<'a>, AllocError>
+    ensures { IfOk result (λ c. app_of c ≡ app_named name) }
+{
+    match name {
+        CommandName::Single => single_command(alloc),
+        CommandName::Eval => eval_command(alloc),
+        CommandName::Plan => plan_command(alloc),
+        CommandName::Check => check_command(alloc),
+        CommandName::Demo => demo_command(alloc),
+    }
 }

@@ -1,7 +1,7 @@
 //! The numbers of a command line.
 ghost use Rattle.std.specs.Prelude.{◌≡◌, ◌≤◌, IfOk, IfSome, option_map};
 ghost use Rattle.fixed_interval.specs.Widths.{IsWidth, is_width};
-ghost use Rattle.spares_words.specs.Order.{bits_of, number_of, optional_of, whole_of};
+ghost use Rattle.spares_words.specs.Order.{bits_of, format_of, number_of, optional_of, whole_of};
 
 use crate::{Which, WordsFault};
 use exact_ratio::{Decimal, read_decimal};
@@ -34,14 +34,15 @@ pub(crate) fn optional(
     }
 }
 
-/// The whole number that a text gives, if it is at most `most`.
-pub(crate) fn whole(which: Which, most: u8, text: &str) -> Result<u8, WordsFault>
-    ensures value { result ≡ whole_of which most text.now }
-    ensures range { IfOk result (λ number. number ≤ most) }
+/// The whole number that a text gives, if it is one from `least` to `most`.
+pub(crate) fn whole(which: Which, least: u64, most: u64, text: &str) -> Result<u64, WordsFault>
+    ensures value { result ≡ whole_of which least most text.now }
+    ensures least { IfOk result (λ number. least ≤ number) }
+    ensures most { IfOk result (λ number. number ≤ most) }
 {
     let number = number(which, 0, text)?;
-    if number.units <= most as u64 {
-        Ok(number.units as u8)
+    if least <= number.units && number.units <= most {
+        Ok(number.units)
     } else {
         Err(WordsFault::Range(which))
     }
@@ -67,5 +68,17 @@ pub(crate) fn bits(text: Option<&str>) -> Result<u8, WordsFault>
         Ok(number.units as u8)
     } else {
         Err(WordsFault::Range(Which::Bits))
+    }
+}
+
+/// The format of a text that may be left out: then it is 1.
+pub(crate) fn format(text: Option<&str>) -> Result<u8, WordsFault>
+    ensures value { result ≡ format_of (option_map (λ s. s.now) text.entry) }
+    ensures least { IfOk result (λ format. 1 ≤ format) }
+    ensures most { IfOk result (λ format. format ≤ 2) }
+{
+    match text {
+        None => Ok(1),
+        Some(text) => Ok(whole(Which::Format, 1, 2, text)? as u8),
     }
 }

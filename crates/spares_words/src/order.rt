@@ -11,8 +11,16 @@ pub enum Which {
     Stock,
     /// `--variance V`, with up to 4 decimals.
     Variance,
+    /// `--budget N`, a whole number from 0 to 10^15.
+    Budget,
     /// `--bits 32`, `48` or `52`.
     Bits,
+    /// `NUMBER`, a whole number from 0 to 4,294,967,295.
+    Number,
+    /// `LINES`, a whole number from 1 to 80.
+    Lines,
+    /// `--format 1` or `2`.
+    Format,
 }
 
 /// Why the words of a command line give no order.
@@ -44,5 +52,25 @@ pub enum Order {
         rates: Text,
         stocks: Text,
         bits: u8,
+    },
+    /// `plan --sites F --parts F --rates F --budget N --certificate F [--format N]`: the best stocks for at most
+    /// this money, 0 to 10^15, and a certificate that shows how good they are, to be written under a name. The
+    /// format of the certificate is 1 or 2, and 1 where none is given.
+    Plan {
+        sites: Text,
+        parts: Text,
+        rates: Text,
+        budget: u64,
+        format: u8,
+        certificate: Text,
+    },
+    /// `check --certificate F`: whether a certificate shows what it claims.
+    Check {
+        certificate: Text,
+    },
+    /// `demo NUMBER LINES`: a case of 1 to 80 line units, made from its number, planned and checked.
+    Demo {
+        number: u32,
+        lines: u16,
     },
 }
