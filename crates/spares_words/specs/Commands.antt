@@ -55,13 +55,21 @@ eval_app =
     (required_option (codes "stocks")))
     (option (codes "bits"))
 
--- plan --sites F --parts F --rates F --budget N --certificate F [--format N]
-unfoldable pub plan_app : App
-plan_app =
-    with_rule (with_rule (with_rule (with_tables (bare (codes "plan")))
+-- the options of what a plan is to reach
+abbrev pub with_aim : App → App
+with_aim app =
+    with_rule (with_rule (with_rule app
     (required_option (codes "budget")))
-    (required_option (codes "certificate")))
-    (option (codes "format"))
+    (option (codes "on-hand")))
+    (option (codes "objective"))
+
+-- the options of the certificate that a plan writes
+abbrev pub with_certificate : App → App
+with_certificate app = with_rule (with_rule app (required_option (codes "certificate"))) (option (codes "format"))
+
+-- plan --sites F --parts F --rates F [--on-hand F] --budget N [--format N] [--objective NAME] --certificate F
+unfoldable pub plan_app : App
+plan_app = with_certificate (with_aim (with_tables (bare (codes "plan"))))
 
 -- check --certificate F
 unfoldable pub check_app : App

@@ -1,5 +1,5 @@
 -- The order that the words of a command line give.
-use Rattle.std.specs.Prelude.{◌≡◌, ◌≤◌, ⊤, false, ℕ, List, [], ◌∷◌, Option, Some, None, IfSome, Result, Ok, Err, if◌then◌else◌, ◌&&◌, nat_le, codes, unwrap_or}
+use Rattle.std.specs.Prelude.{◌≡◌, ◌≤◌, ⊤, false, ℕ, List, [], ◌∷◌, Option, Some, None, IfSome, Result, Ok, Err, if◌then◌else◌, ◌&&◌, nat_le, codes, bytes_eq, unwrap_or}
 use Rattle.clap.specs.Words.{App, Row, Text, first_of, found_of, rows_of, matches_of, fault_of}
 use Rattle.clap.specs.Walk.{is_empty}
 use Rattle.clap.specs.declared.parser.matches.ArgMatches.{ArgMatches}
@@ -7,6 +7,9 @@ use Rattle.exact_ratio.specs.Decimal.{decimal_of}
 use Rattle.exact_ratio.specs.declared.Decimal.{Decimal}
 use Rattle.exact_ratio.specs.declared.NumberFault.{NumberFault}
 use Rattle.fixed_interval.specs.Widths.{is_width, IsWidth}
+use Rattle.price_certificate.specs.Grammar.{objective_name}
+use Rattle.price_certificate.specs.declared.certificate.Objective.{Objective}
+use Rattle.price_certificate.specs.declared.certificate.Objective.TheVariants as objective
 use Rattle.spares_io.specs.Steps.{◌>>=◌}
 use Rattle.spares_io.specs.declared.stop.Stop.{Stop}
 use Rattle.spares_io.specs.declared.stop.Stop.TheVariants as stop
@@ -88,29 +91,53 @@ eval_of rows = eval_from (names_of rows) (text_of rows (codes "stocks")) (first_
 abbrev pub most_budget : ℕ
 most_budget = 1000000000000000
 
--- the format of certificates that a text gives, and 1 where there is none
-abbrev pub format_of : Option Text → Result ℕ WordsFault
-format_of None = Ok 1
-format_of (Some text) = whole_of which.Format 1 2 text
+-- the objective of a text, if there is one of this name, and backorders where there is no text
+abbrev pub objective_of : Option Text → Option Objective
+objective_of None = Some objective.Backorders
+objective_of (Some name) =
+    if bytes_eq name (objective_name objective.Backorders) then Some objective.Backorders
+    else if bytes_eq name (objective_name objective.LogAvailability) then Some objective.LogAvailability
+    else None
 
--- what the texts of `plan` say beside names: the budget, then the format
-abbrev pub plan_terms_from : Text → Option Text → Result PlanTerms WordsFault
-plan_terms_from budget_text format_text = do
+-- an objective that was named must be there
+abbrev pub objective_from : Option Objective → Result Objective WordsFault
+objective_from (Some objective) = Ok objective
+objective_from None = Err (Range which.Objective)
+
+-- the lowest format that a plan may have: with stocks on hand or by the loss of availability it is the second
+abbrev pub lowest_format : Option Text → Option Objective → ℕ
+lowest_format (Some on_hand) _ = 2
+lowest_format None (Some objective.LogAvailability) = 2
+lowest_format None (Some objective.Backorders) = 1
+lowest_format None None = 1
+
+-- the format of certificates that a text gives, and the lowest where there is none
+abbrev pub format_of : ℕ → Option Text → Result ℕ WordsFault
+format_of lowest None = Ok lowest
+format_of lowest (Some text) = whole_of which.Format lowest 2 text
+
+-- what the texts of `plan` say beside names: the budget, then the format, then the objective
+abbrev pub plan_terms_from : Option Text → Text → Option Text → Option Text → Result PlanTerms WordsFault
+plan_terms_from on_hand budget_text format_text objective_text = do
   budget ← whole_of which.Budget 0 most_budget budget_text
-  format ← format_of format_text
-  Ok (record { budget = budget; format = format })
+  format ← format_of (lowest_format on_hand (objective_of objective_text)) format_text
+  objective ← objective_from (objective_of objective_text)
+  Ok (record { budget = budget; format = format; objective = objective })
 
 abbrev pub plan_terms_of : List Row → Result PlanTerms WordsFault
-plan_terms_of rows = plan_terms_from (text_of rows (codes "budget")) (first_of (codes "format") rows)
+plan_terms_of rows =
+    plan_terms_from (first_of (codes "on-hand") rows) (text_of rows (codes "budget"))
+    (first_of (codes "format") rows) (first_of (codes "objective") rows)
 
 -- `plan` with the names as they stand
-abbrev pub plan_from : Names → Result PlanTerms WordsFault → Text → Result Order WordsFault
-plan_from names terms_read certificate = do
+abbrev pub plan_from : Names → Option Text → Result PlanTerms WordsFault → Text → Result Order WordsFault
+plan_from names on_hand terms_read certificate = do
   terms ← terms_read
-  Ok (Plan names.sites names.parts names.rates terms.budget terms.format certificate)
+  Ok (Plan names.sites names.parts names.rates on_hand terms.budget terms.format terms.objective certificate)
 
 abbrev pub plan_of : List Row → Result Order WordsFault
-plan_of rows = plan_from (names_of rows) (plan_terms_of rows) (text_of rows (codes "certificate"))
+plan_of rows =
+    plan_from (names_of rows) (first_of (codes "on-hand") rows) (plan_terms_of rows) (text_of rows (codes "certificate"))
 
 -- `check` takes any name
 abbrev pub check_of : List Row → Result Order WordsFault
@@ -150,13 +177,18 @@ unfoldable pub order_of : List Text → Result Order WordsFault
 order_of [] = Err Shape
 order_of (name ∷ rest) = by_named (command_named name) (name ∷ rest)
 
+-- the ranges of what `plan` says beside names
+abbrev pub AreInRange : Option Text → PlanTerms → Type 0
+AreInRange on_hand terms =
+    (terms.budget ≤ most_budget) × (lowest_format on_hand (Some terms.objective) ≤ terms.format) × (terms.format ≤ 2)
+
 -- the ranges of the numbers of an order
 abbrev pub IsInRange : Order → Type 0
 IsInRange (Single mean variance stock) =
     (mean.places ≡ 4) × IfSome variance (λ v. v.places ≡ 4) × (stock ≤ 63)
 IsInRange (Eval sites parts rates stocks bits) = IsWidth bits
-IsInRange (Plan sites parts rates budget format certificate) =
-    (budget ≤ most_budget) × (1 ≤ format) × (format ≤ 2)
+IsInRange (Plan sites parts rates on_hand budget format objective certificate) =
+    AreInRange on_hand (record { budget = budget; format = format; objective = objective })
 IsInRange (Check certificate) = ⊤
 IsInRange (Demo number lines) = (number ≤ 4294967295) × (1 ≤ lines) × (lines ≤ 80)
 

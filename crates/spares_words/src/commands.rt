@@ -13,6 +13,8 @@ ghost use Rattle.spares_words.specs.Commands.{
   positional,
   required_option,
   single_app,
+  with_aim,
+  with_certificate,
   with_tables,
 };
 
@@ -83,23 +85,56 @@ fn with_arg<'a>(command: Command<'a>, arg: Arg<'a>) -> Result<Command<'a>, Alloc
     command.arg(arg)
 }
 
+/// The command with a value that stands by itself.
+fn with_positional<'a>(
+    alloc: Global,
+    command: Command<'a>,
+    id: &'a str,
+) -> Result<Command<'a>, AllocError>
+    ensures { IfOk result (λ c. app_of c ≡ with_rule (app_of command.entry) (positional id.entry.now)) }
+{
+    with_arg(command, positional(alloc, id))
+}
+
+/// The command with an option that may be left out.
+fn with_option<'a>(
+    alloc: Global,
+    command: Command<'a>,
+    id: &'a str,
+) -> Result<Command<'a>, AllocError>
+    ensures { IfOk result (λ c. app_of c ≡ with_rule (app_of command.entry) (option id.entry.now)) }
+{
+    with_arg(command, option(alloc, id))
+}
+
+/// The command with an option that may not be left out.
+fn with_required<'a>(
+    alloc: Global,
+    command: Command<'a>,
+    id: &'a str,
+) -> Result<Command<'a>, AllocError>
+    ensures { IfOk result (λ c. app_of c ≡ with_rule (app_of command.entry) (required_option id.entry.now)) }
+{
+    with_arg(command, required_option(alloc, id))
+}
+
 /// `single MEAN STOCK [--variance V]`.
 #[tactic(auto, unfolding(crate::specs::Commands::single_app))]
 fn single_command<'a>(alloc: Global) -> Result<Command<'a>, AllocError>
     ensures { IfOk result (λ c. app_of c ≡ single_app) }
 {
-    let command = with_arg(bare(alloc, "single"), positional(alloc, "mean"))?;
-    let command = with_arg(command, positional(alloc, "stock"))?;
-    with_arg(command, option(alloc, "variance"))
+    let command = with_positional(alloc, bare(alloc, "single"), "mean")?;
+    let command = with_positional(alloc, command, "stock")?;
+    with_option(alloc, command, "variance")
 }
 
 /// The options that name the tables of a case.
 fn with_tables<'a>(alloc: Global, command: Command<'a>) -> Result<Command<'a>, AllocError>
     ensures { IfOk result (λ c. app_of c ≡ with_tables (app_of command.entry)) }
 {
-    let command = with_arg(command, required_option(alloc, "sites"))?;
-    let command = with_arg(command, required_option(alloc, "parts"))?;
-    with_arg(command, required_option(alloc, "rates"))
+    let command = with_required(alloc, command, "sites")?;
+    let command = with_required(alloc, command, "parts")?;
+    with_required(alloc, command, "rates")
 }
 
 /// `eval --sites F --parts F --rates F --stocks F [--bits N]`.
@@ -108,19 +143,35 @@ fn eval_command<'a>(alloc: Global) -> Result<Command<'a>, AllocError>
     ensures { IfOk result (λ c. app_of c ≡ eval_app) }
 {
     let command = with_tables(alloc, bare(alloc, "eval"))?;
-    let command = with_arg(command, required_option(alloc, "stocks"))?;
-    with_arg(command, option(alloc, "bits"))
+    let command = with_required(alloc, command, "stocks")?;
+    with_option(alloc, command, "bits")
 }
 
-/// `plan --sites F --parts F --rates F --budget N --certificate F [--format N]`.
+/// The options of what a plan is to reach: the money, the stocks on hand and the objective.
+fn with_aim<'a>(alloc: Global, command: Command<'a>) -> Result<Command<'a>, AllocError>
+    ensures { IfOk result (λ c. app_of c ≡ with_aim (app_of command.entry)) }
+{
+    let command = with_required(alloc, command, "budget")?;
+    let command = with_option(alloc, command, "on-hand")?;
+    with_option(alloc, command, "objective")
+}
+
+/// The options of the certificate that a plan writes.
+fn with_certificate<'a>(alloc: Global, command: Command<'a>) -> Result<Command<'a>, AllocError>
+    ensures { IfOk result (λ c. app_of c ≡ with_certificate (app_of command.entry)) }
+{
+    let command = with_required(alloc, command, "certificate")?;
+    with_option(alloc, command, "format")
+}
+
+/// `plan --sites F --parts F --rates F [--on-hand F] --budget N [--format N] [--objective NAME] --certificate F`.
 #[tactic(auto, unfolding(crate::specs::Commands::plan_app))]
 fn plan_command<'a>(alloc: Global) -> Result<Command<'a>, AllocError>
     ensures { IfOk result (λ c. app_of c ≡ plan_app) }
 {
     let command = with_tables(alloc, bare(alloc, "plan"))?;
-    let command = with_arg(command, required_option(alloc, "budget"))?;
-    let command = with_arg(command, required_option(alloc, "certificate"))?;
-    with_arg(command, option(alloc, "format"))
+    let command = with_aim(alloc, command)?;
+    with_certificate(alloc, command)
 }
 
 /// `check --certificate F`.
@@ -128,7 +179,7 @@ fn plan_command<'a>(alloc: Global) -> Result<Command<'a>, AllocError>
 fn check_command<'a>(alloc: Global) -> Result<Command<'a>, AllocError>
     ensures { IfOk result (λ c. app_of c ≡ check_app) }
 {
-    with_arg(bare(alloc, "check"), required_option(alloc, "certificate"))
+    with_required(alloc, bare(alloc, "check"), "certificate")
 }
 
 /// `demo NUMBER LINES`.
@@ -136,8 +187,8 @@ fn check_command<'a>(alloc: Global) -> Result<Command<'a>, AllocError>
 fn demo_command<'a>(alloc: Global) -> Result<Command<'a>, AllocError>
     ensures { IfOk result (λ c. app_of c ≡ demo_app) }
 {
-    let command = with_arg(bare(alloc, "demo"), positional(alloc, "number"))?;
-    with_arg(command, positional(alloc, "lines"))
+    let command = with_positional(alloc, bare(alloc, "demo"), "number")?;
+    with_positional(alloc, command, "lines")
 }
 
 /// A command with its arguments and options.

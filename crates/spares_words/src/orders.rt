@@ -3,6 +3,7 @@ ghost use Rattle.std.specs.Prelude.{◌≡◌, ◌≤◌, codes, IfOk, Ok};
 ghost use Rattle.clap.specs.Words.{first_of, found_of, rows_of};
 ghost use Rattle.spares_io.specs.Answers.{Gives};
 ghost use Rattle.spares_words.specs.Order.{
+  AreInRange,
   IsInRange,
   check_of,
   demo_of,
@@ -14,10 +15,11 @@ ghost use Rattle.spares_words.specs.Order.{
 };
 
 use crate::commands::CommandName;
-use crate::number::{bits, format, number, optional, whole};
-use crate::values::{Names, copied, names_of, text_of, value_of};
+use crate::number::{bits, format, lowest_format, number, objective_of, optional, whole};
+use crate::values::{Names, copied, copied_if_given, names_of, text_of, value_of};
 use crate::{Order, Which, WordsFault};
 use clap::ArgMatches;
+use price_certificate::Objective;
 use spares_io::{Stop, Text};
 use std::alloc::Global;
 
@@ -63,26 +65,37 @@ fn eval_order(alloc: Global, matches: &ArgMatches<'_>) -> Result<Order, Stop<Wor
 struct PlanTerms {
     budget: u64,
     format: u8,
+    objective: Objective,
 }
 
 fn plan_terms(matches: &ArgMatches<'_>) -> Result<PlanTerms, WordsFault>
-    ensures { result ≡ plan_terms_of (rows_of (found_of matches.now)) }
+    ensures terms { result ≡ plan_terms_of (rows_of (found_of matches.now)) }
+    ensures range { IfOk result (λ terms. AreInRange (first_of (codes "on-hand") (rows_of (found_of matches.now))) terms) }
 {
-    let budget = whole(
-        Which::Budget,
-        0,
-        1_000_000_000_000_000,
-        text_of(matches, "budget"),
-    )?;
-    let format = format(value_of(matches, "format"))?;
-    Ok(PlanTerms { budget, format })
+    let objective = objective_of(value_of(matches, "objective"));
+    let lowest = lowest_format(value_of(matches, "on-hand"), objective);
+    let most = 1_000_000_000_000_000;
+    let budget = whole(Which::Budget, 0, most, text_of(matches, "budget"))?;
+    let format = format(lowest, value_of(matches, "format"))?;
+    match objective {
+        Some(objective) => Ok(PlanTerms {
+            budget,
+            format,
+            objective,
+        }),
+        None => Err(WordsFault::Range(Which::Objective)),
+    }
 }
 
 fn plan_order(alloc: Global, matches: &ArgMatches<'_>) -> Result<Order, Stop<WordsFault>>
     ensures order { Gives (plan_of (rows_of (found_of matches.now))) result }
     ensures range { IfOk result IsInRange }
 {
-    let PlanTerms { budget, format } = match plan_terms(matches) {
+    let PlanTerms {
+        budget,
+        format,
+        objective,
+    } = match plan_terms(matches) {
         Ok(terms) => terms,
         Err(fault) => return Err(Stop::Fault(fault)),
     };
@@ -91,13 +104,16 @@ fn plan_order(alloc: Global, matches: &ArgMatches<'_>) -> Result<Order, Stop<Wor
         parts,
         rates,
     } = names_of(alloc, matches)?;
+    let on_hand = copied_if_given(alloc, matches, "on-hand")?;
     let certificate = copied(alloc, matches, "certificate")?;
     Ok(Order::Plan {
         sites,
         parts,
         rates,
+        on_hand,
         budget,
         format,
+        objective,
         certificate,
     })
 }

@@ -3,6 +3,8 @@ use crate::WordsFault::{Number, Range, Shape};
 use crate::{Order, Which, WordsFault, read_words};
 use exact_ratio::Decimal;
 use exact_ratio::NumberFault::{BadByte, Empty, TooLarge, TooManyPlaces};
+use price_certificate::Objective;
+use price_certificate::Objective::{Backorders, LogAvailability};
 use spares_io::{NoMemory, Stop, Text};
 use std::alloc::Global;
 use std::process::Abort;
@@ -96,15 +98,28 @@ fn takes_eval_with_its_options_in_any_order(rt: HostRuntime) -> Result<(), Fail>
     Ok(())
 }
 
-/// The order of `plan` with these names of files, parted by single spaces, budget and format.
-fn plan_order(alloc: Global, names: [&str; 4], budget: u64, format: u8) -> Result<Order, NoMemory> {
+/// The order of `plan` with these names of its tables and certificate, parted by single spaces, and the rest.
+fn plan_order(
+    alloc: Global,
+    names: [&str; 4],
+    on_hand: Option<&str>,
+    budget: u64,
+    format: u8,
+    objective: Objective,
+) -> Result<Order, NoMemory> {
     let [sites, parts, rates, certificate] = names;
+    let on_hand = match on_hand {
+        Some(name) => Some(Text::from_str(alloc, name)?),
+        None => None,
+    };
     Ok(Order::Plan {
         sites: Text::from_str(alloc, sites)?,
         parts: Text::from_str(alloc, parts)?,
         rates: Text::from_str(alloc, rates)?,
+        on_hand,
         budget,
         format,
+        objective,
         certificate: Text::from_str(alloc, certificate)?,
     })
 }
@@ -135,8 +150,34 @@ const PLANS: [(&str, [&str; 4], u64, u8); 3] = [
 fn takes_plan(rt: HostRuntime) -> Result<(), Fail> {
     let alloc = rt.alloc();
     for (line, names, budget, format) in PLANS {
-        let want = plan_order(alloc, names, budget, format)?;
+        let want = plan_order(alloc, names, None, budget, format, Backorders)?;
         assert_eq!(rt; order_of_line(alloc, line), Ok(want), "at {line}");
+    }
+    Ok(())
+}
+
+/// What may follow the names, with the stocks on hand, the format and the objective that it gives.
+const AIMS: [(&str, Option<&str>, u8, Objective); 4] = [
+    ("--objective backorders", None, 1, Backorders),
+    ("--objective log-availability", None, 2, LogAvailability),
+    ("--on-hand e", Some("e"), 2, Backorders),
+    (
+        "--format 2 --objective=log-availability --on-hand=",
+        Some(""),
+        2,
+        LogAvailability,
+    ),
+];
+
+#[test]
+fn takes_stocks_on_hand_and_objectives(rt: HostRuntime) -> Result<(), Fail> {
+    let alloc = rt.alloc();
+    for (end, on_hand, format, objective) in AIMS {
+        let line = format!(in alloc;
+            "plan --sites a --parts b --rates c --budget 1 --certificate d {end}"
+        )?;
+        let want = plan_order(alloc, ["a", "b", "c", "d"], on_hand, 1, format, objective)?;
+        assert_eq!(rt; order_of_line(alloc, line.as_str()), Ok(want), "at {line}");
     }
     Ok(())
 }
@@ -333,6 +374,29 @@ fn refuses_plans(rt: HostRuntime) -> Result<(), Fail> {
         rt.alloc(),
         "plan --sites a --parts b --rates c",
         &REFUSED_PLANS,
+    )
+}
+
+/// What may not follow them with stocks on hand or an objective, with its fault.
+const REFUSED_AIMS: [(&str, WordsFault); 8] = [
+    ("--objective availability", Range(Which::Objective)),
+    ("--objective=", Range(Which::Objective)),
+    ("--objective", Shape),
+    ("--on-hand e --format 1", Range(Format)),
+    ("--objective log-availability --format 1", Range(Format)),
+    // The format is read before the objective.
+    ("--objective x --format 3", Range(Format)),
+    ("--objective x --on-hand e --format 1", Range(Format)),
+    ("--objective x --format 1", Range(Which::Objective)),
+];
+
+#[test]
+fn refuses_stocks_on_hand_and_objectives(rt: HostRuntime) -> Result<(), Fail> {
+    refuses_after(
+        &rt,
+        rt.alloc(),
+        "plan --sites a --parts b --rates c --budget 1 --certificate d",
+        &REFUSED_AIMS,
     )
 }
 

@@ -26,6 +26,15 @@ pub(crate) fn text_of<'a>(matches: &ArgMatches<'a>, id: &str) -> &'a str
     }
 }
 
+fn copy_of(alloc: Global, text: &str) -> Result<Text, Stop<WordsFault>>
+    ensures { Gives (Ok text.now) result }
+{
+    match Text::from_str(alloc, text) {
+        Ok(text) => Ok(text),
+        Err(_) => Err(Stop::NoMemory),
+    }
+}
+
 /// A copy of the value of an argument that may not be left out.
 pub(crate) fn copied(
     alloc: Global,
@@ -34,9 +43,20 @@ pub(crate) fn copied(
 ) -> Result<Text, Stop<WordsFault>>
     ensures { Gives (Ok (text_of (rows_of (found_of matches.now)) id.now)) result }
 {
-    match Text::from_str(alloc, text_of(matches, id)) {
-        Ok(text) => Ok(text),
-        Err(_) => Err(Stop::NoMemory),
+    copy_of(alloc, text_of(matches, id))
+}
+
+/// A copy of the value of an argument that may be left out.
+pub(crate) fn copied_if_given(
+    alloc: Global,
+    matches: &ArgMatches<'_>,
+    id: &str,
+) -> Result<Option<Text>, Stop<WordsFault>>
+    ensures { Gives (Ok (first_of id.now (rows_of (found_of matches.now)))) result }
+{
+    match value_of(matches, id) {
+        Some(text) => Ok(Some(copy_of(alloc, text)?)),
+        None => Ok(None),
     }
 }
 
