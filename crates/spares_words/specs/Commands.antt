@@ -1,7 +1,20 @@
 -- The commands of the command line, as `clap` knows them: no help, no version, no subcommands.
-use Rattle.std.specs.Prelude.{true, Some, codes}
+use Rattle.std.specs.Prelude.{true, Option, Some, None, if◌then◌else◌, codes}
+use Rattle.std.specs.Str.{bytes_eq}
 use Rattle.clap.specs.Words.{App, Rule, Text, new_rule, with_rule, new_app}
 use Rattle.clap.specs.Simple.{on_top}
+use Rattle.spares_words.specs.declared.commands.CommandName.{CommandName}
+use Rattle.spares_words.specs.declared.commands.CommandName.TheVariants.{Single, Eval, Plan, Check, Demo}
+
+-- the command of this name
+abbrev pub command_named : Text → Option CommandName
+command_named name =
+    if bytes_eq name (codes "single") then Some Single
+    else if bytes_eq name (codes "eval") then Some Eval
+    else if bytes_eq name (codes "plan") then Some Plan
+    else if bytes_eq name (codes "check") then Some Check
+    else if bytes_eq name (codes "demo") then Some Demo
+    else None
 
 -- a value that stands by itself and may not be left out
 abbrev pub positional : Text → Rule
@@ -41,3 +54,38 @@ eval_app =
     with_rule (with_rule (with_tables (bare (codes "eval")))
     (required_option (codes "stocks")))
     (option (codes "bits"))
+
+-- the options of what a plan is to reach
+abbrev pub with_aim : App → App
+with_aim app =
+    with_rule (with_rule (with_rule app
+    (required_option (codes "budget")))
+    (option (codes "on-hand")))
+    (option (codes "objective"))
+
+-- the options of the certificate that a plan writes
+abbrev pub with_certificate : App → App
+with_certificate app = with_rule (with_rule app (required_option (codes "certificate"))) (option (codes "format"))
+
+-- plan --sites F --parts F --rates F [--on-hand F] --budget N [--format N] [--objective NAME] --certificate F
+unfoldable pub plan_app : App
+plan_app = with_certificate (with_aim (with_tables (bare (codes "plan"))))
+
+-- check --certificate F
+unfoldable pub check_app : App
+check_app = with_rule (bare (codes "check")) (required_option (codes "certificate"))
+
+-- demo NUMBER LINES
+unfoldable pub demo_app : App
+demo_app =
+    with_rule (with_rule (bare (codes "demo"))
+    (positional (codes "number")))
+    (positional (codes "lines"))
+
+-- a command with its arguments and options
+abbrev pub app_named : CommandName → App
+app_named Single = single_app
+app_named Eval = eval_app
+app_named Plan = plan_app
+app_named Check = check_app
+app_named Demo = demo_app

@@ -1,6 +1,5 @@
 -- The order that the words of a command line give.
-use Rattle.std.specs.Prelude.{◌≡◌, ◌≤◌, ⊤, false, ℕ, List, [], ◌∷◌, Option, Some, None, IfSome, Result, Ok, Err, if◌then◌else◌, nat_le, codes, unwrap_or}
-use Rattle.std.specs.Str.{bytes_eq}
+use Rattle.std.specs.Prelude.{◌≡◌, ◌≤◌, ⊤, false, ℕ, List, [], ◌∷◌, Option, Some, None, IfSome, Result, Ok, Err, if◌then◌else◌, ◌&&◌, nat_le, codes, bytes_eq, unwrap_or}
 use Rattle.clap.specs.Words.{App, Row, Text, first_of, found_of, rows_of, matches_of, fault_of}
 use Rattle.clap.specs.Walk.{is_empty}
 use Rattle.clap.specs.declared.parser.matches.ArgMatches.{ArgMatches}
@@ -8,16 +7,23 @@ use Rattle.exact_ratio.specs.Decimal.{decimal_of}
 use Rattle.exact_ratio.specs.declared.Decimal.{Decimal}
 use Rattle.exact_ratio.specs.declared.NumberFault.{NumberFault}
 use Rattle.fixed_interval.specs.Widths.{is_width, IsWidth}
+use Rattle.price_certificate.specs.Grammar.{objective_name}
+use Rattle.price_certificate.specs.declared.certificate.Objective.{Objective}
+use Rattle.price_certificate.specs.declared.certificate.Objective.TheVariants as objective
 use Rattle.spares_io.specs.Steps.{◌>>=◌}
 use Rattle.spares_io.specs.declared.stop.Stop.{Stop}
 use Rattle.spares_io.specs.declared.stop.Stop.TheVariants as stop
-use Rattle.spares_words.specs.Commands.{eval_app, single_app}
+use Rattle.spares_words.specs.Commands.{app_named, command_named}
+use Rattle.spares_words.specs.declared.commands.CommandName.{CommandName}
+use Rattle.spares_words.specs.declared.commands.CommandName.TheVariants as command
 use Rattle.spares_words.specs.declared.order.Order.{Order}
-use Rattle.spares_words.specs.declared.order.Order.TheVariants.{Single, Eval}
+use Rattle.spares_words.specs.declared.order.Order.TheVariants.{Single, Eval, Plan, Check, Demo}
 use Rattle.spares_words.specs.declared.order.Which.{Which}
-use Rattle.spares_words.specs.declared.order.Which.TheVariants.{Mean, Stock, Variance, Bits}
+use Rattle.spares_words.specs.declared.order.Which.TheVariants as which
 use Rattle.spares_words.specs.declared.order.WordsFault.{WordsFault}
 use Rattle.spares_words.specs.declared.order.WordsFault.TheVariants.{Shape, Number, Range}
+use Rattle.spares_words.specs.declared.orders.PlanTerms.{PlanTerms}
+use Rattle.spares_words.specs.declared.values.Names.{Names}
 
 -- the value of an argument that may not be left out
 abbrev pub text_of : List Row → Text → Text
@@ -39,18 +45,18 @@ optional_of which places (Some text) = do
   number ← number_of which places text
   Ok (Some number)
 
--- a whole number that may be at most this
-abbrev pub whole_of : Which → ℕ → Text → Result ℕ WordsFault
-whole_of which most text = do
+-- a whole number that may be from the least to the most
+abbrev pub whole_of : Which → ℕ → ℕ → Text → Result ℕ WordsFault
+whole_of which least most text = do
   number ← number_of which 0 text
-  if nat_le number.units most then Ok number.units else Err (Range which)
+  if nat_le least number.units && nat_le number.units most then Ok number.units else Err (Range which)
 
 -- `single` by the texts of its arguments: the mean, then the variance, then the stock of at most 63
 abbrev pub single_from : Text → Option Text → Text → Result Order WordsFault
 single_from mean_text variance_text stock_text = do
-  mean ← number_of Mean 4 mean_text
-  variance ← optional_of Variance 4 variance_text
-  stock ← whole_of Stock 63 stock_text
+  mean ← number_of which.Mean 4 mean_text
+  variance ← optional_of which.Variance 4 variance_text
+  stock ← whole_of which.Stock 0 63 stock_text
   Ok (Single mean variance stock)
 
 abbrev pub single_of : List Row → Result Order WordsFault
@@ -61,38 +67,130 @@ single_of rows =
 abbrev pub bits_of : Option Text → Result ℕ WordsFault
 bits_of None = Ok 48
 bits_of (Some text) = do
-  number ← number_of Bits 0 text
-  if is_width number.units then Ok number.units else Err (Range Bits)
+  number ← number_of which.Bits 0 text
+  if is_width number.units then Ok number.units else Err (Range which.Bits)
+
+-- the names of the tables of a case
+abbrev pub names_of : List Row → Names
+names_of rows = record {
+  sites = text_of rows (codes "sites");
+  parts = text_of rows (codes "parts");
+  rates = text_of rows (codes "rates");
+}
 
 -- `eval` by the texts of its options: four names as they stand, and the bits
-abbrev pub eval_from : Text → Text → Text → Text → Option Text → Result Order WordsFault
-eval_from sites parts rates stocks bits_text = do
+abbrev pub eval_from : Names → Text → Option Text → Result Order WordsFault
+eval_from names stocks bits_text = do
   bits ← bits_of bits_text
-  Ok (Eval sites parts rates stocks bits)
+  Ok (Eval names.sites names.parts names.rates stocks bits)
 
 abbrev pub eval_of : List Row → Result Order WordsFault
-eval_of rows =
-    eval_from (text_of rows (codes "sites")) (text_of rows (codes "parts")) (text_of rows (codes "rates"))
-    (text_of rows (codes "stocks")) (first_of (codes "bits") rows)
+eval_of rows = eval_from (names_of rows) (text_of rows (codes "stocks")) (first_of (codes "bits") rows)
+
+-- the most that a budget may be
+abbrev pub most_budget : ℕ
+most_budget = 1000000000000000
+
+-- the objective of a text, if there is one of this name, and backorders where there is no text
+abbrev pub objective_of : Option Text → Option Objective
+objective_of None = Some objective.Backorders
+objective_of (Some name) =
+    if bytes_eq name (objective_name objective.Backorders) then Some objective.Backorders
+    else if bytes_eq name (objective_name objective.LogAvailability) then Some objective.LogAvailability
+    else None
+
+-- an objective that was named must be there
+abbrev pub objective_from : Option Objective → Result Objective WordsFault
+objective_from (Some objective) = Ok objective
+objective_from None = Err (Range which.Objective)
+
+-- the lowest format that a plan may have: with stocks on hand or by the loss of availability it is the second
+abbrev pub lowest_format : Option Text → Option Objective → ℕ
+lowest_format (Some on_hand) _ = 2
+lowest_format None (Some objective.LogAvailability) = 2
+lowest_format None (Some objective.Backorders) = 1
+lowest_format None None = 1
+
+-- the format of certificates that a text gives, and the lowest where there is none
+abbrev pub format_of : ℕ → Option Text → Result ℕ WordsFault
+format_of lowest None = Ok lowest
+format_of lowest (Some text) = whole_of which.Format lowest 2 text
+
+-- what the texts of `plan` say beside names: the budget, then the format, then the objective
+abbrev pub plan_terms_from : Option Text → Text → Option Text → Option Text → Result PlanTerms WordsFault
+plan_terms_from on_hand budget_text format_text objective_text = do
+  budget ← whole_of which.Budget 0 most_budget budget_text
+  format ← format_of (lowest_format on_hand (objective_of objective_text)) format_text
+  objective ← objective_from (objective_of objective_text)
+  Ok (record { budget = budget; format = format; objective = objective })
+
+abbrev pub plan_terms_of : List Row → Result PlanTerms WordsFault
+plan_terms_of rows =
+    plan_terms_from (first_of (codes "on-hand") rows) (text_of rows (codes "budget"))
+    (first_of (codes "format") rows) (first_of (codes "objective") rows)
+
+-- `plan` with the names as they stand
+abbrev pub plan_from : Names → Option Text → Result PlanTerms WordsFault → Text → Result Order WordsFault
+plan_from names on_hand terms_read certificate = do
+  terms ← terms_read
+  Ok (Plan names.sites names.parts names.rates on_hand terms.budget terms.format terms.objective certificate)
+
+abbrev pub plan_of : List Row → Result Order WordsFault
+plan_of rows =
+    plan_from (names_of rows) (first_of (codes "on-hand") rows) (plan_terms_of rows) (text_of rows (codes "certificate"))
+
+-- `check` takes any name
+abbrev pub check_of : List Row → Result Order WordsFault
+check_of rows = Ok (Check (text_of rows (codes "certificate")))
+
+-- `demo` by the texts of its arguments: the number in 32 bits, then 1 to 80 lines
+abbrev pub demo_from : Text → Text → Result Order WordsFault
+demo_from number_text lines_text = do
+  number ← whole_of which.Number 0 4294967295 number_text
+  lines ← whole_of which.Lines 1 80 lines_text
+  Ok (Demo number lines)
+
+abbrev pub demo_of : List Row → Result Order WordsFault
+demo_of rows = demo_from (text_of rows (codes "number")) (text_of rows (codes "lines"))
+
+-- the order of a command, by what its arguments and options are given
+abbrev pub order_named : CommandName → List Row → Result Order WordsFault
+order_named command.Single = single_of
+order_named command.Eval = eval_of
+order_named command.Plan = plan_of
+order_named command.Check = check_of
+order_named command.Demo = demo_of
 
 -- what a command makes of its words, where it takes them
-unfoldable pub by_command : App → (List Row → Result Order WordsFault) → List Text → Result Order WordsFault
-by_command app order words =
-    if is_empty (fault_of app words) then order (matches_of app words) else Err Shape
+unfoldable pub by_command : CommandName → List Text → Result Order WordsFault
+by_command command words =
+    if is_empty (fault_of (app_named command) words) then order_named command (matches_of (app_named command) words)
+    else Err Shape
+
+-- the same, where there is such a command
+abbrev pub by_named : Option CommandName → List Text → Result Order WordsFault
+by_named None words = Err Shape
+by_named (Some command) words = by_command command words
 
 -- the first word names the command
 unfoldable pub order_of : List Text → Result Order WordsFault
 order_of [] = Err Shape
-order_of (name ∷ rest) =
-    if bytes_eq name (codes "single") then by_command single_app single_of (name ∷ rest)
-    else if bytes_eq name (codes "eval") then by_command eval_app eval_of (name ∷ rest)
-    else Err Shape
+order_of (name ∷ rest) = by_named (command_named name) (name ∷ rest)
+
+-- the ranges of what `plan` says beside names
+abbrev pub AreInRange : Option Text → PlanTerms → Type 0
+AreInRange on_hand terms =
+    (terms.budget ≤ most_budget) × (lowest_format on_hand (Some terms.objective) ≤ terms.format) × (terms.format ≤ 2)
 
 -- the ranges of the numbers of an order
 abbrev pub IsInRange : Order → Type 0
 IsInRange (Single mean variance stock) =
     (mean.places ≡ 4) × IfSome variance (λ v. v.places ≡ 4) × (stock ≤ 63)
 IsInRange (Eval sites parts rates stocks bits) = IsWidth bits
+IsInRange (Plan sites parts rates on_hand budget format objective certificate) =
+    AreInRange on_hand (record { budget = budget; format = format; objective = objective })
+IsInRange (Check certificate) = ⊤
+IsInRange (Demo number lines) = (number ≤ 4294967295) × (1 ≤ lines) × (lines ≤ 80)
 
 -- what `clap` makes of the words of a command: its rows where it takes them, and else the fault
 abbrev pub Parses : App → List Text → Result ArgMatches (Stop WordsFault) → Type 0

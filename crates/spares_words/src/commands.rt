@@ -1,10 +1,49 @@
 //! The commands, for `clap`.
 ghost use Rattle.std.specs.Prelude.{◌≡◌, IfOk, false};
 ghost use Rattle.clap.specs.Words.{app_of, rule_of, with_rule};
-ghost use Rattle.spares_words.specs.Commands.{bare, eval_app, option, positional, required_option, single_app, with_tables};
+ghost use Rattle.spares_words.specs.Commands.{
+  app_named,
+  bare,
+  check_app,
+  command_named,
+  demo_app,
+  eval_app,
+  option,
+  plan_app,
+  positional,
+  required_option,
+  single_app,
+  with_aim,
+  with_certificate,
+  with_tables,
+};
 
 use clap::{Arg, Command};
 use std::alloc::{AllocError, Global};
+
+/// A command of the program.
+#[derive(Clone, Copy, Debug, PartialEq, Eq)]
+pub(crate) enum CommandName {
+    Single,
+    Eval,
+    Plan,
+    Check,
+    Demo,
+}
+
+/// The command of this name.
+pub(crate) fn command_named(name: &str) -> Option<CommandName>
+    ensures { result ≡ command_named name.now }
+{
+    match name {
+        "single" => Some(CommandName::Single),
+        "eval" => Some(CommandName::Eval),
+        "plan" => Some(CommandName::Plan),
+        "check" => Some(CommandName::Check),
+        "demo" => Some(CommandName::Demo),
+        _ => None,
+    }
+}
 
 /// A value that stands by itself and may not be left out.
 fn positional<'a>(alloc: Global, id: &'a str) -> Arg<'a>
@@ -46,31 +85,121 @@ fn with_arg<'a>(command: Command<'a>, arg: Arg<'a>) -> Result<Command<'a>, Alloc
     command.arg(arg)
 }
 
+/// The command with a value that stands by itself.
+fn with_positional<'a>(
+    alloc: Global,
+    command: Command<'a>,
+    id: &'a str,
+) -> Result<Command<'a>, AllocError>
+    ensures { IfOk result (λ c. app_of c ≡ with_rule (app_of command.entry) (positional id.entry.now)) }
+{
+    with_arg(command, positional(alloc, id))
+}
+
+/// The command with an option that may be left out.
+fn with_option<'a>(
+    alloc: Global,
+    command: Command<'a>,
+    id: &'a str,
+) -> Result<Command<'a>, AllocError>
+    ensures { IfOk result (λ c. app_of c ≡ with_rule (app_of command.entry) (option id.entry.now)) }
+{
+    with_arg(command, option(alloc, id))
+}
+
+/// The command with an option that may not be left out.
+fn with_required<'a>(
+    alloc: Global,
+    command: Command<'a>,
+    id: &'a str,
+) -> Result<Command<'a>, AllocError>
+    ensures { IfOk result (λ c. app_of c ≡ with_rule (app_of command.entry) (required_option id.entry.now)) }
+{
+    with_arg(command, required_option(alloc, id))
+}
+
 /// `single MEAN STOCK [--variance V]`.
 #[tactic(auto, unfolding(crate::specs::Commands::single_app))]
-pub(crate) fn single_command<'a>(alloc: Global) -> Result<Command<'a>, AllocError>
+fn single_command<'a>(alloc: Global) -> Result<Command<'a>, AllocError>
     ensures { IfOk result (λ c. app_of c ≡ single_app) }
 {
-    let command = with_arg(bare(alloc, "single"), positional(alloc, "mean"))?;
-    let command = with_arg(command, positional(alloc, "stock"))?;
-    with_arg(command, option(alloc, "variance"))
+    let command = with_positional(alloc, bare(alloc, "single"), "mean")?;
+    let command = with_positional(alloc, command, "stock")?;
+    with_option(alloc, command, "variance")
 }
 
 /// The options that name the tables of a case.
 fn with_tables<'a>(alloc: Global, command: Command<'a>) -> Result<Command<'a>, AllocError>
     ensures { IfOk result (λ c. app_of c ≡ with_tables (app_of command.entry)) }
 {
-    let command = with_arg(command, required_option(alloc, "sites"))?;
-    let command = with_arg(command, required_option(alloc, "parts"))?;
-    with_arg(command, required_option(alloc, "rates"))
+    let command = with_required(alloc, command, "sites")?;
+    let command = with_required(alloc, command, "parts")?;
+    with_required(alloc, command, "rates")
 }
 
 /// `eval --sites F --parts F --rates F --stocks F [--bits N]`.
 #[tactic(auto, unfolding(crate::specs::Commands::eval_app))]
-pub(crate) fn eval_command<'a>(alloc: Global) -> Result<Command<'a>, AllocError>
+fn eval_command<'a>(alloc: Global) -> Result<Command<'a>, AllocError>
     ensures { IfOk result (λ c. app_of c ≡ eval_app) }
 {
     let command = with_tables(alloc, bare(alloc, "eval"))?;
-    let command = with_arg(command, required_option(alloc, "stocks"))?;
-    with_arg(command, option(alloc, "bits"))
+    let command = with_required(alloc, command, "stocks")?;
+    with_option(alloc, command, "bits")
+}
+
+/// The options of what a plan is to reach: the money, the stocks on hand and the objective.
+fn with_aim<'a>(alloc: Global, command: Command<'a>) -> Result<Command<'a>, AllocError>
+    ensures { IfOk result (λ c. app_of c ≡ with_aim (app_of command.entry)) }
+{
+    let command = with_required(alloc, command, "budget")?;
+    let command = with_option(alloc, command, "on-hand")?;
+    with_option(alloc, command, "objective")
+}
+
+/// The options of the certificate that a plan writes.
+fn with_certificate<'a>(alloc: Global, command: Command<'a>) -> Result<Command<'a>, AllocError>
+    ensures { IfOk result (λ c. app_of c ≡ with_certificate (app_of command.entry)) }
+{
+    let command = with_required(alloc, command, "certificate")?;
+    with_option(alloc, command, "format")
+}
+
+/// `plan --sites F --parts F --rates F [--on-hand F] --budget N [--format N] [--objective NAME] --certificate F`.
+#[tactic(auto, unfolding(crate::specs::Commands::plan_app))]
+fn plan_command<'a>(alloc: Global) -> Result<Command<'a>, AllocError>
+    ensures { IfOk result (λ c. app_of c ≡ plan_app) }
+{
+    let command = with_tables(alloc, bare(alloc, "plan"))?;
+    let command = with_aim(alloc, command)?;
+    with_certificate(alloc, command)
+}
+
+/// `check --certificate F`.
+#[tactic(auto, unfolding(crate::specs::Commands::check_app))]
+fn check_command<'a>(alloc: Global) -> Result<Command<'a>, AllocError>
+    ensures { IfOk result (λ c. app_of c ≡ check_app) }
+{
+    with_required(alloc, bare(alloc, "check"), "certificate")
+}
+
+/// `demo NUMBER LINES`.
+#[tactic(auto, unfolding(crate::specs::Commands::demo_app))]
+fn demo_command<'a>(alloc: Global) -> Result<Command<'a>, AllocError>
+    ensures { IfOk result (λ c. app_of c ≡ demo_app) }
+{
+    let command = with_positional(alloc, bare(alloc, "demo"), "number")?;
+    with_positional(alloc, command, "lines")
+}
+
+/// A command with its arguments and options.
+pub(crate) fn command_of<'a>(alloc: Global, name: CommandName) -> Result<Command<'a>, AllocError>
+    ensures { IfOk result (λ c. app_of c ≡ app_named name) }
+{
+    match name {
+        CommandName::Single => single_command(alloc),
+        CommandName::Eval => eval_command(alloc),
+        CommandName::Plan => plan_command(alloc),
+        CommandName::Check => check_command(alloc),
+        CommandName::Demo => demo_command(alloc),
+    }
 }

@@ -5,9 +5,11 @@ mod commands;
 mod laws;
 mod number;
 mod order;
+mod orders;
 mod read;
 #[cfg(test)]
 mod tests;
+mod values;
 
 pub use laws::{
     refuses_other_counts, refuses_second_option, takes_any_words, takes_joined_option,

@@ -1,10 +1,11 @@
-//! The numbers of a command line.
+//! The numbers and names of a command line.
 ghost use Rattle.std.specs.Prelude.{◌≡◌, ◌≤◌, IfOk, IfSome, option_map};
 ghost use Rattle.fixed_interval.specs.Widths.{IsWidth, is_width};
-ghost use Rattle.spares_words.specs.Order.{bits_of, number_of, optional_of, whole_of};
+ghost use Rattle.spares_words.specs.Order.{bits_of, format_of, lowest_format, number_of, objective_of, optional_of, whole_of};
 
 use crate::{Which, WordsFault};
 use exact_ratio::{Decimal, read_decimal};
+use price_certificate::Objective;
 
 /// The number that a text gives with these places.
 pub(crate) fn number(which: Which, places: u8, text: &str) -> Result<Decimal, WordsFault>
@@ -34,14 +35,15 @@ pub(crate) fn optional(
     }
 }
 
-/// The whole number that a text gives, if it is at most `most`.
-pub(crate) fn whole(which: Which, most: u8, text: &str) -> Result<u8, WordsFault>
-    ensures value { result ≡ whole_of which most text.now }
-    ensures range { IfOk result (λ number. number ≤ most) }
+/// The whole number that a text gives, if it is one from `least` to `most`.
+pub(crate) fn whole(which: Which, least: u64, most: u64, text: &str) -> Result<u64, WordsFault>
+    ensures value { result ≡ whole_of which least most text.now }
+    ensures least { IfOk result (λ number. least ≤ number) }
+    ensures most { IfOk result (λ number. number ≤ most) }
 {
     let number = number(which, 0, text)?;
-    if number.units <= most as u64 {
-        Ok(number.units as u8)
+    if least <= number.units && number.units <= most {
+        Ok(number.units)
     } else {
         Err(WordsFault::Range(which))
     }
@@ -67,5 +69,46 @@ pub(crate) fn bits(text: Option<&str>) -> Result<u8, WordsFault>
         Ok(number.units as u8)
     } else {
         Err(WordsFault::Range(Which::Bits))
+    }
+}
+
+/// The objective of a text, if there is one of this name, and backorders where there is no text.
+pub(crate) fn objective_of(text: Option<&str>) -> Option<Objective>
+    ensures { result ≡ objective_of (option_map (λ s. s.now) text.entry) }
+{
+    let Some(name) = text else {
+        return Some(Objective::Backorders);
+    };
+    match name {
+        "backorders" => Some(Objective::Backorders),
+        "log-availability" => Some(Objective::LogAvailability),
+        _ => None,
+    }
+}
+
+/// The lowest format that a plan may have.
+pub(crate) fn lowest_format(on_hand: Option<&str>, objective: Option<Objective>) -> u8
+    ensures value { result ≡ lowest_format (option_map (λ s. s.now) on_hand.entry) objective }
+    ensures most { result ≤ 2 }
+{
+    match on_hand {
+        Some(_) => 2,
+        None => match objective {
+            Some(Objective::LogAvailability) => 2,
+            _ => 1,
+        },
+    }
+}
+
+/// The format of a text that may be left out: then it is the lowest.
+pub(crate) fn format(lowest: u8, text: Option<&str>) -> Result<u8, WordsFault>
+    requires { lowest ≤ 2 }
+    ensures value { result ≡ format_of lowest (option_map (λ s. s.now) text.entry) }
+    ensures least { IfOk result (λ format. lowest ≤ format) }
+    ensures most { IfOk result (λ format. format ≤ 2) }
+{
+    match text {
+        None => Ok(lowest),
+        Some(text) => Ok(whole(Which::Format, lowest as u64, 2, text)? as u8),
     }
 }

@@ -1,5 +1,6 @@
 //! What a command line asks for.
 use exact_ratio::{Decimal, NumberFault};
+use price_certificate::Objective;
 use spares_io::Text;
 
 /// A number of the command line.
@@ -11,8 +12,18 @@ pub enum Which {
     Stock,
     /// `--variance V`, with up to 4 decimals.
     Variance,
+    /// `--budget N`, a whole number from 0 to 10^15.
+    Budget,
     /// `--bits 32`, `48` or `52`.
     Bits,
+    /// `NUMBER`, a whole number from 0 to 4,294,967,295.
+    Number,
+    /// `LINES`, a whole number from 1 to 80.
+    Lines,
+    /// `--format 1` or `2`.
+    Format,
+    /// `--objective backorders` or `log-availability`.
+    Objective,
 }
 
 /// Why the words of a command line give no order.
@@ -44,5 +55,29 @@ pub enum Order {
         rates: Text,
         stocks: Text,
         bits: u8,
+    },
+    /// `plan --sites F --parts F --rates F [--on-hand F] --budget N [--format N] [--objective NAME] --certificate F`:
+    /// the best stocks for at most this money, 0 to 10^15, and a certificate that shows how good they are, to be
+    /// written under a name. With a table of stocks on hand they are only added to. The objective is backorders
+    /// where none is named. The format of the certificate is 1 or 2. It is 2 with stocks on hand and by the loss of
+    /// availability, and elsewhere 1 where none is given.
+    Plan {
+        sites: Text,
+        parts: Text,
+        rates: Text,
+        on_hand: Option<Text>,
+        budget: u64,
+        format: u8,
+        objective: Objective,
+        certificate: Text,
+    },
+    /// `check --certificate F`: whether a certificate shows what it claims.
+    Check {
+        certificate: Text,
+    },
+    /// `demo NUMBER LINES`: a case of 1 to 80 line units, made from its number, planned and checked.
+    Demo {
+        number: u32,
+        lines: u16,
     },
 }

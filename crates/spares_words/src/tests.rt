@@ -1,8 +1,10 @@
-use crate::Which::{Bits, Mean, Stock, Variance};
+use crate::Which::{Bits, Budget, Format, Lines, Mean, Stock, Variance};
 use crate::WordsFault::{Number, Range, Shape};
-use crate::{Order, WordsFault, read_words};
+use crate::{Order, Which, WordsFault, read_words};
 use exact_ratio::Decimal;
 use exact_ratio::NumberFault::{BadByte, Empty, TooLarge, TooManyPlaces};
+use price_certificate::Objective;
+use price_certificate::Objective::{Backorders, LogAvailability};
 use spares_io::{NoMemory, Stop, Text};
 use std::alloc::Global;
 use std::process::Abort;
@@ -93,6 +95,111 @@ fn takes_eval_with_its_options_in_any_order(rt: HostRuntime) -> Result<(), Fail>
         let want = eval_order(alloc, names, bits)?;
         assert_eq!(rt; order_of_line(alloc, line), Ok(want), "at {line}");
     }
+    Ok(())
+}
+
+/// The order of `plan` with these names of its tables and certificate, parted by single spaces, and the rest.
+fn plan_order(
+    alloc: Global,
+    names: [&str; 4],
+    on_hand: Option<&str>,
+    budget: u64,
+    format: u8,
+    objective: Objective,
+) -> Result<Order, NoMemory> {
+    let [sites, parts, rates, certificate] = names;
+    let on_hand = match on_hand {
+        Some(name) => Some(Text::from_str(alloc, name)?),
+        None => None,
+    };
+    Ok(Order::Plan {
+        sites: Text::from_str(alloc, sites)?,
+        parts: Text::from_str(alloc, parts)?,
+        rates: Text::from_str(alloc, rates)?,
+        on_hand,
+        budget,
+        format,
+        objective,
+        certificate: Text::from_str(alloc, certificate)?,
+    })
+}
+
+/// Lines of `plan`, with the names of files, the budget and the format that they give.
+const PLANS: [(&str, [&str; 4], u64, u8); 3] = [
+    (
+        "plan --sites a --parts b --rates c --budget 250 --certificate d",
+        ["a", "b", "c", "d"],
+        250,
+        1,
+    ),
+    (
+        "plan --format 2 --certificate d --budget=0 --rates c --parts b --sites a",
+        ["a", "b", "c", "d"],
+        0,
+        2,
+    ),
+    (
+        "plan --sites a --parts a --rates a --certificate= --format=1. --budget 1000000000000000",
+        ["a", "a", "a", ""],
+        1_000_000_000_000_000,
+        1,
+    ),
+];
+
+#[test]
+fn takes_plan(rt: HostRuntime) -> Result<(), Fail> {
+    let alloc = rt.alloc();
+    for (line, names, budget, format) in PLANS {
+        let want = plan_order(alloc, names, None, budget, format, Backorders)?;
+        assert_eq!(rt; order_of_line(alloc, line), Ok(want), "at {line}");
+    }
+    Ok(())
+}
+
+/// What may follow the names, with the stocks on hand, the format and the objective that it gives.
+const AIMS: [(&str, Option<&str>, u8, Objective); 4] = [
+    ("--objective backorders", None, 1, Backorders),
+    ("--objective log-availability", None, 2, LogAvailability),
+    ("--on-hand e", Some("e"), 2, Backorders),
+    (
+        "--format 2 --objective=log-availability --on-hand=",
+        Some(""),
+        2,
+        LogAvailability,
+    ),
+];
+
+#[test]
+fn takes_stocks_on_hand_and_objectives(rt: HostRuntime) -> Result<(), Fail> {
+    let alloc = rt.alloc();
+    for (end, on_hand, format, objective) in AIMS {
+        let line = format!(in alloc;
+            "plan --sites a --parts b --rates c --budget 1 --certificate d {end}"
+        )?;
+        let want = plan_order(alloc, ["a", "b", "c", "d"], on_hand, 1, format, objective)?;
+        assert_eq!(rt; order_of_line(alloc, line.as_str()), Ok(want), "at {line}");
+    }
+    Ok(())
+}
+
+#[test]
+fn takes_check_and_demo(rt: HostRuntime) -> Result<(), Fail> {
+    let alloc = rt.alloc();
+    let certificate = Text::from_str(alloc, "c")?;
+    assert_eq!(rt;
+        order_of_line(alloc, "check --certificate c"),
+        Ok(Order::Check { certificate })
+    );
+    let demo = Order::Demo {
+        number: 4_294_967_295,
+        lines: 80,
+    };
+    assert_eq!(rt; order_of_line(alloc, "demo 4294967295 80"), Ok(demo));
+    let demo = Order::Demo {
+        number: 0,
+        lines: 1,
+    };
+    assert_eq!(rt; order_of_line(alloc, "demo 0. 01"), Ok(demo));
     Ok(())
 }
 
@@ -215,4 +322,98 @@ fn refuses_words_and_numbers(rt: HostRuntime) -> Result<(), Fail> {
         Err(Stop::Fault(Shape))
     );
     refuses(&rt, rt.alloc(), &REFUSED)
+}
+
+/// The fault of words that end so, after a beginning.
+fn refuses_after(
+    rt: &impl Abort,
+    alloc: Global,
+    start: &str,
+    cases: &[(&str, WordsFault)],
+) -> Result<(), Fail> {
+    for (end, want) in cases {
+        let line = format!(in alloc; "{start} {end}")?;
+        assert_eq!(rt;
+            order_of_line(alloc, line.as_str()),
+            Err(Stop::Fault(*want)),
+            "at {line}"
+        );
+    }
+    Ok(())
+}
+
+/// What may not follow the names of the tables in `plan`, with its fault.
+const REFUSED_PLANS: [(&str, WordsFault); 11] = [
+    ("--certificate d", Shape),
+    ("--budget 1", Shape),
+    ("--budget 1 --certificate d --stocks e", Shape),
+    ("--budget 1 --certificate d --format 1 --format 1", Shape),
+    ("--budget 1000000000000001 --certificate d", Range(Budget)),
+    ("--budget=-1 --certificate d", Number(Budget, BadByte(0))),
+    ("--budget 1 --certificate d --format 3", Range(Format)),
+    ("--budget 1 --certificate d --format 0", Range(Format)),
+    (
+        "--budget 1 --certificate d --format 1.5",
+        Number(Format, TooManyPlaces),
+    ),
+    // The budget is read first, then the format.
+    (
+        "--budget x --certificate d --format 3",
+        Number(Budget, BadByte(0)),
+    ),
+    (
+        "--budget 1000000000000001 --certificate d --format x",
+        Range(Budget),
+    ),
+];
+
+#[test]
+fn refuses_plans(rt: HostRuntime) -> Result<(), Fail> {
+    refuses_after(
+        &rt,
+        rt.alloc(),
+        "plan --sites a --parts b --rates c",
+        &REFUSED_PLANS,
+    )
+}
+
+/// What may not follow them with stocks on hand or an objective, with its fault.
+const REFUSED_AIMS: [(&str, WordsFault); 8] = [
+    ("--objective availability", Range(Which::Objective)),
+    ("--objective=", Range(Which::Objective)),
+    ("--objective", Shape),
+    ("--on-hand e --format 1", Range(Format)),
+    ("--objective log-availability --format 1", Range(Format)),
+    // The format is read before the objective.
+    ("--objective x --format 3", Range(Format)),
+    ("--objective x --on-hand e --format 1", Range(Format)),
+    ("--objective x --format 1", Range(Which::Objective)),
+];
+
+#[test]
+fn refuses_stocks_on_hand_and_objectives(rt: HostRuntime) -> Result<(), Fail> {
+    refuses_after(
+        &rt,
+        rt.alloc(),
+        "plan --sites a --parts b --rates c --budget 1 --certificate d",
+        &REFUSED_AIMS,
+    )
+}
+
+/// Lines of `check` and `demo` that give no order, each with its fault.
+const REFUSED_REST: [(&str, WordsFault); 9] = [
+    ("check", Shape),
+    ("check c", Shape),
+    ("check --certificate c --certificate c", Shape),
+    ("demo 7", Shape),
+    ("demo 7 0", Range(Lines)),
+    ("demo 7 81", Range(Lines)),
+    ("demo 7 1.5", Number(Lines, TooManyPlaces)),
+    ("demo x 0", Number(Which::Number, BadByte(0))),
+    ("demo 4294967296 x", Range(Which::Number)),
+];
+
+#[test]
+fn refuses_check_and_demo(rt: HostRuntime) -> Result<(), Fail> {
+    refuses(&rt, rt.alloc(), &REFUSED_REST)
 }

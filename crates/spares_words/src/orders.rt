@@ -1,0 +1,164 @@
+//! The order of each command, from the values of its arguments.
+ghost use Rattle.std.specs.Prelude.{◌≡◌, ◌≤◌, codes, IfOk, Ok};
+ghost use Rattle.clap.specs.Words.{first_of, found_of, rows_of};
+ghost use Rattle.spares_io.specs.Answers.{Gives};
+ghost use Rattle.spares_words.specs.Order.{
+  AreInRange,
+  IsInRange,
+  check_of,
+  demo_of,
+  eval_of,
+  order_named,
+  plan_of,
+  plan_terms_of,
+  single_of,
+};
+
+use crate::commands::CommandName;
+use crate::number::{bits, format, lowest_format, number, objective_of, optional, whole};
+use crate::values::{Names, copied, copied_if_given, names_of, text_of, value_of};
+use crate::{Order, Which, WordsFault};
+use clap::ArgMatches;
+use price_certificate::Objective;
+use spares_io::{Stop, Text};
+use std::alloc::Global;
+
+fn single_order(matches: &ArgMatches<'_>) -> Result<Order, WordsFault>
+    ensures order { result ≡ single_of (rows_of (found_of matches.now)) }
+    ensures range { IfOk result IsInRange }
+{
+    let mean = number(Which::Mean, 4, text_of(matches, "mean"))?;
+    let variance = optional(Which::Variance, 4, value_of(matches, "variance"))?;
+    let stock = whole(Which::Stock, 0, 63, text_of(matches, "stock"))? as u8;
+    Ok(Order::Single {
+        mean,
+        variance,
+        stock,
+    })
+}
+
+fn eval_order(alloc: Global, matches: &ArgMatches<'_>) -> Result<Order, Stop<WordsFault>>
+    ensures order { Gives (eval_of (rows_of (found_of matches.now))) result }
+    ensures range { IfOk result IsInRange }
+{
+    let bits = match bits(value_of(matches, "bits")) {
+        Ok(bits) => bits,
+        Err(fault) => return Err(Stop::Fault(fault)),
+    };
+    let Names {
+        sites,
+        parts,
+        rates,
+    } = names_of(alloc, matches)?;
+    let stocks = copied(alloc, matches, "stocks")?;
+    Ok(Order::Eval {
+        sites,
+        parts,
+        rates,
+        stocks,
+        bits,
+    })
+}
+
+/// What the words of `plan` say beside names.
+#[derive(Drop)]
+struct PlanTerms {
+    budget: u64,
+    format: u8,
+    objective: Objective,
+}
+
+fn plan_terms(matches: &ArgMatches<'_>) -> Result<PlanTerms, WordsFault>
+    ensures terms { result ≡ plan_terms_of (rows_of (found_of matches.now)) }
+    ensures range { IfOk result (λ terms. AreInRange (first_of (codes "on-hand") (rows_of (found_of matches.now))) terms) }
+{
+    let objective = objective_of(value_of(matches, "objective"));
+    let lowest = lowest_format(value_of(matches, "on-hand"), objective);
+    let most = 1_000_000_000_000_000;
+    let budget = whole(Which::Budget, 0, most, text_of(matches, "budget"))?;
+    let format = format(lowest, value_of(matches, "format"))?;
+    match objective {
+        Some(objective) => Ok(PlanTerms {
+            budget,
+            format,
+            objective,
+        }),
+        None => Err(WordsFault::Range(Which::Objective)),
+    }
+}
+
+fn plan_order(alloc: Global, matches: &ArgMatches<'_>) -> Result<Order, Stop<WordsFault>>
+    ensures order { Gives (plan_of (rows_of (found_of matches.now))) result }
+    ensures range { IfOk result IsInRange }
+{
+    let PlanTerms {
+        budget,
+        format,
+        objective,
+    } = match plan_terms(matches) {
+        Ok(terms) => terms,
+        Err(fault) => return Err(Stop::Fault(fault)),
+    };
+    let Names {
+        sites,
+        parts,
+        rates,
+    } = names_of(alloc, matches)?;
+    let on_hand = copied_if_given(alloc, matches, "on-hand")?;
+    let certificate = copied(alloc, matches, "certificate")?;
+    Ok(Order::Plan {
+        sites,
+        parts,
+        rates,
+        on_hand,
+        budget,
+        format,
+        objective,
+        certificate,
+    })
+}
+
+fn check_order(alloc: Global, matches: &ArgMatches<'_>) -> Result<Order, Stop<WordsFault>>
+    ensures order { Gives (check_of (rows_of (found_of matches.now))) result }
+    ensures range { IfOk result IsInRange }
+{
+    let certificate = copied(alloc, matches, "certificate")?;
+    Ok(Order::Check { certificate })
+}
+
+fn demo_order(matches: &ArgMatches<'_>) -> Result<Order, WordsFault>
+    ensures order { result ≡ demo_of (rows_of (found_of matches.now)) }
+    ensures range { IfOk result IsInRange }
+{
+    let number = whole(Which::Number, 0, 4_294_967_295, text_of(matches, "number"))? as u32;
+    let lines = whole(Which::Lines, 1, 80, text_of(matches, "lines"))? as u16;
+    Ok(Order::Demo { number, lines })
+}
+
+/// A fault of the words, beside want of memory.
+fn or_stop(order: Result<Order, WordsFault>) -> Result<Order, Stop<WordsFault>>
+    ensures { Gives order result }
+{
+    match order {
+        Ok(order) => Ok(order),
+        Err(fault) => Err(Stop::Fault(fault)),
+    }
+}
+
+/// The order of a command.
+pub(crate) fn order_named(
+    alloc: Global,
+    name: CommandName,
+    matches: &ArgMatches<'_>,
+) -> Result<Order, Stop<WordsFault>>
+    ensures order { Gives (order_named name (rows_of (found_of matches.now))) result }
+    ensures range { IfOk result IsInRange }
+{
+    match name {
+        CommandName::Single => or_stop(single_order(matches)),
+        CommandName::Eval => eval_order(alloc, matches),
+        CommandName::Plan => plan_order(alloc, matches),
+        CommandName::Check => check_order(alloc, matches),
+        CommandName::Demo => or_stop(demo_order(matches)),
+    }
+}
