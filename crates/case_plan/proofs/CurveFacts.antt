@@ -13,12 +13,12 @@ use Rattle.fleet_model.specs.Rows.{line_units}
 use Rattle.family_eval.specs.Inputs.{IsLine}
 use Rattle.family_curve.specs.Vectors.{limits}
 use Rattle.family_curve.specs.Points.{ScoreEnds}
-use Rattle.family_curve.specs.Counts.{counted, most_tables, tables_of, work_of}
+use Rattle.family_curve.specs.Counts.{counted, most_tables}
 use Rattle.step_walk.specs.Prefix.{curve_at, vertex_at}
 use Rattle.marginal_alloc.specs.Choice.{AreCurves}
 use Rattle.fleet_plan.specs.Families.{family_points, case_points}
 use Rattle.fleet_plan.proofs.Places.{line_among}
-use Rattle.case_plan.specs.Curves.{IsFamilyCurve}
+use Rattle.case_plan.specs.Curves.{IsFamilyCurve, held_work_of, tables_above}
 use Rattle.case_plan.specs.Report.{AreFamilyCurves}
 
 pub zip_push : {X Y : Type 0} (R : X → Y → Type 0) (xs : List X) (ys : List Y) (x : X) (y : Y) → AllZip R xs ys → R x y → AllZip R (xs ++ x ∷ []) (ys ++ y ∷ [])
@@ -43,47 +43,47 @@ term_most f [] x a = absurd a
 term_most f (y ∷ ys) x (inl e) = omega (arith, sum_by-cons f y ys, ap f e)
 term_most f (y ∷ ys) x (inr a) = omega (arith, sum_by-cons f y ys, term_most f ys x a)
 
-pub few_tables : (c : CaseRows) (l : ℕ) → IsCase c → IsLine c l → IsOk (work_of c) → tables_of c l ≤ most_tables
-few_tables c l valid line h =
-    let all = sum_by (tables_of c) (line_units c) in
-    let own = term_most (tables_of c) (line_units c) l (line_among c valid l line) in
-    let small = small_of (sum_by (tables_of c) (line_units c)) (limited_step (nat_le (counted (sum_by (tables_of c) (line_units c))) 1000000) (counted (sum_by (tables_of c) (line_units c))) (work_of c) refl h) in
+pub few_tables : (c : CaseRows) (held : List ℕ) (l : ℕ) → IsCase c → IsLine c l → IsOk (held_work_of c held) → tables_above c held l ≤ most_tables
+few_tables c held l valid line h =
+    let all = sum_by (tables_above c held) (line_units c) in
+    let own = term_most (tables_above c held) (line_units c) l (line_among c valid l line) in
+    let small = small_of (sum_by (tables_above c held) (line_units c)) (limited_step (nat_le (counted (sum_by (tables_above c held) (line_units c))) 1000000) (counted (sum_by (tables_above c held) (line_units c))) (held_work_of c held) refl h) in
     omega (arith, own, small)
 
 -- ---- all families
 
-are_curves_in : (ends : ScoreEnds) (c : CaseRows) (ls : List ℕ) (curves : List (List Point)) → AllZip (IsFamilyCurve ends c) ls curves → AreCurves (map (family_points ends c []) ls) curves
-are_curves_in ends c [] [] a = record { count = refl; each = λ f b. absurd (omega (arith, b)) }
-are_curves_in ends c [] (x ∷ xs) a = absurd a
-are_curves_in ends c (l ∷ ls) [] a = absurd a
-are_curves_in ends c (l ∷ ls) (x ∷ xs) a =
-    let rest = are_curves_in ends c ls xs a.1 in
+are_curves_in : (ends : ScoreEnds) (c : CaseRows) (held ls : List ℕ) (curves : List (List Point)) → AllZip (IsFamilyCurve ends c held) ls curves → AreCurves (map (family_points ends c held) ls) curves
+are_curves_in ends c held [] [] a = record { count = refl; each = λ f b. absurd (omega (arith, b)) }
+are_curves_in ends c held [] (x ∷ xs) a = absurd a
+are_curves_in ends c held (l ∷ ls) [] a = absurd a
+are_curves_in ends c held (l ∷ ls) (x ∷ xs) a =
+    let rest = are_curves_in ends c held ls xs a.1 in
     record { count = (let n = rest.count in omega (arith, n)); each = each rest }
   where
-    each : AreCurves (map (family_points ends c []) ls) xs → (f : ℕ) → f < length (x ∷ xs) → IsCurve (curve_at (map (family_points ends c []) (l ∷ ls)) f) (curve_at (x ∷ xs) f)
+    each : AreCurves (map (family_points ends c held) ls) xs → (f : ℕ) → f < length (x ∷ xs) → IsCurve (curve_at (map (family_points ends c held) (l ∷ ls)) f) (curve_at (x ∷ xs) f)
     each rest zero b = a.0.is_curve
     each rest (suc f) b = rest.each f (omega (arith, b))
 
-pub are_curves : (ends : ScoreEnds) (c : CaseRows) (curves : List (List Point)) → AllZip (IsFamilyCurve ends c) (line_units c) curves → AreCurves (case_points ends c []) curves
-are_curves ends c curves a = are_curves_in ends c (line_units c) curves a
+pub are_curves : (ends : ScoreEnds) (c : CaseRows) (held : List ℕ) (curves : List (List Point)) → AllZip (IsFamilyCurve ends c held) (line_units c) curves → AreCurves (case_points ends c held) curves
+are_curves ends c held curves a = are_curves_in ends c held (line_units c) curves a
 
-free_in : (ends : ScoreEnds) (c : CaseRows) (ls : List ℕ) (curves : List (List Point)) → AllZip (IsFamilyCurve ends c) ls curves → (f : ℕ) → f < length curves → (vertex_at curves f 0).cost ≡ 0
-free_in ends c [] [] a f b = absurd (omega (arith, b))
-free_in ends c [] (x ∷ xs) a f b = absurd a
-free_in ends c (l ∷ ls) [] a f b = absurd a
-free_in ends c (l ∷ ls) (x ∷ xs) a zero b = a.0.free
-free_in ends c (l ∷ ls) (x ∷ xs) a (suc f) b = free_in ends c ls xs a.1 f (omega (arith, b))
+free_in : (ends : ScoreEnds) (c : CaseRows) (held ls : List ℕ) (curves : List (List Point)) → AllZip (IsFamilyCurve ends c held) ls curves → (f : ℕ) → f < length curves → (vertex_at curves f 0).cost ≡ 0
+free_in ends c held [] [] a f b = absurd (omega (arith, b))
+free_in ends c held [] (x ∷ xs) a f b = absurd a
+free_in ends c held (l ∷ ls) [] a f b = absurd a
+free_in ends c held (l ∷ ls) (x ∷ xs) a zero b = a.0.free
+free_in ends c held (l ∷ ls) (x ∷ xs) a (suc f) b = free_in ends c held ls xs a.1 f (omega (arith, b))
 
-within_in : (ends : ScoreEnds) (c : CaseRows) (ls : List ℕ) (curves : List (List Point)) → AllZip (IsFamilyCurve ends c) ls curves
+within_in : (ends : ScoreEnds) (c : CaseRows) (held ls : List ℕ) (curves : List (List Point)) → AllZip (IsFamilyCurve ends c held) ls curves
     → AllZip (λ l curve. (v : Point) → Among v curve → AllZip (λ x y. x ≤ y) v.stocks (limits c l)) ls curves
-within_in ends c [] [] a = tt
-within_in ends c [] (x ∷ xs) a = absurd a
-within_in ends c (l ∷ ls) [] a = absurd a
-within_in ends c (l ∷ ls) (x ∷ xs) a = (a.0.within, within_in ends c ls xs a.1)
+within_in ends c held [] [] a = tt
+within_in ends c held [] (x ∷ xs) a = absurd a
+within_in ends c held (l ∷ ls) [] a = absurd a
+within_in ends c held (l ∷ ls) (x ∷ xs) a = (a.0.within, within_in ends c held ls xs a.1)
 
-pub are_family_curves : (ends : ScoreEnds) (c : CaseRows) (curves : List (List Point)) → AllZip (IsFamilyCurve ends c) (line_units c) curves → AreFamilyCurves c curves
-are_family_curves ends c curves a = record {
-  count = (let n = (are_curves ends c curves a).count in omega (arith, n, length-map (line_units c) (family_points ends c [])));
-  free = free_in ends c (line_units c) curves a;
-  vectors = within_in ends c (line_units c) curves a;
+pub are_family_curves : (ends : ScoreEnds) (c : CaseRows) (held : List ℕ) (curves : List (List Point)) → AllZip (IsFamilyCurve ends c held) (line_units c) curves → AreFamilyCurves c curves
+are_family_curves ends c held curves a = record {
+  count = (let n = (are_curves ends c held curves a).count in omega (arith, n, length-map (line_units c) (family_points ends c held)));
+  free = free_in ends c held (line_units c) curves a;
+  vectors = within_in ends c held (line_units c) curves a;
 }

@@ -1,29 +1,38 @@
 -- The report of a plan is true of the case.
-use Rattle.std.proofs.Common.{◌≡◌, ℕ, ◌*◌, ◌/◌, ◌^◌, ◌<◌, ◌≤◌, List, [], refl, sym, ap, ◌∙◌, subst, arith}
+use Rattle.std.proofs.Common.{◌≡◌, ℕ, ◌*◌, ◌/◌, ◌^◌, ◌<◌, ◌≤◌, Bool, true, false, IfSome, List, [], refl, sym, ap, ◌∙◌, subst, arith}
 use Rattle.std.proofs.Math.Nat.{mul-le-mul_right, le_of_mul-le-mul_right}
 use Rattle.exact_model.specs.Fraction.{Fraction, whole, scaled, ◌*ℚ◌, ◌/ℚ◌, ◌≤ℚ◌}
+use Rattle.fixed_interval.specs.Ends.{Ends}
 use Rattle.fixed_interval.specs.Text.{text_value}
+use Rattle.hull.specs.Scores.{EnclosesValue, LeavesRoom}
 use Rattle.spares_input.specs.Cases.{CaseRows, IsCase}
 use Rattle.spares_input.specs.Stocks.{StockList}
 use Rattle.fleet_model.specs.Fleet.{IsAllocation, cost, total}
 use Rattle.family_eval.specs.Encloses.{CanEvaluate}
+use Rattle.family_eval.proofs.Families.{evaluable}
 use Rattle.case_figures.specs.declared.figures.Figures.{Figures}
 use Rattle.case_figures.specs.Figures.{figures_of}
 use Rattle.case_figures.specs.Shows.{ShowsFigures}
-use Rattle.case_figures.proofs.Shown.{evaluated_as, figures_shown}
+use Rattle.case_figures.proofs.Shown.{evaluated_as, figures_fit, figures_shown}
 use Rattle.family_curve.specs.Vectors.{stock_list}
 use Rattle.family_curve.specs.Points.{ScoreEnds}
 use Rattle.fleet_model.proofs.WordLaws.{plain_words}
-use Rattle.fleet_plan.specs.Plans.{IsPlainPlan}
+use Rattle.fleet_plan.specs.Plans.{IsCasePlan, IsPlainPlan}
 use Rattle.fleet_plan.specs.Laws.{IsAcceptedCase, plain_ends}
 use Rattle.fleet_plan.proofs.Plain.{plain_plan, upper_is_total, plain_encloses}
 use Rattle.fleet_plan.proofs.Bridge.{plan_true}
 use Rattle.fleet_plan.proofs.Ones.{one_case_plan}
-use Rattle.fleet_model.specs.Aims.{weighted_backorders}
-use Rattle.case_plan.specs.declared.report.PlanReport.{PlanReport}
-use Rattle.case_plan.specs.Report.{report_of, IsPlanned}
-use Rattle.case_plan.specs.Truth.{printed_bound, IsTruePlanReport}
-use Rattle.case_plan.specs.Laws.{HasTrueStocks}
+use Rattle.fleet_model.specs.Aims.{Value, aim, weighted_backorders}
+use Rattle.fleet_model.specs.Bounds.{HasNoMore}
+use Rattle.plan_report.specs.Fits.{FitsPlan, IntervalFits}
+use Rattle.plan_report.specs.Texts.{millionths_down}
+use Rattle.plan_report.specs.declared.plan.PlanReport.{PlanReport}
+use Rattle.case_plan.specs.Curves.{HoldNothing}
+use Rattle.case_plan.specs.Report.{Terms, aim_ends, if_asked, report_of, IsPlanned}
+use Rattle.case_plan.specs.Truth.{IsTruePlanReport, IsTrueReport}
+use Rattle.case_plan.proofs.Aimed.{aim_enclosed}
+use Rattle.case_plan.proofs.Nothing.{from_nothing}
+use Rattle.case_plan.proofs.Ranges.{plan_fits}
 
 can : (c : CaseRows) (s : List ℕ) → IsAcceptedCase c → IsAllocation c s → CanEvaluate 48 c (stock_list c s)
 can c s accepted a = record {
@@ -56,24 +65,59 @@ printed_step bound num den h =
     let three : bound * 10 ^ 6 / 2 ^ 48 * den * 2 ^ 48 ≤ num * 10 ^ 6 * 2 ^ 48 = omega (arith, one, two) in
     le_of_mul-le-mul_right three (omega arith)
 
-below_printed : (bound : ℕ) (q : Fraction) → whole bound ≤ℚ q *ℚ whole (2 ^ 48) → text_value 6 (printed_bound bound) ≤ℚ q
+below_printed : (bound : ℕ) (q : Fraction) → whole bound ≤ℚ q *ℚ whole (2 ^ 48) → text_value 6 (millionths_down 48 bound) ≤ℚ q
 unfolding whole ◌*ℚ◌ ◌/ℚ◌ scaled
 below_printed bound q h = record { cross = (let c = h.cross in let l = printed_step bound q.num q.den (omega (arith, c)) in omega (arith, l)) }
 
-pub planned_true : (c : CaseRows) (budget : ℕ) (report : PlanReport) → IsAcceptedCase c → IsPlanned plain_ends c [] budget report → HasTrueStocks c budget report
-planned_true c budget report accepted h = record { stocks = h.plan.stocks; is_true = subst (IsTruePlanReport c budget h.plan.stocks) (sym h.is) told }
+-- for any score, whatever is held
+pub planned_true : (ends : ScoreEnds) (value : Value) (c : CaseRows) (held : List ℕ) (terms : Terms) (report : PlanReport) → IsAcceptedCase c → EnclosesValue ends value
+    → (planned : IsPlanned ends c held terms report) → IsTrueReport ends value c held terms planned.plan report
+planned_true ends value c held terms report accepted encloses h = subst (IsTrueReport ends value c held terms h.plan) (sym h.is) told
   where
+    told : IsTrueReport ends value c held terms h.plan (report_of ends c terms h.plan)
+    told =
+        let t = plan_true ends value c held accepted encloses terms.budget h.plan h.is_plan in
+        let s = h.plan.stocks in
+        let e = can c h.plan.stocks accepted t.allocation.allocation in
+        record {
+          budget_is = refl;
+          on_hand_is = refl;
+          allocation = t.allocation;
+          cost_is = t.cost_is;
+          fits = t.fits;
+          shows = with_cost c (stock_list c s) (figures_of 48 c (stock_list c s)) (cost c s) refl (figures_shown 48 c (stock_list c s) refl e (evaluated_as 48 c (stock_list c s) e));
+          none_less = t.none_less;
+          printed = λ n deep u a f. below_printed h.plan.numbers.bound (aim value c u n) (t.none_less n deep u a f);
+          no_price = t.no_price;
+          upper = t.gap ∙ t.upper_is;
+          no_more = subst (HasNoMore value c s) (sym t.gap) t.no_more;
+          loss_is = refl;
+          encloses = aim_enclosed ends value c s encloses (evaluable 48 c (stock_list c s) e) accepted.valid;
+          price_is = refl;
+          hull_is = refl;
+          critical_is = refl;
+          small_gap = t.small_gap;
+        }
+
+-- of weighted backorders, where nothing is held
+pub plain_true : (c : CaseRows) (held : List ℕ) (terms : Terms) (report : PlanReport) → IsAcceptedCase c → HoldNothing held
+    → (planned : IsPlanned plain_ends c held terms report) → IsTruePlanReport c terms.budget planned.plan.stocks report
+plain_true c held terms report accepted nothing h = subst (IsTruePlanReport c terms.budget h.plan.stocks) (sym h.is) told
+  where
+    is_plan : IsCasePlan plain_ends c [] terms.budget h.plan
+    is_plan = from_nothing c held nothing plain_ends terms.budget h.plan h.is_plan
+
     -- in the plain words
-    plain_fewer : IsPlainPlan c budget h.plan → (n : ℕ) → 1024 ≤ n → (s : List ℕ) → IsAllocation c s → cost c s ≤ budget → whole h.plan.numbers.bound ≤ℚ total c s n *ℚ whole (2 ^ 48)
+    plain_fewer : IsPlainPlan c terms.budget h.plan → (n : ℕ) → 1024 ≤ n → (s : List ℕ) → IsAllocation c s → cost c s ≤ terms.budget → whole h.plan.numbers.bound ≤ℚ total c s n *ℚ whole (2 ^ 48)
     plain_fewer k n deep s a f =
         let words = plain_words c s in
-        subst (λ z. whole h.plan.numbers.bound ≤ℚ z *ℚ whole (2 ^ 48)) (words.total_is n) (k.fewer n deep s (words.allocation.1 a) (subst (λ z. z ≤ budget) (sym words.cost_is) f))
+        subst (λ z. whole h.plan.numbers.bound ≤ℚ z *ℚ whole (2 ^ 48)) (words.total_is n) (k.fewer n deep s (words.allocation.1 a) (subst (λ z. z ≤ terms.budget) (sym words.cost_is) f))
 
-    told : IsTruePlanReport c budget h.plan.stocks (report_of c budget h.plan)
+    told : IsTruePlanReport c terms.budget h.plan.stocks (report_of plain_ends c terms h.plan)
     told =
-        let k = plain_plan c budget h.plan accepted h.is_plan in
+        let k = plain_plan c terms.budget h.plan accepted is_plan in
         let e = can c h.plan.stocks accepted k.allocation in
-        let t = plan_true plain_ends weighted_backorders c [] accepted plain_encloses budget h.plan h.is_plan in
+        let t = plan_true plain_ends weighted_backorders c [] accepted plain_encloses terms.budget h.plan is_plan in
         record {
           budget_is = refl;
           allocation = k.allocation;
@@ -86,6 +130,33 @@ planned_true c budget report accepted h = record { stocks = h.plan.stocks; is_tr
           gap = k.gap ∙ t.upper_is ∙ sym (upper_is_total c h.plan.stocks);
         }
 
-pub planned_one : (ends : ScoreEnds) (c : CaseRows) (held : List ℕ) (budget : ℕ) (one other : PlanReport) → IsCase c
-    → IsPlanned ends c held budget one → IsPlanned ends c held budget other → one ≡ other
-planned_one ends c held budget one other valid h k = h.is ∙ ap (report_of c budget) (one_case_plan ends c held budget h.plan k.plan valid h.is_plan k.is_plan) ∙ sym k.is
+pub planned_one : (ends : ScoreEnds) (c : CaseRows) (held : List ℕ) (terms : Terms) (one other : PlanReport) → IsCase c
+    → IsPlanned ends c held terms one → IsPlanned ends c held terms other → one ≡ other
+planned_one ends c held terms one other valid h k = h.is ∙ ap (report_of ends c terms) (one_case_plan ends c held terms.budget h.plan k.plan valid h.is_plan k.is_plan) ∙ sym k.is
+
+-- ---- the room of a report
+
+asked_fits : (asked : Bool) (x : Ends) → x.hi ≤ 2 ^ 85 → IfSome (if_asked asked x) IntervalFits
+asked_fits true x h = omega (arith, h)
+asked_fits false x h = tt
+
+pub report_fits : (ends : ScoreEnds) (value : Value) (c : CaseRows) (held : List ℕ) (terms : Terms) (report : PlanReport) → IsAcceptedCase c → EnclosesValue ends value → LeavesRoom ends
+    → IsPlanned ends c held terms report → FitsPlan report
+report_fits ends value c held terms report accepted encloses room h = subst FitsPlan (sym h.is) fits
+  where
+    fits : FitsPlan (report_of ends c terms h.plan)
+    fits =
+        let s = h.plan.stocks in
+        let t = plan_true ends value c held accepted encloses terms.budget h.plan h.is_plan in
+        let f = plan_fits ends value c held terms.budget h.plan accepted encloses room h.is_plan in
+        let e = can c h.plan.stocks accepted t.allocation.allocation in
+        let print = figures_fit 48 c (stock_list c s) refl e (evaluated_as 48 c (stock_list c s) e) in
+        let a = f.bound in let b = f.gap in let d = f.rounding in let p = f.price in
+        record {
+          figures = record { items = print.items; bases = print.bases; fleet = print.fleet; total = print.total };
+          loss = asked_fits terms.loss (aim_ends ends c s) (subst (λ n. n ≤ 2 ^ 85) t.upper_is f.upper);
+          bound = omega (arith, a);
+          gap = omega (arith, b);
+          rounding = omega (arith, d);
+          price = record { p = omega (arith, p); money = f.money; most_money = f.most_money };
+        }

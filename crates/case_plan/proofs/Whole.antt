@@ -1,5 +1,5 @@
 -- The plan of a case from its curves.
-use Rattle.std.proofs.Common.{◌≡◌, ℕ, suc, ◌<◌, ◌≤◌, List, [], ◌∷◌, Option, Some, None, IfSome, length, map, get_or, slice_index, option_map, sym, ap, ap₂, ◌∙◌, subst, arith}
+use Rattle.std.proofs.Common.{◌≡◌, ℕ, suc, ◌<◌, ◌≤◌, Bool, List, [], ◌∷◌, Option, Some, None, IfSome, length, map, get_or, slice_index, option_map, sym, ap, ap₂, ◌∙◌, subst, arith}
 use Rattle.std.specs.List.{AllZip}
 use Rattle.std.proofs.lemmas.List.{length-map}
 use Rattle.std.proofs.lemmas.List.Elements.{length_all_zip}
@@ -29,9 +29,11 @@ use Rattle.fleet_plan.specs.Laws.{plain_ends}
 use Rattle.fleet_plan.proofs.Lists.{is_among, range_has}
 use Rattle.fleet_plan.proofs.Places.{kept, at_among, zip_each}
 use Rattle.fleet_plan.proofs.Bridge.{held_of}
-use Rattle.case_plan.specs.declared.report.CriticalLine.{CriticalLine}
-use Rattle.case_plan.specs.declared.report.Outcome.{Outcome}
-use Rattle.case_plan.specs.Report.{step_line, outcome_of}
+use Rattle.fixed_interval.specs.Ends.{Ends}
+use Rattle.family_curve.specs.Points.{ScoreEnds}
+use Rattle.plan_report.specs.declared.plan.CriticalLine.{CriticalLine}
+use Rattle.case_plan.specs.declared.outcome.Outcome.{Outcome}
+use Rattle.case_plan.specs.Report.{Terms, aim_ends, if_asked, step_line, outcome_of}
 use Rattle.fleet_plan.specs.Families.{HasWidth}
 use Rattle.case_plan.specs.Parts.{IsPlace}
 
@@ -89,21 +91,34 @@ place_some curves n (Some s) e h = subst (λ m. s.family < m) e h.0
 abbrev pub plan_with : StockList → List ℕ → PlanNumbers → CasePlan
 plan_with s floors f = record { stocks = s.list; floors = floors; numbers = f }
 
-abbrev pub outcome : ℕ → StockList → List ℕ → PlanNumbers → Figures → Option CriticalLine → Outcome
-outcome budget s floors f figures line = record {
-  report = record { budget = budget; figures = record figures { cost = f.cost }; bound = f.bound; gap = f.gap; rounding = f.rounding; price = f.price; hull = f.hull_cost; critical = line };
+abbrev pub outcome : Terms → StockList → List ℕ → PlanNumbers → Figures → Option Ends → Option CriticalLine → Outcome
+outcome terms s floors f figures aim line = record {
+  report = record {
+    budget = terms.budget;
+    figures = record figures { cost = f.cost };
+    on_hand = terms.on_hand;
+    loss = aim;
+    bound = f.bound;
+    gap = f.gap;
+    rounding = f.rounding;
+    price = f.price;
+    hull = f.hull_cost;
+    critical = line;
+  };
   stocks = s;
   price = f.price;
   floors = floors;
   upper = f.upper;
 }
 
-pub same_outcome : (c : CaseRows) (budget : ℕ) (s : StockList) (floors : List ℕ) (f : PlanNumbers) (figures : Figures) (line : Option CriticalLine) → s.sites ≡ length c.sites → figures ≡ figures_of 48 c s
-    → line ≡ option_map (step_line c f.price.q) (option_map (line_of_step c) f.critical) → outcome budget s floors f figures line ≡ outcome_of c budget (plan_with s floors f)
-same_outcome c budget s floors f figures line e g l =
+pub same_outcome : (ends : ScoreEnds) (c : CaseRows) (terms : Terms) (s : StockList) (floors : List ℕ) (f : PlanNumbers) (figures : Figures) (aim : Option Ends) (line : Option CriticalLine) → s.sites ≡ length c.sites
+    → figures ≡ figures_of 48 c s → aim ≡ if_asked terms.loss (aim_ends ends c s.list) → line ≡ option_map (step_line c f.price.q) (option_map (line_of_step c) f.critical)
+    → outcome terms s floors f figures aim line ≡ outcome_of ends c terms (plan_with s floors f)
+same_outcome ends c terms s floors f figures aim line e g a l =
     let same : s ≡ stock_list c s.list = ap (λ n. let t : StockList = record { sites = n; list = s.list } in t) e in
-    ap₂ (λ (x : Figures) (y : Option CriticalLine). outcome budget s floors f x y) g l
-    ∙ ap (λ (t : StockList). outcome budget t floors f (figures_of 48 c t) (option_map (step_line c f.price.q) (option_map (line_of_step c) f.critical))) same
+    ap₂ (λ (x : Figures) (y : Option CriticalLine). outcome terms s floors f x aim y) g l
+    ∙ ap (λ (y : Option Ends). outcome terms s floors f (figures_of 48 c s) y (option_map (step_line c f.price.q) (option_map (line_of_step c) f.critical))) a
+    ∙ ap (λ (t : StockList). outcome terms t floors f (figures_of 48 c t) (if_asked terms.loss (aim_ends ends c s.list)) (option_map (step_line c f.price.q) (option_map (line_of_step c) f.critical))) same
 
 pub line_in : (c : CaseRows) (f : ℕ) → f < length (line_units c) → get_or (line_units c) f 0 < length c.parts
 line_in c f h = (let r = range_has (get_or (line_units c) f 0) 0 (length c.parts) (kept (λ p. is_line (part_at c.parts p)) (all_parts c) (get_or (line_units c) f 0) (at_among (line_units c) f h)).0 in omega (arith, r.1))

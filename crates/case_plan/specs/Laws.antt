@@ -1,9 +1,10 @@
 -- The report of a plan is true of the case, whoever made it.
-use Rattle.std.specs.Prelude.{◌≡◌, ℕ, ◌^◌, ◌≤◌, [], List, length, All}
+use Rattle.std.specs.Prelude.{◌≡◌, ℕ, ◌^◌, ◌≤◌, ◌↔◌, [], List, length, All}
 use Rattle.hull.specs.Scores.{EnclosesValue, LeavesRoom}
 use Rattle.spares_input.specs.Cases.{CaseRows, IsCase}
 use Rattle.fleet_model.specs.Rows.{line_units}
 use Rattle.family_curve.specs.Points.{ScoreEnds}
+use Rattle.family_curve.specs.Counts.{work_of}
 use Rattle.hull.specs.declared.point.Point.{Point}
 use Rattle.step_walk.specs.Prefix.{HaveShapes}
 use Rattle.marginal_alloc.specs.Choice.{AreCurves}
@@ -11,27 +12,42 @@ use Rattle.fleet_model.specs.Aims.{Value, IsHeldAllocation}
 use Rattle.fleet_plan.specs.Families.{case_points}
 use Rattle.fleet_plan.specs.Plans.{CasePlan, IsCasePlan}
 use Rattle.fleet_plan.specs.Laws.{IsAcceptedCase, plain_ends}
-use Rattle.case_plan.specs.declared.report.PlanReport.{PlanReport}
-use Rattle.case_plan.specs.Report.{AreFamilyCurves, IsPlanned}
-use Rattle.case_plan.specs.Truth.{IsTruePlanReport}
+use Rattle.plan_report.specs.Fits.{FitsPlan}
+use Rattle.plan_report.specs.declared.plan.PlanReport.{PlanReport}
+use Rattle.case_plan.specs.Curves.{HoldNothing, held_work_of}
+use Rattle.case_plan.specs.Report.{AreFamilyCurves, IsPlanned, Terms}
+use Rattle.case_plan.specs.Truth.{IsTruePlanReport, IsTrueReport}
 
--- of some stocks
-pub record HasTrueStocks (c : CaseRows) (budget : ℕ) (report : PlanReport) : Type 0 where
-  pub stocks : List ℕ
-  pub is_true : IsTruePlanReport c budget stocks report
-
+-- for any score whose intervals enclose its value, and whatever is held
 abbrev pub PlannedReportsAreTrue : Type 0
 PlannedReportsAreTrue =
-    (c : CaseRows) (budget : ℕ) (report : PlanReport)
-    → IsAcceptedCase c → IsPlanned plain_ends c [] budget report → HasTrueStocks c budget report
+    (ends : ScoreEnds) (value : Value) (c : CaseRows) (held : List ℕ) (terms : Terms) (report : PlanReport)
+    → IsAcceptedCase c → EnclosesValue ends value → (planned : IsPlanned ends c held terms report)
+    → IsTrueReport ends value c held terms planned.plan report
+
+-- of weighted backorders, where nothing is held
+abbrev pub PlainReportsAreTrue : Type 0
+PlainReportsAreTrue =
+    (c : CaseRows) (held : List ℕ) (terms : Terms) (report : PlanReport)
+    → IsAcceptedCase c → HoldNothing held → (planned : IsPlanned plain_ends c held terms report)
+    → IsTruePlanReport c terms.budget planned.plan.stocks report
 
 -- and there is one
 abbrev pub PlannedReportsAreOne : Type 0
 PlannedReportsAreOne =
-    (ends : ScoreEnds) (c : CaseRows) (held : List ℕ) (budget : ℕ) (one other : PlanReport)
-    → IsCase c → IsPlanned ends c held budget one → IsPlanned ends c held budget other → one ≡ other
+    (ends : ScoreEnds) (c : CaseRows) (held : List ℕ) (terms : Terms) (one other : PlanReport)
+    → IsCase c → IsPlanned ends c held terms one → IsPlanned ends c held terms other → one ≡ other
 
--- the numbers of a plan have room in a certificate and in a report
+-- a list of zeros holds as little as the empty one: the same plans and the same work
+abbrev pub PlansFromNothing : Type 0
+PlansFromNothing =
+    (ends : ScoreEnds) (c : CaseRows) (held : List ℕ) (budget : ℕ) (p : CasePlan)
+    → HoldNothing held → IsCasePlan ends c held budget p ↔ IsCasePlan ends c [] budget p
+
+abbrev pub WorkFromNothing : Type 0
+WorkFromNothing = (c : CaseRows) (held : List ℕ) → IsCase c → HoldNothing held → held_work_of c held ≡ work_of c
+
+-- the numbers of a plan have room in a certificate
 pub record FitsItsPlace (c : CaseRows) (p : CasePlan) : Type 0 where
   pub price : p.numbers.price.p ≤ 2 ^ 74
   pub money : 1 ≤ p.numbers.price.q
@@ -48,6 +64,12 @@ abbrev pub PlansFit : Type 0
 PlansFit =
     (ends : ScoreEnds) (value : Value) (c : CaseRows) (held : List ℕ) (budget : ℕ) (p : CasePlan)
     → IsAcceptedCase c → EnclosesValue ends value → LeavesRoom ends → IsCasePlan ends c held budget p → FitsItsPlace c p
+
+-- and in a report
+abbrev pub ReportsFit : Type 0
+ReportsFit =
+    (ends : ScoreEnds) (value : Value) (c : CaseRows) (held : List ℕ) (terms : Terms) (report : PlanReport)
+    → IsAcceptedCase c → EnclosesValue ends value → LeavesRoom ends → IsPlanned ends c held terms report → FitsPlan report
 
 -- curves of a case's points, from what is held within the limits, are such as a plan takes
 abbrev pub CurvesServe : Type 0

@@ -1,31 +1,52 @@
 -- How a plan of a case is reported.
-use Rattle.std.specs.Prelude.{◌≡◌, ℕ, ◌<◌, ◌≤◌, List, length, option_map}
+use Rattle.std.specs.Prelude.{◌≡◌, ℕ, ◌<◌, ◌≤◌, Bool, List, Option, Some, None, length, sum_by, option_map, if◌then◌else◌}
 use Rattle.std.specs.List.{AllZip}
+use Rattle.fixed_interval.specs.Ends.{Ends}
 use Rattle.hull.specs.declared.point.Point.{Point}
 use Rattle.hull.specs.Curves.{Among}
 use Rattle.fleet_model.specs.Rows.{line_units}
 use Rattle.step_walk.specs.Prefix.{vertex_at}
 use Rattle.marginal_alloc.specs.Choice.{AreCurves}
-use Rattle.fleet_plan.specs.Families.{case_points}
+use Rattle.fleet_plan.specs.Families.{case_points, hi_at}
 use Rattle.spares_input.specs.Frames.{part_at}
 use Rattle.spares_input.specs.Cases.{CaseRows}
 use Rattle.case_figures.specs.Figures.{figures_of}
 use Rattle.family_curve.specs.Vectors.{limits, stock_list}
-use Rattle.family_curve.specs.Points.{ScoreEnds}
+use Rattle.family_curve.specs.Points.{ScoreEnds, scored_total}
 use Rattle.fleet_plan.specs.Plans.{CasePlan, critical_line, IsCasePlan}
-use Rattle.case_plan.specs.declared.report.CriticalLine.{CriticalLine}
-use Rattle.case_plan.specs.declared.report.PlanReport.{PlanReport}
-use Rattle.case_plan.specs.declared.report.Outcome.{Outcome}
+use Rattle.plan_report.specs.declared.plan.CriticalLine.{CriticalLine}
+use Rattle.plan_report.specs.declared.plan.PlanReport.{PlanReport}
+use Rattle.case_plan.specs.declared.outcome.Outcome.{Outcome}
+
+-- What is asked for: a plan under a budget in whole money; whether what is aimed at is a loss, which is reported beside the
+-- total of backorders; and what the stocks on hand cost, where some may be held already, which is printed.
+pub record Terms : Type 0 where
+  pub budget : ℕ
+  pub loss : Bool
+  pub on_hand : Option ℕ
+
+-- the ends of what is aimed at, at the stocks s: the sums of the ends of all scored totals
+abbrev pub lo_at : ScoreEnds → CaseRows → List ℕ → ℕ
+lo_at ends c s = sum_by (λ l. (scored_total c l ends s).lo) (line_units c)
+
+abbrev pub aim_ends : ScoreEnds → CaseRows → List ℕ → Ends
+aim_ends ends c s = record { lo = lo_at ends c s; hi = hi_at ends c s }
+
+-- these ends, where they are asked for
+abbrev pub if_asked : Bool → Ends → Option Ends
+if_asked asked x = if asked then Some x else None
 
 -- the line of a step that raises the cost by so much, of this line unit
 abbrev pub step_line : CaseRows → ℕ → ℕ → CriticalLine
 step_line c rise l = record { part = (part_at c.parts l).name; cost = rise }
 
 -- The report of a plan. Its cost is that of the plan: where stocks are held, what is added to them.
-abbrev pub report_of : CaseRows → ℕ → CasePlan → PlanReport
-report_of c budget p = record {
-  budget = budget;
+abbrev pub report_of : ScoreEnds → CaseRows → Terms → CasePlan → PlanReport
+report_of ends c terms p = record {
+  budget = terms.budget;
   figures = record (figures_of 48 c (stock_list c p.stocks)) { cost = p.numbers.cost };
+  on_hand = terms.on_hand;
+  loss = if_asked terms.loss (aim_ends ends c p.stocks);
   bound = p.numbers.bound;
   gap = p.numbers.gap;
   rounding = p.numbers.rounding;
@@ -35,26 +56,26 @@ report_of c budget p = record {
 }
 
 -- The answer: the report with the stocks, and what the certificate claims.
-abbrev pub outcome_of : CaseRows → ℕ → CasePlan → Outcome
-outcome_of c budget p = record {
-  report = report_of c budget p;
+abbrev pub outcome_of : ScoreEnds → CaseRows → Terms → CasePlan → Outcome
+outcome_of ends c terms p = record {
+  report = report_of ends c terms p;
   stocks = stock_list c p.stocks;
   price = p.numbers.price;
   floors = p.floors;
   upper = p.numbers.upper;
 }
 
--- It is that of the plan of the case.
-pub record IsOutcome (ends : ScoreEnds) (c : CaseRows) (held : List ℕ) (budget : ℕ) (outcome : Outcome) : Type 0 where
+-- It is that of the plan of the case, from what is held on.
+pub record IsOutcome (ends : ScoreEnds) (c : CaseRows) (held : List ℕ) (terms : Terms) (outcome : Outcome) : Type 0 where
   pub plan : CasePlan
-  pub is_plan : IsCasePlan ends c held budget plan
-  pub is : outcome ≡ outcome_of c budget plan
+  pub is_plan : IsCasePlan ends c held terms.budget plan
+  pub is : outcome ≡ outcome_of ends c terms plan
 
--- The report is that of the plan of the case.
-pub record IsPlanned (ends : ScoreEnds) (c : CaseRows) (held : List ℕ) (budget : ℕ) (report : PlanReport) : Type 0 where
+-- The report is that of the plan of the case, from what is held on.
+pub record IsPlanned (ends : ScoreEnds) (c : CaseRows) (held : List ℕ) (terms : Terms) (report : PlanReport) : Type 0 where
   pub plan : CasePlan
-  pub is_plan : IsCasePlan ends c held budget plan
-  pub is : report ≡ report_of c budget plan
+  pub is_plan : IsCasePlan ends c held terms.budget plan
+  pub is : report ≡ report_of ends c terms plan
 
 -- there is a curve for each line unit, which begins at cost 0, with vectors of the family within the limits
 pub record AreFamilyCurves (c : CaseRows) (curves : List (List Point)) : Type 0 where
@@ -64,6 +85,6 @@ pub record AreFamilyCurves (c : CaseRows) (curves : List (List Point)) : Type 0 
       (line_units c) curves
 
 -- the outcome is that of the plan of all points, from whatever is held, of which these are the curves
-abbrev pub IsPlanOf : CaseRows → List (List Point) → ℕ → Outcome → Type 0
-IsPlanOf c curves budget outcome =
-    (ends : ScoreEnds) (held : List ℕ) → AreCurves (case_points ends c held) curves → IsOutcome ends c held budget outcome
+abbrev pub IsPlanOf : CaseRows → List (List Point) → Terms → Outcome → Type 0
+IsPlanOf c curves terms outcome =
+    (ends : ScoreEnds) (held : List ℕ) → AreCurves (case_points ends c held) curves → IsOutcome ends c held terms outcome

@@ -1,20 +1,60 @@
 -- What a plan's report says of the case, in the words of the model. What is said at a depth is said at every depth from
 -- 1024 on.
-use Rattle.std.specs.Prelude.{◌≡◌, ℕ, ◌+◌, ◌*◌, ◌/◌, ◌^◌, ◌≤◌, List}
-use Rattle.exact_model.specs.Fraction.{◌≤ℚ◌}
+use Rattle.std.specs.Prelude.{◌≡◌, ℕ, ◌+◌, ◌-◌, ◌*◌, ◌≤◌, List, option_map}
+use Rattle.exact_model.specs.Fraction.{Encloses, ◌≤ℚ◌}
 use Rattle.fixed_interval.specs.Text.{text_value}
 use Rattle.spares_input.specs.Cases.{CaseRows}
 use Rattle.fleet_model.specs.Fleet.{IsAllocation, cost, total}
 use Rattle.fleet_model.specs.Headline.{NoAllocationHasFewer, NoPriceIsHigher}
+use Rattle.fleet_model.specs.Aims.{Value, aim, IsHeldAllocation, cost_beyond}
+use Rattle.fleet_model.specs.Bounds.{NoneHasLess, NoPriceShowsMore, HasNoMore}
 use Rattle.case_figures.specs.Spans.{ends}
 use Rattle.case_figures.specs.Shows.{ShowsFigures}
 use Rattle.family_curve.specs.Vectors.{stock_list}
-use Rattle.case_plan.specs.declared.report.PlanReport.{PlanReport}
+use Rattle.family_curve.specs.Points.{ScoreEnds}
+use Rattle.fleet_plan.specs.Families.{hi_at}
+use Rattle.fleet_plan.specs.Plans.{CasePlan, critical_line}
+use Rattle.plan_report.specs.Texts.{millionths_down}
+use Rattle.plan_report.specs.declared.plan.PlanReport.{PlanReport}
+use Rattle.case_plan.specs.Report.{Terms, lo_at, aim_ends, if_asked, step_line}
 
--- what is printed of a bound, in millionths: rounded down
-abbrev pub printed_bound : ℕ → ℕ
-printed_bound bound = bound * 10 ^ 6 / 2 ^ 48
+-- no allocation within the budget has less than what is printed of a bound
+abbrev pub NoneHasLessThanPrinted : Value → CaseRows → List ℕ → ℕ → ℕ → Type 0
+NoneHasLessThanPrinted value c held budget bound =
+    (n : ℕ) → 1024 ≤ n → (s : List ℕ) → IsHeldAllocation c held s → cost_beyond c held s ≤ budget
+    → text_value 6 (millionths_down 48 bound) ≤ℚ aim value c s n
 
+-- Of what stocks are held, for any score and the value that it encloses. The stocks are those of the plan.
+pub record IsTrueReport (ends : ScoreEnds) (value : Value) (c : CaseRows) (held : List ℕ) (terms : Terms) (plan : CasePlan) (report : PlanReport)
+    : Type 0 where
+  pub budget_is : report.budget ≡ terms.budget
+  pub on_hand_is : report.on_hand ≡ terms.on_hand
+  -- the stocks have what is held, and are within the limits; what they add to it costs what is printed, at most the budget
+  pub allocation : IsHeldAllocation c held plan.stocks
+  pub cost_is : report.figures.cost ≡ cost_beyond c held plan.stocks
+  pub fits : report.figures.cost ≤ terms.budget
+  -- each mean, variance, backorder and availability is enclosed at these stocks; with what all of them cost in the place of
+  -- what is added, the figures are theirs
+  pub shows : ShowsFigures 48 c (stock_list c plan.stocks) (record report.figures { cost = cost c plan.stocks })
+  -- no allocation within the budget has less than the bound, nor than what is printed of it
+  pub none_less : NoneHasLess value c held terms.budget report.bound
+  pub printed : NoneHasLessThanPrinted value c held terms.budget report.bound
+  -- no price gives a bound higher by more than the rounding
+  pub no_price : NoPriceShowsMore value c held terms.budget (report.bound + report.rounding)
+  -- the bound and the gap are the upper end of what is aimed at, and the stocks have no more
+  pub upper : report.bound + report.gap ≡ hi_at ends c plan.stocks
+  pub no_more : HasNoMore value c plan.stocks (report.bound + report.gap)
+  -- the loss is reported where it is asked for, and encloses what is aimed at
+  pub loss_is : report.loss ≡ if_asked terms.loss (aim_ends ends c plan.stocks)
+  pub encloses : Encloses 48 (lo_at ends c plan.stocks) (hi_at ends c plan.stocks) (aim value c plan.stocks)
+  -- price, hull choice and critical step are those of the plan, and show how small the gap is
+  pub price_is : report.price ≡ plan.numbers.price
+  pub hull_is : report.hull ≡ plan.numbers.hull_cost
+  pub critical_is : report.critical ≡ option_map (step_line c report.price.q) (critical_line c plan)
+  pub small_gap : report.price.q * report.gap
+      ≤ report.price.p * (terms.budget - report.hull) + report.price.q * report.rounding
+
+-- The same of weighted backorders where nothing is held, in the words of the model alone.
 pub record IsTruePlanReport (c : CaseRows) (budget : ℕ) (stocks : List ℕ) (report : PlanReport) : Type 0 where
   pub budget_is : report.budget ≡ budget
   -- the stocks are within the limits, and cost at most the budget
@@ -25,7 +65,7 @@ pub record IsTruePlanReport (c : CaseRows) (budget : ℕ) (stocks : List ℕ) (r
   -- no allocation within the budget has fewer backorders than the bound, nor than what is printed of it
   pub fewer : NoAllocationHasFewer c budget report.bound
   pub printed : (n : ℕ) → 1024 ≤ n → (s : List ℕ) → IsAllocation c s → cost c s ≤ budget
-      → text_value 6 (printed_bound report.bound) ≤ℚ total c s n
+      → text_value 6 (millionths_down 48 report.bound) ≤ℚ total c s n
   -- no price gives a bound higher by more than the rounding
   pub no_price : NoPriceIsHigher c budget (report.bound + report.rounding)
   -- and the total's upper end is the bound and the gap

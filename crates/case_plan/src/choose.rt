@@ -3,7 +3,7 @@
 ghost use Rattle.std.specs.Prelude.{◌≡◌, ℕ, ◌+◌, ◌-◌, ◌*◌, ◌/◌, ◌^◌, ◌<◌, ◌≤◌, List, length, map, slice_index, IfOk};
 ghost use Rattle.hull.specs.declared.point.Point.{Point};
 ghost use Rattle.hull.specs.Curves.{lagrangian, InRange, IsShape};
-ghost use Rattle.price_bounds.specs.Sums.{total, cost_of, hi_of, width_of};
+ghost use Rattle.price_bounds.specs.Sums.{total, cost_of, hi_of, lo_of, width_of};
 ghost use Rattle.step_walk.specs.Prefix.{curve_at, vertex_at, picked, AreVertices, HaveShapes};
 ghost use Rattle.marginal_alloc.specs.Choice.{AreCurves};
 ghost use Rattle.marginal_alloc.specs.Plans.{IsPlan};
@@ -21,6 +21,7 @@ struct Totals {
     lagrangian: u128,
     width: u128,
     cost: u64,
+    lo: u128,
     hi: u128,
 }
 
@@ -56,24 +57,29 @@ fn totals_of(curves: &[Curve], picks: &[u32], price: Price) -> Totals
     ensures lagrangian { result.lagrangian ≡ total (lagrangian price.p price.q) (picked curves.now picks.now) }
     ensures width { result.width ≡ width_of (picked curves.now picks.now) }
     ensures cost { result.cost ≡ cost_of (picked curves.now picks.now) }
+    ensures lo { result.lo ≡ lo_of (picked curves.now picks.now) }
     ensures hi { result.hi ≡ hi_of (picked curves.now picks.now) }
-    ensures small { (result.lagrangian < 2 ^ 126) × (result.width < 2 ^ 86) }
+    ensures ordered { result.lo ≤ result.hi }
+    ensures small { (result.lagrangian < 2 ^ 126) × ((result.width < 2 ^ 86) × (result.hi < 2 ^ 86)) }
 {
     let mut lagrangian = 0;
     let mut width = 0;
     let mut cost = 0;
+    let mut lo = 0;
     let mut hi = 0;
     for f in 0..curves.len() {
         let point = pick_of(curves, picks, f);
         lagrangian += lagrangian_of(point, price);
         width += point.hi - point.lo;
         cost += point.cost;
+        lo += point.lo;
         hi += point.hi;
     }
     Totals {
         lagrangian,
         width,
         cost,
+        lo,
         hi,
     }
 }
@@ -114,11 +120,13 @@ fn slack_of(curves: &[Curve], critical: Option<Critical>) -> u128
     point.hi - point.lo
 }
 
-/// The filled choice of curves: a vertex of each, a floor of each at the price, and the numbers of the plan.
+/// The filled choice of curves: a vertex of each, a floor of each at the price, the sum of the vertices' lower ends, and the
+/// numbers of the plan.
 #[derive(Drop)]
 pub(crate) struct Choice {
     pub picks: Vec<u32>,
     pub floors: Vec<u128>,
+    pub lower: u128,
     pub numbers: PlanNumbers,
 }
 
@@ -131,6 +139,9 @@ pub(crate) fn choose(alloc: Global, curves: &[Curve], budget: u64) -> Result<Cho
         → IfOk result (λ choice.
         IsPlan families budget (picked curves.now choice.picks.items) choice.floors.items choice.numbers) }
     ensures vertices { IfOk result (λ choice. AreVertices curves.now choice.picks.items) }
+    ensures lower { IfOk result (λ choice. choice.lower ≡ lo_of (picked curves.now choice.picks.items)) }
+    ensures ordered { IfOk result (λ choice. choice.lower ≤ choice.numbers.upper) }
+    ensures small { IfOk result (λ choice. choice.numbers.upper < 2 ^ 86) }
     ensures critical { IfOk result (λ choice. IsPlace curves.now choice.numbers.critical) }
 {
     let chosen = allocate(alloc, curves, budget)?;
@@ -158,6 +169,7 @@ pub(crate) fn choose(alloc: Global, curves: &[Curve], budget: u64) -> Result<Cho
     Ok(Choice {
         picks,
         floors,
+        lower: filled.lo,
         numbers,
     })
 }

@@ -1,19 +1,21 @@
 //! The plan of a case.
 
-ghost use Rattle.std.specs.Prelude.{◌≡◌, ℕ, ◌<◌, ◌≤◌, IfOk, IfSome, length, get_or, option_map};
+ghost use Rattle.std.specs.Prelude.{◌≡◌, ◌^◌, ◌<◌, ◌≤◌, IfOk, IfSome, length, get_or, option_map};
 ghost use Rattle.demand_rates.specs.Rates.{AreRatesOf};
 ghost use Rattle.fleet_model.specs.Rows.{line_units};
 ghost use Rattle.fleet_plan.specs.Plans.{line_of_step};
-ghost use Rattle.case_plan.specs.Report.{step_line, AreFamilyCurves, IsPlanOf};
+ghost use Rattle.case_plan.specs.Report.{if_asked, step_line, AreFamilyCurves, IsPlanOf};
 
 use crate::choose::choose;
+use crate::outcome::Outcome;
 use crate::placing::stocks_of;
-use crate::report::{CriticalLine, Outcome, PlanReport};
 use case_figures::figures_at;
 use demand_rates::kinds::Rates;
 use family_eval::evaluate_all;
+use fixed_interval::Iv;
 use hull::{Curve, Price};
 use marginal_alloc::Critical;
+use plan_report::{CriticalLine, PlanReport};
 use spares_input::{Case, PartId};
 use spares_io::{List, NoMemory};
 use std::alloc::Global;
@@ -51,22 +53,38 @@ fn line_of(case: &Case, critical: Option<Critical>, price: Price) -> Option<Crit
     })
 }
 
+/// The ends of what is aimed at, where they are asked for.
+fn aim_of(asked: bool, lower: u128, upper: u128) -> Option<Iv<48>>
+    requires ordered { lower ≤ upper }
+    requires room { upper < 2 ^ 86 }
+    ensures { result ≡ if_asked asked (record { lo = lower; hi = upper }) }
+{
+    if asked {
+        Some(Iv::of_ends(lower, upper))
+    } else {
+        None
+    }
+}
+
 /// The plan of a case under a budget in whole money, from a curve for each line unit in order.
 ///
 /// Each curve begins at cost 0, and the stocks of its points are vectors of its family within the limits. Of whatever
-/// points, from whatever stocks held, these are the curves, the answer is that of the one plan of these points. Want of
-/// memory is the only error.
+/// points, from whatever stocks held, these are the curves, the answer is that of the one plan of these points. Where `loss`
+/// is set, the report has the ends of what the curves aim at as a loss; `on_hand` is put into the report. Want of memory is
+/// the only error.
 pub fn plan(
     alloc: Global,
     case: &Case,
     rates: &Rates,
     curves: &[Curve],
     budget: u64,
+    loss: bool,
+    on_hand: Option<u64>,
 ) -> Result<Outcome, NoMemory>
     requires rates { AreRatesOf case.now rates.now }
     requires budget { budget ≤ 1000000000000000 }
     requires curves { AreFamilyCurves case.now curves.now }
-    ensures { IfOk result (IsPlanOf case.now curves.now budget) }
+    ensures { IfOk result (IsPlanOf case.now curves.now (record { budget = budget; loss = loss; on_hand = on_hand })) }
 {
     let _sites = case.site_count();
     let choice = choose(alloc, curves, budget)?;
@@ -78,6 +96,8 @@ pub fn plan(
     let report = PlanReport {
         budget,
         figures,
+        on_hand,
+        loss: aim_of(loss, choice.lower, numbers.upper),
         bound: numbers.bound,
         gap: numbers.gap,
         rounding: numbers.rounding,

@@ -39,7 +39,7 @@ one_case_plan ends c held budget p q valid h k =
 
 -- ---- how it is made
 
-chosen_in : (ends : ScoreEnds) (c : CaseRows) (held s ls : List ℕ) (chosen : List Point) → Picks (map (family_points ends c held) ls) chosen → stocks_of chosen ≡ map (λ l. vector_of c l s) ls
+pub chosen_in : (ends : ScoreEnds) (c : CaseRows) (held s ls : List ℕ) (chosen : List Point) → Picks (map (family_points ends c held) ls) chosen → stocks_of chosen ≡ map (λ l. vector_of c l s) ls
     → chosen ≡ map (λ l. point_at_vector c l ends (vector_of c l held) (vector_of c l s)) ls
 chosen_in ends c held s [] [] a e = refl
 chosen_in ends c held s [] (v ∷ vs) a e = absurd a

@@ -1,12 +1,20 @@
 //! The reports that the planner prints.
 #![tactic(auto)]
 
+mod check;
 mod eval;
+mod plan;
+#[cfg(test)]
+mod plan_tests;
 mod single;
+mod summary;
 #[cfg(test)]
 mod tests;
 mod text;
 
+pub use check::CheckReport;
 pub use eval::EvalReport;
+pub use plan::{CriticalLine, PlanReport};
 pub use single::SingleReport;
+pub use summary::Summary;
 pub use text::prints_outward;

@@ -1,21 +1,27 @@
 //! Pieces that reports are printed from.
-ghost use Rattle.std.specs.Prelude.{◌≡◌, ◌++◌, ◌∷◌, [], ◌<◌, ◌^◌, ℕ, All, OnOk};
+ghost use Rattle.std.specs.Prelude.{◌≡◌, ◌++◌, ◌∷◌, ◌<◌, ◌^◌, ℕ, All, OnOk};
 ghost use Rattle.std.specs.List.{flat_map};
 ghost use Rattle.std.specs.Fmt.{decimal};
 ghost use Rattle.fixed_interval.specs.Ends.{Ends};
 ghost use Rattle.case_figures.specs.Fits.{BaseFits, FitsPrint, ItemFits, SpanFits};
 ghost use Rattle.case_figures.specs.Spans.{ends, places};
-ghost use Rattle.plan_report.specs.Texts.{PrintsOutward, base_text, figures_text, interval_text, intervals_text, item_text, line, pair_text, span_text};
+ghost use Rattle.hull.specs.declared.price.Price.{Price};
+ghost use Rattle.plan_report.specs.Fits.{UnitsFit};
+ghost use Rattle.plan_report.specs.Texts.{PrintsAbove, PrintsBelow, PrintsOutward, PrintsPriceBelow, base_text, cost_text, down_text, figures_text, interval_text, intervals_text, item_text, line, on_hand_text, pair_text, span_text, stocks_text, up_text};
 
 use case_figures::{BaseLine, Figures, ItemLine, Span};
 use fixed_interval::Iv;
 use line_text::{put_count_line, put_number};
 use spares_io::NoMemory;
 
-/// The two numbers that are printed of an interval enclose all that it contains.
+/// The two numbers that are printed of an interval enclose all that it contains. A number that is printed rounded down is
+/// printed as no more than it is, and one that is rounded up as no less.
 pub fn prints_outward()
     ensures intervals { (f : ℕ) (x : Ends) → PrintsOutward f x }
     ensures spans { (x : Span) → PrintsOutward (places x) (ends x) }
+    ensures down { (n : ℕ) → PrintsBelow n }
+    ensures up { (n : ℕ) → PrintsAbove n }
+    ensures price { (price : Price) → PrintsPriceBelow price }
 {}
 
 /// Appends both ends of an interval with 6 decimals, the lower one rounded down, the upper one up.
@@ -58,6 +64,45 @@ pub(crate) fn put_number_line(text: &mut Vec<u8>, name: &[u8], number: u64) -> R
     ensures { OnOk result (text.new.items ≡ text.old.items ++ line name.now (decimal number)) }
 {
     put_count_line(text, name, number as u128)
+}
+
+/// Appends a line of a name and its fields.
+pub(crate) fn put_line(text: &mut Vec<u8>, name: &[u8], fields: &[u8]) -> Result<(), NoMemory>
+    ensures { OnOk result (text.new.items ≡ text.old.items ++ line name.now fields.now) }
+{
+    text.extend_from_slice(name)?;
+    text.push(b',')?;
+    text.extend_from_slice(fields)?;
+    text.push(b'\n')?;
+    Ok(())
+}
+
+/// Appends a line of a name and a number in units of 2^-48, with 6 decimals, rounded down.
+pub(crate) fn put_down_line(text: &mut Vec<u8>, name: &[u8], units: u128) -> Result<(), NoMemory>
+    requires { UnitsFit units }
+    ensures { OnOk result (text.new.items ≡ text.old.items ++ line name.now (down_text units)) }
+{
+    let number = Iv::<48>::of_ends(units, units);
+    put_line(text, name, number.down_text(6).as_slice())
+}
+
+/// Appends a line of a name and a number in units of 2^-48, with 6 decimals, rounded up.
+pub(crate) fn put_up_line(text: &mut Vec<u8>, name: &[u8], units: u128) -> Result<(), NoMemory>
+    requires { UnitsFit units }
+    ensures { OnOk result (text.new.items ≡ text.old.items ++ line name.now (up_text units)) }
+{
+    let number = Iv::<48>::of_ends(units, units);
+    put_line(text, name, number.up_text(6).as_slice())
+}
+
+/// Appends the line of what the stocks on hand cost, where there are such.
+pub(crate) fn put_on_hand(text: &mut Vec<u8>, on_hand: Option<u64>) -> Result<(), NoMemory>
+    ensures { OnOk result (text.new.items ≡ text.old.items ++ on_hand_text on_hand) }
+{
+    match on_hand {
+        Some(cost) => put_number_line(text, b"on-hand", cost),
+        None => Ok(()),
+    }
 }
 
 /// Appends a field with an interval, and the comma before it.
@@ -133,15 +178,29 @@ fn put_bases(text: &mut Vec<u8>, bases: &[BaseLine]) -> Result<(), NoMemory>
     Ok(())
 }
 
+/// Appends the line of the cost.
+pub(crate) fn put_cost(text: &mut Vec<u8>, figures: &Figures) -> Result<(), NoMemory>
+    ensures { OnOk result (text.new.items ≡ text.old.items ++ cost_text figures.now) }
+{
+    put_number_line(text, b"cost", figures.cost)
+}
+
+/// Appends the lines from the items to the total.
+pub(crate) fn put_stocks(text: &mut Vec<u8>, figures: &Figures) -> Result<(), NoMemory>
+    requires { FitsPrint figures.now }
+    ensures { OnOk result (text.new.items ≡ text.old.items ++ stocks_text figures.now) }
+{
+    put_items(text, figures.items.as_slice())?;
+    put_bases(text, figures.bases.as_slice())?;
+    put_span_line(text, b"fleet", &figures.fleet)?;
+    put_span_line(text, b"total", &figures.total)
+}
+
 /// Appends the lines from the cost to the total.
 pub(crate) fn put_figures(text: &mut Vec<u8>, figures: &Figures) -> Result<(), NoMemory>
     requires { FitsPrint figures.now }
     ensures { OnOk result (text.new.items ≡ text.old.items ++ figures_text figures.now) }
 {
-    put_number_line(text, b"cost", figures.cost)?;
-    put_items(text, figures.items.as_slice())?;
-    put_bases(text, figures.bases.as_slice())?;
-    put_span_line(text, b"fleet", &figures.fleet)?;
-    put_span_line(text, b"total", &figures.total)?;
-    Ok(())
+    put_cost(text, figures)?;
+    put_stocks(text, figures)
 }

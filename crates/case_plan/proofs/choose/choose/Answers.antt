@@ -1,6 +1,6 @@
 use Rattle.std.proofs.Common.{◌-◌, ◌*◌, ◌/◌, refl, map, ap, ◌∙◌, subst}
 use Rattle.hull.specs.Curves.{lagrangian}
-use Rattle.price_bounds.specs.Sums.{total, cost_of, hi_of, width_of}
+use Rattle.price_bounds.specs.Sums.{total, cost_of, hi_of, lo_of, width_of}
 use Rattle.step_walk.specs.Prefix.{picked}
 use Rattle.marginal_alloc.specs.Filling.{Fills}
 use Rattle.case_plan.proofs.Planned.{planned, place_at}
@@ -33,3 +33,6 @@ returns-clause-plan c = λ families areas.
 
 pub returns-clause-critical : goal.returns-clause-critical
 returns-clause-critical c = place_at c.args.curves.now c.args.budget c.in_ok-chosen.chosen c.in_ok-chosen.chosen.critical refl c.in_ok-chosen.ensures.choice
+
+pub returns-clause-lower : goal.returns-clause-lower
+returns-clause-lower c = c.totals_of-filled.ensures.lo ∙ ap (λ z. lo_of (picked c.args.curves.now z)) c.as_slice-3.ensures.value

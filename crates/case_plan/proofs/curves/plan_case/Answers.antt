@@ -9,7 +9,7 @@ use Rattle.case_plan.proofs.curves.plan_case.Goals as goal
 pub plan-requires-clause-curves : goal.plan-requires-clause-curves
 plan-requires-clause-curves g c =
     subst (λ (z : List (List Point)). AreFamilyCurves c.args.case.now z) (sym c.as_slice.ensures.value)
-    (are_family_curves g.S.Score.ends c.args.case.now c.in_ok-curves.curves.items c.in_ok-curves.ensures)
+    (are_family_curves g.S.Score.ends c.args.case.now c.args.held.now.list c.in_ok-curves.curves.items c.in_ok-curves.ensures)
 
 if_ok : {T E : Type 0} (P Q : T → Type 0) (r : Result T E) → ((x : T) → P x → Q x) → IfOk r P → IfOk r Q
 if_ok P Q (Ok x) h a = h x a
@@ -17,8 +17,8 @@ if_ok P Q (Err e) h a = tt
 
 pub returns : goal.returns
 returns g c =
-    if_ok (IsPlanOf c.args.case.now c.as_slice.result.now c.args.budget) (IsOutcome g.S.Score.ends c.args.case.now [] c.args.budget) c.plan.result
-    (λ x h. h g.S.Score.ends []
-    (subst (λ (z : List (List Point)). AreCurves (case_points g.S.Score.ends c.args.case.now []) z) (sym c.as_slice.ensures.value)
-    (are_curves g.S.Score.ends c.args.case.now c.in_ok-curves.curves.items c.in_ok-curves.ensures)))
+    if_ok (IsPlanOf c.args.case.now c.as_slice.result.now (record { budget = c.args.budget; loss = c.args.loss; on_hand = c.args.on_hand })) (IsOutcome g.S.Score.ends c.args.case.now c.args.held.now.list (record { budget = c.args.budget; loss = c.args.loss; on_hand = c.args.on_hand })) c.plan.result
+    (λ x h. h g.S.Score.ends c.args.held.now.list
+    (subst (λ (z : List (List Point)). AreCurves (case_points g.S.Score.ends c.args.case.now c.args.held.now.list) z) (sym c.as_slice.ensures.value)
+    (are_curves g.S.Score.ends c.args.case.now c.args.held.now.list c.in_ok-curves.curves.items c.in_ok-curves.ensures)))
     c.plan.ensures

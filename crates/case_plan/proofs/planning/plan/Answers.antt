@@ -3,6 +3,9 @@ use Rattle.fleet_model.specs.Rows.{line_units}
 use Rattle.step_walk.specs.Prefix.{picked, AreVertices}
 use Rattle.price_bounds.specs.Soundness.{stocks_of}
 use Rattle.fleet_plan.proofs.Ones.{chosen_of_stocks}
+use Rattle.fixed_interval.specs.Ends.{Ends}
+use Rattle.case_plan.specs.Report.{Terms, if_asked}
+use Rattle.case_plan.proofs.Aimed.{aimed}
 use Rattle.case_plan.proofs.Ranges.{few_lines}
 use Rattle.case_plan.proofs.Whole.{widths, can_evaluate, place_some, plan_with, outcome, same_outcome}
 use Rattle.case_plan.proofs.planning.plan.Goals as goal
@@ -48,13 +51,17 @@ returns c = λ ends held areas.
     let choice = c.in_ok-choice.choice in
     let stocks = c.in_ok-stocks.stocks in
     let d = c.args.case.now in
+    let valid = c.site_count-sites.ensures.valid in
+    let terms : Terms = record { budget = c.args.budget; loss = c.args.loss; on_hand = c.args.on_hand } in
     let chosen = c.in_ok-choice.ensures.plan _ areas in
     let p = plan_with stocks choice.floors.items choice.numbers in
+    let vectors = sym (c.in_ok-stocks.ensures.vectors ∙ ap (λ z. stocks_of (picked c.args.curves.now z)) c.as_slice.ensures.value) in
     record {
       plan = p;
-      is_plan = chosen_of_stocks ends d held c.args.budget (picked c.args.curves.now choice.picks.items) p chosen
-          (sym (c.in_ok-stocks.ensures.vectors ∙ ap (λ z. stocks_of (picked c.args.curves.now z)) c.as_slice.ensures.value)) c.in_ok-stocks.ensures.is_for.pairs;
-      is = ap (λ z. outcome c.args.budget stocks z choice.numbers c.in_ok-figures.figures c.line_of.result) c.of.ensures
-          ∙ same_outcome d c.args.budget stocks choice.floors.items choice.numbers c.in_ok-figures.figures c.line_of.result
-          c.in_ok-stocks.ensures.is_for.sites c.in_ok-figures.ensures.figures c.line_of.ensures;
+      is_plan = chosen_of_stocks ends d held c.args.budget (picked c.args.curves.now choice.picks.items) p chosen vectors c.in_ok-stocks.ensures.is_for.pairs;
+      is = ap (λ z. outcome terms stocks z choice.numbers c.in_ok-figures.figures c.aim_of.result c.line_of.result) c.of.ensures
+          ∙ same_outcome ends d terms stocks choice.floors.items choice.numbers c.in_ok-figures.figures c.aim_of.result c.line_of.result
+          c.in_ok-stocks.ensures.is_for.sites c.in_ok-figures.ensures.figures
+          (c.aim_of.ensures ∙ ap (λ (x : Ends). if_asked c.args.loss x) (aimed ends d held c.args.budget (picked c.args.curves.now choice.picks.items) p choice.lower valid chosen vectors c.in_ok-choice.ensures.lower))
+          c.line_of.ensures;
     }

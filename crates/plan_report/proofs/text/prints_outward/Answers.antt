@@ -1,9 +1,38 @@
-use Rattle.fixed_interval.proofs.Laws.{down_below, up_above}
+use Rattle.std.proofs.Common.{ℕ, ◌*◌, ◌^◌, ◌<◌, lit<, arith}
+use Rattle.std.proofs.Math.Nat.{le_refl, mul-pos}
+use Rattle.exact_model.specs.Fraction.{whole, ◌/ℚ◌, ◌≈◌}
+use Rattle.exact_model.proofs.Fractions.{over, same, le-same, turned, ◌≈≈◌}
+use Rattle.fixed_interval.specs.Ends.{In}
+use Rattle.fixed_interval.proofs.Laws.{down_below, up_above, ratio_below, quotient_is}
 use Rattle.case_figures.specs.Spans.{ends, places}
+use Rattle.hull.specs.declared.price.Price.{Price}
+use Rattle.plan_report.specs.Texts.{PrintsAbove, PrintsBelow, PrintsPriceBelow}
 use Rattle.plan_report.proofs.text.prints_outward.Goals as goal
+
+parts_of : (n k : ℕ) (p : 0 < k) → whole n /ℚ whole k ≈ over n k p
+unfolding whole
+parts_of n k p = quotient_is (whole n) (whole k) p ≈≈ record { cross = omega arith }
+
+some : 0 < 2 ^ 48
+some = lit< tt
+
+alone : (n : ℕ) → In 48 (record { lo = n; hi = n }) (over n (2 ^ 48) some)
+alone n = record { low = le_refl (n * 2 ^ 48); high = le_refl (n * 2 ^ 48) }
+
+below : (n : ℕ) → PrintsBelow n
+below n = le-same (same _) (turned (parts_of n (2 ^ 48) some)) (down_below 48 6 (record { lo = n; hi = n }) (over n (2 ^ 48) some) (alone n))
+
+above : (n : ℕ) → PrintsAbove n
+above n = le-same (turned (parts_of n (2 ^ 48) some)) (same _) (up_above 48 6 (record { lo = n; hi = n }) (over n (2 ^ 48) some) (alone n))
+
+price_below : (price : Price) → PrintsPriceBelow price
+price_below price h = le-same (same _) (turned (parts_of price.p (price.q * 2 ^ 48) (mul-pos h some))) (ratio_below price.p (price.q * 2 ^ 48) 12 (mul-pos h some))
 
 pub returns : goal.returns
 returns c = record {
   intervals = λ f x q h. (down_below f 6 x q h, up_above f 6 x q h);
   spans = λ x q h. (down_below (places x) 6 (ends x) q h, up_above (places x) 6 (ends x) q h);
+  down = below;
+  up = above;
+  price = price_below;
 }

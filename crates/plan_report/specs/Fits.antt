@@ -1,0 +1,36 @@
+-- What reports a text can show: those whose numbers with decimals are below 2 ^ 86 units of 2 ^ -48.
+use Rattle.std.specs.Prelude.{ℕ, ◌^◌, ◌<◌, ◌≤◌, IfSome}
+use Rattle.fixed_interval.specs.Ends.{Ends}
+use Rattle.hull.specs.declared.price.Price.{Price}
+use Rattle.case_figures.specs.Fits.{FitsPrint}
+use Rattle.plan_report.specs.declared.plan.PlanReport.{PlanReport}
+use Rattle.plan_report.specs.declared.check.CheckReport.{CheckReport}
+use Rattle.plan_report.specs.declared.summary.Summary.{Summary}
+
+abbrev pub UnitsFit : ℕ → Type 0
+UnitsFit n = n < 2 ^ 86
+
+abbrev pub IntervalFits : Ends → Type 0
+IntervalFits x = UnitsFit x.hi
+
+pub record PriceFits (price : Price) : Type 0 where
+  pub p : price.p < 2 ^ 75
+  pub money : 0 < price.q
+  pub most_money : price.q ≤ 1000000000000
+
+pub record FitsPlan (report : PlanReport) : Type 0 where
+  pub figures : FitsPrint report.figures
+  pub loss : IfSome report.loss IntervalFits
+  pub bound : UnitsFit report.bound
+  pub gap : UnitsFit report.gap
+  pub rounding : UnitsFit report.rounding
+  pub price : PriceFits report.price
+
+pub record FitsCheck (report : CheckReport) : Type 0 where
+  pub upper : UnitsFit report.upper
+  pub bound : UnitsFit report.bound
+
+pub record FitsSummary (summary : Summary) : Type 0 where
+  pub total : IntervalFits summary.total
+  pub bound : UnitsFit summary.bound
+  pub gap : UnitsFit summary.gap

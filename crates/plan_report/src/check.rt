@@ -1,0 +1,43 @@
+//! What is printed of an accepted certificate.
+ghost use Rattle.std.specs.Prelude.{◌≡◌, IfOk};
+ghost use Rattle.plan_report.specs.Fits.{FitsCheck};
+ghost use Rattle.plan_report.specs.Texts.{check_text};
+
+use crate::text::{put_down_line, put_number_line, put_on_hand, put_up_line};
+use spares_io::NoMemory;
+use std::alloc::Global;
+
+/// What an accepted certificate shows of its case. The upper end and the bound are in units of 2^-48 of what is aimed at.
+#[derive(Clone, Copy, Debug, PartialEq, Eq)]
+pub struct CheckReport {
+    /// 1, or 2 where covers show the floors.
+    pub format: u8,
+    /// In whole money.
+    pub budget: u64,
+    /// What the budget pays: the certificate's stocks, or what they add to those on hand.
+    pub cost: u64,
+    /// What the stocks on hand cost, where some may be held already.
+    pub on_hand: Option<u64>,
+    /// The certificate's stocks have at most so much.
+    pub upper: u128,
+    /// No stocks within the budget have less.
+    pub bound: u128,
+}
+
+impl CheckReport {
+    /// The lines `accepted,FORMAT`, `budget,BUDGET`, `cost,COST`, `upper,X` and `bound,X`, and after `cost` the line
+    /// `on-hand,COST` where stocks are on hand. The upper end is rounded up and the bound down, to 6 decimals.
+    pub fn text(&self, alloc: Global) -> Result<Vec<u8>, NoMemory>
+        requires { FitsCheck self.now }
+        ensures { IfOk result (λ text. text.items ≡ check_text self.now) }
+    {
+        let mut text = Vec::new(alloc);
+        put_number_line(&mut text, b"accepted", u64::from(self.format))?;
+        put_number_line(&mut text, b"budget", self.budget)?;
+        put_number_line(&mut text, b"cost", self.cost)?;
+        put_on_hand(&mut text, self.on_hand)?;
+        put_up_line(&mut text, b"upper", self.upper)?;
+        put_down_line(&mut text, b"bound", self.bound)?;
+        Ok(text)
+    }
+}

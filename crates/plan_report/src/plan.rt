@@ -1,0 +1,135 @@
+//! What is printed of the plan of a case.
+ghost use Rattle.std.specs.Prelude.{◌≡◌, ◌++◌, IfOk, IfSome, OnOk, codes};
+ghost use Rattle.case_figures.specs.Fits.{FitsPrint};
+ghost use Rattle.plan_report.specs.Fits.{FitsPlan, IntervalFits, PriceFits};
+ghost use Rattle.plan_report.specs.Texts.{bounds_text, critical_text, gains_text, loss_text, plan_text, price_text, line, steps_text};
+
+use crate::text::{
+    put_cost, put_down_line, put_line, put_number_line, put_on_hand, put_span_line, put_stocks,
+    put_up_line,
+};
+use case_figures::{Figures, Span};
+use fixed_interval::{Iv, ratio_down};
+use hull::Price;
+use line_text::put_number;
+use spares_input::Name;
+use spares_io::NoMemory;
+use std::alloc::Global;
+
+/// The line unit of the step that doesn't fit the budget, and by how much the step raises the cost, in whole money.
+#[derive(Clone, Copy, PartialEq, Eq)]
+pub struct CriticalLine {
+    pub part: Name,
+    pub cost: u64,
+}
+
+/// The figures of a plan's stocks, and how far these can be from the best. Bound, gap and rounding are in units of 2^-48
+/// of what is aimed at: the total of backorders, or the loss where there is one.
+#[derive(Drop, PartialEq, Eq)]
+pub struct PlanReport {
+    /// In whole money.
+    pub budget: u64,
+    /// Their cost is what the budget pays: all stocks, or what is added to those on hand.
+    pub figures: Figures,
+    /// What the stocks on hand cost, where some may be held already.
+    pub on_hand: Option<u64>,
+    /// What is aimed at, at these stocks, where it isn't their total of backorders.
+    pub loss: Option<Iv<48>>,
+    /// No stocks within the budget have less.
+    pub bound: u128,
+    /// How far the upper end of what is aimed at is above the bound.
+    pub gap: u128,
+    /// By how much the bound of another price can at most be higher.
+    pub rounding: u128,
+    /// The price that shows the bound.
+    pub price: Price,
+    /// What the hull choice costs.
+    pub hull: u64,
+    /// None where every step fits the budget.
+    pub critical: Option<CriticalLine>,
+}
+
+/// Appends the line of a loss, where there is one.
+fn put_loss(text: &mut Vec<u8>, loss: Option<Iv<48>>) -> Result<(), NoMemory>
+    requires { IfSome loss IntervalFits }
+    ensures { OnOk result (text.new.items ≡ text.old.items ++ loss_text loss) }
+{
+    match loss {
+        Some(loss) => put_span_line(text, b"loss", &Span::Bits48(loss)),
+        None => Ok(()),
+    }
+}
+
+/// Appends the line of a price with 12 decimals, rounded down.
+fn put_price(text: &mut Vec<u8>, price: Price) -> Result<(), NoMemory>
+    requires { PriceFits price }
+    ensures { OnOk result (text.new.items ≡ text.old.items ++ line (codes "price") (price_text price)) }
+{
+    let units = u128::from(price.q) * (1 << 48);
+    put_line(text, b"price", ratio_down(price.p, units, 12).as_slice())
+}
+
+/// Appends the line of the critical step, or that there is none.
+fn put_critical(text: &mut Vec<u8>, critical: Option<CriticalLine>) -> Result<(), NoMemory>
+    ensures { OnOk result (text.new.items ≡ text.old.items ++ critical_text critical) }
+{
+    let Some(step) = critical else {
+        return put_line(text, b"critical", b"none");
+    };
+    text.extend_from_slice(b"critical,")?;
+    text.extend_from_slice(step.part.as_bytes())?;
+    text.push(b',')?;
+    put_number(text, u128::from(step.cost))?;
+    text.push(b'\n')?;
+    Ok(())
+}
+
+impl PlanReport {
+    /// Appends the lines from the cost to the loss.
+    fn put_gains(&self, text: &mut Vec<u8>) -> Result<(), NoMemory>
+        requires figures { FitsPrint self.now.figures }
+        requires loss { IfSome self.now.loss IntervalFits }
+        ensures { OnOk result (text.new.items ≡ text.old.items ++ gains_text self.now) }
+    {
+        put_cost(text, &self.figures)?;
+        put_on_hand(text, self.on_hand)?;
+        put_stocks(text, &self.figures)?;
+        put_loss(text, self.loss)
+    }
+
+    /// Appends the lines of the bound, the gap and the rounding.
+    fn put_bounds(&self, text: &mut Vec<u8>) -> Result<(), NoMemory>
+        requires { FitsPlan self.now }
+        ensures { OnOk result (text.new.items ≡ text.old.items ++ bounds_text self.now) }
+    {
+        put_down_line(text, b"bound", self.bound)?;
+        put_up_line(text, b"gap", self.gap)?;
+        put_up_line(text, b"rounding", self.rounding)
+    }
+
+    /// Appends the lines of the price, the hull choice and the critical step.
+    fn put_steps(&self, text: &mut Vec<u8>) -> Result<(), NoMemory>
+        requires { PriceFits self.now.price }
+        ensures { OnOk result (text.new.items ≡ text.old.items ++ steps_text self.now) }
+    {
+        put_price(text, self.price)?;
+        put_number_line(text, b"hull", self.hull)?;
+        put_critical(text, self.critical)
+    }
+
+    /// The line `plan,BUDGET`, the lines of given stocks from `cost` to `total`, and the lines `bound,X`, `gap,X`,
+    /// `rounding,X`, `price,X`, `hull,COST` and `critical,PART,COST` or `critical,none`. The bound is rounded down, the gap
+    /// and the rounding up, to 6 decimals; the price is rounded down to 12. Where stocks are on hand, `on-hand,COST` stands
+    /// after `cost`; where there is a loss, `loss,LO,HI` after `total`.
+    pub fn text(&self, alloc: Global) -> Result<Vec<u8>, NoMemory>
+        requires { FitsPlan self.now }
+        ensures { IfOk result (λ text. text.items ≡ plan_text self.now) }
+    {
+        let mut text = Vec::new(alloc);
+        put_number_line(&mut text, b"plan", self.budget)?;
+        self.put_gains(&mut text)?;
+        self.put_bounds(&mut text)?;
+        self.put_steps(&mut text)?;
+        Ok(text)
+    }
+}

@@ -1,0 +1,68 @@
+//! What is printed of a demonstration case.
+ghost use Rattle.std.specs.Prelude.{◌≡◌, ◌++◌, IfOk, OnOk};
+ghost use Rattle.plan_report.specs.Fits.{FitsSummary};
+ghost use Rattle.plan_report.specs.Texts.{case_text, planned_text, summary_text};
+
+use crate::text::{put_down_line, put_number_line, put_span_line, put_up_line};
+use case_figures::Span;
+use fixed_interval::Iv;
+use line_text::put_number;
+use spares_io::NoMemory;
+use std::alloc::Global;
+
+/// The plan of a demonstration case whose certificate was accepted. Bound and gap are in units of 2^-48.
+#[derive(Clone, Copy, Debug, PartialEq, Eq)]
+pub struct Summary {
+    /// The number that the case is made from.
+    pub number: u32,
+    /// How many line units it has.
+    pub lines: u16,
+    /// How many parts it has.
+    pub parts: u32,
+    /// In whole money.
+    pub budget: u64,
+    pub cost: u64,
+    /// The expected backorders of the line units at the bases.
+    pub total: Iv<48>,
+    pub bound: u128,
+    pub gap: u128,
+}
+
+impl Summary {
+    /// Appends the lines of the case.
+    fn put_case(&self, text: &mut Vec<u8>) -> Result<(), NoMemory>
+        ensures { OnOk result (text.new.items ≡ text.old.items ++ case_text self.now) }
+    {
+        text.extend_from_slice(b"demo,")?;
+        put_number(text, u128::from(self.number))?;
+        text.push(b',')?;
+        put_number(text, u128::from(self.lines))?;
+        text.push(b'\n')?;
+        put_number_line(text, b"parts", u64::from(self.parts))
+    }
+
+    /// Appends the lines of its plan.
+    fn put_plan(&self, text: &mut Vec<u8>) -> Result<(), NoMemory>
+        requires { FitsSummary self.now }
+        ensures { OnOk result (text.new.items ≡ text.old.items ++ planned_text self.now) }
+    {
+        put_number_line(text, b"budget", self.budget)?;
+        put_number_line(text, b"cost", self.cost)?;
+        put_span_line(text, b"total", &Span::Bits48(self.total))?;
+        put_down_line(text, b"bound", self.bound)?;
+        put_up_line(text, b"gap", self.gap)
+    }
+
+    /// The lines `demo,NUMBER,LINES`, `parts,COUNT`, `budget,BUDGET`, `cost,COST`, `total,LO,HI`, `bound,X`, `gap,X` and
+    /// `accepted`, with 6 decimals: the bound is rounded down, the gap up.
+    pub fn text(&self, alloc: Global) -> Result<Vec<u8>, NoMemory>
+        requires { FitsSummary self.now }
+        ensures { IfOk result (λ text. text.items ≡ summary_text self.now) }
+    {
+        let mut text = Vec::new(alloc);
+        self.put_case(&mut text)?;
+        self.put_plan(&mut text)?;
+        text.extend_from_slice(b"accepted\n")?;
+        Ok(text)
+    }
+}
