@@ -112,7 +112,7 @@ parts_of_text h =
 -- ---- what reading finds
 
 module _ (bytes : List ℕ) (c : Certificate) (middle : List Token) (first : front.read (lines_of bytes) ≡ Ok (c, middle)) where
-  fault_at : (x : CaseFault) → frame_of c.case.sites c.case.parts ≡ Err x → held_of bytes ≡ Err (fault.BadCase x)
+  pub fault_at : (x : CaseFault) → frame_of c.case.sites c.case.parts ≡ Err x → held_of bytes ≡ Err (fault.BadCase x)
   fault_at x e = ap (λ (o : Option CaseFault). judged o (file_answer held_format bytes)) (ap case_fault first ∙ ap refusal e)
 
   case_at : (d : CertFault) → certified.judged (Ok c) ≡ Err d → held_of bytes ≡ Err d

@@ -1,5 +1,5 @@
 -- Held certificates: their lines, their text, and what bytes tell.
-use Rattle.std.specs.Prelude.{◌≡◌, ℕ, ◌/◌, ◌%◌, true, ◌==◌, List, length, Option, Some, None, Result, Ok, Err}
+use Rattle.std.specs.Prelude.{◌≡◌, ℕ, ◌/◌, ◌%◌, Bool, true, ◌==◌, List, ◌++◌, length, take, Option, Some, None, Result, Ok, Err, bytes_eq}
 use Rattle.std.proofs.Common.{Vec, Global}
 use Rattle.line_text.specs.Formats.{Token, Format, and_then, as_shape}
 use Rattle.line_text.specs.Files.{lines_of, file_text, file_answer}
@@ -13,7 +13,7 @@ use Rattle.price_certificate.specs.declared.fault.CertFault.{CertFault}
 use Rattle.price_certificate.specs.declared.fault.CertFault.TheVariants as fault
 use Rattle.price_certificate.specs.Grammar.{certificate_format}
 use Rattle.line_text.specs.Texts.{number_line}
-use Rattle.price_certificate.specs.Certificates.{IsWellFormed}
+use Rattle.price_certificate.specs.Certificates.{IsWellFormed, cert_text}
 use Rattle.on_hand.specs.declared.held.HeldCertificate.{HeldCertificate}
 use lib.Chars.{codes}
 
@@ -78,3 +78,21 @@ judged None (Err n) = Err (fault.BadLine n)
 -- line: the case fault stands before a bad line that follows this `end`.
 abbrev pub held_of : List ℕ → Result HeldCertificate CertFault
 held_of bytes = judged (case_fault (front.read (lines_of bytes))) (file_answer held_format bytes)
+
+-- ---- what bytes begin with
+
+-- the first line of a held certificate, with its line feed
+abbrev pub first_line : List ℕ
+first_line = codes "spares-held,1\n"
+
+-- the bytes begin with it
+abbrev pub is_held_form : List ℕ → Bool
+is_held_form bytes = bytes_eq first_line (take (length first_line) bytes)
+
+-- All lines up to the first `end` are in the grammar, and the sites and parts that they say break this rule. Anything may follow.
+pub record HasCaseFault (bytes : List ℕ) (f : CaseFault) : Type 0 where
+  pub certificate : Certificate
+  pub fits : (certificate_format 2).fits certificate ≡ true
+  pub rest : List ℕ
+  pub begins : bytes ≡ first_line ++ cert_text certificate ++ rest
+  pub refused : frame_of certificate.case.sites certificate.case.parts ≡ Err f

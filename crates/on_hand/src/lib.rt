@@ -1,16 +1,22 @@
-//! Certificates of plans that begin with stocks on hand.
+//! Plans that begin with stocks on hand: the work and the curves from what is held to the limits, and their certificates.
 //!
 //! Such a certificate embeds all lines of a certificate of format 2, its own `end` included, and then says what is held.
 #![tactic(auto)]
 
+mod curves;
 mod exactness;
 mod held;
+mod laws;
 mod reading;
 #[cfg(test)]
 mod tests;
+mod work;
 mod writing;
 
-pub use exactness::held_certificates_are_exact;
+pub use curves::held_curves;
+pub use exactness::{forms_are_told_apart, held_certificates_are_exact, is_held_form};
 pub use held::HeldCertificate;
+pub use laws::nothing_held_is_all;
 pub use reading::read;
+pub use work::held_work;
 pub use writing::text;

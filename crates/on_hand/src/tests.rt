@@ -1,6 +1,6 @@
-//! Held certificates, read.
+//! Held certificates, read, and the work from what they hold.
 
-use crate::read;
+use crate::{held_work, read};
 use price_certificate::CertFault;
 use spares_input::CaseFault;
 use spares_io::Stop;
@@ -94,5 +94,31 @@ fn a_case_fault_stands_before_a_bad_line_after_the_first_end(rt: HostRuntime) ->
         read_held(rt.alloc(), double.as_slice()),
         Outcome::BadCase(CaseFault::DoubleSite(3))
     );
+    Ok(())
+}
+
+// The work of a held certificate's case from what is held.
+fn work_read(alloc: Global, bytes: &[u8]) -> Result<u64, u64> {
+    if bytes.len() > 16_777_216 {
+        return Err(0);
+    }
+    match read(alloc, bytes) {
+        Ok(certificate) => held_work(&certificate.certificate.case, &certificate.held),
+        Err(_) => Err(0),
+    }
+}
+
+#[test]
+fn counts_one_table_for_each_stock_at_the_depot(rt: HostRuntime) -> Result<(), Fail> {
+    let lines: [(usize, &[u8], u64); 4] = [
+        (28, b"0", 4),
+        (28, b"1", 3),
+        (28, b"2", 2),
+        (29, b"3", 4),
+    ];
+    for (number, line, due) in lines {
+        let changed = with_line(rt.alloc(), HELD, number, line)?;
+        assert_eq!(&rt; work_read(rt.alloc(), changed.as_slice()), Ok(due));
+    }
     Ok(())
 }

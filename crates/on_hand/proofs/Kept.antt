@@ -1,0 +1,119 @@
+-- The vectors of a family from what is held, their tables, and where nothing is held.
+use Rattle.std.proofs.Common.{◌≡◌, ℕ, zero, suc, ◌+◌, ◌≤◌, Bool, true, false, nat_le, inl, inr, List, [], ◌∷◌, ◌++◌, length, get_or, sum_by, Result, Ok, Err, if◌then◌else◌, refl, sym, ap, ap₂, ◌∙◌, subst, arith}
+use Rattle.std.specs.List.{AllZip}
+use Rattle.std.specs.Result.{IsOk}
+use Rattle.std.proofs.lemmas.Bool.{false≢true}
+use Rattle.std.proofs.lemmas.Bool.Decides.{nat_tests}
+use Rattle.std.proofs.lemmas.List.Sums.{sum_by-cons}
+use Rattle.hull.specs.Curves.{Among, IsCurve, point_at}
+use Rattle.hull.specs.declared.point.Point.{Point}
+use Rattle.spares_input.specs.Cases.{CaseRows, IsCase}
+use Rattle.spares_input.specs.Pairs.{pair_place}
+use Rattle.spares_input.specs.Stocks.{StockList, IsFor, IsWithinLimits}
+use Rattle.fleet_model.specs.Aims.{weighted_backorders, IsHeldAllocation}
+use Rattle.fleet_model.specs.Rows.{line_units, stock}
+use Rattle.fleet_model.proofs.AllocationLaws.{stocks-allocation}
+use Rattle.family_eval.specs.Inputs.{IsLine}
+use Rattle.family_curve.specs.declared.bounds.Bounds.{Bounds}
+use Rattle.family_curve.specs.Vectors.{Pair, limits, places, vector_of, zeros, IsBetween}
+use Rattle.family_curve.specs.Points.{ScoreEnds, points_within, AreOrdered}
+use Rattle.family_curve.specs.Counts.{counted, limited, most_tables, tables_between, tables_of, work_of}
+use Rattle.family_curve.proofs.Boxes.{each_any, same_map}
+use Rattle.family_curve.proofs.Whole.{tables_whole, whole_ordered}
+use Rattle.fleet_plan.specs.Families.{case_points, family_points}
+use Rattle.fleet_plan.specs.Laws.{plain_ends}
+use Rattle.fleet_plan.proofs.Bridge.{vector_between}
+use Rattle.fleet_plan.proofs.Places.{line_among}
+use Rattle.on_hand.specs.Curves.{IsFamilyCurve}
+use Rattle.on_hand.specs.Work.{held_work_of, tables_from, IsNothing}
+
+-- ---- the box of a family
+
+pub ordered_from : (c : CaseRows) (l : ℕ) (held : StockList) → IsCase c → IsLine c l → IsFor c held → IsWithinLimits c held
+    → AreOrdered c l (vector_of c l held.list) (vector_of c l held.list) (limits c l)
+ordered_from c l held valid line is_for within =
+    let kept : IsHeldAllocation c held.list held.list = record { allocation = stocks-allocation c held is_for within; keeps = λ p k _ _. omega arith } in
+    let between = vector_between plain_ends weighted_backorders c held.list valid held.list l line kept in
+    record { held_least = between.least; low_least = between.most; within = (whole_ordered c l).within }
+
+-- ---- the work of a family is within that of the case
+
+limited_step : (b : Bool) (n : ℕ) (r : Result ℕ ℕ) → r ≡ (if b then Ok n else Err n) → IsOk r → b ≡ true
+limited_step true n r e h = refl
+limited_step false n r e h = absurd (false≢true (subst IsOk e h))
+
+small_of : (n : ℕ) → nat_le (counted n) 1000000 ≡ true → n ≤ 1000000
+small_of n h =
+    let k : counted n ≤ 1000000 = grind (arith, nat_tests, h) in
+    omega (arith, k)
+
+term_most : (f : ℕ → ℕ) (xs : List ℕ) (x : ℕ) → Among x xs → f x ≤ sum_by f xs
+term_most f [] x a = absurd a
+term_most f (y ∷ ys) x (inl e) = omega (arith, sum_by-cons f y ys, ap f e)
+term_most f (y ∷ ys) x (inr a) = omega (arith, sum_by-cons f y ys, term_most f ys x a)
+
+abbrev tables_at : CaseRows → List ℕ → ℕ → ℕ
+tables_at c held l = tables_between c l (vector_of c l held) (limits c l)
+
+pub few_tables : (c : CaseRows) (held : List ℕ) (l : ℕ) → IsCase c → IsLine c l → IsOk (held_work_of c held)
+    → tables_between c l (vector_of c l held) (limits c l) ≤ most_tables
+few_tables c held l valid line h =
+    let own = term_most (tables_at c held) (line_units c) l (line_among c valid l line) in
+    let small = small_of (tables_from c held) (limited_step (nat_le (counted (tables_from c held)) 1000000) (counted (tables_from c held)) (held_work_of c held) refl h) in
+    omega (arith, own, small)
+
+-- ---- curves
+
+abbrev pub box_from : CaseRows → ℕ → List ℕ → Bounds
+box_from c l held = record { held = vector_of c l held; low = vector_of c l held; high = limits c l }
+
+pub box_ordered : (c : CaseRows) (l : ℕ) (held : StockList) (b : Bounds) → b ≡ box_from c l held.list → IsCase c → IsLine c l → IsFor c held → IsWithinLimits c held
+    → AreOrdered c l b.held b.low b.high
+box_ordered c l held b e valid line is_for within = subst (λ (x : Bounds). AreOrdered c l x.held x.low x.high) (sym e) (ordered_from c l held valid line is_for within)
+
+pub box_few : (c : CaseRows) (l : ℕ) (held : List ℕ) (b : Bounds) → b ≡ box_from c l held → IsCase c → IsLine c l → IsOk (held_work_of c held)
+    → tables_between c l b.low b.high ≤ most_tables
+box_few c l held b e valid line h = subst (λ (x : Bounds). tables_between c l x.low x.high ≤ most_tables) (sym e) (few_tables c held l valid line h)
+
+pub box_curve : (ends : ScoreEnds) (c : CaseRows) (l : ℕ) (held : List ℕ) (b : Bounds) (curve : List Point) → b ≡ box_from c l held
+    → IsCurve (points_within c l ends b.held b.low b.high) curve → (b.held ≡ b.low → (point_at curve 0).cost ≡ 0)
+    → ((v : Point) → Among v curve → IsBetween b.low b.high v.stocks) → IsFamilyCurve ends c held l curve
+box_curve ends c l held b curve e is free within = record {
+  is_curve = subst (λ (x : Bounds). IsCurve (points_within c l ends x.held x.low x.high) curve) e is;
+  free = free (ap (λ (x : Bounds). x.held) e ∙ sym (ap (λ (x : Bounds). x.low) e));
+  within = subst (λ (x : Bounds). (v : Point) → Among v curve → IsBetween x.low x.high v.stocks) e within;
+}
+
+pub zip_push : {X Y : Type 0} (R : X → Y → Type 0) (xs : List X) (ys : List Y) (x : X) (y : Y) → AllZip R xs ys → R x y → AllZip R (xs ++ x ∷ []) (ys ++ y ∷ [])
+zip_push R [] [] x y a h = (h, tt)
+zip_push R [] (z ∷ ys) x y a h = absurd a
+zip_push R (z ∷ xs) [] x y a h = absurd a
+zip_push R (z ∷ xs) (w ∷ ys) x y a h = (a.0, zip_push R xs ys x y a.1 h)
+
+-- ---- where nothing is held
+
+nothing_at : (xs : List ℕ) → IsNothing xs → (i : ℕ) → get_or xs i 0 ≡ 0
+nothing_at [] h i = refl
+nothing_at (x ∷ xs) h zero = h 0 0 (omega arith)
+nothing_at (x ∷ xs) h (suc i) = nothing_at xs (λ j d b. h (suc j) d (omega (arith, b))) i
+
+pub no_vector : (c : CaseRows) (l : ℕ) (held : List ℕ) → IsNothing held → vector_of c l held ≡ zeros c l
+no_vector c l held h =
+    same_map (λ (x : Pair). Unit {0}) (λ (x : Pair). stock c held x.part x.site) (λ (x : Pair). 0) (places c l)
+    (λ x _. nothing_at held h (pair_place (length c.sites) x.part x.site)) (each_any (places c l))
+
+same_sum : (f g : ℕ → ℕ) (ls : List ℕ) → ((l : ℕ) → f l ≡ g l) → sum_by f ls ≡ sum_by g ls
+same_sum f g [] h = refl
+same_sum f g (l ∷ ls) h = sum_by-cons f l ls ∙ ap₂ (λ m n. m + n) (h l) (same_sum f g ls h) ∙ sym (sum_by-cons g l ls)
+
+pub all_tables : (c : CaseRows) (held : List ℕ) → IsCase c → IsNothing held → tables_from c held ≡ sum_by (tables_of c) (line_units c)
+all_tables c held valid h =
+    same_sum (tables_at c held) (tables_of c) (line_units c) (λ l. ap (λ (v : List ℕ). tables_between c l v (limits c l)) (no_vector c l held h) ∙ sym (tables_whole c l valid))
+
+pub all_work : (c : CaseRows) (held : List ℕ) → IsCase c → IsNothing held → held_work_of c held ≡ work_of c
+all_work c held valid h = ap (λ n. limited (counted n)) (all_tables c held valid h)
+
+pub all_points : (ends : ScoreEnds) (c : CaseRows) (held : List ℕ) → IsNothing held → case_points ends c held ≡ case_points ends c []
+all_points ends c held h =
+    same_map (λ (l : ℕ). Unit {0}) (family_points ends c held) (family_points ends c []) (line_units c)
+    (λ l _. ap (λ (v : List ℕ). points_within c l ends v v (limits c l)) (no_vector c l held h)) (each_any (line_units c))

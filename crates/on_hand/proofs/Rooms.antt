@@ -1,0 +1,191 @@
+-- The counts of what can stand above what is held.
+use Rattle.std.proofs.Common.{◌≡◌, ℕ, zero, suc, ◌+◌, ◌-◌, ◌*◌, ◌<◌, ◌≤◌, true, false, List, [], ◌∷◌, ◌++◌, length, get_or, map, flat_map, filter, take, drop, sum, sum_by, refl, sym, ap, ap₂, ◌∙◌, arith}
+use Rattle.std.specs.List.{range_with_len, AllByRecursion}
+use Rattle.std.proofs.Math.Nat.{mul_comm}
+use Rattle.std.proofs.Math.Seq.{take-append_seam, drop-append-add}
+use Rattle.std.proofs.lemmas.List.{map_push, length_push, length-map}
+use Rattle.std.proofs.lemmas.List.FromFn.{length-map-range_with_len, sum_by-map-range_with_len_more}
+use Rattle.std.proofs.lemmas.List.Sums.{sum_by-append}
+use Rattle.std.proofs.lemmas.Simd.{map-map}
+use Rattle.spares_input.specs.Rows.{is_line}
+use Rattle.spares_input.specs.Frames.{is_shop_of, part_at}
+use Rattle.spares_input.specs.Cases.{CaseRows, IsCase}
+use Rattle.spares_input.specs.Stocks.{limit_at}
+use Rattle.fleet_model.specs.Rows.{bases, shop_units, stock}
+use Rattle.fleet_model.specs.Fleet.{family}
+use Rattle.family_eval.proofs.Items.{kept_more, left_out}
+use Rattle.family_curve.specs.Vectors.{Pair, limits, places, places_at, site_part, vector_of}
+use Rattle.family_curve.specs.Counts.{counted, product, tables_between, tables_by, widths}
+use Rattle.family_curve.proofs.Boxes.{map_flat, same_map}
+use Rattle.family_curve.proofs.Counting.{below, counted_times, product_push, sum_push}
+use Rattle.family_curve.proofs.Sites.{size}
+use Rattle.on_hand.specs.Work.{room}
+
+-- ---- what stands at a site
+
+part_of_flat : (f : ℕ → List ℕ) (w : ℕ) → ((k : ℕ) → length (f k) ≡ w) → (a n k j : ℕ) → k < n → a + k ≡ j
+    → take w (drop (k * w) (flat_map f (range_with_len a n))) ≡ f j
+part_of_flat f w long a zero k j h e = absurd (omega (arith, h))
+part_of_flat f w long a (suc n) zero j h e =
+    let rest : List ℕ = flat_map f (range_with_len (a + 1) n) in
+    let start : 0 * w ≡ 0 = omega arith in
+    let same : a ≡ j = omega (arith, e) in
+    ap (λ i. take w (drop i (f a ++ rest))) start ∙ ap (λ i. take i (f a ++ rest)) (sym (long a)) ∙ take-append_seam (f a) rest ∙ ap f same
+part_of_flat f w long a (suc n) (suc k) j h e =
+    let rest : List ℕ = flat_map f (range_with_len (a + 1) n) in
+    let at : suc k * w ≡ length (f a) + k * w = omega (arith, long a) in
+    ap (λ i. take w (drop i (f a ++ rest))) at ∙ ap (take w) (drop-append-add (f a) rest (k * w)) ∙ part_of_flat f w long (a + 1) n k j (omega (arith, h)) (omega (arith, e))
+
+-- a number of each place, at site k
+site_of : (f : Pair → ℕ) (c : CaseRows) (l k : ℕ) → k < length c.sites → site_part c l (map f (places c l)) k ≡ map (λ p. f (record { part = p; site = k })) (family c l)
+site_of f c l k h =
+    let at : ℕ → List ℕ = λ k. map f (places_at c l k) in
+    let own : ℕ → ℕ → Pair = λ k p. record { part = p; site = k } in
+    ap (λ (v : List ℕ). site_part c l v k) (map_flat f (places_at c l) (range_with_len 0 (length c.sites)))
+    ∙ part_of_flat at (size c l) (λ k. length-map (places_at c l k) f ∙ length-map (family c l) (own k)) 0 (length c.sites) k k h (omega arith)
+    ∙ map-map f (own k) (family c l)
+
+widths_maps : (f g : Pair → ℕ) (xs : List Pair) → widths (map f xs) (map g xs) ≡ map (λ x. suc (g x) - f x) xs
+widths_maps f g [] = refl
+widths_maps f g (x ∷ xs) = ap (λ (ns : List ℕ). (suc (g x) - f x) ∷ ns) (widths_maps f g xs)
+
+-- how many stocks each part of a family can have at site k
+rooms_at : (c : CaseRows) (held : List ℕ) (l k : ℕ) → k < length c.sites → site_part c l (widths (vector_of c l held) (limits c l)) k ≡ map (room c held k) (family c l)
+rooms_at c held l k h =
+    let low : Pair → ℕ = λ x. stock c held x.part x.site in
+    let high : Pair → ℕ = λ x. limit_at c.parts x.part x.site in
+    ap (λ (v : List ℕ). site_part c l v k) (widths_maps low high (places c l)) ∙ site_of (λ x. suc (high x) - low x) c l k h
+
+below_all : (n a m : ℕ) → a + n ≤ m → AllByRecursion (λ k. k < m) (range_with_len a n)
+below_all zero a m h = tt
+below_all (suc n) a m h = (omega (arith, h), below_all n (a + 1) m (omega (arith, h)))
+
+-- the rooms of the shop units
+abbrev pub shop_rooms : CaseRows → List ℕ → ℕ → ℕ → List ℕ
+shop_rooms c held l k = map (room c held k) (shop_units c l)
+
+-- the tables by rooms
+tables_rooms : (c : CaseRows) (held : List ℕ) (l : ℕ) → IsCase c
+    → tables_between c l (vector_of c l held) (limits c l) ≡ tables_by (room c held 0 l) (shop_rooms c held l 0) (map (shop_rooms c held l) (bases c))
+tables_rooms c held l valid =
+    let some = valid.frame.fewest_sites in
+    let all : ℕ → List ℕ = λ j. drop 1 (site_part c l (widths (vector_of c l held) (limits c l)) j) in
+    ap₂ (λ (d : List ℕ) (bs : List (List ℕ)). tables_by (get_or d 0 0) (drop 1 d) bs) (rooms_at c held l 0 (omega (arith, some)))
+    (same_map (λ j. j < length c.sites) all (shop_rooms c held l) (bases c) (λ j h. ap (drop 1) (rooms_at c held l j h))
+    (below_all (length c.sites - 1) 1 (length c.sites) (omega (arith, some))))
+
+-- ---- the shop units below part p, at site k
+
+pub record Rooms (c : CaseRows) (held : List ℕ) (l k p count total ways : ℕ) : Type 0 where
+  pub count_is : count ≡ length (below c l p)
+  pub total_is : total ≡ sum (map (room c held k) (below c l p))
+  pub ways_is : ways ≡ counted (product (map (room c held k) (below c l p)))
+  pub count_few : count ≤ p
+  pub total_few : total ≤ p * 64
+
+pub rooms_begin : (c : CaseRows) (held : List ℕ) (l k : ℕ) → Rooms c held l k 0 0 0 1
+rooms_begin c held l k = record { count_is = refl; total_is = refl; ways_is = refl; count_few = omega arith; total_few = omega arith }
+
+pub rooms_more : (c : CaseRows) (held : List ℕ) (l k p count total ways own more : ℕ) → is_shop_of (part_at c.parts l) (part_at c.parts p) ≡ true
+    → own ≡ room c held k p → own ≤ 64 → more ≡ counted (ways * own)
+    → Rooms c held l k p count total ways → Rooms c held l k (p + 1) (count + 1) (total + own) more
+rooms_more c held l k p count total ways own more shop own_is small next h =
+    let f : ℕ → ℕ = room c held k in
+    let xs : List ℕ = below c l p in
+    let grown : below c l (p + 1) ≡ xs ++ p ∷ [] = kept_more (λ q. is_shop_of (part_at c.parts l) (part_at c.parts q)) p shop in
+    let mapped : map f (below c l (p + 1)) ≡ map f xs ++ f p ∷ [] = ap (map f) grown ∙ map_push f xs p in
+    record {
+      count_is = omega (arith, h.count_is, ap length grown, length_push xs p);
+      total_is = ap₂ (λ m n. m + n) h.total_is own_is ∙ sym (ap sum mapped ∙ sum_push (map f xs) (f p));
+      ways_is = next ∙ ap₂ (λ m n. counted (m * n)) h.ways_is own_is ∙ counted_times (product (map f xs)) (f p)
+          ∙ ap counted (sym (ap product mapped ∙ product_push (map f xs) (f p)));
+      count_few = omega (arith, h.count_few);
+      total_few = omega (arith, h.total_few, small);
+    }
+
+pub rooms_same : (c : CaseRows) (held : List ℕ) (l k p count total ways : ℕ) → is_shop_of (part_at c.parts l) (part_at c.parts p) ≡ false
+    → Rooms c held l k p count total ways → Rooms c held l k (p + 1) count total ways
+rooms_same c held l k p count total ways other h =
+    let same : below c l (p + 1) ≡ below c l p = left_out (λ q. is_shop_of (part_at c.parts l) (part_at c.parts q)) p other in
+    record {
+      count_is = h.count_is ∙ ap length (sym same);
+      total_is = h.total_is ∙ ap (λ (zs : List ℕ). sum (map (room c held k) zs)) (sym same);
+      ways_is = h.ways_is ∙ ap (λ (zs : List ℕ). counted (product (map (room c held k) zs))) (sym same);
+      count_few = omega (arith, h.count_few);
+      total_few = omega (arith, h.total_few);
+    }
+
+-- ---- the bases below j
+
+abbrev pub ways_below : CaseRows → List ℕ → ℕ → ℕ → ℕ
+ways_below c held l j = sum_by product (map (shop_rooms c held l) (range_with_len 1 (j - 1)))
+
+counted_sum : (x y : ℕ) → counted (counted x + counted y) ≡ counted (x + y)
+counted_sum x y = omega arith
+
+pub ways_more : (c : CaseRows) (held : List ℕ) (l j ways own next : ℕ) → 1 ≤ j → own ≡ counted (product (shop_rooms c held l j)) → next ≡ counted (ways + own)
+    → ways ≡ counted (ways_below c held l j) → next ≡ counted (ways_below c held l (j + 1))
+ways_more c held l j ways own next some own_is e h =
+    let at : 1 + (j - 1) ≡ j = omega (arith, some) in
+    let here : j + 1 - 1 ≡ (j - 1) + 1 = omega (arith, some) in
+    e ∙ ap₂ (λ m n. counted (m + n)) h own_is ∙ counted_sum (ways_below c held l j) (product (shop_rooms c held l j))
+    ∙ ap counted (sym (ap (λ n. sum_by product (map (shop_rooms c held l) (range_with_len 1 n))) here
+    ∙ sum_by-map-range_with_len_more product (shop_rooms c held l) 1 (j - 1) j at))
+
+-- ---- the tables of a family
+
+counted_both : (a b : ℕ) → counted (counted a * counted b) ≡ counted (a * b)
+counted_both a b =
+    counted_times a (counted b) ∙ ap counted (mul_comm a (counted b)) ∙ counted_times b a ∙ ap counted (mul_comm b a)
+
+pub tables_held : (c : CaseRows) (held : List ℕ) (l count total ways own bases_ways lines first rest all : ℕ) → IsCase c
+    → count ≡ length (shop_units c l) → total ≡ sum (shop_rooms c held l 0) → ways ≡ counted (product (shop_rooms c held l 0))
+    → own ≡ room c held 0 l → bases_ways ≡ counted (sum_by product (map (shop_rooms c held l) (bases c)))
+    → lines ≡ counted (own * ways) → first ≡ counted (count + (length c.sites - 1) * total + ways) → rest ≡ counted (lines * bases_ways)
+    → all ≡ counted (first + rest)
+    → all ≡ counted (tables_between c l (vector_of c l held) (limits c l))
+tables_held c held l count total ways own bases_ways lines first rest all valid hc ht hw ho hb hl hf hr ha =
+    let ds : List ℕ = shop_rooms c held l 0 in
+    let bs : List (List ℕ) = map (shop_rooms c held l) (bases c) in
+    let j : ℕ = length c.sites - 1 in
+    let a : ℕ = room c held 0 l in
+    let begun : first ≡ counted (length ds + j * sum ds + product ds) =
+    hf ∙ ap₂ (λ m n. counted (m + n)) (ap₂ (λ m n. m + j * n) (hc ∙ sym (length-map (shop_units c l) (room c held 0))) ht) hw
+    ∙ counted_last (length ds + j * sum ds) (product ds) in
+    let choices : lines ≡ counted (a * product ds) =
+    hl ∙ ap₂ (λ m n. counted (m * n)) ho hw ∙ ap counted (mul_comm a (counted (product ds))) ∙ counted_times (product ds) a ∙ ap counted (mul_comm (product ds) a) in
+    let last : rest ≡ counted (a * product ds * sum_by product bs) = hr ∙ ap₂ (λ m n. counted (m * n)) choices hb ∙ counted_both (a * product ds) (sum_by product bs) in
+    ha ∙ ap₂ (λ m n. counted (m + n)) begun last
+    ∙ counted_sum (length ds + j * sum ds + product ds) (a * product ds * sum_by product bs)
+    ∙ ap counted (ordered (length ds) (j * sum ds) (product ds) (a * product ds * sum_by product bs)
+    ∙ ap (λ n. length ds + product ds + n * sum ds + a * product ds * sum_by product bs) (sym (length-map-range_with_len (shop_rooms c held l) 1 j))
+    ∙ sym (tables_rooms c held l valid))
+  where
+    counted_last : (x y : ℕ) → counted (x + counted y) ≡ counted (x + y)
+    counted_last x y = omega arith
+
+    ordered : (x y z w : ℕ) → x + y + z + w ≡ x + z + y + w
+    ordered x y z w = omega arith
+
+-- ---- the tables of the line units below part p
+
+abbrev pub tables_at : CaseRows → List ℕ → ℕ → ℕ
+tables_at c held l = tables_between c l (vector_of c l held) (limits c l)
+
+abbrev pub lines_below : CaseRows → ℕ → List ℕ
+lines_below c p = filter (λ q. is_line (part_at c.parts q)) (range_with_len 0 p)
+
+pub work_more : (c : CaseRows) (held : List ℕ) (p total own next : ℕ) → is_line (part_at c.parts p) ≡ true → own ≡ counted (tables_at c held p) → next ≡ counted (total + own)
+    → total ≡ counted (sum_by (tables_at c held) (lines_below c p)) → next ≡ counted (sum_by (tables_at c held) (lines_below c (p + 1)))
+work_more c held p total own next line own_is e h =
+    let xs : List ℕ = lines_below c p in
+    e ∙ ap₂ (λ m n. counted (m + n)) h own_is ∙ counted_sum (sum_by (tables_at c held) xs) (tables_at c held p)
+    ∙ ap counted (sym (ap (sum_by (tables_at c held)) (kept_more (λ q. is_line (part_at c.parts q)) p line) ∙ sum_by-append (tables_at c held) xs (p ∷ [])
+    ∙ one (sum_by (tables_at c held) xs) (tables_at c held p)))
+  where
+    one : (n x : ℕ) → n + (0 + x) ≡ n + x
+    one n x = omega arith
+
+pub work_same : (c : CaseRows) (held : List ℕ) (p total : ℕ) → is_line (part_at c.parts p) ≡ false
+    → total ≡ counted (sum_by (tables_at c held) (lines_below c p)) → total ≡ counted (sum_by (tables_at c held) (lines_below c (p + 1)))
+work_same c held p total other h = h ∙ ap (λ (xs : List ℕ). counted (sum_by (tables_at c held) xs)) (sym (left_out (λ q. is_line (part_at c.parts q)) p other))

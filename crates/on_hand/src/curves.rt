@@ -1,0 +1,63 @@
+//! The curves of a case that begin at what is held.
+
+ghost use Rattle.std.specs.Prelude.{◌≡◌, IfOk};
+ghost use Rattle.std.specs.List.{AllZip};
+ghost use Rattle.std.specs.Result.{IsOk};
+ghost use Rattle.demand_rates.specs.Rates.{AreRatesOf};
+ghost use Rattle.spares_input.specs.Stocks.{IsFor, IsWithinLimits};
+ghost use Rattle.fleet_model.specs.Rows.{line_units};
+ghost use Rattle.family_eval.specs.Inputs.{IsLine};
+ghost use Rattle.family_curve.specs.Vectors.{limits, vector_of};
+ghost use Rattle.on_hand.specs.Work.{held_work_of};
+ghost use Rattle.on_hand.specs.Curves.{IsFamilyCurve};
+
+use demand_rates::kinds::Rates;
+use family_curve::{Bounds, curve_within, limits_of, vector_of};
+use hull::{Curve, Score};
+use spares_input::{Case, PartId, Stocks};
+use spares_io::NoMemory;
+use std::alloc::Global;
+
+/// The vectors of a family from what is held to the limits, with the cost of what is above that.
+fn bounds_from(alloc: Global, case: &Case, line: PartId, held: &Stocks) -> Result<Bounds, NoMemory>
+    requires line { IsLine case.now line.0 }
+    requires held { IsFor case.now held.now }
+    ensures { IfOk result (λ bounds. bounds ≡ record {
+      held = vector_of case.now line.0 held.now.list;
+      low = vector_of case.now line.0 held.now.list;
+      high = limits case.now line.0;
+    }) }
+{
+    let high = limits_of(alloc, case, line)?;
+    let low = vector_of(alloc, case, line, held)?;
+    let held = vector_of(alloc, case, line, held)?;
+    Ok(Bounds { held, low, high })
+}
+
+/// The curve of each line unit's family in order, over its vectors from what is held to the limits, with the cost of what is above
+/// that. The stocks that are held have a number for each pair of the case, at most its limit, and the work from them is within the
+/// limit. Want of memory is the only error.
+pub fn held_curves<S: Score>(
+    alloc: Global,
+    case: &Case,
+    rates: &Rates,
+    held: &Stocks,
+    score: &S,
+) -> Result<Vec<Curve>, NoMemory>
+    requires rates { AreRatesOf case.now rates.now }
+    requires held { IsFor case.now held.now }
+    requires limits { IsWithinLimits case.now held.now }
+    requires work { IsOk (held_work_of case.now held.now.list) }
+    ensures { IfOk result (λ curves. AllZip (IsFamilyCurve S.ends case.now held.now.list) (line_units case.now) curves.items) }
+{
+    let mut curves = Vec::new(alloc);
+    for p in 0..case.part_count() {
+        let line = PartId(p);
+        if case.is_line(line) {
+            let bounds = bounds_from(alloc, case, line, held)?;
+            let family = curve_within(alloc, case, rates, line, &bounds, score)?;
+            curves.push(family)?;
+        }
+    }
+    Ok(curves)
+}

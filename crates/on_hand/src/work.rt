@@ -1,0 +1,120 @@
+//! How much work the curves of a case are that begin at what is held.
+
+ghost use Rattle.std.specs.Prelude.{◌≡◌, ℕ, ◌≤◌, ◌<◌, length, map, sum, sum_by};
+ghost use Rattle.spares_input.specs.Stocks.{IsFor, IsWithinLimits};
+ghost use Rattle.fleet_model.specs.Rows.{bases, shop_units};
+ghost use Rattle.family_eval.specs.Inputs.{IsLine};
+ghost use Rattle.family_curve.specs.Vectors.{limits, vector_of};
+ghost use Rattle.family_curve.specs.Counts.{counted, product, tables_between};
+ghost use Rattle.on_hand.specs.Work.{held_work_of, room};
+
+use spares_input::{Case, PartId, SiteId, Stocks};
+
+/// The most tables of all families together.
+const MOST_TABLES: u64 = 1_000_000;
+
+/// How many stocks a pair can have, from what is held to its limit.
+fn room(case: &Case, held: &Stocks, part: PartId, site: SiteId) -> u64
+    requires held { IsFor case.now held.now }
+    requires limits { IsWithinLimits case.now held.now }
+    requires part { part.0 < length case.now.parts }
+    requires site { site.0 < length case.now.sites }
+    ensures room { result ≡ room case.now held.now.list site.0 part.0 }
+    ensures most { result ≤ 64 }
+{
+    let _sites = case.site_count();
+    let limit = case.limit(part, site);
+    u64::from(limit - held.get(part, site)) + 1
+}
+
+/// What the shop units of a line unit have together at a site.
+#[derive(Clone, Copy)]
+struct ShopRooms {
+    /// How many there are.
+    count: u64,
+    /// The sum of how many stocks each can have.
+    sum: u64,
+    /// In how many ways they can be stocked, or the largest count.
+    ways: u64,
+}
+
+/// Those of the shop units of a line unit, from what is held to their limits.
+fn shop_rooms(case: &Case, held: &Stocks, line: PartId, site: SiteId) -> ShopRooms
+    requires held { IsFor case.now held.now }
+    requires limits { IsWithinLimits case.now held.now }
+    requires line { line.0 < length case.now.parts }
+    requires site { site.0 < length case.now.sites }
+    ensures count { result.count ≡ length (shop_units case.now line.0) }
+    ensures sum { result.sum ≡ sum (map (room case.now held.now.list site.0) (shop_units case.now line.0)) }
+    ensures ways { result.ways ≡ counted (product (map (room case.now held.now.list site.0) (shop_units case.now line.0))) }
+    ensures few { (result.count ≤ 2000) × (result.sum ≤ 128000) }
+{
+    let mut shops = ShopRooms {
+        count: 0,
+        sum: 0,
+        ways: 1,
+    };
+    for p in 0..case.part_count() {
+        let part = PartId(p);
+        if case.is_shop_of(part, line) {
+            let room = room(case, held, part, site);
+            shops.count += 1;
+            shops.sum += room;
+            shops.ways = shops.ways.saturating_mul(room);
+        }
+    }
+    shops
+}
+
+/// In how many ways the shop units of a line unit can be stocked at each base, from what is held to their limits: the sum over the
+/// bases, or 2^64 - 1 where it is larger.
+fn base_ways(case: &Case, held: &Stocks, line: PartId) -> u64
+    requires held { IsFor case.now held.now }
+    requires limits { IsWithinLimits case.now held.now }
+    requires line { line.0 < length case.now.parts }
+    ensures { result ≡ counted (sum_by product (map (λ j. map (room case.now held.now.list j) (shop_units case.now line.0)) (bases case.now))) }
+{
+    let mut ways: u64 = 0;
+    for j in 1..case.site_count() {
+        ways = ways.saturating_add(shop_rooms(case, held, line, SiteId(j)).ways);
+    }
+    ways
+}
+
+/// How many tables the curve of a family takes over its vectors from what is held to the limits, or 2^64 - 1 where it takes more.
+fn held_tables(case: &Case, held: &Stocks, line: PartId) -> u64
+    requires held { IsFor case.now held.now }
+    requires limits { IsWithinLimits case.now held.now }
+    requires line { IsLine case.now line.0 }
+    ensures { result ≡ counted (tables_between case.now line.0 (vector_of case.now line.0 held.now.list) (limits case.now line.0)) }
+{
+    let depot = SiteId(0);
+    let bases = u64::from(case.site_count()) - 1;
+    let shops = shop_rooms(case, held, line, depot);
+    let lines = room(case, held, line, depot).saturating_mul(shops.ways);
+    (shops.count + bases * shops.sum)
+        .saturating_add(shops.ways)
+        .saturating_add(lines.saturating_mul(base_ways(case, held, line)))
+}
+
+/// The tables of all families together over their vectors from what is held to the limits, where they are at most 1,000,000; and
+/// else this count is the refusal, or 2^64 - 1 where it is larger. The stocks that are held have a number for each pair of the
+/// case, at most its limit. It takes no memory.
+pub fn held_work(case: &Case, held: &Stocks) -> Result<u64, u64>
+    requires held { IsFor case.now held.now }
+    requires limits { IsWithinLimits case.now held.now }
+    ensures { result ≡ held_work_of case.now held.now.list }
+{
+    let mut work: u64 = 0;
+    for p in 0..case.part_count() {
+        let part = PartId(p);
+        if case.is_line(part) {
+            work = work.saturating_add(held_tables(case, held, part));
+        }
+    }
+    if work <= MOST_TABLES {
+        Ok(work)
+    } else {
+        Err(work)
+    }
+}
