@@ -1,0 +1,3 @@
+pub mod Scores
+pub mod Certificates
+pub mod Laws

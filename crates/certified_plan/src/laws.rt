@@ -1,0 +1,26 @@
+//! What holds of a plan's certificate, as contracts of functions that do nothing.
+
+ghost use Rattle.certified_plan.specs.Laws.{NothingIsZeros, PlansAreAccepted, PlansAreWellFormed, PlansAreWellHeld, ScoresEnclose, ScoresLeaveRoom, ZerosTakeAll};
+
+/// The intervals of each objective enclose its values, and leave room to add up.
+pub fn scores_are_sound()
+    ensures encloses { ScoresEnclose }
+    ensures room { ScoresLeaveRoom }
+{}
+
+/// The certificate of a plan is well formed, so its text is read back as it.
+pub fn plans_are_well_formed()
+    ensures certificate { PlansAreWellFormed }
+    ensures held { PlansAreWellHeld }
+{}
+
+/// The checker accepts the certificate of a plan, in both formats, for each objective and from whatever is held.
+pub fn plans_are_accepted()
+    ensures { PlansAreAccepted }
+{}
+
+/// Nothing held is a list of zeros.
+pub fn nothing_is_zeros()
+    ensures plan { NothingIsZeros }
+    ensures work { ZerosTakeAll }
+{}
