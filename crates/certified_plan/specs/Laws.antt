@@ -11,10 +11,10 @@ use Rattle.fleet_plan.specs.Plans.{CasePlan, IsCasePlan}
 use Rattle.fleet_plan.specs.Laws.{IsAcceptedCase}
 use Rattle.price_certificate.specs.declared.certificate.Objective.{Objective}
 use Rattle.price_certificate.specs.declared.certificate.Objective.TheVariants.{Backorders}
-use Rattle.price_certificate.specs.Certificates.{IsWellFormed}
+use Rattle.price_certificate.specs.Certificates.{IsWellFormed, cert_text}
 use Rattle.gap_checker.specs.Refusals.{reject_of}
 use Rattle.gap_checker.specs.Soundness.{nothing_held}
-use Rattle.on_hand.specs.Held.{IsWellHeld}
+use Rattle.on_hand.specs.Held.{IsWellHeld, held_text}
 use Rattle.certified_plan.specs.declared.terms.Terms.{Terms}
 use Rattle.certified_plan.specs.Scores.{ends_of, value_of}
 use Rattle.certified_plan.specs.Certificates.{certificate_of, claims_of}
@@ -68,6 +68,22 @@ PlansAreAccepted =
     (c : CaseRows) (held : StockList) (terms : Terms) (p : CasePlan)
     → IsPlanOn c held terms p → tables_from c held.list ≤ most_tables
     → reject_of (ends_of terms.objective) (certificate_of c held terms (claims_of c p)) held ≡ None
+
+-- how many bytes of a certificate are read
+abbrev pub most_bytes : ℕ
+most_bytes = 16777216
+
+-- Its text is within that, also with what is held.
+abbrev pub TextsAreShort : Type 0
+TextsAreShort =
+    (c : CaseRows) (held : StockList) (terms : Terms) (p : CasePlan)
+    → IsPlanOn c held terms p → length (cert_text (certificate_of c held terms (claims_of c p))) ≤ most_bytes
+
+abbrev pub HeldTextsAreShort : Type 0
+HeldTextsAreShort =
+    (c : CaseRows) (held : StockList) (terms : Terms) (p : CasePlan)
+    → IsPlanOn c held terms p
+    → length (held_text (record { certificate = certificate_of c held terms (claims_of c p); held = held })) ≤ most_bytes
 
 -- A plan from nothing is one from a list of zeros, and the work is that of all vectors.
 abbrev pub NothingIsZeros : Type 0

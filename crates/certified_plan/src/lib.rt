@@ -12,6 +12,8 @@ mod terms;
 mod writing;
 
 pub use certifying::certificate;
-pub use laws::{nothing_is_zeros, plans_are_accepted, plans_are_well_formed, scores_are_sound};
+pub use laws::{
+    nothing_is_zeros, plans_are_accepted, plans_are_well_formed, scores_are_sound, texts_are_short,
+};
 pub use terms::{PlanClaims, Terms};
 pub use writing::certificate_text;
