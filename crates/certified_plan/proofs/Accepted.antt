@@ -48,10 +48,11 @@ use Rattle.certified_plan.specs.Scores as scores
 use Rattle.certified_plan.specs.Scores.{ends_of}
 use Rattle.certified_plan.specs.Certificates as own
 use Rattle.certified_plan.specs.Certificates.{covers_of, certificate_of, claims_of}
-use Rattle.certified_plan.specs.Laws.{IsPlanOn, tables_from}
+use Rattle.certified_plan.specs.Inputs.{tables_from}
+use Rattle.certified_plan.specs.Laws.{IsPlanOn}
 use Rattle.certified_plan.proofs.Corners.{Lists, Boxed, lawful_box}
 use Rattle.certified_plan.proofs.Families.{count_is, held_lists, most_lists}
-use Rattle.certified_plan.proofs.Formed.{line_is, held_line, cover_is, trims, well_formed}
+use Rattle.certified_plan.proofs.Formed.{line_is, held_line, cover_is, trims}
 use Rattle.certified_plan.proofs.Leaves.{none_low, leaf_floor, tables_most}
 use Rattle.certified_plan.proofs.Scores.{scores_enclose}
 use Rattle.certified_plan.proofs.Trees.{HasOneWhole, trimmed_whole}

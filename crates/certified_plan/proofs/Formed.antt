@@ -21,7 +21,6 @@ use Rattle.price_certificate.specs.declared.certificate.Node.{Node}
 use Rattle.price_certificate.specs.Covers.{Tree, no_place, held_at, most_at, IsTrim, places_of, nodes_of, trimmed}
 use Rattle.price_certificate.specs.Certificates.{IsNode, IsCover, IsFirst, IsSecond, IsWellFormed}
 use Rattle.price_certificate.proofs.Trims.{trim_is}
-use Rattle.on_hand.specs.Held.{IsWellHeld}
 use Rattle.gap_checker.specs.Boxes.{AtMost}
 use Rattle.gap_checker.proofs.Adding.{few_places}
 use Rattle.gap_checker.proofs.Families.{held_limited}
@@ -31,7 +30,9 @@ use Rattle.hull.specs.Curves.{Among}
 use Rattle.certified_plan.specs.declared.terms.Terms.{Terms}
 use Rattle.certified_plan.specs.Scores.{ends_of, value_of}
 use Rattle.certified_plan.specs.Certificates.{cover_of, cover_at, covers_of, certificate_of, claims_of}
-use Rattle.certified_plan.specs.Laws.{IsPlanOn, IsHeld}
+use Rattle.certified_plan.specs.declared.terms.PlanClaims.{PlanClaims}
+use Rattle.certified_plan.specs.Inputs.{AreTerms, IsHeld, AreClaims}
+use Rattle.certified_plan.specs.Laws.{IsPlanOn}
 use Rattle.certified_plan.proofs.Scores.{scores_enclose, scores_leave_room}
 use Rattle.certified_plan.proofs.Families.{count_is, most_is, valid_places}
 use Rattle.certified_plan.proofs.Trees.{some_nodes, few_nodes, lawful_nodes}
@@ -107,40 +108,46 @@ covers_all c held p floors valid h = All-from_get_or IsCover (covers_of c held.l
 
 -- ---- the certificate
 
-pub plan_numbers : (c : CaseRows) (held : StockList) (terms : Terms) (p : CasePlan) → IsPlanOn c held terms p → FitsItsPlace c p
-plan_numbers c held terms p on =
-    plan_fits (ends_of terms.objective) (value_of terms.objective) c held.list terms.budget p on.accepted (scores_enclose terms.objective) (scores_leave_room terms.objective) on.plan
-
-pub well_formed : (c : CaseRows) (held : StockList) (terms : Terms) (p : CasePlan) → IsPlanOn c held terms p → IsWellFormed (certificate_of c held terms (claims_of c p))
-well_formed c held terms p on =
-    let fits = plan_numbers c held terms p on in
+pub plan_claims : (c : CaseRows) (held : StockList) (terms : Terms) (p : CasePlan) → IsPlanOn c held terms p → AreClaims c (claims_of c p)
+plan_claims c held terms p on =
+    let fits : FitsItsPlace c p =
+    plan_fits (ends_of terms.objective) (value_of terms.objective) c held.list terms.budget p on.accepted (scores_enclose terms.objective) (scores_leave_room terms.objective) on.plan in
     record {
-      fewest = on.are_terms.fewest;
-      most = on.are_terms.most;
-      case = on.accepted.valid;
-      budget = on.are_terms.budget;
       price = fits.price;
-      money = (fits.money, fits.most_money);
-      floor_count = fits.floor_count ∙ lines-counted c;
+      money = fits.money;
+      most_money = fits.most_money;
+      floor_count = fits.floor_count;
       floors = fits.floors_most;
-      first = λ e. record { objective = on.are_terms.first e; covers = ap (λ b. cond b own []) (ne_eqb terms.format 2 (λ two. omega (arith, e, two))) };
-      second = λ e. second_of (ap (λ b. cond b own []) (eq-eqb terms.format 2 e));
       stocks = record { sites = refl; pairs = on.plan.count };
       stock_numbers = fits.stocks_most;
       upper = fits.upper;
       bound = fits.bound;
     }
-  where
-    own : List (List Node)
-    own = covers_of c held.list p.numbers.price.p p.floors
 
-    second_of : (certificate_of c held terms (claims_of c p)).covers ≡ own → IsSecond (certificate_of c held terms (claims_of c p))
-    unfolding own
-    second_of e = record {
-      count = ap length e ∙ covers_count c held.list p.numbers.price.p p.floors ∙ lines-counted c;
-      covers = subst (λ z. All IsCover z) (sym e) (covers_all c held p.numbers.price.p p.floors on.accepted.valid on.is_held);
-    }
+module _ (c : CaseRows) (held : StockList) (terms : Terms) (claims : PlanClaims) (valid : IsCase c) (had : IsHeld c held) where
+  abbrev own : List (List Node)
+  own = covers_of c held.list claims.price.p claims.floors
 
-pub well_held : (c : CaseRows) (held : StockList) (terms : Terms) (p : CasePlan) → terms.format ≡ 2 → IsPlanOn c held terms p
-    → IsWellHeld (record { certificate = certificate_of c held terms (claims_of c p); held = held })
-well_held c held terms p two on = record { certificate = well_formed c held terms p on; format = two; held = on.is_held.is_for; limits = on.is_held.limits }
+  second_of : (certificate_of c held terms claims).covers ≡ covers_of c held.list claims.price.p claims.floors → IsSecond (certificate_of c held terms claims)
+  second_of e = record {
+    count = ap length e ∙ covers_count c held.list claims.price.p claims.floors ∙ lines-counted c;
+    covers = subst (λ z. All IsCover z) (sym e) (covers_all c held claims.price.p claims.floors valid had);
+  }
+
+  pub well_formed : AreTerms terms → AreClaims c claims → IsWellFormed (certificate_of c held terms claims)
+  well_formed are fits = record {
+    fewest = are.fewest;
+    most = are.most;
+    case = valid;
+    budget = are.budget;
+    price = fits.price;
+    money = (fits.money, fits.most_money);
+    floor_count = fits.floor_count ∙ lines-counted c;
+    floors = fits.floors;
+    first = λ e. record { objective = are.first e; covers = ap (λ b. cond b own []) (ne_eqb terms.format 2 (λ two. omega (arith, e, two))) };
+    second = λ e. second_of (ap (λ b. cond b own []) (eq-eqb terms.format 2 e));
+    stocks = fits.stocks;
+    stock_numbers = fits.stock_numbers;
+    upper = fits.upper;
+    bound = fits.bound;
+  }

@@ -18,8 +18,9 @@ use Rattle.on_hand.specs.Held.{held_format, held_text}
 use Rattle.gap_checker.proofs.Judging.{few_lines}
 use Rattle.certified_plan.specs.declared.terms.Terms.{Terms}
 use Rattle.certified_plan.specs.Certificates.{cover_at, covers_of, certificate_of, claims_of}
-use Rattle.certified_plan.specs.Laws.{IsPlanOn, IsHeld, most_bytes}
-use Rattle.certified_plan.proofs.Formed.{few_of, is_cover, line_is, held_line, cover_is, covers_count, plan_numbers, well_formed}
+use Rattle.certified_plan.specs.Inputs.{IsHeld}
+use Rattle.certified_plan.specs.Laws.{IsPlanOn, most_bytes}
+use Rattle.certified_plan.proofs.Formed.{few_of, is_cover, line_is, held_line, cover_is, covers_count, plan_claims, well_formed}
 use Rattle.certified_plan.proofs.Sizes.{IsShort, HasFew, certificate_most, held_most}
 use Rattle.certified_plan.proofs.Trees.{few_nodes}
 use Rattle.certified_plan.proofs.Widths.{concat_most}
@@ -50,12 +51,12 @@ covers_by false covers few all = (omega arith, tt)
 module _ (c : CaseRows) (held : StockList) (terms : Terms) (p : CasePlan) (on : IsPlanOn c held terms p) where
   has_few : HasFew (certificate_of c held terms (claims_of c p))
   has_few =
-      let fits = plan_numbers c held terms p on in
+      let fits = plan_claims c held terms p on in
       let n = fits.floor_count in
       let m = few_lines c on.accepted.valid in
       let k = covers_count c held.list p.numbers.price.p p.floors in
       let covers = covers_by (terms.format == 2) (covers_of c held.list p.numbers.price.p p.floors) (omega (arith, m, k)) (all_short c held p.numbers.price.p p.floors on.accepted.valid on.is_held) in
-      record { formed = well_formed c held terms p on; floors = omega (arith, n, m); covers = covers.0; short = covers.1 }
+      record { formed = well_formed c held terms (claims_of c p) on.accepted.valid on.is_held on.are_terms fits; floors = omega (arith, n, m); covers = covers.0; short = covers.1 }
 
   pub text_short : length (cert_text (certificate_of c held terms (claims_of c p))) ≤ most_bytes
   text_short =

@@ -23,7 +23,8 @@ use Rattle.gap_checker.specs.Soundness.{nothing_held}
 use Rattle.certified_bounds.proofs.Accepted.{none_held}
 use Rattle.certified_plan.specs.declared.terms.Terms.{Terms}
 use Rattle.certified_plan.specs.Scores.{ends_of}
-use Rattle.certified_plan.specs.Laws.{AreTerms, IsHeld, IsPlanOn, tables_from}
+use Rattle.certified_plan.specs.Inputs.{AreTerms, IsHeld, tables_from}
+use Rattle.certified_plan.specs.Laws.{IsPlanOn}
 
 module _ (c : CaseRows) where
   none_for : IsFor c (nothing_held c)

@@ -27,7 +27,11 @@ cover_at c held p floors f = cover_of c held p (get_or floors f 0) (get_or (line
 abbrev pub covers_of : CaseRows → List ℕ → ℕ → List ℕ → List (List Node)
 covers_of c held p floors = map (cover_at c held p floors) (range_with_len 0 (length (line_units c)))
 
--- The certificate of these claims on these terms. Format 1 has no covers.
+-- format 1 has none
+abbrev pub covers_in : CaseRows → List ℕ → ℕ → ℕ → List ℕ → List (List Node)
+covers_in c held format p floors = if format == 2 then covers_of c held p floors else []
+
+-- The certificate of these claims on these terms.
 abbrev pub certificate_of : CaseRows → StockList → Terms → PlanClaims → Certificate
 certificate_of c held terms claims = record {
   format = terms.format;
@@ -36,7 +40,7 @@ certificate_of c held terms claims = record {
   budget = terms.budget;
   price = claims.price;
   floors = claims.floors;
-  covers = if terms.format == 2 then covers_of c held.list claims.price.p claims.floors else [];
+  covers = covers_in c held.list terms.format claims.price.p claims.floors;
   stocks = claims.stocks;
   upper = claims.upper;
   bound = claims.bound;

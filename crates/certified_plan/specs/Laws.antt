@@ -1,22 +1,20 @@
 -- What holds of a plan's certificate.
-use Rattle.std.specs.Prelude.{◌≡◌, ℕ, ◌^◌, ◌≤◌, List, [], length, sum_by, None}
+use Rattle.std.specs.Prelude.{◌≡◌, ℕ, ◌≤◌, [], length, None}
 use Rattle.std.specs.Result.{IsOk}
 use Rattle.hull.specs.Scores.{EnclosesValue, LeavesRoom}
 use Rattle.spares_input.specs.Cases.{CaseRows}
-use Rattle.spares_input.specs.Stocks.{StockList, IsFor, IsWithinLimits}
-use Rattle.fleet_model.specs.Rows.{line_units}
-use Rattle.family_curve.specs.Vectors.{vector_of, limits}
-use Rattle.family_curve.specs.Counts.{most_tables, tables_between, work_of}
+use Rattle.spares_input.specs.Stocks.{StockList}
+use Rattle.family_curve.specs.Counts.{most_tables, work_of}
 use Rattle.fleet_plan.specs.Plans.{CasePlan, IsCasePlan}
 use Rattle.fleet_plan.specs.Laws.{IsAcceptedCase}
 use Rattle.price_certificate.specs.declared.certificate.Objective.{Objective}
-use Rattle.price_certificate.specs.declared.certificate.Objective.TheVariants.{Backorders}
-use Rattle.price_certificate.specs.Certificates.{IsWellFormed, cert_text}
+use Rattle.price_certificate.specs.Certificates.{cert_text}
 use Rattle.gap_checker.specs.Refusals.{reject_of}
 use Rattle.gap_checker.specs.Soundness.{nothing_held}
-use Rattle.on_hand.specs.Held.{IsWellHeld, held_text}
+use Rattle.on_hand.specs.Held.{held_text}
 use Rattle.certified_plan.specs.declared.terms.Terms.{Terms}
 use Rattle.certified_plan.specs.Scores.{ends_of, value_of}
+use Rattle.certified_plan.specs.Inputs.{AreTerms, IsHeld, AreClaims, tables_from}
 use Rattle.certified_plan.specs.Certificates.{certificate_of, claims_of}
 
 -- the intervals of each objective enclose its values, and leave room to add up
@@ -26,22 +24,6 @@ ScoresEnclose = (o : Objective) → EnclosesValue (ends_of o) (value_of o)
 abbrev pub ScoresLeaveRoom : Type 0
 ScoresLeaveRoom = (o : Objective) → LeavesRoom (ends_of o)
 
--- the budget is in its range, and the format is 1, or 2; format 1 has backorders alone
-pub record AreTerms (terms : Terms) : Type 0 where
-  pub budget : terms.budget ≤ 10 ^ 15
-  pub fewest : 1 ≤ terms.format
-  pub most : terms.format ≤ 2
-  pub first : terms.format ≡ 1 → terms.objective ≡ Backorders
-
--- a number for each pair of the case, at most its limit
-pub record IsHeld (c : CaseRows) (held : StockList) : Type 0 where
-  pub is_for : IsFor c held
-  pub limits : IsWithinLimits c held
-
--- the tables of all families over the vectors from what is held to the limits
-abbrev pub tables_from : CaseRows → List ℕ → ℕ
-tables_from c held = sum_by (λ l. tables_between c l (vector_of c l held) (limits c l)) (line_units c)
-
 -- the plan of an accepted case, from what is held, on these terms
 pub record IsPlanOn (c : CaseRows) (held : StockList) (terms : Terms) (p : CasePlan) : Type 0 where
   pub accepted : IsAcceptedCase c
@@ -49,18 +31,11 @@ pub record IsPlanOn (c : CaseRows) (held : StockList) (terms : Terms) (p : CaseP
   pub is_held : IsHeld c held
   pub plan : IsCasePlan (ends_of terms.objective) c held.list terms.budget p
 
--- its certificate is well formed,
-abbrev pub PlansAreWellFormed : Type 0
-PlansAreWellFormed =
+-- what it claims is in its range,
+abbrev pub PlansClaim : Type 0
+PlansClaim =
     (c : CaseRows) (held : StockList) (terms : Terms) (p : CasePlan)
-    → IsPlanOn c held terms p → IsWellFormed (certificate_of c held terms (claims_of c p))
-
--- so is its held certificate in format 2,
-abbrev pub PlansAreWellHeld : Type 0
-PlansAreWellHeld =
-    (c : CaseRows) (held : StockList) (terms : Terms) (p : CasePlan)
-    → terms.format ≡ 2 → IsPlanOn c held terms p
-    → IsWellHeld (record { certificate = certificate_of c held terms (claims_of c p); held = held })
+    → IsPlanOn c held terms p → AreClaims c (claims_of c p)
 
 -- and the checker accepts it, where the work is within the limit.
 abbrev pub PlansAreAccepted : Type 0

@@ -2,10 +2,11 @@
 
 ghost use Rattle.std.specs.Prelude.{◌≡◌, ◌+◌, ◌^◌, ◌<◌, ◌≤◌, IfOk, length, map, get_or};
 ghost use Rattle.std.specs.List.{range_with_len};
-ghost use Rattle.spares_input.specs.Stocks.{IsFor, IsWithinLimits};
 ghost use Rattle.fleet_model.specs.Rows.{line_units};
 ghost use Rattle.family_eval.specs.Inputs.{IsLine};
-ghost use Rattle.certified_plan.specs.Certificates.{certificate_of, cover_of, covers_of};
+ghost use Rattle.price_certificate.specs.Certificates.{IsWellFormed};
+ghost use Rattle.certified_plan.specs.Inputs.{AreClaims, AreTerms, IsHeld};
+ghost use Rattle.certified_plan.specs.Certificates.{certificate_of, cover_of, covers_in, covers_of};
 
 use crate::terms::{PlanClaims, Terms};
 use family_curve::vector_of;
@@ -38,8 +39,7 @@ fn cover_of(
     floor: u128,
     line: PartId,
 ) -> Result<List<Node>, NoMemory>
-    requires held { IsFor case.now held.now }
-    requires limits { IsWithinLimits case.now held.now }
+    requires held { IsHeld case.now held.now }
     requires price { price.p ≤ 2 ^ 74 }
     requires line { IsLine case.now line.0 }
     ensures { IfOk result (λ nodes. nodes ≡ cover_of case.now held.now.list price.p floor line.0) }
@@ -58,8 +58,7 @@ fn covers_of(
     price: Price,
     floors: &[u128],
 ) -> Result<Vec<List<Node>>, NoMemory>
-    requires held { IsFor case.now held.now }
-    requires limits { IsWithinLimits case.now held.now }
+    requires held { IsHeld case.now held.now }
     requires price { price.p ≤ 2 ^ 74 }
     requires floors { length floors.now ≡ length (line_units case.now) }
     ensures { IfOk result (λ covers. covers.items ≡ covers_of case.now held.now.list price.p floors.now) }
@@ -72,10 +71,31 @@ fn covers_of(
     Ok(covers)
 }
 
-/// The certificate of a plan's claims on its terms.
+/// The covers, which stand in format 2 alone.
+fn covers_in(
+    alloc: Global,
+    case: &Case,
+    held: &Stocks,
+    format: u8,
+    claims: &PlanClaims,
+) -> Result<List<List<Node>>, NoMemory>
+    requires held { IsHeld case.now held.now }
+    requires claims { AreClaims case.now claims.now }
+    ensures { IfOk result (λ covers. covers ≡ covers_in case.now held.now.list format claims.now.price.p claims.now.floors) }
+{
+    if format == 2 {
+        let covers = covers_of(alloc, case, held, claims.price, claims.floors.as_slice())?;
+        Ok(List::of(covers))
+    } else {
+        Ok(List::of(Vec::new(alloc)))
+    }
+}
+
+/// The certificate of a plan's claims on its terms, over what is held. In format 2 the covers leave to cost what these floors
+/// allow.
 ///
-/// What is held is a list for the case, within the limits. There is a floor for each line unit, and the price is at most 2^74
-/// units. In format 2 the covers show as much by cost alone as these floors allow. Want of memory is the only error.
+/// The terms and the claims are in their ranges, and what is held is a list for the case, within its limits. Want of memory is
+/// the only error.
 pub fn certificate(
     alloc: Global,
     case: Case,
@@ -83,17 +103,14 @@ pub fn certificate(
     terms: Terms,
     claims: PlanClaims,
 ) -> Result<Certificate, NoMemory>
-    requires held { IsFor case held.now }
-    requires limits { IsWithinLimits case held.now }
-    requires price { claims.price.p ≤ 2 ^ 74 }
-    requires floors { length claims.floors ≡ length (line_units case) }
-    ensures { IfOk result (λ cert. cert ≡ certificate_of case held.now terms claims) }
+    requires held { IsHeld case held.now }
+    requires terms { AreTerms terms }
+    requires claims { AreClaims case claims }
+    ensures certificate { IfOk result (λ cert. cert ≡ certificate_of case held.now terms claims) }
+    ensures formed { IfOk result IsWellFormed }
 {
-    let covers = if terms.format == 2 {
-        covers_of(alloc, &case, held, claims.price, claims.floors.as_slice())?
-    } else {
-        Vec::new(alloc)
-    };
+    let _valid = case.site_count();
+    let covers = covers_in(alloc, &case, held, terms.format, &claims)?;
     Ok(Certificate {
         format: terms.format,
         objective: terms.objective,
@@ -101,7 +118,7 @@ pub fn certificate(
         budget: terms.budget,
         price: claims.price,
         floors: claims.floors,
-        covers: List::of(covers),
+        covers,
         stocks: claims.stocks,
         upper: claims.upper,
         bound: claims.bound,

@@ -1,6 +1,6 @@
 //! What holds of a plan's certificate, as contracts of functions that do nothing.
 
-ghost use Rattle.certified_plan.specs.Laws.{HeldTextsAreShort, NothingIsZeros, PlansAreAccepted, PlansAreWellFormed, PlansAreWellHeld, ScoresEnclose, ScoresLeaveRoom, TextsAreShort, ZerosTakeAll};
+ghost use Rattle.certified_plan.specs.Laws.{HeldTextsAreShort, NothingIsZeros, PlansAreAccepted, PlansClaim, ScoresEnclose, ScoresLeaveRoom, TextsAreShort, ZerosTakeAll};
 
 /// The intervals of each objective enclose its values, and leave room to add up.
 pub fn scores_are_sound()
@@ -8,10 +8,9 @@ pub fn scores_are_sound()
     ensures room { ScoresLeaveRoom }
 {}
 
-/// The certificate of a plan is well formed, so its text is read back as it.
-pub fn plans_are_well_formed()
-    ensures certificate { PlansAreWellFormed }
-    ensures held { PlansAreWellHeld }
+/// What a plan claims is in its range, so that a certificate is made of it.
+pub fn plans_claim()
+    ensures { PlansClaim }
 {}
 
 /// The checker accepts the certificate of a plan, in both formats, for each objective and from whatever is held.
