@@ -1,5 +1,5 @@
 -- No rule of the checker refuses the certificate of a plan.
-use Rattle.std.proofs.Common.{◌≡◌, ◌==◌, ⊤, ℕ, zero, suc, ◌+◌, ◌-◌, ◌*◌, ◌/◌, ◌%◌, ◌<◌, ◌≤◌, min, inl, inr, Bool, true, false, cond, List, [], ◌∷◌, length, map, get_or, sum_by, Option, Some, None, is_none, Result, Ok, Err, refl, sym, ap, ◌∙◌, subst, arith}
+use Rattle.std.proofs.Common.{◌≡◌, ◌==◌, ℕ, zero, suc, ◌+◌, ◌-◌, ◌*◌, ◌/◌, ◌%◌, ◌<◌, ◌≤◌, min, inl, inr, Bool, true, false, cond, List, [], ◌∷◌, length, map, get_or, sum_by, Option, Some, None, is_none, Result, Ok, Err, refl, sym, ap, ◌∙◌, subst, arith}
 use Rattle.std.specs.Prelude.{if◌then◌else◌, unwrap_or}
 use Rattle.std.specs.List.{range_with_len}
 use Rattle.std.specs.Option.{option_map}
@@ -38,7 +38,7 @@ use Rattle.gap_checker.specs.declared.refusal.Reject.TheVariants as reject
 use Rattle.gap_checker.specs.Covers.{leaves}
 use Rattle.gap_checker.specs.Trees.{leaves_of}
 use Rattle.gap_checker.specs.Values.{value_of, cover_tables}
-use Rattle.gap_checker.specs.Refusals.{family_count, line_at, box_from, nodes_of, cover_of, family_leaves, gap_at, family_tables, tables_of_first, work_of, over_limit, below_held, cost_above, leaf_value, low_at, chosen_of, upper_of, largest_of, reject_of, judged}
+use Rattle.gap_checker.specs.Refusals.{family_count, line_at, box_from, nodes_of, cover_of, family_leaves, gap_at, family_tables, tables_of_first, work_of, over_limit, too_low, below_held, cost_above, leaf_value, low_at, chosen_of, upper_of, largest_of, reject_of, judged}
 use Rattle.gap_checker.proofs.Costs.{added-is}
 use Rattle.gap_checker.proofs.Judging.{by_none}
 use Rattle.gap_checker.proofs.Readings.{trees_are_read}
@@ -175,13 +175,17 @@ module _ (c : CaseRows) (held : StockList) (terms : Terms) (p : CasePlan) (on : 
 
     no_low : low_at score cert held f ≡ None
     unfolding low_at
-    no_low = ap (λ z. option_map _ z) (none_low (leaf_value score cert f) floor (family_leaves cert held f) (λ x m. leaves_high x (subst (λ z. Among x z) leaves_are m)))
+    no_low = ap (λ z. option_map (λ low. too_low terms.format f low.0 floor low.1) z) (none_low (leaf_value score cert f) floor (family_leaves cert held f) (λ x m. leaves_high x (subst (λ z. Among x z) leaves_are m)))
 
   -- ---- work
 
+  from_zero : (k : ℕ) → k ≡ 0 + k
+  from_zero k = omega arith
+
   work_few : tables_from c held.list ≤ most_tables → work_of cert held ≤ 1000000
   work_few few =
-      let s = sum_most (family_tables cert held) (λ l. tables_between c l (vector_of c l held.list) (limits c l)) (line_units c) 0 (λ k b. few_tables k b) in
+      let s = sum_most (family_tables cert held) (λ l. tables_between c l (vector_of c l held.list) (limits c l)) (line_units c) 0
+      (λ k b. subst (λ j. family_tables cert held j ≤ tables_between c (get_or (line_units c) k 0) (vector_of c (get_or (line_units c) k 0) held.list) (limits c (get_or (line_units c) k 0))) (from_zero k) (few_tables k b)) in
       omega (arith, few, s)
 
   -- ---- stocks

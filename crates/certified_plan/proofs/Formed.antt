@@ -1,5 +1,5 @@
 -- The certificate of a plan is well formed.
-use Rattle.std.proofs.Common.{◌≡◌, ◌==◌, ⊤, ℕ, suc, ◌+◌, ◌*◌, ◌^◌, ◌<◌, ◌≤◌, ◌⊎◌, inl, inr, Bool, true, false, cond, List, [], ◌∷◌, length, map, get_or, All, refl, sym, ap, ◌∙◌, subst, arith, eq-eqb, ne_eqb}
+use Rattle.std.proofs.Common.{◌≡◌, ◌==◌, ℕ, zero, suc, ◌+◌, ◌*◌, ◌^◌, ◌<◌, ◌≤◌, ◌⊎◌, inl, inr, Bool, true, false, cond, List, [], ◌∷◌, length, map, get_or, All, refl, sym, ap, ◌∙◌, subst, arith, eq-eqb, ne_eqb}
 use Rattle.std.specs.List.{range_with_len}
 use Rattle.std.proofs.lemmas.List.{get_or_past}
 use Rattle.std.proofs.lemmas.List.Elements.{All-from_recursion, All-from_get_or}
@@ -53,7 +53,7 @@ limit_small c p k valid h =
 
 maps_small : (f : Pair → ℕ) (xs : List Pair) (i : ℕ) → ((x : Pair) → Among x xs → f x ≤ 63) → get_or (map f xs) i 0 ≤ 63
 maps_small f [] i h = omega arith
-maps_small f (x ∷ xs) 0 h = h x (inl refl)
+maps_small f (x ∷ xs) zero h = h x (inl refl)
 maps_small f (x ∷ xs) (suc i) h = maps_small f xs i (λ y m. h y (inr m))
 
 module _ (c : CaseRows) (l : ℕ) (held : List ℕ) (valid : IsCase c) (line : IsLine c l) where

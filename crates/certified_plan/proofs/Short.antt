@@ -34,7 +34,7 @@ short_at c held p floors f valid h b =
     let most = few_of c l (vector_of c l held.list) valid line in
     record {
       few = omega (arith, few, most);
-      nodes = recursion_from_All IsNode (cover_at c held.list p floors f)
+      each_node = recursion_from_All IsNode (cover_at c held.list p floors f)
           (is_cover c l (vector_of c l held.list) valid line (held_line c held l line h) p (get_or floors f 0)).nodes;
     }
 

@@ -1,5 +1,5 @@
 -- The text of a plan's certificate is short enough to be read.
-use Rattle.std.proofs.Common.{◌≡◌, ◌==◌, ⊤, ℕ, zero, suc, ◌+◌, ◌*◌, ◌/◌, ◌%◌, ◌^◌, ◌<◌, ◌≤◌, ◌⊎◌, ◌&&◌, not, inl, inr, Bool, true, false, cond, List, [], ◌∷◌, ◌++◌, length, get_or, All, Option, Some, None, is_none, refl, sym, ap, subst, arith}
+use Rattle.std.proofs.Common.{◌≡◌, ◌==◌, ℕ, zero, suc, ◌+◌, ◌*◌, ◌/◌, ◌%◌, ◌^◌, ◌<◌, ◌≤◌, ◌⊎◌, ◌&&◌, not, inl, inr, Bool, true, false, cond, List, [], ◌∷◌, ◌++◌, length, get_or, All, Option, Some, None, is_none, refl, sym, ap, subst, arith}
 use Rattle.std.specs.Fmt.{decimal}
 use Rattle.std.specs.List.{AllByRecursion}
 use Rattle.std.proofs.Math.Nat.{div-le_self}
@@ -10,7 +10,7 @@ use Rattle.std.proofs.lemmas.List.Elements.{recursion_from_All}
 use Rattle.fixed_interval.specs.Text.{fixed_text}
 use Rattle.line_text.specs.Formats.{Token, Format, one}
 use Rattle.line_text.specs.Files.{line}
-use Rattle.line_text.specs.Texts.{word, number_line, count_fields, count_line, counted, numbers_from}
+use Rattle.line_text.specs.Texts.{word, word_line, number_line, count_fields, count_line, counted, numbers_from}
 use Rattle.spares_input.specs.Names.{is_name, has_length, is_trimmed, name_byte}
 use Rattle.spares_input.specs.Rows.{IsField, IsSiteRow, IsPartRow, IsRateRow, no_part, no_site}
 use Rattle.spares_input.specs.Frames.{part_at, site_at}
@@ -20,7 +20,7 @@ use Rattle.spares_input.specs.declared.rows.PartRow.{PartRow}
 use Rattle.spares_input.specs.declared.rows.RateRow.{RateRow}
 use Rattle.case_lines.specs.Grammar as lines
 use Rattle.hull.specs.declared.price.Price.{Price}
-use Rattle.spares_input.specs.Stocks.{StockList, IsFor}
+use Rattle.spares_input.specs.Stocks.{StockList, IsFor, limit_at}
 use Rattle.price_certificate.specs.declared.certificate.Certificate.{Certificate}
 use Rattle.price_certificate.specs.declared.certificate.Objective.{Objective}
 use Rattle.price_certificate.specs.declared.certificate.Objective.TheVariants.{Backorders, LogAvailability}
@@ -33,7 +33,7 @@ use Rattle.on_hand.specs.declared.held.HeldCertificate.{HeldCertificate}
 use Rattle.on_hand.specs.Held as held
 use Rattle.on_hand.specs.Held.{held_format}
 use lib.Chars.{codes}
-use Rattle.certified_plan.proofs.Widths.{width, both_most, line_most, digits_most, places_most, number_if_most, fixed_if_most, count_most, number_most, each_most, counted_most}
+use Rattle.certified_plan.proofs.Widths.{width, both_most, token_most, line_most, digits_most, places_most, number_if_most, fixed_if_most, count_most, number_most, each_most, counted_most}
 
 name_most : (t : Token) → is_name t ≡ true → length t ≤ 24
 unfolding is_name
@@ -47,12 +47,18 @@ field_most true least most n h = (h.within refl).1
 field_most false least most n h = (let e = h.empty refl in omega (arith, e))
 
 
+last_most : (t : Token) (n : ℕ) → length t ≤ n → width (t ∷ []) ≤ n + 1
+unfolding width
+last_most t n h = omega (arith, h)
+
 -- ---- sites
 
 depot_most : (s : SiteRow) → IsSiteRow s → width ((one (line lines.depot_fields)).print s) ≤ 36
+unfolding width
 depot_most s h = (let n = name_most s.name h.name in line_most lines.depot_fields s 34 (omega (arith, n)))
 
 base_most : (s : SiteRow) → IsSiteRow s → width ((one (line lines.base_fields)).print s) ≤ 60
+unfolding width
 base_most s h =
     let n = name_most s.name h.name in
     let systems = field_most (not s.depot) 1 10000 s.systems h.systems in
@@ -75,10 +81,12 @@ sites_most ss few all =
 -- ---- parts
 
 parent_most : (p : Option Token) → ((name : Token) → p ≡ Some name → is_name name ≡ true) → width (lines.parent_field.print p) ≤ 25
+unfolding width
 parent_most None h = omega arith
 parent_most (Some name) h = (let n = name_most name (h name refl) in omega (arith, n))
 
 weight_most : (weighted line : Bool) (n : ℕ) → n ≤ 100 → width ((lines.weight_field weighted line).print n) ≤ 4
+unfolding width
 weight_most true line n h = number_if_most line 1 100 n 3 (digits_most 3 n (omega arith) (omega (arith, h)) (omega (arith, h)))
 weight_most false line n h = omega arith
 
@@ -98,14 +106,15 @@ part_most weighted r h =
     let e = small_most r.max_base h.max_base in
     let f = weight_most weighted (is_none r.parent) r.weight heavy in
     line_most (lines.part_fields weighted) r 74
-    (both_most (r.name ∷ []) _ 25 49 (omega (arith, n))
+    (token_most r.name _ 24 49 n
     (both_most (lines.parent_field.print r.parent) _ 25 24 a
-    (both_most (decimal r.cost ∷ []) _ 10 14 (omega (arith, b))
+    (token_most (decimal r.cost) _ 9 14 b
     (both_most ((lines.number_if (is_none r.parent) 1 100).print r.per_system) _ 4 10 c
-    (both_most (decimal r.max_depot ∷ []) _ 3 7 (omega (arith, d))
-    (both_most (decimal r.max_base ∷ []) ((lines.weight_field weighted (is_none r.parent)).print r.weight) 3 4 (omega (arith, e)) f))))))
+    (token_most (decimal r.max_depot) _ 2 7 d
+    (token_most (decimal r.max_base) _ 2 4 e f))))))
 
 header_most : (weighted : Bool) (n : ℕ) → n ≤ 2000 → width (lines.parts_line.print (lines.header weighted n)) ≤ 25
+unfolding width
 header_most true n h =
     line_most lines.weights_fields n 23 (let d = digits_most 4 n (omega arith) (omega (arith, h)) (omega (arith, h)) in omega (arith, d))
 header_most false n h =
@@ -160,20 +169,26 @@ rate_most pair r pn sn h =
     let c = places_most 4 r.share 5 (digits_most 5 (r.share / 10 ^ 4) (omega arith) (omega (arith, s, us)) (omega (arith, s, us))) in
     let e = places_most 2 r.repair_days 6 (digits_most 6 (r.repair_days / 10 ^ 2) (omega arith) (omega (arith, t, ut)) (omega (arith, t, ut))) in
     line_most (lines.rate_fields pair) r 100
-    (both_most (pair.part_name ∷ []) _ 25 75 (omega (arith, pn))
-    (both_most (pair.site_name ∷ []) _ 25 50 (omega (arith, sn))
+    (token_most pair.part_name _ 24 75 pn
+    (token_most pair.site_name _ 24 50 sn
     (both_most ((lines.fixed_if (pair.line && not pair.depot) 4 1000000000).print r.demand) _ 16 34 (fixed_if_most (pair.line && not pair.depot) 4 1000000000 r.demand 15 (omega (arith, a)))
     (both_most ((lines.chance_if (not pair.depot)).print r.repair_here) _ 12 22 (let m = fixed_if_most (not pair.depot) 4 10000 r.repair_here 10 (omega (arith, b)) in omega (arith, m))
-    (both_most ((lines.chance_if (not pair.line)).print r.share) (lines.days_field.print r.repair_days) 12 10 (let m = fixed_if_most (not pair.line) 4 10000 r.share 10 (omega (arith, c)) in omega (arith, m)) (omega (arith, e)))))))
+    (both_most ((lines.chance_if (not pair.line)).print r.share) _ 12 10 (let m = fixed_if_most (not pair.line) 4 10000 r.share 10 (omega (arith, c)) in omega (arith, m)) (last_most (fixed_text 2 r.repair_days) 9 e))))))
+
+times_most : (ts : List Token) (n k most : ℕ) → width ts ≤ n * k → n ≤ most → width ts ≤ most * k
+times_most ts n k most h few = (let m = mul-le n k most k few (omega arith) in omega (arith, h, m))
 
 rates_most : (c : CaseRows) → IsCase c → length c.rates ≤ 32000 → AllByRecursion IsSmallRate c.rates → width ((lines.rates c.sites c.parts).print c.rates) ≤ 3264020
 rates_most c valid few all =
     let each = each_most (λ _ i. lines.rate_line (lines.pair_at c.sites c.parts i)) 102 IsSmallRate
     (λ before i r h. rate_most (lines.pair_at c.sites c.parts i) r (part_name c.parts (i / length c.sites) valid.frame.part_rows) (site_name c.sites (i % length c.sites) valid.frame.site_rows) h)
     [] (numbers_from 0 (length c.parts * length c.sites)) c.rates all in
-    let m = mul-le (length c.rates) 102 32000 102 few (omega arith) in
-    let w = count_most (codes "rates") (length (numbers_from 0 (length c.parts * length c.sites))) (length (numbers_from 0 (length c.parts * length c.sites))) (length c.rates) 5 (digits_most 5 (length c.rates) (omega arith) (omega (arith, few)) (omega (arith, few))) in
-    both_most ((count_line (codes "rates") _ _).print (length c.rates)) _ 20 3264000 (omega (arith, w)) (omega (arith, each, m))
+    let n = length (numbers_from 0 (length c.parts * length c.sites)) in
+    let w = count_most (codes "rates") n n (length c.rates) 5 (digits_most 5 (length c.rates) (omega arith) (omega (arith, few)) (omega (arith, few))) in
+    rates_step (length (numbers_from 0 (length c.parts * length c.sites))) _ (omega (arith, w)) (times_most _ (length c.rates) 102 32000 each few)
+  where
+    rates_step : (n : ℕ) (ts : List Token) → width ((count_line (codes "rates") n n).print (length c.rates)) ≤ 20 → width ts ≤ 3264000 → width ((count_line (codes "rates") n n).print (length c.rates) ++ ts) ≤ 3264020
+    rates_step n ts h k = both_most ((count_line (codes "rates") n n).print (length c.rates)) ts 20 3264000 h k
 
 pairs_most : (c : CaseRows) → IsCase c → pair_count (frame_rows c) ≤ 32000
 pairs_most c valid = mul-le (length c.parts) (length c.sites) 2000 16 valid.frame.most_parts valid.frame.most_sites
@@ -196,17 +211,20 @@ case_most c valid =
 -- ---- certificates
 
 objective_most : (b : Bool) (o : Objective) → width ((objective_at b).print o) ≤ 29
+unfolding width
 objective_most true Backorders = line_most objective_fields Backorders 27 (omega arith)
 objective_most true LogAvailability = line_most objective_fields LogAvailability 27 (omega arith)
 objective_most false o = omega arith
 
 price_most : (price : Price) → price.p ≤ 2 ^ 74 → price.q ≤ 10 ^ 12 → width (price_line.print price) ≤ 46
+unfolding width
 price_most price h k =
     let p = digits_most 23 price.p (omega arith) (omega (arith, h)) (omega (arith, h)) in
     let q = digits_most 13 price.q (omega arith) (omega (arith, k)) (omega (arith, k)) in
     line_most price_fields price 44 (omega (arith, p, q))
 
 node_most : (n : Node) → IsNode n → width (node_line.print n) ≤ 15
+unfolding width
 node_most (node.Split at from) h =
     let a = digits_most 3 at (omega arith) (let x = h.0 in omega (arith, x)) (let x = h.0 in omega (arith, x)) in
     let b = digits_most 2 from (omega arith) (let x = h.1.1 in omega (arith, x)) (let x = h.1.1 in omega (arith, x)) in
@@ -217,16 +235,17 @@ node_most node.Whole h = (let m = line_most (word (codes "whole")) tt 6 (omega a
 -- a cover of few nodes
 pub record IsShort (nodes : List Node) : Type 0 where
   pub few : length nodes ≤ 289
-  pub nodes : AllByRecursion IsNode nodes
+  pub each_node : AllByRecursion IsNode nodes
 
 cover_most : (nodes : List Node) → IsShort nodes → width (cover.print nodes) ≤ 4347
 cover_most nodes h =
     let few = h.few in
-    let c = counted_most (codes "cover") 1 100000 (λ _. node_line) 15 3 IsNode (λ i n k. node_most n k) nodes (digits_most 3 (length nodes) (omega arith) (omega (arith, few)) (omega (arith, few))) h.nodes in
+    let c = counted_most (codes "cover") 1 100000 (λ _. node_line) 15 3 IsNode (λ i n k. node_most n k) nodes (digits_most 3 (length nodes) (omega arith) (omega (arith, few)) (omega (arith, few))) h.each_node in
     let m = mul-le (length nodes) 15 289 15 few (omega arith) in
     omega (arith, c, m)
 
 covers_most : (b : Bool) (n : ℕ) (covers : List (List Node)) → length covers ≤ 2000 → AllByRecursion IsShort covers → width ((covers_at b n).print covers) ≤ 8694014
+unfolding width
 covers_most true n covers few all =
     let c = counted_most (codes "covers") n n (λ _. cover) 4347 4 IsShort (λ i x k. cover_most x k) covers (digits_most 4 (length covers) (omega arith) (omega (arith, few)) (omega (arith, few))) all in
     let m = mul-le (length covers) 4347 2000 4347 few (omega arith) in
@@ -245,6 +264,10 @@ numbers_most w n most k format xs few small all =
 digits_all : (k most : ℕ) → ((n : ℕ) → n ≤ most → length (decimal n) ≤ k) → (xs : List ℕ) → AllByRecursion (λ n. n ≤ most) xs → AllByRecursion (λ n. length (decimal n) ≤ k) xs
 digits_all k most h [] all = tt
 digits_all k most h (x ∷ xs) all = (h x all.0, digits_all k most h xs all.1)
+
+end_most : (x : Unit {0}) → width ((word_line (codes "end")).print x) ≤ 6
+unfolding width
+end_most x = line_most (word (codes "end")) tt 4 (omega arith)
 
 -- the parts of a certificate have few numbers
 pub record HasFew (cert : Certificate) : Type 0 where
@@ -278,7 +301,7 @@ certificate_most cert h =
     (both_most ((stocks cert.case).print cert.stocks) _ 128015 _ small
     (both_most ((count_line (codes "upper") 0 (2 ^ 85)).print cert.upper) _ 35 _ (count_most (codes "upper") 0 (2 ^ 85) cert.upper 26 (digits_most 26 cert.upper (omega arith) (omega (arith, upper)) (omega (arith, upper))))
     (both_most ((count_line (codes "bound") 0 (2 ^ 85)).print cert.bound) _ 35 _ (count_most (codes "bound") 0 (2 ^ 85) cert.bound 26 (digits_most 26 cert.bound (omega arith) (omega (arith, bound)) (omega (arith, bound))))
-    (line_most (word (codes "end")) tt 4 (omega arith))))))))))) in
+    (end_most tt)))))))))) in
     omega (arith, all)
 
 pub held_most : (h : HeldCertificate) → HasFew h.certificate → IsFor h.certificate.case h.held → AllByRecursion (λ n. n ≤ 63) h.held.list → width (held_format.print h) ≤ 12600000
@@ -287,7 +310,7 @@ held_most h few is_for small =
     let pairs = pairs_most c few.formed.case in
     let n = is_for.pairs in
     let own : width ((held.held c).print h.held) ≤ 128013 =
-    numbers_most (codes "held") 32000 (pair_count (frame_rows c)) 2 _ h.held.list (omega (arith, n, pairs)) (omega arith) (digits_all 2 63 small_most h.held.list small) in
+    numbers_most (codes "held") 32000 (pair_count (frame_rows c)) 2 (λ i. limit_at c.parts (i / length c.sites) (i % length c.sites)) h.held.list (omega (arith, n, pairs)) (omega arith) (digits_all 2 63 small_most h.held.list small) in
     let front = both_most ((count_line (codes "spares-held") 1 1).print 1) ((certificate_format 1).print h.certificate) 16 12400000 (count_most (codes "spares-held") 1 1 1 1 (digits_most 1 1 (omega arith) (omega arith) (omega arith))) (certificate_most h.certificate few) in
-    let all = both_most _ _ _ _ front (both_most ((held.held c).print h.held) _ 128013 6 own (line_most (word (codes "end")) tt 4 (omega arith))) in
+    let all = both_most _ _ _ _ front (both_most ((held.held c).print h.held) _ 128013 6 own (end_most tt)) in
     omega (arith, all)

@@ -10,28 +10,37 @@ use Rattle.line_text.specs.Files.{line}
 use Rattle.line_text.specs.Texts.{number_line, count_line, counted}
 use Rattle.case_lines.specs.Grammar.{number_if, fixed_if}
 
-abbrev pub width : List Token → ℕ
+unfoldable pub width : List Token → ℕ
 width [] = 0
 width (t ∷ ts) = suc (length t) + width ts
 
 pub width-append : (xs ys : List Token) → width (xs ++ ys) ≡ width xs + width ys
+unfolding width
 width-append [] ys = omega arith
 width-append (x ∷ xs) ys = omega (arith, width-append xs ys)
 
 pub both_most : (xs ys : List Token) (m n : ℕ) → width xs ≤ m → width ys ≤ n → width (xs ++ ys) ≤ m + n
 both_most xs ys m n h k = omega (arith, width-append xs ys, h, k)
 
+-- one token before others
+pub token_most : (t : Token) (ts : List Token) (m n : ℕ) → length t ≤ m → width ts ≤ n → width (t ∷ ts) ≤ suc m + n
+unfolding width
+token_most t ts m n h k = omega (arith, h, k)
+
 pub concat_most : (ts : List Token) → length (concat ts) ≤ width ts
+unfolding width
 concat_most [] = omega arith
 concat_most (t ∷ ts) = omega (arith, length-append t (concat ts), concat_most ts)
 
 join_most : (ts : List Token) → length (join_with_byte 44 ts) ≤ width ts
+unfolding width
 join_most [] = omega arith
 join_most (t ∷ []) = omega arith
 join_most (t ∷ u ∷ ts) = omega (arith, length-append t (44 ∷ join_with_byte 44 (u ∷ ts)), join_most (u ∷ ts))
 
 -- a line of such fields
 pub line_most : {A : Type 0} (fields : Format A) (a : A) (n : ℕ) → width (fields.print a) ≤ n → width ((one (line fields)).print a) ≤ n + 2
+unfolding width
 line_most fields a n h = omega (arith, length-append (join_with_byte 44 (fields.print a)) (10 ∷ []), join_most (fields.print a), h)
 
 -- ---- fields
@@ -43,22 +52,26 @@ pub places_most : (places n k : ℕ) → length (decimal (n / 10 ^ places)) ≤ 
 places_most places n k h = omega (arith, length-append (decimal (n / 10 ^ places)) (46 ∷ last_digits places n), length-last_digits places n, h)
 
 pub number_if_most : (has : Bool) (least most n k : ℕ) → length (decimal n) ≤ k → width ((number_if has least most).print n) ≤ k + 1
+unfolding width
 number_if_most true least most n k h = omega (arith, h)
 number_if_most false least most n k h = omega arith
 
 pub fixed_if_most : (has : Bool) (places most n k : ℕ) → length (fixed_text places n) ≤ k → width ((fixed_if has places most).print n) ≤ k + 1
+unfolding width
 fixed_if_most true places most n k h = omega (arith, h)
 fixed_if_most false places most n k h = omega arith
 
 -- ---- lines of numbers
 
 pub count_most : (w : Token) (least most n k : ℕ) → length (decimal n) ≤ k → width ((count_line w least most).print n) ≤ length w + k + 4
+unfolding width
 count_most w least most n k h =
     let a = length-append w (44 ∷ decimal n) in
     let b = length-append (w ++ 44 ∷ decimal n) (10 ∷ []) in
     omega (arith, a, b, h)
 
 pub number_most : (most n k : ℕ) → length (decimal n) ≤ k → width ((number_line most).print n) ≤ k + 2
+unfolding width
 number_most most n k h = (let a = length-append (decimal n) (10 ∷ []) in omega (arith, a, h))
 
 -- ---- a value for each key
@@ -68,6 +81,7 @@ more_of a b n m k h g = omega (arith, h, g)
 
 pub each_most : {K A : Type 0} (format : List A → K → Format A) (n : ℕ) (P : A → Type 0) → ((before : List A) (k : K) (x : A) → P x → width ((format before k).print x) ≤ n)
     → (before : List A) (keys : List K) (xs : List A) → AllByRecursion P xs → width (print_after format before keys xs) ≤ length xs * n
+unfolding width
 each_most format n P each before [] xs all = omega arith
 each_most format n P each before (k ∷ ks) [] all = omega arith
 each_most format n P each before (k ∷ ks) (x ∷ xs) all =

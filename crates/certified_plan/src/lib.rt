@@ -9,6 +9,8 @@
 mod certifying;
 mod laws;
 mod terms;
+#[cfg(test)]
+mod tests;
 mod writing;
 
 pub use certifying::certificate;
