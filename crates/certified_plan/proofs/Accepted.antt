@@ -1,6 +1,8 @@
 -- No rule of the checker refuses the certificate of a plan.
 use Rattle.std.proofs.Common.{◌≡◌, ◌==◌, ℕ, zero, suc, ◌+◌, ◌-◌, ◌*◌, ◌/◌, ◌%◌, ◌<◌, ◌≤◌, min, inl, inr, Bool, true, false, cond, List, [], ◌∷◌, length, map, get_or, sum_by, Option, Some, None, is_none, Result, Ok, Err, refl, sym, ap, ◌∙◌, subst, arith}
-use Rattle.std.specs.Prelude.{if◌then◌else◌, unwrap_or}
+use Rattle.std.specs.Prelude.{nat_le, if◌then◌else◌, unwrap_or}
+use Rattle.std.specs.Result.{IsOk}
+use Rattle.std.proofs.lemmas.Bool.{leb-true, false≢true}
 use Rattle.std.specs.List.{range_with_len}
 use Rattle.std.specs.Option.{option_map}
 use Rattle.std.proofs.lemmas.Nat.{div-add-mod'}
@@ -48,7 +50,7 @@ use Rattle.certified_plan.specs.Scores as scores
 use Rattle.certified_plan.specs.Scores.{ends_of}
 use Rattle.certified_plan.specs.Certificates as own
 use Rattle.certified_plan.specs.Certificates.{covers_of, certificate_of, claims_of}
-use Rattle.certified_plan.specs.Inputs.{tables_from}
+use Rattle.certified_plan.specs.Inputs.{tables_from, IsWithinWork}
 use Rattle.certified_plan.specs.Laws.{IsPlanOn}
 use Rattle.certified_plan.proofs.Corners.{Lists, Boxed, lawful_box}
 use Rattle.certified_plan.proofs.Families.{count_is, held_lists, most_lists}
@@ -87,6 +89,18 @@ sum_most f g (l ∷ ls) a h =
 
     on : (a k : ℕ) → a + suc k ≡ a + 1 + k
     on a k = omega arith
+
+-- ---- the limit of the work
+
+few_step : (b : Bool) (n : ℕ) → nat_le n most_tables ≡ b → IsOk (if b then Ok n else Err n) → n ≤ most_tables
+few_step true n e h = leb-true n most_tables e
+few_step false n e h = absurd (false≢true h)
+
+uncounted : (n : ℕ) → counted n ≤ most_tables → n ≤ most_tables
+uncounted n h = omega arith
+
+within_work : (c : CaseRows) (held : List ℕ) → IsWithinWork c held → tables_from c held ≤ most_tables
+within_work c held h = uncounted (tables_from c held) (few_step (nat_le (counted (tables_from c held)) most_tables) (counted (tables_from c held)) refl h)
 
 -- ---- the tree of a family's nodes, in both formats
 
@@ -227,8 +241,9 @@ module _ (c : CaseRows) (held : StockList) (terms : Terms) (p : CasePlan) (on : 
       let g = true_plan.certificate.fits in
       omega (arith, e, f, g)
 
-  pub accepted : tables_from c held.list ≤ most_tables → reject_of (ends_of terms.objective) (certificate_of c held terms (claims_of c p)) held ≡ None
-  accepted few =
+  pub accepted : IsWithinWork c held.list → reject_of (ends_of terms.objective) (certificate_of c held terms (claims_of c p)) held ≡ None
+  accepted within =
+      let few = within_work c held.list within in
       no_fault (reject_of score cert held) _ _
       (by_none score cert held (ap (option_map reject.Rate) on.accepted.no_fault)
       (none_first (gap_at cert held) (family_count c) (λ f b. no_gap f b))

@@ -14,7 +14,7 @@ use Rattle.family_curve.specs.Vectors.{Pair, places_at, places, limits}
 use Rattle.family_curve.specs.Points.{cost_above, added_cost}
 use Rattle.fleet_plan.proofs.Places.{length_places}
 use Rattle.price_certificate.specs.declared.place.Place.{Place}
-use Rattle.price_certificate.specs.Covers.{Corner, no_place, held_at, most_at, IsPlace, added_from, added, place_at, place_count, places_of}
+use Rattle.price_certificate.specs.Covers.{Corner, no_place, held_at, most_at, IsPlace, IsHeld, added_from, added, place_at, place_count, places_of}
 use Rattle.price_certificate.proofs.Families.{are_places}
 use Rattle.gap_checker.specs.Boxes.{AtMost}
 use Rattle.gap_checker.proofs.Boxes.{at_most-at}
@@ -88,14 +88,16 @@ module _ (c : CaseRows) (l : ℕ) where
     pub most_lists : Lists (length (places c l)) (most_at (places_of c l held)) (limits c l)
     most_lists = record { long = length-map (places c l) (λ (x : Pair). limit_at c.parts x.part x.site); same = most_is }
 
-    pub valid_places : IsCase c → IsLine c l → AtMost held (limits c l) → All IsPlace (places_of c l held)
-    valid_places valid line within =
-        are_places c l held valid line.is_part (λ m b.
+    pub within_most : AtMost held (limits c l) → IsHeld c l held
+    within_most within m b =
         let h : m < length (places c l) = (let e = length_places c l in omega (arith, b, e)) in
         let p = ap (λ (x : Place). x.most) (place_in m h) in
         let q = most_is m h in
         let r = at_most-at held (limits c l) m within in
-        omega (arith, p, q, r))
+        omega (arith, p, q, r)
+
+    pub valid_places : IsCase c → IsLine c l → AtMost held (limits c l) → All IsPlace (places_of c l held)
+    valid_places valid line within = are_places c l held valid line.is_part (within_most within)
 
 -- ---- what a corner costs
 

@@ -5,6 +5,7 @@ pub mod Families
 pub mod Trees
 pub mod Leaves
 pub mod Formed
+pub mod Made
 pub mod Accepted
 pub mod Zeros
 pub mod Widths

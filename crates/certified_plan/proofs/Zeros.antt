@@ -1,8 +1,6 @@
 -- Nothing held is a list of zeros.
-use Rattle.std.proofs.Common.{◌≡◌, ℕ, ◌+◌, ◌*◌, ◌≤◌, Bool, true, false, List, [], length, map, sum_by, replicate, Result, Ok, Err, refl, sym, ap, ap₂, ◌∙◌, subst, arith}
-use Rattle.std.specs.Prelude.{nat_le, if◌then◌else◌}
+use Rattle.std.proofs.Common.{◌≡◌, ℕ, ◌+◌, ◌*◌, ◌≤◌, List, [], length, map, sum_by, replicate, refl, sym, ap, ap₂, ◌∙◌, subst, arith}
 use Rattle.std.specs.Result.{IsOk}
-use Rattle.std.proofs.lemmas.Bool.{leb-true, false≢true}
 use Rattle.std.proofs.lemmas.List.{length-replicate}
 use Rattle.hull.specs.declared.point.Point.{Point}
 use Rattle.spares_input.specs.Cases.{CaseRows, IsCase, frame_rows, pair_count}
@@ -10,7 +8,7 @@ use Rattle.fleet_model.specs.Rows.{line_units}
 use Rattle.fleet_model.proofs.AllocationLaws.{stock-is}
 use Rattle.family_curve.specs.Vectors.{Pair, places, vector_of, zeros, limits}
 use Rattle.family_curve.specs.Points.{ScoreEnds, point_at_vector, points_within}
-use Rattle.family_curve.specs.Counts.{counted, limited, most_tables, tables_of, tables_between, work_of}
+use Rattle.family_curve.specs.Counts.{counted, limited, tables_of, tables_between, work_of}
 use Rattle.family_curve.proofs.Whole.{tables_whole}
 use Rattle.marginal_alloc.specs.Plans.{IsPlan}
 use Rattle.fleet_plan.specs.Families.{family_points, case_points, points_at}
@@ -23,7 +21,7 @@ use Rattle.gap_checker.specs.Soundness.{nothing_held}
 use Rattle.certified_bounds.proofs.Accepted.{none_held}
 use Rattle.certified_plan.specs.declared.terms.Terms.{Terms}
 use Rattle.certified_plan.specs.Scores.{ends_of}
-use Rattle.certified_plan.specs.Inputs.{AreTerms, IsHeld, tables_from}
+use Rattle.certified_plan.specs.Inputs.{AreTerms, IsHeld, tables_from, IsWithinWork}
 use Rattle.certified_plan.specs.Laws.{IsPlanOn}
 
 module _ (c : CaseRows) where
@@ -58,16 +56,10 @@ from_zeros c terms p accepted are h = record { accepted = accepted; are_terms = 
 
 -- ---- work
 
-few_step : (b : Bool) (n : ℕ) → nat_le n most_tables ≡ b → IsOk (if b then Ok n else Err n) → n ≤ most_tables
-few_step true n e h = leb-true n most_tables e
-few_step false n e h = absurd (false≢true h)
+same_tables : (c : CaseRows) → IsCase c → tables_from c (nothing_held c).list ≡ sum_by (tables_of c) (line_units c)
+same_tables c valid =
+    sum_among (λ l. tables_between c l (vector_of c l (nothing_held c).list) (limits c l)) (tables_of c) (line_units c)
+    (λ l m. ap (λ v. tables_between c l v (limits c l)) (zero_vector c l) ∙ sym (tables_whole c l valid))
 
-uncounted : (n : ℕ) → counted n ≤ most_tables → n ≤ most_tables
-uncounted n h = omega arith
-
-pub zeros_take : (c : CaseRows) → IsAcceptedCase c → IsOk (work_of c) → tables_from c (nothing_held c).list ≤ most_tables
-zeros_take c accepted h =
-    let all = uncounted (sum_by (tables_of c) (line_units c)) (few_step (nat_le (counted (sum_by (tables_of c) (line_units c))) most_tables) _ refl h) in
-    let same = sum_among (λ l. tables_between c l (vector_of c l (nothing_held c).list) (limits c l)) (tables_of c) (line_units c)
-    (λ l m. ap (λ v. tables_between c l v (limits c l)) (zero_vector c l) ∙ sym (tables_whole c l accepted.valid)) in
-    omega (arith, all, same)
+pub zeros_take : (c : CaseRows) → IsCase c → IsOk (work_of c) → IsWithinWork c (nothing_held c).list
+zeros_take c valid h = subst (λ n. IsOk (limited (counted n))) (sym (same_tables c valid)) h

@@ -2,9 +2,9 @@
 use Rattle.std.specs.Prelude.{◌≡◌, ℕ, ◌≤◌, [], length, None}
 use Rattle.std.specs.Result.{IsOk}
 use Rattle.hull.specs.Scores.{EnclosesValue, LeavesRoom}
-use Rattle.spares_input.specs.Cases.{CaseRows}
+use Rattle.spares_input.specs.Cases.{CaseRows, IsCase}
 use Rattle.spares_input.specs.Stocks.{StockList}
-use Rattle.family_curve.specs.Counts.{most_tables, work_of}
+use Rattle.family_curve.specs.Counts.{work_of}
 use Rattle.fleet_plan.specs.Plans.{CasePlan, IsCasePlan}
 use Rattle.fleet_plan.specs.Laws.{IsAcceptedCase}
 use Rattle.price_certificate.specs.declared.certificate.Objective.{Objective}
@@ -14,7 +14,7 @@ use Rattle.gap_checker.specs.Soundness.{nothing_held}
 use Rattle.on_hand.specs.Held.{held_text}
 use Rattle.certified_plan.specs.declared.terms.Terms.{Terms}
 use Rattle.certified_plan.specs.Scores.{ends_of, value_of}
-use Rattle.certified_plan.specs.Inputs.{AreTerms, IsHeld, AreClaims, tables_from}
+use Rattle.certified_plan.specs.Inputs.{AreTerms, IsHeld, AreClaims, IsWithinWork}
 use Rattle.certified_plan.specs.Certificates.{certificate_of, claims_of}
 
 -- the intervals of each objective enclose its values, and leave room to add up
@@ -41,7 +41,7 @@ PlansClaim =
 abbrev pub PlansAreAccepted : Type 0
 PlansAreAccepted =
     (c : CaseRows) (held : StockList) (terms : Terms) (p : CasePlan)
-    → IsPlanOn c held terms p → tables_from c held.list ≤ most_tables
+    → IsPlanOn c held terms p → IsWithinWork c held.list
     → reject_of (ends_of terms.objective) (certificate_of c held terms (claims_of c p)) held ≡ None
 
 -- how many bytes of a certificate are read
@@ -68,4 +68,4 @@ NothingIsZeros =
     → IsPlanOn c (nothing_held c) terms p
 
 abbrev pub ZerosTakeAll : Type 0
-ZerosTakeAll = (c : CaseRows) → IsAcceptedCase c → IsOk (work_of c) → tables_from c (nothing_held c).list ≤ most_tables
+ZerosTakeAll = (c : CaseRows) → IsCase c → IsOk (work_of c) → IsWithinWork c (nothing_held c).list
