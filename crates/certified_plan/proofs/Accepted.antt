@@ -33,7 +33,6 @@ use Rattle.price_certificate.specs.declared.certificate.Node.{Node}
 use Rattle.price_certificate.specs.declared.certificate.Node.TheVariants as node
 use Rattle.price_certificate.specs.Covers as cover
 use Rattle.price_certificate.specs.Covers.{Tree, held_at, most_at, IsTrim, places_of, trimmed}
-use Rattle.gap_checker.specs.declared.leaf.Leaf.{Leaf}
 use Rattle.gap_checker.specs.declared.refusal.Accepted.{Accepted}
 use Rattle.gap_checker.specs.declared.refusal.Reject.{Reject}
 use Rattle.gap_checker.specs.declared.refusal.Reject.TheVariants as reject
@@ -55,7 +54,7 @@ use Rattle.certified_plan.specs.Laws.{IsPlanOn}
 use Rattle.certified_plan.proofs.Corners.{Lists, Boxed, lawful_box}
 use Rattle.certified_plan.proofs.Families.{count_is, held_lists, most_lists}
 use Rattle.certified_plan.proofs.Formed.{line_is, held_line, cover_is, trims}
-use Rattle.certified_plan.proofs.Leaves.{none_low, leaf_floor, tables_most}
+use Rattle.certified_plan.proofs.Leaves.{Leaf, none_low, leaf_floor, tables_most}
 use Rattle.certified_plan.proofs.Scores.{scores_enclose}
 use Rattle.certified_plan.proofs.Trees.{HasOneWhole, trimmed_whole}
 

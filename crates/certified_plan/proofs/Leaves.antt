@@ -14,9 +14,7 @@ use Rattle.price_certificate.specs.declared.place.Place.{Place}
 use Rattle.price_certificate.specs.Covers as cover
 use Rattle.price_certificate.specs.Covers.{Tree, Corner, put, held_at, most_at, added, places_of, AllCostLeaves, AllWholeLeaves}
 use Rattle.gap_checker.specs.Boxes.{AtMost}
-use Rattle.gap_checker.specs.declared.leaf.Leaf.{Leaf}
-use Rattle.gap_checker.specs.declared.leaf.Leaf.TheVariants as leaf
-use Rattle.gap_checker.specs.Covers.{fewer, as_many}
+use Rattle.gap_checker.specs.Covers.{box_of, fewer, as_many}
 use Rattle.gap_checker.specs.Trees.{leaves_of}
 use Rattle.gap_checker.specs.Values.{least, least_within, value_of, leaf_tables, cover_tables}
 use Rattle.gap_checker.specs.Refusals.{low_leaf}
@@ -27,6 +25,14 @@ use Rattle.certified_plan.proofs.Corners.{Lists, Boxed, cut_of, fewer_boxed, as_
 use Rattle.certified_plan.proofs.Families.{added_is, count_is, held_is, most_is}
 use Rattle.certified_plan.proofs.Trees.{HasOneWhole}
 use Rattle.certified_plan.proofs.Tables.{tables_more}
+
+-- what a function takes
+abbrev domain : {X Y : Type 0} → (X → Y) → Type 0
+domain {X} {Y} f = X
+
+-- a leaf, which has a box
+abbrev pub Leaf : Type 0
+Leaf = domain box_of
 
 -- a number that no point is below is at most the least, where there is a point
 pub least_above : (f : Point → ℕ) (floor : ℕ) (points : List Point) (u : Point) → Among u points → ((w : Point) → Among w points → floor ≤ f w) → floor ≤ least f points
@@ -131,15 +137,21 @@ module _ (c : CaseRows) (l n : ℕ) where
       none : (k : ℕ) → k + 0 ≡ k
       none k = omega arith
 
+  one_list : (ls : List Leaf) (x : Leaf) → ls ≡ x ∷ [] → cover_tables c l ls ≡ leaf_tables c l x
+  one_list ls x e = ap (cover_tables c l) e ∙ one_leaf x
+
   pub tables_most : (tree : Tree) (low high : Corner) (box : Bounds) → HasOneWhole tree → Boxed n low high box → cover.IsLawful n tree low high
       → cover_tables c l (leaves_of tree box) ≤ tables_between c l box.low box.high
   unfolding leaves_of leaf_tables
-  tables_most cover.Whole low high box one b h = (let e = one_leaf (leaf.Whole box) in omega (arith, e))
+  tables_most cover.Whole low high box one b h =
+      let e : cover_tables c l (leaves_of cover.Whole box) ≡ tables_between c l box.low box.high = one_list (leaves_of cover.Whole box) _ refl in
+      omega (arith, e)
   tables_most cover.Cost low high box one b h = absurd one
   tables_most (cover.Cut at from first other) low high box one b h =
       let cut = cut_of n low high at from h.0 in
       let s = sum_by-append (leaf_tables c l) (leaves_of first (fewer box at from)) (leaves_of other (as_many box at from)) in
-      let e : cover_tables c l (leaves_of other (as_many box at from)) ≡ 0 = ap (λ t. cover_tables c l (leaves_of t (as_many box at from))) one.1 ∙ one_leaf (leaf.Cost (as_many box at from)) in
+      let none : cover_tables c l (leaves_of cover.Cost (as_many box at from)) ≡ 0 = one_list (leaves_of cover.Cost (as_many box at from)) _ refl in
+      let e : cover_tables c l (leaves_of other (as_many box at from)) ≡ 0 = ap (λ t. cover_tables c l (leaves_of t (as_many box at from))) one.1 ∙ none in
       let r = tables_most first low (put at (from - 1) high) (fewer box at from) one.0 (fewer_boxed n low high box at from b cut) h.1.0 in
       let m = tables_more c l box.low (set box.high at (from - 1)) box.high
       (at_most-unset_high (set box.high at (from - 1)) box.high at (from - 1) (at_most-self (set box.high at (from - 1))) (below_high n low high box at from b cut)) in

@@ -50,6 +50,28 @@ fn cover_of(
     Ok(List::of(nodes))
 }
 
+/// The covers of all families, in the order of their line units, which are these.
+fn covers_along(
+    alloc: Global,
+    case: &Case,
+    held: &Stocks,
+    price: Price,
+    floors: &[u128],
+    lines: &[PartId],
+) -> Result<Vec<List<Node>>, NoMemory>
+    requires held { IsHeld case.now held.now }
+    requires price { price.p ≤ 2 ^ 74 }
+    requires floors { length floors.now ≡ length (line_units case.now) }
+    requires lines { map (λ p. p.0) lines.now ≡ line_units case.now }
+    ensures { IfOk result (λ covers. covers.items ≡ covers_of case.now held.now.list price.p floors.now) }
+{
+    let mut covers = Vec::new(alloc);
+    for f in 0..lines.len() {
+        covers.push(cover_of(alloc, case, held, price, floors[f], lines[f])?)?;
+    }
+    Ok(covers)
+}
+
 /// The covers of all families, in the order of their line units.
 fn covers_of(
     alloc: Global,
@@ -64,11 +86,7 @@ fn covers_of(
     ensures { IfOk result (λ covers. covers.items ≡ covers_of case.now held.now.list price.p floors.now) }
 {
     let lines = line_units(alloc, case)?;
-    let mut covers = Vec::new(alloc);
-    for f in 0..lines.len() {
-        covers.push(cover_of(alloc, case, held, price, floors[f], lines[f])?)?;
-    }
-    Ok(covers)
+    covers_along(alloc, case, held, price, floors, lines.as_slice())
 }
 
 /// The covers, which stand in format 2 alone.
