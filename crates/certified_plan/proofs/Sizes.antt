@@ -46,7 +46,6 @@ field_most : (used : Bool) (least most n : ℕ) → IsField used least most n �
 field_most true least most n h = (h.within refl).1
 field_most false least most n h = (let e = h.empty refl in omega (arith, e))
 
-
 last_most : (t : Token) (n : ℕ) → length t ≤ n → width (t ∷ []) ≤ n + 1
 unfolding width
 last_most t n h = omega (arith, h)

@@ -15,24 +15,28 @@ use std::alloc::Global;
 use std::test::*;
 
 /// A line unit at the depot and a base that may hold 9, under a budget of 250.
-const FIRST: &[u8] = b"spares-certificate,1\nsites,2\nD,depot,,\nB,base,12,10.00\nparts,1\nL,,100,1,2,9\n\
+const FIRST: &[u8] =
+    b"spares-certificate,1\nsites,2\nD,depot,,\nB,base,12,10.00\nparts,1\nL,,100,1,2,9\n\
 rates,2\nL,D,,,,20.00\nL,B,36.5000,0.0000,,0.00\nbudget,250\nprice,162357558481304,100\nfloors,1\n\
 67625916321994100\nstocks,2\n0\n2\nupper,351544046257340\nbound,270365267016681\nend\n";
 
 /// The same with a cover: five at the base cost more than the floor.
-const SECOND: &[u8] = b"spares-certificate,2\nobjective,backorders\nsites,2\nD,depot,,\nB,base,12,10.00\nparts,1\n\
+const SECOND: &[u8] =
+    b"spares-certificate,2\nobjective,backorders\nsites,2\nD,depot,,\nB,base,12,10.00\nparts,1\n\
 L,,100,1,2,9\nrates,2\nL,D,,,,20.00\nL,B,36.5000,0.0000,,0.00\nbudget,250\nprice,162357558481304,100\nfloors,1\n\
 67625916321994100\ncovers,1\ncover,3\nsplit,1,5\nwhole\ncost\nstocks,2\n0\n2\nupper,351544046257340\n\
 bound,270365267016681\nend\n";
 
 /// Its loss of availability.
-const LOSS: &[u8] = b"spares-certificate,2\nobjective,log-availability\nsites,2\nD,depot,,\nB,base,12,10.00\n\
+const LOSS: &[u8] =
+    b"spares-certificate,2\nobjective,log-availability\nsites,2\nD,depot,,\nB,base,12,10.00\n\
 parts,1\nL,,100,1,2,9\nrates,2\nL,D,,,,20.00\nL,B,36.5000,0.0000,,0.00\nbudget,250\nprice,176524252841808,100\n\
 floors,1\n72426399475250400\ncovers,1\ncover,3\nsplit,1,5\nwhole\ncost\nstocks,2\n0\n2\nupper,371215489071972\n\
 bound,282953362647984\nend\n";
 
 /// Where one is held at the base.
-const HELD: &[u8] = b"spares-held,1\nspares-certificate,2\nobjective,backorders\nsites,2\nD,depot,,\n\
+const HELD: &[u8] =
+    b"spares-held,1\nspares-certificate,2\nobjective,backorders\nsites,2\nD,depot,,\n\
 B,base,12,10.00\nparts,1\nL,,100,1,2,9\nrates,2\nL,D,,,,20.00\nL,B,36.5000,0.0000,,0.00\nbudget,250\n\
 price,99295395889294,100\nfloors,1\n38777727955461700\ncovers,1\ncover,3\nsplit,1,5\nwhole\ncost\nstocks,2\n0\n3\n\
 upper,189186487776046\nbound,139538789831382\nend\nheld,2\n0\n1\nend\n";
