@@ -33,7 +33,7 @@ accepted_true ends value cert held encloses formed is_for none =
 in_or_past : (i n : ℕ) → (i < n) ⊎ (n ≤ i)
 in_or_past i n = grind arith
 
-none_held : (c : CaseRows) (p k : ℕ) → stock c (nothing_held c).list p k ≡ 0
+pub none_held : (c : CaseRows) (p k : ℕ) → stock c (nothing_held c).list p k ≡ 0
 none_held c p k = elim (in_or_past (p * length c.sites + k) (pair_count (frame_rows c))) [
   | inl h ↦ get_or-replicate (pair_count (frame_rows c)) (p * length c.sites + k) 0 0 h
   | inr h ↦ get_or_past (replicate (pair_count (frame_rows c)) 0) (p * length c.sites + k) 0 (omega (arith, h, length-replicate {A = ℕ} (pair_count (frame_rows c)) 0))

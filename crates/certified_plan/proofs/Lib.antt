@@ -1,0 +1,13 @@
+pub mod Scores
+pub mod Tables
+pub mod Corners
+pub mod Families
+pub mod Trees
+pub mod Leaves
+pub mod Formed
+pub mod Made
+pub mod Accepted
+pub mod Zeros
+pub mod Widths
+pub mod Sizes
+pub mod Short

@@ -1,0 +1,15 @@
+-- The scores of objectives are sound.
+use Rattle.hull.specs.Scores.{EnclosesValue, LeavesRoom}
+use Rattle.fleet_plan.proofs.Plain.{plain_encloses, plain_room}
+use Rattle.log_loss.specs.Enclosing.{loss_encloses, loss_has_room}
+use Rattle.price_certificate.specs.declared.certificate.Objective.{Objective}
+use Rattle.price_certificate.specs.declared.certificate.Objective.TheVariants.{Backorders, LogAvailability}
+use Rattle.certified_plan.specs.Scores.{ends_of, value_of}
+
+pub scores_enclose : (o : Objective) → EnclosesValue (ends_of o) (value_of o)
+scores_enclose Backorders = plain_encloses
+scores_enclose LogAvailability = loss_encloses
+
+pub scores_leave_room : (o : Objective) → LeavesRoom (ends_of o)
+scores_leave_room Backorders = plain_room
+scores_leave_room LogAvailability = loss_has_room

@@ -1,0 +1,62 @@
+-- The certificate of a plan, and its text.
+use Rattle.std.specs.Prelude.{◌==◌, ℕ, List, [], length, map, get_or, Option, Some, None, if◌then◌else◌}
+use Rattle.std.specs.List.{range_with_len}
+use Rattle.spares_input.specs.Cases.{CaseRows}
+use Rattle.spares_input.specs.Stocks.{StockList}
+use Rattle.fleet_model.specs.Rows.{line_units}
+use Rattle.family_curve.specs.Vectors.{vector_of, stock_list}
+use Rattle.fleet_plan.specs.Plans.{CasePlan}
+use Rattle.price_certificate.specs.declared.certificate.Certificate.{Certificate}
+use Rattle.price_certificate.specs.declared.certificate.Node.{Node}
+use Rattle.price_certificate.specs.Covers.{places_of, trimmed, nodes_of}
+use Rattle.price_certificate.specs.Certificates.{cert_text}
+use Rattle.on_hand.specs.Held.{held_text}
+use Rattle.certified_plan.specs.declared.terms.Terms.{Terms}
+use Rattle.certified_plan.specs.declared.terms.PlanClaims.{PlanClaims}
+
+-- the cover of the family of the line unit l at a price and a floor: over the vectors from what is held to the limits, what
+-- cost alone shows is left to it
+abbrev pub cover_of : CaseRows → List ℕ → ℕ → ℕ → ℕ → List Node
+cover_of c held p floor l = nodes_of (trimmed p floor (places_of c l (vector_of c l held)))
+
+-- the cover of family f, at its floor
+abbrev pub cover_at : CaseRows → List ℕ → ℕ → List ℕ → ℕ → List Node
+cover_at c held p floors f = cover_of c held p (get_or floors f 0) (get_or (line_units c) f 0)
+
+-- a cover for each line unit, in order
+abbrev pub covers_of : CaseRows → List ℕ → ℕ → List ℕ → List (List Node)
+covers_of c held p floors = map (cover_at c held p floors) (range_with_len 0 (length (line_units c)))
+
+-- format 1 has none
+abbrev pub covers_in : CaseRows → List ℕ → ℕ → ℕ → List ℕ → List (List Node)
+covers_in c held format p floors = if format == 2 then covers_of c held p floors else []
+
+-- The certificate of these claims on these terms.
+abbrev pub certificate_of : CaseRows → StockList → Terms → PlanClaims → Certificate
+certificate_of c held terms claims = record {
+  format = terms.format;
+  objective = terms.objective;
+  case = c;
+  budget = terms.budget;
+  price = claims.price;
+  floors = claims.floors;
+  covers = covers_in c held.list terms.format claims.price.p claims.floors;
+  stocks = claims.stocks;
+  upper = claims.upper;
+  bound = claims.bound;
+}
+
+-- what a plan claims
+abbrev pub claims_of : CaseRows → CasePlan → PlanClaims
+claims_of c p = record {
+  stocks = stock_list c p.stocks;
+  price = p.numbers.price;
+  floors = p.floors;
+  upper = p.numbers.upper;
+  bound = p.numbers.bound;
+}
+
+-- its text, with what is held where there is a list of that
+abbrev pub text_of : Certificate → Option StockList → List ℕ
+text_of cert None = cert_text cert
+text_of cert (Some held) = held_text (record { certificate = cert; held = held })

@@ -1,0 +1,43 @@
+-- What a plan's certificate is made of.
+use Rattle.std.specs.Prelude.{◌≡◌, ℕ, ◌^◌, ◌≤◌, List, length, All, sum_by}
+use Rattle.std.specs.Result.{IsOk}
+use Rattle.spares_input.specs.Cases.{CaseRows}
+use Rattle.spares_input.specs.Stocks.{StockList, IsFor, IsWithinLimits}
+use Rattle.fleet_model.specs.Rows.{line_units}
+use Rattle.family_curve.specs.Vectors.{vector_of, limits}
+use Rattle.family_curve.specs.Counts.{counted, limited, tables_between}
+use Rattle.price_certificate.specs.declared.certificate.Objective.TheVariants.{Backorders}
+use Rattle.certified_plan.specs.declared.terms.Terms.{Terms}
+use Rattle.certified_plan.specs.declared.terms.PlanClaims.{PlanClaims}
+
+-- the budget is in its range, and the format is 1 or 2; format 1 has backorders alone
+pub record AreTerms (terms : Terms) : Type 0 where
+  pub budget : terms.budget ≤ 10 ^ 15
+  pub fewest : 1 ≤ terms.format
+  pub most : terms.format ≤ 2
+  pub first : terms.format ≡ 1 → terms.objective ≡ Backorders
+
+-- a number for each pair of the case, at most its limit
+pub record IsHeld (c : CaseRows) (held : StockList) : Type 0 where
+  pub is_for : IsFor c held
+  pub limits : IsWithinLimits c held
+
+-- each number is in its range, with a floor for each line unit and a stock for each pair
+pub record AreClaims (c : CaseRows) (claims : PlanClaims) : Type 0 where
+  pub price : claims.price.p ≤ 2 ^ 74
+  pub money : 1 ≤ claims.price.q
+  pub most_money : claims.price.q ≤ 10 ^ 12
+  pub floor_count : length claims.floors ≡ length (line_units c)
+  pub floors : All (λ floor. floor ≤ 2 ^ 115) claims.floors
+  pub stocks : IsFor c claims.stocks
+  pub stock_numbers : All (λ stock. stock ≤ 63) claims.stocks.list
+  pub upper : claims.upper ≤ 2 ^ 85
+  pub bound : claims.bound ≤ 2 ^ 85
+
+-- the tables of all families over the vectors from what is held to the limits
+abbrev pub tables_from : CaseRows → List ℕ → ℕ
+tables_from c held = sum_by (λ l. tables_between c l (vector_of c l held) (limits c l)) (line_units c)
+
+-- these are within the limit of the work
+abbrev pub IsWithinWork : CaseRows → List ℕ → Type 0
+IsWithinWork c held = IsOk (limited (counted (tables_from c held)))

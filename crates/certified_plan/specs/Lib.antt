@@ -1,0 +1,4 @@
+pub mod Scores
+pub mod Inputs
+pub mod Certificates
+pub mod Laws

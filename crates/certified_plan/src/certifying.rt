@@ -1,0 +1,144 @@
+//! The certificate of a plan.
+
+ghost use Rattle.std.specs.Prelude.{◌≡◌, ◌+◌, ◌^◌, ◌<◌, ◌≤◌, IfOk, length, map, get_or};
+ghost use Rattle.std.specs.List.{range_with_len};
+ghost use Rattle.fleet_model.specs.Rows.{line_units};
+ghost use Rattle.family_eval.specs.Inputs.{IsLine};
+ghost use Rattle.price_certificate.specs.Certificates.{IsWellFormed};
+ghost use Rattle.certified_plan.specs.Inputs.{AreClaims, AreTerms, IsHeld};
+ghost use Rattle.certified_plan.specs.Certificates.{certificate_of, cover_of, covers_in, covers_of};
+
+use crate::terms::{PlanClaims, Terms};
+use family_curve::vector_of;
+use hull::Price;
+use price_certificate::{Certificate, Node, trim};
+use spares_input::{Case, PartId, Stocks};
+use spares_io::{List, NoMemory};
+use std::alloc::Global;
+
+/// The line units of a case, in part order.
+fn line_units(alloc: Global, case: &Case) -> Result<Vec<PartId>, NoMemory>
+    ensures { IfOk result (λ v. map (λ p. p.0) v.items ≡ line_units case.now) }
+{
+    let mut lines = Vec::new(alloc);
+    for p in 0..case.part_count() {
+        let part = PartId(p);
+        if case.is_line(part) {
+            lines.push(part)?;
+        }
+    }
+    Ok(lines)
+}
+
+/// The cover of a family at a price and its floor, from what is held.
+fn cover_of(
+    alloc: Global,
+    case: &Case,
+    held: &Stocks,
+    price: Price,
+    floor: u128,
+    line: PartId,
+) -> Result<List<Node>, NoMemory>
+    requires held { IsHeld case.now held.now }
+    requires price { price.p ≤ 2 ^ 74 }
+    requires line { IsLine case.now line.0 }
+    ensures { IfOk result (λ nodes. nodes ≡ cover_of case.now held.now.list price.p floor line.0) }
+{
+    let _valid = case.site_count();
+    let vector = vector_of(alloc, case, line, held)?;
+    let nodes = trim(alloc, case, line, vector.as_slice(), price, floor)?;
+    Ok(List::of(nodes))
+}
+
+/// The covers of all families, in the order of their line units, which are these.
+fn covers_along(
+    alloc: Global,
+    case: &Case,
+    held: &Stocks,
+    price: Price,
+    floors: &[u128],
+    lines: &[PartId],
+) -> Result<Vec<List<Node>>, NoMemory>
+    requires held { IsHeld case.now held.now }
+    requires price { price.p ≤ 2 ^ 74 }
+    requires floors { length floors.now ≡ length (line_units case.now) }
+    requires lines { map (λ p. p.0) lines.now ≡ line_units case.now }
+    ensures { IfOk result (λ covers. covers.items ≡ covers_of case.now held.now.list price.p floors.now) }
+{
+    let mut covers = Vec::new(alloc);
+    for f in 0..lines.len() {
+        covers.push(cover_of(alloc, case, held, price, floors[f], lines[f])?)?;
+    }
+    Ok(covers)
+}
+
+/// The covers of all families, in the order of their line units.
+fn covers_of(
+    alloc: Global,
+    case: &Case,
+    held: &Stocks,
+    price: Price,
+    floors: &[u128],
+) -> Result<Vec<List<Node>>, NoMemory>
+    requires held { IsHeld case.now held.now }
+    requires price { price.p ≤ 2 ^ 74 }
+    requires floors { length floors.now ≡ length (line_units case.now) }
+    ensures { IfOk result (λ covers. covers.items ≡ covers_of case.now held.now.list price.p floors.now) }
+{
+    let lines = line_units(alloc, case)?;
+    covers_along(alloc, case, held, price, floors, lines.as_slice())
+}
+
+/// The covers, which stand in format 2 alone.
+fn covers_in(
+    alloc: Global,
+    case: &Case,
+    held: &Stocks,
+    format: u8,
+    claims: &PlanClaims,
+) -> Result<List<List<Node>>, NoMemory>
+    requires held { IsHeld case.now held.now }
+    requires claims { AreClaims case.now claims.now }
+    ensures { IfOk result (λ covers. covers ≡ covers_in case.now held.now.list format claims.now.price.p claims.now.floors) }
+{
+    if format == 2 {
+        let covers = covers_of(alloc, case, held, claims.price, claims.floors.as_slice())?;
+        Ok(List::of(covers))
+    } else {
+        Ok(List::of(Vec::new(alloc)))
+    }
+}
+
+/// The certificate of a plan's claims on its terms, over what is held. In format 2 the covers leave to cost what these floors
+/// allow.
+///
+/// The terms and the claims are in their ranges, and what is held is a list for the case, within its limits. Want of memory is
+/// the only error.
+pub fn certificate(
+    alloc: Global,
+    case: Case,
+    held: &Stocks,
+    terms: Terms,
+    claims: PlanClaims,
+) -> Result<Certificate, NoMemory>
+    requires held { IsHeld case held.now }
+    requires terms { AreTerms terms }
+    requires claims { AreClaims case claims }
+    ensures certificate { IfOk result (λ cert. cert ≡ certificate_of case held.now terms claims) }
+    ensures formed { IfOk result IsWellFormed }
+{
+    let _valid = case.site_count();
+    let covers = covers_in(alloc, &case, held, terms.format, &claims)?;
+    Ok(Certificate {
+        format: terms.format,
+        objective: terms.objective,
+        case,
+        budget: terms.budget,
+        price: claims.price,
+        floors: claims.floors,
+        covers,
+        stocks: claims.stocks,
+        upper: claims.upper,
+        bound: claims.bound,
+    })
+}
