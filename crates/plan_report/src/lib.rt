@@ -9,4 +9,4 @@ mod text;
 
 pub use eval::EvalReport;
 pub use single::SingleReport;
-pub use text::prints_outward;
+pub use text::{prints_outward, put_interval, put_number_line};
