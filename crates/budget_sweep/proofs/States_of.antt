@@ -122,7 +122,8 @@ priced_lower families curves picks price areas shapes priced choice own fits =
 pub priced_cheaper : (families curves : List (List Point)) (picks : List ℕ) (price : Price) (limit : ℕ)
     → AreCurves families curves → HaveShapes curves → IsPriced curves picks price → 0 < price.p
     → (choice : List Point) → Picks families choice → lo_of choice ≤ limit
-    → div_ceil (price.q * lo_of (picked curves picks) + price.p * cost_of (picked curves picks) - price.q * limit) price.p
+    → div_ceil
+    (price.q * lo_of (picked curves picks) + price.p * cost_of (picked curves picks) - price.q * limit) price.p
     ≤ cost_of choice
 priced_cheaper families curves picks price limit areas shapes priced positive choice own fits =
     let r = reached families curves picks price areas shapes priced choice own in

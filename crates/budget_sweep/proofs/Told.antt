@@ -78,7 +78,8 @@ module _ (ends : ScoreEnds) (value : Value) (c : CaseRows) (held : List ℕ) (ac
       stocks = (stands k l).stocks;
       stand_behind = (stands k l).stand;
       none_less = least_at k l;
-      printed = λ n deep s a fits. below_printed (state_at points k).lo (aim value c s n) (least_at k l n deep s a fits);
+      printed = λ n deep s a fits.
+          below_printed (state_at points k).lo (aim value c s n) (least_at k l n deep s a fits);
     }
 
     -- ---- targets

@@ -76,8 +76,8 @@ fn least_of(points: &[SweepPoint], limit: u128) -> Option<u64>
 
 /// What at most 2,000 curves tell of a target, which has 4 decimals and is at most 10^9.
 ///
-/// Where the curves are those of all families of a case, one for each line unit in order, it is what the sweep of that case
-/// tells. Want of memory is the only error.
+/// Where the curves are those of all families of a case, one for each line unit in order, it is what the sweep of that
+/// case tells. Want of memory is the only error.
 pub fn target(alloc: Global, curves: &[Curve], target: Decimal) -> Result<TargetReport, NoMemory>
     requires few { length curves.now ≤ 2000 }
     requires places { target.places ≡ 4 }

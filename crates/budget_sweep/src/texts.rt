@@ -91,8 +91,8 @@ fn put_least(text: &mut Vec<u8>, least: Option<u64>) -> Result<(), NoMemory>
 }
 
 impl SweepReport {
-    /// A line `sweep,COUNT`, and a line `point,COST,LO,HI,PRICE` for each state: both ends with 6 decimals, the lower one
-    /// rounded down, the upper one up, and the price with 12 decimals, rounded down, or `none`.
+    /// A line `sweep,COUNT`, and a line `point,COST,LO,HI,PRICE` for each state: both ends with 6 decimals, the lower
+    /// one rounded down, the upper one up, and the price with 12 decimals, rounded down, or `none`.
     pub fn text(&self, alloc: Global) -> Result<Vec<u8>, NoMemory>
         requires { SweepFits self.now }
         ensures { IfOk result (λ text. text.items ≡ sweep_text self.now) }

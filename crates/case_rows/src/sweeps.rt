@@ -1,4 +1,5 @@
-//! Sweeps over tables, and what they tell of targets. The texts are those of a program that was written apart from this one.
+//! Sweeps over tables, and what they tell of targets. The texts are those of a program that was written apart from this
+//! one.
 ghost use Rattle.std.specs.Prelude.{◌≤◌, IfSome, length};
 
 use crate::helpers::{case_of, rates_of};
