@@ -65,7 +65,7 @@ printed_step bound num den h =
     let three : bound * 10 ^ 6 / 2 ^ 48 * den * 2 ^ 48 ≤ num * 10 ^ 6 * 2 ^ 48 = omega (arith, one, two) in
     le_of_mul-le-mul_right three (omega arith)
 
-below_printed : (bound : ℕ) (q : Fraction) → whole bound ≤ℚ q *ℚ whole (2 ^ 48) → text_value 6 (millionths_down 48 bound) ≤ℚ q
+pub below_printed : (bound : ℕ) (q : Fraction) → whole bound ≤ℚ q *ℚ whole (2 ^ 48) → text_value 6 (millionths_down 48 bound) ≤ℚ q
 unfolding whole ◌*ℚ◌ ◌/ℚ◌ scaled
 below_printed bound q h = record { cross = (let c = h.cross in let l = printed_step bound q.num q.den (omega (arith, c)) in omega (arith, l)) }
 

@@ -8,3 +8,5 @@ mod certificates;
 mod curves;
 #[cfg(test)]
 mod helpers;
+#[cfg(test)]
+mod sweeps;

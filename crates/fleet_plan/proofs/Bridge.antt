@@ -212,7 +212,7 @@ module _ (ends : ScoreEnds) (value : Value) (c : CaseRows) (held : List ℕ) (ac
   abbrev own : List Family
   own = families_at ends value c held
 
-  none_less : (budget bound : ℕ) → ((n : ℕ) (allocation : List (List ℕ)) → 1024 ≤ n → IsAllocation own allocation → cost_at own allocation ≤ budget → IsAtLeast bound (total_at n own allocation))
+  pub none_less : (budget bound : ℕ) → ((n : ℕ) (allocation : List (List ℕ)) → 1024 ≤ n → IsAllocation own allocation → cost_at own allocation ≤ budget → IsAtLeast bound (total_at n own allocation))
       → NoneHasLess value c held budget bound
   none_less budget bound h n deep s a fits =
       at_least bound (aim value c s n) (subst (IsAtLeast bound) (same_total ends value c held accepted.valid s n)

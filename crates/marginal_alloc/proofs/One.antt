@@ -6,25 +6,13 @@ use Rattle.hull.specs.declared.price.Price.{Price}
 use Rattle.hull.specs.Curves.{point_at}
 use Rattle.marginal_alloc.specs.declared.allocation.Critical.{Critical}
 use Rattle.price_bounds.specs.Sums.{cost_of}
-use Rattle.step_walk.specs.Prefix.{curve_at, HasStep, fall, rise, IsBefore, picked, IsPrefix, IsNext, HaveShapes}
+use Rattle.step_walk.specs.Prefix.{curve_at, HasStep, fall, rise, picked, IsPrefix, IsNext, HaveShapes}
 use Rattle.marginal_alloc.specs.Choice.{IsHullChoice}
 use Rattle.marginal_alloc.proofs.Told.{told}
 use Rattle.marginal_alloc.proofs.Walking.{cost_taken}
 use Rattle.step_walk.proofs.Taking.{cost_rises}
+use Rattle.step_walk.proofs.Going.{not_both, one_next}
 use Rattle.marginal_alloc.proofs.Along.{costs_up}
-
--- of two steps not each comes before the other
-not_both : (curves : List (List Point)) (f k g j : ℕ) → IsBefore curves f k g j → IsBefore curves g j f k → ⊥
-not_both curves f k g j (inl a) (inl b) = omega (arith, a, b)
-not_both curves f k g j (inl a) (inr b) = (let e = b.0 in omega (arith, a, e))
-not_both curves f k g j (inr a) (inl b) = (let e = a.0 in omega (arith, b, e))
-not_both curves f k g j (inr a) (inr b) = places a.1 b.1
-  where
-    places : (f < g) ⊎ ((f ≡ g) × (k < j)) → (g < f) ⊎ ((g ≡ f) × (j < k)) → ⊥
-    places (inl a) (inl b) = omega (arith, a, b)
-    places (inl a) (inr b) = (let e = b.0 in omega (arith, a, e))
-    places (inr a) (inl b) = (let e = a.0 in omega (arith, b, e))
-    places (inr a) (inr b) = (let l = a.1 in let m = b.1 in omega (arith, l, m))
 
 -- a place below n at which xs has less than ys, or none
 pub record Less (xs ys : List ℕ) (n : ℕ) : Type 0 where
@@ -38,7 +26,7 @@ less_or_equal a b = grind arith
 below_or : (g n : ℕ) → g < suc n → (g < n) ⊎ (g ≡ n)
 below_or g n l = grind arith
 
-less_or : (xs ys : List ℕ) (n : ℕ) → Less xs ys n ⊎ ((f : ℕ) → f < n → slice_index ys f ≤ slice_index xs f)
+pub less_or : (xs ys : List ℕ) (n : ℕ) → Less xs ys n ⊎ ((f : ℕ) → f < n → slice_index ys f ≤ slice_index xs f)
 less_or xs ys zero = inr (λ f l. absurd (let m : f < 0 = l in omega arith))
 less_or xs ys (suc n) = elim (less_or_equal (slice_index xs n) (slice_index ys n)) [
   | inl l ↦ inl (record { at = n; below = omega arith; less = l })
@@ -64,20 +52,20 @@ dearer (c ∷ curves) (x ∷ xs) (y ∷ ys) shapes m n up below =
 same_or_not : (g f : ℕ) → (g ≡ f) ⊎ (g ≢ f)
 same_or_not g f = grind arith
 
+-- a step that is taken, and the first of a family that isn't
+taken_step : (curves : List (List Point)) (picks : List ℕ) → IsPrefix curves picks → (f k : ℕ) → f < length curves → k < slice_index picks f → HasStep curves f k
+taken_step curves picks pre f k b l = record { family = b; place = (let m = pre.vertices.below f b in omega (arith, l, m)) }
+
+-- two prefixes don't cross
+pub not_crossed : (curves : List (List Point)) (xs ys : List ℕ) → IsPrefix curves xs → IsPrefix curves ys → (f g : ℕ) → f < length curves → g < length curves → slice_index xs f < slice_index ys f → slice_index ys g < slice_index xs g → ⊥
+not_crossed curves xs ys a b f g fb gb l m =
+    let sf : HasStep curves f (slice_index xs f) = taken_step curves ys b f (slice_index xs f) fb l in
+    let sg : HasStep curves g (slice_index ys g) = taken_step curves xs a g (slice_index ys g) gb m in
+    not_both curves g (slice_index ys g) f (slice_index xs f)
+    (a.before g (slice_index ys g) f (slice_index xs f) sg sf m (omega arith))
+    (b.before f (slice_index xs f) g (slice_index ys g) sf sg l (omega arith))
+
 module _ (curves : List (List Point)) (budget : ℕ) (shapes : HaveShapes curves) where
-  -- a step that is taken, and the first of a family that isn't
-  taken_step : (picks : List ℕ) → IsPrefix curves picks → (f k : ℕ) → f < length curves → k < slice_index picks f → HasStep curves f k
-  taken_step picks pre f k b l = record { family = b; place = (let m = pre.vertices.below f b in omega (arith, l, m)) }
-
-  -- two prefixes don't cross
-  not_crossed : (xs ys : List ℕ) → IsPrefix curves xs → IsPrefix curves ys → (f g : ℕ) → f < length curves → g < length curves → slice_index xs f < slice_index ys f → slice_index ys g < slice_index xs g → ⊥
-  not_crossed xs ys a b f g fb gb l m =
-      let sf : HasStep curves f (slice_index xs f) = taken_step ys b f (slice_index xs f) fb l in
-      let sg : HasStep curves g (slice_index ys g) = taken_step xs a g (slice_index ys g) gb m in
-      not_both curves g (slice_index ys g) f (slice_index xs f)
-      (a.before g (slice_index ys g) f (slice_index xs f) sg sf m (omega arith))
-      (b.before f (slice_index xs f) g (slice_index ys g) sf sg l (omega arith))
-
   -- past the critical step no prefix fits
   past : (xs ys : List ℕ) → IsPrefix curves xs → IsPrefix curves ys → cost_of (picked curves ys) ≤ budget → ((f : ℕ) → f < length curves → slice_index xs f ≤ slice_index ys f)
       → (c : ℕ) → IsNext curves xs c → budget < cost_of (picked curves xs) + rise curves c (slice_index xs c) → slice_index xs c < slice_index ys c → ⊥
@@ -103,7 +91,7 @@ module _ (curves : List (List Point)) (budget : ℕ) (shapes : HaveShapes curves
       let e = h.cost_is in
       let passes : budget < cost_of (picked curves xs) + rise curves c.family (slice_index xs c.family) = omega (arith, e, over) in
       elim (less_or ys xs (length curves)) [
-        | inl r ↦ not_crossed xs ys h.prefix b f r.at fb r.below l r.less
+        | inl r ↦ not_crossed curves xs ys h.prefix b f r.at fb r.below l r.less
         | inr up ↦ elim (less_or_equal (slice_index xs c.family) (slice_index ys c.family)) [
           | inl m ↦ past xs ys h.prefix b fits up c.family next passes m
           | inr m ↦ behind c.family next m
@@ -113,7 +101,7 @@ module _ (curves : List (List Point)) (budget : ℕ) (shapes : HaveShapes curves
       -- where ys stops before the critical step of xs, but goes further elsewhere
       behind : (c : ℕ) → IsNext curves xs c → slice_index ys c ≤ slice_index xs c → ⊥
       behind c next m =
-          let sf : HasStep curves f (slice_index xs f) = taken_step ys b f (slice_index xs f) fb l in
+          let sf : HasStep curves f (slice_index xs f) = taken_step curves ys b f (slice_index xs f) fb l in
           elim (next.first f (slice_index xs f) sf (omega arith)) [
             | inl e ↦ (let z : slice_index ys f ≤ slice_index xs f = subst (λ z. slice_index ys z ≤ slice_index xs z) (sym e.0) m in omega (arith, z, l))
             | inr i ↦ not_both curves c (slice_index xs c) f (slice_index xs f) i (b.before f (slice_index xs f) c (slice_index xs c) sf next.step l m)
@@ -135,15 +123,6 @@ module _ (curves : List (List Point)) (budget : ℕ) (shapes : HaveShapes curves
         | inr l ↦ elim (less_or_equal b a) [ inl i ↦ absurd (m i) | inr i ↦ omega (arith, l, i) ]
       ]
 
-  one_next : (xs : List ℕ) (f g : ℕ) → IsNext curves xs f → IsNext curves xs g → f ≡ g
-  one_next xs f g a b = elim (a.first g (slice_index xs g) b.step (omega arith)) [
-    | inl e ↦ sym e.0
-    | inr i ↦ elim (b.first f (slice_index xs f) a.step (omega arith)) [
-      | inl e ↦ e.0
-      | inr j ↦ absurd (not_both curves f (slice_index xs f) g (slice_index xs g) i j)
-    ]
-  ]
-
   same_prices : (a b : Price) → a.p ≡ b.p → a.q ≡ b.q → a ≡ b
   same_prices a b h k =
       let one : a ≡ record { p = b.p; q = a.q } = ap (λ x. let r : Price = record { p = x; q = a.q } in r) h in
@@ -163,7 +142,7 @@ module _ (curves : List (List Point)) (budget : ℕ) (shapes : HaveShapes curves
   same_stops xs cost other_cost price other_price (Some c) None h k =
       absurd (let s = h.stops.0.step in let e = k.stops.0 c.family s.family in let p = s.place in omega (arith, e, p))
   same_stops xs cost other_cost price other_price (Some c) (Some d) h k =
-      let e : c.family ≡ d.family = one_next xs c.family d.family h.stops.0 k.stops.0 in (
+      let e : c.family ≡ d.family = one_next curves xs c.family d.family h.stops.0 k.stops.0 in (
         same_prices price other_price
             (h.stops.2 ∙ ap (λ z. fall curves z (slice_index xs z)) e ∙ sym k.stops.2)
             (h.stops.3 ∙ ap (λ z. rise curves z (slice_index xs z)) e ∙ sym k.stops.3),

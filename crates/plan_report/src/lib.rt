@@ -17,4 +17,4 @@ pub use eval::EvalReport;
 pub use plan::{CriticalLine, PlanReport};
 pub use single::SingleReport;
 pub use summary::Summary;
-pub use text::prints_outward;
+pub use text::{prints_outward, put_interval, put_number_line};

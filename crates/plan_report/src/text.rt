@@ -25,7 +25,7 @@ pub fn prints_outward()
 {}
 
 /// Appends both ends of an interval with 6 decimals, the lower one rounded down, the upper one up.
-fn put_interval<const F: u32>(text: &mut Vec<u8>, interval: &Iv<F>) -> Result<(), NoMemory>
+pub fn put_interval<const F: u32>(text: &mut Vec<u8>, interval: &Iv<F>) -> Result<(), NoMemory>
     requires { interval.now.hi < 2 ^ 86 }
     ensures { OnOk result (text.new.items ≡ text.old.items ++ interval_text F interval.now) }
 {
@@ -60,7 +60,7 @@ pub(crate) fn put_span_line(text: &mut Vec<u8>, name: &[u8], span: &Span) -> Res
 }
 
 /// Appends a line of a name and a whole number.
-pub(crate) fn put_number_line(text: &mut Vec<u8>, name: &[u8], number: u64) -> Result<(), NoMemory>
+pub fn put_number_line(text: &mut Vec<u8>, name: &[u8], number: u64) -> Result<(), NoMemory>
     ensures { OnOk result (text.new.items ≡ text.old.items ++ line name.now (decimal number)) }
 {
     put_count_line(text, name, number as u128)

@@ -1,0 +1,8 @@
+pub mod States_of
+pub mod Together
+pub mod Taken
+pub mod Room
+pub mod Alike
+pub mod Sound
+pub mod Told
+pub mod Ones

@@ -1,0 +1,9 @@
+pub mod Sweep
+pub mod Target
+pub mod Cases
+pub mod Truth
+pub mod Choices
+pub mod Laws
+pub mod Fits
+pub mod Texts
+pub mod Sums
