@@ -18,37 +18,8 @@ use Rattle.step_walk.specs.Prefix.{curve_at, vertex_at}
 use Rattle.marginal_alloc.specs.Choice.{AreCurves}
 use Rattle.fleet_plan.specs.Families.{family_points, case_points}
 use Rattle.fleet_plan.proofs.Places.{line_among}
-use Rattle.case_plan.specs.Curves.{IsFamilyCurve, held_work_of, tables_above}
+use Rattle.on_hand.specs.Curves.{IsFamilyCurve}
 use Rattle.case_plan.specs.Report.{AreFamilyCurves}
-
-pub zip_push : {X Y : Type 0} (R : X → Y → Type 0) (xs : List X) (ys : List Y) (x : X) (y : Y) → AllZip R xs ys → R x y → AllZip R (xs ++ x ∷ []) (ys ++ y ∷ [])
-zip_push R [] [] x y a h = (h, tt)
-zip_push R [] (z ∷ ys) x y a h = absurd a
-zip_push R (z ∷ xs) [] x y a h = absurd a
-zip_push R (z ∷ xs) (w ∷ ys) x y a h = (a.0, zip_push R xs ys x y a.1 h)
-
--- ---- the work of a family is within that of the case
-
-limited_step : (b : Bool) (n : ℕ) (r : Result ℕ ℕ) → r ≡ (if b then Ok n else Err n) → IsOk r → b ≡ true
-limited_step true n r e h = refl
-limited_step false n r e h = absurd (false≢true (subst IsOk e h))
-
-small_of : (n : ℕ) → nat_le (counted n) 1000000 ≡ true → n ≤ 1000000
-small_of n h =
-    let k : counted n ≤ 1000000 = grind (arith, nat_tests, h) in
-    omega (arith, k)
-
-term_most : (f : ℕ → ℕ) (xs : List ℕ) (x : ℕ) → Among x xs → f x ≤ sum_by f xs
-term_most f [] x a = absurd a
-term_most f (y ∷ ys) x (inl e) = omega (arith, sum_by-cons f y ys, ap f e)
-term_most f (y ∷ ys) x (inr a) = omega (arith, sum_by-cons f y ys, term_most f ys x a)
-
-pub few_tables : (c : CaseRows) (held : List ℕ) (l : ℕ) → IsCase c → IsLine c l → IsOk (held_work_of c held) → tables_above c held l ≤ most_tables
-few_tables c held l valid line h =
-    let all = sum_by (tables_above c held) (line_units c) in
-    let own = term_most (tables_above c held) (line_units c) l (line_among c valid l line) in
-    let small = small_of (sum_by (tables_above c held) (line_units c)) (limited_step (nat_le (counted (sum_by (tables_above c held) (line_units c))) 1000000) (counted (sum_by (tables_above c held) (line_units c))) (held_work_of c held) refl h) in
-    omega (arith, own, small)
 
 -- ---- all families
 
@@ -79,7 +50,7 @@ within_in : (ends : ScoreEnds) (c : CaseRows) (held ls : List ℕ) (curves : Lis
 within_in ends c held [] [] a = tt
 within_in ends c held [] (x ∷ xs) a = absurd a
 within_in ends c held (l ∷ ls) [] a = absurd a
-within_in ends c held (l ∷ ls) (x ∷ xs) a = (a.0.within, within_in ends c held ls xs a.1)
+within_in ends c held (l ∷ ls) (x ∷ xs) a = ((λ v m. (a.0.within v m).most), within_in ends c held ls xs a.1)
 
 pub are_family_curves : (ends : ScoreEnds) (c : CaseRows) (held : List ℕ) (curves : List (List Point)) → AllZip (IsFamilyCurve ends c held) (line_units c) curves → AreFamilyCurves c curves
 are_family_curves ends c held curves a = record {

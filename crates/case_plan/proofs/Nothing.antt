@@ -14,12 +14,12 @@ use Rattle.marginal_alloc.specs.Plans.{IsPlan}
 use Rattle.fleet_plan.specs.Families.{family_points, case_points, points_at}
 use Rattle.fleet_plan.specs.Plans.{CasePlan, IsCasePlan}
 use Rattle.fleet_plan.proofs.Lists.{map_among}
-use Rattle.case_plan.specs.Curves.{HoldNothing, tables_above, held_work_of}
+use Rattle.on_hand.specs.Work.{IsNothing}
 
 in_or_past : (i n : ℕ) → (i < n) ⊎ (n ≤ i)
 in_or_past i n = grind arith
 
-module _ (c : CaseRows) (held : List ℕ) (nothing : HoldNothing held) where
+module _ (c : CaseRows) (held : List ℕ) (nothing : IsNothing held) where
   none_at : (i : ℕ) → get_or held i 0 ≡ 0
   none_at i = elim (in_or_past i (length held)) [
     | inl h ↦ All-get_or (λ n. n ≡ 0) held i 0 h nothing
@@ -50,8 +50,3 @@ module _ (c : CaseRows) (held : List ℕ) (nothing : HoldNothing held) where
     plan = subst (λ (z : List (List Point)). IsPlan z budget (points_at ends c held p.stocks) p.floors p.numbers) (sym (same_points ends))
         (subst (λ (z : List Point). IsPlan (case_points ends c []) budget z p.floors p.numbers) (sym (same_chosen ends p.stocks)) h.plan);
   }
-
-  pub same_work : IsCase c → held_work_of c held ≡ work_of c
-  same_work valid =
-      ap (λ n. limited (counted n))
-      (sum-each (tables_above c held) (tables_of c) (line_units c) (λ l. ap (λ v. tables_between c l v (limits c l)) (same_vector l) ∙ sym (tables_whole c l valid)))

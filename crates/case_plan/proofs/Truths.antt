@@ -27,7 +27,7 @@ use Rattle.fleet_model.specs.Bounds.{HasNoMore}
 use Rattle.plan_report.specs.Fits.{FitsPlan, IntervalFits}
 use Rattle.plan_report.specs.Texts.{millionths_down}
 use Rattle.plan_report.specs.declared.plan.PlanReport.{PlanReport}
-use Rattle.case_plan.specs.Curves.{HoldNothing}
+use Rattle.on_hand.specs.Work.{IsNothing}
 use Rattle.case_plan.specs.Report.{Terms, aim_ends, if_asked, report_of, IsPlanned}
 use Rattle.case_plan.specs.Truth.{IsTruePlanReport, IsTrueReport}
 use Rattle.case_plan.proofs.Aimed.{aim_enclosed}
@@ -100,7 +100,7 @@ planned_true ends value c held terms report accepted encloses h = subst (IsTrueR
         }
 
 -- of weighted backorders, where nothing is held
-pub plain_true : (c : CaseRows) (held : List ℕ) (terms : Terms) (report : PlanReport) → IsAcceptedCase c → HoldNothing held
+pub plain_true : (c : CaseRows) (held : List ℕ) (terms : Terms) (report : PlanReport) → IsAcceptedCase c → IsNothing held
     → (planned : IsPlanned plain_ends c held terms report) → IsTruePlanReport c terms.budget planned.plan.stocks report
 plain_true c held terms report accepted nothing h = subst (IsTruePlanReport c terms.budget h.plan.stocks) (sym h.is) told
   where

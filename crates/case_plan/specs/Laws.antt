@@ -4,7 +4,6 @@ use Rattle.hull.specs.Scores.{EnclosesValue, LeavesRoom}
 use Rattle.spares_input.specs.Cases.{CaseRows, IsCase}
 use Rattle.fleet_model.specs.Rows.{line_units}
 use Rattle.family_curve.specs.Points.{ScoreEnds}
-use Rattle.family_curve.specs.Counts.{work_of}
 use Rattle.hull.specs.declared.point.Point.{Point}
 use Rattle.step_walk.specs.Prefix.{HaveShapes}
 use Rattle.marginal_alloc.specs.Choice.{AreCurves}
@@ -14,7 +13,7 @@ use Rattle.fleet_plan.specs.Plans.{CasePlan, IsCasePlan}
 use Rattle.fleet_plan.specs.Laws.{IsAcceptedCase, plain_ends}
 use Rattle.plan_report.specs.Fits.{FitsPlan}
 use Rattle.plan_report.specs.declared.plan.PlanReport.{PlanReport}
-use Rattle.case_plan.specs.Curves.{HoldNothing, held_work_of}
+use Rattle.on_hand.specs.Work.{IsNothing}
 use Rattle.case_plan.specs.Report.{AreFamilyCurves, IsPlanned, Terms}
 use Rattle.case_plan.specs.Truth.{IsTruePlanReport, IsTrueReport}
 
@@ -29,7 +28,7 @@ PlannedReportsAreTrue =
 abbrev pub PlainReportsAreTrue : Type 0
 PlainReportsAreTrue =
     (c : CaseRows) (held : List ℕ) (terms : Terms) (report : PlanReport)
-    → IsAcceptedCase c → HoldNothing held → (planned : IsPlanned plain_ends c held terms report)
+    → IsAcceptedCase c → IsNothing held → (planned : IsPlanned plain_ends c held terms report)
     → IsTruePlanReport c terms.budget planned.plan.stocks report
 
 -- and there is one
@@ -38,14 +37,11 @@ PlannedReportsAreOne =
     (ends : ScoreEnds) (c : CaseRows) (held : List ℕ) (terms : Terms) (one other : PlanReport)
     → IsCase c → IsPlanned ends c held terms one → IsPlanned ends c held terms other → one ≡ other
 
--- a list of zeros holds as little as the empty one: the same plans and the same work
+-- a list of zeros holds as little as the empty one: the same plans
 abbrev pub PlansFromNothing : Type 0
 PlansFromNothing =
     (ends : ScoreEnds) (c : CaseRows) (held : List ℕ) (budget : ℕ) (p : CasePlan)
-    → HoldNothing held → IsCasePlan ends c held budget p ↔ IsCasePlan ends c [] budget p
-
-abbrev pub WorkFromNothing : Type 0
-WorkFromNothing = (c : CaseRows) (held : List ℕ) → IsCase c → HoldNothing held → held_work_of c held ≡ work_of c
+    → IsNothing held → IsCasePlan ends c held budget p ↔ IsCasePlan ends c [] budget p
 
 -- the numbers of a plan have room in a certificate
 pub record FitsItsPlace (c : CaseRows) (p : CasePlan) : Type 0 where

@@ -4,10 +4,10 @@ ghost use Rattle.std.specs.Prelude.{◌≤◌, IfSome, length};
 
 use crate::helpers::{case_of, rates_of};
 use budget_sweep::{sweep, target};
-use case_plan::curves_of;
 use exact_ratio::Decimal;
-use family_curve::work;
+use gap_checker::nothing_held;
 use hull::{Curve, Plain};
+use on_hand::{held_curves, held_work};
 use std::alloc::Global;
 use std::process::Abort;
 
@@ -83,11 +83,12 @@ fn curves_at(alloc: Global, files: &[&'static str; 3]) -> Option<Vec<Curve>>
     ensures { IfSome result (λ curves. length curves.items ≤ 2000) }
 {
     let case = case_of(alloc, files[0], files[1], files[2])?;
-    if work(&case).is_err() {
+    let held = nothing_held(alloc, &case).ok()?;
+    if held_work(&case, &held).is_err() {
         return None;
     }
     let rates = rates_of(alloc, &case)?;
-    let curves = curves_of(alloc, &case, &rates, &Plain).ok()?;
+    let curves = held_curves(alloc, &case, &rates, &held, &Plain).ok()?;
     if curves.len() > 2000 {
         return None;
     }

@@ -49,7 +49,8 @@ use Rattle.certified_plan.specs.Scores as scores
 use Rattle.certified_plan.specs.Scores.{ends_of}
 use Rattle.certified_plan.specs.Certificates as own
 use Rattle.certified_plan.specs.Certificates.{covers_of, certificate_of, claims_of}
-use Rattle.certified_plan.specs.Inputs.{tables_from, IsWithinWork}
+use Rattle.on_hand.specs.Work.{tables_from}
+use Rattle.certified_plan.specs.Inputs.{IsWithinWork}
 use Rattle.certified_plan.specs.Laws.{IsPlanOn}
 use Rattle.certified_plan.proofs.Corners.{Lists, Boxed, lawful_box}
 use Rattle.certified_plan.proofs.Families.{count_is, held_lists, most_lists}

@@ -4,8 +4,7 @@ use Rattle.std.specs.Result.{IsOk}
 use Rattle.spares_input.specs.Cases.{CaseRows}
 use Rattle.spares_input.specs.Stocks.{StockList, IsFor, IsWithinLimits}
 use Rattle.fleet_model.specs.Rows.{line_units}
-use Rattle.family_curve.specs.Vectors.{vector_of, limits}
-use Rattle.family_curve.specs.Counts.{counted, limited, tables_between}
+use Rattle.on_hand.specs.Work.{held_work_of}
 use Rattle.price_certificate.specs.declared.certificate.Objective.TheVariants.{Backorders}
 use Rattle.certified_plan.specs.declared.terms.Terms.{Terms}
 use Rattle.certified_plan.specs.declared.terms.PlanClaims.{PlanClaims}
@@ -34,10 +33,6 @@ pub record AreClaims (c : CaseRows) (claims : PlanClaims) : Type 0 where
   pub upper : claims.upper ≤ 2 ^ 85
   pub bound : claims.bound ≤ 2 ^ 85
 
--- the tables of all families over the vectors from what is held to the limits
-abbrev pub tables_from : CaseRows → List ℕ → ℕ
-tables_from c held = sum_by (λ l. tables_between c l (vector_of c l held) (limits c l)) (line_units c)
-
--- these are within the limit of the work
+-- the work of the curves from what is held is within its limit
 abbrev pub IsWithinWork : CaseRows → List ℕ → Type 0
-IsWithinWork c held = IsOk (limited (counted (tables_from c held)))
+IsWithinWork c held = IsOk (held_work_of c held)

@@ -59,13 +59,3 @@ HeldTextsAreShort =
     (c : CaseRows) (held : StockList) (terms : Terms) (p : CasePlan)
     → IsPlanOn c held terms p
     → length (held_text (record { certificate = certificate_of c held terms (claims_of c p); held = held })) ≤ most_bytes
-
--- A plan from nothing is one from a list of zeros, and the work is that of all vectors.
-abbrev pub NothingIsZeros : Type 0
-NothingIsZeros =
-    (c : CaseRows) (terms : Terms) (p : CasePlan)
-    → IsAcceptedCase c → AreTerms terms → IsCasePlan (ends_of terms.objective) c [] terms.budget p
-    → IsPlanOn c (nothing_held c) terms p
-
-abbrev pub ZerosTakeAll : Type 0
-ZerosTakeAll = (c : CaseRows) → IsCase c → IsOk (work_of c) → IsWithinWork c (nothing_held c).list

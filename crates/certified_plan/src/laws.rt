@@ -1,6 +1,6 @@
 //! What holds of a plan's certificate, as contracts of functions that do nothing.
 
-ghost use Rattle.certified_plan.specs.Laws.{HeldTextsAreShort, NothingIsZeros, PlansAreAccepted, PlansClaim, ScoresEnclose, ScoresLeaveRoom, TextsAreShort, ZerosTakeAll};
+ghost use Rattle.certified_plan.specs.Laws.{HeldTextsAreShort, PlansAreAccepted, PlansClaim, ScoresEnclose, ScoresLeaveRoom, TextsAreShort};
 
 /// The intervals of each objective enclose its values, and leave room to add up.
 pub fn scores_are_sound()
@@ -22,10 +22,4 @@ pub fn plans_are_accepted()
 pub fn texts_are_short()
     ensures certificate { TextsAreShort }
     ensures held { HeldTextsAreShort }
-{}
-
-/// Nothing held is a list of zeros.
-pub fn nothing_is_zeros()
-    ensures plan { NothingIsZeros }
-    ensures work { ZerosTakeAll }
 {}

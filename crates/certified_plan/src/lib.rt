@@ -15,7 +15,7 @@ mod writing;
 
 pub use certifying::certificate;
 pub use laws::{
-    nothing_is_zeros, plans_are_accepted, plans_claim, scores_are_sound, texts_are_short,
+    plans_are_accepted, plans_claim, scores_are_sound, texts_are_short,
 };
 pub use terms::{PlanClaims, Terms};
 pub use writing::certificate_text;

@@ -100,9 +100,11 @@ pub fn check_within<S: Score>(
     })
 }
 
-/// No stock of any part at any site.
-fn nothing_held(alloc: Global, case: &Case) -> Result<Stocks, NoMemory>
-    ensures { IfOk result (λ held. held ≡ nothing_held case.now) }
+/// No stock of any part at any site, as a list for the case. Want of memory is the only error.
+pub fn nothing_held(alloc: Global, case: &Case) -> Result<Stocks, NoMemory>
+    ensures held { IfOk result (λ held. held ≡ nothing_held case.now) }
+    ensures whole { IfOk result (IsFor case.now) }
+    ensures limits { IfOk result (IsWithinLimits case.now) }
 {
     let sites = case.site_count();
     let pairs = usize::from(case.part_count()) * usize::from(sites);

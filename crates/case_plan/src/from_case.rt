@@ -1,0 +1,43 @@
+//! The plan of a case from the case alone.
+
+ghost use Rattle.std.specs.Prelude.{◌≡◌, ◌≤◌, IfOk};
+ghost use Rattle.std.specs.Result.{IsOk};
+ghost use Rattle.spares_input.specs.Stocks.{IsFor, IsWithinLimits};
+ghost use Rattle.demand_rates.specs.Rates.{AreRatesOf};
+ghost use Rattle.on_hand.specs.Work.{held_work_of};
+ghost use Rattle.case_plan.specs.Report.{IsOutcome};
+
+use crate::outcome::Outcome;
+use crate::planning::plan;
+use demand_rates::kinds::Rates;
+use hull::Score;
+use on_hand::held_curves;
+use spares_input::{Case, Stocks};
+use spares_io::NoMemory;
+use std::alloc::Global;
+
+/// The plan of a case under a budget in whole money, from what is held on: a list for the case, within the limits. Where
+/// nothing is held, that is a list of zeros.
+///
+/// It is the one plan of all vectors of the families from what is held to the limits, reported as [`plan`] does.
+/// The work from it is within its limit. Want of memory is the only error.
+pub fn plan_case<S: Score>(
+    alloc: Global,
+    case: &Case,
+    rates: &Rates,
+    held: &Stocks,
+    score: &S,
+    budget: u64,
+    loss: bool,
+    on_hand: Option<u64>,
+) -> Result<Outcome, NoMemory>
+    requires rates { AreRatesOf case.now rates.now }
+    requires held { IsFor case.now held.now }
+    requires limits { IsWithinLimits case.now held.now }
+    requires work { IsOk (held_work_of case.now held.now.list) }
+    requires budget { budget ≤ 1000000000000000 }
+    ensures { IfOk result (IsOutcome S.ends case.now held.now.list (record { budget = budget; loss = loss; on_hand = on_hand })) }
+{
+    let curves = held_curves(alloc, case, rates, held, score)?;
+    plan(alloc, case, rates, curves.as_slice(), budget, loss, on_hand)
+}
