@@ -1,5 +1,5 @@
 -- The sums of the bases' curves, one base more at a time.
-use Rattle.std.proofs.Common.{◌≡◌, ℕ, suc, ◌+◌, ◌-◌, ◌<◌, ◌≤◌, List, [], ◌∷◌, ◌++◌, length, sum_by, sym, ap, ◌∙◌, subst, arith}
+use Rattle.std.proofs.Common.{◌≡◌, ℕ, suc, ◌+◌, ◌-◌, List, [], ◌∷◌, ◌++◌, length, sum_by, sym, ap, ◌∙◌, subst, arith}
 use Rattle.std.specs.List.{range_with_len}
 use Rattle.std.proofs.lemmas.List.Sums.{sum_by-append, sum_by-cons}
 use Rattle.fleet_model.specs.Laws.{IsBase}
@@ -7,11 +7,10 @@ use Rattle.hull.specs.declared.point.Point.{Point}
 use Rattle.hull.specs.Curves.{Among, HaveOneWidth, InRange, IsCurve, StandFor, sums}
 use Rattle.hull.specs.Scores.{LeavesRoom}
 use Rattle.hull.proofs.Stand.{curve_stands, stand_for}
-use Rattle.hull.proofs.Steps_of.{stand_self, stand_trans}
 use Rattle.hull.proofs.Sums.{stand_for_sums}
 use Rattle.family_curve.specs.Inputs.{FamilyBox, IsAt, IsFamilyBox}
 use Rattle.family_curve.specs.Points.{ScoreEnds}
-use Rattle.family_curve.specs.Separation.{base_points, depot_point, depot_points, points_over}
+use Rattle.family_curve.specs.Separation.{base_points, depot_points, points_over}
 use Rattle.family_curve.specs.Walks.{sums_of_each}
 use Rattle.family_curve.proofs.Points.{depot_points_small, over_more, over_small, small_range}
 use Rattle.family_curve.proofs.Sites.{size}
