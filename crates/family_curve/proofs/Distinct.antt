@@ -1,12 +1,11 @@
 -- No part stands twice in a family, so a stock that is put in for a member is the one that is read for it.
-use Rattle.std.proofs.Common.{◌≡◌, ◌≢◌, ◌==◌, ℕ, zero, suc, ◌+◌, ◌<◌, ◌≤◌, Bool, true, false, cond, not, List, [], ◌∷◌, length, get_or, map, filter, position, nat_lt, Option, Some, None, is_none, refl, sym, ap, ap₂, ◌∙◌, subst, arith}
-use Rattle.std.specs.List.{position_or_len, range_with_len, AllByRecursion}
+use Rattle.std.proofs.Common.{◌≡◌, ◌≢◌, ◌==◌, ℕ, zero, suc, ◌+◌, ◌<◌, ◌≤◌, Bool, true, false, cond, not, List, [], ◌∷◌, length, get_or, map, filter, position, nat_lt, Option, Some, None, is_none, refl, sym, ap, ap₂, ◌∙◌, arith}
+use Rattle.std.specs.List.{position_or_len, range_with_len}
 use Rattle.std.specs.Option.{option_and_then, option_map_or}
 use Rattle.std.proofs.lemmas.Bool.{eq-eqb, lt-ltb, ne_eqb}
-use Rattle.spares_input.specs.declared.rows.PartRow.{PartRow}
 use Rattle.spares_input.specs.Frames.{is_shop_of, line_of, part_at, part_names, place_of}
 use Rattle.spares_input.specs.Cases.{CaseRows, IsCase}
-use Rattle.fleet_model.specs.Rows.{shop_units, stock}
+use Rattle.fleet_model.specs.Rows.{stock}
 use Rattle.fleet_model.specs.Fleet.{family}
 use Rattle.family_eval.specs.Inputs.{IsLine}
 use Rattle.family_eval.proofs.Units.{shop_at}

@@ -17,4 +17,6 @@ pub mod Single
 pub mod Products
 pub mod Distinct
 pub mod Tabled
+pub mod Walks
+pub mod Bases
 pub mod Stands

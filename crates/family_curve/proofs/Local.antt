@@ -1,5 +1,5 @@
 -- What a family has depends on its own parts' rates alone, in a case of given sites and parts.
-use Rattle.std.proofs.Common.{◌≡◌, ◌≢◌, ℕ, zero, suc, ◌+◌, ◌-◌, ◌*◌, ◌^◌, ◌<◌, ◌≤◌, List, [], ◌∷◌, length, map, sum_by, Option, Some, None, is_none, true, refl, sym, ap, ap₂, ◌∙◌, subst, arith, get_or-set_other, unwrap_or}
+use Rattle.std.proofs.Common.{◌≡◌, ◌≢◌, ℕ, zero, suc, ◌+◌, ◌-◌, ◌*◌, ◌^◌, ◌<◌, List, [], ◌∷◌, length, map, sum_by, Option, Some, None, is_none, true, refl, sym, ap, ap₂, ◌∙◌, subst, arith, get_or-set_other, unwrap_or}
 use Rattle.std.specs.List.{range_with_len, AllByRecursion}
 use Rattle.std.specs.Option.{option_and_then}
 use Rattle.std.proofs.lemmas.List.Sums.{sum_by-cons}
@@ -11,7 +11,7 @@ use Rattle.base_pipeline.specs.Profile.{base_line_ends, base_shop_ends}
 use Rattle.spares_input.specs.declared.rows.SiteRow.{SiteRow}
 use Rattle.spares_input.specs.declared.rows.PartRow.{PartRow}
 use Rattle.spares_input.specs.declared.rows.RateRow.{RateRow}
-use Rattle.spares_input.specs.Rows.{is_line, no_rate}
+use Rattle.spares_input.specs.Rows.{no_rate}
 use Rattle.spares_input.specs.Frames.{line_of, part_at, part_names, place_of, site_at}
 use Rattle.spares_input.specs.Cases.{CaseRows, frame_rows, rate_at, IsCase, IsRateOf}
 use Rattle.spares_input.specs.Edits.{with_rate}

@@ -1,5 +1,5 @@
 -- The number of a family's vectors.
-use Rattle.std.proofs.Common.{◌≡◌, ℕ, zero, suc, ◌+◌, ◌-◌, ◌*◌, ◌^◌, ◌<◌, ◌≤◌, List, [], ◌∷◌, ◌++◌, length, map, flat_map, refl, sym, ap, ap₂, ◌∙◌, arith}
+use Rattle.std.proofs.Common.{◌≡◌, ℕ, zero, suc, ◌+◌, ◌-◌, ◌*◌, ◌^◌, ◌≤◌, List, [], ◌∷◌, ◌++◌, length, map, flat_map, sym, ap, ap₂, ◌∙◌, arith}
 use Rattle.std.specs.List.{range_with_len}
 use Rattle.std.proofs.lemmas.Simd.{map-map}
 use Rattle.std.proofs.Math.Nat.{mul_assoc, mul_comm, pow-suc, pow-zero}
@@ -7,7 +7,7 @@ use Rattle.spares_input.specs.Stocks.{limit_at}
 use Rattle.spares_input.specs.Cases.{CaseRows, IsCase}
 use Rattle.fleet_model.specs.Fleet.{family}
 use Rattle.family_curve.specs.Vectors.{Pair, limits, places, vectors, zeros}
-use Rattle.family_curve.specs.Counts.{product, widths, depot_width, base_width, choices_of}
+use Rattle.family_curve.specs.Counts.{product, depot_width, base_width, choices_of}
 use Rattle.family_curve.proofs.Boxes.{each_any, map_flat, same_flat, same_map}
 use Rattle.family_curve.proofs.Counting.{product_split}
 use Rattle.family_curve.proofs.Numbers.{vectors_count}

@@ -1,5 +1,5 @@
 -- What the tables of a family give is what the model's profile gives at the stocks of the case.
-use Rattle.std.proofs.Common.{◌≡◌, ℕ, zero, suc, ◌+◌, ◌-◌, ◌*◌, ◌<◌, ◌≤◌, List, [], ◌∷◌, ◌++◌, length, get_or, drop, map, refl, sym, ap, ap₂, ◌∙◌, subst, arith}
+use Rattle.std.proofs.Common.{◌≡◌, ℕ, zero, suc, ◌+◌, ◌-◌, ◌*◌, ◌<◌, ◌≤◌, List, [], ◌∷◌, ◌++◌, length, get_or, drop, map, sym, ap, ap₂, ◌∙◌, subst, arith}
 use Rattle.std.specs.List.{All, AllZip, range_with_len}
 use Rattle.std.proofs.lemmas.List.{append_assoc, get_or-map, get_or_default, length-map}
 use Rattle.std.proofs.lemmas.List.FromFn.{get_or-range_with_len, length-range_with_len, map-range_with_len_more}
@@ -11,7 +11,7 @@ use Rattle.fleet_model.specs.Fleet.{family}
 use Rattle.fleet_model.specs.Laws.{IsBase}
 use Rattle.family_eval.specs.Profile.{item_of}
 use Rattle.family_eval.proofs.Items.{flat_at}
-use Rattle.family_tables.specs.Numbers.{AreBaseBackorders, FamilyNumbers, family_stocks, no_numbers, numbers_of, pair_at, pair_numbers}
+use Rattle.family_tables.specs.Numbers.{AreBaseBackorders, FamilyNumbers, no_numbers, pair_at, pair_numbers}
 use Rattle.family_tables.proofs.FromNumbers.{backorders_alone}
 use Rattle.family_curve.specs.Vectors.{IsBetween}
 use Rattle.family_curve.specs.Boxes.{IsBox}
@@ -21,9 +21,9 @@ use Rattle.family_curve.specs.Separation.{base_point, base_stocks, depot_and_bas
 use Rattle.family_curve.proofs.Boxes.{same_map}
 use Rattle.family_curve.specs.Inputs.{AreShopsAt, FamilyBox, IsFamilyBox, IsAt, high_at, line_high, line_low, line_stocks, low_at, scored_point, shop_high, shop_low}
 use Rattle.family_curve.specs.Tabled.{AreShopStocks, AreTables, base_shops, numbers}
-use Rattle.family_curve.proofs.Bounded.{at_limit, at_long, box_at, high_long, limits_at}
+use Rattle.family_curve.proofs.Bounded.{at_limit, at_long, box_at, high_long}
 use Rattle.family_curve.proofs.Distinct.{family_stocks-in}
-use Rattle.family_curve.proofs.Numbers.{ordered_at, same_length}
+use Rattle.family_curve.proofs.Numbers.{same_length}
 use Rattle.family_curve.proofs.Points.{begins, box_begins, joined_at, low_begins, high_begins, stocks_between_at}
 use Rattle.family_curve.proofs.Separate.{at_base}
 use Rattle.family_curve.proofs.Sites.{part_long, size}

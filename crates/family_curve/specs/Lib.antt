@@ -8,3 +8,4 @@ pub mod Inputs
 pub mod Turned
 pub mod Local
 pub mod Tabled
+pub mod Walks

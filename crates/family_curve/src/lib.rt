@@ -34,6 +34,7 @@ mod family;
 mod laws;
 mod places;
 mod vectors;
+mod walk;
 
 pub use bounds::Bounds;
 pub use counts::{choices, tables, tables_within, work};

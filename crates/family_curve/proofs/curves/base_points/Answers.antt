@@ -1,9 +1,9 @@
-use Rattle.std.proofs.Common.{◌≡◌, ℕ, ◌<◌, ◌∷◌, ◌++◌, List, length, map, sym, ap, ap₂, ◌∙◌, subst, arith}
+use Rattle.std.proofs.Common.{◌≡◌, ℕ, ◌<◌, ◌∷◌, ◌++◌, List, length, map, sym, ap₂, ◌∙◌, subst, arith}
 use Rattle.series_bounds.specs.Answer.{at_place}
 use Rattle.family_eval.specs.Profile.{item_of}
 use Rattle.hull.specs.declared.point.Point.{Point}
 use Rattle.family_curve.specs.Separation.{base_point, base_stocks}
-use Rattle.family_curve.specs.Inputs.{AreShopsAt, IsAt, line_stocks, scored_point, shop_vectors}
+use Rattle.family_curve.specs.Inputs.{IsAt, line_stocks, scored_point, shop_vectors}
 use Rattle.family_curve.proofs.Points.{flat_next}
 use Rattle.family_curve.proofs.Tabled.{points_same}
 use Rattle.family_curve.proofs.curves.base_points.Goals as goal

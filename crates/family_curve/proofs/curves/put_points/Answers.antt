@@ -1,4 +1,4 @@
-use Rattle.std.proofs.Common.{◌≡◌, ℕ, ◌<◌, ◌≤◌, ◌∷◌, List, length, sym, ap₂, ◌∙◌, subst, arith}
+use Rattle.std.proofs.Common.{◌≤◌, ◌∷◌, sym, ap₂, ◌∙◌, subst, arith}
 use Rattle.series_bounds.specs.Answer.{at_place}
 use Rattle.family_curve.specs.Inputs.{IsAt, line_high, line_low, scored_point}
 use Rattle.family_curve.proofs.Points.{joined_at}

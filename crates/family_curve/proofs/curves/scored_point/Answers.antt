@@ -1,4 +1,4 @@
-use Rattle.std.proofs.Common.{◌≡◌, ℕ, List, ap, ◌∙◌}
+use Rattle.std.proofs.Common.{ℕ, List, ap, ◌∙◌}
 use Rattle.fleet_model.specs.Rows.{systems, per_system, weight}
 use Rattle.fleet_model.specs.Fleet.{family}
 use Rattle.fixed_interval.specs.Ends.{Ends}

@@ -1,9 +1,8 @@
-use Rattle.std.proofs.Common.{◌≡◌, ℕ, ◌-◌, ◌+◌, ◌<◌, ◌≤◌, ◌∷◌, List, length, get_or, drop, sym, ap, ◌∙◌, subst, arith, lit<}
+use Rattle.std.proofs.Common.{◌≡◌, ◌-◌, ◌+◌, ◌<◌, ◌≤◌, ◌∷◌, length, get_or, drop, sym, ap, ◌∙◌, subst, arith, lit<}
 use Rattle.std.specs.List.{All}
-use Rattle.moment_table.specs.declared.kinds.Row.{Row}
 use Rattle.family_tables.specs.Numbers.{AreBaseBackorders, FamilyNumbers, depot_line_moments, rows_of}
 use Rattle.family_curve.specs.Inputs.{line_high}
-use Rattle.family_curve.specs.Tabled.{AreShopStocks, base_shops, numbers}
+use Rattle.family_curve.specs.Tabled.{base_shops}
 use Rattle.family_curve.proofs.Bounded.{stock_small}
 use Rattle.family_curve.proofs.Points.{box_begins, joined_at}
 use Rattle.family_curve.specs.Inputs.{low_at, high_at}

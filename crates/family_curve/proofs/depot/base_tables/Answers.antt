@@ -1,4 +1,4 @@
-use Rattle.std.proofs.Common.{◌≡◌, ℕ, ◌<◌, length, sym, ap, ◌∙◌, subst, arith, lit<, []}
+use Rattle.std.proofs.Common.{◌<◌, length, sym, ◌∙◌, subst, arith, lit<, []}
 use Rattle.family_tables.specs.Numbers.{FamilyNumbers}
 use Rattle.family_curve.specs.Tabled.{base_shops}
 use Rattle.family_curve.proofs.Tabled.{mapped_from, shop_stocks}

@@ -1,4 +1,4 @@
-use Rattle.std.proofs.Common.{◌<◌, length, arith, lit<}
+use Rattle.std.proofs.Common.{arith, lit<}
 use Rattle.family_curve.proofs.Tabled.{shop_stocks}
 use Rattle.family_curve.proofs.depot.depot_tables.Goals as goal
 

@@ -1,0 +1,58 @@
+-- The sums of the bases' curves, one base more at a time.
+use Rattle.std.proofs.Common.{◌≡◌, ℕ, suc, ◌+◌, ◌-◌, List, [], ◌∷◌, ◌++◌, length, sum_by, sym, ap, ◌∙◌, subst, arith}
+use Rattle.std.specs.List.{range_with_len}
+use Rattle.std.proofs.lemmas.List.Sums.{sum_by-append, sum_by-cons}
+use Rattle.fleet_model.specs.Laws.{IsBase}
+use Rattle.hull.specs.declared.point.Point.{Point}
+use Rattle.hull.specs.Curves.{Among, HaveOneWidth, InRange, IsCurve, StandFor, sums}
+use Rattle.hull.specs.Scores.{LeavesRoom}
+use Rattle.hull.proofs.Stand.{curve_stands, stand_for}
+use Rattle.hull.proofs.Sums.{stand_for_sums}
+use Rattle.family_curve.specs.Inputs.{FamilyBox, IsAt, IsFamilyBox}
+use Rattle.family_curve.specs.Points.{ScoreEnds}
+use Rattle.family_curve.specs.Separation.{base_points, depot_points, points_over}
+use Rattle.family_curve.specs.Walks.{sums_of_each}
+use Rattle.family_curve.proofs.Points.{depot_points_small, over_more, over_small, small_range}
+use Rattle.family_curve.proofs.Sites.{size}
+use Rattle.family_curve.proofs.Walks.{sums_one_more}
+
+pub lengths_one_more : (ls : List (List Point)) (l : List Point) → sum_by length (ls ++ l ∷ []) ≡ sum_by length ls + length l
+lengths_one_more ls l = omega (arith, sum_by-append length ls (l ∷ []), sum_by-cons length l [])
+
+module _ (x : FamilyBox) (valid : IsFamilyBox x) (ends : ScoreEnds) (room : LeavesRoom ends) (d : List ℕ) (at_depot : IsAt x 0 d) where
+  abbrev pub over : ℕ → List Point
+  over n = points_over x.case x.line ends x.held x.low x.high d (range_with_len 1 n)
+
+  pub base_more : (first : Point) (j : ℕ) (curves made : List (List Point)) (base : List Point) → IsBase x.case j
+      → StandFor (over (j - 1)) (sums_of_each (first ∷ []) curves)
+      → IsCurve (base_points x.case x.line ends x.held x.low x.high d j) base
+      → made ≡ curves ++ base ∷ []
+      → StandFor (over (j + 1 - 1)) (sums_of_each (first ∷ []) made)
+  base_more first j curves made base on s b made_is =
+      let next : suc (j - 1) ≡ j + 1 - 1 = omega (arith, on.0) in
+      let here : j - 1 + 1 ≡ j = omega (arith, on.0) in
+      let width : HaveOneWidth (over (j - 1)) = λ v w m n. (over_small x valid ends room d at_depot (j - 1) (omega (arith, on.0, on.1)) v m).width
+      ∙ sym (over_small x valid ends room d at_depot (j - 1) (omega (arith, on.0, on.1)) w n).width in
+      let both : StandFor (sums (over (j - 1)) (base_points x.case x.line ends x.held x.low x.high d j)) (sums (sums_of_each (first ∷ []) curves) base) =
+      stand_for_sums (over (j - 1)) (base_points x.case x.line ends x.held x.low x.high d j) (sums_of_each (first ∷ []) curves) base s
+      (curve_stands (base_points x.case x.line ends x.held x.low x.high d j) base b) width in
+      let more : over (suc (j - 1)) ≡ sums (over (j - 1)) (base_points x.case x.line ends x.held x.low x.high d j) =
+      over_more x.case x.line ends x.held x.low x.high d (j - 1) ∙ ap (λ k. sums (over (j - 1)) (base_points x.case x.line ends x.held x.low x.high d k)) here in
+      subst (λ n. StandFor (over n) (sums_of_each (first ∷ []) made)) next
+      (subst (λ ps. StandFor ps (sums_of_each (first ∷ []) made)) (sym more)
+      (subst (λ ls. StandFor (sums (over (j - 1)) (base_points x.case x.line ends x.held x.low x.high d j)) (sums_of_each (first ∷ []) ls)) (sym made_is)
+      (subst (StandFor (sums (over (j - 1)) (base_points x.case x.line ends x.held x.low x.high d j))) (sym (sums_one_more curves (first ∷ []) base)) both)))
+
+  module _ (path : List Point) (stands : StandFor (depot_points x.case x.line ends x.held x.low x.high d) path) where
+    pub path_ranges : (v : Point) → Among v path → InRange v
+    path_ranges v m =
+        let some = valid.valid.frame.fewest_sites in
+        let few = valid.valid.frame.most_sites in
+        small_range (size x.case x.line) (length x.case.sites) v (omega (arith, some)) (omega (arith, few)) (depot_points_small x valid ends room d at_depot v (stands.among v m))
+
+    pub path_widths : HaveOneWidth path
+    path_widths v w m n =
+        (depot_points_small x valid ends room d at_depot v (stands.among v m)).width ∙ sym (depot_points_small x valid ends room d at_depot w (stands.among w n)).width
+
+    pub path_curve : (curve : List Point) → IsCurve path curve → IsCurve (depot_points x.case x.line ends x.held x.low x.high d) curve
+    path_curve curve h = stand_for (depot_points x.case x.line ends x.held x.low x.high d) path curve stands h
