@@ -14,8 +14,8 @@ use Rattle.fleet_plan.specs.Families.{family_points}
 abbrev pub HoldNothing : List ℕ → Type 0
 HoldNothing held = All (λ stock. stock ≡ 0) held
 
--- the tables for all vectors of a family from what is held to the limits, and those of all families, where they are within
--- the limit of the work
+-- the tables for all vectors of a family from what is held to the limits, and those of all families, where they are
+-- within the limit of the work
 abbrev pub tables_above : CaseRows → List ℕ → ℕ → ℕ
 tables_above c held l = tables_between c l (vector_of c l held) (limits c l)
 

@@ -43,8 +43,8 @@ fn bounds_above(alloc: Global, case: &Case, line: PartId, held: &Stocks) -> Resu
     })
 }
 
-/// The tables that the curves of all families take from what is held to the limits, where they are at most 1,000,000. Else
-/// this count is the refusal, or 2^64 - 1 where it is larger.
+/// The tables that the curves of all families take from what is held to the limits, where they are at most 1,000,000.
+/// Else this count is the refusal, or 2^64 - 1 where it is larger.
 pub fn held_work(alloc: Global, case: &Case, held: &Stocks) -> Result<u64, Stop<u64>>
     requires held { IsFor case.now held.now }
     requires limits { IsWithinLimits case.now held.now }
@@ -65,8 +65,8 @@ pub fn held_work(alloc: Global, case: &Case, held: &Stocks) -> Result<u64, Stop<
     }
 }
 
-/// The curve of each line unit's family in order, from what is held on: a list for the case, within the limits. The cost of
-/// a point is what it adds to that. [`held_work`] is within its limit. Want of memory is the only error.
+/// The curve of each line unit's family in order, from what is held on: a list for the case, within the limits. The
+/// cost of a point is what it adds to that. [`held_work`] is within its limit. Want of memory is the only error.
 pub fn curves_of<S: Score>(
     alloc: Global,
     case: &Case,
@@ -78,7 +78,8 @@ pub fn curves_of<S: Score>(
     requires held { IsFor case.now held.now }
     requires limits { IsWithinLimits case.now held.now }
     requires work { IsOk (held_work_of case.now held.now.list) }
-    ensures { IfOk result (λ curves. AllZip (IsFamilyCurve S.ends case.now held.now.list) (line_units case.now) curves.items) }
+    ensures { IfOk result (λ curves.
+        AllZip (IsFamilyCurve S.ends case.now held.now.list) (line_units case.now) curves.items) }
 {
     let mut curves = Vec::new(alloc);
     for p in 0..case.part_count() {
@@ -92,8 +93,8 @@ pub fn curves_of<S: Score>(
     Ok(curves)
 }
 
-/// The plan of a case under a budget in whole money, from what is held on: a list for the case, within the limits. Where
-/// nothing is held, that is a list of zeros.
+/// The plan of a case under a budget in whole money, from what is held on: a list for the case, within the limits.
+/// Where nothing is held, that is a list of zeros.
 ///
 /// It is the one plan of all vectors of the families from what is held to the limits, reported as [`plan`] does.
 /// [`held_work`] is within its limit. Want of memory is the only error.
@@ -112,7 +113,8 @@ pub fn plan_case<S: Score>(
     requires limits { IsWithinLimits case.now held.now }
     requires work { IsOk (held_work_of case.now held.now.list) }
     requires budget { budget ≤ 1000000000000000 }
-    ensures { IfOk result (IsOutcome S.ends case.now held.now.list (record { budget = budget; loss = loss; on_hand = on_hand })) }
+    ensures { IfOk result
+        (IsOutcome S.ends case.now held.now.list (record { budget = budget; loss = loss; on_hand = on_hand })) }
 {
     let curves = curves_of(alloc, case, rates, held, score)?;
     plan(alloc, case, rates, curves.as_slice(), budget, loss, on_hand)
