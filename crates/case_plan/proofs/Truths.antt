@@ -89,6 +89,7 @@ planned_true ends value c held terms report accepted encloses h = subst (IsTrueR
           none_less = t.none_less;
           printed = λ n deep u a f. below_printed h.plan.numbers.bound (aim value c u n) (t.none_less n deep u a f);
           no_price = t.no_price;
+          no_claims = t.no_claims;
           upper = t.gap ∙ t.upper_is;
           no_more = subst (HasNoMore value c s) (sym t.gap) t.no_more;
           loss_is = refl;

@@ -65,7 +65,8 @@ PlansFit =
 abbrev pub ReportsFit : Type 0
 ReportsFit =
     (ends : ScoreEnds) (value : Value) (c : CaseRows) (held : List ℕ) (terms : Terms) (report : PlanReport)
-    → IsAcceptedCase c → EnclosesValue ends value → LeavesRoom ends → IsPlanned ends c held terms report → FitsPlan report
+    → IsAcceptedCase c → EnclosesValue ends value → LeavesRoom ends → IsPlanned ends c held terms report
+    → FitsPlan report
 
 -- curves of a case's points, from what is held within the limits, are such as a plan takes
 abbrev pub CurvesServe : Type 0

@@ -1,6 +1,6 @@
 -- How a plan of a case is reported.
-use Rattle.std.specs.Prelude.{◌≡◌, ℕ, ◌<◌, ◌≤◌, Bool, List, Option, Some, None, length, sum_by, option_map, if◌then◌else◌}
-use Rattle.std.specs.List.{AllZip}
+use Rattle.std.specs.Prelude.{◌≡◌, ℕ, ◌<◌, ◌≤◌, Bool, List, Option, Some, None, length, option_map, if◌then◌else◌}
+use Rattle.std.specs.List.{AllZip, sum_by}
 use Rattle.fixed_interval.specs.Ends.{Ends}
 use Rattle.hull.specs.declared.point.Point.{Point}
 use Rattle.hull.specs.Curves.{Among}
@@ -18,8 +18,8 @@ use Rattle.plan_report.specs.declared.plan.CriticalLine.{CriticalLine}
 use Rattle.plan_report.specs.declared.plan.PlanReport.{PlanReport}
 use Rattle.case_plan.specs.declared.outcome.Outcome.{Outcome}
 
--- What is asked for: a plan under a budget in whole money; whether what is aimed at is a loss, which is reported beside the
--- total of backorders; and what the stocks on hand cost, where some may be held already, which is printed.
+-- What is asked for: a plan under a budget in whole money; whether what is aimed at is a loss, which is reported
+-- beside the total of backorders; and what the stocks on hand cost, where some may be held already, which is printed.
 pub record Terms : Type 0 where
   pub budget : ℕ
   pub loss : Bool
@@ -66,13 +66,15 @@ outcome_of ends c terms p = record {
 }
 
 -- It is that of the plan of the case, from what is held on.
-pub record IsOutcome (ends : ScoreEnds) (c : CaseRows) (held : List ℕ) (terms : Terms) (outcome : Outcome) : Type 0 where
+pub record IsOutcome (ends : ScoreEnds) (c : CaseRows) (held : List ℕ) (terms : Terms) (outcome : Outcome)
+    : Type 0 where
   pub plan : CasePlan
   pub is_plan : IsCasePlan ends c held terms.budget plan
   pub is : outcome ≡ outcome_of ends c terms plan
 
 -- The report is that of the plan of the case, from what is held on.
-pub record IsPlanned (ends : ScoreEnds) (c : CaseRows) (held : List ℕ) (terms : Terms) (report : PlanReport) : Type 0 where
+pub record IsPlanned (ends : ScoreEnds) (c : CaseRows) (held : List ℕ) (terms : Terms) (report : PlanReport)
+    : Type 0 where
   pub plan : CasePlan
   pub is_plan : IsCasePlan ends c held terms.budget plan
   pub is : report ≡ report_of ends c terms plan
@@ -87,4 +89,5 @@ pub record AreFamilyCurves (c : CaseRows) (curves : List (List Point)) : Type 0 
 -- the outcome is that of the plan of all points, from whatever is held, of which these are the curves
 abbrev pub IsPlanOf : CaseRows → List (List Point) → Terms → Outcome → Type 0
 IsPlanOf c curves terms outcome =
-    (ends : ScoreEnds) (held : List ℕ) → AreCurves (case_points ends c held) curves → IsOutcome ends c held terms outcome
+    (ends : ScoreEnds) (held : List ℕ) → AreCurves (case_points ends c held) curves
+    → IsOutcome ends c held terms outcome

@@ -13,7 +13,7 @@ use Rattle.case_figures.specs.Shows.{ShowsFigures}
 use Rattle.family_curve.specs.Vectors.{stock_list}
 use Rattle.family_curve.specs.Points.{ScoreEnds}
 use Rattle.fleet_plan.specs.Families.{hi_at}
-use Rattle.fleet_plan.specs.Plans.{CasePlan, critical_line}
+use Rattle.fleet_plan.specs.Plans.{CasePlan, CaseClaims, AreAcceptable, critical_line}
 use Rattle.plan_report.specs.Texts.{millionths_down}
 use Rattle.plan_report.specs.declared.plan.PlanReport.{PlanReport}
 use Rattle.case_plan.specs.Report.{Terms, lo_at, aim_ends, if_asked, step_line}
@@ -25,22 +25,25 @@ NoneHasLessThanPrinted value c held budget bound =
     → text_value 6 (millionths_down 48 bound) ≤ℚ aim value c s n
 
 -- Of what stocks are held, for any score and the value that it encloses. The stocks are those of the plan.
-pub record IsTrueReport (ends : ScoreEnds) (value : Value) (c : CaseRows) (held : List ℕ) (terms : Terms) (plan : CasePlan) (report : PlanReport)
-    : Type 0 where
+pub record IsTrueReport (ends : ScoreEnds) (value : Value) (c : CaseRows) (held : List ℕ) (terms : Terms)
+    (plan : CasePlan) (report : PlanReport) : Type 0 where
   pub budget_is : report.budget ≡ terms.budget
   pub on_hand_is : report.on_hand ≡ terms.on_hand
-  -- the stocks have what is held, and are within the limits; what they add to it costs what is printed, at most the budget
+  -- the stocks have what is held, and are within the limits; what they add to it costs what is printed, at most the
+  -- budget
   pub allocation : IsHeldAllocation c held plan.stocks
   pub cost_is : report.figures.cost ≡ cost_beyond c held plan.stocks
   pub fits : report.figures.cost ≤ terms.budget
-  -- each mean, variance, backorder and availability is enclosed at these stocks; with what all of them cost in the place of
-  -- what is added, the figures are theirs
+  -- each mean, variance, backorder and availability is enclosed at these stocks; with what all of them cost in the
+  -- place of what is added, the figures are theirs
   pub shows : ShowsFigures 48 c (stock_list c plan.stocks) (record report.figures { cost = cost c plan.stocks })
   -- no allocation within the budget has less than the bound, nor than what is printed of it
   pub none_less : NoneHasLess value c held terms.budget report.bound
   pub printed : NoneHasLessThanPrinted value c held terms.budget report.bound
   -- no price gives a bound higher by more than the rounding
   pub no_price : NoPriceShowsMore value c held terms.budget (report.bound + report.rounding)
+  -- nor do acceptable claims of a certificate have one
+  pub no_claims : (x : CaseClaims) → AreAcceptable ends c held terms.budget x → x.bound ≤ report.bound + report.rounding
   -- the bound and the gap are the upper end of what is aimed at, and the stocks have no more
   pub upper : report.bound + report.gap ≡ hi_at ends c plan.stocks
   pub no_more : HasNoMore value c plan.stocks (report.bound + report.gap)

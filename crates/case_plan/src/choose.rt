@@ -120,8 +120,8 @@ fn slack_of(curves: &[Curve], critical: Option<Critical>) -> u128
     point.hi - point.lo
 }
 
-/// The filled choice of curves: a vertex of each, a floor of each at the price, the sum of the vertices' lower ends, and the
-/// numbers of the plan.
+/// The filled choice of curves: a vertex of each, a floor of each at the price, the sum of the vertices' lower ends,
+/// and the numbers of the plan.
 #[derive(Drop)]
 pub(crate) struct Choice {
     pub picks: Vec<u32>,
@@ -130,7 +130,8 @@ pub(crate) struct Choice {
     pub numbers: PlanNumbers,
 }
 
-/// The plan of curves that each begin at cost 0, under a budget: it is that of all points of which these are the curves.
+/// The plan of curves that each begin at cost 0, under a budget: it is that of all points of which these are the
+/// curves.
 pub(crate) fn choose(alloc: Global, curves: &[Curve], budget: u64) -> Result<Choice, NoMemory>
     requires few { length curves.now ≤ 2000 }
     requires free { (f : ℕ) → f < length curves.now → (vertex_at curves.now f 0).cost ≡ 0 }

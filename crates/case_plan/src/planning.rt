@@ -69,9 +69,9 @@ fn aim_of(asked: bool, lower: u128, upper: u128) -> Option<Iv<48>>
 /// The plan of a case under a budget in whole money, from a curve for each line unit in order.
 ///
 /// Each curve begins at cost 0, and the stocks of its points are vectors of its family within the limits. Of whatever
-/// points, from whatever stocks held, these are the curves, the answer is that of the one plan of these points. Where `loss`
-/// is set, the report has the ends of what the curves aim at as a loss; `on_hand` is put into the report. Want of memory is
-/// the only error.
+/// points, from whatever stocks held, these are the curves, the answer is that of the one plan of these points. Where
+/// `loss` is set, the report has the ends of what the curves aim at as a loss; `on_hand` is put into the report. Want
+/// of memory is the only error.
 pub fn plan(
     alloc: Global,
     case: &Case,

@@ -1,5 +1,5 @@
 -- The texts of the reports. Fields are parted by commas (44), and each line ends with a line feed (10).
-use Rattle.std.specs.Prelude.{ℕ, ◌*◌, ◌/◌, ◌^◌, ◌<◌, List, [], ◌∷◌, ◌++◌, Option, Some, None, codes}
+use Rattle.std.specs.Prelude.{ℕ, ◌+◌, ◌*◌, ◌/◌, ◌^◌, ◌<◌, ◌≤◌, List, [], ◌∷◌, ◌++◌, Option, Some, None, codes}
 use Rattle.std.specs.Int.{div_ceil}
 use Rattle.std.specs.List.{flat_map}
 use Rattle.std.specs.Fmt.{decimal}
@@ -60,6 +60,11 @@ PrintsBelow n = text_value 6 (millionths_down 48 n) ≤ℚ of_units n
 
 abbrev pub PrintsAbove : ℕ → Type 0
 PrintsAbove n = of_units n ≤ℚ text_value 6 (millionths_up 48 n)
+
+-- a number that is above another by no more than a rounding is printed, rounded down, above it by no more than the printed rounding
+abbrev pub PrintsWithin : ℕ → ℕ → ℕ → Type 0
+PrintsWithin n m rounding =
+    n ≤ m + rounding → millionths_down 48 n ≤ millionths_down 48 m + millionths_up 48 rounding
 
 -- a price in backorders per unit of money, and in units of 10 ^ -12, rounded down
 abbrev pub price_value : Price → Fraction

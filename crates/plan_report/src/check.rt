@@ -7,7 +7,8 @@ use crate::text::{put_down_line, put_number_line, put_on_hand, put_up_line};
 use spares_io::NoMemory;
 use std::alloc::Global;
 
-/// What an accepted certificate shows of its case. The upper end and the bound are in units of 2^-48 of what is aimed at.
+/// What an accepted certificate shows of its case. The upper end and the bound are in units of 2^-48 of what is aimed
+/// at.
 #[derive(Clone, Copy, Debug, PartialEq, Eq)]
 pub struct CheckReport {
     /// 1, or 2 where covers show the floors.

@@ -2,7 +2,16 @@
 ghost use Rattle.std.specs.Prelude.{◌≡◌, ◌++◌, IfOk, IfSome, OnOk, codes};
 ghost use Rattle.case_figures.specs.Fits.{FitsPrint};
 ghost use Rattle.plan_report.specs.Fits.{FitsPlan, IntervalFits, PriceFits};
-ghost use Rattle.plan_report.specs.Texts.{bounds_text, critical_text, gains_text, loss_text, plan_text, price_text, line, steps_text};
+ghost use Rattle.plan_report.specs.Texts.{
+  bounds_text,
+  critical_text,
+  gains_text,
+  loss_text,
+  plan_text,
+  price_text,
+  line,
+  steps_text,
+};
 
 use crate::text::{
     put_cost, put_down_line, put_line, put_number_line, put_on_hand, put_span_line, put_stocks,
@@ -23,8 +32,8 @@ pub struct CriticalLine {
     pub cost: u64,
 }
 
-/// The figures of a plan's stocks, and how far these can be from the best. Bound, gap and rounding are in units of 2^-48
-/// of what is aimed at: the total of backorders, or the loss where there is one.
+/// The figures of a plan's stocks, and how far these can be from the best. Bound, gap and rounding are in units of
+/// 2^-48 of what is aimed at: the total of backorders, or the loss where there is one.
 #[derive(Drop, PartialEq, Eq)]
 pub struct PlanReport {
     /// In whole money.
@@ -118,9 +127,9 @@ impl PlanReport {
     }
 
     /// The line `plan,BUDGET`, the lines of given stocks from `cost` to `total`, and the lines `bound,X`, `gap,X`,
-    /// `rounding,X`, `price,X`, `hull,COST` and `critical,PART,COST` or `critical,none`. The bound is rounded down, the gap
-    /// and the rounding up, to 6 decimals; the price is rounded down to 12. Where stocks are on hand, `on-hand,COST` stands
-    /// after `cost`; where there is a loss, `loss,LO,HI` after `total`.
+    /// `rounding,X`, `price,X`, `hull,COST` and `critical,PART,COST` or `critical,none`. The bound is rounded down,
+    /// the gap and the rounding up, to 6 decimals; the price is rounded down to 12. Where stocks are on hand,
+    /// `on-hand,COST` stands after `cost`; where there is a loss, `loss,LO,HI` after `total`.
     pub fn text(&self, alloc: Global) -> Result<Vec<u8>, NoMemory>
         requires { FitsPlan self.now }
         ensures { IfOk result (λ text. text.items ≡ plan_text self.now) }

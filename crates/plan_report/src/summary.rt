@@ -53,8 +53,8 @@ impl Summary {
         put_up_line(text, b"gap", self.gap)
     }
 
-    /// The lines `demo,NUMBER,LINES`, `parts,COUNT`, `budget,BUDGET`, `cost,COST`, `total,LO,HI`, `bound,X`, `gap,X` and
-    /// `accepted`, with 6 decimals: the bound is rounded down, the gap up.
+    /// The lines `demo,NUMBER,LINES`, `parts,COUNT`, `budget,BUDGET`, `cost,COST`, `total,LO,HI`, `bound,X`, `gap,X`
+    /// and `accepted`, with 6 decimals: the bound is rounded down, the gap up.
     pub fn text(&self, alloc: Global) -> Result<Vec<u8>, NoMemory>
         requires { FitsSummary self.now }
         ensures { IfOk result (λ text. text.items ≡ summary_text self.now) }

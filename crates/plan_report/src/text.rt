@@ -7,20 +7,41 @@ ghost use Rattle.case_figures.specs.Fits.{BaseFits, FitsPrint, ItemFits, SpanFit
 ghost use Rattle.case_figures.specs.Spans.{ends, places};
 ghost use Rattle.hull.specs.declared.price.Price.{Price};
 ghost use Rattle.plan_report.specs.Fits.{UnitsFit};
-ghost use Rattle.plan_report.specs.Texts.{PrintsAbove, PrintsBelow, PrintsOutward, PrintsPriceBelow, base_text, cost_text, down_text, figures_text, interval_text, intervals_text, item_text, line, on_hand_text, pair_text, span_text, stocks_text, up_text};
+ghost use Rattle.plan_report.specs.Texts.{
+  PrintsAbove,
+  PrintsBelow,
+  PrintsOutward,
+  PrintsPriceBelow,
+  PrintsWithin,
+  base_text,
+  cost_text,
+  down_text,
+  figures_text,
+  interval_text,
+  intervals_text,
+  item_text,
+  line,
+  on_hand_text,
+  pair_text,
+  span_text,
+  stocks_text,
+  up_text,
+};
 
 use case_figures::{BaseLine, Figures, ItemLine, Span};
 use fixed_interval::Iv;
 use line_text::{put_count_line, put_number};
 use spares_io::NoMemory;
 
-/// The two numbers that are printed of an interval enclose all that it contains. A number that is printed rounded down is
-/// printed as no more than it is, and one that is rounded up as no less.
+/// The two numbers that are printed of an interval enclose all that it contains. A number that is printed rounded down
+/// is printed as no more than it is, and one that is rounded up as no less. A bound within a rounding of another is
+/// printed within the printed rounding of it.
 pub fn prints_outward()
     ensures intervals { (f : ℕ) (x : Ends) → PrintsOutward f x }
     ensures spans { (x : Span) → PrintsOutward (places x) (ends x) }
     ensures down { (n : ℕ) → PrintsBelow n }
     ensures up { (n : ℕ) → PrintsAbove n }
+    ensures within { (n m rounding : ℕ) → PrintsWithin n m rounding }
     ensures price { (price : Price) → PrintsPriceBelow price }
 {}
 
