@@ -89,7 +89,8 @@ first_line = codes "spares-held,1\n"
 abbrev pub is_held_form : List ℕ → Bool
 is_held_form bytes = bytes_eq first_line (take (length first_line) bytes)
 
--- All lines up to the first `end` are in the grammar, and the sites and parts that they say break this rule. Anything may follow.
+-- All lines up to the first `end` are in the grammar, and the sites and parts that they say break this rule. Anything
+-- may follow.
 pub record HasCaseFault (bytes : List ℕ) (f : CaseFault) : Type 0 where
   pub certificate : Certificate
   pub fits : (certificate_format 2).fits certificate ≡ true

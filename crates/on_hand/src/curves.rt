@@ -34,9 +34,9 @@ fn bounds_from(alloc: Global, case: &Case, line: PartId, held: &Stocks) -> Resul
     Ok(Bounds { held, low, high })
 }
 
-/// The curve of each line unit's family in order, over its vectors from what is held to the limits, with the cost of what is above
-/// that. The stocks that are held have a number for each pair of the case, at most its limit, and the work from them is within the
-/// limit. Want of memory is the only error.
+/// The curve of each line unit's family in order, over its vectors from what is held to the limits, with the cost of
+/// what is above that. The stocks that are held have a number for each pair of the case, at most its limit, and the
+/// work from them is within the limit. Want of memory is the only error.
 pub fn held_curves<S: Score>(
     alloc: Global,
     case: &Case,
@@ -48,7 +48,8 @@ pub fn held_curves<S: Score>(
     requires held { IsFor case.now held.now }
     requires limits { IsWithinLimits case.now held.now }
     requires work { IsOk (held_work_of case.now held.now.list) }
-    ensures { IfOk result (λ curves. AllZip (IsFamilyCurve S.ends case.now held.now.list) (line_units case.now) curves.items) }
+    ensures { IfOk result (λ curves. AllZip (IsFamilyCurve S.ends case.now held.now.list)
+        (line_units case.now) curves.items) }
 {
     let mut curves = Vec::new(alloc);
     for p in 0..case.part_count() {

@@ -10,7 +10,9 @@ ghost use Rattle.on_hand.specs.Work.{held_work_of, tables_from, IsNothing};
 
 /// Where nothing is held, the tables, the work and the points are those of all vectors.
 pub fn nothing_held_is_all()
-    ensures tables { (c : CaseRows) (held : List ℕ) → IsCase c → IsNothing held → tables_from c held ≡ sum_by (tables_of c) (line_units c) }
+    ensures tables { (c : CaseRows) (held : List ℕ) → IsCase c → IsNothing held
+        → tables_from c held ≡ sum_by (tables_of c) (line_units c) }
     ensures work { (c : CaseRows) (held : List ℕ) → IsCase c → IsNothing held → held_work_of c held ≡ work_of c }
-    ensures points { (ends : ScoreEnds) (c : CaseRows) (held : List ℕ) → IsNothing held → case_points ends c held ≡ case_points ends c [] }
+    ensures points { (ends : ScoreEnds) (c : CaseRows) (held : List ℕ) → IsNothing held
+        → case_points ends c held ≡ case_points ends c [] }
 {}

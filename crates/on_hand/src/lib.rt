@@ -1,6 +1,8 @@
-//! Plans that begin with stocks on hand: the work and the curves from what is held to the limits, and their certificates.
+//! Plans that begin with stocks on hand: the work and the curves from what is held to the limits, and their
+//! certificates.
 //!
-//! Such a certificate embeds all lines of a certificate of format 2, its own `end` included, and then says what is held.
+//! Such a certificate embeds all lines of a certificate of format 2, its own `end` included, and then says what is
+//! held.
 #![tactic(auto)]
 
 mod curves;

@@ -46,7 +46,8 @@ fn shop_rooms(case: &Case, held: &Stocks, line: PartId, site: SiteId) -> ShopRoo
     requires site { site.0 < length case.now.sites }
     ensures count { result.count ≡ length (shop_units case.now line.0) }
     ensures sum { result.sum ≡ sum (map (room case.now held.now.list site.0) (shop_units case.now line.0)) }
-    ensures ways { result.ways ≡ counted (product (map (room case.now held.now.list site.0) (shop_units case.now line.0))) }
+    ensures ways { result.ways ≡ counted (product
+        (map (room case.now held.now.list site.0) (shop_units case.now line.0))) }
     ensures few { (result.count ≤ 2000) × (result.sum ≤ 128000) }
 {
     let mut shops = ShopRooms {
@@ -66,13 +67,14 @@ fn shop_rooms(case: &Case, held: &Stocks, line: PartId, site: SiteId) -> ShopRoo
     shops
 }
 
-/// In how many ways the shop units of a line unit can be stocked at each base, from what is held to their limits: the sum over the
-/// bases, or 2^64 - 1 where it is larger.
+/// In how many ways the shop units of a line unit can be stocked at each base, from what is held to their limits: the
+/// sum over the bases, or 2^64 - 1 where it is larger.
 fn base_ways(case: &Case, held: &Stocks, line: PartId) -> u64
     requires held { IsFor case.now held.now }
     requires limits { IsWithinLimits case.now held.now }
     requires line { line.0 < length case.now.parts }
-    ensures { result ≡ counted (sum_by product (map (λ j. map (room case.now held.now.list j) (shop_units case.now line.0)) (bases case.now))) }
+    ensures { result ≡ counted (sum_by product
+        (map (λ j. map (room case.now held.now.list j) (shop_units case.now line.0)) (bases case.now))) }
 {
     let mut ways: u64 = 0;
     for j in 1..case.site_count() {
@@ -81,12 +83,14 @@ fn base_ways(case: &Case, held: &Stocks, line: PartId) -> u64
     ways
 }
 
-/// How many tables the curve of a family takes over its vectors from what is held to the limits, or 2^64 - 1 where it takes more.
+/// How many tables the curve of a family takes over its vectors from what is held to the limits, or 2^64 - 1 where it
+/// takes more.
 fn held_tables(case: &Case, held: &Stocks, line: PartId) -> u64
     requires held { IsFor case.now held.now }
     requires limits { IsWithinLimits case.now held.now }
     requires line { IsLine case.now line.0 }
-    ensures { result ≡ counted (tables_between case.now line.0 (vector_of case.now line.0 held.now.list) (limits case.now line.0)) }
+    ensures { result ≡ counted (tables_between case.now line.0
+        (vector_of case.now line.0 held.now.list) (limits case.now line.0)) }
 {
     let depot = SiteId(0);
     let bases = u64::from(case.site_count()) - 1;
@@ -97,9 +101,9 @@ fn held_tables(case: &Case, held: &Stocks, line: PartId) -> u64
         .saturating_add(lines.saturating_mul(base_ways(case, held, line)))
 }
 
-/// The tables of all families together over their vectors from what is held to the limits, where they are at most 1,000,000; and
-/// else this count is the refusal, or 2^64 - 1 where it is larger. The stocks that are held have a number for each pair of the
-/// case, at most its limit. It takes no memory.
+/// The tables of all families together over their vectors from what is held to the limits, where they are at most
+/// 1,000,000; and else this count is the refusal, or 2^64 - 1 where it is larger. The stocks that are held have a
+/// number for each pair of the case, at most its limit. It takes no memory.
 pub fn held_work(case: &Case, held: &Stocks) -> Result<u64, u64>
     requires held { IsFor case.now held.now }
     requires limits { IsWithinLimits case.now held.now }
