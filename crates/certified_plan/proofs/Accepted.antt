@@ -1,5 +1,5 @@
 -- No rule of the checker refuses the certificate of a plan.
-use Rattle.std.proofs.Common.{◌≡◌, ◌==◌, ℕ, zero, suc, ◌+◌, ◌-◌, ◌*◌, ◌/◌, ◌%◌, ◌<◌, ◌≤◌, min, inl, inr, Bool, true, false, cond, List, [], ◌∷◌, length, map, get_or, sum_by, Option, Some, None, is_none, Result, Ok, Err, refl, sym, ap, ◌∙◌, subst, arith}
+use Rattle.std.proofs.Common.{◌≡◌, ◌==◌, ℕ, zero, suc, ◌+◌, ◌*◌, ◌/◌, ◌%◌, ◌<◌, ◌≤◌, Bool, true, false, List, [], ◌∷◌, length, map, get_or, sum_by, Option, Some, None, is_none, Ok, Err, refl, sym, ap, ◌∙◌, subst, arith}
 use Rattle.std.specs.Prelude.{nat_le, if◌then◌else◌, unwrap_or}
 use Rattle.std.specs.Result.{IsOk}
 use Rattle.std.proofs.lemmas.Bool.{leb-true, false≢true}
@@ -12,17 +12,15 @@ use Rattle.hull.specs.declared.point.Point.{Point}
 use Rattle.hull.specs.declared.price.Price.{Price}
 use Rattle.hull.specs.Curves.{lagrangian, Among}
 use Rattle.spares_input.specs.First.{first, unless}
-use Rattle.spares_input.specs.Cases.{CaseRows, IsCase, frame_rows, pair_count}
+use Rattle.spares_input.specs.Cases.{CaseRows, frame_rows, pair_count}
 use Rattle.spares_input.specs.Stocks.{StockList, limit_at}
-use Rattle.spares_input.proofs.Firsts.{first-more}
 use Rattle.fleet_model.specs.Rows.{line_units, stock}
-use Rattle.fleet_model.specs.Aims.{IsHeldAllocation, cost_beyond}
 use Rattle.price_bounds.specs.Certificates.{AreFloors}
 use Rattle.family_eval.specs.Inputs.{IsLine}
 use Rattle.family_curve.specs.Vectors.{places, vector_of, limits, stock_list}
-use Rattle.family_curve.specs.Points.{ScoreEnds, added_cost, points_within}
+use Rattle.family_curve.specs.Points.{ScoreEnds, points_within}
 use Rattle.family_curve.specs.Counts.{counted, most_tables, tables_between}
-use Rattle.fleet_plan.specs.Families.{family_points, case_points}
+use Rattle.fleet_plan.specs.Families.{family_points}
 use Rattle.fleet_plan.specs.Plans.{CasePlan, IsTruePlan}
 use Rattle.fleet_plan.proofs.Bridge.{plan_true}
 use Rattle.fleet_plan.proofs.Costs.{families_beyond}
@@ -33,13 +31,11 @@ use Rattle.price_certificate.specs.declared.certificate.Node.{Node}
 use Rattle.price_certificate.specs.declared.certificate.Node.TheVariants as node
 use Rattle.price_certificate.specs.Covers as cover
 use Rattle.price_certificate.specs.Covers.{Tree, held_at, most_at, IsTrim, places_of, trimmed}
-use Rattle.gap_checker.specs.declared.refusal.Accepted.{Accepted}
-use Rattle.gap_checker.specs.declared.refusal.Reject.{Reject}
 use Rattle.gap_checker.specs.declared.refusal.Reject.TheVariants as reject
 use Rattle.gap_checker.specs.Covers.{leaves}
 use Rattle.gap_checker.specs.Trees.{leaves_of}
 use Rattle.gap_checker.specs.Values.{value_of, cover_tables}
-use Rattle.gap_checker.specs.Refusals.{family_count, line_at, box_from, nodes_of, cover_of, family_leaves, gap_at, family_tables, tables_of_first, work_of, over_limit, too_low, below_held, cost_above, leaf_value, low_at, chosen_of, upper_of, largest_of, reject_of, judged}
+use Rattle.gap_checker.specs.Refusals.{family_count, box_from, cover_of, family_leaves, gap_at, family_tables, work_of, over_limit, too_low, below_held, cost_above, leaf_value, low_at, upper_of, largest_of, reject_of}
 use Rattle.gap_checker.proofs.Costs.{added-is}
 use Rattle.gap_checker.proofs.Judging.{by_none}
 use Rattle.gap_checker.proofs.Readings.{trees_are_read}
@@ -47,12 +43,11 @@ use Rattle.gap_checker.proofs.Stock_faults.{else_none}
 use Rattle.certified_plan.specs.declared.terms.Terms.{Terms}
 use Rattle.certified_plan.specs.Scores as scores
 use Rattle.certified_plan.specs.Scores.{ends_of}
-use Rattle.certified_plan.specs.Certificates as own
 use Rattle.certified_plan.specs.Certificates.{covers_of, certificate_of, claims_of}
 use Rattle.on_hand.specs.Work.{tables_from}
 use Rattle.certified_plan.specs.Inputs.{IsWithinWork}
 use Rattle.certified_plan.specs.Laws.{IsPlanOn}
-use Rattle.certified_plan.proofs.Corners.{Lists, Boxed, lawful_box}
+use Rattle.certified_plan.proofs.Corners.{Boxed, lawful_box}
 use Rattle.certified_plan.proofs.Families.{count_is, held_lists, most_lists}
 use Rattle.certified_plan.proofs.Formed.{line_is, held_line, cover_is, trims}
 use Rattle.certified_plan.proofs.Leaves.{Leaf, none_low, leaf_floor, tables_most}

@@ -1,8 +1,8 @@
 -- The places of a family as a cover sees them, and as its vectors list them.
-use Rattle.std.proofs.Common.{◌≡◌, ℕ, zero, suc, ◌+◌, ◌-◌, ◌*◌, ◌/◌, ◌%◌, ◌<◌, ◌≤◌, List, [], ◌∷◌, ◌++◌, length, map, flat_map, get_or, All, refl, sym, ap, ap₂, ◌∙◌, subst, arith}
+use Rattle.std.proofs.Common.{◌≡◌, ℕ, zero, suc, ◌+◌, ◌-◌, ◌*◌, ◌/◌, ◌%◌, ◌<◌, List, [], ◌∷◌, ◌++◌, length, map, flat_map, get_or, All, refl, sym, ap, ap₂, ◌∙◌, arith}
 use Rattle.std.specs.List.{range_with_len}
 use Rattle.std.proofs.lemmas.Nat.{div-add-mod', div_below, mod_below}
-use Rattle.std.proofs.lemmas.List.{length-map, length-append, get_or-map, get_or_append_left, get_or-append-add}
+use Rattle.std.proofs.lemmas.List.{length-map, get_or-map, get_or_append_left, get_or-append-add}
 use Rattle.std.proofs.lemmas.List.FromFn.{length-range_with_len, get_or-range_with_len, get_or-map-range_with_len}
 use Rattle.spares_input.specs.Frames.{part_at}
 use Rattle.spares_input.specs.Stocks.{limit_at}
@@ -10,7 +10,7 @@ use Rattle.spares_input.specs.Cases.{CaseRows, IsCase}
 use Rattle.fleet_model.specs.Rows.{all_sites}
 use Rattle.fleet_model.specs.Fleet.{family}
 use Rattle.family_eval.specs.Inputs.{IsLine}
-use Rattle.family_curve.specs.Vectors.{Pair, places_at, places, limits}
+use Rattle.family_curve.specs.Vectors.{Pair, places, limits}
 use Rattle.family_curve.specs.Points.{cost_above, added_cost}
 use Rattle.fleet_plan.proofs.Places.{length_places}
 use Rattle.price_certificate.specs.declared.place.Place.{Place}

@@ -1,10 +1,9 @@
 -- The certificate of a plan is well formed.
-use Rattle.std.proofs.Common.{◌≡◌, ◌==◌, ℕ, zero, suc, ◌+◌, ◌*◌, ◌^◌, ◌<◌, ◌≤◌, ◌⊎◌, inl, inr, Bool, true, false, cond, List, [], ◌∷◌, length, map, get_or, All, refl, sym, ap, ◌∙◌, subst, arith, eq-eqb, ne_eqb}
-use Rattle.std.specs.List.{range_with_len}
+use Rattle.std.proofs.Common.{◌≡◌, ◌==◌, ℕ, zero, suc, ◌<◌, ◌≤◌, ◌⊎◌, inl, inr, Bool, true, false, cond, List, [], ◌∷◌, length, map, get_or, All, refl, sym, ap, ◌∙◌, subst, arith, eq-eqb, ne_eqb}
 use Rattle.std.proofs.lemmas.List.{get_or_past}
 use Rattle.std.proofs.lemmas.List.Elements.{All-from_recursion, All-from_get_or}
 use Rattle.std.proofs.lemmas.List.FromFn.{get_or-map-range_with_len, length-map-range_with_len}
-use Rattle.spares_input.specs.Rows.{is_line, no_part}
+use Rattle.spares_input.specs.Rows.{no_part}
 use Rattle.spares_input.specs.Frames.{part_at}
 use Rattle.spares_input.specs.Stocks.{StockList, limit_at}
 use Rattle.spares_input.specs.Cases.{CaseRows, IsCase}
@@ -12,24 +11,23 @@ use Rattle.fleet_model.specs.Rows.{line_units}
 use Rattle.family_eval.specs.Inputs.{IsLine}
 use Rattle.family_curve.specs.Vectors.{Pair, places, vector_of, limits}
 use Rattle.fleet_plan.specs.Plans.{CasePlan}
-use Rattle.fleet_plan.proofs.Places.{lines_are, at_among, length_vector}
+use Rattle.fleet_plan.proofs.Places.{lines_are, at_among}
 use Rattle.case_plan.specs.Laws.{FitsItsPlace}
 use Rattle.case_plan.proofs.Ranges.{plan_fits}
 use Rattle.price_certificate.specs.declared.place.Place.{Place}
-use Rattle.price_certificate.specs.declared.certificate.Certificate.{Certificate}
 use Rattle.price_certificate.specs.declared.certificate.Node.{Node}
-use Rattle.price_certificate.specs.Covers.{Tree, no_place, held_at, most_at, IsTrim, places_of, nodes_of, trimmed}
-use Rattle.price_certificate.specs.Certificates.{IsNode, IsCover, IsFirst, IsSecond, IsWellFormed}
+use Rattle.price_certificate.specs.Covers.{no_place, held_at, most_at, IsTrim, places_of, nodes_of, trimmed}
+use Rattle.price_certificate.specs.Certificates.{IsNode, IsCover, IsSecond, IsWellFormed}
 use Rattle.price_certificate.proofs.Trims.{trim_is}
 use Rattle.gap_checker.specs.Boxes.{AtMost}
 use Rattle.gap_checker.proofs.Adding.{few_places}
 use Rattle.gap_checker.proofs.Families.{held_limited}
 use Rattle.gap_checker.proofs.Formed.{lines-counted}
-use Rattle.gap_checker.proofs.Places.{IsPair, place_pair}
+use Rattle.gap_checker.proofs.Places.{place_pair}
 use Rattle.hull.specs.Curves.{Among}
 use Rattle.certified_plan.specs.declared.terms.Terms.{Terms}
 use Rattle.certified_plan.specs.Scores.{ends_of, value_of}
-use Rattle.certified_plan.specs.Certificates.{cover_of, cover_at, covers_of, certificate_of, claims_of}
+use Rattle.certified_plan.specs.Certificates.{cover_at, covers_of, certificate_of, claims_of}
 use Rattle.certified_plan.specs.declared.terms.PlanClaims.{PlanClaims}
 use Rattle.certified_plan.specs.Inputs.{AreTerms, IsHeld, AreClaims}
 use Rattle.certified_plan.specs.Laws.{IsPlanOn}

@@ -1,5 +1,5 @@
 -- The leaves of a trimmed cover: none is below the floor, and together they take no more tables than the whole family.
-use Rattle.std.proofs.Common.{◌≡◌, ℕ, zero, suc, ◌+◌, ◌-◌, ◌*◌, ◌<◌, ◌≤◌, inl, inr, List, [], ◌∷◌, ◌++◌, length, map, get_or, set, sum_by, Option, Some, None, refl, sym, ap, ◌∙◌, subst, arith}
+use Rattle.std.proofs.Common.{◌≡◌, ℕ, suc, ◌+◌, ◌-◌, ◌*◌, ◌<◌, ◌≤◌, inl, inr, List, [], ◌∷◌, length, get_or, set, None, refl, sym, ap, ◌∙◌, subst, arith}
 use Rattle.std.proofs.lemmas.List.{ext_get_or}
 use Rattle.std.proofs.lemmas.List.Sums.{sum_by-cons, sum_by-append}
 use Rattle.hull.specs.declared.point.Point.{Point}
@@ -22,7 +22,7 @@ use Rattle.gap_checker.proofs.Boxes.{at_most-self, at_most-chain, at_most-unset_
 use Rattle.gap_checker.proofs.Among_laws.{IsOf, IsBetween, among-either, among-map, among-of, among-vectors, between}
 use Rattle.gap_checker.proofs.Stock_faults.{less_false}
 use Rattle.certified_plan.proofs.Corners.{Lists, Boxed, cut_of, fewer_boxed, as_many_boxed, below_high}
-use Rattle.certified_plan.proofs.Families.{added_is, count_is, held_is, most_is}
+use Rattle.certified_plan.proofs.Families.{added_is, held_is}
 use Rattle.certified_plan.proofs.Trees.{HasOneWhole}
 use Rattle.certified_plan.proofs.Tables.{tables_more}
 

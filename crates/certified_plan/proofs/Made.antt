@@ -1,5 +1,5 @@
 -- How the covers are made, one after another.
-use Rattle.std.proofs.Common.{◌≡◌, ℕ, ◌+◌, ◌<◌, ◌≤◌, List, [], ◌∷◌, ◌++◌, length, map, get_or, refl, sym, ap, ap₂, ◌∙◌, subst, arith}
+use Rattle.std.proofs.Common.{◌≡◌, ℕ, ◌+◌, ◌≤◌, List, [], ◌∷◌, ◌++◌, length, map, get_or, sym, ap, ap₂, ◌∙◌, subst, arith}
 use Rattle.std.specs.List.{range_with_len}
 use Rattle.std.proofs.lemmas.List.FromFn.{map-range_with_len_more}
 use Rattle.spares_input.specs.declared.rows.PartId.{PartId}
@@ -7,12 +7,11 @@ use Rattle.spares_input.specs.Cases.{CaseRows}
 use Rattle.spares_input.specs.Stocks.{StockList}
 use Rattle.fleet_model.specs.Rows.{line_units}
 use Rattle.family_eval.specs.Inputs.{IsLine}
-use Rattle.family_curve.specs.Vectors.{places, vector_of, limits}
+use Rattle.family_curve.specs.Vectors.{vector_of}
 use Rattle.fleet_plan.proofs.Places.{length_places, length_vector}
 use Rattle.price_certificate.specs.declared.certificate.Node.{Node}
 use Rattle.price_certificate.specs.Covers as cover
 use Rattle.price_certificate.specs.Covers.{place_count}
-use Rattle.gap_checker.specs.Boxes.{AtMost}
 use Rattle.gap_checker.proofs.Families.{line_of, count_lines}
 use Rattle.certified_plan.specs.Inputs.{IsHeld}
 use Rattle.certified_plan.specs.Certificates.{cover_of, cover_at, covers_of}

@@ -1,16 +1,15 @@
 -- A plan's certificate has few numbers, and its text is within what is read.
-use Rattle.std.proofs.Common.{◌≡◌, ◌==◌, ℕ, suc, ◌+◌, ◌*◌, ◌<◌, ◌≤◌, Bool, true, false, cond, List, [], ◌∷◌, length, map, get_or, refl, sym, ap, ◌∙◌, subst, arith}
+use Rattle.std.proofs.Common.{◌≡◌, ◌==◌, ℕ, ◌+◌, ◌*◌, ◌<◌, ◌≤◌, Bool, true, false, cond, List, [], length, get_or, sym, subst, arith}
 use Rattle.std.specs.List.{AllByRecursion}
 use Rattle.std.proofs.lemmas.List.Elements.{recursion_from_All, All-from_get_or}
 use Rattle.spares_input.specs.Stocks.{StockList}
 use Rattle.spares_input.specs.Cases.{CaseRows, IsCase}
 use Rattle.fleet_model.specs.Rows.{line_units}
 use Rattle.fleet_model.proofs.AllocationLaws.{allocation_reaches, stocks-allocation}
-use Rattle.family_eval.specs.Inputs.{IsLine}
 use Rattle.family_curve.specs.Vectors.{vector_of}
 use Rattle.fleet_plan.specs.Plans.{CasePlan}
 use Rattle.price_certificate.specs.declared.certificate.Node.{Node}
-use Rattle.price_certificate.specs.Covers.{places_of, nodes_of, trimmed}
+use Rattle.price_certificate.specs.Covers.{places_of}
 use Rattle.price_certificate.specs.Certificates.{IsNode, cert_text}
 use Rattle.price_certificate.specs.Grammar.{certificate_format}
 use Rattle.on_hand.specs.declared.held.HeldCertificate.{HeldCertificate}

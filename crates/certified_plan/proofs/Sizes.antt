@@ -1,5 +1,5 @@
 -- The text of a plan's certificate is short enough to be read.
-use Rattle.std.proofs.Common.{◌≡◌, ◌==◌, ℕ, zero, suc, ◌+◌, ◌*◌, ◌/◌, ◌%◌, ◌^◌, ◌<◌, ◌≤◌, ◌⊎◌, ◌&&◌, not, inl, inr, Bool, true, false, cond, List, [], ◌∷◌, ◌++◌, length, get_or, All, Option, Some, None, is_none, refl, sym, ap, subst, arith}
+use Rattle.std.proofs.Common.{◌≡◌, ◌==◌, ℕ, ◌+◌, ◌*◌, ◌/◌, ◌%◌, ◌^◌, ◌<◌, ◌≤◌, ◌⊎◌, ◌&&◌, not, inl, inr, Bool, true, false, cond, List, [], ◌∷◌, ◌++◌, length, All, Option, Some, None, is_none, refl, ap, arith}
 use Rattle.std.specs.Fmt.{decimal}
 use Rattle.std.specs.List.{AllByRecursion}
 use Rattle.std.proofs.Math.Nat.{div-le_self}
@@ -8,10 +8,10 @@ use Rattle.std.proofs.lemmas.Bool.{and_parts, leb-true}
 use Rattle.std.proofs.lemmas.List.{get_or_past}
 use Rattle.std.proofs.lemmas.List.Elements.{recursion_from_All}
 use Rattle.fixed_interval.specs.Text.{fixed_text}
-use Rattle.line_text.specs.Formats.{Token, Format, one}
+use Rattle.line_text.specs.Formats.{Token, one}
 use Rattle.line_text.specs.Files.{line}
 use Rattle.line_text.specs.Texts.{word, word_line, number_line, count_fields, count_line, counted, numbers_from}
-use Rattle.spares_input.specs.Names.{is_name, has_length, is_trimmed, name_byte}
+use Rattle.spares_input.specs.Names.{is_name, has_length, is_trimmed}
 use Rattle.spares_input.specs.Rows.{IsField, IsSiteRow, IsPartRow, IsRateRow, no_part, no_site}
 use Rattle.spares_input.specs.Frames.{part_at, site_at}
 use Rattle.spares_input.specs.Cases.{CaseRows, IsCase, IsRateOf, frame_rows, pair_count}
@@ -20,7 +20,7 @@ use Rattle.spares_input.specs.declared.rows.PartRow.{PartRow}
 use Rattle.spares_input.specs.declared.rows.RateRow.{RateRow}
 use Rattle.case_lines.specs.Grammar as lines
 use Rattle.hull.specs.declared.price.Price.{Price}
-use Rattle.spares_input.specs.Stocks.{StockList, IsFor, limit_at}
+use Rattle.spares_input.specs.Stocks.{IsFor, limit_at}
 use Rattle.price_certificate.specs.declared.certificate.Certificate.{Certificate}
 use Rattle.price_certificate.specs.declared.certificate.Objective.{Objective}
 use Rattle.price_certificate.specs.declared.certificate.Objective.TheVariants.{Backorders, LogAvailability}

@@ -1,13 +1,12 @@
 -- What the trees of covers have: nodes within their ranges, few of them, and one leaf that is shown whole.
-use Rattle.std.proofs.Common.{◌≡◌, ℕ, zero, suc, ◌+◌, ◌-◌, ◌*◌, ◌<◌, ◌≤◌, Bool, true, false, cond, List, [], ◌∷◌, ◌++◌, length, refl, arith}
+use Rattle.std.proofs.Common.{◌≡◌, ℕ, suc, ◌+◌, ◌-◌, ◌*◌, ◌≤◌, Bool, true, false, cond, List, [], ◌∷◌, length, refl, arith}
 use Rattle.std.specs.Prelude.{⊤, ◌==◌, nat_le}
 use Rattle.std.specs.List.{AllByRecursion}
 use Rattle.std.proofs.lemmas.List.{length-append}
 use Rattle.family_curve.proofs.Boxes.{each_append}
 use Rattle.price_certificate.specs.declared.place.Place.{Place}
-use Rattle.price_certificate.specs.declared.certificate.Node.{Node}
 use Rattle.price_certificate.specs.Certificates.{IsNode}
-use Rattle.price_certificate.specs.Covers.{Tree, Whole, Cost, Cut, Corner, put, IsLawful, nodes_of, no_place, IsTrim, reach, trimmed_from, trimmed}
+use Rattle.price_certificate.specs.Covers.{Tree, Whole, Cost, Cut, Corner, put, IsLawful, nodes_of, reach, trimmed_from, trimmed}
 
 -- ---- one leaf is shown whole
 

@@ -1,11 +1,11 @@
 -- How long the texts of formats are. Each token counts for its bytes and for one more, a separator where it is a field.
-use Rattle.std.proofs.Common.{◌≡◌, ℕ, zero, suc, ◌+◌, ◌*◌, ◌/◌, ◌^◌, ◌<◌, ◌≤◌, Bool, true, false, List, [], ◌∷◌, ◌++◌, length, refl, arith, length-append}
+use Rattle.std.proofs.Common.{◌≡◌, ℕ, suc, ◌+◌, ◌*◌, ◌/◌, ◌^◌, ◌<◌, ◌≤◌, Bool, true, false, List, [], ◌∷◌, ◌++◌, length, arith, length-append}
 use Rattle.std.specs.Fmt.{decimal}
 use Rattle.std.specs.List.{AllByRecursion, join_with_byte, concat}
 use Rattle.std.proofs.lemmas.Fmt.{length-decimal-le_wide}
 use Rattle.fixed_interval.specs.Text.{fixed_text, last_digits}
 use Rattle.fixed_interval.proofs.Text.{length-last_digits}
-use Rattle.line_text.specs.Formats.{Token, Text, Format, one, print_after}
+use Rattle.line_text.specs.Formats.{Token, Format, one, print_after}
 use Rattle.line_text.specs.Files.{line}
 use Rattle.line_text.specs.Texts.{number_line, count_line, counted}
 use Rattle.case_lines.specs.Grammar.{number_if, fixed_if}

@@ -1,6 +1,6 @@
-use Rattle.std.proofs.Common.{get_or, refl, arith}
-use Rattle.gap_checker.proofs.Families.{line_is, count_lines}
-use Rattle.certified_plan.proofs.Made.{covers_more, covers_all_made}
+use Rattle.std.proofs.Common.{get_or, refl}
+use Rattle.gap_checker.proofs.Families.{line_is}
+use Rattle.certified_plan.proofs.Made.{covers_more}
 use Rattle.certified_plan.proofs.certifying.covers_along.Goals as goal
 
 pub cover_of-requires-clause-line : goal.cover_of-requires-clause-line
