@@ -58,7 +58,7 @@ def random_sites(rng):
 
 
 def random_parts(rng, bases):
-    """Rows of parts with a seventh field for the weight: up to 4 line units with up to 2 shop units each, or up to 6 alone."""
+    """Rows of parts with a field for the weight: up to 4 line units with up to 2 shop units each, or up to 6 alone."""
     names = rng.sample(PART_NAMES, len(PART_NAMES))
     is_many = rng.random() < 0.25
     rows = []
@@ -66,12 +66,12 @@ def random_parts(rng, bases):
         line = names.pop()
         cost = rng.randint(5, 60) if is_many else rng.choice([1, 2, 100, 1000, rng.randint(1, 5000)])
         units = 0 if is_many else rng.choice([0, 0, 1, 1, 2]) if bases < 4 else rng.choice([0, 0, 1])
-        limits = [rng.choice([0, 1, 2, 4]), rng.choice([0, 1, 2, 3])]
+        limits = [rng.choice("0124"), rng.choice("0123")]
         per_system, weight = rng.choice(["1", "1", "2", "100"]), rng.choice(["1", "1", "2", "100"])
-        rows.append([line, "", str(cost), per_system, *map(str, limits), weight])
+        rows.append([line, "", str(cost), per_system, *limits, weight])
         for _ in range(units):
-            least = [rng.choice([0, 1, 2]), rng.choice([0, 1])]
-            rows.append([names.pop(), line, str(rng.choice([1, 100, rng.randint(1, 1000)])), "", *map(str, least), ""])
+            unit_cost = rng.choice([1, 100, rng.randint(1, 1000)])
+            rows.append([names.pop(), line, str(unit_cost), "", rng.choice("012"), rng.choice("01"), ""])
     if rng.random() < 0.3:
         rng.shuffle(rows)
     return rows
@@ -102,8 +102,10 @@ def random_case(rng):
     parts = random_parts(rng, len(sites) - 1)
     style = rng.choice(["calm"] * 6 + ["wild", "still"])
     rates = [random_rate(rng, part, site, style) for part in parts for site in sites]
-    if parts and rng.random() < 0.3:
-        make_alike(rng, parts, sites, rates)
+    if rng.random() < 0.3:
+        make_parts_alike(rng, parts, sites, rates)
+    if rng.random() < 0.3:
+        make_bases_alike(rng, parts, sites, rates)
     if rng.random() < 0.3:
         rng.shuffle(rates)
     is_weighted = rng.random() < 0.4
@@ -112,15 +114,25 @@ def random_case(rng):
     return {"sites": [HEADERS["sites"]] + sites, "parts": [header] + parts, "rates": [HEADERS["rates"]] + rates}
 
 
-def make_alike(rng, parts, sites, rates):
-    """Some line units are the same but for their names: equal steps."""
-    lines = [index for index, part in enumerate(parts) if not part[1]]
-    first, *others = rng.sample(lines, rng.randint(1, len(lines)))
-    count = len(sites)
-    for index in others:
-        parts[index][2:] = parts[first][2:]
-        for site in range(count):
-            rates[index * count + site][2:] = rates[first * count + site][2:]
+def make_parts_alike(rng, parts, sites, rates):
+    """Some line units, and some shop units of each, are the same but for their names: equal steps, and equal points."""
+    parents = {part[1] for part in parts}
+    for parent in sorted(parents):
+        group = [index for index, part in enumerate(parts) if part[1] == parent]
+        first, *others = rng.sample(group, rng.randint(1, len(group)))
+        for index in others:
+            parts[index][2:] = parts[first][2:]
+            for site in range(len(sites)):
+                rates[index * len(sites) + site][2:] = rates[first * len(sites) + site][2:]
+
+
+def make_bases_alike(rng, parts, sites, rates):
+    """Two bases are the same but for their names."""
+    bases = [index for index, site in enumerate(sites) if site[1] == "base"]
+    first, other = rng.choice(bases), rng.choice(bases)
+    sites[other][1:] = sites[first][1:]
+    for part in range(len(parts)):
+        rates[part * len(sites) + other][2:] = rates[part * len(sites) + first][2:]
 
 
 def damaged_rows(rng, rows):
