@@ -47,7 +47,4 @@ check 'a word that is no text' 2 '' 'fault,words\n' single $'\xff' 1
 "$program" single 200 63 2>"$room/err" | head -n 1 >"$room/out"
 compare 'single 200 63, first line' 0 "${PIPESTATUS[0]}" 'backorders,137.000000,137.000001\n' ''
 
-"$program" single 1 1 >/dev/full 2>"$room/err"
-status=$?
-: >"$room/out"
-compare 'output to a full device' 6 "$status" '' 'fault,write\n'
+on_full_device 'single: a report to a full device' single 1 1

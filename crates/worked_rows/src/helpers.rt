@@ -26,24 +26,35 @@ pub(crate) fn empty_shelf(alloc: Global) -> Result<MemShelf, NoMemory> {
     MemShelf::new(alloc, Vec::new(alloc), Vec::new(alloc))
 }
 
+/// These files, and the numbers of the calls that fail.
+pub(crate) fn shelf_with(
+    alloc: Global,
+    held: &[(&str, &[u8])],
+    fails: &[u32],
+) -> Result<MemShelf, NoMemory> {
+    let mut files = Vec::new(alloc);
+    for (name, bytes) in held {
+        files.push((Text::from_str(alloc, name)?, List::of(bytes.to_vec(alloc)?)))?;
+    }
+    if !MemShelf::are_distinct(files.as_slice()) {
+        return Err(NoMemory);
+    }
+    MemShelf::new(alloc, files, fails.to_vec(alloc)?)
+}
+
 /// The files `sites`, `parts`, `rates` and `stocks`, and the numbers of the calls that fail.
 pub(crate) fn shelf_of(
     alloc: Global,
     tables: [&str; 4],
     fails: &[u32],
 ) -> Result<MemShelf, NoMemory> {
-    let names = ["sites", "parts", "rates", "stocks"];
-    let mut files = Vec::new(alloc);
-    for (name, table) in names.iter().zip(tables) {
-        files.push((
-            Text::from_str(alloc, name)?,
-            List::of(table.as_bytes().to_vec(alloc)?),
-        ))?;
-    }
-    if !MemShelf::are_distinct(files.as_slice()) {
-        return Err(NoMemory);
-    }
-    MemShelf::new(alloc, files, fails.to_vec(alloc)?)
+    let held = [
+        ("sites", tables[0].as_bytes()),
+        ("parts", tables[1].as_bytes()),
+        ("rates", tables[2].as_bytes()),
+        ("stocks", tables[3].as_bytes()),
+    ];
+    shelf_with(alloc, &held, fails)
 }
 
 /// How a run ended, and what it put on its two outputs.
@@ -52,6 +63,24 @@ pub(crate) struct Ended<'a> {
     pub(crate) status: u8,
     pub(crate) out: &'a str,
     pub(crate) err: &'a str,
+}
+
+/// A report, and nothing else.
+pub(crate) fn printed(report: &str) -> Ended {
+    Ended {
+        status: 0,
+        out: report,
+        err: "",
+    }
+}
+
+/// A refusal with nothing printed.
+pub(crate) fn refused(status: u8, line: &str) -> Ended {
+    Ended {
+        status,
+        out: "",
+        err: line,
+    }
 }
 
 /// Runs words that are parted by blanks, where the puts of the output fail as listed: it ends like this.

@@ -3,8 +3,14 @@
 #![tactic(auto)]
 
 #[cfg(test)]
+mod check_tests;
+#[cfg(test)]
+mod demo_tests;
+#[cfg(test)]
 mod eval_tests;
 #[cfg(test)]
 mod helpers;
+#[cfg(test)]
+mod plan_tests;
 #[cfg(test)]
 mod tests;

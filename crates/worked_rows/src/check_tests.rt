@@ -1,0 +1,280 @@
+use crate::helpers::{Ended, ends, printed, refused, shelf_with};
+use spares_io::{MemShelf, NoMemory};
+use std::alloc::Global;
+use std::process::Abort;
+use std::test::*;
+
+/// The words of `check` on a shelf that holds a certificate.
+const CHECK: &str = "check --certificate certificate";
+
+/// Nothing bought for a line unit at the depot and one base, at a price of one backorder for 100 of money; without the last line feed.
+const PLAIN: &str =
+    "spares-certificate,1\nsites,2\nD,depot,,\nB,base,12,10.00\nparts,1\nL,,100,1,2,3\nrates,2\nL,D,,,,20.00\nL,B,36.5000,0.0000,,0.00\nbudget,0\nprice,281474976710656,100\nfloors,1\n84442493013196800\nstocks,2\n0\n0\nupper,844424930131968\nbound,844424930131968\nend";
+
+/// The same in the second format, where a cover shows the floor.
+const COVERED: &str =
+    "spares-certificate,2\nobjective,backorders\nsites,2\nD,depot,,\nB,base,12,10.00\nparts,1\nL,,100,1,2,3\nrates,2\nL,D,,,,20.00\nL,B,36.5000,0.0000,,0.00\nbudget,0\nprice,281474976710656,100\nfloors,1\n84442493013196800\ncovers,1\ncover,3\nsplit,1,3\nwhole\ncost\nstocks,2\n0\n0\nupper,844424930131968\nbound,844424930131968\nend";
+
+/// More lines than any of them has.
+const ALL: usize = 100;
+
+/// No change.
+const SAME: (usize, &str) = (0, "");
+
+/// A certificate, what its lines of these numbers are instead, and the report.
+const ACCEPTED: [(&str, [(usize, &str); 3], &str); 6] = [
+    (
+        PLAIN,
+        [SAME, SAME, SAME],
+        "accepted,1\nbudget,0\ncost,0\nupper,3.000000\nbound,3.000000\n",
+    ),
+    (
+        COVERED,
+        [SAME, SAME, SAME],
+        "accepted,2\nbudget,0\ncost,0\nupper,3.000000\nbound,3.000000\n",
+    ),
+    (
+        PLAIN,
+        [(18, "bound,0"), SAME, SAME],
+        "accepted,1\nbudget,0\ncost,0\nupper,3.000000\nbound,0.000000\n",
+    ),
+    (
+        PLAIN,
+        [(17, "upper,844424930131969"), SAME, SAME],
+        "accepted,1\nbudget,0\ncost,0\nupper,3.000001\nbound,3.000000\n",
+    ),
+    (
+        PLAIN,
+        [(11, "price,0,1"), (13, "0"), (18, "bound,0")],
+        "accepted,1\nbudget,0\ncost,0\nupper,3.000000\nbound,0.000000\n",
+    ),
+    (
+        PLAIN,
+        [
+            (11, "price,281474976710656,1"),
+            (13, "844424930131968"),
+            SAME,
+        ],
+        "accepted,1\nbudget,0\ncost,0\nupper,3.000000\nbound,3.000000\n",
+    ),
+];
+
+/// The same, and the line of the refusal.
+const REFUSED: [(&str, [(usize, &str); 3], &str); 16] = [
+    (
+        PLAIN,
+        [(13, "84442493013196801"), SAME, SAME],
+        "fault,rejected,floor-too-high,0,84442493013196801,84442493013196800\n",
+    ),
+    (
+        PLAIN,
+        [(17, "upper,844424930131967"), SAME, SAME],
+        "fault,rejected,upper-too-low,844424930131967,844424930131968\n",
+    ),
+    (
+        PLAIN,
+        [(18, "bound,844424930131969"), SAME, SAME],
+        "fault,rejected,bound-too-high,844424930131969,844424930131968\n",
+    ),
+    (
+        PLAIN,
+        [(16, "1"), SAME, SAME],
+        "fault,rejected,over-budget,100\n",
+    ),
+    (
+        PLAIN,
+        [(16, "4"), SAME, SAME],
+        "fault,rejected,stocks-over-limit,L,B,4\n",
+    ),
+    (
+        PLAIN,
+        [(4, "B,base,12,0.00"), SAME, SAME],
+        "fault,rejected,rate\n",
+    ),
+    (
+        PLAIN,
+        [
+            (4, "D,base,12,10.00"),
+            (9, "L,D,36.5000,0.0000,,0.00"),
+            SAME,
+        ],
+        "fault,bad-case\n",
+    ),
+    (
+        PLAIN,
+        [(1, "spares-certificate,3"), SAME, SAME],
+        "fault,bad-line,1\n",
+    ),
+    (
+        PLAIN,
+        [(1, "spares-certificate,1\r"), SAME, SAME],
+        "fault,bad-line,1\n",
+    ),
+    (
+        PLAIN,
+        [(11, "price,1,0"), SAME, SAME],
+        "fault,bad-line,11\n",
+    ),
+    (PLAIN, [(16, "00"), SAME, SAME], "fault,bad-line,16\n"),
+    (PLAIN, [(19, "end\nx"), SAME, SAME], "fault,bad-line,20\n"),
+    (
+        COVERED,
+        [(17, "split,1,2"), SAME, SAME],
+        "fault,rejected,leaf-too-low,0,1,84442493013196800,56294995342131200\n",
+    ),
+    (
+        COVERED,
+        [(17, "split,1,4"), SAME, SAME],
+        "fault,rejected,cover-gap,0\n",
+    ),
+    (
+        COVERED,
+        [(16, "cover,2"), (18, "whole\nstocks,2"), (19, "0")],
+        "fault,bad-line,21\n",
+    ),
+    (
+        COVERED,
+        [(17, "split,144,3"), SAME, SAME],
+        "fault,bad-line,17\n",
+    ),
+];
+
+/// The first lines of a certificate, and the line of the refusal.
+const CUT: [(usize, &str); 19] = [
+    (0, "fault,bad-line,1\n"),
+    (1, "fault,bad-line,2\n"),
+    (2, "fault,bad-line,3\n"),
+    (3, "fault,bad-line,4\n"),
+    (4, "fault,bad-line,5\n"),
+    (5, "fault,bad-line,6\n"),
+    (6, "fault,bad-line,7\n"),
+    (7, "fault,bad-line,8\n"),
+    (8, "fault,bad-line,9\n"),
+    (9, "fault,bad-line,10\n"),
+    (10, "fault,bad-line,11\n"),
+    (11, "fault,bad-line,12\n"),
+    (12, "fault,bad-line,13\n"),
+    (13, "fault,bad-line,14\n"),
+    (14, "fault,bad-line,15\n"),
+    (15, "fault,bad-line,16\n"),
+    (16, "fault,bad-line,17\n"),
+    (17, "fault,bad-line,18\n"),
+    (18, "fault,bad-line,19\n"),
+];
+
+/// The line of that number after the changes.
+fn changed<'a>(number: usize, line: &'a str, changes: &[(usize, &'a str)]) -> &'a str {
+    let mut now = line;
+    for (at, new) in changes {
+        if *at == number {
+            now = *new;
+        }
+    }
+    now
+}
+
+/// The first so many lines of a certificate, with some changed.
+fn bytes_of<'a>(
+    alloc: Global,
+    text: &'a str,
+    count: usize,
+    changes: &[(usize, &'a str)],
+) -> Result<Vec<u8>, NoMemory> {
+    let mut bytes = Vec::new(alloc);
+    let mut number: usize = 0;
+    for line in text.split('\n') {
+        number = number.saturating_add(1);
+        if number <= count {
+            bytes.extend_from_slice(changed(number, line, &*changes).as_bytes())?;
+            bytes.push(b'\n')?;
+        }
+    }
+    Ok(bytes)
+}
+
+/// The shelf of `check`, with such a certificate.
+fn certified(
+    alloc: Global,
+    text: &str,
+    count: usize,
+    changes: &[(usize, &str)],
+    fails: &[u32],
+) -> Result<MemShelf, NoMemory> {
+    let bytes = bytes_of(alloc, text, count, changes)?;
+    shelf_with(alloc, &[("certificate", bytes.as_slice())], fails)
+}
+
+/// Certificates are accepted.
+fn accepts(
+    rt: &impl Abort,
+    alloc: Global,
+    rows: &[(&str, [(usize, &str); 3], &str)],
+) -> Result<(), Fail> {
+    for (text, changes, report) in rows {
+        let mut shelf = certified(alloc, text, ALL, changes, &[])?;
+        ends(rt, alloc, CHECK, &mut shelf, &[], printed(report))?;
+    }
+    Ok(())
+}
+
+/// Certificates are refused.
+fn refuses(
+    rt: &impl Abort,
+    alloc: Global,
+    rows: &[(&str, [(usize, &str); 3], &str)],
+) -> Result<(), Fail> {
+    for (text, changes, line) in rows {
+        let mut shelf = certified(alloc, text, ALL, changes, &[])?;
+        ends(rt, alloc, CHECK, &mut shelf, &[], refused(4, line))?;
+    }
+    Ok(())
+}
+
+/// A certificate that ends early is refused.
+fn refuses_cut(rt: &impl Abort, alloc: Global, rows: &[(usize, &str)]) -> Result<(), Fail> {
+    for (count, line) in rows {
+        let mut shelf = certified(alloc, PLAIN, *count, &[], &[])?;
+        ends(rt, alloc, CHECK, &mut shelf, &[], refused(4, line))?;
+    }
+    Ok(())
+}
+
+#[test]
+fn accepts_certificates(rt: HostRuntime) -> Result<(), Fail> {
+    accepts(&rt, rt.alloc(), &ACCEPTED)
+}
+
+#[test]
+fn refuses_hostile_certificates(rt: HostRuntime) -> Result<(), Fail> {
+    refuses(&rt, rt.alloc(), &REFUSED)
+}
+
+#[test]
+fn refuses_certificates_that_end_early(rt: HostRuntime) -> Result<(), Fail> {
+    refuses_cut(&rt, rt.alloc(), &CUT)
+}
+
+/// The one read fails, the name isn't held, and the one put fails, after half of a report of 57 bytes.
+#[test]
+fn stops_a_check_at_each_call_that_fails(rt: HostRuntime) -> Result<(), Fail> {
+    let alloc = rt.alloc();
+    let unread = refused(5, "fault,read,certificate\n");
+    let mut failing = certified(alloc, PLAIN, ALL, &[], &[1])?;
+    ends(&rt, alloc, CHECK, &mut failing, &[], unread)?;
+    let mut whole = certified(alloc, PLAIN, ALL, &[], &[2])?;
+    ends(
+        &rt,
+        alloc,
+        "check --certificate other",
+        &mut whole,
+        &[],
+        unread,
+    )?;
+    let half = Ended {
+        status: 6,
+        out: "accepted,1\nbudget,0\ncost,0\nu",
+        err: "fault,write\n",
+    };
+    let mut full = certified(alloc, PLAIN, ALL, &[], &[2])?;
+    ends(&rt, alloc, CHECK, &mut full, &[1], half)
+}
