@@ -2,7 +2,7 @@
 #![tactic(auto)]
 
 ghost use Rattle.std.specs.Prelude.{IfErr};
-ghost use Rattle.spares_top.specs.Lines.{NamesNoPair};
+ghost use Rattle.refusals.specs.Lines.{NamesNoPair};
 
 use spares_io::{FileShelf, NoMemory, StdSink, Text};
 use spares_top::{Refusal, refuse, run, status};

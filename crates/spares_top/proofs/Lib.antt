@@ -1,3 +1,6 @@
+pub mod Confirmed
+pub mod Demonstrated
+pub mod Planned
 pub mod ReadInputs
 pub mod Shown
 pub mod Stops

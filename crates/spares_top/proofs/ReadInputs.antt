@@ -5,11 +5,11 @@ use Rattle.std.proofs.lemmas.Bool.{le-leb, lt-leb}
 use Rattle.std.proofs.lemmas.List.{append_assoc, take-append-drop, take_more}
 use Rattle.spares_io.specs.Causes.{Rose}
 use Rattle.spares_io.specs.Shelf.{Files, HoldsMore, Lacks, file_of}
-use Rattle.spares_top.specs.declared.refusal.failure.Failure.{Failure}
+use Rattle.refusals.specs.declared.failure.Failure.{Failure}
 use Rattle.spares_top.specs.declared.files.Input.{Input}
-use Rattle.spares_top.specs.declared.refusal.File.{File}
-use Rattle.spares_top.specs.declared.refusal.Refusal.TheVariants as refusal
-use Rattle.spares_top.specs.Causes.{of_reading, kind_of, plain_failure}
+use Rattle.refusals.specs.declared.refusal.File.{File}
+use Rattle.refusals.specs.declared.refusal.Refusal.TheVariants as refusal
+use Rattle.refusals.specs.Causes.{of_reading, kind_of, plain_failure}
 use Rattle.spares_top.specs.Files.{AllGave, Gave, IsTooLong, IsUnread, NoneRose, Reads, StandStill, StopsAt, content_of, reads}
 use Rattle.spares_io.specs.declared.stop.Stop.{Stop}
 use Rattle.spares_io.specs.declared.stop.Stop.TheVariants as stop

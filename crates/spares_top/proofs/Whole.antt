@@ -1,7 +1,7 @@
 -- What an order promises, from what is made and delivered; and what `run` promises.
 use Rattle.std.proofs.Common.{◌≡◌, ◌∙◌, [], ◌∷◌, ap, arith, inl, inr, refl, sym, subst, Option, Some, None, Result, Ok, Err, IsSomeAnd, MatchResult, List, ℕ}
 use Rattle.std.specs.Option.{option_map}
-use Rattle.std.specs.Prelude.{IfSome, ⊤}
+use Rattle.std.specs.Prelude.{IfSome, ⊤, All}
 use Rattle.demand_rates.specs.declared.fault.RateFault.{RateFault}
 use Rattle.spares_io.specs.Causes.{Rose}
 use Rattle.spares_io.specs.Shelf.{Files, KeepsOthers}
@@ -15,42 +15,52 @@ use Rattle.spares_words.specs.declared.order.WordsFault.{WordsFault}
 use Rattle.spares_top.specs.declared.done.Done.{Done}
 use Rattle.spares_top.specs.declared.done.Outcome.{Outcome}
 use Rattle.spares_top.specs.declared.done.Written.{Written}
-use Rattle.spares_top.specs.declared.refusal.failure.Failure.{Failure}
+use Rattle.refusals.specs.declared.failure.Failure.{Failure}
 use Rattle.spares_top.specs.declared.files.Input.{Input}
-use Rattle.spares_top.specs.declared.refusal.File.TheVariants.{Sites, Parts, Rates, Stocks}
-use Rattle.spares_top.specs.declared.refusal.Refusal.TheVariants as refusal
+use Rattle.refusals.specs.declared.refusal.File.TheVariants as file
+use Rattle.refusals.specs.declared.refusal.Refusal.TheVariants as refusal
 use Rattle.spares_top.specs.Answer.{Answers, HaveGiven, IsDue, RefusesBy}
 use Rattle.spares_io.specs.Steps.{◌>>=◌}
-use Rattle.spares_top.specs.Causes.{Kind, of_words, of_reading, of_writing, of_memory, of_task, kind_of, plain_failure, stopped}
-use Rattle.spares_top.specs.Files.{Reads, StandStill, StopsAt, inputs, inputs_of, output_of, reads, table_in}
+use Rattle.refusals.specs.Causes.{Kind, of_words, of_reading, of_writing, of_memory, of_task, kind_of, plain_failure, stopped}
+use Rattle.std.proofs.lemmas.List.Elements.{All-cons}
+use Rattle.refusals.specs.declared.refusal.File.{File}
+use Rattle.spares_top.specs.Files.{AllGave, case_in, certificate_in, stocks_in, table_in, Reads, StandStill, StopsAt, inputs, inputs_of, output_of, reads}
 use Rattle.spares_top.specs.Headline.{IsTrue}
-use Rattle.spares_top.specs.Making.{ComesOf, Delivers, Is, IsMade, MakesBy}
+use Rattle.spares_top.specs.Making.{AreWithin, ComesOf, Delivers, Is, IsMade, MakesBy}
 use Rattle.spares_top.specs.Promises.{Completes, Errors, NoneFailed, Performs, PutsLine, Runs, Serves}
-use Rattle.spares_top.specs.Reading.{ReadsGive}
+use Rattle.spares_top.specs.Reading.{IsReadable, ReadsGive}
 use Rattle.spares_top.specs.State.{HasDelivered, HasFailed, HasFailedToWrite, IsUntouched, Scene, after_write}
-use Rattle.spares_top.specs.Task.{Fulfils, Task, evaluate, show_pipeline, bytes_at, task_of, task_on, task_on_words, unless_refused}
+use Rattle.spares_top.specs.Checks.{claimed_of}
+use Rattle.spares_top.specs.Plans.{planning_of}
+use Rattle.spares_top.specs.Task.{Fulfils, Task, confirm, demonstrate, evaluate, make_plan, show_pipeline, bytes_at, task_of, task_on, task_on_words, unless_refused}
 use Rattle.spares_top.specs.Texts.{text_of}
 use Rattle.spares_top.proofs.ReadInputs.{none_is, read_is, stops_kind, stops_of_work}
-use Rattle.spares_top.proofs.Stops.{eval_kind}
+use Rattle.case_tables.specs.Tables.{stocked_of}
+use Rattle.case_tables.proofs.Refuse.{Refuses, is_of_task, stocked_refuses, then_refuses}
+use Rattle.spares_top.proofs.Stops.{claimed_refuses, planning_refuses}
 
 -- ---- refusals
 
-rate_kind : (fault : Option RateFault) (task : Task) (failure : Failure) → unless_refused fault task ≡ Err failure → kind_of failure.refusal ≡ of_task
-rate_kind None task failure e = grind (arith, e)
-rate_kind (Some fault) task failure e = subst (λ (r : Result Task Failure). MatchResult r (λ t. ⊤) (λ f. kind_of f.refusal ≡ of_task)) e refl
-
 -- a task's own refusals are of its kind
+rate_refuses : (fault : Option RateFault) (task : Task) → Refuses (unless_refused fault task)
+rate_refuses None task = tt
+rate_refuses (Some fault) task = refl
+
+task_refuses : (o : Order) (bytes : List (List ℕ)) → Refuses (task_on o bytes)
+task_refuses (order.Single mean variance stock) bytes = rate_refuses _ _
+task_refuses (order.Eval sites parts rates stocks bits) bytes =
+    then_refuses (stocked_of file.Stocks (bytes_at bytes 0) (bytes_at bytes 1) (bytes_at bytes 2) (bytes_at bytes 3)) _
+    (stocked_refuses file.Stocks (bytes_at bytes 0) (bytes_at bytes 1) (bytes_at bytes 2) (bytes_at bytes 3)) (λ stocked. tt)
+task_refuses (order.Plan sites parts rates on_hand budget format objective certificate) bytes =
+    then_refuses (planning_of (bytes_at bytes 0) (bytes_at bytes 1) (bytes_at bytes 2) (option_map (λ name. bytes_at bytes 3) on_hand) _) _
+    (planning_refuses (bytes_at bytes 0) (bytes_at bytes 1) (bytes_at bytes 2) (option_map (λ name. bytes_at bytes 3) on_hand) _) (λ planning. tt)
+task_refuses (order.Check certificate) bytes = then_refuses (claimed_of (bytes_at bytes 0)) _ (claimed_refuses (bytes_at bytes 0)) (λ claimed. tt)
+task_refuses (order.Demo number lines) bytes = tt
+
 pub task_kind : (o : Order) (bytes : List (List ℕ)) (failure : Failure) → task_on o bytes ≡ Err failure → kind_of failure.refusal ≡ of_task
-task_kind (order.Single mean variance stock) bytes failure e = rate_kind _ _ failure e
-task_kind (order.Eval sites parts rates stocks bits) bytes failure e =
-    eval_kind (bytes_at bytes 0) (bytes_at bytes 1) (bytes_at bytes 2) (bytes_at bytes 3) bits failure e
+task_kind o bytes failure e = is_of_task (task_on o bytes) failure (task_refuses o bytes) e
 
 -- ---- what is due
-
--- the inputs of four tables
-pub inputs_are : (a b c d : Input) (sites parts rates stocks : List ℕ) (bits : ℕ) → a ≡ table_in Sites sites → b ≡ table_in Parts parts → c ≡ table_in Rates rates
-    → d ≡ table_in Stocks stocks → (a ∷ b ∷ c ∷ d ∷ []) ≡ inputs (order.Eval sites parts rates stocks bits)
-inputs_are a b c d sites parts rates stocks bits e f g h = rw (e, f, g, h) refl
 
 made_by : (P Q : Result Task Failure → Type 0) → ((t : Result Task Failure) → P t → Q t) → (r : Result Outcome (Stop Failure)) → MakesBy P r → MakesBy Q r
 made_by P Q f (Ok outcome) h = record { task = h.task; is_due = f (Ok h.task) h.is_due; fulfils = h.fulfils; is_true = h.is_true; prints = h.prints }
@@ -68,25 +78,89 @@ module _ (o : Order) (told : Option Files) (before now : List ℕ → ℕ) where
   unread stop.NoMemory h = tt
   unread (stop.Fault failure) h = (record { read = Err failure; reads = h; task_is = refl }, stops_of_work told before now (inputs o) failure h)
 
--- a task that is fulfilled with nothing written
-pub writes_none : (task : Task) (outcome : Outcome) → Fulfils task outcome → outcome.writes ≡ None
-writes_none (show_pipeline mean variance stock) outcome h = ap (λ (o : Outcome). o.writes) h
-writes_none (evaluate case stocks bits) outcome h = ap (λ (o : Outcome). o.writes) h
+-- the name that a task writes
+abbrev name_of : Task → Option (List ℕ)
+name_of (show_pipeline mean variance stock) = None
+name_of (evaluate case stocks bits) = None
+name_of (make_plan planning name) = Some name
+name_of (confirm claimed) = None
+name_of (demonstrate number lines) = None
 
--- what is written has the name that the order writes
-names_are : (o : Order) (bytes : List (List ℕ)) (task : Task) (outcome : Outcome) → task_on o bytes ≡ Ok task → Fulfils task outcome
-    → option_map (λ (w : Written). w.name) outcome.writes ≡ output_of (Ok o)
-names_are (order.Single mean variance stock) bytes task outcome e f = ap (option_map (λ (w : Written). w.name)) (writes_none task outcome f)
-names_are (order.Eval sites parts rates stocks bits) bytes task outcome e f = ap (option_map (λ (w : Written). w.name)) (writes_none task outcome f)
+abbrev written_name : Outcome → Option (List ℕ)
+written_name outcome = option_map (λ (w : Written). w.name) outcome.writes
+
+-- what fulfils a task is written under its name
+written_as : (task : Task) (outcome : Outcome) → Fulfils task outcome → written_name outcome ≡ name_of task
+written_as (show_pipeline mean variance stock) outcome h = ap written_name h
+written_as (evaluate case stocks bits) outcome h = ap written_name h
+written_as (make_plan planning name) outcome h = ap written_name h.is
+written_as (confirm claimed) outcome h = ap written_name h
+written_as (demonstrate number lines) outcome h = ap written_name h.is
+
+-- a task that comes of accepted inputs
+then_named : {A : Type 0} (r : Result A Failure) (next : A → Task) (name : Option (List ℕ)) (task : Task) → ((a : A) → name_of (next a) ≡ name)
+    → (r >>= λ a. Ok (next a)) ≡ Ok task → name_of task ≡ name
+then_named (Ok a) next name task h e = subst (λ (r : Result Task Failure). MatchResult r (λ t. name_of t ≡ name) (λ f. ⊤)) e (h a)
+then_named (Err failure) next name task h e = grind (arith, e)
+
+rated_name : (fault : Option RateFault) (next task : Task) → unless_refused fault next ≡ Ok task → name_of task ≡ name_of next
+rated_name None next task e = subst (λ (r : Result Task Failure). MatchResult r (λ t. name_of t ≡ name_of next) (λ f. ⊤)) e refl
+rated_name (Some fault) next task e = grind (arith, e)
+
+-- the task of an order is written under the name that the order gives
+task_named : (o : Order) (bytes : List (List ℕ)) (task : Task) → task_on o bytes ≡ Ok task → name_of task ≡ output_of (Ok o)
+task_named (order.Single mean variance stock) bytes task e = rated_name _ _ task e
+task_named (order.Eval sites parts rates stocks bits) bytes task e =
+    then_named (stocked_of file.Stocks (bytes_at bytes 0) (bytes_at bytes 1) (bytes_at bytes 2) (bytes_at bytes 3))
+    (λ stocked. evaluate stocked.case stocked.stocks bits) None task (λ stocked. refl) e
+task_named (order.Plan sites parts rates on_hand budget format objective certificate) bytes task e =
+    then_named (planning_of (bytes_at bytes 0) (bytes_at bytes 1) (bytes_at bytes 2) (option_map (λ name. bytes_at bytes 3) on_hand) _)
+    (λ planning. make_plan planning certificate) (Some certificate) task (λ planning. refl) e
+task_named (order.Check certificate) bytes task e = then_named (claimed_of (bytes_at bytes 0)) confirm None task (λ claimed. refl) e
+task_named (order.Demo number lines) bytes task e = subst (λ (r : Result Task Failure). MatchResult r (λ t. name_of t ≡ None) (λ f. ⊤)) e refl
 
 nothing_of : (written : Option Written) (name : Option (List ℕ)) → option_map (λ (w : Written). w.name) written ≡ name → name ≡ None → written ≡ None
 nothing_of None name e n = refl
 nothing_of (Some w) name e n = grind (arith, e, n)
 
 names_due : (order : Result Order WordsFault) (bytes : List (List ℕ)) (task : Task) (outcome : Outcome) → task_on_words order bytes ≡ Ok task → Fulfils task outcome
-    → option_map (λ (w : Written). w.name) outcome.writes ≡ output_of order
-names_due (Ok o) bytes task outcome e f = names_are o bytes task outcome e f
+    → written_name outcome ≡ output_of order
+names_due (Ok o) bytes task outcome e f = written_as task outcome f ∙ task_named o bytes task e
 names_due (Err fault) bytes task outcome e f = grind (arith, e)
+
+-- the files that were given are within the limits of their inputs
+pub within_of : (told : Option Files) (inputs : List Input) (files : List (List ℕ)) → AllGave told inputs files → AreWithin inputs files
+within_of told [] [] h = tt
+within_of told (i ∷ is) (b ∷ bs) h = (h.0.1, within_of told is bs h.1)
+within_of told [] (b ∷ bs) h = absurd h
+within_of told (i ∷ is) [] h = absurd h
+
+-- the limits of inputs are such as a shelf takes
+readable_table : (f : File) (name : List ℕ) → IsReadable (table_in f name)
+readable_table f name = omega arith
+
+none_readable : All IsReadable []
+none_readable i d b = absurd (omega (arith, b))
+
+stocks_readable : (f : File) (name : Option (List ℕ)) → All IsReadable (stocks_in f name)
+stocks_readable f None = none_readable
+stocks_readable f (Some name) = All-cons IsReadable (table_in f name) [] (readable_table f name) none_readable
+
+case_readable : (sites parts rates : List ℕ) (more : List Input) → All IsReadable more → All IsReadable (case_in sites parts rates more)
+case_readable sites parts rates more h =
+    All-cons IsReadable (table_in file.Sites sites) (table_in file.Parts parts ∷ table_in file.Rates rates ∷ more) (readable_table file.Sites sites)
+    (All-cons IsReadable (table_in file.Parts parts) (table_in file.Rates rates ∷ more) (readable_table file.Parts parts)
+    (All-cons IsReadable (table_in file.Rates rates) more (readable_table file.Rates rates) h))
+
+certificate_readable : (name : List ℕ) → IsReadable (certificate_in name)
+certificate_readable name = omega arith
+
+pub are_readable : (o : Order) → All IsReadable (inputs o)
+are_readable (order.Single mean variance stock) = none_readable
+are_readable (order.Eval sites parts rates stocks bits) = case_readable sites parts rates (stocks_in file.Stocks (Some stocks)) (stocks_readable file.Stocks (Some stocks))
+are_readable (order.Plan sites parts rates on_hand budget format objective certificate) = case_readable sites parts rates (stocks_in file.OnHand on_hand) (stocks_readable file.OnHand on_hand)
+are_readable (order.Check certificate) = All-cons IsReadable (certificate_in certificate) [] (certificate_readable certificate) none_readable
+are_readable (order.Demo number lines) = none_readable
 
 -- ---- an order
 
@@ -178,7 +252,7 @@ module _ (outcome : Outcome) (old mid new : Scene) (b : IsBefore old mid new) wh
       outcome = outcome;
       done_is = is;
       fulfils = made.fulfils;
-      is_true = subst (IsTrue made.task) is made.is_true;
+      is_true = made.is_true;
       delivered = delivered_from h;
     }
     answers (Err failure) (inl (is, h)) = subst (λ (f : Failure). Answers (Ok o) old new (Err f)) (sym is) (record { failure_is = refl; untouched = untouched_from h })

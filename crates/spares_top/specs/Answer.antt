@@ -4,9 +4,9 @@ use Rattle.spares_words.specs.declared.order.Order.{Order}
 use Rattle.spares_words.specs.declared.order.WordsFault.{WordsFault}
 use Rattle.spares_top.specs.declared.done.Done.{Done}
 use Rattle.spares_top.specs.declared.done.Outcome.{Outcome}
-use Rattle.spares_top.specs.declared.refusal.failure.Failure.{Failure}
-use Rattle.spares_top.specs.declared.refusal.Refusal.TheVariants as refusal
-use Rattle.spares_top.specs.Causes.{Kind, of_words, of_reading, of_writing, of_memory, of_task, kind_of, plain_failure}
+use Rattle.refusals.specs.declared.failure.Failure.{Failure}
+use Rattle.refusals.specs.declared.refusal.Refusal.TheVariants as refusal
+use Rattle.refusals.specs.Causes.{Kind, of_words, of_reading, of_writing, of_memory, of_task, kind_of, plain_failure}
 use Rattle.spares_top.specs.Files.{Reads, StopsAt, inputs_of}
 use Rattle.spares_top.specs.Headline.{IsTrue}
 use Rattle.spares_top.specs.State.{HasDelivered, HasFailed, IsUntouched, Scene}
@@ -30,7 +30,7 @@ pub record IsDone (order : Result Order WordsFault) (old new : Scene) (done : Do
   pub outcome : Outcome
   pub done_is : outcome.done ≡ done
   pub fulfils : Fulfils task outcome
-  pub is_true : IsTrue task done
+  pub is_true : IsTrue task outcome
   pub delivered : HasDelivered outcome old new
 
 -- the words give no order

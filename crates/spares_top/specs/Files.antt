@@ -5,26 +5,43 @@ use Rattle.spares_io.specs.Shelf.{Files, Holds, HoldsMore, Lacks, file_of}
 use Rattle.spares_words.specs.declared.order.Order.{Order}
 use Rattle.spares_words.specs.declared.order.Order.TheVariants as order
 use Rattle.spares_words.specs.declared.order.WordsFault.{WordsFault}
-use Rattle.spares_top.specs.declared.refusal.failure.Failure.{Failure}
+use Rattle.refusals.specs.declared.failure.Failure.{Failure}
 use Rattle.spares_top.specs.declared.files.Input.{Input}
-use Rattle.spares_top.specs.declared.refusal.File.{File}
-use Rattle.spares_top.specs.declared.refusal.File.TheVariants.{Sites, Parts, Rates, Stocks}
-use Rattle.spares_top.specs.declared.refusal.Refusal.TheVariants as refusal
+use Rattle.refusals.specs.declared.refusal.File.{File}
+use Rattle.refusals.specs.declared.refusal.File.TheVariants.{Sites, Parts, Rates, Stocks, OnHand, Certificate}
+use Rattle.refusals.specs.declared.refusal.Refusal.TheVariants as refusal
 use Rattle.spares_io.specs.Steps.{◌>>=◌}
-use Rattle.spares_top.specs.Causes.{plain_failure}
+use Rattle.refusals.specs.Causes.{plain_failure}
+use Rattle.case_tables.specs.Tables.{table_limit}
 
--- most bytes of a table
-abbrev pub table_limit : ℕ
-table_limit = 4194304
+-- most bytes of a certificate
+abbrev pub certificate_limit : ℕ
+certificate_limit = 16777216
 
 -- the input of a table
 abbrev pub table_in : File → List ℕ → Input
 table_in file name = record { file = file; name = name; limit = table_limit }
 
+-- the input of a certificate
+abbrev pub certificate_in : List ℕ → Input
+certificate_in name = record { file = Certificate; name = name; limit = certificate_limit }
+
+-- the tables of a case, and then these inputs
+abbrev pub case_in : List ℕ → List ℕ → List ℕ → List Input → List Input
+case_in sites parts rates more = table_in Sites sites ∷ table_in Parts parts ∷ table_in Rates rates ∷ more
+
+-- a table of stocks, where one is named
+abbrev pub stocks_in : File → Option (List ℕ) → List Input
+stocks_in file None = []
+stocks_in file (Some name) = table_in file name ∷ []
+
 -- the inputs of an order, in the order in which they are read
 abbrev pub inputs : Order → List Input
 inputs (order.Single mean variance stock) = []
-inputs (order.Eval sites parts rates stocks bits) = table_in Sites sites ∷ table_in Parts parts ∷ table_in Rates rates ∷ table_in Stocks stocks ∷ []
+inputs (order.Eval sites parts rates stocks bits) = case_in sites parts rates (stocks_in Stocks (Some stocks))
+inputs (order.Plan sites parts rates on_hand budget format objective certificate) = case_in sites parts rates (stocks_in OnHand on_hand)
+inputs (order.Check certificate) = certificate_in certificate ∷ []
+inputs (order.Demo number lines) = []
 
 abbrev pub inputs_of : Result Order WordsFault → List Input
 inputs_of (Ok o) = inputs o
@@ -34,6 +51,9 @@ inputs_of (Err fault) = []
 abbrev pub output_of : Result Order WordsFault → Option (List ℕ)
 output_of (Ok (order.Single mean variance stock)) = None
 output_of (Ok (order.Eval sites parts rates stocks bits)) = None
+output_of (Ok (order.Plan sites parts rates on_hand budget format objective certificate)) = Some certificate
+output_of (Ok (order.Check certificate)) = None
+output_of (Ok (order.Demo number lines)) = None
 output_of (Err fault) = None
 
 -- ---- over the files that are held

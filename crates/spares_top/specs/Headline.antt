@@ -1,21 +1,41 @@
 -- The headline: what a report says of the model is true.
-use Rattle.std.specs.Prelude.{◌≡◌, ℕ, ◌≤◌}
+use Rattle.std.specs.Prelude.{◌≡◌, ℕ, ◌≤◌, List, length, Option, Some, None, Ok}
 use Rattle.exact_model.specs.Fraction.{Fraction, Encloses, ◌≤ℚ◌}
 use Rattle.exact_model.specs.Series.{ebo, vbo}
 use Rattle.fixed_interval.specs.Ends.{Ends}
 use Rattle.fixed_interval.specs.Text.{text_value}
 use Rattle.fleet_model.specs.Rows.{ten_thousandths}
+use Rattle.fleet_model.specs.Fleet.{total}
 use Rattle.case_figures.specs.Shows.{ShowsFigures, ShowsSpan}
 use Rattle.case_figures.specs.Spans.{ends, places}
-use Rattle.plan_report.specs.Texts.{lower_millionths, upper_millionths}
-use Rattle.plan_report.specs.declared.eval.EvalReport.{EvalReport}
 use Rattle.case_figures.specs.declared.figures.Span.{Span}
+use Rattle.case_maker.specs.Demonstration.{made}
+use Rattle.case_plan.specs.Truth.{IsTruePlanReport, IsTrueReport, NoneHasLessThanPrinted}
+use Rattle.certified_bounds.specs.Laws.{claims_of}
+use Rattle.certified_plan.specs.Scores.{ends_of, value_of}
+use Rattle.demonstration.specs.Demonstrations.{budget_of, demo_certificate, summary_of}
+use Rattle.fleet_plan.specs.Laws.{IsAcceptedCase, plain_ends}
+use Rattle.fleet_plan.specs.Plans.{ArePlainClaims, AreTrueClaims, CasePlan, IsPlainPlan}
+use Rattle.gap_checker.specs.Refusals.{reject_of}
+use Rattle.gap_checker.specs.Soundness.{nothing_held}
+use Rattle.plan_report.specs.Texts.{lower_millionths, upper_millionths}
+use Rattle.plan_report.specs.declared.check.CheckReport.{CheckReport}
+use Rattle.plan_report.specs.declared.eval.EvalReport.{EvalReport}
+use Rattle.plan_report.specs.declared.plan.PlanReport.{PlanReport}
 use Rattle.plan_report.specs.declared.single.SingleReport.{SingleReport}
+use Rattle.plan_report.specs.declared.summary.Summary.{Summary}
+use Rattle.price_certificate.specs.declared.certificate.Objective.TheVariants.{Backorders}
 use Rattle.spares_input.specs.Cases.{CaseRows}
 use Rattle.spares_input.specs.Stocks.{StockList}
+use Rattle.spares_top.specs.Checks.{Claimed, check_of, claimed_of}
+use Rattle.spares_top.specs.Files.{certificate_limit}
+use Rattle.spares_top.specs.Held.{held_in}
+use Rattle.spares_top.specs.Plans.{Planning, certificate_text, held_of, plan_certificate, plan_terms}
+use Rattle.spares_top.specs.Task.{Task, confirm, demonstrate, evaluate, make_plan, show_pipeline}
 use Rattle.spares_top.specs.declared.done.Done.{Done}
-use Rattle.spares_top.specs.declared.done.Done.TheVariants.{Single, Evaluated}
-use Rattle.spares_top.specs.Task.{Task, show_pipeline, evaluate}
+use Rattle.spares_top.specs.declared.done.Done.TheVariants.{Single, Evaluated, Planned, Checked, Demo}
+use Rattle.spares_top.specs.declared.done.Outcome.{Outcome}
+use Rattle.spares_top.specs.declared.done.Written.{Written}
 
 -- ---- a single pipeline
 
@@ -59,11 +79,70 @@ pub record ShowsCase (bits : ℕ) (c : CaseRows) (s : StockList) (report : EvalR
   pub shows : ShowsFigures bits c s report.figures
   pub prints : (x : Span) (value : ℕ → Fraction) → ShowsSpan bits value x → PrintsAround x value
 
+-- ---- a plan
+
+-- What a plan's report says of its case, and what its certificate is worth. The stocks are those of the plan.
+pub record IsTruePlan (x : Planning) (name : List ℕ) (writes : Option Written) (report : PlanReport) : Type 0 where
+  pub plan : CasePlan
+  -- the case is accepted: it is valid, and no rate of it is refused
+  pub accepted : IsAcceptedCase x.case
+  -- in the words of the model, for what is aimed at and from what is held
+  pub says : IsTrueReport (ends_of x.terms.objective) (value_of x.terms.objective) x.case (held_of x).list (plan_terms x) plan report
+  -- and of weighted backorders, where no stocks are on hand, in its plain words
+  pub plainly : x.terms.objective ≡ Backorders → x.on_hand ≡ None → IsTruePlanReport x.case x.terms.budget plan.stocks report
+  -- the two numbers that are printed of a span lie round what it encloses
+  pub prints : (span : Span) (value : ℕ → Fraction) → ShowsSpan 48 value span → PrintsAround span value
+  -- the certificate that is written breaks no rule of the checker
+  pub written : writes ≡ Some (record { name = name; bytes = certificate_text x plan })
+  pub acceptable : reject_of (ends_of x.terms.objective) (plan_certificate x plan) (held_of x) ≡ None
+  -- and `check` of these bytes confirms it
+  pub within : length (certificate_text x plan) ≤ certificate_limit
+  pub confirmed : claimed_of (certificate_text x plan) ≡ Ok (record { certificate = plan_certificate x plan; on_hand = x.on_hand })
+
+-- ---- a check
+
+-- What the claims of a certificate that breaks no rule say of its case, whoever made it.
+pub record IsTrueCheck (x : Claimed) (report : CheckReport) : Type 0 where
+  pub report_is : report ≡ check_of x
+  -- its stocks have what is held and fit the budget, what is aimed at is at most its upper end, and no stocks within the budget
+  -- have less than its bound
+  pub says : AreTrueClaims (value_of x.certificate.objective) x.certificate.case (held_in x.certificate.case x.on_hand).list x.certificate.budget
+      (claims_of x.certificate)
+  -- nor than what is printed of it
+  pub printed : NoneHasLessThanPrinted (value_of x.certificate.objective) x.certificate.case (held_in x.certificate.case x.on_hand).list
+      report.budget report.bound
+  -- and of weighted backorders, where no stocks are on hand, in the model's plain words
+  pub plainly : x.certificate.objective ≡ Backorders → x.on_hand ≡ None
+      → ArePlainClaims x.certificate.case x.certificate.budget (claims_of x.certificate)
+
+-- ---- a demonstration
+
+-- What the summary says of the demonstration case. The stocks are those of the plan.
+pub record IsTrueDemo (number lines : ℕ) (summary : Summary) : Type 0 where
+  pub plan : CasePlan
+  pub accepted : IsAcceptedCase (made number lines)
+  pub is : summary ≡ summary_of number lines plan
+  -- the stocks are within the limits and fit the budget, none has fewer backorders than the bound, and no price shows more than
+  -- bound and rounding
+  pub says : IsPlainPlan (made number lines) (budget_of lines) plan
+  -- the total is enclosed
+  pub encloses : Encloses 48 summary.total.lo summary.total.hi (total (made number lines) plan.stocks)
+  -- the checker accepts the certificate
+  pub acceptable : reject_of plain_ends (demo_certificate number lines plan) (nothing_held (made number lines)) ≡ None
+
 -- ---- a task
 
--- What this report says of the model is true of the task's subject.
-abbrev pub IsTrue : Task → Done → Type 0
-IsTrue (show_pipeline mean variance stock) (Single report) = ShowsModel (ten_thousandths mean) (ten_thousandths variance) stock report
-IsTrue (show_pipeline mean variance stock) (Evaluated report) = ⊥
-IsTrue (evaluate case stocks bits) (Single report) = ⊥
-IsTrue (evaluate case stocks bits) (Evaluated report) = ShowsCase bits case stocks report
+-- it is a report of this kind, of which this holds
+pub record Reports {R : Type 0} (kind : R → Done) (Holds : R → Type 0) (done : Done) : Type 0 where
+  pub report : R
+  pub is : done ≡ kind report
+  pub holds : Holds report
+
+-- What this outcome says of the model is true of the task's subject.
+abbrev pub IsTrue : Task → Outcome → Type 0
+IsTrue (show_pipeline mean variance stock) outcome =
+    Reports Single (ShowsModel (ten_thousandths mean) (ten_thousandths variance) stock) outcome.done
+IsTrue (evaluate case stocks bits) outcome = Reports Evaluated (ShowsCase bits case stocks) outcome.done
+IsTrue (make_plan planning name) outcome = Reports Planned (IsTruePlan planning name outcome.writes) outcome.done
+IsTrue (confirm claimed) outcome = Reports Checked (IsTrueCheck claimed) outcome.done
+IsTrue (demonstrate number lines) outcome = Reports Demo (IsTrueDemo number lines) outcome.done

@@ -1,5 +1,5 @@
 -- How the calls that carry out a command answer, before anything is written. No promise of the top rests on these words.
-use Rattle.std.specs.Prelude.{◌≡◌, ◌⊎◌, ◌≤◌, ⊤, All, ℕ, List, length, Option, IsSomeAnd, Result, Ok, Err}
+use Rattle.std.specs.Prelude.{◌≡◌, ◌⊎◌, ◌≤◌, ⊤, All, ℕ, List, [], ◌∷◌, length, Option, IsSomeAnd, Result, Ok, Err}
 use Rattle.plan_report.specs.declared.eval.EvalReport.{EvalReport}
 use Rattle.case_figures.specs.Fits.{FitsPrint}
 use Rattle.spares_io.specs.Causes.{Rose}
@@ -10,14 +10,15 @@ use Rattle.spares_words.specs.declared.order.Order.{Order}
 use Rattle.spares_top.specs.declared.done.Done.{Done}
 use Rattle.spares_top.specs.declared.done.Outcome.{Outcome}
 use Rattle.spares_top.specs.declared.done.Written.{Written}
-use Rattle.spares_top.specs.declared.refusal.failure.Failure.{Failure}
-use Rattle.spares_top.specs.declared.refusal.Refusal.TheVariants as refusal
+use Rattle.refusals.specs.declared.failure.Failure.{Failure}
+use Rattle.refusals.specs.declared.refusal.Refusal.TheVariants as refusal
 use Rattle.spares_io.specs.Steps.{◌>>=◌}
-use Rattle.spares_top.specs.Causes.{Kind, of_words, of_reading, of_writing, of_memory, of_task, kind_of, plain_failure}
-use Rattle.spares_top.specs.Files.{Reads, inputs, table_limit}
+use Rattle.refusals.specs.Causes.{Kind, of_words, of_reading, of_writing, of_memory, of_task, kind_of, plain_failure}
+use Rattle.spares_top.specs.Files.{Reads, inputs}
+use Rattle.spares_top.specs.declared.files.Input.{Input}
 use Rattle.spares_top.specs.Headline.{IsTrue, ShowsCase}
 use Rattle.spares_top.specs.State.{HasDelivered, HasFailed, IsUntouched, Scene}
-use Rattle.spares_top.specs.Tables.{StockedCase}
+use Rattle.case_tables.specs.Tables.{StockedCase, table_limit}
 use Rattle.spares_top.specs.Task.{Fulfils, Task, eval_of, task_on}
 use Rattle.spares_top.specs.Texts.{CanPrint}
 
@@ -36,7 +37,7 @@ pub record IsMade (IsDue : Result Task Failure → Type 0) (outcome : Outcome) :
   pub task : Task
   pub is_due : IsDue (Ok task)
   pub fulfils : Fulfils task outcome
-  pub is_true : IsTrue task outcome.done
+  pub is_true : IsTrue task outcome
   pub prints : CanPrint outcome.done
 
 -- the refusal is of a reading or of the task
@@ -53,10 +54,17 @@ MakesBy IsDue (Ok outcome) = IsMade IsDue outcome
 MakesBy IsDue (Err stop.NoMemory) = ⊤
 MakesBy IsDue (Err (stop.Fault failure)) = IsDue (Err failure) × IsOfWork (kind_of failure.refusal)
 
--- the bytes of four tables, none of them too long
-pub record AreTables (files : List (List ℕ)) : Type 0 where
-  pub count : length files ≡ 4
+-- the bytes of so many tables, none of them too long
+pub record AreTables (count : ℕ) (files : List (List ℕ)) : Type 0 where
+  pub count_is : length files ≡ count
   pub within : All (λ bytes. length bytes ≤ table_limit) files
+
+-- the bytes of inputs, none of them too long
+abbrev pub AreWithin : List Input → List (List ℕ) → Type 0
+AreWithin [] [] = ⊤
+AreWithin (input ∷ rest) (bytes ∷ more) = (length bytes ≤ input.limit) × AreWithin rest more
+AreWithin [] (bytes ∷ more) = ⊥
+AreWithin (input ∷ rest) [] = ⊥
 
 -- the report of a case at its stocks
 pub record IsEvaluated (stocked : Result StockedCase Failure) (bits : ℕ) (report : EvalReport) : Type 0 where

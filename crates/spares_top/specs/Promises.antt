@@ -8,11 +8,11 @@ use Rattle.spares_words.specs.declared.order.Order.{Order}
 use Rattle.spares_words.specs.declared.order.WordsFault.{WordsFault}
 use Rattle.spares_top.specs.declared.done.Done.{Done}
 use Rattle.spares_top.specs.declared.done.Outcome.{Outcome}
-use Rattle.spares_top.specs.declared.refusal.failure.Failure.{Failure}
-use Rattle.spares_top.specs.declared.refusal.Refusal.{Refusal}
-use Rattle.spares_top.specs.declared.refusal.Refusal.TheVariants as refusal
+use Rattle.refusals.specs.declared.failure.Failure.{Failure}
+use Rattle.refusals.specs.declared.refusal.Refusal.{Refusal}
+use Rattle.refusals.specs.declared.refusal.Refusal.TheVariants as refusal
 use Rattle.spares_top.specs.Answer.{Answers}
-use Rattle.spares_top.specs.Causes.{plain_failure}
+use Rattle.refusals.specs.Causes.{plain_failure}
 use Rattle.spares_top.specs.Files.{NoneRose, StandStill, inputs_of, output_of}
 use Rattle.spares_top.specs.State.{Scene}
 use Rattle.spares_top.specs.Task.{Fulfils, Task, task_of}

@@ -3,7 +3,7 @@ use Rattle.std.specs.Prelude.{◌⊎◌, ⊤, ◌<◌, ◌^◌, ℕ, List, Optio
 use Rattle.spares_io.specs.declared.stop.Stop.{Stop}
 use Rattle.spares_io.specs.declared.stop.Stop.TheVariants as stop
 use Rattle.spares_io.specs.Shelf.{Files}
-use Rattle.spares_top.specs.declared.refusal.failure.Failure.{Failure}
+use Rattle.refusals.specs.declared.failure.Failure.{Failure}
 use Rattle.spares_top.specs.declared.files.Input.{Input}
 use Rattle.spares_top.specs.Files.{IsTooLong, IsUnread, Reads}
 

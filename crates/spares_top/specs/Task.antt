@@ -1,5 +1,5 @@
 -- What an order asks for, as a task, over the bytes of its files. Means and variances are counted in ten-thousandths.
-use Rattle.std.specs.Prelude.{◌≡◌, ℕ, List, [], get_or, Option, Some, None, Result, Ok, Err, unwrap_or}
+use Rattle.std.specs.Prelude.{◌≡◌, ℕ, List, [], get_or, Option, Some, None, option_map, Result, Ok, Err, unwrap_or}
 use Rattle.demand_rates.specs.Single.{single_fault_of}
 use Rattle.demand_rates.specs.declared.fault.RateFault.{RateFault}
 use Rattle.exact_ratio.specs.declared.decimal.Decimal.{Decimal}
@@ -10,21 +10,27 @@ use Rattle.moment_table.specs.declared.kinds.Row.{Row}
 use Rattle.case_figures.specs.Figures.{figures_of}
 use Rattle.plan_report.specs.declared.eval.EvalReport.{EvalReport}
 use Rattle.plan_report.specs.declared.single.SingleReport.{SingleReport}
+use Rattle.plan_report.specs.declared.summary.Summary.{Summary}
 use Rattle.spares_input.specs.Cases.{CaseRows}
 use Rattle.spares_input.specs.Stocks.{StockList}
 use Rattle.spares_io.specs.Shelf.{Files}
+use Rattle.certified_plan.specs.declared.terms.Terms.{Terms}
 use Rattle.spares_words.specs.declared.order.Order.{Order}
 use Rattle.spares_words.specs.declared.order.Order.TheVariants as order
 use Rattle.spares_words.specs.declared.order.WordsFault.{WordsFault}
 use Rattle.spares_top.specs.declared.done.Done.{Done}
-use Rattle.spares_top.specs.declared.done.Done.TheVariants.{Single, Evaluated}
+use Rattle.spares_top.specs.declared.done.Done.TheVariants.{Single, Evaluated, Checked, Demo}
 use Rattle.spares_top.specs.declared.done.Outcome.{Outcome}
-use Rattle.spares_top.specs.declared.refusal.failure.Failure.{Failure}
-use Rattle.spares_top.specs.declared.refusal.Refusal.TheVariants as refusal
+use Rattle.refusals.specs.declared.failure.Failure.{Failure}
+use Rattle.refusals.specs.declared.refusal.File.TheVariants as file
+use Rattle.refusals.specs.declared.refusal.Refusal.TheVariants as refusal
 use Rattle.spares_io.specs.Steps.{◌>>=◌}
-use Rattle.spares_top.specs.Causes.{plain_failure}
+use Rattle.refusals.specs.Causes.{plain_failure}
+use Rattle.case_tables.specs.Tables.{stocked_of}
 use Rattle.spares_top.specs.Files.{inputs_of, reads}
-use Rattle.spares_top.specs.Tables.{stocked_of}
+use Rattle.spares_top.specs.Plans.{Planning, IsPlanned, planning_of}
+use Rattle.demonstration.specs.Demonstrations.{IsDemonstrated}
+use Rattle.spares_top.specs.Checks.{Claimed, claimed_of, check_of}
 
 -- What is to be done once it is accepted.
 pub data Task : Type 0 where
@@ -32,6 +38,12 @@ pub data Task : Type 0 where
   show_pipeline : ℕ → ℕ → ℕ → Task
   -- the figures of a case at these stocks, with so many bits
   evaluate : CaseRows → StockList → ℕ → Task
+  -- the plan of a case, and its certificate under this name
+  make_plan : Planning → List ℕ → Task
+  -- the claims of a certificate, no rule of which it breaks
+  confirm : Claimed → Task
+  -- the plan of the demonstration case of a number with so many line units
+  demonstrate : ℕ → ℕ → Task
 
 -- ---- the task of an order
 
@@ -51,8 +63,20 @@ single_task mean variance stock = unless_refused (single_fault_of mean variance)
 -- the case and the stocks of four tables are evaluated
 abbrev pub eval_task : List ℕ → List ℕ → List ℕ → List ℕ → ℕ → Result Task Failure
 eval_task sites parts rates stocks bits = do
-  stocked ← stocked_of sites parts rates stocks
+  stocked ← stocked_of file.Stocks sites parts rates stocks
   Ok (evaluate stocked.case stocked.stocks bits)
+
+-- a case is planned from three tables, and from a fourth where stocks are on hand
+abbrev pub plan_task : List ℕ → List ℕ → List ℕ → Option (List ℕ) → Terms → List ℕ → Result Task Failure
+plan_task sites parts rates on_hand terms name = do
+  planning ← planning_of sites parts rates on_hand terms
+  Ok (make_plan planning name)
+
+-- a certificate is confirmed that breaks no rule
+abbrev pub check_task : List ℕ → Result Task Failure
+check_task bytes = do
+  claimed ← claimed_of bytes
+  Ok (confirm claimed)
 
 -- the bytes at a place of the inputs
 abbrev pub bytes_at : List (List ℕ) → ℕ → List ℕ
@@ -62,6 +86,11 @@ bytes_at bytes place = get_or bytes place []
 abbrev pub task_on : Order → List (List ℕ) → Result Task Failure
 task_on (order.Single mean variance stock) bytes = single_task mean.units (variance_of mean variance).units stock
 task_on (order.Eval sites parts rates stocks bits) bytes = eval_task (bytes_at bytes 0) (bytes_at bytes 1) (bytes_at bytes 2) (bytes_at bytes 3) bits
+task_on (order.Plan sites parts rates on_hand budget format objective certificate) bytes =
+    plan_task (bytes_at bytes 0) (bytes_at bytes 1) (bytes_at bytes 2) (option_map (λ name. bytes_at bytes 3) on_hand)
+    (record { budget = budget; format = format; objective = objective }) certificate
+task_on (order.Check certificate) bytes = check_task (bytes_at bytes 0)
+task_on (order.Demo number lines) bytes = Ok (demonstrate number lines)
 
 -- words without an order are refused
 abbrev pub task_on_words : Result Order WordsFault → List (List ℕ) → Result Task Failure
@@ -92,7 +121,16 @@ eval_of bits c s = record { bits = bits; figures = figures_of bits c s }
 abbrev pub printed : Done → Outcome
 printed done = record { done = done; writes = None }
 
+-- a summary is printed of which this holds
+pub record Shows (Holds : Summary → Type 0) (outcome : Outcome) : Type 0 where
+  pub summary : Summary
+  pub is : outcome ≡ printed (Demo summary)
+  pub holds : Holds summary
+
 -- This outcome fulfils the task.
 abbrev pub Fulfils : Task → Outcome → Type 0
 Fulfils (show_pipeline mean variance stock) outcome = outcome ≡ printed (Single (single_of mean variance stock))
 Fulfils (evaluate case stocks bits) outcome = outcome ≡ printed (Evaluated (eval_of bits case stocks))
+Fulfils (make_plan planning name) outcome = IsPlanned planning name outcome
+Fulfils (confirm claimed) outcome = outcome ≡ printed (Checked (check_of claimed))
+Fulfils (demonstrate number lines) outcome = Shows (IsDemonstrated number lines) outcome

@@ -1,16 +1,23 @@
 -- The texts of the reports.
 use Rattle.std.specs.Prelude.{ℕ, List, ◌<◌, ◌^◌}
 use Rattle.case_figures.specs.Fits.{FitsPrint}
-use Rattle.plan_report.specs.Texts.{eval_text, single_text}
+use Rattle.plan_report.specs.Fits.{FitsPlan, FitsCheck, FitsSummary}
+use Rattle.plan_report.specs.Texts.{check_text, eval_text, plan_text, single_text, summary_text}
 use Rattle.spares_top.specs.declared.done.Done.{Done}
-use Rattle.spares_top.specs.declared.done.Done.TheVariants.{Single, Evaluated}
+use Rattle.spares_top.specs.declared.done.Done.TheVariants.{Single, Evaluated, Planned, Checked, Demo}
 
 -- the text of a report
 abbrev pub text_of : Done → List ℕ
 text_of (Single report) = single_text report
 text_of (Evaluated report) = eval_text report
+text_of (Planned report) = plan_text report
+text_of (Checked report) = check_text report
+text_of (Demo summary) = summary_text summary
 
 -- all numbers of a report have a text
 abbrev pub CanPrint : Done → Type 0
 CanPrint (Single report) = (report.backorders.hi < 2 ^ 86) × (report.spread.hi < 2 ^ 86)
 CanPrint (Evaluated report) = FitsPrint report.figures
+CanPrint (Planned report) = FitsPlan report
+CanPrint (Checked report) = FitsCheck report
+CanPrint (Demo summary) = FitsSummary summary

@@ -2,16 +2,15 @@
 ghost use Rattle.std.specs.Prelude.{◌≡◌, None, IfErr, OnOk, OnErr};
 ghost use Rattle.spares_io.specs.Causes.{Rose};
 ghost use Rattle.spares_io.specs.Sink.{Gains, GainsPart};
-ghost use Rattle.spares_top.specs.declared.refusal.Refusal.TheVariants as refusal;
-ghost use Rattle.spares_top.specs.Causes.{plain_failure};
+ghost use Rattle.refusals.specs.declared.refusal.Refusal.TheVariants as refusal;
+ghost use Rattle.refusals.specs.Causes.{plain_failure};
 ghost use Rattle.spares_top.specs.Files.{StandStill};
 ghost use Rattle.spares_top.specs.Making.{Delivers, WriteRefused};
 ghost use Rattle.spares_top.specs.State.{after_write, scene};
 ghost use Rattle.spares_top.specs.Texts.{text_of};
 
 use crate::done::{Done, Outcome, Written};
-use crate::refusal::Refusal;
-use crate::refusal::failure::Failure;
+use refusals::{Failure, Refusal};
 use spares_io::{Shelf, ShelfError, Sink, SinkFailed};
 
 /// Writes what an outcome writes.

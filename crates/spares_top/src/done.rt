@@ -3,7 +3,7 @@ ghost use Rattle.std.specs.Prelude.{◌≡◌, IfOk};
 ghost use Rattle.spares_top.specs.Task.{printed};
 ghost use Rattle.spares_top.specs.Texts.{CanPrint, text_of};
 
-use plan_report::{EvalReport, SingleReport};
+use plan_report::{CheckReport, EvalReport, PlanReport, SingleReport, Summary};
 use spares_io::{List, NoMemory, Text};
 use std::alloc::Global;
 
@@ -14,6 +14,12 @@ pub enum Done {
     Single(SingleReport),
     /// The figures of a case at given stocks.
     Evaluated(EvalReport),
+    /// The plan of a case under a budget.
+    Planned(PlanReport),
+    /// What an accepted certificate shows.
+    Checked(CheckReport),
+    /// The plan of a demonstration case, whose certificate was accepted.
+    Demo(Summary),
 }
 
 impl Done {
@@ -25,6 +31,9 @@ impl Done {
         match self {
             Done::Single(report) => report.text(alloc),
             Done::Evaluated(report) => report.text(alloc),
+            Done::Planned(report) => report.text(alloc),
+            Done::Checked(report) => report.text(alloc),
+            Done::Demo(summary) => summary.text(alloc),
         }
     }
 }

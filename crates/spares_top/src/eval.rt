@@ -6,19 +6,19 @@ ghost use Rattle.fixed_interval.specs.Widths.{IsWidth};
 ghost use Rattle.case_figures.specs.Figures.{figures_of};
 ghost use Rattle.case_figures.specs.Shows.{ShowsFigures};
 ghost use Rattle.case_figures.specs.Fits.{FitsPrint};
-ghost use Rattle.spares_top.specs.Files.{table_limit};
 ghost use Rattle.spares_top.specs.Headline.{ShowsCase};
 ghost use Rattle.spares_top.specs.Making.{AreTables, Evaluates, Is, MakesBy};
-ghost use Rattle.spares_top.specs.Tables.{stocked_of};
+ghost use Rattle.case_tables.specs.Tables.{stocked_of, table_limit};
+ghost use Rattle.refusals.specs.declared.refusal.File.TheVariants as file;
 ghost use Rattle.spares_top.specs.Task.{bytes_at, eval_of, eval_task};
 
-use crate::case::{case_of, rates_of, stocks_in};
 use crate::done::{Done, Outcome};
-use crate::refusal::failure::Failure;
 use case_figures::{Figures, figures_at};
+use case_tables::{Stocked, stocked_of};
 use demand_rates::kinds::Rates;
 use family_eval::evaluate_all;
 use plan_report::EvalReport;
+use refusals::{Failure, File};
 use spares_input::{Case, Stocks};
 use spares_io::{List, NoMemory, Stop};
 use std::alloc::Global;
@@ -100,20 +100,17 @@ fn report_of(
     requires rates { length rates.now ≤ table_limit }
     requires stocks { length stocks.now ≤ table_limit }
     requires bits { IsWidth bits }
-    ensures { Evaluates (stocked_of sites.now parts.now rates.now stocks.now) bits result }
+    ensures { Evaluates (stocked_of file.Stocks sites.now parts.now rates.now stocks.now) bits result }
 {
-    let case = match case_of(alloc, sites, parts, rates) {
-        Ok(case) => case,
+    let given = match stocked_of(alloc, sites, parts, rates, File::Stocks, stocks) {
+        Ok(given) => given,
         Err(stop) => return Err(stop),
     };
-    let stocks = match stocks_in(alloc, &case, stocks) {
-        Ok(stocks) => stocks,
-        Err(stop) => return Err(stop),
-    };
-    let rates = match rates_of(alloc, &case) {
-        Ok(rates) => rates,
-        Err(stop) => return Err(stop),
-    };
+    let Stocked {
+        case,
+        stocks,
+        rates,
+    } = given;
     match evaluated(alloc, &case, &rates, &stocks, bits) {
         Ok(report) => Ok(report),
         Err(NoMemory) => Err(Stop::NoMemory),
@@ -123,7 +120,7 @@ fn report_of(
 /// Carries out `eval` on the bytes of its four tables: sites, parts, rates and stocks.
 #[tactic(auto, using(crate::proofs::Stops::eval_stops))]
 pub(crate) fn eval(alloc: Global, files: &[List<u8>], bits: u8) -> Result<Outcome, Stop<Failure>>
-    requires files { AreTables files.now }
+    requires files { AreTables 4 files.now }
     requires bits { IsWidth bits }
     ensures { MakesBy (Is (eval_task (bytes_at files.now 0) (bytes_at files.now 1) (bytes_at files.now 2) (bytes_at files.now 3) bits)) result }
 {

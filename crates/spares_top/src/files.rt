@@ -1,15 +1,19 @@
 //! The files that an order reads.
-ghost use Rattle.std.specs.Prelude.{◌≡◌, ◌⊎◌, ◌≤◌, ◌<◌, ◌^◌, All, length, IfOk, IfErr, OnOk};
-ghost use Rattle.spares_top.specs.Files.{Gave, IsTooLong, IsUnread, Reads, StandStill, table_in};
+ghost use Rattle.std.specs.Prelude.{◌≡◌, ◌⊎◌, ◌≤◌, ◌<◌, ◌^◌, [], All, length, IfOk, IfErr, OnOk};
+ghost use Rattle.std.specs.Option.{option_map};
+ghost use Rattle.spares_top.specs.Files.{Gave, IsTooLong, IsUnread, Reads, StandStill, case_in, certificate_in, inputs, stocks_in, table_in};
 ghost use Rattle.spares_top.specs.Reading.{IsReadable, ReadsGive, Unread};
 
-use crate::refusal::failure::Failure;
-use crate::refusal::{File, Refusal};
-use spares_io::{List, Shelf, ShelfError, Stop, Text};
+use refusals::{Failure, File, Refusal};
+use spares_io::{List, NoMemory, Shelf, ShelfError, Stop, Text};
+use spares_words::Order;
 use std::alloc::Global;
 
 /// Most bytes of a table.
 const TABLE_LIMIT: usize = 4_194_304;
+
+/// Most bytes of a certificate.
+const CERTIFICATE_LIMIT: usize = 16_777_216;
 
 /// A file that an order reads: which it is, its name, and the most bytes that it may have.
 #[derive(Drop)]
@@ -21,13 +25,86 @@ pub(crate) struct Input {
 
 impl Input {
     /// The input of a table.
-    pub(crate) fn table(file: File, name: Text) -> Input
-        ensures { result ≡ table_in file name }
+    fn table(alloc: Global, file: File, name: &Text) -> Result<Input, NoMemory>
+        ensures { IfOk result (λ input. input ≡ table_in file name.now) }
     {
-        Input {
+        Ok(Input {
             file,
-            name,
+            name: Text::from_str(alloc, name.as_str())?,
             limit: TABLE_LIMIT,
+        })
+    }
+
+    /// The input of a certificate.
+    fn certificate(alloc: Global, name: &Text) -> Result<Input, NoMemory>
+        ensures { IfOk result (λ input. input ≡ certificate_in name.now) }
+    {
+        Ok(Input {
+            file: File::Certificate,
+            name: Text::from_str(alloc, name.as_str())?,
+            limit: CERTIFICATE_LIMIT,
+        })
+    }
+}
+
+/// The tables of a case.
+fn case_tables(
+    alloc: Global,
+    sites: &Text,
+    parts: &Text,
+    rates: &Text,
+) -> Result<Vec<Input>, NoMemory>
+    ensures { IfOk result (λ tables. tables.items ≡ case_in sites.now parts.now rates.now []) }
+{
+    let mut tables = Vec::new(alloc);
+    tables.push(Input::table(alloc, File::Sites, sites)?)?;
+    tables.push(Input::table(alloc, File::Parts, parts)?)?;
+    tables.push(Input::table(alloc, File::Rates, rates)?)?;
+    Ok(tables)
+}
+
+/// The tables of a case, and then a table of stocks, where one is named.
+fn stocked_tables(
+    alloc: Global,
+    sites: &Text,
+    parts: &Text,
+    rates: &Text,
+    file: File,
+    stocks: Option<&Text>,
+) -> Result<Vec<Input>, NoMemory>
+    ensures { IfOk result (λ tables. tables.items ≡ case_in sites.now parts.now rates.now (stocks_in file (option_map (λ t. t.now) stocks.entry))) }
+{
+    let mut tables = case_tables(alloc, sites, parts, rates)?;
+    if let Some(name) = stocks {
+        tables.push(Input::table(alloc, file, name)?)?;
+    }
+    Ok(tables)
+}
+
+/// The files that an order reads, in the order in which they are read.
+pub(crate) fn inputs_of(alloc: Global, order: &Order) -> Result<Vec<Input>, NoMemory>
+    ensures { IfOk result (λ v. v.items ≡ inputs order.now) }
+{
+    match order {
+        Order::Single { .. } | Order::Demo { .. } => Ok(Vec::new(alloc)),
+        Order::Eval {
+            sites,
+            parts,
+            rates,
+            stocks,
+            ..
+        } => stocked_tables(alloc, sites, parts, rates, File::Stocks, Some(stocks)),
+        Order::Plan {
+            sites,
+            parts,
+            rates,
+            on_hand,
+            ..
+        } => stocked_tables(alloc, sites, parts, rates, File::OnHand, on_hand.as_ref()),
+        Order::Check { certificate } => {
+            let mut inputs = Vec::new(alloc);
+            inputs.push(Input::certificate(alloc, certificate)?)?;
+            Ok(inputs)
         }
     }
 }
@@ -63,6 +140,7 @@ pub(crate) fn read_files<H: Shelf>(
     requires { All IsReadable inputs.now }
     ensures held { H.held shelf.new ≡ H.held shelf.old }
     ensures reads { ReadsGive (H.held shelf.old) (H.read_faults shelf.old) (H.read_faults shelf.new) inputs.now result }
+    ensures nothing { inputs.now ≡ [] → StandStill (H.read_faults shelf.old) (H.read_faults shelf.new) }
     ensures writes { StandStill (H.write_faults shelf.old) (H.write_faults shelf.new) }
 {
     let mut files = Vec::new(alloc);

@@ -1,16 +1,19 @@
 //! The whole program over a shelf and two sinks that are handed in.
 #![tactic(auto)]
 
-mod case;
+mod check;
 mod deliver;
+mod demo;
 mod done;
 mod eval;
+mod exit;
 mod files;
-mod refusal;
+mod plan;
 mod single;
 mod top;
 mod work;
 
 pub use done::Done;
-pub use refusal::{File, Refusal, status};
+pub use exit::status;
+pub use refusals::{File, Refusal};
 pub use top::{refuse, run};

@@ -1,13 +1,11 @@
 //! The top call.
-ghost use Rattle.spares_top.specs.Lines.{NamesNoPair, line_of, no_names};
+ghost use Rattle.refusals.specs.Lines.{NamesNoPair, line_of, no_names};
 ghost use Rattle.spares_top.specs.Promises.{PutsLine, Runs, errors};
 ghost use Rattle.spares_top.specs.State.{scene};
 
 use crate::done::Done;
-use crate::refusal::Refusal;
-use crate::refusal::failure::Failure;
-use crate::refusal::line::Line;
 use crate::work::work;
+use refusals::{Failure, Line, Refusal};
 use spares_io::{Shelf, Sink, Text};
 use std::alloc::Global;
 

@@ -1,48 +1,56 @@
 //! An order, from the shelf to the output.
 ghost use Rattle.std.specs.Prelude.{◌≡◌, [], Ok};
-ghost use Rattle.fixed_interval.specs.Widths.{IsWidth};
 ghost use Rattle.spares_words.specs.Order.{IsInRange, order_of};
-ghost use Rattle.spares_words.specs.declared.order.Order.TheVariants as order;
 ghost use Rattle.spares_top.specs.Files.{StandStill, inputs};
-ghost use Rattle.spares_top.specs.Making.{ComesOf, MakesBy};
+ghost use Rattle.spares_top.specs.Making.{AreWithin, ComesOf, Is, MakesBy};
 ghost use Rattle.spares_top.specs.Promises.{Performs};
 ghost use Rattle.spares_top.specs.State.{scene};
+ghost use Rattle.spares_top.specs.Task.{task_on};
 
+use crate::check::check;
 use crate::deliver::deliver;
+use crate::demo::demo;
 use crate::done::{Done, Outcome};
 use crate::eval::eval;
-use crate::files::{Input, read_files};
-use crate::refusal::failure::{Failure, failure_of};
-use crate::refusal::{File, Refusal};
+use crate::files::{inputs_of, read_files};
+use crate::plan::plan;
 use crate::single::single;
-use spares_io::{Shelf, Sink, Stop, Text};
+use certified_plan::Terms;
+use refusals::{Failure, Refusal, failure_of};
+use spares_io::{List, NoMemory, Shelf, Sink, Stop, Text};
 use spares_words::{Order, read_words};
 use std::alloc::Global;
 
-/// Reads the tables of `eval`, and evaluates them.
-fn eval_files<H: Shelf>(
-    alloc: Global,
-    sites: Text,
-    parts: Text,
-    rates: Text,
-    stocks: Text,
-    bits: u8,
-    shelf: &mut H,
-) -> Result<Outcome, Stop<Failure>>
-    requires { IsWidth bits }
-    ensures makes { MakesBy (ComesOf (order.Eval sites parts rates stocks bits) (H.held shelf.old) (H.read_faults shelf.old) (H.read_faults shelf.new)) result }
-    ensures held { H.held shelf.new ≡ H.held shelf.old }
-    ensures writes { StandStill (H.write_faults shelf.old) (H.write_faults shelf.new) }
+/// What an order gives on the bytes of its inputs.
+fn outcome_on(alloc: Global, order: Order, files: &[List<u8>]) -> Result<Outcome, Stop<Failure>>
+    requires order { IsInRange order }
+    requires files { AreWithin (inputs order) files.now }
+    ensures { MakesBy (Is (task_on order files.now)) result }
 {
-    let inputs = [
-        Input::table(File::Sites, sites),
-        Input::table(File::Parts, parts),
-        Input::table(File::Rates, rates),
-        Input::table(File::Stocks, stocks),
-    ];
-    match read_files(alloc, shelf, &inputs[..]) {
-        Ok(files) => eval(alloc, files.as_slice(), bits),
-        Err(stop) => Err(stop),
+    match order {
+        Order::Single {
+            mean,
+            variance,
+            stock,
+        } => single(alloc, mean, variance, stock),
+        Order::Eval { bits, .. } => eval(alloc, files, bits),
+        Order::Plan {
+            on_hand,
+            budget,
+            format,
+            objective,
+            certificate,
+            ..
+        } => {
+            let terms = Terms {
+                budget,
+                format,
+                objective,
+            };
+            plan(alloc, files, on_hand.is_some(), terms, certificate)
+        }
+        Order::Check { .. } => check(alloc, files[0].as_slice()),
+        Order::Demo { number, lines } => demo(alloc, number, lines),
     }
 }
 
@@ -58,19 +66,12 @@ fn outcome_of<H: Shelf>(
     ensures writes { StandStill (H.write_faults shelf.old) (H.write_faults shelf.new) }
     ensures reads { inputs order ≡ [] → StandStill (H.read_faults shelf.old) (H.read_faults shelf.new) }
 {
-    match order {
-        Order::Single {
-            mean,
-            variance,
-            stock,
-        } => single(alloc, mean, variance, stock),
-        Order::Eval {
-            sites,
-            parts,
-            rates,
-            stocks,
-            bits,
-        } => eval_files(alloc, sites, parts, rates, stocks, bits, shelf),
+    let Ok(inputs) = inputs_of(alloc, &order) else {
+        return Err(Stop::NoMemory);
+    };
+    match read_files(alloc, shelf, inputs.as_slice()) {
+        Ok(files) => outcome_on(alloc, order, files.as_slice()),
+        Err(stop) => Err(stop),
     }
 }
 

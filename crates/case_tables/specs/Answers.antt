@@ -1,0 +1,21 @@
+-- What the calls answer: a value, the refusal of its definition, or want of memory.
+use Rattle.std.specs.Prelude.{◌≡◌, ⊤, Result, Ok, Err}
+use Rattle.spares_input.specs.Cases.{CaseRows}
+use Rattle.spares_io.specs.declared.stop.Stop.{Stop}
+use Rattle.spares_io.specs.declared.stop.Stop.TheVariants as stop
+use Rattle.refusals.specs.declared.failure.Failure.{Failure}
+use Rattle.case_tables.specs.declared.Accepted.{Accepted}
+use Rattle.case_tables.specs.declared.Stocked.{Stocked}
+use Rattle.case_tables.specs.Tables.{StockedCase}
+
+-- a case, as the definition gives it
+abbrev pub Tells : Result CaseRows Failure → Result Accepted (Stop Failure) → Type 0
+Tells given (Ok accepted) = given ≡ Ok accepted.case
+Tells given (Err stop.NoMemory) = ⊤
+Tells given (Err (stop.Fault failure)) = given ≡ Err failure
+
+-- a case with stocks
+abbrev pub TellsStocked : Result StockedCase Failure → Result Stocked (Stop Failure) → Type 0
+TellsStocked given (Ok stocked) = given ≡ Ok (record { case = stocked.case; stocks = stocked.stocks })
+TellsStocked given (Err stop.NoMemory) = ⊤
+TellsStocked given (Err (stop.Fault failure)) = given ≡ Err failure

@@ -1,0 +1,202 @@
+//! From the bytes of tables to a case, its stocks and its rates, or to the first refusal, with the names of the case at hand.
+#![tactic(auto)]
+
+ghost use Rattle.std.specs.Prelude.{◌≤◌, IfOk, length};
+ghost use Rattle.demand_rates.specs.Rates.{AreRatesOf};
+ghost use Rattle.spares_input.specs.Stocks.{IsFor, IsWithinLimits};
+ghost use Rattle.spares_io.specs.Answers.{Gives};
+ghost use Rattle.case_tables.specs.Answers.{Tells, TellsStocked};
+ghost use Rattle.case_tables.specs.Tables.{accepted_of, case_of_table, case_of_tables, frame_of_tables, rates_of_case, stocked_of, stocks_of_table, table_limit};
+
+use csv_tables::{read_parts, read_rates, read_sites, read_stocks};
+use demand_rates::kinds::Rates;
+use demand_rates::rates;
+use refusals::{Failure, File, Refusal};
+use spares_input::{Case, Frame, Stocks, stocks_from};
+use spares_io::Stop;
+use std::alloc::Global;
+
+/// The frame of two tables.
+#[tactic(auto, unfolding(crate::specs::Tables::frame_of_tables))]
+fn frame_of(alloc: Global, sites: &[u8], parts: &[u8]) -> Result<Frame, Stop<Failure>>
+    requires sites { length sites.now ≤ table_limit }
+    requires parts { length parts.now ≤ table_limit }
+    ensures { Gives (frame_of_tables sites.now parts.now) result }
+{
+    let sites = match read_sites(alloc, sites) {
+        Ok(rows) => rows,
+        Err(Stop::NoMemory) => return Err(Stop::NoMemory),
+        Err(Stop::Fault(fault)) => {
+            return Err(Stop::Fault(Failure::of(Refusal::Table(File::Sites, fault))));
+        }
+    };
+    let parts = match read_parts(alloc, parts) {
+        Ok(rows) => rows,
+        Err(Stop::NoMemory) => return Err(Stop::NoMemory),
+        Err(Stop::Fault(fault)) => {
+            return Err(Stop::Fault(Failure::of(Refusal::Table(File::Parts, fault))));
+        }
+    };
+    match Frame::build(alloc, sites, parts) {
+        Ok(frame) => Ok(frame),
+        Err(Stop::NoMemory) => Err(Stop::NoMemory),
+        Err(Stop::Fault(fault)) => Err(Stop::Fault(Failure::of(Refusal::Case(fault)))),
+    }
+}
+
+/// The case of a frame and a table of rates.
+#[tactic(auto, unfolding(crate::specs::Tables::case_of_table))]
+fn case_in(alloc: Global, frame: Frame, bytes: &[u8]) -> Result<Case, Stop<Failure>>
+    requires { length bytes.now ≤ table_limit }
+    ensures { Gives (case_of_table frame bytes.now) result }
+{
+    let rows = match read_rates(alloc, bytes, &frame) {
+        Ok(rows) => rows,
+        Err(Stop::NoMemory) => return Err(Stop::NoMemory),
+        Err(Stop::Fault(fault)) => {
+            let refusal = Refusal::Table(File::Rates, fault);
+            return Err(Stop::Fault(Failure::at(&frame, refusal)));
+        }
+    };
+    match Case::build(alloc, frame, rows) {
+        Ok(case) => Ok(case),
+        Err((frame, stop)) => match stop {
+            Stop::NoMemory => Err(Stop::NoMemory),
+            Stop::Fault(fault) => Err(Stop::Fault(Failure::at(&frame, Refusal::Case(fault)))),
+        },
+    }
+}
+
+/// The case of three tables.
+fn case_of(alloc: Global, sites: &[u8], parts: &[u8], rates: &[u8]) -> Result<Case, Stop<Failure>>
+    requires sites { length sites.now ≤ table_limit }
+    requires parts { length parts.now ≤ table_limit }
+    requires rates { length rates.now ≤ table_limit }
+    ensures { Gives (case_of_tables sites.now parts.now rates.now) result }
+{
+    match frame_of(alloc, sites, parts) {
+        Ok(frame) => case_in(alloc, frame, rates),
+        Err(stop) => Err(stop),
+    }
+}
+
+/// The stocks of a case by a further table, which this file is.
+#[tactic(auto, unfolding(crate::specs::Tables::stocks_of_table))]
+fn stocks_in(alloc: Global, case: &Case, file: File, bytes: &[u8]) -> Result<Stocks, Stop<Failure>>
+    requires { length bytes.now ≤ table_limit }
+    ensures answer { Gives (stocks_of_table file case.now bytes.now) result }
+    ensures whole { IfOk result (IsFor case.now) }
+    ensures limits { IfOk result (IsWithinLimits case.now) }
+{
+    let rows = match read_stocks(alloc, bytes, case.frame()) {
+        Ok(rows) => rows,
+        Err(Stop::NoMemory) => return Err(Stop::NoMemory),
+        Err(Stop::Fault(fault)) => {
+            let refusal = Refusal::Table(file, fault);
+            return Err(Stop::Fault(Failure::at(case.frame(), refusal)));
+        }
+    };
+    match stocks_from(alloc, case, rows.as_slice()) {
+        Ok(stocks) => Ok(stocks),
+        Err(Stop::NoMemory) => Err(Stop::NoMemory),
+        Err(Stop::Fault(fault)) => {
+            Err(Stop::Fault(Failure::at(case.frame(), Refusal::Stock(fault))))
+        }
+    }
+}
+
+/// The rates of a case that the model takes.
+#[tactic(auto, unfolding(crate::specs::Tables::rates_of_case))]
+fn rates_of(alloc: Global, case: &Case) -> Result<Rates, Stop<Failure>>
+    ensures answer { Gives (rates_of_case case.now) result }
+    ensures model { IfOk result (AreRatesOf case.now) }
+{
+    match rates(alloc, case) {
+        Ok(rates) => Ok(rates),
+        Err(Stop::NoMemory) => Err(Stop::NoMemory),
+        Err(Stop::Fault(fault)) => {
+            Err(Stop::Fault(Failure::at(case.frame(), Refusal::Rate(fault))))
+        }
+    }
+}
+
+/// A case, and its rates, which the model takes.
+#[derive(Drop)]
+pub struct Accepted {
+    pub case: Case,
+    pub rates: Rates,
+}
+
+/// The case of three tables: sites, parts and rates, with its rates.
+///
+/// The answer is the first refusal: `Table` of the sites, `Table` of the parts, `Case` of the two, `Table` of the rates, `Case`
+/// of the three, or `Rate` where a pipeline is beyond the model's limits.
+#[tactic(auto, unfolding(crate::specs::Tables::accepted_of))]
+pub fn accepted_of(
+    alloc: Global,
+    sites: &[u8],
+    parts: &[u8],
+    rates: &[u8],
+) -> Result<Accepted, Stop<Failure>>
+    requires sites { length sites.now ≤ table_limit }
+    requires parts { length parts.now ≤ table_limit }
+    requires rates { length rates.now ≤ table_limit }
+    ensures answer { Tells (accepted_of sites.now parts.now rates.now) result }
+    ensures rates { IfOk result (λ given. AreRatesOf given.case given.rates) }
+{
+    let case = match case_of(alloc, sites, parts, rates) {
+        Ok(case) => case,
+        Err(stop) => return Err(stop),
+    };
+    match rates_of(alloc, &case) {
+        Ok(rates) => Ok(Accepted { case, rates }),
+        Err(stop) => Err(stop),
+    }
+}
+
+/// A case with stocks that are within its limits, and its rates, which the model takes.
+#[derive(Drop)]
+pub struct Stocked {
+    pub case: Case,
+    pub stocks: Stocks,
+    pub rates: Rates,
+}
+
+/// The case of three tables with the stocks of a fourth, which this file is.
+///
+/// The answer is the first refusal: those of a case, then `Table` of that file or `Stock`, and then `Rate`.
+#[tactic(auto, unfolding(crate::specs::Tables::stocked_of))]
+pub fn stocked_of(
+    alloc: Global,
+    sites: &[u8],
+    parts: &[u8],
+    rates: &[u8],
+    file: File,
+    stocks: &[u8],
+) -> Result<Stocked, Stop<Failure>>
+    requires sites { length sites.now ≤ table_limit }
+    requires parts { length parts.now ≤ table_limit }
+    requires rates { length rates.now ≤ table_limit }
+    requires stocks { length stocks.now ≤ table_limit }
+    ensures answer { TellsStocked (stocked_of file sites.now parts.now rates.now stocks.now) result }
+    ensures rates { IfOk result (λ given. AreRatesOf given.case given.rates) }
+    ensures whole { IfOk result (λ given. IsFor given.case given.stocks) }
+    ensures limits { IfOk result (λ given. IsWithinLimits given.case given.stocks) }
+{
+    let case = match case_of(alloc, sites, parts, rates) {
+        Ok(case) => case,
+        Err(stop) => return Err(stop),
+    };
+    let stocks = match stocks_in(alloc, &case, file, stocks) {
+        Ok(stocks) => stocks,
+        Err(stop) => return Err(stop),
+    };
+    match rates_of(alloc, &case) {
+        Ok(rates) => Ok(Stocked {
+            case,
+            stocks,
+            rates,
+        }),
+        Err(stop) => Err(stop),
+    }
+}

@@ -1,0 +1,68 @@
+-- A demonstration and its summary.
+use Rattle.std.specs.Prelude.{◌≡◌, ℕ, ◌*◌, false, length, None}
+use Rattle.case_figures.specs.Figures.{total_of}
+use Rattle.case_figures.specs.Spans.{ends}
+use Rattle.case_maker.specs.Demonstration.{made}
+use Rattle.case_plan.specs.Report as reports
+use Rattle.case_plan.specs.declared.outcome.Outcome.{Outcome}
+use Rattle.certified_plan.specs.Certificates.{certificate_of, claims_of}
+use Rattle.certified_plan.specs.declared.terms.PlanClaims.{PlanClaims}
+use Rattle.certified_plan.specs.declared.terms.Terms.{Terms}
+use Rattle.fleet_plan.specs.Laws.{plain_ends}
+use Rattle.fleet_plan.specs.Plans.{CasePlan, IsCasePlan}
+use Rattle.gap_checker.specs.Soundness.{nothing_held}
+use Rattle.plan_report.specs.declared.summary.Summary.{Summary}
+use Rattle.price_certificate.specs.declared.certificate.Certificate.{Certificate}
+use Rattle.price_certificate.specs.declared.certificate.Objective.TheVariants.{Backorders}
+
+-- whole money for so many line units
+abbrev pub budget_of : ℕ → ℕ
+budget_of lines = 2000 * lines
+
+-- a certificate of format 1
+abbrev pub demo_terms : ℕ → Terms
+demo_terms budget = record { budget = budget; format = 1; objective = Backorders }
+
+-- the summary of a plan of the demonstration case
+abbrev pub summary_of : ℕ → ℕ → CasePlan → Summary
+summary_of number lines p = record {
+  number = number;
+  lines = lines;
+  parts = length (made number lines).parts;
+  budget = budget_of lines;
+  cost = p.numbers.cost;
+  total = total_of 48 (made number lines) p.stocks;
+  bound = p.numbers.bound;
+  gap = p.numbers.gap;
+}
+
+-- the certificate of the plan
+abbrev pub demo_certificate : ℕ → ℕ → CasePlan → Certificate
+demo_certificate number lines p =
+    certificate_of (made number lines) (nothing_held (made number lines)) (demo_terms (budget_of lines)) (claims_of (made number lines) p)
+
+-- The summary is that of the plan of the demonstration case, from no stock of anything; there is one.
+pub record IsDemonstrated (number lines : ℕ) (summary : Summary) : Type 0 where
+  pub plan : CasePlan
+  pub is_plan : IsCasePlan plain_ends (made number lines) (nothing_held (made number lines)).list (budget_of lines) plan
+  pub is : summary ≡ summary_of number lines plan
+
+-- ---- the same from a plan's outcome: no promise rests on these words
+
+abbrev pub summary_in : ℕ → ℕ → ℕ → Outcome → Summary
+summary_in number lines parts o = record {
+  number = number;
+  lines = lines;
+  parts = parts;
+  budget = o.report.budget;
+  cost = o.report.figures.cost;
+  total = ends o.report.figures.total;
+  bound = o.report.bound;
+  gap = o.report.gap;
+}
+
+abbrev pub claims_in : Outcome → PlanClaims
+claims_in o = record { stocks = o.stocks; price = o.price; floors = o.floors; upper = o.upper; bound = o.report.bound }
+
+abbrev pub report_terms : ℕ → reports.Terms
+report_terms budget = record { budget = budget; loss = false; on_hand = None }

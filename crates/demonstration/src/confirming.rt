@@ -1,0 +1,32 @@
+//! The certificate of a plan, written, read back and checked.
+
+ghost use Rattle.std.specs.Prelude.{◌≡◌, ◌≤◌, None, length};
+ghost use Rattle.gap_checker.specs.Refusals.{reject_of};
+ghost use Rattle.gap_checker.specs.Soundness.{nothing_held, plain_score};
+ghost use Rattle.price_certificate.specs.Certificates.{IsWellFormed, cert_text};
+ghost use Rattle.price_certificate.specs.declared.certificate.Objective.TheVariants as objective;
+
+use gap_checker::check;
+use price_certificate::{Certificate, read, text};
+use spares_io::{NoMemory, Stop};
+use std::alloc::Global;
+
+/// Writes a certificate that breaks no rule, reads it back and checks it.
+pub(crate) fn confirm(alloc: Global, certificate: &Certificate) -> Result<(), NoMemory>
+    requires formed { IsWellFormed certificate.now }
+    requires objective { certificate.now.objective ≡ objective.Backorders }
+    requires short { length (cert_text certificate.now) ≤ 16777216 }
+    requires accepted { reject_of plain_score certificate.now (nothing_held certificate.now.case) ≡ None }
+{
+    let bytes = text(alloc, certificate)?;
+    let certificate = match read(alloc, bytes.as_slice()) {
+        Ok(certificate) => certificate,
+        Err(Stop::NoMemory) => return Err(NoMemory),
+        Err(Stop::Fault(_)) => unreachable!(),
+    };
+    match check(alloc, &certificate) {
+        Ok(_) => Ok(()),
+        Err(Stop::NoMemory) => Err(NoMemory),
+        Err(Stop::Fault(_)) => unreachable!(),
+    }
+}

@@ -1,0 +1,103 @@
+//! A demonstration, from its number to its summary.
+
+ghost use Rattle.std.specs.Prelude.{◌≡◌, ◌≤◌, IfOk};
+ghost use Rattle.case_figures.specs.Spans.{ends, places};
+ghost use Rattle.certified_plan.specs.Certificates.{certificate_of};
+ghost use Rattle.certified_plan.specs.Inputs.{AreClaims, AreTerms, IsHeld};
+ghost use Rattle.demonstration.specs.Demonstrations.{IsDemonstrated, claims_in, demo_terms, summary_in};
+ghost use Rattle.plan_report.specs.Fits.{FitsSummary};
+ghost use Rattle.price_certificate.specs.Certificates.{IsWellFormed};
+
+use crate::confirming::confirm;
+use case_figures::Span;
+use case_plan::{Outcome, plan_case};
+use certified_plan::{PlanClaims, Terms, certificate};
+use demo_accepts::demonstration;
+use fixed_interval::Iv;
+use gap_checker::nothing_held;
+use hull::Plain;
+use plan_report::Summary;
+use price_certificate::{Certificate, Objective};
+use spares_input::{Case, Stocks};
+use spares_io::NoMemory;
+use std::alloc::Global;
+
+/// What a demonstration has for each of its line units, in whole money.
+const MONEY: u64 = 2_000;
+
+/// The interval of a span with 48 binary places.
+fn interval_of(span: &Span) -> Iv<48>
+    requires { places span.now ≡ 48 }
+    ensures { result ≡ ends span.now }
+{
+    match span {
+        Span::Bits48(interval) => *interval,
+        _ => unreachable!(),
+    }
+}
+
+/// The summary of a plan, whose case has so many parts.
+fn summary_of(number: u32, lines: u16, parts: u16, plan: &Outcome) -> Summary
+    requires { places plan.now.report.figures.total ≡ 48 }
+    ensures { result ≡ summary_in number lines parts plan.now }
+{
+    let report = &plan.report;
+    Summary {
+        number,
+        lines,
+        parts: u32::from(parts),
+        budget: report.budget,
+        cost: report.figures.cost,
+        total: interval_of(&report.figures.total),
+        bound: report.bound,
+        gap: report.gap,
+    }
+}
+
+/// The certificate of a plan under a budget, where nothing is held.
+fn certificate_in(
+    alloc: Global,
+    case: Case,
+    held: &Stocks,
+    budget: u64,
+    plan: Outcome,
+) -> Result<Certificate, NoMemory>
+    requires held { IsHeld case held.now }
+    requires terms { AreTerms (demo_terms budget) }
+    requires claims { AreClaims case (claims_in plan) }
+    ensures certificate { IfOk result (λ cert. cert ≡ certificate_of case held.now (demo_terms budget) (claims_in plan)) }
+    ensures formed { IfOk result IsWellFormed }
+{
+    let terms = Terms {
+        budget,
+        format: 1,
+        objective: Objective::Backorders,
+    };
+    let claims = PlanClaims {
+        stocks: plan.stocks,
+        price: plan.price,
+        floors: plan.floors,
+        upper: plan.upper,
+        bound: plan.report.bound,
+    };
+    certificate(alloc, case, held, terms, claims)
+}
+
+/// Plans the demonstration case of a number with 1 to 80 line units, with 2,000 of money for each of them, writes the certificate of
+/// the plan, reads it back and checks it, all in memory. It gives the summary of the plan. Want of memory is the only error.
+pub fn demonstrate(alloc: Global, number: u32, lines: u16) -> Result<Summary, NoMemory>
+    requires some { 1 ≤ lines }
+    requires few { lines ≤ 80 }
+    ensures summary { IfOk result (IsDemonstrated number lines) }
+    ensures fits { IfOk result FitsSummary }
+{
+    let (case, rates) = demonstration(alloc, number, lines)?;
+    let parts = case.part_count();
+    let held = nothing_held(alloc, &case)?;
+    let budget = MONEY * u64::from(lines);
+    let plan = plan_case(alloc, &case, &rates, &held, &Plain, budget, false, None)?;
+    let summary = summary_of(number, lines, parts, &plan);
+    let certificate = certificate_in(alloc, case, &held, budget, plan)?;
+    confirm(alloc, &certificate)?;
+    Ok(summary)
+}

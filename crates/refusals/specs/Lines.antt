@@ -1,0 +1,154 @@
+-- The line of a refusal. Fields are parted by commas (44), and the line ends with a line feed (10).
+use Rattle.std.specs.Prelude.{◌≡◌, ℕ, List, [], ◌∷◌, ◌++◌, codes, Option, Some, None, Result, Ok, Err}
+use Rattle.std.specs.Fmt.{decimal}
+use Rattle.csv_tables.specs.declared.fault.TableFault.{TableFault}
+use Rattle.csv_tables.specs.declared.fault.TableFault.TheVariants as table
+use Rattle.demand_rates.specs.declared.fault.Place.{Place}
+use Rattle.demand_rates.specs.declared.fault.Place.TheVariants.{Single, Pair}
+use Rattle.demand_rates.specs.declared.fault.RateFault.{RateFault}
+use Rattle.demand_rates.specs.declared.fault.RateFault.TheVariants.{ThinPipeline, PipelineTooLarge, PipelineRatio}
+use Rattle.gap_checker.specs.declared.refusal.Reject.{Reject}
+use Rattle.gap_checker.specs.declared.refusal.Reject.TheVariants as reject
+use Rattle.price_certificate.specs.declared.fault.CertFault.{CertFault}
+use Rattle.price_certificate.specs.declared.fault.CertFault.TheVariants as cert
+use Rattle.spares_input.specs.Frames.{FrameRows, part_at, site_at}
+use Rattle.spares_input.specs.declared.fault.CaseFault.{CaseFault}
+use Rattle.spares_input.specs.declared.fault.CaseFault.TheVariants as case
+use Rattle.spares_input.specs.declared.fault.StockFault.{StockFault}
+use Rattle.spares_input.specs.declared.fault.StockFault.TheVariants as stock
+use Rattle.spares_input.specs.declared.rows.PartId.{PartId}
+use Rattle.spares_input.specs.declared.rows.SiteId.{SiteId}
+use Rattle.spares_words.specs.declared.order.Which.{Which}
+use Rattle.spares_words.specs.declared.order.Which.TheVariants as which
+use Rattle.spares_words.specs.declared.order.WordsFault.{WordsFault}
+use Rattle.spares_words.specs.declared.order.WordsFault.TheVariants.{Shape, Number, Range}
+use Rattle.refusals.specs.declared.refusal.File.{File}
+use Rattle.refusals.specs.declared.refusal.File.TheVariants as file
+use Rattle.refusals.specs.declared.refusal.Refusal.{Refusal}
+use Rattle.refusals.specs.declared.refusal.Refusal.TheVariants as refusal
+
+-- no names: a refusal that stands at no pair has none in its line
+abbrev pub no_names : FrameRows
+no_names = record { sites = []; parts = [] }
+
+-- the names of a frame, where there is one
+abbrev pub names_of : Option FrameRows → FrameRows
+names_of None = no_names
+names_of (Some frame) = frame
+
+abbrev pub which_text : Which → List ℕ
+which_text which.Mean = codes "mean"
+which_text which.Stock = codes "stock"
+which_text which.Variance = codes "variance"
+which_text which.Budget = codes "budget"
+which_text which.Bits = codes "bits"
+which_text which.Format = codes "format"
+which_text which.Objective = codes "objective"
+which_text which.Number = codes "number"
+which_text which.Lines = codes "lines"
+
+abbrev pub file_text : File → List ℕ
+file_text file.Sites = codes "sites"
+file_text file.Parts = codes "parts"
+file_text file.Rates = codes "rates"
+file_text file.Stocks = codes "stocks"
+file_text file.OnHand = codes "on-hand"
+file_text file.Certificate = codes "certificate"
+
+-- a further field with a number
+abbrev pub number_field : ℕ → List ℕ
+number_field n = 44 ∷ decimal n
+
+-- a pair, by the names of its part and its site
+abbrev pub pair_text : FrameRows → PartId → SiteId → List ℕ
+pair_text names part site = (part_at names.parts part.0).name ++ (44 ∷ (site_at names.sites site.0).name)
+
+-- where a refused pipeline stands
+abbrev pub place_text : FrameRows → Place → List ℕ
+place_text names Single = codes "single"
+place_text names (Pair part site) = pair_text names part site
+
+abbrev pub words_text : WordsFault → List ℕ
+words_text Shape = codes "words"
+words_text (Number which fault) = codes "number," ++ which_text which
+words_text (Range which) = codes "range," ++ which_text which
+
+abbrev pub table_text : File → TableFault → List ℕ
+table_text file table.NoHeader = codes "no-header," ++ file_text file
+table_text file (table.FieldCount row found) = codes "field-count," ++ (file_text file ++ (number_field row ++ number_field found))
+table_text file (table.Header column) = codes "header," ++ (file_text file ++ number_field column)
+table_text file table.TooManyRows = codes "too-many-rows," ++ file_text file
+table_text file (table.BadName row column) = codes "bad-name," ++ (file_text file ++ (number_field row ++ number_field column))
+table_text file (table.BadKind row) = codes "bad-kind," ++ (file_text file ++ number_field row)
+table_text file (table.UnknownPart row) = codes "unknown-part," ++ (file_text file ++ number_field row)
+table_text file (table.UnknownSite row) = codes "unknown-site," ++ (file_text file ++ number_field row)
+table_text file (table.FieldEmpty row column) = codes "field-empty," ++ (file_text file ++ (number_field row ++ number_field column))
+table_text file (table.FieldNotEmpty row column) =
+    codes "field-not-empty," ++ (file_text file ++ (number_field row ++ number_field column))
+table_text file (table.BadNumber row column fault) =
+    codes "bad-number," ++ (file_text file ++ (number_field row ++ number_field column))
+table_text file (table.OutOfRange row column) = codes "out-of-range," ++ (file_text file ++ (number_field row ++ number_field column))
+
+abbrev pub case_text : FrameRows → CaseFault → List ℕ
+case_text names (case.DoubleSite row) = codes "double-site" ++ number_field row
+case_text names (case.TwoDepots row) = codes "two-depots" ++ number_field row
+case_text names case.NoDepot = codes "no-depot"
+case_text names case.NoBase = codes "no-base"
+case_text names (case.DoublePart row) = codes "double-part" ++ number_field row
+case_text names (case.UnknownParent row) = codes "unknown-parent" ++ number_field row
+case_text names (case.ParentNotLine row) = codes "parent-not-line" ++ number_field row
+case_text names (case.TooManyShopUnits row) = codes "too-many-shop-units" ++ number_field row
+case_text names (case.DoubleRate row) = codes "double-rate" ++ number_field row
+case_text names (case.MissingRate part site) = codes "missing-rate," ++ pair_text names part site
+
+abbrev pub stock_text : FrameRows → StockFault → List ℕ
+stock_text names (stock.OverLimit row) = codes "over-limit" ++ number_field row
+stock_text names (stock.Double row) = codes "double-stock" ++ number_field row
+stock_text names (stock.Missing part site) = codes "missing-stock," ++ pair_text names part site
+
+abbrev pub rate_text : FrameRows → RateFault → List ℕ
+rate_text names (ThinPipeline place direct) = codes "thin-pipeline," ++ place_text names place
+rate_text names (PipelineTooLarge place mean) = codes "pipeline-too-large," ++ place_text names place
+rate_text names (PipelineRatio place mean direct) = codes "pipeline-ratio," ++ place_text names place
+
+abbrev pub cert_text : CertFault → List ℕ
+cert_text (cert.BadLine line) = codes "bad-line" ++ number_field line
+cert_text (cert.BadCase fault) = codes "bad-case"
+
+abbrev pub reject_text : FrameRows → Reject → List ℕ
+reject_text names (reject.Rate fault) = codes "rejected,rate"
+reject_text names (reject.CoverGap family) = codes "rejected,cover-gap" ++ number_field family
+reject_text names (reject.WorkTooLarge count) = codes "rejected,work" ++ number_field count
+reject_text names (reject.StocksOverLimit part site stock) =
+    codes "rejected,stocks-over-limit," ++ (pair_text names part site ++ number_field stock)
+reject_text names (reject.StocksBelowHeld part site stock) =
+    codes "rejected,stocks-below-held," ++ (pair_text names part site ++ number_field stock)
+reject_text names (reject.OverBudget cost) = codes "rejected,over-budget" ++ number_field cost
+reject_text names (reject.FloorTooHigh family floor least) =
+    codes "rejected,floor-too-high" ++ (number_field family ++ (number_field floor ++ number_field least))
+reject_text names (reject.LeafTooLow family leaf floor least) =
+    codes "rejected,leaf-too-low" ++ (number_field family ++ (number_field leaf ++ (number_field floor ++ number_field least)))
+reject_text names (reject.UpperTooLow claimed upper) = codes "rejected,upper-too-low" ++ (number_field claimed ++ number_field upper)
+reject_text names (reject.BoundTooHigh claimed largest) = codes "rejected,bound-too-high" ++ (number_field claimed ++ number_field largest)
+
+abbrev pub refusal_text : FrameRows → Refusal → List ℕ
+refusal_text names (refusal.Words fault) = words_text fault
+refusal_text names (refusal.ReadFault file) = codes "read," ++ file_text file
+refusal_text names (refusal.TooLong file) = codes "too-long," ++ file_text file
+refusal_text names (refusal.Table file fault) = table_text file fault
+refusal_text names (refusal.Case fault) = case_text names fault
+refusal_text names (refusal.Stock fault) = stock_text names fault
+refusal_text names (refusal.Rate fault) = rate_text names fault
+refusal_text names (refusal.Work count) = codes "work" ++ number_field count
+refusal_text names (refusal.Cert fault) = cert_text fault
+refusal_text names (refusal.Rejected reject) = reject_text names reject
+refusal_text names refusal.WriteFault = codes "write"
+refusal_text names refusal.NoMemory = codes "memory"
+
+-- a refusal that stands at no pair of a case: its text is the same whatever the names
+abbrev pub NamesNoPair : Refusal → Type 0
+NamesNoPair refusal = (names : FrameRows) → refusal_text names refusal ≡ refusal_text no_names refusal
+
+-- the line of a refusal, with the names of the frame at hand
+unfoldable pub line_of : FrameRows → Refusal → List ℕ
+line_of names refusal = codes "fault," ++ (refusal_text names refusal ++ 10 ∷ [])

@@ -1,0 +1,120 @@
+//! A refusal on its way to the line that tells it.
+ghost use Rattle.std.specs.Prelude.{◌≡◌, ◌≤◌, ◌++◌, Some, None, length};
+ghost use Rattle.std.specs.Option.{option_map};
+ghost use Rattle.refusals.specs.Lines.{line_of, names_of, no_names, refusal_text, which_text, words_text};
+ghost use Rattle.refusals.specs.Causes.{failure_of, stopped};
+
+use crate::line::Line;
+use crate::refusal::Refusal;
+use spares_input::Frame;
+use spares_io::Stop;
+use spares_words::{Which, WordsFault};
+
+/// A refusal with its line. The line is made where the names of the case at hand are known.
+#[derive(Drop)]
+pub struct Failure {
+    pub refusal: Refusal,
+    pub line: Line,
+}
+
+impl Failure {
+    /// A refusal that stands at no pair of a case.
+    pub fn of(refusal: Refusal) -> Failure
+        ensures { result ≡ failure_of no_names refusal }
+    {
+        let line = refusal_line(None, &refusal);
+        Failure { refusal, line }
+    }
+
+    /// A refusal of a frame's rows, whose pair has the frame's names.
+    pub fn at(frame: &Frame, refusal: Refusal) -> Failure
+        ensures { result ≡ failure_of frame.now refusal }
+    {
+        let line = refusal_line(Some(frame), &refusal);
+        Failure { refusal, line }
+    }
+}
+
+/// Why the reading of tables stopped, as a refusal with its line.
+pub fn failure_of(stop: Stop<Failure>) -> Failure
+    ensures { result ≡ stopped stop }
+{
+    match stop {
+        Stop::NoMemory => Failure::of(Refusal::NoMemory),
+        Stop::Fault(failure) => failure,
+    }
+}
+
+impl Line {
+    /// Appends what is wrong with words.
+    pub(crate) fn push_words(&mut self, fault: WordsFault)
+        requires { length self.old ≤ 6 }
+        ensures text { self.new ≡ self.old ++ words_text fault }
+        ensures short { length self.new ≤ 159 }
+    {
+        match fault {
+            WordsFault::Shape => self.push_all(b"words"),
+            WordsFault::Number(which, _) => {
+                self.push_all(b"number,");
+                self.push_all(which_text(which));
+            }
+            WordsFault::Range(which) => {
+                self.push_all(b"range,");
+                self.push_all(which_text(which));
+            }
+        }
+    }
+
+    /// Appends what was wrong and where.
+    pub(crate) fn push_refusal(&mut self, frame: Option<&Frame>, refusal: &Refusal)
+        requires { length self.old ≤ 6 }
+        ensures text { self.new ≡ self.old ++ refusal_text (names_of (option_map (λ f. f.now) frame.entry)) refusal.now }
+        ensures short { length self.new ≤ 159 }
+    {
+        match refusal {
+            Refusal::Words(fault) => self.push_words(*fault),
+            Refusal::ReadFault(file) => self.push_file(b"read,", *file),
+            Refusal::TooLong(file) => self.push_file(b"too-long,", *file),
+            Refusal::Table(file, fault) => self.push_table(*file, *fault),
+            Refusal::Case(fault) => self.push_case(frame, *fault),
+            Refusal::Stock(fault) => self.push_stock(frame, *fault),
+            Refusal::Rate(fault) => self.push_rate(frame, *fault),
+            Refusal::Work(count) => self.push_count(b"work", *count),
+            Refusal::Cert(fault) => self.push_certificate(*fault),
+            Refusal::Rejected(reject) => self.push_reject(frame, *reject),
+            Refusal::WriteFault => self.push_all(b"write"),
+            Refusal::NoMemory => self.push_all(b"memory"),
+        }
+    }
+}
+
+/// The name of a number of the command line.
+fn which_text(which: Which) -> &'static [u8]
+    ensures text { result.now ≡ which_text which }
+    ensures short { length result.now ≤ 9 }
+{
+    match which {
+        Which::Mean => b"mean",
+        Which::Stock => b"stock",
+        Which::Variance => b"variance",
+        Which::Budget => b"budget",
+        Which::Bits => b"bits",
+        Which::Format => b"format",
+        Which::Objective => b"objective",
+        Which::Number => b"number",
+        Which::Lines => b"lines",
+    }
+}
+
+/// The line of a refusal: `fault`, what was wrong and where, between commas, and a line feed. A pair is named by the
+/// frame.
+#[tactic(auto, unfolding(crate::specs::Lines::line_of))]
+fn refusal_line(frame: Option<&Frame>, refusal: &Refusal) -> Line
+    ensures { result ≡ line_of (names_of (option_map (λ f. f.now) frame.entry)) refusal.now }
+{
+    let mut line = Line::new();
+    line.push_all(b"fault,");
+    line.push_refusal(frame, refusal);
+    line.push(b'\n');
+    line
+}

@@ -1,0 +1,13 @@
+//! Why a command was refused, and the line that says so.
+#![tactic(auto)]
+
+mod failure;
+mod line;
+mod of_cases;
+mod of_certificates;
+mod of_tables;
+mod refusal;
+
+pub use failure::{Failure, failure_of};
+pub use line::Line;
+pub use refusal::{File, Refusal};

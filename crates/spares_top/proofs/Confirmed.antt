@@ -1,0 +1,129 @@
+-- What a check confirms.
+use Rattle.std.proofs.Common.{◌≡◌, ◌∙◌, ap, arith, refl, subst, sym, Bool, true, false, Option, Some, None, Result, Ok, Err, ℕ, ◌^◌, ◌<◌, ◌≤◌, List, if◌then◌else◌}
+use Rattle.spares_input.specs.Cases.{CaseRows, frame_rows}
+use Rattle.spares_input.specs.First.{unless}
+use Rattle.spares_input.specs.Stocks.{StockList}
+use Rattle.spares_io.specs.Answers.{Gives}
+use Rattle.spares_io.specs.Steps.{◌>>=◌}
+use Rattle.spares_io.specs.declared.stop.Stop.{Stop}
+use Rattle.spares_io.specs.declared.stop.Stop.TheVariants as stop
+use Rattle.price_certificate.specs.Certificates.{IsWellFormed}
+use Rattle.price_certificate.specs.declared.certificate.Certificate.{Certificate}
+use Rattle.price_certificate.specs.declared.certificate.Objective.{Objective}
+use Rattle.price_certificate.specs.declared.certificate.Objective.TheVariants.{Backorders}
+use Rattle.price_certificate.specs.declared.fault.CertFault.{CertFault}
+use Rattle.case_plan.specs.Truth.{NoneHasLessThanPrinted}
+use Rattle.certified_bounds.specs.Laws.{claims_of}
+use Rattle.certified_bounds.proofs.Accepted.{accepted_true, plain_true}
+use Rattle.certified_plan.specs.Scores.{ends_of, value_of}
+use Rattle.fleet_plan.specs.Plans.{AreTrueClaims, ArePlainClaims}
+use Rattle.gap_checker.specs.Refusals.{judged, reject_of}
+use Rattle.gap_checker.specs.Soundness.{nothing_held}
+use Rattle.gap_checker.specs.declared.refusal.Accepted.{Accepted}
+use Rattle.gap_checker.specs.declared.refusal.Reject.{Reject}
+use Rattle.plan_report.specs.Fits.{FitsCheck}
+use Rattle.refusals.specs.Causes.{or_refuse}
+use Rattle.refusals.specs.Lines.{no_names}
+use Rattle.refusals.specs.declared.failure.Failure.{Failure}
+use Rattle.refusals.specs.declared.refusal.Refusal.TheVariants as refusal
+use Rattle.fleet_model.specs.Aims.{aim}
+use Rattle.case_plan.proofs.Truths.{below_printed}
+use Rattle.case_tables.proofs.Refuse.{is_of_task}
+use Rattle.certified_plan.proofs.Scores.{scores_enclose}
+use Rattle.refusals.specs.Causes.{failure_of}
+use Rattle.spares_top.specs.Making.{Is, MakesBy}
+use Rattle.spares_top.specs.Task as task
+use Rattle.spares_top.specs.Task.{check_task, confirm}
+use Rattle.spares_top.specs.declared.done.Done.TheVariants.{Checked}
+use Rattle.spares_top.proofs.Stops.{claimed_refuses}
+use Rattle.spares_top.specs.Checking.{IsClaim, TellsClaim, claimed_by}
+use Rattle.spares_top.specs.Checks.{Claimed, check_of, claimed_of, form_of, judged_of}
+use Rattle.spares_top.specs.Held.{held_in}
+use Rattle.spares_top.specs.declared.check.Claim.{Claim}
+
+-- what is held of a claim is what its certificate says, or nothing
+held_by : (c : CaseRows) (held : StockList) (on_hand : Bool) → (on_hand ≡ false → held ≡ nothing_held c) → held_in c (if on_hand then Some held else None) ≡ held
+held_by c held true h = refl
+held_by c held false h = sym (h refl)
+
+pub held_is : (x : Claim) → IsClaim x → held_in x.certificate.case (claimed_by x).on_hand ≡ x.held
+held_is x h = held_by x.certificate.case x.held x.on_hand h.nothing
+
+-- it was accepted
+none_by : (r : Option Reject) (a b : Accepted) → unless r a ≡ Ok b → r ≡ None
+none_by None a b e = refl
+none_by (Some reject) a b e = grind (arith, e)
+
+off_by : (held : StockList) (on_hand : Bool) → (if on_hand then Some held else None) ≡ None → on_hand ≡ false
+off_by held false e = refl
+off_by held true e = grind (arith, e)
+
+module _ (x : Claim) (h : IsClaim x) (bytes : List ℕ) (form : form_of bytes ≡ Ok (claimed_by x)) where
+  abbrev aimed : Objective
+  aimed = x.certificate.objective
+
+  judged_is : judged_of (claimed_by x) ≡ judged (ends_of aimed) x.certificate x.held
+  judged_is = ap (judged (ends_of aimed) x.certificate) (held_is x h)
+
+  -- ---- accepted
+
+  module _ (accepted : Accepted) (j : judged (ends_of aimed) x.certificate x.held ≡ Ok accepted) where
+    none : reject_of (ends_of aimed) x.certificate x.held ≡ None
+    none = none_by _ _ accepted j
+
+    claimed_is : claimed_of bytes ≡ Ok (claimed_by x)
+    unfolding claimed_of
+    claimed_is = rw (form, judged_is, j) refl
+
+    says : AreTrueClaims (value_of aimed) x.certificate.case (held_in x.certificate.case (claimed_by x).on_hand).list x.certificate.budget (claims_of x.certificate)
+    says =
+        subst (λ (held : StockList). AreTrueClaims (value_of aimed) x.certificate.case held.list x.certificate.budget (claims_of x.certificate)) (sym (held_is x h))
+        (accepted_true (ends_of aimed) (value_of aimed) x.certificate x.held (scores_enclose aimed) h.formed h.whole none)
+
+    printed : NoneHasLessThanPrinted (value_of aimed) x.certificate.case (held_in x.certificate.case (claimed_by x).on_hand).list x.certificate.budget x.certificate.bound
+    printed n deep s a f = below_printed x.certificate.bound (aim (value_of aimed) x.certificate.case s n) (says.none_less n deep s a f)
+
+    plainly : aimed ≡ Backorders → (claimed_by x).on_hand ≡ None → ArePlainClaims x.certificate.case x.certificate.budget (claims_of x.certificate)
+    plainly o off =
+        plain_true x.certificate h.formed
+        (subst (λ (held : StockList). reject_of (ends_of Backorders) x.certificate held ≡ None) (h.nothing (off_by x.held x.on_hand off))
+        (subst (λ (o : Objective). reject_of (ends_of o) x.certificate x.held ≡ None) o none))
+
+    fits : FitsCheck (check_of (claimed_by x))
+    fits = let u = h.formed.upper in let b = h.formed.bound in record { upper = omega (arith, u); bound = omega (arith, b) }
+
+    pub confirmed : MakesBy (Is (check_task bytes)) (Ok (task.printed (Checked (check_of (claimed_by x)))))
+    confirmed = record {
+      task = confirm (claimed_by x);
+      is_due = rw claimed_is refl;
+      fulfils = refl;
+      is_true = record {
+        report = check_of (claimed_by x);
+        is = refl;
+        holds = record { report_is = refl; says = says; printed = printed; plainly = plainly };
+      };
+      prints = fits;
+    }
+
+  -- ---- refused
+
+  rejected_is : (reject : Reject) → judged (ends_of aimed) x.certificate x.held ≡ Err reject
+      → claimed_of bytes ≡ Err (failure_of (frame_rows x.certificate.case) (refusal.Rejected reject))
+  unfolding claimed_of
+  rejected_is reject j = rw (form, judged_is, j) refl
+
+  pub refused : (reject : Reject) → judged (ends_of aimed) x.certificate x.held ≡ Err reject
+      → MakesBy (Is (check_task bytes)) (Err (stop.Fault (failure_of (frame_rows x.certificate.case) (refusal.Rejected reject))))
+  refused reject j = (rw (rejected_is reject j) refl, tt)
+
+-- ---- no certificate
+
+none_claimed : (bytes : List ℕ) (failure : Failure) → or_refuse no_names refusal.Cert (form_of bytes) ≡ Err failure → claimed_of bytes ≡ Err failure
+unfolding claimed_of
+none_claimed bytes failure e = rw e refl
+
+pub unclaimed : (bytes : List ℕ) (e : Stop Failure) → TellsClaim (form_of bytes) (Err e) → MakesBy (Is (check_task bytes)) (Err e)
+unclaimed bytes stop.NoMemory h = tt
+unclaimed bytes (stop.Fault failure) h =
+    let e = none_claimed bytes failure h in
+    (rw e refl, rw (is_of_task (claimed_of bytes) failure (claimed_refuses bytes) e) tt)

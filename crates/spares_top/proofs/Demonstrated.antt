@@ -1,0 +1,72 @@
+-- What a demonstration shows.
+use Rattle.std.proofs.Common.{◌≡◌, refl, subst, sym, ℕ, ◌≤◌, Result, Ok, None}
+use Rattle.std.specs.Result.{IsOk}
+use Rattle.exact_model.specs.Fraction.{Encloses}
+use Rattle.spares_input.specs.Cases.{CaseRows}
+use Rattle.case_maker.specs.Demonstration.{made}
+use Rattle.case_maker.proofs.Valid.{made-valid}
+use Rattle.case_maker.proofs.Whole.{made-drawn}
+use Rattle.case_plan.specs.Report.{report_of}
+use Rattle.case_plan.specs.Truth.{IsTruePlanReport}
+use Rattle.case_plan.proofs.Nothing.{from_nothing}
+use Rattle.case_plan.proofs.Truths.{plain_true}
+use Rattle.certified_plan.specs.Laws.{IsPlanOn}
+use Rattle.certified_plan.proofs.Accepted.{accepted}
+use Rattle.certified_plan.proofs.Zeros.{none_is_held}
+use Rattle.demo_accepts.proofs.Accepted.{no-fault}
+use Rattle.demonstration.specs.Demonstrations.{IsDemonstrated, budget_of, demo_terms, report_terms}
+use Rattle.demonstration.proofs.Told.{are_terms, demo_work, zeros_hold}
+use Rattle.fleet_model.specs.Fleet.{total}
+use Rattle.fleet_plan.specs.Laws.{IsAcceptedCase, plain_ends}
+use Rattle.fleet_plan.specs.Plans.{CasePlan, IsPlainPlan}
+use Rattle.fleet_plan.proofs.Plain.{plain_plan}
+use Rattle.gap_checker.specs.Soundness.{nothing_held}
+use Rattle.plan_report.specs.Fits.{FitsSummary}
+use Rattle.plan_report.specs.declared.summary.Summary.{Summary}
+use Rattle.spares_top.specs.Headline.{IsTrueDemo}
+use Rattle.spares_top.specs.Making.{Is, IsMade}
+use Rattle.spares_top.specs.Task.{Task, demonstrate, printed}
+use Rattle.spares_top.specs.declared.done.Done.TheVariants.{Demo}
+
+module _ (number lines : ℕ) (few : lines ≤ 80) (summary : Summary) (h : IsDemonstrated number lines summary) where
+  abbrev case : CaseRows
+  case = made number lines
+
+  abbrev plan : CasePlan
+  plan = h.plan
+
+  is_accepted : IsAcceptedCase case
+  is_accepted = record { valid = made-valid number lines few; no_fault = no-fault case (made-valid number lines few) (made-drawn number lines) }
+
+  on_plan : IsPlanOn case (nothing_held case) (demo_terms (budget_of lines)) plan
+  on_plan = record { accepted = is_accepted; are_terms = are_terms lines few; is_held = none_is_held case; plan = h.is_plan }
+
+  says : IsPlainPlan case (budget_of lines) plan
+  says = plain_plan case (budget_of lines) plan is_accepted (from_nothing case (nothing_held case).list (zeros_hold case) plain_ends (budget_of lines) plan h.is_plan)
+
+  report : IsTruePlanReport case (budget_of lines) plan.stocks (report_of plain_ends case (report_terms (budget_of lines)) plan)
+  report =
+      plain_true case (nothing_held case).list (report_terms (budget_of lines)) (report_of plain_ends case (report_terms (budget_of lines)) plan) is_accepted (zeros_hold case)
+      (record { plan = plan; is_plan = h.is_plan; is = refl })
+
+  encloses : Encloses 48 summary.total.lo summary.total.hi (total case plan.stocks)
+  encloses = subst (λ (z : Summary). Encloses 48 z.total.lo z.total.hi (total case plan.stocks)) (sym h.is) report.shows.total_in.encloses
+
+  is_true : IsTrueDemo number lines summary
+  is_true = record {
+    plan = plan;
+    accepted = is_accepted;
+    is = h.is;
+    says = says;
+    encloses = encloses;
+    acceptable = accepted case (nothing_held case) (demo_terms (budget_of lines)) plan on_plan (demo_work number lines case (nothing_held case) few refl refl);
+  }
+
+  pub shown : FitsSummary summary → IsMade (Is (Ok (demonstrate number lines))) (printed (Demo summary))
+  shown fits = record {
+    task = demonstrate number lines;
+    is_due = refl;
+    fulfils = record { summary = summary; is = refl; holds = h };
+    is_true = record { report = summary; is = refl; holds = is_true };
+    prints = fits;
+  }

@@ -1,5 +1,0 @@
-use Rattle.spares_input.proofs.NameFacts.{is_name_fits}
-use Rattle.spares_top.proofs.refusal.of_cases.part_name.Goals as goal
-
-pub returns-then-part-part_count-clause-short : goal.returns-then-part-part_count-clause-short
-returns-then-part-part_count-clause-short c = is_name_fits c.as_bytes.result.now c.as_bytes.ensures.name

@@ -1,0 +1,62 @@
+-- Checks: what the bytes of a certificate claim, and the report of its check.
+use Rattle.std.specs.Prelude.{ℕ, List, Option, Some, None, Result, Ok, Err, if◌then◌else◌}
+use Rattle.std.specs.Option.{option_map}
+use Rattle.certified_plan.specs.Scores.{ends_of}
+use Rattle.gap_checker.specs.Refusals.{cost_above, judged}
+use Rattle.gap_checker.specs.declared.refusal.Accepted.{Accepted}
+use Rattle.gap_checker.specs.declared.refusal.Reject.{Reject}
+use Rattle.on_hand.specs.Held.{held_of, is_held_form}
+use Rattle.on_hand.specs.declared.held.HeldCertificate.{HeldCertificate}
+use Rattle.plan_report.specs.declared.check.CheckReport.{CheckReport}
+use Rattle.price_certificate.specs.Certificates.{cert_of}
+use Rattle.price_certificate.specs.declared.certificate.Certificate.{Certificate}
+use Rattle.price_certificate.specs.declared.fault.CertFault.{CertFault}
+use Rattle.refusals.specs.Causes.{or_refuse}
+use Rattle.refusals.specs.Lines.{no_names}
+use Rattle.refusals.specs.declared.failure.Failure.{Failure}
+use Rattle.refusals.specs.declared.refusal.Refusal.TheVariants as refusal
+use Rattle.spares_input.specs.Cases.{frame_rows}
+use Rattle.spares_input.specs.Stocks.{StockList, cost_of}
+use Rattle.spares_io.specs.Steps.{◌>>=◌}
+use Rattle.spares_top.specs.Held.{held_in}
+
+-- What a certificate claims, and the stocks on hand where it begins with them.
+pub record Claimed : Type 0 where
+  pub certificate : Certificate
+  pub on_hand : Option StockList
+
+-- ---- what bytes claim
+
+abbrev pub with_held : Result HeldCertificate CertFault → Result Claimed CertFault
+with_held (Ok h) = Ok (record { certificate = h.certificate; on_hand = Some h.held })
+with_held (Err fault) = Err fault
+
+abbrev pub with_nothing : Result Certificate CertFault → Result Claimed CertFault
+with_nothing (Ok cert) = Ok (record { certificate = cert; on_hand = None })
+with_nothing (Err fault) = Err fault
+
+-- the certificate of one of the two forms
+abbrev pub form_of : List ℕ → Result Claimed CertFault
+form_of bytes = if is_held_form bytes then with_held (held_of bytes) else with_nothing (cert_of bytes)
+
+-- it breaks no rule
+abbrev pub judged_of : Claimed → Result Accepted Reject
+judged_of x = judged (ends_of x.certificate.objective) x.certificate (held_in x.certificate.case x.on_hand)
+
+unfoldable pub claimed_of : List ℕ → Result Claimed Failure
+claimed_of bytes = do
+  claimed ← or_refuse no_names refusal.Cert (form_of bytes)
+  accepted ← or_refuse (frame_rows claimed.certificate.case) refusal.Rejected (judged_of claimed)
+  Ok claimed
+
+-- ---- the report
+
+abbrev pub check_of : Claimed → CheckReport
+check_of x = record {
+  format = x.certificate.format;
+  budget = x.certificate.budget;
+  cost = cost_above x.certificate.case (held_in x.certificate.case x.on_hand) x.certificate.stocks;
+  on_hand = option_map (cost_of x.certificate.case) x.on_hand;
+  upper = x.certificate.upper;
+  bound = x.certificate.bound;
+}

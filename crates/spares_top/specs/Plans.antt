@@ -1,0 +1,82 @@
+-- Plans: what is planned of the bytes of tables, and the report and the certificate that a plan gives.
+use Rattle.std.specs.Prelude.{◌≡◌, ℕ, Bool, true, false, List, Option, Some, None, Result, Ok}
+use Rattle.std.specs.Option.{option_map}
+use Rattle.case_plan.specs.Report.{report_of}
+use Rattle.case_plan.specs.Report as reports
+use Rattle.case_tables.specs.Tables.{accepted_of, stocked_of}
+use Rattle.certified_plan.specs.Certificates.{certificate_of, claims_of, text_of}
+use Rattle.certified_plan.specs.Scores.{ends_of}
+use Rattle.certified_plan.specs.declared.terms.Terms.{Terms}
+use Rattle.family_curve.specs.Counts.{work_of}
+use Rattle.fleet_plan.specs.Plans.{CasePlan, IsCasePlan}
+use Rattle.on_hand.specs.Work.{held_work_of}
+use Rattle.price_certificate.specs.declared.certificate.Certificate.{Certificate}
+use Rattle.price_certificate.specs.declared.certificate.Objective.{Objective}
+use Rattle.price_certificate.specs.declared.certificate.Objective.TheVariants.{Backorders, LogAvailability}
+use Rattle.refusals.specs.Causes.{or_refuse}
+use Rattle.refusals.specs.Lines.{no_names}
+use Rattle.refusals.specs.declared.failure.Failure.{Failure}
+use Rattle.refusals.specs.declared.refusal.File.TheVariants.{OnHand}
+use Rattle.refusals.specs.declared.refusal.Refusal.TheVariants as refusal
+use Rattle.spares_input.specs.Cases.{CaseRows}
+use Rattle.spares_input.specs.Stocks.{StockList, cost_of}
+use Rattle.spares_io.specs.Steps.{◌>>=◌}
+use Rattle.spares_top.specs.Held.{held_in}
+use Rattle.spares_top.specs.declared.done.Done.TheVariants.{Planned}
+use Rattle.spares_top.specs.declared.done.Outcome.{Outcome}
+
+-- What is planned: a case, the stocks on hand where a table says them, and the terms.
+pub record Planning : Type 0 where
+  pub case : CaseRows
+  pub on_hand : Option StockList
+  pub terms : Terms
+
+-- ---- what is planned of tables: the case that they give, if its curves don't take too many tables
+
+abbrev pub planning_of : List ℕ → List ℕ → List ℕ → Option (List ℕ) → Terms → Result Planning Failure
+planning_of sites parts rates None terms = do
+  case ← accepted_of sites parts rates
+  work ← or_refuse no_names refusal.Work (work_of case)
+  Ok (record { case = case; on_hand = None; terms = terms })
+planning_of sites parts rates (Some stocks) terms = do
+  given ← stocked_of OnHand sites parts rates stocks
+  work ← or_refuse no_names refusal.Work (held_work_of given.case given.stocks.list)
+  Ok (record { case = given.case; on_hand = Some given.stocks; terms = terms })
+
+-- ---- the plan
+
+abbrev pub held_of : Planning → StockList
+held_of x = held_in x.case x.on_hand
+
+-- its certificate
+abbrev pub plan_certificate : Planning → CasePlan → Certificate
+plan_certificate x p = certificate_of x.case (held_of x) x.terms (claims_of x.case p)
+
+-- the text of its certificate
+abbrev pub certificate_text : Planning → CasePlan → List ℕ
+certificate_text x p = text_of (plan_certificate x p) x.on_hand
+
+-- what the report is asked for: the loss, where it is aimed at, and what the stocks on hand cost
+abbrev pub is_loss : Objective → Bool
+is_loss Backorders = false
+is_loss LogAvailability = true
+
+abbrev pub plan_terms : Planning → reports.Terms
+plan_terms x = record {
+  budget = x.terms.budget;
+  loss = is_loss x.terms.objective;
+  on_hand = option_map (cost_of x.case) x.on_hand;
+}
+
+-- its report, and the text of its certificate under this name
+abbrev pub planned : Planning → List ℕ → CasePlan → Outcome
+planned x name p = record {
+  done = Planned (report_of (ends_of x.terms.objective) x.case (plan_terms x) p);
+  writes = Some (record { name = name; bytes = certificate_text x p });
+}
+
+-- the outcome is that of the plan of the case on these terms; there is one
+pub record IsPlanned (x : Planning) (name : List ℕ) (outcome : Outcome) : Type 0 where
+  pub plan : CasePlan
+  pub is_plan : IsCasePlan (ends_of x.terms.objective) x.case (held_of x).list x.terms.budget plan
+  pub is : outcome ≡ planned x name plan

@@ -1,0 +1,22 @@
+//! A demonstration: the plan of a made-up case, and the check of its certificate.
+ghost use Rattle.spares_words.specs.Order.{IsInRange};
+ghost use Rattle.spares_words.specs.declared.order.Order.TheVariants as order;
+ghost use Rattle.spares_top.specs.Making.{Is, MakesBy};
+ghost use Rattle.spares_top.specs.Task.{demonstrate};
+
+use crate::done::{Done, Outcome};
+use demonstration::demonstrate;
+use refusals::Failure;
+use spares_io::{NoMemory, Stop};
+use std::alloc::Global;
+
+/// Carries out `demo`.
+pub(crate) fn demo(alloc: Global, number: u32, lines: u16) -> Result<Outcome, Stop<Failure>>
+    requires { IsInRange (order.Demo number lines) }
+    ensures { MakesBy (Is (Ok (demonstrate number lines))) result }
+{
+    match demonstrate(alloc, number, lines) {
+        Ok(summary) => Ok(Outcome::printed(Done::Demo(summary))),
+        Err(NoMemory) => Err(Stop::NoMemory),
+    }
+}
