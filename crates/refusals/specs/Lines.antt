@@ -46,6 +46,7 @@ which_text which.Format = codes "format"
 which_text which.Objective = codes "objective"
 which_text which.Number = codes "number"
 which_text which.Lines = codes "lines"
+which_text which.Target = codes "target"
 
 abbrev pub file_text : File → List ℕ
 file_text file.Sites = codes "sites"

@@ -103,6 +103,7 @@ fn which_text(which: Which) -> &'static [u8]
         Which::Objective => b"objective",
         Which::Number => b"number",
         Which::Lines => b"lines",
+        Which::Target => b"target",
     }
 }
 

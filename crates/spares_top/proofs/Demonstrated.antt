@@ -66,7 +66,7 @@ module _ (number lines : ℕ) (few : lines ≤ 80) (summary : Summary) (h : IsDe
   shown fits = record {
     task = demonstrate number lines;
     is_due = refl;
-    fulfils = record { summary = summary; is = refl; holds = h };
+    fulfils = record { report = summary; is = refl; holds = h };
     is_true = record { report = summary; is = refl; holds = is_true };
     prints = fits;
   }

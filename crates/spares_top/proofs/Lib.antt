@@ -4,4 +4,5 @@ pub mod Planned
 pub mod ReadInputs
 pub mod Shown
 pub mod Stops
+pub mod Swept
 pub mod Whole

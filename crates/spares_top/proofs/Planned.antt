@@ -100,10 +100,10 @@ well_held_by c held terms claims cert is formed two whole limits =
     (record { certificate = subst IsWellFormed is formed; format = two; held = whole; limits = limits })
 
 -- the work from nothing is that of all vectors
-pub plain_work : (c : CaseRows) (held : StockList) (n : ℕ) → IsCase c → held ≡ nothing_held c → work_of c ≡ Ok n → IsOk (held_work_of c held.list)
-plain_work c held n valid none work =
+pub plain_work : (c : CaseRows) (held : StockList) → IsCase c → held ≡ nothing_held c → IsOk (work_of c) → IsOk (held_work_of c held.list)
+plain_work c held valid none work =
     subst (λ (s : StockList). IsOk (held_work_of c s.list)) (sym none)
-    (subst (λ (r : Result ℕ ℕ). IsOk r) (sym (all_work c (nothing_held c).list valid (zeros_hold c) ∙ work)) refl)
+    (subst (λ (r : Result ℕ ℕ). IsOk r) (sym (all_work c (nothing_held c).list valid (zeros_hold c))) work)
 
 module _ (g : Ground) (h : IsGround g) (terms : AreTerms g.terms) where
   abbrev valid : IsAcceptedCase g.case

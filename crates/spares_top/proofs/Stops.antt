@@ -12,19 +12,23 @@ use Rattle.refusals.specs.Lines.{no_names}
 use Rattle.refusals.specs.declared.failure.Failure.{Failure}
 use Rattle.refusals.specs.declared.refusal.File.TheVariants as file
 use Rattle.refusals.specs.declared.refusal.Refusal.TheVariants as refusal
-use Rattle.case_tables.specs.Answers.{TellsStocked}
+use Rattle.case_tables.specs.Answers.{Tells, TellsStocked}
 use Rattle.case_tables.specs.Tables.{StockedCase, accepted_of, stocked_of}
 use Rattle.case_tables.proofs.Refuse.{Refuses, accepted_refuses, is_of_task, or_refuses, stocked_refuses, then_refuses}
 use Rattle.spares_top.specs.Checks.{Claimed, claimed_of, form_of, judged_of}
 use Rattle.spares_top.specs.Making.{Evaluates, Is, MakesBy}
 use Rattle.spares_top.specs.Planning.{TellsGround}
-use Rattle.spares_top.specs.Plans.{Planning, planning_of}
+use Rattle.spares_top.specs.Plans.{Planning, case_within_work, planning_of}
 use Rattle.spares_top.specs.Task.{Task, eval_task, evaluate, make_plan}
+
+pub within_work_refuses : (sites parts rates : List ℕ) → Refuses (case_within_work sites parts rates)
+within_work_refuses sites parts rates =
+    then_refuses (accepted_of sites parts rates) _ (accepted_refuses sites parts rates) (λ case.
+    then_refuses (or_refuse no_names refusal.Work (work_of case)) _ (or_refuses no_names refusal.Work (work_of case) (λ count. refl)) (λ work. tt))
 
 pub planning_refuses : (sites parts rates : List ℕ) (on_hand : Option (List ℕ)) (terms : Terms) → Refuses (planning_of sites parts rates on_hand terms)
 planning_refuses sites parts rates None terms =
-    then_refuses (accepted_of sites parts rates) _ (accepted_refuses sites parts rates) (λ case.
-    then_refuses (or_refuse no_names refusal.Work (work_of case)) _ (or_refuses no_names refusal.Work (work_of case) (λ count. refl)) (λ work. tt))
+    then_refuses (case_within_work sites parts rates) _ (within_work_refuses sites parts rates) (λ case. tt)
 planning_refuses sites parts rates (Some stocks) terms =
     then_refuses (stocked_of file.OnHand sites parts rates stocks) _ (stocked_refuses file.OnHand sites parts rates stocks) (λ given.
     then_refuses (or_refuse no_names refusal.Work (held_work_of given.case given.stocks.list)) _
@@ -56,3 +60,9 @@ pub unplanned : (given : Result Planning Failure) (name : List ℕ) (e : Stop Fa
     → MakesBy (Is (given >>= λ planning. Ok (make_plan planning name))) (Err e)
 unplanned given name stop.NoMemory r h = tt
 unplanned given name (stop.Fault failure) r h = (rw h refl, rw (is_of_task given failure r h) tt)
+
+-- what isn't given is neither swept nor priced
+pub unswept : (given : Result CaseRows Failure) (next : CaseRows → Task) (e : Stop Failure) → Refuses given → Tells given (Err e)
+    → MakesBy (Is (given >>= λ case. Ok (next case))) (Err e)
+unswept given next stop.NoMemory r h = tt
+unswept given next (stop.Fault failure) r h = (rw h refl, rw (is_of_task given failure r h) tt)

@@ -31,13 +31,13 @@ use Rattle.spares_top.specs.Promises.{Completes, Errors, NoneFailed, Performs, P
 use Rattle.spares_top.specs.Reading.{IsReadable, ReadsGive}
 use Rattle.spares_top.specs.State.{HasDelivered, HasFailed, HasFailedToWrite, IsUntouched, Scene, after_write}
 use Rattle.spares_top.specs.Checks.{claimed_of}
-use Rattle.spares_top.specs.Plans.{planning_of}
-use Rattle.spares_top.specs.Task.{Fulfils, Task, confirm, demonstrate, evaluate, make_plan, show_pipeline, bytes_at, task_of, task_on, task_on_words, unless_refused}
+use Rattle.spares_top.specs.Plans.{case_within_work, planning_of}
+use Rattle.spares_top.specs.Task.{Fulfils, Task, confirm, demonstrate, evaluate, make_plan, price_target, show_pipeline, sweep_budgets, bytes_at, task_of, task_on, task_on_words, unless_refused}
 use Rattle.spares_top.specs.Texts.{text_of}
 use Rattle.spares_top.proofs.ReadInputs.{none_is, read_is, stops_kind, stops_of_work}
 use Rattle.case_tables.specs.Tables.{stocked_of}
 use Rattle.case_tables.proofs.Refuse.{Refuses, is_of_task, stocked_refuses, then_refuses}
-use Rattle.spares_top.proofs.Stops.{claimed_refuses, planning_refuses}
+use Rattle.spares_top.proofs.Stops.{claimed_refuses, planning_refuses, within_work_refuses}
 
 -- ---- refusals
 
@@ -56,6 +56,10 @@ task_refuses (order.Plan sites parts rates on_hand budget format objective certi
     (planning_refuses (bytes_at bytes 0) (bytes_at bytes 1) (bytes_at bytes 2) (option_map (λ name. bytes_at bytes 3) on_hand) _) (λ planning. tt)
 task_refuses (order.Check certificate) bytes = then_refuses (claimed_of (bytes_at bytes 0)) _ (claimed_refuses (bytes_at bytes 0)) (λ claimed. tt)
 task_refuses (order.Demo number lines) bytes = tt
+task_refuses (order.Sweep sites parts rates) bytes =
+    then_refuses (case_within_work (bytes_at bytes 0) (bytes_at bytes 1) (bytes_at bytes 2)) _ (within_work_refuses (bytes_at bytes 0) (bytes_at bytes 1) (bytes_at bytes 2)) (λ case. tt)
+task_refuses (order.Target sites parts rates backorders) bytes =
+    then_refuses (case_within_work (bytes_at bytes 0) (bytes_at bytes 1) (bytes_at bytes 2)) _ (within_work_refuses (bytes_at bytes 0) (bytes_at bytes 1) (bytes_at bytes 2)) (λ case. tt)
 
 pub task_kind : (o : Order) (bytes : List (List ℕ)) (failure : Failure) → task_on o bytes ≡ Err failure → kind_of failure.refusal ≡ of_task
 task_kind o bytes failure e = is_of_task (task_on o bytes) failure (task_refuses o bytes) e
@@ -85,6 +89,8 @@ name_of (evaluate case stocks bits) = None
 name_of (make_plan planning name) = Some name
 name_of (confirm claimed) = None
 name_of (demonstrate number lines) = None
+name_of (sweep_budgets case) = None
+name_of (price_target case backorders) = None
 
 abbrev written_name : Outcome → Option (List ℕ)
 written_name outcome = option_map (λ (w : Written). w.name) outcome.writes
@@ -96,6 +102,8 @@ written_as (evaluate case stocks bits) outcome h = ap written_name h
 written_as (make_plan planning name) outcome h = ap written_name h.is
 written_as (confirm claimed) outcome h = ap written_name h
 written_as (demonstrate number lines) outcome h = ap written_name h.is
+written_as (sweep_budgets case) outcome h = ap written_name h.is
+written_as (price_target case backorders) outcome h = ap written_name h.is
 
 -- a task that comes of accepted inputs
 then_named : {A : Type 0} (r : Result A Failure) (next : A → Task) (name : Option (List ℕ)) (task : Task) → ((a : A) → name_of (next a) ≡ name)
@@ -118,6 +126,10 @@ task_named (order.Plan sites parts rates on_hand budget format objective certifi
     (λ planning. make_plan planning certificate) (Some certificate) task (λ planning. refl) e
 task_named (order.Check certificate) bytes task e = then_named (claimed_of (bytes_at bytes 0)) confirm None task (λ claimed. refl) e
 task_named (order.Demo number lines) bytes task e = subst (λ (r : Result Task Failure). MatchResult r (λ t. name_of t ≡ None) (λ f. ⊤)) e refl
+task_named (order.Sweep sites parts rates) bytes task e =
+    then_named (case_within_work (bytes_at bytes 0) (bytes_at bytes 1) (bytes_at bytes 2)) sweep_budgets None task (λ case. refl) e
+task_named (order.Target sites parts rates backorders) bytes task e =
+    then_named (case_within_work (bytes_at bytes 0) (bytes_at bytes 1) (bytes_at bytes 2)) (λ case. price_target case backorders) None task (λ case. refl) e
 
 nothing_of : (written : Option Written) (name : Option (List ℕ)) → option_map (λ (w : Written). w.name) written ≡ name → name ≡ None → written ≡ None
 nothing_of None name e n = refl
@@ -161,6 +173,8 @@ are_readable (order.Eval sites parts rates stocks bits) = case_readable sites pa
 are_readable (order.Plan sites parts rates on_hand budget format objective certificate) = case_readable sites parts rates (stocks_in file.OnHand on_hand) (stocks_readable file.OnHand on_hand)
 are_readable (order.Check certificate) = All-cons IsReadable (certificate_in certificate) [] (certificate_readable certificate) none_readable
 are_readable (order.Demo number lines) = none_readable
+are_readable (order.Sweep sites parts rates) = case_readable sites parts rates [] none_readable
+are_readable (order.Target sites parts rates backorders) = case_readable sites parts rates [] none_readable
 
 -- ---- an order
 

@@ -42,6 +42,8 @@ inputs (order.Eval sites parts rates stocks bits) = case_in sites parts rates (s
 inputs (order.Plan sites parts rates on_hand budget format objective certificate) = case_in sites parts rates (stocks_in OnHand on_hand)
 inputs (order.Check certificate) = certificate_in certificate ∷ []
 inputs (order.Demo number lines) = []
+inputs (order.Sweep sites parts rates) = case_in sites parts rates []
+inputs (order.Target sites parts rates backorders) = case_in sites parts rates []
 
 abbrev pub inputs_of : Result Order WordsFault → List Input
 inputs_of (Ok o) = inputs o
@@ -54,6 +56,8 @@ output_of (Ok (order.Eval sites parts rates stocks bits)) = None
 output_of (Ok (order.Plan sites parts rates on_hand budget format objective certificate)) = Some certificate
 output_of (Ok (order.Check certificate)) = None
 output_of (Ok (order.Demo number lines)) = None
+output_of (Ok (order.Sweep sites parts rates)) = None
+output_of (Ok (order.Target sites parts rates backorders)) = None
 output_of (Err fault) = None
 
 -- ---- over the files that are held

@@ -1,11 +1,17 @@
 -- The headline: what a report says of the model is true.
-use Rattle.std.specs.Prelude.{◌≡◌, ℕ, ◌≤◌, List, length, Option, Some, None, Ok}
+use Rattle.std.specs.Prelude.{◌≡◌, ℕ, ◌≤◌, ◌<◌, List, length, Option, Some, None, Ok}
 use Rattle.exact_model.specs.Fraction.{Fraction, Encloses, ◌≤ℚ◌}
 use Rattle.exact_model.specs.Series.{ebo, vbo}
 use Rattle.fixed_interval.specs.Ends.{Ends}
 use Rattle.fixed_interval.specs.Text.{text_value}
 use Rattle.fleet_model.specs.Rows.{ten_thousandths}
 use Rattle.fleet_model.specs.Fleet.{total}
+use Rattle.fleet_model.specs.Aims.{weighted_backorders}
+use Rattle.exact_ratio.specs.declared.decimal.Decimal.{Decimal}
+use Rattle.budget_sweep.specs.Sweep.{state_at}
+use Rattle.budget_sweep.specs.Truth.{IsTruePoint, IsTrueTarget}
+use Rattle.budget_sweep.specs.declared.report.SweepReport.{SweepReport}
+use Rattle.budget_sweep.specs.declared.report.TargetReport.{TargetReport}
 use Rattle.case_figures.specs.Shows.{ShowsFigures, ShowsSpan}
 use Rattle.case_figures.specs.Spans.{ends, places}
 use Rattle.case_figures.specs.declared.figures.Span.{Span}
@@ -31,9 +37,9 @@ use Rattle.spares_top.specs.Checks.{Claimed, check_of, claimed_of}
 use Rattle.spares_top.specs.Files.{certificate_limit}
 use Rattle.spares_top.specs.Held.{held_in}
 use Rattle.spares_top.specs.Plans.{Planning, certificate_text, held_of, plan_certificate, plan_terms}
-use Rattle.spares_top.specs.Task.{Task, confirm, demonstrate, evaluate, make_plan, show_pipeline}
+use Rattle.spares_top.specs.Task.{Task, confirm, demonstrate, evaluate, make_plan, price_target, show_pipeline, sweep_budgets}
 use Rattle.spares_top.specs.declared.done.Done.{Done}
-use Rattle.spares_top.specs.declared.done.Done.TheVariants.{Single, Evaluated, Planned, Checked, Demo}
+use Rattle.spares_top.specs.declared.done.Done.TheVariants.{Single, Evaluated, Planned, Checked, Demo, Swept, Priced}
 use Rattle.spares_top.specs.declared.done.Outcome.{Outcome}
 use Rattle.spares_top.specs.declared.done.Written.{Written}
 
@@ -130,6 +136,21 @@ pub record IsTrueDemo (number lines : ℕ) (summary : Summary) : Type 0 where
   -- the checker accepts the certificate
   pub acceptable : reject_of plain_ends (demo_certificate number lines plan) (nothing_held (made number lines)) ≡ None
 
+-- ---- a sweep
+
+-- What each point of a sweep says of the case: stocks within the limits cost just as much and have a total of weighted
+-- backorders between its ends, and between the printed ones; and none that cost as little have less than its lower end.
+pub record IsTrueSweep (c : CaseRows) (report : SweepReport) : Type 0 where
+  pub accepted : IsAcceptedCase c
+  pub says : (k : ℕ) → k < length report.points → IsTruePoint weighted_backorders c (nothing_held c).list (state_at report.points k)
+
+-- What is told of a target is true of the case: the stocks behind the point that reaches it have no more weighted
+-- backorders than the target, and all stocks that come to it cost at least what is told; where nothing is told there are none.
+pub record IsTruePrice (c : CaseRows) (backorders : Decimal) (report : TargetReport) : Type 0 where
+  pub accepted : IsAcceptedCase c
+  pub target_is : report.target ≡ backorders
+  pub says : IsTrueTarget weighted_backorders c (nothing_held c).list report
+
 -- ---- a task
 
 -- it is a report of this kind, of which this holds
@@ -146,3 +167,5 @@ IsTrue (evaluate case stocks bits) outcome = Reports Evaluated (ShowsCase bits c
 IsTrue (make_plan planning name) outcome = Reports Planned (IsTruePlan planning name outcome.writes) outcome.done
 IsTrue (confirm claimed) outcome = Reports Checked (IsTrueCheck claimed) outcome.done
 IsTrue (demonstrate number lines) outcome = Reports Demo (IsTrueDemo number lines) outcome.done
+IsTrue (sweep_budgets case) outcome = Reports Swept (IsTrueSweep case) outcome.done
+IsTrue (price_target case backorders) outcome = Reports Priced (IsTruePrice case backorders) outcome.done

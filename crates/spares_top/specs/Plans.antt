@@ -33,10 +33,15 @@ pub record Planning : Type 0 where
 
 -- ---- what is planned of tables: the case that they give, if its curves don't take too many tables
 
-abbrev pub planning_of : List ℕ → List ℕ → List ℕ → Option (List ℕ) → Terms → Result Planning Failure
-planning_of sites parts rates None terms = do
+abbrev pub case_within_work : List ℕ → List ℕ → List ℕ → Result CaseRows Failure
+case_within_work sites parts rates = do
   case ← accepted_of sites parts rates
   work ← or_refuse no_names refusal.Work (work_of case)
+  Ok case
+
+abbrev pub planning_of : List ℕ → List ℕ → List ℕ → Option (List ℕ) → Terms → Result Planning Failure
+planning_of sites parts rates None terms = do
+  case ← case_within_work sites parts rates
   Ok (record { case = case; on_hand = None; terms = terms })
 planning_of sites parts rates (Some stocks) terms = do
   given ← stocked_of OnHand sites parts rates stocks

@@ -7,10 +7,12 @@ use Rattle.fixed_interval.specs.Ends.{ends_ratio}
 use Rattle.moment_table.specs.Profile.{table_rows}
 use Rattle.moment_table.specs.Rows.{at_stock}
 use Rattle.moment_table.specs.declared.kinds.Row.{Row}
+use Rattle.budget_sweep.specs.Cases.{IsCaseSweep, IsCaseTarget}
 use Rattle.case_figures.specs.Figures.{figures_of}
+use Rattle.fleet_plan.specs.Laws.{plain_ends}
+use Rattle.gap_checker.specs.Soundness.{nothing_held}
 use Rattle.plan_report.specs.declared.eval.EvalReport.{EvalReport}
 use Rattle.plan_report.specs.declared.single.SingleReport.{SingleReport}
-use Rattle.plan_report.specs.declared.summary.Summary.{Summary}
 use Rattle.spares_input.specs.Cases.{CaseRows}
 use Rattle.spares_input.specs.Stocks.{StockList}
 use Rattle.spares_io.specs.Shelf.{Files}
@@ -19,7 +21,7 @@ use Rattle.spares_words.specs.declared.order.Order.{Order}
 use Rattle.spares_words.specs.declared.order.Order.TheVariants as order
 use Rattle.spares_words.specs.declared.order.WordsFault.{WordsFault}
 use Rattle.spares_top.specs.declared.done.Done.{Done}
-use Rattle.spares_top.specs.declared.done.Done.TheVariants.{Single, Evaluated, Checked, Demo}
+use Rattle.spares_top.specs.declared.done.Done.TheVariants.{Single, Evaluated, Checked, Demo, Swept, Priced}
 use Rattle.spares_top.specs.declared.done.Outcome.{Outcome}
 use Rattle.refusals.specs.declared.failure.Failure.{Failure}
 use Rattle.refusals.specs.declared.refusal.File.TheVariants as file
@@ -28,7 +30,7 @@ use Rattle.spares_io.specs.Steps.{◌>>=◌}
 use Rattle.refusals.specs.Causes.{plain_failure}
 use Rattle.case_tables.specs.Tables.{stocked_of}
 use Rattle.spares_top.specs.Files.{inputs_of, reads}
-use Rattle.spares_top.specs.Plans.{Planning, IsPlanned, planning_of}
+use Rattle.spares_top.specs.Plans.{Planning, IsPlanned, case_within_work, planning_of}
 use Rattle.demonstration.specs.Demonstrations.{IsDemonstrated}
 use Rattle.spares_top.specs.Checks.{Claimed, claimed_of, check_of}
 
@@ -44,6 +46,10 @@ pub data Task : Type 0 where
   confirm : Claimed → Task
   -- the plan of the demonstration case of a number with so many line units
   demonstrate : ℕ → ℕ → Task
+  -- what can be had of a case for every budget
+  sweep_budgets : CaseRows → Task
+  -- for how much so many backorders can be had of a case
+  price_target : CaseRows → Decimal → Task
 
 -- ---- the task of an order
 
@@ -78,6 +84,18 @@ check_task bytes = do
   claimed ← claimed_of bytes
   Ok (confirm claimed)
 
+-- the budgets of a case are swept
+abbrev pub sweep_task : List ℕ → List ℕ → List ℕ → Result Task Failure
+sweep_task sites parts rates = do
+  case ← case_within_work sites parts rates
+  Ok (sweep_budgets case)
+
+-- a target of its backorders is priced
+abbrev pub target_task : List ℕ → List ℕ → List ℕ → Decimal → Result Task Failure
+target_task sites parts rates backorders = do
+  case ← case_within_work sites parts rates
+  Ok (price_target case backorders)
+
 -- the bytes at a place of the inputs
 abbrev pub bytes_at : List (List ℕ) → ℕ → List ℕ
 bytes_at bytes place = get_or bytes place []
@@ -91,6 +109,8 @@ task_on (order.Plan sites parts rates on_hand budget format objective certificat
     (record { budget = budget; format = format; objective = objective }) certificate
 task_on (order.Check certificate) bytes = check_task (bytes_at bytes 0)
 task_on (order.Demo number lines) bytes = Ok (demonstrate number lines)
+task_on (order.Sweep sites parts rates) bytes = sweep_task (bytes_at bytes 0) (bytes_at bytes 1) (bytes_at bytes 2)
+task_on (order.Target sites parts rates backorders) bytes = target_task (bytes_at bytes 0) (bytes_at bytes 1) (bytes_at bytes 2) backorders
 
 -- words without an order are refused
 abbrev pub task_on_words : Result Order WordsFault → List (List ℕ) → Result Task Failure
@@ -121,11 +141,11 @@ eval_of bits c s = record { bits = bits; figures = figures_of bits c s }
 abbrev pub printed : Done → Outcome
 printed done = record { done = done; writes = None }
 
--- a summary is printed of which this holds
-pub record Shows (Holds : Summary → Type 0) (outcome : Outcome) : Type 0 where
-  pub summary : Summary
-  pub is : outcome ≡ printed (Demo summary)
-  pub holds : Holds summary
+-- a report of this kind is printed of which this holds
+pub record Shows {R : Type 0} (kind : R → Done) (Holds : R → Type 0) (outcome : Outcome) : Type 0 where
+  pub report : R
+  pub is : outcome ≡ printed (kind report)
+  pub holds : Holds report
 
 -- This outcome fulfils the task.
 abbrev pub Fulfils : Task → Outcome → Type 0
@@ -133,4 +153,6 @@ Fulfils (show_pipeline mean variance stock) outcome = outcome ≡ printed (Singl
 Fulfils (evaluate case stocks bits) outcome = outcome ≡ printed (Evaluated (eval_of bits case stocks))
 Fulfils (make_plan planning name) outcome = IsPlanned planning name outcome
 Fulfils (confirm claimed) outcome = outcome ≡ printed (Checked (check_of claimed))
-Fulfils (demonstrate number lines) outcome = Shows (IsDemonstrated number lines) outcome
+Fulfils (demonstrate number lines) outcome = Shows Demo (IsDemonstrated number lines) outcome
+Fulfils (sweep_budgets case) outcome = Shows Swept (IsCaseSweep plain_ends case (nothing_held case).list) outcome
+Fulfils (price_target case backorders) outcome = Shows Priced (IsCaseTarget plain_ends case (nothing_held case).list backorders) outcome

@@ -3,6 +3,7 @@ ghost use Rattle.std.specs.Prelude.{◌≡◌, IfOk};
 ghost use Rattle.spares_top.specs.Task.{printed};
 ghost use Rattle.spares_top.specs.Texts.{CanPrint, text_of};
 
+use budget_sweep::{SweepReport, TargetReport};
 use plan_report::{CheckReport, EvalReport, PlanReport, SingleReport, Summary};
 use spares_io::{List, NoMemory, Text};
 use std::alloc::Global;
@@ -20,6 +21,10 @@ pub enum Done {
     Checked(CheckReport),
     /// The plan of a demonstration case, whose certificate was accepted.
     Demo(Summary),
+    /// What can be had of a case for every budget.
+    Swept(SweepReport),
+    /// For how much a target can be had of a case.
+    Priced(TargetReport),
 }
 
 impl Done {
@@ -34,6 +39,8 @@ impl Done {
             Done::Planned(report) => report.text(alloc),
             Done::Checked(report) => report.text(alloc),
             Done::Demo(summary) => summary.text(alloc),
+            Done::Swept(report) => report.text(alloc),
+            Done::Priced(report) => report.text(alloc),
         }
     }
 }

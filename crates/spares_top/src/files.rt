@@ -101,6 +101,17 @@ pub(crate) fn inputs_of(alloc: Global, order: &Order) -> Result<Vec<Input>, NoMe
             on_hand,
             ..
         } => stocked_tables(alloc, sites, parts, rates, File::OnHand, on_hand.as_ref()),
+        Order::Sweep {
+            sites,
+            parts,
+            rates,
+        } => case_tables(alloc, sites, parts, rates),
+        Order::Target {
+            sites,
+            parts,
+            rates,
+            ..
+        } => case_tables(alloc, sites, parts, rates),
         Order::Check { certificate } => {
             let mut inputs = Vec::new(alloc);
             inputs.push(Input::certificate(alloc, certificate)?)?;

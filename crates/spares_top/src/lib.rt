@@ -10,6 +10,7 @@ mod exit;
 mod files;
 mod plan;
 mod single;
+mod sweep;
 mod top;
 mod work;
 

@@ -1,9 +1,14 @@
 //! The plan of a case under a budget, with its certificate.
 ghost use Rattle.std.specs.Prelude.{◌≡◌, ◌≤◌, IfOk, Some, None, Ok, true, length, if◌then◌else◌};
+ghost use Rattle.std.specs.Result.{IsOk};
+ghost use Rattle.case_tables.specs.Answers.{Tells};
 ghost use Rattle.certified_plan.specs.Inputs.{AreTerms};
+ghost use Rattle.demand_rates.specs.Rates.{AreRatesOf};
+ghost use Rattle.family_curve.specs.Counts.{work_of};
+ghost use Rattle.fleet_plan.specs.Laws.{IsAcceptedCase};
 ghost use Rattle.spares_top.specs.Making.{AreTables, Is, IsMade, MakesBy};
 ghost use Rattle.spares_top.specs.Planning.{IsGround, IsPlanFor, TellsGround, fourth, planning_on};
-ghost use Rattle.spares_top.specs.Plans.{planning_of};
+ghost use Rattle.spares_top.specs.Plans.{case_within_work, planning_of};
 ghost use Rattle.spares_top.specs.Task.{bytes_at, make_plan, plan_task};
 
 use crate::done::{Done, Outcome, Written};
@@ -32,25 +37,40 @@ pub(crate) struct Ground {
     pub(crate) terms: Terms,
 }
 
-/// What is planned of three tables.
-fn plain_ground(alloc: Global, files: &[List<u8>], terms: Terms) -> Result<Ground, Stop<Failure>>
+/// The case of three tables with its rates, if its curves don't take too many tables.
+pub(crate) fn case_within_work(alloc: Global, files: &[List<u8>]) -> Result<Accepted, Stop<Failure>>
     requires { AreTables 3 files.now }
-    ensures answer { TellsGround (planning_of (bytes_at files.now 0) (bytes_at files.now 1) (bytes_at files.now 2) None terms) result }
-    ensures ground { IfOk result IsGround }
+    ensures answer { Tells (case_within_work (bytes_at files.now 0) (bytes_at files.now 1) (bytes_at files.now 2)) result }
+    ensures rates { IfOk result (λ given. AreRatesOf given.case given.rates) }
+    ensures accepted { IfOk result (λ given. IsAcceptedCase given.case) }
+    ensures work { IfOk result (λ given. IsOk (work_of given.case)) }
 {
     let (sites, parts, rates) = (
         files[0].as_slice(),
         files[1].as_slice(),
         files[2].as_slice(),
     );
-    let Accepted { case, rates } = match accepted_of(alloc, sites, parts, rates) {
+    let given = match accepted_of(alloc, sites, parts, rates) {
         Ok(given) => given,
         Err(stop) => return Err(stop),
     };
-    let _valid = case.site_count();
-    if let Err(count) = work(&case) {
-        return Err(Stop::Fault(Failure::of(Refusal::Work(count))));
+    let _valid = given.case.site_count();
+    match work(&given.case) {
+        Ok(_) => Ok(given),
+        Err(count) => Err(Stop::Fault(Failure::of(Refusal::Work(count)))),
     }
+}
+
+/// What is planned of three tables.
+fn plain_ground(alloc: Global, files: &[List<u8>], terms: Terms) -> Result<Ground, Stop<Failure>>
+    requires { AreTables 3 files.now }
+    ensures answer { TellsGround (planning_of (bytes_at files.now 0) (bytes_at files.now 1) (bytes_at files.now 2) None terms) result }
+    ensures ground { IfOk result IsGround }
+{
+    let Accepted { case, rates } = match case_within_work(alloc, files) {
+        Ok(given) => given,
+        Err(stop) => return Err(stop),
+    };
     let held = nothing_held(alloc, &case)?;
     Ok(Ground {
         case,

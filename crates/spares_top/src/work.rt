@@ -15,6 +15,7 @@ use crate::eval::eval;
 use crate::files::{inputs_of, read_files};
 use crate::plan::plan;
 use crate::single::single;
+use crate::sweep::{sweep, target};
 use certified_plan::Terms;
 use refusals::{Failure, Refusal, failure_of};
 use spares_io::{List, NoMemory, Shelf, Sink, Stop, Text};
@@ -51,6 +52,8 @@ fn outcome_on(alloc: Global, order: Order, files: &[List<u8>]) -> Result<Outcome
         }
         Order::Check { .. } => check(alloc, files[0].as_slice()),
         Order::Demo { number, lines } => demo(alloc, number, lines),
+        Order::Sweep { .. } => sweep(alloc, files),
+        Order::Target { backorders, .. } => target(alloc, files, backorders),
     }
 }
 

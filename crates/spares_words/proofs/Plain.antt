@@ -6,8 +6,8 @@ use Rattle.clap.specs.Lexer.{long_of, short_of}
 use Rattle.clap.specs.Words.{Text}
 use Rattle.clap.specs.Faults.{walk_fault, defaults_fault}
 use Rattle.clap.specs.Walk.{walked}
-use Rattle.spares_words.specs.Commands.{single_app}
-use Rattle.spares_words.specs.Laws.{IsPlain, TakesTwoWords, TakesAnyWords, TakesOptionAnywhere, TakesJoinedAnywhere, RefusesOtherCounts, RefusesSecondOption}
+use Rattle.spares_words.specs.Commands.{plan_app, single_app}
+use Rattle.spares_words.specs.Laws.{IsPlain, TakesTwoWords, TakesAnyWords, TakesOptionAnywhere, TakesJoinedAnywhere, RefusesOtherCounts, RefusesSecondOption, TakesJoinedPlan}
 use Rattle.spares_words.specs.Order.{order_of, by_command}
 
 -- what a plain word is not: an option, a bundle of flags, the end of the options
@@ -112,3 +112,7 @@ refuses a b c p q r = record {
 pub refuses_second : RefusesSecondOption
 unfolding order_of by_command single_app walk_fault walked defaults_fault
 refuses_second variance second rest = refl
+
+pub takes_joined_plan : TakesJoinedPlan
+unfolding order_of by_command plan_app walk_fault walked defaults_fault
+takes_joined_plan sites parts rates budget certificate = refl

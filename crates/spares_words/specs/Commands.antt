@@ -4,7 +4,7 @@ use Rattle.std.specs.Str.{bytes_eq}
 use Rattle.clap.specs.Words.{App, Rule, Text, new_rule, with_rule, new_app}
 use Rattle.clap.specs.Simple.{on_top}
 use Rattle.spares_words.specs.declared.commands.CommandName.{CommandName}
-use Rattle.spares_words.specs.declared.commands.CommandName.TheVariants.{Single, Eval, Plan, Check, Demo}
+use Rattle.spares_words.specs.declared.commands.CommandName.TheVariants.{Single, Eval, Plan, Check, Demo, Sweep, Target}
 
 -- the command of this name
 abbrev pub command_named : Text → Option CommandName
@@ -14,6 +14,8 @@ command_named name =
     else if bytes_eq name (codes "plan") then Some Plan
     else if bytes_eq name (codes "check") then Some Check
     else if bytes_eq name (codes "demo") then Some Demo
+    else if bytes_eq name (codes "sweep") then Some Sweep
+    else if bytes_eq name (codes "target") then Some Target
     else None
 
 -- a value that stands by itself and may not be left out
@@ -48,12 +50,13 @@ with_tables app =
     (required_option (codes "parts")))
     (required_option (codes "rates"))
 
+-- a command that takes the tables of a case and one value more
+abbrev pub tables_and : Text → Text → App
+tables_and name id = with_rule (with_tables (bare name)) (required_option id)
+
 -- eval --sites F --parts F --rates F --stocks F [--bits N]
 unfoldable pub eval_app : App
-eval_app =
-    with_rule (with_rule (with_tables (bare (codes "eval")))
-    (required_option (codes "stocks")))
-    (option (codes "bits"))
+eval_app = with_rule (tables_and (codes "eval") (codes "stocks")) (option (codes "bits"))
 
 -- the options of what a plan is to reach
 abbrev pub with_aim : App → App
@@ -82,6 +85,14 @@ demo_app =
     (positional (codes "number")))
     (positional (codes "lines"))
 
+-- sweep --sites F --parts F --rates F
+unfoldable pub sweep_app : App
+sweep_app = with_tables (bare (codes "sweep"))
+
+-- target --sites F --parts F --rates F --backorders X
+unfoldable pub target_app : App
+target_app = tables_and (codes "target") (codes "backorders")
+
 -- a command with its arguments and options
 abbrev pub app_named : CommandName → App
 app_named Single = single_app
@@ -89,3 +100,5 @@ app_named Eval = eval_app
 app_named Plan = plan_app
 app_named Check = check_app
 app_named Demo = demo_app
+app_named Sweep = sweep_app
+app_named Target = target_app

@@ -1,7 +1,7 @@
--- What `single` makes of the words that a user may write, in terms of these words alone.
+-- What `single` and `plan` make of the words that a user may write, in terms of these words alone.
 use Rattle.std.specs.Prelude.{◌≡◌, ◌≢◌, ⊤, List, [], ◌∷◌, ◌++◌, Some, None, Err, codes}
 use Rattle.clap.specs.Words.{Text}
-use Rattle.spares_words.specs.Order.{order_of, single_from}
+use Rattle.spares_words.specs.Order.{order_of, plan_from, plan_terms_from, single_from}
 use Rattle.spares_words.specs.declared.order.WordsFault.TheVariants.{Shape}
 
 -- the word begins with no hyphen (45), or is one alone
@@ -63,3 +63,13 @@ RefusesOtherCounts = (a b c : Text) → IsPlain a → IsPlain b → IsPlain c �
 abbrev pub RefusesSecondOption : Type 0
 RefusesSecondOption = (variance second : Text) (rest : List Text)
     → order_of (single_words ((codes "--variance=" ++ variance) ∷ (codes "--variance=" ++ second) ∷ rest)) ≡ Err Shape
+
+-- `plan` with its tables, its budget and its certificate, each joined to its option, and there any text
+abbrev pub TakesJoinedPlan : Type 0
+TakesJoinedPlan = (sites parts rates budget certificate : Text)
+    → order_of (
+    codes "plan" ∷ (codes "--sites=" ++ sites) ∷ (codes "--parts=" ++ parts) ∷ (codes "--rates=" ++ rates)
+    ∷ (codes "--budget=" ++ budget) ∷ (codes "--certificate=" ++ certificate) ∷ []
+    )
+    ≡ plan_from (record { sites = sites; parts = parts; rates = rates }) None
+    (plan_terms_from None budget None None) certificate

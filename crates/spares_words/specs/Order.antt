@@ -17,7 +17,7 @@ use Rattle.spares_words.specs.Commands.{app_named, command_named}
 use Rattle.spares_words.specs.declared.commands.CommandName.{CommandName}
 use Rattle.spares_words.specs.declared.commands.CommandName.TheVariants as command
 use Rattle.spares_words.specs.declared.order.Order.{Order}
-use Rattle.spares_words.specs.declared.order.Order.TheVariants.{Single, Eval, Plan, Check, Demo}
+use Rattle.spares_words.specs.declared.order.Order.TheVariants.{Single, Eval, Plan, Check, Demo, Sweep, Target}
 use Rattle.spares_words.specs.declared.order.Which.{Which}
 use Rattle.spares_words.specs.declared.order.Which.TheVariants as which
 use Rattle.spares_words.specs.declared.order.WordsFault.{WordsFault}
@@ -45,11 +45,17 @@ optional_of which places (Some text) = do
   number ← number_of which places text
   Ok (Some number)
 
+-- the same, where it may be from the least to the most of its units
+abbrev pub within : Which → ℕ → ℕ → ℕ → Text → Result Decimal WordsFault
+within which places least most text = do
+  number ← number_of which places text
+  if nat_le least number.units && nat_le number.units most then Ok number else Err (Range which)
+
 -- a whole number that may be from the least to the most
 abbrev pub whole_of : Which → ℕ → ℕ → Text → Result ℕ WordsFault
 whole_of which least most text = do
-  number ← number_of which 0 text
-  if nat_le least number.units && nat_le number.units most then Ok number.units else Err (Range which)
+  number ← within which 0 least most text
+  Ok number.units
 
 -- `single` by the texts of its arguments: the mean, then the variance, then the stock of at most 63
 abbrev pub single_from : Text → Option Text → Text → Result Order WordsFault
@@ -137,7 +143,8 @@ plan_from names on_hand terms_read certificate = do
 
 abbrev pub plan_of : List Row → Result Order WordsFault
 plan_of rows =
-    plan_from (names_of rows) (first_of (codes "on-hand") rows) (plan_terms_of rows) (text_of rows (codes "certificate"))
+    plan_from (names_of rows) (first_of (codes "on-hand") rows) (plan_terms_of rows)
+    (text_of rows (codes "certificate"))
 
 -- `check` takes any name
 abbrev pub check_of : List Row → Result Order WordsFault
@@ -153,6 +160,23 @@ demo_from number_text lines_text = do
 abbrev pub demo_of : List Row → Result Order WordsFault
 demo_of rows = demo_from (text_of rows (codes "number")) (text_of rows (codes "lines"))
 
+-- `sweep` by the names of its tables
+abbrev pub sweep_of : List Row → Result Order WordsFault
+sweep_of rows = let names = names_of rows in Ok (Sweep names.sites names.parts names.rates)
+
+-- the most backorders that may be asked for, in ten-thousandths
+abbrev pub most_target : ℕ
+most_target = 10000000000000
+
+-- `target` by the texts of its options
+abbrev pub target_from : Names → Text → Result Order WordsFault
+target_from names backorders_text = do
+  backorders ← within which.Target 4 0 most_target backorders_text
+  Ok (Target names.sites names.parts names.rates backorders)
+
+abbrev pub target_of : List Row → Result Order WordsFault
+target_of rows = target_from (names_of rows) (text_of rows (codes "backorders"))
+
 -- the order of a command, by what its arguments and options are given
 abbrev pub order_named : CommandName → List Row → Result Order WordsFault
 order_named command.Single = single_of
@@ -160,6 +184,8 @@ order_named command.Eval = eval_of
 order_named command.Plan = plan_of
 order_named command.Check = check_of
 order_named command.Demo = demo_of
+order_named command.Sweep = sweep_of
+order_named command.Target = target_of
 
 -- what a command makes of its words, where it takes them
 unfoldable pub by_command : CommandName → List Text → Result Order WordsFault
@@ -191,6 +217,8 @@ IsInRange (Plan sites parts rates on_hand budget format objective certificate) =
     AreInRange on_hand (record { budget = budget; format = format; objective = objective })
 IsInRange (Check certificate) = ⊤
 IsInRange (Demo number lines) = (number ≤ 4294967295) × (1 ≤ lines) × (lines ≤ 80)
+IsInRange (Sweep sites parts rates) = ⊤
+IsInRange (Target sites parts rates backorders) = (backorders.places ≡ 4) × (backorders.units ≤ most_target)
 
 -- what `clap` makes of the words of a command: its rows where it takes them, and else the fault
 abbrev pub Parses : App → List Text → Result ArgMatches (Stop WordsFault) → Type 0

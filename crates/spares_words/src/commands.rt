@@ -13,6 +13,9 @@ ghost use Rattle.spares_words.specs.Commands.{
   positional,
   required_option,
   single_app,
+  sweep_app,
+  tables_and,
+  target_app,
   with_aim,
   with_certificate,
   with_tables,
@@ -29,6 +32,8 @@ pub(crate) enum CommandName {
     Plan,
     Check,
     Demo,
+    Sweep,
+    Target,
 }
 
 /// The command of this name.
@@ -41,6 +46,8 @@ pub(crate) fn command_named(name: &str) -> Option<CommandName>
         "plan" => Some(CommandName::Plan),
         "check" => Some(CommandName::Check),
         "demo" => Some(CommandName::Demo),
+        "sweep" => Some(CommandName::Sweep),
+        "target" => Some(CommandName::Target),
         _ => None,
     }
 }
@@ -137,13 +144,20 @@ fn with_tables<'a>(alloc: Global, command: Command<'a>) -> Result<Command<'a>, A
     with_required(alloc, command, "rates")
 }
 
+/// A command that takes the tables of a case and one value more.
+fn tables_and<'a>(alloc: Global, name: &'a str, id: &'a str) -> Result<Command<'a>, AllocError>
+    ensures { IfOk result (λ c. app_of c ≡ tables_and name.entry.now id.entry.now) }
+{
+    let command = with_tables(alloc, bare(alloc, name))?;
+    with_required(alloc, command, id)
+}
+
 /// `eval --sites F --parts F --rates F --stocks F [--bits N]`.
 #[tactic(auto, unfolding(crate::specs::Commands::eval_app))]
 fn eval_command<'a>(alloc: Global) -> Result<Command<'a>, AllocError>
     ensures { IfOk result (λ c. app_of c ≡ eval_app) }
 {
-    let command = with_tables(alloc, bare(alloc, "eval"))?;
-    let command = with_required(alloc, command, "stocks")?;
+    let command = tables_and(alloc, "eval", "stocks")?;
     with_option(alloc, command, "bits")
 }
 
@@ -191,6 +205,22 @@ fn demo_command<'a>(alloc: Global) -> Result<Command<'a>, AllocError>
     with_positional(alloc, command, "lines")
 }
 
+/// `sweep --sites F --parts F --rates F`.
+#[tactic(auto, unfolding(crate::specs::Commands::sweep_app))]
+fn sweep_command<'a>(alloc: Global) -> Result<Command<'a>, AllocError>
+    ensures { IfOk result (λ c. app_of c ≡ sweep_app) }
+{
+    with_tables(alloc, bare(alloc, "sweep"))
+}
+
+/// `target --sites F --parts F --rates F --backorders X`.
+#[tactic(auto, unfolding(crate::specs::Commands::target_app))]
+fn target_command<'a>(alloc: Global) -> Result<Command<'a>, AllocError>
+    ensures { IfOk result (λ c. app_of c ≡ target_app) }
+{
+    tables_and(alloc, "target", "backorders")
+}
+
 /// A command with its arguments and options.
 pub(crate) fn command_of<'a>(alloc: Global, name: CommandName) -> Result<Command<'a>, AllocError>
     ensures { IfOk result (λ c. app_of c ≡ app_named name) }
@@ -201,5 +231,7 @@ pub(crate) fn command_of<'a>(alloc: Global, name: CommandName) -> Result<Command
         CommandName::Plan => plan_command(alloc),
         CommandName::Check => check_command(alloc),
         CommandName::Demo => demo_command(alloc),
+        CommandName::Sweep => sweep_command(alloc),
+        CommandName::Target => target_command(alloc),
     }
 }

@@ -1,4 +1,4 @@
-//! What `single` makes of the words that a user may write, for every text.
+//! What `single` and `plan` make of the words that a user may write, for every text.
 //!
 //! `order_of` is defined by what `clap` takes. These laws say the same in terms of the words alone.
 ghost use Rattle.spares_words.specs.Laws.{
@@ -6,6 +6,7 @@ ghost use Rattle.spares_words.specs.Laws.{
   RefusesSecondOption,
   TakesAnyWords,
   TakesJoinedAnywhere,
+  TakesJoinedPlan,
   TakesOptionAnywhere,
   TakesTwoWords,
 };
@@ -41,4 +42,10 @@ pub fn refuses_other_counts()
 /// A second variance is refused.
 pub fn refuses_second_option()
     ensures { RefusesSecondOption }
+{}
+
+/// `plan --sites=F --parts=F --rates=F --budget=N --certificate=F`, where F and N are any texts.
+#[tactic(auto, using(crate::proofs::Plain::takes_joined_plan))]
+pub fn takes_joined_plan()
+    ensures { TakesJoinedPlan }
 {}

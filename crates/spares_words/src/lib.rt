@@ -13,7 +13,7 @@ mod values;
 
 pub use laws::{
     refuses_other_counts, refuses_second_option, takes_any_words, takes_joined_option,
-    takes_option, takes_two_words,
+    takes_joined_plan, takes_option, takes_two_words,
 };
 pub use order::{Order, Which, WordsFault};
 pub use read::read_words;

@@ -1,7 +1,7 @@
 //! The numbers and names of a command line.
 ghost use Rattle.std.specs.Prelude.{◌≡◌, ◌≤◌, IfOk, IfSome, option_map};
 ghost use Rattle.fixed_interval.specs.Widths.{IsWidth, is_width};
-ghost use Rattle.spares_words.specs.Order.{bits_of, format_of, lowest_format, number_of, objective_of, optional_of, whole_of};
+ghost use Rattle.spares_words.specs.Order.{bits_of, format_of, lowest_format, number_of, objective_of, optional_of, whole_of, within};
 
 use crate::{Which, WordsFault};
 use exact_ratio::{Decimal, read_decimal};
@@ -35,18 +35,36 @@ pub(crate) fn optional(
     }
 }
 
+/// The number that a text gives with these places, if it is one from `least` to `most` units.
+pub(crate) fn within(
+    which: Which,
+    places: u8,
+    least: u64,
+    most: u64,
+    text: &str,
+) -> Result<Decimal, WordsFault>
+    requires { places ≤ 4 }
+    ensures value { result ≡ within which places least most text.now }
+    ensures places { IfOk result (λ number. number.places ≡ places) }
+    ensures least { IfOk result (λ number. least ≤ number.units) }
+    ensures most { IfOk result (λ number. number.units ≤ most) }
+{
+    let number = number(which, places, text)?;
+    if least <= number.units && number.units <= most {
+        Ok(number)
+    } else {
+        Err(WordsFault::Range(which))
+    }
+}
+
 /// The whole number that a text gives, if it is one from `least` to `most`.
 pub(crate) fn whole(which: Which, least: u64, most: u64, text: &str) -> Result<u64, WordsFault>
     ensures value { result ≡ whole_of which least most text.now }
     ensures least { IfOk result (λ number. least ≤ number) }
     ensures most { IfOk result (λ number. number ≤ most) }
 {
-    let number = number(which, 0, text)?;
-    if least <= number.units && number.units <= most {
-        Ok(number.units)
-    } else {
-        Err(WordsFault::Range(which))
-    }
+    let number = within(which, 0, least, most, text)?;
+    Ok(number.units)
 }
 
 /// Whether an interval may have so many bits.

@@ -22,6 +22,8 @@ pub enum Which {
     Lines,
     /// `--format 1` or `2`.
     Format,
+    /// `--backorders X`, with up to 4 decimals, from 0 to 1,000,000,000.
+    Target,
     /// `--objective backorders` or `log-availability`.
     Objective,
 }
@@ -79,5 +81,19 @@ pub enum Order {
     Demo {
         number: u32,
         lines: u16,
+    },
+    /// `sweep --sites F --parts F --rates F`: the budgets at which the best stocks change, with their backorders.
+    Sweep {
+        sites: Text,
+        parts: Text,
+        rates: Text,
+    },
+    /// `target --sites F --parts F --rates F --backorders X`: what it costs to have at most so many backorders, in
+    /// ten-thousandths (4 places), from 0 to 1,000,000,000 of them.
+    Target {
+        sites: Text,
+        parts: Text,
+        rates: Text,
+        backorders: Decimal,
     },
 }

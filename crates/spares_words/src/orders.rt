@@ -12,10 +12,12 @@ ghost use Rattle.spares_words.specs.Order.{
   plan_of,
   plan_terms_of,
   single_of,
+  sweep_of,
+  target_of,
 };
 
 use crate::commands::CommandName;
-use crate::number::{bits, format, lowest_format, number, objective_of, optional, whole};
+use crate::number::{bits, format, lowest_format, number, objective_of, optional, whole, within};
 use crate::values::{Names, copied, copied_if_given, names_of, text_of, value_of};
 use crate::{Order, Which, WordsFault};
 use clap::ArgMatches;
@@ -70,7 +72,7 @@ struct PlanTerms {
 
 fn plan_terms(matches: &ArgMatches<'_>) -> Result<PlanTerms, WordsFault>
     ensures terms { result ≡ plan_terms_of (rows_of (found_of matches.now)) }
-    ensures range { IfOk result (λ terms. AreInRange (first_of (codes "on-hand") (rows_of (found_of matches.now))) terms) }
+    ensures range { IfOk result (AreInRange (first_of (codes "on-hand") (rows_of (found_of matches.now)))) }
 {
     let objective = objective_of(value_of(matches, "objective"));
     let lowest = lowest_format(value_of(matches, "on-hand"), objective);
@@ -135,6 +137,44 @@ fn demo_order(matches: &ArgMatches<'_>) -> Result<Order, WordsFault>
     Ok(Order::Demo { number, lines })
 }
 
+fn sweep_order(alloc: Global, matches: &ArgMatches<'_>) -> Result<Order, Stop<WordsFault>>
+    ensures order { Gives (sweep_of (rows_of (found_of matches.now))) result }
+    ensures range { IfOk result IsInRange }
+{
+    let Names {
+        sites,
+        parts,
+        rates,
+    } = names_of(alloc, matches)?;
+    Ok(Order::Sweep {
+        sites,
+        parts,
+        rates,
+    })
+}
+
+fn target_order(alloc: Global, matches: &ArgMatches<'_>) -> Result<Order, Stop<WordsFault>>
+    ensures order { Gives (target_of (rows_of (found_of matches.now))) result }
+    ensures range { IfOk result IsInRange }
+{
+    let most = 10_000_000_000_000;
+    let backorders = match within(Which::Target, 4, 0, most, text_of(matches, "backorders")) {
+        Ok(backorders) => backorders,
+        Err(fault) => return Err(Stop::Fault(fault)),
+    };
+    let Names {
+        sites,
+        parts,
+        rates,
+    } = names_of(alloc, matches)?;
+    Ok(Order::Target {
+        sites,
+        parts,
+        rates,
+        backorders,
+    })
+}
+
 /// A fault of the words, beside want of memory.
 fn or_stop(order: Result<Order, WordsFault>) -> Result<Order, Stop<WordsFault>>
     ensures { Gives order result }
@@ -160,5 +200,7 @@ pub(crate) fn order_named(
         CommandName::Plan => plan_order(alloc, matches),
         CommandName::Check => check_order(alloc, matches),
         CommandName::Demo => or_stop(demo_order(matches)),
+        CommandName::Sweep => sweep_order(alloc, matches),
+        CommandName::Target => target_order(alloc, matches),
     }
 }

@@ -1,4 +1,4 @@
-use crate::Which::{Bits, Budget, Format, Lines, Mean, Stock, Variance};
+use crate::Which::{Bits, Budget, Format, Lines, Mean, Stock, Target, Variance};
 use crate::WordsFault::{Number, Range, Shape};
 use crate::{Order, Which, WordsFault, read_words};
 use exact_ratio::Decimal;
@@ -200,6 +200,34 @@ fn takes_check_and_demo(rt: HostRuntime) -> Result<(), Fail> {
         lines: 1,
     };
     assert_eq!(rt; order_of_line(alloc, "demo 0. 01"), Ok(demo));
+    Ok(())
+}
+
+/// The order of a line that names the tables `a`, `b` and `c`.
+fn order_after_tables(alloc: Global, command: &str, end: &str) -> Result<Order, Stop<WordsFault>> {
+    let line = format!(in alloc; "{command} --sites a --parts b --rates c{end}")?;
+    order_of_line(alloc, line.as_str())
+}
+
+#[test]
+fn takes_sweep_and_target(rt: HostRuntime) -> Result<(), Fail> {
+    let alloc = rt.alloc();
+    let sweep = Order::Sweep {
+        sites: Text::from_str(alloc, "a")?,
+        parts: Text::from_str(alloc, "b")?,
+        rates: Text::from_str(alloc, "c")?,
+    };
+    assert_eq!(rt; order_after_tables(alloc, "sweep", ""), Ok(sweep));
+    let target = Order::Target {
+        sites: Text::from_str(alloc, "a")?,
+        parts: Text::from_str(alloc, "b")?,
+        rates: Text::from_str(alloc, "c")?,
+        backorders: ten_thousandths(10_000_000_000_000),
+    };
+    assert_eq!(rt;
+        order_after_tables(alloc, "target", " --backorders 1000000000"),
+        Ok(target)
+    );
     Ok(())
 }
 
@@ -416,4 +444,35 @@ const REFUSED_REST: [(&str, WordsFault); 9] = [
 #[test]
 fn refuses_check_and_demo(rt: HostRuntime) -> Result<(), Fail> {
     refuses(&rt, rt.alloc(), &REFUSED_REST)
+}
+
+/// What may not follow the names of the tables in `target`, with its fault.
+const REFUSED_TARGETS: [(&str, WordsFault); 6] = [
+    ("--budget 1", Shape),
+    ("--backorders 1 --stocks d", Shape),
+    ("--backorders=-1", Number(Target, BadByte(0))),
+    ("--backorders 0.00001", Number(Target, TooManyPlaces)),
+    ("--backorders 1000000000.0001", Range(Target)),
+    ("--backorders 1000000001", Range(Target)),
+];
+
+#[test]
+fn refuses_targets(rt: HostRuntime) -> Result<(), Fail> {
+    refuses_after(
+        &rt,
+        rt.alloc(),
+        "target --sites a --parts b --rates c",
+        &REFUSED_TARGETS,
+    )
+}
+
+/// Lines of the other commands over tables that give no order.
+const REFUSED_TABLES: [(&str, WordsFault); 6] = [
+    ("sweep --sites a --parts b", Shape),
+    ("sweep --sites a --parts b --rates c --stocks d", Shape),
+];
+
+#[test]
+fn refuses_other_tables(rt: HostRuntime) -> Result<(), Fail> {
+    refuses(&rt, rt.alloc(), &REFUSED_TABLES)
 }

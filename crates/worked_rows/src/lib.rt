@@ -13,4 +13,6 @@ mod helpers;
 #[cfg(test)]
 mod plan_tests;
 #[cfg(test)]
+mod sweep_tests;
+#[cfg(test)]
 mod tests;

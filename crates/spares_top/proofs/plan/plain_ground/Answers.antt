@@ -1,13 +1,12 @@
-use Rattle.std.proofs.Common.{sym, ◌∙◌}
 use Rattle.spares_top.proofs.Planned.{plain_work}
 use Rattle.spares_top.proofs.plan.plain_ground.Goals as goal
 
 pub returns-clause-ground : goal.returns-clause-ground
 returns-clause-ground c = record {
-  valid = c.site_count-valid.ensures.valid;
+  valid = c.in-Ok.ensures.accepted.valid;
   rates = c.in-Ok.ensures.rates;
   whole = c.in_ok-held.ensures.whole;
   limits = c.in_ok-held.ensures.limits;
   nothing = λ off. c.in_ok-held.ensures.held;
-  work = plain_work c.in-Ok.given.case c.in_ok-held.held _ c.site_count-valid.ensures.valid c.in_ok-held.ensures.held (sym c.work.ensures ∙ c.in_default.is);
+  work = plain_work c.in-Ok.given.case c.in_ok-held.held c.in-Ok.ensures.accepted.valid c.in_ok-held.ensures.held c.in-Ok.ensures.work;
 }
