@@ -6,8 +6,8 @@
 # case and writes its certificate; its plan is then timed as well, and its report and certificate must be ours.
 #
 # What counts is the user time of the whole run, with the reading of the tables and the writing of the certificate in it. The tables
-# are counted by the formula of docs/FORMATS.md. A score is what the backorders of a line unit at one base count for, at one choice of stocks
-# for the depot and that base; those are counted from the limits as well.
+# are counted by the formula of docs/FORMATS.md. A score is what the backorders of a line unit at one base count for, at one choice of
+# stocks for the depot and that base; those are counted from the limits as well.
 set -eu
 program=${1:?words: PROGRAM FOLDER BUDGET [RUNS [PEER]]}
 folder=${2:?words: PROGRAM FOLDER BUDGET [RUNS [PEER]]}
