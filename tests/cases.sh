@@ -73,7 +73,8 @@ accepts() {
   lines=$(printf '%b' "$3" | awk -F, -v format="$2" '
     $1 == "plan" { budget = $2 }
     $1 == "cost" { cost = $2 }
-    $1 == "total" { upper = $3 }
+    $1 == "on-hand" { cost = cost "\n" $0 }
+    $1 == "total" || $1 == "loss" { upper = $3 }
     $1 == "bound" { bound = $2 }
     END { printf "accepted,%s\nbudget,%s\ncost,%s\nupper,%s\nbound,%s\n", format, budget, cost, upper, bound }')
   check "$1 is accepted" 0 "$lines\n" '' check --certificate "$certificate"
@@ -85,6 +86,24 @@ planned() {
   accepts "$1" 1 "$2"
   plans "$1, format 2" 0 "$2" '' "${@:3}" --format 2
   accepts "$1, format 2" 2 "$2"
+}
+
+# planned_in_2 NAME REPORT FOLDER MORE..: the same by options that go with format 2 alone
+planned_in_2() {
+  plans "$1" 0 "$2" '' "${@:3}"
+  accepts "$1" 2 "$2"
+}
+
+# last_lines NAME FOLDER LINES MORE..: the plan prints these lines but for those of items, bases and fleet, and its certificate is
+# accepted; for options that go with format 2 alone
+last_lines() {
+  tables_of "$2"
+  rm -f "$certificate"
+  "$program" plan "${tables[@]}" --certificate "$certificate" "${@:4}" >"$room/report" 2>"$room/err"
+  local status=$?
+  grep -v -e '^item,' -e '^base,' -e '^fleet,' "$room/report" >"$room/out"
+  compare "$1" 0 "$status" "$3" ''
+  accepts "$1" 2 "$(cat "$room/report")"
 }
 
 # changed FOLDER FILE SCRIPT: a copy of that case, with one file changed by sed and without its last line feed
@@ -172,6 +191,7 @@ printf 'site,kind,systems,ship_days\nD,depot,,\nB,base,12,10\n' >"$one/sites.csv
 printf 'part,parent,cost,per_system,max_depot,max_base\nL,,100,1,2,3\n' >"$one/parts.csv"
 printf 'part,site,demand,repair_here,share,repair_days\nL,D,,,,20\nL,B,36.5,0,,0\n' >"$one/rates.csv"
 printf 'part,site,stock\nL,D,0\nL,B,0\n' >"$one/stocks.csv"
+printf 'part,site,stock\nL,D,0\nL,B,1\n' >"$one/on-hand.csv"
 
 # two line units that are alike
 two=$room/two

@@ -32,7 +32,7 @@ check_report() { printf 'accepted,%s\\nbudget,%s\\ncost,%s\\nupper,%s\\nbound,%s
 checks() { check "$1" "$2" "$3" "$4" check --certificate "$5"; }
 
 # changes FILE: each line of standard input has a script of sed, which changes that certificate, and the line of the refusal, or the
-# upper end and the bound of what is accepted
+# upper end and the bound of what is accepted, and then what is on hand, if that is printed
 changes() {
   local script line
   while IFS='|' read -r script line; do
@@ -40,8 +40,9 @@ changes() {
     case $line in
     fault*) checks "a certificate: $script" 4 '' "$line\n" "$room/hostile" ;;
     *)
-      IFS=' ' read -r format upper bound <<<"$line"
-      checks "a certificate: $script" 0 "$(check_report "$format" 0 0 "$upper" "$bound")" '' "$room/hostile"
+      IFS=' ' read -r format upper bound on_hand <<<"$line"
+      checks "a certificate: $script" 0 "$(check_report "$format" 0 "0${on_hand:+\\non-hand,$on_hand}" "$upper" "$bound")" '' \
+        "$room/hostile"
       ;;
     esac
   done
@@ -159,6 +160,72 @@ checks 'no table' 0 "$(check_report 2 0 0 137438953472.000000 0.000000)" '' "$ro
 sed '1s/.*/spares-certificate,2\nobjective,backorders/;27s/$/\ncovers,1\ncover,1\nwhole/' "$large" >"$room/hostile"
 checks 'too many tables under a cover' 4 '' 'fault,rejected,work,1152762\n' "$room/hostile"
 
+# the other aim
+lost=$room/lost
+sed '1s/.*/spares-certificate,2\nobjective,log-availability/;11s/,.*/,339017605730256,100/
+13s/.*/97170365572114800\ncovers,1\ncover,1\nwhole/;17s/,.*/,971703655724172/;18s/,.*/,971703655721148/' "$plain" >"$lost"
+checks 'a certificate of the loss' 0 "$(check_report 2 0 0 3.452185 3.452184)" '' "$lost"
+changes "$lost" <<'ROWS'
+2s/log-availability/backorders/|fault,rejected,leaf-too-low,0,0,97170365572114800,84442493013196800
+2s/,.*/,log-loss/|fault,bad-line,2
+1s/2$/1/|fault,bad-line,2
+5s/12/2/|fault,rejected,upper-too-low,971703655724172,1170621519031300
+6s/$/,weights/;7s/$/,2/|2 3.452185 3.452184
+14s/0$/1/|fault,rejected,leaf-too-low,0,0,97170365572114801,97170365572114800
+16s/1/3/;17s/.*/split,1,3\nwhole\ncost/|2 3.452185 3.452184
+16s/1/3/;17s/.*/split,1,2\nwhole\ncost/|fault,rejected,leaf-too-low,0,1,97170365572114800,67803521146051200
+21s/2$/1/|fault,rejected,upper-too-low,971703655724171,971703655724172
+22s/8$/9/|fault,rejected,bound-too-high,971703655721149,971703655721148
+22s/,.*/,0/|2 3.452185 0.000000
+ROWS
+
+# what is on hand
+held=$room/held
+sed '1s/.*/spares-held,1\nspares-certificate,2\nobjective,backorders/;11s/,.*/,225419721073314,100/
+13s/.*/57696376733064700\ncovers,1\ncover,1\nwhole/;16s/0/1/;17s/,.*/,576963767330649/;18s/,.*/,576963767330647/
+19s/$/\nheld,2\n0\n1\nend/' "$plain" >"$held"
+checks 'a held certificate' 0 "$(check_report 2 0 '0\non-hand,100' 2.049788 2.049787)" '' "$held"
+changes "$held" <<'ROWS'
+21s/1/0/|fault,rejected,stocks-below-held,L,B,0
+26s/0/1/|fault,rejected,stocks-below-held,L,D,0
+27s/1/2/|fault,rejected,stocks-below-held,L,B,1
+21s/1/4/|fault,rejected,stocks-over-limit,L,B,4
+20s/0/3/;21s/1/0/|fault,rejected,stocks-over-limit,L,D,3
+21s/1/2/|fault,rejected,over-budget,100
+27s/1/0/|fault,rejected,over-budget,100
+12s/0/100/;27s/1/0/|fault,rejected,bound-too-high,576963767330647,351544046257333
+15s/0$/1/|fault,rejected,leaf-too-low,0,0,57696376733064701,57696376733064700
+15s/0$/1/;21s/1/0/|fault,rejected,stocks-below-held,L,B,0
+18s/whole/cost/|fault,rejected,leaf-too-low,0,0,57696376733064700,0
+17s/1/3/;18s/whole/split,1,2\nwhole\nwhole/|2 2.049788 2.049787 100
+17s/1/3/;18s/whole/split,1,1\nwhole\nwhole/|fault,rejected,cover-gap,0
+22s/9$/8/|fault,rejected,upper-too-low,576963767330648,576963767330649
+23s/7$/8/|fault,rejected,bound-too-high,576963767330648,576963767330647
+23s/,.*/,0/|2 2.049788 0.000000 100
+3s/backorders/log-availability/|fault,rejected,upper-too-low,576963767330649,632686049993988
+6s/B,/D,/;11s/B,/D,/|fault,bad-case
+6s/B,/D,/;11s/B,/D,/;26s/0/x/|fault,bad-case
+6s/B,/D,/;11s/B,/D,/;24d|fault,bad-line,24
+1s/1$/2/|fault,bad-line,1
+1s/$/,/|fault,bad-line,1
+1d|fault,bad-line,24
+1d;24q|fault,rejected,over-budget,100
+2s/2$/1/|fault,bad-line,2
+2s/2$/1/;3d;16,18d|fault,bad-line,2
+24d|fault,bad-line,24
+25s/2/1/|fault,bad-line,25
+26s/0/3/|fault,bad-line,26
+27s/1/01/|fault,bad-line,27
+27s/1/4/|fault,bad-line,27
+28s/$/\nx/|fault,bad-line,29
+ROWS
+for ((line = 23; line < 28; line++)); do
+  head -n "$line" "$held" >"$room/hostile"
+  checks "a held certificate of $line lines" 4 '' "fault,bad-line,$((line + 1))\n" "$room/hostile"
+done
+head -c -1 "$held" >"$room/hostile"
+checks 'a held certificate without its last line feed' 4 '' 'fault,bad-line,28\n' "$room/hostile"
+
 # a file that can't be read, is no certificate, or is too long
 checks 'no file' 5 '' 'fault,read,certificate\n' "$room/none"
 checks 'a folder' 5 '' 'fault,read,certificate\n' "$room"
@@ -183,9 +250,15 @@ ROWS
 check 'a name after a sign' 0 "$(check_report 1 0 0 3.000000 3.000000)" '' check "--certificate=$plain" --
 on_full_device 'check: a report to a full device' check --certificate "$plain"
 
-# bytes changed one by one, in a certificate of each format
-for format in 1 2; do
-  tables_of "$fleet"
-  "$program" plan "${tables[@]}" --budget 500000 --format "$format" --certificate "$certificate" >"$room/report" 2>"$room/err"
-  with_python "changed bytes, format $format" "$here/changed_bytes.py" "$program" "$certificate" 100
-done
+# bytes changed one by one, in a certificate of each kind
+tables_of "$fleet"
+while read -r words; do
+  # shellcheck disable=SC2086
+  "$program" plan "${tables[@]}" --budget 500000 $words --certificate "$certificate" >"$room/report" 2>"$room/err"
+  with_python "changed bytes, $words" "$here/changed_bytes.py" "$program" "$certificate" 100
+done <<ROWS
+--format 1
+--format 2
+--objective log-availability
+--on-hand $fleet/stocks.csv
+ROWS
