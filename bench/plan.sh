@@ -1,5 +1,5 @@
 #!/bin/bash
-# Times `plan` by both aims and `check` of both certificates, in turn on one processor, by the processor's time.
+# Times `plan` by both aims, `check` of both certificates and `sweep`, in turn on one processor, by the processor's time.
 #   bench/plan.sh PROGRAM FOLDER BUDGET [RUNS [PEER]]
 # PROGRAM is the built program; FOLDER has sites.csv, parts.csv and rates.csv, whose fields aren't quoted. RUNS: how many times each is
 # run, 5 if left out; the least time counts. PEER: a program without proof that takes the same words of `plan` without an aim, plans the
@@ -19,7 +19,8 @@ work=$(mktemp -d)
 trap 'rm -rf "$work"' EXIT
 on_one=()
 command -v taskset > /dev/null && on_one=(taskset -c "$(($(nproc) - 1))")
-words=(plan --sites "$folder/sites.csv" --parts "$folder/parts.csv" --rates "$folder/rates.csv" --budget "$budget")
+files=(--sites "$folder/sites.csv" --parts "$folder/parts.csv" --rates "$folder/rates.csv")
+words=(plan "${files[@]}" --budget "$budget")
 
 # timed NAME WORDS..: adds the user seconds of one run to the times of that name; its report is kept
 TIMEFORMAT=%U
@@ -33,6 +34,7 @@ for _ in $(seq "$runs"); do
     [ -z "$peer" ] || timed peer "$peer" "${words[@]}" --certificate "$work/peer"
     timed plan "$program" "${words[@]}" --certificate "$work/plain"
     timed check "$program" check --certificate "$work/plain"
+    timed sweep "$program" sweep "${files[@]}"
     timed loss_plan "$program" "${words[@]}" --objective log-availability --certificate "$work/loss"
     timed loss_check "$program" check --certificate "$work/loss"
 done
@@ -58,7 +60,7 @@ read -r tables scores < <(tr -d '\r' < "$folder/parts.csv" | awk -F, -v sites="$
     }')
 
 least() { sort -n "$work/$1.all" | head -n 1; }
-awk -v runs="$runs" -v tables="$tables" -v scores="$scores" -v plan="$(least plan)" -v check="$(least check)" \
+awk -v runs="$runs" -v tables="$tables" -v scores="$scores" -v plan="$(least plan)" -v check="$(least check)" -v sweep="$(least sweep)" \
     -v loss_plan="$(least loss_plan)" -v loss_check="$(least loss_check)" \
     -v peer="$([ -z "$peer" ] || least peer)" '
     function ratio(a, b) { return b > 0 ? sprintf("%.2f", a / b) : "-" }
@@ -66,6 +68,7 @@ awk -v runs="$runs" -v tables="$tables" -v scores="$scores" -v plan="$(least pla
     printf "%d tables, %d scores; user seconds, least of %d\n", tables, scores, runs
     if (peer != "") printf "peer: plan %.3f; ours/peer %s\n", peer, ratio(plan, peer)
     printf "backorders: plan %.3f, check %.3f, check/plan %s\n", plan, check, ratio(check, plan)
+    printf "sweep %.3f, sweep/plan %s\n", sweep, ratio(sweep, plan)
     printf "log-availability: plan %.3f, check %.3f, check/plan %s\n", loss_plan, loss_check, ratio(loss_check, loss_plan)
     printf "by the loss/by backorders: plan %s, check %s\n", ratio(loss_plan, plan), ratio(loss_check, check)
     printf "nanoseconds a table: %d by backorders, %d by the loss; a score of the loss costs %d more than a plain one\n",

@@ -36,17 +36,31 @@ sed -i 1q "$room/changed/rates.csv"
 sweeps 'no parts to sweep' 0 'sweep,1\npoint,0,0.000000,0.000000,none\n' '' "$room/changed"
 prices 'no parts to buy' 0 'target,1.0000\nreach,0,0.000000,0.000000\nat-least,0\n' '' "$room/changed"
 
-# each point is the plan with its cost as the budget: from standard input, COST and the line of the total
-while read -r cost total; do
-  tables_of "$one"
-  found=$("$program" plan "${tables[@]}" --budget "$cost" --certificate "$certificate" | grep '^total,')
-  if [ "$found" = "total,$total" ]; then passes; else fails "the plan at $cost: $found, wanted total,$total"; fi
-done <<'POINTS'
-0 3.000000,3.000000
-100 2.049787,2.049788
-300 0.672125,0.672126
-500 0.141759,0.141760
-POINTS
+# the shipped fleet
+tables_of "$fleet"
+check 'the sweep of the fleet' 0 "$(cat "$fleet/sweep.txt")\n" '' sweep "${tables[@]}"
+check 'a target of the fleet' 0 'target,2.0000\nreach,1638500,1.647127,1.647128\nat-least,1549052\n' '' \
+  target "${tables[@]}" --backorders 2
+
+# each point is the plan whose budget is its cost: that much is spent, it has the point's total, and the next step has its price
+while IFS=, read -r kind cost low high price; do
+  if [ "$kind" != point ]; then continue; fi
+  if [ "$price" = none ]; then price=0.000000000000; fi
+  found=$("$program" plan "${tables[@]}" --budget "$cost" --certificate "$certificate" | grep -E '^(cost|total|price|hull),' | tr '\n' ' ')
+  wanted="cost,$cost total,$low,$high price,$price hull,$cost "
+  if [ "$found" = "$wanted" ]; then passes; else fails "the plan at the point $cost: $found, wanted $wanted"; fi
+done <"$fleet/sweep.txt"
+
+# the picture that stands in the pages
+cat >"$room/draw.py" <<'DRAW'
+import pathlib, subprocess, sys
+program, fleet = sys.argv[1], pathlib.Path(sys.argv[2])
+tables = [word for table in ('sites', 'parts', 'rates') for word in ('--' + table, str(fleet / (table + '.csv')))]
+sweep = subprocess.run([program, 'sweep'] + tables, capture_output=True, check=True).stdout
+picture = subprocess.run([sys.executable, str(fleet / 'sweep.py')], input=sweep, capture_output=True, check=True).stdout
+sys.exit(picture != (fleet / 'sweep.svg').read_bytes())
+DRAW
+with_python 'the picture of the fleet' "$room/draw.py" "$program" "$fleet"
 
 # words
 tables_of "$one"
