@@ -8,5 +8,3 @@ mod certificates;
 mod curves;
 #[cfg(test)]
 mod helpers;
-#[cfg(test)]
-mod sweeps;

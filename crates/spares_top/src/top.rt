@@ -33,10 +33,11 @@ pub fn refuse<E: Sink>(refusal: &Refusal, err: &mut E)
 /// # Errors
 ///
 /// In this order: `Words` where the words give no order; `ReadFault` or `TooLong` at the first file that isn't read;
-/// of `eval` the first `Table` or `Case` of its sites, parts and rates, and then `Table` or `Stock` of its stocks;
-/// `Rate` where a pipeline is beyond the model's limits; and `WriteFault` where the put of the report fails. After
-/// `WriteFault` the output holds a prefix of the report, and after the others it is as before. `NoMemory` may come
-/// at any step before the put.
+/// the first `Table` or `Case` of sites, parts and rates, and then `Table` or `Stock` of the stocks; `Rate` where a
+/// pipeline is beyond the model's limits; `Work` where the curves of a case take too many tables; of `check`, `Cert`
+/// where its file is no certificate and `Rejected` where it breaks a rule; and `WriteFault` where the certificate isn't
+/// written or the put of the report fails. After `WriteFault` the output holds a prefix of the report, and after the
+/// others it is as before. `NoMemory` may come at any step before the put.
 pub fn run<H: Shelf, W: Sink, E: Sink>(
     alloc: Global,
     words: &[Text],

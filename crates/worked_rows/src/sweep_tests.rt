@@ -9,6 +9,14 @@ const ONE: [&str; 4] = [
     "",
 ];
 
+/// One line unit, and a second one that costs less.
+const TWO: [&str; 4] = [
+    "site,kind,systems,ship_days\nD,depot,,\nB,base,12,10\n",
+    "part,parent,cost,per_system,max_depot,max_base\nL,,100,1,2,3\nK,,30,1,2,3\n",
+    "part,site,demand,repair_here,share,repair_days\nL,D,,,,20\nL,B,36.5,0,,0\nK,D,,,,20\nK,B,36.5,0,,0\n",
+    "",
+];
+
 /// No parts.
 const BARE: [&str; 4] = [
     "site,kind,systems,ship_days\nD,depot,,\nB,base,12,10\n",
@@ -26,7 +34,7 @@ const LARGE: [&str; 4] = [
 ];
 
 /// Tables, words, and the report.
-const REPORTED: [([&str; 4], &str, &str); 7] = [
+const REPORTED: [([&str; 4], &str, &str); 10] = [
     (
         ONE,
         "sweep --sites sites --parts parts --rates rates",
@@ -51,6 +59,21 @@ const REPORTED: [([&str; 4], &str, &str); 7] = [
         ONE,
         "target --sites sites --parts parts --rates rates --backorders 2.9999",
         "target,2.9999\nreach,100,2.049787,2.049788\nat-least,1\n",
+    ),
+    (
+        TWO,
+        "sweep --sites sites --parts parts --rates rates",
+        "sweep,11\npoint,0,6.000000,6.000000,0.031673764387\npoint,30,5.049787,5.049788,0.026695057550\npoint,60,4.248935,4.248936,0.019226997295\npoint,90,3.672125,3.672126,0.011721321370\npoint,120,3.320485,3.320486,0.009502129316\npoint,220,2.370272,2.370273,0.008008517265\npoint,320,1.569421,1.569422,0.005957547996\npoint,350,1.390694,1.390695,0.005768099188\npoint,450,0.813884,0.813885,0.003516396411\npoint,550,0.462245,0.462246,0.001787264398\npoint,650,0.283518,0.283519,none\n",
+    ),
+    (
+        TWO,
+        "target --sites sites --parts parts --rates rates --backorders 4",
+        "target,4.0000\nreach,90,3.672125,3.672126\nat-least,73\n",
+    ),
+    (
+        TWO,
+        "target --sites sites --parts parts --rates rates --backorders 2.5",
+        "target,2.5000\nreach,220,2.370272,2.370273\nat-least,207\n",
     ),
     (
         BARE,
