@@ -2,8 +2,8 @@
 
     python3 tests/differential.py PROGRAM OTHER [TRIALS] [SEED]
 
-Each trial makes random tables (some of them damaged), a budget and a format, and compares standard output, standard
-error, status and the certificate of `plan`. Then it changes a certificate (a byte, a number, lines, claims, covers, or
+Each trial makes random tables (some of them damaged), a budget, a format, an aim and what is on hand, and compares standard
+output, standard error, status and the certificate of `plan`. Then it changes a certificate (a byte, a number, lines, claims, covers, or
 nothing) and compares `check`. Some trials compare `demo`. Both programs run with the same words in their own folders.
 The cases are small, so that a slow program is quick on them. PROGRAM and OTHER are split like the words of a shell.
 
@@ -28,6 +28,7 @@ HEADERS = {
     "sites": ["site", "kind", "systems", "ship_days"],
     "parts": ["part", "parent", "cost", "per_system", "max_depot", "max_base"],
     "rates": ["part", "site", "demand", "repair_here", "share", "repair_days"],
+    "on-hand": ["part", "site", "stock"],
 }
 ODD_NUMBERS = ["0", "1", "-1", "1e3", "1.5", ".5", "5.", "0.00001", "64", "101", "99999999999999999999", "100000001"]
 ODD_FIELDS = ODD_NUMBERS + ["", "x", " 1", '"1"']
@@ -96,6 +97,12 @@ def random_rate(rng, part, site, style):
     ]
 
 
+def random_held(rng, part, site):
+    """A row of what is on hand, within its limit."""
+    most = int(part[4] if site[1] == "depot" else part[5])
+    return [part[0], site[0], str(rng.choice([0, 0, rng.randint(0, most)]))]
+
+
 def random_case(rng):
     """Tables as lists of rows, each with its header."""
     sites = random_sites(rng)
@@ -106,12 +113,15 @@ def random_case(rng):
         make_parts_alike(rng, parts, sites, rates)
     if rng.random() < 0.3:
         make_bases_alike(rng, parts, sites, rates)
-    if rng.random() < 0.3:
-        rng.shuffle(rates)
+    held = [random_held(rng, part, site) for part in parts for site in sites]
+    for rows in rates, held:
+        if rng.random() < 0.3:
+            rng.shuffle(rows)
     is_weighted = rng.random() < 0.4
     header = HEADERS["parts"] + ["weight"] * is_weighted
     parts = [row if is_weighted else row[:6] for row in parts]
-    return {"sites": [HEADERS["sites"]] + sites, "parts": [header] + parts, "rates": [HEADERS["rates"]] + rates}
+    tables = {"sites": sites, "parts": parts, "rates": rates, "on-hand": held}
+    return {file: [header if file == "parts" else HEADERS[file]] + rows for file, rows in tables.items()}
 
 
 def make_parts_alike(rng, parts, sites, rates):
@@ -170,11 +180,11 @@ def cost_of_all(case):
 def texts_of(rng, case):
     """The tables of a case as bytes, some of them damaged."""
     if rng.random() < 0.15:
-        file = rng.choice(TABLES)
+        file = rng.choice(list(case))
         case = {**case, file: damaged_rows(rng, case[file])}
     texts = {file: text_of(rng, rows) for file, rows in case.items()}
     if rng.random() < 0.05:
-        file = rng.choice(TABLES)
+        file = rng.choice(list(case))
         texts[file] = changed_byte(rng, texts[file])
     return texts
 
@@ -185,7 +195,12 @@ def plan_words(rng, most):
     words = ["plan", *(word for file in TABLES for word in ("--" + file, file)), "--certificate", "certificate"]
     words += ["--budget=%d" % budget] if rng.random() < 0.2 else ["--budget", str(budget)]
     chosen = "3" if rng.random() < 0.02 else rng.choice([None, "1", "2", "2"])
-    return words + (["--format", chosen] if chosen else [])
+    more = ["--on-hand", "on-hand"] * (rng.random() < 0.3)
+    if rng.random() < 0.4:
+        more += ["--objective", rng.choice(["log-availability"] * 6 + ["backorders", "backorder"])]
+    if more and rng.random() < 0.9:
+        chosen = rng.choice([None, "2"])
+    return words + more + (["--format", chosen] if chosen else [])
 
 
 # Changed certificates
@@ -237,10 +252,10 @@ class Claims:
 
     def __init__(self, text):
         self.lines = text.decode().split("\n")
-        self.at = 1
-        if self.lines[1].startswith("objective,"):
-            self.at = 2
-        self.format = int(self.lines[0].split(",")[1])
+        is_held = self.lines[0] == "spares-held,1"
+        self.at = int(is_held)
+        self.format = self.number()
+        self.objective = self.next() if self.format == 2 else "objective,backorders"
         self.sites = self.section()
         self.parts_line = self.lines[self.at]
         self.parts = self.section()
@@ -255,6 +270,8 @@ class Claims:
         self.stocks = [int(line) for line in self.section()]
         self.upper = self.number()
         self.bound = self.number()
+        self.at += 1
+        self.held = [int(line) for line in self.section()] if is_held else []
 
     def next(self):
         self.at += 1
@@ -268,18 +285,23 @@ class Claims:
         self.at += count
         return self.lines[self.at - count : self.at]
 
-    def limits(self, family):
-        """The limits of a family's vector: line unit and shop units at the depot, and then at each base."""
+    def box(self, family):
+        """The least and the most vector of a family: line unit and shop units at the depot, and then at each base."""
         rows = [line.split(",") for line in self.parts]
         line = [row for row in rows if not row[1]][family]
-        members = [line] + [row for row in rows if row[1] == line[0]]
-        at_base = [int(row[5]) for row in members]
-        return [int(row[4]) for row in members] + at_base * (len(self.sites) - 1)
+        members = [rows.index(line)] + [index for index, row in enumerate(rows) if row[1] == line[0]]
+        count = len(self.sites)
+        low, high = [], []
+        for site in range(count):
+            low += [self.held[index * count + site] if self.held else 0 for index in members]
+            high += [int(rows[index][5 if site else 4]) for index in members]
+        return low, high
 
     def text(self):
-        lines = ["spares-certificate,%d" % self.format]
+        lines = ["spares-held,1"] if self.held else []
+        lines.append("spares-certificate,%d" % self.format)
         if self.format == 2:
-            lines.append("objective,backorders")
+            lines.append(self.objective)
         lines += ["sites,%d" % len(self.sites), *self.sites, self.parts_line, *self.parts]
         lines += ["rates,%d" % len(self.rates), *self.rates]
         lines += ["budget,%d" % self.budget, "price,%d,%d" % tuple(self.price)]
@@ -289,8 +311,10 @@ class Claims:
             for cover in self.covers:
                 lines += ["cover,%d" % len(cover), *cover]
         lines += ["stocks,%d" % len(self.stocks), *map(str, self.stocks)]
-        lines += ["upper,%d" % self.upper, "bound,%d" % self.bound, "end", ""]
-        return "\n".join(lines).encode()
+        lines += ["upper,%d" % self.upper, "bound,%d" % self.bound, "end"]
+        if self.held:
+            lines += ["held,%d" % len(self.held), *map(str, self.held), "end"]
+        return "\n".join(lines + [""]).encode()
 
 
 def random_cover(rng, low, high, depth):
@@ -322,10 +346,9 @@ def changed_claims(rng, text):
     if rng.random() < 0.6:
         claims.format = 2
         claims.covers = [
-            random_cover(rng, [0] * len(limits), limits, rng.choice([0, 1, 2, 4]))
-            for limits in map(claims.limits, range(len(claims.floors)))
+            random_cover(rng, *claims.box(family), rng.choice([0, 1, 2, 4])) for family in range(len(claims.floors))
         ]
-    turn = rng.randrange(5)
+    turn = rng.randrange(6)
     if turn == 0:
         claims.floors = [floor * rng.randint(0, 100) // 100 for floor in claims.floors]
     elif turn == 1 and claims.floors:
@@ -337,6 +360,8 @@ def changed_claims(rng, text):
         claims.stocks[rng.randrange(len(claims.stocks))] = rng.choice([0, 0, 1, 2, 63])
         claims.upper = rng.choice([claims.upper, 1 << 85])
         claims.budget = rng.choice([claims.budget, claims.budget, 10**6])
+    elif turn == 4 and claims.held:
+        claims.held[rng.randrange(len(claims.held))] = rng.choice([0, 0, 1, 2])
     claims.bound = rng.choice([largest_bound(claims), largest_bound(claims), claims.bound, largest_bound(claims) + 1])
     return claims.text()
 
