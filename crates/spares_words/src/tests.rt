@@ -466,13 +466,13 @@ fn refuses_targets(rt: HostRuntime) -> Result<(), Fail> {
     )
 }
 
-/// Lines of the other commands over tables that give no order.
-const REFUSED_TABLES: [(&str, WordsFault); 6] = [
+/// Lines of `sweep` that give no order.
+const REFUSED_SWEEPS: [(&str, WordsFault); 2] = [
     ("sweep --sites a --parts b", Shape),
     ("sweep --sites a --parts b --rates c --stocks d", Shape),
 ];
 
 #[test]
-fn refuses_other_tables(rt: HostRuntime) -> Result<(), Fail> {
-    refuses(&rt, rt.alloc(), &REFUSED_TABLES)
+fn refuses_sweeps(rt: HostRuntime) -> Result<(), Fail> {
+    refuses(&rt, rt.alloc(), &REFUSED_SWEEPS)
 }
