@@ -209,24 +209,38 @@ fn order_after_tables(alloc: Global, command: &str, end: &str) -> Result<Order, 
     order_of_line(alloc, line.as_str())
 }
 
+fn sweep_order(alloc: Global) -> Result<Order, NoMemory> {
+    Ok(Order::Sweep {
+        sites: Text::from_str(alloc, "a")?,
+        parts: Text::from_str(alloc, "b")?,
+        rates: Text::from_str(alloc, "c")?,
+    })
+}
+
 #[test]
-fn takes_sweep_and_target(rt: HostRuntime) -> Result<(), Fail> {
+fn takes_sweep(rt: HostRuntime) -> Result<(), Fail> {
     let alloc = rt.alloc();
-    let sweep = Order::Sweep {
+    let want = sweep_order(alloc)?;
+    assert_eq!(rt; order_after_tables(alloc, "sweep", ""), Ok(want));
+    Ok(())
+}
+
+fn target_order(alloc: Global, units: u64) -> Result<Order, NoMemory> {
+    Ok(Order::Target {
         sites: Text::from_str(alloc, "a")?,
         parts: Text::from_str(alloc, "b")?,
         rates: Text::from_str(alloc, "c")?,
-    };
-    assert_eq!(rt; order_after_tables(alloc, "sweep", ""), Ok(sweep));
-    let target = Order::Target {
-        sites: Text::from_str(alloc, "a")?,
-        parts: Text::from_str(alloc, "b")?,
-        rates: Text::from_str(alloc, "c")?,
-        backorders: ten_thousandths(10_000_000_000_000),
-    };
+        backorders: ten_thousandths(units),
+    })
+}
+
+#[test]
+fn takes_target(rt: HostRuntime) -> Result<(), Fail> {
+    let alloc = rt.alloc();
+    let want = target_order(alloc, 10_000_000_000_000)?;
     assert_eq!(rt;
         order_after_tables(alloc, "target", " --backorders 1000000000"),
-        Ok(target)
+        Ok(want)
     );
     Ok(())
 }
