@@ -203,48 +203,6 @@ fn takes_check_and_demo(rt: HostRuntime) -> Result<(), Fail> {
     Ok(())
 }
 
-/// The order of a line that names the tables `a`, `b` and `c`.
-fn order_after_tables(alloc: Global, command: &str, end: &str) -> Result<Order, Stop<WordsFault>> {
-    let line = format!(in alloc; "{command} --sites a --parts b --rates c{end}")?;
-    order_of_line(alloc, line.as_str())
-}
-
-fn sweep_order(alloc: Global) -> Result<Order, NoMemory> {
-    Ok(Order::Sweep {
-        sites: Text::from_str(alloc, "a")?,
-        parts: Text::from_str(alloc, "b")?,
-        rates: Text::from_str(alloc, "c")?,
-    })
-}
-
-#[test]
-fn takes_sweep(rt: HostRuntime) -> Result<(), Fail> {
-    let alloc = rt.alloc();
-    let want = sweep_order(alloc)?;
-    assert_eq!(rt; order_after_tables(alloc, "sweep", ""), Ok(want));
-    Ok(())
-}
-
-fn target_order(alloc: Global, units: u64) -> Result<Order, NoMemory> {
-    Ok(Order::Target {
-        sites: Text::from_str(alloc, "a")?,
-        parts: Text::from_str(alloc, "b")?,
-        rates: Text::from_str(alloc, "c")?,
-        backorders: ten_thousandths(units),
-    })
-}
-
-#[test]
-fn takes_target(rt: HostRuntime) -> Result<(), Fail> {
-    let alloc = rt.alloc();
-    let want = target_order(alloc, 10_000_000_000_000)?;
-    assert_eq!(rt;
-        order_after_tables(alloc, "target", " --backorders 1000000000"),
-        Ok(want)
-    );
-    Ok(())
-}
-
 /// Lines that give no order, each with its fault.
 const REFUSED: [(&str, WordsFault); 62] = [
     ("", Shape),
