@@ -10,6 +10,7 @@ ghost use Rattle.moment_table.specs.Profile.{known_row, excess_ends};
 use fixed_interval::Iv;
 use series_bounds::heads::{Beginning, first_weights};
 use series_bounds::kinds::Weights;
+use series_bounds::shares::quotient;
 use series_bounds::weights;
 use spares_io::{List, NoMemory};
 use std::alloc::Global;
@@ -29,7 +30,7 @@ pub(crate) fn excess_of<const F: u32>(mean: Iv<F>, variance: Iv<F>) -> Iv<F>
     ensures ends { result ≡ excess_ends F mean.entry variance.entry }
     ensures most { result.hi ≤ 2048 * 2 ^ F }
 {
-    variance.div(mean).less(Iv::exact(1))
+    quotient(variance, mean).less(Iv::exact(1))
 }
 
 /// The weights of a pipeline with this mean and variance, and None where it is always empty, or they aren't known.

@@ -6,6 +6,10 @@
 ghost use Rattle.std.specs.Prelude.{◌≡◌, ◌/◌, ◌<◌, ◌≤◌};
 ghost use Rattle.std.specs.Int.{div_ceil};
 
+mod inverses;
+
+use inverses::INVERSES;
+
 /// `num / den`, rounded down. Where `guess` is that, or one less, no division is made; with any other guess it is.
 pub fn quotient_near(num: u128, den: u64, guess: u64) -> u128
     requires { 0 < den }
@@ -68,19 +72,54 @@ pub fn quotient_up_near(num: u128, den: u64, guess: u64) -> u128
     num.div_ceil(den)
 }
 
-/// About `2^(F + 62) / den`, by which [`guess_by`] guesses, for a `den` of `2^F` or more.
-pub fn inverse_of<const F: u32>(den: u64) -> u64
-    requires scale { F ≤ 52 }
-    requires divisor { 0 < den }
-{
-    let inverse = (1u128 << (F + 62)) / u128::from(den);
-    inverse.min(u128::from(u64::MAX)) as u64
+/// About `2^64 / x`, of an `x` from 2 on.
+pub fn short_inverse(x: u8) -> u64 {
+    INVERSES[usize::from(x)]
 }
 
-/// The inverse of a number that is `den` or somewhat less, from that of `den`, mostly without a division.
+/// About `2^126 / den`, for a `den` of `2^63` or more: from the inverse of its first eight bits, by three of Newton's steps.
+fn full_inverse(den: u64) -> u64 {
+    let mut inverse = short_inverse((den >> 56) as u8).min(1 << 57) << 6;
+    for _step in 0..3 {
+        inverse = nearer(inverse, den);
+    }
+    inverse
+}
+
+/// The inverse, in parts of `2^126`, after one of Newton's steps.
+fn nearer(inverse: u64, den: u64) -> u64 {
+    let twice = (1u64 << 63).saturating_sub(high_half(inverse, den));
+    high_half(inverse, twice).wrapping_shl(2)
+}
+
+/// The upper 64 bits of a product.
+fn high_half(a: u64, b: u64) -> u64 {
+    ((u128::from(a) * u128::from(b)) >> 64) as u64
+}
+
+/// About `2^(F + 62) / den`, by which [`guess_by`] guesses, for a `den` of `2^F` or more. No division is made.
+pub fn inverse_of<const F: u32>(den: u64) -> u64
+    requires { F ≤ 52 }
+{
+    let zeros = den.leading_zeros();
+    let inverse = full_inverse(den.wrapping_shl(zeros));
+    if F + zeros < 64 {
+        inverse.wrapping_shr(64 - F - zeros)
+    } else {
+        u64::MAX
+    }
+}
+
+/// By how many places two numbers are shifted so that the one has `F + 1` bits or more, and [`inverse_of`] serves it.
+pub fn places_to<const F: u32>(den: u64) -> u32
+    requires { F ≤ 52 }
+{
+    den.leading_zeros().saturating_sub(63 - F)
+}
+
+/// The inverse of a number that is `den` or somewhat less, from that of `den`, mostly by two products.
 pub fn inverse_beside<const F: u32>(inverse: u64, den: u64, below: u64) -> u64
-    requires scale { F ≤ 52 }
-    requires divisor { 0 < below }
+    requires { F ≤ 52 }
 {
     let gap = den.saturating_sub(below);
     if gap > below >> 26 {

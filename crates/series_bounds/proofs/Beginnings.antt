@@ -1,13 +1,15 @@
 -- The walk with the first weights alone, and the sum of all.
-use Rattle.std.proofs.Common.{◌≡◌, ℕ, zero, suc, ◌+◌, ◌*◌, ◌<◌, ◌≤◌, ◌^◌, List, [], ◌∷◌, ◌++◌, length, get_or, sym, ap, ap₂, ◌∙◌, arith, subst, refl}
+use Rattle.std.proofs.Common.{◌≡◌, ℕ, zero, suc, ◌+◌, ◌-◌, ◌*◌, ◌<◌, ◌≤◌, ◌^◌, List, [], ◌∷◌, ◌++◌, length, get_or, sym, ap, ap₂, ◌∙◌, arith, subst, refl, pow_pos, mul-le-mul_left, le_trans}
+use Rattle.std.specs.Int.{div_ceil}
 use Rattle.std.proofs.lemmas.List.{length-append}
-use Rattle.fixed_interval.specs.Ends.{Ends, ends_add, ends_times}
-use Rattle.series_bounds.specs.Profile.{pivot_at, least_end, weight_ends, ends_sum, listed}
-use Rattle.series_bounds.specs.Walk.{ToPivot, ToNext, SumsTo, Begins, AtLeastEnd}
+use Rattle.fixed_interval.specs.Ends.{Ends, ends_add, ends_mul, ends_times}
+use Rattle.series_bounds.specs.Profile.{pivot_at, least_end, weight_ends, ratio_ends, ratio_bound, last_index, ends_sum, ends_raised, listed}
+use Rattle.series_bounds.specs.Walk.{ToPivot, ToNext, SumsTo, Begins, AtLeastEnd, EndsAt, ToEnd}
 use Rattle.series_bounds.specs.Answer.{IsSum, IsBeginning, at_place}
-use Rattle.series_bounds.proofs.Enclosure.{listed_at, length-listed}
-use Rattle.series_bounds.proofs.Walks.{listed_next, next_least, ascent_again, end_from_63}
-use Rattle.series_bounds.proofs.Unlisted.{Climb, sums_next}
+use Rattle.series_bounds.proofs.Enclosure.{listed_at, length-listed, narrow_tops}
+use Rattle.series_bounds.proofs.Walks.{listed_next, next_least, ascent_again, end_from_63, end_most, last_start}
+use Rattle.series_bounds.proofs.Bounds.{one_of, bound_half, weight_stays}
+use Rattle.series_bounds.proofs.Unlisted.{Climb, sums_next, climb_weight, climb_done, late_end}
 
 -- ---- the first weights
 
@@ -70,6 +72,27 @@ climb_again f m d sum last q h = record {
   sums = h.sums;
 }
 
+-- a weight from 0 to 1 unit, before which the last one was the same, with ratios of at most a half past it: the rest is 1
+pub closed_sum : (f : ℕ) (m d low before all : Ends) (h : ℕ) → pivot_at f m d ≤ 256 → AtLeastEnd f m d low before → 2 ^ f ≡ 2 * h → 0 < m.hi → before.lo ≡ 0 → before.hi ≡ 1
+    → (m.hi + d.hi * least_end f m d) * 2 ≤ (1 * 2 ^ f + d.lo) * (least_end f m d + 1) → d.hi ≤ 2 ^ f → all ≡ record { lo = low.lo; hi = low.hi + 2 } → IsSum f m d all
+closed_sum f m d low before all h q a e p bl bh l t k =
+    let c = climb_again f m d low before q a in
+    let o : 0 < 2 ^ f = pow_pos f in
+    let b = bound_half f m d (least_end f m d) h e p l t in
+    let i : d.hi * (least_end f m d - 1) ≤ d.hi * least_end f m d = mul-le-mul_left d.hi (omega arith) in
+    let n : 63 ≤ least_end f m d = end_from_63 f m d in
+    let j : (1 * 2 ^ f + d.lo) * (least_end f m d + 1) ≤ (1 * 2 ^ f + d.lo) * (least_end f m d * 2) = mul-le-mul_left (1 * 2 ^ f + d.lo) (omega (arith, n)) in
+    let s : before ≡ ends_mul f before (ratio_ends f m d (least_end f m d)) = weight_stays f m d before (least_end f m d) (omega (arith, n)) p bl bh (omega (arith, i, j, l)) in
+    let w : before ≡ weight_ends f m d (least_end f m d) = climb_weight f m d before low before (ratio_ends f m d (least_end f m d)) (least_end f m d) c refl s in
+    let u : 1 ≡ (weight_ends f m d (least_end f m d)).hi = sym bh ∙ ap (λ (z : Ends). z.hi) w in
+    let g : 1 ≡ div_ceil (1 * ratio_bound f m d (least_end f m d)) (2 ^ f - ratio_bound f m d (least_end f m d)) =
+    sym (one_of (ratio_bound f m d (least_end f m d)) (2 ^ f - ratio_bound f m d (least_end f m d)) b.1 (omega (arith, e, b.0))) in
+    let r : EndsAt f m d (least_end f m d) 1 =
+    late_end f m d (least_end f m d) (ratio_bound f m d (least_end f m d)) 1 1 refl u n (omega (arith, e, b.0, b.1)) g (λ _. omega arith) in
+    climb_done f m d before low before (ratio_ends f m d (least_end f m d)) (least_end f m d) c refl s (omega (arith, bh, o))
+    (end_most f m d 1024 (omega (arith, q)) (omega arith)) 1 r (ends_add low before) all refl
+    (k ∙ ap₂ (λ y z. record { lo = y; hi = z }) (omega (arith, bl)) (omega (arith, bh)))
+
 -- ---- what is answered
 
 pub beginning : (f : ℕ) (m d : Ends) (wanted : ℕ) (list : List Ends) (sum low last : Ends) → wanted ≤ 63 → wanted ≤ length list → Begins (weight_ends f m d) wanted wanted list
@@ -80,6 +103,18 @@ beginning f m d wanted list sum low last a b h s e = record {
   tops = λ x l. s.sums.tops x (omega (arith, l, a, end_from_63 f m d));
   sum_is = e;
 }
+
+-- of the list of all weights
+pub beginning_all : (f : ℕ) (m d : Ends) (wanted rest : ℕ) (list : List Ends) (sum : Ends) → wanted ≤ 63 → ToEnd f m d list rest → sum ≡ ends_raised (ends_sum list) rest
+    → IsBeginning f m d wanted list sum
+beginning_all f m d wanted rest list sum a h e =
+    let l : 63 ≤ last_index f m d = le_trans (end_from_63 f m d) (last_start f m d) in
+    record {
+      enough = omega (arith, a, l, ap length h.weights ∙ length-listed (weight_ends f m d) (suc (last_index f m d)));
+      weights = λ x i. ap (λ z. at_place z x) h.weights ∙ listed_at (weight_ends f m d) (suc (last_index f m d)) x (record { lo = 0; hi = 0 }) (omega (arith, i, a, l));
+      tops = λ x i. narrow_tops f m d h.narrow x (omega (arith, i, a, l));
+      sum_is = record { narrow = h.narrow; sum_is = e ∙ ap₂ (λ y z. ends_raised (ends_sum y) z) h.weights h.rest };
+    }
 
 -- ---- the list to the pivot
 

@@ -38,7 +38,7 @@ many_gaps n gap t p h =
     lt_of_mul-lt-mul_right gap (omega arith)
 
 -- from 0 to 1 unit, times a ratio above 0 and at most 1
-one_of : (n d : ℕ) → 0 < n → n ≤ d → div_ceil (1 * n) d ≡ 1
+pub one_of : (n d : ℕ) → 0 < n → n ≤ d → div_ceil (1 * n) d ≡ 1
 one_of n d p h =
     let a : div_ceil (1 * n) d ≤ 1 = ceil_most (1 * n) d 1 (omega arith) (omega arith) in
     let b : 0 < div_ceil (1 * n) d = many_gaps (1 * n) d 0 (omega arith) (omega arith) in
@@ -71,3 +71,30 @@ falls_on m e q x y p h l s =
 pub weight_stays_on : (f : ℕ) (m d w : Ends) (x y : ℕ) → 0 < x → x ≤ y → 0 < m.hi → StaysFrom f m d w x → w ≡ ends_mul f w (ratio_ends f m d y)
 weight_stays_on f m d w x y p h q s =
     weight_stays f m d w y (omega arith) q s.least s.most (falls_on m.hi d.hi (1 * 2 ^ f + d.lo) x y p h s.falls s.goes_on)
+
+-- twice the numerator at most the denominator: the ratio is at most a half
+half_ratio : (n d h : ℕ) → 0 < d → n * 2 ≤ d → div_ceil (n * (2 * h)) d ≤ h
+half_ratio n d h p l = ceil_most (n * (2 * h)) d h p (omega (arith, mul-le-mul_right h l))
+
+some_ratio : (n d h : ℕ) → 0 < d → 0 < n → 0 < h → 0 < div_ceil (n * (2 * h)) d
+some_ratio n d h p l q = many_gaps (n * (2 * h)) d 0 p (omega (arith, mul-pos {m = n} {n = h} l q))
+
+max_half : (a b h : ℕ) → a ≤ h → b ≤ h → 0 < a → (max a b ≤ h) × (0 < max a b)
+max_half a b h p q r = grind (arith, p, q, r)
+
+-- the bound is above 0 and at most a half, where the ratio at K + 1 is at most a half and the excess at most 1
+pub bound_half : (f : ℕ) (m d : Ends) (K h : ℕ) → 2 ^ f ≡ 2 * h → 0 < m.hi → (m.hi + d.hi * K) * 2 ≤ (1 * 2 ^ f + d.lo) * (K + 1) → d.hi ≤ 2 ^ f
+    → (ratio_bound f m d K ≤ h) × (0 < ratio_bound f m d K)
+unfolding ratio_bound ratio_ends
+bound_half f m d K h e p l t =
+    let o : 0 < 2 ^ f = pow_pos f in
+    let i : K + 1 - 1 ≡ K = omega arith in
+    let b : 0 < (1 * 2 ^ f + d.lo) * (K + 1) = mul-pos {m = 1 * 2 ^ f + d.lo} {n = K + 1} (omega arith) (omega arith) in
+    let r : div_ceil ((m.hi + d.hi * K) * (2 * h)) ((1 * 2 ^ f + d.lo) * (K + 1)) ≤ h = half_ratio (m.hi + d.hi * K) ((1 * 2 ^ f + d.lo) * (K + 1)) h b l in
+    let q : 0 < div_ceil ((m.hi + d.hi * K) * (2 * h)) ((1 * 2 ^ f + d.lo) * (K + 1)) =
+    some_ratio (m.hi + d.hi * K) ((1 * 2 ^ f + d.lo) * (K + 1)) h b (omega arith) (omega (arith, o, e)) in
+    let s : div_ceil (d.hi * (2 * h)) (2 ^ f + d.hi) ≤ h = half_ratio d.hi (2 ^ f + d.hi) h (omega arith) (omega arith) in
+    max_half (ratio_ends f m d (K + 1)).hi (far_ratio f d) h
+    (subst (λ z. div_ceil ((m.hi + d.hi * (K + 1 - 1)) * z) ((1 * 2 ^ f + d.lo) * (K + 1)) ≤ h) (sym e) (rw i r))
+    (subst (λ z. div_ceil (d.hi * z) (2 ^ f + d.hi) ≤ h) (sym e) s)
+    (subst (λ z. 0 < div_ceil ((m.hi + d.hi * (K + 1 - 1)) * z) ((1 * 2 ^ f + d.lo) * (K + 1))) (sym e) (rw i q))

@@ -1,34 +1,28 @@
 -- The ratios in parts: their sizes, their ends, and the step to the next index.
 use Rattle.std.proofs.Common.{◌≡◌, ℕ, ◌+◌, ◌-◌, ◌*◌, ◌/◌, ◌^◌, ◌<◌, ◌≤◌, refl, ap, ◌∙◌, subst, arith, pow_pos, mul-le-mul_right, mul-le-mul}
 use Rattle.std.specs.Int.{div_ceil}
-use Rattle.std.proofs.Math.Nat.{mul-pos, le-mul_of_pos_right}
+use Rattle.std.proofs.Math.Nat.{mul-pos, lt_of_mul-lt-mul_right, div-mul-le_self}
 use Rattle.fixed_interval.specs.Ends.{Ends, ends_add, ends_exact}
 use Rattle.fixed_interval.proofs.Laws.{floor_below_ceil, ceil_le}
 use Rattle.series_bounds.specs.Profile.{ratio_ends}
 use Rattle.series_bounds.specs.Ratios.{AreParts}
 use Rattle.series_bounds.specs.declared.parts.Parts.{Parts}
-use Rattle.series_bounds.proofs.Ranges.{unit_most, above_most}
+use Rattle.series_bounds.proofs.Ranges.{unit_most, part_most, part_room}
 
-below_room : (n d t : ℕ) (p : Parts) → 0 < d → AreParts n d p → n < t → p.whole < t
-below_room n d t p q h l = omega (arith, h.sum, le-mul_of_pos_right p.whole q)
-
-num_room : (o m e k : ℕ) → o ≤ 2 ^ 52 → 0 < o → m ≤ 256 * o → e ≤ 2048 * o → k ≤ 1025 → (m + e * (k - 1)) * o < 2 ^ 126
-num_room o m e k p q h l d =
-    let a : m + e * (k - 1) < 4194304 * o = above_most o m e k q h l d in
-    let b : (m + e * (k - 1)) * o ≤ (4194304 * o - 1) * o = mul-le-mul_right o (omega (arith, a)) in
-    let c : (4194304 * o - 1) * o ≤ (4194304 * 2 ^ 52 - 1) * 2 ^ 52 =
-    mul-le-mul {n₁ = 4194304 * o - 1} {m₁ = o} {n₂ = 4194304 * 2 ^ 52 - 1} {m₂ = 2 ^ 52} (omega (arith, p)) p in
-    omega (arith, b, c)
+-- the whole part of a number below so many times the divisor
+below_room : (n d t : ℕ) (p : Parts) → AreParts n d p → n < t * d → p.whole < t
+below_room n d t p h l = lt_of_mul-lt-mul_right d (omega (arith, h.sum))
 
 -- the parts of the numerator and of its step have room
-pub whole_room : (f m e k d : ℕ) (p : Parts) → f ≤ 52 → m ≤ 256 * 2 ^ f → e ≤ 2048 * 2 ^ f → k ≤ 1025 → 0 < d → AreParts ((m + e * (k - 1)) * 2 ^ f) d p → p.whole < 2 ^ 126
-whole_room f m e k d p s h l i q a = below_room ((m + e * (k - 1)) * 2 ^ f) d (2 ^ 126) p q a (num_room (2 ^ f) m e k (unit_most f s) (pow_pos f) h l i)
+pub whole_room : (f m e k d : ℕ) (p : Parts) → f ≤ 52 → m ≤ 256 * 2 ^ f → 2 ^ f ≤ d → e ≤ d → k ≤ 1025 → AreParts ((m + e * (k - 1)) * 2 ^ f) d p → p.whole < 2 ^ 63
+whole_room f m e k d p s h l i q a =
+    below_room ((m + e * (k - 1)) * 2 ^ f) d (2 ^ 63) p a (part_room (2 ^ f) (m + e * (k - 1)) d (unit_most f s) (omega (arith, l, pow_pos f)) (part_most (2 ^ f) m e k d h l i q))
 
-pub step_room : (f e d : ℕ) (p : Parts) → f ≤ 52 → e ≤ 2048 * 2 ^ f → 0 < d → AreParts (e * 2 ^ f) d p → p.whole < 2 ^ 126
-step_room f e d p s l q a =
-    let u = unit_most f s in
-    let b : e * 2 ^ f ≤ (2048 * 2 ^ 52) * 2 ^ 52 = mul-le-mul {n₁ = e} {m₁ = 2 ^ f} {n₂ = 2048 * 2 ^ 52} {m₂ = 2 ^ 52} (omega (arith, u, l)) u in
-    below_room (e * 2 ^ f) d (2 ^ 126) p q a (omega (arith, b))
+pub step_room : (f e d : ℕ) (p : Parts) → f ≤ 52 → 0 < d → e ≤ d → AreParts (e * 2 ^ f) d p → p.whole < 2 ^ 63
+step_room f e d p s l q a = below_room (e * 2 ^ f) d (2 ^ 63) p a (part_room (2 ^ f) e d (unit_most f s) l (omega (arith, q)))
+
+pub quotient_room : (n d q : ℕ) → 0 < d → n < 2 ^ 63 * d → q ≡ n / d → q < 2 ^ 63
+quotient_room n d q p h e = lt_of_mul-lt-mul_right d (rw e (omega (arith, h, div-mul-le_self n d)))
 
 -- the divisors
 pub below_is : (f : ℕ) (d one below : Ends) → one ≡ ends_exact f 1 → below ≡ ends_add one d → below ≡ record { lo = 1 * 2 ^ f + d.lo; hi = 1 * 2 ^ f + d.hi }
@@ -64,10 +58,10 @@ next_parts m e x o den d p q h a = subst (λ z. AreParts z d p) (next_num m e x 
 pub same_parts : (n k d e : ℕ) (p : Parts) → n ≡ k → d ≡ e → AreParts n d p → AreParts k e p
 same_parts n k d e p h i a = subst (λ z. AreParts z e p) h (subst (λ z. AreParts n z p) i a)
 
-pub scaled_room : (f n o : ℕ) → f ≤ 52 → o ≡ 2 ^ f → n < 4194304 * 2 ^ f → n * o < 2 ^ 126
-scaled_room f n o s e l =
+pub scaled_room : (f n o d : ℕ) → f ≤ 52 → o ≡ 2 ^ f → d < 2 ^ 64 → n ≤ 1281 * d → n * o < 2 ^ 127
+scaled_room f n o d s e q l =
     let u = unit_most f s in
-    let c : n * o ≤ (4194304 * 2 ^ 52 - 1) * 2 ^ 52 = mul-le-mul {n₁ = n} {m₁ = o} {n₂ = 4194304 * 2 ^ 52 - 1} {m₂ = 2 ^ 52} (omega (arith, u, l)) (omega (arith, u, e)) in
+    let c : n * o ≤ (1281 * 2 ^ 64) * 2 ^ 52 = mul-le-mul {n₁ = n} {m₁ = o} {n₂ = 1281 * 2 ^ 64} {m₂ = 2 ^ 52} (omega (arith, q, l)) (omega (arith, u, e)) in
     omega (arith, c)
 
 pub share_room : (f n o : ℕ) → f ≤ 52 → o ≡ 2 ^ f → n ≤ 65536 * 2 ^ f → n * o ≤ 2 ^ 120

@@ -1,5 +1,5 @@
 -- The walks without lists: the sum of the weights, and one weight.
-use Rattle.std.proofs.Common.{◌≡◌, ℕ, suc, ◌+◌, ◌-◌, ◌*◌, ◌<◌, ◌≤◌, ◌^◌, true, false, [], ◌∷◌, ◌++◌, ◌⊎◌, inl, inr, sym, ap, ap₂, ◌∙◌, arith, subst, add-one}
+use Rattle.std.proofs.Common.{◌≡◌, ℕ, suc, ◌+◌, ◌-◌, ◌*◌, ◌<◌, ◌≤◌, ◌^◌, true, false, [], ◌∷◌, ◌++◌, ◌⊎◌, inl, inr, sym, ap, ap₂, ◌∙◌, arith, subst, add-one, List}
 use Rattle.std.specs.Int.{div_ceil}
 use Rattle.std.proofs.Math.Nat.{eq-or-lt_of_le}
 use Rattle.std.proofs.lemmas.Bool.{and_right, lt-leb}
@@ -91,6 +91,13 @@ module _ (f : ℕ) (m d last sum v r : Ends) (x : ℕ) (h : Climb f m d last sum
 
 pub climb_unended : (f : ℕ) (m d last sum : Ends) (x : ℕ) → Climb f m d last sum x → pivot_at f m d ≤ 256 → 1024 < x → is_wide f m d ≡ true
 climb_unended f m d last sum x h q l = ascent_unended f m d (listed (weight_ends f m d) x) last x h.ascent q l
+
+-- the same with the list
+pub ascent_ended : (f : ℕ) (m d : Ends) (list : List Ends) (last v r : Ends) (x rest : ℕ) → Ascent f m d list last x → r ≡ ratio_ends f m d x → v ≡ ends_mul f last r
+    → v.hi ≤ 8 * 2 ^ f → x ≤ 1024 → EndsAt f m d x rest → ToEnd f m d (list ++ v ∷ []) rest
+ascent_ended f m d list last v r x rest h er ev t l e =
+    ascent_done f m d list last v r x rest h er ev t e.late l e.ends
+    (e.rest_is ∙ ap (λ (z : Ends). remainder_from f m d z.hi x) (sym (next_weight f m d list last v r x h er ev))) e.small
 
 -- ---- whether the list ends
 

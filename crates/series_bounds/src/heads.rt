@@ -10,7 +10,10 @@ ghost use Rattle.series_bounds.specs.Walk.{AtLeastEnd, Begins, Midway, SumsTo, T
 ghost use Rattle.series_bounds.specs.Answer.{IsBeginning, IsSum};
 
 use crate::ratios::Ratios;
-use crate::{FIRST_END, LAST_END, down, most_weight, pivot_of, rest_at, stays, sum_of, times};
+use crate::{
+    Ended, FIRST_END, LAST_END, all_weights, down, is_near, most_weight, pivot_of, rest_at, stays,
+    sum_of, times, unit,
+};
 use fixed_interval::Iv;
 use spares_io::NoMemory;
 use std::alloc::Global;
@@ -63,6 +66,7 @@ fn rise<const F: u32>(
     requires positive { 0 < mean.lo }
     requires mean_top { IsWithinLimit F mean }
     requires excess_top { excess.hi ≤ 2048 * 2 ^ F }
+    requires near { excess.hi ≤ 2 ^ F + excess.lo }
     requires depth { pivot ≤ 256 }
     requires place { pivot ≡ pivot_at F mean excess }
     requires begun { Begins (weight_ends F mean excess) wanted (pivot + 1) begun.items }
@@ -156,6 +160,7 @@ fn brought<const F: u32>(
 ) -> Ratios<F>
     requires mean_top { IsWithinLimit F mean }
     requires excess_top { excess.hi ≤ 2048 * 2 ^ F }
+    requires near { excess.hi ≤ 2 ^ F + excess.lo }
     requires from { 0 < start }
     requires depth { start ≤ 1025 }
     requires ratios { AreRatios F mean excess next ratios }
@@ -180,6 +185,7 @@ fn close<const F: u32>(
 ) -> Option<Iv<F>>
     requires mean_top { IsWithinLimit F mean }
     requires excess_top { excess.hi ≤ 2048 * 2 ^ F }
+    requires near { excess.hi ≤ 2 ^ F + excess.lo }
     requires depth { pivot_at F mean excess ≤ 256 }
     requires start { start ≡ least_end F mean excess }
     requires begun { AtLeastEnd F mean excess low before }
@@ -209,9 +215,68 @@ fn close<const F: u32>(
     None
 }
 
-/// The first weights, `wanted` of them or more, at most 63 being wanted, and the sum of all, with a mean and an excess as
-/// [`crate::weights`] takes them. None where its answer is `Wide`. Want of memory is the only error.
-pub fn first_weights<const F: u32>(
+/// The sum of all weights where the list ends at the first index at which it may, with a weight of 1 unit at most and a rest of
+/// 1, as it mostly does: no ratio is needed for that. None where this isn't seen. The rest is as for [`close`].
+fn closed_at_once<const F: u32>(
+    mean: Iv<F>,
+    excess: Iv<F>,
+    start: u32,
+    low: Iv<F>,
+    before: Iv<F>,
+) -> Option<Iv<F>>
+    requires positive { 0 < mean.lo }
+    requires mean_top { IsWithinLimit F mean }
+    requires excess_top { excess.hi ≤ 2048 * 2 ^ F }
+    requires depth { pivot_at F mean excess ≤ 256 }
+    requires start { start ≡ least_end F mean excess }
+    requires begun { AtLeastEnd F mean excess low before }
+    ensures { IfSome result (IsSum F mean.entry excess.entry) }
+{
+    if before.lo() != 0 || before.hi() != 1 {
+        return None;
+    }
+    let above = mean.add(excess.times(start));
+    let step = Iv::exact(1).add(excess);
+    let below = step.times(start + 1);
+    if above.hi() * 2 > below.lo() || excess.hi() > unit::<F>() {
+        return None;
+    }
+    Some(Iv::of_ends(low.lo(), low.hi() + 2))
+}
+
+/// The sum of all weights, from what was found below an index and brought to the first one at which the list may end. None
+/// where a weight passes 8 or the rest needn't fall.
+fn closed<const F: u32>(
+    mean: Iv<F>,
+    excess: Iv<F>,
+    start: u32,
+    low: Iv<F>,
+    before: Iv<F>,
+    next: u32,
+    ratios: Ratios<F>,
+) -> Option<Iv<F>>
+    requires positive { 0 < mean.lo }
+    requires mean_top { IsWithinLimit F mean }
+    requires excess_top { excess.hi ≤ 2048 * 2 ^ F }
+    requires near { excess.hi ≤ 2 ^ F + excess.lo }
+    requires depth { pivot_at F mean excess ≤ 256 }
+    requires start { start ≡ least_end F mean excess }
+    requires begun { AtLeastEnd F mean excess low before }
+    requires ratios { AreRatios F mean excess next ratios }
+    ensures wide { IfNone result (is_wide F mean.entry excess.entry ≡ true) }
+    ensures known { IfSome result (IsSum F mean.entry excess.entry) }
+{
+    match closed_at_once(mean, excess, start, low, before) {
+        Some(sum) => Some(sum),
+        None => {
+            let ratios = brought(mean, excess, start, next, ratios);
+            close(mean, excess, start, low, before, ratios)
+        }
+    }
+}
+
+/// The first weights and the sum of all, where the ends of the excess are at most 1 apart.
+fn near_weights<const F: u32>(
     alloc: Global,
     mean: Iv<F>,
     excess: Iv<F>,
@@ -220,6 +285,7 @@ pub fn first_weights<const F: u32>(
     requires positive { 0 < mean.lo }
     requires mean_top { IsWithinLimit F mean }
     requires excess_top { excess.hi ≤ 2048 * 2 ^ F }
+    requires near { excess.hi ≤ 2 ^ F + excess.lo }
     requires wanted { wanted ≤ 63 }
     ensures wide { IfOk result (λ found. IfNone found (is_wide F mean.entry excess.entry ≡ true)) }
     ensures known { IfOk result (λ found. IfSome found (λ b. IsBeginning F mean.entry excess.entry wanted b.list.items b.sum)) }
@@ -243,9 +309,57 @@ pub fn first_weights<const F: u32>(
     } = walked;
     let list = filled(mean, excess, next, last, list, wanted)?;
     let low = level_sum(mean, excess, start, sum, last, next);
-    let ratios = brought(mean, excess, start, next, ratios);
-    match close(mean, excess, start, low, last, ratios) {
+    match closed(mean, excess, start, low, last, next, ratios) {
         Some(sum) => Ok(Some(Beginning { list, sum })),
         None => Ok(None),
     }
+}
+
+/// The first weights and the sum of all, as the beginning of the list of all.
+fn far_weights<const F: u32>(
+    alloc: Global,
+    mean: Iv<F>,
+    excess: Iv<F>,
+    wanted: usize,
+) -> Result<Option<Beginning<F>>, NoMemory>
+    requires positive { 0 < mean.lo }
+    requires mean_top { IsWithinLimit F mean }
+    requires excess_top { excess.hi ≤ 2048 * 2 ^ F }
+    requires wanted { wanted ≤ 63 }
+    ensures wide { IfOk result (λ found. IfNone found (is_wide F mean.entry excess.entry ≡ true)) }
+    ensures known { IfOk result (λ found. IfSome found (λ b. IsBeginning F mean.entry excess.entry wanted b.list.items b.sum)) }
+    ensures least { IfOk result (λ found. IfSome found (λ b. 2 ^ F ≤ b.sum.lo)) }
+{
+    let pivot = pivot_of(mean, excess);
+    let Some(ended) = all_weights(alloc, mean, excess, pivot)? else {
+        return Ok(None);
+    };
+    let Ended { list, rest } = ended;
+    let sum = sum_of(&list);
+    let sum = Iv::of_ends(sum.lo(), sum.hi() + rest);
+    Ok(Some(Beginning { list, sum }))
+}
+
+/// The first weights, `wanted` of them or more, at most 63 being wanted, and the sum of all, with a mean and an excess as
+/// [`crate::weights`] takes them. None where its answer is `Wide`. Want of memory is the only error.
+pub fn first_weights<const F: u32>(
+    alloc: Global,
+    mean: Iv<F>,
+    excess: Iv<F>,
+    wanted: usize,
+) -> Result<Option<Beginning<F>>, NoMemory>
+    requires positive { 0 < mean.lo }
+    requires mean_top { IsWithinLimit F mean }
+    requires excess_top { excess.hi ≤ 2048 * 2 ^ F }
+    requires wanted { wanted ≤ 63 }
+    ensures wide { IfOk result (λ found. IfNone found (is_wide F mean.entry excess.entry ≡ true)) }
+    ensures known { IfOk result (λ found. IfSome found (λ b. IsBeginning F mean.entry excess.entry wanted b.list.items b.sum)) }
+    ensures least { IfOk result (λ found. IfSome found (λ b. 2 ^ F ≤ b.sum.lo)) }
+{
+    let found = if is_near(excess) {
+        near_weights(alloc, mean, excess, wanted)?
+    } else {
+        far_weights(alloc, mean, excess, wanted)?
+    };
+    Ok(found)
 }

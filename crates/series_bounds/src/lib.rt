@@ -32,6 +32,7 @@ ghost use Rattle.series_bounds.specs.Walk.{ToPivot, ToNext, ToLeastEnd, ToEnd, S
 ghost use Rattle.series_bounds.specs.Answer.{Weighs, SizedAnswer};
 
 use crate::kinds::Weights;
+use crate::plain::risen_plain;
 use crate::ratios::Ratios;
 use crate::shares::div_near;
 use crate::short::product;
@@ -41,12 +42,11 @@ use spares_io::{List, NoMemory};
 use std::alloc::Global;
 
 pub mod heads;
-mod inverses;
 pub mod kinds;
 mod parts;
 pub mod plain;
 mod ratios;
-mod shares;
+pub mod shares;
 pub mod short;
 
 /// What the weights' definition says by the index: 1 at the pivot, and from there down and up by the ratios.
@@ -271,6 +271,7 @@ fn climb<const F: u32>(
     requires positive { 0 < mean.lo }
     requires mean_top { IsWithinLimit F mean }
     requires excess_top { excess.hi ≤ 2048 * 2 ^ F }
+    requires near { excess.hi ≤ 2 ^ F + excess.lo }
     requires depth { pivot ≤ 256 }
     requires place { pivot ≡ pivot_at F mean excess }
     requires begun { ToPivot F mean excess begun.items }
@@ -316,6 +317,7 @@ fn level<const F: u32>(
 ) -> Result<Begun<F>, NoMemory>
     requires mean_top { IsWithinLimit F mean }
     requires excess_top { excess.hi ≤ 2048 * 2 ^ F }
+    requires near { excess.hi ≤ 2 ^ F + excess.lo }
     requires depth { start ≤ 1025 }
     requires start { start ≡ least_end F mean excess }
     requires begun { ToNext F mean excess begun.list.items begun.last begun.next }
@@ -353,6 +355,7 @@ fn finish<const F: u32>(
 ) -> Result<Option<Ended<F>>, NoMemory>
     requires mean_top { IsWithinLimit F mean }
     requires excess_top { excess.hi ≤ 2048 * 2 ^ F }
+    requires near { excess.hi ≤ 2 ^ F + excess.lo }
     requires depth { pivot_at F mean excess ≤ 256 }
     requires start { start ≡ least_end F mean excess }
     requires begun { ToLeastEnd F mean excess begun.list.items begun.last }
@@ -383,6 +386,67 @@ fn finish<const F: u32>(
         }
     }
     Ok(None)
+}
+
+/// All weights from those to the pivot on, with what the ones past them come to at most, and None where a weight passes 8 or the
+/// rest needn't fall.
+fn risen<const F: u32>(
+    mean: Iv<F>,
+    excess: Iv<F>,
+    pivot: u16,
+    low: Vec<Iv<F>>,
+) -> Result<Option<Ended<F>>, NoMemory>
+    requires positive { 0 < mean.lo }
+    requires mean_top { IsWithinLimit F mean }
+    requires excess_top { excess.hi ≤ 2048 * 2 ^ F }
+    requires near { excess.hi ≤ 2 ^ F + excess.lo }
+    requires depth { pivot ≤ 256 }
+    requires place { pivot ≡ pivot_at F mean excess }
+    requires low { ToPivot F mean excess low.items }
+    ensures wide { IfOk result (λ found. IfNone found (is_wide F mean.entry excess.entry ≡ true)) }
+    ensures known { IfOk result (λ found. IfSome found (λ e. ToEnd F mean.entry excess.entry e.list.items e.rest)) }
+{
+    let Some(begun) = climb(mean, excess, pivot, low)? else {
+        return Ok(None);
+    };
+    let start = (u32::from(pivot) + 1).max(FIRST_END);
+    let begun = level(mean, excess, start, begun)?;
+    let ended = finish(mean, excess, start, begun)?;
+    Ok(ended)
+}
+
+/// Whether the ends of the excess are at most 1 apart, as they are but for very wide intervals.
+fn is_near<const F: u32>(excess: Iv<F>) -> bool
+    ensures { result ≡ true → excess.entry.hi ≤ 2 ^ F + excess.entry.lo }
+{
+    excess.width() <= unit::<F>()
+}
+
+/// All weights, with what the ones past them come to at most, and None where a weight passes 8 or the rest needn't fall.
+fn all_weights<const F: u32>(
+    alloc: Global,
+    mean: Iv<F>,
+    excess: Iv<F>,
+    pivot: u16,
+) -> Result<Option<Ended<F>>, NoMemory>
+    requires positive { 0 < mean.lo }
+    requires mean_top { IsWithinLimit F mean }
+    requires excess_top { excess.hi ≤ 2048 * 2 ^ F }
+    requires depth { pivot ≤ 256 }
+    requires above { 0 < pivot → 2 ^ F + excess.hi ≤ mean.lo }
+    requires place { pivot ≡ pivot_at F mean excess }
+    ensures wide { IfOk result (λ found. IfNone found (is_wide F mean.entry excess.entry ≡ true)) }
+    ensures known { IfOk result (λ found. IfSome found (λ e. ToEnd F mean.entry excess.entry e.list.items e.rest)) }
+{
+    let Some(low) = down(alloc, mean, excess, pivot, FIRST_END as usize + 1)? else {
+        return Ok(None);
+    };
+    let ended = if is_near(excess) {
+        risen(mean, excess, pivot, low)?
+    } else {
+        risen_plain(mean, excess, pivot, low)?
+    };
+    Ok(ended)
 }
 
 /// The sum of a list.
@@ -419,15 +483,7 @@ pub fn weights<const F: u32>(
     ensures sized { IfOk result (λ found. SizedAnswer found) }
 {
     let pivot = pivot_of(mean, excess);
-    let Some(low) = down(alloc, mean, excess, pivot, FIRST_END as usize + 1)? else {
-        return Ok(Weights::Wide);
-    };
-    let Some(begun) = climb(mean, excess, pivot, low)? else {
-        return Ok(Weights::Wide);
-    };
-    let start = (u32::from(pivot) + 1).max(FIRST_END);
-    let begun = level(mean, excess, start, begun)?;
-    let Some(ended) = finish(mean, excess, start, begun)? else {
+    let Some(ended) = all_weights(alloc, mean, excess, pivot)? else {
         return Ok(Weights::Wide);
     };
     let Ended { list, rest } = ended;

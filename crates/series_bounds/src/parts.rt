@@ -4,34 +4,34 @@ ghost use Rattle.std.specs.Prelude.{◌≡◌, ℕ, ◌+◌, ◌*◌, ◌/◌, �
 ghost use Rattle.std.specs.Int.{div_ceil};
 ghost use Rattle.series_bounds.specs.Ratios.{AreParts};
 
-use crate::inverses::INVERSES;
-use quotients::{quotient_near, short_quotient_near};
+use quotients::{quotient_near, short_inverse, short_quotient_near};
 
 /// How often a divisor goes into a number, and what is left.
 #[derive(Clone, Copy, Drop)]
 pub(crate) struct Parts {
-    pub(crate) whole: u128,
+    pub(crate) whole: u64,
     pub(crate) rest: u64,
 }
 
 impl Parts {
     /// The parts of `num` by `den`. Where `guess` is the whole part, or one less, no division is made.
     pub(crate) fn near(num: u128, den: u64, guess: u64) -> Parts
-        requires { 0 < den }
+        requires divisor { 0 < den }
+        requires room { num < 2 ^ 63 * den }
         ensures { AreParts num den result }
     {
         let whole = quotient_near(num, den, guess);
         let rest = num - whole * u128::from(den);
         Parts {
-            whole,
+            whole: whole as u64,
             rest: rest as u64,
         }
     }
 
     /// The parts of a sum, from those of its terms.
     pub(crate) fn plus(self, step: Parts, den: u64) -> Parts
-        requires whole_room { self.whole < 2 ^ 126 }
-        requires step_room { step.whole < 2 ^ 126 }
+        requires whole_room { self.whole < 2 ^ 63 }
+        requires step_room { step.whole < 2 ^ 63 }
         requires rest { self.rest < den }
         requires step_rest { step.rest < den }
         ensures { (n k : ℕ) → AreParts n den self → AreParts k den step → AreParts (n + k) den result }
@@ -53,13 +53,13 @@ impl Parts {
 
     /// The quotient, rounded up.
     pub(crate) fn ceil(self) -> u128
-        requires { self.whole < 2 ^ 126 }
+        requires { self.whole < 2 ^ 63 }
         ensures { (n d : ℕ) → AreParts n d self → result ≡ div_ceil n d }
     {
         if self.rest == 0 {
-            self.whole
+            u128::from(self.whole)
         } else {
-            self.whole + 1
+            u128::from(self.whole + 1)
         }
     }
 
@@ -68,30 +68,29 @@ impl Parts {
         requires { 0 < x }
         ensures { (n d : ℕ) → AreParts n d self → result ≡ n / (d * x) }
     {
-        over(self.whole, x)
+        u128::from(over(self.whole, x))
     }
 
     /// The number over `x` times the divisor, rounded up.
     pub(crate) fn ceil_over(self, x: u32) -> u128
         requires from { 0 < x }
-        requires room { self.whole < 2 ^ 126 }
+        requires room { self.whole < 2 ^ 63 }
         ensures { (n d : ℕ) → AreParts n d self → result ≡ div_ceil n (d * x) }
     {
         let more = if self.rest == 0 { 0 } else { 1 };
-        over(self.whole + more + u128::from(x - 1), x)
+        u128::from(over(self.whole + more + u64::from(x - 1), x))
     }
 }
 
 /// `num / x`, rounded down.
-fn over(num: u128, x: u32) -> u128
+fn over(num: u64, x: u32) -> u64
     requires { 0 < x }
     ensures { result ≡ num / x }
 {
-    if num < 1 << 64 && x < 256 {
-        let num = num as u64;
-        let guess = (u128::from(num) * u128::from(INVERSES[x as usize])) >> 64;
-        u128::from(short_quotient_near(num, u64::from(x), guess as u64))
+    if x < 256 {
+        let guess = (u128::from(num) * u128::from(short_inverse(x as u8))) >> 64;
+        short_quotient_near(num, u64::from(x), guess as u64)
     } else {
-        num / u128::from(x)
+        num / u64::from(x)
     }
 }

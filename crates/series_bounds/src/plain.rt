@@ -3,14 +3,15 @@
 //! A weight is walked to from the pivot anew, so this is slow. It serves the few who can't wait for memory, and it is the plain
 //! form beside which the fast one can be read and tried.
 
-ghost use Rattle.std.specs.Prelude.{◌≡◌, ◌+◌, ◌-◌, ◌*◌, ◌^◌, ◌<◌, ◌≤◌, true, IfSome, IfNone};
+ghost use Rattle.std.specs.Prelude.{◌≡◌, ◌+◌, ◌-◌, ◌*◌, ◌^◌, ◌<◌, ◌≤◌, true, IfOk, IfSome, IfNone};
 ghost use Rattle.fixed_interval.specs.Ends.{IsWithinLimit};
 ghost use Rattle.series_bounds.specs.Profile.{ratio_ends, back_ends, far_ratio, pivot_at, weight_ends, is_wide};
-ghost use Rattle.series_bounds.specs.Walk.{EndsAt, GoesOn, SumsTo};
+ghost use Rattle.series_bounds.specs.Walk.{EndsAt, GoesOn, SumsTo, ToEnd, ToPivot};
 ghost use Rattle.series_bounds.specs.Answer.{IsSum};
 
-use crate::{FIRST_END, LAST_END, most_weight, pivot_of, rest_at, times, unit};
+use crate::{Ended, FIRST_END, LAST_END, most_weight, pivot_of, rest_at, times, unit};
 use fixed_interval::Iv;
+use spares_io::NoMemory;
 
 /// The ratio of the weight at `x` to the one before it.
 fn ratio<const F: u32>(mean: Iv<F>, excess: Iv<F>, x: u32) -> Iv<F>
@@ -153,6 +154,38 @@ fn sum_past<const F: u32>(mean: Iv<F>, excess: Iv<F>, pivot: u16, low: Iv<F>) ->
         }
     }
     None
+}
+
+/// All weights from those to the pivot on, with what the ones past them come to at most, and None where a weight passes 8 or the
+/// rest needn't fall: by the definitions' divisions, for an excess whose ends are far apart.
+pub(crate) fn risen_plain<const F: u32>(
+    mean: Iv<F>,
+    excess: Iv<F>,
+    pivot: u16,
+    low: Vec<Iv<F>>,
+) -> Result<Option<Ended<F>>, NoMemory>
+    requires mean_top { IsWithinLimit F mean }
+    requires excess_top { excess.hi ≤ 2048 * 2 ^ F }
+    requires depth { pivot ≤ 256 }
+    requires place { pivot ≡ pivot_at F mean excess }
+    requires low { ToPivot F mean excess low.items }
+    ensures wide { IfOk result (λ found. IfNone found (is_wide F mean.entry excess.entry ≡ true)) }
+    ensures known { IfOk result (λ found. IfSome found (λ e. ToEnd F mean.entry excess.entry e.list.items e.rest)) }
+{
+    let most = most_weight::<F>();
+    let mut list = low;
+    let mut last = Iv::exact(1);
+    for x in u32::from(pivot) + 1..LAST_END + 1 {
+        last = times(last, ratio(mean, excess, x));
+        if last.hi() > most {
+            return Ok(None);
+        }
+        list.push(last)?;
+        if let Some(rest) = rest_past(mean, excess, last.hi(), x) {
+            return Ok(Some(Ended { list, rest }));
+        }
+    }
+    Ok(None)
 }
 
 /// The sum that `weights` answers with these arguments, without memory, and None where its answer is `Wide`.

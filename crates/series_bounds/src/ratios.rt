@@ -10,7 +10,8 @@ use crate::unit;
 use fixed_interval::Iv;
 use quotients::{guess_by, inverse_beside, inverse_of};
 
-/// A ratio of weights but for its division by the index, and what the next index adds to it.
+/// A ratio of weights but for its division by the index, and what the next index adds to it. The parts have 64 bits where the
+/// ends of the excess are at most 1 apart.
 #[derive(Drop)]
 pub(crate) struct Ratios<const F: u32> {
     low: Parts,
@@ -25,8 +26,8 @@ pub(crate) struct Ratios<const F: u32> {
 /// The parts of so many whole ones, given in units of `2^-F`, by `den` units, of which `inverse` is the inverse.
 fn parts_of<const F: u32>(num: u128, den: u64, inverse: u64) -> Parts
     requires scale { InScale F }
-    requires room { num < 4194304 * 2 ^ F }
     requires divisor { 0 < den }
+    requires room { num ≤ 1281 * den }
     ensures { AreParts (num * 2 ^ F) den result }
 {
     let near = num.min(u128::from(u64::MAX)) as u64;
@@ -56,6 +57,7 @@ impl<const F: u32> Ratios<F> {
     pub(crate) fn at(mean: Iv<F>, excess: Iv<F>, x: u32) -> Ratios<F>
         requires mean_top { IsWithinLimit F mean }
         requires excess_top { excess.hi ≤ 2048 * 2 ^ F }
+        requires near { excess.hi ≤ 2 ^ F + excess.lo }
         requires from { 0 < x }
         requires depth { x ≤ 1025 }
         ensures { AreRatios F mean.entry excess.entry x result }
@@ -70,6 +72,7 @@ impl<const F: u32> Ratios<F> {
     pub(crate) fn again(&self, mean: Iv<F>, excess: Iv<F>, x: u32) -> Ratios<F>
         requires mean_top { IsWithinLimit F mean }
         requires excess_top { excess.hi ≤ 2048 * 2 ^ F }
+        requires near { excess.hi ≤ 2 ^ F + excess.lo }
         requires from { 0 < x }
         requires depth { x ≤ 1025 }
         ensures { AreRatios F mean.entry excess.entry x result }
@@ -87,6 +90,7 @@ impl<const F: u32> Ratios<F> {
     ) -> Ratios<F>
         requires mean_top { IsWithinLimit F mean }
         requires excess_top { excess.hi ≤ 2048 * 2 ^ F }
+        requires near { excess.hi ≤ 2 ^ F + excess.lo }
         requires from { 0 < x }
         requires depth { x ≤ 1025 }
         ensures { AreRatios F mean.entry excess.entry x result }
@@ -117,6 +121,7 @@ impl<const F: u32> Ratios<F> {
     pub(crate) fn take(&mut self, mean: Iv<F>, excess: Iv<F>, x: u32) -> Iv<F>
         requires mean_top { IsWithinLimit F mean }
         requires excess_top { excess.hi ≤ 2048 * 2 ^ F }
+        requires near { excess.hi ≤ 2 ^ F + excess.lo }
         requires from { 0 < x }
         requires depth { x ≤ 1025 }
         requires at { AreRatios F mean excess x self.old }

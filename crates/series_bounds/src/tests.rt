@@ -1,6 +1,7 @@
 //! The weights are those of a program that was written apart from this one.
 
-ghost use Rattle.fixed_interval.specs.Ends.{InScale};
+ghost use Rattle.std.specs.Prelude.{◌<◌, ◌≤◌, ◌*◌, ◌^◌};
+ghost use Rattle.fixed_interval.specs.Ends.{InScale, IsWithinLimit};
 
 use super::*;
 use std::process::Abort;
@@ -8,7 +9,7 @@ use std::test::Fail;
 
 // A row has the ends of a mean and of an excess, and then the pivot, the last index and the ends of the sum, or nothing
 // where the weights are wide.
-const AT_32: [&str; 7] = [
+const AT_32: [&str; 8] = [
     "2147483648 2147483648 0 0 0 63 7081203934 7081203997",
     "4294967296 4294967297 0 3 0 63 11674931536 11674931621",
     "8589934592 8589934592 4294967296 4294967299 0 63 17179869105 17179869310",
@@ -16,9 +17,10 @@ const AT_32: [&str; 7] = [
     "858993459200 858993459209 0 5 199 289 152316075332 152316081121",
     "2147483648 2147483648 339302416384 339302416584 0 1024 4415735146 4415802317",
     "4294967296 4294967296 0 12884901888",
+    "1 1 0 4299262270 0 63 4294967296 4294967427",
 ];
 
-const AT_48: [&str; 9] = [
+const AT_48: [&str; 10] = [
     "140737488355328 140737488355328 0 0 0 63 464073781272674 464073781272740",
     "281474976710656 281474976710657 0 3 0 63 765128314358489 765128314358572",
     "562949953421312 562949953421312 281474976710656 281474976710659 0 63 1125899906842513 1125899906842749",
@@ -28,6 +30,7 @@ const AT_48: [&str; 9] = [
     "281474976710656 281474976710656 0 844424930131968",
     "72057594037927936 72057594037927936 0 0 256 386 11292525515796219 11292525515798135",
     "1 1 576460752303423488 576460752303423488 0 1024 281474976710656 281474976713729",
+    "1 1 0 281756451687373 0 63 281474976710656 281474976710787",
 ];
 
 const AT_52: [&str; 7] = [
@@ -49,6 +52,26 @@ fn numbers(alloc: Global, row: &str) -> Result<Vec<u128>, Fail> {
     Ok(list)
 }
 
+/// The first weights and the sum of all are those that are walked to one by one.
+fn begins_plainly<const F: u32>(
+    rt: &impl Abort,
+    alloc: Global,
+    mean: Iv<F>,
+    excess: Iv<F>,
+) -> Result<(), Fail>
+    requires positive { 0 < mean.lo }
+    requires mean_top { IsWithinLimit F mean }
+    requires excess_top { excess.hi ≤ 2048 * 2 ^ F }
+{
+    if let Some(begun) = heads::first_weights(alloc, mean, excess, 20)? {
+        assert!(rt; plain::sum_of_weights(mean, excess) == Some(begun.sum));
+        for (x, weight) in begun.list.as_slice().iter().enumerate().take(20) {
+            assert!(rt; plain::weight_at(mean, excess, x as u32) == Some(*weight));
+        }
+    }
+    Ok(())
+}
+
 fn meets<const F: u32>(rt: &impl Abort, alloc: Global, rows: &[&str]) -> Result<(), Fail>
     requires { InScale F }
 {
@@ -62,6 +85,7 @@ fn meets<const F: u32>(rt: &impl Abort, alloc: Global, rows: &[&str]) -> Result<
         let mean = Iv::<F>::of_ends(row[0], row[1]);
         let excess = Iv::<F>::of_ends(row[2], row[3]);
         assert!(rt; mean.lo() > 0 && mean.hi() <= most_mean && excess.hi() <= most_excess);
+        begins_plainly(rt, alloc, mean, excess)?;
         let mut found = Vec::new(alloc);
         if let Weights::Known { pivot, list, sum } = weights(alloc, mean, excess)? {
             for (x, weight) in list.as_slice().iter().enumerate().take(64) {

@@ -8,8 +8,7 @@ use Rattle.series_bounds.proofs.ratios.Ratios.take.Goals as goal
 pub ceil_over-requires-clause-room : goal.ceil_over-requires-clause-room
 ceil_over-requires-clause-room g c =
     let s : InScale g.row.F = search rules in
-    whole_room g.row.F c.args.mean.hi c.args.excess.hi c.args.x (1 * 2 ^ g.row.F + c.args.excess.lo) c.args.self.now.high s.1 c.requires.mean_top c.requires.excess_top c.requires.depth
-    (omega (arith, pow_pos g.row.F)) c.requires.at.high
+    whole_room g.row.F c.args.mean.hi c.args.excess.hi c.args.x (1 * 2 ^ g.row.F + c.args.excess.lo) c.args.self.now.high s.1 c.requires.mean_top (omega arith) (omega (arith, c.requires.near)) c.requires.depth c.requires.at.high
 
 pub of_ends-ratio-requires : goal.of_ends-ratio-requires
 of_ends-ratio-requires g c =
@@ -26,25 +25,23 @@ plus-self-requires-clause-whole_room g c =
     let s : InScale g.row.F = search rules in
     let v : IsInterval g.row.F c.args.mean = search rules in
     let w : IsInterval g.row.F c.args.excess = search rules in
-    whole_room g.row.F c.args.mean.lo c.args.excess.lo c.args.x (1 * 2 ^ g.row.F + c.args.excess.hi) c.args.self.now.low s.1 (omega (arith, v.ordered, c.requires.mean_top)) (omega (arith, w.ordered, c.requires.excess_top)) c.requires.depth
-    (omega (arith, pow_pos g.row.F)) c.requires.at.low
+    whole_room g.row.F c.args.mean.lo c.args.excess.lo c.args.x (1 * 2 ^ g.row.F + c.args.excess.hi) c.args.self.now.low s.1 (omega (arith, v.ordered, c.requires.mean_top)) (omega arith) (omega (arith, w.ordered)) c.requires.depth c.requires.at.low
 
 pub plus-self-requires-clause-step_room : goal.plus-self-requires-clause-step_room
 plus-self-requires-clause-step_room g c =
     let s : InScale g.row.F = search rules in
     let w : IsInterval g.row.F c.args.excess = search rules in
-    step_room g.row.F c.args.excess.lo (1 * 2 ^ g.row.F + c.args.excess.hi) c.args.self.now.low_step s.1 (omega (arith, w.ordered, c.requires.excess_top)) (omega (arith, pow_pos g.row.F)) c.requires.at.low_step
+    step_room g.row.F c.args.excess.lo (1 * 2 ^ g.row.F + c.args.excess.hi) c.args.self.now.low_step s.1 (omega (arith, pow_pos g.row.F)) (omega (arith, w.ordered)) c.requires.at.low_step
 
 pub plus-self-requires-2-clause-whole_room : goal.plus-self-requires-2-clause-whole_room
 plus-self-requires-2-clause-whole_room g c =
     let s : InScale g.row.F = search rules in
-    whole_room g.row.F c.args.mean.hi c.args.excess.hi c.args.x (1 * 2 ^ g.row.F + c.args.excess.lo) c.args.self.now.high s.1 c.requires.mean_top c.requires.excess_top c.requires.depth
-    (omega (arith, pow_pos g.row.F)) c.requires.at.high
+    whole_room g.row.F c.args.mean.hi c.args.excess.hi c.args.x (1 * 2 ^ g.row.F + c.args.excess.lo) c.args.self.now.high s.1 c.requires.mean_top (omega arith) (omega (arith, c.requires.near)) c.requires.depth c.requires.at.high
 
 pub plus-self-requires-2-clause-step_room : goal.plus-self-requires-2-clause-step_room
 plus-self-requires-2-clause-step_room g c =
     let s : InScale g.row.F = search rules in
-    step_room g.row.F c.args.excess.hi (1 * 2 ^ g.row.F + c.args.excess.lo) c.args.self.now.high_step s.1 c.requires.excess_top (omega (arith, pow_pos g.row.F)) c.requires.at.high_step
+    step_room g.row.F c.args.excess.hi (1 * 2 ^ g.row.F + c.args.excess.lo) c.args.self.now.high_step s.1 (omega (arith, pow_pos g.row.F)) (omega (arith, c.requires.near)) c.requires.at.high_step
 
 pub returns-clause-next : goal.returns-clause-next
 returns-clause-next g c =

@@ -1,6 +1,6 @@
 use Rattle.std.proofs.Common.{◌-◌, ◌^◌, ◌*◌, ◌≡◌, ap, ◌∙◌, arith, lit<, rules, pow_pos}
 use Rattle.fixed_interval.specs.Ends.{Ends, InScale, IsInterval, ends_add, ends_times}
-use Rattle.series_bounds.proofs.Ranges.{unit_most, product_most, above_most}
+use Rattle.series_bounds.proofs.Ranges.{unit_most, product_most, part_most}
 use Rattle.series_bounds.proofs.Carried.{same_parts}
 use Rattle.series_bounds.proofs.ratios.Ratios.with_inverses.Goals as goal
 
@@ -8,6 +8,12 @@ pub times-requires : goal.times-requires
 times-requires g c =
     let s : InScale g.row.F = search rules in
     (lit< tt, omega (arith, unit_most g.row.F s.1, product_most (2 ^ g.row.F) c.args.excess.hi (c.args.x - 1) c.requires.excess_top (omega (arith, c.requires.depth))))
+
+pub add-above-requires : goal.add-above-requires
+add-above-requires g c =
+    let s : InScale g.row.F = search rules in
+    let t : c.times.result.hi ≡ c.args.excess.hi * (c.args.x - 1) = ap (λ (z : Ends). z.hi) c.times.ensures.ends in
+    (lit< tt, omega (arith, t, c.requires.mean_top, unit_most g.row.F s.1, product_most (2 ^ g.row.F) c.args.excess.hi (c.args.x - 1) c.requires.excess_top (omega (arith, c.requires.depth))))
 
 pub parts_of-requires : goal.parts_of-requires
 parts_of-requires g c =
@@ -19,7 +25,7 @@ parts_of-requires g c =
     let al = ap (λ (z : Ends). z.lo) a in
     record {
       scale = s;
-      room = omega (arith, c.lo.ensures.end, al, above_most (2 ^ g.row.F) c.args.mean.lo c.args.excess.lo c.args.x (pow_pos g.row.F) (omega (arith, v.ordered, c.requires.mean_top)) (omega (arith, w.ordered, c.requires.excess_top)) c.requires.depth);
+      room = omega (arith, c.lo.ensures.end, al, part_most (2 ^ g.row.F) c.args.mean.lo c.args.excess.lo c.args.x c.divisors_of-by.result.low (omega (arith, v.ordered, c.requires.mean_top)) (omega (arith, c.divisors_of-by.ensures.low)) (omega (arith, c.divisors_of-by.ensures.low, w.ordered)) c.requires.depth);
       divisor = omega (arith, c.divisors_of-by.ensures.low, pow_pos g.row.F);
     }
 
@@ -31,7 +37,7 @@ parts_of-requires-2 g c =
     let ah = ap (λ (z : Ends). z.hi) a in
     record {
       scale = s;
-      room = omega (arith, c.hi.ensures.end, ah, above_most (2 ^ g.row.F) c.args.mean.hi c.args.excess.hi c.args.x (pow_pos g.row.F) c.requires.mean_top c.requires.excess_top c.requires.depth);
+      room = omega (arith, c.hi.ensures.end, ah, part_most (2 ^ g.row.F) c.args.mean.hi c.args.excess.hi c.args.x c.divisors_of-by.result.high c.requires.mean_top (omega (arith, c.divisors_of-by.ensures.high)) (omega (arith, c.divisors_of-by.ensures.high, c.requires.near)) c.requires.depth);
       divisor = omega (arith, c.divisors_of-by.ensures.high, pow_pos g.row.F);
     }
 
@@ -41,7 +47,7 @@ parts_of-requires-3 g c =
     let w : IsInterval g.row.F c.args.excess = search rules in
     record {
       scale = s;
-      room = omega (arith, c.lo-2.ensures.end, w.ordered, c.requires.excess_top, pow_pos g.row.F);
+      room = omega (arith, c.lo-2.ensures.end, w.ordered, c.divisors_of-by.ensures.low);
       divisor = omega (arith, c.divisors_of-by.ensures.low, pow_pos g.row.F);
     }
 
@@ -50,7 +56,7 @@ parts_of-requires-4 g c =
     let s : InScale g.row.F = search rules in
     record {
       scale = s;
-      room = omega (arith, c.hi-2.ensures.end, c.requires.excess_top, pow_pos g.row.F);
+      room = omega (arith, c.hi-2.ensures.end, c.requires.near, c.divisors_of-by.ensures.high);
       divisor = omega (arith, c.divisors_of-by.ensures.high, pow_pos g.row.F);
     }
 

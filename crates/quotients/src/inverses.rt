@@ -1,4 +1,4 @@
-//! The inverses of the indices.
+//! The inverses of small numbers.
 
 /// `2^64 / x` for each `x` from 2 on, rounded down. Quotients are guessed by them, and nothing rests on them.
 pub(crate) const INVERSES: [u64; 256] = [
