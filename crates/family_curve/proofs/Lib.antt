@@ -17,6 +17,8 @@ pub mod Single
 pub mod Products
 pub mod Distinct
 pub mod Tabled
+pub mod Spotted
 pub mod Walks
 pub mod Bases
 pub mod Stands
+pub mod Grown

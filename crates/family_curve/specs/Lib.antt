@@ -5,7 +5,9 @@ pub mod Separation
 pub mod Laws
 pub mod Boxes
 pub mod Inputs
+pub mod Spots
 pub mod Turned
 pub mod Local
 pub mod Tabled
 pub mod Walks
+pub mod Joining

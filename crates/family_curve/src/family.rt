@@ -1,7 +1,8 @@
 //! A family with the bounds of its vectors.
 
-ghost use Rattle.std.specs.Prelude.{◌≡◌, ◌+◌, ◌*◌, ◌^◌, ◌<◌, ◌≤◌, IfOk, length, map, take, drop, get_or, []};
+ghost use Rattle.std.specs.Prelude.{◌≡◌, ◌+◌, ◌*◌, ◌^◌, ◌<◌, ◌≤◌, IfOk, length, map, take, drop, get_or, [], ◌∷◌};
 ghost use Rattle.fixed_interval.specs.Ends.{IsWithinLimit};
+ghost use Rattle.spares_input.specs.Frames.{part_at};
 ghost use Rattle.fleet_model.specs.Laws.{IsBase};
 ghost use Rattle.fleet_model.specs.Fleet.{family};
 ghost use Rattle.fleet_model.specs.Rows.{systems, per_system, weight};
@@ -63,6 +64,16 @@ pub(crate) fn shops_of(stocks: &[u8]) -> &[u8]
     ensures { result.now ≡ drop 1 stocks.now }
 {
     &stocks[1..]
+}
+
+/// The stocks of a site: that of the line unit and then those of its shop units.
+pub(crate) fn joined(alloc: Global, line: u8, shops: &[u8]) -> Result<Vec<u8>, NoMemory>
+    ensures { IfOk result (λ v. v.items ≡ line ∷ shops.now) }
+{
+    let mut stocks = Vec::with_capacity(alloc, shops.len() + 1)?;
+    stocks.push(line)?;
+    stocks.extend_from_slice(shops)?;
+    Ok(stocks)
 }
 
 impl<'a> Family<'a> {
@@ -202,6 +213,14 @@ impl<'a> Family<'a> {
             cost += u64::from(stocks[i] - held[i]) * each;
         }
         cost
+    }
+
+    /// What one line unit costs.
+    pub(crate) fn line_cost(&self) -> u64
+        ensures { result ≡ (part_at self.now.case.parts self.now.line).cost }
+    {
+        let _sites = self.case.site_count();
+        u64::from(self.case.part(self.line).cost)
     }
 
     /// What backorders at a base, of at most 256, score.

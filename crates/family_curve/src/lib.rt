@@ -18,19 +18,20 @@ ghost use Rattle.family_curve.specs.Counts.{most_tables, tables_between, tables_
 ghost use Rattle.family_curve.specs.Laws.{Separates};
 ghost use Rattle.family_curve.specs.Local.{ChangesAreLocal, FamiliesAreLocal};
 
-use crate::curves::family_curve;
 use crate::family::Family;
+use crate::joining::family_curve;
 use demand_rates::kinds::Rates;
 use hull::{Curve, Score};
 use spares_input::{Case, PartId};
 use spares_io::NoMemory;
 use std::alloc::Global;
 
+mod base;
 pub mod bounds;
 mod counts;
-mod curves;
 mod depot;
 mod family;
+mod joining;
 mod laws;
 mod places;
 mod vectors;

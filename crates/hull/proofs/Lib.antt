@@ -4,6 +4,8 @@ pub mod Chains
 pub mod Steps_of
 pub mod Judged
 pub mod Runs
+pub mod Mapped
+pub mod Joined
 pub mod Stops
 pub mod Sums
 pub mod Shapes

@@ -42,12 +42,12 @@ pub costs_rise : (xs : List Point) → IsNonDecreasingBy (λ v. v.cost) xs → C
 costs_rise [] h = tt
 costs_rise (x ∷ xs) h = (head_first x xs h, costs_rise xs (λ i j d a b. h (suc i) (suc j) d (omega arith) (omega arith)))
 
-pub scan_begins : (points : List Point) → IsNonDecreasingBy (λ v. v.cost) points → ((v : Point) → Among v points → InRange v) → Scanned points [] points
-scan_begins points s r = record {
+pub begins_rising : (points : List Point) → CostsRise points → ((v : Point) → Among v points → InRange v) → Scanned points [] points
+begins_rising points s r = record {
   chain = tt;
   stands = stand_self points;
   order = λ v w m n. absurd m;
-  rises = costs_rise points s;
+  rises = s;
   ranges = r;
 }
 
@@ -84,6 +84,14 @@ module _ (points stack : List Point) (x : Point) (rest : List Point) (s : Scanne
       ];
     }
 
+curve_of_stands : (points made : List Point) → StandFor points made → IsChain made → IsCurve points made
+curve_of_stands points made s c = stand_for points made made s (chain_is_curve made c)
+
+-- a list that isn't empty has a member
+place_at_head : (xs : List Point) → 0 < length xs → (u : Point) × Among u xs
+place_at_head [] h = absurd (let l : 0 < 0 = h in omega arith)
+place_at_head (x ∷ xs) h = (x, inl refl)
+
 pub among_at : (xs : List Point) (k : ℕ) (d : Point) → k < length xs → Among (get_or xs k d) xs
 among_at [] k d h = absurd (let l : k < 0 = h in omega arith)
 among_at (x ∷ xs) zero d h = inl refl
@@ -96,32 +104,31 @@ among_permuted xs ys h w m =
     let all : (k : ℕ) (d : Point) → k < length ys → Among (get_or ys k d) xs = All-permutation (λ y. Among y xs) xs ys h (among_at xs) in
     subst (λ y. Among y xs) r.is (all r.at w r.below)
 
-module _ (a b all : List Point) (perm : IsPermutation (a ++ b) all) (sa : IsShape a) (sb : IsShape b) where
-  pub merged_ranges : (v : Point) → Among v all → InRange v
-  merged_ranges v m = elim (among_either v a b (among_permuted (a ++ b) all perm v m)) [ inl x ↦ sa.ranges v x | inr y ↦ sb.ranges v y ]
+-- points that are made of a shape and further points
+module _ (a b made : List Point) (sa : IsShape a) (ranges : (v : Point) → Among v b → InRange v) (chain : IsChain made) (stands : StandFor (a ++ b) made) where
+  pub added_ranges : (v : Point) → Among v (a ++ b) → InRange v
+  added_ranges v m = elim (among_either v a b m) [ inl x ↦ sa.ranges v x | inr y ↦ ranges v y ]
 
-  module _ (made : List Point) (chain : IsChain made) (stands : StandFor all made) where
-    both_stand : StandFor (a ++ b) made
-    both_stand = stand_trans (a ++ b) all made
-        (stand_same (a ++ b) all (λ v m. among_permuted all (a ++ b) (IsPermutation-sym (a ++ b) all perm) v m) (λ v m. among_permuted (a ++ b) all perm v m)) stands
+  pub added_curve : IsCurve (a ++ b) made
+  added_curve = curve_of_stands (a ++ b) made stands chain
 
-    pub merged_curve : IsCurve (a ++ b) made
-    merged_curve = stand_for (a ++ b) made made both_stand (chain_is_curve made chain)
+  of_either : (v : Point) → Among v made → Among v a ⊎ Among v b
+  of_either v m = among_either v a b (stands.among v m)
 
-    of_either : (v : Point) → Among v made → Among v a ⊎ Among v b
-    of_either v m = among_either v a b (both_stand.among v m)
-
-    pub merged_shape : ((v w : Point) → Among v a → Among w b → length v.stocks ≡ length w.stocks) → 0 < length made → length made ≤ 2 ^ 31 → IsShape made
-    merged_shape widths some few = record {
-      some = some;
-      few = few;
-      chain = chain;
-      ranges = λ v m. merged_ranges v (stands.among v m);
-      widths = λ v w m n. elim (of_either v m) [
-        | inl x ↦ elim (of_either w n) [ inl y ↦ sa.widths v w x y | inr y ↦ widths v w x y ]
-        | inr x ↦ elim (of_either w n) [ inl y ↦ sym (widths w v y x) | inr y ↦ sb.widths v w x y ]
-      ];
-    }
+  pub added_shape : ((v w : Point) → Among v a → Among w b → length v.stocks ≡ length w.stocks) → 0 < length made → length made ≤ 2 ^ 31 → IsShape made
+  added_shape widths some few = record {
+    some = some;
+    few = few;
+    chain = chain;
+    ranges = λ v m. added_ranges v (stands.among v m);
+    widths = λ v w m n. same_width v w (of_either v m) (of_either w n) (place_at_head a sa.some);
+  }
+    where
+      same_width : (v w : Point) → Among v a ⊎ Among v b → Among w a ⊎ Among w b → (u : Point) × Among u a → length v.stocks ≡ length w.stocks
+      same_width v w x y u = to_head v x ∙ sym (to_head w y)
+        where
+          to_head : (z : Point) → Among z a ⊎ Among z b → length z.stocks ≡ length u.0.stocks
+          to_head z k = elim k [ inl i ↦ sa.widths z u.0 i u.1 | inr j ↦ sym (widths u.0 z u.1 j) ]
 
 -- a point that stands at a place of a list is in it
 pub among_read : (xs : List Point) (k : ℕ) (w : Point) → k < length xs → w ≡ get_or xs k w → Among w xs
@@ -169,4 +176,4 @@ permuted_stands points other made perm s =
     stand_trans points other made (stand_same points other (λ v m. among_permuted other points (IsPermutation-sym points other perm) v m) (λ v m. among_permuted points other perm v m)) s
 
 pub curve_made : (points made : List Point) → StandFor points made → IsChain made → IsCurve points made
-curve_made points made s c = stand_for points made made s (chain_is_curve made c)
+curve_made points made s c = curve_of_stands points made s c

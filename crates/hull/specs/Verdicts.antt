@@ -1,6 +1,6 @@
 -- What a verdict on the last of some points says.
 -- No promise rests on this file: it speaks of the code's own steps.
-use Rattle.std.specs.Prelude.{◌≡◌, ℕ, ◌-◌, ◌<◌, List, [], ◌∷◌, ◌++◌, length, take}
+use Rattle.std.specs.Prelude.{◌≡◌, ℕ, ◌-◌, ◌<◌, ◌≤◌, ◌⊎◌, List, [], ◌∷◌, ◌++◌, length, take}
 use Rattle.hull.specs.declared.point.Point.{Point}
 use Rattle.hull.specs.declared.scan.Verdict.{Verdict}
 use Rattle.hull.specs.declared.scan.Verdict.TheVariants.{Keep, Drop, Refuse}
@@ -24,3 +24,13 @@ LeadsTo (v ∷ ls) [] t = ⊥
 LeadsTo (v ∷ ls) (u ∷ rs) Left = (0 < length ls) × Blocks (v ∷ ls) v (u ∷ rs) rs
 LeadsTo (v ∷ ls) (u ∷ rs) Right = (0 < length rs) × Blocks (u ∷ rs) u (v ∷ ls) ls
 LeadsTo (v ∷ ls) (u ∷ rs) End = (length ls ≡ 0) × (length rs ≡ 0)
+
+-- x is the first of one of two lists, and costs no more than the first of the other
+abbrev pub IsNoDearer : {X : Type 0} → (X → ℕ) → X → List X → Type 0
+IsNoDearer cost x [] = Unit {0}
+IsNoDearer cost x (y ∷ ys) = cost x ≤ cost y
+
+abbrev pub TakesCheaper : {X : Type 0} → (X → ℕ) → X → List X → List X → List X → List X → Type 0
+TakesCheaper cost x left right left_rest right_rest =
+    ((left ≡ x ∷ left_rest) × (right ≡ right_rest) × IsNoDearer cost x right)
+    ⊎ ((right ≡ x ∷ right_rest) × (left ≡ left_rest) × IsNoDearer cost x left)

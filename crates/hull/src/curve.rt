@@ -4,7 +4,8 @@ ghost use Rattle.std.specs.Prelude.{◌≡◌, ℕ, ◌+◌, ◌^◌, ◌<◌, �
 ghost use Rattle.hull.specs.declared.point.Point.{Point};
 ghost use Rattle.hull.specs.Curves.{Among, InRange, HaveOneWidth, IsCurve, IsShape, IsBestAt, IsLeastAt, point_at, plus, sums};
 
-use crate::scan::scan;
+use crate::joins::{chain_of, chain_of_both};
+use crate::scan::in_order;
 use crate::walk::path;
 use crate::{Point, Price};
 use spares_io::NoMemory;
@@ -46,7 +47,7 @@ impl Curve {
 
     /// The curve of one point or more, whose stocks have one length. Of points with the same cost and the same lower end it
     /// keeps the one whose stocks are first in the order of a dictionary.
-    pub fn of(alloc: Global, mut points: Vec<Point>) -> Result<Curve, NoMemory>
+    pub fn of(alloc: Global, points: Vec<Point>) -> Result<Curve, NoMemory>
         requires some { 0 < length points.items }
         requires few { length points.items ≤ 2 ^ 31 }
         requires ranges { (v : Point) → Among v points.items → InRange v }
@@ -56,8 +57,7 @@ impl Curve {
     {
         let count = points.len();
         let room = Vec::with_capacity(alloc, count)?;
-        points.sort_unstable_by_key(|v| v.cost);
-        let vertices = scan(points, room);
+        let vertices = chain_of(in_order(points), room);
         Ok(Curve { vertices })
     }
 
@@ -74,28 +74,42 @@ impl Curve {
         ensures err { OnErr result (self.new ≡ self.old) }
     {
         let alloc = *self.vertices.allocator();
-        let one = Curve::one(alloc, point)?;
-        self.merge(one)
+        let mut points = Vec::with_capacity(alloc, 1)?;
+        points.push(point)?;
+        self.add_points(points)
+    }
+
+    /// Makes this the curve of its points and further ones, whose stocks have the curve's length. Ties are broken as in
+    /// [`Curve::add_point`].
+    ///
+    /// After `NoMemory` the curve is as before.
+    pub fn add_points(&mut self, points: Vec<Point>) -> Result<(), NoMemory>
+        requires few { length self.old + length points.items ≤ 2 ^ 31 }
+        requires ranges { (v : Point) → Among v points.items → InRange v }
+        requires widths { (v w : Point) → Among v self.old → Among w points.items → length v.stocks ≡ length w.stocks }
+        ensures ok { OnOk result (IsCurve (self.old ++ points.items) self.new) }
+        ensures few { OnOk result (length self.new ≤ length self.old + length points.items) }
+        ensures err { OnErr result (self.new ≡ self.old) }
+    {
+        let alloc = *self.vertices.allocator();
+        let count = self.vertices.len() + points.len();
+        let room = Vec::with_capacity(alloc, count)?;
+        let vertices = mem::replace(&mut self.vertices, Vec::new(alloc));
+        self.vertices = chain_of_both(vertices, in_order(points), room);
+        Ok(())
     }
 
     /// Makes this the curve of the points of both, whose stocks have one length. Ties are broken as in [`Curve::add_point`].
     ///
     /// After `NoMemory` the curve is as before.
-    pub fn merge(&mut self, mut other: Curve) -> Result<(), NoMemory>
+    pub fn merge(&mut self, other: Curve) -> Result<(), NoMemory>
         requires few { length self.old + length other ≤ 2 ^ 31 }
         requires widths { (v w : Point) → Among v self.old → Among w other → length v.stocks ≡ length w.stocks }
         ensures ok { OnOk result (IsCurve (self.old ++ other) self.new) }
         ensures few { OnOk result (length self.new ≤ length self.old + length other) }
         ensures err { OnErr result (self.new ≡ self.old) }
     {
-        let alloc = *self.vertices.allocator();
-        let count = self.vertices.len() + other.vertices.len();
-        let room = Vec::with_capacity(alloc, count)?;
-        self.vertices.append(&mut other.vertices)?;
-        self.vertices.sort_unstable_by_key(|v| v.cost);
-        let points = mem::replace(&mut self.vertices, Vec::new(alloc));
-        self.vertices = scan(points, room);
-        Ok(())
+        self.add_points(other.vertices)
     }
 
     /// The curve of all sums of a point of the one and a point of the other. In a sum the stocks of `a` stand before those of
@@ -116,6 +130,14 @@ impl Curve {
         ensures shape { IsShape self.now }
     {
         self.vertices.len() as u32
+    }
+
+    /// The vertices by rising cost. What is true of each curve is told with them.
+    pub fn vertices(&self) -> &[Point]
+        ensures vertices { result.now ≡ self.now }
+        ensures shape { IsShape self.now }
+    {
+        self.vertices.as_slice()
     }
 
     /// The vertex at the place `k`, below the number of vertices.

@@ -7,16 +7,20 @@
 //! 2nd ed.).
 #![tactic(auto)]
 
+mod chain;
 mod curve;
+mod joins;
 mod laws;
 mod point;
 mod price;
 mod scan;
 mod score;
+mod spot;
 #[cfg(test)]
 mod tests;
 mod walk;
 
+pub use chain::Chain;
 pub use curve::Curve;
 pub use laws::{
     adds_curves, begins_cheapest, chain_is_own_curve, ends_lowest, has_one_curve, is_convex,
@@ -25,3 +29,4 @@ pub use laws::{
 pub use point::Point;
 pub use price::Price;
 pub use score::{Plain, Score};
+pub use spot::{Spot, is_first};

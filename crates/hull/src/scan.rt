@@ -1,28 +1,23 @@
-//! The scan that makes the curve of points in order of cost.
+//! The scan that makes the chain of points in order of cost.
 
-ghost use Rattle.std.specs.Prelude.{◌≡◌, ◌+◌, ◌<◌, ◌≤◌, ◌↔◌, [], ◌∷◌, ◌++◌, IsTrue, vec_len, vec_capacity};
-ghost use Rattle.std.specs.List.Sorted.{IsNonDecreasingBy};
-ghost use Rattle.hull.specs.Curves.{Among, IsFirstOf, StandFor, Steps, Turns, IsChain, InRange};
+ghost use Rattle.std.specs.Prelude.{◌≡◌, ◌+◌, ◌<◌, ◌≤◌, ◌↔◌, [], ◌∷◌, ◌++◌, map, IsTrue, vec_len, vec_capacity};
+ghost use Rattle.std.specs.List.Sorted.{IsNonDecreasingBy, IsPermutation};
+ghost use Rattle.hull.specs.declared.point.Point.{Point};
+ghost use Rattle.hull.specs.Curves.{Among, StandFor, Steps, Turns, IsChain, InRange};
 ghost use Rattle.hull.specs.Verdicts.{Tells};
 
-use crate::Point;
-
-/// Whether the one list is the same as the other or before it in the order of a dictionary.
-fn is_first(a: &[u8], b: &[u8]) -> bool
-    ensures { IsTrue result ↔ IsFirstOf a.now b.now }
-{
-    a.cmp(b).is_le()
-}
+use crate::Spot;
 
 /// Whether the step from `v` to `w` falls less per money than the one from `u` to `v`.
-fn turns(u: &Point, v: &Point, w: &Point) -> bool
-    requires first { Steps u.now v.now }
-    requires second { Steps v.now w.now }
-    requires u_range { InRange u.now }
-    requires w_range { InRange w.now }
-    ensures { IsTrue result ↔ Turns u.now v.now w.now }
+fn turns<T: Spot>(u: &T, v: &T, w: &T) -> bool
+    requires first { Steps (T.point u.now) (T.point v.now) }
+    requires second { Steps (T.point v.now) (T.point w.now) }
+    requires u_range { InRange (T.point u.now) }
+    requires w_range { InRange (T.point w.now) }
+    ensures { IsTrue result ↔ Turns (T.point u.now) (T.point v.now) (T.point w.now) }
 {
-    (v.lo - w.lo) * u128::from(v.cost - u.cost) < (u.lo - v.lo) * u128::from(w.cost - v.cost)
+    let (lo, cost) = (v.lo(), v.cost());
+    (lo - w.lo()) * u128::from(cost - u.cost()) < (u.lo() - lo) * u128::from(w.cost() - cost)
 }
 
 /// What becomes of the last of some points where a further point comes.
@@ -36,26 +31,28 @@ enum Verdict {
 }
 
 /// Judges the last point of a chain, where a point comes that costs no less.
-fn judge(stack: &[Point], point: &Point) -> Verdict
-    requires chain { IsChain stack.now }
-    requires order { (v : Point) → Among v stack.now → v.cost ≤ point.now.cost }
-    requires ranges { (v : Point) → Among v stack.now → InRange v }
-    requires range { InRange point.now }
-    ensures { Tells stack.now point.now result }
+fn judge<T: Spot>(stack: &[T], point: &T) -> Verdict
+    requires chain { IsChain (map T.point stack.now) }
+    requires order { (v : Point) → Among v (map T.point stack.now) → v.cost ≤ (T.point point.now).cost }
+    requires ranges { (v : Point) → Among v (map T.point stack.now) → InRange v }
+    requires range { InRange (T.point point.now) }
+    ensures { Tells (map T.point stack.now) (T.point point.now) result }
 {
     let Some((top, rest)) = stack.split_last() else {
         return Verdict::Keep;
     };
-    if top.lo <= point.lo {
-        if top.lo < point.lo || top.cost < point.cost {
+    let (top_lo, lo) = (top.lo(), point.lo());
+    let is_dearer = top.cost() < point.cost();
+    if top_lo <= lo {
+        if top_lo < lo || is_dearer {
             return Verdict::Refuse;
         }
-        if is_first(top.stocks.as_slice(), point.stocks.as_slice()) {
+        if top.is_first(point) {
             return Verdict::Refuse;
         }
         return Verdict::Drop;
     }
-    if top.cost == point.cost {
+    if !is_dearer {
         return Verdict::Drop;
     }
     let Some((below, _front)) = rest.split_last() else {
@@ -69,14 +66,14 @@ fn judge(stack: &[Point], point: &Point) -> Verdict
 }
 
 /// Takes a point that costs no less than the last of a chain.
-fn grow(stack: &mut Vec<Point>, point: Point)
+pub(crate) fn grow<T: Spot>(stack: &mut Vec<T>, point: T)
     requires room { vec_len stack.old < vec_capacity stack.old }
-    requires chain { IsChain stack.old.items }
-    requires order { (v : Point) → Among v stack.old.items → v.cost ≤ point.cost }
-    requires ranges { (v : Point) → Among v stack.old.items → InRange v }
-    requires range { InRange point }
-    ensures chain { IsChain stack.new.items }
-    ensures stands { StandFor (stack.old.items ++ point ∷ []) stack.new.items }
+    requires chain { IsChain (map T.point stack.old.items) }
+    requires order { (v : Point) → Among v (map T.point stack.old.items) → v.cost ≤ (T.point point).cost }
+    requires ranges { (v : Point) → Among v (map T.point stack.old.items) → InRange v }
+    requires range { InRange (T.point point) }
+    ensures chain { IsChain (map T.point stack.new.items) }
+    ensures stands { StandFor (map T.point stack.old.items ++ T.point point ∷ []) (map T.point stack.new.items) }
     ensures some { 0 < vec_len stack.new }
     ensures len { vec_len stack.new ≤ vec_len stack.old + 1 }
     ensures capacity { vec_capacity stack.old ≤ vec_capacity stack.new }
@@ -95,15 +92,15 @@ fn grow(stack: &mut Vec<Point>, point: Point)
     }
 }
 
-/// The curve of points in order of cost, made in the room of an empty list.
-pub(crate) fn scan(points: Vec<Point>, mut stack: Vec<Point>) -> Vec<Point>
+/// The chain of points in order of cost, made in the room of an empty list.
+pub(crate) fn scan<T: Spot>(points: Vec<T>, mut stack: Vec<T>) -> Vec<T>
     requires some { 0 < vec_len points }
-    requires sorted { IsNonDecreasingBy (λ v. v.cost) points.items }
-    requires ranges { (v : Point) → Among v points.items → InRange v }
+    requires sorted { IsNonDecreasingBy (λ v. (T.point v).cost) points.items }
+    requires ranges { (v : Point) → Among v (map T.point points.items) → InRange v }
     requires empty { stack.items ≡ [] }
     requires room { vec_len points ≤ vec_capacity stack }
-    ensures chain { IsChain result.items }
-    ensures stands { StandFor points.items result.items }
+    ensures chain { IsChain (map T.point result.items) }
+    ensures stands { StandFor (map T.point points.items) (map T.point result.items) }
     ensures some { 0 < vec_len result }
     ensures len { vec_len result ≤ vec_len points }
 {
@@ -111,4 +108,14 @@ pub(crate) fn scan(points: Vec<Point>, mut stack: Vec<Point>) -> Vec<Point>
         grow(&mut stack, point);
     }
     stack
+}
+
+/// Points in order of cost.
+pub(crate) fn in_order<T: Spot>(mut points: Vec<T>) -> Vec<T>
+    ensures permutation { IsPermutation points.items result.items }
+    ensures sorted { IsNonDecreasingBy (λ v. (T.point v).cost) result.items }
+    ensures len { vec_len result ≡ vec_len points }
+{
+    points.sort_unstable_by_key(|v| v.cost());
+    points
 }

@@ -5,7 +5,7 @@ ghost use Rattle.hull.specs.declared.point.Point.{Point};
 ghost use Rattle.hull.specs.Curves.{Among};
 ghost use Rattle.hull.specs.Scores.{InLimits};
 
-use crate::{Curve, Plain, Point, Score};
+use crate::{Chain, Curve, Plain, Point, Score, Spot};
 use fixed_interval::Iv;
 use spares_io::List;
 use std::alloc::Global;
@@ -149,6 +149,42 @@ fn makes_one_curve_of_all_points_at_once(rt: HostRuntime) -> Result<(), Fail> {
     let points = points_of(&rt, rt.alloc(), &LINE_UNIT)?;
     let curve = Curve::of(rt.alloc(), points)?;
     has(&rt, &curve, &ITS_CURVE);
+    Ok(())
+}
+
+#[test]
+fn adds_points_in_any_order(rt: HostRuntime) -> Result<(), Fail> {
+    let mut curve = curve_of(&rt, rt.alloc(), &STEEP)?;
+    let points = points_of(
+        &rt,
+        rt.alloc(),
+        &[(9, 2, 5, &[1, 0]), (0, 20, 21, &[0, 1]), (4, 4, 4, &[2, 2])],
+    )?;
+    assert!(rt; curve.len() < 100);
+    curve.add_points(points)?;
+    has(
+        &rt,
+        &curve,
+        &[(0, 20, 20, &[0, 0]), (4, 4, 4, &[2, 2]), (9, 2, 5, &[1, 0])],
+    );
+    Ok(())
+}
+
+#[test]
+fn makes_chains_of_spots(rt: HostRuntime) -> Result<(), Fail> {
+    let points = points_of(&rt, rt.alloc(), &LINE_UNIT)?;
+    let chain = Chain::of(rt.alloc(), points)?;
+    assert!(rt; chain.len() == 6);
+    let step = chain.slope(2);
+    assert_eq!(rt; (step.p, step.q), (162357558481304, 100));
+    let vertex = chain.at(4);
+    assert_eq!(rt;
+        (vertex.cost(), vertex.lo(), vertex.hi()),
+        (400, 90208727985009, 90208727985080)
+    );
+    let mut stocks = Vec::new(rt.alloc());
+    vertex.put_stocks(&mut stocks)?;
+    assert_eq!(rt; stocks.as_slice(), [1, 3].as_slice());
     Ok(())
 }
 

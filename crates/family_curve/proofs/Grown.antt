@@ -1,0 +1,79 @@
+-- A family's curve so far, and what comes to it.
+use Rattle.std.proofs.Common.{◌≡◌, ◌==◌, Bool, true, refl, ℕ, zero, suc, ◌+◌, ◌-◌, ◌*◌, ◌<◌, ◌≤◌, inl, inr, List, [], ◌∷◌, ◌++◌, length, get_or, sym, ◌∙◌, subst, append_assoc, arith}
+use Rattle.std.specs.List.{AllZip}
+use Rattle.std.proofs.lemmas.Bool.{eqb-true}
+use Rattle.std.proofs.lemmas.List.{append-nil}
+use Rattle.std.proofs.lemmas.List.FromFn.{get_or-range_with_len, length-range_with_len}
+use Rattle.std.proofs.lemmas.Slice.Zip.{AllZip-long}
+use Rattle.std.proofs.Math.Nat.{mul-le-mul_right}
+use Rattle.fleet_model.specs.Rows.{bases}
+use Rattle.hull.specs.declared.point.Point.{Point}
+use Rattle.hull.specs.Curves.{Among, InRange, IsChain, IsCurve, StandFor}
+use Rattle.hull.specs.Scores.{LeavesRoom}
+use Rattle.hull.proofs.Chains.{chain_is_curve}
+use Rattle.hull.proofs.Stand.{among_either, curve_stands, stand_for, stand_for_both}
+use Rattle.hull.proofs.Steps_of.{stand_self}
+use Rattle.family_curve.specs.declared.base.Base.{Base}
+use Rattle.family_curve.specs.Inputs.{FamilyBox, IsAt, IsFamilyBox}
+use Rattle.family_curve.specs.Joining.{HaveWidthOf}
+use Rattle.family_curve.specs.Points.{ScoreEnds}
+use Rattle.family_curve.specs.Separation.{depot_points}
+use Rattle.family_curve.specs.Spots.{AreBases, IsBaseOf}
+use Rattle.family_curve.proofs.Bounded.{low_long}
+use Rattle.family_curve.proofs.Points.{depot_points_small, small_range}
+use Rattle.family_curve.proofs.Sites.{size}
+
+-- the curve of points so far, and of what comes to it
+pub curve_grows : (ps qs c e : List Point) → IsCurve ps c → IsCurve (c ++ qs) e → IsCurve (ps ++ qs) e
+curve_grows ps qs c e a h = stand_for (ps ++ qs) (c ++ qs) e (stand_for_both ps qs c qs (curve_stands ps c a) (stand_self qs)) h
+
+pub curve_grows_on : (so ps qs c e : List Point) → IsCurve (so ++ ps) c → IsCurve (c ++ qs) e → IsCurve (so ++ (ps ++ qs)) e
+curve_grows_on so ps qs c e a h = subst (λ (l : List Point). IsCurve l e) (append_assoc so ps qs) (curve_grows (so ++ ps) qs c e a h)
+
+-- where nothing comes to it, it stays
+pub curve_stays : (c qs path : List Point) → IsChain c → path ≡ [] → StandFor (c ++ qs) (c ++ path) → IsCurve (c ++ qs) c
+curve_stays c qs path chain none stands =
+    stand_for (c ++ qs) c c (subst (StandFor (c ++ qs)) (append-nil c) (subst (λ (l : List Point). StandFor (c ++ qs) (c ++ l)) none stands)) (chain_is_curve c chain)
+
+pub widths_grow : (x : FamilyBox) (c qs e : List Point) → HaveWidthOf x c → HaveWidthOf x qs → IsCurve (c ++ qs) e → HaveWidthOf x e
+widths_grow x c qs e a b h v m = elim (among_either v c qs (h.among v m)) [ inl k ↦ a v k | inr k ↦ b v k ]
+
+module _ (x : FamilyBox) (valid : IsFamilyBox x) (ends : ScoreEnds) (room : LeavesRoom ends) (d : List ℕ) (at_depot : IsAt x 0 d) where
+  pub depot_widths : HaveWidthOf x (depot_points x.case x.line ends x.held x.low x.high d)
+  depot_widths v m = (depot_points_small x valid ends room d at_depot v m).width ∙ sym (low_long x valid)
+
+  pub depot_ranges : (v : Point) → Among v (depot_points x.case x.line ends x.held x.low x.high d) → InRange v
+  depot_ranges v m =
+      let some = valid.valid.frame.fewest_sites in
+      let few = valid.valid.frame.most_sites in
+      small_range (size x.case x.line) (length x.case.sites) v (omega (arith, some)) (omega (arith, few)) (depot_points_small x valid ends room d at_depot v m)
+
+-- the base at a place
+zip_read : (x : FamilyBox) (js : List ℕ) (bs : List Base) (k : ℕ) (b : Base) → AllZip (IsBaseOf x) js bs → k < length js → b ≡ get_or bs k b → IsBaseOf x (get_or js k 0) b
+zip_read x [] bs k b a h e = absurd (let n : k < 0 = h in omega arith)
+zip_read x (j ∷ js) [] k b a h e = absurd a
+zip_read x (j ∷ js) (y ∷ bs) zero b a h e = subst (IsBaseOf x j) (sym e) a.0
+zip_read x (j ∷ js) (y ∷ bs) (suc k) b a h e = zip_read x js bs k b a.1 (omega arith) e
+
+pub base_read : (x : FamilyBox) (j : ℕ) (bs : List Base) (b : Base) → AreBases x bs → 0 < j → j < length x.case.sites → b ≡ get_or bs (j - 1) b → IsBaseOf x j b
+base_read x j bs b a some most e =
+    let within : j - 1 < length x.case.sites - 1 = omega (arith, some, most) in
+    let at : get_or (bases x.case) (j - 1) 0 ≡ j = omega (arith, some, get_or-range_with_len 1 (length x.case.sites - 1) (j - 1) 0 within) in
+    subst (λ k. IsBaseOf x k b) at (zip_read x (bases x.case) bs (j - 1) b a (omega (arith, within, length-range_with_len 1 (length x.case.sites - 1))) e)
+
+pub bases_long : (x : FamilyBox) (bs : List Base) → AreBases x bs → length bs ≡ length x.case.sites - 1
+bases_long x bs a = omega (arith, AllZip-long (IsBaseOf x) (bases x.case) bs a, length-range_with_len 1 (length x.case.sites - 1))
+
+nil_of : (l : List Point) → length l ≡ 0 → l ≡ []
+nil_of [] e = refl
+nil_of (x ∷ l) e = absurd (omega (arith, e))
+
+pub none_of : (l : List Point) (n : ℕ) (b : Bool) → n ≡ length l → b ≡ (n == 0) → b ≡ true → l ≡ []
+none_of l n b long e h = nil_of l (sym long ∙ eqb-true n 0 (sym e ∙ h))
+
+-- what is held so far and one part more, of as many as there is room for
+pub room_for : (n most v a b m : ℕ) → a ≤ b + n * v → n < most → b + most * v ≤ m → a + v ≤ m
+room_for n most v a b m f l h = let more : (n + 1) * v ≤ most * v = mul-le-mul_right v (let k : n + 1 ≤ most = omega arith in k) in omega (arith, f, more, h)
+
+pub room_for_one : (most v b m : ℕ) → 0 < most → b + most * v ≤ m → b + v ≤ m
+room_for_one most v b m l h = room_for 0 most v b b m (omega arith) l h

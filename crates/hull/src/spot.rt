@@ -1,0 +1,66 @@
+//! What a curve needs of a point, whatever it is made of.
+
+ghost use Rattle.std.specs.Prelude.{◌≡◌, ◌++◌, ◌↔◌, IsTrue, OnOk};
+ghost use Rattle.hull.specs.declared.point.Point.{Point};
+ghost use Rattle.hull.specs.Curves.{IsFirstOf};
+
+use crate::Point;
+use spares_io::NoMemory;
+
+/// Something that stands for a point, and needn't hold its stocks as a list.
+pub trait Spot: Drop {
+    /// The point that it stands for.
+    ghost point: { Self → Point };
+
+    /// The point's cost.
+    fn cost(&self) -> u64
+        ensures { result ≡ (point self.now).cost };
+
+    /// The lower end of the point's score.
+    fn lo(&self) -> u128
+        ensures { result ≡ (point self.now).lo };
+
+    /// The upper end of the point's score.
+    fn hi(&self) -> u128
+        ensures { result ≡ (point self.now).hi };
+
+    /// Whether the point's stocks are the same as the other's, or before them in the order of a dictionary.
+    fn is_first(&self, other: &Self) -> bool
+        ensures { IsTrue result ↔ IsFirstOf (point self.now).stocks (point other.now).stocks };
+
+    /// Puts the point's stocks behind others. After `NoMemory` some of them may be there.
+    fn put_stocks(&self, to: &mut Vec<u8>) -> Result<(), NoMemory>
+        ensures { OnOk result (to.new.items ≡ to.old.items ++ (point self.now).stocks) };
+}
+
+/// Whether the one list is the same as the other or before it in the order of a dictionary.
+pub fn is_first(a: &[u8], b: &[u8]) -> bool
+    ensures { IsTrue result ↔ IsFirstOf a.now b.now }
+{
+    a.cmp(b).is_le()
+}
+
+impl Spot for Point {
+    ghost point = { λ v. v };
+
+    fn cost(&self) -> u64 {
+        self.cost
+    }
+
+    fn lo(&self) -> u128 {
+        self.lo
+    }
+
+    fn hi(&self) -> u128 {
+        self.hi
+    }
+
+    fn is_first(&self, other: &Point) -> bool {
+        is_first(self.stocks.as_slice(), other.stocks.as_slice())
+    }
+
+    fn put_stocks(&self, to: &mut Vec<u8>) -> Result<(), NoMemory> {
+        to.extend_from_slice(self.stocks.as_slice())?;
+        Ok(())
+    }
+}
