@@ -3,3 +3,4 @@ pub mod TrimFacts
 pub mod TableFacts
 pub mod FieldFacts
 pub mod RowFacts
+pub mod LineFacts

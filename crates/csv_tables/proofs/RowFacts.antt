@@ -17,7 +17,7 @@ use Rattle.spares_io.specs.Steps.{◌>>=◌}
 use Rattle.csv_tables.specs.Fields.{field, has_none, name_in, number_in, used_in}
 use Rattle.csv_tables.specs.Sites.{depot_in, site_of}
 use Rattle.csv_tables.specs.Parts.{parent_in, part_of, weight_in}
-use Rattle.csv_tables.specs.Rates.{found_or, part_in, rate_of, site_in}
+use Rattle.csv_tables.specs.Rates.{found_or, part_in, rate_in, rate_of, site_in}
 use Rattle.csv_tables.specs.Stocks.{stock_of}
 use Rattle.csv_tables.specs.declared.fault.TableFault.{TableFault}
 use Rattle.csv_tables.specs.declared.fault.TableFault.TheVariants as fault
@@ -90,7 +90,7 @@ site-known f row text s h =
     (site-named f.sites a.0 s (found (fault.UnknownSite row) (place_of a.0 (site_names f.sites)) s a.2)).0
 
 pub rate-good : (f : FrameRows) (row : ℕ) (r : Record) (x : RateRow) → rate_of f row r ≡ Ok x → IsRateOf f x
-unfolding rate_of
+unfolding rate_in
 rate-good f row r x h =
     let part = bind-ok (part_in f row 1 (field r 0)) _ x h in
     let site = bind-ok (site_in f row 2 (field r 1)) _ x part.2 in

@@ -3,7 +3,7 @@
 ghost use Rattle.std.specs.Prelude.{◌≡◌, ◌≤◌, ◌<◌, ◌^◌, true, Ok, Err, IfOk, length};
 ghost use Rattle.csv.specs.Records.{fields_of};
 ghost use Rattle.spares_input.specs.Names.{is_name};
-ghost use Rattle.csv_tables.specs.Fields.{counted, empty_in, field, is_blank, name_in, number_in, trim_end, trim_start, used_in};
+ghost use Rattle.csv_tables.specs.Fields.{counted, empty_in, field, is_blank, name_in, number_in, trim_end, trim_start, trimmed, used_in};
 
 use crate::fault::TableFault;
 use csv::ByteRecord;
@@ -15,9 +15,16 @@ pub fn field(record: &ByteRecord, i: usize) -> &[u8]
     ensures { result.now ≡ field (fields_of «record».now) i }
 {
     match record.get(i) {
-        Some(text) => trim_end(trim_start(text)),
+        Some(text) => trim(text),
         None => &[],
     }
+}
+
+/// The text without the blanks at its ends.
+pub fn trim(text: &[u8]) -> &[u8]
+    ensures { result.now ≡ trimmed text.now }
+{
+    trim_end(trim_start(text))
 }
 
 // The text without the blanks at its start.

@@ -3,6 +3,7 @@
 
 mod fault;
 mod fields;
+mod lines;
 mod parts;
 mod rates;
 mod reader;
@@ -11,6 +12,7 @@ mod stocks;
 mod table;
 
 pub use fault::TableFault;
+pub use lines::rate_line;
 pub use parts::read_parts;
 pub use rates::read_rates;
 pub use sites::read_sites;

@@ -1,12 +1,12 @@
 //! The table of rates, and how rows name the pairs of a frame.
 
-ghost use Rattle.std.specs.Prelude.{◌≡◌, ◌≤◌, ◌<◌, IfOk, All, length, map};
+ghost use Rattle.std.specs.Prelude.{◌≡◌, ◌≤◌, ◌<◌, [], IfOk, All, length, get_or, map};
 ghost use Rattle.std.specs.Result.{result_map_both};
 ghost use Rattle.csv.specs.Records.{fields_of};
 ghost use Rattle.spares_io.specs.Answers.{Gives};
 ghost use Rattle.spares_input.specs.Cases.{IsRateOf};
 ghost use Rattle.csv_tables.specs.Tables.{rows_of};
-ghost use Rattle.csv_tables.specs.Rates.{part_in, rate_of, rates_of, rates_header, site_in};
+ghost use Rattle.csv_tables.specs.Rates.{part_in, rate_in, rate_of, rates_of, rates_header, site_in};
 
 use crate::fault::TableFault;
 use crate::fields::{field, name_in, number_in, used_in};
@@ -67,18 +67,33 @@ impl<'a> Table for Rates<'a> {
 }
 
 // The rates of a record.
-#[tactic(auto, unfolding(crate::specs::Rates::rate_of))]
 fn rate_of(frame: &Frame, row: u32, record: &ByteRecord) -> Result<RateRow, TableFault>
     ensures { result ≡ rate_of frame.now row (fields_of «record».now) }
 {
-    let part = part_in(frame, row, 1, field(record, 0))?;
-    let site = site_in(frame, row, 2, field(record, 1))?;
+    let fields = [
+        field(record, 0),
+        field(record, 1),
+        field(record, 2),
+        field(record, 3),
+        field(record, 4),
+        field(record, 5),
+    ];
+    rate_in(frame, row, &fields)
+}
+
+/// The rates of six fields that have no blanks at their ends.
+#[tactic(auto, unfolding(crate::specs::Rates::rate_in))]
+pub fn rate_in(frame: &Frame, row: u32, fields: &[&[u8]; 6]) -> Result<RateRow, TableFault>
+    ensures { result ≡ rate_in frame.now row (λ i. get_or (map (λ f. f.now) fields.now) i []) }
+{
+    let part = part_in(frame, row, 1, fields[0])?;
+    let site = site_in(frame, row, 2, fields[1])?;
     let line = frame.is_line(part);
     let base = site.0 != 0;
-    let demand = used_in(line && base, row, 3, 4, 0, 1_000_000_000, field(record, 2))?;
-    let repair_here = used_in(base, row, 4, 4, 0, 10_000, field(record, 3))?;
-    let share = used_in(!line, row, 5, 4, 0, 10_000, field(record, 4))?;
-    let repair_days = number_in(row, 6, 2, 0, 999_999, field(record, 5))?;
+    let demand = used_in(line && base, row, 3, 4, 0, 1_000_000_000, fields[2])?;
+    let repair_here = used_in(base, row, 4, 4, 0, 10_000, fields[3])?;
+    let share = used_in(!line, row, 5, 4, 0, 10_000, fields[4])?;
+    let repair_days = number_in(row, 6, 2, 0, 999_999, fields[5])?;
     Ok(RateRow {
         part,
         site,

@@ -29,6 +29,7 @@ kind_of (refusal.Rate fault) = of_task
 kind_of (refusal.Work count) = of_task
 kind_of (refusal.Cert fault) = of_task
 kind_of (refusal.Rejected reject) = of_task
+kind_of (refusal.Edit fault) = of_task
 kind_of refusal.WriteFault = of_writing
 kind_of refusal.NoMemory = of_memory
 

@@ -1,6 +1,8 @@
 -- The line of a refusal. Fields are parted by commas (44), and the line ends with a line feed (10).
 use Rattle.std.specs.Prelude.{◌≡◌, ℕ, List, [], ◌∷◌, ◌++◌, codes, Option, Some, None, Result, Ok, Err}
 use Rattle.std.specs.Fmt.{decimal}
+use Rattle.case_edits.specs.declared.fault.EditFault.{EditFault}
+use Rattle.case_edits.specs.declared.fault.EditFault.TheVariants as edit
 use Rattle.csv_tables.specs.declared.fault.TableFault.{TableFault}
 use Rattle.csv_tables.specs.declared.fault.TableFault.TheVariants as table
 use Rattle.demand_rates.specs.declared.fault.Place.{Place}
@@ -55,6 +57,7 @@ file_text file.Rates = codes "rates"
 file_text file.Stocks = codes "stocks"
 file_text file.OnHand = codes "on-hand"
 file_text file.Certificate = codes "certificate"
+file_text file.Edits = codes "edits"
 
 -- a further field with a number
 abbrev pub number_field : ℕ → List ℕ
@@ -132,6 +135,13 @@ reject_text names (reject.LeafTooLow family leaf floor least) =
 reject_text names (reject.UpperTooLow claimed upper) = codes "rejected,upper-too-low" ++ (number_field claimed ++ number_field upper)
 reject_text names (reject.BoundTooHigh claimed largest) = codes "rejected,bound-too-high" ++ (number_field claimed ++ number_field largest)
 
+-- the refused rates of a plan of the edits are told by its line alone
+abbrev pub edit_text : EditFault → List ℕ
+edit_text edit.TooManyLines = codes "edit-lines"
+edit_text (edit.BadLine line) = codes "edit" ++ number_field line
+edit_text (edit.TooManyPlans line) = codes "edit-plans" ++ number_field line
+edit_text (edit.Rate line fault) = codes "edit-rate" ++ number_field line
+
 abbrev pub refusal_text : FrameRows → Refusal → List ℕ
 refusal_text names (refusal.Words fault) = words_text fault
 refusal_text names (refusal.ReadFault file) = codes "read," ++ file_text file
@@ -143,6 +153,7 @@ refusal_text names (refusal.Rate fault) = rate_text names fault
 refusal_text names (refusal.Work count) = codes "work" ++ number_field count
 refusal_text names (refusal.Cert fault) = cert_text fault
 refusal_text names (refusal.Rejected reject) = reject_text names reject
+refusal_text names (refusal.Edit fault) = edit_text fault
 refusal_text names refusal.WriteFault = codes "write"
 refusal_text names refusal.NoMemory = codes "memory"
 

@@ -82,6 +82,7 @@ impl Line {
             Refusal::Work(count) => self.push_count(b"work", *count),
             Refusal::Cert(fault) => self.push_certificate(*fault),
             Refusal::Rejected(reject) => self.push_reject(frame, *reject),
+            Refusal::Edit(fault) => self.push_edit(*fault),
             Refusal::WriteFault => self.push_all(b"write"),
             Refusal::NoMemory => self.push_all(b"memory"),
         }

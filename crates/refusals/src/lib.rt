@@ -5,6 +5,7 @@ mod failure;
 mod line;
 mod of_cases;
 mod of_certificates;
+mod of_edits;
 mod of_tables;
 mod refusal;
 

@@ -139,5 +139,6 @@ fn file_text(file: File) -> &'static [u8]
         File::Stocks => b"stocks",
         File::OnHand => b"on-hand",
         File::Certificate => b"certificate",
+        File::Edits => b"edits",
     }
 }

@@ -1,5 +1,6 @@
 //! Refusals.
 
+use case_edits::EditFault;
 use csv_tables::TableFault;
 use demand_rates::RateFault;
 use gap_checker::Reject;
@@ -22,6 +23,8 @@ pub enum File {
     OnHand,
     /// The certificate of a plan.
     Certificate,
+    /// The edits of a session.
+    Edits,
 }
 
 /// Why a command was refused.
@@ -31,7 +34,7 @@ pub enum Refusal {
     Words(WordsFault),
     /// A file wasn't read: the shelf failed, or doesn't hold its name.
     ReadFault(File),
-    /// A file has more bytes than it may have: a table 4,194,304, a certificate 16,777,216.
+    /// A file has more bytes than it may have: a table or edits 4,194,304, a certificate 16,777,216.
     TooLong(File),
     /// A table isn't as its format asks.
     Table(File, TableFault),
@@ -47,6 +50,8 @@ pub enum Refusal {
     Cert(CertFault),
     /// The first rule that a certificate breaks.
     Rejected(Reject),
+    /// The first fault of the edits.
+    Edit(EditFault),
     /// The certificate wasn't written, or the output took a part of the report at most.
     WriteFault,
     /// There was no memory.

@@ -1,3 +1,4 @@
+pub mod Answered
 pub mod Confirmed
 pub mod Demonstrated
 pub mod Planned

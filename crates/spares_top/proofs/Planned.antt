@@ -57,7 +57,7 @@ use Rattle.spares_top.proofs.Shown.{span_prints}
 
 -- ---- what is held
 
-zeros_hold : (c : CaseRows) → IsNothing (nothing_held c).list
+pub zeros_hold : (c : CaseRows) → IsNothing (nothing_held c).list
 zeros_hold c i d b = get_or-replicate (pair_count (frame_rows c)) i 0 d (subst (λ n. i < n) (length-replicate {A = ℕ} (pair_count (frame_rows c)) 0) b)
 
 held_by : (c : CaseRows) (held : StockList) (on_hand : Bool) → (on_hand ≡ false → held ≡ nothing_held c) → held_in c (if on_hand then Some held else None) ≡ held

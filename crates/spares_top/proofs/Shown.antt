@@ -12,7 +12,9 @@ use Rattle.case_figures.specs.declared.figures.Figures.{Figures}
 use Rattle.case_figures.specs.declared.figures.Span.{Span}
 use Rattle.spares_input.specs.Cases.{CaseRows}
 use Rattle.spares_input.specs.Stocks.{StockList}
-use Rattle.spares_top.specs.Headline.{PrintsAround, Shows, ShowsCase, ShowsModel}
+use Rattle.metric_compare.specs.Shows.{ShowsComparison}
+use Rattle.metric_compare.specs.declared.report.CompareReport.{CompareReport}
+use Rattle.spares_top.specs.Headline.{IsTrueComparison, PrintsAround, Shows, ShowsCase, ShowsModel}
 
 pub shown : (x : Ends) (value : ℕ → Fraction) → Encloses 48 x.lo x.hi value → Shows x value
 shown x value h = record {
@@ -42,3 +44,6 @@ span_prints bits x value h =
 pub case_shown : (bits : ℕ) (c : CaseRows) (s : StockList) (figures : Figures) → ShowsFigures bits c s figures
     → ShowsCase bits c s (record { bits = bits; figures = figures })
 case_shown bits c s figures h = record { bits_are = refl; shows = h; prints = span_prints bits }
+
+pub comparison_true : (c : CaseRows) (s : StockList) (report : CompareReport) → ShowsComparison c s report → IsTrueComparison c s report
+comparison_true c s report h = record { says = h; prints = shown }

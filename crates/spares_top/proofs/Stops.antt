@@ -19,7 +19,7 @@ use Rattle.spares_top.specs.Checks.{Claimed, claimed_of, form_of, judged_of}
 use Rattle.spares_top.specs.Making.{Evaluates, Is, MakesBy}
 use Rattle.spares_top.specs.Planning.{TellsGround}
 use Rattle.spares_top.specs.Plans.{Planning, case_within_work, planning_of}
-use Rattle.spares_top.specs.Task.{Task, eval_task, evaluate, make_plan}
+use Rattle.spares_top.specs.Task.{Task, eval_task, evaluate, make_plan, set_beside}
 
 pub within_work_refuses : (sites parts rates : List ℕ) → Refuses (case_within_work sites parts rates)
 within_work_refuses sites parts rates =
@@ -66,3 +66,9 @@ pub unswept : (given : Result CaseRows Failure) (next : CaseRows → Task) (e : 
     → MakesBy (Is (given >>= λ case. Ok (next case))) (Err e)
 unswept given next stop.NoMemory r h = tt
 unswept given next (stop.Fault failure) r h = (rw h refl, rw (is_of_task given failure r h) tt)
+
+-- what isn't given with its stocks isn't compared
+pub uncompared : (given : Result StockedCase Failure) (e : Stop Failure) → Refuses given → TellsStocked given (Err e)
+    → MakesBy (Is (given >>= λ stocked. Ok (set_beside stocked.case stocked.stocks))) (Err e)
+uncompared given stop.NoMemory r h = tt
+uncompared given (stop.Fault failure) r h = (rw h refl, rw (is_of_task given failure r h) tt)

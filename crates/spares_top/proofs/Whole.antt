@@ -21,10 +21,12 @@ use Rattle.refusals.specs.declared.refusal.File.TheVariants as file
 use Rattle.refusals.specs.declared.refusal.Refusal.TheVariants as refusal
 use Rattle.spares_top.specs.Answer.{Answers, HaveGiven, IsDue, RefusesBy}
 use Rattle.spares_io.specs.Steps.{◌>>=◌}
-use Rattle.refusals.specs.Causes.{Kind, of_words, of_reading, of_writing, of_memory, of_task, kind_of, plain_failure, stopped}
+use Rattle.refusals.specs.Causes.{Kind, of_words, of_reading, of_writing, of_memory, of_task, kind_of, or_refuse, plain_failure, stopped}
+use Rattle.refusals.specs.Lines.{no_names}
+use Rattle.spares_input.specs.Cases.{CaseRows}
 use Rattle.std.proofs.lemmas.List.Elements.{All-cons}
 use Rattle.refusals.specs.declared.refusal.File.{File}
-use Rattle.spares_top.specs.Files.{AllGave, case_in, certificate_in, stocks_in, table_in, Reads, StandStill, StopsAt, inputs, inputs_of, output_of, reads}
+use Rattle.spares_top.specs.Files.{AllGave, case_in, certificate_in, if_named, table_in, Reads, StandStill, StopsAt, inputs, inputs_of, output_of, reads}
 use Rattle.spares_top.specs.Headline.{IsTrue}
 use Rattle.spares_top.specs.Making.{AreWithin, ComesOf, Delivers, Is, IsMade, MakesBy}
 use Rattle.spares_top.specs.Promises.{Completes, Errors, NoneFailed, Performs, PutsLine, Runs, Serves}
@@ -32,11 +34,12 @@ use Rattle.spares_top.specs.Reading.{IsReadable, ReadsGive}
 use Rattle.spares_top.specs.State.{HasDelivered, HasFailed, HasFailedToWrite, IsUntouched, Scene, after_write}
 use Rattle.spares_top.specs.Checks.{claimed_of}
 use Rattle.spares_top.specs.Plans.{case_within_work, planning_of}
-use Rattle.spares_top.specs.Task.{Fulfils, Task, confirm, demonstrate, evaluate, make_plan, price_target, show_pipeline, sweep_budgets, bytes_at, task_of, task_on, task_on_words, unless_refused}
+use Rattle.spares_top.specs.Task.{Fulfils, Task, confirm, demonstrate, evaluate, make_plan, plan_in_turn, price_target, set_beside, show_pipeline, sweep_budgets, bytes_at, task_of, task_on, task_on_words, unless_refused}
 use Rattle.spares_top.specs.Texts.{text_of}
 use Rattle.spares_top.proofs.ReadInputs.{none_is, read_is, stops_kind, stops_of_work}
 use Rattle.case_tables.specs.Tables.{stocked_of}
-use Rattle.case_tables.proofs.Refuse.{Refuses, is_of_task, stocked_refuses, then_refuses}
+use Rattle.case_edits.specs.Edits.{session_of}
+use Rattle.case_tables.proofs.Refuse.{Refuses, is_of_task, or_refuses, stocked_refuses, then_refuses}
 use Rattle.spares_top.proofs.Stops.{claimed_refuses, planning_refuses, within_work_refuses}
 
 -- ---- refusals
@@ -60,6 +63,12 @@ task_refuses (order.Sweep sites parts rates) bytes =
     then_refuses (case_within_work (bytes_at bytes 0) (bytes_at bytes 1) (bytes_at bytes 2)) _ (within_work_refuses (bytes_at bytes 0) (bytes_at bytes 1) (bytes_at bytes 2)) (λ case. tt)
 task_refuses (order.Target sites parts rates backorders) bytes =
     then_refuses (case_within_work (bytes_at bytes 0) (bytes_at bytes 1) (bytes_at bytes 2)) _ (within_work_refuses (bytes_at bytes 0) (bytes_at bytes 1) (bytes_at bytes 2)) (λ case. tt)
+task_refuses (order.Session sites parts rates edits) bytes =
+    then_refuses (case_within_work (bytes_at bytes 0) (bytes_at bytes 1) (bytes_at bytes 2)) _ (within_work_refuses (bytes_at bytes 0) (bytes_at bytes 1) (bytes_at bytes 2)) (λ case.
+    then_refuses (or_refuse no_names refusal.Edit (session_of case (bytes_at bytes 3))) _ (or_refuses no_names refusal.Edit (session_of case (bytes_at bytes 3)) (λ fault. refl)) (λ due. tt))
+task_refuses (order.Compare sites parts rates stocks) bytes =
+    then_refuses (stocked_of file.Stocks (bytes_at bytes 0) (bytes_at bytes 1) (bytes_at bytes 2) (bytes_at bytes 3)) _
+    (stocked_refuses file.Stocks (bytes_at bytes 0) (bytes_at bytes 1) (bytes_at bytes 2) (bytes_at bytes 3)) (λ stocked. tt)
 
 pub task_kind : (o : Order) (bytes : List (List ℕ)) (failure : Failure) → task_on o bytes ≡ Err failure → kind_of failure.refusal ≡ of_task
 task_kind o bytes failure e = is_of_task (task_on o bytes) failure (task_refuses o bytes) e
@@ -91,6 +100,8 @@ name_of (confirm claimed) = None
 name_of (demonstrate number lines) = None
 name_of (sweep_budgets case) = None
 name_of (price_target case backorders) = None
+name_of (plan_in_turn due) = None
+name_of (set_beside case stocks) = None
 
 abbrev written_name : Outcome → Option (List ℕ)
 written_name outcome = option_map (λ (w : Written). w.name) outcome.writes
@@ -104,6 +115,8 @@ written_as (confirm claimed) outcome h = ap written_name h
 written_as (demonstrate number lines) outcome h = ap written_name h.is
 written_as (sweep_budgets case) outcome h = ap written_name h.is
 written_as (price_target case backorders) outcome h = ap written_name h.is
+written_as (plan_in_turn due) outcome h = ap written_name h.is
+written_as (set_beside case stocks) outcome h = ap written_name h
 
 -- a task that comes of accepted inputs
 then_named : {A : Type 0} (r : Result A Failure) (next : A → Task) (name : Option (List ℕ)) (task : Task) → ((a : A) → name_of (next a) ≡ name)
@@ -114,6 +127,11 @@ then_named (Err failure) next name task h e = grind (arith, e)
 rated_name : (fault : Option RateFault) (next task : Task) → unless_refused fault next ≡ Ok task → name_of task ≡ name_of next
 rated_name None next task e = subst (λ (r : Result Task Failure). MatchResult r (λ t. name_of t ≡ name_of next) (λ f. ⊤)) e refl
 rated_name (Some fault) next task e = grind (arith, e)
+
+session_named : (given : Result CaseRows Failure) (edits : List ℕ) (task : Task)
+    → (given >>= λ case. (or_refuse no_names refusal.Edit (session_of case edits) >>= λ due. Ok (plan_in_turn due))) ≡ Ok task → name_of task ≡ None
+session_named (Ok case) edits task e = then_named (or_refuse no_names refusal.Edit (session_of case edits)) plan_in_turn None task (λ due. refl) e
+session_named (Err failure) edits task e = grind (arith, e)
 
 -- the task of an order is written under the name that the order gives
 task_named : (o : Order) (bytes : List (List ℕ)) (task : Task) → task_on o bytes ≡ Ok task → name_of task ≡ output_of (Ok o)
@@ -130,6 +148,11 @@ task_named (order.Sweep sites parts rates) bytes task e =
     then_named (case_within_work (bytes_at bytes 0) (bytes_at bytes 1) (bytes_at bytes 2)) sweep_budgets None task (λ case. refl) e
 task_named (order.Target sites parts rates backorders) bytes task e =
     then_named (case_within_work (bytes_at bytes 0) (bytes_at bytes 1) (bytes_at bytes 2)) (λ case. price_target case backorders) None task (λ case. refl) e
+task_named (order.Session sites parts rates edits) bytes task e =
+    session_named (case_within_work (bytes_at bytes 0) (bytes_at bytes 1) (bytes_at bytes 2)) (bytes_at bytes 3) task e
+task_named (order.Compare sites parts rates stocks) bytes task e =
+    then_named (stocked_of file.Stocks (bytes_at bytes 0) (bytes_at bytes 1) (bytes_at bytes 2) (bytes_at bytes 3))
+    (λ stocked. set_beside stocked.case stocked.stocks) None task (λ stocked. refl) e
 
 nothing_of : (written : Option Written) (name : Option (List ℕ)) → option_map (λ (w : Written). w.name) written ≡ name → name ≡ None → written ≡ None
 nothing_of None name e n = refl
@@ -154,9 +177,9 @@ readable_table f name = omega arith
 none_readable : All IsReadable []
 none_readable i d b = absurd (omega (arith, b))
 
-stocks_readable : (f : File) (name : Option (List ℕ)) → All IsReadable (stocks_in f name)
-stocks_readable f None = none_readable
-stocks_readable f (Some name) = All-cons IsReadable (table_in f name) [] (readable_table f name) none_readable
+named_readable : (f : File) (name : Option (List ℕ)) → All IsReadable (if_named f name)
+named_readable f None = none_readable
+named_readable f (Some name) = All-cons IsReadable (table_in f name) [] (readable_table f name) none_readable
 
 case_readable : (sites parts rates : List ℕ) (more : List Input) → All IsReadable more → All IsReadable (case_in sites parts rates more)
 case_readable sites parts rates more h =
@@ -169,12 +192,14 @@ certificate_readable name = omega arith
 
 pub are_readable : (o : Order) → All IsReadable (inputs o)
 are_readable (order.Single mean variance stock) = none_readable
-are_readable (order.Eval sites parts rates stocks bits) = case_readable sites parts rates (stocks_in file.Stocks (Some stocks)) (stocks_readable file.Stocks (Some stocks))
-are_readable (order.Plan sites parts rates on_hand budget format objective certificate) = case_readable sites parts rates (stocks_in file.OnHand on_hand) (stocks_readable file.OnHand on_hand)
+are_readable (order.Eval sites parts rates stocks bits) = case_readable sites parts rates (if_named file.Stocks (Some stocks)) (named_readable file.Stocks (Some stocks))
+are_readable (order.Plan sites parts rates on_hand budget format objective certificate) = case_readable sites parts rates (if_named file.OnHand on_hand) (named_readable file.OnHand on_hand)
 are_readable (order.Check certificate) = All-cons IsReadable (certificate_in certificate) [] (certificate_readable certificate) none_readable
 are_readable (order.Demo number lines) = none_readable
 are_readable (order.Sweep sites parts rates) = case_readable sites parts rates [] none_readable
 are_readable (order.Target sites parts rates backorders) = case_readable sites parts rates [] none_readable
+are_readable (order.Session sites parts rates edits) = case_readable sites parts rates (if_named file.Edits (Some edits)) (named_readable file.Edits (Some edits))
+are_readable (order.Compare sites parts rates stocks) = case_readable sites parts rates (if_named file.Stocks (Some stocks)) (named_readable file.Stocks (Some stocks))
 
 -- ---- an order
 

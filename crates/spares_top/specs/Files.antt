@@ -8,7 +8,7 @@ use Rattle.spares_words.specs.declared.order.WordsFault.{WordsFault}
 use Rattle.refusals.specs.declared.failure.Failure.{Failure}
 use Rattle.spares_top.specs.declared.files.Input.{Input}
 use Rattle.refusals.specs.declared.refusal.File.{File}
-use Rattle.refusals.specs.declared.refusal.File.TheVariants.{Sites, Parts, Rates, Stocks, OnHand, Certificate}
+use Rattle.refusals.specs.declared.refusal.File.TheVariants.{Sites, Parts, Rates, Stocks, OnHand, Certificate, Edits}
 use Rattle.refusals.specs.declared.refusal.Refusal.TheVariants as refusal
 use Rattle.spares_io.specs.Steps.{◌>>=◌}
 use Rattle.refusals.specs.Causes.{plain_failure}
@@ -30,20 +30,22 @@ certificate_in name = record { file = Certificate; name = name; limit = certific
 abbrev pub case_in : List ℕ → List ℕ → List ℕ → List Input → List Input
 case_in sites parts rates more = table_in Sites sites ∷ table_in Parts parts ∷ table_in Rates rates ∷ more
 
--- a table of stocks, where one is named
-abbrev pub stocks_in : File → Option (List ℕ) → List Input
-stocks_in file None = []
-stocks_in file (Some name) = table_in file name ∷ []
+-- one file more, where one is named: a table of stocks, or edits
+abbrev pub if_named : File → Option (List ℕ) → List Input
+if_named file None = []
+if_named file (Some name) = table_in file name ∷ []
 
 -- the inputs of an order, in the order in which they are read
 abbrev pub inputs : Order → List Input
 inputs (order.Single mean variance stock) = []
-inputs (order.Eval sites parts rates stocks bits) = case_in sites parts rates (stocks_in Stocks (Some stocks))
-inputs (order.Plan sites parts rates on_hand budget format objective certificate) = case_in sites parts rates (stocks_in OnHand on_hand)
+inputs (order.Eval sites parts rates stocks bits) = case_in sites parts rates (if_named Stocks (Some stocks))
+inputs (order.Plan sites parts rates on_hand budget format objective certificate) = case_in sites parts rates (if_named OnHand on_hand)
 inputs (order.Check certificate) = certificate_in certificate ∷ []
 inputs (order.Demo number lines) = []
 inputs (order.Sweep sites parts rates) = case_in sites parts rates []
 inputs (order.Target sites parts rates backorders) = case_in sites parts rates []
+inputs (order.Session sites parts rates edits) = case_in sites parts rates (if_named Edits (Some edits))
+inputs (order.Compare sites parts rates stocks) = case_in sites parts rates (if_named Stocks (Some stocks))
 
 abbrev pub inputs_of : Result Order WordsFault → List Input
 inputs_of (Ok o) = inputs o
@@ -58,6 +60,8 @@ output_of (Ok (order.Check certificate)) = None
 output_of (Ok (order.Demo number lines)) = None
 output_of (Ok (order.Sweep sites parts rates)) = None
 output_of (Ok (order.Target sites parts rates backorders)) = None
+output_of (Ok (order.Session sites parts rates edits)) = None
+output_of (Ok (order.Compare sites parts rates stocks)) = None
 output_of (Err fault) = None
 
 -- ---- over the files that are held

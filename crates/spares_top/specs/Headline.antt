@@ -1,4 +1,5 @@
 -- The headline: what a report says of the model is true.
+use Rattle.std.specs.List.{AllZip}
 use Rattle.std.specs.Prelude.{◌≡◌, ℕ, ◌≤◌, ◌<◌, List, length, Option, Some, None, Ok}
 use Rattle.exact_model.specs.Fraction.{Fraction, Encloses, ◌≤ℚ◌}
 use Rattle.exact_model.specs.Series.{ebo, vbo}
@@ -12,6 +13,7 @@ use Rattle.budget_sweep.specs.Sweep.{state_at}
 use Rattle.budget_sweep.specs.Truth.{IsTruePoint, IsTrueTarget}
 use Rattle.budget_sweep.specs.declared.report.SweepReport.{SweepReport}
 use Rattle.budget_sweep.specs.declared.report.TargetReport.{TargetReport}
+use Rattle.case_edits.specs.Edits.{PlanDue}
 use Rattle.case_figures.specs.Shows.{ShowsFigures, ShowsSpan}
 use Rattle.case_figures.specs.Spans.{ends, places}
 use Rattle.case_figures.specs.declared.figures.Span.{Span}
@@ -24,12 +26,15 @@ use Rattle.fleet_plan.specs.Laws.{IsAcceptedCase, plain_ends}
 use Rattle.fleet_plan.specs.Plans.{ArePlainClaims, AreTrueClaims, CasePlan, IsPlainPlan}
 use Rattle.gap_checker.specs.Refusals.{reject_of}
 use Rattle.gap_checker.specs.Soundness.{nothing_held}
+use Rattle.metric_compare.specs.Shows.{ShowsComparison}
+use Rattle.metric_compare.specs.declared.report.CompareReport.{CompareReport}
 use Rattle.plan_report.specs.Texts.{lower_millionths, upper_millionths}
 use Rattle.plan_report.specs.declared.check.CheckReport.{CheckReport}
 use Rattle.plan_report.specs.declared.eval.EvalReport.{EvalReport}
 use Rattle.plan_report.specs.declared.plan.PlanReport.{PlanReport}
 use Rattle.plan_report.specs.declared.single.SingleReport.{SingleReport}
 use Rattle.plan_report.specs.declared.summary.Summary.{Summary}
+use Rattle.plan_session.specs.Sessions.{plain_terms}
 use Rattle.price_certificate.specs.declared.certificate.Objective.TheVariants.{Backorders}
 use Rattle.spares_input.specs.Cases.{CaseRows}
 use Rattle.spares_input.specs.Stocks.{StockList}
@@ -37,9 +42,9 @@ use Rattle.spares_top.specs.Checks.{Claimed, check_of, claimed_of}
 use Rattle.spares_top.specs.Files.{certificate_limit}
 use Rattle.spares_top.specs.Held.{held_in}
 use Rattle.spares_top.specs.Plans.{Planning, certificate_text, held_of, plan_certificate, plan_terms}
-use Rattle.spares_top.specs.Task.{Task, confirm, demonstrate, evaluate, make_plan, price_target, show_pipeline, sweep_budgets}
+use Rattle.spares_top.specs.Task.{Task, confirm, demonstrate, evaluate, make_plan, plan_in_turn, price_target, set_beside, show_pipeline, sweep_budgets}
 use Rattle.spares_top.specs.declared.done.Done.{Done}
-use Rattle.spares_top.specs.declared.done.Done.TheVariants.{Single, Evaluated, Planned, Checked, Demo, Swept, Priced}
+use Rattle.spares_top.specs.declared.done.Done.TheVariants.{Single, Evaluated, Planned, Checked, Demo, Swept, Priced, Session, Compared}
 use Rattle.spares_top.specs.declared.done.Outcome.{Outcome}
 use Rattle.spares_top.specs.declared.done.Written.{Written}
 
@@ -151,6 +156,27 @@ pub record IsTruePrice (c : CaseRows) (backorders : Decimal) (report : TargetRep
   pub target_is : report.target ≡ backorders
   pub says : IsTrueTarget weighted_backorders c (nothing_held c).list report
 
+-- ---- a session
+
+-- What the report of one plan of a session says of the case as it then is, under the budget as it then is. The stocks are those of
+-- the plan.
+pub record IsTrueAnswer (d : PlanDue) (report : PlanReport) : Type 0 where
+  pub plan : CasePlan
+  pub accepted : IsAcceptedCase d.case
+  -- in the words of the model, for any score, of weighted backorders and where nothing is held; and in its plain words
+  pub says : IsTrueReport plain_ends weighted_backorders d.case (nothing_held d.case).list (plain_terms d.budget) plan report
+  pub plainly : IsTruePlanReport d.case d.budget plan.stocks report
+  -- the two numbers that are printed of a span lie round what it encloses
+  pub prints : (span : Span) (value : ℕ → Fraction) → ShowsSpan 48 value span → PrintsAround span value
+
+-- ---- a comparison
+
+-- What a comparison says of the case at the stocks: the model's backorders and those of Poisson pipelines, pair by pair, and
+-- the two weighted totals. Of each interval that encloses a value two numbers are printed that do.
+pub record IsTrueComparison (c : CaseRows) (s : StockList) (report : CompareReport) : Type 0 where
+  pub says : ShowsComparison c s report
+  pub prints : (x : Ends) (value : ℕ → Fraction) → Encloses 48 x.lo x.hi value → Shows x value
+
 -- ---- a task
 
 -- it is a report of this kind, of which this holds
@@ -169,3 +195,5 @@ IsTrue (confirm claimed) outcome = Reports Checked (IsTrueCheck claimed) outcome
 IsTrue (demonstrate number lines) outcome = Reports Demo (IsTrueDemo number lines) outcome.done
 IsTrue (sweep_budgets case) outcome = Reports Swept (IsTrueSweep case) outcome.done
 IsTrue (price_target case backorders) outcome = Reports Priced (IsTruePrice case backorders) outcome.done
+IsTrue (plan_in_turn due) outcome = Reports Session (λ report. AllZip IsTrueAnswer due report.plans) outcome.done
+IsTrue (set_beside case stocks) outcome = Reports Compared (IsTrueComparison case stocks) outcome.done

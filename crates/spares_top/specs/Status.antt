@@ -14,6 +14,7 @@ status_of (Err (refusal.Case fault)) = 3
 status_of (Err (refusal.Stock fault)) = 3
 status_of (Err (refusal.Rate fault)) = 3
 status_of (Err (refusal.Work count)) = 3
+status_of (Err (refusal.Edit fault)) = 3
 status_of (Err (refusal.Cert fault)) = 4
 status_of (Err (refusal.Rejected reject)) = 4
 status_of (Err refusal.WriteFault) = 6

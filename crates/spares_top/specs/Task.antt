@@ -1,4 +1,5 @@
 -- What an order asks for, as a task, over the bytes of its files. Means and variances are counted in ten-thousandths.
+use Rattle.std.specs.List.{AllZip}
 use Rattle.std.specs.Prelude.{◌≡◌, ℕ, List, [], get_or, Option, Some, None, option_map, Result, Ok, Err, unwrap_or}
 use Rattle.demand_rates.specs.Single.{single_fault_of}
 use Rattle.demand_rates.specs.declared.fault.RateFault.{RateFault}
@@ -8,11 +9,14 @@ use Rattle.moment_table.specs.Profile.{table_rows}
 use Rattle.moment_table.specs.Rows.{at_stock}
 use Rattle.moment_table.specs.declared.kinds.Row.{Row}
 use Rattle.budget_sweep.specs.Cases.{IsCaseSweep, IsCaseTarget}
+use Rattle.case_edits.specs.Edits.{PlanDue, session_of}
 use Rattle.case_figures.specs.Figures.{figures_of}
 use Rattle.fleet_plan.specs.Laws.{plain_ends}
 use Rattle.gap_checker.specs.Soundness.{nothing_held}
+use Rattle.metric_compare.specs.Report.{comparison_of}
 use Rattle.plan_report.specs.declared.eval.EvalReport.{EvalReport}
 use Rattle.plan_report.specs.declared.single.SingleReport.{SingleReport}
+use Rattle.plan_session.specs.Sessions.{IsReportOf}
 use Rattle.spares_input.specs.Cases.{CaseRows}
 use Rattle.spares_input.specs.Stocks.{StockList}
 use Rattle.spares_io.specs.Shelf.{Files}
@@ -21,13 +25,14 @@ use Rattle.spares_words.specs.declared.order.Order.{Order}
 use Rattle.spares_words.specs.declared.order.Order.TheVariants as order
 use Rattle.spares_words.specs.declared.order.WordsFault.{WordsFault}
 use Rattle.spares_top.specs.declared.done.Done.{Done}
-use Rattle.spares_top.specs.declared.done.Done.TheVariants.{Single, Evaluated, Checked, Demo, Swept, Priced}
+use Rattle.spares_top.specs.declared.done.Done.TheVariants.{Single, Evaluated, Checked, Demo, Swept, Priced, Session, Compared}
 use Rattle.spares_top.specs.declared.done.Outcome.{Outcome}
 use Rattle.refusals.specs.declared.failure.Failure.{Failure}
 use Rattle.refusals.specs.declared.refusal.File.TheVariants as file
 use Rattle.refusals.specs.declared.refusal.Refusal.TheVariants as refusal
 use Rattle.spares_io.specs.Steps.{◌>>=◌}
-use Rattle.refusals.specs.Causes.{plain_failure}
+use Rattle.refusals.specs.Causes.{or_refuse, plain_failure}
+use Rattle.refusals.specs.Lines.{no_names}
 use Rattle.case_tables.specs.Tables.{stocked_of}
 use Rattle.spares_top.specs.Files.{inputs_of, reads}
 use Rattle.spares_top.specs.Plans.{Planning, IsPlanned, case_within_work, planning_of}
@@ -50,6 +55,10 @@ pub data Task : Type 0 where
   sweep_budgets : CaseRows → Task
   -- for how much so many backorders can be had of a case
   price_target : CaseRows → Decimal → Task
+  -- these plans, one after the other
+  plan_in_turn : List PlanDue → Task
+  -- the figures of a case at these stocks, beside those of Poisson pipelines
+  set_beside : CaseRows → StockList → Task
 
 -- ---- the task of an order
 
@@ -96,6 +105,19 @@ target_task sites parts rates backorders = do
   case ← case_within_work sites parts rates
   Ok (price_target case backorders)
 
+-- the plans that edits of a case ask for are made
+abbrev pub session_task : List ℕ → List ℕ → List ℕ → List ℕ → Result Task Failure
+session_task sites parts rates edits = do
+  case ← case_within_work sites parts rates
+  due ← or_refuse no_names refusal.Edit (session_of case edits)
+  Ok (plan_in_turn due)
+
+-- the case and the stocks of four tables are compared
+abbrev pub compare_task : List ℕ → List ℕ → List ℕ → List ℕ → Result Task Failure
+compare_task sites parts rates stocks = do
+  stocked ← stocked_of file.Stocks sites parts rates stocks
+  Ok (set_beside stocked.case stocked.stocks)
+
 -- the bytes at a place of the inputs
 abbrev pub bytes_at : List (List ℕ) → ℕ → List ℕ
 bytes_at bytes place = get_or bytes place []
@@ -111,6 +133,8 @@ task_on (order.Check certificate) bytes = check_task (bytes_at bytes 0)
 task_on (order.Demo number lines) bytes = Ok (demonstrate number lines)
 task_on (order.Sweep sites parts rates) bytes = sweep_task (bytes_at bytes 0) (bytes_at bytes 1) (bytes_at bytes 2)
 task_on (order.Target sites parts rates backorders) bytes = target_task (bytes_at bytes 0) (bytes_at bytes 1) (bytes_at bytes 2) backorders
+task_on (order.Session sites parts rates edits) bytes = session_task (bytes_at bytes 0) (bytes_at bytes 1) (bytes_at bytes 2) (bytes_at bytes 3)
+task_on (order.Compare sites parts rates stocks) bytes = compare_task (bytes_at bytes 0) (bytes_at bytes 1) (bytes_at bytes 2) (bytes_at bytes 3)
 
 -- words without an order are refused
 abbrev pub task_on_words : Result Order WordsFault → List (List ℕ) → Result Task Failure
@@ -156,3 +180,5 @@ Fulfils (confirm claimed) outcome = outcome ≡ printed (Checked (check_of claim
 Fulfils (demonstrate number lines) outcome = Shows Demo (IsDemonstrated number lines) outcome
 Fulfils (sweep_budgets case) outcome = Shows Swept (IsCaseSweep plain_ends case (nothing_held case).list) outcome
 Fulfils (price_target case backorders) outcome = Shows Priced (IsCaseTarget plain_ends case (nothing_held case).list backorders) outcome
+Fulfils (plan_in_turn due) outcome = Shows Session (λ report. AllZip IsReportOf due report.plans) outcome
+Fulfils (set_beside case stocks) outcome = outcome ≡ printed (Compared (comparison_of case stocks))

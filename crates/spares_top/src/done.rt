@@ -4,7 +4,9 @@ ghost use Rattle.spares_top.specs.Task.{printed};
 ghost use Rattle.spares_top.specs.Texts.{CanPrint, text_of};
 
 use budget_sweep::{SweepReport, TargetReport};
+use metric_compare::CompareReport;
 use plan_report::{CheckReport, EvalReport, PlanReport, SingleReport, Summary};
+use plan_session::SessionReport;
 use spares_io::{List, NoMemory, Text};
 use std::alloc::Global;
 
@@ -25,6 +27,10 @@ pub enum Done {
     Swept(SweepReport),
     /// For how much a target can be had of a case.
     Priced(TargetReport),
+    /// The plans that a file of edits asks for.
+    Session(SessionReport),
+    /// The figures of a case at given stocks, beside those of Poisson pipelines.
+    Compared(CompareReport),
 }
 
 impl Done {
@@ -41,6 +47,8 @@ impl Done {
             Done::Demo(summary) => summary.text(alloc),
             Done::Swept(report) => report.text(alloc),
             Done::Priced(report) => report.text(alloc),
+            Done::Session(report) => report.text(alloc),
+            Done::Compared(report) => report.text(alloc),
         }
     }
 }

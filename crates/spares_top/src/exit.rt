@@ -17,7 +17,8 @@ pub fn status(answer: &Result<Done, Refusal>) -> u8
             | Refusal::Case(_)
             | Refusal::Stock(_)
             | Refusal::Rate(_)
-            | Refusal::Work(_),
+            | Refusal::Work(_)
+            | Refusal::Edit(_),
         ) => 3,
         Err(Refusal::Cert(_) | Refusal::Rejected(_)) => 4,
         Err(Refusal::ReadFault(_)) => 5,

@@ -1,7 +1,7 @@
 //! The files that an order reads.
 ghost use Rattle.std.specs.Prelude.{◌≡◌, ◌⊎◌, ◌≤◌, ◌<◌, ◌^◌, [], All, length, IfOk, IfErr, OnOk};
 ghost use Rattle.std.specs.Option.{option_map};
-ghost use Rattle.spares_top.specs.Files.{Gave, IsTooLong, IsUnread, Reads, StandStill, case_in, certificate_in, inputs, stocks_in, table_in};
+ghost use Rattle.spares_top.specs.Files.{Gave, IsTooLong, IsUnread, Reads, StandStill, case_in, certificate_in, inputs, if_named, table_in};
 ghost use Rattle.spares_top.specs.Reading.{IsReadable, ReadsGive, Unread};
 
 use refusals::{Failure, File, Refusal};
@@ -63,19 +63,19 @@ fn case_tables(
     Ok(tables)
 }
 
-/// The tables of a case, and then a table of stocks, where one is named.
-fn stocked_tables(
+/// The tables of a case, and then one file more, where one is named.
+fn tables_and(
     alloc: Global,
     sites: &Text,
     parts: &Text,
     rates: &Text,
     file: File,
-    stocks: Option<&Text>,
+    more: Option<&Text>,
 ) -> Result<Vec<Input>, NoMemory>
-    ensures { IfOk result (λ tables. tables.items ≡ case_in sites.now parts.now rates.now (stocks_in file (option_map (λ t. t.now) stocks.entry))) }
+    ensures { IfOk result (λ tables. tables.items ≡ case_in sites.now parts.now rates.now (if_named file (option_map (λ t. t.now) more.entry))) }
 {
     let mut tables = case_tables(alloc, sites, parts, rates)?;
-    if let Some(name) = stocks {
+    if let Some(name) = more {
         tables.push(Input::table(alloc, file, name)?)?;
     }
     Ok(tables)
@@ -93,14 +93,14 @@ pub(crate) fn inputs_of(alloc: Global, order: &Order) -> Result<Vec<Input>, NoMe
             rates,
             stocks,
             ..
-        } => stocked_tables(alloc, sites, parts, rates, File::Stocks, Some(stocks)),
+        } => tables_and(alloc, sites, parts, rates, File::Stocks, Some(stocks)),
         Order::Plan {
             sites,
             parts,
             rates,
             on_hand,
             ..
-        } => stocked_tables(alloc, sites, parts, rates, File::OnHand, on_hand.as_ref()),
+        } => tables_and(alloc, sites, parts, rates, File::OnHand, on_hand.as_ref()),
         Order::Sweep {
             sites,
             parts,
@@ -112,6 +112,18 @@ pub(crate) fn inputs_of(alloc: Global, order: &Order) -> Result<Vec<Input>, NoMe
             rates,
             ..
         } => case_tables(alloc, sites, parts, rates),
+        Order::Session {
+            sites,
+            parts,
+            rates,
+            edits,
+        } => tables_and(alloc, sites, parts, rates, File::Edits, Some(edits)),
+        Order::Compare {
+            sites,
+            parts,
+            rates,
+            stocks,
+        } => tables_and(alloc, sites, parts, rates, File::Stocks, Some(stocks)),
         Order::Check { certificate } => {
             let mut inputs = Vec::new(alloc);
             inputs.push(Input::certificate(alloc, certificate)?)?;

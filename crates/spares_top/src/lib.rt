@@ -2,6 +2,7 @@
 #![tactic(auto)]
 
 mod check;
+mod compare;
 mod deliver;
 mod demo;
 mod done;
@@ -9,6 +10,7 @@ mod eval;
 mod exit;
 mod files;
 mod plan;
+mod session;
 mod single;
 mod sweep;
 mod top;

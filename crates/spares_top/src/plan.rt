@@ -2,6 +2,7 @@
 ghost use Rattle.std.specs.Prelude.{◌≡◌, ◌≤◌, IfOk, Some, None, Ok, true, length, if◌then◌else◌};
 ghost use Rattle.std.specs.Result.{IsOk};
 ghost use Rattle.case_tables.specs.Answers.{Tells};
+ghost use Rattle.case_tables.specs.Tables.{table_limit};
 ghost use Rattle.certified_plan.specs.Inputs.{AreTerms};
 ghost use Rattle.demand_rates.specs.Rates.{AreRatesOf};
 ghost use Rattle.family_curve.specs.Counts.{work_of};
@@ -37,19 +38,21 @@ pub(crate) struct Ground {
     pub(crate) terms: Terms,
 }
 
-/// The case of three tables with its rates, if its curves don't take too many tables.
-pub(crate) fn case_within_work(alloc: Global, files: &[List<u8>]) -> Result<Accepted, Stop<Failure>>
-    requires { AreTables 3 files.now }
-    ensures answer { Tells (case_within_work (bytes_at files.now 0) (bytes_at files.now 1) (bytes_at files.now 2)) result }
+/// The case of sites, parts and rates, with its exact rates, if its curves don't take too many tables.
+pub(crate) fn within_work(
+    alloc: Global,
+    sites: &[u8],
+    parts: &[u8],
+    rates: &[u8],
+) -> Result<Accepted, Stop<Failure>>
+    requires sites { length sites.now ≤ table_limit }
+    requires parts { length parts.now ≤ table_limit }
+    requires rates { length rates.now ≤ table_limit }
+    ensures answer { Tells (case_within_work sites.now parts.now rates.now) result }
     ensures rates { IfOk result (λ given. AreRatesOf given.case given.rates) }
     ensures accepted { IfOk result (λ given. IsAcceptedCase given.case) }
     ensures work { IfOk result (λ given. IsOk (work_of given.case)) }
 {
-    let (sites, parts, rates) = (
-        files[0].as_slice(),
-        files[1].as_slice(),
-        files[2].as_slice(),
-    );
     let given = match accepted_of(alloc, sites, parts, rates) {
         Ok(given) => given,
         Err(stop) => return Err(stop),
@@ -59,6 +62,18 @@ pub(crate) fn case_within_work(alloc: Global, files: &[List<u8>]) -> Result<Acce
         Ok(_) => Ok(given),
         Err(count) => Err(Stop::Fault(Failure::of(Refusal::Work(count)))),
     }
+}
+
+/// The case of three tables, if its curves don't take too many tables.
+pub(crate) fn case_within_work(alloc: Global, files: &[List<u8>]) -> Result<Accepted, Stop<Failure>>
+    requires { AreTables 3 files.now }
+    ensures answer { Tells (case_within_work (bytes_at files.now 0) (bytes_at files.now 1) (bytes_at files.now 2)) result }
+    ensures rates { IfOk result (λ given. AreRatesOf given.case given.rates) }
+    ensures accepted { IfOk result (λ given. IsAcceptedCase given.case) }
+    ensures work { IfOk result (λ given. IsOk (work_of given.case)) }
+{
+    let (sites, parts) = (files[0].as_slice(), files[1].as_slice());
+    within_work(alloc, sites, parts, files[2].as_slice())
 }
 
 /// What is planned of three tables.

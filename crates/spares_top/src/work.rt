@@ -8,12 +8,14 @@ ghost use Rattle.spares_top.specs.State.{scene};
 ghost use Rattle.spares_top.specs.Task.{task_on};
 
 use crate::check::check;
+use crate::compare::compare;
 use crate::deliver::deliver;
 use crate::demo::demo;
 use crate::done::{Done, Outcome};
 use crate::eval::eval;
 use crate::files::{inputs_of, read_files};
 use crate::plan::plan;
+use crate::session::session;
 use crate::single::single;
 use crate::sweep::{sweep, target};
 use certified_plan::Terms;
@@ -54,6 +56,8 @@ fn outcome_on(alloc: Global, order: Order, files: &[List<u8>]) -> Result<Outcome
         Order::Demo { number, lines } => demo(alloc, number, lines),
         Order::Sweep { .. } => sweep(alloc, files),
         Order::Target { backorders, .. } => target(alloc, files, backorders),
+        Order::Session { .. } => session(alloc, files),
+        Order::Compare { .. } => compare(alloc, files),
     }
 }
 

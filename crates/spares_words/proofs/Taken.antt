@@ -6,16 +6,16 @@ use Rattle.clap.specs.declared.parser.matches.ArgMatches.{ArgMatches}
 use Rattle.spares_io.specs.declared.stop.Stop.TheVariants.{Fault, NoMemory}
 use Rattle.spares_io.specs.declared.stop.Stop.{Stop}
 use Rattle.spares_io.specs.Answers.{Gives}
-use Rattle.spares_words.specs.Commands.{app_named, check_app, demo_app, eval_app, plan_app, single_app, sweep_app, target_app}
+use Rattle.spares_words.specs.Commands.{app_named, check_app, compare_app, demo_app, eval_app, plan_app, session_app, single_app, sweep_app, target_app}
 use Rattle.spares_words.specs.Order.{by_command, order_named, Parses}
 use Rattle.spares_words.specs.declared.commands.CommandName.{CommandName}
-use Rattle.spares_words.specs.declared.commands.CommandName.TheVariants.{Single, Eval, Plan, Check, Demo, Sweep, Target}
+use Rattle.spares_words.specs.declared.commands.CommandName.TheVariants.{Single, Eval, Plan, Check, Demo, Sweep, Target, Session, Compare}
 use Rattle.spares_words.specs.declared.order.WordsFault.{WordsFault}
 use Rattle.spares_words.specs.declared.order.WordsFault.TheVariants.{Shape}
 
 -- each command is one of which `clap` tells what it takes
 pub each_simple : (name : CommandName) → is_simple_and_free (app_named name) ≡ true
-unfolding single_app eval_app plan_app check_app demo_app sweep_app target_app
+unfolding single_app eval_app plan_app check_app demo_app sweep_app target_app session_app compare_app
 each_simple Single = refl
 each_simple Eval = refl
 each_simple Plan = refl
@@ -23,6 +23,8 @@ each_simple Check = refl
 each_simple Demo = refl
 each_simple Sweep = refl
 each_simple Target = refl
+each_simple Session = refl
+each_simple Compare = refl
 
 pub taken : (name : CommandName) (made : App) → made ≡ app_named name → (words : List Text) (m : ArgMatches)
     → Parses made words (Ok m) → by_command name words ≡ order_named name (rows_of (found_of m))

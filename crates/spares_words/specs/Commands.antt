@@ -4,7 +4,7 @@ use Rattle.std.specs.Str.{bytes_eq}
 use Rattle.clap.specs.Words.{App, Rule, Text, new_rule, with_rule, new_app}
 use Rattle.clap.specs.Simple.{on_top}
 use Rattle.spares_words.specs.declared.commands.CommandName.{CommandName}
-use Rattle.spares_words.specs.declared.commands.CommandName.TheVariants.{Single, Eval, Plan, Check, Demo, Sweep, Target}
+use Rattle.spares_words.specs.declared.commands.CommandName.TheVariants.{Single, Eval, Plan, Check, Demo, Sweep, Target, Session, Compare}
 
 -- the command of this name
 abbrev pub command_named : Text → Option CommandName
@@ -16,6 +16,8 @@ command_named name =
     else if bytes_eq name (codes "demo") then Some Demo
     else if bytes_eq name (codes "sweep") then Some Sweep
     else if bytes_eq name (codes "target") then Some Target
+    else if bytes_eq name (codes "session") then Some Session
+    else if bytes_eq name (codes "compare") then Some Compare
     else None
 
 -- a value that stands by itself and may not be left out
@@ -93,6 +95,14 @@ sweep_app = with_tables (bare (codes "sweep"))
 unfoldable pub target_app : App
 target_app = tables_and (codes "target") (codes "backorders")
 
+-- session --sites F --parts F --rates F --edits F
+unfoldable pub session_app : App
+session_app = tables_and (codes "session") (codes "edits")
+
+-- compare --sites F --parts F --rates F --stocks F
+unfoldable pub compare_app : App
+compare_app = tables_and (codes "compare") (codes "stocks")
+
 -- a command with its arguments and options
 abbrev pub app_named : CommandName → App
 app_named Single = single_app
@@ -102,3 +112,5 @@ app_named Check = check_app
 app_named Demo = demo_app
 app_named Sweep = sweep_app
 app_named Target = target_app
+app_named Session = session_app
+app_named Compare = compare_app

@@ -17,7 +17,7 @@ use Rattle.spares_words.specs.Commands.{app_named, command_named}
 use Rattle.spares_words.specs.declared.commands.CommandName.{CommandName}
 use Rattle.spares_words.specs.declared.commands.CommandName.TheVariants as command
 use Rattle.spares_words.specs.declared.order.Order.{Order}
-use Rattle.spares_words.specs.declared.order.Order.TheVariants.{Single, Eval, Plan, Check, Demo, Sweep, Target}
+use Rattle.spares_words.specs.declared.order.Order.TheVariants.{Single, Eval, Plan, Check, Demo, Sweep, Target, Session, Compare}
 use Rattle.spares_words.specs.declared.order.Which.{Which}
 use Rattle.spares_words.specs.declared.order.Which.TheVariants as which
 use Rattle.spares_words.specs.declared.order.WordsFault.{WordsFault}
@@ -177,6 +177,13 @@ target_from names backorders_text = do
 abbrev pub target_of : List Row → Result Order WordsFault
 target_of rows = target_from (names_of rows) (text_of rows (codes "backorders"))
 
+-- `session` and `compare` by the names of their files
+abbrev pub session_of : List Row → Result Order WordsFault
+session_of rows = let names = names_of rows in Ok (Session names.sites names.parts names.rates (text_of rows (codes "edits")))
+
+abbrev pub compare_of : List Row → Result Order WordsFault
+compare_of rows = let names = names_of rows in Ok (Compare names.sites names.parts names.rates (text_of rows (codes "stocks")))
+
 -- the order of a command, by what its arguments and options are given
 abbrev pub order_named : CommandName → List Row → Result Order WordsFault
 order_named command.Single = single_of
@@ -186,6 +193,8 @@ order_named command.Check = check_of
 order_named command.Demo = demo_of
 order_named command.Sweep = sweep_of
 order_named command.Target = target_of
+order_named command.Session = session_of
+order_named command.Compare = compare_of
 
 -- what a command makes of its words, where it takes them
 unfoldable pub by_command : CommandName → List Text → Result Order WordsFault
@@ -219,6 +228,8 @@ IsInRange (Check certificate) = ⊤
 IsInRange (Demo number lines) = (number ≤ 4294967295) × (1 ≤ lines) × (lines ≤ 80)
 IsInRange (Sweep sites parts rates) = ⊤
 IsInRange (Target sites parts rates backorders) = (backorders.places ≡ 4) × (backorders.units ≤ most_target)
+IsInRange (Session sites parts rates edits) = ⊤
+IsInRange (Compare sites parts rates stocks) = ⊤
 
 -- what `clap` makes of the words of a command: its rows where it takes them, and else the fault
 abbrev pub Parses : App → List Text → Result ArgMatches (Stop WordsFault) → Type 0

@@ -6,12 +6,14 @@ ghost use Rattle.spares_words.specs.Commands.{
   bare,
   check_app,
   command_named,
+  compare_app,
   demo_app,
   eval_app,
   option,
   plan_app,
   positional,
   required_option,
+  session_app,
   single_app,
   sweep_app,
   tables_and,
@@ -34,6 +36,8 @@ pub(crate) enum CommandName {
     Demo,
     Sweep,
     Target,
+    Session,
+    Compare,
 }
 
 /// The command of this name.
@@ -48,6 +52,8 @@ pub(crate) fn command_named(name: &str) -> Option<CommandName>
         "demo" => Some(CommandName::Demo),
         "sweep" => Some(CommandName::Sweep),
         "target" => Some(CommandName::Target),
+        "session" => Some(CommandName::Session),
+        "compare" => Some(CommandName::Compare),
         _ => None,
     }
 }
@@ -221,6 +227,22 @@ fn target_command<'a>(alloc: Global) -> Result<Command<'a>, AllocError>
     tables_and(alloc, "target", "backorders")
 }
 
+/// `session --sites F --parts F --rates F --edits F`.
+#[tactic(auto, unfolding(crate::specs::Commands::session_app))]
+fn session_command<'a>(alloc: Global) -> Result<Command<'a>, AllocError>
+    ensures { IfOk result (λ c. app_of c ≡ session_app) }
+{
+    tables_and(alloc, "session", "edits")
+}
+
+/// `compare --sites F --parts F --rates F --stocks F`.
+#[tactic(auto, unfolding(crate::specs::Commands::compare_app))]
+fn compare_command<'a>(alloc: Global) -> Result<Command<'a>, AllocError>
+    ensures { IfOk result (λ c. app_of c ≡ compare_app) }
+{
+    tables_and(alloc, "compare", "stocks")
+}
+
 /// A command with its arguments and options.
 pub(crate) fn command_of<'a>(alloc: Global, name: CommandName) -> Result<Command<'a>, AllocError>
     ensures { IfOk result (λ c. app_of c ≡ app_named name) }
@@ -233,5 +255,7 @@ pub(crate) fn command_of<'a>(alloc: Global, name: CommandName) -> Result<Command
         CommandName::Demo => demo_command(alloc),
         CommandName::Sweep => sweep_command(alloc),
         CommandName::Target => target_command(alloc),
+        CommandName::Session => session_command(alloc),
+        CommandName::Compare => compare_command(alloc),
     }
 }

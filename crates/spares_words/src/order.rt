@@ -96,4 +96,19 @@ pub enum Order {
         rates: Text,
         backorders: Decimal,
     },
+    /// `session --sites F --parts F --rates F --edits F`: the plans that a file of edits asks for, one after the other.
+    Session {
+        sites: Text,
+        parts: Text,
+        rates: Text,
+        edits: Text,
+    },
+    /// `compare --sites F --parts F --rates F --stocks F`: the backorders of a case at given stocks, beside those where each
+    /// pipeline is taken for Poisson.
+    Compare {
+        sites: Text,
+        parts: Text,
+        rates: Text,
+        stocks: Text,
+    },
 }

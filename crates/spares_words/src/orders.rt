@@ -6,11 +6,13 @@ ghost use Rattle.spares_words.specs.Order.{
   AreInRange,
   IsInRange,
   check_of,
+  compare_of,
   demo_of,
   eval_of,
   order_named,
   plan_of,
   plan_terms_of,
+  session_of,
   single_of,
   sweep_of,
   target_of,
@@ -175,6 +177,42 @@ fn target_order(alloc: Global, matches: &ArgMatches<'_>) -> Result<Order, Stop<W
     })
 }
 
+fn session_order(alloc: Global, matches: &ArgMatches<'_>) -> Result<Order, Stop<WordsFault>>
+    ensures order { Gives (session_of (rows_of (found_of matches.now))) result }
+    ensures range { IfOk result IsInRange }
+{
+    let Names {
+        sites,
+        parts,
+        rates,
+    } = names_of(alloc, matches)?;
+    let edits = copied(alloc, matches, "edits")?;
+    Ok(Order::Session {
+        sites,
+        parts,
+        rates,
+        edits,
+    })
+}
+
+fn compare_order(alloc: Global, matches: &ArgMatches<'_>) -> Result<Order, Stop<WordsFault>>
+    ensures order { Gives (compare_of (rows_of (found_of matches.now))) result }
+    ensures range { IfOk result IsInRange }
+{
+    let Names {
+        sites,
+        parts,
+        rates,
+    } = names_of(alloc, matches)?;
+    let stocks = copied(alloc, matches, "stocks")?;
+    Ok(Order::Compare {
+        sites,
+        parts,
+        rates,
+        stocks,
+    })
+}
+
 /// A fault of the words, beside want of memory.
 fn or_stop(order: Result<Order, WordsFault>) -> Result<Order, Stop<WordsFault>>
     ensures { Gives order result }
@@ -202,5 +240,7 @@ pub(crate) fn order_named(
         CommandName::Demo => or_stop(demo_order(matches)),
         CommandName::Sweep => sweep_order(alloc, matches),
         CommandName::Target => target_order(alloc, matches),
+        CommandName::Session => session_order(alloc, matches),
+        CommandName::Compare => compare_order(alloc, matches),
     }
 }

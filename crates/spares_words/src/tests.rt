@@ -19,6 +19,20 @@ fn order_of_line(alloc: Global, line: &str) -> Result<Order, Stop<WordsFault>> {
     read_words(alloc, words.as_slice())
 }
 
+/// The words give this order.
+fn gives(rt: &impl Abort, alloc: Global, line: &str, want: Order) {
+    assert_eq!(rt; order_of_line(alloc, line), Ok(want), "at {line}");
+}
+
+/// The words are refused with this fault.
+fn refuses(rt: &impl Abort, alloc: Global, line: &str, want: WordsFault) {
+    assert_eq!(rt;
+        order_of_line(alloc, line),
+        Err(Stop::Fault(want)),
+        "at {line}"
+    );
+}
+
 fn ten_thousandths(units: u64) -> Decimal {
     Decimal { units, places: 4 }
 }
@@ -39,17 +53,25 @@ const SINGLES: [(&str, u64, u8, Option<u64>); 11] = [
     ("single --variance 2 -- 1 1", 10_000, 1, Some(20_000)),
 ];
 
-#[test]
-fn takes_single_with_its_option_anywhere(rt: HostRuntime) -> Result<(), Fail> {
-    for (line, mean, stock, variance) in SINGLES {
+fn gives_singles(
+    rt: &impl Abort,
+    alloc: Global,
+    cases: &[(&str, u64, u8, Option<u64>)],
+) -> Result<(), Fail> {
+    for (line, mean, stock, variance) in cases {
         let want = Order::Single {
-            mean: ten_thousandths(mean),
+            mean: ten_thousandths(*mean),
             variance: variance.map(ten_thousandths),
-            stock,
+            stock: *stock,
         };
-        assert_eq!(rt; order_of_line(rt.alloc(), line), Ok(want), "at {line}");
+        gives(rt, alloc, line, want);
     }
     Ok(())
+}
+
+#[test]
+fn takes_single_with_its_option_anywhere(rt: HostRuntime) -> Result<(), Fail> {
+    gives_singles(&rt, rt.alloc(), &SINGLES)
 }
 
 /// The order of `eval` with these names of files, parted by single spaces, and bits.
@@ -88,14 +110,21 @@ const EVALS: [(&str, [&str; 4], u8); 4] = [
     ),
 ];
 
-#[test]
-fn takes_eval_with_its_options_in_any_order(rt: HostRuntime) -> Result<(), Fail> {
-    let alloc = rt.alloc();
-    for (line, names, bits) in EVALS {
-        let want = eval_order(alloc, names, bits)?;
-        assert_eq!(rt; order_of_line(alloc, line), Ok(want), "at {line}");
+fn gives_evals(
+    rt: &impl Abort,
+    alloc: Global,
+    cases: &[(&str, [&str; 4], u8)],
+) -> Result<(), Fail> {
+    for (line, names, bits) in cases {
+        let want = eval_order(alloc, *names, *bits)?;
+        gives(rt, alloc, line, want);
     }
     Ok(())
+}
+
+#[test]
+fn takes_eval_with_its_options_in_any_order(rt: HostRuntime) -> Result<(), Fail> {
+    gives_evals(&rt, rt.alloc(), &EVALS)
 }
 
 /// The order of `plan` with these names of its tables and certificate, parted by single spaces, and the rest.
@@ -146,60 +175,107 @@ const PLANS: [(&str, [&str; 4], u64, u8); 3] = [
     ),
 ];
 
-#[test]
-fn takes_plan(rt: HostRuntime) -> Result<(), Fail> {
-    let alloc = rt.alloc();
-    for (line, names, budget, format) in PLANS {
-        let want = plan_order(alloc, names, None, budget, format, Backorders)?;
-        assert_eq!(rt; order_of_line(alloc, line), Ok(want), "at {line}");
+fn gives_plans(
+    rt: &impl Abort,
+    alloc: Global,
+    cases: &[(&str, [&str; 4], u64, u8)],
+) -> Result<(), Fail> {
+    for (line, names, budget, format) in cases {
+        let want = plan_order(alloc, *names, None, *budget, *format, Backorders)?;
+        gives(rt, alloc, line, want);
     }
     Ok(())
 }
 
-/// What may follow the names, with the stocks on hand, the format and the objective that it gives.
+#[test]
+fn takes_plan(rt: HostRuntime) -> Result<(), Fail> {
+    gives_plans(&rt, rt.alloc(), &PLANS)
+}
+
+/// Lines of `plan` with stocks on hand or an objective: each with the stocks, the format and the objective that it gives.
 const AIMS: [(&str, Option<&str>, u8, Objective); 4] = [
-    ("--objective backorders", None, 1, Backorders),
-    ("--objective log-availability", None, 2, LogAvailability),
-    ("--on-hand e", Some("e"), 2, Backorders),
     (
-        "--format 2 --objective=log-availability --on-hand=",
+        "plan --sites a --parts b --rates c --budget 1 --certificate d --objective backorders",
+        None,
+        1,
+        Backorders,
+    ),
+    (
+        "plan --sites a --parts b --rates c --budget 1 --certificate d --objective log-availability",
+        None,
+        2,
+        LogAvailability,
+    ),
+    (
+        "plan --sites a --parts b --rates c --budget 1 --certificate d --on-hand e",
+        Some("e"),
+        2,
+        Backorders,
+    ),
+    (
+        "plan --sites a --parts b --rates c --budget 1 --certificate d --on-hand= --objective=log-availability --format 2",
         Some(""),
         2,
         LogAvailability,
     ),
 ];
 
-#[test]
-fn takes_stocks_on_hand_and_objectives(rt: HostRuntime) -> Result<(), Fail> {
-    let alloc = rt.alloc();
-    for (end, on_hand, format, objective) in AIMS {
-        let line = format!(in alloc;
-            "plan --sites a --parts b --rates c --budget 1 --certificate d {end}"
+fn gives_aims(
+    rt: &impl Abort,
+    alloc: Global,
+    cases: &[(&str, Option<&str>, u8, Objective)],
+) -> Result<(), Fail> {
+    for (line, on_hand, format, objective) in cases {
+        let want = plan_order(
+            alloc,
+            ["a", "b", "c", "d"],
+            *on_hand,
+            1,
+            *format,
+            *objective,
         )?;
-        let want = plan_order(alloc, ["a", "b", "c", "d"], on_hand, 1, format, objective)?;
-        assert_eq!(rt; order_of_line(alloc, line.as_str()), Ok(want), "at {line}");
+        gives(rt, alloc, line, want);
     }
     Ok(())
 }
 
 #[test]
-fn takes_check_and_demo(rt: HostRuntime) -> Result<(), Fail> {
+fn takes_stocks_on_hand_and_objectives(rt: HostRuntime) -> Result<(), Fail> {
+    gives_aims(&rt, rt.alloc(), &AIMS)
+}
+
+#[test]
+fn takes_check(rt: HostRuntime) -> Result<(), Fail> {
     let alloc = rt.alloc();
     let certificate = Text::from_str(alloc, "c")?;
-    assert_eq!(rt;
-        order_of_line(alloc, "check --certificate c"),
-        Ok(Order::Check { certificate })
+    gives(
+        &rt,
+        alloc,
+        "check --certificate c",
+        Order::Check { certificate },
     );
-    let demo = Order::Demo {
-        number: 4_294_967_295,
-        lines: 80,
-    };
-    assert_eq!(rt; order_of_line(alloc, "demo 4294967295 80"), Ok(demo));
-    let demo = Order::Demo {
-        number: 0,
-        lines: 1,
-    };
-    assert_eq!(rt; order_of_line(alloc, "demo 0. 01"), Ok(demo));
+    Ok(())
+}
+
+/// Lines of `demo`, with the number and the lines that they give.
+const DEMOS: [(&str, u32, u16); 2] = [
+    ("demo 4294967295 80", 4_294_967_295, 80),
+    ("demo 0. 01", 0, 1),
+];
+
+fn gives_demos(rt: &impl Abort, alloc: Global, cases: &[(&str, u32, u16)]) {
+    for (line, number, lines) in cases {
+        let want = Order::Demo {
+            number: *number,
+            lines: *lines,
+        };
+        gives(rt, alloc, line, want);
+    }
+}
+
+#[test]
+fn takes_demo(rt: HostRuntime) -> Result<(), Fail> {
+    gives_demos(&rt, rt.alloc(), &DEMOS);
     Ok(())
 }
 
@@ -303,28 +379,27 @@ const REFUSED: [(&str, WordsFault); 62] = [
 ];
 
 /// Each line is refused with its fault.
-fn refuses(rt: &impl Abort, alloc: Global, cases: &[(&str, WordsFault)]) -> Result<(), Fail> {
+fn refuses_each(rt: &impl Abort, alloc: Global, cases: &[(&str, WordsFault)]) {
     for (line, want) in cases {
-        assert_eq!(rt;
-            order_of_line(alloc, line),
-            Err(Stop::Fault(*want)),
-            "at {line}"
-        );
+        refuses(rt, alloc, line, *want);
     }
-    Ok(())
 }
 
 #[test]
 fn refuses_words_and_numbers(rt: HostRuntime) -> Result<(), Fail> {
-    let none: [Text; 0] = [];
-    assert_eq!(rt;
-        read_words(rt.alloc(), none.as_slice()),
-        Err(Stop::Fault(Shape))
-    );
-    refuses(&rt, rt.alloc(), &REFUSED)
+    refuses_each(&rt, rt.alloc(), &REFUSED);
+    Ok(())
 }
 
-/// The fault of words that end so, after a beginning.
+#[test]
+fn refuses_no_words(rt: HostRuntime) -> Result<(), Fail> {
+    let none: [Text; 0] = [];
+    let answer = read_words(rt.alloc(), none.as_slice());
+    assert_eq!(rt; answer, Err(Stop::Fault(Shape)));
+    Ok(())
+}
+
+/// A line that begins so and ends with each of these is refused with its fault.
 fn refuses_after(
     rt: &impl Abort,
     alloc: Global,
@@ -333,11 +408,7 @@ fn refuses_after(
 ) -> Result<(), Fail> {
     for (end, want) in cases {
         let line = format!(in alloc; "{start} {end}")?;
-        assert_eq!(rt;
-            order_of_line(alloc, line.as_str()),
-            Err(Stop::Fault(*want)),
-            "at {line}"
-        );
+        refuses(rt, alloc, line.as_str(), *want);
     }
     Ok(())
 }
@@ -415,36 +486,94 @@ const REFUSED_REST: [(&str, WordsFault); 9] = [
 
 #[test]
 fn refuses_check_and_demo(rt: HostRuntime) -> Result<(), Fail> {
-    refuses(&rt, rt.alloc(), &REFUSED_REST)
+    refuses_each(&rt, rt.alloc(), &REFUSED_REST);
+    Ok(())
 }
 
-/// What may not follow the names of the tables in `target`, with its fault.
-const REFUSED_TARGETS: [(&str, WordsFault); 6] = [
-    ("--budget 1", Shape),
-    ("--backorders 1 --stocks d", Shape),
-    ("--backorders=-1", Number(Target, BadByte(0))),
-    ("--backorders 0.00001", Number(Target, TooManyPlaces)),
-    ("--backorders 1000000000.0001", Range(Target)),
-    ("--backorders 1000000001", Range(Target)),
-];
-
-#[test]
-fn refuses_targets(rt: HostRuntime) -> Result<(), Fail> {
-    refuses_after(
-        &rt,
-        rt.alloc(),
-        "target --sites a --parts b --rates c",
-        &REFUSED_TARGETS,
-    )
-}
-
-/// Lines of `sweep` that give no order.
-const REFUSED_SWEEPS: [(&str, WordsFault); 2] = [
+/// Lines of the commands that take tables alone, which give no order, each with its fault.
+const REFUSED_TABLES: [(&str, WordsFault); 8] = [
     ("sweep --sites a --parts b", Shape),
-    ("sweep --sites a --parts b --rates c --stocks d", Shape),
+    ("sweep --sites a --parts b --rates c --budget 1", Shape),
+    ("target --sites a --parts b --rates c", Shape),
+    (
+        "target --sites a --parts b --rates c --backorders 0.00001",
+        Number(Target, TooManyPlaces),
+    ),
+    (
+        "target --sites a --parts b --rates c --backorders 1000000000.0001",
+        Range(Target),
+    ),
+    ("session --sites a --parts b --rates c", Shape),
+    (
+        "session --sites a --parts b --rates c --edits d --budget 1",
+        Shape,
+    ),
+    (
+        "compare --sites a --parts b --rates c --stocks d --bits 32",
+        Shape,
+    ),
 ];
 
 #[test]
-fn refuses_sweeps(rt: HostRuntime) -> Result<(), Fail> {
-    refuses(&rt, rt.alloc(), &REFUSED_SWEEPS)
+fn refuses_commands_over_tables(rt: HostRuntime) -> Result<(), Fail> {
+    refuses_each(&rt, rt.alloc(), &REFUSED_TABLES);
+    Ok(())
+}
+
+/// An order over the tables `a`, `b` and `c`, and the file `d` where it takes one.
+fn table_order(alloc: Global, command: &str) -> Result<Order, NoMemory> {
+    let (sites, parts) = (Text::from_str(alloc, "a")?, Text::from_str(alloc, "b")?);
+    let (rates, more) = (Text::from_str(alloc, "c")?, Text::from_str(alloc, "d")?);
+    Ok(match command {
+        "session" => Order::Session {
+            sites,
+            parts,
+            rates,
+            edits: more,
+        },
+        "compare" => Order::Compare {
+            sites,
+            parts,
+            rates,
+            stocks: more,
+        },
+        "target" => Order::Target {
+            sites,
+            parts,
+            rates,
+            backorders: ten_thousandths(25_000),
+        },
+        _ => Order::Sweep {
+            sites,
+            parts,
+            rates,
+        },
+    })
+}
+
+/// Lines of these commands, with their names.
+const TABLES: [(&str, &str); 4] = [
+    ("sweep --parts b --sites a --rates=c", "sweep"),
+    (
+        "target --sites a --parts b --rates c --backorders 2.5",
+        "target",
+    ),
+    ("session --edits d --rates c --parts b --sites a", "session"),
+    (
+        "compare --sites a --parts b --rates c --stocks d",
+        "compare",
+    ),
+];
+
+fn gives_orders(rt: &impl Abort, alloc: Global, cases: &[(&str, &str)]) -> Result<(), Fail> {
+    for (line, command) in cases {
+        let want = table_order(alloc, command)?;
+        gives(rt, alloc, line, want);
+    }
+    Ok(())
+}
+
+#[test]
+fn takes_commands_over_tables(rt: HostRuntime) -> Result<(), Fail> {
+    gives_orders(&rt, rt.alloc(), &TABLES)
 }

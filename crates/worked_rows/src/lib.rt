@@ -3,6 +3,8 @@
 #![tactic(auto)]
 
 #[cfg(test)]
+mod beside_tests;
+#[cfg(test)]
 mod check_tests;
 #[cfg(test)]
 mod demo_tests;

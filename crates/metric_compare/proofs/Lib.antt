@@ -1,0 +1,4 @@
+pub mod Enclosed
+pub mod Pipes
+pub mod Adding
+pub mod Shown

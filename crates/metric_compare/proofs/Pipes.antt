@@ -1,0 +1,168 @@
+-- What a pair's pipeline has of its own, and what its level makes of it.
+use Rattle.std.proofs.Common.{◌≡◌, ℕ, zero, suc, Option, Some, ◌<◌, ◌≤◌, ◌+◌, List, [], ◌∷◌, ◌++◌, length, get_or, map, flat_map, replicate, refl, add-one, sym, ap, ap₂, ◌∙◌, subst, arith}
+use Rattle.std.specs.List.{range_with_len}
+use Rattle.std.proofs.lemmas.List.{flat_map_more, length-map}
+use Rattle.std.proofs.lemmas.Simd.{map-map}
+use Rattle.fixed_interval.specs.Ends.{Ends, ends_add, ends_capped, ends_exact, ends_ratio}
+use Rattle.depot_pipeline.specs.declared.Moments.{Moments}
+use Rattle.depot_pipeline.specs.declared.Feed.{Feed}
+use Rattle.depot_pipeline.specs.Profile.{added, depot_line_ends, depot_shop_ends, feed_at, mean_part}
+use Rattle.base_pipeline.specs.declared.Held.{Held}
+use Rattle.base_pipeline.specs.Profile.{base_line_ends, base_shop_ends, held_at}
+use Rattle.fleet_model.specs.Rows.{shop_units, stock}
+use Rattle.fleet_model.specs.Units.{pipeline_scale}
+use Rattle.fleet_model.proofs.AllocationLaws.{stock-is}
+use Rattle.fleet_model.specs.Pairs.{by_pair}
+use Rattle.spares_input.specs.Cases.{CaseRows, IsCase}
+use Rattle.spares_input.specs.Frames.{line_of}
+use Rattle.spares_input.specs.declared.rows.PartId.{PartId}
+use Rattle.demand_rates.proofs.DepotFacts.{line-none}
+use Rattle.spares_input.specs.Stocks.{stock_at}
+use Rattle.demand_rates.specs.declared.kinds.PairRates.{PairRates}
+use Rattle.demand_rates.specs.RateLists.{rates_at}
+use Rattle.moment_table.specs.Inputs.{CanTable}
+use Rattle.family_eval.specs.Inputs.{AreInputs, InputRows, IsLine, IsShopUnit}
+use Rattle.family_eval.specs.Profile.{pipeline_of, share_of}
+use Rattle.family_eval.proofs.Items.{ids_few, shop_of}
+use Rattle.family_eval.proofs.Ranges.{added_least, can_table, pipeline_is, sound_of}
+use Rattle.metric_compare.specs.Levels.{IsPipe, of_shop}
+use Rattle.metric_compare.specs.Profile.{poisson_at, base_line, base_shop, depot_feed, depot_line, depot_shop, fed, held, poisson_of}
+
+pub pipe_is : (x : InputRows) (p k : ℕ) (direct : Ends) (cap stocked : ℕ) → AreInputs x → p < length x.case.parts → k < length x.case.sites
+    → direct ≡ ends_ratio 48 (rates_at x.rates p k).direct pipeline_scale → cap ≡ (ends_ratio 48 (rates_at x.rates p k).zero_stock pipeline_scale).hi
+    → stocked ≡ stock_at x.stocks p k → IsPipe x.case x.stocks.list p k direct cap stocked
+pipe_is x p k direct cap stocked h lp lk hd hc hs =
+    let r = (h.are_rates.pairs p k lp lk).units in
+    record {
+      direct_is = hd ∙ ap (λ (r : PairRates). ends_ratio 48 r.direct pipeline_scale) r;
+      cap_is = hc ∙ ap (λ (r : PairRates). (ends_ratio 48 r.zero_stock pipeline_scale).hi) r;
+      stock_is = hs ∙ sym (stock-is x.case x.stocks p k h.are_stocks);
+      valid = pipeline_is 48 x.case x.stocks.list p k (omega arith) (sound_of x h) lp lk;
+    }
+
+-- ---- tables
+
+can_mean : (c : CaseRows) (s : List ℕ) (p k : ℕ) (direct : Ends) (cap stocked : ℕ) (m : Ends) → IsPipe c s p k direct cap stocked → direct.lo ≤ m.lo
+    → CanTable 48 (ends_capped m cap) (ends_capped m cap)
+can_mean c s p k direct cap stocked m pipe lo =
+    subst (λ n. CanTable 48 (ends_capped m n) (ends_capped m n)) (sym pipe.cap_is)
+    (can_table 48 (pipeline_of 48 c s p k) m m pipe.valid (subst (λ (d : Ends). d.lo ≤ m.lo) pipe.direct_is lo))
+
+pub depot_line_can : (c : CaseRows) (s : List ℕ) (p k : ℕ) (direct : Ends) (cap stocked : ℕ) (feeds : List (Feed 48)) (m : Moments 48) → IsPipe c s p k direct cap stocked
+    → m ≡ depot_line_ends 48 direct cap feeds → CanTable 48 m.mean m.mean
+depot_line_can c s p k direct cap stocked feeds m pipe e =
+    subst (λ (m : Moments 48). CanTable 48 m.mean m.mean) (sym e)
+    (can_mean c s p k direct cap stocked (added direct (λ k. mean_part 48 (feed_at feeds k)) (length feeds)) pipe
+    (added_least direct (λ k. mean_part 48 (feed_at feeds k)) (length feeds)))
+
+pub base_line_can : (c : CaseRows) (s : List ℕ) (p k : ℕ) (direct : Ends) (cap stocked : ℕ) (feed : Feed 48) (shops : List (Held 48)) (m : Moments 48)
+    → IsPipe c s p k direct cap stocked → m ≡ base_line_ends 48 direct cap feed shops → CanTable 48 m.mean m.mean
+base_line_can c s p k direct cap stocked feed shops m pipe e =
+    let first = ends_add direct (mean_part 48 feed) in
+    subst (λ (m : Moments 48). CanTable 48 m.mean m.mean) (sym e)
+    (can_mean c s p k direct cap stocked (added first (λ k. (held_at shops k).backorders) (length shops)) pipe
+    (omega (arith, added_least first (λ k. (held_at shops k).backorders) (length shops))))
+
+-- ---- what a step computed is the definition's
+
+pub depot_shop_is : (c : CaseRows) (s : List ℕ) (p : ℕ) (direct : Ends) (cap stocked : ℕ) (m : Moments 48) (x : Ends) → IsPipe c s p 0 direct cap stocked
+    → m ≡ depot_shop_ends 48 direct cap → x ≡ poisson_at 48 m.mean stocked → x ≡ depot_shop 48 c s p
+unfolding depot_shop
+depot_shop_is c s p direct cap stocked m x pipe e h =
+    h ∙ ap₂ (λ (m : Moments 48) (n : ℕ). poisson_at 48 m.mean n) (e ∙ ap₂ (λ (d : Ends) (n : ℕ). depot_shop_ends 48 d n) pipe.direct_is pipe.cap_is) pipe.stock_is
+
+pub base_shop_is : (c : CaseRows) (s : List ℕ) (p k : ℕ) (direct : Ends) (cap stocked : ℕ) (share depot : Ends) (feed : Feed 48) (m : Moments 48) (x : Ends)
+    → IsPipe c s p k direct cap stocked → share ≡ share_of 48 c p k → depot ≡ depot_shop 48 c s p → feed ≡ fed 48 share depot
+    → m ≡ base_shop_ends 48 direct cap feed → x ≡ poisson_at 48 m.mean stocked → x ≡ base_shop 48 c s p k
+unfolding base_shop
+base_shop_is c s p k direct cap stocked share depot feed m x pipe hs hd hf e h =
+    h ∙ (λ t. poisson_at 48 (e t).mean stocked)
+    ∙ (λ t. poisson_at 48 (base_shop_ends 48 (pipe.direct_is t) (pipe.cap_is t) (hf t)).mean (pipe.stock_is t))
+    ∙ (λ t. poisson_at 48 (base_shop_ends 48 (pipeline_of 48 c s p k).direct (pipeline_of 48 c s p k).cap (fed 48 (hs t) (hd t))).mean (stock c s p k))
+
+pub depot_line_is : (c : CaseRows) (s : List ℕ) (p : ℕ) (direct : Ends) (cap stocked : ℕ) (feeds : List (Feed 48)) (m : Moments 48) (x : Ends)
+    → IsPipe c s p 0 direct cap stocked → feeds ≡ map (depot_feed 48 c s) (shop_units c p) → m ≡ depot_line_ends 48 direct cap feeds
+    → x ≡ poisson_at 48 m.mean stocked → x ≡ depot_line 48 c s p
+unfolding depot_line
+depot_line_is c s p direct cap stocked feeds m x pipe hf e h =
+    h ∙ (λ t. poisson_at 48 (e t).mean stocked)
+    ∙ (λ t. poisson_at 48 (depot_line_ends 48 (pipe.direct_is t) (pipe.cap_is t) (hf t)).mean (pipe.stock_is t))
+
+pub base_line_is : (c : CaseRows) (s : List ℕ) (p k : ℕ) (direct : Ends) (cap stocked : ℕ) (share depot : Ends) (feed : Feed 48) (shops : List (Held 48)) (m : Moments 48) (x : Ends)
+    → IsPipe c s p k direct cap stocked → share ≡ share_of 48 c p k → depot ≡ depot_line 48 c s p → feed ≡ fed 48 share depot
+    → shops ≡ map (λ i. held 48 (base_shop 48 c s i k)) (shop_units c p) → m ≡ base_line_ends 48 direct cap feed shops
+    → x ≡ poisson_at 48 m.mean stocked → x ≡ base_line 48 c s p k
+unfolding base_line
+base_line_is c s p k direct cap stocked share depot feed shops m x pipe hs hd hf hl e h =
+    h ∙ (λ t. poisson_at 48 (e t).mean stocked)
+    ∙ (λ t. poisson_at 48 (base_line_ends 48 (pipe.direct_is t) (pipe.cap_is t) (hf t) (hl t)).mean (pipe.stock_is t))
+    ∙ (λ t. poisson_at 48 (base_line_ends 48 (pipeline_of 48 c s p k).direct (pipeline_of 48 c s p k).cap (fed 48 (hs t) (hd t))
+    (map (λ i. held 48 (base_shop 48 c s i k)) (shop_units c p))).mean (stock c s p k))
+
+-- ---- which level a pair has
+
+abbrev poisson_by : CaseRows → List ℕ → Option ℕ → ℕ → ℕ → Ends
+poisson_by c s o p k = by_pair (λ l i. depot_shop 48 c s i) (depot_line 48 c s) (λ l i j. base_shop 48 c s i j) (base_line 48 c s) o p k
+
+abbrev shop_by : CaseRows → List ℕ → Option ℕ → ℕ → ℕ → Ends
+shop_by c s o p k = by_pair (λ l i. depot_shop 48 c s i) (λ l. ends_exact 48 0) (λ l i j. base_shop 48 c s i j) (λ l j. ends_exact 48 0) o p k
+
+pub depot_of_shop : (c : CaseRows) (s : List ℕ) (l p : ℕ) → line_of c.parts p ≡ Some l → of_shop c s p 0 ≡ depot_shop 48 c s p
+depot_of_shop c s l p e = ap (λ o. shop_by c s o p 0) e
+
+pub base_of_shop : (c : CaseRows) (s : List ℕ) (l p k : ℕ) → line_of c.parts p ≡ Some l → 0 < k → of_shop c s p k ≡ base_shop 48 c s p k
+base_of_shop c s l p zero e h = absurd (omega arith)
+base_of_shop c s l p (suc j) e h = ap (λ o. shop_by c s o p (suc j)) e
+
+-- a shop unit has its own backorders, and a line unit none
+pub shop_is_poisson : (c : CaseRows) (s : List ℕ) (l p k : ℕ) → line_of c.parts p ≡ Some l → of_shop c s p k ≡ poisson_of 48 c s p k
+shop_is_poisson c s l p zero e = ap (λ o. shop_by c s o p 0) e ∙ ap (λ o. poisson_by c s o p 0) (sym e)
+shop_is_poisson c s l p (suc j) e = ap (λ o. shop_by c s o p (suc j)) e ∙ ap (λ o. poisson_by c s o p (suc j)) (sym e)
+
+line_none : (c : CaseRows) (s : List ℕ) (l k : ℕ) → IsLine c l → of_shop c s l k ≡ ends_exact 48 0
+line_none c s l zero line = ap (λ o. shop_by c s o l 0) (line-none c.parts l line.no_parent)
+line_none c s l (suc j) line = ap (λ o. shop_by c s o l (suc j)) (line-none c.parts l line.no_parent)
+
+same_all : (g : ℕ → Ends) (d : Ends) (a n : ℕ) → ((k : ℕ) → g k ≡ d) → replicate n d ≡ map g (range_with_len a n)
+same_all g d a zero h = refl
+same_all g d a (suc n) h = ap₂ (λ (x : Ends) (xs : List Ends). x ∷ xs) (sym (h a)) (same_all g d (a + 1) n h)
+
+pub nothing_row : (c : CaseRows) (s : List ℕ) (l n : ℕ) (x : Ends) → IsLine c l → x ≡ ends_exact 48 0 → n ≡ length c.sites
+    → replicate n x ≡ map (of_shop c s l) (range_with_len 0 (length c.sites))
+nothing_row c s l n x line hx hn =
+    ap₂ (λ (m : ℕ) (y : Ends). replicate m y) hn hx ∙ same_all (of_shop c s l) (ends_exact 48 0) 0 (length c.sites) (λ k. line_none c s l k line)
+
+pub depot_line_at_pair : (c : CaseRows) (s : List ℕ) (l : ℕ) → IsLine c l → depot_line 48 c s l ≡ poisson_of 48 c s l 0
+depot_line_at_pair c s l line = ap (λ o. poisson_by c s o l 0) (sym (line-none c.parts l line.no_parent))
+
+pub base_line_at_pair : (c : CaseRows) (s : List ℕ) (l k : ℕ) → IsLine c l → 0 < k → base_line 48 c s l k ≡ poisson_of 48 c s l k
+base_line_at_pair c s l zero line h = absurd (omega arith)
+base_line_at_pair c s l (suc j) line h = ap (λ o. poisson_by c s o l (suc j)) (sym (line-none c.parts l line.no_parent))
+
+-- the same of the ids and of the shop units
+pub by_ids : {X : Type 0} (c : CaseRows) (l : ℕ) (g : ℕ → X) (xs : List PartId) → map (λ (p : PartId). p.0) xs ≡ shop_units c l
+    → map (λ (p : PartId). g p.0) xs ≡ map g (shop_units c l)
+by_ids c l g xs e = sym (map-map g (λ (p : PartId). p.0) xs) ∙ ap (map g) e
+
+-- those of a line unit are shop units, and few
+pub units_are : (c : CaseRows) (l : ℕ) (xs : List PartId) → IsCase c → IsLine c l → map (λ (p : PartId). p.0) xs ≡ shop_units c l
+    → (k : ℕ) (d : PartId) → k < length xs → IsShopUnit c (get_or xs k d).0
+units_are c l xs valid line e k d h = record { line = l; is_shop = shop_of c l xs valid line e k d h }
+
+pub few_of : {X : Type 0} (c : CaseRows) (l : ℕ) (g : PartId → X) (xs : List PartId) (ys : List X) → IsCase c → IsLine c l
+    → map (λ (p : PartId). p.0) xs ≡ shop_units c l → ys ≡ map g xs → length ys ≤ 8
+few_of {X} c l g xs ys valid line e h = omega (arith, ids_few c l xs valid line e, ap (λ (zs : List X). length zs) h, length-map xs g)
+
+-- ---- lists
+
+range_more_from : (a n j : ℕ) → a + n ≡ j → range_with_len a (suc n) ≡ range_with_len a n ++ j ∷ []
+range_more_from a zero j e = let same : a ≡ j = omega arith in ap (λ k. k ∷ []) same
+range_more_from a (suc n) j e = ap (λ l. a ∷ l) (range_more_from (a + 1) n j (omega arith))
+
+range_more : (n : ℕ) → range_with_len 0 (n + 1) ≡ range_with_len 0 n ++ n ∷ []
+range_more n = ap (range_with_len 0) (add-one n) ∙ range_more_from 0 n n (omega arith)
+
+pub rows_more : {X : Type 0} (g : ℕ → List X) (p : ℕ) (all row new : List X) → new ≡ all ++ row → all ≡ flat_map g (range_with_len 0 p) → row ≡ g p
+    → new ≡ flat_map g (range_with_len 0 (p + 1))
+rows_more {X} g p all row new e h k =
+    e ∙ ap₂ (λ (a b : List X). a ++ b) h k ∙ flat_map_more g [] (range_with_len 0 p) p ∙ ap (flat_map g) (sym (range_more p))

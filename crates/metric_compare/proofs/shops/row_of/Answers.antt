@@ -1,0 +1,11 @@
+use Rattle.std.proofs.Common.{◌∙◌}
+use Rattle.demand_rates.proofs.Grown.{mapped_more}
+use Rattle.metric_compare.specs.Profile.{poisson_of}
+use Rattle.metric_compare.proofs.Pipes.{shop_is_poisson}
+use Rattle.metric_compare.proofs.shops.row_of.Goals as goal
+
+pub loop-k-preserved : goal.loop-k-preserved
+loop-k-preserved c =
+    mapped_more (poisson_of 48 c.args.inputs.now.case c.args.inputs.now.stocks.list c.args.unit.0) c.loop-k.k c.loop-k.row.items c.push.new.self.items c.number_at.result
+    c.in_ok-push.ensures.items c.loop-k.invariant
+    (c.number_at.ensures.ends ∙ shop_is_poisson c.args.inputs.now.case c.args.inputs.now.stocks.list c.requires.unit.line c.args.unit.0 c.loop-k.k c.requires.unit.is_shop.line_is)

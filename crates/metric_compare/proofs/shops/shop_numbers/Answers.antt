@@ -1,0 +1,15 @@
+use Rattle.std.proofs.Common.{◌≡◌}
+use Rattle.metric_compare.specs.Levels.{by_site, of_shop}
+use Rattle.metric_compare.proofs.Pipes.{rows_more}
+use Rattle.metric_compare.proofs.shops.shop_numbers.Goals as goal
+use Rattle.metric_compare.proofs.shops.shop_numbers.Goals.{then-is_line+in_ok-row, else-is_line+in_ok-row-2}
+
+pub loop-p-preserved : goal.loop-p-preserved
+loop-p-preserved c =
+    let row : c.if-is_line.row.items ≡ by_site c.args.inputs.now.case (of_shop c.args.inputs.now.case c.args.inputs.now.stocks.list c.loop-p.p) =
+    elim c.if-is_line.branch [
+      | then-is_line+in_ok-row w ↦ rw w.row-is w.in_ok-row.ensures
+      | else-is_line+in_ok-row-2 w ↦ rw w.row-is w.in_ok-row-2.ensures
+    ] in
+    rows_more (λ q. by_site c.args.inputs.now.case (of_shop c.args.inputs.now.case c.args.inputs.now.stocks.list q)) c.loop-p.p c.loop-p.all.items c.if-is_line.row.items c.append.new.self.items
+    c.in_ok-append.ensures.items c.loop-p.invariant row

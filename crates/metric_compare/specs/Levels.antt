@@ -1,0 +1,37 @@
+-- What the steps of the levels take and give. No promise rests on these words.
+use Rattle.std.specs.Prelude.{◌≡◌, ℕ, List, map, flat_map}
+use Rattle.fixed_interval.specs.Ends.{Ends, ends_exact}
+use Rattle.spares_input.specs.Cases.{CaseRows}
+use Rattle.spares_input.specs.Frames.{line_of}
+use Rattle.fleet_model.specs.Rows.{all_parts, all_sites, stock}
+use Rattle.fleet_model.specs.Pairs.{by_pair}
+use Rattle.family_eval.specs.Inputs.{IsPipeline}
+use Rattle.family_eval.specs.Profile.{pipeline_of}
+use Rattle.metric_compare.specs.Profile.{base_shop, depot_shop, poisson_of}
+
+-- these are the direct part, the cap and the stock of part p at site k, and they are within their ranges
+pub record IsPipe (c : CaseRows) (s : List ℕ) (p k : ℕ) (direct : Ends) (cap stocked : ℕ) : Type 0 where
+  pub direct_is : direct ≡ (pipeline_of 48 c s p k).direct
+  pub cap_is : cap ≡ (pipeline_of 48 c s p k).cap
+  pub stock_is : stocked ≡ stock c s p k
+  pub valid : IsPipeline 48 (pipeline_of 48 c s p k)
+
+-- the backorders of part p at site k where it is a shop unit, and 0 where it is a line unit
+abbrev pub of_shop : CaseRows → List ℕ → ℕ → ℕ → Ends
+of_shop c s p k =
+    by_pair (λ l i. depot_shop 48 c s i) (λ l. ends_exact 48 0) (λ l i j. base_shop 48 c s i j) (λ l j. ends_exact 48 0)
+    (line_of c.parts p) p k
+
+-- a number of each pair, by part and then by site
+abbrev pub by_site : CaseRows → (ℕ → Ends) → List Ends
+by_site c row = map row (all_sites c)
+
+abbrev pub by_part : CaseRows → (ℕ → ℕ → Ends) → List Ends
+by_part c number = flat_map (λ p. by_site c (number p)) (all_parts c)
+
+-- those of all shop units, and of all parts
+abbrev pub shop_numbers : CaseRows → List ℕ → List Ends
+shop_numbers c s = by_part c (of_shop c s)
+
+abbrev pub poisson_numbers : CaseRows → List ℕ → List Ends
+poisson_numbers c s = by_part c (poisson_of 48 c s)

@@ -1,0 +1,116 @@
+//! The backorders of a case at its stocks beside those of Poisson pipelines.
+//!
+//! In VARI-METRIC a pipeline's variance grows with the backorders that feed it. METRIC before it (C. C. Sherbrooke,
+//! *Operations Research* 16, 1968) took each pipeline as Poisson, so that its variance is its mean. Here the model's
+//! own means are taken, with that rule at every level, depot and bases, line units and shop units: what is left out is
+//! seen at each pair.
+#![tactic(auto)]
+
+ghost use Rattle.std.specs.Prelude.{◌≡◌, ℕ, ◌<◌, IfOk, length};
+ghost use Rattle.exact_model.specs.Fraction.{Encloses};
+ghost use Rattle.spares_input.specs.Cases.{CaseRows};
+ghost use Rattle.spares_input.specs.Stocks.{StockList};
+ghost use Rattle.demand_rates.specs.Rates.{AreRatesOf};
+ghost use Rattle.fleet_model.specs.Poisson.{poisson, poisson_total};
+ghost use Rattle.family_eval.specs.Encloses.{CanEvaluate};
+ghost use Rattle.case_figures.specs.Spans.{ends, places};
+ghost use Rattle.metric_compare.specs.Profile.{poisson_of, poisson_total_of};
+ghost use Rattle.metric_compare.specs.Report.{comparison_of};
+ghost use Rattle.metric_compare.specs.Shows.{ShowsComparison};
+ghost use Rattle.metric_compare.specs.Fits.{FitsComparison};
+
+use crate::inputs::Inputs;
+use crate::rows::all_numbers;
+use crate::shops::shop_numbers;
+use crate::totals::poisson_total;
+use case_figures::{Span, figures_at};
+use demand_rates::kinds::Rates;
+use family_eval::evaluate_all;
+use fixed_interval::Iv;
+use spares_input::{Case, Stocks};
+use spares_io::{List, NoMemory};
+use std::alloc::Global;
+
+mod inputs;
+mod levels;
+mod lines;
+mod report;
+mod rows;
+mod shops;
+#[cfg(test)]
+mod tests;
+mod totals;
+
+pub use report::{CompareItem, CompareReport};
+
+/// The backorders of each pair of Poisson pipelines are enclosed at every depth from 1024 on, and so is their weighted
+/// total.
+pub fn poisson_encloses()
+    ensures pairs { (f : ℕ) (c : CaseRows) (s : StockList) (p k : ℕ)
+        → CanEvaluate f c s → p < length c.parts → k < length c.sites
+        → Encloses f (poisson_of f c s.list p k).lo (poisson_of f c s.list p k).hi (poisson c s.list p k) }
+    ensures total { (f : ℕ) (c : CaseRows) (s : StockList) → CanEvaluate f c s
+        → Encloses f (poisson_total_of f c s.list).lo (poisson_total_of f c s.list).hi (poisson_total c s.list) }
+{}
+
+/// A comparison encloses the model's backorders and those of Poisson pipelines, pair by pair and in total, and can be
+/// printed.
+pub fn comparisons_enclose()
+    ensures shows { (c : CaseRows) (s : StockList) → CanEvaluate 48 c s → ShowsComparison c s (comparison_of c s) }
+    ensures printed { (c : CaseRows) (s : StockList) → CanEvaluate 48 c s → FitsComparison (comparison_of c s) }
+{}
+
+/// The interval of a span with 48 binary places.
+fn interval(span: Span) -> Iv<48>
+    requires { places span ≡ 48 }
+    ensures { result ≡ ends span }
+{
+    match span {
+        Span::Bits48(interval) => interval,
+        Span::Bits32(_) => Iv::exact(0),
+        Span::Bits52(_) => Iv::exact(0),
+    }
+}
+
+/// The backorders of a case at its stocks beside those of Poisson pipelines, by part and then by site, and the two
+/// weighted totals.
+///
+/// The rates are those of the case and break no rule, and the stocks are of this case and within its limits. Each end
+/// is exactly that of the definitions, and encloses its value at every depth from 1024 on. Want of memory is the only
+/// error.
+pub fn compare(
+    alloc: Global,
+    case: &Case,
+    rates: &Rates,
+    stocks: &Stocks,
+) -> Result<CompareReport, NoMemory>
+    requires inputs { CanEvaluate 48 case.now stocks.now }
+    requires rates { AreRatesOf case.now rates.now }
+    ensures comparison { IfOk result (λ report. report ≡ comparison_of case.now stocks.now) }
+    ensures shows { IfOk result (ShowsComparison case.now stocks.now) }
+    ensures printed { IfOk result FitsComparison }
+{
+    let inputs = Inputs::of(case, rates, stocks);
+    let shops = shop_numbers(alloc, &inputs)?;
+    let numbers = all_numbers(alloc, &inputs, shops.as_slice())?;
+    let poisson = numbers.as_slice();
+    let families = evaluate_all::<48>(alloc, case, rates, stocks)?;
+    let figures = figures_at::<48>(alloc, case, families.as_slice(), stocks)?;
+    let lines = figures.items.as_slice();
+    let mut items = Vec::new(alloc);
+    for i in 0..lines.len() {
+        let line = &lines[i];
+        items.push(CompareItem {
+            part: line.part,
+            site: line.site,
+            stock: line.stock,
+            backorders: interval(line.backorders),
+            poisson: poisson[i],
+        })?;
+    }
+    Ok(CompareReport {
+        items: List::of(items),
+        total: interval(figures.total),
+        poisson_total: poisson_total(&inputs, poisson),
+    })
+}

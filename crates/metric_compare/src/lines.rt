@@ -1,0 +1,144 @@
+//! The backorders of line units, from those of their shop units.
+
+ghost use Rattle.std.specs.Prelude.{◌≡◌, ◌<◌, ◌≤◌, IfOk, length, map, All};
+ghost use Rattle.fixed_interval.specs.Ends.{IsWithinLimit};
+ghost use Rattle.depot_pipeline.specs.Exact.{IsSmallFeed};
+ghost use Rattle.base_pipeline.specs.Exact.{IsSmallHeld};
+ghost use Rattle.fleet_model.specs.Rows.{shop_units};
+ghost use Rattle.fleet_model.specs.Laws.{IsBase};
+ghost use Rattle.family_eval.specs.Inputs.{IsLine, IsShopUnit};
+ghost use Rattle.metric_compare.specs.Levels.{by_site, shop_numbers};
+ghost use Rattle.metric_compare.specs.Profile.{base_line, base_shop, depot_feed, depot_line, held, poisson_of};
+
+use crate::inputs::Inputs;
+use crate::levels::{backorders_at, fed};
+use crate::shops::{at_base, at_depot};
+use base_pipeline::{Held, base_line};
+use depot_pipeline::{Feed, depot_line};
+use family_eval::shop_units;
+use fixed_interval::Iv;
+use spares_input::{PartId, SiteId};
+use spares_io::NoMemory;
+use std::alloc::Global;
+
+/// What shop units feed to their line unit at the depot.
+fn depot_feeds(
+    alloc: Global,
+    inputs: &Inputs<'_>,
+    units: &[PartId],
+    shops: &[Iv<48>],
+) -> Result<Vec<Feed<48>>, NoMemory>
+    requires units { All (λ p. IsShopUnit inputs.now.case p.0) units.now }
+    requires shops { shops.now ≡ shop_numbers inputs.now.case inputs.now.stocks.list }
+    ensures feeds { IfOk result (λ v. v.items
+        ≡ map (λ p. depot_feed 48 inputs.now.case inputs.now.stocks.list p.0) units.now) }
+    ensures small { IfOk result (λ v. All (IsSmallFeed 48) v.items) }
+{
+    let _sites = inputs.sites();
+    let mut feeds = Vec::new(alloc);
+    for unit in units {
+        let depot = at_depot(inputs, shops, *unit);
+        feeds.push(fed(inputs.share(*unit, SiteId(0)), depot))?;
+    }
+    Ok(feeds)
+}
+
+/// What shop units hold back of their line unit at a base.
+fn held_at(
+    alloc: Global,
+    inputs: &Inputs<'_>,
+    base: SiteId,
+    units: &[PartId],
+    shops: &[Iv<48>],
+) -> Result<Vec<Held<48>>, NoMemory>
+    requires base { IsBase inputs.now.case base.0 }
+    requires units { All (λ p. IsShopUnit inputs.now.case p.0) units.now }
+    requires shops { shops.now ≡ shop_numbers inputs.now.case inputs.now.stocks.list }
+    ensures held { IfOk result (λ v. v.items
+        ≡ map (λ p. held 48 (base_shop 48 inputs.now.case inputs.now.stocks.list p.0 base.0)) units.now) }
+    ensures small { IfOk result (λ v. All (IsSmallHeld 48) v.items) }
+{
+    let mut all = Vec::new(alloc);
+    for unit in units {
+        let backorders = at_base(inputs, shops, *unit, base);
+        all.push(Held {
+            backorders,
+            spread: backorders,
+        })?;
+    }
+    Ok(all)
+}
+
+/// A line unit at the depot, from what its shop units feed.
+fn depot_line_at(
+    alloc: Global,
+    inputs: &Inputs<'_>,
+    line: PartId,
+    feeds: &[Feed<48>],
+) -> Result<Iv<48>, NoMemory>
+    requires line { line.0 < length inputs.now.case.parts }
+    requires few { length feeds.now ≤ 8 }
+    requires small { All (IsSmallFeed 48) feeds.now }
+    requires feeds { feeds.now
+        ≡ map (depot_feed 48 inputs.now.case inputs.now.stocks.list) (shop_units inputs.now.case line.0) }
+    ensures ends { IfOk result (λ x. x ≡ depot_line 48 inputs.now.case inputs.now.stocks.list line.0) }
+    ensures small { IfOk result (IsWithinLimit 48) }
+{
+    let _sites = inputs.sites();
+    let pipe = inputs.pipe(line, SiteId(0));
+    let depot = depot_line(pipe.direct, pipe.cap, feeds);
+    backorders_at(alloc, depot.mean, depot.mean, pipe.stock)
+}
+
+/// A line unit at a base, from its backorders at the depot and what its shop units at the base hold back.
+fn base_line_at(
+    alloc: Global,
+    inputs: &Inputs<'_>,
+    line: PartId,
+    site: SiteId,
+    depot: Iv<48>,
+    held_back: &[Held<48>],
+) -> Result<Iv<48>, NoMemory>
+    requires line { line.0 < length inputs.now.case.parts }
+    requires site { site.0 < length inputs.now.case.sites }
+    requires depot { depot ≡ depot_line 48 inputs.now.case inputs.now.stocks.list line.0 }
+    requires small { IsWithinLimit 48 depot }
+    requires few { length held_back.now ≤ 8 }
+    requires most { All (IsSmallHeld 48) held_back.now }
+    requires held { held_back.now
+        ≡ map (λ i. held 48 (base_shop 48 inputs.now.case inputs.now.stocks.list i site.0))
+        (shop_units inputs.now.case line.0) }
+    ensures ends { IfOk result (λ x. x ≡ base_line 48 inputs.now.case inputs.now.stocks.list line.0 site.0) }
+    ensures small { IfOk result (IsWithinLimit 48) }
+{
+    let pipe = inputs.pipe(line, site);
+    let feed = fed(inputs.share(line, site), depot);
+    let base = base_line(pipe.direct, pipe.cap, feed, held_back);
+    backorders_at(alloc, base.mean, base.mean, pipe.stock)
+}
+
+/// A line unit, by site, from the backorders of all shop units.
+pub(crate) fn line_row(
+    alloc: Global,
+    inputs: &Inputs<'_>,
+    line: PartId,
+    shops: &[Iv<48>],
+) -> Result<Vec<Iv<48>>, NoMemory>
+    requires line { IsLine inputs.now.case line.0 }
+    requires shops { shops.now ≡ shop_numbers inputs.now.case inputs.now.stocks.list }
+    ensures { IfOk result (λ v. v.items
+        ≡ by_site inputs.now.case (poisson_of 48 inputs.now.case inputs.now.stocks.list line.0)) }
+{
+    let _sites = inputs.sites();
+    let units = shop_units(alloc, inputs.case(), line)?;
+    let feeds = depot_feeds(alloc, inputs, units.as_slice(), shops)?;
+    let depot = depot_line_at(alloc, inputs, line, feeds.as_slice())?;
+    let mut row = Vec::new(alloc);
+    row.push(depot)?;
+    for j in 1..inputs.sites() {
+        let held = held_at(alloc, inputs, SiteId(j), units.as_slice(), shops)?;
+        let base = base_line_at(alloc, inputs, line, SiteId(j), depot, held.as_slice())?;
+        row.push(base)?;
+    }
+    Ok(row)
+}

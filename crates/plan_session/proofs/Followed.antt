@@ -1,0 +1,121 @@
+-- How a session follows the lines of an edits file.
+use Rattle.std.proofs.Common.{◌≡◌, ◌==◌, ℕ, suc, ◌+◌, ◌<◌, ◌≤◌, Bool, true, false, nat_le, nat_lt, List, [], ◌∷◌, ◌++◌, length, Option, Some, Result, Ok, Err, if◌then◌else◌, refl, sym, ap, ◌∙◌, subst, arith}
+use Rattle.std.specs.List.{AllZip}
+use Rattle.std.proofs.lemmas.Bool.Decides.{nat_tests}
+use Rattle.std.proofs.lemmas.Slice.Zip.{AllZip-long}
+use Rattle.spares_io.specs.Steps.{◌>>=◌}
+use Rattle.spares_io.specs.declared.stop.Stop.{Stop}
+use Rattle.spares_io.specs.declared.stop.Stop.TheVariants as stop
+use Rattle.spares_input.specs.Cases.{CaseRows, frame_rows}
+use Rattle.demand_rates.specs.Limits.{rate_fault_of}
+use Rattle.demand_rates.specs.declared.fault.RateFault.{RateFault}
+use Rattle.on_hand.proofs.Kept.{zip_push}
+use Rattle.plan_report.specs.declared.plan.PlanReport.{PlanReport}
+use Rattle.case_edits.specs.declared.fault.EditFault.{EditFault}
+use Rattle.case_edits.specs.declared.fault.EditFault.TheVariants as fault
+use Rattle.case_edits.specs.declared.lines.Edit.{Edit}
+use Rattle.plan_session.specs.declared.report.SessionReport.{SessionReport}
+use Rattle.case_edits.specs.Edits.{PlanDue}
+use Rattle.plan_session.specs.Sessions.{due, started, IsLater, IsReportOf, SessionRows}
+use Rattle.case_edits.specs.Lines.{edit_lines, edit_of}
+use Rattle.case_edits.specs.Edits.{due_at, edited, most_lines, most_plans, planned, session_from, session_of, Standing, taken}
+use Rattle.plan_session.specs.Answers.{AnswersEdits}
+use Rattle.plan_session.specs.Following.{standing, Follows, HasFollowed}
+use Rattle.case_edits.proofs.LineFacts.{no_lines}
+
+-- ---- a plan
+
+planned_step : (b : Bool) (n : ℕ) (at : Standing) (broken : Option RateFault) → nat_le most_plans (length at.due) ≡ b
+    → planned n at broken ≡ (if b then Err (fault.TooManyPlans n) else due_at n at broken)
+planned_step b n at broken h = rw h refl
+
+pub too_many : (n : ℕ) (s : SessionRows) (ds : List PlanDue) (plans : List PlanReport) (broken : Option RateFault) → AllZip IsReportOf ds plans → 64 ≤ length plans
+    → planned n (standing s ds) broken ≡ Err (fault.TooManyPlans n)
+too_many n s ds plans broken told many =
+    let long = AllZip-long IsReportOf ds plans told in
+    let at_most : most_plans ≤ length ds = omega (arith, long, many) in
+    planned_step true n (standing s ds) broken (grind (arith, nat_tests, at_most))
+
+module _ (n : ℕ) (s : SessionRows) (ds : List PlanDue) (plans : List PlanReport) (told : AllZip IsReportOf ds plans) (few : length plans < 64) where
+  pub is_due : (broken : Option RateFault) → planned n (standing s ds) broken ≡ due_at n (standing s ds) broken
+  is_due broken =
+      let long = AllZip-long IsReportOf ds plans told in
+      let short : length ds < most_plans = omega (arith, long, few) in
+      planned_step false n (standing s ds) broken (grind (arith, nat_tests, short))
+
+  pub plan_refused : (f : RateFault) → rate_fault_of s.case ≡ Some f → planned n (standing s ds) (rate_fault_of s.case) ≡ Err (fault.Rate n f)
+  plan_refused f h = is_due (rate_fault_of s.case) ∙ ap (due_at n (standing s ds)) h
+
+  pub plan_followed : (new : SessionRows) (report : PlanReport) (all : List PlanReport) → IsReportOf (due s) report → IsLater s new → all ≡ plans ++ report ∷ []
+      → HasFollowed (planned n (standing s ds) (rate_fault_of s.case)) new all
+  plan_followed new report all is later e = record {
+    due = ds ++ due s ∷ [];
+    is = is_due (rate_fault_of s.case) ∙ ap (due_at n (standing s ds)) is.accepted.no_fault ∙ rw (later.case_is, later.budget_is) refl;
+    told = subst (λ (z : List PlanReport). AllZip IsReportOf (ds ++ due s ∷ []) z) (sym e) (zip_push IsReportOf ds plans (due s) report told is);
+  }
+
+-- ---- a line
+
+taken_step : (b d : Bool) (n : ℕ) (at : Standing) (line : List ℕ) → nat_lt most_lines n ≡ b → (length line == 0) ≡ d
+    → taken n at line ≡ (if b then Err fault.TooManyLines else if d then Ok at else edited n at (edit_of (frame_rows at.case) line))
+taken_step b d n at line h k = rw (h, k) refl
+
+pub past_lines : (n : ℕ) (at : Standing) (line : List ℕ) → most_lines < n → taken n at line ≡ Err fault.TooManyLines
+past_lines n at line h = taken_step true (length line == 0) n at line (grind (arith, nat_tests, h)) refl
+
+module _ (n : ℕ) (at : Standing) (line : List ℕ) (few : n ≤ most_lines) where
+  within : nat_lt most_lines n ≡ false
+  within = grind (arith, nat_tests, few)
+
+  pub empty_passed : (length line == 0) ≡ true → taken n at line ≡ Ok at
+  empty_passed k = taken_step false true n at line within k
+
+  pub line_edited : (length line == 0) ≡ false → (o : Option Edit) → o ≡ edit_of (frame_rows at.case) line → taken n at line ≡ edited n at o
+  line_edited k o e = taken_step false false n at line within k ∙ ap (edited n at) (sym e)
+
+-- ---- all lines
+
+-- the lines before line n + 1 led to this session and these plans
+pub record IsOnItsWay (c : CaseRows) (bytes : List ℕ) (s : SessionRows) (plans : List PlanReport) (n : ℕ) (rest : List ℕ) : Type 0 where
+  pub ds : List PlanDue
+  pub is : session_of c bytes ≡ session_from (suc n) (edit_lines rest) (standing s ds)
+  pub told : AllZip IsReportOf ds plans
+  pub few : n ≤ most_lines
+
+module _ (c : CaseRows) (bytes : List ℕ) (s : SessionRows) (plans : List PlanReport) (n : ℕ) (rest text left : List ℕ) (h : IsOnItsWay c bytes s plans n rest)
+    (lines : edit_lines rest ≡ text ∷ edit_lines left) where
+  at_line : session_of c bytes ≡ (taken (suc n) (standing s h.ds) text >>= session_from (suc (suc n)) (edit_lines left))
+  at_line = h.is ∙ ap (λ ls. session_from (suc n) ls (standing s h.ds)) lines
+
+  pub line_followed : (m : ℕ) (new : SessionRows) (all : List PlanReport) → m ≡ n + 1 → m ≤ most_lines → HasFollowed (taken m (standing s h.ds) text) new all → IsOnItsWay c bytes new all m left
+  line_followed m new all e few f = record {
+    ds = f.due;
+    is =
+        let now : taken (suc n) (standing s h.ds) text ≡ Ok (standing new f.due) = ap (λ k. taken k (standing s h.ds) text) (omega (arith, e)) ∙ f.is in
+        at_line ∙ ap (λ r. r >>= session_from (suc (suc n)) (edit_lines left)) now ∙ ap (λ k. session_from k (edit_lines left) (standing new f.due)) (omega (arith, e));
+    told = f.told;
+    few = few;
+  }
+
+  pub line_refused : (m : ℕ) (f : EditFault) → m ≡ n + 1 → taken m (standing s h.ds) text ≡ Err f → session_of c bytes ≡ Err f
+  line_refused m f e k =
+      let now : taken (suc n) (standing s h.ds) text ≡ Err f = ap (λ i. taken i (standing s h.ds) text) (omega (arith, e)) ∙ k in
+      at_line ∙ ap (λ r. r >>= session_from (suc (suc n)) (edit_lines left)) now
+
+pub begun : (c : CaseRows) (bytes : List ℕ) (s : SessionRows) (plans : List PlanReport) → s ≡ started c 0 → plans ≡ [] → IsOnItsWay c bytes s plans 0 bytes
+begun c bytes s plans e none = rw (e, none) (record { ds = []; is = refl; told = tt; few = omega arith })
+
+pub refused_by : (answer : Result (List PlanDue) EditFault) (at : Result Standing EditFault) (s : SessionRows) (plans : List PlanReport) (why : Stop EditFault)
+    → ((f : EditFault) → at ≡ Err f → answer ≡ Err f) → Follows {U = Unit {0}} at s plans (Err why) → AnswersEdits answer (Err why)
+refused_by answer at s plans stop.NoMemory h k = tt
+refused_by answer at s plans (stop.Fault f) h k = h f k
+
+answered : (answer : Result (List PlanDue) EditFault) (ds : List PlanDue) (report : SessionReport) → answer ≡ Ok ds → AllZip IsReportOf ds report.plans
+    → AnswersEdits answer (Ok report)
+answered answer ds report e told = subst (λ (a : Result (List PlanDue) EditFault). AnswersEdits a (Ok report)) (sym e) told
+
+pub ended : (c : CaseRows) (bytes : List ℕ) (s : SessionRows) (plans : List PlanReport) (n : ℕ) (rest : List ℕ) (report : SessionReport) → IsOnItsWay c bytes s plans n rest
+    → length rest ≡ 0 → report.plans ≡ plans → AnswersEdits (session_of c bytes) (Ok report)
+ended c bytes s plans n rest report h none e =
+    answered (session_of c bytes) h.ds report (h.is ∙ ap (λ ls. session_from (suc n) ls (standing s h.ds)) (no_lines rest none))
+    (subst (λ (z : List PlanReport). AllZip IsReportOf h.ds z) (sym e) h.told)

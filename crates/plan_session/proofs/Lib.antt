@@ -1,0 +1,4 @@
+pub mod Families
+pub mod Keeping
+pub mod Reported
+pub mod Followed

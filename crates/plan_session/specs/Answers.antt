@@ -1,0 +1,16 @@
+-- What the edits of a case answer.
+use Rattle.std.specs.Prelude.{◌≡◌, ⊤, List, Result, Ok, Err}
+use Rattle.std.specs.List.{AllZip}
+use Rattle.spares_io.specs.declared.stop.Stop.{Stop}
+use Rattle.spares_io.specs.declared.stop.Stop.TheVariants as stop
+use Rattle.case_edits.specs.Edits.{PlanDue}
+use Rattle.case_edits.specs.declared.fault.EditFault.{EditFault}
+use Rattle.plan_session.specs.declared.report.SessionReport.{SessionReport}
+use Rattle.plan_session.specs.Sessions.{IsReportOf}
+
+-- a report for each plan that is due, or the fault that is due
+abbrev pub AnswersEdits : Result (List PlanDue) EditFault → Result SessionReport (Stop EditFault) → Type 0
+AnswersEdits (Ok due) (Ok report) = AllZip IsReportOf due report.plans
+AnswersEdits (Err f) (Ok report) = ⊥
+AnswersEdits answer (Err stop.NoMemory) = ⊤
+AnswersEdits answer (Err (stop.Fault f)) = answer ≡ Err f

@@ -1,0 +1,96 @@
+-- What a session is seen as, and what its calls answer.
+use Rattle.std.specs.Prelude.{◌≡◌, ⊤, ℕ, ◌≤◌, Bool, true, false, List, [], length, filter, get_or, replicate, set, Some, None, Result, Ok, Err}
+use Rattle.std.specs.List.{range_with_len}
+use Rattle.std.specs.Result.{IsOk}
+use Rattle.spares_io.specs.declared.stop.Stop.{Stop}
+use Rattle.spares_io.specs.declared.stop.Stop.TheVariants as stop
+use Rattle.case_edits.specs.Edits.{PlanDue}
+use Rattle.case_edits.specs.Lines.{most_budget}
+use Rattle.spares_input.specs.Rows.{is_line}
+use Rattle.spares_input.specs.Frames.{part_at}
+use Rattle.spares_input.specs.Cases.{CaseRows, IsCase}
+use Rattle.spares_input.specs.Edits.{with_rate}
+use Rattle.spares_input.specs.declared.rows.RateRow.{RateRow}
+use Rattle.fleet_model.specs.Rows.{line_units}
+use Rattle.demand_rates.specs.Limits.{rate_fault_of}
+use Rattle.demand_rates.specs.declared.fault.RateFault.{RateFault}
+use Rattle.hull.specs.declared.point.Point.{Point}
+use Rattle.family_curve.specs.Counts.{work_of}
+use Rattle.family_curve.specs.Local.{home_of}
+use Rattle.fleet_plan.specs.Laws.{IsAcceptedCase, plain_ends}
+use Rattle.on_hand.specs.Curves.{IsFamilyCurve}
+use Rattle.on_hand.specs.Work.{IsNothing}
+use Rattle.case_plan.specs.Report.{IsPlanned, Terms}
+use Rattle.plan_report.specs.declared.plan.PlanReport.{PlanReport}
+
+-- a case, a budget, and for each family in order whether its curve is kept
+pub record SessionRows : Type 0 where
+  pub case : CaseRows
+  pub budget : ℕ
+  pub marks : List Bool
+
+-- the place among the families of that to which part p belongs: so many line units stand before its own
+abbrev pub family_place : CaseRows → ℕ → ℕ
+family_place c p = length (filter (λ q. is_line (part_at c.parts q)) (range_with_len 0 (home_of c p)))
+
+abbrev pub has_mark : List Bool → ℕ → Bool
+has_mark marks k = get_or marks k false
+
+-- There is a mark and a curve for each family, and where the mark is on, the curve is that of the family in this case:
+-- of its weighted backorders, over all its vectors.
+pub record AreKept (c : CaseRows) (marks : List Bool) (curves : List (List Point)) : Type 0 where
+  pub mark_count : length marks ≡ length (line_units c)
+  pub curve_count : length curves ≡ length (line_units c)
+  pub kept : (k : ℕ) → has_mark marks k ≡ true → IsFamilyCurve plain_ends c [] (get_or (line_units c) k 0) (get_or curves k [])
+
+-- what is true of every session with these curves
+pub record IsSession (s : SessionRows) (curves : List (List Point)) : Type 0 where
+  pub valid : IsCase s.case
+  pub work : IsOk (work_of s.case)
+  pub budget_most : s.budget ≤ most_budget
+  pub are_kept : AreKept s.case s.marks curves
+
+-- ---- what the calls make of a session
+
+abbrev pub started : CaseRows → ℕ → SessionRows
+started c budget = record { case = c; budget = budget; marks = replicate (length (line_units c)) false }
+
+abbrev pub with_budget : SessionRows → ℕ → SessionRows
+with_budget s budget = record s { budget = budget }
+
+-- the row in the place of its pair's, and the mark of its part's family off
+abbrev pub with_row : SessionRows → RateRow → SessionRows
+with_row s r = record s { case = with_rate s.case r; marks = set s.marks (family_place s.case r.part.0) false }
+
+-- there are as many marks as before, and each that was on is on
+pub record AreLater (before after : List Bool) : Type 0 where
+  pub count : length after ≡ length before
+  pub stay : (k : ℕ) → has_mark before k ≡ true → has_mark after k ≡ true
+
+-- case and budget are as before too
+pub record IsLater (before after : SessionRows) : Type 0 where
+  pub case_is : after.case ≡ before.case
+  pub budget_is : after.budget ≡ before.budget
+  pub marks : AreLater before.marks after.marks
+
+-- ---- what a plan answers
+
+-- as a session now is
+abbrev pub due : SessionRows → PlanDue
+due s = record { case = s.case; budget = s.budget }
+
+-- a plan of weighted backorders, with no stocks on hand
+abbrev pub plain_terms : ℕ → Terms
+plain_terms budget = record { budget = budget; loss = false; on_hand = None }
+
+-- The case is accepted, and the report is that of its plan under this budget with nothing held, which is whatever list
+-- of zeros.
+pub record IsReportOf (d : PlanDue) (report : PlanReport) : Type 0 where
+  pub accepted : IsAcceptedCase d.case
+  pub is_planned : (held : List ℕ) → IsNothing held → IsPlanned plain_ends d.case held (plain_terms d.budget) report
+
+-- it comes where the rates break no rule, and a fault is the first rule that they break
+abbrev pub AnswersPlan : PlanDue → Result PlanReport (Stop RateFault) → Type 0
+AnswersPlan d (Ok report) = IsReportOf d report
+AnswersPlan d (Err stop.NoMemory) = ⊤
+AnswersPlan d (Err (stop.Fault f)) = rate_fault_of d.case ≡ Some f

@@ -1,0 +1,118 @@
+//! An edits file: changes and plans, line by line.
+
+ghost use Rattle.std.specs.Prelude.{◌≡◌, ◌≤◌, List, All, IfOk, OnOk};
+ghost use Rattle.std.specs.List.{AllZip};
+ghost use Rattle.std.specs.Result.{IsOk};
+ghost use Rattle.spares_input.specs.Cases.{frame_rows};
+ghost use Rattle.family_curve.specs.Counts.{work_of};
+ghost use Rattle.plan_report.specs.Fits.{FitsPlan};
+ghost use Rattle.case_edits.specs.Lines.{IsEditOf};
+ghost use Rattle.case_edits.specs.Edits.{PlanDue};
+ghost use Rattle.plan_session.specs.Sessions.{IsReportOf};
+ghost use Rattle.case_edits.specs.Edits.{carried, most_lines, planned, session_of, taken};
+ghost use Rattle.plan_session.specs.Answers.{AnswersEdits};
+ghost use Rattle.plan_session.specs.Following.{standing, Follows};
+ghost use Rattle.demand_rates.specs.Limits.{rate_fault_of};
+
+use crate::report::SessionReport;
+use crate::session::Session;
+use case_edits::{Edit, EditFault, edit_in, first_line};
+use plan_report::PlanReport;
+use spares_input::Case;
+use spares_io::{List, Stop};
+use std::alloc::Global;
+
+/// The most lines of an edits file.
+const MOST_LINES: u32 = 4000;
+
+/// The most plans of an edits file.
+const MOST_PLANS: usize = 64;
+
+/// The plans that an edits file asks for, of this case and with a budget that begins at 0, or the file's first fault.
+///
+/// Its lines are `budget,N`, `plan`, and `rate,` with the fields of a row of rates. They are taken in order, and each plan
+/// is that of the case and the budget as they then are. At each line these are tried in this order: line 4,001; a line
+/// that is none of these; the 65th plan; a plan whose rates are refused. The work of the case is within its limit.
+pub fn run_edits(alloc: Global, case: Case, bytes: &[u8]) -> Result<SessionReport, Stop<EditFault>>
+    requires work { IsOk (work_of case) }
+    ensures answer { AnswersEdits (session_of case bytes.now) result }
+    ensures fits { IfOk result (λ report. All FitsPlan report.plans) }
+{
+    let mut session = Session::new(alloc, case, 0)?;
+    let mut plans = Vec::new(alloc);
+    let mut rest = bytes;
+    let mut line = 0;
+    while !rest.is_empty() {
+        let (text, left) = first_line(rest);
+        line += 1;
+        if let Err(stop) = take(&mut session, &mut plans, line, text) {
+            return Err(stop);
+        }
+        rest = left;
+    }
+    Ok(SessionReport {
+        plans: List::of(plans),
+    })
+}
+
+/// Takes a line, empty or not.
+fn take(
+    session: &mut Session,
+    plans: &mut Vec<PlanReport>,
+    line: u32,
+    text: &[u8],
+) -> Result<(), Stop<EditFault>>
+    ensures due { (due : List PlanDue) → AllZip IsReportOf due plans.old.items → Follows (taken line (standing session.old due) text.now) session.new plans.new.items result }
+    ensures within { OnOk result (line ≤ most_lines) }
+{
+    if line > MOST_LINES {
+        return Err(Stop::Fault(EditFault::TooManyLines));
+    }
+    if text.is_empty() {
+        return Ok(());
+    }
+    match edit_in(session.frame(), text) {
+        Some(edit) => carry_out(session, plans, line, edit),
+        None => Err(Stop::Fault(EditFault::BadLine(line))),
+    }
+}
+
+/// Carries out what a line says.
+fn carry_out(
+    session: &mut Session,
+    plans: &mut Vec<PlanReport>,
+    line: u32,
+    edit: Edit,
+) -> Result<(), Stop<EditFault>>
+    requires { IsEditOf (frame_rows session.old.case) edit }
+    ensures { (due : List PlanDue) → AllZip IsReportOf due plans.old.items → Follows (carried line (standing session.old due) edit) session.new plans.new.items result }
+{
+    match edit {
+        Edit::Budget(budget) => session.set_budget(budget),
+        Edit::Rate(row) => session.set_rate(row),
+        Edit::Plan => return put_plan(session, plans, line),
+    }
+    Ok(())
+}
+
+/// Plans, at this line.
+fn put_plan(
+    session: &mut Session,
+    plans: &mut Vec<PlanReport>,
+    line: u32,
+) -> Result<(), Stop<EditFault>>
+    ensures { (due : List PlanDue) → AllZip IsReportOf due plans.old.items
+        → Follows (planned line (standing session.old due) (rate_fault_of session.old.case)) session.new plans.new.items result }
+{
+    if plans.len() >= MOST_PLANS {
+        return Err(Stop::Fault(EditFault::TooManyPlans(line)));
+    }
+    match session.plan() {
+        Ok(report) => {
+            plans.push(report)?;
+            Ok(())
+        }
+        Err(Stop::Fault(fault)) => Err(Stop::Fault(EditFault::Rate(line, fault))),
+        Err(Stop::NoMemory) => Err(Stop::NoMemory),
+    }
+}

@@ -1,0 +1,127 @@
+//! The case and the budget of a session, with the curves that are kept.
+
+ghost use Rattle.std.specs.Prelude.{◌≡◌, ◌<◌, ◌≤◌, [], true, not, length, get_or, replicate, is_none, IfOk, IfSome};
+ghost use Rattle.std.specs.Result.{IsOk};
+ghost use Rattle.spares_input.specs.Cases.{frame_rows, IsCase, IsRateOf};
+ghost use Rattle.fleet_model.specs.Rows.{line_units};
+ghost use Rattle.family_curve.specs.Counts.{work_of};
+ghost use Rattle.fleet_plan.specs.Laws.{plain_ends};
+ghost use Rattle.on_hand.specs.Curves.{IsFamilyCurve};
+ghost use Rattle.case_edits.specs.Lines.{most_budget};
+ghost use Rattle.plan_session.specs.Sessions.{due, has_mark, started, with_budget, with_row, AnswersPlan, IsLater};
+
+use crate::kept::{keep_all, nothing_kept, place_of};
+use case_plan::plan;
+use demand_rates::{RateFault, rates};
+use hull::Curve;
+use plan_report::PlanReport;
+use spares_input::{Case, Frame, RateRow};
+use spares_io::{NoMemory, Stop};
+use std::alloc::Global;
+use std::marker::Model;
+
+/// A case and a budget, with the curves of the families that are marked.
+///
+/// It is seen as its case, its budget and one mark for each family, which is on where the family's curve is kept. Where a
+/// mark is off, what stands in the curve's place is a curve of no meaning.
+#[derive(Drop)]
+pub struct Session {
+    case: Case,
+    budget: u64,
+    curves: Vec<Curve>,
+    marks: Vec<bool>,
+}
+
+impl Model for Session {
+    ghost use Rattle.plan_session.specs.Sessions.{SessionRows, IsSession};
+
+    ghost Value = { SessionRows };
+
+    ghost view = { λ s. record { case = s.case; budget = s.budget; marks = s.marks.items } };
+
+    ghost invariant = { λ s. IsSession (record { case = s.case; budget = s.budget; marks = s.marks.items }) s.curves.items };
+}
+
+impl Session {
+    /// A session of this case, whose work is within its limit, and this budget in whole money. No mark is on.
+    pub fn new(alloc: Global, case: Case, budget: u64) -> Result<Session, NoMemory>
+        requires work { IsOk (work_of case) }
+        requires budget { budget ≤ most_budget }
+        ensures { IfOk result (λ s. s ≡ started case budget) }
+    {
+        let (curves, marks) = nothing_kept(alloc, &case)?;
+        Ok(Session {
+            case,
+            budget,
+            curves,
+            marks,
+        })
+    }
+
+    /// Changes the budget alone.
+    pub fn set_budget(&mut self, budget: u64)
+        requires { budget ≤ most_budget }
+        ensures { self.new ≡ with_budget self.old budget }
+    {
+        self.budget = budget;
+    }
+
+    /// Puts a row in the place of its pair's row, and turns off the mark of the family of its part. All else stays.
+    pub fn set_rate(&mut self, row: RateRow)
+        requires { IsRateOf (frame_rows self.old.case) row }
+        ensures { self.new ≡ with_row self.old row }
+    {
+        let place = place_of(&self.case, row.part);
+        self.case.set_rate(row);
+        self.marks[place] = false;
+    }
+
+    /// The plan of the case as it is under the budget as it is, or the first rule that its rates break.
+    ///
+    /// An answer turns every mark on, and no call turns one off. Case and budget stay, so that a later call may answer
+    /// where memory was short.
+    pub fn plan(&mut self) -> Result<PlanReport, Stop<RateFault>>
+        ensures answer { AnswersPlan (due self.old) result }
+        ensures later { IsLater self.old self.new }
+        ensures marks { IfOk result (λ _. self.new.marks ≡ replicate (length (line_units self.old.case)) true) }
+    {
+        let alloc = *self.curves.allocator();
+        let rates = match rates(alloc, &self.case) {
+            Ok(rates) => rates,
+            Err(stop) => return Err(stop),
+        };
+        keep_all(alloc, &self.case, &rates, &mut self.curves, &mut self.marks)?;
+        let curves = self.curves.as_slice();
+        let outcome = plan(alloc, &self.case, &rates, curves, self.budget, false, None)?;
+        Ok(outcome.report)
+    }
+
+    /// How many families the case has.
+    pub fn family_count(&self) -> usize
+        ensures { result ≡ length (line_units self.now.case) }
+    {
+        self.marks.len()
+    }
+
+    /// The curve of a family, by its place among the families: of its weighted backorders, over all its vectors, in the
+    /// case as it is. None exactly where its mark is off.
+    pub fn curve(&self, family: u32) -> Option<&Curve>
+        requires { family < length (line_units self.now.case) }
+        ensures mark { is_none result ≡ not (has_mark self.now.marks family) }
+        ensures curve { IfSome result (λ c. IsFamilyCurve plain_ends self.now.case [] (get_or (line_units self.now.case) family 0) c.now) }
+    {
+        let place = family as usize;
+        if self.marks[place] {
+            Some(&self.curves[place])
+        } else {
+            None
+        }
+    }
+
+    /// The frame of the case.
+    pub(crate) fn frame(&self) -> &Frame
+        ensures { result.now ≡ frame_rows self.now.case }
+    {
+        self.case.frame()
+    }
+}

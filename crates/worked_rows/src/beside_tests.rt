@@ -1,0 +1,83 @@
+use crate::helpers::{ends, printed, refused, shelf_of};
+use std::test::*;
+
+/// One line unit at the depot and one base: its sites, parts and rates.
+const SITES: &str = "site,kind,systems,ship_days\nD,depot,,\nB,base,12,10\n";
+
+const PARTS: &str = "part,parent,cost,per_system,max_depot,max_base\nL,,100,1,2,3\n";
+
+const RATES: &str = "part,site,demand,repair_here,share,repair_days\nL,D,,,,20\nL,B,36.5,0,,0\n";
+
+/// A line unit and its shop unit, with stocks.
+const SHOP: [&str; 4] = [
+    "site,kind,systems,ship_days\nD,depot,,\nB,base,10,5\n",
+    "part,parent,cost,per_system,max_depot,max_base\nL,,1000,2,1,1\nS,L,200,,1,1\n",
+    "part,site,demand,repair_here,share,repair_days\nL,D,,,,10\nL,B,36.5,0.5,,5\nS,D,,,0.4,20\nS,B,,0.25,0.4,5\n",
+    "part,site,stock\nL,D,0\nL,B,1\nS,D,1\nS,B,0\n",
+];
+
+/// Tables and stocks, with the comparison.
+const COMPARED: [([&str; 4], &str); 2] = [
+    (
+        SHOP,
+        "compare,48\nitem,L,D,0,0.612334,0.612335,0.612334,0.612335\nitem,L,B,1,0.574076,0.574077,0.570049,0.570050\nitem,S,D,1,0.196585,0.196586,0.196585,0.196586\nitem,S,B,0,0.184250,0.184251,0.184250,0.184251\ntotal,0.574076,0.574077,0.570049,0.570050\n",
+    ),
+    (
+        [SITES, PARTS, RATES, "part,site,stock\nL,D,0\nL,B,0\n"],
+        "compare,48\nitem,L,D,0,2.000000,2.000000,2.000000,2.000000\nitem,L,B,0,3.000000,3.000000,3.000000,3.000000\ntotal,3.000000,3.000000,3.000000,3.000000\n",
+    ),
+];
+
+#[test]
+fn compares_with_poisson_pipelines(rt: HostRuntime) -> Result<(), Fail> {
+    let alloc = rt.alloc();
+    let line = "compare --sites sites --parts parts --rates rates --stocks stocks";
+    for (tables, report) in &COMPARED {
+        let mut shelf = shelf_of(alloc, *tables, &[])?;
+        ends(&rt, alloc, line, &mut shelf, &[], printed(report))?;
+    }
+    Ok(())
+}
+
+/// Edits of the first case, with the reports of their plans.
+const EDITED: [(&str, &str); 3] = [
+    (
+        "budget,250\nplan\nrate,L,B,36.5,0,,0\nplan\n",
+        "plan,250\ncost,200\nitem,L,D,0,2.000000,2.000000,2.000000,2.000000,2.000000,2.000000,2.000000,2.000000\nitem,L,B,2,3.000000,3.000000,3.000000,3.000000,1.248935,1.248936,2.091651,2.091652\nbase,B,0.895922,0.895923\nfleet,0.895922,0.895923\ntotal,1.248935,1.248936\nbound,0.960530\ngap,0.288405\nrounding,0.000001\nprice,0.005768099188\nhull,200\ncritical,L,100\nplan,250\ncost,200\nitem,L,D,0,2.000000,2.000000,2.000000,2.000000,2.000000,2.000000,2.000000,2.000000\nitem,L,B,2,3.000000,3.000000,3.000000,3.000000,1.248935,1.248936,2.091651,2.091652\nbase,B,0.895922,0.895923\nfleet,0.895922,0.895923\ntotal,1.248935,1.248936\nbound,0.960530\ngap,0.288405\nrounding,0.000001\nprice,0.005768099188\nhull,200\ncritical,L,100\n",
+    ),
+    (
+        "plan\r\n\r\nrate,L,B,0,0,,0\r\nplan",
+        "plan,0\ncost,0\nitem,L,D,0,2.000000,2.000000,2.000000,2.000000,2.000000,2.000000,2.000000,2.000000\nitem,L,B,0,3.000000,3.000000,3.000000,3.000000,3.000000,3.000000,3.000000,3.000000\nbase,B,0.750000,0.750000\nfleet,0.750000,0.750000\ntotal,3.000000,3.000000\nbound,3.000000\ngap,0.000000\nrounding,0.000001\nprice,0.009502129316\nhull,0\ncritical,L,100\nplan,0\ncost,0\nitem,L,D,0,0.000000,0.000000,0.000000,0.000000,0.000000,0.000000,0.000000,0.000000\nitem,L,B,0,0.000000,0.000000,0.000000,0.000000,0.000000,0.000000,0.000000,0.000000\nbase,B,1.000000,1.000000\nfleet,1.000000,1.000000\ntotal,0.000000,0.000000\nbound,0.000000\ngap,0.000000\nrounding,0.000001\nprice,0.000000000000\nhull,0\ncritical,none\n",
+    ),
+    ("\n\nbudget,7", ""),
+];
+
+#[test]
+fn plans_edits_in_turn(rt: HostRuntime) -> Result<(), Fail> {
+    let alloc = rt.alloc();
+    let line = "session --sites sites --parts parts --rates rates --edits stocks";
+    for (edits, report) in &EDITED {
+        let mut shelf = shelf_of(alloc, [SITES, PARTS, RATES, *edits], &[])?;
+        ends(&rt, alloc, line, &mut shelf, &[], printed(report))?;
+    }
+    Ok(())
+}
+
+/// Edits that are refused, with the line of the refusal.
+const REFUSED: [(&str, &str); 4] = [
+    ("plan\nrate,L,B,x,0,,0\n", "fault,edit,2\n"),
+    ("\n\nbudget,1000000000000001\n", "fault,edit,3\n"),
+    ("\nrate,L,B,10000,0,,0\nplan\nx", "fault,edit-rate,3\n"),
+    ("plan,\n", "fault,edit,1\n"),
+];
+
+#[test]
+fn refuses_edits(rt: HostRuntime) -> Result<(), Fail> {
+    let alloc = rt.alloc();
+    let line = "session --sites sites --parts parts --rates rates --edits stocks";
+    for (edits, fault) in &REFUSED {
+        let mut shelf = shelf_of(alloc, [SITES, PARTS, RATES, *edits], &[])?;
+        ends(&rt, alloc, line, &mut shelf, &[], refused(3, fault))?;
+    }
+    Ok(())
+}
