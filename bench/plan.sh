@@ -1,5 +1,5 @@
 #!/bin/bash
-# Times `plan` by both aims, `check` of both certificates and `sweep`, in turn on one processor, by the processor's time.
+# Times `plan` by both aims, `check` of both certificates, `sweep` and a `session`, in turn on one processor, by the processor's time.
 #   bench/plan.sh PROGRAM FOLDER BUDGET [RUNS [PEER]]
 # PROGRAM is the built program; FOLDER has sites.csv, parts.csv and rates.csv, whose fields aren't quoted. RUNS: how many times each is
 # run, 5 if left out; the least time counts. PEER: a program without proof that takes the same words of `plan` without an aim, plans the
@@ -30,11 +30,22 @@ timed() {
     { time "${on_one[@]}" "$@" > "$work/$name.report"; } 2>> "$work/$name.all"
 }
 
+# a session of 64 plans, each after the demand of one more line unit, at one base, was raised by a hundredth
+{
+    printf 'budget,%s\n' "$budget"
+    tr -d '\r' < "$folder/parts.csv" | awk -F, 'NR > 1 && $2 == "" { print $1 }' > "$work/lines"
+    tr -d '\r' < "$folder/rates.csv" | awk -F, -v OFS=, -v count="$(wc -l < "$work/lines")" '
+        NR == FNR { if (FNR == 1 || int(FNR * 64 / count) > int((FNR - 1) * 64 / count)) chosen[$1] = 1; next }
+        chosen[$1] && $3 + 0 > 0 && plans < 64 { delete chosen[$1]; $3 = sprintf("%.4f", $3 * 1.01); print "rate", $0; print "plan"; plans++ }
+    ' "$work/lines" -
+} > "$work/edits"
+
 for _ in $(seq "$runs"); do
     [ -z "$peer" ] || timed peer "$peer" "${words[@]}" --certificate "$work/peer"
     timed plan "$program" "${words[@]}" --certificate "$work/plain"
     timed check "$program" check --certificate "$work/plain"
     timed sweep "$program" sweep "${files[@]}"
+    timed session "$program" session "${files[@]}" --edits "$work/edits"
     timed loss_plan "$program" "${words[@]}" --objective log-availability --certificate "$work/loss"
     timed loss_check "$program" check --certificate "$work/loss"
 done
@@ -60,7 +71,7 @@ read -r tables scores < <(tr -d '\r' < "$folder/parts.csv" | awk -F, -v sites="$
     }')
 
 least() { sort -n "$work/$1.all" | head -n 1; }
-awk -v runs="$runs" -v tables="$tables" -v scores="$scores" -v plan="$(least plan)" -v check="$(least check)" -v sweep="$(least sweep)" \
+awk -v runs="$runs" -v tables="$tables" -v scores="$scores" -v plan="$(least plan)" -v check="$(least check)" -v sweep="$(least sweep)" -v session="$(least session)" \
     -v loss_plan="$(least loss_plan)" -v loss_check="$(least loss_check)" \
     -v peer="$([ -z "$peer" ] || least peer)" '
     function ratio(a, b) { return b > 0 ? sprintf("%.2f", a / b) : "-" }
@@ -69,6 +80,7 @@ awk -v runs="$runs" -v tables="$tables" -v scores="$scores" -v plan="$(least pla
     if (peer != "") printf "peer: plan %.3f; ours/peer %s\n", peer, ratio(plan, peer)
     printf "backorders: plan %.3f, check %.3f, check/plan %s\n", plan, check, ratio(check, plan)
     printf "sweep %.3f, sweep/plan %s\n", sweep, ratio(sweep, plan)
+    printf "session of 64 plans %.3f, session/plan %s\n", session, ratio(session, plan)
     printf "log-availability: plan %.3f, check %.3f, check/plan %s\n", loss_plan, loss_check, ratio(loss_check, loss_plan)
     printf "by the loss/by backorders: plan %s, check %s\n", ratio(loss_plan, plan), ratio(loss_check, check)
     printf "nanoseconds a table: %d by backorders, %d by the loss; a score of the loss costs %d more than a plain one\n",
