@@ -4,7 +4,8 @@
 
 Each trial makes random tables (some of them damaged), a budget, a format, an aim and what is on hand, and compares standard
 output, standard error, status and the certificate of `plan`. Then it changes a certificate (a byte, a number, lines, claims, covers, or
-nothing) and compares `check`. Some trials compare `demo`. Both programs run with the same words in their own folders.
+nothing) and compares `check`. On the same tables it compares one more of `eval`, `sweep`, `target`, `session` and `compare`, and some trials
+compare `demo`. Both programs run with the same words in their own folders.
 The cases are small, so that a slow program is quick on them. PROGRAM and OTHER are split like the words of a shell.
 
 A trial depends on SEED and its number alone. The first difference is printed, with the folder that has its files, and
@@ -95,6 +96,25 @@ def random_rate(rng, part, site, style):
         probability(rng) if not is_line else "",
         days,
     ]
+
+
+def random_edits(rng, case):
+    """The lines of edits: budgets, rates and plans, most of them good."""
+    sites, parts, rates = (case[file][1:] for file in TABLES)
+    lines = []
+    for _ in range(rng.randint(0, 7)):
+        turn = rng.random()
+        if turn < 0.35 or not rates:
+            lines.append("plan")
+        elif turn < 0.6:
+            lines.append("budget,%d" % rng.randint(0, cost_of_all(case)))
+        else:
+            part, site = rng.choice(parts), rng.choice(sites)
+            row = random_rate(rng, part, site, rng.choice(["calm"] * 8 + ["wild", "still"]))
+            lines.append("rate," + ",".join(row))
+    if rng.random() < 0.15:
+        lines.insert(rng.randint(0, len(lines)), rng.choice(["", " ", "plan,", "budget,1.5", "rate,L", "Plan", "budget,x"]))
+    return (rng.choice(["\n", "\n", "\r\n"]).join(lines + ["plan"]) + rng.choice(["\n", ""])).encode()
 
 
 def random_held(rng, part, site):
@@ -201,6 +221,19 @@ def plan_words(rng, most):
     if more and rng.random() < 0.9:
         chosen = rng.choice([None, "2"])
     return words + more + (["--format", chosen] if chosen else [])
+
+
+def further_words(rng):
+    """The words of a further command over the same tables."""
+    command = rng.choice(["eval", "sweep", "target", "session", "session", "compare"])
+    more = {
+        "eval": ["--stocks", "on-hand", *rng.choice([[], ["--bits", rng.choice(["32", "48", "52", "40"])]])],
+        "sweep": [],
+        "target": ["--backorders", rng.choice([decimal(rng, 0, 20, 4), decimal(rng, 0, 2000, 1), "0", "x"])],
+        "session": ["--edits", "edits"],
+        "compare": ["--stocks", "on-hand"],
+    }[command]
+    return [command, *(word for file in TABLES for word in ("--" + file, file)), *more]
 
 
 # Changed certificates
@@ -417,8 +450,12 @@ def trial(programs, seed, number):
             ends.append(("demo", found["status"]))
         else:
             case = random_case(rng)
-            found = both(programs, folders, texts_of(rng, case), plan_words(rng, cost_of_all(case)))
+            texts = texts_of(rng, case)
+            found = both(programs, folders, texts, plan_words(rng, cost_of_all(case)))
             ends.append(("plan", found["status"]))
+            words = further_words(rng)
+            told = both(programs, folders, {**texts, "edits": random_edits(rng, case)}, words)
+            ends.append((words[0], told["status"]))
             text = found["files"].get("certificate")
             for _ in range(2 if text else 0):
                 changed = changed_certificate(rng, text)
