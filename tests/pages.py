@@ -2,7 +2,7 @@
 
     python3 pages.py PROGRAM EXAMPLES PAGE
 
-An example is an indented line `$ ./spares ..`, continued where it ends with a backslash, and the lines up to the next
+An example is an indented line `$ ..`, continued where it ends with a backslash, and the lines up to the next
 blank one or the next command: what is put on the two outputs. A line `..` stands for any lines. The examples of a page
 run in their order in one folder, which has the program as `spares`, the folder `examples`, and the tables of the page:
 each indented block that begins with the header of a table is the file of that table.
@@ -46,7 +46,7 @@ def examples_of(block):
             is_open = line.endswith("\\")
         elif found:
             found[-1][1].append(line)
-    return [example for example in found if "./spares" in example[0]]
+    return found
 
 
 def is_shown(lines, printed):

@@ -51,17 +51,6 @@ while IFS=, read -r kind cost low high price; do
   if [ "$found" = "$wanted" ]; then passes; else fails "the plan at the point $cost: $found, wanted $wanted"; fi
 done <"$fleet/sweep.txt"
 
-# the picture that stands in the pages
-cat >"$room/draw.py" <<'DRAW'
-import pathlib, subprocess, sys
-program, fleet = sys.argv[1], pathlib.Path(sys.argv[2])
-tables = [word for table in ('sites', 'parts', 'rates') for word in ('--' + table, str(fleet / (table + '.csv')))]
-sweep = subprocess.run([program, 'sweep'] + tables, capture_output=True, check=True).stdout
-picture = subprocess.run([sys.executable, str(fleet / 'sweep.py')], input=sweep, capture_output=True, check=True).stdout
-sys.exit(picture != (fleet / 'sweep.svg').read_bytes())
-DRAW
-with_python 'the picture of the fleet' "$room/draw.py" "$program" "$fleet"
-
 # words
 tables_of "$one"
 check 'a sweep under a budget' 2 '' 'fault,words\n' sweep "${tables[@]}" --budget 1

@@ -11,7 +11,8 @@ import sys
 from math import ceil, floor, log10
 
 WIDTH, HEIGHT = 900, 540
-LEFT, RIGHT, TOP, BOTTOM = 90, 30, 50, 70
+LEFT, RIGHT, TOP, BOTTOM = 90, 50, 50, 70
+MOST_DOTS = 200
 INK, SHADE, LINE = '#222222', '#e3d9d9', '#1f5f99'
 
 
@@ -97,7 +98,7 @@ def drawn(points):
     for (cost, _, hi), (after, _, _) in zip(points, points[1:] + [(far, 0, 0)]):
         stairs += [(cost, hi), (after, hi)]
     picture.path(stairs, 'stroke="%s" stroke-width="1.5" fill="none"' % LINE)
-    for cost, _, hi in points:
+    for cost, _, hi in points if len(points) <= MOST_DOTS else []:
         x, y = picture.place(cost, hi).split(',')
         picture.parts.append('<circle cx="%s" cy="%s" r="3" fill="%s"/>' % (x, y, LINE))
     picture.words(LEFT, 28, 'What a budget gives: %d points. Nothing lies in the shaded region.' % len(points))
