@@ -1,17 +1,15 @@
 -- The definitions of the ends enclose the exact availability, and stay at most 1.
 use Rattle.std.proofs.Common.{ℕ, zero, suc, ◌+◌, ◌-◌, ◌*◌, ◌^◌, ◌<◌, ◌≤◌, ◌≡◌, ◌∙◌, List, length, get_or, take, arith, refl, sym, ap₂, subst}
-use Rattle.std.specs.Int.{div_ceil}
 use Rattle.std.specs.List.{fold}
 use Rattle.std.proofs.Math.Seq.{take-length}
-use Rattle.std.proofs.Math.Nat.{mul-pos, lt_of_mul-lt-mul_right}
+use Rattle.std.proofs.Math.Nat.{mul-pos}
 use Rattle.std.proofs.lemmas.Nat.{mul-le}
-use Rattle.std.proofs.lemmas.Grind.{div_ceil_times}
 use Rattle.std.proofs.lemmas.List.Sums.{fold_more}
 use Rattle.exact_model.specs.Fraction.{Fraction, whole, sum_below, ◌≈◌, ◌+ℚ◌, ◌-ℚ◌, ◌*ℚ◌, ◌/ℚ◌}
 use Rattle.exact_model.specs.Sums.{power, product_below}
-use Rattle.exact_model.proofs.Fractions.{same, turned, ◌≈≈◌, add-same, div-same, contains-same}
+use Rattle.exact_model.proofs.Fractions.{same, turned, ◌≈≈◌, add_same, div_same, contains_same, whole_plus, first_power, next_power}
 use Rattle.fixed_interval.specs.Ends.{Ends, In, ends_exact, ends_add, ends_less, ends_times, ends_over, ends_mul}
-use Rattle.fixed_interval.proofs.Laws.{add_encloses, less_encloses, exact_encloses, mul_encloses, over_encloses, times_encloses, mul_below, up_to}
+use Rattle.fixed_interval.proofs.Laws.{add_encloses, less_encloses, exact_encloses, mul_encloses, over_encloses, times_encloses, mul_below, unit_most}
 use Rattle.availability.specs.declared.Weighted.{Weighted}
 use Rattle.availability.specs.Profile.{filled_ends, multiplied, factor_ends, base_ends, weighted_sum, all_systems, fleet_ends}
 use Rattle.availability.specs.Exact.{factor_of, weighted_mean, AllIn, base_at, BaseIn, BasesIn}
@@ -25,24 +23,13 @@ next_fold f a xs i d l =
 
 -- ---- the factor of a line unit
 
-one_times : (q : Fraction) → q ≈ whole 1 *ℚ q
-unfolding whole ◌*ℚ◌
-one_times q = record { cross = omega arith }
-
-first_power : (q : Fraction) → q ≈ power q 1
-unfolding power
-first_power q = one_times q
-
-next_power : (q : Fraction) (n : ℕ) → power q n *ℚ q ≈ power q (suc n)
-unfolding power
-next_power q n = same (power q n *ℚ q)
-
 multiplied_in : (f : ℕ) (g : Ends) (q : Fraction) (n : ℕ) → In f g q → In f (multiplied f g n) (power q (suc n))
 unfolding multiplied
-multiplied_in f g q zero h = contains-same (first_power q) h
+multiplied_in f g q zero h = contains_same (first_power q) h
 multiplied_in f g q (suc n) h =
-    contains-same (next_power q (suc n)) (mul_encloses f (multiplied f g n) g (power q (suc n)) q (multiplied_in f g q n h) h)
+    contains_same (next_power q (suc n)) (mul_encloses f (multiplied f g n) g (power q (suc n)) q (multiplied_in f g q n h) h)
 
+-- the interval of a line unit's factor contains the factor of the backorders in its interval
 pub factor_in : (f : ℕ) (e : Ends) (x : Fraction) (systems per_system : ℕ) → 0 < systems → 0 < per_system → In f e x
     → In f (factor_ends f e systems per_system) (factor_of x systems per_system)
 factor_in f e x systems zero s p h = absurd (omega arith)
@@ -64,14 +51,15 @@ no_product q = same (whole 1)
 
 products_in : (f : ℕ) (factors : List Ends) (q : ℕ → Fraction) (n : ℕ) → n ≤ length factors → AllIn f factors q
     → In f (base_ends f (take n factors)) (product_below q n)
-products_in f factors q zero l a = contains-same (no_product q) (exact_encloses f 1)
+products_in f factors q zero l a = contains_same (no_product q) (exact_encloses f 1)
 products_in f factors q (suc n) l a =
-    contains-same (next_product q n)
+    contains_same (next_product q n)
     (subst (λ (z : Ends). In f z (product_below q n *ℚ q n))
     (sym (next_fold (ends_mul f) (ends_exact f 1) factors n (ends_exact f 1) (omega arith)))
     (mul_encloses f (base_ends f (take n factors)) (get_or factors n (ends_exact f 1)) (product_below q n) (q n)
     (products_in f factors q n (omega arith) a) (a n (omega arith))))
 
+-- the product of the factors' intervals contains the product of the factors
 pub base_in : (f : ℕ) (factors : List Ends) (q : ℕ → Fraction) → AllIn f factors q → In f (base_ends f factors) (product_below q (length factors))
 base_in f factors q a =
     subst (λ xs. In f (base_ends f xs) (product_below q (length factors))) (take-length factors)
@@ -87,19 +75,15 @@ no_sum : (q : ℕ → Fraction) → whole 0 ≈ sum_below q 0
 unfolding sum_below
 no_sum q = same (whole 0)
 
-whole_sum : (a b : ℕ) → whole a +ℚ whole b ≈ whole (a + b)
-unfolding whole ◌+ℚ◌
-whole_sum a b = record { cross = omega arith }
-
 value_in : (f : ℕ) (base : Weighted f) (n : ℕ) (q : Fraction) → BaseIn f base n q → In f (ends_times base.value base.systems) (whole n *ℚ q)
 value_in f base n q h =
     subst (λ m. In f (ends_times base.value base.systems) (whole m *ℚ q)) h.systems (times_encloses f base.value base.systems q h.value)
 
 sums_in : (f : ℕ) (bases : List (Weighted f)) (w : ℕ → ℕ) (q : ℕ → Fraction) (n : ℕ) → n ≤ length bases → BasesIn f bases w q
     → In f (weighted_sum f (take n bases)) (sum_below (λ k. whole (w k) *ℚ q k) n)
-sums_in f bases w q zero l a = contains-same (no_sum (λ k. whole (w k) *ℚ q k)) (exact_encloses f 0)
+sums_in f bases w q zero l a = contains_same (no_sum (λ k. whole (w k) *ℚ q k)) (exact_encloses f 0)
 sums_in f bases w q (suc n) l a =
-    contains-same (next_sum (λ k. whole (w k) *ℚ q k) n)
+    contains_same (next_sum (λ k. whole (w k) *ℚ q k) n)
     (subst (λ (z : Ends). In f z (sum_below (λ k. whole (w k) *ℚ q k) n +ℚ whole (w n) *ℚ q n))
     (sym (next_fold (λ (sum : Ends) (base : Weighted f). ends_add sum (ends_times base.value base.systems)) (ends_exact f 0) bases n
     (record { systems = 0; value = ends_exact f 0 }) (omega arith)))
@@ -114,13 +98,14 @@ weights_are f bases w q (suc n) l a =
     subst (λ m. whole m ≈ sum_below (λ k. whole (w k)) (suc n))
     (sym (next_fold (λ sum (base : Weighted f). sum + base.systems) 0 bases n (record { systems = 0; value = ends_exact f 0 }) (omega arith)))
     (subst (λ m. whole (all_systems (take n bases) + m) ≈ sum_below (λ k. whole (w k)) (suc n)) (sym (a n (omega arith)).systems)
-    (turned (whole_sum (all_systems (take n bases)) (w n))
-    ≈≈ add-same (weights_are f bases w q n (omega arith) a) (same (whole (w n))) ≈≈ next_sum (λ k. whole (w k)) n))
+    (turned (whole_plus (all_systems (take n bases)) (w n))
+    ≈≈ add_same (weights_are f bases w q n (omega arith) a) (same (whole (w n))) ≈≈ next_sum (λ k. whole (w k)) n))
 
 above_zero : (n : ℕ) → 0 < n → 0 < (whole n).num
 unfolding whole
 above_zero n p = p
 
+-- the interval of the fleet contains the mean of the bases' availabilities by their systems
 pub fleet_in : (f : ℕ) (bases : List (Weighted f)) (w : ℕ → ℕ) (q : ℕ → Fraction) → 0 < all_systems bases → BasesIn f bases w q
     → In f (fleet_ends f bases) (weighted_mean w q (length bases))
 fleet_in f bases w q p a =
@@ -128,21 +113,25 @@ fleet_in f bases w q p a =
     (sums_in f bases w q (length bases) (omega arith) a) in
     let t = subst (λ xs. whole (all_systems xs) ≈ sum_below (λ k. whole (w k)) (length bases)) (take-length bases)
     (weights_are f bases w q (length bases) (omega arith) a) in
-    contains-same (div-same (above_zero (all_systems bases) p) (same (sum_below (λ k. whole (w k) *ℚ q k) (length bases))) t)
+    contains_same (div_same (above_zero (all_systems bases) p) (same (sum_below (λ k. whole (w k) *ℚ q k) (length bases))) t)
     (over_encloses f (weighted_sum f bases) (all_systems bases) (sum_below (λ k. whole (w k) *ℚ q k) (length bases)) p s)
 
 -- ---- at most 1, and the steps of the loops
 
+-- a product of intervals of at most 1 is at most 1
 pub product_most : (f : ℕ) (x y z : Ends) → x.hi ≤ 2 ^ f → y.hi ≤ 2 ^ f → z ≡ ends_mul f x y → z.hi ≤ 2 ^ f
 product_most f x y z h k e = rw e (omega (arith, mul_below f 1 1 x y (omega arith) (omega arith)))
 
+-- 1 less the backorders over the places is what these fill
 pub filled_is : (f : ℕ) (e one taken g : Ends) (places : ℕ) → one ≡ ends_exact f 1 → taken ≡ ends_over e places → g ≡ ends_less one taken
     → g ≡ filled_ends f e places
 filled_is f e one taken g places h k l = rw (l, k, h) refl
 
+-- what is filled is at most 1
 pub filled_most : (f : ℕ) (one taken g : Ends) → one ≡ ends_exact f 1 → g ≡ ends_less one taken → g.hi ≤ 2 ^ f
 filled_most f one taken g h l = rw (l, h) (omega arith)
 
+-- what is filled, multiplied by itself 0 times, is itself
 pub multiplied_none : (f : ℕ) (g filled : Ends) → filled ≡ g → filled ≡ multiplied f g 0
 unfolding multiplied
 multiplied_none f g filled h = h
@@ -151,6 +140,7 @@ multiplied_next : (f : ℕ) (g : Ends) (n : ℕ) → ends_mul f (multiplied f g 
 unfolding multiplied
 multiplied_next f g n = refl
 
+-- multiplied once more it is the next power
 pub multiplied_more : (f : ℕ) (g filled all next : Ends) (k : ℕ) → 1 ≤ k → filled ≡ g → all ≡ multiplied f g (k - 1) → next ≡ ends_mul f all filled
     → next ≡ multiplied f g (k + 1 - 1)
 multiplied_more f g filled all next k p h a e =
@@ -161,13 +151,7 @@ multiplied_more f g filled all next k p h a e =
 pub sum_room : (f sum all k value systems : ℕ) → f ≤ 52 → sum ≤ 2 ^ f * all → all ≤ k * 10000 → k ≤ 15 → value ≤ 2 ^ f → systems ≤ 10000
     → sum + value * systems < 2 ^ 127
 sum_room f sum all k value systems s h a l v n =
-    let u = up_to f s in
+    let u = unit_most f s in
     let x = mul-le (2 ^ f) all (2 ^ 52) 150000 u (omega (arith, a, l)) in
     let y = mul-le value systems (2 ^ 52) 10000 (omega (arith, v, u)) n in
     omega (arith, x, y, h)
-
-pub mean_most : (sum all top : ℕ) → 0 < all → sum ≤ top * all → div_ceil sum all ≤ top
-mean_most sum all top p h =
-    let t = div_ceil_times sum all p in
-    let x : div_ceil sum all < top + 1 = lt_of_mul-lt-mul_right all (omega (arith, t.1, h)) in
-    omega arith

@@ -25,6 +25,7 @@ base_ends f factors = fold (ends_mul f) (ends_exact f 1) factors
 abbrev pub weighted_sum : (f : ℕ) → List (Weighted f) → Ends
 weighted_sum f bases = fold (λ sum base. ends_add sum (ends_times base.value base.systems)) (ends_exact f 0) bases
 
+-- how many systems the bases have together
 abbrev pub all_systems : {f : ℕ} → List (Weighted f) → ℕ
 all_systems bases = sum_by (λ base. base.systems) bases
 

@@ -1,15 +1,16 @@
 //! Availability: the expected share of systems that miss none of their line units, at a base and in the whole fleet.
 //!
-//! Base j has N systems, each with Z places for a line unit. Of these N Z places the line unit's expected backorders E at the
-//! base leave E empty, so one is filled with the chance max(0, 1 - E / (N Z)), and all Z of a system with its power Z. Then
+//! Base j has N systems, each with Z places for a line unit. Of these N Z places the line unit's expected backorders
+//! E at the base leave E empty, so one is filled with the chance max(0, 1 - E / (N Z)), and all Z of a system with
+//! its power Z. Then
 //!
 //! ```text
 //! availability of a base  = product over all line units of max(0, 1 - E / (N Z))^Z
 //! availability of a fleet = (sum of N times availability of the base) / (sum of N)
 //! ```
 //!
-//! These are the formulas of C. C. Sherbrooke, *Optimal Inventory Modeling of Systems*, 2nd edition. All numbers are intervals.
-//! No call refuses, and none takes memory.
+//! These are the formulas of C. C. Sherbrooke, *Optimal Inventory Modeling of Systems*, 2nd edition. All numbers are
+//! intervals. No call refuses, and none takes memory.
 #![tactic(auto)]
 
 ghost use Rattle.std.specs.Prelude.{◌≡◌, ℕ, ◌*◌, ◌^◌, ◌≤◌, length};
@@ -81,7 +82,8 @@ pub fn fleet<const F: u32>(bases: &[Weighted<F>]) -> Iv<F>
     requires few { length bases.now ≤ 15 }
     requires weighted { All (IsWeighted F) bases.now }
     ensures ends { result ≡ fleet_ends F bases.now }
-    ensures encloses { (n : ℕ → ℕ) (q : ℕ → Fraction) → BasesIn F bases.now n q → In F result (weighted_mean n q (length bases.now)) }
+    ensures encloses { (n : ℕ → ℕ) (q : ℕ → Fraction) → BasesIn F bases.now n q
+        → In F result (weighted_mean n q (length bases.now)) }
     ensures most { result.hi ≤ 2 ^ F }
 {
     let mut sum = Iv::exact(0);

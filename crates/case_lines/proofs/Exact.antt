@@ -2,7 +2,7 @@
 use Rattle.std.proofs.Common.{◌≡◌, ◌≢◌, ℕ, ◌^◌, ◌<◌, ◌≤◌, Bool, true, false, cond, ◌&&◌, List, [], ◌∷◌, None, refl, sym, arith}
 use Rattle.std.specs.Prelude.{not, ◌==◌, nat_le, is_none}
 use Rattle.std.specs.List.{list_all}
-use Rattle.std.proofs.lemmas.Bool.{and_parts, eqb-true, eq-eqb, leb-true, ne_eqb}
+use Rattle.std.proofs.lemmas.Bool.{and_parts, eqb-true, eq-eqb, leb-true, ne_eqb, not-true}
 use Rattle.line_text.specs.Formats.{Token, one, and_then}
 use Rattle.line_text.specs.Files.{line}
 use Rattle.line_text.specs.Texts.{number, fixed, plain, word, only}
@@ -18,10 +18,6 @@ use Rattle.spares_input.specs.declared.rows.RateRow.{RateRow}
 use Rattle.case_lines.specs.Grammar.{is_zero, name_field, number_if, fixed_if, chance_if, days_field, depot_fields, base_fields, site_line, sites, parent_field, limit_field, usual, weight_field, part_fields, may_stand, is_owed, part_line, Pair, rate_fields, rate_line}
 use lib.Chars.{codes}
 
-pub not_true : (b : Bool) → not b ≡ true → b ≡ false
-not_true true h = absurd cc
-not_true false h = refl
-
 -- ---- names
 
 plain_byte : (b : ℕ) → name_byte b ≡ true → IsPlain b
@@ -29,7 +25,7 @@ plain_byte b h =
     let p = and_parts (nat_le 0x20 b && nat_le b 0x7E && not (b == 0x2C)) (not (b == 0x22)) h in
     let q = and_parts (nat_le 0x20 b && nat_le b 0x7E) (not (b == 0x2C)) p.0 in
     let r = and_parts (nat_le 0x20 b) (nat_le b 0x7E) q.0 in
-    (not_true (b == 0x2C) q.1, ne_eqb b 10 (λ e. omega (arith, e, leb-true 0x20 b r.0)))
+    (not-true (b == 0x2C) q.1, ne_eqb b 10 (λ e. omega (arith, e, leb-true 0x20 b r.0)))
 
 plain_name : (t : Token) → list_all name_byte t ≡ true → IsField t
 plain_name [] h = tt
@@ -63,7 +59,8 @@ named_is_exact t h = word_is_exact t (name_is_plain t h)
 
 -- ---- numbers
 
-number_field : (least most : ℕ) → least ≤ most → most < 10 ^ 64 → IsExact IsField (one (number least most))
+-- a field of a number within a range is an exact format
+pub number_field : (least most : ℕ) → least ≤ most → most < 10 ^ 64 → IsExact IsField (one (number least most))
 number_field least most h m = one_is_exact IsField (number least most) (number_is_exact least most h m)
 
 fixed_field : (places most : ℕ) → most < 10 ^ 64 → IsExact IsField (one (fixed places 0 most))
@@ -104,7 +101,7 @@ depot_is_exact =
     (λ s h f. depot_values s h)
 
 base_values : (s : SiteRow) → not s.depot ≡ true → (record { name = s.name; depot = false; systems = s.systems; ship = s.ship }) ≡ s
-base_values s h = let e = not_true s.depot h in λ i. record { name = s.name; depot = sym e i; systems = s.systems; ship = s.ship }
+base_values s h = let e = not-true s.depot h in λ i. record { name = s.name; depot = sym e i; systems = s.systems; ship = s.ship }
 
 base_is_exact : IsExact IsField base_fields
 base_is_exact =
@@ -120,6 +117,7 @@ site_case : (c : Bool) → IsExact IsLine (cond c (one (line depot_fields)) (one
 site_case true = one_is_exact IsLine _ (line_is_exact depot_fields depot_is_exact (λ a. omega arith))
 site_case false = one_is_exact IsLine _ (line_is_exact base_fields base_is_exact (λ a. omega arith))
 
+-- the lines of sites are an exact format
 pub sites_are_exact : IsExact IsLine sites
 sites_are_exact = counted_is_exact (codes "sites") 2 16 site_line (a_field (codes "sites") refl) (omega arith) (omega arith) (λ k. site_case (k == 0))
 
@@ -161,6 +159,7 @@ row_is_exact true true = only_is_exact IsLine (may_stand true) (line (part_field
 row_is_exact true false = let e = part_text_is_exact true in only_is_exact IsLine (may_stand false) (line (part_fields true)) e e.good e.fits refl
 row_is_exact false owed = let e = part_text_is_exact false in only_is_exact IsLine (may_stand false) (line (part_fields false)) e e.good e.fits refl
 
+-- the line of a part is an exact format, whatever weights stand before it
 pub part_line_is_exact : (weighted : Bool) (n : ℕ) (before : List PartRow) (k : ℕ) → IsExact IsLine (part_line weighted n before k)
 part_line_is_exact weighted n before k = one_is_exact IsLine _ (row_is_exact weighted (is_owed n before k))
 
@@ -188,5 +187,6 @@ rate_is_exact pair m n =
     (λ a f. (refl, same_place pair))
     (λ r h f. rate_values pair r h)
 
+-- the line of a pair's rates is an exact format where part and site have names
 pub rate_line_is_exact : (pair : Pair) → is_name pair.part_name ≡ true → is_name pair.site_name ≡ true → IsExact IsLine (rate_line pair)
 rate_line_is_exact pair m n = one_is_exact IsLine _ (line_is_exact (rate_fields pair) (rate_is_exact pair m n) (λ a. omega arith))

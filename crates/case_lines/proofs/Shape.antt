@@ -9,9 +9,9 @@ use Rattle.line_text.specs.Formats.{Token, Format, one, and_then, fits_after}
 use Rattle.line_text.specs.Files.{line, comma, unended}
 use Rattle.line_text.specs.Texts.{number, word, count_fields, count_line, numbers_from, Either, Left, Right, only}
 use Rattle.line_text.specs.Exact.{IsExact, IsField, IsLine}
-use Rattle.line_text.proofs.Laws.{one_is_exact, both_are_exact, as_shape_is_exact, each_after_is_exact, length-after, all_are}
+use Rattle.line_text.proofs.Laws.{one_is_exact, both_are_exact, as_shape_is_exact, each_after_is_exact, length_after, all_are}
 use Rattle.line_text.proofs.LineLaws.{line_is_exact, split_of, unended_again}
-use Rattle.line_text.proofs.FieldLaws.{number_is_exact, word_is_exact, a_field, count_fields_are_exact, one_for_each_is_exact, length-numbers_from}
+use Rattle.line_text.proofs.FieldLaws.{number_is_exact, word_is_exact, a_field, count_fields_are_exact, one_for_each_is_exact, length_numbers_from}
 use Rattle.line_text.proofs.MoreFields.{either_is_exact}
 use Rattle.spares_input.specs.Names.{is_name}
 use Rattle.spares_input.specs.Frames.{site_at, part_at}
@@ -115,7 +115,7 @@ abbrev weights_header : ℕ → Either ℕ ℕ
 weights_header n = Right n
 
 row_count : (weighted : Bool) (n : ℕ) (rows : List PartRow) → (part_lines weighted n).fits rows ≡ true → length rows ≡ n
-row_count weighted n rows h = length-after (part_line weighted n) [] (numbers_from 0 n) rows h ∙ length-numbers_from 0 n
+row_count weighted n rows h = length_after (part_line weighted n) [] (numbers_from 0 n) rows h ∙ length_numbers_from 0 n
 
 -- the rows tell the line before them
 header_back : (h : Either ℕ ℕ) (rows : List PartRow) → parts_line.fits h ≡ true → (part_lines (weights_in h) (count_in h)).fits rows ≡ true → header_of rows ≡ h
@@ -129,6 +129,7 @@ part_lines_are_exact weighted n = each_after_is_exact IsLine [] (numbers_from 0 
 abbrev headed : List PartRow → Either ℕ ℕ → Either ℕ ℕ × List PartRow
 headed rows h = (h, rows)
 
+-- the lines of parts are an exact format
 pub parts_are_exact : IsExact IsLine parts
 parts_are_exact =
     as_shape_is_exact IsLine (and_then parts_line (λ h. part_lines (weights_in h) (count_in h))) (λ x. x.1) (λ rows. (header_of rows, rows)) (λ _. true)
@@ -193,14 +194,16 @@ part_parts rows h =
 parts_named : (rows : List PartRow) → parts.fits rows ≡ true → AllByRecursion IsNamedPart rows
 parts_named rows h = rows_named (weights_in (header_of rows)) (count_in (header_of rows)) [] (numbers_from 0 (count_in (header_of rows))) rows (part_parts rows h).1
 
-few_sites : (s : List SiteRow) → sites.fits s ≡ true → (2 ≤ length s) × (length s ≤ 16)
+-- lines of sites that are written hold 2 to 16
+pub few_sites : (s : List SiteRow) → sites.fits s ≡ true → (2 ≤ length s) × (length s ≤ 16)
 few_sites s h = count_within (codes "sites") 2 16 (length s) (site_parts s h).0
 
 few_at : (c : Bool) (n : ℕ) → parts_line.fits (cond c (Right n) (Left n)) ≡ true → n ≤ 2000
 few_at true n h = weights_within n h
 few_at false n h = (count_within (codes "parts") 0 2000 n h).1
 
-few_parts : (rows : List PartRow) → parts.fits rows ≡ true → length rows ≤ 2000
+-- lines of parts that are written hold at most 2000
+pub few_parts : (rows : List PartRow) → parts.fits rows ≡ true → length rows ≤ 2000
 few_parts rows h = few_at (are_weighted rows) (length rows) (part_parts rows h).0
 
 -- ---- rates
@@ -232,12 +235,13 @@ pairs_below n m h g = mul-le n m 2000 16 h g
 rates_are_exact : (s : List SiteRow) (p : List PartRow) → sites.fits s ≡ true → parts.fits p ≡ true → IsExact IsLine (rates s p)
 rates_are_exact s p h g =
     one_for_each_is_exact (codes "rates") (numbers_from 0 (length p * length s)) (λ i. rate_line (pair_at s p i)) (a_field (codes "rates") refl)
-    (omega (arith, length-numbers_from 0 (length p * length s), pairs_below (length p) (length s) (few_parts p g) (few_sites s h).1))
+    (omega (arith, length_numbers_from 0 (length p * length s), pairs_below (length p) (length s) (few_parts p g) (few_sites s h).1))
     (numbers_are (λ i. IsExact IsLine (rate_line (pair_at s p i))) 0 (length p * length s)
     (λ i lt. pair_is_exact s p i (omega (arith, (few_sites s h).0)) (sites_named s h) (parts_named p g) (omega (arith, lt))))
 
 -- ---- a case
 
+-- the lines of a case are an exact format
 pub case_is_exact : IsExact IsLine case_format
 case_is_exact =
     as_shape_is_exact IsLine (and_then sites (λ s. and_then parts (λ p. rates s p)))

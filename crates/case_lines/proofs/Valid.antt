@@ -2,14 +2,14 @@
 use Rattle.std.proofs.Common.{◌≡◌, ℕ, zero, suc, ◌+◌, ◌*◌, ◌/◌, ◌%◌, ◌<◌, ◌≤◌, Bool, true, false, cond, ◌&&◌, List, [], ◌∷◌, ◌++◌, length, get_or, Option, Some, None, refl, sym, ap, subst, ◌∙◌, append_assoc, arith}
 use Rattle.std.specs.Prelude.{not, ◌||◌, ◌==◌, nat_le, is_none}
 use Rattle.std.specs.List.{AllByRecursion}
-use Rattle.std.proofs.lemmas.Bool.{and_from, eq-eqb, le-leb, leb-false, eqb-true, ne_eqb}
+use Rattle.std.proofs.lemmas.Bool.{and_from, eq-eqb, le-leb, leb-false, eqb-true, ne_eqb, and_parts, leb-true}
 use Rattle.std.proofs.lemmas.Nat.{div-add-mod', div_below, mod_below}
 use Rattle.std.proofs.lemmas.List.Folds.{list_any-append}
 use Rattle.std.proofs.lemmas.List.Elements.{recursion_from_All}
 use Rattle.line_text.specs.Formats.{Format, one, fits_after}
 use Rattle.line_text.specs.Files.{line}
 use Rattle.line_text.specs.Texts.{in_range, numbers_from}
-use Rattle.line_text.proofs.FieldLaws.{length-numbers_from}
+use Rattle.line_text.proofs.FieldLaws.{length_numbers_from}
 use Rattle.spares_input.specs.Names.{is_name}
 use Rattle.spares_input.specs.Rows.{IsField, IsSiteRow, IsPartRow, IsRateRow, is_line, no_site, no_rate}
 use Rattle.spares_input.specs.Frames.{site_at, part_at}
@@ -21,15 +21,20 @@ use Rattle.case_lines.specs.Grammar.{number_if, fixed_if, depot_fields, base_fie
 
 -- ---- fields
 
-range : (least most n : ℕ) → least ≤ n → n ≤ most → in_range least most n ≡ true
-range least most n h g = and_from _ _ (le-leb least n h) (le-leb n most g)
+-- a number from the least to the most passes the test of its range
+pub in_range_holds : (least most n : ℕ) → least ≤ n → n ≤ most → in_range least most n ≡ true
+in_range_holds least most n h g = and_from _ _ (le-leb least n h) (le-leb n most g)
+
+-- a number that passes the test of its range is at least the least and at most the most
+pub range_parts : (least most n : ℕ) → in_range least most n ≡ true → (least ≤ n) × (n ≤ most)
+range_parts least most n h = let p = and_parts (nat_le least n) (nat_le n most) h in (leb-true least n p.0, leb-true n most p.1)
 
 number_fits : (has : Bool) (least most n : ℕ) → IsField has least most n → (number_if has least most).fits n ≡ true
-number_fits true least most n h = let p = h.within refl in range least most n p.0 p.1
+number_fits true least most n h = let p = h.within refl in in_range_holds least most n p.0 p.1
 number_fits false least most n h = and_from _ _ (eq-eqb n 0 (h.empty refl)) refl
 
 fixed_fits : (has : Bool) (places most n : ℕ) → IsField has 0 most n → (fixed_if has places most).fits n ≡ true
-fixed_fits true places most n h = let p = h.within refl in range 0 most n p.0 p.1
+fixed_fits true places most n h = let p = h.within refl in in_range_holds 0 most n p.0 p.1
 fixed_fits false places most n h = and_from _ _ (eq-eqb n 0 (h.empty refl)) refl
 
 -- each value is in the format of its place
@@ -53,7 +58,7 @@ site_fits false r h e =
     let some : not r.depot ≡ true = ap not e in
     let systems = h.systems.within some in
     let ship = h.ship.within some in
-    and_from _ _ some (and_from _ _ h.name (and_from _ _ refl (and_from _ _ (range 1 10000 r.systems systems.0 systems.1) (range 0 999999 r.ship ship.0 ship.1))))
+    and_from _ _ some (and_from _ _ h.name (and_from _ _ refl (and_from _ _ (in_range_holds 1 10000 r.systems systems.0 systems.1) (in_range_holds 0 999999 r.ship ship.0 ship.1))))
 
 -- ---- parts
 
@@ -74,8 +79,8 @@ weight_fits false used n h more = and_from _ _ (usual_is used n h (more refl)) r
 
 part_fits : (weighted : Bool) (r : PartRow) → IsPartRow r → (weighted ≡ false → weighs_more r ≡ false) → (part_fields weighted).fits r ≡ true
 part_fits weighted r h more =
-    and_from _ _ refl (and_from _ _ h.name (and_from _ _ (parent_fits r.parent h.parent) (and_from _ _ (range 1 100000000 r.cost h.cost.0 h.cost.1)
-    (and_from _ _ (number_fits (is_none r.parent) 1 100 r.per_system h.per_system) (and_from _ _ (range 0 63 r.max_depot (omega arith) h.max_depot) (and_from _ _ (range 0 63 r.max_base (omega arith) h.max_base)
+    and_from _ _ refl (and_from _ _ h.name (and_from _ _ (parent_fits r.parent h.parent) (and_from _ _ (in_range_holds 1 100000000 r.cost h.cost.0 h.cost.1)
+    (and_from _ _ (number_fits (is_none r.parent) 1 100 r.per_system h.per_system) (and_from _ _ (in_range_holds 0 63 r.max_depot (omega arith) h.max_depot) (and_from _ _ (in_range_holds 0 63 r.max_base (omega arith) h.max_base)
     (weight_fits weighted (is_none r.parent) r.weight h.weight more)))))))
 
 or_false : (a b : Bool) → (a || b) ≡ false → (a ≡ false) × (b ≡ false)
@@ -123,8 +128,8 @@ rows_fit weighted n k before (x ∷ rows) e h w =
     (rows_fit weighted n (suc k) (before ++ x ∷ []) rows (omega (arith, e)) h.1 (ap are_weighted (append_assoc before (x ∷ []) rows) ∙ w))
 
 header_fits : (weighted : Bool) (n : ℕ) → n ≤ 2000 → (weighted ≡ true → 1 ≤ n) → parts_line.fits (header weighted n) ≡ true
-header_fits true n most some = and_from _ _ refl (and_from _ _ refl (and_from _ _ (range 1 2000 n (some refl) most) refl))
-header_fits false n most some = and_from _ _ refl (and_from _ _ refl (range 0 2000 n (omega arith) most))
+header_fits true n most some = and_from _ _ refl (and_from _ _ refl (and_from _ _ (in_range_holds 1 2000 n (some refl) most) refl))
+header_fits false n most some = and_from _ _ refl (and_from _ _ refl (in_range_holds 0 2000 n (omega arith) most))
 
 some_rows : (rows : List PartRow) → are_weighted rows ≡ true → 1 ≤ length rows
 some_rows [] h = absurd cc
@@ -152,7 +157,7 @@ rate_row_fits pair r p k h =
     and_from _ _ (and_from _ _ (eq-eqb r.part.0 pair.part p) (eq-eqb r.site.0 pair.site k))
     (and_from _ _ refl (and_from _ _ refl
     (and_from _ _ (fixed_fits (pair.line && not pair.depot) 4 1000000000 r.demand h.demand) (and_from _ _ (fixed_fits (not pair.depot) 4 10000 r.repair_here h.repair_here)
-    (and_from _ _ (fixed_fits (not pair.line) 4 10000 r.share h.share) (range 0 999999 r.repair_days (omega arith) h.repair_days))))))
+    (and_from _ _ (fixed_fits (not pair.line) 4 10000 r.share h.share) (in_range_holds 0 999999 r.repair_days (omega arith) h.repair_days))))))
 
 -- ---- a case
 
@@ -164,7 +169,7 @@ module _ (c : CaseRows) (valid : IsCase c) where
   sites_fit : sites.fits c.sites ≡ true
   sites_fit =
       and_from _ _ refl
-      (and_from _ _ (and_from _ _ refl (and_from _ _ refl (range 2 16 (length c.sites) valid.frame.fewest_sites valid.frame.most_sites)))
+      (and_from _ _ (and_from _ _ refl (and_from _ _ refl (in_range_holds 2 16 (length c.sites) valid.frame.fewest_sites valid.frame.most_sites)))
       (all_fit site_line no_site c.sites (λ k lt. site_fits (k == 0) (site_at c.sites k) (valid.frame.site_rows k no_site lt) (is_depot_at k lt))))
 
   few : length c.parts ≤ 2000
@@ -193,9 +198,9 @@ module _ (c : CaseRows) (valid : IsCase c) where
   rates_fit : (rates c.sites c.parts).fits c.rates ≡ true
   rates_fit =
       let count = length c.parts * length c.sites in
-      let keys : length (numbers_from 0 count) ≡ length c.rates = length-numbers_from 0 count ∙ sym valid.rate_count in
+      let keys : length (numbers_from 0 count) ≡ length c.rates = length_numbers_from 0 count ∙ sym valid.rate_count in
       and_from _ _ refl
-      (and_from _ _ (and_from _ _ refl (and_from _ _ refl (range (length (numbers_from 0 count)) (length (numbers_from 0 count)) (length c.rates) (omega (arith, keys)) (omega (arith, keys)))))
+      (and_from _ _ (and_from _ _ refl (and_from _ _ refl (in_range_holds (length (numbers_from 0 count)) (length (numbers_from 0 count)) (length c.rates) (omega (arith, keys)) (omega (arith, keys)))))
       (subst (λ (n : ℕ). fits_after (λ _ i. rate_line (pair_at c.sites c.parts i)) [] (numbers_from 0 n) c.rates ≡ true) valid.rate_count (all_fit (λ i. rate_line (pair_at c.sites c.parts i)) no_rate c.rates rate_fits)))
 
   pub case_fits : case_format.fits c ≡ true

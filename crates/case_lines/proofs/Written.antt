@@ -39,6 +39,7 @@ part_is false name None cost per d b w =
 part_is false name (Some p) cost per d b w =
     lay name p (decimal cost) [] (decimal d) (decimal b) (decimal b ++ 10 ∷ []) (10 ∷ []) refl
 
+-- the line of a part is its fields with commas between them, empty where the part has none
 pub part_printed : (weighted : Bool) (r : PartRow) → (line (part_fields weighted)).print r ≡ part_text (is_none r.parent) weighted r
 part_printed weighted r = part_is weighted r.name r.parent r.cost r.per_system r.max_depot r.max_base r.weight
 
@@ -90,6 +91,7 @@ seven_steps out o1 o2 o3 o4 o5 o6 o7 o8 o9 o10 o11 o12 o13 a b c d e f g h1 h2 h
     let e2 = back o13 o2 o1 comma s3 h2 e3 in
     back o13 o1 out a s2 h1 e2
 
+-- what is false exactly where there is a value says that there is none
 pub is_none_of : {A : Type 0} (o : Option A) (b : Bool) → is_some o ≡ not b → b ≡ is_none o
 is_none_of None true h = refl
 is_none_of None false h = absurd cc
@@ -111,14 +113,17 @@ rate_is false true i j part site r =
 rate_is false false i j part site r =
     lay part site [] (fixed_text 4 r.repair_here) (fixed_text 4 r.share) (fixed_text 2 r.repair_days) (fixed_text 2 r.repair_days ++ 10 ∷ []) (10 ∷ []) refl
 
+-- the line of rates is its fields with commas between them, empty where the pair has none
 pub rate_printed : (i : ℕ) (p : PartRow) (j : ℕ) (s : SiteRow) (r : RateRow) → (line (rate_fields (pair_of i p j s))).print r ≡ rate_text (is_none p.parent) s.depot p.name s.name r
 rate_printed i p j s r = rate_is (is_none p.parent) s.depot i j p.name s.name r
 
+-- bytes with none appended are the same bytes
 pub nothing_more : (o : List ℕ) → o ≡ o ++ []
 nothing_more o = sym (append-nil o)
 
 -- ---- parts of a file
 
+-- where one thing follows from another, a success that promises the one promises the other
 pub after_ok : {T E : Type 0} {P Q : Type 0} (r : Result T E) → (P → Q) → OnOk r P → OnOk r Q
 after_ok (Ok v) f h = f h
 after_ok (Err e) f h = h

@@ -14,9 +14,11 @@ use lib.Chars.{codes}
 
 -- ---- fields
 
+-- the number is 0, as an empty field tells
 abbrev pub is_zero : ℕ → Bool
 is_zero n = n == 0
 
+-- a name
 abbrev pub name_field : Format (List ℕ)
 name_field = one (plain is_name)
 
@@ -54,9 +56,11 @@ base_fields =
     (λ s. (s.name, (tt, (s.systems, s.ship))))
     (λ s. not s.depot)
 
+-- the line of site k: the depot for k = 0, else a base
 abbrev pub site_line : ℕ → Format SiteRow
 site_line k = if k == 0 then one (line depot_fields) else one (line base_fields)
 
+-- how many sites there are, and then a line for each
 abbrev pub sites : Format (List SiteRow)
 sites = counted (codes "sites") 2 16 site_line
 
@@ -66,6 +70,7 @@ sites = counted (codes "sites") 2 16 site_line
 abbrev pub parent_field : Format (Option (List ℕ))
 parent_field = one (if_any (plain is_name))
 
+-- the most that a site may hold of a part
 abbrev pub limit_field : Format ℕ
 limit_field = one (number 0 63)
 
@@ -73,6 +78,7 @@ limit_field = one (number 0 63)
 abbrev pub usual : Bool → ℕ
 usual line = if line then 1 else 0
 
+-- the weight of a part where weights are written, else no field and the usual weight
 abbrev pub weight_field : Bool → Bool → Format ℕ
 weight_field weighted line = if weighted then number_if line 1 100 else no_field (usual line) (λ n. n == usual line)
 
@@ -80,8 +86,19 @@ weight_field weighted line = if weighted then number_if line 1 100 else no_field
 abbrev pub part_fields : Bool → Format PartRow
 part_fields weighted =
     as_shape
-    (and_then name_field (λ _. and_then parent_field (λ parent. and_then (one (number 1 100000000)) (λ _. and_then (number_if (is_none parent) 1 100) (λ _. and_then limit_field (λ _. and_then limit_field (λ _. weight_field weighted (is_none parent))))))))
-    (λ x. record { name = x.0; parent = x.1.0; cost = x.1.1.0; per_system = x.1.1.1.0; max_depot = x.1.1.1.1.0; max_base = x.1.1.1.1.1.0; weight = x.1.1.1.1.1.1 })
+    (and_then name_field (λ _. and_then parent_field
+    (λ parent. and_then (one (number 1 100000000))
+    (λ _. and_then (number_if (is_none parent) 1 100)
+    (λ _. and_then limit_field (λ _. and_then limit_field (λ _. weight_field weighted (is_none parent))))))))
+    (λ x. record {
+      name = x.0;
+      parent = x.1.0;
+      cost = x.1.1.0;
+      per_system = x.1.1.1.0;
+      max_depot = x.1.1.1.1.0;
+      max_base = x.1.1.1.1.1.0;
+      weight = x.1.1.1.1.1.1;
+    })
     (λ r. (r.name, (r.parent, (r.cost, (r.per_system, (r.max_depot, (r.max_base, r.weight)))))))
     (λ _. true)
 
@@ -89,6 +106,7 @@ part_fields weighted =
 abbrev pub weighs_more : PartRow → Bool
 weighs_more r = nat_le 2 r.weight
 
+-- one of the parts has a weight other than the usual
 abbrev pub are_weighted : List PartRow → Bool
 are_weighted rows = list_any weighs_more rows
 
@@ -100,9 +118,11 @@ is_owed n before k = (suc k == n) && not (are_weighted before)
 abbrev pub may_stand : Bool → PartRow → Bool
 may_stand owed r = if owed then weighs_more r else true
 
+-- the line of row k of n parts; the last one has a weight that was to come
 abbrev pub part_line : Bool → ℕ → List PartRow → ℕ → Format PartRow
 part_line weighted n before k = one (only (may_stand (weighted && is_owed n before k)) (line (part_fields weighted)))
 
+-- the lines of n parts
 abbrev pub part_lines : Bool → ℕ → Format (List PartRow)
 part_lines weighted n = each_after [] (numbers_from 0 n) (part_line weighted n)
 
@@ -115,14 +135,17 @@ weights_fields =
 abbrev pub parts_line : Format (Either ℕ ℕ)
 parts_line = one (either (line (count_fields (codes "parts") 0 2000)) (line weights_fields))
 
+-- how many parts the first line says there are
 abbrev pub count_in : Either ℕ ℕ → ℕ
 count_in (Left n) = n
 count_in (Right n) = n
 
+-- whether it says that weights are written
 abbrev pub weights_in : Either ℕ ℕ → Bool
 weights_in (Left n) = false
 weights_in (Right n) = true
 
+-- the first line of so many parts, with weights or without
 abbrev pub header : Bool → ℕ → Either ℕ ℕ
 header weighted n = if weighted then Right n else Left n
 
@@ -130,8 +153,10 @@ header weighted n = if weighted then Right n else Left n
 abbrev pub header_of : List PartRow → Either ℕ ℕ
 header_of rows = header (are_weighted rows) (length rows)
 
+-- the first line of the parts, and then a line for each
 abbrev pub parts : Format (List PartRow)
-parts = as_shape (and_then parts_line (λ h. part_lines (weights_in h) (count_in h))) (λ x. x.1) (λ rows. (header_of rows, rows)) (λ _. true)
+parts = as_shape (and_then parts_line (λ h. part_lines (weights_in h) (count_in h))) (λ x. x.1)
+    (λ rows. (header_of rows, rows)) (λ _. true)
 
 -- ---- rates, by part and then by site
 
@@ -144,8 +169,16 @@ pub record Pair : Type 0 where
   pub line : Bool
   pub depot : Bool
 
+-- part p at site k, with the names and kinds of both
 abbrev pub pair_of : ℕ → PartRow → ℕ → SiteRow → Pair
-pair_of p part k site = record { part = p; site = k; part_name = part.name; site_name = site.name; line = is_none part.parent; depot = site.depot }
+pair_of p part k site = record {
+  part = p;
+  site = k;
+  part_name = part.name;
+  site_name = site.name;
+  line = is_none part.parent;
+  depot = site.depot;
+}
 
 -- the pair at place i
 abbrev pub pair_at : List SiteRow → List PartRow → ℕ → Pair
@@ -155,19 +188,31 @@ pair_at ss ps i = pair_of (i / length ss) (part_at ps (i / length ss)) (i % leng
 abbrev pub rate_fields : Pair → Format RateRow
 rate_fields pair =
     as_shape
-    (and_then (word pair.part_name) (λ _. and_then (word pair.site_name) (λ _. and_then (fixed_if (pair.line && not pair.depot) 4 1000000000) (λ _. and_then (chance_if (not pair.depot)) (λ _. and_then (chance_if (not pair.line)) (λ _. days_field))))))
-    (λ x. record { part = record { 0 = pair.part }; site = record { 0 = pair.site }; demand = x.1.1.0; repair_here = x.1.1.1.0; share = x.1.1.1.1.0; repair_days = x.1.1.1.1.1 })
+    (and_then (word pair.part_name) (λ _. and_then (word pair.site_name)
+    (λ _. and_then (fixed_if (pair.line && not pair.depot) 4 1000000000)
+    (λ _. and_then (chance_if (not pair.depot)) (λ _. and_then (chance_if (not pair.line)) (λ _. days_field))))))
+    (λ x. record {
+      part = record { 0 = pair.part };
+      site = record { 0 = pair.site };
+      demand = x.1.1.0;
+      repair_here = x.1.1.1.0;
+      share = x.1.1.1.1.0;
+      repair_days = x.1.1.1.1.1;
+    })
     (λ r. (tt, (tt, (r.demand, (r.repair_here, (r.share, r.repair_days))))))
     (λ r. (r.part.0 == pair.part) && (r.site.0 == pair.site))
 
+-- the line of a pair's rates
 abbrev pub rate_line : Pair → Format RateRow
 rate_line pair = one (line (rate_fields pair))
 
+-- the count of the pairs, and then a line for each
 abbrev pub rates : List SiteRow → List PartRow → Format (List RateRow)
 rates ss ps = one_for_each (codes "rates") (numbers_from 0 (length ps * length ss)) (λ i. rate_line (pair_at ss ps i))
 
 -- ---- a case
 
+-- sites, parts, and the rates of each pair
 abbrev pub case_format : Format CaseRows
 case_format =
     as_shape (and_then sites (λ ss. and_then parts (λ ps. rates ss ps)))

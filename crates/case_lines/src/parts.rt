@@ -12,7 +12,7 @@ use line_text::{put_count_line, put_number};
 use spares_input::{Case, Name, PartId, PartRow};
 use spares_io::NoMemory;
 
-// Writes the name of a parent, if there is one.
+/// Writes the name of a parent, if there is one.
 fn put_parent(out: &mut Vec<u8>, parent: &Option<Name>) -> Result<(), NoMemory>
     ensures { OnOk result (out.new.items ≡ out.old.items ++ parent_text parent.now) }
 {
@@ -25,7 +25,7 @@ fn put_parent(out: &mut Vec<u8>, parent: &Option<Name>) -> Result<(), NoMemory>
     }
 }
 
-// Writes the last field with the comma before it, where weights are written.
+/// Writes the last field with the comma before it, where weights are written.
 fn put_weight(out: &mut Vec<u8>, weighted: bool, is_line: bool, weight: u8) -> Result<(), NoMemory>
     ensures { OnOk result (out.new.items ≡ out.old.items ++ weight_text weighted is_line weight) }
 {
@@ -36,7 +36,7 @@ fn put_weight(out: &mut Vec<u8>, weighted: bool, is_line: bool, weight: u8) -> R
     put_number_if(out, is_line, weight as u128)
 }
 
-// Writes NAME,PARENT,COST,PER_SYSTEM,MAX_DEPOT,MAX_BASE, and ,WEIGHT where weights are written.
+/// Writes NAME,PARENT,COST,PER_SYSTEM,MAX_DEPOT,MAX_BASE, and ,WEIGHT where weights are written.
 fn put_part(out: &mut Vec<u8>, weighted: bool, part: &PartRow) -> Result<(), NoMemory>
     ensures { OnOk result (out.new.items ≡ out.old.items ++ (line (part_fields weighted)).print part.now) }
 {
@@ -57,7 +57,7 @@ fn put_part(out: &mut Vec<u8>, weighted: bool, part: &PartRow) -> Result<(), NoM
     Ok(())
 }
 
-// Writes a line for each part.
+/// Writes a line for each part.
 fn put_each_part(out: &mut Vec<u8>, weighted: bool, case: &Case) -> Result<(), NoMemory>
     ensures { OnOk result (out.new.items ≡ out.old.items
         ++ concat ((part_lines weighted (length case.now.parts)).print case.now.parts)) }
@@ -69,7 +69,7 @@ fn put_each_part(out: &mut Vec<u8>, weighted: bool, case: &Case) -> Result<(), N
     Ok(())
 }
 
-// Whether some weight isn't 1.
+/// Whether some weight isn't 1.
 fn are_weighted(case: &Case) -> bool
     ensures { result ≡ are_weighted case.now.parts }
 {
@@ -82,7 +82,7 @@ fn are_weighted(case: &Case) -> bool
     false
 }
 
-// Writes parts,N,weights
+/// Writes parts,N,weights
 fn put_weights_line(out: &mut Vec<u8>, count: u128) -> Result<(), NoMemory>
     ensures { OnOk result (out.new.items ≡ out.old.items ++ file_text (one (line weights_fields)) count) }
 {
@@ -92,7 +92,7 @@ fn put_weights_line(out: &mut Vec<u8>, count: u128) -> Result<(), NoMemory>
     Ok(())
 }
 
-// Writes parts,N or parts,N,weights
+/// Writes parts,N or parts,N,weights
 fn put_parts_line(out: &mut Vec<u8>, weighted: bool, count: u128) -> Result<(), NoMemory>
     ensures { OnOk result (out.new.items ≡ out.old.items ++ file_text parts_line (header weighted count)) }
 {
@@ -103,7 +103,7 @@ fn put_parts_line(out: &mut Vec<u8>, weighted: bool, count: u128) -> Result<(), 
     }
 }
 
-// Writes the lines of the parts.
+/// Writes the lines of the parts.
 pub(crate) fn put_parts(out: &mut Vec<u8>, case: &Case) -> Result<(), NoMemory>
     ensures { OnOk result (out.new.items ≡ out.old.items ++ file_text parts case.now.parts) }
 {

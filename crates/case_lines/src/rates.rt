@@ -14,14 +14,14 @@ use line_text::{put_count_line, put_fixed};
 use spares_input::{Case, PartId, PartRow, RateRow, SiteId, SiteRow};
 use spares_io::NoMemory;
 
-// Whether a pair has a demand of its own.
+/// Whether a pair has a demand of its own.
 fn has_demand(is_line: bool, is_depot: bool) -> bool
     ensures { result ≡ (is_line && not is_depot) }
 {
     is_line && !is_depot
 }
 
-// Writes PART,SITE,DEMAND,REPAIR_HERE,SHARE,DAYS, each where the pair has it.
+/// Writes PART,SITE,DEMAND,REPAIR_HERE,SHARE,DAYS, each where the pair has it.
 fn put_rate(
     out: &mut Vec<u8>,
     part: &PartRow,
@@ -47,18 +47,19 @@ fn put_rate(
     Ok(())
 }
 
-// Writes the line of a pair.
+/// Writes the line of a pair.
 fn put_pair(out: &mut Vec<u8>, case: &Case, part: PartId, site: SiteId) -> Result<(), NoMemory>
     requires part { part.0 < length case.now.parts }
     requires site { site.0 < length case.now.sites }
     ensures { OnOk result (out.new.items ≡ out.old.items
-        ++ (line (rate_fields (pair_of part.0 (part_at case.now.parts part.0) site.0 (site_at case.now.sites site.0)))).print
+        ++ (line (rate_fields (pair_of part.0 (part_at case.now.parts part.0) site.0
+        (site_at case.now.sites site.0)))).print
         (rate_at case.now part.0 site.0)) }
 {
     put_rate(out, case.part(part), case.site(site), case.rate(part, site))
 }
 
-// Writes a line for each pair.
+/// Writes a line for each pair.
 fn put_each_rate(out: &mut Vec<u8>, case: &Case) -> Result<(), NoMemory>
     ensures { OnOk result (out.new.items ≡ out.old.items
         ++ concat ((each (numbers_from 0 (length case.now.parts * length case.now.sites))
@@ -77,7 +78,7 @@ fn put_each_rate(out: &mut Vec<u8>, case: &Case) -> Result<(), NoMemory>
     Ok(())
 }
 
-// Writes the lines of the rates.
+/// Writes the lines of the rates.
 pub(crate) fn put_rates(out: &mut Vec<u8>, case: &Case) -> Result<(), NoMemory>
     ensures { OnOk result (out.new.items ≡ out.old.items
         ++ file_text (rates case.now.sites case.now.parts) case.now.rates) }

@@ -11,7 +11,7 @@ use line_text::{put_count_line, put_fixed, put_number};
 use spares_input::{Case, SiteId, SiteRow};
 use spares_io::NoMemory;
 
-// Writes NAME,depot,,
+/// Writes NAME,depot,,
 fn put_depot(out: &mut Vec<u8>, site: &SiteRow) -> Result<(), NoMemory>
     ensures { OnOk result (out.new.items ≡ out.old.items ++ (line depot_fields).print site.now) }
 {
@@ -20,7 +20,7 @@ fn put_depot(out: &mut Vec<u8>, site: &SiteRow) -> Result<(), NoMemory>
     Ok(())
 }
 
-// Writes NAME,base,SYSTEMS,DAYS
+/// Writes NAME,base,SYSTEMS,DAYS
 fn put_base(out: &mut Vec<u8>, site: &SiteRow) -> Result<(), NoMemory>
     ensures { OnOk result (out.new.items ≡ out.old.items ++ (line base_fields).print site.now) }
 {
@@ -33,7 +33,7 @@ fn put_base(out: &mut Vec<u8>, site: &SiteRow) -> Result<(), NoMemory>
     Ok(())
 }
 
-// Writes the line of the site at a place.
+/// Writes the line of the site at a place.
 #[tactic(auto, using(line_text::proofs::Loops::one_text))]
 fn put_site(out: &mut Vec<u8>, place: u8, site: &SiteRow) -> Result<(), NoMemory>
     ensures { OnOk result (out.new.items ≡ out.old.items ++ concat ((site_line place).print site.now)) }
@@ -45,7 +45,7 @@ fn put_site(out: &mut Vec<u8>, place: u8, site: &SiteRow) -> Result<(), NoMemory
     }
 }
 
-// Writes a line for each site.
+/// Writes a line for each site.
 fn put_each_site(out: &mut Vec<u8>, case: &Case) -> Result<(), NoMemory>
     ensures { OnOk result (out.new.items ≡ out.old.items
         ++ concat ((each (numbers_from 0 (length case.now.sites)) site_line).print case.now.sites)) }
@@ -57,7 +57,7 @@ fn put_each_site(out: &mut Vec<u8>, case: &Case) -> Result<(), NoMemory>
     Ok(())
 }
 
-// Writes the lines of the sites.
+/// Writes the lines of the sites.
 pub(crate) fn put_sites(out: &mut Vec<u8>, case: &Case) -> Result<(), NoMemory>
     ensures { OnOk result (out.new.items ≡ out.old.items ++ file_text sites case.now.sites) }
 {

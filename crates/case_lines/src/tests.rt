@@ -10,7 +10,7 @@ use spares_io::NoMemory;
 use std::alloc::Global;
 use std::test::*;
 
-// Demand, repair here, share and days of a pair; what the pair doesn't have is dropped.
+/// Demand, repair here, share and days of a pair; what the pair doesn't have is dropped.
 #[derive(Clone, Copy)]
 struct Fields(u32, u16, u16, u32);
 
@@ -106,7 +106,7 @@ fn rates_of(alloc: Global, frame: &Frame, fields: &[Fields]) -> Result<Vec<RateR
     Ok(rates)
 }
 
-// The case of these rows, if there is memory and they break no rule.
+/// The case of these rows, if there is memory and they break no rule.
 fn case_of(
     alloc: Global,
     sites: [SiteRow; 2],
@@ -132,7 +132,7 @@ fn case_of(
     }
 }
 
-// A depot, a base with 12 systems and 10 days from it, and a line unit.
+/// A depot, a base with 12 systems and 10 days from it, and a line unit.
 fn small_case(alloc: Global) -> Option<Case> {
     let (depot_name, base_name, line_name) = (Name::of(b"D")?, Name::of(b"B")?, Name::of(b"L")?);
     let parts = [line_unit(line_name, 100, 1, (2, 3), 1)];
@@ -148,7 +148,7 @@ fn small_case(alloc: Global) -> Option<Case> {
     )
 }
 
-// A line unit of this weight with a shop unit.
+/// A line unit of this weight with a shop unit.
 fn case_with_a_shop_unit(alloc: Global, weight: u8) -> Option<Case> {
     let (depot_name, base_name) = (Name::of(b"D")?, Name::of(b"B")?);
     let (line_name, shop_name) = (Name::of(b"L")?, Name::of(b"S")?);

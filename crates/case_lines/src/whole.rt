@@ -11,7 +11,7 @@ use spares_input::Case;
 use spares_io::NoMemory;
 use std::alloc::Global;
 
-// Writes the lines of a case.
+/// Writes the lines of a case.
 fn put_case(out: &mut Vec<u8>, case: &Case) -> Result<(), NoMemory>
     ensures { OnOk result (out.new.items ≡ out.old.items ++ file_text case_format case.now) }
 {

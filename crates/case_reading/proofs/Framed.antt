@@ -1,13 +1,13 @@
 -- Lines whose sites and parts are a frame's are those of a case.
-use Rattle.std.proofs.Common.{◌≡◌, ◌==◌, ℕ, ◌+◌, ◌*◌, ◌/◌, ◌%◌, ◌<◌, List, [], length, get_or, Bool, true, ◌&&◌, Option, Some, None, Result, Ok, Err, sym, ap, subst, ◌∙◌, arith}
+use Rattle.std.proofs.Common.{◌≡◌, ◌==◌, ℕ, ◌+◌, ◌*◌, ◌/◌, ◌%◌, ◌<◌, List, [], length, get_or, Bool, true, ◌&&◌, Option, Some, None, Result, Ok, Err, sym, ap, subst, ◌∙◌, arith, zero-add}
 use Rattle.std.specs.List.{All}
 use Rattle.std.proofs.lemmas.Bool.{and_parts}
 use Rattle.std.proofs.lemmas.List.Elements.{All-from_get_or}
 use Rattle.std.proofs.lemmas.Nat.{div-add-mod', div_below, mod_below}
 use Rattle.line_text.specs.Formats.{fits_after}
 use Rattle.line_text.specs.Texts.{count_line, numbers_from}
-use Rattle.line_text.proofs.FieldLaws.{length-numbers_from}
-use Rattle.line_text.proofs.Laws.{length-after}
+use Rattle.line_text.proofs.FieldLaws.{length_numbers_from}
+use Rattle.line_text.proofs.Laws.{length_after}
 use Rattle.spares_input.specs.First.{unless}
 use Rattle.spares_input.specs.Rows.{is_line, IsSiteRow, IsPartRow, IsRateRow, no_site, no_rate}
 use Rattle.spares_input.specs.Frames.{FrameRows, site_at, part_at, frame_fault, frame_of, sites_in_order}
@@ -25,9 +25,6 @@ use Rattle.spares_io.specs.declared.stop.Stop.{Stop}
 use Rattle.spares_io.specs.declared.stop.Stop.TheVariants as stop
 use lib.Chars.{codes}
 
-from_zero : (k : ℕ) → 0 + k ≡ k
-from_zero k = omega arith
-
 module _ (c : CaseRows) (h : case_format.fits c ≡ true) where
   rows_fit : fits_after (λ _ i. rate_line (pair_at c.sites c.parts i)) [] (numbers_from 0 (length c.parts * length c.sites)) c.rates ≡ true
   rows_fit =
@@ -37,7 +34,7 @@ module _ (c : CaseRows) (h : case_format.fits c ≡ true) where
       (and_parts count rows (and_parts true (count && rows) (case_parts c h).1.1).1).1
 
   rate_count : length c.rates ≡ length c.parts * length c.sites
-  rate_count = length-after (λ _ i. rate_line (pair_at c.sites c.parts i)) [] (numbers_from 0 (length c.parts * length c.sites)) c.rates rows_fit ∙ length-numbers_from 0 (length c.parts * length c.sites)
+  rate_count = length_after (λ _ i. rate_line (pair_at c.sites c.parts i)) [] (numbers_from 0 (length c.parts * length c.sites)) c.rates rows_fit ∙ length_numbers_from 0 (length c.parts * length c.sites)
 
   rate_here : (i : ℕ) (d : RateRow) → i < length c.rates → ((get_or c.rates i d).part.0 ≡ i / length c.sites) × (((get_or c.rates i d).site.0 ≡ i % length c.sites) × IsRateRow (is_line (part_at c.parts (i / length c.sites))) (site_at c.sites (i % length c.sites)).depot (get_or c.rates i d))
   rate_here i d lt =
@@ -48,7 +45,7 @@ module _ (c : CaseRows) (h : case_format.fits c ≡ true) where
   rates_stand : Stand (rate_place (length c.sites)) 0 c.rates
   rates_stand i d lt =
       let at = rate_here i d lt in
-      ap (λ (p : ℕ). p * length c.sites + (get_or c.rates i d).site.0) at.0 ∙ ap (λ (k : ℕ). i / length c.sites * length c.sites + k) at.1.0 ∙ div-add-mod' i (length c.sites) ∙ sym (from_zero i)
+      ap (λ (p : ℕ). p * length c.sites + (get_or c.rates i d).site.0) at.0 ∙ ap (λ (k : ℕ). i / length c.sites * length c.sites + k) at.1.0 ∙ div-add-mod' i (length c.sites) ∙ sym (zero-add i)
 
   sites_stand : (i : ℕ) → i < length c.sites → IsSiteRow (get_or c.sites i no_site) × ((get_or c.sites i no_site).depot ≡ (i == 0))
   sites_stand =

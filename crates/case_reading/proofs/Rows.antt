@@ -1,8 +1,8 @@
 -- The rows that lines have: their fields and their places.
-use Rattle.std.proofs.Common.{◌≡◌, ℕ, zero, suc, ◌+◌, ◌<◌, ◌≤◌, Bool, true, false, cond, ◌&&◌, List, [], ◌∷◌, ◌++◌, length, get_or, Option, Some, None, refl, sym, ap, subst, ◌∙◌, arith}
-use Rattle.std.specs.Prelude.{not, ◌==◌, nat_le, is_none}
+use Rattle.std.proofs.Common.{◌≡◌, ℕ, zero, suc, ◌+◌, ◌<◌, ◌≤◌, Bool, true, false, cond, ◌&&◌, List, [], ◌∷◌, ◌++◌, length, get_or, Option, Some, None, sym, ap, subst, ◌∙◌, arith}
+use Rattle.std.specs.Prelude.{not, ◌==◌, is_none}
 use Rattle.std.specs.List.{All}
-use Rattle.std.proofs.lemmas.Bool.{and_parts, eqb-true, leb-true, false≢true}
+use Rattle.std.proofs.lemmas.Bool.{and_parts, eqb-true, false≢true, not-true}
 use Rattle.std.proofs.lemmas.List.Elements.{All-from_get_or}
 use Rattle.line_text.specs.Formats.{Format, one, fits_after}
 use Rattle.line_text.specs.Files.{line}
@@ -13,11 +13,9 @@ use Rattle.spares_input.specs.declared.rows.SiteRow.{SiteRow}
 use Rattle.spares_input.specs.declared.rows.PartRow.{PartRow}
 use Rattle.spares_input.specs.declared.rows.RateRow.{RateRow}
 use Rattle.case_lines.specs.Grammar.{number_if, fixed_if, chance_if, days_field, depot_fields, base_fields, site_line, parent_field, limit_field, weight_field, part_fields, may_stand, is_owed, part_line, Pair, rate_line}
+use Rattle.case_lines.proofs.Valid.{range_parts}
 
 -- ---- fields
-
-range_parts : (least most n : ℕ) → in_range least most n ≡ true → (least ≤ n) × (n ≤ most)
-range_parts least most n h = let p = and_parts (nat_le least n) (nat_le n most) h in (leb-true least n p.0, leb-true n most p.1)
 
 number_is : (has : Bool) (least most n : ℕ) → (number_if has least most).fits n ≡ true → IsField has least most n
 number_is true least most n h = record { within = λ e. range_parts least most n h; empty = λ e. absurd (false≢true (sym e)) }
@@ -26,10 +24,6 @@ number_is false least most n h = record { within = λ e. absurd (false≢true e)
 fixed_is : (has : Bool) (places most n : ℕ) → (fixed_if has places most).fits n ≡ true → IsField has 0 most n
 fixed_is true places most n h = record { within = λ e. range_parts 0 most n h; empty = λ e. absurd (false≢true (sym e)) }
 fixed_is false places most n h = record { within = λ e. absurd (false≢true e); empty = λ e. eqb-true n 0 (and_parts (n == 0) true h).0 }
-
-not_false : (b : Bool) → not b ≡ true → b ≡ false
-not_false true h = absurd (false≢true h)
-not_false false h = refl
 
 -- ---- sites
 
@@ -56,7 +50,7 @@ base_row s h =
     let a = and_parts (not s.depot) (is_name s.name && (true && (systems && days))) h in
     let b = and_parts (is_name s.name) (true && (systems && days)) a.1 in
     let c = and_parts systems days (and_parts true (systems && days) b.1).1 in
-    (record { name = b.0; systems = used s.systems 1 10000 (not s.depot) a.0 (range_parts 1 10000 s.systems c.0); ship = used s.ship 0 999999 (not s.depot) a.0 (range_parts 0 999999 s.ship c.1) }, not_false s.depot a.0)
+    (record { name = b.0; systems = used s.systems 1 10000 (not s.depot) a.0 (range_parts 1 10000 s.systems c.0); ship = used s.ship 0 999999 (not s.depot) a.0 (range_parts 0 999999 s.ship c.1) }, not-true s.depot a.0)
 
 site_row : (c : Bool) (s : SiteRow) → (cond c (one (line depot_fields)) (one (line base_fields))).fits s ≡ true → IsSiteRow s × (s.depot ≡ c)
 site_row true s h = depot_row s h
@@ -103,6 +97,7 @@ owed_row weighted owed p h = part_row weighted p (and_parts ((part_fields weight
 
 -- ---- rates
 
+-- a row that the line of a pair can tell is of that pair, and valid for its kinds of part and site
 pub rate_row : (pair : Pair) (r : RateRow) → (rate_line pair).fits r ≡ true → (r.part.0 ≡ pair.part) × ((r.site.0 ≡ pair.site) × IsRateRow pair.line pair.depot r)
 rate_row pair r h =
     let days = days_field.fits r.repair_days in
@@ -143,6 +138,7 @@ fits_at format before first (suc n) (x ∷ xs) d h (suc i) lt =
     subst (λ (k : ℕ). (format k).fits (get_or xs i d) ≡ true) e
     (fits_at format (before ++ x ∷ []) (suc first) n xs d (and_parts ((format first).fits x) (fits_after (λ _ k. format k) (before ++ x ∷ []) (numbers_from (suc first) n) xs) h).1 i (omega (arith, lt)))
 
+-- each site that the lines tell is valid, and the first alone is the depot
 pub sites_at : (xs : List SiteRow) (n : ℕ) → fits_after (λ _ k. site_line k) [] (numbers_from 0 n) xs ≡ true → (i : ℕ) → i < length xs → IsSiteRow (get_or xs i no_site) × ((get_or xs i no_site).depot ≡ (i == 0))
 sites_at xs n h i lt =
     let e : 0 + i ≡ i = omega arith in
@@ -156,5 +152,6 @@ parts_at weighted n before (k ∷ ks) (x ∷ xs) h zero lt =
 parts_at weighted n before (k ∷ ks) (x ∷ xs) h (suc i) lt =
     parts_at weighted n (before ++ x ∷ []) ks xs (and_parts ((part_line weighted n before k).fits x) (fits_after (part_line weighted n) (before ++ x ∷ []) ks xs) h).1 i (omega (arith, lt))
 
+-- each part that the lines tell is valid
 pub part_rows : (weighted : Bool) (n : ℕ) (xs : List PartRow) → fits_after (part_line weighted n) [] (numbers_from 0 n) xs ≡ true → All IsPartRow xs
 part_rows weighted n xs h = All-from_get_or IsPartRow xs no_part (parts_at weighted n [] (numbers_from 0 n) xs h)

@@ -22,25 +22,28 @@ missed : {A : Type 0} (b : Bool) (t : Result A TableFault) (y : A) (e : TableFau
 missed true t y e h = cc
 missed false t y e h = h
 
+-- a field that holds a name obeys the name rule
 pub named : (row column : ℕ) (text name : List ℕ) → name_in row column text ≡ Ok name → is_name name ≡ true
 named row column text name h =
     let k = kept (is_name text) text name (fault.BadName row column) h in
     subst (λ t. is_name t ≡ true) k.1 k.0
 
-in-range : (row column least most : ℕ) (o : Result Decimal NumberFault) (n : ℕ) → within row column least most o ≡ Ok n → (least ≤ n) × (n ≤ most)
-in-range row column least most (Err f) n h = cc
-in-range row column least most (Ok d) n h =
+in_range : (row column least most : ℕ) (o : Result Decimal NumberFault) (n : ℕ) → within row column least most o ≡ Ok n → (least ≤ n) × (n ≤ most)
+in_range row column least most (Err f) n h = cc
+in_range row column least most (Ok d) n h =
     let k = kept (nat_le least d.units && nat_le d.units most) d.units n (fault.OutOfRange row column) h in
     let both = and_parts (nat_le least d.units) (nat_le d.units most) k.0 in
     subst (λ m. (least ≤ m) × (m ≤ most)) k.1 (leb-true least d.units both.0, leb-true d.units most both.1)
 
-pub number-range : (row column places least most : ℕ) (text : List ℕ) (n : ℕ) → number_in row column places least most text ≡ Ok n → (least ≤ n) × (n ≤ most)
-number-range row column places least most text n h =
-    in-range row column least most (decimal_of text places) n (missed (has_none text) (within row column least most (decimal_of text places)) n (fault.FieldEmpty row column) h)
+-- a number that a field holds is within the column's range
+pub number_range : (row column places least most : ℕ) (text : List ℕ) (n : ℕ) → number_in row column places least most text ≡ Ok n → (least ≤ n) × (n ≤ most)
+number_range row column places least most text n h =
+    in_range row column least most (decimal_of text places) n (missed (has_none text) (within row column least most (decimal_of text places)) n (fault.FieldEmpty row column) h)
 
-pub used-field : (used : Bool) (row column places least most : ℕ) (text : List ℕ) (n : ℕ) → used_in used row column places least most text ≡ Ok n → IsField used least most n
-used-field true row column places least most text n h = record { within = λ _. number-range row column places least most text n h; empty = λ e. absurd (true≢false e) }
-used-field false row column places least most text n h = record {
+-- a field that is used is within its range, and else it is 0
+pub used_field : (used : Bool) (row column places least most : ℕ) (text : List ℕ) (n : ℕ) → used_in used row column places least most text ≡ Ok n → IsField used least most n
+used_field true row column places least most text n h = record { within = λ _. number_range row column places least most text n h; empty = λ e. absurd (true≢false e) }
+used_field false row column places least most text n h = record {
   within = λ e. absurd (false≢true e);
   empty = λ _. sym (kept (has_none text) 0 n (fault.FieldNotEmpty row column) h).1;
 }

@@ -1,5 +1,5 @@
 -- A row of rates from six fields, of a record or of a line.
-use Rattle.std.proofs.Common.{◌≡◌, ◌==◌, ℕ, ◌<◌, Bool, true, false, List, [], ◌∷◌, length, get_or, Option, Some, None, Result, Ok, Err, refl, sym, ap, ◌∙◌, if◌then◌else◌, arith}
+use Rattle.std.proofs.Common.{◌≡◌, ◌==◌, ℕ, Bool, true, false, List, [], ◌∷◌, length, get_or, Option, Some, None, Result, Ok, Err, refl, sym, ap, ◌∙◌, if◌then◌else◌}
 use Rattle.csv.specs.Records.{field_at}
 use Rattle.spares_input.specs.Frames.{FrameRows}
 use Rattle.spares_input.specs.Cases.{IsRateOf}
@@ -8,41 +8,46 @@ use Rattle.csv_tables.specs.Rest.{Record}
 use Rattle.csv_tables.specs.Fields.{field, trimmed}
 use Rattle.csv_tables.specs.Rates.{told, line_fields, rate_in, rate_line, rate_of}
 use Rattle.csv_tables.specs.declared.fault.TableFault.{TableFault}
-use Rattle.csv_tables.proofs.RowFacts.{rate-good}
+use Rattle.csv_tables.proofs.RowFacts.{rate_good}
 
+-- six fields, and then more
 abbrev pub six : List ℕ → List ℕ → List ℕ → List ℕ → List ℕ → List ℕ → Record → Record
 six a b c d e g more = a ∷ b ∷ c ∷ d ∷ e ∷ g ∷ more
 
+-- the field at a place, or none
 abbrev pub at : Record → ℕ → List ℕ
 at r i = get_or r i []
 
-pub of-record : (f : FrameRows) (row : ℕ) (r : Record) (x : Result RateRow TableFault) (a b c d e g : List ℕ)
+-- the rates of a record's six fields are those of the record
+pub of_record : (f : FrameRows) (row : ℕ) (r : Record) (x : Result RateRow TableFault) (a b c d e g : List ℕ)
     → x ≡ rate_in f row (at (six a b c d e g [])) → a ≡ field r 0 → b ≡ field r 1 → c ≡ field r 2 → d ≡ field r 3 → e ≡ field r 4 → g ≡ field r 5
     → x ≡ rate_of f row r
 unfolding rate_in
-of-record f row r x a b c d e g h ha hb hc hd he hg = h ∙ (λ t. rate_in f row (at (six (ha t) (hb t) (hc t) (hd t) (he t) (hg t) [])))
+of_record f row r x a b c d e g h ha hb hc hd he hg = h ∙ (λ t. rate_in f row (at (six (ha t) (hb t) (hc t) (hd t) (he t) (hg t) [])))
 
 -- ---- a line of six fields
 
-same-row : (f : FrameRows) (a b c d e g : List ℕ)
+same_row : (f : FrameRows) (a b c d e g : List ℕ)
     → rate_in f 0 (at (six (trimmed a) (trimmed b) (trimmed c) (trimmed d) (trimmed e) (trimmed g) [])) ≡ rate_of f 0 (six a b c d e g [])
 unfolding field_at
-same-row f a b c d e g =
-    of-record f 0 (six a b c d e g []) _ (trimmed a) (trimmed b) (trimmed c) (trimmed d) (trimmed e) (trimmed g) refl refl refl refl refl refl refl
+same_row f a b c d e g =
+    of_record f 0 (six a b c d e g []) _ (trimmed a) (trimmed b) (trimmed c) (trimmed d) (trimmed e) (trimmed g) refl refl refl refl refl refl refl
 
-pub line-row : (f : FrameRows) (line a b c d e g : List ℕ) (x : Result RateRow TableFault) → line_fields line ≡ six a b c d e g []
+-- the rates that are told of a line's six fields, trimmed, are those that the line says
+pub line_row : (f : FrameRows) (line a b c d e g : List ℕ) (x : Result RateRow TableFault) → line_fields line ≡ six a b c d e g []
     → x ≡ rate_in f 0 (at (six (trimmed a) (trimmed b) (trimmed c) (trimmed d) (trimmed e) (trimmed g) [])) → told x ≡ rate_line f line
-line-row f line a b c d e g x fs h =
-    ap told (h ∙ same-row f a b c d e g) ∙ sym (ap (λ r. if length r == 6 then told (rate_of f 0 r) else None) fs)
+line_row f line a b c d e g x fs h =
+    ap told (h ∙ same_row f a b c d e g) ∙ sym (ap (λ r. if length r == 6 then told (rate_of f 0 r) else None) fs)
 
 kept : (f : FrameRows) (b : Bool) (r : Record) (x : RateRow) (y : Result RateRow TableFault) → rate_of f 0 r ≡ y
     → ◌≡◌ {A = Option RateRow} (Some x) (if b then told y else None) → IsRateOf f x
-kept f true r x (Ok y) e h = rate-good f 0 r x (e ∙ cc)
+kept f true r x (Ok y) e h = rate_good f 0 r x (e ∙ cc)
 kept f true r x (Err y) e h = cc
 kept f false r x y e h = cc
 
-pub line-good : (f : FrameRows) (line : List ℕ) (x : RateRow) → Some x ≡ rate_line f line → IsRateOf f x
-line-good f line x h = kept f (length (line_fields line) == 6) (line_fields line) x (rate_of f 0 (line_fields line)) refl h
+-- the rates that a line says are a row of the frame
+pub line_good : (f : FrameRows) (line : List ℕ) (x : RateRow) → Some x ≡ rate_line f line → IsRateOf f x
+line_good f line x h = kept f (length (line_fields line) == 6) (line_fields line) x (rate_of f 0 (line_fields line)) refl h
 
 -- the fields that are taken one by one
 pub taken : (r r1 r2 r3 r4 r5 r6 : Record) (a b c d e g : List ℕ) → r ≡ a ∷ r1 → r1 ≡ b ∷ r2 → r2 ≡ c ∷ r3 → r3 ≡ d ∷ r4 → r4 ≡ e ∷ r5 → r5 ≡ g ∷ r6 → r6 ≡ []

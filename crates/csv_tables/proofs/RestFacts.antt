@@ -19,84 +19,84 @@ pick : (b : Bool) (x y : State × Action) → StopsBetween x → StopsBetween y 
 pick true x y h k = h
 pick false x y h k = k
 
-after_end-between : (b : Bool) → is_between (if b then st.AfterCr else st.StartRecord) ≡ true
-after_end-between true = refl
-after_end-between false = refl
+after_end_between : (b : Bool) → is_between (if b then st.AfterCr else st.StartRecord) ≡ true
+after_end_between true = refl
+after_end_between false = refl
 
-in_field-between : (c : ℕ) → StopsBetween (in_field default_config c)
+in_field_between : (c : ℕ) → StopsBetween (in_field default_config c)
 unfolding StopsBetween
-in_field-between c =
+in_field_between c =
     pick (c == 44) _ _ (λ h. absurd (false≢true h))
-    (pick (ends_with term.CRLF c) _ _ (λ h. after_end-between (c == 13)) (λ h. absurd (false≢true h)))
+    (pick (ends_with term.CRLF c) _ _ (λ h. after_end_between (c == 13)) (λ h. absurd (false≢true h)))
 
-start_field-between : (c : ℕ) → StopsBetween (start_field default_config c)
+start_field_between : (c : ℕ) → StopsBetween (start_field default_config c)
 unfolding StopsBetween
-start_field-between c = pick (c == 34) _ _ (λ h. absurd (false≢true h)) (in_field-between c)
+start_field_between c = pick (c == 34) _ _ (λ h. absurd (false≢true h)) (in_field_between c)
 
-start_record-between : (c : ℕ) → StopsBetween (start_record default_config c)
+start_record_between : (c : ℕ) → StopsBetween (start_record default_config c)
 unfolding StopsBetween
-start_record-between c = pick (ends_with term.CRLF c) _ _ (λ h. absurd (false≢true h)) (start_field-between c)
+start_record_between c = pick (ends_with term.CRLF c) _ _ (λ h. absurd (false≢true h)) (start_field_between c)
 
-step-between : (s : State) (c : ℕ) → StopsBetween (step default_config s c)
+step_between : (s : State) (c : ℕ) → StopsBetween (step default_config s c)
 unfolding StopsBetween
-step-between st.StartRecord c = start_record-between c
-step-between st.StartField c = start_field-between c
-step-between st.InField c = in_field-between c
-step-between st.InQuoted c = pick (c == 34) _ _ (λ h. absurd (false≢true h)) (λ h. absurd (false≢true h))
-step-between st.InEscape c = λ h. absurd (false≢true h)
-step-between st.AfterQuote c = pick (c == 34) _ _ (λ h. absurd (false≢true h)) (in_field-between c)
-step-between st.InComment c = pick (c == 10) _ _ (λ h. absurd (false≢true h)) (λ h. absurd (false≢true h))
-step-between st.AfterCr c = pick (c == 10) _ _ (λ h. absurd (false≢true h)) (start_record-between c)
+step_between st.StartRecord c = start_record_between c
+step_between st.StartField c = start_field_between c
+step_between st.InField c = in_field_between c
+step_between st.InQuoted c = pick (c == 34) _ _ (λ h. absurd (false≢true h)) (λ h. absurd (false≢true h))
+step_between st.InEscape c = λ h. absurd (false≢true h)
+step_between st.AfterQuote c = pick (c == 34) _ _ (λ h. absurd (false≢true h)) (in_field_between c)
+step_between st.InComment c = pick (c == 10) _ _ (λ h. absurd (false≢true h)) (λ h. absurd (false≢true h))
+step_between st.AfterCr c = pick (c == 10) _ _ (λ h. absurd (false≢true h)) (start_record_between c)
 
 chosen : {A : Type 0} (b : Bool) (x y z : A) → (if b then x else y) ≡ z → ((b ≡ true) × (x ≡ z)) ⊎ ((b ≡ false) × (y ≡ z))
 chosen true x y z h = inl (refl, h)
 chosen false x y z h = inr (refl, h)
 
-some-same : (x p : Read) → ◌≡◌ {A = Option Read} (Some x) (Some p) → x ≡ p
-some-same x p h = cc
+some_same : (x p : Read) → ◌≡◌ {A = Option Read} (Some x) (Some p) → x ≡ p
+some_same x p h = cc
 
-none-some : (p : Read) → ◌≡◌ {A = Option Read} None (Some p) → ⊥
-none-some p h = cc
+none_no_some : (p : Read) → ◌≡◌ {A = Option Read} None (Some p) → ⊥
+none_no_some p h = cc
 
 -- what is left behind a record is no longer than the text, and it begins between records
-next-shorter : (s : State) (f : List (List ℕ)) (fl xs : List ℕ) (p : Read) → next_record default_config s f fl xs ≡ Some p
+next_shorter : (s : State) (f : List (List ℕ)) (fl xs : List ℕ) (p : Read) → next_record default_config s f fl xs ≡ Some p
     → (length p.2 ≤ length xs) × (is_between p.1 ≡ true)
 unfolding next_record StopsBetween
-next-shorter s f fl [] p h =
+next_shorter s f fl [] p h =
     elim (chosen (ends_at_end s) (Some (f ++ (fl ∷ []), st.StartRecord, [])) None (Some p) h) [
-      | inl w ↦ subst (λ (q : Read). (length q.2 ≤ 0) × (is_between q.1 ≡ true)) (some-same _ p w.1) (omega arith, refl)
-      | inr w ↦ absurd (none-some p w.1)
+      | inl w ↦ subst (λ (q : Read). (length q.2 ≤ 0) × (is_between q.1 ≡ true)) (some_same _ p w.1) (omega arith, refl)
+      | inr w ↦ absurd (none_no_some p w.1)
     ]
-next-shorter s f fl (c ∷ rest) p h =
+next_shorter s f fl (c ∷ rest) p h =
     elim (chosen (is_end (step default_config s c).1) (Some (fields_after (step default_config s c).1 f fl, (step default_config s c).0, rest))
     (next_record default_config (step default_config s c).0 (fields_after (step default_config s c).1 f fl) (field_after (step default_config s c).1 c fl) rest) (Some p) h) [
-      | inl w ↦ subst (λ (q : Read). (length q.2 ≤ suc (length rest)) × (is_between q.1 ≡ true)) (some-same _ p w.1) (omega arith, step-between s c w.0)
+      | inl w ↦ subst (λ (q : Read). (length q.2 ≤ suc (length rest)) × (is_between q.1 ≡ true)) (some_same _ p w.1) (omega arith, step_between s c w.0)
       | inr w ↦
-          let k = next-shorter (step default_config s c).0 (fields_after (step default_config s c).1 f fl) (field_after (step default_config s c).1 c fl) rest p w.1 in
+          let k = next_shorter (step default_config s c).0 (fields_after (step default_config s c).1 f fl) (field_after (step default_config s c).1 c fl) rest p w.1 in
           (omega (arith, k.0), k.1)
     ]
 
-between-goes : (s : State) → is_between s ≡ true → ends_at_end s ≡ false
-between-goes st.StartRecord h = refl
-between-goes st.AfterCr h = refl
-between-goes st.StartField h = absurd (false≢true h)
-between-goes st.InField h = absurd (false≢true h)
-between-goes st.InQuoted h = absurd (false≢true h)
-between-goes st.AfterQuote h = absurd (false≢true h)
-between-goes st.InEscape h = absurd (false≢true h)
-between-goes st.InComment h = absurd (false≢true h)
+between_goes : (s : State) → is_between s ≡ true → ends_at_end s ≡ false
+between_goes st.StartRecord h = refl
+between_goes st.AfterCr h = refl
+between_goes st.StartField h = absurd (false≢true h)
+between_goes st.InField h = absurd (false≢true h)
+between_goes st.InQuoted h = absurd (false≢true h)
+between_goes st.AfterQuote h = absurd (false≢true h)
+between_goes st.InEscape h = absurd (false≢true h)
+between_goes st.InComment h = absurd (false≢true h)
 
 -- behind a record that begins between records there is less than the text
-first-shorter : (s : State) (xs : List ℕ) (p : Read) → is_between s ≡ true → next_record default_config s [] [] xs ≡ Some p
+first_shorter : (s : State) (xs : List ℕ) (p : Read) → is_between s ≡ true → next_record default_config s [] [] xs ≡ Some p
     → (length p.2 < length xs) × (is_between p.1 ≡ true)
 unfolding next_record StopsBetween
-first-shorter s [] p b h = absurd (none-some p (rw (between-goes s b) at h))
-first-shorter s (c ∷ rest) p b h =
+first_shorter s [] p b h = absurd (none_no_some p (rw (between_goes s b) at h))
+first_shorter s (c ∷ rest) p b h =
     elim (chosen (is_end (step default_config s c).1) (Some (fields_after (step default_config s c).1 [] [], (step default_config s c).0, rest))
     (next_record default_config (step default_config s c).0 (fields_after (step default_config s c).1 [] []) (field_after (step default_config s c).1 c []) rest) (Some p) h) [
-      | inl w ↦ subst (λ (q : Read). (length q.2 < suc (length rest)) × (is_between q.1 ≡ true)) (some-same _ p w.1) (omega arith, step-between s c w.0)
+      | inl w ↦ subst (λ (q : Read). (length q.2 < suc (length rest)) × (is_between q.1 ≡ true)) (some_same _ p w.1) (omega arith, step_between s c w.0)
       | inr w ↦
-          let k = next-shorter (step default_config s c).0 (fields_after (step default_config s c).1 [] []) (field_after (step default_config s c).1 c []) rest p w.1 in
+          let k = next_shorter (step default_config s c).0 (fields_after (step default_config s c).1 [] []) (field_after (step default_config s c).1 c []) rest p w.1 in
           (omega (arith, k.0), k.1)
     ]
 
@@ -106,45 +106,45 @@ after n m None h = refl
 after n m (Some p) h = ap (λ (t : List Record). p.0 ∷ t) (h p refl)
 
 -- more turns than bytes give the same records
-same-records : (n m : ℕ) (s : State) (xs : List ℕ) → is_between s ≡ true → length xs < n → length xs < m
+same_records : (n m : ℕ) (s : State) (xs : List ℕ) → is_between s ≡ true → length xs < n → length xs < m
     → records_from default_config n s xs ≡ records_from default_config m s xs
 unfolding records_from
-same-records zero m s xs b hn hm = absurd (omega arith)
-same-records (suc n) zero s xs b hn hm = absurd (omega arith)
-same-records (suc n) (suc m) s xs b hn hm =
+same_records zero m s xs b hn hm = absurd (omega arith)
+same_records (suc n) zero s xs b hn hm = absurd (omega arith)
+same_records (suc n) (suc m) s xs b hn hm =
     after n m (next_record default_config s [] [] xs) (λ p e.
-    let k = first-shorter s xs p b e in same-records n m p.1 p.2 k.1 (omega (arith, k.0)) (omega (arith, k.0)))
+    let k = first_shorter s xs p b e in same_records n m p.1 p.2 k.1 (omega (arith, k.0)) (omega (arith, k.0)))
 
-left-next : (s : State) (bytes : List ℕ) → records_left s (Some bytes) ≡ records_next (records_from default_config (length bytes)) (next_record default_config s [] [] bytes)
+left_next : (s : State) (bytes : List ℕ) → records_left s (Some bytes) ≡ records_next (records_from default_config (length bytes)) (next_record default_config s [] [] bytes)
 unfolding records_from
-left-next s bytes = rw add-one refl
+left_next s bytes = rw add-one refl
 
-length-fields_after : (a : Action) (f : List (List ℕ)) (fl : List ℕ) → length (fields_after a f fl) ≤ length f + 1
-length-fields_after act.EndField f fl = omega (arith, length-append f (fl ∷ []))
-length-fields_after act.EndRecord f fl = omega (arith, length-append f (fl ∷ []))
-length-fields_after act.Copy f fl = omega arith
-length-fields_after act.Skip f fl = omega arith
+length_fields_after : (a : Action) (f : List (List ℕ)) (fl : List ℕ) → length (fields_after a f fl) ≤ length f + 1
+length_fields_after act.EndField f fl = omega (arith, length-append f (fl ∷ []))
+length_fields_after act.EndRecord f fl = omega (arith, length-append f (fl ∷ []))
+length_fields_after act.Copy f fl = omega arith
+length_fields_after act.Skip f fl = omega arith
 
 either : (b : Bool) (x y : List ℕ) (n : ℕ) → length x ≤ n → length y ≤ n → length (if b then x else y) ≤ n
 either true x y n h k = h
 either false x y n h k = k
 
 -- a record has no more fields than bytes, and one
-next-fields : (s : State) (f : List (List ℕ)) (fl xs : List ℕ) (p : Read) → next_record default_config s f fl xs ≡ Some p
+next_fields : (s : State) (f : List (List ℕ)) (fl xs : List ℕ) (p : Read) → next_record default_config s f fl xs ≡ Some p
     → length p.0 + length p.2 ≤ length f + length xs + 1
 unfolding next_record
-next-fields s f fl [] p h =
+next_fields s f fl [] p h =
     elim (chosen (ends_at_end s) (Some (f ++ (fl ∷ []), st.StartRecord, [])) None (Some p) h) [
-      | inl w ↦ subst (λ (q : Read). length q.0 + length q.2 ≤ length f + 0 + 1) (some-same _ p w.1) (omega (arith, length-append f (fl ∷ [])))
-      | inr w ↦ absurd (none-some p w.1)
+      | inl w ↦ subst (λ (q : Read). length q.0 + length q.2 ≤ length f + 0 + 1) (some_same _ p w.1) (omega (arith, length-append f (fl ∷ [])))
+      | inr w ↦ absurd (none_no_some p w.1)
     ]
-next-fields s f fl (c ∷ rest) p h =
-    let m = length-fields_after (step default_config s c).1 f fl in
+next_fields s f fl (c ∷ rest) p h =
+    let m = length_fields_after (step default_config s c).1 f fl in
     elim (chosen (is_end (step default_config s c).1) (Some (fields_after (step default_config s c).1 f fl, (step default_config s c).0, rest))
     (next_record default_config (step default_config s c).0 (fields_after (step default_config s c).1 f fl) (field_after (step default_config s c).1 c fl) rest) (Some p) h) [
-      | inl w ↦ subst (λ (q : Read). length q.0 + length q.2 ≤ length f + suc (length rest) + 1) (some-same _ p w.1) (omega (arith, m))
+      | inl w ↦ subst (λ (q : Read). length q.0 + length q.2 ≤ length f + suc (length rest) + 1) (some_same _ p w.1) (omega (arith, m))
       | inr w ↦
-          let k = next-fields (step default_config s c).0 (fields_after (step default_config s c).1 f fl) (field_after (step default_config s c).1 c fl) rest p w.1 in
+          let k = next_fields (step default_config s c).0 (fields_after (step default_config s c).1 f fl) (field_after (step default_config s c).1 c fl) rest p w.1 in
           omega (arith, k, m)
     ]
 
@@ -152,16 +152,16 @@ next-fields s f fl (c ∷ rest) p h =
 Small : List ℕ → List ℕ → Record → Type 0
 Small bytes z fields = (length z ≤ length bytes) × (length fields ≤ length bytes + 1)
 
-takes-go : (s s2 : State) (bytes z : List ℕ) (o : Option Read) (found : Bool) (fields : Record) → is_between s ≡ true
+takes_go : (s s2 : State) (bytes z : List ℕ) (o : Option Read) (found : Bool) (fields : Record) → is_between s ≡ true
     → next_record default_config s [] [] bytes ≡ o → NextIs o found fields s2 z
     → TakesFirst (records_next (records_from default_config (length bytes)) o) found fields (records_left s2 (Some z))
     × (found ≡ true → (is_between s2 ≡ true) × Small bytes z fields)
 unfolding Small
-takes-go s s2 bytes z None found fields b e n = (n, λ h. absurd (false≢true (sym n ∙ h)))
-takes-go s s2 bytes z (Some p) found fields b e n =
-    let k = first-shorter s bytes p b e in
-    let m = next-fields s [] [] bytes p e in (
-      (n.0, n.1, rw (n.2, n.3) (same-records (length p.2 + 1) (length bytes) p.1 p.2 k.1 (omega arith) k.0)),
+takes_go s s2 bytes z None found fields b e n = (n, λ h. absurd (false≢true (sym n ∙ h)))
+takes_go s s2 bytes z (Some p) found fields b e n =
+    let k = first_shorter s bytes p b e in
+    let m = next_fields s [] [] bytes p e in (
+      (n.0, n.1, rw (n.2, n.3) (same_records (length p.2 + 1) (length bytes) p.1 p.2 k.1 (omega arith) k.0)),
       λ h. (rw n.2 k.1, (rw n.3 (omega (arith, k.0)), rw n.1 (omega (arith, m)))),
     )
 
@@ -171,24 +171,24 @@ takes : (s s2 : State) (bytes : List ℕ) (left : Option (List ℕ)) (found : Bo
     × (z : List ℕ) × (left ≡ Some z) × (found ≡ true → (is_between s2 ≡ true) × Small bytes z fields)
 takes s s2 bytes None found fields b r = absurd r
 takes s s2 bytes (Some z) found fields b r =
-    let t = takes-go s s2 bytes z (next_record default_config s [] [] bytes) found fields b refl r in
-    (rw (left-next s bytes) t.0, z, refl, t.1)
+    let t = takes_go s s2 bytes z (next_record default_config s [] [] bytes) found fields b refl r in
+    (rw (left_next s bytes) t.0, z, refl, t.1)
 
 -- what one read of a table does
-pub read-takes : (old new : Reader (Bor (List ℕ))) (found : Bool) (fields : Record) → IsTable old → ReadRecord slice_left old new found fields
+pub read_takes : (old new : Reader (Bor (List ℕ))) (found : Bool) (fields : Record) → IsTable old → ReadRecord slice_left old new found fields
     → TakesFirst (rest_of old) found fields (rest_of new)
     × (z : List ℕ) × (source_of slice_left new ≡ Some z)
     × (found ≡ true → (is_between (reader_state new) ≡ true) × (length z ≤ 4194304) × (length fields ≤ 4194305))
 unfolding Small
-read-takes old new found fields t r =
+read_takes old new found fields t r =
     let now : source_of slice_left new ≡ pending_of (slice_left new.rdr) new = rw r.1 refl in
     let k = takes (reader_state old) (reader_state new) t.4 (pending_of (slice_left new.rdr) new) found fields t.3 (rw (t.1, t.5) at r.0) in
     (rw (t.5, now) k.0, k.1, now ∙ k.2, λ h. let m = k.3 h in (m.0, omega (arith, m.1.0, t.6), omega (arith, m.1.1, t.6)))
 
 -- a byte order mark only takes bytes away
-pub length-strip_bom : (xs : List ℕ) → length (strip_bom xs) ≤ length xs
+pub length_strip_bom : (xs : List ℕ) → length (strip_bom xs) ≤ length xs
 unfolding strip_bom
-length-strip_bom [] = omega arith
-length-strip_bom (a ∷ []) = omega arith
-length-strip_bom (a ∷ b ∷ []) = omega arith
-length-strip_bom (a ∷ b ∷ c ∷ rest) = either (is_bom a b c) rest (a ∷ b ∷ c ∷ rest) (suc (suc (suc (length rest)))) (omega arith) (omega arith)
+length_strip_bom [] = omega arith
+length_strip_bom (a ∷ []) = omega arith
+length_strip_bom (a ∷ b ∷ []) = omega arith
+length_strip_bom (a ∷ b ∷ c ∷ rest) = either (is_bom a b c) rest (a ∷ b ∷ c ∷ rest) (suc (suc (suc (length rest)))) (omega arith) (omega arith)

@@ -11,7 +11,7 @@ use Rattle.spares_input.specs.declared.rows.SiteRow.{SiteRow}
 use Rattle.spares_input.specs.declared.rows.PartRow.{PartRow}
 use Rattle.spares_input.specs.declared.rows.RateRow.{RateRow}
 use Rattle.spares_input.specs.declared.rows.StockRow.{StockRow}
-use Rattle.spares_input.proofs.PartFacts.{part-named, site-named}
+use Rattle.spares_input.proofs.PartFacts.{part_named, site_named}
 use Rattle.csv_tables.specs.Rest.{Record}
 use Rattle.spares_io.specs.Steps.{◌>>=◌}
 use Rattle.csv_tables.specs.Fields.{field, has_none, name_in, number_in, used_in}
@@ -21,103 +21,107 @@ use Rattle.csv_tables.specs.Rates.{found_or, part_in, rate_in, rate_of, site_in}
 use Rattle.csv_tables.specs.Stocks.{stock_of}
 use Rattle.csv_tables.specs.declared.fault.TableFault.{TableFault}
 use Rattle.csv_tables.specs.declared.fault.TableFault.TheVariants as fault
-use Rattle.csv_tables.proofs.TableFacts.{bind-ok, same-ok}
-use Rattle.csv_tables.proofs.FieldFacts.{named, number-range, used-field}
+use Rattle.csv_tables.proofs.TableFacts.{bind_ok, same_ok}
+use Rattle.csv_tables.proofs.FieldFacts.{named, number_range, used_field}
 
-pub site-good : (row : ℕ) (r : Record) (x : SiteRow) → site_of row r ≡ Ok x → IsSiteRow x
+-- the row of a record of sites is valid
+pub site_good : (row : ℕ) (r : Record) (x : SiteRow) → site_of row r ≡ Ok x → IsSiteRow x
 unfolding site_of
-site-good row r x h =
-    let name = bind-ok (name_in row 1 (field r 0)) _ x h in
-    let depot = bind-ok (depot_in row (field r 1)) _ x name.2 in
-    let systems = bind-ok (used_in (not depot.0) row 3 0 1 10000 (field r 2)) _ x depot.2 in
-    let ship = bind-ok (used_in (not depot.0) row 4 2 0 999999 (field r 3)) _ x systems.2 in
-    subst IsSiteRow (same-ok _ x ship.2) (record {
+site_good row r x h =
+    let name = bind_ok (name_in row 1 (field r 0)) _ x h in
+    let depot = bind_ok (depot_in row (field r 1)) _ x name.2 in
+    let systems = bind_ok (used_in (not depot.0) row 3 0 1 10000 (field r 2)) _ x depot.2 in
+    let ship = bind_ok (used_in (not depot.0) row 4 2 0 999999 (field r 3)) _ x systems.2 in
+    subst IsSiteRow (same_ok _ x ship.2) (record {
       name = named row 1 (field r 0) name.0 name.1;
-      systems = used-field (not depot.0) row 3 0 1 10000 (field r 2) systems.0 systems.1;
-      ship = used-field (not depot.0) row 4 2 0 999999 (field r 3) ship.0 ship.1;
+      systems = used_field (not depot.0) row 3 0 1 10000 (field r 2) systems.0 systems.1;
+      ship = used_field (not depot.0) row 4 2 0 999999 (field r 3) ship.0 ship.1;
     })
 
-parent-named : (row : ℕ) (text : List ℕ) (b : Bool) (parent : Option (List ℕ))
+parent_named : (row : ℕ) (text : List ℕ) (b : Bool) (parent : Option (List ℕ))
     → (if b then Ok None else name_in row 2 text >>= λ name. Ok (Some name)) ≡ Ok parent → (name : List ℕ) → parent ≡ Some name → is_name name ≡ true
-parent-named row text true parent h name e = absurd (none-some name (same-ok None parent h ∙ e))
-parent-named row text false parent h name e =
-    let a = bind-ok (name_in row 2 text) (λ name. Ok (Some name)) parent h in
-    let same : a.0 ≡ name = same_Some a.0 name (same-ok (Some a.0) parent a.2 ∙ e) in
+parent_named row text true parent h name e = absurd (none-some name (same_ok None parent h ∙ e))
+parent_named row text false parent h name e =
+    let a = bind_ok (name_in row 2 text) (λ name. Ok (Some name)) parent h in
+    let same : a.0 ≡ name = same_Some a.0 name (same_ok (Some a.0) parent a.2 ∙ e) in
     subst (λ t. is_name t ≡ true) same (named row 2 text a.0 a.1)
 
-default-weight : (line : Bool) (n : ℕ) → ◌≡◌ {A = Result ℕ TableFault} (Ok (if line then 1 else 0)) (Ok n) → IsField line 1 100 n
-default-weight true n h = let e : 1 ≡ n = same-ok 1 n h in record { within = λ _. (omega (arith, e), omega (arith, e)); empty = λ k. absurd (true≢false k) }
-default-weight false n h = record { within = λ k. absurd (false≢true k); empty = λ _. sym (same-ok 0 n h) }
+default_weight : (line : Bool) (n : ℕ) → ◌≡◌ {A = Result ℕ TableFault} (Ok (if line then 1 else 0)) (Ok n) → IsField line 1 100 n
+default_weight true n h = let e : 1 ≡ n = same_ok 1 n h in record { within = λ _. (omega (arith, e), omega (arith, e)); empty = λ k. absurd (true≢false k) }
+default_weight false n h = record { within = λ k. absurd (false≢true k); empty = λ _. sym (same_ok 0 n h) }
 
-weight-field : (line : Bool) (row : ℕ) (r : Record) (n : ℕ) (b : Bool)
+weight_field : (line : Bool) (row : ℕ) (r : Record) (n : ℕ) (b : Bool)
     → (if b then used_in line row 7 0 1 100 (field r 6) else Ok (if line then 1 else 0)) ≡ Ok n → IsField line 1 100 n
-weight-field line row r n true h = used-field line row 7 0 1 100 (field r 6) n h
-weight-field line row r n false h = default-weight line n h
+weight_field line row r n true h = used_field line row 7 0 1 100 (field r 6) n h
+weight_field line row r n false h = default_weight line n h
 
-pub part-good : (row : ℕ) (r : Record) (x : PartRow) → part_of row r ≡ Ok x → IsPartRow x
+-- the row of a record of parts is valid
+pub part_good : (row : ℕ) (r : Record) (x : PartRow) → part_of row r ≡ Ok x → IsPartRow x
 unfolding part_of
-part-good row r x h =
-    let name = bind-ok (name_in row 1 (field r 0)) _ x h in
-    let parent = bind-ok (parent_in row 2 (field r 1)) _ x name.2 in
+part_good row r x h =
+    let name = bind_ok (name_in row 1 (field r 0)) _ x h in
+    let parent = bind_ok (parent_in row 2 (field r 1)) _ x name.2 in
     let line = is_none parent.0 in
-    let cost = bind-ok (number_in row 3 0 1 100000000 (field r 2)) _ x parent.2 in
-    let per_system = bind-ok (used_in line row 4 0 1 100 (field r 3)) _ x cost.2 in
-    let max_depot = bind-ok (number_in row 5 0 0 63 (field r 4)) _ x per_system.2 in
-    let max_base = bind-ok (number_in row 6 0 0 63 (field r 5)) _ x max_depot.2 in
-    let weight = bind-ok (weight_in line row r) _ x max_base.2 in
-    subst IsPartRow (same-ok _ x weight.2) (record {
+    let cost = bind_ok (number_in row 3 0 1 100000000 (field r 2)) _ x parent.2 in
+    let per_system = bind_ok (used_in line row 4 0 1 100 (field r 3)) _ x cost.2 in
+    let max_depot = bind_ok (number_in row 5 0 0 63 (field r 4)) _ x per_system.2 in
+    let max_base = bind_ok (number_in row 6 0 0 63 (field r 5)) _ x max_depot.2 in
+    let weight = bind_ok (weight_in line row r) _ x max_base.2 in
+    subst IsPartRow (same_ok _ x weight.2) (record {
       name = named row 1 (field r 0) name.0 name.1;
-      parent = parent-named row (field r 1) (has_none (field r 1)) parent.0 parent.1;
-      cost = number-range row 3 0 1 100000000 (field r 2) cost.0 cost.1;
-      per_system = used-field line row 4 0 1 100 (field r 3) per_system.0 per_system.1;
-      max_depot = (number-range row 5 0 0 63 (field r 4) max_depot.0 max_depot.1).1;
-      max_base = (number-range row 6 0 0 63 (field r 5) max_base.0 max_base.1).1;
-      weight = weight-field line row r weight.0 (length r == 7) weight.1;
+      parent = parent_named row (field r 1) (has_none (field r 1)) parent.0 parent.1;
+      cost = number_range row 3 0 1 100000000 (field r 2) cost.0 cost.1;
+      per_system = used_field line row 4 0 1 100 (field r 3) per_system.0 per_system.1;
+      max_depot = (number_range row 5 0 0 63 (field r 4) max_depot.0 max_depot.1).1;
+      max_base = (number_range row 6 0 0 63 (field r 5) max_base.0 max_base.1).1;
+      weight = weight_field line row r weight.0 (length r == 7) weight.1;
     })
 
 found : {A : Type 0} (e : TableFault) (o : Option A) (x : A) → found_or e o ≡ Ok x → o ≡ Some x
 found e None x h = cc
-found e (Some y) x h = rw (same-ok y x h) refl
+found e (Some y) x h = rw (same_ok y x h) refl
 
-part-known : (f : FrameRows) (row : ℕ) (text : List ℕ) (p : ℕ) → part_in f row 1 text ≡ Ok p → p < length f.parts
-part-known f row text p h =
-    let a = bind-ok (name_in row 1 text) _ p h in
-    (part-named f.parts a.0 p (found (fault.UnknownPart row) (place_of a.0 (part_names f.parts)) p a.2)).0
+part_known : (f : FrameRows) (row : ℕ) (text : List ℕ) (p : ℕ) → part_in f row 1 text ≡ Ok p → p < length f.parts
+part_known f row text p h =
+    let a = bind_ok (name_in row 1 text) _ p h in
+    (part_named f.parts a.0 p (found (fault.UnknownPart row) (place_of a.0 (part_names f.parts)) p a.2)).0
 
-site-known : (f : FrameRows) (row : ℕ) (text : List ℕ) (s : ℕ) → site_in f row 2 text ≡ Ok s → s < length f.sites
-site-known f row text s h =
-    let a = bind-ok (name_in row 2 text) _ s h in
-    (site-named f.sites a.0 s (found (fault.UnknownSite row) (place_of a.0 (site_names f.sites)) s a.2)).0
+site_known : (f : FrameRows) (row : ℕ) (text : List ℕ) (s : ℕ) → site_in f row 2 text ≡ Ok s → s < length f.sites
+site_known f row text s h =
+    let a = bind_ok (name_in row 2 text) _ s h in
+    (site_named f.sites a.0 s (found (fault.UnknownSite row) (place_of a.0 (site_names f.sites)) s a.2)).0
 
-pub rate-good : (f : FrameRows) (row : ℕ) (r : Record) (x : RateRow) → rate_of f row r ≡ Ok x → IsRateOf f x
+-- the row of a record of rates is one of the frame
+pub rate_good : (f : FrameRows) (row : ℕ) (r : Record) (x : RateRow) → rate_of f row r ≡ Ok x → IsRateOf f x
 unfolding rate_in
-rate-good f row r x h =
-    let part = bind-ok (part_in f row 1 (field r 0)) _ x h in
-    let site = bind-ok (site_in f row 2 (field r 1)) _ x part.2 in
+rate_good f row r x h =
+    let part = bind_ok (part_in f row 1 (field r 0)) _ x h in
+    let site = bind_ok (site_in f row 2 (field r 1)) _ x part.2 in
     let line = is_line (part_at f.parts part.0) in
     let base = not (site.0 == 0) in
-    let demand = bind-ok (used_in (line && base) row 3 4 0 1000000000 (field r 2)) _ x site.2 in
-    let repair_here = bind-ok (used_in base row 4 4 0 10000 (field r 3)) _ x demand.2 in
-    let share = bind-ok (used_in (not line) row 5 4 0 10000 (field r 4)) _ x repair_here.2 in
-    let repair_days = bind-ok (number_in row 6 2 0 999999 (field r 5)) _ x share.2 in
-    subst (IsRateOf f) (same-ok _ x repair_days.2) (record {
-      part = part-known f row (field r 0) part.0 part.1;
-      site = site-known f row (field r 1) site.0 site.1;
+    let demand = bind_ok (used_in (line && base) row 3 4 0 1000000000 (field r 2)) _ x site.2 in
+    let repair_here = bind_ok (used_in base row 4 4 0 10000 (field r 3)) _ x demand.2 in
+    let share = bind_ok (used_in (not line) row 5 4 0 10000 (field r 4)) _ x repair_here.2 in
+    let repair_days = bind_ok (number_in row 6 2 0 999999 (field r 5)) _ x share.2 in
+    subst (IsRateOf f) (same_ok _ x repair_days.2) (record {
+      part = part_known f row (field r 0) part.0 part.1;
+      site = site_known f row (field r 1) site.0 site.1;
       fields = record {
-        demand = used-field (line && base) row 3 4 0 1000000000 (field r 2) demand.0 demand.1;
-        repair_here = used-field base row 4 4 0 10000 (field r 3) repair_here.0 repair_here.1;
-        share = used-field (not line) row 5 4 0 10000 (field r 4) share.0 share.1;
-        repair_days = (number-range row 6 2 0 999999 (field r 5) repair_days.0 repair_days.1).1;
+        demand = used_field (line && base) row 3 4 0 1000000000 (field r 2) demand.0 demand.1;
+        repair_here = used_field base row 4 4 0 10000 (field r 3) repair_here.0 repair_here.1;
+        share = used_field (not line) row 5 4 0 10000 (field r 4) share.0 share.1;
+        repair_days = (number_range row 6 2 0 999999 (field r 5) repair_days.0 repair_days.1).1;
       };
     })
 
-pub stock-good : (f : FrameRows) (row : ℕ) (r : Record) (x : StockRow) → stock_of f row r ≡ Ok x → IsStockOf f x
+-- the row of a record of stocks is one of the frame
+pub stock_good : (f : FrameRows) (row : ℕ) (r : Record) (x : StockRow) → stock_of f row r ≡ Ok x → IsStockOf f x
 unfolding stock_of
-stock-good f row r x h =
-    let part = bind-ok (part_in f row 1 (field r 0)) _ x h in
-    let site = bind-ok (site_in f row 2 (field r 1)) _ x part.2 in
-    let stock = bind-ok (number_in row 3 0 0 63 (field r 2)) _ x site.2 in
-    subst (IsStockOf f) (same-ok _ x stock.2) (record {
-      part = part-known f row (field r 0) part.0 part.1;
-      site = site-known f row (field r 1) site.0 site.1;
+stock_good f row r x h =
+    let part = bind_ok (part_in f row 1 (field r 0)) _ x h in
+    let site = bind_ok (site_in f row 2 (field r 1)) _ x part.2 in
+    let stock = bind_ok (number_in row 3 0 0 63 (field r 2)) _ x site.2 in
+    subst (IsStockOf f) (same_ok _ x stock.2) (record {
+      part = part_known f row (field r 0) part.0 part.1;
+      site = site_known f row (field r 1) site.0 site.1;
     })

@@ -19,6 +19,7 @@ pub taken : (rs : List Record) (found : Bool) (fields : Record) (rest : List Rec
 taken [] found fields rest t h = absurd (false≢true (sym t ∙ h))
 taken (r ∷ rs) found fields rest t h = rw (t.1, t.2) refl
 
+-- where a read finds no record there was none left
 pub ended : (rs : List Record) (found : Bool) (fields : Record) (rest : List Record) → TakesFirst rs found fields rest → found ≡ false → rs ≡ []
 ended [] found fields rest t h = refl
 ended (r ∷ rs) found fields rest t h = absurd (false≢true (sym h ∙ t.0))
@@ -28,98 +29,101 @@ abbrev pub prepend : {A : Type 0} → List A → Result (List A) TableFault → 
 prepend front (Ok xs) = Ok (front ++ xs)
 prepend front (Err e) = Err e
 
-pub prepend-none : {A : Type 0} (t : Result (List A) TableFault) → prepend [] t ≡ t
-prepend-none (Ok xs) = refl
-prepend-none (Err e) = refl
+pub prepend_none : {A : Type 0} (t : Result (List A) TableFault) → prepend [] t ≡ t
+prepend_none (Ok xs) = refl
+prepend_none (Err e) = refl
 
-prepend-more : {A : Type 0} (front : List A) (x : A) (t : Result (List A) TableFault)
+prepend_more : {A : Type 0} (front : List A) (x : A) (t : Result (List A) TableFault)
     → prepend (front ++ x ∷ []) t ≡ prepend front (t >>= λ xs. Ok (x ∷ xs))
-prepend-more front x (Ok xs) = rw (append_assoc front (x ∷ []) xs) refl
-prepend-more front x (Err e) = refl
+prepend_more front x (Ok xs) = rw (append_assoc front (x ∷ []) xs) refl
+prepend_more front x (Err e) = refl
 
 module _ {A : Type 0} (row_of : ℕ → Record → Result A TableFault) (limit columns row : ℕ) (front : List A) (should : Result (List A) TableFault) where
-  pub rows-none : (rs : List Record) → rs ≡ [] → prepend front (rows_from row_of limit columns row rs) ≡ should → should ≡ Ok front
+  pub rows_none : (rs : List Record) → rs ≡ [] → prepend front (rows_from row_of limit columns row rs) ≡ should → should ≡ Ok front
   unfolding rows_from
-  rows-none rs e h = sym h ∙ rw (e, append-nil front) refl
+  rows_none rs e h = sym h ∙ rw (e, append-nil front) refl
 
-  pub rows-fault : (rs rest : List Record) (r : Record) (f : TableFault) → rs ≡ r ∷ rest → row < limit + 2 → row_with row_of row columns r ≡ Err f
+  pub rows_fault : (rs rest : List Record) (r : Record) (f : TableFault) → rs ≡ r ∷ rest → row < limit + 2 → row_with row_of row columns r ≡ Err f
       → prepend front (rows_from row_of limit columns row rs) ≡ should → should ≡ Err f
   unfolding rows_from
-  rows-fault rs rest r f e lt bad h =
+  rows_fault rs rest r f e lt bad h =
       let t : nat_le (limit + 2) row ≡ false = lt-leb (limit + 2) row lt in
       sym h ∙ rw (e, t, bad) refl
 
-  pub rows-many : (rs rest : List Record) (r : Record) → rs ≡ r ∷ rest → limit + 2 ≤ row
+  pub rows_many : (rs rest : List Record) (r : Record) → rs ≡ r ∷ rest → limit + 2 ≤ row
       → prepend front (rows_from row_of limit columns row rs) ≡ should → should ≡ Err fault.TooManyRows
   unfolding rows_from
-  rows-many rs rest r e le h =
+  rows_many rs rest r e le h =
       let t : nat_le (limit + 2) row ≡ true = le-leb (limit + 2) row le in
       sym h ∙ rw (e, t) refl
 
-  pub rows-row : (rs rest : List Record) (r : Record) (x : A) → rs ≡ r ∷ rest → row < limit + 2 → row_with row_of row columns r ≡ Ok x
+  pub rows_row : (rs rest : List Record) (r : Record) (x : A) → rs ≡ r ∷ rest → row < limit + 2 → row_with row_of row columns r ≡ Ok x
       → prepend front (rows_from row_of limit columns row rs) ≡ should
       → prepend (front ++ x ∷ []) (rows_from row_of limit columns (row + 1) rest) ≡ should
   unfolding rows_from
-  rows-row rs rest r x e lt good h =
+  rows_row rs rest r x e lt good h =
       let t : nat_le (limit + 2) row ≡ false = lt-leb (limit + 2) row lt in
-      prepend-more front x (rows_from row_of limit columns (row + 1) rest) ∙ (sym (rw (e, t, good) refl) ∙ h)
+      prepend_more front x (rows_from row_of limit columns (row + 1) rest) ∙ (sym (rw (e, t, good) refl) ∙ h)
 
 -- the header of a record with as many fields as there may be
 fits : (least n most : ℕ) → least ≤ n → n ≤ most → (nat_le least n && nat_le n most) ≡ true
 fits least n most h k = and_from (nat_le least n) (nat_le n most) (le-leb least n h) (le-leb n most k)
 
-pub header-fault : (least : ℕ) (header : List (List ℕ)) (r : Record) (n m : ℕ) (f : TableFault) → length header ≡ m → n ≡ length r → least ≤ n → n ≤ m
+-- the first column that isn't as it should be is the header's fault
+pub header_fault : (least : ℕ) (header : List (List ℕ)) (r : Record) (n m : ℕ) (f : TableFault) → length header ≡ m → n ≡ length r → least ≤ n → n ≤ m
     → first (column_fault header r) n ≡ Some f → ◌≡◌ {A = Result ℕ TableFault} (Err f) (header_in least header r)
-header-fault least header r n m f len enough h k found = rw (len, ← enough, fits least n m h k, found) refl
+header_fault least header r n m f len enough h k found = rw (len, ← enough, fits least n m h k, found) refl
 
-pub header-whole : (least : ℕ) (header : List (List ℕ)) (r : Record) (n m k : ℕ) → length header ≡ m → n ≡ length r → least ≤ n → n ≤ m
+-- a header all of whose columns are as they should be has this number of columns
+pub header_whole : (least : ℕ) (header : List (List ℕ)) (r : Record) (n m k : ℕ) → length header ≡ m → n ≡ length r → least ≤ n → n ≤ m
     → first (column_fault header r) k ≡ None → k ≡ n → ◌≡◌ {A = Result ℕ TableFault} (Ok n) (header_in least header r)
-header-whole least header r n m k len enough h le none done = rw (len, ← enough, fits least n m h le, ← done, none) refl
+header_whole least header r n m k len enough h le none done = rw (len, ← enough, fits least n m h le, ← done, none) refl
 
 -- what comes of two steps
-pub bind-ok : {A B : Type 0} (a : Result A TableFault) (f : A → Result B TableFault) (y : B) → (a >>= f) ≡ Ok y → (x : A) × (a ≡ Ok x) × (f x ≡ Ok y)
-bind-ok (Ok x) f y h = (x, refl, h)
-bind-ok (Err e) f y h = cc
+pub bind_ok : {A B : Type 0} (a : Result A TableFault) (f : A → Result B TableFault) (y : B) → (a >>= f) ≡ Ok y → (x : A) × (a ≡ Ok x) × (f x ≡ Ok y)
+bind_ok (Ok x) f y h = (x, refl, h)
+bind_ok (Err e) f y h = cc
 
-counted-then : {A : Type 0} (row columns : ℕ) (r : Record) (t : Result A TableFault) (x : A) → (counted row columns r >>= λ _. t) ≡ Ok x → t ≡ Ok x
-counted-then row columns r t x h = (bind-ok (counted row columns r) (λ _. t) x h).2
+counted_then : {A : Type 0} (row columns : ℕ) (r : Record) (t : Result A TableFault) (x : A) → (counted row columns r >>= λ _. t) ≡ Ok x → t ≡ Ok x
+counted_then row columns r t x h = (bind_ok (counted row columns r) (λ _. t) x h).2
 
 chosen : {A : Type 0} (b : Bool) (e : TableFault) (t : Result A TableFault) (x : A) → (if b then Err e else t) ≡ Ok x → (b ≡ false) × (t ≡ Ok x)
 chosen true e t x h = cc
 chosen false e t x h = (refl, h)
 
-pub same-ok : {A : Type 0} (x y : A) → ◌≡◌ {A = Result A TableFault} (Ok x) (Ok y) → x ≡ y
-same-ok x y h = cc
+-- two answers are the same only where their values are
+pub same_ok : {A : Type 0} (x y : A) → ◌≡◌ {A = Result A TableFault} (Ok x) (Ok y) → x ≡ y
+same_ok x y h = cc
 
 module _ {A : Type 0} (P : A → Type 0) (row_of : ℕ → Record → Result A TableFault) (each : (row : ℕ) (r : Record) (x : A) → row_of row r ≡ Ok x → P x) (limit columns : ℕ) where
   -- all rows are as the row's rule says, and no more than there may be
-  rows-good : (row : ℕ) (rs : List Record) (xs : List A) → row ≤ limit + 2 → rows_from row_of limit columns row rs ≡ Ok xs → All P xs × (length xs + row ≤ limit + 2)
+  rows_good : (row : ℕ) (rs : List Record) (xs : List A) → row ≤ limit + 2 → rows_from row_of limit columns row rs ≡ Ok xs → All P xs × (length xs + row ≤ limit + 2)
   unfolding rows_from
-  rows-good row [] xs few h = rw (← same-ok [] xs h) (All-nil P, omega (arith, few))
-  rows-good row (r ∷ rs) xs few h =
+  rows_good row [] xs few h = rw (← same_ok [] xs h) (All-nil P, omega (arith, few))
+  rows_good row (r ∷ rs) xs few h =
       let c = chosen (nat_le (limit + 2) row) fault.TooManyRows _ xs h in
-      let a = bind-ok (row_with row_of row columns r) _ xs c.1 in
-      let b = bind-ok (rows_from row_of limit columns (row + 1) rs) _ xs a.2 in
-      let good = each row r a.0 (counted-then row columns r (row_of row r) a.0 a.1) in
+      let a = bind_ok (row_with row_of row columns r) _ xs c.1 in
+      let b = bind_ok (rows_from row_of limit columns (row + 1) rs) _ xs a.2 in
+      let good = each row r a.0 (counted_then row columns r (row_of row r) a.0 a.1) in
       let below : row < limit + 2 = leb-false (limit + 2) row c.0 in
-      let rest = rows-good (row + 1) rs b.0 (omega (arith, below)) b.1 in
-      rw (← same-ok (a.0 ∷ b.0) xs b.2) (All-cons P a.0 b.0 good rest.0, omega (arith, rest.1))
+      let rest = rows_good (row + 1) rs b.0 (omega (arith, below)) b.1 in
+      rw (← same_ok (a.0 ∷ b.0) xs b.2) (All-cons P a.0 b.0 good rest.0, omega (arith, rest.1))
 
-pub table-good : {A : Type 0} (P : A → Type 0) (row_of : ℕ → Record → Result A TableFault) (limit least : ℕ) (header : List (List ℕ)) (rs : List Record) (xs : List A)
+pub table_good : {A : Type 0} (P : A → Type 0) (row_of : ℕ → Record → Result A TableFault) (limit least : ℕ) (header : List (List ℕ)) (rs : List Record) (xs : List A)
     → ((row : ℕ) (r : Record) (x : A) → row_of row r ≡ Ok x → P x) → table_of row_of limit least header rs ≡ Ok xs → All P xs × (length xs ≤ limit)
-table-good P row_of limit least header [] xs each h = cc
-table-good P row_of limit least header (r ∷ rs) xs each h =
-    let a = bind-ok (header_in least header r) (λ columns. rows_from row_of limit columns 2 rs) xs h in
-    let good = rows-good P row_of each limit a.0 2 rs xs (omega arith) a.2 in
+table_good P row_of limit least header [] xs each h = cc
+table_good P row_of limit least header (r ∷ rs) xs each h =
+    let a = bind_ok (header_in least header r) (λ columns. rows_from row_of limit columns 2 rs) xs h in
+    let good = rows_good P row_of each limit a.0 2 rs xs (omega arith) a.2 in
     (good.0, omega (arith, good.1))
 
 module _ {A : Type 0} (P : A → Type 0) (row_of : ℕ → Record → Result A TableFault) (each : (row : ℕ) (r : Record) (x : A) → row_of row r ≡ Ok x → P x)
     (limit least : ℕ) (header : List (List ℕ)) (rs : List Record) where
   -- what is known of the rows of an answer
-  pub answer-fields : (r : Result (Vec A Global) (Stop TableFault)) → Gives (table_of row_of limit least header rs) (rows_of r) → IfOk r (λ v. All P v.items)
-  answer-fields (Ok v) h = (table-good P row_of limit least header rs v.items each h).0
-  answer-fields (Err e) h = tt
+  pub answer_fields : (r : Result (Vec A Global) (Stop TableFault)) → Gives (table_of row_of limit least header rs) (rows_of r) → IfOk r (λ v. All P v.items)
+  answer_fields (Ok v) h = (table_good P row_of limit least header rs v.items each h).0
+  answer_fields (Err e) h = tt
 
-  pub answer-few : (r : Result (Vec A Global) (Stop TableFault)) → Gives (table_of row_of limit least header rs) (rows_of r) → IfOk r (λ v. length v.items ≤ limit)
-  answer-few (Ok v) h = (table-good P row_of limit least header rs v.items each h).1
-  answer-few (Err e) h = tt
+  pub answer_few : (r : Result (Vec A Global) (Stop TableFault)) → Gives (table_of row_of limit least header rs) (rows_of r) → IfOk r (λ v. length v.items ≤ limit)
+  answer_few (Ok v) h = (table_good P row_of limit least header rs v.items each h).1
+  answer_few (Err e) h = tt

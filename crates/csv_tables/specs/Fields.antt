@@ -17,6 +17,7 @@ unfoldable pub trim_start : List ℕ → List ℕ
 trim_start [] = []
 trim_start (b ∷ rest) = if is_blank b then trim_start rest else b ∷ rest
 
+-- the text is empty
 abbrev pub has_none : List ℕ → Bool
 has_none [] = true
 has_none (b ∷ rest) = false

@@ -36,6 +36,7 @@ part_of row r = do
     weight = weight;
   })
 
+-- the columns of the table of parts, of which the last may be missing
 abbrev pub parts_header : List (List ℕ)
 parts_header =
     codes "part" ∷ codes "parent" ∷ codes "cost" ∷ codes "per_system" ∷ codes "max_depot" ∷ codes "max_base"

@@ -19,14 +19,16 @@ found_or fault (Some x) = Ok x
 
 -- the number of the part that a field names
 abbrev pub part_in : FrameRows → ℕ → ℕ → List ℕ → Result ℕ TableFault
-part_in f row column text = name_in row column text >>= λ name. found_or (fault.UnknownPart row) (place_of name (part_names f.parts))
+part_in f row column text = name_in row column text
+    >>= λ name. found_or (fault.UnknownPart row) (place_of name (part_names f.parts))
 
 -- the number of the site that a field names
 abbrev pub site_in : FrameRows → ℕ → ℕ → List ℕ → Result ℕ TableFault
-site_in f row column text = name_in row column text >>= λ name. found_or (fault.UnknownSite row) (place_of name (site_names f.sites))
+site_in f row column text = name_in row column text
+    >>= λ name. found_or (fault.UnknownSite row) (place_of name (site_names f.sites))
 
--- the rates of the fields at these places, with 4 decimals, and 2 for days: which fields are used goes by the pair; site 0 is
--- the depot
+-- the rates of the fields at these places, with 4 decimals, and 2 for days: which fields are used goes by the pair;
+-- site 0 is the depot
 unfoldable pub rate_in : FrameRows → ℕ → (ℕ → List ℕ) → Result RateRow TableFault
 rate_in f row at = do
   part ← part_in f row 1 (at 0)
@@ -48,6 +50,7 @@ rate_in f row at = do
 abbrev pub rate_of : FrameRows → ℕ → Record → Result RateRow TableFault
 rate_of f row r = rate_in f row (field r)
 
+-- the columns of the table of rates
 abbrev pub rates_header : List (List ℕ)
 rates_header =
     codes "part" ∷ codes "site" ∷ codes "demand" ∷ codes "repair_here" ∷ codes "share" ∷ codes "repair_days" ∷ []

@@ -24,6 +24,7 @@ records_left s (Some bytes) = records_from default_config (length bytes + 1) s b
 abbrev pub slice_left : Bor (List ℕ) → Option (List ℕ)
 slice_left s = Some s.now
 
+-- the records that a reader of a table's bytes has left
 abbrev pub rest_of : Reader (Bor (List ℕ)) → List Record
 rest_of rdr = records_left (reader_state rdr) (source_of slice_left rdr)
 
@@ -41,7 +42,8 @@ is_between st.InComment = false
 -- a reader of a table that has not failed
 abbrev pub IsTable : Reader (Bor (List ℕ)) → Type 0
 IsTable rdr = Ready rdr × (reader_config rdr ≡ default_config) × (reader_trim rdr ≡ trim.None)
-    × (is_between (reader_state rdr) ≡ true) × (bytes : List ℕ) × (source_of slice_left rdr ≡ Some bytes) × (length bytes ≤ 4194304)
+    × (is_between (reader_state rdr) ≡ true) × (bytes : List ℕ) × (source_of slice_left rdr ≡ Some bytes)
+    × (length bytes ≤ 4194304)
 
 -- a read took the first of the records that were left, or there was none
 abbrev pub TakesFirst : List Record → Bool → Record → List Record → Type 0

@@ -24,6 +24,7 @@ site_of row r = do
   ship ← used_in (not depot) row 4 2 0 999999 (field r 3)
   Ok (record { name = name; depot = depot; systems = systems; ship = ship })
 
+-- the columns of the table of sites
 abbrev pub sites_header : List (List ℕ)
 sites_header = codes "site" ∷ codes "kind" ∷ codes "systems" ∷ codes "ship_days" ∷ []
 

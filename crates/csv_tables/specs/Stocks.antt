@@ -17,6 +17,7 @@ stock_of f row r = do
   stock ← number_in row 3 0 0 63 (field r 2)
   Ok (record { part = record { 0 = part }; site = record { 0 = site }; stock = stock })
 
+-- the columns of the table of stocks
 abbrev pub stocks_header : List (List ℕ)
 stocks_header = codes "part" ∷ codes "site" ∷ codes "stock" ∷ []
 

@@ -16,7 +16,8 @@ column_fault header r k = if bytes_eq (field r k) (get_or header k []) then None
 -- how many columns the header has: from least on, and no more than the table knows
 abbrev pub header_in : ℕ → List (List ℕ) → Record → Result ℕ TableFault
 header_in least header r =
-    if nat_le least (length r) && nat_le (length r) (length header) then unless (first (column_fault header r) (length r)) (length r)
+    if nat_le least (length r) && nat_le (length r) (length header)
+    then unless (first (column_fault header r) (length r)) (length r)
     else Err (fault.FieldCount 1 (length r))
 
 -- the row of a record that has so many fields
@@ -24,7 +25,8 @@ abbrev pub row_with : {A : Type 0} → (ℕ → Record → Result A TableFault) 
 row_with row_of row columns r = counted row columns r >>= λ _. row_of row r
 
 module _ {A : Type 0} (row_of : ℕ → Record → Result A TableFault) (limit : ℕ) where
-  -- the rows of the records from this row of the file on, each with so many columns; row 2 is the first after the header
+  -- the rows of the records from this row of the file on, each with so many columns; row 2 is the first after the
+  -- header
   unfoldable pub rows_from : ℕ → ℕ → List Record → Result (List A) TableFault
   rows_from columns row [] = Ok []
   rows_from columns row (r ∷ rs) =

@@ -27,7 +27,7 @@ pub fn trim(text: &[u8]) -> &[u8]
     trim_end(trim_start(text))
 }
 
-// The text without the blanks at its start.
+/// The text without the blanks at its start.
 fn trim_start(text: &[u8]) -> &[u8]
     ensures { result.now ≡ trim_start text.now }
 {
@@ -39,7 +39,7 @@ fn trim_start(text: &[u8]) -> &[u8]
     &text[text.len()..]
 }
 
-// The text without the blanks at its end.
+/// The text without the blanks at its end.
 fn trim_end(text: &[u8]) -> &[u8]
     ensures { result.now ≡ trim_end text.now }
 {
@@ -50,7 +50,7 @@ fn trim_end(text: &[u8]) -> &[u8]
     &text[..end]
 }
 
-// Whether a byte is a space or a tab.
+/// Whether a byte is a space or a tab.
 fn is_blank(b: u8) -> bool
     ensures { result ≡ is_blank b }
 {

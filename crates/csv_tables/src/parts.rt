@@ -26,6 +26,7 @@ pub fn read_parts(alloc: Global, bytes: &[u8]) -> Result<Vec<PartRow>, Stop<Tabl
     read_table(alloc, bytes, &Parts, 6, header().as_slice(), 2000)
 }
 
+/// The columns of a table of parts.
 fn header() -> [&'static [u8]; 7]
     ensures { map (λ f. f.now) result ≡ parts_header }
 {
@@ -40,7 +41,7 @@ fn header() -> [&'static [u8]; 7]
     ]
 }
 
-// The table of parts.
+/// The table of parts.
 struct Parts;
 
 impl Table for Parts {
@@ -53,7 +54,7 @@ impl Table for Parts {
     }
 }
 
-// The part of a record.
+/// The part of a record.
 #[tactic(auto, unfolding(crate::specs::Parts::part_of))]
 fn part_of(row: u32, record: &ByteRecord) -> Result<PartRow, TableFault>
     ensures { result ≡ part_of row (fields_of «record».now) }
@@ -77,7 +78,7 @@ fn part_of(row: u32, record: &ByteRecord) -> Result<PartRow, TableFault>
     })
 }
 
-// The name of a shop unit's line unit, or none for a line unit.
+/// The name of a shop unit's line unit, or none for a line unit.
 fn parent_in(row: u32, column: u8, text: &[u8]) -> Result<Option<Name>, TableFault>
     ensures { result ≡ parent_in row column text.now }
 {
@@ -88,7 +89,7 @@ fn parent_in(row: u32, column: u8, text: &[u8]) -> Result<Option<Name>, TableFau
     Ok(Some(name))
 }
 
-// The weight of a part, whose table may have no such column.
+/// The weight of a part, whose table may have no such column.
 fn weight_in(line: bool, row: u32, record: &ByteRecord) -> Result<u32, TableFault>
     ensures weight { result ≡ weight_in line row (fields_of «record».now) }
     ensures range { IfOk result (λ n. n ≤ 100) }

@@ -37,6 +37,7 @@ pub fn read_rates(
     )
 }
 
+/// The columns of a table of rates.
 fn header() -> [&'static [u8]; 6]
     ensures { map (λ f. f.now) result ≡ rates_header }
 {
@@ -50,7 +51,7 @@ fn header() -> [&'static [u8]; 6]
     ]
 }
 
-// The table of rates for a frame.
+/// The table of rates for a frame.
 #[derive(Drop)]
 struct Rates<'a> {
     frame: &'a Frame,
@@ -66,7 +67,7 @@ impl<'a> Table for Rates<'a> {
     }
 }
 
-// The rates of a record.
+/// The rates of a record.
 fn rate_of(frame: &Frame, row: u32, record: &ByteRecord) -> Result<RateRow, TableFault>
     ensures { result ≡ rate_of frame.now row (fields_of «record».now) }
 {

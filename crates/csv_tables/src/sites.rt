@@ -25,6 +25,7 @@ pub fn read_sites(alloc: Global, bytes: &[u8]) -> Result<Vec<SiteRow>, Stop<Tabl
     read_table(alloc, bytes, &Sites, 4, header().as_slice(), 16)
 }
 
+/// The columns of a table of sites.
 fn header() -> [&'static [u8]; 4]
     ensures { map (λ f. f.now) result ≡ sites_header }
 {
@@ -36,7 +37,7 @@ fn header() -> [&'static [u8]; 4]
     ]
 }
 
-// The table of sites.
+/// The table of sites.
 struct Sites;
 
 impl Table for Sites {
@@ -49,7 +50,7 @@ impl Table for Sites {
     }
 }
 
-// The site of a record.
+/// The site of a record.
 #[tactic(auto, unfolding(crate::specs::Sites::site_of))]
 fn site_of(row: u32, record: &ByteRecord) -> Result<SiteRow, TableFault>
     ensures { result ≡ site_of row (fields_of «record».now) }
@@ -66,7 +67,7 @@ fn site_of(row: u32, record: &ByteRecord) -> Result<SiteRow, TableFault>
     })
 }
 
-// Whether the kind of a site is the depot.
+/// Whether the kind of a site is the depot.
 fn depot_in(row: u32, text: &[u8]) -> Result<bool, TableFault>
     ensures { result ≡ depot_in row text.now }
 {

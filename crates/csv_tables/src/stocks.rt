@@ -37,13 +37,14 @@ pub fn read_stocks(
     )
 }
 
+/// The columns of a table of stocks.
 fn header() -> [&'static [u8]; 3]
     ensures { map (λ f. f.now) result ≡ stocks_header }
 {
     [b"part".as_slice(), b"site".as_slice(), b"stock".as_slice()]
 }
 
-// The table of stocks for a frame.
+/// The table of stocks for a frame.
 #[derive(Drop)]
 struct Stocks<'a> {
     frame: &'a Frame,
@@ -59,7 +60,7 @@ impl<'a> Table for Stocks<'a> {
     }
 }
 
-// The stock of a record.
+/// The stock of a record.
 #[tactic(auto, unfolding(crate::specs::Stocks::stock_of))]
 fn stock_of(frame: &Frame, row: u32, record: &ByteRecord) -> Result<StockRow, TableFault>
     ensures { result ≡ stock_of frame.now row (fields_of «record».now) }

@@ -39,7 +39,8 @@ pub fn read_table<T: Table>(
     requires small { length bytes.now ≤ 4194304 }
     requires columns { length header.now < 256 }
     requires few { limit ≤ 32000 }
-    ensures { Gives (table_of (T.row_of table.now) limit least (map (λ f. f.now) header.now) (all_records bytes.now)) (rows_of result) }
+    ensures { Gives (table_of (T.row_of table.now) limit least (map (λ f. f.now) header.now) (all_records bytes.now))
+        (rows_of result) }
 {
     let mut rdr = table_of(alloc, bytes);
     let mut record = ByteRecord::new(alloc);
@@ -52,7 +53,7 @@ pub fn read_table<T: Table>(
     }
 }
 
-// How many columns a header has, or its first fault.
+/// How many columns a header has, or its first fault.
 fn header_in(least: u8, header: &[&[u8]], record: &ByteRecord) -> Result<u8, TableFault>
     requires columns { length header.now < 256 }
     requires fields { length (fields_of «record».now) < 2 ^ 32 }
@@ -73,7 +74,7 @@ fn header_in(least: u8, header: &[&[u8]], record: &ByteRecord) -> Result<u8, Tab
     Ok(columns as u8)
 }
 
-// The fault of a column of the header.
+/// The fault of a column of the header.
 fn column_fault(header: &[&[u8]], record: &ByteRecord, k: usize) -> Option<TableFault>
     requires columns { length header.now < 256 }
     requires within { k < length header.now }
@@ -89,7 +90,7 @@ fn column_fault(header: &[&[u8]], record: &ByteRecord, k: usize) -> Option<Table
     }
 }
 
-// The rows that the records left say, of which the first is row 2 of the file.
+/// The rows that the records left say, of which the first is row 2 of the file.
 fn read_rows<T: Table>(
     alloc: Global,
     rdr: &mut Reader<&[u8]>,
@@ -118,7 +119,7 @@ fn read_rows<T: Table>(
     Ok(rows)
 }
 
-// The row that a record with so many fields says.
+/// The row that a record with so many fields says.
 fn row_in<T: Table>(
     table: &T,
     row: u32,

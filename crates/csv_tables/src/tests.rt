@@ -26,7 +26,7 @@ enum File {
     Stocks,
 }
 
-// Why files give no case or no stocks.
+/// Why files give no case or no stocks.
 #[derive(Clone, Copy, Debug, Drop, PartialEq, Eq)]
 enum Refusal {
     NoMemory,
@@ -56,7 +56,7 @@ fn of_stocks(stop: Stop<StockFault>) -> Refusal {
     }
 }
 
-// Whether a file is no longer than a table may be.
+/// Whether a file is no longer than a table may be.
 fn is_short(bytes: &[u8]) -> bool
     ensures { IsTrue result ↔ length bytes.now ≤ 4194304 }
 {
@@ -97,7 +97,7 @@ fn stocks_in(alloc: Global, case: &Case, stocks: &[u8]) -> Result<Stocks, Refusa
     }
 }
 
-// A text with its first `old` replaced by `new`.
+/// A text with its first `old` replaced by `new`.
 fn changed(alloc: Global, text: &str, old: &str, new: &str) -> Result<Vec<u8>, NoMemory> {
     let mut bytes = Vec::new(alloc);
     match text.split_once(old) {
@@ -119,7 +119,7 @@ struct Change {
     wanted: Refusal,
 }
 
-// The files of case A, of which one is changed.
+/// The files of case A, of which one is changed.
 fn file_with(alloc: Global, file: File, text: &str, change: &Change) -> Result<Vec<u8>, NoMemory> {
     if file == change.file {
         changed(alloc, text, change.old, change.new)
@@ -180,7 +180,7 @@ const fn stock(old: &'static str, new: &'static str, fault: StockFault) -> Chang
     }
 }
 
-// The place of the first change that isn't refused as it should be.
+/// The place of the first change that isn't refused as it should be.
 fn first_wrong(alloc: Global, changes: &[Change]) -> Result<Option<usize>, NoMemory> {
     for i in 0..changes.len() {
         if refusal_of(alloc, &changes[i])? != Some(changes[i].wanted) {
@@ -435,7 +435,7 @@ fn refuses_rates_and_stocks(rt: HostRuntime) -> Result<(), Fail> {
     Ok(())
 }
 
-// What a row of rates holds: demand, repair here, share and days.
+/// What a row of rates holds: demand, repair here, share and days.
 fn numbers_at(case: &Case, part: u16, site: u8) -> Option<(u32, u16, u16, u32)> {
     if part >= case.part_count() || site >= case.site_count() {
         return None;
@@ -444,7 +444,7 @@ fn numbers_at(case: &Case, part: u16, site: u8) -> Option<(u32, u16, u16, u32)> 
     Some((row.demand, row.repair_here, row.share, row.repair_days))
 }
 
-// What a site holds: its name, systems and days of shipment.
+/// What a site holds: its name, systems and days of shipment.
 fn site_at(case: &Case, site: u8) -> Option<(&[u8], u32, u32)> {
     if site >= case.site_count() {
         return None;
@@ -453,7 +453,7 @@ fn site_at(case: &Case, site: u8) -> Option<(&[u8], u32, u32)> {
     Some((row.name.as_bytes(), row.systems, row.ship))
 }
 
-// What a part holds: cost, how many in a system, weight, and its limits at the depot and at a base.
+/// What a part holds: cost, how many in a system, weight, and its limits at the depot and at a base.
 fn part_at(case: &Case, part: u16) -> Option<(u32, u32, u8, u8, u8)> {
     if part >= case.part_count() || case.site_count() < 2 {
         return None;

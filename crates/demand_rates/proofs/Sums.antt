@@ -7,13 +7,15 @@ use Rattle.std.proofs.lemmas.List.Sums.{sum_by-cons}
 alone : (a : ℕ) → a ≡ a + 0
 alone a = omega arith
 
-later : (a n : ℕ) → a + 1 + n ≡ a + suc n
+-- the 1 may be taken to either number
+pub later : (a n : ℕ) → a + 1 + n ≡ a + suc n
 later a n = omega arith
 
-pub sum-more : (g : ℕ → ℕ) (a n : ℕ) → sum_by g (range_with_len a (suc n)) ≡ sum_by g (range_with_len a n) + g (a + n)
-sum-more g a zero = omega (arith, sum_by-cons g a [], ap g (alone a))
-sum-more g a (suc n) =
-    omega (arith, sum_by-cons g a (range_with_len (a + 1) (suc n)), sum_by-cons g a (range_with_len (a + 1) n), sum-more g (a + 1) n, ap g (later a n))
+-- a sum over one number more has one term more
+pub sum_more : (g : ℕ → ℕ) (a n : ℕ) → sum_by g (range_with_len a (suc n)) ≡ sum_by g (range_with_len a n) + g (a + n)
+sum_more g a zero = omega (arith, sum_by-cons g a [], ap g (alone a))
+sum_more g a (suc n) =
+    omega (arith, sum_by-cons g a (range_with_len (a + 1) (suc n)), sum_by-cons g a (range_with_len (a + 1) n), sum_more g (a + 1) n, ap g (later a n))
 
 -- a loop's sum over the bases below k, with one more
 pub grown : (g : ℕ → ℕ) (k sum term : ℕ) → 1 ≤ k → sum ≡ sum_by g (range_with_len 1 (k - 1)) → term ≡ g k → sum + term ≡ sum_by g (range_with_len 1 (k + 1 - 1))
@@ -23,12 +25,12 @@ grown g (suc n) sum term l h t =
     let after : suc n + 1 - 1 ≡ suc n = omega arith in
     let place : 1 + n ≡ suc n = omega arith in
     rw after
-    (omega (arith, h ∙ ap (λ m. sum_by g (range_with_len 1 m)) before, t, sum-more g 1 n, ap g place))
+    (omega (arith, h ∙ ap (λ m. sum_by g (range_with_len 1 m)) before, t, sum_more g 1 n, ap g place))
 
-pub sum-most : (g : ℕ → ℕ) (b a n : ℕ) → ((k : ℕ) → g k ≤ b) → sum_by g (range_with_len a n) ≤ n * b
-sum-most g b a zero h = omega arith
-sum-most g b a (suc n) h = omega (arith, sum_by-cons g a (range_with_len (a + 1) n), h a, sum-most g b (a + 1) n h)
+pub sum_most : (g : ℕ → ℕ) (b a n : ℕ) → ((k : ℕ) → g k ≤ b) → sum_by g (range_with_len a n) ≤ n * b
+sum_most g b a zero h = omega arith
+sum_most g b a (suc n) h = omega (arith, sum_by-cons g a (range_with_len (a + 1) n), h a, sum_most g b (a + 1) n h)
 
 -- fifteen bases at most
-pub sum-few : (g : ℕ → ℕ) (b n : ℕ) → n ≤ 15 → ((k : ℕ) → g k ≤ b) → sum_by g (range_with_len 1 n) ≤ 15 * b
-sum-few g b n h each = omega (arith, sum-most g b 1 n each, mul-le-mul_right b h)
+pub sum_few : (g : ℕ → ℕ) (b n : ℕ) → n ≤ 15 → ((k : ℕ) → g k ≤ b) → sum_by g (range_with_len 1 n) ≤ 15 * b
+sum_few g b n h each = omega (arith, sum_most g b 1 n each, mul-le-mul_right b h)

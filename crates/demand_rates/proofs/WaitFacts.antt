@@ -1,10 +1,10 @@
 -- What shop units add, as a loop over the parts adds it up.
-use Rattle.std.proofs.Common.{◌≡◌, ◌≢◌, ℕ, zero, suc, ◌+◌, ◌*◌, ◌<◌, ◌≤◌, ◌⊎◌, Bool, true, false, cond, List, [], ◌∷◌, ◌++◌, length, map, filter, get_or, replicate, sum_by, bytes_eq, Option, Some, None, is_none, inl, inr, refl, sym, ap, ◌∙◌, subst, arith, add-one, le_trans, mul-le-mul_right}
+use Rattle.std.proofs.Common.{◌≡◌, ◌≢◌, ℕ, zero, suc, ◌+◌, ◌*◌, ◌<◌, ◌≤◌, Bool, true, false, cond, List, [], ◌∷◌, ◌++◌, length, map, filter, get_or, replicate, sum_by, bytes_eq, Option, Some, None, inl, inr, refl, sym, ap, ◌∙◌, subst, arith, add-one, le_trans, mul-le-mul_right, zero-add}
 use Rattle.std.specs.List.{range_with_len}
 use Rattle.std.specs.Option.{option_map_or, option_and_then}
 use Rattle.std.proofs.Math.ListN.{set, length-set}
 use Rattle.std.proofs.Math.Seq.{get_or-append_seam}
-use Rattle.std.proofs.lemmas.Bool.{cases_Bool, false≢true}
+use Rattle.std.proofs.lemmas.Bool.{cases_Bool, cases_lt, cases_eq}
 use Rattle.std.proofs.lemmas.List.{get_or-map, length-map, get_or-replicate, get_or-set_same, get_or-set_other, get_or_past, get_or_append_left, map-append}
 use Rattle.std.proofs.lemmas.Grind.{get_or_default_zero}
 use Rattle.std.proofs.lemmas.List.Quantifiers.{position-Some}
@@ -14,21 +14,20 @@ use Rattle.spares_input.specs.Rows.{is_line, no_part}
 use Rattle.spares_input.specs.Frames.{is_shop_of, line_of, part_at, part_names, place_of}
 use Rattle.spares_input.specs.Cases.{CaseRows, IsCase, rate_at}
 use Rattle.spares_input.specs.declared.rows.PartRow.{PartRow}
+use Rattle.spares_input.proofs.Standing.{no_shop_at}
 use Rattle.fleet_model.proofs.FrameLaws.{same_part}
 use Rattle.fleet_model.specs.Rows.{shop_units}
 use Rattle.fleet_model.specs.Units.{demand_00, direct_units_00, needed_i0, zero_stock_units_00}
 use Rattle.demand_rates.specs.declared.kinds.PairRates.{PairRates}
 use Rattle.demand_rates.specs.Rates.{rates_of_pair}
 use Rattle.demand_rates.specs.Waits.{shops_below, wait, wait_most, wait_sum, AreWaits}
+use Rattle.demand_rates.proofs.Sums.{later}
 
 -- ---- whose shop unit a part is
 
-not_of_none : (line : PartRow) (o : Option (List ℕ)) → is_none o ≡ true → option_map_or (bytes_eq line.name) o false ≡ false
-not_of_none line None h = refl
-not_of_none line (Some x) h = absurd (false≢true h)
-
-pub line-of_none : (line r : PartRow) → is_line r ≡ true → is_shop_of line r ≡ false
-line-of_none line r h = not_of_none line r.parent h
+-- a line unit is a shop unit of none
+pub line_of_none : (line r : PartRow) → is_line r ≡ true → is_shop_of line r ≡ false
+line_of_none line r h = no_shop_at line r.parent h
 
 -- a line unit's name, by the name of a shop unit's parent
 named : (c : CaseRows) (l : ℕ) (o : Option (List ℕ)) → option_and_then (λ name. place_of name (part_names c.parts)) o ≡ Some l
@@ -39,17 +38,18 @@ named c l (Some name) h =
     let within : l < length c.parts = omega (arith, found.0, length-map c.parts (λ (r : PartRow). r.name)) in
     (name, refl, sym ((bytes_eq-Decides name (get_or (part_names c.parts) l [])).0 found.1 ∙ get_or-map (λ (r : PartRow). r.name) c.parts l no_part [] within))
 
-pub own-shop : (c : CaseRows) (p l : ℕ) → line_of c.parts p ≡ Some l → is_shop_of (part_at c.parts l) (part_at c.parts p) ≡ true
-own-shop c p l h =
+pub own_shop : (c : CaseRows) (p l : ℕ) → line_of c.parts p ≡ Some l → is_shop_of (part_at c.parts l) (part_at c.parts p) ≡ true
+own_shop c p l h =
     let n = named c l (part_at c.parts p).parent h in
     ap (λ o. option_map_or (bytes_eq (part_at c.parts l).name) o false) n.1 ∙ (bytes_eq-Decides (part_at c.parts l).name n.0).1 n.2
 
 named_alike : (name : List ℕ) (q : PartRow) (o : Option (List ℕ)) → o ≡ Some name → option_map_or (bytes_eq q.name) o false ≡ true → q.name ≡ name
 named_alike name q o e h = (bytes_eq-Decides q.name name).0 (subst (λ o. option_map_or (bytes_eq q.name) o false ≡ true) e h)
 
-pub other-shop : (c : CaseRows) (p l q : ℕ) → IsCase c → line_of c.parts p ≡ Some l → l < length c.parts → q < length c.parts → q ≢ l
+-- a shop unit of one line unit is none of another part
+pub other_shop : (c : CaseRows) (p l q : ℕ) → IsCase c → line_of c.parts p ≡ Some l → l < length c.parts → q < length c.parts → q ≢ l
     → is_shop_of (part_at c.parts q) (part_at c.parts p) ≡ false
-other-shop c p l q h e wl wq ne =
+other_shop c p l q h e wl wq ne =
     let n = named c l (part_at c.parts p).parent e in
     elim (cases_Bool (is_shop_of (part_at c.parts q) (part_at c.parts p))) [
       | inl t ↦ absurd (ne (same_part c q l h.frame wq wl (named_alike n.0 (part_at c.parts q) (part_at c.parts p).parent n.1 t ∙ sym n.2)))
@@ -60,9 +60,6 @@ other-shop c p l q h e wl wq ne =
 
 alone : (a : ℕ) → a ≡ a + 0
 alone a = omega arith
-
-later : (a n : ℕ) → a + 1 + n ≡ a + suc n
-later a n = omega arith
 
 kept_step : (b : Bool) (x : ℕ) (xs ys : List ℕ) → cond b (x ∷ (xs ++ ys)) (xs ++ ys) ≡ cond b (x ∷ xs) xs ++ ys
 kept_step true x xs ys = refl
@@ -82,16 +79,13 @@ one_sum : (g : ℕ → ℕ) (b : Bool) (x : ℕ) → sum_by g (cond b (x ∷ [])
 one_sum g true x = sum_by-cons g x [] ∙ omega arith
 one_sum g false x = refl
 
-from_zero : (n : ℕ) → 0 + n ≡ n
-from_zero n = omega arith
-
-sum-more : (g : ℕ → ℕ) (t : ℕ → Bool) (n : ℕ) → sum_by g (filter t (range_with_len 0 (n + 1))) ≡ sum_by g (filter t (range_with_len 0 n)) + cond (t n) (g n) 0
-sum-more g t n =
+sum_more : (g : ℕ → ℕ) (t : ℕ → Bool) (n : ℕ) → sum_by g (filter t (range_with_len 0 (n + 1))) ≡ sum_by g (filter t (range_with_len 0 n)) + cond (t n) (g n) 0
+sum_more g t n =
     ap (λ m. sum_by g (filter t (range_with_len 0 m))) (add-one n)
     ∙ ap (λ xs. sum_by g xs) (listed t 0 n)
     ∙ sum_by-append g (filter t (range_with_len 0 n)) (cond (t (0 + n)) ((0 + n) ∷ []) [])
     ∙ ap (λ m. sum_by g (filter t (range_with_len 0 n)) + m) (one_sum g (t (0 + n)) (0 + n))
-    ∙ ap (λ x. sum_by g (filter t (range_with_len 0 n)) + cond (t x) (g x) 0) (from_zero n)
+    ∙ ap (λ x. sum_by g (filter t (range_with_len 0 n)) + cond (t x) (g x) 0) (zero-add n)
 
 -- the sums over the parts below p, as they stand in a loop
 pub record AreWaitsBelow (c : CaseRows) (k p : ℕ) (sums : List ℕ) : Type 0 where
@@ -99,78 +93,74 @@ pub record AreWaitsBelow (c : CaseRows) (k p : ℕ) (sums : List ℕ) : Type 0 w
   pub each : (q : ℕ) → q < length c.parts → get_or sums q 0 ≡ sum_by (wait c q k) (shops_below c q p)
   pub small : (q : ℕ) → get_or sums q 0 ≤ p * wait_most k
 
-in_or_past : (i m : ℕ) → (i < m) ⊎ (m ≤ i)
-in_or_past i m = grind arith
-
 zero_at : (n q : ℕ) (xs : List ℕ) → xs ≡ replicate n 0 → length xs ≡ n → get_or xs q 0 ≡ 0
-zero_at n q xs e l = elim (in_or_past q n) [
+zero_at n q xs e l = elim (cases_lt q n) [
   | inl i ↦ ap (λ ys. get_or ys q 0) e ∙ get_or-replicate n q 0 0 i
   | inr i ↦ get_or_past xs q 0 (omega (arith, l, i))
 ]
 
-pub waits-none : (c : CaseRows) (k n : ℕ) (xs : List ℕ) → n ≡ length c.parts → xs ≡ replicate n 0 → length xs ≡ n → AreWaitsBelow c k 0 xs
-waits-none c k n xs e all l = record {
+pub waits_none : (c : CaseRows) (k n : ℕ) (xs : List ℕ) → n ≡ length c.parts → xs ≡ replicate n 0 → length xs ≡ n → AreWaitsBelow c k 0 xs
+waits_none c k n xs e all l = record {
   count = l ∙ e;
   each = λ q w. zero_at n q xs all l;
   small = λ q. omega (arith, zero_at n q xs all l);
 }
 
-pub waits-same : (c : CaseRows) (k p : ℕ) (xs : List ℕ) → is_line (part_at c.parts p) ≡ true → AreWaitsBelow c k p xs → AreWaitsBelow c k (p + 1) xs
-waits-same c k p xs line h = record {
+-- a line unit adds nothing to the waits of the parts so far
+pub waits_same : (c : CaseRows) (k p : ℕ) (xs : List ℕ) → is_line (part_at c.parts p) ≡ true → AreWaitsBelow c k p xs → AreWaitsBelow c k (p + 1) xs
+waits_same c k p xs line h = record {
   count = h.count;
   each = λ q w.
       h.each q w ∙ alone (sum_by (wait c q k) (shops_below c q p))
-      ∙ ap (λ b. sum_by (wait c q k) (shops_below c q p) + cond b (wait c q k p) 0) (sym (line-of_none (part_at c.parts q) (part_at c.parts p) line))
-      ∙ sym (sum-more (wait c q k) (λ i. is_shop_of (part_at c.parts q) (part_at c.parts i)) p);
+      ∙ ap (λ b. sum_by (wait c q k) (shops_below c q p) + cond b (wait c q k p) 0) (sym (line_of_none (part_at c.parts q) (part_at c.parts p) line))
+      ∙ sym (sum_more (wait c q k) (λ i. is_shop_of (part_at c.parts q) (part_at c.parts i)) p);
   small = λ q. omega (arith, h.small q);
 }
-
-same_or_other : (q l : ℕ) → (q ≡ l) ⊎ (q ≢ l)
-same_or_other q l = grind arith
 
 added_at : (c : CaseRows) (k p l w : ℕ) (xs : List ℕ) → line_of c.parts p ≡ Some l → l < length c.parts → w ≡ wait c l k p → AreWaitsBelow c k p xs
     → get_or xs l 0 + w ≡ sum_by (wait c l k) (shops_below c l (p + 1))
 added_at c k p l w xs e wl t h =
     ap (λ n. n + w) (h.each l wl) ∙ ap (λ n. sum_by (wait c l k) (shops_below c l p) + n) t
-    ∙ ap (λ b. sum_by (wait c l k) (shops_below c l p) + cond b (wait c l k p) 0) (sym (own-shop c p l e))
-    ∙ sym (sum-more (wait c l k) (λ i. is_shop_of (part_at c.parts l) (part_at c.parts i)) p)
+    ∙ ap (λ b. sum_by (wait c l k) (shops_below c l p) + cond b (wait c l k p) 0) (sym (own_shop c p l e))
+    ∙ sym (sum_more (wait c l k) (λ i. is_shop_of (part_at c.parts l) (part_at c.parts i)) p)
 
 kept_at : (c : CaseRows) (k p l q : ℕ) (xs : List ℕ) → IsCase c → line_of c.parts p ≡ Some l → l < length c.parts → q < length c.parts → q ≢ l
     → AreWaitsBelow c k p xs → get_or xs q 0 ≡ sum_by (wait c q k) (shops_below c q (p + 1))
 kept_at c k p l q xs v e wl wq ne h =
     h.each q wq ∙ alone (sum_by (wait c q k) (shops_below c q p))
-    ∙ ap (λ b. sum_by (wait c q k) (shops_below c q p) + cond b (wait c q k p) 0) (sym (other-shop c p l q v e wl wq ne))
-    ∙ sym (sum-more (wait c q k) (λ i. is_shop_of (part_at c.parts q) (part_at c.parts i)) p)
+    ∙ ap (λ b. sum_by (wait c q k) (shops_below c q p) + cond b (wait c q k p) 0) (sym (other_shop c p l q v e wl wq ne))
+    ∙ sym (sum_more (wait c q k) (λ i. is_shop_of (part_at c.parts q) (part_at c.parts i)) p)
 
-pub waits-more : (c : CaseRows) (k p l w : ℕ) (xs : List ℕ) → IsCase c → line_of c.parts p ≡ Some l → l < length c.parts → w ≡ wait c l k p → w ≤ wait_most k
+pub waits_more : (c : CaseRows) (k p l w : ℕ) (xs : List ℕ) → IsCase c → line_of c.parts p ≡ Some l → l < length c.parts → w ≡ wait c l k p → w ≤ wait_most k
     → AreWaitsBelow c k p xs → AreWaitsBelow c k (p + 1) (set xs l (get_or xs l 0 + w))
-waits-more c k p l w xs v e wl t most h =
+waits_more c k p l w xs v e wl t most h =
     let within : l < length xs = omega (arith, h.count, wl) in
     record {
       count = length-set xs l (get_or xs l 0 + w) ∙ h.count;
-      each = λ q wq. elim (same_or_other q l) [
+      each = λ q wq. elim (cases_eq q l) [
         | inl s ↦ subst (λ m. get_or (set xs l (get_or xs l 0 + w)) m 0 ≡ sum_by (wait c m k) (shops_below c m (p + 1))) (sym s)
             (get_or-set_same xs l (get_or xs l 0 + w) 0 within ∙ added_at c k p l w xs e wl t h)
         | inr ne ↦ get_or-set_other xs l q (get_or xs l 0 + w) 0 ne ∙ kept_at c k p l q xs v e wl wq ne h
       ];
-      small = λ q. elim (same_or_other q l) [
+      small = λ q. elim (cases_eq q l) [
         | inl s ↦ subst (λ m. get_or (set xs l (get_or xs l 0 + w)) m 0 ≤ (p + 1) * wait_most k) (sym s)
             (omega (arith, get_or-set_same xs l (get_or xs l 0 + w) 0 within, h.small l, most))
         | inr ne ↦ omega (arith, get_or-set_other xs l q (get_or xs l 0 + w) 0 ne, h.small q)
       ];
     }
 
-pub waits-written : (c : CaseRows) (k p l w now : ℕ) (xs ys : List ℕ) → IsCase c → Some l ≡ line_of c.parts p → l < length c.parts
+-- a shop unit adds its wait to the sum of its line unit alone
+pub waits_written : (c : CaseRows) (k p l w now : ℕ) (xs ys : List ℕ) → IsCase c → Some l ≡ line_of c.parts p → l < length c.parts
     → w ≡ wait c l k p → w ≤ wait_most k → now ≡ get_or xs l now → ys ≡ set xs l (now + w) → AreWaitsBelow c k p xs → AreWaitsBelow c k (p + 1) ys
-waits-written c k p l w now xs ys v e wl t most read written h =
+waits_written c k p l w now xs ys v e wl t most read written h =
     let at : now ≡ get_or xs l 0 = read ∙ get_or_default_zero xs l now (omega (arith, h.count, wl)) in
-    subst (λ zs. AreWaitsBelow c k (p + 1) zs) (sym (written ∙ ap (λ n. set xs l (n + w)) at)) (waits-more c k p l w xs v (sym e) wl t most h)
+    subst (λ zs. AreWaitsBelow c k (p + 1) zs) (sym (written ∙ ap (λ n. set xs l (n + w)) at)) (waits_more c k p l w xs v (sym e) wl t most h)
 
 few_times : (p m : ℕ) → p ≤ 2000 → p * m ≤ 2000 * m
 few_times p m h = mul-le-mul_right m h
 
-pub waits-all : (c : CaseRows) (k p : ℕ) (xs : List ℕ) → IsCase c → p ≡ length c.parts → AreWaitsBelow c k p xs → AreWaits c k xs
-waits-all c k p xs v e h = record {
+pub waits_all : (c : CaseRows) (k p : ℕ) (xs : List ℕ) → IsCase c → p ≡ length c.parts → AreWaitsBelow c k p xs → AreWaits c k xs
+waits_all c k p xs v e h = record {
   count = h.count;
   each = λ q w. h.each q w ∙ ap (λ n. sum_by (wait c q k) (shops_below c q n)) e;
   small = λ q. le_trans (h.small q) (few_times p (wait_most k) (omega (arith, e, v.frame.most_parts)));
@@ -178,14 +168,15 @@ waits-all c k p xs v e h = record {
 
 -- ---- site by site
 
-pub waits-pushed : {V : Type 0} (f : V → List ℕ) (c : CaseRows) (k : ℕ) (xs ys : List V) (x : V) → ys ≡ xs ++ x ∷ [] → length xs ≡ k
+-- with the sums of the next site appended, each site so far has the sums of its own
+pub waits_pushed : {V : Type 0} (f : V → List ℕ) (c : CaseRows) (k : ℕ) (xs ys : List V) (x : V) → ys ≡ xs ++ x ∷ [] → length xs ≡ k
     → ((j : ℕ) → j < k → AreWaits c j (get_or (map f xs) j [])) → AreWaits c k (f x)
     → (j : ℕ) → j < k + 1 → AreWaits c j (get_or (map f ys) j [])
-waits-pushed f c k xs ys x e n before here j l =
+waits_pushed f c k xs ys x e n before here j l =
     let image : map f ys ≡ map f xs ++ f x ∷ [] = ap (λ zs. map f zs) e ∙ map-append f xs (x ∷ []) in
     let count : length (map f xs) ≡ k = length-map xs f ∙ n in
     subst (λ zs. AreWaits c j (get_or zs j [])) (sym image)
-    (elim (same_or_other j k) [
+    (elim (cases_eq j k) [
       | inl s ↦ subst (λ m. AreWaits c m (get_or (map f xs ++ f x ∷ []) m [])) (sym s)
           (subst (λ zs. AreWaits c k zs) (sym (ap (λ m. get_or (map f xs ++ f x ∷ []) m []) (sym count) ∙ get_or-append_seam (map f xs) (f x) [] [])) here)
       | inr ne ↦ subst (λ zs. AreWaits c j zs) (sym (get_or_append_left (map f xs) (f x ∷ []) [] j (omega (arith, count, l, ne)))) (before j (omega (arith, l, ne)))
@@ -206,9 +197,10 @@ depot_mean c l =
     (factored (λ i. needed_i0 c l i * (rate_at c i 0).repair_days * 10000) (wait c l 0) (demand_00 c l) 10000 (shop_units c l)
     (λ i. each_factored (demand_00 c l) (rate_at c i 0).share (rate_at c i 0).repair_days))
 
-pub depot-line : (c : CaseRows) (l direct demand wait : ℕ) → demand ≡ demand_00 c l → direct ≡ direct_units_00 c l → wait ≡ wait_sum c l 0
+-- demand, direct part and the waits of its shop units make the rates of a line unit at the depot
+pub depot_line_holds : (c : CaseRows) (l direct demand wait : ℕ) → demand ≡ demand_00 c l → direct ≡ direct_units_00 c l → wait ≡ wait_sum c l 0
     → ◌≡◌ {A = PairRates} (record { demand = record { num = demand; den = 100000000 }; share = record { num = 1; den = 1 }; direct = direct; zero_stock = direct + demand * wait * 10000 })
     (rates_of_pair c None l 0)
-depot-line c l direct demand wait d e w =
+depot_line_holds c l direct demand wait d e w =
     let mean : direct + demand * wait * 10000 ≡ zero_stock_units_00 c l = rw (d, e, w) (sym (depot_mean c l)) in
     λ i. record { demand = record { num = d i; den = 100000000 }; share = record { num = 1; den = 1 }; direct = e i; zero_stock = mean i }

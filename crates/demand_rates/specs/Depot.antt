@@ -6,8 +6,8 @@ use Rattle.spares_input.specs.Cases.{CaseRows}
 use Rattle.fleet_model.specs.Rows.{all_parts}
 use Rattle.fleet_model.specs.Units.{demand_units}
 
--- the demand of each part, in the unit of its level: at most 15 bases' of a line unit, in 10^-8, and of a shop unit what
--- these send on and what the depot's repairs need, in 10^-16
+-- the demand of each part, in the unit of its level: at most 15 bases' of a line unit, in 10^-8, and of a shop unit
+-- what these send on and what the depot's repairs need, in 10^-16
 pub record AreDepotDemands (c : CaseRows) (demands : List ℕ) : Type 0 where
   pub all : demands ≡ map (λ p. demand_units c p 0) (all_parts c)
   pub lines : (p : ℕ) → p < length c.parts → is_line (part_at c.parts p) ≡ true → get_or demands p 0 ≤ 150000000000000

@@ -24,8 +24,8 @@ pub record IsRate (r : RateRow) : Type 0 where
 abbrev pub in_days : ℕ → Ratio
 in_days n = record { num = n; den = pipeline_scale }
 
--- the first rule that a pipeline breaks by its demand, its direct part D and its zero-stock mean M: a demand above 0 with
--- D < 1/10,000,000; M > 256; M > 1024 * D
+-- the first rule that a pipeline breaks by its demand, its direct part D and its zero-stock mean M: a demand above 0
+-- with D < 1/10,000,000; M > 256; M > 1024 * D
 abbrev pub pipeline_rule : Place → ℕ → ℕ → ℕ → Option RateFault
 pipeline_rule at demand direct mean =
     if nat_lt 0 demand && nat_lt (direct * 10000000) pipeline_scale then Some (ThinPipeline at (in_days direct))
@@ -33,9 +33,11 @@ pipeline_rule at demand direct mean =
     else if nat_lt (1024 * direct) mean then Some (PipelineRatio at (in_days mean) (in_days direct))
     else None
 
+-- the rule that a pair of the case breaks
 abbrev pub pair_fault : CaseRows → PartId → SiteId → Option RateFault
 pair_fault c part site =
-    pipeline_rule (Pair part site) (demand_units c part.0 site.0) (direct_units c part.0 site.0) (zero_stock_units c part.0 site.0)
+    pipeline_rule (Pair part site) (demand_units c part.0 site.0) (direct_units c part.0 site.0)
+    (zero_stock_units c part.0 site.0)
 
 -- the rule that the pair at place i breaks
 abbrev pub place_fault : CaseRows → ℕ → Option RateFault

@@ -8,9 +8,16 @@ pub record RateList : Type 0 where
   pub sites : ℕ
   pub pairs : List PairRates
 
+-- what a look-up past the last pair answers: zeros
 abbrev pub no_rates : PairRates
-no_rates = record { demand = record { num = 0; den = 1 }; share = record { num = 0; den = 1 }; direct = 0; zero_stock = 0 }
+no_rates = record {
+  demand = record { num = 0; den = 1 };
+  share = record { num = 0; den = 1 };
+  direct = 0;
+  zero_stock = 0;
+}
 
+-- the rates of part p at site k
 abbrev pub rates_at : RateList → ℕ → ℕ → PairRates
 rates_at r p k = get_or r.pairs (pair_place r.sites p k) no_rates
 

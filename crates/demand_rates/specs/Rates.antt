@@ -28,9 +28,11 @@ rates_of_pair c o p k = record {
   zero_stock = zero_stock_of c o p k;
 }
 
+-- those of part p at site k
 abbrev pub pair_rates : CaseRows → ℕ → ℕ → PairRates
 pair_rates c p k = rates_of_pair c (line_of c.parts p) p k
 
+-- those of the pair at place i
 abbrev pub place_rates : CaseRows → ℕ → PairRates
 place_rates c i = pair_rates c (part_of_place (length c.sites) i).0 (site_of_place (length c.sites) i).0
 

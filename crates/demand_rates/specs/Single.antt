@@ -14,6 +14,7 @@ ten_thousandths n = record { num = n; den = 10000 }
 abbrev pub limit : ℕ
 limit = 256 * 10000
 
+-- the refusal of a mean or a variance above the limit
 abbrev pub limit_fault_of : ℕ → Option RateFault
 limit_fault_of n = if nat_lt limit n then Some (PipelineTooLarge Single (ten_thousandths n)) else None
 

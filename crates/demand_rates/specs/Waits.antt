@@ -1,4 +1,5 @@
--- What the shop units of a line unit add to its zero-stock mean at a site: a step of the computation, on which no promise rests.
+-- What the shop units of a line unit add to its zero-stock mean at a site: a step of the computation, on which no
+-- promise rests.
 use Rattle.std.specs.Prelude.{◌≡◌, ℕ, zero, suc, ◌*◌, ◌<◌, ◌≤◌, List, [], length, get_or, filter, sum_by}
 use Rattle.std.specs.List.{range_with_len}
 use Rattle.spares_input.specs.Frames.{part_at, is_shop_of}

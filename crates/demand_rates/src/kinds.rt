@@ -54,8 +54,8 @@ impl Rates {
         &self.pairs[part.0 as usize * self.sites as usize + site.0 as usize]
     }
 
-    /// The demand of a pair, in demands a year. Its denominator is that of its level: 10^4 for a line unit at a base, 10^8
-    /// for a line unit at the depot, 10^12 for a shop unit at a base, 10^16 for a shop unit at the depot.
+    /// The demand of a pair, in demands a year. Its denominator is that of its level: 10^4 for a line unit at a base,
+    /// 10^8 for a line unit at the depot, 10^12 for a shop unit at a base, 10^16 for a shop unit at the depot.
     pub fn demand(&self, part: PartId, site: SiteId) -> Ratio
         requires { HasRates self.now part.0 site.0 }
         ensures { result ≡ (rates_at self.now part.0 site.0).demand }
@@ -63,9 +63,9 @@ impl Rates {
         self.at(part, site).demand
     }
 
-    /// The share of a pair in the demand at the depot: of a shop unit at the depot, what the depot's own repairs of its line
-    /// unit need; of a part at a base, what the base sends. It isn't reduced, and is 0/1 where its denominator is 0. A line
-    /// unit at the depot has no share, and 1/1 stands for it.
+    /// The share of a pair in the demand at the depot: of a shop unit at the depot, what the depot's own repairs of
+    /// its line unit need; of a part at a base, what the base sends. It isn't reduced, and is 0/1 where its
+    /// denominator is 0. A line unit at the depot has no share, and 1/1 stands for it.
     pub fn share(&self, part: PartId, site: SiteId) -> Ratio
         requires { HasRates self.now part.0 site.0 }
         ensures { result ≡ (rates_at self.now part.0 site.0).share }

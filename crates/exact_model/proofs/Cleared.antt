@@ -4,8 +4,8 @@ use Rattle.std.specs.Int.{◌∣◌}
 use Rattle.std.proofs.Math.Nat.{mul-pos, eq_of_mul-eq-mul_right, dvd_refl, dvd-mul_left, dvd-mul_right_of_dvd, mul-div_cancel', le-suc_iff}
 use Rattle.exact_model.specs.Fraction.{Fraction, whole, ◌≈◌, ◌≤ℚ◌, ◌+ℚ◌, ◌*ℚ◌, sum_below}
 use Rattle.exact_model.specs.Series.{excess, weight, weight_sum, chance, unless_zero, ebo, tail}
-use Rattle.exact_model.proofs.Whole.{total, InProportion, mean_bound, cover, past, short_sum, total-mono}
-use Rattle.exact_model.proofs.Fractions.{over, same, turned, ◌≈≈◌, add-same, sub-same, mul-same, div-same, quotient, add-over, sub-over, div-over, sum-over, positive-same, whole-times, widened, le-same}
+use Rattle.exact_model.proofs.Whole.{total, InProportion, mean_bound, cover, past, short_sum, total_mono}
+use Rattle.exact_model.proofs.Fractions.{over, same, turned, ◌≈≈◌, add_same, sub_same, mul_same, div_same, quotient, add_over, sub_over, div_over, total_over, positive_same, whole_times, widened, le_same}
 
 -- w(0) .. w(n) over one denominator
 pub record Cleared (w : ℕ → Fraction) (n : ℕ) : Type 0 where
@@ -32,6 +32,7 @@ in_dens w (suc n) x h = elim (le-suc_iff.0 h) [
 clear_step : (a d z k : ℕ) → d * k ≡ z → a * z ≡ a * k * d
 clear_step a d z k h = let i : a * (d * k) ≡ a * z = ap (λ y. a * y) h in omega arith
 
+-- the first n + 1 of any fractions stand over one denominator
 pub cleared : (w : ℕ → Fraction) (n : ℕ) → Cleared w n
 cleared w n = record {
   z = dens w n;
@@ -40,6 +41,7 @@ cleared w n = record {
   is = λ x l. record { cross = clear_step (w x).num (w x).den (dens w n) (dens w n / (w x).den) (mul-div_cancel' (w x).den (in_dens w n x l)) };
 }
 
+-- the divisor in a weight's recursion is above 0
 pub divisor_positive : (x : ℕ) (d : Fraction) → 0 < (whole (suc x) *ℚ (whole 1 +ℚ d)).num
 unfolding whole ◌*ℚ◌ ◌+ℚ◌
 divisor_positive x d = mul-pos (zero-lt-suc x) (omega (arith, d.positive))
@@ -62,12 +64,13 @@ proportion_cross : (u d : Fraction) (c0 c1 x z : ℕ) (p : 0 < z)
 unfolding whole ◌*ℚ◌ ◌+ℚ◌
 proportion_cross u d c0 c1 x z p h = proportion_step u.num u.den d.num d.den c0 c1 x z p d.positive (omega (arith, h.cross))
 
+-- weights over one denominator stand in the proportions of the mean and the excess
 pub proportion : (u d : Fraction) (n : ℕ) (k : Cleared (weight u d) n)
     → InProportion (u.num * d.den) (u.den * d.den) (d.num * u.den) k.c n
 proportion u d n k x l = proportion_cross u d (k.c x) (k.c (suc x)) x k.z k.z_positive
-    (mul-same (turned (k.is (suc x) l)) (same (whole (suc x) *ℚ (whole 1 +ℚ d)))
+    (mul_same (turned (k.is (suc x) l)) (same (whole (suc x) *ℚ (whole 1 +ℚ d)))
     ≈≈ weight_step u d x
-    ≈≈ mul-same (k.is x (omega arith)) (same (u +ℚ whole x *ℚ d)))
+    ≈≈ mul_same (k.is x (omega arith)) (same (u +ℚ whole x *ℚ d)))
 
 -- ---- the model's values over whole weights
 
@@ -84,12 +87,14 @@ total_positive c (suc n) h = omega (arith, total_positive c n h)
 pub sum_positive : (u d : Fraction) (n : ℕ) (k : Cleared (weight u d) n) → 0 < total k.c (suc n)
 sum_positive u d n k = total_positive k.c n (first_positive u d n k)
 
-pub weight_sum-is : (u d : Fraction) (n : ℕ) (k : Cleared (weight u d) n) → weight_sum u d n ≈ over (total k.c (suc n)) k.z k.z_positive
+-- the sum of the weights is the sum of the whole ones over their denominator
+pub weight_sum_is : (u d : Fraction) (n : ℕ) (k : Cleared (weight u d) n) → weight_sum u d n ≈ over (total k.c (suc n)) k.z k.z_positive
 unfolding weight_sum
-weight_sum-is u d n k = sum-over (weight u d) k.c k.z k.z_positive (suc n) (λ x l. k.is x (omega arith))
+weight_sum_is u d n k = total_over (weight u d) k.c k.z k.z_positive (suc n) (λ x l. k.is x (omega arith))
 
+-- the sum of the weights is above 0
 pub weight_sum_positive : (u d : Fraction) (n : ℕ) → 0 < (weight_sum u d n).num
-weight_sum_positive u d n = let k = cleared (weight u d) n in positive-same (turned (weight_sum-is u d n k)) (sum_positive u d n k)
+weight_sum_positive u d n = let k = cleared (weight u d) n in positive_same (turned (weight_sum_is u d n k)) (sum_positive u d n k)
 
 pub vanish : (s x y : ℕ) → s ≤ x → (s - x) * y ≡ 0
 vanish s x y h = let e : s - x ≡ 0 = omega arith in rw e (omega arith)
@@ -97,11 +102,13 @@ vanish s x y h = let e : s - x ≡ 0 = omega arith in rw e (omega arith)
 short_step_sum : (s : ℕ) (c : ℕ → ℕ) → total (λ x. (suc s - x) * c x) (suc s) ≡ total (λ x. (s - x) * c x) s + total c (suc s)
 short_step_sum s c = short_sum s c (suc s) (omega arith) ∙ ap (λ z. total (λ x. (s - x) * c x) s + z + total c (suc s)) (vanish s s (c s) (omega arith)) ∙ omega arith
 
+-- the whole weights up to s come to at most those up to n
 pub below_all : (c : ℕ → ℕ) (s n : ℕ) → s ≤ n → total c (suc s) ≤ total c (suc n)
 below_all c s n l =
     let e : n - s + suc s ≡ suc n = omega arith in
-    le_trans (total-mono c (suc s) (n - s)) (le_of_eq (ap (total c) e))
+    le_trans (total_mono c (suc s) (n - s)) (le_of_eq (ap (total c) e))
 
+-- a value that is 0 for an empty pipeline is as it stands where the mean is above 0
 pub unless_positive : (m : ℕ) (q : Fraction) → 0 < m → unless_zero m q ≈ q
 unfolding unless_zero
 unless_positive zero q h = absurd (omega arith)
@@ -123,11 +130,11 @@ module _ (n : ℕ) (u v : Fraction) (k : Cleared (weight u (excess u v)) n) wher
   pub all_positive : 0 < all
   all_positive = sum_positive u d n k
 
-  pub chance-is : (x : ℕ) → x ≤ n → chance n u v x ≈ over (k.c x) all all_positive
+  pub chance_is : (x : ℕ) → x ≤ n → chance n u v x ≈ over (k.c x) all all_positive
   unfolding chance
-  chance-is x l =
-      div-same (weight_sum_positive u d n) (k.is x l) (weight_sum-is u d n k)
-      ≈≈ div-over (k.c x) all k.z k.z_positive all_positive
+  chance_is x l =
+      div_same (weight_sum_positive u d n) (k.is x l) (weight_sum_is u d n k)
+      ≈≈ div_over (k.c x) all k.z k.z_positive all_positive
 
   pub b_all_positive : 0 < b * all
   b_all_positive = mul-pos (mul-pos u.positive d.positive) all_positive
@@ -136,39 +143,39 @@ module _ (n : ℕ) (u v : Fraction) (k : Cleared (weight u (excess u v)) n) wher
   abbrev pub short : ℕ → ℕ
   short s = total (λ x. (s - x) * k.c x) s
 
-  pub mean-is : u ≈ over (a * all) (b * all) b_all_positive
-  mean-is = record { cross = omega arith }
+  pub mean_is : u ≈ over (a * all) (b * all) b_all_positive
+  mean_is = record { cross = omega arith }
 
   -- u + sum over x < s of (s - x) p(x)
-  pub reach-is : (s : ℕ) → s ≤ suc n
+  pub reach_is : (s : ℕ) → s ≤ suc n
       → u +ℚ sum_below (λ x. whole (s - x) *ℚ chance n u v x) s ≈ over (a * all + b * short s) (b * all) b_all_positive
-  reach-is s l =
-      add-same mean-is
-      (sum-over (λ x. whole (s - x) *ℚ chance n u v x) (λ x. (s - x) * k.c x) all all_positive s
-      (λ x h. mul-same (same (whole (s - x))) (chance-is x (omega arith)) ≈≈ whole-times (s - x) (k.c x) all all_positive)
+  reach_is s l =
+      add_same mean_is
+      (total_over (λ x. whole (s - x) *ℚ chance n u v x) (λ x. (s - x) * k.c x) all all_positive s
+      (λ x h. mul_same (same (whole (s - x))) (chance_is x (omega arith)) ≈≈ whole_times (s - x) (k.c x) all all_positive)
       ≈≈ widened b (short s) all all_positive b_all_positive)
-      ≈≈ add-over (a * all) (b * short s) (b * all) b_all_positive
+      ≈≈ add_over (a * all) (b * short s) (b * all) b_all_positive
 
-  pub whole-is : (s : ℕ) → whole s ≈ over (s * (b * all)) (b * all) b_all_positive
+  pub whole_is : (s : ℕ) → whole s ≈ over (s * (b * all)) (b * all) b_all_positive
   unfolding whole
-  whole-is s = record { cross = omega arith }
+  whole_is s = record { cross = omega arith }
 
-  pub ebo-is : 0 < u.num → (s : ℕ) → s ≤ suc n
+  pub ebo_is : 0 < u.num → (s : ℕ) → s ≤ suc n
       → ebo n u v s ≈ over (a * all + b * short s - s * (b * all)) (b * all) b_all_positive
   unfolding ebo
-  ebo-is up s l =
+  ebo_is up s l =
       unless_positive u.num _ up
-      ≈≈ sub-same (reach-is s l) (whole-is s)
-      ≈≈ sub-over (a * all + b * short s) (s * (b * all)) (b * all) b_all_positive
+      ≈≈ sub_same (reach_is s l) (whole_is s)
+      ≈≈ sub_over (a * all + b * short s) (s * (b * all)) (b * all) b_all_positive
 
-  pub tail-is : 0 < u.num → (s : ℕ) → s ≤ n → tail n u v s ≈ over (b * all - b * total k.c (suc s)) (b * all) b_all_positive
+  pub tail_is : 0 < u.num → (s : ℕ) → s ≤ n → tail n u v s ≈ over (b * all - b * total k.c (suc s)) (b * all) b_all_positive
   unfolding tail
-  tail-is up s l =
+  tail_is up s l =
       unless_positive u.num _ up
-      ≈≈ sub-same (whole-is 1 ≈≈ record { cross = omega arith })
-      (sum-over (chance n u v) k.c all all_positive (suc s) (λ x h. chance-is x (omega arith))
+      ≈≈ sub_same (whole_is 1 ≈≈ record { cross = omega arith })
+      (total_over (chance n u v) k.c all all_positive (suc s) (λ x h. chance_is x (omega arith))
       ≈≈ widened b (total k.c (suc s)) all all_positive b_all_positive)
-      ≈≈ sub-over (b * all) (b * total k.c (suc s)) (b * all) b_all_positive
+      ≈≈ sub_over (b * all) (b * total k.c (suc s)) (b * all) b_all_positive
 
   -- the mean with what is short of s is at least s, over whole numbers
   pub reach_bound : (s : ℕ) → s ≤ suc n → s * (b * all) ≤ a * all + b * short s
@@ -184,13 +191,14 @@ module _ (n : ℕ) (u v : Fraction) (k : Cleared (weight u (excess u v)) n) wher
 pub covered : (n : ℕ) (u v : Fraction) (s : ℕ) → s ≤ suc n → whole s ≤ℚ u +ℚ sum_below (λ x. whole (s - x) *ℚ chance n u v x) s
 covered n u v s l =
     let k = cleared (weight u (excess u v)) n in
-    le-same (turned (whole-is n u v k s)) (turned (reach-is n u v k s l))
+    le_same (turned (whole_is n u v k s)) (turned (reach_is n u v k s l))
     (record { cross = mul-le-mul_right (b n u v k * all n u v k) (reach_bound n u v k s l) })
 
 law2_step : (x y s w p t D : ℕ) → t ≡ y + p → p ≤ w → D ≡ w → s * w ≤ x + y → suc s * w ≤ x + t
     → x + y - s * w ≡ (x + t - suc s * w) + (w - p)
 law2_step x y s w p t D h i e j k = omega arith
 
+-- backorders fall by the tail from a stock to the next, over whole weights
 pub falls_whole : (n : ℕ) (u v : Fraction) (k : Cleared (weight u (excess u v)) n) (s : ℕ) → s ≤ n
     → a n u v k * all n u v k + b n u v k * short n u v k s - s * (b n u v k * all n u v k)
     ≡ (a n u v k * all n u v k + b n u v k * short n u v k (suc s) - suc s * (b n u v k * all n u v k))
@@ -206,10 +214,10 @@ falls_whole n u v k s l =
 falls_positive : (n : ℕ) (u v : Fraction) → 0 < u.num → (s : ℕ) → s ≤ n → ebo n u v s ≈ ebo n u v (suc s) +ℚ tail n u v s
 falls_positive n u v up s l =
     let k = cleared (weight u (excess u v)) n in
-    ebo-is n u v k up s (omega arith)
+    ebo_is n u v k up s (omega arith)
     ≈≈ record { cross = ap (λ z. z * (b n u v k * all n u v k)) (falls_whole n u v k s l) }
-    ≈≈ turned (add-over _ _ (b n u v k * all n u v k) (b_all_positive n u v k))
-    ≈≈ add-same (turned (ebo-is n u v k up (suc s) (omega arith))) (turned (tail-is n u v k up s l))
+    ≈≈ turned (add_over _ _ (b n u v k * all n u v k) (b_all_positive n u v k))
+    ≈≈ add_same (turned (ebo_is n u v k up (suc s) (omega arith))) (turned (tail_is n u v k up s l))
 
 pub falls_zero : (m : ℕ) (q r t : Fraction) → m ≡ 0 → unless_zero m q ≈ unless_zero m r +ℚ unless_zero m t
 unfolding unless_zero whole ◌+ℚ◌

@@ -4,8 +4,8 @@ use Rattle.std.proofs.Math.Nat.{mul-pos}
 use Rattle.exact_model.specs.Fraction.{Fraction, whole, ◌≈◌, ◌+ℚ◌, ◌-ℚ◌, ◌*ℚ◌, larger}
 use Rattle.exact_model.specs.Series.{excess, weight, chance, unless_zero, ebo, tail, second, vbo, raised, lowered}
 use Rattle.exact_model.proofs.Whole.{total, square_sum, spread_balance, spread_whole}
-use Rattle.exact_model.proofs.Fractions.{over, same, turned, ◌≈≈◌, add-same, sub-same, mul-same, add-over, sub-over, sum-over, whole-times, widened, lifted, product-lifted, whole-over, fraction-lifted}
-use Rattle.exact_model.proofs.Cleared.{Cleared, cleared, a, b, all, all_positive, b_all_positive, short, mean-is, chance-is, ebo-is, tail-is, unless_positive, falls_whole, below_all, reach_bound}
+use Rattle.exact_model.proofs.Fractions.{over, same, turned, ◌≈≈◌, add_same, sub_same, mul_same, add_over, sub_over, total_over, whole_times, widened, lifted, product_lifted, whole_over, fraction_lifted}
+use Rattle.exact_model.proofs.Cleared.{Cleared, cleared, a, b, all, all_positive, b_all_positive, short, mean_is, chance_is, ebo_is, tail_is, unless_positive, falls_whole, below_all, reach_bound}
 
 square_step_sum : (s : ℕ) (c : ℕ → ℕ)
     → total (λ x. (suc s - x) * (suc s - x) * c x) (suc s) ≡ total (λ x. (s - x) * (s - x) * c x) s + 2 * total (λ x. (s - x) * c x) s + total c (suc s)
@@ -43,33 +43,33 @@ module _ (n : ℕ) (u v : Fraction) (k : Cleared (weight u (excess u v)) n) (up 
   abbrev e : ℕ → ℕ
   e s = U + b n u v k * short n u v k s - s * D
 
-  second-is : (s : ℕ) → s ≤ suc n
+  second_is : (s : ℕ) → s ≤ suc n
       → second n u v s ≈ over (m + s * s * (w * (D * D)) - 2 * s * (w * (D * U)) - w * (D * (b n u v k * square s))) (w * (D * D)) Fp
   unfolding second
-  second-is s l =
-      sub-same
-      (sub-same
-      (add-same
-      (add-same (fraction-lifted (larger v u) (D * D) Fp)
-      (mul-same (mean-is n u v k) (mean-is n u v k) ≈≈ product-lifted U U D w Dp Fp)
-      ≈≈ add-over ((larger v u).num * (D * D)) (w * (U * U)) (w * (D * D)) Fp)
-      (whole-over (s * s) (w * (D * D)) Fp)
-      ≈≈ add-over m (s * s * (w * (D * D))) (w * (D * D)) Fp)
-      (mul-same (same (whole (2 * s))) (mean-is n u v k ≈≈ lifted U D w Dp Fp) ≈≈ whole-times (2 * s) (w * (D * U)) (w * (D * D)) Fp)
-      ≈≈ sub-over (m + s * s * (w * (D * D))) (2 * s * (w * (D * U))) (w * (D * D)) Fp)
-      (sum-over (λ x. whole ((s - x) * (s - x)) *ℚ chance n u v x) (λ x. (s - x) * (s - x) * k.c x) (all n u v k) (all_positive n u v k) s
-      (λ x h. mul-same (same (whole ((s - x) * (s - x)))) (chance-is n u v k x (omega arith)) ≈≈ whole-times ((s - x) * (s - x)) (k.c x) (all n u v k) (all_positive n u v k))
+  second_is s l =
+      sub_same
+      (sub_same
+      (add_same
+      (add_same (fraction_lifted (larger v u) (D * D) Fp)
+      (mul_same (mean_is n u v k) (mean_is n u v k) ≈≈ product_lifted U U D w Dp Fp)
+      ≈≈ add_over ((larger v u).num * (D * D)) (w * (U * U)) (w * (D * D)) Fp)
+      (whole_over (s * s) (w * (D * D)) Fp)
+      ≈≈ add_over m (s * s * (w * (D * D))) (w * (D * D)) Fp)
+      (mul_same (same (whole (2 * s))) (mean_is n u v k ≈≈ lifted U D w Dp Fp) ≈≈ whole_times (2 * s) (w * (D * U)) (w * (D * D)) Fp)
+      ≈≈ sub_over (m + s * s * (w * (D * D))) (2 * s * (w * (D * U))) (w * (D * D)) Fp)
+      (total_over (λ x. whole ((s - x) * (s - x)) *ℚ chance n u v x) (λ x. (s - x) * (s - x) * k.c x) (all n u v k) (all_positive n u v k) s
+      (λ x h. mul_same (same (whole ((s - x) * (s - x)))) (chance_is n u v k x (omega arith)) ≈≈ whole_times ((s - x) * (s - x)) (k.c x) (all n u v k) (all_positive n u v k))
       ≈≈ widened (b n u v k) (square s) (all n u v k) (all_positive n u v k) Dp
       ≈≈ lifted (b n u v k * square s) D w Dp Fp)
-      ≈≈ sub-over (m + s * s * (w * (D * D)) - 2 * s * (w * (D * U))) (w * (D * (b n u v k * square s))) (w * (D * D)) Fp
+      ≈≈ sub_over (m + s * s * (w * (D * D)) - 2 * s * (w * (D * U))) (w * (D * (b n u v k * square s))) (w * (D * D)) Fp
 
-  vbo-is : (s : ℕ) → s ≤ suc n
+  vbo_is : (s : ℕ) → s ≤ suc n
       → vbo n u v s ≈ over (m + s * s * (w * (D * D)) - 2 * s * (w * (D * U)) - w * (D * (b n u v k * square s)) - w * (e s * e s)) (w * (D * D)) Fp
   unfolding vbo
-  vbo-is s l =
+  vbo_is s l =
       unless_positive u.num _ up
-      ≈≈ sub-same (second-is s l) (mul-same (ebo-is n u v k up s l) (ebo-is n u v k up s l) ≈≈ product-lifted (e s) (e s) D w Dp Fp)
-      ≈≈ sub-over (m + s * s * (w * (D * D)) - 2 * s * (w * (D * U)) - w * (D * (b n u v k * square s))) (w * (e s * e s)) (w * (D * D)) Fp
+      ≈≈ sub_same (second_is s l) (mul_same (ebo_is n u v k up s l) (ebo_is n u v k up s l) ≈≈ product_lifted (e s) (e s) D w Dp Fp)
+      ≈≈ sub_over (m + s * s * (w * (D * D)) - 2 * s * (w * (D * U)) - w * (D * (b n u v k * square s))) (w * (e s * e s)) (w * (D * D)) Fp
 
   abbrev p : ℕ → ℕ
   p s = b n u v k * total k.c (suc s)
@@ -77,59 +77,59 @@ module _ (n : ℕ) (u v : Fraction) (k : Cleared (weight u (excess u v)) n) (up 
   p_small : (s : ℕ) → s ≤ n → p s ≤ D
   p_small s l = mul-le-mul_left (b n u v k) (below_all k.c s n l)
 
-  step-is : (s : ℕ) → s ≤ n
+  step_is : (s : ℕ) → s ≤ n
       → (whole 2 *ℚ ebo n u v (suc s) +ℚ tail n u v s) *ℚ (whole 1 -ℚ tail n u v s)
       ≈ over (w * ((2 * e (suc s) + (D - p s)) * p s)) (w * (D * D)) Fp
-  step-is s l =
+  step_is s l =
       let i : 1 * D - (D - p s) ≡ p s = omega (arith, p_small s l) in
-      mul-same
-      (add-same
-      (mul-same (same (whole 2)) (ebo-is n u v k up (suc s) (omega arith)) ≈≈ whole-times 2 (e (suc s)) D Dp)
-      (tail-is n u v k up s l)
-      ≈≈ add-over (2 * e (suc s)) (D - p s) D Dp)
-      (sub-same (whole-over 1 D Dp) (tail-is n u v k up s l)
-      ≈≈ sub-over (1 * D) (D - p s) D Dp
+      mul_same
+      (add_same
+      (mul_same (same (whole 2)) (ebo_is n u v k up (suc s) (omega arith)) ≈≈ whole_times 2 (e (suc s)) D Dp)
+      (tail_is n u v k up s l)
+      ≈≈ add_over (2 * e (suc s)) (D - p s) D Dp)
+      (sub_same (whole_over 1 D Dp) (tail_is n u v k up s l)
+      ≈≈ sub_over (1 * D) (D - p s) D Dp
       ≈≈ record { cross = ap (λ z. z * D) i })
-      ≈≈ product-lifted (2 * e (suc s) + (D - p s)) (p s) D w Dp Fp
+      ≈≈ product_lifted (2 * e (suc s) + (D - p s)) (p s) D w Dp Fp
 
   spread_falls_positive : (s : ℕ) → s ≤ n
       → vbo n u v (suc s) ≈ vbo n u v s -ℚ (whole 2 *ℚ ebo n u v (suc s) +ℚ tail n u v s) *ℚ (whole 1 -ℚ tail n u v s)
   spread_falls_positive s l =
       let i : D ≡ (D - p s) + p s = omega (arith, p_small s l) in
       let j : U + b n u v k * short n u v k s ≡ e s + s * D = omega (arith, reach_bound n u v k s (omega arith)) in
-      vbo-is (suc s) (omega arith)
+      vbo_is (suc s) (omega arith)
       ≈≈ record {
         cross = ap (λ z. z * (w * (D * D)))
             (spread_whole m w s U (b n u v k * short n u v k s) (b n u v k * short n u v k (suc s)) (e s) (e (suc s)) (D - p s) (p s)
             (b n u v k * square s) (b n u v k * square (suc s)) D i (falls_whole n u v k s l) j
             (widen_square (b n u v k) (square (suc s)) (square s) (short n u v k s) (total k.c (suc s)) (square_step_sum s k.c)));
       }
-      ≈≈ turned (sub-over (m + s * s * (w * (D * D)) - 2 * s * (w * (D * U)) - w * (D * (b n u v k * square s)) - w * (e s * e s))
+      ≈≈ turned (sub_over (m + s * s * (w * (D * D)) - 2 * s * (w * (D * U)) - w * (D * (b n u v k * square s)) - w * (e s * e s))
       (w * ((2 * e (suc s) + (D - p s)) * p s)) (w * (D * D)) Fp)
-      ≈≈ sub-same (turned (vbo-is s (omega arith))) (turned (step-is s l))
+      ≈≈ sub_same (turned (vbo_is s (omega arith))) (turned (step_is s l))
 
-  raised-is : (s : ℕ) → raised u v s ≈ over (m + s * s * (w * (D * D))) (w * (D * D)) Fp
-  raised-is s =
-      add-same
-      (add-same (fraction-lifted (larger v u) (D * D) Fp)
-      (mul-same (mean-is n u v k) (mean-is n u v k) ≈≈ product-lifted U U D w Dp Fp)
-      ≈≈ add-over ((larger v u).num * (D * D)) (w * (U * U)) (w * (D * D)) Fp)
-      (whole-over (s * s) (w * (D * D)) Fp)
-      ≈≈ add-over m (s * s * (w * (D * D))) (w * (D * D)) Fp
+  raised_is : (s : ℕ) → raised u v s ≈ over (m + s * s * (w * (D * D))) (w * (D * D)) Fp
+  raised_is s =
+      add_same
+      (add_same (fraction_lifted (larger v u) (D * D) Fp)
+      (mul_same (mean_is n u v k) (mean_is n u v k) ≈≈ product_lifted U U D w Dp Fp)
+      ≈≈ add_over ((larger v u).num * (D * D)) (w * (U * U)) (w * (D * D)) Fp)
+      (whole_over (s * s) (w * (D * D)) Fp)
+      ≈≈ add_over m (s * s * (w * (D * D))) (w * (D * D)) Fp
 
-  lowered-is : (s : ℕ) → s ≤ suc n
+  lowered_is : (s : ℕ) → s ≤ suc n
       → lowered n u v s ≈ over (2 * s * (w * (D * U)) + w * (D * (b n u v k * square s)) + w * (e s * e s)) (w * (D * D)) Fp
-  lowered-is s l =
-      add-same
-      (add-same
-      (mul-same (same (whole (2 * s))) (mean-is n u v k ≈≈ lifted U D w Dp Fp) ≈≈ whole-times (2 * s) (w * (D * U)) (w * (D * D)) Fp)
-      (sum-over (λ x. whole ((s - x) * (s - x)) *ℚ chance n u v x) (λ x. (s - x) * (s - x) * k.c x) (all n u v k) (all_positive n u v k) s
-      (λ x h. mul-same (same (whole ((s - x) * (s - x)))) (chance-is n u v k x (omega arith)) ≈≈ whole-times ((s - x) * (s - x)) (k.c x) (all n u v k) (all_positive n u v k))
+  lowered_is s l =
+      add_same
+      (add_same
+      (mul_same (same (whole (2 * s))) (mean_is n u v k ≈≈ lifted U D w Dp Fp) ≈≈ whole_times (2 * s) (w * (D * U)) (w * (D * D)) Fp)
+      (total_over (λ x. whole ((s - x) * (s - x)) *ℚ chance n u v x) (λ x. (s - x) * (s - x) * k.c x) (all n u v k) (all_positive n u v k) s
+      (λ x h. mul_same (same (whole ((s - x) * (s - x)))) (chance_is n u v k x (omega arith)) ≈≈ whole_times ((s - x) * (s - x)) (k.c x) (all n u v k) (all_positive n u v k))
       ≈≈ widened (b n u v k) (square s) (all n u v k) (all_positive n u v k) Dp
       ≈≈ lifted (b n u v k * square s) D w Dp Fp)
-      ≈≈ add-over (2 * s * (w * (D * U))) (w * (D * (b n u v k * square s))) (w * (D * D)) Fp)
-      (mul-same (ebo-is n u v k up s l) (ebo-is n u v k up s l) ≈≈ product-lifted (e s) (e s) D w Dp Fp)
-      ≈≈ add-over (2 * s * (w * (D * U)) + w * (D * (b n u v k * square s))) (w * (e s * e s)) (w * (D * D)) Fp
+      ≈≈ add_over (2 * s * (w * (D * U))) (w * (D * (b n u v k * square s))) (w * (D * D)) Fp)
+      (mul_same (ebo_is n u v k up s l) (ebo_is n u v k up s l) ≈≈ product_lifted (e s) (e s) D w Dp Fp)
+      ≈≈ add_over (2 * s * (w * (D * U)) + w * (D * (b n u v k * square s))) (w * (e s * e s)) (w * (D * D)) Fp
 
   balance_step : (m s t a c x y : ℕ) → s + a ≡ t + c + x → (m + s + a) * y ≡ (m + t + c + x) * y
   balance_step m s t a c x y h = ap (λ z. z * y) (omega (arith, h))
@@ -143,18 +143,18 @@ module _ (n : ℕ) (u v : Fraction) (k : Cleared (weight u (excess u v)) n) (up 
       let h = spread_balance w s U (b n u v k * short n u v k s) (b n u v k * short n u v k (suc s)) (e s) (e (suc s)) (D - p s) (p s)
       (b n u v k * square s) (b n u v k * square (suc s)) D i (falls_whole n u v k s l) j
       (widen_square (b n u v k) (square (suc s)) (square s) (short n u v k s) (total k.c (suc s)) (square_step_sum s k.c)) in
-      add-same (raised-is s) (lowered-is (suc s) (omega arith))
-      ≈≈ add-over (m + s * s * (w * (D * D))) (2 * suc s * (w * (D * U)) + w * (D * (b n u v k * square (suc s))) + w * (e (suc s) * e (suc s))) (w * (D * D)) Fp
+      add_same (raised_is s) (lowered_is (suc s) (omega arith))
+      ≈≈ add_over (m + s * s * (w * (D * D))) (2 * suc s * (w * (D * U)) + w * (D * (b n u v k * square (suc s))) + w * (e (suc s) * e (suc s))) (w * (D * D)) Fp
       ≈≈ record {
         cross = balance_step m (s * s * (w * (D * D))) (suc s * suc s * (w * (D * D)))
             (2 * suc s * (w * (D * U)) + w * (D * (b n u v k * square (suc s))) + w * (e (suc s) * e (suc s)))
             (2 * s * (w * (D * U)) + w * (D * (b n u v k * square s)) + w * (e s * e s))
             (w * ((2 * e (suc s) + (D - p s)) * p s)) (w * (D * D)) (omega (arith, h));
       }
-      ≈≈ turned (add-same (add-same (raised-is (suc s)) (lowered-is s (omega arith))
-      ≈≈ add-over (m + suc s * suc s * (w * (D * D))) (2 * s * (w * (D * U)) + w * (D * (b n u v k * square s)) + w * (e s * e s)) (w * (D * D)) Fp)
-      (step-is s l)
-      ≈≈ add-over (m + suc s * suc s * (w * (D * D)) + (2 * s * (w * (D * U)) + w * (D * (b n u v k * square s)) + w * (e s * e s)))
+      ≈≈ turned (add_same (add_same (raised_is (suc s)) (lowered_is s (omega arith))
+      ≈≈ add_over (m + suc s * suc s * (w * (D * D))) (2 * s * (w * (D * U)) + w * (D * (b n u v k * square s)) + w * (e s * e s)) (w * (D * D)) Fp)
+      (step_is s l)
+      ≈≈ add_over (m + suc s * suc s * (w * (D * D)) + (2 * s * (w * (D * U)) + w * (D * (b n u v k * square s)) + w * (e s * e s)))
       (w * ((2 * e (suc s) + (D - p s)) * p s)) (w * (D * D)) Fp)
 
 -- the same without a cut

@@ -23,6 +23,7 @@ mean_identity a b e c (suc n) h =
     mean_step a b e n (c n) (c (suc n)) (total c (suc n)) (total (λ x. x * c x) (suc n)) (h n (omega arith))
     (mean_identity a b e c n (λ x l. h x (omega arith)))
 
+-- in the proportions of a mean a / b the sum of x c(x) is at most a / b of the sum of c(x)
 pub mean_bound : (a b e : ℕ) (c : ℕ → ℕ) (n : ℕ) → InProportion a b e c n
     → b * total (λ x. x * c x) (suc n) ≤ a * total c (suc n)
 mean_bound a b e c n h = omega (arith, mean_identity a b e c n h)
@@ -33,6 +34,7 @@ cover_step s x y t0 t1 t2 h =
     let l : s ≤ (s - x) + x = omega arith in
     omega (arith, mul-le-mul_right y l)
 
+-- s times the sum of c(x) is at most the sums of (s - x) c(x) and of x c(x)
 pub cover : (s : ℕ) (c : ℕ → ℕ) (n : ℕ) → s * total c n ≤ total (λ x. (s - x) * c x) n + total (λ x. x * c x) n
 cover s c zero = omega arith
 cover s c (suc n) = cover_step s n (c n) (total c n) (total (λ x. (s - x) * c x) n) (total (λ x. x * c x) n) (cover s c n)
@@ -75,6 +77,7 @@ pub ratio_bound : (a b e r one K j : ℕ)
     → (a + (j + K) * e) * one ≤ r * (suc (j + K) * (b + e))
 ratio_bound a b e r one K j h k = omega (arith, mul-le-mul_left j k)
 
+-- a weight past K is at most r / one of the one before it, where that bounds the ratio at K and e / (b + e)
 pub falls_by : (a b e r one K j : ℕ) (c0 c1 : ℕ) → 0 < b
     → (a + K * e) * one ≤ r * (suc K * (b + e)) → e * one ≤ r * (b + e)
     → c1 * (suc (j + K) * (b + e)) ≡ c0 * (a + (j + K) * e)
@@ -119,15 +122,17 @@ pub sum_low : (one pivot : ℕ) (c lo : ℕ → ℕ) (m : ℕ) → ((x : ℕ) �
 sum_low one pivot c lo zero h = omega arith
 sum_low one pivot c lo (suc m) h = omega (arith, sum_low one pivot c lo m (λ x l. h x (omega arith)), h m (omega arith))
 
+-- weights within upper ends in units of the pivot's have a sum within that of the ends
 pub sum_high : (one pivot : ℕ) (c hi : ℕ → ℕ) (m : ℕ) → ((x : ℕ) → x < m → c x * one ≤ hi x * pivot) → total c m * one ≤ total hi m * pivot
 sum_high one pivot c hi zero h = omega arith
 sum_high one pivot c hi (suc m) h = omega (arith, sum_high one pivot c hi m (λ x l. h x (omega arith)), h m (omega arith))
 
-pub total-mono : (c : ℕ → ℕ) (m k : ℕ) → total c m ≤ total c (k + m)
-total-mono c m zero = le_of_eq (ap (total c) (omega arith))
-total-mono c m (suc k) =
+-- more terms have no smaller sum
+pub total_mono : (c : ℕ → ℕ) (m k : ℕ) → total c m ≤ total c (k + m)
+total_mono c m zero = le_of_eq (ap (total c) (omega arith))
+total_mono c m (suc k) =
     let e : suc k + m ≡ suc (k + m) = omega arith in
-    le_trans (omega (arith, total-mono c m k)) (le_of_eq (ap (total c) (sym e)))
+    le_trans (omega (arith, total_mono c m k)) (le_of_eq (ap (total c) (sym e)))
 
 -- The fall of the variance over whole numbers. D = g + p is the denominator, p / D the chance of s or fewer, e / D and (e + g) / D the
 -- backorders at s + 1 and at s, U / D the mean, y / D and q / D the sums of (s - x) p(x) and (s - x)^2 p(x)
@@ -165,6 +170,7 @@ spread_balance w s U y y' e e' g p q q' D hd he hu hq =
     rw (hd, he, hq) (ap (λ z. w * z) core) in
     omega (arith, j)
 
+-- the variance falls by (2 EBO(s + 1) + G(s))(1 - G(s)) from a stock to the next, over whole numbers
 pub spread_whole : (m w s U y y' e e' g p q q' D : ℕ) → D ≡ g + p → e ≡ e' + g → U + y ≡ e + s * D → q' ≡ q + 2 * y + p
     → m + suc s * suc s * (w * (D * D)) - 2 * suc s * (w * (D * U)) - w * (D * q') - w * (e' * e')
     ≡ m + s * s * (w * (D * D)) - 2 * s * (w * (D * U)) - w * (D * q) - w * (e * e) - w * ((2 * e' + g) * p)

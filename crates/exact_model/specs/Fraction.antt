@@ -4,6 +4,7 @@ use Rattle.std.specs.Prelude.{◌≡◌, ℕ, zero, suc, ◌+◌, ◌-◌, ◌*�
 use Rattle.std.proofs.Common.{zero-lt-suc}
 use Rattle.std.proofs.Math.Nat.{mul-pos}
 
+-- a whole number over a positive whole number
 pub record Fraction : Type 0 where
   pub num : ℕ
   pub den : ℕ

@@ -57,6 +57,7 @@ vbo n u v s = unless_zero u.num (second n u v s -ℚ ebo n u v s *ℚ ebo n u v 
 abbrev pub raised : Fraction → Fraction → ℕ → Fraction
 raised u v s = larger v u +ℚ u *ℚ u +ℚ whole (s * s)
 
+-- what is taken off in it: 2 s u, the sum over x < s, and the square of the backorders
 abbrev pub lowered : ℕ → Fraction → Fraction → ℕ → Fraction
 lowered n u v s =
     whole (2 * s) *ℚ u +ℚ sum_below (λ x. whole ((s - x) * (s - x)) *ℚ chance n u v x) s +ℚ ebo n u v s *ℚ ebo n u v s

@@ -43,7 +43,8 @@ pub fn backorders_fall()
         → s ≤ n → ebo n u v s ≈ ebo n u v (suc s) +ℚ tail n u v s }
 {}
 
-/// Before its cut at 0, the variance of backorders falls by `(2 EBO(s + 1) + G(s)) (1 - G(s))` from each stock to the next.
+/// Before its cut at 0, the variance of backorders falls by `(2 EBO(s + 1) + G(s)) (1 - G(s))` from each stock to the
+/// next.
 pub fn variance_falls()
     // With no difference that is cut: what is added at s, less what is taken off there, is that at s + 1 and the fall.
     ensures uncut { (n : ℕ) (u v : Fraction) (s : ℕ)

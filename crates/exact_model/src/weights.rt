@@ -32,8 +32,8 @@ pub fn ratios_bounded()
         → K ≤ k → ratio u d k ≤ℚ larger (ratio u d K) (d /ℚ (whole 1 +ℚ d)) }
 {}
 
-/// At every depth the weights past an index K come to at most a geometric remainder. Where `r < 1` is at least the ratio
-/// at K and `d / (1 + d)`, then `W_n <= W_K + w(K) r / (1 - r)` for every `n >= K`.
+/// At every depth the weights past an index K come to at most a geometric remainder. Where `r < 1` is at least the
+/// ratio at K and `d / (1 + d)`, then `W_n <= W_K + w(K) r / (1 - r)` for every `n >= K`.
 pub fn remainder_bounded()
     ensures { (u d r : Fraction) (K n : ℕ)
         → K ≤ n → r.num < r.den → ratio u d K ≤ℚ r → d /ℚ (whole 1 +ℚ d) ≤ℚ r

@@ -1,9 +1,9 @@
 -- The one answer of a text: `decimal_of` against what a reader sees, fault by fault.
-use Rattle.std.specs.Prelude.{◌≡◌, ◌≢◌, ◌==◌, ℕ, ◌+◌, ◌-◌, ◌/◌, ◌^◌, ◌≤◌, ◌<◌, List, length, slice_index, slice_set, drop, min, nat_le, nat_lt, refl, Bool, true, false, not, Result, Ok, Err}
+use Rattle.std.specs.Prelude.{◌≡◌, ◌≢◌, ◌==◌, ℕ, ◌+◌, ◌-◌, ◌/◌, ◌^◌, ◌≤◌, ◌<◌, List, length, slice_index, slice_set, drop, min, refl, Bool, true, false, not, Result, Ok, Err}
 use Rattle.std.specs.Char.{is_ascii_digit}
-use Rattle.std.proofs.Common.{arith, get_or, ap, sym, ◌∙◌, lit<, subst, inl, inr, length-drop}
+use Rattle.std.proofs.Common.{arith, get_or, ap, sym, ◌∙◌, lit<, subst, inl, inr, length-drop, lt-ltb, le-ltb, le-leb}
 use Rattle.std.proofs.Math.Nat.{one-le-pow, mul-div_cancel, le-div_iff_mul-le}
-use Rattle.std.proofs.lemmas.Bool.{eq-eqb, false≢true}
+use Rattle.std.proofs.lemmas.Bool.{eq-eqb, false≢true, lt-leb}
 use Rattle.std.proofs.lemmas.Bool.Decides.{eqb_tells, leb_tells, nat_tests}
 use Rattle.std.proofs.lemmas.List.{length-set, get_or-set_same, get_or-set_other, get_or-drop}
 use Rattle.std.proofs.lemmas.List.Sums.{position_or_len_is, fails_before_first, passes_at_first}
@@ -37,8 +37,8 @@ digit_from c e = grind (arith, nat_tests)
 fault_from : (c : ℕ) → no_digit c ≡ true → ¬ (IsDigit c)
 fault_from c e d = grind (arith, nat_tests)
 
-length-marked : (text : List ℕ) → length (marked text) ≡ length text
-length-marked text = length-set text (point_of text) 48
+length_marked : (text : List ℕ) → length (marked text) ≡ length text
+length_marked text = length-set text (point_of text) 48
 
 at_point : (text : List ℕ) (k : ℕ) → k < length text → k ≡ point_of text → slice_index (marked text) k ≡ 48
 at_point text k h e = subst (λ (p : ℕ). slice_index (slice_set text p 48) k ≡ 48) e (get_or-set_same text k 48 0 h)
@@ -61,21 +61,21 @@ passes_stands text k e = elim (eqb_tells k (point_of text)) as (λ _. MayStand t
 
 pub bad_place_is : (text : List ℕ) (k : ℕ) → FirstBad text k → bad_place text ≡ k
 bad_place_is text k b =
-    let l = length-marked text in
+    let l = length_marked text in
     position_or_len_is no_digit (marked text) k 0 (omega (arith, l, b.inside))
     (λ j h. stands_passes text j (omega (arith, h, b.inside)) (b.before j h))
     (λ _. ap no_digit (off_point text k b.no_point) ∙ digit_fails (slice_index text k) b.no_digit)
 
 pub no_bad_place : (text : List ℕ) → IsClean text → bad_place text ≡ length text
 no_bad_place text clean =
-    let l = length-marked text in
+    let l = length_marked text in
     position_or_len_is no_digit (marked text) (length text) 0 (omega (arith, l))
     (λ j h. stands_passes text j h (clean j h))
     (λ h. absurd (omega (arith, l, h)))
 
 pub bad_place_first : (text : List ℕ) → bad_place text < length text → FirstBad text (bad_place text)
 bad_place_first text h =
-    let l = length-marked text in
+    let l = length_marked text in
     let f = passes_at_first no_digit (marked text) 0 (omega (arith, l, h)) in
     let off : bad_place text ≢ point_of text = λ e. digit_then (at_point text (bad_place text) h e) f in
     record {
@@ -165,49 +165,37 @@ over_is text places h = (le-div_iff_mul-le (scale_positive text)).1 h
 
 -- ---- each answer
 
-ltb_yes : (a b : ℕ) → a < b → nat_lt a b ≡ true
-ltb_yes a b h = grind (arith, nat_tests)
-
-ltb_no : (a b : ℕ) → b ≤ a → nat_lt a b ≡ false
-ltb_no a b h = grind (arith, nat_tests)
-
 eqb_no : (a : ℕ) → 0 < a → a == 0 ≡ false
 eqb_no a h = grind (arith, nat_tests)
-
-leb_yes : (a b : ℕ) → a ≤ b → nat_le a b ≡ true
-leb_yes a b h = grind (arith, nat_tests)
-
-leb_no : (a b : ℕ) → b < a → nat_le a b ≡ false
-leb_no a b h = grind (arith, nat_tests)
 
 -- the tests that decide, as `decimal_of` makes them
 pub answer_bad : (text : List ℕ) (places : ℕ) → bad_place text < length text → decimal_of text places ≡ Err (BadByte (min (bad_place text) (2 ^ 32 - 1)))
 unfolding decimal_of
-answer_bad text places h = rw (ltb_yes (bad_place text) (length text) h) refl
+answer_bad text places h = rw (lt-ltb (bad_place text) (length text) h) refl
 
 pub answer_empty : (text : List ℕ) (places : ℕ) → IsClean text → length (digits_of text) ≡ 0 → decimal_of text places ≡ Err Empty
 unfolding decimal_of
 answer_empty text places clean none =
-    let a = ltb_no (bad_place text) (length text) (omega (arith, no_bad_place text clean)) in
+    let a = le-ltb (bad_place text) (length text) (omega (arith, no_bad_place text clean)) in
     rw (a, eq-eqb (length (digits_of text)) 0 none) refl
 
 pub answer_long : (text : List ℕ) (places : ℕ) → IsClean text → 0 < length (digits_of text) → HasLateDigit (fraction_of text) places → decimal_of text places ≡ Err TooManyPlaces
 unfolding decimal_of
 answer_long text places clean some late =
-    let a = ltb_no (bad_place text) (length text) (omega (arith, no_bad_place text clean)) in
+    let a = le-ltb (bad_place text) (length text) (omega (arith, no_bad_place text clean)) in
     rw (a, eqb_no (length (digits_of text)) some, late_passes text places late) refl
 
 pub answer_large : (text : List ℕ) (places : ℕ) → IsNumber text places → IsOver text places → decimal_of text places ≡ Err TooLarge
 unfolding decimal_of
 answer_large text places n over =
-    let a = ltb_no (bad_place text) (length text) (omega (arith, no_bad_place text n.clean)) in
-    rw (a, eqb_no (length (digits_of text)) n.has_digit, early_passes text places n.no_late_digit, leb_yes (2 ^ 64) (units_of text places) (over_is text places over)) refl
+    let a = le-ltb (bad_place text) (length text) (omega (arith, no_bad_place text n.clean)) in
+    rw (a, eqb_no (length (digits_of text)) n.has_digit, early_passes text places n.no_late_digit, le-leb (2 ^ 64) (units_of text places) (over_is text places over)) refl
 
 pub answer_number : (text : List ℕ) (places : ℕ) → IsNumber text places → units_of text places < 2 ^ 64 → decimal_of text places ≡ Ok (record { units = units_of text places; places = places })
 unfolding decimal_of
 answer_number text places n fits =
-    let a = ltb_no (bad_place text) (length text) (omega (arith, no_bad_place text n.clean)) in
-    rw (a, eqb_no (length (digits_of text)) n.has_digit, early_passes text places n.no_late_digit, leb_no (2 ^ 64) (units_of text places) fits) refl
+    let a = le-ltb (bad_place text) (length text) (omega (arith, no_bad_place text n.clean)) in
+    rw (a, eqb_no (length (digits_of text)) n.has_digit, early_passes text places n.no_late_digit, lt-leb (2 ^ 64) (units_of text places) fits) refl
 
 -- ---- both ways
 
@@ -217,6 +205,7 @@ number units places = Ok (record { units = units; places = places })
 same_number : (units places u p : ℕ) → u ≡ units → p ≡ places → number u p ≡ number units places
 same_number units places u p e f = ap (λ x. number x p) e ∙ ap (λ y. number units y) f
 
+-- what reading a text answers, place by place, is the answer as a function of the text
 pub one_answer : (text : List ℕ) (places : ℕ) (answer : Result Decimal NumberFault) → ReadsDecimal text places answer → answer ≡ decimal_of text places
 one_answer text places (Err (BadByte at)) r =
     let e = bad_place_is text r.0 r.1 in
@@ -230,6 +219,7 @@ one_answer text places (Ok d) r =
     same_number (units_of text places) places d.units d.places e r.1
     ∙ sym (answer_number text places r.0 (omega (arith, e, r.2)))
 
+-- that function's answer is one that reading the text place by place gives
 pub as_defined : (text : List ℕ) (places : ℕ) → ReadsDecimal text places (decimal_of text places)
 as_defined text places = elim (leb_tells (length text) (bad_place text)) as (λ _. ReadsDecimal text places (decimal_of text places)) [
   | inr t ↦ told (sym (answer_bad text places t.1)) (bad_place text, bad_place_first text t.1, refl)

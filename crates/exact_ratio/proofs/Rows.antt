@@ -1,7 +1,5 @@
 -- What some texts read as: "12.5", "5.", "1.2.3", ".", "0.001" and "20" with two places, and 2^64 with none.
-use Rattle.std.specs.Prelude.{◌≡◌, ℕ, List, [], ◌∷◌, refl, Result, Ok, Err, codes}
-use Rattle.exact_ratio.specs.declared.decimal.Decimal.{Decimal}
-use Rattle.exact_ratio.specs.declared.decimal.NumberFault.{NumberFault}
+use Rattle.std.specs.Prelude.{◌≡◌, refl, Ok, Err, codes}
 use Rattle.exact_ratio.specs.declared.decimal.NumberFault.TheVariants.{BadByte, Empty, TooManyPlaces, TooLarge}
 use Rattle.exact_ratio.specs.Decimal.{decimal_of}
 

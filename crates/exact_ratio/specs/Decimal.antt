@@ -17,6 +17,7 @@ point_of text = position_or_len (λ c. c == 46) text
 abbrev pub whole_of : List ℕ → List ℕ
 whole_of text = before_first (λ c. c == 46) text
 
+-- what stands after the first point, or nothing
 abbrev pub fraction_of : List ℕ → List ℕ
 fraction_of text = after_first (λ c. c == 46) text
 
@@ -49,6 +50,7 @@ decimal_of text places =
 
 -- ---- the same as a reader sees it, place by place
 
+-- a byte from 0 to 9
 abbrev pub IsDigit : ℕ → Type 0
 IsDigit c = (48 ≤ c) × (c ≤ 57)
 
@@ -56,6 +58,7 @@ IsDigit c = (48 ≤ c) × (c ≤ 57)
 abbrev pub MayStand : List ℕ → ℕ → Type 0
 MayStand text k = IsDigit (slice_index text k) ⊎ (k ≡ point_of text)
 
+-- each byte is a digit or the first point
 abbrev pub IsClean : List ℕ → Type 0
 IsClean text = (k : ℕ) → k < length text → MayStand text k
 
@@ -70,6 +73,7 @@ pub record FirstBad (text : List ℕ) (k : ℕ) : Type 0 where
 abbrev pub HasLateDigit : List ℕ → ℕ → Type 0
 HasLateDigit fraction places = (k : ℕ) × (places ≤ k) × (k < length fraction) × (slice_index fraction k ≢ 48)
 
+-- every digit past these places is 0
 abbrev pub HasNoLateDigit : List ℕ → ℕ → Type 0
 HasNoLateDigit fraction places = (k : ℕ) → places ≤ k → k < length fraction → slice_index fraction k ≡ 48
 
@@ -85,6 +89,7 @@ pub record IsNumber (text : List ℕ) (places : ℕ) : Type 0 where
 abbrev pub IsValue : List ℕ → ℕ → ℕ → Type 0
 IsValue text places units = units * 10 ^ length (fraction_of text) ≡ digits_value 10 (digits_of text) * 10 ^ places
 
+-- the value in units of these places is 2^64 or more
 abbrev pub IsOver : List ℕ → ℕ → Type 0
 IsOver text places = 2 ^ 64 * 10 ^ length (fraction_of text) ≤ digits_value 10 (digits_of text) * 10 ^ places
 

@@ -172,6 +172,7 @@ fn read_on(start: u64, digits: &[u8]) -> Option<u64>
     Some(number)
 }
 
+/// Ten to a power of at most 4.
 fn power_of_ten(places: u8) -> u64
     requires { places ≤ 4 }
     ensures { result ≡ 10 ^ places }

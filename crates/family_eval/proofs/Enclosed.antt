@@ -1,11 +1,11 @@
 -- The item of each level encloses the model, and is within its range.
-use Rattle.std.proofs.Common.{◌≡◌, ℕ, zero, suc, max, ◌*◌, ◌^◌, ◌<◌, ◌≤◌, List, length, get_or, map, Option, Some, None, refl, sym, subst, arith, le_trans, zero-lt-suc}
-use Rattle.std.proofs.Math.Nat.{le_refl}
+use Rattle.std.proofs.Common.{◌≡◌, ℕ, zero, suc, ◌<◌, ◌≤◌, List, length, get_or, map, Option, Some, None, refl, sym, subst, arith, le_trans, zero-lt-suc}
+use Rattle.std.proofs.Math.Nat.{le_refl, max-le}
 use Rattle.std.proofs.lemmas.List.{get_or-map, length-map}
 use Rattle.exact_model.specs.Fraction.{Fraction, whole, sum_below, ◌≈◌, ◌≤ℚ◌, ◌+ℚ◌, ◌*ℚ◌}
 use Rattle.exact_model.specs.Series.{ebo, vbo}
 use Rattle.exact_model.specs.Shares.{shared}
-use Rattle.exact_model.proofs.Fractions.{add-same, contains-same, same}
+use Rattle.exact_model.proofs.Fractions.{add_same, contains_same, same}
 use Rattle.fixed_interval.specs.Ends.{Ends, In, ends_add}
 use Rattle.fixed_interval.proofs.Laws.{add_encloses, capped_encloses}
 use Rattle.moment_table.specs.Profile.{table_rows}
@@ -28,10 +28,10 @@ use Rattle.fleet_model.specs.Pipelines.{pipeline_i0, pipeline_00, pipeline_ij, p
 use Rattle.fleet_model.specs.Pipelines as exact
 use Rattle.fleet_model.specs.Pairs.{by_pair}
 use Rattle.fleet_model.specs.Laws.{Reaches}
-use Rattle.fleet_model.proofs.SumLaws.{sum-places}
+use Rattle.fleet_model.proofs.SumLaws.{sum_places}
 use Rattle.fleet_model.proofs.CapLaws.{capped_i0, capped_00, capped_ij, capped_0j}
 use Rattle.fleet_model.proofs.AllocationLaws.{allocation_reaches}
-use Rattle.demand_rates.proofs.DepotFacts.{line-none}
+use Rattle.demand_rates.proofs.DepotFacts.{no_line_there}
 use Rattle.family_eval.specs.declared.pipeline.Pipeline.{Pipeline}
 use Rattle.family_eval.specs.declared.item.Item.{Item}
 use Rattle.family_eval.specs.Profile.{base_line, base_shop, depot_feed, depot_line, depot_shop, feed_of, held_of, item_of, pipeline_of, share_of, stocked}
@@ -55,9 +55,6 @@ stocked_in f x m can few u w a b n deep =
     let r = table_encloses f m.mean m.variance x.stock can few u w a b n deep in
     record { mean = a; variance = b; backorders = r.ebo; spread = r.vbo }
 
-max_most : (a b c : ℕ) → a ≤ c → b ≤ c → max a b ≤ c
-max_most a b c h k = grind arith
-
 stocked_small : (f : ℕ) (x : Pipeline f) (m : Moments f) → HasTable f m → x.stock ≤ 63 → IsSmallItem f (stocked f x m)
 unfolding stocked
 stocked_small f x m can few =
@@ -66,17 +63,17 @@ stocked_small f x m can few =
       mean_most = can.mean_top;
       variance_most = can.variance_top;
       backorders_most = le_trans r.ebo can.mean_top;
-      spread_most = le_trans r.vbo (max_most m.variance.hi m.mean.hi (256 * 2 ^ f) can.variance_top can.mean_top);
+      spread_most = le_trans r.vbo (max-le can.variance_top can.mean_top);
     }
 
 feed_in : (f : ℕ) (share : Ends) (x : Item f) (q u w e v : Fraction) → In f share q → FiguresIn f x u w e v → FeedIn f (feed_of f share x) q e v
 feed_in f share x q u w e v h i = record { share = h; backorders = i.backorders; spread = i.spread }
 
 -- the sum by places is the model's
-places : (xs : List ℕ) (q : ℕ → Fraction) (d : Fraction) (count : ℕ) → count ≡ length xs
+pub sum_by_places : (xs : List ℕ) (q : ℕ → Fraction) (d : Fraction) (count : ℕ) → count ≡ length xs
     → d +ℚ sum_below (λ k. q (get_or xs k 0)) count ≈ d +ℚ sum_over xs q
-places xs q d count e =
-    add-same (same d) (subst (λ m. sum_below (λ k. q (get_or xs k 0)) m ≈ sum_over xs q) (sym e) (sum-places xs q))
+sum_by_places xs q d count e =
+    add_same (same d) (subst (λ m. sum_below (λ k. q (get_or xs k 0)) m ≈ sum_over xs q) (sym e) (sum_places xs q))
 
 module _ (f : ℕ) (c : CaseRows) (s : List ℕ) (least : 24 ≤ f) (sound : IsSound c s) where
   reach : (n : ℕ) → 1024 ≤ n → Reaches c s n
@@ -87,13 +84,15 @@ module _ (f : ℕ) (c : CaseRows) (s : List ℕ) (least : 24 ≤ f) (sound : IsS
 
   -- ---- a pair's direct part, cap and share, by its level
 
-  direct_level : (o : Option ℕ) (p k : ℕ) → line_of c.parts p ≡ o → p < length c.parts → k < length c.sites
+  -- the direct part of a pair, by its level, lies between its ends
+  pub direct_level : (o : Option ℕ) (p k : ℕ) → line_of c.parts p ≡ o → p < length c.parts → k < length c.sites
       → In f (pipeline_of f c s p k).direct (by_pair (direct_i0 c) (direct_00 c) (direct_ij c) (direct_0j c) o p k)
   direct_level o p k e lp lk =
       subst (λ o. In f (pipeline_of f c s p k).direct (by_pair (direct_i0 c) (direct_00 c) (direct_ij c) (direct_0j c) o p k)) e
       (direct_in f c p k (sound.pairs p k lp lk))
 
-  share_level : (o : Option ℕ) (p k : ℕ) → line_of c.parts p ≡ o → p < length c.parts → k < length c.sites
+  -- the share of a pair, by its level, lies between its ends
+  pub share_level : (o : Option ℕ) (p k : ℕ) → line_of c.parts p ≡ o → p < length c.parts → k < length c.sites
       → In f (share_of f c p k) (by_pair (f_i0 c) (λ l. whole 1) (f_ij c) (f_0j c) o p k)
   share_level o p k e lp lk =
       subst (λ o. In f (share_of f c p k) (by_pair (f_i0 c) (λ l. whole 1) (f_ij c) (f_0j c) o p k)) e (share_in f c p k (sound.pairs p k lp lk))
@@ -154,26 +153,26 @@ module _ (f : ℕ) (c : CaseRows) (s : List ℕ) (least : 24 ≤ f) (sound : IsS
       → In f (added (pipeline_of f c s l 0).direct (λ k. mean_part f (feed_at (map (depot_feed f c s) (shop_units c l)) k)) (length (map (depot_feed f c s) (shop_units c l)))) (pipeline_00 c s n l).mean
   unfolding pipeline_00
   mean_00 l n line deep =
-      contains-same (places (shop_units c l) (λ i. f_i0 c l i *ℚ ebo_i0 c s n l i) (direct_00 c l) _ (length-map (shop_units c l) (depot_feed f c s)))
+      contains_same (sum_by_places (shop_units c l) (λ i. f_i0 c l i *ℚ ebo_i0 c s n l i) (direct_00 c l) _ (length-map (shop_units c l) (depot_feed f c s)))
       (added_in f (pipeline_of f c s l 0).direct _ (direct_00 c l) (λ k. f_i0 c l (get_or (shop_units c l) k 0) *ℚ ebo_i0 c s n l (get_or (shop_units c l) k 0)) _
-      (direct_level None l 0 (line-none c.parts l line.no_parent) line.is_part some_sites)
+      (direct_level None l 0 (no_line_there c.parts l line.no_parent) line.is_part some_sites)
       (λ k h. mean_part_in f (feed_at (map (depot_feed f c s) (shop_units c l)) k) _ _ _ (feeds_in l n k line deep h)))
 
   variance_00 : (l n : ℕ) → IsLine c l → 1024 ≤ n
       → In f (added (pipeline_of f c s l 0).direct (λ k. variance_part f (feed_at (map (depot_feed f c s) (shop_units c l)) k)) (length (map (depot_feed f c s) (shop_units c l)))) (pipeline_00 c s n l).variance
   unfolding pipeline_00
   variance_00 l n line deep =
-      contains-same (places (shop_units c l) (λ i. shared (f_i0 c l i) (ebo_i0 c s n l i) (vbo_i0 c s n l i)) (direct_00 c l) _ (length-map (shop_units c l) (depot_feed f c s)))
+      contains_same (sum_by_places (shop_units c l) (λ i. shared (f_i0 c l i) (ebo_i0 c s n l i) (vbo_i0 c s n l i)) (direct_00 c l) _ (length-map (shop_units c l) (depot_feed f c s)))
       (added_in f (pipeline_of f c s l 0).direct _ (direct_00 c l)
       (λ k. shared (f_i0 c l (get_or (shop_units c l) k 0)) (ebo_i0 c s n l (get_or (shop_units c l) k 0)) (vbo_i0 c s n l (get_or (shop_units c l) k 0))) _
-      (direct_level None l 0 (line-none c.parts l line.no_parent) line.is_part some_sites)
+      (direct_level None l 0 (no_line_there c.parts l line.no_parent) line.is_part some_sites)
       (λ k h. variance_part_in f (feed_at (map (depot_feed f c s) (shop_units c l)) k) _ _ _ (feeds_in l n k line deep h)))
 
   pub in_00 : (l n : ℕ) → IsLine c l → 1024 ≤ n
       → FiguresIn f (depot_line f c s l) (pipeline_00 c s n l).mean (pipeline_00 c s n l).variance (ebo_00 c s n l) (vbo_00 c s n l)
   unfolding depot_line ebo_00 vbo_00
   in_00 l n line deep =
-      let e = line-none c.parts l line.no_parent in
+      let e = no_line_there c.parts l line.no_parent in
       let capped = capped_00 c s n l (reach n deep) in
       let bm = cap_level None l 0 (pipeline_00 c s n l).mean e line.is_part some_sites capped.mean_most in
       let bv = cap_level None l 0 (pipeline_00 c s n l).variance e line.is_part some_sites capped.variance_most in
@@ -235,7 +234,7 @@ module _ (f : ℕ) (c : CaseRows) (s : List ℕ) (least : 24 ≤ f) (sound : IsS
   fed_0j : (l j n : ℕ) → IsLine c l → suc j < length c.sites → 1024 ≤ n
       → FeedIn f (feed_of f (share_of f c l (suc j)) (depot_line f c s l)) (f_0j c l (suc j)) (ebo_00 c s n l) (vbo_00 c s n l)
   fed_0j l j n line lj deep =
-      feed_in f (share_of f c l (suc j)) (depot_line f c s l) _ _ _ _ _ (share_level None l (suc j) (line-none c.parts l line.no_parent) line.is_part lj) (in_00 l n line deep)
+      feed_in f (share_of f c l (suc j)) (depot_line f c s l) _ _ _ _ _ (share_level None l (suc j) (no_line_there c.parts l line.no_parent) line.is_part lj) (in_00 l n line deep)
 
   mean_0j : (l j n : ℕ) → IsLine c l → suc j < length c.sites → 1024 ≤ n
       → In f (added (ends_add (pipeline_of f c s l (suc j)).direct (mean_part f (feed_of f (share_of f c l (suc j)) (depot_line f c s l))))
@@ -243,9 +242,9 @@ module _ (f : ℕ) (c : CaseRows) (s : List ℕ) (least : 24 ≤ f) (sound : IsS
       (pipeline_0j c s n l (suc j)).mean
   unfolding pipeline_0j
   mean_0j l j n line lj deep =
-      let d = direct_level None l (suc j) (line-none c.parts l line.no_parent) line.is_part lj in
+      let d = direct_level None l (suc j) (no_line_there c.parts l line.no_parent) line.is_part lj in
       let first = add_encloses f (pipeline_of f c s l (suc j)).direct _ (direct_0j c l (suc j)) (f_0j c l (suc j) *ℚ ebo_00 c s n l) d (mean_part_in f _ _ _ _ (fed_0j l j n line lj deep)) in
-      contains-same (places (shop_units c l) (λ i. ebo_ij c s n l i (suc j)) (direct_0j c l (suc j) +ℚ f_0j c l (suc j) *ℚ ebo_00 c s n l) _
+      contains_same (sum_by_places (shop_units c l) (λ i. ebo_ij c s n l i (suc j)) (direct_0j c l (suc j) +ℚ f_0j c l (suc j) *ℚ ebo_00 c s n l) _
       (length-map (shop_units c l) (λ i. held_of f (base_shop f c s i (suc j)))))
       (added_in f _ _ (direct_0j c l (suc j) +ℚ f_0j c l (suc j) *ℚ ebo_00 c s n l) (λ k. ebo_ij c s n l (get_or (shop_units c l) k 0) (suc j)) _ first
       (λ k h. (helds_in l j n k line lj deep h).backorders))
@@ -256,10 +255,10 @@ module _ (f : ℕ) (c : CaseRows) (s : List ℕ) (least : 24 ≤ f) (sound : IsS
       (pipeline_0j c s n l (suc j)).variance
   unfolding pipeline_0j
   variance_0j l j n line lj deep =
-      let d = direct_level None l (suc j) (line-none c.parts l line.no_parent) line.is_part lj in
+      let d = direct_level None l (suc j) (no_line_there c.parts l line.no_parent) line.is_part lj in
       let first = add_encloses f (pipeline_of f c s l (suc j)).direct _ (direct_0j c l (suc j)) (shared (f_0j c l (suc j)) (ebo_00 c s n l) (vbo_00 c s n l)) d
       (variance_part_in f _ _ _ _ (fed_0j l j n line lj deep)) in
-      contains-same (places (shop_units c l) (λ i. vbo_ij c s n l i (suc j)) (direct_0j c l (suc j) +ℚ shared (f_0j c l (suc j)) (ebo_00 c s n l) (vbo_00 c s n l)) _
+      contains_same (sum_by_places (shop_units c l) (λ i. vbo_ij c s n l i (suc j)) (direct_0j c l (suc j) +ℚ shared (f_0j c l (suc j)) (ebo_00 c s n l) (vbo_00 c s n l)) _
       (length-map (shop_units c l) (λ i. held_of f (base_shop f c s i (suc j)))))
       (added_in f _ _ (direct_0j c l (suc j) +ℚ shared (f_0j c l (suc j)) (ebo_00 c s n l) (vbo_00 c s n l)) (λ k. vbo_ij c s n l (get_or (shop_units c l) k 0) (suc j)) _ first
       (λ k h. (helds_in l j n k line lj deep h).spread))
@@ -268,7 +267,7 @@ module _ (f : ℕ) (c : CaseRows) (s : List ℕ) (least : 24 ≤ f) (sound : IsS
       → FiguresIn f (base_line f c s l (suc j)) (pipeline_0j c s n l (suc j)).mean (pipeline_0j c s n l (suc j)).variance (ebo_0j c s n l (suc j)) (vbo_0j c s n l (suc j))
   unfolding base_line ebo_0j vbo_0j
   in_0j l j n line lj deep =
-      let e = line-none c.parts l line.no_parent in
+      let e = no_line_there c.parts l line.no_parent in
       let capped = capped_0j c s n l (suc j) (reach n deep) (zero-lt-suc j, lj) in
       let bm = cap_level None l (suc j) (pipeline_0j c s n l (suc j)).mean e line.is_part lj capped.mean_most in
       let bv = cap_level None l (suc j) (pipeline_0j c s n l (suc j)).variance e line.is_part lj capped.variance_most in

@@ -2,8 +2,8 @@
 use Rattle.std.proofs.Common.{◌≡◌, ℕ, zero, suc, ◌+◌, ◌-◌, ◌*◌, ◌^◌, ◌<◌, ◌≤◌, true, false, List, [], ◌∷◌, ◌++◌, length, get_or, map, filter, refl, sym, ap, ap₂, ◌∙◌, subst, arith, mul-le-mul_right, zero-lt-suc}
 use Rattle.std.specs.List.{range_with_len, AllByRecursion, AllZip}
 use Rattle.std.proofs.lemmas.List.{map_push}
-use Rattle.exact_model.specs.Fraction.{Encloses, Fraction, whole, ◌≈◌, ◌+ℚ◌, ◌*ℚ◌}
-use Rattle.exact_model.proofs.Fractions.{contains-same, ◌≈≈◌}
+use Rattle.exact_model.specs.Fraction.{Encloses, whole, ◌*ℚ◌}
+use Rattle.exact_model.proofs.Fractions.{contains_same, ◌≈≈◌, none_plus}
 use Rattle.fixed_interval.specs.Ends.{Ends, In, ends_exact}
 use Rattle.fixed_interval.proofs.Laws.{exact_encloses, times_encloses}
 use Rattle.depot_pipeline.specs.Profile.{added}
@@ -16,40 +16,39 @@ use Rattle.fleet_model.specs.Rows.{line_units, weight}
 use Rattle.fleet_model.specs.Pipelines.{ebo_0j}
 use Rattle.fleet_model.specs.Fleet.{family, family_total}
 use Rattle.fleet_model.specs.Laws.{IsBase}
-use Rattle.fleet_model.proofs.SumLaws.{passed, sum-range}
+use Rattle.fleet_model.proofs.SumLaws.{passed, sum_range}
+use Rattle.fleet_model.proofs.DependLaws.{all_follow}
 use Rattle.demand_rates.specs.Rates.{all_rates}
-use Rattle.demand_rates.proofs.RateFacts.{rates-model}
+use Rattle.demand_rates.proofs.RateFacts.{rates_model}
 use Rattle.family_eval.specs.declared.item.Item.{Item}
 use Rattle.family_eval.specs.declared.item.FamilyResult.{FamilyResult}
 use Rattle.family_eval.specs.Profile.{families_of, family_of, item_of, total_of, weighed}
 use Rattle.family_eval.specs.Encloses.{CanEvaluate, EnclosesFamily, EnclosesItem, IsSmallFamily, IsSmallItem, no_item}
 use Rattle.family_eval.specs.Inputs.{IsLine, IsSound}
 use Rattle.family_eval.proofs.Ranges.{sound_of}
-use Rattle.family_eval.proofs.Units.{all_same, shop_at}
+use Rattle.family_eval.proofs.Units.{shop_at}
 use Rattle.family_eval.proofs.Enclosed.{in_0j, item_in, item_small}
 use Rattle.family_eval.proofs.Items.{base_line_item, flat_at, left_out, kept_more, weighed_most}
 
+-- what can be evaluated has accepted rates at each pair, and stocks within the limits
 pub evaluable : (f : ℕ) (c : CaseRows) (s : StockList) → CanEvaluate f c s → IsSound c s.list
 evaluable f c s h =
     sound_of (record { case = c; rates = record { sites = length c.sites; pairs = all_rates c }; stocks = s })
     (record {
       valid = h.valid;
-      are_rates = rates-model c _ (length c.sites) (all_rates c) h.valid h.no_fault refl refl refl;
+      are_rates = rates_model c _ (length c.sites) (all_rates c) h.valid h.no_fault refl refl refl;
       are_stocks = h.are_stocks;
       limits = h.limits;
     })
 
-member : (c : CaseRows) (l i : ℕ) → IsCase c → IsLine c l → i < length (family c l) → get_or (family c l) i 0 < length c.parts
-member c l zero valid line h = line.is_part
-member c l (suc i) valid line h = (shop_at c l i valid line (omega arith)).is_part
+-- each member of a family is a part of the case
+pub member_in_case : (c : CaseRows) (l i : ℕ) → IsCase c → IsLine c l → i < length (family c l) → get_or (family c l) i 0 < length c.parts
+member_in_case c l zero valid line h = line.is_part
+member_in_case c l (suc i) valid line h = (shop_at c l i valid line (omega arith)).is_part
 
 -- the weight of a line unit
 pub weight_most : (c : CaseRows) (l : ℕ) → IsCase c → IsLine c l → weight c l ≤ 100
 weight_most c l valid line = ((valid.frame.part_rows l no_part line.is_part).weight.within line.no_parent).1
-
-zero_more : (q : Fraction) → whole 0 +ℚ q ≈ q
-unfolding whole ◌+ℚ◌
-zero_more q = record { cross = omega arith }
 
 added_most : (first : Ends) (part : ℕ → Ends) (most n : ℕ) → ((k : ℕ) → k < n → (part k).hi ≤ most) → (added first part n).hi ≤ first.hi + n * most
 unfolding added
@@ -82,21 +81,21 @@ module _ (f : ℕ) (c : CaseRows) (s : StockList) (l : ℕ) (least : 24 ≤ f) (
   total_in : (n : ℕ) → 1024 ≤ n → In f (total_of f c s.list l) (family_total c s.list n l)
   unfolding family_total
   total_in n deep =
-      contains-same (zero_more _ ≈≈ sum-range (λ j. whole (weight c l) *ℚ ebo_0j c s.list n l j) 1 (length c.sites - 1))
+      contains_same (none_plus _ ≈≈ sum_range (λ j. whole (weight c l) *ℚ ebo_0j c s.list n l j) 1 (length c.sites - 1))
       (added_in f (ends_exact f 0) (weighed f c s.list l) (whole 0) (λ j. whole (weight c l) *ℚ ebo_0j c s.list n l (1 + j)) (length c.sites - 1) (exact_encloses f 0)
       (λ j h. base_in n j deep h))
 
   pub family_in : EnclosesFamily f c s.list l (family_of f c l s)
   family_in = record {
     items_in = λ i k h m. subst (EnclosesItem f c s.list (get_or (family c l) i 0) k) (sym (at i k h m))
-        (item_in f c s.list least sound (get_or (family c l) i 0) k (member c l i sound.valid line h) m);
+        (item_in f c s.list least sound (get_or (family c l) i 0) k (member_in_case c l i sound.valid line h) m);
     total_in = λ n deep. total_in n deep;
   }
 
   pub family_small : IsSmallFamily f c l (family_of f c l s)
   family_small = record {
     items_most = λ i k h m. subst (IsSmallItem f) (sym (at i k h m))
-        (item_small f c s.list least sound (get_or (family c l) i 0) k (member c l i sound.valid line h) m);
+        (item_small f c s.list least sound (get_or (family c l) i 0) k (member_in_case c l i sound.valid line h) m);
     total_most =
         let a = added_most (ends_exact f 0) (weighed f c s.list l) (25600 * 2 ^ f) (length c.sites - 1)
         (λ k h. weighed_most (item_of f c s.list l (k + 1)).backorders.hi (weight c l) (2 ^ f)
@@ -108,19 +107,21 @@ module _ (f : ℕ) (c : CaseRows) (s : StockList) (l : ℕ) (least : 24 ≤ f) (
 
 line_all : (c : CaseRows) → AllByRecursion (IsLine c) (line_units c)
 line_all c =
-    all_same (λ p. (p < length c.parts) × (is_line (part_at c.parts p) ≡ true)) (IsLine c) (line_units c) (λ p h. record { is_part = h.0; no_parent = h.1 })
+    all_follow (λ p. (p < length c.parts) × (is_line (part_at c.parts p) ≡ true)) (IsLine c) (line_units c) (λ p h. record { is_part = h.0; no_parent = h.1 })
     (passed (λ p. is_line (part_at c.parts p)) (length c.parts) (length c.parts) 0 (omega arith))
 
 zip_mapped : {X : Type 0} (P : ℕ → Type 0) (R : ℕ → X → Type 0) (g : ℕ → X) (xs : List ℕ) → ((x : ℕ) → P x → R x (g x)) → AllByRecursion P xs → AllZip R xs (map g xs)
 zip_mapped P R g [] h a = tt
 zip_mapped P R g (x ∷ xs) h a = (h x a.0, zip_mapped P R g xs h a.1)
 
+-- each result encloses the family of its line unit
 pub families_in : (f : ℕ) (c : CaseRows) (s : StockList) (results : List (FamilyResult f)) → 24 ≤ f → IsSound c s.list → results ≡ families_of f c s
     → AllZip (EnclosesFamily f c s.list) (line_units c) results
 families_in f c s results least sound e =
     subst (AllZip (EnclosesFamily f c s.list) (line_units c)) (sym e)
     (zip_mapped (IsLine c) (EnclosesFamily f c s.list) (λ l. family_of f c l s) (line_units c) (λ l line. family_in f c s l least sound line) (line_all c))
 
+-- no item of the results is above 256, and no total above what 15 bases can weigh
 pub families_small : (f : ℕ) (c : CaseRows) (s : StockList) (results : List (FamilyResult f)) → 24 ≤ f → IsSound c s.list → results ≡ families_of f c s
     → AllZip (IsSmallFamily f c) (line_units c) results
 families_small f c s results least sound e =
@@ -136,6 +137,7 @@ family_more f c s p xs ys x line hx hy h =
     ∙ sym (map_push (λ l. family_of f c l s) (filter (λ q. is_line (part_at c.parts q)) (range_with_len 0 p)) p)
     ∙ ap (map (λ l. family_of f c l s)) (sym (kept_more (λ q. is_line (part_at c.parts q)) p line))
 
+-- a part that is no line unit adds no family
 pub family_kept : (f : ℕ) (c : CaseRows) (s : StockList) (p : ℕ) (xs : List (FamilyResult f)) → is_line (part_at c.parts p) ≡ false
     → xs ≡ map (λ l. family_of f c l s) (filter (λ q. is_line (part_at c.parts q)) (range_with_len 0 p))
     → xs ≡ map (λ l. family_of f c l s) (filter (λ q. is_line (part_at c.parts q)) (range_with_len 0 (p + 1)))

@@ -1,12 +1,11 @@
 -- Where the checks of the rates pass, a pipeline has a table.
-use Rattle.std.proofs.Common.{◌≡◌, ℕ, zero, suc, ◌+◌, ◌*◌, ◌/◌, ◌^◌, ◌<◌, ◌≤◌, ◌⊎◌, inl, inr, Option, Some, None, sym, ap, subst, arith, lit<, length, mul-le-mul_right, mul-le-mul_left, le_of_mul-le-mul_right, zero-lt-suc, List}
+use Rattle.std.proofs.Common.{◌≡◌, ℕ, zero, suc, ◌+◌, ◌*◌, ◌/◌, ◌^◌, ◌<◌, ◌≤◌, ◌⊎◌, inl, inr, Option, Some, None, sym, ap, subst, arith, lit<, length, mul-le-mul_right, mul-le-mul_left, le_of_mul-le-mul_right, zero-lt-suc, List, eq-zero-or-pos}
 use Rattle.std.proofs.Math.Nat.{pow-le-pow_right, le_refl}
 use Rattle.std.proofs.lemmas.Nat.{le-div, div-add-mod', mod_below}
 use Rattle.exact_model.specs.Fraction.{Fraction, whole, ◌≈◌, ◌≤ℚ◌, ◌/ℚ◌}
-use Rattle.exact_model.proofs.Fractions.{contains-same, le-same, over, same, turned, ◌≈≈◌}
+use Rattle.exact_model.proofs.Fractions.{contains_same, le_same, over, same, turned, ◌≈≈◌}
 use Rattle.fixed_interval.specs.Ends.{Ends, In, ends_ratio}
-use Rattle.fixed_interval.proofs.Laws.{ceil_above, floor_below_ceil, ratio_encloses, quotient_is}
-use Rattle.series_bounds.proofs.Ranges.{ceil_most}
+use Rattle.fixed_interval.proofs.Laws.{ceil_above, floor_below_ceil, ratio_encloses, quotient_is, ceil_most}
 use Rattle.depot_pipeline.specs.Exact.{IsAtMost}
 use Rattle.depot_pipeline.specs.Profile.{added, capped_at}
 use Rattle.spares_input.specs.Frames.{line_of}
@@ -14,7 +13,7 @@ use Rattle.spares_input.specs.Cases.{CaseRows, rate_at}
 use Rattle.fleet_model.specs.Rows.{stock}
 use Rattle.fleet_model.specs.Pairs.{direct, share, zero_stock}
 use Rattle.fleet_model.specs.Units.{days_at, demand_of, direct_of, zero_stock_of, in_pipeline}
-use Rattle.fleet_model.proofs.AllocationLaws.{allocation_reaches, stocks-allocation}
+use Rattle.fleet_model.proofs.AllocationLaws.{allocation_reaches, stocks_allocation}
 use Rattle.demand_rates.specs.declared.kinds.PairRates.{PairRates}
 use Rattle.demand_rates.specs.Limits.{IsAccepted}
 use Rattle.demand_rates.specs.Rates.{pair_rates, value, ArePairRates}
@@ -36,12 +35,9 @@ most_of c None p zero = omega arith
 most_of c (Some l) p (suc j) = omega arith
 most_of c None p (suc j) = omega arith
 
-some_or_none : (n : ℕ) → (n ≡ 0) ⊎ (0 < n)
-some_or_none n = grind arith
-
 rated_of : (n d z : ℕ) → (n ≡ 0 → d ≡ 0) → d ≤ z → IsAccepted n d z → IsRated d z
 rated_of n d z none order a = record {
-  some = elim (some_or_none n) [
+  some = elim (eq-zero-or-pos n) [
     | inl e ↦ inl (omega (arith, a.ratio, none e))
     | inr h ↦ inr (a.thick h)
   ];
@@ -50,6 +46,7 @@ rated_of n d z none order a = record {
   ratio = a.ratio;
 }
 
+-- the rates of a pair pass the checks of direct part and zero-stock mean
 pub rated : (c : CaseRows) (p k : ℕ) (r : PairRates) → ArePairRates c p k r → IsRated r.direct r.zero_stock
 rated c p k r h =
     subst (λ (r : PairRates). IsRated r.direct r.zero_stock) (sym h.units)
@@ -101,13 +98,15 @@ nothing_cap f z h = (let c = ceil_most (z * 2 ^ f) 365000000000000000000 0 (lit<
 
 -- ---- pairs
 
+-- valid inputs have accepted rates at each pair, and stocks within the limits
 pub sound_of : (x : InputRows) → AreInputs x → IsSound x.case x.stocks.list
 sound_of x h = record {
   valid = h.valid;
   pairs = λ p k l m. (let r = h.are_rates.pairs p k l m in subst (ArePairRates x.case p k) r.units r);
-  allocation = stocks-allocation x.case x.stocks h.are_stocks h.limits;
+  allocation = stocks_allocation x.case x.stocks h.are_stocks h.limits;
 }
 
+-- rates that pass the checks make a pipeline whose cap isn't far above its direct part
 pub pipeline_from_is : (f p k s : ℕ) (r : PairRates) → 24 ≤ f → s ≤ 63 → IsRated r.direct r.zero_stock → IsPipeline f (pipeline_from f p k r s)
 pipeline_from_is f p k s r h few rated = record {
   some = elim rated.some [
@@ -120,13 +119,16 @@ pipeline_from_is f p k s r h few rated = record {
   stock_most = few;
 }
 
+-- no stock is above 63
 pub stock_most : (c : CaseRows) (s : List ℕ) (p k : ℕ) → IsSound c s → stock c s p k ≤ 63
 stock_most c s p k h = allocation_reaches c s 62 h.valid h.allocation (le_refl 62) p k
 
+-- each pair of a sound case has such a pipeline
 pub pipeline_is : (f : ℕ) (c : CaseRows) (s : List ℕ) (p k : ℕ) → 24 ≤ f → IsSound c s → p < length c.parts → k < length c.sites → IsPipeline f (pipeline_of f c s p k)
 pipeline_is f c s p k h sound lp lk =
     pipeline_from_is f p k (stock c s p k) (pair_rates c p k) h (stock_most c s p k sound) (rated c p k (pair_rates c p k) (sound.pairs p k lp lk))
 
+-- a share's upper end is at most 1
 pub share_most : (f : ℕ) (r : PairRates) → r.share.num ≤ r.share.den → 0 < r.share.den → (share_from f r).hi ≤ 2 ^ f
 share_most f r h p = ceil_most (r.share.num * 2 ^ f) r.share.den (2 ^ f) p (omega (arith, mul-le-mul_right (2 ^ f) h))
 
@@ -141,22 +143,25 @@ direct_ends_in : (f d : ℕ) → In f (direct_ends f d) (in_pipeline d)
 unfolding in_pipeline
 direct_ends_in f d = ratio_encloses f d 365000000000000000000 (zero-lt-suc 364999999999999999999)
 
+-- the ends of a pair's direct part contain the direct pipeline of the model
 pub direct_in : (f : ℕ) (c : CaseRows) (p k : ℕ) → ArePairRates c p k (pair_rates c p k) → In f (direct_ends f (pair_rates c p k).direct) (direct c p k)
-direct_in f c p k h = contains-same h.direct_is (direct_ends_in f (pair_rates c p k).direct)
+direct_in f c p k h = contains_same h.direct_is (direct_ends_in f (pair_rates c p k).direct)
 
 share_from_in : (f : ℕ) (r : PairRates) → 0 < r.share.den → In f (share_from f r) (value r.share)
-share_from_in f r p = contains-same (over_is r.share.num r.share.den p) (ratio_encloses f r.share.num r.share.den p)
+share_from_in f r p = contains_same (over_is r.share.num r.share.den p) (ratio_encloses f r.share.num r.share.den p)
 
+-- the ends of a pair's share contain the share of the model
 pub share_in : (f : ℕ) (c : CaseRows) (p k : ℕ) → ArePairRates c p k (pair_rates c p k) → In f (share_of f c p k) (share c p k)
-share_in f c p k h = contains-same h.share_is (share_from_in f (pair_rates c p k) h.some_share)
+share_in f c p k h = contains_same h.share_is (share_from_in f (pair_rates c p k) h.some_share)
 
 -- what the zero-stock mean bounds is within the cap
 pub cap_in : (f : ℕ) (c : CaseRows) (p k : ℕ) (q : Fraction) → ArePairRates c p k (pair_rates c p k) → q ≤ℚ zero_stock c p k
     → IsAtMost f (cap_at f (pair_rates c p k).zero_stock) q
-cap_in f c p k q h l = within_cap f (pair_rates c p k).zero_stock q (le-same (same q) (turned h.zero_stock_is) l)
+cap_in f c p k q h l = within_cap f (pair_rates c p k).zero_stock q (le_same (same q) (turned h.zero_stock_is) l)
 
 -- ---- tables
 
+-- a sum is at least its first term at the lower end
 pub added_least : (first : Ends) (part : ℕ → Ends) (n : ℕ) → first.lo ≤ (added first part n).lo
 unfolding added
 added_least first part zero = le_refl first.lo
@@ -174,5 +179,6 @@ can_capped f cap direct m v some order most l = record {
   ];
 }
 
+-- a mean that begins at or above the direct part has a table once it is capped
 pub can_table : (f : ℕ) (x : Pipeline f) (m v : Ends) → IsPipeline f x → x.direct.lo ≤ m.lo → HasTable f (capped_at f x.cap m v)
 can_table f x m v h l = can_capped f x.cap x.direct m v h.some h.order h.cap_most l

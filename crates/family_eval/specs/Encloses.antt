@@ -33,6 +33,7 @@ pub record IsSmallItem (f : ℕ) (x : Item f) : Type 0 where
   pub backorders_most : IsWithinLimit f x.backorders
   pub spread_most : IsWithinLimit f x.spread
 
+-- what a look-up past the end answers
 abbrev pub no_item : (f : ℕ) → Item f
 no_item f = record {
   part = record { 0 = 0 };
@@ -56,5 +57,6 @@ pub record EnclosesFamily (f : ℕ) (c : CaseRows) (s : List ℕ) (l : ℕ) (r :
 
 -- the items are at most 256, and the total is at most that at each of 15 bases with a weight of 100
 pub record IsSmallFamily (f : ℕ) (c : CaseRows) (l : ℕ) (r : FamilyResult f) : Type 0 where
-  pub items_most : (i k : ℕ) → i < length (family c l) → k < length c.sites → IsSmallItem f (item_at (length c.sites) r i k)
+  pub items_most : (i k : ℕ) → i < length (family c l) → k < length c.sites
+      → IsSmallItem f (item_at (length c.sites) r i k)
   pub total_most : r.total.hi ≤ 384000 * 2 ^ f

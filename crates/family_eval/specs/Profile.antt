@@ -33,6 +33,7 @@ pipeline_from f p k r s = record {
   cap = (ends_ratio f r.zero_stock pipeline_scale).hi;
 }
 
+-- those of part p at site k, of the case's own rates and at its stock
 abbrev pub pipeline_of : (f : ℕ) → CaseRows → List ℕ → ℕ → ℕ → Pipeline f
 pipeline_of f c s p k = pipeline_from f p k (pair_rates c p k) (stock c s p k)
 
@@ -40,6 +41,7 @@ pipeline_of f c s p k = pipeline_from f p k (pair_rates c p k) (stock c s p k)
 abbrev pub share_from : ℕ → PairRates → Ends
 share_from f r = ends_ratio f r.share.num r.share.den
 
+-- that of part p at site k, of the case's own rates
 abbrev pub share_of : ℕ → CaseRows → ℕ → ℕ → Ends
 share_of f c p k = share_from f (pair_rates c p k)
 
@@ -67,7 +69,8 @@ held_of f x = record { backorders = x.backorders; spread = x.spread }
 
 -- the shop unit i at the depot
 unfoldable pub depot_shop : (f : ℕ) → CaseRows → List ℕ → ℕ → Item f
-depot_shop f c s i = stocked f (pipeline_of f c s i 0) (depot_shop_ends f (pipeline_of f c s i 0).direct (pipeline_of f c s i 0).cap)
+depot_shop f c s i = stocked f (pipeline_of f c s i 0)
+    (depot_shop_ends f (pipeline_of f c s i 0).direct (pipeline_of f c s i 0).cap)
 
 -- what it feeds to its line unit there
 abbrev pub depot_feed : (f : ℕ) → CaseRows → List ℕ → ℕ → Feed f
@@ -77,19 +80,22 @@ depot_feed f c s i = feed_of f (share_of f c i 0) (depot_shop f c s i)
 unfoldable pub depot_line : (f : ℕ) → CaseRows → List ℕ → ℕ → Item f
 depot_line f c s l =
     stocked f (pipeline_of f c s l 0)
-    (depot_line_ends f (pipeline_of f c s l 0).direct (pipeline_of f c s l 0).cap (map (depot_feed f c s) (shop_units c l)))
+    (depot_line_ends f (pipeline_of f c s l 0).direct (pipeline_of f c s l 0).cap
+    (map (depot_feed f c s) (shop_units c l)))
 
 -- the shop unit i at base j
 unfoldable pub base_shop : (f : ℕ) → CaseRows → List ℕ → ℕ → ℕ → Item f
 base_shop f c s i j =
     stocked f (pipeline_of f c s i j)
-    (base_shop_ends f (pipeline_of f c s i j).direct (pipeline_of f c s i j).cap (feed_of f (share_of f c i j) (depot_shop f c s i)))
+    (base_shop_ends f (pipeline_of f c s i j).direct (pipeline_of f c s i j).cap
+    (feed_of f (share_of f c i j) (depot_shop f c s i)))
 
 -- the line unit l at base j
 unfoldable pub base_line : (f : ℕ) → CaseRows → List ℕ → ℕ → ℕ → Item f
 base_line f c s l j =
     stocked f (pipeline_of f c s l j)
-    (base_line_ends f (pipeline_of f c s l j).direct (pipeline_of f c s l j).cap (feed_of f (share_of f c l j) (depot_line f c s l))
+    (base_line_ends f (pipeline_of f c s l j).direct (pipeline_of f c s l j).cap
+    (feed_of f (share_of f c l j) (depot_line f c s l))
     (map (λ i. held_of f (base_shop f c s i j)) (shop_units c l)))
 
 -- ---- families
@@ -97,7 +103,8 @@ base_line f c s l j =
 -- the item of part p at site k
 abbrev pub item_of : (f : ℕ) → CaseRows → List ℕ → ℕ → ℕ → Item f
 item_of f c s p k =
-    by_pair (λ l i. depot_shop f c s i) (depot_line f c s) (λ l i j. base_shop f c s i j) (base_line f c s) (line_of c.parts p) p k
+    by_pair (λ l i. depot_shop f c s i) (depot_line f c s) (λ l i j. base_shop f c s i j) (base_line f c s)
+    (line_of c.parts p) p k
 
 -- the items of part p, by site
 abbrev pub part_items : (f : ℕ) → CaseRows → List ℕ → ℕ → List (Item f)
@@ -118,5 +125,6 @@ family_of f c l s = record {
   total = total_of f c s.list l;
 }
 
+-- the results of all line units, in part order
 abbrev pub families_of : (f : ℕ) → CaseRows → StockList → List (FamilyResult f)
 families_of f c s = map (λ l. family_of f c l s) (line_units c)

@@ -83,7 +83,8 @@ pub(crate) fn depot_line_item<const F: u32>(
     requires pair { IsPipeline F pair }
     requires few { length feeds.now ≤ 8 }
     requires small { All (IsSmallFeed F) feeds.now }
-    ensures { IfOk result (λ x. x ≡ stocked F pair.entry (depot_line_ends F pair.entry.direct pair.entry.cap feeds.now)) }
+    ensures { IfOk result (λ x. x ≡ stocked F pair.entry
+        (depot_line_ends F pair.entry.direct pair.entry.cap feeds.now)) }
 {
     stocked(alloc, pair, depot_line(pair.direct, pair.cap, feeds))
 }
@@ -96,7 +97,8 @@ pub(crate) fn base_shop_item<const F: u32>(
 ) -> Result<Item<F>, NoMemory>
     requires pair { IsPipeline F pair }
     requires small { IsSmallFeed F depot }
-    ensures { IfOk result (λ x. x ≡ stocked F pair.entry (base_shop_ends F pair.entry.direct pair.entry.cap depot.entry)) }
+    ensures { IfOk result (λ x. x ≡ stocked F pair.entry
+        (base_shop_ends F pair.entry.direct pair.entry.cap depot.entry)) }
 {
     stocked(alloc, pair, base_shop(pair.direct, pair.cap, depot))
 }
@@ -112,7 +114,8 @@ pub(crate) fn base_line_item<const F: u32>(
     requires small { IsSmallFeed F depot }
     requires few { length shops.now ≤ 8 }
     requires held { All (IsSmallHeld F) shops.now }
-    ensures { IfOk result (λ x. x ≡ stocked F pair.entry (base_line_ends F pair.entry.direct pair.entry.cap depot.entry shops.now)) }
+    ensures { IfOk result (λ x. x ≡ stocked F pair.entry
+        (base_line_ends F pair.entry.direct pair.entry.cap depot.entry shops.now)) }
 {
     stocked(alloc, pair, base_line(pair.direct, pair.cap, depot, shops))
 }

@@ -1,15 +1,16 @@
 //! The pipelines of a family, a line unit with its shop units, and its backorders at given stocks.
 //!
-//! A pipeline waits for what another is short of, and so the levels are computed in this order: each shop unit at the depot;
-//! the line unit there, whose repairs need the shop units; each shop unit at a base, which the depot sends; and the line unit
-//! at a base, which waits for the depot and for the base's own shop units. At each level the mean and the variance of the
-//! pipeline give the backorders at the stock and their variance, by the table of `moment_table`. This is VARI-METRIC: C. C.
-//! Sherbrooke, *Optimal Inventory Modeling of Systems*, 2nd edition, and *Operations Research* 34 (1986).
+//! A pipeline waits for what another is short of, and so the levels are computed in this order: each shop unit at the
+//! depot; the line unit there, whose repairs need the shop units; each shop unit at a base, which the depot sends;
+//! and the line unit at a base, which waits for the depot and for the base's own shop units. At each level the mean
+//! and the variance of the pipeline give the backorders at the stock and their variance, by the table of
+//! `moment_table`. This is VARI-METRIC: C. C. Sherbrooke, *Optimal Inventory Modeling of Systems*, 2nd edition, and
+//! *Operations Research* 34 (1986).
 //!
-//! Mean and variance of a pipeline are capped at its mean where there is no stock anywhere: with stock they are never above it.
-//! All figures are intervals in units of `2^-F`, with F from 24 to 52. Their ends are pinned by the definitions in
-//! `specs/Profile.antt`, and that they hold the model's values is a law of these definitions ([`items_enclose`],
-//! [`families_enclose`]).
+//! Mean and variance of a pipeline are capped at its mean where there is no stock anywhere: with stock they are never
+//! above it. All figures are intervals in units of `2^-F`, with F from 24 to 52. Their ends are pinned by the
+//! definitions in `specs/Profile.antt`, and that they hold the model's values is a law of these definitions
+//! ([`items_enclose`], [`families_enclose`]).
 #![tactic(auto)]
 
 ghost use Rattle.std.specs.Prelude.{◌≡◌, ℕ, ◌<◌, IfOk, length};
@@ -48,12 +49,15 @@ pub use shops::{members, shop_units};
 
 /// The item of each pair encloses the model's figures at every depth from 1024 on, and none of them is above 256.
 pub fn items_enclose()
-    ensures encloses { (f : ℕ) (c : CaseRows) (s : StockList) (p k : ℕ) → CanEvaluate f c s → p < length c.parts → k < length c.sites
+    ensures encloses { (f : ℕ) (c : CaseRows) (s : StockList) (p k : ℕ) → CanEvaluate f c s → p < length c.parts
+        → k < length c.sites
         → EnclosesItem f c s.list p k (item_of f c s.list p k) }
     // The backorders of a line unit at a base, of which availability and the total are made.
     ensures line { (f : ℕ) (c : CaseRows) (s : StockList) (l j : ℕ) → CanEvaluate f c s → IsLine c l → IsBase c j
-        → Encloses f (item_of f c s.list l j).backorders.lo (item_of f c s.list l j).backorders.hi (λ n. ebo_0j c s.list n l j) }
-    ensures small { (f : ℕ) (c : CaseRows) (s : StockList) (p k : ℕ) → CanEvaluate f c s → p < length c.parts → k < length c.sites
+        → Encloses f (item_of f c s.list l j).backorders.lo (item_of f c s.list l j).backorders.hi
+        (λ n. ebo_0j c s.list n l j) }
+    ensures small { (f : ℕ) (c : CaseRows) (s : StockList) (p k : ℕ) → CanEvaluate f c s → p < length c.parts
+        → k < length c.sites
         → IsSmallItem f (item_of f c s.list p k) }
 {}
 
@@ -90,9 +94,9 @@ fn evaluate_family<const F: u32>(
 
 /// The items of a line unit and of its shop units at these stocks, and the family's total, in units of `2^-F`.
 ///
-/// The rates are those of the case, `line` is one of its line units, and the stocks are of this case and within its limits.
-/// Each end is exactly that of the definitions, which round once at each step. Each item encloses the model's figures at every
-/// depth from 1024 on, and the total encloses the family's. Want of memory is the only error.
+/// The rates are those of the case, `line` is one of its line units, and the stocks are of this case and within its
+/// limits. Each end is exactly that of the definitions, which round once at each step. Each item encloses the model's
+/// figures at every depth from 1024 on, and the total encloses the family's. Want of memory is the only error.
 pub fn evaluate<const F: u32>(
     alloc: Global,
     case: &Case,
@@ -121,7 +125,8 @@ pub fn evaluate_all<const F: u32>(
     requires inputs { CanEvaluate F case.now stocks.now }
     requires rates { AreRatesOf case.now rates.now }
     ensures ends { IfOk result (λ v. v.items ≡ families_of F case.now stocks.now) }
-    ensures encloses { IfOk result (λ v. AllZip (EnclosesFamily F case.now stocks.now.list) (line_units case.now) v.items) }
+    ensures encloses { IfOk result (λ v. AllZip (EnclosesFamily F case.now stocks.now.list)
+        (line_units case.now) v.items) }
     ensures small { IfOk result (λ v. AllZip (IsSmallFamily F case.now) (line_units case.now) v.items) }
 {
     let inputs = Inputs::of(case, rates, stocks);

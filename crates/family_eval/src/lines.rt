@@ -29,7 +29,9 @@ fn depot_feeds<const F: u32>(
     requires few { length shops.now ≤ 8 }
     requires shops { All (λ p. p.0 < length inputs.now.case.parts) shops.now }
     requires items { items.now ≡ flat_map (λ p. part_items F inputs.now.case inputs.now.stocks.list p.0) shops.now }
-    ensures { IfOk result (λ v. v.items ≡ map (λ p. feed_of F (share_of F inputs.now.case p.0 0) (item_of F inputs.now.case inputs.now.stocks.list p.0 0)) shops.now) }
+    ensures { IfOk result (λ v. v.items ≡ map
+        (λ p. feed_of F (share_of F inputs.now.case p.0 0) (item_of F inputs.now.case inputs.now.stocks.list p.0 0))
+        shops.now) }
 {
     let sites = usize::from(inputs.sites());
     let mut feeds = Vec::new(alloc);
@@ -52,7 +54,8 @@ fn held_at<const F: u32>(
     requires site { site.0 < length inputs.now.case.sites }
     requires few { length shops.now ≤ 8 }
     requires items { items.now ≡ flat_map (λ p. part_items F inputs.now.case inputs.now.stocks.list p.0) shops.now }
-    ensures { IfOk result (λ v. v.items ≡ map (λ p. held_of F (item_of F inputs.now.case inputs.now.stocks.list p.0 site.0)) shops.now) }
+    ensures { IfOk result (λ v. v.items ≡ map
+        (λ p. held_of F (item_of F inputs.now.case inputs.now.stocks.list p.0 site.0)) shops.now) }
 {
     let sites = usize::from(inputs.sites());
     let mut held = Vec::new(alloc);
@@ -137,7 +140,8 @@ pub(crate) fn total_of<const F: u32>(items: &[Item<F>], weight: u32) -> Iv<F>
     requires some { 0 < length items.now }
     requires few { length items.now ≤ 16 }
     requires small { All (IsSmallItem F) items.now }
-    ensures { result ≡ added (ends_exact F 0) (λ j. ends_times (get_or items.now (j + 1) (no_item F)).backorders weight) (length items.now - 1) }
+    ensures { result ≡ added (ends_exact F 0) (λ j. ends_times (get_or items.now (j + 1) (no_item F)).backorders weight)
+        (length items.now - 1) }
 {
     let mut total = Iv::exact(0);
     for j in 1..items.len() {

@@ -102,7 +102,8 @@ pub(crate) fn all_shop_items<const F: u32>(
 ) -> Result<Vec<Item<F>>, NoMemory>
     requires scale { InScale F }
     requires shops { All (λ p. IsShopUnit inputs.now.case p.0) shops.now }
-    ensures { IfOk result (λ v. v.items ≡ flat_map (λ p. part_items F inputs.now.case inputs.now.stocks.list p.0) shops.now) }
+    ensures { IfOk result (λ v. v.items ≡ flat_map
+        (λ p. part_items F inputs.now.case inputs.now.stocks.list p.0) shops.now) }
 {
     let mut items = Vec::new(alloc);
     for part in shops {

@@ -6,16 +6,19 @@ use Rattle.std.proofs.Math.Nat.{mul-pos, le-max_left, le-max_right, mul-le-mul_l
 use Rattle.std.proofs.lemmas.Nat.{mul-le, le-div, pow_pos, shl_below, div-add-mod', mod_below}
 use Rattle.std.proofs.lemmas.Grind.{div_ceil_times}
 use Rattle.exact_model.specs.Fraction.{Fraction, whole, larger, ◌≈◌, ◌≤ℚ◌, ◌+ℚ◌, ◌-ℚ◌, ◌*ℚ◌, ◌/ℚ◌}
-use Rattle.exact_model.proofs.Fractions.{over, same, le-same, turned, ◌≈≈◌, mul-cancel, quotient, contains-same, larger_is}
+use Rattle.exact_model.proofs.Fractions.{over, same, le_same, turned, ◌≈≈◌, mul_cancel, quotient, contains_same, larger_is}
 use Rattle.fixed_interval.specs.Ends.{Ends, In, ends_exact, ends_add, ends_less, ends_times, ends_over, ends_mul, ends_div, ends_ratio, ends_max, ends_capped, InScale, IsInterval}
 use Rattle.fixed_interval.specs.Text.{text_value}
 
+-- a factor above 0 on both sides may be left out
 pub cancel : (k a b : ℕ) → 0 < k → a * k ≤ b * k → a ≤ b
 cancel k a b p h = grind arith
 
-pub positive : (a b : ℕ) → 0 < a → 0 < b → 0 < a * b
-positive a b p q = grind arith
+-- an interval that contains a fraction has its ends in order
+pub ends_ordered : (f : ℕ) (x : Ends) (q : Fraction) → In f x q → x.lo ≤ x.hi
+ends_ordered f x q h = cancel q.den x.lo x.hi q.positive (omega (arith, h.low, h.high))
 
+-- a quotient rounded up, times its divisor, is at least the dividend
 pub ceil_above : (a b : ℕ) → 0 < b → a ≤ div_ceil a b * b
 ceil_above a b p = (div_ceil_times a b p).0
 
@@ -25,6 +28,7 @@ add_low o al a b bl c d h k = omega (arith, mul-le-mul_left d h, mul-le-mul_left
 add_high : (o ah a b bh c d : ℕ) → a * o ≤ ah * b → c * o ≤ bh * d → (a * d + c * b) * o ≤ (ah + bh) * (b * d)
 add_high o ah a b bh c d h k = omega (arith, mul-le-mul_left d h, mul-le-mul_left b k)
 
+-- the sum of two intervals contains the sum of what they contain
 pub add_encloses : (f : ℕ) (a b : Ends) (q r : Fraction) → In f a q → In f b r → In f (ends_add a b) (q +ℚ r)
 unfolding ◌+ℚ◌
 add_encloses f a b q r h k = record {
@@ -50,6 +54,7 @@ less_high o ah a b bl c d h k =
     let z : o * (a * d) - o * (c * b) ≤ (b * d) * ah - (b * d) * bl = omega arith in
     omega arith
 
+-- the difference of two intervals contains the difference, cut at 0, of what they contain
 pub less_encloses : (f : ℕ) (a b : Ends) (q r : Fraction) → In f a q → In f b r → In f (ends_less a b) (q -ℚ r)
 unfolding ◌-ℚ◌
 less_encloses f a b q r h k = record {
@@ -57,6 +62,7 @@ less_encloses f a b q r h k = record {
   high = less_high (2 ^ f) a.hi q.num q.den b.lo r.num r.den h.high k.low;
 }
 
+-- an interval times a whole number contains so many times what it contains
 pub times_encloses : (f : ℕ) (a : Ends) (k : ℕ) (q : Fraction) → In f a q → In f (ends_times a k) (whole k *ℚ q)
 unfolding ◌*ℚ◌ whole
 times_encloses f a k q h = record {
@@ -64,6 +70,7 @@ times_encloses f a k q h = record {
   high = omega (arith, mul-le-mul_left k h.high);
 }
 
+-- the interval of a whole number contains it
 pub exact_encloses : (f k : ℕ) → In f (ends_exact f k) (whole k)
 unfolding whole
 exact_encloses f k = record { low = omega arith; high = omega arith }
@@ -80,6 +87,7 @@ mul_high o l al a b bl c d p m h k =
     let y : (a * o) * (c * o) ≤ (al * b) * (bl * d) = mul-le-mul h k in
     le_of_mul-le-mul_right {m = (a * c) * o} {n = l * (b * d)} {k = o} (omega arith) p
 
+-- the product of two intervals contains the product of what they contain
 pub mul_encloses : (f : ℕ) (a b : Ends) (q r : Fraction) → In f a q → In f b r → In f (ends_mul f a b) (q *ℚ r)
 unfolding ◌*ℚ◌
 mul_encloses f a b q r h k = record {
@@ -106,19 +114,21 @@ div_high o l ah a b bl c d p m h k =
     let z : (a * o) * (bl * d) ≤ (a * o) * (c * o) = mul-le-mul_left (a * o) k in
     le_of_mul-le-mul_right {m = (a * d) * o} {n = l * (b * c)} {k = bl} (omega arith) p
 
+-- the quotient of two fractions, as one fraction
 pub quotient_is : (q r : Fraction) (p : 0 < r.num) → q /ℚ r ≈ over (q.num * r.den) (q.den * r.num) (mul-pos q.positive p)
 unfolding ◌*ℚ◌
-quotient_is q r p = mul-cancel r p (quotient q r p ≈≈ record { cross = omega arith })
+quotient_is q r p = mul_cancel r p (quotient q r p ≈≈ record { cross = omega arith })
 
 -- a fraction that an interval above 0 contains is above 0
 pub above_zero : (f : ℕ) (b : Ends) (r : Fraction) → 0 < b.lo → In f b r → 0 < r.num
 above_zero f b r p k = divisor_positive (2 ^ f) b.lo r.num r.den p r.positive k.low
 
+-- the quotient of two intervals contains the quotient of what they contain, where the divisor's are above 0
 pub div_encloses : (f : ℕ) (a b : Ends) (q r : Fraction) → 0 < b.lo → b.lo ≤ b.hi → In f a q → In f b r → In f (ends_div f a b) (q /ℚ r)
 div_encloses f a b q r p o h k =
     let s : 0 < r.num = above_zero f b r p k in
     let t : 0 < b.hi = omega arith in
-    contains-same (turned (quotient_is q r s)) (record {
+    contains_same (turned (quotient_is q r s)) (record {
       low = div_low (2 ^ f) (a.lo * 2 ^ f / b.hi) a.lo q.num q.den b.hi r.num r.den t (div-mul-le_self (a.lo * 2 ^ f) b.hi) h.low k.high;
       high = div_high (2 ^ f) (div_ceil (a.hi * 2 ^ f) b.lo) a.hi q.num q.den b.lo r.num r.den p (ceil_above (a.hi * 2 ^ f) b.lo p) h.high k.low;
     })
@@ -135,10 +145,12 @@ over_parts f a k q p h = record {
   high = over_high (2 ^ f) a.hi k q.num q.den (div_ceil a.hi k) (ceil_above a.hi k p) h.high;
 }
 
+-- an interval over a whole number above 0 contains the quotient of what it contains
 pub over_encloses : (f : ℕ) (a : Ends) (k : ℕ) (q : Fraction) → 0 < k → In f a q → In f (ends_over a k) (q /ℚ whole k)
 unfolding whole
-over_encloses f a k q p h = contains-same (turned (quotient_is q (record { num = k; den = 1; positive = zero-lt-suc 0 }) p)) (over_parts f a k q p h)
+over_encloses f a k q p h = contains_same (turned (quotient_is q (record { num = k; den = 1; positive = zero-lt-suc 0 }) p)) (over_parts f a k q p h)
 
+-- the interval of a ratio contains it
 pub ratio_encloses : (f num den : ℕ) (p : 0 < den) → In f (ends_ratio f num den) (over num den p)
 ratio_encloses f num den p = record {
   low = div-mul-le_self (num * 2 ^ f) den;
@@ -147,6 +159,7 @@ ratio_encloses f num den p = record {
 
 -- ---- order
 
+-- what bounds the smaller of two fractions from below bounds the larger
 pub low_le : (o lo : ℕ) (q r : Fraction) → q ≤ℚ r → lo * q.den ≤ q.num * o → lo * r.den ≤ r.num * o
 low_le o lo q r h k = low_le_step o lo q.num q.den r.num r.den q.positive h.cross k
   where
@@ -156,6 +169,7 @@ low_le o lo q r h k = low_le_step o lo q.num q.den r.num r.den q.positive h.cros
         let j : d * (lo * b) ≤ d * (a * o) = mul-le-mul_left d k in
         le_of_mul-le-mul_right {m = lo * d} {n = c * o} {k = b} (omega arith) p
 
+-- what bounds the larger of two fractions from above bounds the smaller
 pub high_le : (o hi : ℕ) (q r : Fraction) → q ≤ℚ r → r.num * o ≤ hi * r.den → q.num * o ≤ hi * q.den
 high_le o hi q r h k = high_le_step o hi q.num q.den r.num r.den r.positive h.cross k
   where
@@ -171,13 +185,14 @@ max_times a b d n h k = elim (max_is a b) [ inl e ↦ rw e h | inr e ↦ rw e k 
     max_is : (a b : ℕ) → (max a b ≡ a) ⊎ (max a b ≡ b)
     max_is a b = grind arith
 
+-- the larger of two intervals, end by end, contains the larger of what they contain
 pub max_encloses : (f : ℕ) (a b : Ends) (q r : Fraction) → In f a q → In f b r → In f (ends_max a b) (larger q r)
 max_encloses f a b q r h k = elim (larger_is q r) [
-  | inl e ↦ contains-same (turned e.0) (record {
+  | inl e ↦ contains_same (turned e.0) (record {
     low = max_times a.lo b.lo q.den (q.num * 2 ^ f) h.low (low_le (2 ^ f) b.lo r q e.1 k.low);
     high = le_trans h.high (mul-le-mul_right q.den (le-max_left a.hi b.hi));
   })
-  | inr e ↦ contains-same (turned e.0) (record {
+  | inr e ↦ contains_same (turned e.0) (record {
     low = max_times a.lo b.lo r.den (r.num * 2 ^ f) (low_le (2 ^ f) a.lo q r e.1 h.low) k.low;
     high = le_trans k.high (mul-le-mul_right r.den (le-max_right a.hi b.hi));
   })
@@ -189,9 +204,11 @@ grows a b k h = mul-le-mul_right k h
 grows_turned : (a b k : ℕ) → b ≤ a → b * k ≤ a * k
 grows_turned a b k h = mul-le-mul_right k h
 
+-- the smaller of two numbers, times a third, is the smaller of both times it
 pub min_steps : (a c k : ℕ) → min a c * k ≡ min (a * k) (c * k)
 min_steps a c k = grind (arith, grows a c k, grows_turned a c k)
 
+-- an interval cut at a cap still contains what is at most the cap
 pub capped_encloses : (f : ℕ) (a : Ends) (c : ℕ) (q : Fraction) → q.num * 2 ^ f ≤ c * q.den → In f a q → In f (ends_capped a c) q
 capped_encloses f a c q h x = record {
   low = omega (arith, min_steps a.lo c q.den, x.low);
@@ -200,18 +217,29 @@ capped_encloses f a c q h x = record {
 
 -- ---- the ends of an answer are in order and in range
 
-pub up_to : (f : ℕ) → f ≤ 52 → 2 ^ f ≤ 2 ^ 52
-up_to f h = pow-le-pow_right (lit< tt) h
+-- the unit is at most 2^52
+pub unit_most : (f : ℕ) → f ≤ 52 → 2 ^ f ≤ 2 ^ 52
+unit_most f h = pow-le-pow_right (lit< tt) h
 
+-- a number below 2^(127 - f), in units, is below 2^127
 pub scaled_room : (f x : ℕ) → f ≤ 52 → x < 2 ^ (127 - f) → x * 2 ^ f < 2 ^ 127
 scaled_room f x h r =
     let e : (127 - f) + f ≡ 127 = omega arith in
     let b = shl_below x (127 - f) f r in
     rw e at b
 
+-- a quotient rounded up is at most its dividend
 pub ceil_le : (a b : ℕ) → 0 < b → div_ceil a b ≤ a
 ceil_le a b p = omega (arith, div-add-mod' a b, le-mul_of_pos_right (a / b) p)
 
+-- a quotient of at most top is still so when it is rounded up
+pub ceil_most : (a b top : ℕ) → 0 < b → a ≤ top * b → div_ceil a b ≤ top
+ceil_most a b top p h =
+    let t = div_ceil_times a b p in
+    let x : div_ceil a b < top + 1 = lt_of_mul-lt-mul_right b (omega (arith, t.1, h)) in
+    omega arith
+
+-- a quotient rounded down is at most one rounded up of a dividend no smaller by a divisor no larger
 pub floor_below_ceil : (a b c d : ℕ) → a ≤ c → 0 < d → d ≤ b → a / b ≤ div_ceil c d
 floor_below_ceil a b c d h p q =
     let k : a / b ≤ c / d = le-div (a / b) c d p (omega (arith, mul-le-mul_left (a / b) q, div-mul-le_self a b, h)) in
@@ -225,6 +253,7 @@ ceil_is a b k p l u =
     let y : div_ceil a b < k + 1 = lt_of_mul-lt-mul_right b (omega (arith, t.1, l)) in
     omega arith
 
+-- to round up is to add the divisor less 1 and round down
 pub ceil_by_sum : (a b : ℕ) → 0 < b → (a + (b - 1)) / b ≡ div_ceil a b
 ceil_by_sum a b p =
     let t = div_ceil_times a b p in
@@ -237,6 +266,7 @@ floor_split num den s p =
     let e : num * s ≡ num % den * s + den * (num / den * s) = omega (arith, ap (λ n. n * s) d) in
     rw (e, add-mul-div_left (num % den * s) (num / den * s) p) (omega arith)
 
+-- a scaled quotient rounded up is its whole part scaled and what is left, scaled and rounded up
 pub ceil_split : (num den s : ℕ) → 0 < den → num / den * s + div_ceil (num % den * s) den ≡ div_ceil (num * s) den
 ceil_split num den s p =
     let d = ap (λ n. n * s) (div-add-mod' num den) in
@@ -250,6 +280,7 @@ ceil_after num den start p h =
     let t = div_ceil_times (num - start * den) den p in
     ceil_is num den (start + div_ceil (num - start * den) den) p (omega (arith, t.0)) (omega (arith, t.1, h))
 
+-- a ratio of at most 4096 is an interval: ends in order and in range
 pub ratio_valid : (f num den : ℕ) → InScale f → 0 < den → num ≤ 4096 * den → IsInterval f (ends_ratio f num den)
 ratio_valid f num den v p r = record {
   least_scale = v.0;
@@ -259,9 +290,10 @@ ratio_valid f num den v p r = record {
       let t = div_ceil_times (num * 2 ^ f) den p in
       let x : div_ceil (num * 2 ^ f) den < 4096 * 2 ^ f + 1 =
       lt_of_mul-lt-mul_right den (omega (arith, t.1, mul-le-mul_right (2 ^ f) r)) in
-      omega (arith, x, up_to f v.1);
+      omega (arith, x, unit_most f v.1);
 }
 
+-- a product whose upper ends have room is an interval: ends in order and in range
 pub mul_valid : (f : ℕ) (a b : Ends) → IsInterval f a → IsInterval f b → a.hi * b.hi < 2 ^ 127 → IsInterval f (ends_mul f a b)
 mul_valid f a b v w r = record {
   least_scale = v.least_scale;
@@ -270,6 +302,7 @@ mul_valid f a b v w r = record {
   room = omega (arith, ceil_le (a.hi * b.hi) (2 ^ f) (pow_pos f));
 }
 
+-- a quotient whose divisor is above 0 and whose dividend has room is an interval: ends in order and in range
 pub div_valid : (f : ℕ) (a b : Ends) → IsInterval f a → 0 < b.lo → b.lo ≤ b.hi → a.hi < 2 ^ (127 - f) → IsInterval f (ends_div f a b)
 div_valid f a b v p o r = record {
   least_scale = v.least_scale;
@@ -278,22 +311,25 @@ div_valid f a b v p o r = record {
   room = omega (arith, ceil_le (a.hi * 2 ^ f) b.lo p, scaled_room f a.hi v.most_scale r);
 }
 
+-- what a division by at most 2^75 leaves, in units, is below 2^127
 pub rest_room : (f num den : ℕ) → f ≤ 52 → 0 < den → den ≤ 2 ^ 75 → num % den * 2 ^ f < 2 ^ 127
 rest_room f num den h p q =
     let a : num % den + 1 ≤ 2 ^ 75 = omega (arith, mod_below num den p) in
-    let b = mul-le (num % den + 1) (2 ^ f) (2 ^ 75) (2 ^ 52) a (up_to f h) in
+    let b = mul-le (num % den + 1) (2 ^ f) (2 ^ 75) (2 ^ 52) a (unit_most f h) in
     omega (arith, b, pow_pos f)
 
 -- ---- for callers: products of values below whole numbers
 
+-- upper ends of at most x and y, whose product is below 2^23, have room to be multiplied
 pub mul_room : (f x y : ℕ) (a b : Ends) → f ≤ 52 → a.hi ≤ x * 2 ^ f → b.hi ≤ y * 2 ^ f → x * y < 2 ^ 23 → a.hi * b.hi < 2 ^ 127
 mul_room f x y a b s p q r =
-    let u = up_to f s in
+    let u = unit_most f s in
     let m = mul-le a.hi b.hi (x * 2 ^ f) (y * 2 ^ f) p q in
     let v = mul-le (2 ^ f) (2 ^ f) (2 ^ 52) (2 ^ 52) u u in
     let w = mul-le-mul_left (x * y) v in
     omega (arith, m, w, r)
 
+-- the upper end of a product is at most the product of what the upper ends are at most
 pub mul_below : (f x y : ℕ) (a b : Ends) → a.hi ≤ x * 2 ^ f → b.hi ≤ y * 2 ^ f → (ends_mul f a b).hi ≤ x * y * 2 ^ f
 mul_below f x y a b p q =
     let t = div_ceil_times (a.hi * b.hi) (2 ^ f) (pow_pos f) in
@@ -311,10 +347,10 @@ wider f a b q p r x = record {
 
 -- ---- ends in decimals
 
-text_value-is : (places n : ℕ) (p : 0 < 10 ^ places) → text_value places n ≈ over n (10 ^ places) p
+text_value_is : (places n : ℕ) (p : 0 < 10 ^ places) → text_value places n ≈ over n (10 ^ places) p
 unfolding ◌*ℚ◌ whole
-text_value-is places n p =
-    mul-cancel (whole (10 ^ places)) (unfold whole in p)
+text_value_is places n p =
+    mul_cancel (whole (10 ^ places)) (unfold whole in p)
     (quotient (whole n) (whole (10 ^ places)) (unfold whole in p) ≈≈ record { cross = omega arith })
 
 down_step : (o lo a b m n : ℕ) → 0 < o → n * o ≤ lo * m → lo * b ≤ a * o → n * b ≤ a * m
@@ -333,18 +369,18 @@ up_step o hi a b m n p h k =
 pub down_below : (f places : ℕ) (a : Ends) (q : Fraction) → In f a q → text_value places (a.lo * 10 ^ places / 2 ^ f) ≤ℚ q
 down_below f places a q h =
     let p : 0 < 10 ^ places = one-le-pow places 10 (lit< tt) in
-    le-same (turned (text_value-is places (a.lo * 10 ^ places / 2 ^ f) p)) (same q)
+    le_same (turned (text_value_is places (a.lo * 10 ^ places / 2 ^ f) p)) (same q)
     (record { cross = down_step (2 ^ f) a.lo q.num q.den (10 ^ places) (a.lo * 10 ^ places / 2 ^ f) (pow_pos f) (div-mul-le_self (a.lo * 10 ^ places) (2 ^ f)) h.low })
 
 -- the upper end in decimals is at least each fraction of the interval
 pub up_above : (f places : ℕ) (a : Ends) (q : Fraction) → In f a q → q ≤ℚ text_value places (div_ceil (a.hi * 10 ^ places) (2 ^ f))
 up_above f places a q h =
     let p : 0 < 10 ^ places = one-le-pow places 10 (lit< tt) in
-    le-same (same q) (turned (text_value-is places (div_ceil (a.hi * 10 ^ places) (2 ^ f)) p))
+    le_same (same q) (turned (text_value_is places (div_ceil (a.hi * 10 ^ places) (2 ^ f)) p))
     (record { cross = up_step (2 ^ f) a.hi q.num q.den (10 ^ places) (div_ceil (a.hi * 10 ^ places) (2 ^ f)) (pow_pos f) (ceil_above (a.hi * 10 ^ places) (2 ^ f) (pow_pos f)) h.high })
 
 -- a fraction in decimals, rounded down, is at most that fraction
 pub ratio_below : (num den places : ℕ) (p : 0 < den) → text_value places (num * 10 ^ places / den) ≤ℚ over num den p
 ratio_below num den places p =
-    le-same (turned (text_value-is places (num * 10 ^ places / den) (one-le-pow places 10 (lit< tt)))) (same (over num den p))
+    le_same (turned (text_value_is places (num * 10 ^ places / den) (one-le-pow places 10 (lit< tt)))) (same (over num den p))
     (record { cross = div-mul-le_self (num * 10 ^ places) den })

@@ -37,6 +37,7 @@ ends_exact f k = record { lo = k * 2 ^ f; hi = k * 2 ^ f }
 abbrev pub ends_ratio : ℕ → ℕ → ℕ → Ends
 ends_ratio f num den = record { lo = num * 2 ^ f / den; hi = div_ceil (num * 2 ^ f) den }
 
+-- a and b together
 abbrev pub ends_add : Ends → Ends → Ends
 ends_add a b = record { lo = a.lo + b.lo; hi = a.hi + b.hi }
 
@@ -52,12 +53,15 @@ ends_times a k = record { lo = a.lo * k; hi = a.hi * k }
 abbrev pub ends_over : Ends → ℕ → Ends
 ends_over a k = record { lo = a.lo / k; hi = div_ceil a.hi k }
 
+-- a times b
 abbrev pub ends_mul : ℕ → Ends → Ends → Ends
 ends_mul f a b = record { lo = a.lo * b.lo / 2 ^ f; hi = div_ceil (a.hi * b.hi) (2 ^ f) }
 
+-- a over b
 abbrev pub ends_div : ℕ → Ends → Ends → Ends
 ends_div f a b = record { lo = a.lo * 2 ^ f / b.hi; hi = div_ceil (a.hi * 2 ^ f) b.lo }
 
+-- the larger of a and b, end by end
 abbrev pub ends_max : Ends → Ends → Ends
 ends_max a b = record { lo = max a.lo b.lo; hi = max a.hi b.hi }
 

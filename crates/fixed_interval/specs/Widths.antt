@@ -1,8 +1,10 @@
 -- The counts of binary places that can be asked for.
 use Rattle.std.specs.Prelude.{◌≡◌, ℕ, Bool, true, ◌==◌, ◌||◌}
 
+-- so many binary places may be asked for: 32, 48 or 52
 abbrev pub is_width : ℕ → Bool
 is_width f = (f == 32) || (f == 48) || (f == 52)
 
+-- the same as a statement
 abbrev pub IsWidth : ℕ → Type 0
 IsWidth f = is_width f ≡ true

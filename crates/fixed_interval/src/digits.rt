@@ -55,7 +55,8 @@ impl Digits {
 }
 
 /// A text of decimals reads as the number that it was made of, and has one spelling: digits on both sides of a point,
-/// as many as there are places behind it, and no needless 0 in front. It holds where the whole part has at most 64 digits.
+/// as many as there are places behind it, and no needless 0 in front. It holds where the whole part has at most 64
+/// digits.
 pub fn texts_read()
     ensures { (places n : ℕ) → n / 10 ^ places < 10 ^ 64 → IsFixedText places n (fixed_text places n) }
 {}

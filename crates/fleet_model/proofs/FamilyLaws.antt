@@ -1,5 +1,5 @@
 -- The families make up the parts: costs add up over them.
-use Rattle.std.proofs.Common.{◌≡◌, ◌≢◌, ℕ, zero, suc, ◌+◌, ◌*◌, ◌<◌, ◌≤◌, ◌⊎◌, Bool, true, false, cond, ◌&&◌, List, [], ◌∷◌, length, filter, sum_by, count_by, bytes_eq, Option, Some, None, is_none, IfSome, inl, inr, refl, sym, ap, ap₂, ◌∙◌, arith}
+use Rattle.std.proofs.Common.{◌≡◌, ◌≢◌, ℕ, zero, suc, ◌+◌, ◌*◌, ◌<◌, ◌≤◌, Bool, true, false, cond, ◌&&◌, List, [], ◌∷◌, length, filter, sum_by, count_by, bytes_eq, Option, Some, None, is_none, IfSome, inl, inr, refl, sym, ap, ap₂, ◌∙◌, arith}
 use Rattle.std.specs.List.{range_with_len}
 use Rattle.std.proofs.lemmas.List.Sums.{sum_by-cons}
 use Rattle.spares_input.specs.Cases.{CaseRows}
@@ -9,6 +9,7 @@ use Rattle.spares_input.specs.Rows.{is_line}
 use Rattle.fleet_model.specs.Rows.{all_parts, line_units, shop_units}
 use Rattle.fleet_model.specs.Fleet.{part_cost, cost, family, family_cost}
 use Rattle.fleet_model.specs.Aims.{part_cost_beyond, family_cost_beyond, cost_beyond}
+use Rattle.fleet_model.proofs.SumLaws.{first_or_later}
 
 -- one part alone has this name, and it is a line unit
 pub record HasLine (c : CaseRows) (name : List ℕ) : Type 0 where
@@ -26,56 +27,58 @@ pub record HasFamilies (c : CaseRows) : Type 0 where
 abbrev where_true : Bool → ℕ → ℕ
 where_true b n = cond b n 0
 
-sum-filter_step : (b : Bool) (g : ℕ → ℕ) (x : ℕ) (xs : List ℕ) → sum_by g (cond b (x ∷ xs) xs) ≡ where_true b (g x) + sum_by g xs
-sum-filter_step true g x xs = sum_by-cons g x xs
-sum-filter_step false g x xs = omega arith
+sum_filter_step : (b : Bool) (g : ℕ → ℕ) (x : ℕ) (xs : List ℕ) → sum_by g (cond b (x ∷ xs) xs) ≡ where_true b (g x) + sum_by g xs
+sum_filter_step true g x xs = sum_by-cons g x xs
+sum_filter_step false g x xs = omega arith
 
-sum-filter : (t : ℕ → Bool) (g : ℕ → ℕ) (xs : List ℕ) → sum_by g (filter t xs) ≡ sum_by (λ x. where_true (t x) (g x)) xs
-sum-filter t g [] = refl
-sum-filter t g (x ∷ xs) =
-    sum-filter_step (t x) g x (filter t xs)
-    ∙ ap (λ z. where_true (t x) (g x) + z) (sum-filter t g xs)
+sum_filter : (t : ℕ → Bool) (g : ℕ → ℕ) (xs : List ℕ) → sum_by g (filter t xs) ≡ sum_by (λ x. where_true (t x) (g x)) xs
+sum_filter t g [] = refl
+sum_filter t g (x ∷ xs) =
+    sum_filter_step (t x) g x (filter t xs)
+    ∙ ap (λ z. where_true (t x) (g x) + z) (sum_filter t g xs)
     ∙ sym (sum_by-cons (λ y. where_true (t y) (g y)) x xs)
 
-pub sum-plus : (f g : ℕ → ℕ) (xs : List ℕ) → sum_by (λ x. f x + g x) xs ≡ sum_by f xs + sum_by g xs
-sum-plus f g [] = refl
-sum-plus f g (x ∷ xs) = omega (arith, sum_by-cons (λ y. f y + g y) x xs, sum_by-cons f x xs, sum_by-cons g x xs, sum-plus f g xs)
+-- the sum of two terms for each member is the two sums together
+pub sum_plus : (f g : ℕ → ℕ) (xs : List ℕ) → sum_by (λ x. f x + g x) xs ≡ sum_by f xs + sum_by g xs
+sum_plus f g [] = refl
+sum_plus f g (x ∷ xs) = omega (arith, sum_by-cons (λ y. f y + g y) x xs, sum_by-cons f x xs, sum_by-cons g x xs, sum_plus f g xs)
 
-pub sum-each : (f g : ℕ → ℕ) (xs : List ℕ) → ((x : ℕ) → f x ≡ g x) → sum_by f xs ≡ sum_by g xs
-sum-each f g [] h = refl
-sum-each f g (x ∷ xs) h = omega (arith, sum_by-cons f x xs, sum_by-cons g x xs, h x, sum-each f g xs h)
+-- sums over a list are equal where the terms are equal everywhere
+pub sum_each : (f g : ℕ → ℕ) (xs : List ℕ) → ((x : ℕ) → f x ≡ g x) → sum_by f xs ≡ sum_by g xs
+sum_each f g [] h = refl
+sum_each f g (x ∷ xs) h = omega (arith, sum_by-cons f x xs, sum_by-cons g x xs, h x, sum_each f g xs h)
 
-sum-zero : (xs : List ℕ) → sum_by (λ x. 0) xs ≡ 0
-sum-zero [] = refl
-sum-zero (x ∷ xs) = omega (arith, sum_by-cons (λ y. 0) x xs, sum-zero xs)
+sum_zero : (xs : List ℕ) → sum_by (λ x. 0) xs ≡ 0
+sum_zero [] = refl
+sum_zero (x ∷ xs) = omega (arith, sum_by-cons (λ y. 0) x xs, sum_zero xs)
 
 -- the order of two sums
-pub sum-turned : (f : ℕ → ℕ → ℕ) (xs ys : List ℕ) → sum_by (λ x. sum_by (f x) ys) xs ≡ sum_by (λ y. sum_by (λ x. f x y) xs) ys
-sum-turned f [] ys = sym (sum-zero ys)
-sum-turned f (x ∷ xs) ys =
+pub sum_turned : (f : ℕ → ℕ → ℕ) (xs ys : List ℕ) → sum_by (λ x. sum_by (f x) ys) xs ≡ sum_by (λ y. sum_by (λ x. f x y) xs) ys
+sum_turned f [] ys = sym (sum_zero ys)
+sum_turned f (x ∷ xs) ys =
     sum_by-cons (λ z. sum_by (f z) ys) x xs
-    ∙ ap (λ z. sum_by (f x) ys + z) (sum-turned f xs ys)
-    ∙ sym (sum-plus (f x) (λ y. sum_by (λ z. f z y) xs) ys)
-    ∙ sum-each _ _ ys (λ y. sym (sum_by-cons (λ z. f z y) x xs))
+    ∙ ap (λ z. sum_by (f x) ys + z) (sum_turned f xs ys)
+    ∙ sym (sum_plus (f x) (λ y. sum_by (λ z. f z y) xs) ys)
+    ∙ sum_each _ _ ys (λ y. sym (sum_by-cons (λ z. f z y) x xs))
 
 counted_step : (b : Bool) (n : ℕ) → where_true b n ≡ where_true b 1 * n
 counted_step true n = omega arith
 counted_step false n = omega arith
 
-sum-counted : (t : ℕ → Bool) (n : ℕ) (xs : List ℕ) → sum_by (λ x. where_true (t x) n) xs ≡ count_by t xs * n
-sum-counted t n [] = omega arith
-sum-counted t n (x ∷ xs) = omega (arith, sum_by-cons (λ y. where_true (t y) n) x xs, ap (λ z. z * n) (sum_by-cons (λ y. where_true (t y) 1) x xs), counted_step (t x) n, sum-counted t n xs)
+sum_counted : (t : ℕ → Bool) (n : ℕ) (xs : List ℕ) → sum_by (λ x. where_true (t x) n) xs ≡ count_by t xs * n
+sum_counted t n [] = omega arith
+sum_counted t n (x ∷ xs) = omega (arith, sum_by-cons (λ y. where_true (t y) n) x xs, ap (λ z. z * n) (sum_by-cons (λ y. where_true (t y) 1) x xs), counted_step (t x) n, sum_counted t n xs)
 
--- in a range
-sum-range : (f g : ℕ → ℕ) (n a : ℕ) → ((x : ℕ) → x < a + n → f x ≡ g x) → sum_by f (range_with_len a n) ≡ sum_by g (range_with_len a n)
-sum-range f g zero a h = refl
-sum-range f g (suc n) a h =
+-- sums over numbers in a row are equal where the terms are equal below the end
+pub sum_range : (f g : ℕ → ℕ) (n a : ℕ) → ((x : ℕ) → x < a + n → f x ≡ g x) → sum_by f (range_with_len a n) ≡ sum_by g (range_with_len a n)
+sum_range f g zero a h = refl
+sum_range f g (suc n) a h =
     omega (
       arith,
       sum_by-cons f a (range_with_len (a + 1) n),
       sum_by-cons g a (range_with_len (a + 1) n),
       h a (omega arith),
-      sum-range f g n (a + 1) (λ x l. h x (omega arith)),
+      sum_range f g n (a + 1) (λ x l. h x (omega arith)),
     )
 
 none_there : (t : ℕ → Bool) (n a : ℕ) → ((x : ℕ) → a ≤ x → x < a + n → t x ≡ false) → count_by t (range_with_len a n) ≡ 0
@@ -87,9 +90,6 @@ none_there t (suc n) a h =
       ap (λ b. where_true b 1) (h a (omega arith) (omega arith)),
       none_there t n (a + 1) (λ x l m. h x (omega arith) (omega arith)),
     )
-
-first_or_later : (a j : ℕ) → a ≤ j → (j ≡ a) ⊎ (a + 1 ≤ j)
-first_or_later a j h = grind arith
 
 one_there : (t : ℕ → Bool) (n a i : ℕ) → a ≤ i → i < a + n → t i ≡ true
     → ((x : ℕ) → x < a + n → x ≢ i → t x ≡ false) → count_by t (range_with_len a n) ≡ 1
@@ -123,16 +123,16 @@ both_step : (a b : Bool) → where_true a (where_true b 1) ≡ where_true (a && 
 both_step true b = refl
 both_step false b = refl
 
-count-lines : (c : CaseRows) (t : ℕ → Bool) → count_by t (line_units c) ≡ count_by (λ l. is_line_at c l && t l) (all_parts c)
-count-lines c t = sum-filter (is_line_at c) (λ l. where_true (t l) 1) (all_parts c) ∙ sum-each _ _ (all_parts c) (λ l. both_step (is_line_at c l) (t l))
+count_lines : (c : CaseRows) (t : ℕ → Bool) → count_by t (line_units c) ≡ count_by (λ l. is_line_at c l && t l) (all_parts c)
+count_lines c t = sum_filter (is_line_at c) (λ l. where_true (t l) 1) (all_parts c) ∙ sum_each _ _ (all_parts c) (λ l. both_step (is_line_at c l) (t l))
 
 and_false : (a : Bool) → a && false ≡ false
 and_false true = refl
 and_false false = refl
 
-is_line-none : (o : Option (List ℕ)) → o ≡ None → is_none o ≡ true
-is_line-none None h = refl
-is_line-none (Some x) h = ap (λ o. is_none o) h
+is_line_none : (o : Option (List ℕ)) → o ≡ None → is_none o ≡ true
+is_line_none None h = refl
+is_line_none (Some x) h = ap (λ o. is_none o) h
 
 other_name : (b : Bool) (a : Bool) (p i : ℕ) → (b ≡ true → p ≡ i) → p ≢ i → a && b ≡ false
 other_name true a p i h n = absurd (n (h refl))
@@ -142,35 +142,37 @@ other_name false a p i h n = and_false a
 once : (c : CaseRows) (p : ℕ) (parent : Option (List ℕ)) → IfSome parent (λ name. HasLine c name)
     → where_true (is_none parent) 1 + count_by (λ l. option_map_or (bytes_eq (part_at c.parts l).name) parent false) (line_units c) ≡ 1
 once c p None h =
-    let e = count-lines c (λ l. false) in
+    let e = count_lines c (λ l. false) in
     omega (arith, e, none_there (λ l. is_line_at c l && false) (length c.parts) 0 (λ x a b. and_false (is_line_at c x)))
 once c p (Some name) h =
-    let e = count-lines c (λ l. bytes_eq (part_at c.parts l).name name) in
+    let e = count_lines c (λ l. bytes_eq (part_at c.parts l).name name) in
     omega (
       arith,
       e,
       one_there (λ l. is_line_at c l && bytes_eq (part_at c.parts l).name name) (length c.parts) 0 h.line (omega arith) (omega (arith, h.is_part))
-          (ap₂ (λ a b. a && b) (is_line-none (part_at c.parts h.line).parent h.no_parent) h.named)
+          (ap₂ (λ a b. a && b) (is_line_none (part_at c.parts h.line).parent h.no_parent) h.named)
           (λ x l ne. other_name (bytes_eq (part_at c.parts x).name name) (is_line_at c x) x h.line (λ q. h.alone x (omega arith) q) ne),
     )
 
 -- the sum over the parts is the sum over the families
-sum-families : (c : CaseRows) (g : ℕ → ℕ) → HasFamilies c → sum_by (λ l. sum_by g (family c l)) (line_units c) ≡ sum_by g (all_parts c)
-sum-families c g h =
-    sum-each _ _ (line_units c) (λ l. sum_by-cons g l (shop_units c l) ∙ ap (λ z. g l + z) (sum-filter (λ p. is_shop_at c p l) g (all_parts c)))
-    ∙ sum-plus g (λ l. sum_by (λ p. where_true (is_shop_at c p l) (g p)) (all_parts c)) (line_units c)
-    ∙ ap₂ (λ a b. a + b) (sum-filter (is_line_at c) g (all_parts c))
-    (sum-turned (λ l p. where_true (is_shop_at c p l) (g p)) (line_units c) (all_parts c)
-    ∙ sum-each _ _ (all_parts c) (λ p. sum-counted (is_shop_at c p) (g p) (line_units c)))
-    ∙ sym (sum-plus (λ p. where_true (is_line_at c p) (g p)) (λ p. count_by (is_shop_at c p) (line_units c) * g p) (all_parts c))
-    ∙ sum-range _ g (length c.parts) 0 (λ p l.
+sum_families : (c : CaseRows) (g : ℕ → ℕ) → HasFamilies c → sum_by (λ l. sum_by g (family c l)) (line_units c) ≡ sum_by g (all_parts c)
+sum_families c g h =
+    sum_each _ _ (line_units c) (λ l. sum_by-cons g l (shop_units c l) ∙ ap (λ z. g l + z) (sum_filter (λ p. is_shop_at c p l) g (all_parts c)))
+    ∙ sum_plus g (λ l. sum_by (λ p. where_true (is_shop_at c p l) (g p)) (all_parts c)) (line_units c)
+    ∙ ap₂ (λ a b. a + b) (sum_filter (is_line_at c) g (all_parts c))
+    (sum_turned (λ l p. where_true (is_shop_at c p l) (g p)) (line_units c) (all_parts c)
+    ∙ sum_each _ _ (all_parts c) (λ p. sum_counted (is_shop_at c p) (g p) (line_units c)))
+    ∙ sym (sum_plus (λ p. where_true (is_line_at c p) (g p)) (λ p. count_by (is_shop_at c p) (line_units c) * g p) (all_parts c))
+    ∙ sum_range _ g (length c.parts) 0 (λ p l.
     in_one (is_line_at c p) (count_by (is_shop_at c p) (line_units c)) (g p) (once c p (part_at c.parts p).parent (h.parent_of p (omega (arith, l)))))
   where
     in_one : (b : Bool) (n g : ℕ) → where_true b 1 + n ≡ 1 → where_true b g + n * g ≡ g
     in_one b n g h = omega (arith, counted_step b g, ap (λ z. z * g) h)
 
-pub cost-families : (c : CaseRows) (s : List ℕ) → HasFamilies c → sum_by (family_cost c s) (line_units c) ≡ cost c s
-cost-families c s h = sum-families c (part_cost c s) h
+-- the costs of the families add up to the cost of the stocks
+pub cost_families : (c : CaseRows) (s : List ℕ) → HasFamilies c → sum_by (family_cost c s) (line_units c) ≡ cost c s
+cost_families c s h = sum_families c (part_cost c s) h
 
-pub cost_beyond-families : (c : CaseRows) (held s : List ℕ) → HasFamilies c → sum_by (family_cost_beyond c held s) (line_units c) ≡ cost_beyond c held s
-cost_beyond-families c held s h = sum-families c (part_cost_beyond c held s) h
+-- the families' costs beyond what is held add up to the cost beyond it
+pub cost_beyond_families : (c : CaseRows) (held s : List ℕ) → HasFamilies c → sum_by (family_cost_beyond c held s) (line_units c) ≡ cost_beyond c held s
+cost_beyond_families c held s h = sum_families c (part_cost_beyond c held s) h

@@ -1,15 +1,18 @@
 -- A valid frame has families: each shop unit's line unit is one part.
-use Rattle.std.proofs.Common.{◌≡◌, ℕ, ◌<◌, true, false, List, [], length, get_or, bytes_eq, Option, Some, None, is_none, IfSome, inl, inr, refl, sym, ap, ◌∙◌, subst, arith}
+use Rattle.std.proofs.Common.{◌≡◌, ℕ, ◌<◌, true, false, List, [], length, get_or, bytes_eq, Option, Some, None, is_none, IfSome, inl, inr, refl, sym, ap, ◌∙◌, subst, arith, Bool, ◌≤◌}
 use Rattle.std.specs.Option.{option_map_or, option_and_then}
 use Rattle.std.proofs.lemmas.Bool.{false≢true, cases_order}
 use Rattle.std.proofs.lemmas.List.{get_or-map, length-map}
 use Rattle.std.proofs.lemmas.List.Quantifiers.{position-Some}
 use Rattle.std.proofs.lemmas.Map.Made.{AllPairs-from_IsDistinct}
 use Rattle.std.proofs.lemmas.Slice.Eq.{bytes_eq-Decides}
+use Rattle.std.proofs.lemmas.List.Sums.{length-filter, count_by-le-length}
+use Rattle.std.proofs.lemmas.List.FromFn.{length-range_with_len}
 use Rattle.spares_input.specs.Rows.{is_line, no_part}
 use Rattle.spares_input.specs.Frames.{IsFrame, part_at, part_names, place_of}
 use Rattle.spares_input.specs.Cases.{CaseRows, IsCase, frame_rows}
 use Rattle.fleet_model.proofs.FamilyLaws.{HasLine, HasFamilies}
+use Rattle.fleet_model.specs.Rows.{all_parts, line_units}
 
 length_names : (c : CaseRows) → length (part_names c.parts) ≡ length c.parts
 length_names c = length-map c.parts (λ r. r.name)
@@ -57,5 +60,12 @@ parent_at c p (Some name) f l e =
     (subst (λ o. option_map_or (λ i. is_line (part_at c.parts i)) (option_and_then (λ n. place_of n (part_names c.parts)) o) false ≡ true) e
     (f.parents p l (ap is_none e)))
 
+-- in a valid case each shop unit has its line unit
 pub has_families : (c : CaseRows) → IsCase c → HasFamilies c
 has_families c h = record { parent_of = λ p l. parent_at c p (part_at c.parts p).parent h.frame l refl }
+
+-- a valid case has at most 2,000 line units
+pub few_lines : (c : CaseRows) → IsCase c → length (line_units c) ≤ 2000
+few_lines c valid =
+    let test : ℕ → Bool = λ p. is_line (part_at c.parts p) in
+    omega (arith, length-filter test (all_parts c), count_by-le-length test (all_parts c), length-range_with_len 0 (length c.parts), valid.frame.most_parts)

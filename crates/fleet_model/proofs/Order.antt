@@ -1,56 +1,57 @@
 -- The order of fractions.
-use Rattle.std.proofs.Common.{◌≡◌, ℕ, zero, suc, ◌+◌, ◌-◌, ◌*◌, ◌<◌, ◌≤◌, ◌⊎◌, inl, inr, refl, ap, ◌∙◌, arith, mul-le-mul_left, le_of_mul-le-mul_right, zero-lt-suc}
+use Rattle.std.proofs.Common.{◌≡◌, ℕ, zero, suc, ◌+◌, ◌-◌, ◌*◌, ◌<◌, ◌≤◌, inl, inr, refl, ap, ◌∙◌, arith, mul-le-mul_left, le_of_mul-le-mul_right, zero-lt-suc, eq-zero-or-pos}
 use Rattle.std.proofs.Math.Nat.{mul-pos, mul-le-mul}
 use Rattle.exact_model.specs.Fraction.{Fraction, whole, ◌≈◌, ◌≤ℚ◌, ◌+ℚ◌, ◌-ℚ◌, ◌*ℚ◌, ◌/ℚ◌, scaled}
-use Rattle.exact_model.proofs.Fractions.{same, turned, ◌≈≈◌, mul-same, quotient, times_assoc, le-same, le-refl}
+use Rattle.exact_model.proofs.Fractions.{same, turned, ◌≈≈◌, mul_same, quotient, times_assoc, le_same, le_self, one_times}
+use Rattle.exact_model.proofs.Same.{zeros_same}
 
-pub le-of-same : {q r : Fraction} → q ≈ r → q ≤ℚ r
-le-of-same {q} {r} h = le-same (same q) h (le-refl q)
+-- of two ways to write one value each is at most the other
+pub le_of_same : {q r : Fraction} → q ≈ r → q ≤ℚ r
+le_of_same {q} {r} h = le_same (same q) h (le_self q)
 
-le-add_step : (a b c d a' b' c' d' : ℕ) → a * b' ≤ a' * b → c * d' ≤ c' * d → (a * d + c * b) * (b' * d') ≤ (a' * d' + c' * b') * (b * d)
-le-add_step a b c d a' b' c' d' h k =
+le_add_step : (a b c d a' b' c' d' : ℕ) → a * b' ≤ a' * b → c * d' ≤ c' * d → (a * d + c * b) * (b' * d') ≤ (a' * d' + c' * b') * (b * d)
+le_add_step a b c d a' b' c' d' h k =
     let i : (d * d') * (a * b') ≤ (d * d') * (a' * b) = mul-le-mul_left (d * d') h in
     let j : (b * b') * (c * d') ≤ (b * b') * (c' * d) = mul-le-mul_left (b * b') k in
     omega arith
 
-pub le-add : {q q' r r' : Fraction} → q ≤ℚ q' → r ≤ℚ r' → q +ℚ r ≤ℚ q' +ℚ r'
+-- sums of what is at most something are at most the sums of it
+pub le_add : {q q' r r' : Fraction} → q ≤ℚ q' → r ≤ℚ r' → q +ℚ r ≤ℚ q' +ℚ r'
 unfolding ◌+ℚ◌
-le-add {q} {q'} {r} {r'} h k = record { cross = le-add_step q.num q.den r.num r.den q'.num q'.den r'.num r'.den h.cross k.cross }
+le_add {q} {q'} {r} {r'} h k = record { cross = le_add_step q.num q.den r.num r.den q'.num q'.den r'.num r'.den h.cross k.cross }
 
-le-mul_step : (a b c d a' b' c' d' : ℕ) → a * b' ≤ a' * b → c * d' ≤ c' * d → (a * c) * (b' * d') ≤ (a' * c') * (b * d)
-le-mul_step a b c d a' b' c' d' h k = omega (arith, mul-le-mul h k)
+le_mul_step : (a b c d a' b' c' d' : ℕ) → a * b' ≤ a' * b → c * d' ≤ c' * d → (a * c) * (b' * d') ≤ (a' * c') * (b * d)
+le_mul_step a b c d a' b' c' d' h k = omega (arith, mul-le-mul h k)
 
-pub le-mul : {q q' r r' : Fraction} → q ≤ℚ q' → r ≤ℚ r' → q *ℚ r ≤ℚ q' *ℚ r'
+-- products of what is at most something are at most the products of it
+pub le_mul : {q q' r r' : Fraction} → q ≤ℚ q' → r ≤ℚ r' → q *ℚ r ≤ℚ q' *ℚ r'
 unfolding ◌*ℚ◌
-le-mul {q} {q'} {r} {r'} h k = record { cross = le-mul_step q.num q.den r.num r.den q'.num q'.den r'.num r'.den h.cross k.cross }
+le_mul {q} {q'} {r} {r'} h k = record { cross = le_mul_step q.num q.den r.num r.den q'.num q'.den r'.num r'.den h.cross k.cross }
 
-le-cancel_step : (a b c d e f : ℕ) → 0 < e → 0 < f → (a * e) * (d * f) ≤ (c * e) * (b * f) → a * d ≤ c * b
-le-cancel_step a b c d e f p r h = le_of_mul-le-mul_right {m = a * d} {n = c * b} {k = e * f} (omega arith) (mul-pos p r)
+le_cancel_step : (a b c d e f : ℕ) → 0 < e → 0 < f → (a * e) * (d * f) ≤ (c * e) * (b * f) → a * d ≤ c * b
+le_cancel_step a b c d e f p r h = le_of_mul-le-mul_right {m = a * d} {n = c * b} {k = e * f} (omega arith) (mul-pos p r)
 
-pub le-cancel : {q r : Fraction} (s : Fraction) → 0 < s.num → q *ℚ s ≤ℚ r *ℚ s → q ≤ℚ r
+-- a factor above 0 on both sides may be left out
+pub le_cancel : {q r : Fraction} (s : Fraction) → 0 < s.num → q *ℚ s ≤ℚ r *ℚ s → q ≤ℚ r
 unfolding ◌*ℚ◌
-le-cancel {q} {r} s p h = record { cross = le-cancel_step q.num q.den r.num r.den s.num s.den p s.positive h.cross }
+le_cancel {q} {r} s p h = record { cross = le_cancel_step q.num q.den r.num r.den s.num s.den p s.positive h.cross }
 
+-- a value is at most another with it added
 pub le_plus_left : (q r : Fraction) → r ≤ℚ q +ℚ r
 unfolding ◌+ℚ◌
 le_plus_left q r = record { cross = omega arith }
 
+-- a factor goes into a sum
 pub times_plus : (x y z : Fraction) → x *ℚ (y +ℚ z) ≈ x *ℚ y +ℚ x *ℚ z
 unfolding ◌+ℚ◌ ◌*ℚ◌
 times_plus x y z = record { cross = omega arith }
 
-pub plus_assoc : (x y z : Fraction) → x +ℚ y +ℚ z ≈ x +ℚ (y +ℚ z)
-unfolding ◌+ℚ◌
-plus_assoc x y z = record { cross = omega arith }
-
-pub one_times : (x : Fraction) → whole 1 *ℚ x ≈ x
-unfolding ◌*ℚ◌ whole
-one_times x = record { cross = omega arith }
-
+-- a value times 1 is the value
 pub times_one : (x : Fraction) → x *ℚ whole 1 ≈ x
 unfolding ◌*ℚ◌ whole
 times_one x = record { cross = omega arith }
 
+-- a value times 0 is 0
 pub times_nothing : (x : Fraction) → x *ℚ whole 0 ≈ whole 0
 unfolding ◌*ℚ◌ whole
 times_nothing x = record { cross = omega arith }
@@ -58,20 +59,11 @@ times_nothing x = record { cross = omega arith }
 nothing : (a d : ℕ) → a ≡ 0 → a * d ≡ 0
 nothing a d h = ap (λ z. z * d) h ∙ omega arith
 
-pub zeros-same : {q r : Fraction} → q.num ≡ 0 → r.num ≡ 0 → q ≈ r
-zeros-same {q} {r} h k = record { cross = zeros_step q.num r.den r.num q.den h k }
-  where
-    zeros_step : (a d c b : ℕ) → a ≡ 0 → c ≡ 0 → a * d ≡ c * b
-    zeros_step a d c b h k = omega (arith, nothing a d h, nothing c b k)
-
-pub zero-le : {q : Fraction} (r : Fraction) → q.num ≡ 0 → q ≤ℚ r
-zero-le {q} r h = record { cross = zero_step q.num r.den r.num q.den h }
+pub zero_le : {q : Fraction} (r : Fraction) → q.num ≡ 0 → q ≤ℚ r
+zero_le {q} r h = record { cross = zero_step q.num r.den r.num q.den h }
   where
     zero_step : (a d c b : ℕ) → a ≡ 0 → a * d ≤ c * b
     zero_step a d c b h = omega (arith, nothing a d h)
-
-pub zero_or_more : (n : ℕ) → (n ≡ 0) ⊎ (0 < n)
-zero_or_more n = grind arith
 
 -- what is at most nothing is nothing
 pub none_below : (q r : Fraction) → q ≤ℚ r → r.num ≡ 0 → q.num ≡ 0
@@ -102,16 +94,16 @@ over_zero q r h = scaled_zero q r.den r.num h
 
 -- the share of x in m, of m t, is x t
 pub share_times : (x m t : Fraction) → x ≤ℚ m → (x /ℚ m) *ℚ (m *ℚ t) ≈ x *ℚ t
-share_times x m t h = elim (zero_or_more m.num) [
-  | inl z ↦ zeros-same (times_zero (x /ℚ m) (m *ℚ t) (zero_times m t z)) (zero_times x t (none_below x m h z))
-  | inr p ↦ turned (times_assoc (x /ℚ m) m t) ≈≈ mul-same (quotient x m p) (same t)
+share_times x m t h = elim (eq-zero-or-pos m.num) [
+  | inl z ↦ zeros_same (times_zero (x /ℚ m) (m *ℚ t) (zero_times m t z)) (zero_times x t (none_below x m h z))
+  | inr p ↦ turned (times_assoc (x /ℚ m) m t) ≈≈ mul_same (quotient x m p) (same t)
 ]
 
 -- a share is at most 1
 pub share_most : (x m : Fraction) → x ≤ℚ m → x /ℚ m ≤ℚ whole 1
-share_most x m h = elim (zero_or_more m.num) [
-  | inl z ↦ zero-le (whole 1) (over_zero x m z)
-  | inr p ↦ le-cancel m p (le-same (turned (quotient x m p)) (turned (one_times m)) h)
+share_most x m h = elim (eq-zero-or-pos m.num) [
+  | inl z ↦ zero_le (whole 1) (over_zero x m z)
+  | inr p ↦ le_cancel m p (le_same (turned (quotient x m p)) (turned (one_times m)) h)
 ]
 
 -- (1 - f) + f is 1
@@ -130,5 +122,5 @@ unfolding ◌+ℚ◌ ◌*ℚ◌
 gathered f g x = record { cross = omega arith }
 
 -- f (1 - f) x + f^2 x is f x
-pub shared-same : (f x : Fraction) → f ≤ℚ whole 1 → f *ℚ (whole 1 -ℚ f) *ℚ x +ℚ f *ℚ f *ℚ x ≈ f *ℚ x
-shared-same f x h = gathered f (whole 1 -ℚ f) x ≈≈ mul-same (same (f *ℚ x)) (rest f h) ≈≈ times_one (f *ℚ x)
+pub shared_same : (f x : Fraction) → f ≤ℚ whole 1 → f *ℚ (whole 1 -ℚ f) *ℚ x +ℚ f *ℚ f *ℚ x ≈ f *ℚ x
+shared_same f x h = gathered f (whole 1 -ℚ f) x ≈≈ mul_same (same (f *ℚ x)) (rest f h) ≈≈ times_one (f *ℚ x)

@@ -1,10 +1,11 @@
 -- The laws of zero-stock means and of shares by pair.
-use Rattle.std.proofs.Common.{ℕ, zero, suc, ◌+◌, ◌*◌, ◌<◌, ◌≤◌, ◌⊎◌, Bool, true, false, inl, inr, refl, sym, subst, arith, zero-lt-suc}
+use Rattle.std.proofs.Common.{ℕ, zero, suc, ◌+◌, ◌*◌, ◌<◌, ◌≤◌, Bool, true, false, inl, inr, refl, sym, subst, arith, zero-lt-suc}
 use Rattle.std.specs.Prelude.{List, length, get_or, Option, Some, None}
 use Rattle.std.proofs.lemmas.List.{get_or_past}
+use Rattle.std.proofs.lemmas.Bool.{cases_lt}
 use Rattle.exact_model.specs.Fraction.{whole, ◌≈◌, ◌≤ℚ◌, ◌+ℚ◌, ◌-ℚ◌}
 use Rattle.exact_model.specs.Series.{ebo, vbo}
-use Rattle.exact_model.proofs.Fractions.{le-refl}
+use Rattle.exact_model.proofs.Fractions.{le_self}
 use Rattle.spares_input.specs.Rows.{no_rate, IsField}
 use Rattle.spares_input.specs.Frames.{line_of}
 use Rattle.spares_input.specs.Cases.{CaseRows, IsCase}
@@ -16,7 +17,7 @@ use Rattle.fleet_model.specs.Pipelines.{Moments, pipeline_i0, pipeline_00, pipel
 use Rattle.fleet_model.specs.Pairs.{by_pair, share, zero_stock, mean, variance, backorders, spread}
 use Rattle.fleet_model.specs.Laws.{Reaches, IsCapped, HasNoStock}
 use Rattle.fleet_model.proofs.Order.{rest}
-use Rattle.fleet_model.proofs.MeanLaws.{f_i0-most, f_ij-most, f_0j-most}
+use Rattle.fleet_model.proofs.MeanLaws.{f_i0_most, f_ij_most, f_0j_most}
 use Rattle.fleet_model.proofs.CapLaws.{capped_i0, capped_00, capped_ij, capped_0j}
 use Rattle.fleet_model.proofs.NoStockLaws.{no_stock_i0, no_stock_00, no_stock_ij, no_stock_0j}
 
@@ -34,6 +35,7 @@ capped_of c s n None p zero r h = capped_00 c s n p r
 capped_of c s n (Some l) p (suc j) r h = capped_ij c s n l p (suc j) r (zero-lt-suc j, h)
 capped_of c s n None p (suc j) r h = capped_0j c s n p (suc j) r (zero-lt-suc j, h)
 
+-- mean, variance, EBO and VBO of each pair are at most its zero-stock mean
 pub capped : (c : CaseRows) (s : List ℕ) (n p k : ℕ) → Reaches c s n → k < length c.sites
     → IsCapped (zero_stock c p k) (mean c s p k n) (variance c s p k n) (backorders c s p k n) (spread c s p k n)
 capped c s n p k r h = capped_of c s n (line_of c.parts p) p k r h
@@ -45,22 +47,25 @@ no_stock_of c s n None p zero h k = no_stock_00 c s n p h
 no_stock_of c s n (Some l) p (suc j) h k = no_stock_ij c s n l p (suc j) h (zero-lt-suc j, k)
 no_stock_of c s n None p (suc j) h k = no_stock_0j c s n p (suc j) h (zero-lt-suc j, k)
 
+-- where nothing is in stock the pipeline of each pair has the zero-stock mean
 pub no_stock : (c : CaseRows) (s : List ℕ) (n p k : ℕ) → HasNoStock c s → k < length c.sites → mean c s p k n ≈ zero_stock c p k
 no_stock c s n p k h l = no_stock_of c s n (line_of c.parts p) p k h l
 
 -- ---- shares
 
 share_most_of : (c : CaseRows) (o : Option ℕ) (p k : ℕ) → k < length c.sites → by_pair (f_i0 c) (λ l. whole 1) (f_ij c) (f_0j c) o p k ≤ℚ whole 1
-share_most_of c (Some l) p zero h = f_i0-most c l p
-share_most_of c None p zero h = le-refl (whole 1)
-share_most_of c (Some l) p (suc j) h = f_ij-most c l p (suc j) (zero-lt-suc j, h)
-share_most_of c None p (suc j) h = f_0j-most c p (suc j) (zero-lt-suc j, h)
+share_most_of c (Some l) p zero h = f_i0_most c l p
+share_most_of c None p zero h = le_self (whole 1)
+share_most_of c (Some l) p (suc j) h = f_ij_most c l p (suc j) (zero-lt-suc j, h)
+share_most_of c None p (suc j) h = f_0j_most c p (suc j) (zero-lt-suc j, h)
 
-pub share-most : (c : CaseRows) (p k : ℕ) → k < length c.sites → share c p k ≤ℚ whole 1
-share-most c p k h = share_most_of c (line_of c.parts p) p k h
+-- the share of each pair is at most 1
+pub share_most : (c : CaseRows) (p k : ℕ) → k < length c.sites → share c p k ≤ℚ whole 1
+share_most c p k h = share_most_of c (line_of c.parts p) p k h
 
-pub share-rest : (c : CaseRows) (p k : ℕ) → k < length c.sites → (whole 1 -ℚ share c p k) +ℚ share c p k ≈ whole 1
-share-rest c p k h = rest (share c p k) (share-most c p k h)
+-- a pair's share and what it lacks of 1 come to 1
+pub share_rest : (c : CaseRows) (p k : ℕ) → k < length c.sites → (whole 1 -ℚ share c p k) +ℚ share c p k ≈ whole 1
+share_rest c p k h = rest (share c p k) (share_most c p k h)
 
 -- ---- repairs sent to the depot
 
@@ -75,18 +80,16 @@ few_here c i h l = let row = h.rate_rows i no_rate l in most_field _ _ row.field
     most_field false n f = omega (arith, f.empty refl)
 
 here_most : (c : CaseRows) (i : ℕ) → IsCase c → (get_or c.rates i no_rate).repair_here ≤ 10000
-here_most c i h = elim (in_or_past i (length c.rates)) [
+here_most c i h = elim (cases_lt i (length c.rates)) [
   | inl l ↦ few_here c i h l
   | inr l ↦ subst (λ (r : RateRow). r.repair_here ≤ 10000) (sym (get_or_past c.rates i no_rate l)) (omega arith)
 ]
-  where
-    in_or_past : (i m : ℕ) → (i < m) ⊎ (m ≤ i)
-    in_or_past i m = grind arith
 
 here_within : (c : CaseRows) (p k : ℕ) → IsCase c → here c p k ≤ℚ whole 1
 unfolding here ten_thousandths whole
 here_within c p k h = record { cross = here_step _ (here_most c (p * length c.sites + k) h) }
 
-pub sent-here : (c : CaseRows) (p k : ℕ) → IsCase c → sent c p k +ℚ here c p k ≈ whole 1
+-- what is sent to the depot and what is repaired at the base come to 1
+pub sent_here : (c : CaseRows) (p k : ℕ) → IsCase c → sent c p k +ℚ here c p k ≈ whole 1
 unfolding sent
-sent-here c p k h = rest (here c p k) (here_within c p k h)
+sent_here c p k h = rest (here c p k) (here_within c p k h)

@@ -6,29 +6,30 @@ use Rattle.fleet_model.specs.Rows.{all_parts, all_sites, stock}
 use Rattle.fleet_model.specs.Fleet.{cost, family_total, total, part_cost}
 use Rattle.fleet_model.specs.Aims.{weighted_backorders, family_aim, aim, IsHeldAllocation, part_cost_beyond, cost_beyond}
 use Rattle.fleet_model.specs.Laws.{ArePlainWords}
-use Rattle.fleet_model.proofs.FamilyLaws.{sum-each, sum-plus}
-use Rattle.fleet_model.proofs.DependLaws.{count-each, at_sites, at_parts}
+use Rattle.fleet_model.proofs.FamilyLaws.{sum_each, sum_plus}
+use Rattle.fleet_model.proofs.DependLaws.{count_each, at_sites, at_parts}
 
-family-plain : (c : CaseRows) (s : List ℕ) (n l : ℕ) → family_aim weighted_backorders c s n l ≡ family_total c s n l
+family_plain : (c : CaseRows) (s : List ℕ) (n l : ℕ) → family_aim weighted_backorders c s n l ≡ family_total c s n l
 unfolding family_aim family_total
-family-plain c s n l = refl
+family_plain c s n l = refl
 
-aim-plain : (c : CaseRows) (s : List ℕ) (n : ℕ) → aim weighted_backorders c s n ≡ total c s n
+aim_plain : (c : CaseRows) (s : List ℕ) (n : ℕ) → aim weighted_backorders c s n ≡ total c s n
 unfolding aim family_aim total family_total
-aim-plain c s n = refl
+aim_plain c s n = refl
 
 nothing_less : (n : ℕ) → n - 0 ≡ n
 nothing_less n = omega arith
 
-part_cost-plain : (c : CaseRows) (s : List ℕ) (p : ℕ) → part_cost_beyond c [] s p ≡ part_cost c s p
-part_cost-plain c s p = sum-each _ _ (all_sites c) (λ k. ap (λ z. z * (part_at c.parts p).cost) (nothing_less (stock c s p k)))
+part_cost_plain : (c : CaseRows) (s : List ℕ) (p : ℕ) → part_cost_beyond c [] s p ≡ part_cost c s p
+part_cost_plain c s p = sum_each _ _ (all_sites c) (λ k. ap (λ z. z * (part_at c.parts p).cost) (nothing_less (stock c s p k)))
 
+-- where nothing is held, allocations, cost and aim are the plain ones
 pub plain_words : (c : CaseRows) (s : List ℕ) → ArePlainWords c s
 plain_words c s = record {
   allocation = ((λ a. a.allocation), (λ a. record { allocation = a; keeps = λ p k lp lk. omega arith }));
-  cost_is = sum-each _ _ (all_parts c) (part_cost-plain c s);
-  family_is = family-plain c s;
-  total_is = aim-plain c s;
+  cost_is = sum_each _ _ (all_parts c) (part_cost_plain c s);
+  family_is = family_plain c s;
+  total_is = aim_plain c s;
 }
 
 pay_step : (s h m : ℕ) → h ≤ s → (s - h) * m + h * m ≡ s * m
@@ -37,9 +38,10 @@ pay_step s h m l =
     let f : s - h + h ≡ s = omega arith in
     e ∙ ap (λ z. z * m) f
 
+-- the cost beyond what is held and the cost of that are the cost of the allocation
 pub held_costs : (c : CaseRows) (held s : List ℕ) → IsHeldAllocation c held s → cost_beyond c held s + cost c held ≡ cost c s
 held_costs c held s a =
-    sym (sum-plus (part_cost_beyond c held s) (part_cost c held) (all_parts c))
-    ∙ count-each (all_parts c) _ (part_cost c s) (at_parts c _ (λ p lp.
-    sym (sum-plus (λ k. (stock c s p k - stock c held p k) * (part_at c.parts p).cost) (λ k. stock c held p k * (part_at c.parts p).cost) (all_sites c))
-    ∙ count-each (all_sites c) _ _ (at_sites c _ (λ k lk. pay_step (stock c s p k) (stock c held p k) (part_at c.parts p).cost (a.keeps p k lp lk)))))
+    sym (sum_plus (part_cost_beyond c held s) (part_cost c held) (all_parts c))
+    ∙ count_each (all_parts c) _ (part_cost c s) (at_parts c _ (λ p lp.
+    sym (sum_plus (λ k. (stock c s p k - stock c held p k) * (part_at c.parts p).cost) (λ k. stock c held p k * (part_at c.parts p).cost) (all_sites c))
+    ∙ count_each (all_sites c) _ _ (at_sites c _ (λ k lk. pay_step (stock c s p k) (stock c held p k) (part_at c.parts p).cost (a.keeps p k lp lk)))))

@@ -5,7 +5,7 @@ use Rattle.exact_model.specs.Fraction.{Fraction, whole, ◌≈◌, ◌+ℚ◌, �
 use Rattle.exact_model.specs.Series.{excess, weight, weight_sum, chance, unless_zero, ebo, second, vbo}
 use Rattle.exact_model.specs.Shares.{shared}
 use Rattle.exact_model.proofs.Fractions.{over, ◌≈≈◌}
-use Rattle.exact_model.proofs.Same.{ebo-same, vbo-same}
+use Rattle.exact_model.proofs.Same.{ebo_same, vbo_same}
 use Rattle.spares_input.specs.Cases.{CaseRows}
 use Rattle.spares_input.specs.Frames.{line_of}
 use Rattle.spares_input.specs.Stocks.{limit_at}
@@ -134,7 +134,7 @@ ebo_number = refl
 
 base_line_ebo : ebo_0j small stocks 3 0 1 ≈ over 4458567993844280578414430682689636 7574656187348142946277338322223695 (zero-lt-suc 7574656187348142946277338322223694)
 unfolding small stocks ebo_0j
-base_line_ebo = ebo-same 3 1 (of_ratio {q = (pipeline_0j small stocks 3 0 1).mean} base_line_mean) (of_ratio {q = (pipeline_0j small stocks 3 0 1).variance} base_line_variance) ≈≈ of_ratio ebo_number
+base_line_ebo = ebo_same 3 1 (of_ratio {q = (pipeline_0j small stocks 3 0 1).mean} base_line_mean) (of_ratio {q = (pipeline_0j small stocks 3 0 1).variance} base_line_variance) ≈≈ of_ratio ebo_number
 
 vbo_number : IsRatio (vbo 3 (over 78052 60065 (zero-lt-suc 60064)) (over 956523801 721560845 (zero-lt-suc 721560844)) 1) 8946893985212970224201754904651579567807363028816390785812033759609 11475083271306301042616260438338097507330831088316958815185923890605
 unfolding ebo vbo second larger unless_zero sum_below chance weight_sum weight excess ◌/ℚ◌ scaled ◌+ℚ◌ ◌-ℚ◌ ◌*ℚ◌ whole
@@ -142,7 +142,7 @@ vbo_number = refl
 
 base_line_vbo : vbo_0j small stocks 3 0 1 ≈ over 8946893985212970224201754904651579567807363028816390785812033759609 11475083271306301042616260438338097507330831088316958815185923890605 (zero-lt-suc 11475083271306301042616260438338097507330831088316958815185923890604)
 unfolding small stocks vbo_0j
-base_line_vbo = vbo-same 3 1 (of_ratio {q = (pipeline_0j small stocks 3 0 1).mean} base_line_mean) (of_ratio {q = (pipeline_0j small stocks 3 0 1).variance} base_line_variance) ≈≈ of_ratio vbo_number
+base_line_vbo = vbo_same 3 1 (of_ratio {q = (pipeline_0j small stocks 3 0 1).mean} base_line_mean) (of_ratio {q = (pipeline_0j small stocks 3 0 1).variance} base_line_variance) ≈≈ of_ratio vbo_number
 
 -- with no stock at the base
 stocks_at_depot : List ℕ

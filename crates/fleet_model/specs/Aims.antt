@@ -19,7 +19,8 @@ weighted_backorders systems per_system weight backorders n = whole weight *ℚ b
 
 -- the sum over all bases of what the line unit l counts for
 unfoldable pub family_aim : Value → CaseRows → List ℕ → ℕ → ℕ → Fraction
-family_aim value c s n l = sum_over (bases c) (λ j. value (systems c j) (per_system c l) (weight c l) (ebo_0j c s n l j) n)
+family_aim value c s n l = sum_over (bases c)
+    (λ j. value (systems c j) (per_system c l) (weight c l) (ebo_0j c s n l j) n)
 
 -- the aim, which is to be small: the sum over all line units
 unfoldable pub aim : Value → CaseRows → List ℕ → ℕ → Fraction
@@ -34,8 +35,10 @@ pub record IsHeldAllocation (c : CaseRows) (held s : List ℕ) : Type 0 where
 abbrev pub part_cost_beyond : CaseRows → List ℕ → List ℕ → ℕ → ℕ
 part_cost_beyond c held s p = sum_by (λ k. (stock c s p k - stock c held p k) * (part_at c.parts p).cost) (all_sites c)
 
+-- what the stocks of the family of the line unit l cost beyond those that are held
 abbrev pub family_cost_beyond : CaseRows → List ℕ → List ℕ → ℕ → ℕ
 family_cost_beyond c held s l = sum_by (part_cost_beyond c held s) (family c l)
 
+-- what all stocks cost beyond those that are held: what is bought
 abbrev pub cost_beyond : CaseRows → List ℕ → List ℕ → ℕ
 cost_beyond c held s = sum_by (part_cost_beyond c held s) (all_parts c)

@@ -1,6 +1,6 @@
--- Bounds on the aim of allocations under a budget, and what a price shows of them. A budget is in whole money and pays
--- for what is bought beyond the stocks held. Bounds and floors are in units of 2^-48, and what is said of them is said at
--- every depth from 1024 on.
+-- Bounds on the aim of allocations under a budget, and what a price shows of them. A budget is in whole money and
+-- pays for what is bought beyond the stocks held. Bounds and floors are in units of 2^-48, and what is said of them
+-- is said at every depth from 1024 on.
 use Rattle.std.specs.Prelude.{◌≡◌, ℕ, ◌+◌, ◌*◌, ◌<◌, ◌≤◌, ◌^◌, true, List, length}
 use Rattle.exact_model.specs.Fraction.{Fraction, whole, ◌≤ℚ◌, ◌+ℚ◌, ◌*ℚ◌}
 use Rattle.spares_input.specs.Rows.{is_line}

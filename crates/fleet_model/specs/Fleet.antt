@@ -19,7 +19,8 @@ availability c s n j = product_over (line_units c) (λ l. factor c s n l j)
 -- (sum of N_j A(j)) / (sum of N_j)
 unfoldable pub fleet : CaseRows → List ℕ → ℕ → Fraction
 fleet c s n =
-    sum_over (bases c) (λ j. whole (systems c j) *ℚ availability c s n j) /ℚ sum_over (bases c) (λ j. whole (systems c j))
+    sum_over (bases c) (λ j. whole (systems c j) *ℚ availability c s n j) /ℚ sum_over (bases c)
+    (λ j. whole (systems c j))
 
 -- the sum over all bases of the weight of the line unit l times EBO(s_0j)
 unfoldable pub family_total : CaseRows → List ℕ → ℕ → ℕ → Fraction
@@ -46,5 +47,6 @@ cost c s = sum_by (part_cost c s) (all_parts c)
 abbrev pub family : CaseRows → ℕ → List ℕ
 family c l = l ∷ shop_units c l
 
+-- what the stocks of the family of the line unit l cost
 abbrev pub family_cost : CaseRows → List ℕ → ℕ → ℕ
 family_cost c s l = sum_by (part_cost c s) (family c l)

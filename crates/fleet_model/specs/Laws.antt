@@ -15,6 +15,7 @@ IsBase c j = (0 < j) × (j < length c.sites)
 abbrev pub Reaches : CaseRows → List ℕ → ℕ → Type 0
 Reaches c s n = (p k : ℕ) → stock c s p k ≤ suc n
 
+-- no pair has a unit in stock
 abbrev pub HasNoStock : CaseRows → List ℕ → Type 0
 HasNoStock c s = (p k : ℕ) → stock c s p k ≡ 0
 

@@ -16,6 +16,7 @@ by_pair depot_shop depot_line base_shop base_line None p zero = depot_line p
 by_pair depot_shop depot_line base_shop base_line (Some l) p (suc j) = base_shop l p (suc j)
 by_pair depot_shop depot_line base_shop base_line None p (suc j) = base_line p (suc j)
 
+-- demands a year for part p at site k
 abbrev pub demand : CaseRows → ℕ → ℕ → Fraction
 demand c p k = by_pair (m_i0 c) (m_00 c) (m_ij c) (m_0j c) (line_of c.parts p) p k
 
@@ -23,24 +24,32 @@ demand c p k = by_pair (m_i0 c) (m_00 c) (m_ij c) (m_0j c) (line_of c.parts p) p
 abbrev pub share : CaseRows → ℕ → ℕ → Fraction
 share c p k = by_pair (f_i0 c) (λ l. whole 1) (f_ij c) (f_0j c) (line_of c.parts p) p k
 
+-- D, the mean of the pipeline where nothing below it is backordered
 abbrev pub direct : CaseRows → ℕ → ℕ → Fraction
 direct c p k = by_pair (direct_i0 c) (direct_00 c) (direct_ij c) (direct_0j c) (line_of c.parts p) p k
 
+-- M, the mean of the pipeline where nothing is in stock
 abbrev pub zero_stock : CaseRows → ℕ → ℕ → Fraction
-zero_stock c p k = by_pair (zero_stock_i0 c) (zero_stock_00 c) (zero_stock_ij c) (zero_stock_0j c) (line_of c.parts p) p k
+zero_stock c p k = by_pair (zero_stock_i0 c) (zero_stock_00 c) (zero_stock_ij c) (zero_stock_0j c)
+    (line_of c.parts p) p k
 
+-- mean and variance of the pipeline at depth n
 abbrev pub pipeline : CaseRows → List ℕ → ℕ → ℕ → ℕ → Moments
-pipeline c s n p k = by_pair (pipeline_i0 c) (pipeline_00 c s n) (pipeline_ij c s n) (pipeline_0j c s n) (line_of c.parts p) p k
+pipeline c s n p k = by_pair (pipeline_i0 c) (pipeline_00 c s n) (pipeline_ij c s n) (pipeline_0j c s n)
+    (line_of c.parts p) p k
 
 -- mean, variance, EBO and VBO at depth n
 abbrev pub mean : CaseRows → List ℕ → ℕ → ℕ → ℕ → Fraction
 mean c s p k n = (pipeline c s n p k).mean
 
+-- the variance of the pipeline at depth n
 abbrev pub variance : CaseRows → List ℕ → ℕ → ℕ → ℕ → Fraction
 variance c s p k n = (pipeline c s n p k).variance
 
+-- EBO at the pair's stock, at depth n
 abbrev pub backorders : CaseRows → List ℕ → ℕ → ℕ → ℕ → Fraction
 backorders c s p k n = ebo n (mean c s p k n) (variance c s p k n) (stock c s p k)
 
+-- VBO at the pair's stock, at depth n
 abbrev pub spread : CaseRows → List ℕ → ℕ → ℕ → ℕ → Fraction
 spread c s p k n = vbo n (mean c s p k n) (variance c s p k n) (stock c s p k)

@@ -1,5 +1,5 @@
--- The four pipelines of a family where each is Poisson: each has its mean as its variance, at every level. The means are those of
--- the model, from these pipelines' own backorders.
+-- The four pipelines of a family where each is Poisson: each has its mean as its variance, at every level. The means
+-- are those of the model, from these pipelines' own backorders.
 use Rattle.std.specs.Prelude.{ℕ, List}
 use Rattle.exact_model.specs.Fraction.{Fraction, whole, ◌+ℚ◌, ◌*ℚ◌}
 use Rattle.exact_model.specs.Series.{ebo}
@@ -34,7 +34,8 @@ poisson_ij c s n l i j = ebo n (mean_ij c s n l i j) (mean_ij c s n l i j) (stoc
 
 -- the line unit at base j
 unfoldable pub mean_0j : CaseRows → List ℕ → ℕ → ℕ → ℕ → Fraction
-mean_0j c s n l j = direct_0j c l j +ℚ f_0j c l j *ℚ poisson_00 c s n l +ℚ sum_over (shop_units c l) (λ i. poisson_ij c s n l i j)
+mean_0j c s n l j = direct_0j c l j +ℚ f_0j c l j *ℚ poisson_00 c s n l +ℚ sum_over (shop_units c l)
+    (λ i. poisson_ij c s n l i j)
 
 unfoldable pub poisson_0j : CaseRows → List ℕ → ℕ → ℕ → ℕ → Fraction
 poisson_0j c s n l j = ebo n (mean_0j c s n l j) (mean_0j c s n l j) (stock c s l j)
@@ -43,9 +44,11 @@ poisson_0j c s n l j = ebo n (mean_0j c s n l j) (mean_0j c s n l j) (stock c s 
 
 -- the backorders of part p at site k, at depth n
 abbrev pub poisson : CaseRows → List ℕ → ℕ → ℕ → ℕ → Fraction
-poisson c s p k n = by_pair (poisson_i0 c s n) (poisson_00 c s n) (poisson_ij c s n) (poisson_0j c s n) (line_of c.parts p) p k
+poisson c s p k n = by_pair (poisson_i0 c s n) (poisson_00 c s n) (poisson_ij c s n) (poisson_0j c s n)
+    (line_of c.parts p) p k
 
--- the sum over all bases of the weight of the line unit l times its backorders there, and the sum of these over all line units
+-- the sum over all bases of the weight of the line unit l times its backorders there, and the sum of these over all
+-- line units
 unfoldable pub poisson_family_total : CaseRows → List ℕ → ℕ → ℕ → Fraction
 poisson_family_total c s n l = sum_over (bases c) (λ j. whole (weight c l) *ℚ poisson_0j c s n l j)
 

@@ -13,9 +13,11 @@ use Rattle.spares_input.specs.Cases.{CaseRows, rate_at}
 abbrev pub all_sites : CaseRows → List ℕ
 all_sites c = range_with_len 0 (length c.sites)
 
+-- the sites 1 to J
 abbrev pub bases : CaseRows → List ℕ
 bases c = range_with_len 1 (length c.sites - 1)
 
+-- all parts, line units and shop units, in file order
 abbrev pub all_parts : CaseRows → List ℕ
 all_parts c = range_with_len 0 (length c.parts)
 
@@ -23,6 +25,7 @@ all_parts c = range_with_len 0 (length c.parts)
 abbrev pub line_units : CaseRows → List ℕ
 line_units c = filter (λ p. is_line (part_at c.parts p)) (all_parts c)
 
+-- the shop units of the line unit l, in part order
 abbrev pub shop_units : CaseRows → ℕ → List ℕ
 shop_units c l = filter (λ p. is_shop_of (part_at c.parts l) (part_at c.parts p)) (all_parts c)
 

@@ -1,5 +1,5 @@
--- The same numbers in whole units: demands in 10^-4, 10^-8, 10^-12 or 10^-16 a year, and direct pipelines and zero-stock
--- means in 10^-18 / 365.
+-- The same numbers in whole units: demands in 10^-4, 10^-8, 10^-12 or 10^-16 a year, and direct pipelines and
+-- zero-stock means in 10^-18 / 365.
 use Rattle.std.specs.Prelude.{ℕ, ◌+◌, ◌-◌, ◌*◌, ◌^◌, Option, sum_by}
 use Rattle.std.proofs.Common.{zero-lt-suc}
 use Rattle.exact_model.specs.Fraction.{Fraction}
@@ -38,32 +38,40 @@ demand_i0 c l i = sum_by (sent_ij c l i) (bases c) + needed_i0 c l i * 10000
 
 -- (1 - r) O + r T, in 10^-6 days
 abbrev pub days_at : CaseRows → ℕ → ℕ → ℕ
-days_at c p j = (10000 - (rate_at c p j).repair_here) * (site_at c.sites j).ship + (rate_at c p j).repair_here * (rate_at c p j).repair_days
+days_at c p j = (10000 - (rate_at c p j).repair_here) * (site_at c.sites j).ship + (rate_at c p j).repair_here
+    * (rate_at c p j).repair_days
 
 -- D
 abbrev pub direct_units_i0 : CaseRows → ℕ → ℕ → ℕ
 direct_units_i0 c l i = demand_i0 c l i * (rate_at c i 0).repair_days
 
+-- D of a line unit at the depot
 abbrev pub direct_units_00 : CaseRows → ℕ → ℕ
 direct_units_00 c l = demand_00 c l * (rate_at c l 0).repair_days * 100000000
 
+-- D of a shop unit at a base
 abbrev pub direct_units_ij : CaseRows → ℕ → ℕ → ℕ → ℕ
 direct_units_ij c l i j = demand_ij c l i j * days_at c i j
 
+-- D of a line unit at a base
 abbrev pub direct_units_0j : CaseRows → ℕ → ℕ → ℕ
 direct_units_0j c l j = (rate_at c l j).demand * days_at c l j * 100000000
 
 -- M
 abbrev pub zero_stock_units_00 : CaseRows → ℕ → ℕ
-zero_stock_units_00 c l = direct_units_00 c l + sum_by (λ i. needed_i0 c l i * (rate_at c i 0).repair_days * 10000) (shop_units c l)
+zero_stock_units_00 c l = direct_units_00 c l + sum_by (λ i. needed_i0 c l i * (rate_at c i 0).repair_days * 10000)
+    (shop_units c l)
 
+-- M of a shop unit at a base
 abbrev pub zero_stock_units_ij : CaseRows → ℕ → ℕ → ℕ → ℕ
 zero_stock_units_ij c l i j = direct_units_ij c l i j + sent_ij c l i j * (rate_at c i 0).repair_days
 
+-- M of a line unit at a base
 abbrev pub zero_stock_units_0j : CaseRows → ℕ → ℕ → ℕ
 zero_stock_units_0j c l j =
     direct_units_0j c l j
-    + sent_0j c l j * ((rate_at c l 0).repair_days * 10000 + sum_by (λ i. (rate_at c i 0).share * (rate_at c i 0).repair_days) (shop_units c l)) * 10000
+    + sent_0j c l j * ((rate_at c l 0).repair_days * 10000 + sum_by
+    (λ i. (rate_at c i 0).share * (rate_at c i 0).repair_days) (shop_units c l)) * 10000
     + sum_by (λ i. zero_stock_units_ij c l i j) (shop_units c l)
 
 -- ---- by pair: those of part p, whose line unit is o, at site k
@@ -72,6 +80,7 @@ zero_stock_units_0j c l j =
 abbrev pub demand_of : CaseRows → Option ℕ → ℕ → ℕ → ℕ
 demand_of c o p k = by_pair (demand_i0 c) (demand_00 c) (demand_ij c) (demand_0j c) o p k
 
+-- how many of the demand's units make 1
 abbrev pub scale_of : Option ℕ → ℕ → ℕ → ℕ
 scale_of o p k = by_pair (λ l i. 10 ^ 16) (λ l. 10 ^ 8) (λ l i j. 10 ^ 12) (λ l j. 10 ^ 4) o p k
 
@@ -79,30 +88,40 @@ scale_of o p k = by_pair (λ l i. 10 ^ 16) (λ l. 10 ^ 8) (λ l i j. 10 ^ 12) (�
 abbrev pub top_of : CaseRows → Option ℕ → ℕ → ℕ → ℕ
 top_of c o p k = by_pair (λ l i. needed_i0 c l i * 10000) (λ l. 1) (sent_ij c) (sent_0j c) o p k
 
+-- the demand at the depot that a share is of
 abbrev pub bottom_of : CaseRows → Option ℕ → ℕ → ℕ → ℕ
 bottom_of c o p k = by_pair (demand_i0 c) (λ l. 1) (λ l i j. demand_i0 c l i) (λ l j. demand_00 c l) o p k
 
+-- D of the pair, in the pipelines' units
 abbrev pub direct_of : CaseRows → Option ℕ → ℕ → ℕ → ℕ
 direct_of c o p k = by_pair (direct_units_i0 c) (direct_units_00 c) (direct_units_ij c) (direct_units_0j c) o p k
 
+-- M of the pair, in the pipelines' units
 abbrev pub zero_stock_of : CaseRows → Option ℕ → ℕ → ℕ → ℕ
-zero_stock_of c o p k = by_pair (direct_units_i0 c) (zero_stock_units_00 c) (zero_stock_units_ij c) (zero_stock_units_0j c) o p k
+zero_stock_of c o p k = by_pair (direct_units_i0 c) (zero_stock_units_00 c) (zero_stock_units_ij c)
+    (zero_stock_units_0j c) o p k
 
+-- the demand of part p at site k
 abbrev pub demand_units : CaseRows → ℕ → ℕ → ℕ
 demand_units c p k = demand_of c (line_of c.parts p) p k
 
+-- how many units of that demand make 1
 abbrev pub demand_scale : CaseRows → ℕ → ℕ → ℕ
 demand_scale c p k = scale_of (line_of c.parts p) p k
 
+-- the top of the share of part p at site k
 abbrev pub share_top : CaseRows → ℕ → ℕ → ℕ
 share_top c p k = top_of c (line_of c.parts p) p k
 
+-- the bottom of that share
 abbrev pub share_bottom : CaseRows → ℕ → ℕ → ℕ
 share_bottom c p k = bottom_of c (line_of c.parts p) p k
 
+-- D of part p at site k, in the pipelines' units
 abbrev pub direct_units : CaseRows → ℕ → ℕ → ℕ
 direct_units c p k = direct_of c (line_of c.parts p) p k
 
+-- M of part p at site k, in the pipelines' units
 abbrev pub zero_stock_units : CaseRows → ℕ → ℕ → ℕ
 zero_stock_units c p k = zero_stock_of c (line_of c.parts p) p k
 

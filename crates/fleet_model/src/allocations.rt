@@ -15,8 +15,8 @@ pub fn stocks_allocate()
     ensures cost { (c : CaseRows) (s : StockList) → IsFor c s → cost c s.list ≡ cost_of c s }
 {}
 
-/// Where nothing is held and backorders count by their weight, the words of held stocks and of an aim are the plain ones:
-/// each allocation, its cost and its total.
+/// Where nothing is held and backorders count by their weight, the words of held stocks and of an aim are the plain
+/// ones: each allocation, its cost and its total.
 pub fn words_agree()
     ensures plain { (c : CaseRows) (s : List ℕ) → ArePlainWords c s }
     // What is held and what is bought beyond it cost together what the stocks cost.

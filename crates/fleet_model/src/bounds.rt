@@ -6,8 +6,8 @@ ghost use Rattle.fleet_model.specs.Rows.{line_units};
 ghost use Rattle.fleet_model.specs.Aims.{Value, IsHeldAllocation, cost_beyond};
 ghost use Rattle.fleet_model.specs.Bounds.{AreAround, AreFloors, HasNoMore, NoneHasLess, NoPriceShowsMore};
 
-/// The families' floors at a price show a bound for each allocation within the budget: what they come to above the price
-/// of the budget, and 0 where they are below it.
+/// The families' floors at a price show a bound for each allocation within the budget: what they come to above the
+/// price of the budget, and 0 where they are below it.
 pub fn floors_bound()
     ensures { (value : Value) (c : CaseRows) (held : List ℕ) (budget bound units money : ℕ) (floor : ℕ → ℕ)
         → IsCase c → 0 < units → AreFloors value c held units money floor

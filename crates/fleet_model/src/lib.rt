@@ -1,5 +1,5 @@
-//! The model of a case: its demands, pipelines and backorders, its availability, and its allocations with their cost and
-//! their total, or another aim, in exact fractions; and the laws of these.
+//! The model of a case: its demands, pipelines and backorders, its availability, and its allocations with their cost
+//! and their total, or another aim, in exact fractions; and the laws of these.
 //!
 //! The definitions stand in `specs/`, and no code computes with them: the crates above print intervals that hold their
 //! values. Each law is the contract of a public function with an empty body. `p` is a part, `l` a line unit, `i` a shop

@@ -22,8 +22,8 @@ pub fn nothing_cut()
         → (whole 1 -ℚ share c p k) +ℚ share c p k ≈ whole 1 }
 {}
 
-/// In a valid case no divisor of the availabilities is 0. The one divisor of the model that may be 0 is a share's: a part
-/// that no repair needs and no base sends on has the share 0.
+/// In a valid case no divisor of the availabilities is 0. The one divisor of the model that may be 0 is a share's: a
+/// part that no repair needs and no base sends on has the share 0.
 pub fn divisors_positive()
     ensures systems { (c : CaseRows) (j : ℕ) → IsCase c → IsBase c j → 0 < systems c j }
     ensures per_system { (c : CaseRows) (l : ℕ) → IsCase c → l < length c.parts → is_line (part_at c.parts l) ≡ true
@@ -55,7 +55,8 @@ pub fn within_zero_stock_means()
 
 /// Demands, shares, direct pipelines and zero-stock means by whole numbers.
 pub fn whole_units()
-    ensures demand { (c : CaseRows) (p k : ℕ) → demand c p k ≈ whole (demand_units c p k) /ℚ whole (demand_scale c p k) }
+    ensures demand { (c : CaseRows) (p k : ℕ)
+        → demand c p k ≈ whole (demand_units c p k) /ℚ whole (demand_scale c p k) }
     ensures share { (c : CaseRows) (p k : ℕ) → share c p k ≈ whole (share_top c p k) /ℚ whole (share_bottom c p k) }
     ensures direct { (c : CaseRows) (p k : ℕ) → direct c p k ≈ in_pipeline (direct_units c p k) }
     ensures zero_stock { (c : CaseRows) (p k : ℕ) → zero_stock c p k ≈ in_pipeline (zero_stock_units c p k) }

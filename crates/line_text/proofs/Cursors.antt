@@ -18,7 +18,9 @@ use Rattle.line_text.specs.Files.{line, comma, unended, lines_of, onto_line}
 use Rattle.line_text.specs.Reading.{first_fields, later, fields_left}
 use Rattle.line_text.specs.Exact.{is_end}
 use Rattle.line_text.proofs.LineLaws.{lines_at, unended_again, lines_cons}
+use Rattle.line_text.proofs.Laws.{nil_cons}
 
+-- no bytes have no lines
 pub empty_lines : (bytes : List ℕ) → length bytes ≡ 0 → lines_of bytes ≡ []
 unfolding lines_of
 empty_lines [] h = refl
@@ -43,11 +45,13 @@ fields_found bytes h = ap first_fields (line_found bytes h) ∙ ap (option_map (
 no_end_at_all : (bytes : List ℕ) → length bytes ≤ position_or_len is_end bytes → AllByRecursion (λ b. eqb b 10 ≡ false) bytes
 no_end_at_all bytes h = recursion_from_All (λ b. eqb b 10 ≡ false) bytes (λ k d lt. fails_before_first is_end bytes k d (omega (arith, lt, h)))
 
-one_line : (b : ℕ) (bytes : List ℕ) → AllByRecursion (λ b. eqb b 10 ≡ false) (b ∷ bytes) → lines_of (b ∷ bytes) ≡ (b ∷ bytes) ∷ []
+-- bytes without a line end are one line
+pub one_line : (b : ℕ) (bytes : List ℕ) → AllByRecursion (λ b. eqb b 10 ≡ false) (b ∷ bytes) → lines_of (b ∷ bytes) ≡ (b ∷ bytes) ∷ []
 one_line b [] h = lines_cons b [] false h.0 ∙ ap (onto_line b) (empty_lines [] refl)
 one_line b (c ∷ bytes) h = lines_cons b (c ∷ bytes) false h.0 ∙ ap (onto_line b) (one_line c bytes h.1)
 
-never_ended : (bytes : List ℕ) → AllByRecursion (λ b. eqb b 10 ≡ false) bytes → unended bytes ≡ None
+-- bytes without a line end have no line that ends
+pub never_ended : (bytes : List ℕ) → AllByRecursion (λ b. eqb b 10 ≡ false) bytes → unended bytes ≡ None
 never_ended [] h = refl
 never_ended (b ∷ []) h = rw h.0 refl
 never_ended (b ∷ c ∷ rest) h = ap (option_map (λ t. b ∷ t)) (never_ended (c ∷ rest) h.1)
@@ -69,15 +73,12 @@ passed_last bytes h = later_none bytes (no_end_at_all bytes h)
 pub passed : (bytes : List ℕ) → position_or_len is_end bytes < length bytes → later (lines_of bytes) ≡ lines_of (after_first is_end bytes)
 passed bytes h = ap later (line_found bytes h)
 
-cons_nil : (t : Token) (ts : List Token) → t ∷ ts ≡ [] → ⊥
-cons_nil t ts h = absurd cc
-
 onto_nil : (b : ℕ) (ls : List Token) → onto_line b ls ≡ [] → ⊥
 onto_nil b [] h = absurd cc
 onto_nil b (l ∷ ls) h = absurd cc
 
 some_line : (b : ℕ) (bytes : List ℕ) (c : Bool) → eqb b 10 ≡ c → lines_of (b ∷ bytes) ≡ [] → ⊥
-some_line b bytes true h e = cons_nil (10 ∷ []) (lines_of bytes) (sym (lines_cons b bytes true h) ∙ e)
+some_line b bytes true h e = nil_cons (10 ∷ []) (lines_of bytes) (sym (lines_cons b bytes true h) ∙ e)
 some_line b bytes false h e = onto_nil b (lines_of bytes) (sym (lines_cons b bytes false h) ∙ e)
 
 pub some_lines : (bytes : List ℕ) → lines_of bytes ≡ [] → length bytes ≡ 0
@@ -93,6 +94,7 @@ field_found bytes h = slice_split_first comma bytes 0 h
 pub last_field : (bytes : List ℕ) → length bytes ≤ position_or_len comma bytes → slice_split comma bytes ≡ bytes ∷ []
 last_field bytes h = slice_split_none comma bytes (λ k d lt. fails_before_first comma bytes k d (omega (arith, lt, h)))
 
+-- there are no lines exactly where there are no bytes
 pub empty_case : (bytes : List ℕ) (ls : List Token) (r : Bool) → r ≡ eqb (length bytes) 0 → lines_of bytes ≡ ls → IsTrue r ↔ (ls ≡ [])
 empty_case [] ls true h e = (λ _. sym e ∙ empty_lines [] refl, λ _. refl)
 empty_case [] ls false h e = absurd (false≢true h)
@@ -109,8 +111,9 @@ cond_some false x y a b = b
 
 pub some_fields : (bytes : List ℕ) → slice_split comma bytes ≢ []
 some_fields [] h = absurd cc
-some_fields (b ∷ bytes) h = cond_some (comma b) ([] ∷ slice_split comma bytes) (onto_first b (slice_split comma bytes)) (λ e. cons_nil [] (slice_split comma bytes) e) (onto_some b (slice_split comma bytes)) h
+some_fields (b ∷ bytes) h = cond_some (comma b) ([] ∷ slice_split comma bytes) (onto_first b (slice_split comma bytes)) (λ e. nil_cons [] (slice_split comma bytes) e) (onto_some b (slice_split comma bytes)) h
 
+-- a cursor that still has bytes has at least one field, for an empty text is one empty field
 pub some_left : (o : Option (Bor (List ℕ))) (b : Bor (List ℕ)) (fs : List Token) → o ≡ Some b → fields_left o ≡ fs → fs ≡ [] → ⊥
 some_left o b fs e v n = some_fields b.now (sym (ap fields_left e) ∙ v ∙ n)
 
@@ -142,6 +145,7 @@ line_value fields [] fs o h k = absurd cc
 line_value fields (l ∷ ls) fs None h k = rw (line_at fields ls l (unended l) fs refl h, ← k) refl
 line_value fields (l ∷ ls) fs (Some a) h k = rw (line_at fields ls l (unended l) fs refl h, ← k) refl
 
+-- where the fields of the first line are all of a format, reading a line gives their value and what follows
 pub line_read : {A : Type 0} (fields : Format A) (ts fs : List Token) (a : A) (rest : List Token) → first_fields ts ≡ Some fs → Some a ≡ accepted (read_all fields fs) → rest ≡ later ts → (one (line fields)).read ts ≡ Ok (a, rest)
 line_read fields ts fs a rest h k e = rw e (line_value fields ts fs (Some a) h k)
 
@@ -182,10 +186,12 @@ few_at : (b : ℕ) (bytes : List ℕ) (c : Bool) → eqb b 10 ≡ c → length (
 few_at b bytes true h = omega (arith, ap length (lines_cons b bytes true h))
 few_at b bytes false h = omega (arith, ap length (lines_cons b bytes false h), length_onto b (lines_of bytes))
 
+-- there are at most as many lines as bytes
 pub few_lines : (bytes : List ℕ) → length (lines_of bytes) ≤ length bytes
 few_lines [] = omega (arith, ap length (empty_lines [] refl))
 few_lines (b ∷ bytes) = omega (arith, few_at b bytes (eqb b 10) refl, few_lines bytes)
 
-pub length-later : (ls : List Token) → ls ≢ [] → length ls ≡ length (later ls) + 1
-length-later [] h = absurd (h refl)
-length-later (l ∷ ls) h = omega arith
+-- what follows the first token is one token less
+pub length_later : (ls : List Token) → ls ≢ [] → length ls ≡ length (later ls) + 1
+length_later [] h = absurd (h refl)
+length_later (l ∷ ls) h = omega arith

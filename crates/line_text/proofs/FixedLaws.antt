@@ -10,13 +10,14 @@ use Rattle.std.proofs.lemmas.Nat.{div-add-mod'}
 use Rattle.std.proofs.lemmas.Str.{digit_value_digit}
 use Rattle.std.proofs.lemmas.List.{take-append-drop, length-drop}
 use Rattle.std.proofs.lemmas.Slice.Eq.{bytes_eq-Decides}
+use Rattle.std.proofs.Math.Numerals.{add-one}
 use Rattle.fixed_interval.specs.Text.{last_digits, fixed_text}
-use Rattle.fixed_interval.proofs.Text.{length-last_digits, after_last_digits, last_digits_none}
+use Rattle.fixed_interval.proofs.Text.{length_last_digits, after_last_digits, last_digits_none}
 use Rattle.line_text.specs.Formats.{Token, Text, spelled}
 use Rattle.line_text.specs.Texts.{AreDigits, number, fixed, without_point, in_range}
 use Rattle.line_text.specs.Exact.{IsExactText, IsField}
 use Rattle.line_text.proofs.FieldLaws.{number_is_exact}
-use Rattle.line_text.proofs.Numerals.{digs_at, plus_one}
+use Rattle.line_text.proofs.Numerals.{digs_at}
 use Rattle.line_text.proofs.MoreFields.{digs_last, meant_fixed, whole_small}
 
 -- ---- the point
@@ -75,7 +76,7 @@ append_parts (x ∷ xs) (u ∷ us) ys vs l e =
 
 sides : (places n : ℕ) (xs ys : List ℕ) → length ys ≡ places → fixed_text places n ≡ xs ++ 46 ∷ ys → (decimal (n / 10 ^ places) ≡ xs) × (last_digits places n ≡ ys)
 sides places n xs ys l e =
-    let p = append_parts (decimal (n / 10 ^ places)) xs (46 ∷ last_digits places n) (46 ∷ ys) (omega (arith, l, length-last_digits places n)) e in
+    let p = append_parts (decimal (n / 10 ^ places)) xs (46 ∷ last_digits places n) (46 ∷ ys) (omega (arith, l, length_last_digits places n)) e in
     (p.0, ap (drop 1) p.1)
 
 cons_back : (d k n : ℕ) (xs : List ℕ) → 48 + n / 10 ^ k % 10 ≡ d → last_digits k n ≡ xs → last_digits (suc k) n ≡ d ∷ xs
@@ -165,16 +166,17 @@ module _ (text xs ys : List ℕ) (places least most : ℕ) (small : most < 2 ^ 1
 pub no_halves : (text : List ℕ) (places least most : ℕ) → ((xs ys : List ℕ) → length ys ≡ places → text ≡ xs ++ 46 ∷ ys → ⊥) → None ≡ (fixed places least most).read text
 no_halves text places least most h =
     spelled_refused (fixed_text places) (λ t. digits_value 10 (without_point t)) (in_range least most) text
-    (λ n f e. h (decimal (n / 10 ^ places)) (last_digits places n) (length-last_digits places n) (sym e))
+    (λ n f e. h (decimal (n / 10 ^ places)) (last_digits places n) (length_last_digits places n) (sym e))
 
 -- ---- writing
 
 pub ten_more : (k : ℕ) → 10 ^ (k + 1) ≡ 10 ^ k * 10
-ten_more k = ap (λ (i : ℕ). 10 ^ i) (plus_one k) ∙ pow-suc 10 k
+ten_more k = ap (λ (i : ℕ). 10 ^ i) (add-one k) ∙ pow-suc 10 k
 
 pub ten_small : (k places : ℕ) → k < places → places ≤ 18 → 10 ^ k ≤ 10 ^ 18
 ten_small k places h l = let le : k ≤ 18 = omega (arith, h, l) in pow-le-pow_right {n = 10} (lit< tt) {i = k} {j = 18} le
 
+-- a power of ten is at least 1
 pub ten_positive : (k : ℕ) → 1 ≤ 10 ^ k
 ten_positive k = one-le-pow k 10 (lit< tt)
 
@@ -190,10 +192,12 @@ pub last_front : (k n : ℕ) → last_digits (suc k) n ≡ (48 + n / 10 ^ k % 10
 unfolding last_digits
 last_front k n = refl
 
+-- of the places still to be written the first is the digit at the unit, and then come the others
 pub front_more : (places k n unit : ℕ) → k < places → unit ≡ 10 ^ (places - (k + 1)) → last_digits (places - k) n ≡ (48 + n / unit % 10) ∷ last_digits (places - (k + 1)) n
 front_more places k n unit h e =
     let s : places - k ≡ suc (places - (k + 1)) = omega (arith, h) in
     rw (s, e) (last_front (places - (k + 1)) n)
 
+-- where all places are written none is left
 pub last_at : (places k n : ℕ) → places ≤ k → last_digits (places - k) n ≡ []
 last_at places k n h = let z : places - k ≡ 0 = omega (arith, h) in rw z (last_digits_none n)

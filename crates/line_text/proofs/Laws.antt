@@ -8,12 +8,15 @@ use Rattle.line_text.specs.Exact.{next, Refused, IsExactText, IsExact}
 
 -- ---- words on results
 
+-- a value and what stands after it, as an answer of reading
 abbrev pub ok : {A : Type 0} → A × List Token → Result (A × List Token) (List Token)
 ok x = Ok x
 
+-- the tokens from the first bad one on, as an answer of reading
 abbrev pub bad : {A : Type 0} → List Token → Result (A × List Token) (List Token)
 bad left = Err left
 
+-- two such answers are equal only where value and rest are
 pub ok_is : {A : Type 0} (x y : A × List Token) → ok x ≡ ok y → x ≡ y
 ok_is x y e = cc
 
@@ -26,7 +29,8 @@ all_append : (P : Token → Type 0) (xs ys : List Token) → AllByRecursion P xs
 all_append P [] ys a b = b
 all_append P (x ∷ xs) ys a b = (a.0, all_append P xs ys a.1 b)
 
-nil_cons : (t : Token) (ts : List Token) → t ∷ ts ≡ [] → ⊥
+-- a list with a first line is not empty
+pub nil_cons : (t : Token) (ts : List Token) → t ∷ ts ≡ [] → ⊥
 nil_cons t ts h = absurd cc
 
 one_again : {A : Type 0} (text : Text A) (a : A) (ts : List Token) → text.read (text.print a) ≡ Some a → (one text).read (text.print a ∷ ts) ≡ Ok (a, ts)
@@ -74,6 +78,7 @@ one_refuses P text e (t ∷ ts) left h =
           none_some (text.read t) a p.0 (subst (λ (z : Token). text.read z ≡ Some a) same (e.again a f));
     }
 
+-- a format of one token of an exact text is exact
 pub one_is_exact : {A : Type 0} (P : Token → Type 0) (text : Text A) → IsExactText P text → IsExact P (one text)
 one_is_exact P text e = record {
   good = e.good;
@@ -86,6 +91,7 @@ one_is_exact P text e = record {
 
 -- ---- no token
 
+-- a format of no token is exact where there is only one value
 pub nothing_is_exact : {A : Type 0} (P : Token → Type 0) (x : A) → ((a : A) → a ≡ x) → IsExact P (nothing x)
 nothing_is_exact P x only = record {
   good = x;
@@ -229,6 +235,7 @@ module _ {A B : Type 0} (P : Token → Type 0) (format : Format A) (other : Form
     plain = λ b h. let a = from b h in subst (λ (y : List Token). AllByRecursion P y) (sym (prints a.0 a.2) ∙ ap other.print a.1) (e.plain a.0 a.2);
   }
 
+-- an exact format is exact in another shape, where the two shapes give back each other's values
 pub as_shape_is_exact : {A B : Type 0} (P : Token → Type 0) (format : Format A) (to : A → B) (from : B → A) (has : B → Bool) → IsExact P format
     → ((a : A) → format.fits a ≡ true → (from (to a) ≡ a) × (has (to a) ≡ true)) → ((b : B) → has b ≡ true → format.fits (from b) ≡ true → to (from b) ≡ b)
     → IsExact P (as_shape format to from has)
@@ -273,12 +280,13 @@ none_takes {K} {A} format before ts xs rest h =
     (ap (fits_after format before []) (sym (ap (λ (y : List A × List Token). y.0) e)), ap (λ (y : List A × List Token). y.1) e)
 
 -- as many values as keys
-pub length-after : {K A : Type 0} (format : List A → K → Format A) (before : List A) (keys : List K) (xs : List A) → fits_after format before keys xs ≡ true → length xs ≡ length keys
-length-after format before [] [] h = refl
-length-after format before [] (x ∷ xs) h = absurd cc
-length-after format before (k ∷ ks) [] h = absurd cc
-length-after format before (k ∷ ks) (x ∷ xs) h = omega (arith, length-after format (before ++ x ∷ []) ks xs (and_parts _ _ h).1)
+pub length_after : {K A : Type 0} (format : List A → K → Format A) (before : List A) (keys : List K) (xs : List A) → fits_after format before keys xs ≡ true → length xs ≡ length keys
+length_after format before [] [] h = refl
+length_after format before [] (x ∷ xs) h = absurd cc
+length_after format before (k ∷ ks) [] h = absurd cc
+length_after format before (k ∷ ks) (x ∷ xs) h = omega (arith, length_after format (before ++ x ∷ []) ks xs (and_parts _ _ h).1)
 
+-- what holds of every key holds along a list of keys
 pub all_are : {K : Type 0} (Q : K → Type 0) (keys : List K) → ((k : K) → Q k) → AllByRecursion Q keys
 all_are Q [] h = tt
 all_are Q (k ∷ ks) h = (h k, all_are Q ks h)

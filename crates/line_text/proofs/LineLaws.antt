@@ -27,6 +27,7 @@ spelled_at print fits t b a false y f q e = absurd cc
 spelled_takes : {A : Type 0} (print : A → Token) (meant : Token → A) (fits : A → Bool) (t : Token) (a : A) → (spelled print meant fits).read t ≡ Some a → (fits a ≡ true) × (t ≡ print a)
 spelled_takes print meant fits t a e = spelled_at print fits t (meant t) a (fits (meant t)) (bytes_eq (print (meant t)) t) refl refl e
 
+-- a text with one spelling for each value is exact where what it spells is what it means
 pub spelled_is_exact : {A : Type 0} (P : Token → Type 0) (print : A → Token) (meant : Token → A) (fits : A → Bool) (good : A)
     → fits good ≡ true → ((a : A) → fits a ≡ true → meant (print a) ≡ a) → ((a : A) → fits a ≡ true → P (print a)) → IsExactText P (spelled print meant fits)
 spelled_is_exact P print meant fits good h back plain = record {
@@ -39,6 +40,7 @@ spelled_is_exact P print meant fits good h back plain = record {
 
 -- ---- the line feed at the end
 
+-- a text and a line feed after it: what stands before the line feed is that text
 pub unended_again : (t : List ℕ) → unended (t ++ 10 ∷ []) ≡ Some t
 unended_again [] = refl
 unended_again (b ∷ []) = refl
@@ -78,6 +80,7 @@ split_again t (u ∷ ts) h =
     slice_split_at comma t 44 (join_with_byte 44 (u ∷ ts)) (All-from_recursion (λ b. comma b ≡ false) t (no_comma t h.0)) refl
     ∙ ap (λ (x : List Token). t ∷ x) (split_again u ts h.1)
 
+-- fields joined with commas are split into the same fields
 pub split_of : (ts : List Token) → 0 < length ts → AllByRecursion IsField ts → slice_split comma (join_with_byte 44 ts) ≡ ts
 split_of [] lt h = absurd (omega (arith, lt))
 split_of (t ∷ ts) lt h = split_again t ts h
@@ -119,6 +122,7 @@ module _ {A : Type 0} (P : Token → Type 0) (format : Format A) (e : IsExact P 
       subst (λ (y : A). (format.fits y ≡ true) × (ts ≡ format.print y)) q.0
       (t.0, t.1 ∙ ap (λ (z : List Token). format.print p.0.0 ++ z) q.1 ∙ append-nil (format.print p.0.0))
 
+-- a line is exact where the format of its fields is exact and writes at least one
 pub line_is_exact : {A : Type 0} (fields : Format A) → IsExact IsField fields → ((a : A) → 0 < length (fields.print a)) → IsExactText IsLine (line fields)
 line_is_exact fields e some = record {
   good = e.good;
@@ -139,6 +143,7 @@ concat_onto : (b : ℕ) (ls : List Token) → concat (onto_line b ls) ≡ b ∷ 
 concat_onto b [] = refl
 concat_onto b (l ∷ ls) = refl
 
+-- one more byte in front is an empty line where it is a line feed, and else belongs to the first line
 pub lines_cons : (b : ℕ) (bs : List ℕ) (c : Bool) → eqb b 10 ≡ c → lines_of (b ∷ bs) ≡ cond c ((10 ∷ []) ∷ lines_of bs) (onto_line b (lines_of bs))
 unfolding lines_of
 lines_cons b bs c h = rw h refl
@@ -150,6 +155,7 @@ concat_lines_cons b bs true h e =
 concat_lines_cons b bs false h e =
     ap concat (lines_cons b bs false h) ∙ concat_onto b (lines_of bs) ∙ ap (λ (x : List ℕ). b ∷ x) e
 
+-- the lines of some bytes, one after the other, are these bytes
 pub concat_lines : (bs : List ℕ) → concat (lines_of bs) ≡ bs
 unfolding lines_of
 concat_lines [] = refl
@@ -164,6 +170,7 @@ nil_lines : lines_of [] ≡ []
 unfolding lines_of
 nil_lines = refl
 
+-- lines written one after the other are split into the same lines
 pub lines_again : (ls : List Token) → AllByRecursion IsLine ls → lines_of (concat ls) ≡ ls
 lines_again [] h = nil_lines
 lines_again (l ∷ ls) h =

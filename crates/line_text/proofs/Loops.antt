@@ -23,6 +23,7 @@ regroup : {A : Type 0} (front : List A) (x : A) (read : Result (List A × List T
 regroup front x (Ok y) = ap (λ (ns : List _). Ok (ns, y.1)) (sym (append_assoc front (x ∷ []) y.0))
 regroup front x (Err f) = refl
 
+-- with one more value read, what was read before and what is still read come to the same total
 pub goes_on : {K A : Type 0} (format : List A → K → Format A) (before : List A) (k : K) (ks keys : List K) (ts rest : List Token) (x : A) (total : Result (List A × List Token) (List Token))
     → keys ≡ k ∷ ks → (format before k).read ts ≡ Ok (x, rest) → with_front before (read_after format before keys ts) ≡ total → with_front (before ++ x ∷ []) (read_after format (before ++ x ∷ []) ks rest) ≡ total
 goes_on format before k ks keys ts rest x total e h so_far =
@@ -33,6 +34,7 @@ pub ends : {K A : Type 0} (format : List A → K → Format A) (before : List A)
     → keys ≡ k ∷ ks → (format before k).read ts ≡ Err left → with_front before (read_after format before keys ts) ≡ total → total ≡ Err left
 ends format before k ks keys ts left total e h so_far = sym so_far ∙ rw (e, h) refl
 
+-- where no key is left, the values so far are the total
 pub is_done : {K A : Type 0} (format : List A → K → Format A) (before : List A) (keys : List K) (ts : List Token) (total : Result (List A × List Token) (List Token))
     → keys ≡ [] → with_front before (read_after format before keys ts) ≡ total → total ≡ Ok (before, ts)
 is_done format before keys ts total e so_far = sym so_far ∙ rw e (ap (λ (xs : List _). Ok (xs, ts)) (append-nil before))
@@ -43,12 +45,14 @@ pub ends_as : {K A V : Type 0} (view : V → List A) (e : Stop BadLine) (format 
 ends_as view stop.NoMemory format before k ks keys ts left total e h so_far = tt
 ends_as view (stop.Fault bad) format before k ks keys ts left total e h so_far = ends format before k ks keys ts left total e h so_far
 
+-- while i is below n, the numbers from i to n begin with i
 pub numbers_more : (n i : ℕ) → i < n → numbers_from i (n - i) ≡ i ∷ numbers_from (i + 1) (n - (i + 1))
 numbers_more n i h =
     let e : n - i ≡ suc (n - (i + 1)) = omega arith in
     let p : suc i ≡ i + 1 = omega arith in
     ap (numbers_from i) e ∙ ap (λ (k : ℕ). i ∷ numbers_from k (n - (i + 1))) p
 
+-- from n on no numbers up to n are left
 pub numbers_done : (n i : ℕ) → n ≤ i → numbers_from i (n - i) ≡ []
 numbers_done n i h = let e : n - i ≡ 0 = omega arith in ap (numbers_from i) e
 
@@ -57,17 +61,9 @@ keys_more [] i h = absurd (omega (arith, h))
 keys_more (k ∷ ks) zero h = (k, refl)
 keys_more (k ∷ ks) (suc i) h = let p : suc (i + 1) ≡ suc i + 1 = omega arith in let q = keys_more ks i (omega (arith, h)) in (q.0, q.1 ∙ ap (λ (n : ℕ). q.0 ∷ drop n (k ∷ ks)) p)
 
-drop_none : {K : Type 0} (i : ℕ) → drop {A = K} i [] ≡ []
-drop_none zero = refl
-drop_none (suc i) = refl
-
-pub keys_done : {K : Type 0} (keys : List K) (i : ℕ) → length keys ≤ i → drop i keys ≡ []
-keys_done [] i h = drop_none i
-keys_done (k ∷ ks) zero h = absurd (omega (arith, h))
-keys_done (k ∷ ks) (suc i) h = keys_done ks i (omega (arith, h))
-
 -- ---- writing
 
+-- a format of one token writes the text of that token
 pub one_text : {A : Type 0} (text : Text A) (a : A) → concat ((one text).print a) ≡ text.print a
 one_text text a = append-nil (text.print a)
 
@@ -85,6 +81,7 @@ print_done format before out total keys xs e so_far = sym (append-nil out) ∙ a
 pub both_text : {A B : Type 0} (first : Format A) (after : A → Format B) (a : A) (b : B) → concat ((and_then first after).print (a, b)) ≡ concat (first.print a) ++ concat ((after a).print b)
 both_text first after a b = concat-append (first.print a) ((after a).print b)
 
+-- what is left of a list from an entry on begins with that entry
 pub item_more : {X : Type 0} (xs : List X) (i : ℕ) (d : X) → i < length xs → drop i xs ≡ get_or xs i d ∷ drop (i + 1) xs
 item_more [] i d h = absurd (omega (arith, h))
 item_more (x ∷ xs) zero d h = refl

@@ -21,6 +21,7 @@ keep : (xs ys : List ℕ) → AllByRecursion IsDig xs → without_point (xs ++ y
 keep [] ys h = refl
 keep (x ∷ xs) ys h = rw (ne_eqb x 46 (λ e. omega (arith, e, h.0.0))) (ap (λ (t : Token). x ∷ t) (keep xs ys h.1))
 
+-- the last k digits of a number are digits
 pub digs_last : (k n : ℕ) → AllByRecursion IsDig (last_digits k n)
 unfolding last_digits
 digs_last zero n = tt
@@ -48,9 +49,11 @@ meant_fixed places n h =
 below : (a b n : ℕ) → 1 ≤ b → n < a → n < a * b
 below a b n h lt = omega (arith, lt, le-mul_of_pos_right a h)
 
+-- what stands before the point of a number below 10^64 is below 10^64 too
 pub whole_small : (places n most : ℕ) → n ≤ most → most < 10 ^ 64 → n / 10 ^ places < 10 ^ 64
 whole_small places n most a b = div_below n (10 ^ places) (10 ^ 64) (one-le-pow places 10 (lit< tt)) (below (10 ^ 64) (10 ^ places) n (one-le-pow places 10 (lit< tt)) (omega (arith, a, b)))
 
+-- the text of a number with so many places is exact as a field
 pub fixed_is_exact : (places least most : ℕ) → least ≤ most → most < 10 ^ 64 → IsExactText IsField (fixed places least most)
 fixed_is_exact places least most h m =
     spelled_is_exact IsField (fixed_text places) (λ t. digits_value 10 (without_point t)) (in_range least most) least
@@ -92,6 +95,7 @@ either_plain : {A B : Type 0} (P : Token → Type 0) (first : Text A) (second : 
 either_plain P first second e g (Left a) h = e.plain a h
 either_plain P first second e g (Right b) h = g.plain b h
 
+-- a choice between two exact texts is exact where no token could be of both
 pub either_is_exact : {A B : Type 0} (P : Token → Type 0) (first : Text A) (second : Text B) → IsExactText P first → IsExactText P second
     → ((a : A) (b : B) → first.fits a ≡ true → second.fits b ≡ true → first.print a ≡ second.print b → ⊥) → IsExactText P (either first second)
 either_is_exact P first second e g apart = record {
@@ -126,6 +130,7 @@ if_any_plain : {A : Type 0} (text : Text A) → IsExactText IsField text → (o 
 if_any_plain text e None h = tt
 if_any_plain text e (Some a) h = e.plain a h
 
+-- a field that may be empty is exact where its text is exact and never empty
 pub if_any_is_exact : {A : Type 0} (text : Text A) → IsExactText IsField text → ((a : A) → text.fits a ≡ true → text.print a ≢ []) → IsExactText IsField (if_any text)
 if_any_is_exact text e some = record {
   good = None;
@@ -145,6 +150,7 @@ kept_is : {A : Type 0} (test : A → Bool) (o : Option A) (a : A) → kept_by te
 kept_is test None a h = absurd cc
 kept_is test (Some b) a h = kept_at test b a (test b) refl h
 
+-- the values of an exact text that pass a test have an exact text, where one of them passes
 pub only_is_exact : {A : Type 0} (P : Token → Type 0) (test : A → Bool) (text : Text A) → IsExactText P text → (good : A) → text.fits good ≡ true → test good ≡ true → IsExactText P (only test text)
 only_is_exact P test text e good f h = record {
   good = good;

@@ -12,6 +12,7 @@ use Rattle.std.proofs.lemmas.Fmt.{decimal_by_steps_wide, decimal_step_wide, deci
 use Rattle.std.proofs.lemmas.List.{take-append-drop}
 use Rattle.std.proofs.lemmas.Grind.{take_at_read}
 use Rattle.std.proofs.lemmas.Slice.Eq.{bytes_eq-Decides}
+use Rattle.std.proofs.Math.Numerals.{add-one}
 use Rattle.fixed_interval.proofs.Text.{after_append, first_digit}
 use Rattle.line_text.specs.Texts.{AreDigits, IsShort, number, in_range}
 
@@ -26,11 +27,8 @@ value_more m i xs h d =
     let v = digit_value_digit (get_or xs i 0) (d i h) in
     ap (digits_value_after 10 m) t ∙ after_append m (take i xs) (get_or xs i 0 ∷ []) ∙ omega (arith, v)
 
-pub plus_one : (i : ℕ) → i + 1 ≡ suc i
-plus_one i = omega arith
-
 value_suc : (i : ℕ) (xs : List ℕ) → i < length xs → AreDigits xs → digits_value 10 (take (suc i) xs) ≡ digits_value 10 (take i xs) * 10 + (get_or xs i 0 - 48)
-value_suc i xs h d = ap (λ (k : ℕ). digits_value 10 (take k xs)) (sym (plus_one i)) ∙ value_more 0 i xs h d
+value_suc i xs h d = ap (λ (k : ℕ). digits_value 10 (take k xs)) (sym (add-one i)) ∙ value_more 0 i xs h d
 
 -- a part's value is at most the whole's
 pub part_below : (m i : ℕ) (xs : List ℕ) → digits_value_after 10 m (take i xs) ≤ digits_value_after 10 m xs
@@ -60,7 +58,7 @@ not_zero xs s h d =
     ]
 
 again : (i : ℕ) (xs : List ℕ) → suc i < length xs → take (suc i) xs ++ (get_or xs (suc i) 0 ∷ []) ≡ take (suc (suc i)) xs
-again i xs h = sym (take_at_read xs (suc i) 0 h).1 ∙ ap (λ (k : ℕ). take k xs) (plus_one (suc i))
+again i xs h = sym (take_at_read xs (suc i) 0 h).1 ∙ ap (λ (k : ℕ). take k xs) (add-one (suc i))
 
 all_taken : (xs : List ℕ) → take (length xs) xs ≡ xs
 all_taken [] = refl
@@ -101,6 +99,7 @@ canonical xs d s lt = subst (λ (t : List ℕ). decimal (digits_value 10 t) ≡ 
 
 -- ---- the text of a number is short, and digits
 
+-- a byte from 0 to 9
 abbrev pub IsDig : ℕ → Type 0
 IsDig c = (48 ≤ c) × (c ≤ 57)
 
@@ -108,6 +107,7 @@ digs_append : (xs ys : List ℕ) → AllByRecursion IsDig xs → AllByRecursion 
 digs_append [] ys a b = b
 digs_append (x ∷ xs) ys a b = (a.0, digs_append xs ys a.1 b)
 
+-- the decimal text of a number below 10^64 has digits alone
 pub decimal_digs : (n : ℕ) → n < 10 ^ 64 → AllByRecursion IsDig (decimal n)
 decimal_digs n h =
     decimal_by_steps_wide (λ m ds. AllByRecursion IsDig ds)
@@ -115,6 +115,7 @@ decimal_digs n h =
     (λ m ds t i. let b = mod_below m 10 (lit< tt) in digs_append ds ((48 + m % 10) ∷ []) i ((omega arith, omega (arith, b)), tt))
     n h
 
+-- digits one by one are digits at each place
 pub digs_at : (xs : List ℕ) → AllByRecursion IsDig xs → AreDigits xs
 digs_at [] h k lt = absurd (omega (arith, lt))
 digs_at (x ∷ xs) h zero lt = h.0

@@ -6,6 +6,7 @@ use Rattle.line_text.specs.Files.{comma}
 
 -- ---- what may stand as a token
 
+-- a line feed
 abbrev pub is_end : ℕ → Bool
 is_end b = b == 10
 
@@ -28,6 +29,7 @@ pub data Level : Type 0 where
   in_line : Level
   in_file : Level
 
+-- what a token may be, by where it stands
 abbrev pub IsToken : Level → Token → Type 0
 IsToken in_line = IsField
 IsToken in_file = IsLine
@@ -47,7 +49,8 @@ pub record Refused {A : Type 0} (format : Format A) (ts left : List Token) : Typ
   pub fits : format.fits good ≡ true
   pub after : List Token
   pub begins : format.print good ≡ front ++ after
-  pub no_other : (a : A) → format.fits a ≡ true → (more rest : List Token) → format.print a ++ more ≡ front ++ next left rest → ⊥
+  pub no_other : (a : A) → format.fits a ≡ true → (more rest : List Token) → format.print a ++ more ≡ front
+      ++ next left rest → ⊥
 
 -- a value is there, each is read again as it was written, what is read was written so, and writing gives such tokens
 pub record IsExactText {A : Type 0} (P : Token → Type 0) (text : Text A) : Type 0 where
@@ -62,6 +65,7 @@ pub record IsExact {A : Type 0} (P : Token → Type 0) (format : Format A) : Typ
   pub good : A
   pub fits : format.fits good ≡ true
   pub again : (a : A) → format.fits a ≡ true → (ts : List Token) → format.read (format.print a ++ ts) ≡ Ok (a, ts)
-  pub takes : (ts : List Token) (a : A) (rest : List Token) → format.read ts ≡ Ok (a, rest) → (format.fits a ≡ true) × (ts ≡ format.print a ++ rest)
+  pub takes : (ts : List Token) (a : A) (rest : List Token) → format.read ts ≡ Ok (a, rest) → (format.fits a ≡ true)
+      × (ts ≡ format.print a ++ rest)
   pub refuses : (ts left : List Token) → format.read ts ≡ Err left → Refused format ts left
   pub plain : (a : A) → format.fits a ≡ true → AllByRecursion P (format.print a)

@@ -5,6 +5,7 @@ use Rattle.line_text.specs.Formats.{Token, Text, Format, ◌>>-◌, accepted, re
 
 -- ---- a line is fields with commas between them, and a line feed
 
+-- the byte between two fields
 abbrev pub comma : ℕ → Bool
 comma b = b == 44
 
@@ -14,6 +15,7 @@ unended [] = None
 unended (b ∷ []) = if b == 10 then Some [] else None
 unended (b ∷ c ∷ rest) = option_map (λ t. b ∷ t) (unended (c ∷ rest))
 
+-- the fields of a format as one line, read back only with its line feed and where no field is left over
 abbrev pub line : {A : Type 0} → Format A → Text A
 line fields = record {
   print = λ a. join_with_byte 44 (fields.print a) ++ 10 ∷ [];
@@ -23,6 +25,7 @@ line fields = record {
 
 -- ---- a file is lines
 
+-- a byte in front of the first line, which it begins where there is none
 abbrev pub onto_line : ℕ → List Token → List Token
 onto_line b [] = (b ∷ []) ∷ []
 onto_line b (l ∷ ls) = (b ∷ l) ∷ ls
@@ -32,6 +35,7 @@ unfoldable pub lines_of : List ℕ → List Token
 lines_of [] = []
 lines_of (b ∷ bs) = if b == 10 then (10 ∷ []) ∷ lines_of bs else onto_line b (lines_of bs)
 
+-- the bytes of a value's file
 abbrev pub file_text : {A : Type 0} → Format A → A → List ℕ
 file_text format a = concat (format.print a)
 
@@ -54,4 +58,5 @@ pub record IsFirstBad {A : Type 0} (format : Format A) (bytes : List ℕ) (befor
   pub good : A
   pub fits : format.fits good ≡ true
   pub begins : take before (lines_of (file_text format good)) ≡ take before (lines_of bytes)
-  pub no_other : (a : A) → format.fits a ≡ true → take (suc before) (lines_of (file_text format a)) ≡ take (suc before) (lines_of bytes) → ⊥
+  pub no_other : (a : A) → format.fits a ≡ true
+      → take (suc before) (lines_of (file_text format a)) ≡ take (suc before) (lines_of bytes) → ⊥

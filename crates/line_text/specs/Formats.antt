@@ -3,6 +3,7 @@
 use Rattle.std.specs.Prelude.{ℕ, Bool, true, false, ◌&&◌, List, [], ◌∷◌, ◌++◌, Option, Some, None, Result, Ok, Err, if◌then◌else◌, bytes_eq}
 use Rattle.spares_io.specs.Steps.{◌>>=◌}
 
+-- the bytes of a field or of a line
 abbrev pub Token : Type 0
 Token = List ℕ
 
@@ -12,13 +13,15 @@ pub record Text (A : Type 0) : Type 0 where
   pub read : Token → Option A
   pub fits : A → Bool
 
--- the same of several tokens; reading answers the value and the tokens after it, or else the tokens from the first bad one on
+-- the same of several tokens; reading answers the value and the tokens after it, or else the tokens from the first
+-- bad one on
 pub record Format (A : Type 0) : Type 0 where
   pub print : A → List Token
   pub read : List Token → Result (A × List Token) (List Token)
   pub fits : A → Bool
 
 infixl 10 ◌>>-◌
+-- what follows of a value, where there is one
 abbrev pub ◌>>-◌ : {A B : Type 0} → Option A → (A → Option B) → Option B
 None >>- f = None
 (Some x) >>- f = f x
@@ -77,15 +80,20 @@ as_shape format to from has = record {
 
 -- ---- a value for each key, in the order of the keys
 
+-- the tokens of the values, one format after the other
 abbrev pub print_after : {K A : Type 0} → (List A → K → Format A) → List A → List K → List A → List Token
 print_after format before [] xs = []
 print_after format before (k ∷ ks) [] = []
 print_after format before (k ∷ ks) (x ∷ xs) = (format before k).print x ++ print_after format (before ++ x ∷ []) ks xs
 
-abbrev pub read_after : {K A : Type 0} → (List A → K → Format A) → List A → List K → List Token → Result (List A × List Token) (List Token)
+-- the values read one after the other, until the keys are used up or a token is bad
+abbrev pub read_after : {K A : Type 0} → (List A → K → Format A) → List A → List K → List Token
+    → Result (List A × List Token) (List Token)
 read_after format before [] ts = Ok ([], ts)
-read_after format before (k ∷ ks) ts = (format before k).read ts >>= λ x. read_after format (before ++ x.0 ∷ []) ks x.1 >>= λ xs. Ok (x.0 ∷ xs.0, xs.1)
+read_after format before (k ∷ ks) ts = (format before k).read ts >>= λ x. read_after format (before ++ x.0 ∷ []) ks x.1
+    >>= λ xs. Ok (x.0 ∷ xs.0, xs.1)
 
+-- there is a value for each key, and each is one of its format
 abbrev pub fits_after : {K A : Type 0} → (List A → K → Format A) → List A → List K → List A → Bool
 fits_after format before [] [] = true
 fits_after format before [] (x ∷ xs) = false
@@ -106,13 +114,16 @@ each keys format = each_after [] keys (λ _ k. format k)
 
 -- ---- tokens that are all of a format
 
+-- a value after which no token is left, or else the tokens left
 abbrev pub all_read : {A : Type 0} → A × List Token → Result A (List Token)
 all_read (a, []) = Ok a
 all_read (a, t ∷ ts) = Err (t ∷ ts)
 
+-- the value of all these tokens, or the tokens from the first bad one on
 abbrev pub read_all : {A : Type 0} → Format A → List Token → Result A (List Token)
 read_all format ts = format.read ts >>= all_read
 
+-- the value, whatever a refusal would say
 abbrev pub accepted : {A E : Type 0} → Result A E → Option A
 accepted (Ok a) = Some a
 accepted (Err e) = None

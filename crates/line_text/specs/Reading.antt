@@ -9,12 +9,14 @@ use Rattle.line_text.specs.Files.{comma, unended}
 use Rattle.line_text.specs.declared.bad_line.BadLine.{BadLine}
 
 -- a value was read and left is what stands after it, or left begins at the first bad line
-abbrev pub Reads : {X Y : Type 0} → (X → Y) → Result X BadLine → List Token → Result (Y × List Token) (List Token) → Type 0
+abbrev pub Reads : {X Y : Type 0} → (X → Y) → Result X BadLine → List Token → Result (Y × List Token) (List Token)
+    → Type 0
 Reads view (Ok x) left read = read ≡ Ok (view x, left)
 Reads view (Err bad) left read = read ≡ Err left
 
 -- the same of a step that may find no memory, of which nothing is said then
-abbrev pub Gathers : {X Y : Type 0} → (X → Y) → Result X (Stop BadLine) → List Token → Result (Y × List Token) (List Token) → Type 0
+abbrev pub Gathers : {X Y : Type 0} → (X → Y) → Result X (Stop BadLine) → List Token
+    → Result (Y × List Token) (List Token) → Type 0
 Gathers view (Ok x) left read = read ≡ Ok (view x, left)
 Gathers view (Err (stop.Fault bad)) left read = read ≡ Err left
 Gathers view (Err stop.NoMemory) left read = ⊤

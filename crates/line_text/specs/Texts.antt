@@ -8,6 +8,7 @@ use Rattle.line_text.specs.Files.{line}
 
 -- ---- numbers
 
+-- each byte is from 0 to 9
 abbrev pub AreDigits : List ℕ → Type 0
 AreDigits text = (k : ℕ) → k < length text → (48 ≤ slice_index text k) × (slice_index text k ≤ 57)
 
@@ -19,9 +20,11 @@ IsShort text = (0 < length text) × (slice_index text 0 ≡ 48 → length text �
 abbrev pub in_range : ℕ → ℕ → ℕ → Bool
 in_range least most n = nat_le least n && nat_le n most
 
+-- a whole number within a range in decimal
 abbrev pub number : ℕ → ℕ → Text ℕ
 number least most = spelled decimal (digits_value 10) (in_range least most)
 
+-- a token without its decimal points
 abbrev pub without_point : Token → Token
 without_point t = filter (λ b. not (b == 46)) t
 
@@ -55,8 +58,10 @@ word_line w = one (line (word w))
 
 -- the line of a word and a number
 abbrev pub count_fields : Token → ℕ → ℕ → Format ℕ
-count_fields w least most = as_shape (and_then (word w) (λ _. one (number least most))) (λ x. x.1) (λ n. (tt, n)) (λ _. true)
+count_fields w least most = as_shape (and_then (word w) (λ _. one (number least most))) (λ x. x.1) (λ n. (tt, n))
+    (λ _. true)
 
+-- these fields as a line
 abbrev pub count_line : Token → ℕ → ℕ → Format ℕ
 count_line w least most = one (line (count_fields w least most))
 
@@ -72,12 +77,14 @@ numbers_from first (suc n) = first ∷ numbers_from (suc first) n
 -- a line with a word and how many values there are, and then each in the format of its place
 abbrev pub counted : {A : Type 0} → Token → ℕ → ℕ → (ℕ → Format A) → Format (List A)
 counted w least most format =
-    as_shape (and_then (count_line w least most) (λ n. each (numbers_from 0 n) format)) (λ x. x.1) (λ xs. (length xs, xs)) (λ _. true)
+    as_shape (and_then (count_line w least most) (λ n. each (numbers_from 0 n) format)) (λ x. x.1)
+    (λ xs. (length xs, xs)) (λ _. true)
 
 -- the same where what stands before tells how many there are, and a key for each
 abbrev pub one_for_each : {K A : Type 0} → Token → List K → (K → Format A) → Format (List A)
 one_for_each w keys format =
-    as_shape (and_then (count_line w (length keys) (length keys)) (λ _. each keys format)) (λ x. x.1) (λ xs. (length xs, xs)) (λ _. true)
+    as_shape (and_then (count_line w (length keys) (length keys)) (λ _. each keys format)) (λ x. x.1)
+    (λ xs. (length xs, xs)) (λ _. true)
 
 -- ---- choices
 
@@ -94,10 +101,12 @@ abbrev pub fits_either : {A B : Type 0} → Text A → Text B → Either A B →
 fits_either first second (Left a) = first.fits a
 fits_either first second (Right b) = second.fits b
 
+-- the first text's value where there is one, else the second's
 abbrev pub left_or : {A B : Type 0} → Option B → Option A → Option (Either A B)
 left_or other (Some a) = Some (Left a)
 left_or other None = option_map (λ b. Right b) other
 
+-- a value of either text; a token that both texts read is the first one's
 abbrev pub either : {A B : Type 0} → Text A → Text B → Text (Either A B)
 either first second = record {
   print = print_either first second;
@@ -114,10 +123,12 @@ abbrev pub fits_any : {A : Type 0} → Text A → Option A → Bool
 fits_any text None = true
 fits_any text (Some a) = text.fits a
 
+-- an empty token is no value, and any other the text's
 abbrev pub read_any : {A : Type 0} → Text A → Token → Option (Option A)
 read_any text [] = Some None
 read_any text (b ∷ t) = option_map (λ a. Some a) (text.read (b ∷ t))
 
+-- a text that may be missing, written as an empty token
 abbrev pub if_any : {A : Type 0} → Text A → Text (Option A)
 if_any text = record {
   print = print_any text;
@@ -130,6 +141,7 @@ abbrev pub kept_by : {A : Type 0} → (A → Bool) → Option A → Option A
 kept_by test None = None
 kept_by test (Some a) = if test a then Some a else None
 
+-- a text of those values alone that pass the test
 abbrev pub only : {A : Type 0} → (A → Bool) → Text A → Text A
 only test text = record {
   print = text.print;

@@ -8,7 +8,7 @@ ghost use Rattle.line_text.specs.Writing.{Puts};
 use crate::numbers::{are_digits, number, put_number, value_after};
 use spares_io::NoMemory;
 
-// What stands before the point and after it, where the point stands before so many places.
+/// What stands before the point and after it, where the point stands before so many places.
 #[tactic(auto, using(crate::proofs::FixedLaws::too_short, crate::proofs::FixedLaws::no_point, crate::proofs::FixedLaws::point_found))]
 fn halves(text: &[u8], places: usize) -> Option<(&[u8], &[u8])>
     ensures { MatchOption result ((xs ys : List ℕ) → length ys ≡ places → text.now ≡ xs ++ (46 ∷ ys) → ⊥)
@@ -26,7 +26,8 @@ fn halves(text: &[u8], places: usize) -> Option<(&[u8], &[u8])>
     }
 }
 
-/// The number of units from `least` to `most` that this is the text of: the last of exactly so many `places` is one unit.
+/// The number of units from `least` to `most` that this is the text of: the last of exactly so many `places` is one
+/// unit.
 #[tactic(auto, using(crate::proofs::FixedLaws::no_halves, crate::proofs::FixedLaws::no_whole))]
 pub fn fixed(text: &[u8], places: usize, least: u128, most: u128) -> Option<u128>
     ensures { result ≡ (fixed places least most).read text.now }
@@ -52,7 +53,7 @@ pub fn fixed(text: &[u8], places: usize, least: u128, most: u128) -> Option<u128
     Some(n)
 }
 
-// The units of one whole.
+/// The units of one whole.
 fn power_of_ten(places: usize) -> u128
     requires { places ≤ 18 }
     ensures { result ≡ 10 ^ places }
@@ -60,7 +61,7 @@ fn power_of_ten(places: usize) -> u128
     10_u128.pow(places as u32)
 }
 
-// Writes the last decimal digits of a number.
+/// Writes the last decimal digits of a number.
 fn put_last_digits(
     out: &mut Vec<u8>,
     places: usize,

@@ -43,7 +43,7 @@ impl<'a> Model for Lines<'a> {
     ghost view = { λ l. lines_of l.rest.now };
 }
 
-// Where a line feed stands, or the length.
+/// Where a line feed stands, or the length.
 fn line_end(bytes: &[u8]) -> usize
     ensures place { result ≡ position_or_len is_end bytes.now }
     ensures within { result ≤ length bytes.now }
@@ -56,7 +56,7 @@ fn line_end(bytes: &[u8]) -> usize
     bytes.len()
 }
 
-// Where a comma stands, or the length.
+/// Where a comma stands, or the length.
 fn field_end(bytes: &[u8]) -> usize
     ensures place { result ≡ position_or_len comma bytes.now }
     ensures within { result ≤ length bytes.now }
@@ -69,7 +69,7 @@ fn field_end(bytes: &[u8]) -> usize
     bytes.len()
 }
 
-// The first line without its line feed, where it has one.
+/// The first line without its line feed, where it has one.
 #[tactic(auto, using(crate::proofs::Cursors::fields_found, crate::proofs::Cursors::fields_missing))]
 fn first_line(bytes: &[u8]) -> Option<&[u8]>
     ensures { MatchOption result (first_fields (lines_of bytes.now) ≡ None)
@@ -83,7 +83,7 @@ fn first_line(bytes: &[u8]) -> Option<&[u8]>
     }
 }
 
-// What stands after the first line.
+/// What stands after the first line.
 #[tactic(auto, using(crate::proofs::Cursors::passed, crate::proofs::Cursors::passed_last, crate::proofs::Cursors::empty_lines))]
 fn after_line(bytes: &[u8]) -> &[u8]
     ensures { lines_of result.now ≡ later (lines_of bytes.now) }
@@ -97,7 +97,7 @@ fn after_line(bytes: &[u8]) -> &[u8]
     }
 }
 
-// The first field, and what stands after its comma, where it has one.
+/// The first field, and what stands after its comma, where it has one.
 #[tactic(auto, using(crate::proofs::Cursors::field_found, crate::proofs::Cursors::last_field))]
 fn first_field(bytes: &[u8]) -> (&[u8], Option<&[u8]>)
     ensures { slice_split comma bytes.now ≡ result.0.now ∷ fields_left result.1 }
@@ -218,7 +218,7 @@ impl<'a> Fields<'a> {
     }
 }
 
-// How many lines there are.
+/// How many lines there are.
 fn count_lines(bytes: &[u8]) -> usize
     ensures { result ≡ length (lines_of bytes.now) }
 {

@@ -9,7 +9,7 @@ ghost use Rattle.line_text.specs.Writing.{Puts};
 use itoa::Buffer;
 use spares_io::NoMemory;
 
-// Whether each byte is a digit.
+/// Whether each byte is a digit.
 pub(crate) fn are_digits(text: &[u8]) -> bool
     ensures { IsTrue result ↔ AreDigits text.now }
 {
@@ -21,7 +21,7 @@ pub(crate) fn are_digits(text: &[u8]) -> bool
     true
 }
 
-// The number that a number and the digits after it write, if it fits.
+/// The number that a number and the digits after it write, if it fits.
 pub(crate) fn value_after(front: u128, digits: &[u8]) -> Option<u128>
     requires { AreDigits digits.now }
     ensures { MatchOption result (2 ^ 128 ≤ digits_value_after 10 front digits.now)
@@ -40,7 +40,7 @@ pub(crate) fn value_after(front: u128, digits: &[u8]) -> Option<u128>
     Some(number)
 }
 
-// Whether no needless 0 stands in front.
+/// Whether no needless 0 stands in front.
 fn is_short(text: &[u8]) -> bool
     ensures { IsTrue result ↔ IsShort text.now }
 {

@@ -12,7 +12,7 @@ use crate::lines::{Fields, Lines};
 use crate::numbers::put_number;
 use spares_io::NoMemory;
 
-// Takes a word and a number from a line's fields.
+/// Takes a word and a number from a line's fields.
 fn count_of(fields: &mut Fields<'_>, name: &[u8], least: u128, most: u128) -> Option<u128>
     ensures { Takes (λ n. n) result fields.new ((count_fields name.now least most).read fields.old) }
 {
@@ -20,7 +20,7 @@ fn count_of(fields: &mut Fields<'_>, name: &[u8], least: u128, most: u128) -> Op
     fields.number(least, most)
 }
 
-// The number of a line whose fields are a word and a number.
+/// The number of a line whose fields are a word and a number.
 #[tactic(auto, using(crate::proofs::Cursors::whole_read, crate::proofs::Cursors::whole_left, crate::proofs::Cursors::whole_refused))]
 fn count_all(mut fields: Fields<'_>, name: &[u8], least: u128, most: u128) -> Option<u128>
     ensures { result ≡ accepted (read_all (count_fields name.now least most) fields.entry) }
@@ -49,7 +49,7 @@ pub fn count_line(
     }
 }
 
-// Whether a line's only field is a word.
+/// Whether a line's only field is a word.
 #[tactic(auto, using(crate::proofs::Cursors::whole_read, crate::proofs::Cursors::whole_left, crate::proofs::Cursors::whole_refused))]
 fn word_all(mut fields: Fields<'_>, name: &[u8]) -> Option<()>
     ensures { result ≡ accepted (read_all (word name.now) fields.entry) }
@@ -73,7 +73,7 @@ pub fn word_line(lines: &mut Lines<'_>, name: &[u8]) -> Result<(), BadLine>
     }
 }
 
-// The number that is a line's only field.
+/// The number that is a line's only field.
 #[tactic(auto, using(crate::proofs::Cursors::whole_read, crate::proofs::Cursors::whole_left, crate::proofs::Cursors::whole_refused))]
 fn number_all(mut fields: Fields<'_>, most: u128) -> Option<u128>
     ensures { result ≡ accepted (read_all (one (number 0 most)) fields.entry) }

@@ -11,6 +11,7 @@ up_or k j l = grind arith
 next_step : (c : List Point) → IsChain c → (j : ℕ) → suc j < length c → Steps (point_at c j) (point_at c (suc j))
 next_step c h j b = subst (λ i. Steps (point_at c j) (point_at c i)) (let e : j + 1 ≡ suc j = omega arith in e) (own_step c h j (omega (arith, b)))
 
+-- along a chain a later point costs no less
 pub costs_up : (c : List Point) → IsChain c → (k j : ℕ) → k ≤ j → j < length c → (point_at c k).cost ≤ (point_at c j).cost
 costs_up c h k zero l b = subst (λ z. (point_at c z).cost ≤ (point_at c zero).cost) (let e : 0 ≡ k = omega (arith, l) in e) (omega arith)
 costs_up c h k (suc j) l b = elim (up_or k j l) [

@@ -11,6 +11,7 @@ use Rattle.step_walk.proofs.Greedy.{below_or}
 use Rattle.price_bounds.proofs.Duality.{swapped}
 use Rattle.marginal_alloc.proofs.Bounds.{Around, around}
 use Rattle.marginal_alloc.proofs.Along.{lo_below}
+use Rattle.marginal_alloc.proofs.Lowest.{less_or}
 
 -- the cost after a change
 pub changed_cost : (curves : List (List Point)) (picks : List ℕ) (f k : ℕ) → f < length curves → length picks ≡ length curves
@@ -28,9 +29,6 @@ part_of_cost [] picks f b n = absurd (let l : f < 0 = b in omega arith)
 part_of_cost (c ∷ cs) [] f b n = absurd (let l : 0 ≡ suc (length cs) = n in omega arith)
 part_of_cost (c ∷ cs) (k ∷ ks) zero b n = omega arith
 part_of_cost (c ∷ cs) (k ∷ ks) (suc f) b n = (let r = part_of_cost cs ks f (omega arith) (let l : suc (length ks) ≡ suc (length cs) = n in omega arith) in omega (arith, r))
-
-less_or : (a b : ℕ) → a ≤ b → (a < b) ⊎ (a ≡ b)
-less_or a b l = grind arith
 
 module _ (curves : List (List Point)) (picks : List ℕ) (left f : ℕ) (fam : f < length curves) (count : length picks ≡ length curves) where
   -- a change of the family is a lower vertex that fits the money left and that of the pick

@@ -32,6 +32,7 @@ all_least p q (x ∷ xs) (c ∷ cs) (k ∷ ks) e n h = (
   all_least p q xs cs ks (let l : suc (length xs) ≡ suc (length cs) = e in omega arith) (let l : suc (length ks) ≡ suc (length cs) = n in omega arith) (λ g b. h (suc g) (omega arith)),
 )
 
+-- picks whose vertices are points of their families are one point of each
 pub all_picked : (families curves : List (List Point)) (picks : List ℕ) → length families ≡ length curves → length picks ≡ length curves
     → ((g : ℕ) → g < length curves → Among (vertex_at curves g (slice_index picks g)) (curve_at families g)) → Picks families (picked curves picks)
 all_picked [] [] picks e n h = tt
@@ -55,6 +56,7 @@ pub record Around (curves : List (List Point)) (picks : List ℕ) (f : ℕ) : Ty
   pub here : picked curves picks ≡ front ++ vertex_at curves f (slice_index picks f) ∷ back
   pub moved : (k : ℕ) → picked curves (set picks f k) ≡ front ++ vertex_at curves f k ∷ back
 
+-- the picks are those before a family, its vertex, and those after, to whichever vertex the family moves
 pub around : (curves : List (List Point)) (picks : List ℕ) (f : ℕ) → f < length curves → length picks ≡ length curves → Around curves picks f
 around [] picks f b n = absurd (let l : f < 0 = b in omega arith)
 around (c ∷ cs) [] f b n = absurd (let l : 0 ≡ suc (length cs) = n in omega arith)

@@ -6,6 +6,7 @@ use Rattle.step_walk.specs.Prefix.{vertex_at, picked}
 use Rattle.marginal_alloc.specs.Filling.{IsBestChange}
 use Rattle.marginal_alloc.proofs.Best.{changed_cost, part_of_cost}
 
+-- what the picks of the families from the f-th on cost together
 abbrev pub cost_from : ℕ → List (List Point) → List ℕ → ℕ
 cost_from zero curves picks = cost_of (picked curves picks)
 cost_from (suc f) [] picks = 0
@@ -18,6 +19,7 @@ by_suc f (c ∷ curves) [] b n = absurd (let l : 0 ≡ suc (length curves) = n i
 by_suc zero (c ∷ curves) (k ∷ picks) b n = refl
 by_suc (suc f) (c ∷ curves) (k ∷ picks) b n = by_suc f curves picks (omega arith) (let l : suc (length picks) ≡ suc (length curves) = n in omega arith)
 
+-- what the picks from the f-th on cost is what the f-th costs, and what those after it do
 pub from_next : (curves : List (List Point)) (picks : List ℕ) (f : ℕ) → f < length curves → length picks ≡ length curves → cost_from f curves picks ≡ (vertex_at curves f (slice_index picks f)).cost + cost_from (f + 1) curves picks
 from_next curves picks f b n = by_suc f curves picks b n ∙ ap (λ i. (vertex_at curves f (slice_index picks f)).cost + cost_from i curves picks) (let e : suc f ≡ f + 1 = omega arith in e)
 
@@ -26,6 +28,7 @@ at_length [] picks = refl
 at_length (c ∷ curves) [] = refl
 at_length (c ∷ curves) (k ∷ picks) = at_length curves picks
 
+-- past the last family the picks cost nothing
 pub from_end : (curves : List (List Point)) (picks : List ℕ) (f : ℕ) → f ≡ length curves → cost_from f curves picks ≡ 0
 from_end curves picks f e = ap (λ i. cost_from i curves picks) e ∙ at_length curves picks
 

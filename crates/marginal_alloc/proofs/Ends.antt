@@ -19,6 +19,7 @@ later_or a b f k g j (inr m) (inr n) = inner m.1 n.1
 one_best : (curves : List (List Point)) (budget : ℕ) (picks : List ℕ) (f k g j : ℕ) → IsBestChange curves budget picks f k → IsBestChange curves budget picks g j → (f ≡ g) × (k ≡ j)
 one_best curves budget picks f k g j a b = later_or (gain curves picks g j) (gain curves picks f k) f k g j (a.best g j b.change) (b.best f k a.change)
 
+-- there is one filling of given picks under a budget
 pub fills_same : (curves : List (List Point)) (budget : ℕ) (picks one two : List ℕ) → Fills curves budget picks one → Fills curves budget picks two → one ≡ two
 fills_same curves budget picks one two (full h) (full g) = refl
 fills_same curves budget picks one two (full h) (change f k b more) = absurd (h f k b.change)

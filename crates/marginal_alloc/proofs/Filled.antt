@@ -1,18 +1,16 @@
 -- What a filling keeps.
-use Rattle.std.proofs.Common.{◌≡◌, ℕ, zero, suc, ◌<◌, ◌≤◌, ◌≢◌, ◌⊎◌, inl, inr, List, [], ◌∷◌, length, set, slice_index, ap, ◌∙◌, arith, get_or-set_other, get_or-set_same, length-set}
+use Rattle.std.proofs.Common.{◌≡◌, ℕ, zero, suc, ◌<◌, ◌≤◌, inl, inr, List, [], ◌∷◌, length, set, slice_index, ap, ◌∙◌, arith, get_or-set_other, get_or-set_same, length-set}
+use Rattle.std.proofs.lemmas.Bool.{cases_eq}
 use Rattle.hull.specs.declared.point.Point.{Point}
 use Rattle.price_bounds.specs.Sums.{cost_of, hi_of}
 use Rattle.step_walk.specs.Prefix.{curve_at, vertex_at, AreVertices, picked}
 use Rattle.marginal_alloc.specs.Filling.{IsFull, Fills, full, change}
 
-same_or_not : (g f : ℕ) → (g ≡ f) ⊎ (g ≢ f)
-same_or_not g f = grind arith
-
 -- each pick is still a vertex
 pub changed_vertices : (curves : List (List Point)) (picks : List ℕ) (f k : ℕ) → f < length curves → k < length (curve_at curves f) → AreVertices curves picks → AreVertices curves (set picks f k)
 changed_vertices curves picks f k fam v is = record {
   count = length-set picks f k ∙ is.count;
-  below = λ g l. elim (same_or_not g f) [
+  below = λ g l. elim (cases_eq g f) [
     | inl e ↦ (
         let n = is.count in
         let at : slice_index (set picks f k) g ≡ k = ap (λ x. slice_index (set picks f k) x) e ∙ get_or-set_same picks f k 0 (omega (arith, fam, n)) in
@@ -25,6 +23,7 @@ changed_vertices curves picks f k fam v is = record {
   ];
 }
 
+-- a filling of one vertex of each curve ends at one vertex of each
 pub fills_vertices : {curves : List (List Point)} {budget : ℕ} {picks end : List ℕ} → Fills curves budget picks end → AreVertices curves picks → AreVertices curves end
 fills_vertices (full h) is = is
 fills_vertices {curves = curves} {picks = picks} (change f k b more) is = fills_vertices more (changed_vertices curves picks f k b.change.family b.change.vertex is)
@@ -44,7 +43,7 @@ pub fills_hi : {curves : List (List Point)} {budget : ℕ} {picks end : List ℕ
 fills_hi (full h) n g = omega arith
 fills_hi {curves = curves} {picks = picks} {end = end} (change f k b more) n g =
     let r : (vertex_at curves g (slice_index end g)).hi ≤ (vertex_at curves g (slice_index (set picks f k) g)).hi = fills_hi more (length-set picks f k ∙ n) g in
-    elim (same_or_not g f) [
+    elim (cases_eq g f) [
       | inl e ↦ (
           let at : slice_index (set picks f k) g ≡ k = ap (λ x. slice_index (set picks f k) x) e ∙ get_or-set_same picks f k 0 (let l = b.change.family in omega (arith, l, n)) in
           let x : (vertex_at curves g (slice_index (set picks f k) g)).hi ≡ (vertex_at curves f k).hi = ap (λ z. (vertex_at curves g z).hi) at ∙ ap (λ z. (vertex_at curves z k).hi) e in

@@ -1,16 +1,15 @@
 -- The lowest vertex of a curve that fits.
 use Rattle.std.proofs.Common.{◌≡◌, ℕ, ◌+◌, ◌<◌, ◌≤◌, ◌⊎◌, inl, inr, List, length, refl, sym, ap, subst, arith}
+use Rattle.std.proofs.lemmas.Bool.{cases_lt}
 use Rattle.hull.specs.declared.point.Point.{Point}
 use Rattle.hull.specs.Curves.{IsShape, point_at}
 use Rattle.marginal_alloc.specs.Changes.{hi_at, IsLowest}
 use Rattle.step_walk.proofs.Greedy.{below_or}
 use Rattle.marginal_alloc.proofs.Along.{costs_up, lo_below}
 
-less_or : (a b : ℕ) → a ≤ b → (a < b) ⊎ (a ≡ b)
+-- what is at most a number is less than it or is it
+pub less_or : (a b : ℕ) → a ≤ b → (a < b) ⊎ (a ≡ b)
 less_or a b l = grind arith
-
-below_or_not : (k n : ℕ) → (k < n) ⊎ (n ≤ k)
-below_or_not k n = grind arith
 
 module _ (curve : List Point) (shape : IsShape curve) (pick : ℕ) (here : Point) (is : here ≡ point_at curve pick) (within : pick < length curve) where
   -- where the lower end at a place isn't below, no upper end up to it is
@@ -84,7 +83,7 @@ module _ (curve : List Point) (pick room n v : ℕ) where
   ends shape there at b dear old = record {
     vertex = old.vertex;
     own = elim old.own [ inl e ↦ inl e | inr o ↦ inr (o.0, (let l = o.1 in omega (arith, l, b))) ];
-    least = λ k l low. elim (below_or_not k n) [
+    least = λ k l low. elim (cases_lt k n) [
       | inl m ↦ old.least k m low
       | inr m ↦ absurd (
           let up = costs_up curve shape.chain n k m l in

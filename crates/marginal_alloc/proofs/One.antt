@@ -1,6 +1,7 @@
 -- Two prefixes of the steps are nested, so only one stops at the budget.
-use Rattle.std.proofs.Common.{◌≡◌, ℕ, zero, suc, ◌+◌, ◌<◌, ◌≤◌, ◌≢◌, ◌⊎◌, inl, inr, Option, Some, None, List, [], ◌∷◌, length, set, slice_index, refl, sym, ap, ◌∙◌, subst, arith, get_or-set_other, get_or-set_same, length-set}
+use Rattle.std.proofs.Common.{◌≡◌, ℕ, zero, suc, ◌+◌, ◌<◌, ◌≤◌, ◌⊎◌, inl, inr, Option, Some, None, List, [], ◌∷◌, length, set, slice_index, refl, sym, ap, ◌∙◌, subst, arith, get_or-set_other, get_or-set_same, length-set}
 use Rattle.std.proofs.lemmas.List.{ext_get_or}
+use Rattle.std.proofs.lemmas.Bool.{cases_lt, cases_eq}
 use Rattle.hull.specs.declared.point.Point.{Point}
 use Rattle.hull.specs.declared.price.Price.{Price}
 use Rattle.hull.specs.Curves.{point_at}
@@ -12,6 +13,7 @@ use Rattle.marginal_alloc.proofs.Told.{told}
 use Rattle.marginal_alloc.proofs.Walking.{cost_taken}
 use Rattle.step_walk.proofs.Taking.{cost_rises}
 use Rattle.step_walk.proofs.Going.{not_both, one_next}
+use Rattle.step_walk.proofs.Greedy.{below_or}
 use Rattle.marginal_alloc.proofs.Along.{costs_up}
 
 -- a place below n at which xs has less than ys, or none
@@ -20,19 +22,14 @@ pub record Less (xs ys : List ℕ) (n : ℕ) : Type 0 where
   pub below : at < n
   pub less : slice_index xs at < slice_index ys at
 
-less_or_equal : (a b : ℕ) → (a < b) ⊎ (b ≤ a)
-less_or_equal a b = grind arith
-
-below_or : (g n : ℕ) → g < suc n → (g < n) ⊎ (g ≡ n)
-below_or g n l = grind arith
-
+-- of two lists of picks the first is behind the second at some place, or nowhere
 pub less_or : (xs ys : List ℕ) (n : ℕ) → Less xs ys n ⊎ ((f : ℕ) → f < n → slice_index ys f ≤ slice_index xs f)
 less_or xs ys zero = inr (λ f l. absurd (let m : f < 0 = l in omega arith))
-less_or xs ys (suc n) = elim (less_or_equal (slice_index xs n) (slice_index ys n)) [
+less_or xs ys (suc n) = elim (cases_lt (slice_index xs n) (slice_index ys n)) [
   | inl l ↦ inl (record { at = n; below = omega arith; less = l })
   | inr l ↦ elim (less_or xs ys n) [
     | inl r ↦ inl (record { at = r.at; below = (let b = r.below in omega (arith, b)); less = r.less })
-    | inr h ↦ inr (λ f b. elim (below_or f n b) [ inl c ↦ h f c | inr e ↦ subst (λ z. slice_index ys z ≤ slice_index xs z) (sym e) l ])
+    | inr h ↦ inr (λ f b. elim (below_or f n (omega (arith, b))) [ inl c ↦ h f c | inr e ↦ subst (λ z. slice_index ys z ≤ slice_index xs z) (sym e) l ])
   ]
 ]
 
@@ -48,9 +45,6 @@ dearer (c ∷ curves) (x ∷ xs) (y ∷ ys) shapes m n up below =
     (let l : suc (length xs) ≡ suc (length curves) = m in omega arith) (let l : suc (length ys) ≡ suc (length curves) = n in omega arith)
     (λ f l. up (suc f) (omega (arith, l))) (λ f l. below (suc f) (omega (arith, l))) in
     omega (arith, here, rest)
-
-same_or_not : (g f : ℕ) → (g ≡ f) ⊎ (g ≢ f)
-same_or_not g f = grind arith
 
 -- a step that is taken, and the first of a family that isn't
 taken_step : (curves : List (List Point)) (picks : List ℕ) → IsPrefix curves picks → (f k : ℕ) → f < length curves → k < slice_index picks f → HasStep curves f k
@@ -75,7 +69,7 @@ module _ (curves : List (List Point)) (budget : ℕ) (shapes : HaveShapes curves
       let more = cost_taken curves xs c fam count (cost_rises curves c (slice_index xs c) (shapes c fam).chain next.step) in
       let at_own : slice_index (set xs c (slice_index xs c + 1)) c ≡ slice_index xs c + 1 = get_or-set_same xs c (slice_index xs c + 1) 0 (omega (arith, fam, count)) in
       let low : cost_of (picked curves (set xs c (slice_index xs c + 1))) ≤ cost_of (picked curves ys) = dearer curves (set xs c (slice_index xs c + 1)) ys shapes (length-set xs c (slice_index xs c + 1) ∙ count) b.vertices.count
-      (λ f fb. elim (same_or_not f c) [
+      (λ f fb. elim (cases_eq f c) [
         | inl e ↦ subst (λ z. slice_index (set xs c (slice_index xs c + 1)) z ≤ slice_index ys z) (sym e) (omega (arith, at_own, l))
         | inr n ↦ subst (λ z. z ≤ slice_index ys f) (sym (get_or-set_other xs c f (slice_index xs c + 1) 0 n)) (up f fb)
       ]) b.vertices.below in
@@ -92,7 +86,7 @@ module _ (curves : List (List Point)) (budget : ℕ) (shapes : HaveShapes curves
       let passes : budget < cost_of (picked curves xs) + rise curves c.family (slice_index xs c.family) = omega (arith, e, over) in
       elim (less_or ys xs (length curves)) [
         | inl r ↦ not_crossed curves xs ys h.prefix b f r.at fb r.below l r.less
-        | inr up ↦ elim (less_or_equal (slice_index xs c.family) (slice_index ys c.family)) [
+        | inr up ↦ elim (cases_lt (slice_index xs c.family) (slice_index ys c.family)) [
           | inl m ↦ past xs ys h.prefix b fits up c.family next passes m
           | inr m ↦ behind c.family next m
         ]
@@ -118,9 +112,9 @@ module _ (curves : List (List Point)) (budget : ℕ) (shapes : HaveShapes curves
       (not_less ys xs other_cost other_price other_critical k h.prefix (omega (arith, fit, is)) f fb))
     where
       level : (a b : ℕ) → (a < b → ⊥) → (b < a → ⊥) → a ≡ b
-      level a b n m = elim (less_or_equal a b) [
+      level a b n m = elim (cases_lt a b) [
         | inl l ↦ absurd (n l)
-        | inr l ↦ elim (less_or_equal b a) [ inl i ↦ absurd (m i) | inr i ↦ omega (arith, l, i) ]
+        | inr l ↦ elim (cases_lt b a) [ inl i ↦ absurd (m i) | inr i ↦ omega (arith, l, i) ]
       ]
 
   same_prices : (a b : Price) → a.p ≡ b.p → a.q ≡ b.q → a ≡ b

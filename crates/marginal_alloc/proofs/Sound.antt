@@ -21,6 +21,7 @@ intervals (family ∷ families) e zero v a =
     subst (λ z. z.lo ≤ z.hi) (sym o.0) l
 intervals (family ∷ families) e (suc f) v a = intervals families e.1 f v a
 
+-- a plan over families whose intervals enclose their backorders keeps its promises of all allocations
 pub plan_sound : (families : List Family) (budget : ℕ) (chosen : List Point) (floors : List ℕ) (numbers : PlanNumbers) → AreEnclosed families
     → IsPlan (map points_of families) budget chosen floors numbers → IsSoundPlan families budget (stocks_of chosen) numbers
 plan_sound families budget chosen floors numbers e plan = sound (plan_kept (map points_of families) budget chosen floors numbers plan (intervals families e))

@@ -8,6 +8,7 @@ use Rattle.marginal_alloc.specs.declared.allocation.Chosen.{Chosen}
 use Rattle.price_bounds.specs.Sums.{total, bound_of}
 use Rattle.step_walk.specs.Prefix.{picked}
 
+-- the hull choice with these picks, this cost and price, and this critical step
 abbrev pub told : List ℕ → ℕ → Price → Option Critical → Chosen
 told picks cost price critical = record { picks = picks; cost = cost; price = price; critical = critical }
 

@@ -35,6 +35,7 @@ pub record Stepped (curves : List (List Point)) (picks : List ℕ) (new : Walked
 at_own : (curves : List (List Point)) (w : Walked) (next : Next) → w.curves ≡ curves → TellsFirst w next → TellsFirst (record { curves = curves; picks = w.picks }) next
 at_own curves w next same t = subst (λ (cs : List (List Point)). TellsFirst (record { curves = cs; picks = w.picks }) next) same t
 
+-- one step more adds its rise to the cost, and leaves fewer steps
 pub stepped : (curves : List (List Point)) (old new : Walked) (next : Next) (cost : ℕ) → old.curves ≡ curves → TellsFirst old next → MovesOn old new
     → cost ≡ cost_of (picked curves old.picks) → Stepped curves old.picks new (cost + next.price.q)
 stepped curves old new next cost same t on is =

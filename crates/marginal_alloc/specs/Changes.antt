@@ -20,15 +20,18 @@ pub record IsLower (curve : List Point) (pick room k : ℕ) : Type 0 where
 pub record IsLowest (curve : List Point) (pick room n v : ℕ) : Type 0 where
   pub vertex : v < length curve
   pub own : (v ≡ pick) ⊎ (IsLower curve pick room v × (v < n))
-  pub least : (k : ℕ) → k < n → IsLower curve pick room k → (hi_at curve v < hi_at curve k) ⊎ ((hi_at curve v ≡ hi_at curve k) × (v ≤ k))
+  pub least : (k : ℕ) → k < n → IsLower curve pick room k → (hi_at curve v < hi_at curve k)
+      ⊎ ((hi_at curve v ≡ hi_at curve k) × (v ≤ k))
 
 -- of the changes of the first n families, c is the best
 pub record IsBestAmong (curves : List (List Point)) (budget : ℕ) (picks : List ℕ) (n : ℕ) (c : Change) : Type 0 where
   pub change : HasChange curves budget picks c.family c.vertex
   pub place : c.family < n
   pub gain_is : c.gain ≡ gain curves picks c.family c.vertex
-  pub best : (g j : ℕ) → g < n → HasChange curves budget picks g j → (gain curves picks g j < c.gain) ⊎ ((gain curves picks g j ≡ c.gain) × ((c.family < g) ⊎ ((c.family ≡ g) × (c.vertex ≤ j))))
+  pub best : (g j : ℕ) → g < n → HasChange curves budget picks g j → (gain curves picks g j < c.gain)
+      ⊎ ((gain curves picks g j ≡ c.gain) × ((c.family < g) ⊎ ((c.family ≡ g) × (c.vertex ≤ j))))
 
+-- the best change among those of the first n families, or none where these have no change
 abbrev pub IsBestBefore : List (List Point) → ℕ → List ℕ → ℕ → Option Change → Type 0
 IsBestBefore curves budget picks n None = (g j : ℕ) → g < n → HasChange curves budget picks g j → ⊥
 IsBestBefore curves budget picks n (Some c) = IsBestAmong curves budget picks n c

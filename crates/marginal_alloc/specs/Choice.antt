@@ -13,7 +13,8 @@ abbrev pub StopsWith : List (List Point) → ℕ → List ℕ → ℕ → Price 
 StopsWith curves budget picks cost price None = AllTaken curves picks × (price.p ≡ 0) × (price.q ≡ 1)
 StopsWith curves budget picks cost price (Some c) =
     IsNext curves picks c.family × (c.vertex ≡ slice_index picks c.family + 1)
-    × (price.p ≡ fall curves c.family (slice_index picks c.family)) × (price.q ≡ rise curves c.family (slice_index picks c.family))
+    × (price.p ≡ fall curves c.family (slice_index picks c.family))
+    × (price.q ≡ rise curves c.family (slice_index picks c.family))
     × (budget < cost + rise curves c.family (slice_index picks c.family))
 
 -- The hull choice: the longest prefix of the steps whose cost is within the budget.
@@ -31,7 +32,8 @@ pub record AreCurves (families curves : List (List Point)) : Type 0 where
 -- the widths at the picks, that at the critical vertex where there is one, and a unit
 abbrev pub rounding_at : List (List Point) → List ℕ → Option Critical → ℕ
 rounding_at curves picks None = width_of (picked curves picks) + 1
-rounding_at curves picks (Some c) = width_of (picked curves picks) + ((vertex_at curves c.family c.vertex).hi - (vertex_at curves c.family c.vertex).lo) + 1
+rounding_at curves picks (Some c) = width_of (picked curves picks)
+    + ((vertex_at curves c.family c.vertex).hi - (vertex_at curves c.family c.vertex).lo) + 1
 
 -- how far the bound may be from that of another price
 abbrev pub rounding_of : List (List Point) → Chosen → ℕ

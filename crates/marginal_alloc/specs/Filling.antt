@@ -18,7 +18,8 @@ gain curves picks f k = (vertex_at curves f (slice_index picks f)).hi - (vertex_
 -- no change lowers an upper end by more, and of equal ones it is the first by family, and then by vertex
 pub record IsBestChange (curves : List (List Point)) (budget : ℕ) (picks : List ℕ) (f k : ℕ) : Type 0 where
   pub change : HasChange curves budget picks f k
-  pub best : (g j : ℕ) → HasChange curves budget picks g j → (gain curves picks g j < gain curves picks f k) ⊎ ((gain curves picks g j ≡ gain curves picks f k) × ((f < g) ⊎ ((f ≡ g) × (k ≤ j))))
+  pub best : (g j : ℕ) → HasChange curves budget picks g j → (gain curves picks g j < gain curves picks f k)
+      ⊎ ((gain curves picks g j ≡ gain curves picks f k) × ((f < g) ⊎ ((f ≡ g) × (k ≤ j))))
 
 -- there is no change
 abbrev pub IsFull : List (List Point) → ℕ → List ℕ → Type 0
@@ -27,4 +28,5 @@ IsFull curves budget picks = (f k : ℕ) → HasChange curves budget picks f k �
 -- best changes lead from the one to the other, where there is none
 pub data Fills (curves : List (List Point)) (budget : ℕ) : List ℕ → List ℕ → Type 0 where
   full : {picks : List ℕ} → IsFull curves budget picks → Fills curves budget picks picks
-  change : {picks end : List ℕ} (f k : ℕ) → IsBestChange curves budget picks f k → Fills curves budget (set picks f k) end → Fills curves budget picks end
+  change : {picks end : List ℕ} (f k : ℕ) → IsBestChange curves budget picks f k
+      → Fills curves budget (set picks f k) end → Fills curves budget picks end

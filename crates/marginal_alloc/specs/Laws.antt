@@ -10,14 +10,17 @@ use Rattle.marginal_alloc.specs.Choice.{IsHullChoice, IsChoiceFor}
 
 -- Each pick is least at the price, among all points of its family.
 abbrev pub PicksAreLeast : Type 0
-PicksAreLeast = (families curves : List (List Point)) (budget : ℕ) (chosen : Chosen) → IsChoiceFor families curves budget chosen
+PicksAreLeast = (families curves : List (List Point)) (budget : ℕ) (chosen : Chosen)
+    → IsChoiceFor families curves budget chosen
     → AllLeast chosen.price.p chosen.price.q families (picked curves chosen.picks)
 
 -- The vertex that the critical step would reach is least too.
 abbrev pub CriticalIsLeast : Type 0
-CriticalIsLeast = (families curves : List (List Point)) (budget : ℕ) (chosen : Chosen) (c : Critical) → IsChoiceFor families curves budget chosen → chosen.critical ≡ Some c
+CriticalIsLeast = (families curves : List (List Point)) (budget : ℕ) (chosen : Chosen) (c : Critical)
+    → IsChoiceFor families curves budget chosen → chosen.critical ≡ Some c
     → IsLeastAt chosen.price.p chosen.price.q (curve_at families c.family) (vertex_at curves c.family c.vertex)
 
 -- Curves have one hull choice under a budget.
 abbrev pub ChoicesAreOne : Type 0
-ChoicesAreOne = (curves : List (List Point)) (budget : ℕ) (one other : Chosen) → HaveShapes curves → IsHullChoice curves budget one → IsHullChoice curves budget other → one ≡ other
+ChoicesAreOne = (curves : List (List Point)) (budget : ℕ) (one other : Chosen) → HaveShapes curves
+    → IsHullChoice curves budget one → IsHullChoice curves budget other → one ≡ other

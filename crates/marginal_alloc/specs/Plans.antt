@@ -11,7 +11,8 @@ use Rattle.price_bounds.specs.Certificates.{AreLeastFloors}
 
 -- The hull choice of the families' curves is filled, and the numbers are those of the two, with the critical
 -- step of the hull choice. The floors are the least of all points at the price.
-pub record IsPlan (families : List (List Point)) (budget : ℕ) (chosen : List Point) (floors : List ℕ) (numbers : PlanNumbers) : Type 0 where
+pub record IsPlan (families : List (List Point)) (budget : ℕ) (chosen : List Point) (floors : List ℕ)
+    (numbers : PlanNumbers) : Type 0 where
   pub curves : List (List Point)
   pub hull : Chosen
   pub end : List ℕ

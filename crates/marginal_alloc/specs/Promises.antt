@@ -13,7 +13,8 @@ use Rattle.price_bounds.specs.Certificates.{Claims, IsAcceptable}
 
 -- No allocation within the budget has fewer backorders than the bound.
 abbrev pub NoAllocationHasFewer : List (List Point) → ℕ → ℕ → Type 0
-NoAllocationHasFewer families budget bound = (points : List Point) (values : List Fraction) → Picks families points → cost_of points ≤ budget
+NoAllocationHasFewer families budget bound = (points : List Point) (values : List Fraction) → Picks families points
+    → cost_of points ≤ budget
     → AllContain points values → IsAtLeast bound (sum_of values)
 
 -- The values of all choices: those of each choice are within its points' ends.
@@ -31,15 +32,18 @@ AreIntervals families = (f : ℕ) (v : Point) → Among v (curve_at families f) 
 
 -- No price gives a bound above the limit.
 abbrev pub NoPriceBoundIsHigher : List (List Point) → ℕ → ℕ → Type 0
-NoPriceBoundIsHigher families budget limit = (values : List Point → List Fraction) (price bound : Fraction) → AreValues families values
+NoPriceBoundIsHigher families budget limit = (values : List Point → List Fraction) (price bound : Fraction)
+    → AreValues families values
     → IsBoundAt families values budget price bound → IsAtMost limit bound
 
 -- No acceptable certificate has a bound above the limit.
 abbrev pub NoCertificateIsHigher : List (List Point) → ℕ → ℕ → Type 0
-NoCertificateIsHigher families budget limit = (claims : Claims) → IsAcceptable families budget claims → claims.bound ≤ limit
+NoCertificateIsHigher families budget limit = (claims : Claims) → IsAcceptable families budget claims
+    → claims.bound ≤ limit
 
 -- What holds of each plan.
-pub record PlanPromises (families : List (List Point)) (budget : ℕ) (chosen : List Point) (numbers : PlanNumbers) : Type 0 where
+pub record PlanPromises (families : List (List Point)) (budget : ℕ) (chosen : List Point) (numbers : PlanNumbers) :
+    Type 0 where
   pub within : Picks families chosen
   pub fits : numbers.cost ≤ budget
   pub upper : (values : List Fraction) → AllContain chosen values → IsAtMost numbers.upper (sum_of values)
@@ -47,29 +51,42 @@ pub record PlanPromises (families : List (List Point)) (budget : ℕ) (chosen : 
   pub higher : NoPriceBoundIsHigher families budget (numbers.bound + numbers.rounding)
   pub certificates : NoCertificateIsHigher families budget (numbers.bound + numbers.rounding)
   pub gap : numbers.bound + numbers.gap ≡ numbers.upper
-  pub small : numbers.price.q * numbers.gap ≤ numbers.price.p * (budget - numbers.hull_cost) + numbers.price.q * numbers.rounding
+  pub small : numbers.price.q * numbers.gap ≤ numbers.price.p * (budget - numbers.hull_cost) + numbers.price.q
+      * numbers.rounding
 
+-- each plan over intervals in order keeps the promises of a plan
 abbrev pub PlansKeepTheirPromises : Type 0
-PlansKeepTheirPromises = (families : List (List Point)) (budget : ℕ) (chosen : List Point) (floors : List ℕ) (numbers : PlanNumbers)
+PlansKeepTheirPromises = (families : List (List Point)) (budget : ℕ) (chosen : List Point) (floors : List ℕ)
+    (numbers : PlanNumbers)
     → AreIntervals families → IsPlan families budget chosen floors numbers → PlanPromises families budget chosen numbers
 
 -- The certificate of a plan is acceptable.
 abbrev pub PlansAreAcceptable : Type 0
-PlansAreAcceptable = (families : List (List Point)) (budget : ℕ) (chosen : List Point) (floors : List ℕ) (numbers : PlanNumbers)
+PlansAreAcceptable = (families : List (List Point)) (budget : ℕ) (chosen : List Point) (floors : List ℕ)
+    (numbers : PlanNumbers)
     → IsPlan families budget chosen floors numbers
-    → IsAcceptable families budget (record { chosen = chosen; price = numbers.price; floors = floors; upper = numbers.upper; bound = numbers.bound })
+    → IsAcceptable families budget (record {
+      chosen = chosen;
+      price = numbers.price;
+      floors = floors;
+      upper = numbers.upper;
+      bound = numbers.bound;
+    })
 
 -- In each family points with the same stocks are the same.
 abbrev pub StocksTellAll : List (List Point) → Type 0
 StocksTellAll families = (f : ℕ) → f < length families → StocksTell (curve_at families f)
 
 -- two plans agree in all they say
-pub record IsSamePlan (one other : List Point) (one_floors other_floors : List ℕ) (one_numbers other_numbers : PlanNumbers) : Type 0 where
+pub record IsSamePlan (one other : List Point) (one_floors other_floors : List ℕ)
+    (one_numbers other_numbers : PlanNumbers) : Type 0 where
   pub chosen : one ≡ other
   pub floors : one_floors ≡ other_floors
   pub numbers : one_numbers ≡ other_numbers
 
 -- Such families have one plan under a budget.
 abbrev pub PlansAreOne : Type 0
-PlansAreOne = (families : List (List Point)) (budget : ℕ) (chosen other : List Point) (floors other_floors : List ℕ) (numbers other_numbers : PlanNumbers) → StocksTellAll families
-    → IsPlan families budget chosen floors numbers → IsPlan families budget other other_floors other_numbers → IsSamePlan chosen other floors other_floors numbers other_numbers
+PlansAreOne = (families : List (List Point)) (budget : ℕ) (chosen other : List Point) (floors other_floors : List ℕ)
+    (numbers other_numbers : PlanNumbers) → StocksTellAll families
+    → IsPlan families budget chosen floors numbers → IsPlan families budget other other_floors other_numbers
+    → IsSamePlan chosen other floors other_floors numbers other_numbers

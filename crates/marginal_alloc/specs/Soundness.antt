@@ -8,7 +8,8 @@ use Rattle.price_bounds.specs.Soundness.{stocks_of, NoneHasFewerThan, NoPriceGiv
 use Rattle.marginal_alloc.specs.Plans.{IsPlan}
 
 -- The promises of a plan's stocks and numbers.
-pub record IsSoundPlan (families : List Family) (budget : ℕ) (stocks : List (List ℕ)) (numbers : PlanNumbers) : Type 0 where
+pub record IsSoundPlan (families : List Family) (budget : ℕ) (stocks : List (List ℕ)) (numbers : PlanNumbers) :
+    Type 0 where
   pub allocation : IsAllocation families stocks
   pub cost : numbers.cost ≡ cost_at families stocks
   pub fits : numbers.cost ≤ budget
@@ -17,8 +18,12 @@ pub record IsSoundPlan (families : List Family) (budget : ℕ) (stocks : List (L
   pub price : NoPriceGivesMoreThan (numbers.bound + numbers.rounding) families budget
   pub certificate : NoCertificateHasMoreThan (numbers.bound + numbers.rounding) families budget
   pub gap : numbers.bound + numbers.gap ≡ numbers.upper
-  pub small_gap : numbers.price.q * numbers.gap ≤ numbers.price.p * (budget - numbers.hull_cost) + numbers.price.q * numbers.rounding
+  pub small_gap : numbers.price.q * numbers.gap ≤ numbers.price.p * (budget - numbers.hull_cost) + numbers.price.q
+      * numbers.rounding
 
+-- each plan over families whose intervals enclose their backorders is sound
 abbrev pub PlansAreSound : Type 0
-PlansAreSound = (families : List Family) (budget : ℕ) (chosen : List Point) (floors : List ℕ) (numbers : PlanNumbers) → AreEnclosed families
-    → IsPlan (map points_of families) budget chosen floors numbers → IsSoundPlan families budget (stocks_of chosen) numbers
+PlansAreSound = (families : List Family) (budget : ℕ) (chosen : List Point) (floors : List ℕ) (numbers : PlanNumbers)
+    → AreEnclosed families
+    → IsPlan (map points_of families) budget chosen floors numbers
+    → IsSoundPlan families budget (stocks_of chosen) numbers

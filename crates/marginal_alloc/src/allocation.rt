@@ -17,8 +17,8 @@ pub struct Critical {
 
 /// A hull choice: a vertex of each curve, their whole cost, and the price at which each of them is least.
 ///
-/// The price is that of the critical step: its fall of the lower end in units of 2^-48, for its rise of cost in whole money.
-/// Where every step was taken, there is no critical step, and the price is 0/1.
+/// The price is that of the critical step: its fall of the lower end in units of 2^-48, for its rise of cost in whole
+/// money. Where every step was taken, there is no critical step, and the price is 0/1.
 #[derive(Drop)]
 pub struct Chosen {
     pub picks: List<u32>,
@@ -29,14 +29,15 @@ pub struct Chosen {
 
 /// The hull choice of the curves under a budget in whole money.
 ///
-/// The steps of all curves are taken by falling slope, of equal slopes by family and then by place, until one would pass the
-/// budget. There are at most 2,000 curves, and each begins at cost 0.
+/// The steps of all curves are taken by falling slope, of equal slopes by family and then by place, until one would
+/// pass the budget. There are at most 2,000 curves, and each begins at cost 0.
 pub fn allocate(alloc: Global, curves: &[Curve], budget: u64) -> Result<Chosen, NoMemory>
     requires few { length curves.now ≤ 2000 }
     requires free { (f : ℕ) → f < length curves.now → (vertex_at curves.now f 0).cost ≡ 0 }
     ensures choice { IfOk result (λ chosen. IsHullChoice curves.now budget chosen) }
     ensures shapes { OnOk result (HaveShapes curves.now) }
-    ensures price { IfOk result (λ chosen. (chosen.price.p < 2 ^ 74) × (0 < chosen.price.q) × (chosen.price.q ≤ 1000000000000)) }
+    ensures price { IfOk result (λ chosen. (chosen.price.p < 2 ^ 74) × (0 < chosen.price.q)
+        × (chosen.price.q ≤ 1000000000000)) }
 {
     let mut walk = Walk::begin(alloc, curves)?;
     let mut cost = 0;

@@ -101,7 +101,8 @@ pub(crate) fn best_change(curves: &[Curve], picks: &[u32], left: u64) -> Option<
     requires vertices { AreVertices curves.now picks.now }
     requires money { cost_of (picked curves.now picks.now) + left < 2 ^ 64 }
     ensures none { IfNone result (IsFull curves.now (cost_of (picked curves.now picks.now) + left) picks.now) }
-    ensures some { IfSome result (λ c. IsBestChange curves.now (cost_of (picked curves.now picks.now) + left) picks.now c.family c.vertex) }
+    ensures some { IfSome result (λ c. IsBestChange curves.now
+        (cost_of (picked curves.now picks.now) + left) picks.now c.family c.vertex) }
 {
     let mut best = None;
     for f in 0..curves.len() {

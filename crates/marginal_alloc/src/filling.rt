@@ -26,9 +26,10 @@ fn cost_at(curves: &[Curve], picks: &[u32]) -> u64
 
 /// Fills the picks: takes the best change until there is none.
 ///
-/// A change moves one family to another vertex of its curve, fits the budget in whole money, and lowers that family's upper
-/// end. The best one lowers it most, of equal ones it is the first by family and then by vertex. It takes no memory. There are
-/// at most 2,000 curves, with one pick for each, below its curve's `len`, and together the picks fit the budget.
+/// A change moves one family to another vertex of its curve, fits the budget in whole money, and lowers that family's
+/// upper end. The best one lowers it most, of equal ones it is the first by family and then by vertex. It takes no
+/// memory. There are at most 2,000 curves, with one pick for each, below its curve's `len`, and together the picks
+/// fit the budget.
 pub fn fill(curves: &[Curve], picks: &mut Vec<u32>, budget: u64)
     requires few { length curves.now ≤ 2000 }
     requires vertices { AreVertices curves.now picks.old.items }

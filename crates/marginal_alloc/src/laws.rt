@@ -18,7 +18,8 @@ pub fn choices_are_one()
     ensures { ChoicesAreOne }
 {}
 
-/// A filling ends where no change of one family to another vertex of its curve fits the budget and lowers its upper end.
+/// A filling ends where no change of one family to another vertex of its curve fits the budget and lowers its upper
+/// end.
 pub fn filling_is_full()
     ensures { FillingIsFull }
 {}

@@ -7,7 +7,8 @@ ghost use Rattle.marginal_alloc.specs.Soundness.{PlansAreSound};
 use crate::Critical;
 use hull::Price;
 
-/// The numbers of a plan. Costs are in whole money; the upper end, the bound, the rounding and the gap are in units of 2^-48.
+/// The numbers of a plan. Costs are in whole money; the upper end, the bound, the rounding and the gap are in units
+/// of 2^-48.
 #[derive(Clone, Copy, Debug, Drop, PartialEq, Eq)]
 pub struct PlanNumbers {
     /// What the hull choice costs.
@@ -28,8 +29,9 @@ pub struct PlanNumbers {
     pub critical: Option<Critical>,
 }
 
-/// A plan's choice is within its families and its budget, no choice has fewer, no price gives a bound higher by more than the
-/// rounding, no acceptable certificate claims one, and the gap is small: whatever values lie within the points' ends.
+/// A plan's choice is within its families and its budget, no choice has fewer, no price gives a bound higher by more
+/// than the rounding, no acceptable certificate claims one, and the gap is small: whatever values lie within the
+/// points' ends.
 pub fn plans_keep_their_promises()
     ensures { PlansKeepTheirPromises }
 {}

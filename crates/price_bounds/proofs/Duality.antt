@@ -41,6 +41,7 @@ no_fewer p q budget families vs ws h a b c =
     fewer p q (total (lagrangian p q) vs) budget (bound_of p q (total (lagrangian p q) vs) budget) (lo_of ws) (cost_of ws) h (bound_low p q (total (lagrangian p q) vs) budget h)
     (let k = least_together p q families vs ws a b in let e = lagrangian_of_all p q ws in omega (arith, k, e)) c
 
+-- one point in another's place moves the sum of a choice by the difference of the two
 pub swapped : (f : Point → ℕ) (front : List Point) (v u : Point) (back : List Point) → total f (front ++ u ∷ back) + f v ≡ total f (front ++ v ∷ back) + f u
 swapped f [] v u back = omega arith
 swapped f (x ∷ front) v u back = omega (arith, swapped f front v u back)

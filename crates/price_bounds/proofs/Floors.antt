@@ -10,7 +10,8 @@ use Rattle.price_bounds.specs.Sums.{total, cost_of, lo_of, Picks, AllLeast, boun
 use Rattle.price_bounds.specs.Certificates.{AreFloors, AreLeastFloors, Claims, IsAcceptable}
 use Rattle.price_bounds.proofs.Duality.{lagrangian_of_all}
 
-sum_cons : (c : ℕ) (cs : List ℕ) → sum (c ∷ cs) ≡ c + sum cs
+-- a sum is its first number and the sum of the rest
+pub sum_cons : (c : ℕ) (cs : List ℕ) → sum (c ∷ cs) ≡ c + sum cs
 sum_cons c cs = sum_by-cons (λ x. x) c cs
 
 -- floors are together at most what any choice is lagrangian
@@ -35,6 +36,7 @@ bound_step p q S B N l c h n s =
     low : (p q S B : ℕ) → 0 < q → q * bound_of p q S B ≤ S - p * B
     low p q S B h = omega arith
 
+-- a bound that a price shows of a choice is at most its sum, where its cost is within the budget
 pub fewer_step : (p q N l c B : ℕ) → 0 < q → q * N ≤ q * l + p * c - p * B → c ≤ B → N ≤ l
 fewer_step p q N l c B h n s =
     let k : p * c ≤ p * B = mul-le-mul_left p s in

@@ -8,10 +8,12 @@ use Rattle.price_bounds.specs.Certificates.{Claims, IsAcceptable}
 use Rattle.price_bounds.proofs.Units.{sum_contains, at_least, at_most}
 use Rattle.price_bounds.proofs.Floors.{fewer_step, claimed}
 
+-- no values within the budget come to less than the bound, and those of the chosen to no more than the upper end
 pub record CertificateKept (families : List (List Point)) (budget : ℕ) (claims : Claims) : Type 0 where
   pub fewer : (points : List Point) (values : List Fraction) → Picks families points → cost_of points ≤ budget → AllContain points values → IsAtLeast claims.bound (sum_of values)
   pub upper : (values : List Fraction) → AllContain claims.chosen values → IsAtMost claims.upper (sum_of values)
 
+-- each acceptable certificate bounds the values of all choices within the budget, and of its own
 pub certificate_kept : (families : List (List Point)) (budget : ℕ) (claims : Claims) → IsAcceptable families budget claims → CertificateKept families budget claims
 certificate_kept families budget claims a = record {
   fewer = λ points values w fits c. at_least claims.bound (lo_of points) (hi_of points) (sum_of values)

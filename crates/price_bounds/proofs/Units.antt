@@ -37,9 +37,11 @@ below E N l n d h k = (let i = mul-le-mul_right d h in omega (arith, i, k))
 above : (E N l n d : ℕ) → l ≤ N → n * E ≤ l * d → n * E ≤ N * d
 above E N l n d h k = (let i = mul-le-mul_right d h in omega (arith, i, k))
 
+-- a value is at least what its lower end is at least
 pub at_least : (N l h : ℕ) (q : Fraction) → N ≤ l → Contains 48 l h q → IsAtLeast N q
 at_least N l h q e c = record { low = below (2 ^ 48) N l q.num q.den e c.low }
 
+-- a value is at most what its upper end is at most
 pub at_most : (N l h : ℕ) (q : Fraction) → h ≤ N → Contains 48 l h q → IsAtMost N q
 at_most N l h q e c = record { high = above (2 ^ 48) N h q.num q.den e c.high }
 
@@ -56,6 +58,7 @@ price_step E a b l m n d h c X B bp dp below high within =
     let six : (b * d) * (l * E) ≤ (b * d) * (X * m) = omega (arith, three, four, five) in
     le_of_mul-le-mul_left six (mul-pos bp dp)
 
+-- a bound at a price is at most X, where the choice's upper end and cost are within X and the budget at it
 pub bound_at_most : (X B l h c : ℕ) (price bound q : Fraction) → bound +ℚ price *ℚ whole B ≤ℚ q +ℚ price *ℚ whole c → Contains 48 l h q
     → price.den * h + (2 ^ 48 * price.num) * c ≤ price.den * X + (2 ^ 48 * price.num) * B → IsAtMost X bound
 unfolding whole ◌+ℚ◌ ◌*ℚ◌

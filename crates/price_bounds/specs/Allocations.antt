@@ -13,16 +13,24 @@ pub record Family : Type 0 where
   pub hi : List ℕ → ℕ
   pub backorders : ℕ → List ℕ → Fraction
 
+-- the point of a vector of stocks: its cost and the ends of its interval
 abbrev pub point_of : Family → List ℕ → Point
-point_of family stocks = record { cost = family.cost stocks; lo = family.lo stocks; hi = family.hi stocks; stocks = stocks }
+point_of family stocks = record {
+  cost = family.cost stocks;
+  lo = family.lo stocks;
+  hi = family.hi stocks;
+  stocks = stocks;
+}
 
+-- the points of all vectors of a family
 abbrev pub points_of : Family → List Point
 points_of family = map (point_of family) family.vectors
 
 -- the interval of each vector encloses its backorders
 abbrev pub AreEnclosed : List Family → Type 0
 AreEnclosed [] = Unit {0}
-AreEnclosed (family ∷ families) = ((stocks : List ℕ) → Among stocks family.vectors → Encloses 48 (family.lo stocks) (family.hi stocks) (λ n. family.backorders n stocks))
+AreEnclosed (family ∷ families) = ((stocks : List ℕ) → Among stocks family.vectors
+    → Encloses 48 (family.lo stocks) (family.hi stocks) (λ n. family.backorders n stocks))
     × AreEnclosed families
 
 -- one vector of each family

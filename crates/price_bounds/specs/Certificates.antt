@@ -10,7 +10,8 @@ abbrev pub AreFloors : Price → List (List Point) → List ℕ → Type 0
 AreFloors price [] [] = Unit {0}
 AreFloors price [] (c ∷ cs) = ⊥
 AreFloors price (points ∷ families) [] = ⊥
-AreFloors price (points ∷ families) (c ∷ cs) = ((w : Point) → Among w points → c ≤ lagrangian price.p price.q w) × AreFloors price families cs
+AreFloors price (points ∷ families) (c ∷ cs) = ((w : Point) → Among w points → c ≤ lagrangian price.p price.q w)
+    × AreFloors price families cs
 
 -- each floor is the least Lagrangian of the family's points
 abbrev pub AreLeastFloors : Price → List (List Point) → List ℕ → Type 0
@@ -18,7 +19,8 @@ AreLeastFloors price [] [] = Unit {0}
 AreLeastFloors price [] (c ∷ cs) = ⊥
 AreLeastFloors price (points ∷ families) [] = ⊥
 AreLeastFloors price (points ∷ families) (c ∷ cs) =
-    ((w : Point) → Among w points → c ≤ lagrangian price.p price.q w) × ((w : Point) × Among w points × (lagrangian price.p price.q w ≡ c)) × AreLeastFloors price families cs
+    ((w : Point) → Among w points → c ≤ lagrangian price.p price.q w)
+    × ((w : Point) × Among w points × (lagrangian price.p price.q w ≡ c)) × AreLeastFloors price families cs
 
 -- A price, the floors of all families at it, chosen points, the upper end of their sum, and the lower bound.
 pub record Claims : Type 0 where

@@ -6,12 +6,14 @@ use Rattle.price_bounds.specs.Values.{IsAtLeast, IsAtMost}
 use Rattle.price_bounds.specs.Certificates.{Claims, IsAcceptable}
 use Rattle.price_bounds.specs.Allocations.{Family, points_of, AreEnclosed, IsAllocation, cost_at, total_at, IsBoundAtPrice}
 
+-- the stocks of some points, a vector for each
 abbrev pub stocks_of : List Point → List (List ℕ)
 stocks_of points = map (λ v. v.stocks) points
 
 -- no allocation within the budget has fewer backorders than the bound
 abbrev pub NoneHasFewerThan : ℕ → List Family → ℕ → Type 0
-NoneHasFewerThan bound families budget = (n : ℕ) (allocation : List (List ℕ)) → 1024 ≤ n → IsAllocation families allocation
+NoneHasFewerThan bound families budget = (n : ℕ) (allocation : List (List ℕ)) → 1024 ≤ n
+    → IsAllocation families allocation
     → cost_at families allocation ≤ budget → IsAtLeast bound (total_at n families allocation)
 
 -- no price gives a bound above the limit
@@ -21,7 +23,8 @@ NoPriceGivesMoreThan limit families budget = (n : ℕ) (price bound : Fraction) 
 
 -- no acceptable certificate has a bound above the limit
 abbrev pub NoCertificateHasMoreThan : ℕ → List Family → ℕ → Type 0
-NoCertificateHasMoreThan limit families budget = (claims : Claims) → IsAcceptable (map points_of families) budget claims → claims.bound ≤ limit
+NoCertificateHasMoreThan limit families budget = (claims : Claims) → IsAcceptable (map points_of families) budget claims
+    → claims.bound ≤ limit
 
 -- The promises of an acceptable certificate.
 pub record IsSoundCertificate (families : List Family) (budget : ℕ) (claims : Claims) : Type 0 where
@@ -30,6 +33,7 @@ pub record IsSoundCertificate (families : List Family) (budget : ℕ) (claims : 
   pub upper : (n : ℕ) → 1024 ≤ n → IsAtMost claims.upper (total_at n families (stocks_of claims.chosen))
   pub fewer : NoneHasFewerThan claims.bound families budget
 
+-- each acceptable certificate keeps its promises, where the intervals of the families enclose
 abbrev pub CertificatesAreSound : Type 0
 CertificatesAreSound = (families : List Family) (budget : ℕ) (claims : Claims) → AreEnclosed families
     → IsAcceptable (map points_of families) budget claims → IsSoundCertificate families budget claims

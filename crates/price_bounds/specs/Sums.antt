@@ -8,12 +8,15 @@ abbrev pub total : (Point → ℕ) → List Point → ℕ
 total f [] = 0
 total f (v ∷ vs) = f v + total f vs
 
+-- what some points cost together
 abbrev pub cost_of : List Point → ℕ
 cost_of vs = total (λ v. v.cost) vs
 
+-- what the lower ends of some points come to
 abbrev pub lo_of : List Point → ℕ
 lo_of vs = total (λ v. v.lo) vs
 
+-- what the upper ends of some points come to
 abbrev pub hi_of : List Point → ℕ
 hi_of vs = total (λ v. v.hi) vs
 

@@ -22,6 +22,7 @@ both_refused first second (t ∷ ts) left h g =
     let q = refused_at t ts left (second.read t) g in
     rw (p.0, q.0) (ap (λ (l : List Token). bad l) p.1)
 
+-- a line that neither text reads is the first bad one for the choice between them
 pub neither : {A B : Type 0} (first : Text A) (second : Text B) (ts middle left : List Token) → (one first).read ts ≡ Err middle → (one second).read middle ≡ Err left → (one (either first second)).read ts ≡ Err left
 neither first second ts middle left h g =
     let same = one_refused first ts middle h in

@@ -1,18 +1,17 @@
 -- The lines of a certificate are exact.
-use Rattle.std.proofs.Common.{◌≡◌, ℕ, ◌^◌, ◌<◌, ◌≤◌, Bool, true, false, cond, List, [], length, refl, sym, ap, ◌∙◌, get_or, arith}
+use Rattle.std.proofs.Common.{◌≡◌, ℕ, ◌^◌, ◌≤◌, Bool, true, false, cond, List, [], length, refl, sym, ap, ◌∙◌, get_or, arith}
 use Rattle.std.specs.Prelude.{◌==◌}
 use Rattle.std.proofs.lemmas.Bool.{eqb-true, eq-eqb}
 use Rattle.std.proofs.lemmas.List.{nil_from_length}
-use Rattle.line_text.specs.Formats.{Token, spelled, one, and_then}
+use Rattle.line_text.specs.Formats.{spelled, one, and_then}
 use Rattle.line_text.specs.Files.{line}
 use Rattle.line_text.specs.Texts.{number, word, no_field, word_line, count_line, counted, Either, Left, Right, either}
 use Rattle.line_text.specs.Exact.{IsExactText, IsExact, IsField, IsLine}
 use Rattle.line_text.proofs.Laws.{one_is_exact, both_are_exact, as_shape_is_exact}
 use Rattle.line_text.proofs.LineLaws.{spelled_is_exact, line_is_exact}
-use Rattle.line_text.proofs.FieldLaws.{number_line_is_exact, a_field, number_is_exact, word_is_exact, word_line_is_exact, count_line_is_exact, counted_is_exact, no_field_is_exact}
+use Rattle.line_text.proofs.FieldLaws.{number_line_is_exact, a_field, word_is_exact, word_line_is_exact, count_line_is_exact, counted_is_exact, no_field_is_exact}
 use Rattle.line_text.proofs.MoreFields.{either_is_exact}
 use Rattle.spares_input.specs.Cases.{CaseRows, frame_rows, pair_count}
-use Rattle.spares_input.specs.Stocks.{StockList}
 use Rattle.case_lines.specs.Grammar.{case_format}
 use Rattle.case_lines.proofs.Shape.{case_is_exact}
 use Rattle.price_certificate.specs.declared.certificate.Objective.{Objective}
@@ -22,11 +21,10 @@ use Rattle.price_certificate.specs.declared.certificate.Node.TheVariants as node
 use Rattle.price_certificate.specs.Grammar.{objective_name, objective_named, objective_fields, aims_at_backorders, objective_line, budget_line, price_fields, price_line, family_count, floors, split_fields, node_text, node_of, node_parts, node_line, cover, is_empty, covers, stock_lines, stocks, certificate_format}
 use Rattle.line_text.specs.Texts.{number_line}
 use Rattle.case_lines.proofs.Few.{few_pairs}
+use Rattle.case_lines.proofs.Exact.{number_field}
 use Rattle.price_certificate.proofs.Few.{few_families}
+use Rattle.price_certificate.proofs.Sequences.{with_sites}
 use lib.Chars.{codes}
-
-number_field : (least most : ℕ) → least ≤ most → most < 10 ^ 64 → IsExact IsField (one (number least most))
-number_field least most h m = one_is_exact IsField (number least most) (number_is_exact least most h m)
 
 -- ---- what is aimed at
 
@@ -123,21 +121,16 @@ covers_case false n h = no_field_is_exact IsLine [] is_empty refl no_covers
 stock_lines_are_exact : (n : ℕ) → n ≤ 32000 → IsExact IsLine (stock_lines n)
 stock_lines_are_exact n h = counted_is_exact (codes "stocks") n n (λ _. number_line 63) (a_field (codes "stocks") refl) (omega arith) (omega (arith, h)) (λ _. number_line_is_exact 63 (omega arith))
 
-abbrev stocks_at : List ℕ → ℕ → StockList
-stocks_at list n = record { sites = n; list = list }
-
 stocks_are_exact : (c : CaseRows) → pair_count (frame_rows c) ≤ 32000 → IsExact IsLine (stocks c)
 stocks_are_exact c h =
     as_shape_is_exact IsLine (stock_lines (pair_count (frame_rows c))) (λ list. record { sites = length c.sites; list = list }) (λ s. s.list) (λ s. s.sites == length c.sites)
     (stock_lines_are_exact (pair_count (frame_rows c)) h)
     (λ a f. (refl, eq-eqb (length c.sites) (length c.sites) refl))
-    (λ s h f. ap (stocks_at s.list) (sym (eqb-true s.sites (length c.sites) h)))
+    (λ s h f. ap (λ (n : ℕ). with_sites n s.list) (sym (eqb-true s.sites (length c.sites) h)))
 
 -- ---- a certificate
 
-count_is_exact : (w : Token) (least most : ℕ) → IsField w → least ≤ most → most < 10 ^ 64 → IsExact IsLine (count_line w least most)
-count_is_exact = count_line_is_exact
-
+-- the lines of a certificate, of any format or from format 2 on, are an exact format
 pub certificate_is_exact : (least : ℕ) → least ≤ 2 → IsExact IsLine (certificate_format least)
 certificate_is_exact least l =
     as_shape_is_exact IsLine
@@ -145,15 +138,15 @@ certificate_is_exact least l =
     (λ x. record { format = x.0; objective = x.1.0; case = x.1.1.0; budget = x.1.1.1.0; price = x.1.1.1.1.0; floors = x.1.1.1.1.1.0; covers = x.1.1.1.1.1.1.0; stocks = x.1.1.1.1.1.1.1.0; upper = x.1.1.1.1.1.1.1.1.0; bound = x.1.1.1.1.1.1.1.1.1.0 })
     (λ c. (c.format, (c.objective, (c.case, (c.budget, (c.price, (c.floors, (c.covers, (c.stocks, (c.upper, (c.bound, tt)))))))))))
     (λ _. true)
-    (both_are_exact IsLine _ _ (count_is_exact (codes "spares-certificate") least 2 (a_field (codes "spares-certificate") refl) l (omega arith))
+    (both_are_exact IsLine _ _ (count_line_is_exact (codes "spares-certificate") least 2 (a_field (codes "spares-certificate") refl) l (omega arith))
     (λ format _. both_are_exact IsLine _ _ (objective_case (format == 2))
     (λ _ _. both_are_exact IsLine _ _ case_is_exact
-    (λ c h. both_are_exact IsLine _ _ (count_is_exact (codes "budget") 0 (10 ^ 15) (a_field (codes "budget") refl) (omega arith) (omega arith))
+    (λ c h. both_are_exact IsLine _ _ (count_line_is_exact (codes "budget") 0 (10 ^ 15) (a_field (codes "budget") refl) (omega arith) (omega arith))
     (λ _ _. both_are_exact IsLine _ _ price_is_exact
     (λ _ _. both_are_exact IsLine _ _ (floors_are_exact (family_count c.parts) (few_families c h))
     (λ _ _. both_are_exact IsLine _ _ (covers_case (format == 2) (family_count c.parts) (few_families c h))
     (λ _ _. both_are_exact IsLine _ _ (stocks_are_exact c (few_pairs c h))
-    (λ _ _. both_are_exact IsLine _ _ (count_is_exact (codes "upper") 0 (2 ^ 85) (a_field (codes "upper") refl) (omega arith) (omega arith))
-    (λ _ _. both_are_exact IsLine _ _ (count_is_exact (codes "bound") 0 (2 ^ 85) (a_field (codes "bound") refl) (omega arith) (omega arith))
+    (λ _ _. both_are_exact IsLine _ _ (count_line_is_exact (codes "upper") 0 (2 ^ 85) (a_field (codes "upper") refl) (omega arith) (omega arith))
+    (λ _ _. both_are_exact IsLine _ _ (count_line_is_exact (codes "bound") 0 (2 ^ 85) (a_field (codes "bound") refl) (omega arith) (omega arith))
     (λ _ _. word_line_is_exact (codes "end") (a_field (codes "end") refl))))))))))))
     (λ a f. (refl, refl)) (λ d h f. refl)

@@ -1,8 +1,8 @@
 -- The parts of a family, and its places.
-use Rattle.std.proofs.Common.{◌≡◌, ℕ, zero, suc, ◌+◌, ◌*◌, ◌/◌, ◌%◌, ◌<◌, ◌≤◌, Bool, true, false, cond, List, [], ◌∷◌, ◌++◌, length, map, filter, get_or, sym, ap, ap₂, subst, ◌∙◌, arith, add-one}
+use Rattle.std.proofs.Common.{◌≡◌, ℕ, zero, suc, ◌+◌, ◌*◌, ◌/◌, ◌%◌, ◌<◌, ◌≤◌, Bool, true, false, cond, List, [], ◌∷◌, ◌++◌, length, map, filter, get_or, sym, ap, ap₂, subst, ◌∙◌, arith}
 use Rattle.std.specs.List.{All, range_with_len}
 use Rattle.std.proofs.lemmas.List.{map-append, append-nil, length-map, get_or-map}
-use Rattle.std.proofs.lemmas.List.Elements.{filter-append, All-from_get_or, All-append, All-filter}
+use Rattle.std.proofs.lemmas.List.Elements.{filter-append, All-from_get_or, All-filter}
 use Rattle.std.proofs.lemmas.List.FromFn.{map-range_with_len_more, get_or-range_with_len, get_or-map-range_with_len, length-range_with_len}
 use Rattle.std.proofs.lemmas.Nat.{div_below, mod_below, mul-le}
 use Rattle.spares_input.specs.Rows.{no_part}
@@ -11,23 +11,19 @@ use Rattle.spares_input.specs.Cases.{CaseRows, IsCase}
 use Rattle.price_certificate.specs.declared.place.Place.{Place}
 use Rattle.price_certificate.specs.Covers.{family, place_count, place_of, place_at, places_of, no_place, IsPlace, IsHeld}
 use Rattle.spares_input.specs.declared.rows.PartId.{PartId}
-
-range_more_from : (a n j : ℕ) → a + n ≡ j → range_with_len a (suc n) ≡ range_with_len a n ++ j ∷ []
-range_more_from a zero j e = let same : a ≡ j = omega arith in ap (λ (k : ℕ). k ∷ []) same
-range_more_from a (suc n) j e = ap (λ (l : List ℕ). a ∷ l) (range_more_from (a + 1) n j (omega arith))
-
-range_more : (n : ℕ) → range_with_len 0 (n + 1) ≡ range_with_len 0 n ++ n ∷ []
-range_more n = ap (range_with_len 0) (add-one n) ∙ range_more_from 0 n n (omega arith)
+use Rattle.spares_input.proofs.Ranges.{range_next}
 
 one_more : (t : ℕ → Bool) (n : ℕ) → filter t (range_with_len 0 (n + 1)) ≡ filter t (range_with_len 0 n) ++ cond (t n) (n ∷ []) []
-one_more t n = ap (filter t) (range_more n) ∙ filter-append t (range_with_len 0 n) (n ∷ [])
+one_more t n = ap (filter t) (range_next n) ∙ filter-append t (range_with_len 0 n) (n ∷ [])
 
+-- a number that passes the test adds its part to a family's ids
 pub kept : (t : ℕ → Bool) (l n : ℕ) (xs ys : List PartId) (x : PartId) → x.0 ≡ n → t n ≡ true → ys ≡ xs ++ x ∷ []
     → map (λ (p : PartId). p.0) xs ≡ l ∷ filter t (range_with_len 0 n) → map (λ (p : PartId). p.0) ys ≡ l ∷ filter t (range_with_len 0 (n + 1))
 kept t l n xs ys x hx ht hy h =
     ap (map (λ (p : PartId). p.0)) hy ∙ map-append (λ (p : PartId). p.0) xs (x ∷ []) ∙ ap₂ (λ (a : List ℕ) (b : ℕ). a ++ b ∷ []) h hx
     ∙ ap (λ (b : Bool). l ∷ (filter t (range_with_len 0 n) ++ cond b (n ∷ []) [])) (sym ht) ∙ ap (λ (ns : List ℕ). l ∷ ns) (sym (one_more t n))
 
+-- a number that fails the test adds none
 pub left_out : (t : ℕ → Bool) (l n : ℕ) (xs : List PartId) → t n ≡ false
     → map (λ (p : PartId). p.0) xs ≡ l ∷ filter t (range_with_len 0 n) → map (λ (p : PartId). p.0) xs ≡ l ∷ filter t (range_with_len 0 (n + 1))
 left_out t l n xs ht h =
@@ -45,6 +41,7 @@ part_is parts fam m d e some =
     let lt = mod_below m (length parts) some in
     sym (ap (λ (k : ℕ). get_or fam (m % k) 0) n ∙ ap (λ (xs : List ℕ). get_or xs (m % length parts) 0) (sym e) ∙ get_or-map (λ (p : PartId). p.0) parts (m % length parts) d 0 lt)
 
+-- place m of a family's ids with its stock on hand is place m of the family
 pub place_is : (c : CaseRows) (l : ℕ) (parts : List PartId) (held : List ℕ) (m : ℕ) (d : PartId) → map (λ p. p.0) parts ≡ family c l
     → place_of c (get_or parts (m % length parts) d).0 (m / length parts) (get_or held m 0) ≡ place_at c l held m
 place_is c l parts held m d e =
@@ -53,22 +50,14 @@ place_is c l parts held m d e =
     ap (λ (p : ℕ). place_of c p (m / length parts) (get_or held m 0)) (part_is parts (family c l) m d e some)
     ∙ ap (λ (k : ℕ). place_of c (get_or (family c l) (m % length (family c l)) 0) (m / k) (get_or held m 0)) (sym n)
 
+-- a place of a family is at one of the case's sites
 pub site_below : (c : CaseRows) (l : ℕ) (parts : List PartId) (m : ℕ) → map (λ p. p.0) parts ≡ family c l → m < place_count c l → m / length parts < length c.sites
 site_below c l parts m e lt =
     let n = same_length parts (family c l) e in
     let some : 0 < length parts = omega (arith, n) in
     div_below m (length parts) (length c.sites) some (subst (λ (k : ℕ). m < length c.sites * k) n lt)
 
-one_all : {A : Type 0} (P : A → Type 0) (x : A) → P x → All P (x ∷ [])
-one_all P x h = All-from_get_or P (x ∷ []) x (λ i lt. first i lt)
-  where
-    first : (i : ℕ) → i < 1 → P (get_or (x ∷ []) i x)
-    first zero lt = h
-    first (suc i) lt = absurd (omega (arith, lt))
-
-pub all_more : {A : Type 0} (P : A → Type 0) (xs : List A) (x : A) → All P xs → P x → All P (xs ++ x ∷ [])
-all_more P xs x h g = All-append P xs (x ∷ []) h (one_all P x g)
-
+-- with the next place appended, the places are those of a vector up to there
 pub places_more : (c : CaseRows) (l : ℕ) (held : List ℕ) (m : ℕ) (found new : List Place) (x : Place) → found ≡ map (place_at c l held) (range_with_len 0 m) → x ≡ place_at c l held m → new ≡ found ++ x ∷ []
     → new ≡ map (place_at c l held) (range_with_len 0 (m + 1))
 places_more c l held m found new x h e n =

@@ -7,5 +7,6 @@ use Rattle.case_lines.specs.Grammar.{case_format}
 use Rattle.case_lines.proofs.Few.{case_few_parts}
 use Rattle.price_certificate.specs.Grammar.{family_count}
 
+-- a case that can be written has at most 2,000 line units
 pub few_families : (c : CaseRows) → case_format.fits c ≡ true → family_count c.parts ≤ 2000
 few_families c h = omega (arith, case_few_parts c h, count_by-le-length is_line c.parts)

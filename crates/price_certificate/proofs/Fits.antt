@@ -1,8 +1,8 @@
 -- Well formed certificates are those that have lines and a case.
 use Rattle.std.proofs.Common.{◌≡◌, ◌⊎◌, inl, inr, ℕ, zero, suc, ◌^◌, ◌<◌, ◌≤◌, Bool, true, false, cond, ◌&&◌, List, [], ◌∷◌, ◌++◌, length, get_or, refl, sym, ap, subst, arith}
-use Rattle.std.specs.Prelude.{◌==◌, nat_le}
+use Rattle.std.specs.Prelude.{◌==◌}
 use Rattle.std.specs.List.{All}
-use Rattle.std.proofs.lemmas.Bool.{and_parts, and_from, eqb-true, eq-eqb, ne_eqb, leb-true, le-leb, false≢true}
+use Rattle.std.proofs.lemmas.Bool.{and_parts, and_from, eqb-true, eq-eqb, ne_eqb, false≢true}
 use Rattle.std.proofs.lemmas.List.{nil_from_length}
 use Rattle.std.proofs.lemmas.List.Elements.{All-head, All-tail}
 use Rattle.line_text.specs.Formats.{Token, Format, one, fits_after}
@@ -11,7 +11,7 @@ use Rattle.line_text.specs.Texts.{in_range, count_line, numbers_from, counted, n
 use Rattle.spares_input.specs.Cases.{CaseRows, frame_rows, pair_count, IsCase}
 use Rattle.spares_input.specs.Stocks.{StockList, IsFor}
 use Rattle.case_lines.specs.Grammar.{case_format}
-use Rattle.case_lines.proofs.Valid.{case_fits}
+use Rattle.case_lines.proofs.Valid.{case_fits, range_parts, in_range_holds}
 use Rattle.price_certificate.specs.declared.certificate.Certificate.{Certificate}
 use Rattle.price_certificate.specs.declared.certificate.Objective.{Objective}
 use Rattle.price_certificate.specs.declared.certificate.Objective.TheVariants as objective
@@ -24,15 +24,10 @@ use lib.Chars.{codes}
 
 -- ---- numbers
 
-range : (least most n : ℕ) → least ≤ n → n ≤ most → in_range least most n ≡ true
-range least most n h g = and_from _ _ (le-leb least n h) (le-leb n most g)
-
-range_parts : (least most n : ℕ) → in_range least most n ≡ true → (least ≤ n) × (n ≤ most)
-range_parts least most n h = let p = and_parts (nat_le least n) (nat_le n most) h in (leb-true least n p.0, leb-true n most p.1)
-
 count_fits : (w : Token) (least most n : ℕ) → least ≤ n → n ≤ most → (count_line w least most).fits n ≡ true
-count_fits w least most n h g = and_from _ _ refl (and_from _ _ refl (range least most n h g))
+count_fits w least most n h g = and_from _ _ refl (and_from _ _ refl (in_range_holds least most n h g))
 
+-- a count that fits its line is within the line's range
 pub count_within : (w : Token) (least most n : ℕ) → (count_line w least most).fits n ≡ true → (least ≤ n) × (n ≤ most)
 count_within w least most n h =
     let r = in_range least most n in
@@ -64,7 +59,7 @@ counted_parts w least most format xs h =
 -- ---- nodes and covers
 
 node_fits : (n : Node) → IsNode n → node_line.fits n ≡ true
-node_fits (node.Split at from) h = and_from _ _ refl (and_from _ _ refl (and_from _ _ refl (and_from _ _ (range 0 143 at (omega arith) h.0) (range 1 63 from h.1.0 h.1.1))))
+node_fits (node.Split at from) h = and_from _ _ refl (and_from _ _ refl (and_from _ _ refl (and_from _ _ (in_range_holds 0 143 at (omega arith) h.0) (in_range_holds 1 63 from h.1.0 h.1.1))))
 node_fits node.Cost h = refl
 node_fits node.Whole h = refl
 
@@ -72,7 +67,7 @@ cover_fits : (nodes : List Node) → IsCover nodes → cover.fits nodes ≡ true
 cover_fits nodes h = counted_fits (codes "cover") 1 100000 node_line IsNode node_fits nodes h.some h.few h.nodes
 
 numbers_fit : (w : Token) (n most : ℕ) (xs : List ℕ) → length xs ≡ n → AreUpTo most xs → (counted w n n (λ _. number_line most)).fits xs ≡ true
-numbers_fit w n most xs e h = counted_fits w n n (number_line most) (λ k. k ≤ most) (λ k le. range 0 most k (omega arith) le) xs (omega (arith, e)) (omega (arith, e)) h
+numbers_fit w n most xs e h = counted_fits w n n (number_line most) (λ k. k ≤ most) (λ k le. in_range_holds 0 most k (omega arith) le) xs (omega (arith, e)) (omega (arith, e)) h
 
 stocks_fit : (c : CaseRows) (s : StockList) → IsFor c s → AreUpTo 63 s.list → (stocks c).fits s ≡ true
 stocks_fit c s h g = and_from _ _ (eq-eqb s.sites (length c.sites) h.sites) (numbers_fit (codes "stocks") (pair_count (frame_rows c)) 63 s.list h.pairs g)
@@ -82,9 +77,11 @@ stocks_fit c s h g = and_from _ _ (eq-eqb s.sites (length c.sites) h.sites) (num
 format_is : (n : ℕ) → 1 ≤ n → n ≤ 2 → (n ≡ 1) ⊎ (n ≡ 2)
 format_is n h g = grind arith
 
+-- the line of the aim, where the format has one
 abbrev pub objective_at : Bool → Format Objective
 objective_at b = cond b (one (line objective_fields)) (no_field objective.Backorders aims_at_backorders)
 
+-- the lines of n covers, where the format has them
 abbrev pub covers_at : Bool → ℕ → Format (List (List Node))
 covers_at b n = cond b (counted (codes "covers") n n (λ _. cover)) (no_field [] is_empty)
 
@@ -106,6 +103,7 @@ parts_fit c w =
           )
     ]
 
+-- a well formed certificate is one that the grammar can write
 pub well_formed_fits : (c : Certificate) → IsWellFormed c → (certificate_format 1).fits c ≡ true
 well_formed_fits c w =
     let p = parts_fit c w in
@@ -114,7 +112,7 @@ well_formed_fits c w =
     (and_from _ _ p.0
     (and_from _ _ (case_fits c.case w.case)
     (and_from _ _ (count_fits (codes "budget") 0 (10 ^ 15) c.budget (omega arith) w.budget)
-    (and_from _ _ (and_from _ _ refl (and_from _ _ refl (and_from _ _ (range 0 (2 ^ 74) c.price.p (omega arith) w.price) (range 1 (10 ^ 12) c.price.q w.money.0 w.money.1))))
+    (and_from _ _ (and_from _ _ refl (and_from _ _ refl (and_from _ _ (in_range_holds 0 (2 ^ 74) c.price.p (omega arith) w.price) (in_range_holds 1 (10 ^ 12) c.price.q w.money.0 w.money.1))))
     (and_from _ _ (numbers_fit (codes "floors") (family_count c.case.parts) (2 ^ 115) c.floors w.floor_count w.floors)
     (and_from _ _ p.1
     (and_from _ _ (stocks_fit c.case c.stocks w.stocks w.stock_numbers)
@@ -274,6 +272,7 @@ later_fits c h =
     let f = count_within (codes "spares-certificate") 2 2 c.format p.0 in
     and_from _ _ refl (and_from _ _ (count_fits (codes "spares-certificate") 1 2 c.format (omega (arith, f.0)) f.1) p.1)
 
+-- a certificate of format 2 that the grammar can write is one of the grammar of format 2 alone
 pub format_fits : (c : Certificate) → c.format ≡ 2 → (certificate_format 1).fits c ≡ true → (certificate_format 2).fits c ≡ true
 format_fits c e h =
     let rest = (objective_line c.format).fits c.objective && (case_format.fits c.case && (budget_line.fits c.budget && (price_line.fits c.price && ((floors (family_count c.case.parts)).fits c.floors && ((covers c.format (family_count c.case.parts)).fits c.covers && ((stocks c.case).fits c.stocks && ((count_line (codes "upper") 0 (2 ^ 85)).fits c.upper && ((count_line (codes "bound") 0 (2 ^ 85)).fits c.bound && true)))))))) in

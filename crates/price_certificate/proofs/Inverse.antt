@@ -40,17 +40,21 @@ judged_case : (r : Result Certificate ℕ) (x : CaseFault) → judged r ≡ Err 
 judged_case (Ok c) x h = (c, (refl, frame_case c (frame_of c.case.sites c.case.parts) x h))
 judged_case (Err m) x h = absurd cc
 
+-- a well formed certificate is read back from its text
 pub again : (c : Certificate) → IsWellFormed c → cert_of (cert_text c) ≡ Ok c
 again c w =
     ap judged (answer_again (certificate_format 1) (certificate_is_exact 1 one_or_two) c (well_formed_fits c w))
     ∙ ap (with_frame c) (own_frame (frame_rows c.case) w.case.frame)
 
+-- bytes that are read as a certificate are its text
 pub its_text : (bytes : List ℕ) (c : Certificate) → cert_of bytes ≡ Ok c → ((certificate_format 1).fits c ≡ true) × (bytes ≡ cert_text c)
 its_text bytes c h = answer_takes (certificate_format 1) (certificate_is_exact 1 one_or_two) bytes c (judged_ok (file_answer (certificate_format 1) bytes) c h)
 
+-- a bad line is the first one: others may begin with the lines before it, none has it as well
 pub bad_line : (bytes : List ℕ) (n : ℕ) → cert_of bytes ≡ Err (fault.BadLine n) → (before : ℕ) × (n ≡ suc before) × IsFirstBad (certificate_format 1) bytes before
 bad_line bytes n h = answer_refuses (certificate_format 1) (certificate_is_exact 1 one_or_two) bytes n (judged_line (file_answer (certificate_format 1) bytes) n h)
 
+-- a case that breaks a rule stands in lines that are all in the grammar
 pub bad_case : (bytes : List ℕ) (x : CaseFault) → cert_of bytes ≡ Err (fault.BadCase x) → (c : Certificate) × ((certificate_format 1).fits c ≡ true) × (bytes ≡ cert_text c) × (frame_of c.case.sites c.case.parts ≡ Err x)
 bad_case bytes x h =
     let p = judged_case (file_answer (certificate_format 1) bytes) x h in

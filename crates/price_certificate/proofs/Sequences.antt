@@ -15,7 +15,8 @@ use Rattle.price_certificate.specs.Reading.{ending, lists}
 abbrev pub Listed : Type 0
 Listed = List ℕ × (List (List Node) × (StockList × (ℕ × (ℕ × Unit {0}))))
 
-abbrev with_sites : ℕ → List ℕ → StockList
+-- the stocks of a list for a number of sites
+abbrev pub with_sites : ℕ → List ℕ → StockList
 with_sites n list = record { sites = n; list = list }
 
 -- what stands after the price

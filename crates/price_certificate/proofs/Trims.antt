@@ -6,17 +6,19 @@ use Rattle.std.specs.Int.{div_ceil}
 use Rattle.std.proofs.lemmas.Bool.{leb-true, eqb-true, eq-eqb, ne_eqb, false≢true}
 use Rattle.std.proofs.lemmas.Grind.{div_ceil_times}
 use Rattle.std.proofs.lemmas.Nat.{mul-le}
-use Rattle.std.proofs.lemmas.List.{append-nil}
-use Rattle.line_text.proofs.Loops.{item_more, keys_done}
+use Rattle.std.proofs.lemmas.List.{append-nil, drop_all}
+use Rattle.line_text.proofs.Loops.{item_more}
 use Rattle.price_certificate.specs.declared.certificate.Node.{Node}
 use Rattle.price_certificate.specs.declared.certificate.Node.TheVariants as node
 use Rattle.price_certificate.specs.declared.place.Place.{Place}
 use Rattle.price_certificate.specs.Covers.{nodes_of, CutsAt, Tree, Whole, Cost, Cut, Corner, put, IsLawful, AllCostLeaves, AllWholeLeaves, no_place, held_at, most_at, IsPlace, added_from, added, reach, trimmed_from, trimmed, IsTrim}
 
-put_here : (at v : ℕ) (f : Corner) → put at v f at ≡ v
+-- a corner with a place put holds there what was put
+pub put_here : (at v : ℕ) (f : Corner) → put at v f at ≡ v
 put_here at v f = rw (eq-eqb at at refl) refl
 
-put_there : (at v : ℕ) (f : Corner) (i : ℕ) → (i ≡ at → ⊥) → put at v f i ≡ f i
+-- a corner with a place put holds elsewhere what it held
+pub put_there : (at v : ℕ) (f : Corner) (i : ℕ) → (i ≡ at → ⊥) → put at v f i ≡ f i
 put_there at v f i h = rw (ne_eqb i at h) refl
 
 -- ---- lawful
@@ -174,6 +176,7 @@ trim_at p floor all true e valid = record { lawful = tt; cost = tt; whole = λ i
 trim_at zero floor all false e valid = absurd (false≢true (sym e))
 trim_at (suc p) floor all false e valid = trim_from (suc p) floor all (omega arith) valid
 
+-- the trimmed cover of a family's places trims at this price and floor
 pub trim_is : (p floor : ℕ) (all : List Place) → All IsPlace all → IsTrim p floor all (trimmed p floor all)
 trim_is p floor all valid = trim_at p floor all (p == 0) refl valid
 
@@ -186,6 +189,7 @@ rest_nodes p floor all at cuts = nodes_of (trimmed_from p floor at (drop at all)
 one_cost : (n : ℕ) → node.Cost ∷ replicate n node.Cost ≡ replicate (n + 1) node.Cost
 one_cost n = ap (λ (k : ℕ). replicate k node.Cost) (let e : suc n ≡ n + 1 = omega arith in e)
 
+-- with one place tried, the nodes written and those still to come are the same cover
 pub cut_step : (p floor : ℕ) (all : List Place) (at cuts n : ℕ) (found new : List Node) (total : List Node) → at < length all → CutsAt p floor at (get_or all at no_place) found new n
     → found ++ rest_nodes p floor all at cuts ≡ total → new ++ rest_nodes p floor all (at + 1) (cuts + n) ≡ total
 cut_step p floor all at cuts n found new total lt cut so_far =
@@ -219,11 +223,12 @@ pub cut_end : (p floor : ℕ) (all : List Place) (at cuts : ℕ) (found last new
     → last ≡ found ++ node.Whole ∷ [] → new ≡ last ++ replicate cuts node.Cost → new ≡ total
 cut_end p floor all at cuts found last new total le so_far l e =
     e ∙ ap (λ (ns : List Node). ns ++ replicate cuts node.Cost) l ∙ append_assoc found (node.Whole ∷ []) (replicate cuts node.Cost)
-    ∙ ap (λ (ys : List Place). found ++ (nodes_of (trimmed_from p floor at ys) ++ replicate cuts node.Cost)) (sym (keys_done all at le)) ∙ so_far
+    ∙ ap (λ (ys : List Place). found ++ (nodes_of (trimmed_from p floor at ys) ++ replicate cuts node.Cost)) (sym (drop_all at all le)) ∙ so_far
 
 pub cut_start : (p floor : ℕ) (all : List Place) → [] ++ rest_nodes p floor all 0 0 ≡ nodes_of (trimmed_from p floor 0 all)
 cut_start p floor all = append-nil (nodes_of (trimmed_from p floor 0 all))
 
+-- there are at most as many cuts as places tried
 pub cut_few : (p floor : ℕ) (all : List Place) (at cuts n : ℕ) (found new : List Node) → CutsAt p floor at (get_or all at no_place) found new n → cuts ≤ at → cuts + n ≤ at + 1
 cut_few p floor all at cuts n found new cut le =
     elim cut [

@@ -23,7 +23,7 @@ counted_written w least most format xs out o new n e h g =
     ∙ ap (λ (z : List ℕ). out ++ z) (sym (concat-append (head.print (length xs)) lines))
 
 -- the text of some lines and then others
-joined : (a b : List Token) (z : List ℕ) → concat b ≡ z → concat (a ++ b) ≡ concat a ++ z
+pub joined : (a b : List Token) (z : List ℕ) → concat b ≡ z → concat (a ++ b) ≡ concat a ++ z
 joined a b z h = concat-append a b ∙ ap (λ (x : List ℕ). concat a ++ x) h
 
 -- the parts of a certificate's text

@@ -19,11 +19,13 @@ use Rattle.price_certificate.specs.Grammar.{family_count, certificate_format}
 abbrev pub AreUpTo : ℕ → List ℕ → Type 0
 AreUpTo most numbers = All (λ n. n ≤ most) numbers
 
+-- a cut is at one of 144 places and from 1 to 63 units; the leaves may be any
 abbrev pub IsNode : Node → Type 0
 IsNode (node.Split at from) = (at ≤ 143) × ((1 ≤ from) × (from ≤ 63))
 IsNode node.Cost = ⊤
 IsNode node.Whole = ⊤
 
+-- a cover has 1 to 100,000 nodes, each within its ranges
 pub record IsCover (cover : List Node) : Type 0 where
   pub some : 1 ≤ length cover
   pub few : length cover ≤ 100000
@@ -58,6 +60,7 @@ pub record IsWellFormed (c : Certificate) : Type 0 where
 
 -- ---- text and reading
 
+-- the bytes of a certificate's file
 abbrev pub cert_text : Certificate → List ℕ
 cert_text c = file_text (certificate_format 1) c
 
@@ -66,6 +69,7 @@ abbrev pub with_frame : Certificate → Result FrameRows CaseFault → Result Ce
 with_frame c (Ok frame) = Ok c
 with_frame c (Err f) = Err (fault.BadCase f)
 
+-- the certificate that was read, or its bad line; its sites and parts must be a frame's
 abbrev pub judged : Result Certificate ℕ → Result Certificate CertFault
 judged (Ok c) = with_frame c (frame_of c.case.sites c.case.parts)
 judged (Err n) = Err (fault.BadLine n)

@@ -12,7 +12,8 @@ use Rattle.price_certificate.specs.declared.certificate.Node.TheVariants as node
 
 -- ---- trees
 
--- a tree of boxes: a leaf is shown by all of its vectors, or by the cost of its lowest corner; the others are cut in two
+-- a tree of boxes: a leaf is shown by all of its vectors, or by the cost of its lowest corner; the others are cut in
+-- two
 pub data Tree : Type 0 where
   Whole : Tree
   Cost : Tree
@@ -28,6 +29,7 @@ nodes_of (Cut at from first second) = node.Split at from ∷ (nodes_of first ++ 
 abbrev pub Corner : Type 0
 Corner = ℕ → ℕ
 
+-- the corner with this stock at one place
 abbrev pub put : ℕ → ℕ → Corner → Corner
 put at stock corner i = if i == at then stock else corner i
 
@@ -36,27 +38,34 @@ abbrev pub IsLawful : ℕ → Tree → Corner → Corner → Type 0
 IsLawful places Whole low high = ⊤
 IsLawful places Cost low high = ⊤
 IsLawful places (Cut at from first second) low high =
-    ((at < places) × ((low at < from) × (from ≤ high at))) × (IsLawful places first low (put at (from - 1) high) × IsLawful places second (put at from low) high)
+    ((at < places) × ((low at < from) × (from ≤ high at)))
+    × (IsLawful places first low (put at (from - 1) high) × IsLawful places second (put at from low) high)
 
 -- what is true of the boxes of all leaves of either kind
 abbrev pub AllCostLeaves : (Corner → Corner → Type 0) → Tree → Corner → Corner → Type 0
 AllCostLeaves P Whole low high = ⊤
 AllCostLeaves P Cost low high = P low high
-AllCostLeaves P (Cut at from first second) low high = AllCostLeaves P first low (put at (from - 1) high) × AllCostLeaves P second (put at from low) high
+AllCostLeaves P (Cut at from first second) low high = AllCostLeaves P first low (put at (from - 1) high)
+    × AllCostLeaves P second (put at from low) high
 
+-- what is true of the boxes of all leaves that are shown whole
 abbrev pub AllWholeLeaves : (Corner → Corner → Type 0) → Tree → Corner → Corner → Type 0
 AllWholeLeaves P Whole low high = P low high
 AllWholeLeaves P Cost low high = ⊤
-AllWholeLeaves P (Cut at from first second) low high = AllWholeLeaves P first low (put at (from - 1) high) × AllWholeLeaves P second (put at from low) high
+AllWholeLeaves P (Cut at from first second) low high = AllWholeLeaves P first low (put at (from - 1) high)
+    × AllWholeLeaves P second (put at from low) high
 
 -- ---- the places of a family
 
+-- what a look-up past the last place answers: zeros
 abbrev pub no_place : Place
 no_place = record { held = 0; most = 0; cost = 0 }
 
+-- the corner of what is held at each place
 abbrev pub held_at : List Place → Corner
 held_at places i = (get_or places i no_place).held
 
+-- the corner of the most that may stand at each place
 abbrev pub most_at : List Place → Corner
 most_at places i = (get_or places i no_place).most
 
@@ -70,6 +79,7 @@ abbrev pub added_from : ℕ → List Place → Corner → ℕ
 added_from i [] corner = 0
 added_from i (x ∷ xs) corner = (corner i - x.held) * x.cost + added_from (suc i) xs corner
 
+-- what a corner costs above what is held
 abbrev pub added : List Place → Corner → ℕ
 added places corner = added_from 0 places corner
 
@@ -83,8 +93,10 @@ reach p floor x = x.held + max 1 (div_ceil floor (p * x.cost))
 abbrev pub trimmed_from : ℕ → ℕ → ℕ → List Place → Tree
 trimmed_from p floor at [] = Whole
 trimmed_from p floor at (x ∷ xs) =
-    if nat_le (reach p floor x) x.most then Cut at (reach p floor x) (trimmed_from p floor (suc at) xs) Cost else trimmed_from p floor (suc at) xs
+    if nat_le (reach p floor x) x.most then Cut at (reach p floor x) (trimmed_from p floor (suc at) xs) Cost
+    else trimmed_from p floor (suc at) xs
 
+-- the cover that cuts off what cost alone shows, which is nothing at the price 0
 abbrev pub trimmed : ℕ → ℕ → List Place → Tree
 trimmed p floor places = if p == 0 then Whole else trimmed_from p floor 0 places
 
@@ -93,7 +105,8 @@ trimmed p floor places = if p == 0 then Whole else trimmed_from p floor 0 places
 pub record IsTrim (p floor : ℕ) (places : List Place) (tree : Tree) : Type 0 where
   pub lawful : IsLawful (length places) tree (held_at places) (most_at places)
   pub cost : AllCostLeaves (λ low high. floor ≤ p * added places low) tree (held_at places) (most_at places)
-  pub whole : AllWholeLeaves (λ low high. (i : ℕ) → (low i ≡ held_at places i) × (high i ≤ most_at places i)) tree (held_at places) (most_at places)
+  pub whole : AllWholeLeaves (λ low high. (i : ℕ) → (low i ≡ held_at places i) × (high i ≤ most_at places i)) tree
+      (held_at places) (most_at places)
 
 -- the nodes after a place is tried: a cut was added, or none was since the stock may not stand there
 abbrev pub CutsAt : ℕ → ℕ → ℕ → Place → List Node → List Node → ℕ → Type 0
@@ -117,8 +130,10 @@ place_of c p k held = record { held = held; most = limit_at c.parts p k; cost = 
 
 -- place m of the vectors: site by site the line unit and its shop units
 abbrev pub place_at : CaseRows → ℕ → List ℕ → ℕ → Place
-place_at c l held m = place_of c (get_or (family c l) (m % length (family c l)) 0) (m / length (family c l)) (get_or held m 0)
+place_at c l held m = place_of c (get_or (family c l) (m % length (family c l)) 0) (m / length (family c l))
+    (get_or held m 0)
 
+-- the places of the vectors of a case's family, of which these stocks are held
 abbrev pub places_of : CaseRows → ℕ → List ℕ → List Place
 places_of c l held = map (place_at c l held) (range_with_len 0 (place_count c l))
 

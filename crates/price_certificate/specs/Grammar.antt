@@ -18,10 +18,12 @@ use lib.Chars.{codes}
 
 -- ---- what is aimed at
 
+-- the word for what is aimed at
 abbrev pub objective_name : Objective → Token
 objective_name objective.Backorders = codes "backorders"
 objective_name objective.LogAvailability = codes "log-availability"
 
+-- what is aimed at by this word
 abbrev pub objective_named : Token → Objective
 objective_named t = if bytes_eq t (codes "backorders") then objective.Backorders else objective.LogAvailability
 
@@ -30,16 +32,19 @@ abbrev pub objective_fields : Format Objective
 objective_fields =
     as_shape (and_then (word (codes "objective")) (λ _. one (spelled objective_name objective_named (λ _. true)))) (λ x. x.1) (λ o. (tt, o)) (λ _. true)
 
+-- what format 1 aims at, which has no line for it
 abbrev pub aims_at_backorders : Objective → Bool
 aims_at_backorders objective.Backorders = true
 aims_at_backorders objective.LogAvailability = false
 
 -- what is aimed at stands in format 2 alone
 abbrev pub objective_line : ℕ → Format Objective
-objective_line format = if format == 2 then one (line objective_fields) else no_field objective.Backorders aims_at_backorders
+objective_line format = if format == 2 then one (line objective_fields)
+    else no_field objective.Backorders aims_at_backorders
 
 -- ---- budget and price
 
+-- budget,B
 abbrev pub budget_line : Format ℕ
 budget_line = count_line (codes "budget") 0 (10 ^ 15)
 
@@ -51,14 +56,17 @@ price_fields =
     (λ price. (tt, (price.p, price.q)))
     (λ _. true)
 
+-- the fields of a price as a line
 abbrev pub price_line : Format Price
 price_line = one (line price_fields)
 
 -- ---- floors, one for each line unit
 
+-- how many line units there are, and so how many families
 abbrev pub family_count : List PartRow → ℕ
 family_count parts = count_by is_line parts
 
+-- their count, and then the floor of each family
 abbrev pub floors : ℕ → Format (List ℕ)
 floors families = counted (codes "floors") families families (λ _. number_line (2 ^ 115))
 
@@ -72,43 +80,67 @@ split_fields = as_shape (and_then (word (codes "split")) (λ _. and_then (one (n
 abbrev pub node_text : Text (Either (ℕ × ℕ) (Either (Unit {0}) (Unit {0})))
 node_text = either (line split_fields) (either (line (word (codes "cost"))) (line (word (codes "whole"))))
 
+-- the node that a line tells
 abbrev pub node_of : Either (ℕ × ℕ) (Either (Unit {0}) (Unit {0})) → Node
 node_of (Left x) = node.Split x.0 x.1
 node_of (Right (Left _)) = node.Cost
 node_of (Right (Right _)) = node.Whole
 
+-- the line that tells a node
 abbrev pub node_parts : Node → Either (ℕ × ℕ) (Either (Unit {0}) (Unit {0}))
 node_parts (node.Split at from) = Left (at, from)
 node_parts node.Cost = Right (Left tt)
 node_parts node.Whole = Right (Right tt)
 
+-- the line of a node
 abbrev pub node_line : Format Node
 node_line = as_shape (one node_text) node_of node_parts (λ _. true)
 
+-- how many nodes there are, and then each in preorder
 abbrev pub cover : Format (List Node)
 cover = counted (codes "cover") 1 100000 (λ _. node_line)
 
+-- there are no covers, as in format 1
 abbrev pub is_empty : List (List Node) → Bool
 is_empty covers = length covers == 0
 
+-- the cover of each family, where the format has covers
 abbrev pub covers : ℕ → ℕ → Format (List (List Node))
 covers format families = if format == 2 then counted (codes "covers") families families (λ _. cover) else no_field [] is_empty
 
 -- ---- stocks, by part and then by site
 
+-- the count of the pairs, and then a stock for each
 abbrev pub stock_lines : ℕ → Format (List ℕ)
 stock_lines pairs = counted (codes "stocks") pairs pairs (λ _. number_line 63)
 
+-- the stocks of a case by these lines: the number of sites is the case's own
 abbrev pub stocks : CaseRows → Format StockList
 stocks c =
-    as_shape (stock_lines (pair_count (frame_rows c))) (λ list. record { sites = length c.sites; list = list }) (λ s. s.list) (λ s. s.sites == length c.sites)
+    as_shape (stock_lines (pair_count (frame_rows c))) (λ list. record { sites = length c.sites; list = list })
+    (λ s. s.list) (λ s. s.sites == length c.sites)
 
 -- ---- a certificate, of this format or a later one
 
+-- objective, case, budget, price, floors, covers, stocks, upper end and bound, and then the word end
 abbrev pub certificate_format : ℕ → Format Certificate
 certificate_format least =
     as_shape
     (and_then (count_line (codes "spares-certificate") least 2) (λ format. and_then (objective_line format) (λ _. and_then case_format (λ c. and_then budget_line (λ _. and_then price_line (λ _. and_then (floors (family_count c.parts)) (λ _. and_then (covers format (family_count c.parts)) (λ _. and_then (stocks c) (λ _. and_then (count_line (codes "upper") 0 (2 ^ 85)) (λ _. and_then (count_line (codes "bound") 0 (2 ^ 85)) (λ _. word_line (codes "end"))))))))))))
-    (λ x. record { format = x.0; objective = x.1.0; case = x.1.1.0; budget = x.1.1.1.0; price = x.1.1.1.1.0; floors = x.1.1.1.1.1.0; covers = x.1.1.1.1.1.1.0; stocks = x.1.1.1.1.1.1.1.0; upper = x.1.1.1.1.1.1.1.1.0; bound = x.1.1.1.1.1.1.1.1.1.0 })
-    (λ c. (c.format, (c.objective, (c.case, (c.budget, (c.price, (c.floors, (c.covers, (c.stocks, (c.upper, (c.bound, tt)))))))))))
+    (λ x. record {
+      format = x.0;
+      objective = x.1.0;
+      case = x.1.1.0;
+      budget = x.1.1.1.0;
+      price = x.1.1.1.1.0;
+      floors = x.1.1.1.1.1.0;
+      covers = x.1.1.1.1.1.1.0;
+      stocks = x.1.1.1.1.1.1.1.0;
+      upper = x.1.1.1.1.1.1.1.1.0;
+      bound = x.1.1.1.1.1.1.1.1.1.0;
+    })
+    (λ c. (
+      c.format,
+      (c.objective, (c.case, (c.budget, (c.price, (c.floors, (c.covers, (c.stocks, (c.upper, (c.bound, tt))))))))),
+    ))
     (λ _. true)

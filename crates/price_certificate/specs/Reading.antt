@@ -18,6 +18,7 @@ use lib.Chars.{codes}
 abbrev pub leaf_text : Text (Either (Unit {0}) (Unit {0}))
 leaf_text = either (line (word (codes "cost"))) (line (word (codes "whole")))
 
+-- the leaf that is shown whole, or the one that is shown by its cost
 abbrev pub leaf_named : Bool → Either (Unit {0}) (Unit {0})
 leaf_named is_whole = if is_whole then Right tt else Left tt
 
@@ -27,11 +28,14 @@ ending = and_then (count_line (codes "upper") 0 (2 ^ 85)) (λ _. and_then (count
 
 -- what stands after the price
 abbrev pub lists : ℕ → CaseRows → Format (List ℕ × (List (List Node) × (StockList × (ℕ × (ℕ × Unit {0})))))
-lists format c = and_then (floors (family_count c.parts)) (λ _. and_then (covers format (family_count c.parts)) (λ _. and_then (stocks c) (λ _. ending)))
+lists format c = and_then (floors (family_count c.parts))
+    (λ _. and_then (covers format (family_count c.parts)) (λ _. and_then (stocks c) (λ _. ending)))
 
+-- the values of the last three lines
 abbrev pub ending_of : Ending → ℕ × (ℕ × Unit {0})
 ending_of e = (e.upper, (e.bound, tt))
 
+-- the values of the lines after the price, where there are so many sites
 abbrev pub lists_of : ℕ → Lists → List ℕ × (List (List Node) × (StockList × (ℕ × (ℕ × Unit {0}))))
 lists_of sites l = (l.floors, (l.covers, (record { sites = sites; list = l.stocks }, ending_of l.ending)))
 

@@ -14,13 +14,14 @@ use line_text::{BadLine, Lines, count_line, number_line};
 use spares_io::{List, Stop};
 use std::alloc::Global;
 
-// Reads so many floors.
+/// Reads so many floors.
 fn each_floor(
     alloc: Global,
     lines: &mut Lines<'_>,
     count: usize,
 ) -> Result<Vec<u128>, Stop<BadLine>>
-    ensures { Gathers (λ v. v.items) result lines.new ((each (numbers_from 0 count) (λ _. number_line (2 ^ 115))).read lines.old) }
+    ensures { Gathers (λ v. v.items) result lines.new
+        ((each (numbers_from 0 count) (λ _. number_line (2 ^ 115))).read lines.old) }
 {
     let mut found = Vec::new(alloc);
     for k in 0..count {
@@ -30,7 +31,7 @@ fn each_floor(
     Ok(found)
 }
 
-// Reads the lines of the floors, of which there is one for each family.
+/// Reads the lines of the floors, of which there is one for each family.
 pub(crate) fn floors(
     alloc: Global,
     lines: &mut Lines<'_>,
@@ -43,7 +44,7 @@ pub(crate) fn floors(
     Ok(found)
 }
 
-// Reads so many nodes.
+/// Reads so many nodes.
 fn each_node(alloc: Global, lines: &mut Lines<'_>, count: usize) -> Result<Vec<Node>, Stop<BadLine>>
     ensures { Gathers (λ v. v.items) result lines.new ((each (numbers_from 0 count) (λ _. node_line)).read lines.old) }
 {
@@ -55,7 +56,7 @@ fn each_node(alloc: Global, lines: &mut Lines<'_>, count: usize) -> Result<Vec<N
     Ok(found)
 }
 
-// Reads the lines of a cover.
+/// Reads the lines of a cover.
 fn cover(alloc: Global, lines: &mut Lines<'_>) -> Result<List<Node>, Stop<BadLine>>
     ensures { Gathers (λ v. v) result lines.new (cover.read lines.old) }
 {
@@ -64,7 +65,7 @@ fn cover(alloc: Global, lines: &mut Lines<'_>) -> Result<List<Node>, Stop<BadLin
     Ok(List::of(found))
 }
 
-// Reads so many covers.
+/// Reads so many covers.
 fn each_cover(
     alloc: Global,
     lines: &mut Lines<'_>,
@@ -80,7 +81,7 @@ fn each_cover(
     Ok(found)
 }
 
-// Reads the lines of the covers, of which there is one for each family.
+/// Reads the lines of the covers, of which there is one for each family.
 fn all_covers(
     alloc: Global,
     lines: &mut Lines<'_>,
@@ -93,7 +94,7 @@ fn all_covers(
     Ok(found)
 }
 
-// Reads the covers, which stand in format 2 alone.
+/// Reads the covers, which stand in format 2 alone.
 pub(crate) fn covers(
     alloc: Global,
     lines: &mut Lines<'_>,
@@ -109,9 +110,10 @@ pub(crate) fn covers(
     }
 }
 
-// Reads so many stocks.
+/// Reads so many stocks.
 fn each_stock(alloc: Global, lines: &mut Lines<'_>, count: usize) -> Result<Vec<u8>, Stop<BadLine>>
-    ensures { Gathers (λ v. v.items) result lines.new ((each (numbers_from 0 count) (λ _. number_line 63)).read lines.old) }
+    ensures { Gathers (λ v. v.items) result lines.new
+        ((each (numbers_from 0 count) (λ _. number_line 63)).read lines.old) }
 {
     let mut found = Vec::new(alloc);
     for k in 0..count {
@@ -121,7 +123,7 @@ fn each_stock(alloc: Global, lines: &mut Lines<'_>, count: usize) -> Result<Vec<
     Ok(found)
 }
 
-// Reads the lines of the stocks, of which there is one for each pair.
+/// Reads the lines of the stocks, of which there is one for each pair.
 pub(crate) fn stocks(
     alloc: Global,
     lines: &mut Lines<'_>,

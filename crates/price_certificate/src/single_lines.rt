@@ -13,7 +13,7 @@ use crate::certificate::{Node, Objective};
 use hull::Price;
 use line_text::{BadLine, Fields, Lines, word_line};
 
-// The objective of this name.
+/// The objective of this name.
 fn objective_of(name: &[u8]) -> Option<Objective>
     ensures { result ≡ (spelled objective_name objective_named (λ _. true)).read name.now }
 {
@@ -26,10 +26,11 @@ fn objective_of(name: &[u8]) -> Option<Objective>
     None
 }
 
-// Takes the name of an objective.
+/// Takes the name of an objective.
 #[tactic(auto, using(line_text::proofs::Cursors::field_read, line_text::proofs::Cursors::field_refused, line_text::proofs::Cursors::none_left))]
 fn objective_in(fields: &mut Fields<'_>) -> Option<Objective>
-    ensures { Takes (λ o. o) result fields.new ((one (spelled objective_name objective_named (λ _. true))).read fields.old) }
+    ensures { Takes (λ o. o) result fields.new
+        ((one (spelled objective_name objective_named (λ _. true))).read fields.old) }
 {
     let Some(name) = fields.next() else {
         return None;
@@ -37,7 +38,7 @@ fn objective_in(fields: &mut Fields<'_>) -> Option<Objective>
     objective_of(name)
 }
 
-// objective,NAME
+/// objective,NAME
 fn aim_of(fields: &mut Fields<'_>) -> Option<Objective>
     ensures { Takes (λ o. o) result fields.new (objective_fields.read fields.old) }
 {
@@ -45,7 +46,7 @@ fn aim_of(fields: &mut Fields<'_>) -> Option<Objective>
     objective_in(fields)
 }
 
-// The objective of all of these fields.
+/// The objective of all of these fields.
 #[tactic(auto, using(line_text::proofs::Cursors::whole_read, line_text::proofs::Cursors::whole_left, line_text::proofs::Cursors::whole_refused))]
 fn aim_all(mut fields: Fields<'_>) -> Option<Objective>
     ensures { result ≡ accepted (read_all objective_fields fields.entry) }
@@ -58,7 +59,7 @@ fn aim_all(mut fields: Fields<'_>) -> Option<Objective>
     }
 }
 
-// Reads the line of the objective.
+/// Reads the line of the objective.
 #[tactic(auto, using(line_text::proofs::Cursors::line_read, line_text::proofs::Cursors::line_refused, line_text::proofs::Cursors::line_missing))]
 fn aim_line(lines: &mut Lines<'_>) -> Result<Objective, BadLine>
     ensures { Reads (λ o. o) result lines.new ((one (line objective_fields)).read lines.old) }
@@ -73,7 +74,7 @@ fn aim_line(lines: &mut Lines<'_>) -> Result<Objective, BadLine>
     }
 }
 
-// Reads what is aimed at, which stands in format 2 alone.
+/// Reads what is aimed at, which stands in format 2 alone.
 pub(crate) fn objective_line(lines: &mut Lines<'_>, format: u8) -> Result<Objective, BadLine>
     ensures { Reads (λ o. o) result lines.new ((objective_line format).read lines.old) }
 {
@@ -84,7 +85,7 @@ pub(crate) fn objective_line(lines: &mut Lines<'_>, format: u8) -> Result<Object
     }
 }
 
-// price,P,Q
+/// price,P,Q
 fn price_of(fields: &mut Fields<'_>) -> Option<Price>
     ensures { Takes (λ p. p) result fields.new (price_fields.read fields.old) }
 {
@@ -94,7 +95,7 @@ fn price_of(fields: &mut Fields<'_>) -> Option<Price>
     Some(Price { p, q: q as u64 })
 }
 
-// The price of all of these fields.
+/// The price of all of these fields.
 #[tactic(auto, using(line_text::proofs::Cursors::whole_read, line_text::proofs::Cursors::whole_left, line_text::proofs::Cursors::whole_refused))]
 fn price_all(mut fields: Fields<'_>) -> Option<Price>
     ensures { result ≡ accepted (read_all price_fields fields.entry) }
@@ -103,7 +104,7 @@ fn price_all(mut fields: Fields<'_>) -> Option<Price>
     if fields.is_empty() { Some(price) } else { None }
 }
 
-// Reads the line of the price.
+/// Reads the line of the price.
 #[tactic(auto, using(line_text::proofs::Cursors::line_read, line_text::proofs::Cursors::line_refused, line_text::proofs::Cursors::line_missing))]
 pub(crate) fn price_line(lines: &mut Lines<'_>) -> Result<Price, BadLine>
     ensures { Reads (λ p. p) result lines.new (price_line.read lines.old) }
@@ -118,7 +119,7 @@ pub(crate) fn price_line(lines: &mut Lines<'_>) -> Result<Price, BadLine>
     }
 }
 
-// split,AT,FROM
+/// split,AT,FROM
 fn split_of(fields: &mut Fields<'_>) -> Option<(u128, u128)>
     ensures { Takes (λ s. s) result fields.new (split_fields.read fields.old) }
 {
@@ -128,7 +129,7 @@ fn split_of(fields: &mut Fields<'_>) -> Option<(u128, u128)>
     Some((at, from))
 }
 
-// The split of all of these fields.
+/// The split of all of these fields.
 #[tactic(auto, using(line_text::proofs::Cursors::whole_read, line_text::proofs::Cursors::whole_left, line_text::proofs::Cursors::whole_refused))]
 fn split_all(mut fields: Fields<'_>) -> Option<(u128, u128)>
     ensures { result ≡ accepted (read_all split_fields fields.entry) }
@@ -137,7 +138,7 @@ fn split_all(mut fields: Fields<'_>) -> Option<(u128, u128)>
     if fields.is_empty() { Some(split) } else { None }
 }
 
-// Reads the line of a split.
+/// Reads the line of a split.
 #[tactic(auto, using(line_text::proofs::Cursors::line_read, line_text::proofs::Cursors::line_refused, line_text::proofs::Cursors::line_missing))]
 fn split_line(lines: &mut Lines<'_>) -> Result<(u128, u128), BadLine>
     ensures { Reads (λ s. s) result lines.new ((one (line split_fields)).read lines.old) }
@@ -152,7 +153,7 @@ fn split_line(lines: &mut Lines<'_>) -> Result<(u128, u128), BadLine>
     }
 }
 
-// Whether a leaf is to be shown by all of its vectors.
+/// Whether a leaf is to be shown by all of its vectors.
 fn leaf_line(lines: &mut Lines<'_>) -> Result<bool, BadLine>
     ensures { Reads leaf_named result lines.new ((one leaf_text).read lines.old) }
 {
@@ -165,7 +166,7 @@ fn leaf_line(lines: &mut Lines<'_>) -> Result<bool, BadLine>
     }
 }
 
-// Reads the line of a node.
+/// Reads the line of a node.
 pub(crate) fn node_line(lines: &mut Lines<'_>) -> Result<Node, BadLine>
     ensures { Reads (λ n. n) result lines.new (node_line.read lines.old) }
 {

@@ -48,7 +48,7 @@ fn read_again(alloc: Global, bytes: &[u8]) -> Outcome {
     }
 }
 
-// The text with another line in place of one, counted from 1.
+/// The text with another line in place of one, counted from 1.
 fn with_line(alloc: Global, text: &[u8], number: usize, line: &[u8]) -> Result<Vec<u8>, Fail> {
     let mut changed = Vec::new(alloc);
     let mut at = 1;

@@ -15,7 +15,7 @@ use spares_input::{Case, PartId, PartRow, SiteId};
 use spares_io::NoMemory;
 use std::alloc::Global;
 
-// The least stock above what is held at which a place alone costs the floor, where it may stand there.
+/// The least stock above what is held at which a place alone costs the floor, where it may stand there.
 fn reach(p: u128, floor: u128, place: &Place) -> Option<u8>
     requires some { 1 ≤ p }
     requires most { p ≤ 2 ^ 74 }
@@ -33,7 +33,7 @@ fn reach(p: u128, floor: u128, place: &Place) -> Option<u8>
     }
 }
 
-// Writes the cut at a place, where there is one, and answers how many there are.
+/// Writes the cut at a place, where there is one, and answers how many there are.
 fn push_cut(
     nodes: &mut Vec<Node>,
     p: u128,
@@ -59,7 +59,7 @@ fn push_cut(
     }
 }
 
-// Writes so many leaves that are shown by their cost.
+/// Writes so many leaves that are shown by their cost.
 fn push_costs(nodes: &mut Vec<Node>, count: usize) -> Result<(), NoMemory>
     ensures { OnOk result (nodes.new.items ≡ nodes.old.items ++ replicate count node.Cost) }
 {
@@ -69,7 +69,7 @@ fn push_costs(nodes: &mut Vec<Node>, count: usize) -> Result<(), NoMemory>
     Ok(())
 }
 
-// The nodes of the cover at a price above 0.
+/// The nodes of the cover at a price above 0.
 fn trim_places(alloc: Global, places: &[Place], p: u128, floor: u128) -> Result<Vec<Node>, NoMemory>
     requires some { 1 ≤ p }
     requires most { p ≤ 2 ^ 74 }
@@ -87,7 +87,7 @@ fn trim_places(alloc: Global, places: &[Place], p: u128, floor: u128) -> Result<
     Ok(nodes)
 }
 
-// A line unit and its shop units, in part order.
+/// A line unit and its shop units, in part order.
 fn family(alloc: Global, case: &Case, line: PartId) -> Result<Vec<PartId>, NoMemory>
     requires { line.0 < length case.now.parts }
     ensures { IfOk result (λ v. map (λ p. p.0) v.items ≡ family case.now line.0) }
@@ -102,7 +102,7 @@ fn family(alloc: Global, case: &Case, line: PartId) -> Result<Vec<PartId>, NoMem
     Ok(parts)
 }
 
-// A part at a site, of which so many are held.
+/// A part at a site, of which so many are held.
 fn place_of(case: &Case, part: PartId, site: SiteId, held: u8) -> Place
     requires part { part.0 < length case.now.parts }
     requires site { site.0 < length case.now.sites }
@@ -117,7 +117,7 @@ fn place_of(case: &Case, part: PartId, site: SiteId, held: u8) -> Place
     }
 }
 
-// The places of a family, of which these are its parts.
+/// The places of a family, of which these are its parts.
 fn places(
     alloc: Global,
     case: &Case,
@@ -144,7 +144,7 @@ fn places(
     Ok(found)
 }
 
-// The cover at a price above 0.
+/// The cover at a price above 0.
 fn trim_family(
     alloc: Global,
     case: &Case,
@@ -167,9 +167,9 @@ fn trim_family(
     trim_places(alloc, places.as_slice(), p, floor)
 }
 
-/// The cover of a family that is shown by its cost where that is enough: at each place of its vectors in turn, where the
-/// least stock above what is held at which the place alone costs the floor may stand, a cut there, whose second part is
-/// shown by its cost. What is left is shown whole; with the price 0 that is all.
+/// The cover of a family that is shown by its cost where that is enough: at each place of its vectors in turn, where
+/// the least stock above what is held at which the place alone costs the floor may stand, a cut there, whose second
+/// part is shown by its cost. What is left is shown whole; with the price 0 that is all.
 pub fn trim(
     alloc: Global,
     case: &Case,
@@ -184,7 +184,8 @@ pub fn trim(
     requires within { IsHeld case.now line.0 held.now }
     requires price { price.p ≤ 2 ^ 74 }
     ensures nodes { IfOk result (λ v. v.items ≡ nodes_of (trimmed price.p floor (places_of case.now line.0 held.now))) }
-    ensures shown { IsTrim price.p floor (places_of case.now line.0 held.now) (trimmed price.p floor (places_of case.now line.0 held.now)) }
+    ensures shown { IsTrim price.p floor (places_of case.now line.0 held.now)
+        (trimmed price.p floor (places_of case.now line.0 held.now)) }
 {
     let _sites = case.site_count();
     if price.p == 0 {
@@ -198,5 +199,6 @@ pub fn trim(
 /// The trimmed cover is lawful, each box that it leaves to its cost costs the floor, and the box that is left begins at
 /// what is held.
 pub fn trimmed_covers()
-    ensures { (p floor : ℕ) (places : List Place) → All IsPlace places → IsTrim p floor places (trimmed p floor places) }
+    ensures { (p floor : ℕ) (places : List Place) → All IsPlace places
+        → IsTrim p floor places (trimmed p floor places) }
 {}

@@ -20,7 +20,7 @@ use spares_input::{Case, Stocks};
 use spares_io::{List, NoMemory};
 use std::alloc::Global;
 
-// Writes objective,NAME
+/// Writes objective,NAME
 fn put_objective(out: &mut Vec<u8>, objective: &Objective) -> Result<(), NoMemory>
     ensures { OnOk result (out.new.items ≡ out.old.items ++ (line objective_fields).print objective.now) }
 {
@@ -31,7 +31,7 @@ fn put_objective(out: &mut Vec<u8>, objective: &Objective) -> Result<(), NoMemor
     Ok(())
 }
 
-// Writes what is aimed at, which stands in format 2 alone.
+/// Writes what is aimed at, which stands in format 2 alone.
 #[tactic(auto, using(line_text::proofs::Loops::one_text, case_lines::proofs::Written::nothing_more))]
 fn put_objective_of(out: &mut Vec<u8>, format: u8, objective: &Objective) -> Result<(), NoMemory>
     ensures { OnOk result (out.new.items ≡ out.old.items ++ concat ((objective_line format).print objective.now)) }
@@ -43,7 +43,7 @@ fn put_objective_of(out: &mut Vec<u8>, format: u8, objective: &Objective) -> Res
     }
 }
 
-// Writes the lines of a case.
+/// Writes the lines of a case.
 fn put_case(alloc: Global, out: &mut Vec<u8>, case: &Case) -> Result<(), NoMemory>
     ensures { OnOk result (out.new.items ≡ out.old.items ++ file_text case_format case.now) }
 {
@@ -52,7 +52,7 @@ fn put_case(alloc: Global, out: &mut Vec<u8>, case: &Case) -> Result<(), NoMemor
     Ok(())
 }
 
-// Writes price,P,Q
+/// Writes price,P,Q
 fn put_price(out: &mut Vec<u8>, price: &Price) -> Result<(), NoMemory>
     ensures { OnOk result (out.new.items ≡ out.old.items ++ (line price_fields).print price.now) }
 {
@@ -64,7 +64,7 @@ fn put_price(out: &mut Vec<u8>, price: &Price) -> Result<(), NoMemory>
     Ok(())
 }
 
-// Writes a line for each floor.
+/// Writes a line for each floor.
 fn put_each_floor(out: &mut Vec<u8>, list: &[u128]) -> Result<(), NoMemory>
     ensures { OnOk result (out.new.items ≡ out.old.items
         ++ concat ((each (numbers_from 0 (length list.now)) (λ _. number_line (2 ^ 115))).print list.now)) }
@@ -75,16 +75,17 @@ fn put_each_floor(out: &mut Vec<u8>, list: &[u128]) -> Result<(), NoMemory>
     Ok(())
 }
 
-// Writes the lines of the floors.
+/// Writes the lines of the floors.
 fn put_floors(out: &mut Vec<u8>, list: &[u128]) -> Result<(), NoMemory>
-    ensures { OnOk result ((families : ℕ) → out.new.items ≡ out.old.items ++ concat ((floors families).print list.now)) }
+    ensures { OnOk result ((families : ℕ) → out.new.items ≡ out.old.items
+        ++ concat ((floors families).print list.now)) }
 {
     put_count_line(out, b"floors", list.len() as u128)?;
     put_each_floor(out, list)?;
     Ok(())
 }
 
-// Writes split,AT,FROM or cost or whole
+/// Writes split,AT,FROM or cost or whole
 fn put_node(out: &mut Vec<u8>, node: &Node) -> Result<(), NoMemory>
     ensures { OnOk result (out.new.items ≡ out.old.items ++ concat (node_line.print node.now)) }
 {
@@ -102,7 +103,7 @@ fn put_node(out: &mut Vec<u8>, node: &Node) -> Result<(), NoMemory>
     Ok(())
 }
 
-// Writes a line for each node.
+/// Writes a line for each node.
 fn put_each_node(out: &mut Vec<u8>, nodes: &[Node]) -> Result<(), NoMemory>
     ensures { OnOk result (out.new.items ≡ out.old.items
         ++ concat ((each (numbers_from 0 (length nodes.now)) (λ _. node_line)).print nodes.now)) }
@@ -113,7 +114,7 @@ fn put_each_node(out: &mut Vec<u8>, nodes: &[Node]) -> Result<(), NoMemory>
     Ok(())
 }
 
-// Writes the lines of a cover.
+/// Writes the lines of a cover.
 fn put_cover(out: &mut Vec<u8>, nodes: &List<Node>) -> Result<(), NoMemory>
     ensures { OnOk result (out.new.items ≡ out.old.items ++ concat (cover.print nodes.now)) }
 {
@@ -123,7 +124,7 @@ fn put_cover(out: &mut Vec<u8>, nodes: &List<Node>) -> Result<(), NoMemory>
     Ok(())
 }
 
-// Writes each cover.
+/// Writes each cover.
 fn put_each_cover(out: &mut Vec<u8>, list: &[List<Node>]) -> Result<(), NoMemory>
     ensures { OnOk result (out.new.items ≡ out.old.items
         ++ concat ((each (numbers_from 0 (length list.now)) (λ _. cover)).print list.now)) }
@@ -134,7 +135,7 @@ fn put_each_cover(out: &mut Vec<u8>, list: &[List<Node>]) -> Result<(), NoMemory
     Ok(())
 }
 
-// Writes the lines of the covers.
+/// Writes the lines of the covers.
 fn put_covers(out: &mut Vec<u8>, list: &[List<Node>]) -> Result<(), NoMemory>
     ensures { OnOk result ((families : ℕ) → out.new.items ≡ out.old.items
         ++ concat ((counted (codes "covers") families families (λ _. cover)).print list.now)) }
@@ -144,7 +145,7 @@ fn put_covers(out: &mut Vec<u8>, list: &[List<Node>]) -> Result<(), NoMemory>
     Ok(())
 }
 
-// Writes the covers, which stand in format 2 alone.
+/// Writes the covers, which stand in format 2 alone.
 #[tactic(auto, using(case_lines::proofs::Written::nothing_more))]
 fn put_covers_of(out: &mut Vec<u8>, format: u8, list: &[List<Node>]) -> Result<(), NoMemory>
     ensures { OnOk result ((families : ℕ) → out.new.items ≡ out.old.items
@@ -157,7 +158,7 @@ fn put_covers_of(out: &mut Vec<u8>, format: u8, list: &[List<Node>]) -> Result<(
     }
 }
 
-// Writes a line for each stock.
+/// Writes a line for each stock.
 fn put_each_stock(out: &mut Vec<u8>, list: &[u8]) -> Result<(), NoMemory>
     ensures { OnOk result (out.new.items ≡ out.old.items
         ++ concat ((each (numbers_from 0 (length list.now)) (λ _. number_line 63)).print list.now)) }
@@ -168,7 +169,7 @@ fn put_each_stock(out: &mut Vec<u8>, list: &[u8]) -> Result<(), NoMemory>
     Ok(())
 }
 
-// Writes the lines of the stocks.
+/// Writes the lines of the stocks.
 fn put_stocks(out: &mut Vec<u8>, case: &Case, list: &Stocks) -> Result<(), NoMemory>
     requires { IsFor case.now list.now }
     ensures { OnOk result (out.new.items ≡ out.old.items ++ concat ((stocks case.now).print list.now)) }
@@ -179,7 +180,7 @@ fn put_stocks(out: &mut Vec<u8>, case: &Case, list: &Stocks) -> Result<(), NoMem
     Ok(())
 }
 
-// Writes the lines of a certificate.
+/// Writes the lines of a certificate.
 fn put_certificate(
     alloc: Global,
     out: &mut Vec<u8>,

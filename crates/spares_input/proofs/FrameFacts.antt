@@ -13,68 +13,70 @@ use Rattle.spares_input.specs.Frames.{double_part, frame_fault, frame_of, IsFram
 use Rattle.spares_input.specs.Building.{IsNumbered}
 use Rattle.spares_input.specs.declared.rows.SiteRow.{SiteRow}
 use Rattle.spares_input.specs.declared.rows.PartRow.{PartRow}
-use Rattle.spares_input.proofs.Firsts.{or_else-none}
-use Rattle.spares_input.proofs.SiteFacts.{few-depots, depot-apart, enough-sites}
-use Rattle.spares_input.proofs.PartFacts.{few-shop_units, length-shop_units, parent-has_line}
+use Rattle.spares_input.proofs.Firsts.{or_else_none}
+use Rattle.spares_input.proofs.SiteFacts.{few_depots, depot_apart, enough_sites}
+use Rattle.spares_input.proofs.PartFacts.{shop_units_few, length_shop_units, parent_has_line}
 
 -- a list with one element put before all others
-map-to_front : {X Y : Type 0} (f : X → Y) (xs : List X) (d : ℕ) (x : X) → slice_get xs d ≡ Some x
+map_to_front : {X Y : Type 0} (f : X → Y) (xs : List X) (d : ℕ) (x : X) → slice_get xs d ≡ Some x
     → map f (move_index xs d 0) ≡ move_index (map f xs) d 0
-map-to_front f xs d x at =
+map_to_front f xs d x at =
     let image : slice_get (map f xs) d ≡ Some (f x) = slice_get-map f xs d ∙ rw at refl in
     rw (at, image) (map-insert f (remove xs d) 0 x ∙ rw (map-remove f xs d) refl)
 
-length-to_front : {X : Type 0} (xs : List X) (d : ℕ) (x : X) → slice_get xs d ≡ Some x → length (move_index xs d 0) ≡ length xs
-length-to_front xs d x at =
+length_to_front : {X : Type 0} (xs : List X) (d : ℕ) (x : X) → slice_get xs d ≡ Some x → length (move_index xs d 0) ≡ length xs
+length_to_front xs d x at =
     let within : d < length xs = slice_get_within xs d x at in
     rw at (omega (arith, length-append (take d xs) (drop (suc d) xs), length-drop (suc d) xs, length-take-le d xs (omega arith)))
 
 -- what no fault at all says of each rule
-rules-kept : (sites : List SiteRow) (parts : List PartRow) → frame_fault sites parts ≡ None
+rules_kept : (sites : List SiteRow) (parts : List PartRow) → frame_fault sites parts ≡ None
     → (first (site_fault sites) (length sites) ≡ None) × (kinds_fault sites ≡ None) × (first (parent_fault parts) (length parts) ≡ None)
-rules-kept sites parts h =
-    let a = or_else-none (first (site_fault sites) (length sites)) _ h in
-    let b = or_else-none (kinds_fault sites) _ a.1 in
-    let d = or_else-none (first (double_part parts) (length parts)) _ b.1 in
-    (a.0, b.0, (or_else-none (first (parent_fault parts) (length parts)) None d.1).0)
+rules_kept sites parts h =
+    let a = or_else_none (first (site_fault sites) (length sites)) _ h in
+    let b = or_else_none (kinds_fault sites) _ a.1 in
+    let d = or_else_none (first (double_part parts) (length parts)) _ b.1 in
+    (a.0, b.0, (or_else_none (first (parent_fault parts) (length parts)) None d.1).0)
 
 -- the depot moved to the front stands before the bases in file order
-pub moved-in_order : (sites : List SiteRow) (parts : List PartRow) (d : ℕ) → frame_fault sites parts ≡ None → position is_depot sites ≡ Some d
+pub moved_in_order : (sites : List SiteRow) (parts : List PartRow) (d : ℕ) → frame_fault sites parts ≡ None → position is_depot sites ≡ Some d
     → move_index sites d 0 ≡ sites_in_order sites
-moved-in_order sites parts d none place =
-    let kept = rules-kept sites parts none in
+moved_in_order sites parts d none place =
+    let kept = rules_kept sites parts none in
     let found = position-Some is_depot sites d no_site place in
-    let apart = depot-apart sites d (site_at sites d) found.0 refl found.1 (few-depots sites kept.0) in
+    let apart = depot_apart sites d (site_at sites d) found.0 refl found.1 (few_depots sites kept.0) in
     rw (slice_get-get_or sites d no_site found.0, apart.0, apart.1) refl
 
-later-base : (r : SiteRow) (bases : List SiteRow) (k : ℕ) → All (λ x. is_base x ≡ true) bases → 0 < k → k < length (r ∷ bases)
+later_base : (r : SiteRow) (bases : List SiteRow) (k : ℕ) → All (λ x. is_base x ≡ true) bases → 0 < k → k < length (r ∷ bases)
     → (site_at (r ∷ bases) k).depot ≡ false
-later-base r bases zero h some within = absurd (omega arith)
-later-base r bases (suc j) h some within = not-true (get_or bases j no_site).depot (h j no_site (omega arith))
+later_base r bases zero h some within = absurd (omega arith)
+later_base r bases (suc j) h some within = not-true (get_or bases j no_site).depot (h j no_site (omega arith))
 
-pub frame-numbered : (sites placed : List SiteRow) (parts : List PartRow) (names numbered part_numbers : List (List ℕ)) (d : ℕ)
+-- rows that break no rule are a frame once the depot is moved to the front,
+-- and the names are numbered as it has them
+pub frame_numbered : (sites placed : List SiteRow) (parts : List PartRow) (names numbered part_numbers : List (List ℕ)) (d : ℕ)
     → IsNumbered sites parts names part_numbers d → length sites ≤ 16 → length parts ≤ 2000 → All IsSiteRow sites → All IsPartRow parts
     → placed ≡ move_index sites d 0 → numbered ≡ move_index names d 0 → IsDistinct bytes_eq numbered
     → IsFrame (record { sites = placed; parts = parts }) × (numbered ≡ site_names placed) × (part_numbers ≡ part_names parts)
-frame-numbered sites placed parts names numbered part_numbers d n few few_parts site_rows part_rows moved renamed distinct =
-    let kept = rules-kept sites parts n.no_fault in
+frame_numbered sites placed parts names numbered part_numbers d n few few_parts site_rows part_rows moved renamed distinct =
+    let kept = rules_kept sites parts n.no_fault in
     let found = position-Some is_depot sites d no_site n.depot_place in
     let at = slice_get-get_or sites d no_site found.0 in
-    let apart = depot-apart sites d (site_at sites d) found.0 refl found.1 (few-depots sites kept.0) in
-    let named : numbered ≡ site_names placed = renamed ∙ (rw (n.sites_named, moved) (sym (map-to_front (λ s. s.name) sites d (site_at sites d) at))) in
-    let ordered : placed ≡ sites_in_order sites = moved ∙ moved-in_order sites parts d n.no_fault n.depot_place in
+    let apart = depot_apart sites d (site_at sites d) found.0 refl found.1 (few_depots sites kept.0) in
+    let named : numbered ≡ site_names placed = renamed ∙ (rw (n.sites_named, moved) (sym (map_to_front (λ s. s.name) sites d (site_at sites d) at))) in
+    let ordered : placed ≡ sites_in_order sites = moved ∙ moved_in_order sites parts d n.no_fault n.depot_place in
     let split : placed ≡ site_at sites d ∷ filter is_base sites = ordered ∙ rw apart.0 refl in
-    let many : length (move_index sites d 0) ≡ length sites = length-to_front sites d (site_at sites d) at in (
+    let many : length (move_index sites d 0) ≡ length sites = length_to_front sites d (site_at sites d) at in (
       record {
-        fewest_sites = rw (moved, many) (enough-sites sites kept.1);
+        fewest_sites = rw (moved, many) (enough_sites sites kept.1);
         most_sites = rw (moved, many) few;
         most_parts = few_parts;
         depot = rw split found.1;
-        bases = rw split (λ k some within. later-base (site_at sites d) (filter is_base sites) k (filter_passes is_base sites) some within);
+        bases = rw split (λ k some within. later_base (site_at sites d) (filter is_base sites) k (filter_passes is_base sites) some within);
         distinct_sites = rw (← named) distinct;
         distinct_parts = rw (← n.parts_named) n.distinct_parts;
-        parents = λ p within shop. parent-has_line parts p kept.2 within shop;
-        few_shop_units = λ l within. rw (length-shop_units parts l) (few-shop_units (get_or parts l no_part) parts kept.2);
+        parents = λ p within shop. parent_has_line parts p kept.2 within shop;
+        few_shop_units = λ l within. rw (length_shop_units parts l) (shop_units_few (get_or parts l no_part) parts kept.2);
         site_rows = rw ordered (All-append IsSiteRow (filter is_depot sites) (filter is_base sites) (All-filter is_depot IsSiteRow sites site_rows) (All-filter is_base IsSiteRow sites site_rows));
         part_rows = part_rows;
       },
@@ -82,7 +84,8 @@ frame-numbered sites placed parts names numbered part_numbers d n few few_parts 
       n.parts_named,
     )
 
-pub frame-answer : (sites placed : List SiteRow) (parts : List PartRow) (names part_numbers : List (List ℕ)) (d : ℕ) → IsNumbered sites parts names part_numbers d
+-- the frame of rows that break no rule has the depot moved to the front
+pub frame_answer : (sites placed : List SiteRow) (parts : List PartRow) (names part_numbers : List (List ℕ)) (d : ℕ) → IsNumbered sites parts names part_numbers d
     → placed ≡ move_index sites d 0 → frame_of sites parts ≡ Ok (record { sites = placed; parts = parts })
-frame-answer sites placed parts names part_numbers d n moved =
-    rw (n.no_fault, moved, moved-in_order sites parts d n.no_fault n.depot_place) refl
+frame_answer sites placed parts names part_numbers d n moved =
+    rw (n.no_fault, moved, moved_in_order sites parts d n.no_fault n.depot_place) refl

@@ -8,3 +8,4 @@ pub mod PlaceFacts
 pub mod CaseFacts
 pub mod StockFacts
 pub mod Standing
+pub mod Ranges

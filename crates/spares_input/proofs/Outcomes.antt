@@ -4,11 +4,11 @@ use Rattle.spares_io.specs.declared.stop.Stop.{Stop}
 use Rattle.spares_input.specs.First.{or_else}
 use Rattle.spares_input.specs.Building.{StopsAt}
 
-or_else-nothing : {A : Type 0} (o : Option A) → or_else o None ≡ o
-or_else-nothing None = refl
-or_else-nothing (Some x) = refl
+or_else_nothing : {A : Type 0} (o : Option A) → or_else o None ≡ o
+or_else_nothing None = refl
+or_else_nothing (Some x) = refl
 
 -- the last step says what the whole answers, where the steps before it went on
-pub stops-last : {T E : Type 0} (before last : Option E) (r : Result T (Stop E)) → before ≡ None → StopsAt last r
+pub stops_last : {T E : Type 0} (before last : Option E) (r : Result T (Stop E)) → before ≡ None → StopsAt last r
     → StopsAt (or_else before (or_else last None)) r
-stops-last before last r e h = rw (e, or_else-nothing last) h
+stops_last before last r e h = rw (e, or_else_nothing last) h

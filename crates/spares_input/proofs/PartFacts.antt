@@ -15,104 +15,112 @@ use Rattle.spares_input.specs.Frames.{double_part, has_line, is_among, is_shop_o
 use Rattle.spares_input.specs.declared.rows.PartRow.{PartRow}
 use Rattle.spares_input.specs.declared.rows.SiteRow.{SiteRow}
 use Rattle.spares_input.specs.declared.fault.CaseFault.TheVariants as fault
-use Rattle.spares_input.proofs.Firsts.{first-none}
+use Rattle.spares_input.proofs.Firsts.{first_none}
 use Rattle.spares_input.proofs.SiteFacts.{not_not}
 
-pub double_part-known : (parts : List PartRow) (k : ℕ) (r : PartRow) (keys : List (List ℕ)) (fresh : Bool)
+-- a part whose name stands before it breaks the rule of names
+pub double_part_known : (parts : List PartRow) (k : ℕ) (r : PartRow) (keys : List (List ℕ)) (fresh : Bool)
     → r ≡ part_at parts k → keys ≡ part_names (take k parts) → fresh ≡ not (is_among r.name keys)
     → fresh ≡ false → double_part parts k ≡ Some (fault.DoublePart (k + 2))
-double_part-known parts k r keys fresh row names new h =
+double_part_known parts k r keys fresh row names new h =
     let known : is_among r.name (part_names (take k parts)) ≡ true = rw (← names) (sym (not_not fresh (is_among r.name keys) new) ∙ rw h refl) in
     rw (← row, known) refl
 
-pub double_part-new : (parts : List PartRow) (k : ℕ) (r : PartRow) (keys : List (List ℕ)) (fresh : Bool)
+-- a part whose name is new doesn't
+pub double_part_new : (parts : List PartRow) (k : ℕ) (r : PartRow) (keys : List (List ℕ)) (fresh : Bool)
     → r ≡ part_at parts k → keys ≡ part_names (take k parts) → fresh ≡ not (is_among r.name keys)
     → fresh ≡ true → double_part parts k ≡ None
-double_part-new parts k r keys fresh row names new h =
+double_part_new parts k r keys fresh row names new h =
     let known : is_among r.name (part_names (take k parts)) ≡ false = rw (← names) (sym (not_not fresh (is_among r.name keys) new) ∙ rw h refl) in
     rw (← row, known) refl
 
-pub part_names-more : (parts : List PartRow) (k : ℕ) (r : PartRow) → k < length parts → r ≡ part_at parts k
+-- the names up to a part are those before it and its own
+pub part_names_more : (parts : List PartRow) (k : ℕ) (r : PartRow) → k < length parts → r ≡ part_at parts k
     → part_names (take k parts) ++ r.name ∷ [] ≡ part_names (take (k + 1) parts)
-part_names-more parts k r within row =
+part_names_more parts k r within row =
     sym (rw (take_more parts k no_part within, ← row) (map-append (λ x. x.name) (take k parts) (r ∷ [])))
 
 -- the row of a name at its place
-named-at : (names : List (List ℕ)) (name : List ℕ) (l : ℕ) → place_of name names ≡ Some l → (l < length names) × (name ≡ get_or names l [])
-named-at names name l h =
+named_at : (names : List (List ℕ)) (name : List ℕ) (l : ℕ) → place_of name names ≡ Some l → (l < length names) × (name ≡ get_or names l [])
+named_at names name l h =
     let found = position-Some (bytes_eq name) names l [] h in
     (found.0, (bytes_eq-Decides name (get_or names l [])).0 found.1)
 
-pub part-named : (parts : List PartRow) (name : List ℕ) (l : ℕ) → place_of name (part_names parts) ≡ Some l
+-- the place found for a name is that of a part with this name
+pub part_named : (parts : List PartRow) (name : List ℕ) (l : ℕ) → place_of name (part_names parts) ≡ Some l
     → (l < length parts) × ((part_at parts l).name ≡ name)
-part-named parts name l h =
-    let at = named-at (part_names parts) name l h in
+part_named parts name l h =
+    let at = named_at (part_names parts) name l h in
     let within : l < length parts = omega (arith, at.0, length-map parts (λ (x : PartRow). x.name)) in
     (within, sym (at.1 ∙ get_or-map (λ (x : PartRow). x.name) parts l no_part [] within))
 
-pub site-named : (sites : List SiteRow) (name : List ℕ) (s : ℕ) → place_of name (site_names sites) ≡ Some s
+-- the place found for a name is that of a site with this name
+pub site_named : (sites : List SiteRow) (name : List ℕ) (s : ℕ) → place_of name (site_names sites) ≡ Some s
     → (s < length sites) × ((site_at sites s).name ≡ name)
-site-named sites name s h =
-    let at = named-at (site_names sites) name s h in
+site_named sites name s h =
+    let at = named_at (site_names sites) name s h in
     let within : s < length sites = omega (arith, at.0, length-map sites (λ (x : SiteRow). x.name)) in
     (within, sym (at.1 ∙ get_or-map (λ (x : SiteRow). x.name) sites s no_site [] within))
 
-pub shop_fault-many : (parts : List PartRow) (k l : ℕ) (r : PartRow) (n : ℕ) → r ≡ part_at parts l → is_line r ≡ true
+-- a shop unit before which its line unit has 8 breaks the rule of their number
+pub shop_fault_many : (parts : List PartRow) (k l : ℕ) (r : PartRow) (n : ℕ) → r ≡ part_at parts l → is_line r ≡ true
     → n ≡ count_by (is_shop_of r) (take k parts) → 8 ≤ n → shop_fault parts k (Some l) ≡ Some (fault.TooManyShopUnits (k + 2))
-shop_fault-many parts k l r n row line count many =
+shop_fault_many parts k l r n row line count many =
     let full : nat_le 8 (count_by (is_shop_of r) (take k parts)) ≡ true = le-leb 8 (count_by (is_shop_of r) (take k parts)) (omega (arith, count, many)) in
     rw (← row, line, full) refl
 
-pub shop_fault-none : (parts : List PartRow) (k l : ℕ) (r : PartRow) (n : ℕ) → r ≡ part_at parts l → is_line r ≡ true
+-- a shop unit of a line unit that has fewer than 8 before it breaks no rule
+pub shop_fault_none : (parts : List PartRow) (k l : ℕ) (r : PartRow) (n : ℕ) → r ≡ part_at parts l → is_line r ≡ true
     → n ≡ count_by (is_shop_of r) (take k parts) → n < 8 → shop_fault parts k (Some l) ≡ None
-shop_fault-none parts k l r n row line count few =
+shop_fault_none parts k l r n row line count few =
     let free : nat_le 8 (count_by (is_shop_of r) (take k parts)) ≡ false = lt-leb 8 (count_by (is_shop_of r) (take k parts)) (omega (arith, count, few)) in
     rw (← row, line, free) refl
 
-shop-rules : {A : Type 0} (a b : Bool) (x y : A) → (if not a then Some x else if b then Some y else None) ≡ None → (a ≡ true) × (b ≡ false)
-shop-rules false b x y h = cc
-shop-rules true true x y h = cc
-shop-rules true false x y h = (refl, refl)
+shop_rules : {A : Type 0} (a b : Bool) (x y : A) → (if not a then Some x else if b then Some y else None) ≡ None → (a ≡ true) × (b ≡ false)
+shop_rules false b x y h = cc
+shop_rules true true x y h = cc
+shop_rules true false x y h = (refl, refl)
 
-line-there : (parts : List PartRow) (k : ℕ) (o : Option ℕ) → shop_fault parts k o ≡ None
+line_there : (parts : List PartRow) (k : ℕ) (o : Option ℕ) → shop_fault parts k o ≡ None
     → (l : ℕ) × (o ≡ Some l) × (is_line (part_at parts l) ≡ true) × (nat_le 8 (count_by (is_shop_of (part_at parts l)) (take k parts)) ≡ false)
-line-there parts k None h = cc
-line-there parts k (Some l) h =
-    let both = shop-rules (is_line (part_at parts l)) (nat_le 8 (count_by (is_shop_of (part_at parts l)) (take k parts))) _ _ h in
+line_there parts k None h = cc
+line_there parts k (Some l) h =
+    let both = shop_rules (is_line (part_at parts l)) (nat_le 8 (count_by (is_shop_of (part_at parts l)) (take k parts))) _ _ h in
     (l, refl, both.0, both.1)
 
-parent-rule : {A : Type 0} (b : Bool) (o : Option A) → (if b then None else o) ≡ None → b ≡ false → o ≡ None
-parent-rule true o h e = absurd (false≢true (sym e))
-parent-rule false o h e = h
+parent_rule : {A : Type 0} (b : Bool) (o : Option A) → (if b then None else o) ≡ None → b ≡ false → o ≡ None
+parent_rule true o h e = absurd (false≢true (sym e))
+parent_rule false o h e = h
 
 -- the line unit of a shop unit that breaks no rule
-shop-line : (parts : List PartRow) (p : ℕ) → parent_fault parts p ≡ None → is_line (part_at parts p) ≡ false
+shop_line : (parts : List PartRow) (p : ℕ) → parent_fault parts p ≡ None → is_line (part_at parts p) ≡ false
     → (l : ℕ) × (line_of parts p ≡ Some l) × (is_line (part_at parts l) ≡ true) × (nat_le 8 (count_by (is_shop_of (part_at parts l)) (take p parts)) ≡ false)
-shop-line parts p none shop = line-there parts p (line_of parts p) (parent-rule (is_line (part_at parts p)) (shop_fault parts p (line_of parts p)) none shop)
+shop_line parts p none shop = line_there parts p (line_of parts p) (parent_rule (is_line (part_at parts p)) (shop_fault parts p (line_of parts p)) none shop)
 
-pub parent-has_line : (parts : List PartRow) (p : ℕ) → first (parent_fault parts) (length parts) ≡ None → p < length parts
+-- where no parent breaks a rule, each shop unit has a line unit
+pub parent_has_line : (parts : List PartRow) (p : ℕ) → first (parent_fault parts) (length parts) ≡ None → p < length parts
     → is_line (part_at parts p) ≡ false → has_line parts p ≡ true
-parent-has_line parts p none within shop =
-    let line = shop-line parts p (first-none (parent_fault parts) (length parts) p none within) shop in
+parent_has_line parts p none within shop =
+    let line = shop_line parts p (first_none (parent_fault parts) (length parts) p none within) shop in
     rw (line.1, line.2) refl
 
-shop-parent : (line r : PartRow) (o : Option (List ℕ)) → r.parent ≡ o → is_shop_of line r ≡ true → (name : List ℕ) × (r.parent ≡ Some name) × (line.name ≡ name)
-shop-parent line r None e h = absurd (false≢true (rw e at h))
-shop-parent line r (Some name) e h = (name, e, (bytes_eq-Decides line.name name).0 (rw e at h))
+shop_parent : (line r : PartRow) (o : Option (List ℕ)) → r.parent ≡ o → is_shop_of line r ≡ true → (name : List ℕ) × (r.parent ≡ Some name) × (line.name ≡ name)
+shop_parent line r None e h = absurd (false≢true (rw e at h))
+shop_parent line r (Some name) e h = (name, e, (bytes_eq-Decides line.name name).0 (rw e at h))
 
-one-more : (line : PartRow) (parts : List PartRow) (n : ℕ) → n ≤ length parts → first (parent_fault parts) (length parts) ≡ None
+one_more : (line : PartRow) (parts : List PartRow) (n : ℕ) → n ≤ length parts → first (parent_fault parts) (length parts) ≡ None
     → count_by (is_shop_of line) (take n parts) ≤ 8
-one-more line parts zero h none = omega arith
-one-more line parts (suc n) h none =
+one_more line parts zero h none = omega arith
+one_more line parts (suc n) h none =
     let within : n < length parts = omega arith in
-    let before = one-more line parts n (omega arith) none in
+    let before = one_more line parts n (omega arith) none in
     let bound : count_by (is_shop_of line) (take (n + 1) parts) ≤ 8 = elim (cases_Bool (is_shop_of line (part_at parts n))) [
       | inl shop ↦
-          let parent = shop-parent line (part_at parts n) (part_at parts n).parent refl shop in
+          let parent = shop_parent line (part_at parts n) (part_at parts n).parent refl shop in
           let is_shop : is_line (part_at parts n) ≡ false = rw parent.1 refl in
-          let own = shop-line parts n (first-none (parent_fault parts) (length parts) n none within) is_shop in
+          let own = shop_line parts n (first_none (parent_fault parts) (length parts) n none within) is_shop in
           let place : place_of parent.0 (part_names parts) ≡ Some own.0 = sym (ap (λ o. option_and_then (λ name. place_of name (part_names parts)) o) parent.1) ∙ own.1 in
-          let same : (part_at parts own.0).name ≡ line.name = (part-named parts parent.0 own.0 place).1 ∙ sym parent.2 in
+          let same : (part_at parts own.0).name ≡ line.name = (part_named parts parent.0 own.0 place).1 ∙ sym parent.2 in
           let free : count_by (is_shop_of line) (take n parts) < 8 = leb-false 8 (count_by (is_shop_of line) (take n parts)) (rw same at own.3) in
           omega (arith, count_by_more_yes (is_shop_of line) parts n no_part within shop, free)
       | inr other ↦ omega (arith, before, count_by_more_no (is_shop_of line) parts n no_part within other)
@@ -120,15 +128,16 @@ one-more line parts (suc n) h none =
     rw add-one at bound
 
 -- a line unit has at most 8 shop units
-pub few-shop_units : (line : PartRow) (parts : List PartRow) → first (parent_fault parts) (length parts) ≡ None → count_by (is_shop_of line) parts ≤ 8
-few-shop_units line parts none = rw (take_all (length parts) parts (omega arith)) at (one-more line parts (length parts) (omega arith) none)
+pub shop_units_few : (line : PartRow) (parts : List PartRow) → first (parent_fault parts) (length parts) ≡ None → count_by (is_shop_of line) parts ≤ 8
+shop_units_few line parts none = rw (take_all (length parts) parts (omega arith)) at (one_more line parts (length parts) (omega arith) none)
 
 -- the places of the elements that pass are as many as these
-passing-places : (t : PartRow → Bool) (parts : List PartRow) → length (filter (λ p. t (part_at parts p)) (range_with_len 0 (length parts))) ≡ count_by t parts
-passing-places t parts =
+passing_places : (t : PartRow → Bool) (parts : List PartRow) → length (filter (λ p. t (part_at parts p)) (range_with_len 0 (length parts))) ≡ count_by t parts
+passing_places t parts =
     let all : parts ≡ map (part_at parts) (range_with_len 0 (length parts)) = fill_by_all (part_at parts) parts (length parts) no_part refl (λ k h. refl) in
     length-filter (λ p. t (part_at parts p)) (range_with_len 0 (length parts))
     ∙ (sym (fold-map (λ (s : ℕ) (x : PartRow). s + (if t x then 1 else 0)) (part_at parts) 0 (range_with_len 0 (length parts))) ∙ ap (count_by t) (sym all))
 
-pub length-shop_units : (parts : List PartRow) (l : ℕ) → length (shop_units parts l) ≡ count_by (is_shop_of (part_at parts l)) parts
-length-shop_units parts l = passing-places (is_shop_of (part_at parts l)) parts
+-- a line unit has as many shop units as there are parts that name it as their parent
+pub length_shop_units : (parts : List PartRow) (l : ℕ) → length (shop_units parts l) ≡ count_by (is_shop_of (part_at parts l)) parts
+length_shop_units parts l = passing_places (is_shop_of (part_at parts l)) parts

@@ -14,100 +14,105 @@ use Rattle.spares_input.specs.Frames.{is_among, is_base, is_depot, kinds_fault, 
 use Rattle.spares_input.specs.Building.{site_rule}
 use Rattle.spares_input.specs.declared.rows.SiteRow.{SiteRow}
 use Rattle.spares_input.specs.declared.fault.CaseFault.TheVariants as fault
-use Rattle.spares_input.proofs.Firsts.{first-none}
+use Rattle.spares_input.proofs.Firsts.{first_none}
 
+-- where one is the contrary of another, its own contrary is that other
 pub not_not : (a b : Bool) → a ≡ not b → not a ≡ b
 not_not a true h = rw h refl
 not_not a false h = rw h refl
 
-pub site_fault-at : (sites : List SiteRow) (k : ℕ) (r : SiteRow) (keys : List (List ℕ)) (fresh has_depot : Bool)
+-- the rule by whether a name is new and a depot was there is the rule that the row of sites breaks
+pub site_fault_at : (sites : List SiteRow) (k : ℕ) (r : SiteRow) (keys : List (List ℕ)) (fresh has_depot : Bool)
     → r ≡ site_at sites k → keys ≡ site_names (take k sites) → fresh ≡ not (is_among r.name keys)
     → has_depot ≡ list_any is_depot (take k sites) → site_fault sites k ≡ site_rule r (not fresh) has_depot (k + 2)
-site_fault-at sites k r keys fresh has_depot row names new depot =
+site_fault_at sites k r keys fresh has_depot row names new depot =
     rw (← row, ← depot, ← names, not_not fresh (is_among r.name keys) new) refl
 
-pub fresh-site_rule : (r : SiteRow) (fresh has_depot : Bool) (row : ℕ) → site_rule r (not fresh) has_depot row ≡ None → fresh ≡ true
-fresh-site_rule r true has_depot row h = refl
-fresh-site_rule r false has_depot row h = cc
+-- a row of sites that breaks no rule has a new name
+pub fresh_site_rule : (r : SiteRow) (fresh has_depot : Bool) (row : ℕ) → site_rule r (not fresh) has_depot row ≡ None → fresh ≡ true
+fresh_site_rule r true has_depot row h = refl
+fresh_site_rule r false has_depot row h = cc
 
-pub site_names-more : (sites : List SiteRow) (k : ℕ) (r : SiteRow) → k < length sites → r ≡ site_at sites k
+-- the names up to a row are those before it and its own
+pub site_names_more : (sites : List SiteRow) (k : ℕ) (r : SiteRow) → k < length sites → r ≡ site_at sites k
     → site_names (take (k + 1) sites) ≡ site_names (take k sites) ++ r.name ∷ []
-site_names-more sites k r within row =
+site_names_more sites k r within row =
     rw (take_more sites k no_site within, ← row) (map-append (λ x. x.name) (take k sites) (r ∷ []))
 
-pub has_depot-more : (sites : List SiteRow) (k : ℕ) (r : SiteRow) → k < length sites → r ≡ site_at sites k
+-- there is a depot up to a row where there is one before it or the row is one
+pub has_depot_more : (sites : List SiteRow) (k : ℕ) (r : SiteRow) → k < length sites → r ≡ site_at sites k
     → list_any is_depot (take (k + 1) sites) ≡ (list_any is_depot (take k sites) || r.depot)
-has_depot-more sites k r within row = list_any_more is_depot sites k no_site within ∙ rw (← row) refl
+has_depot_more sites k r within row = list_any_more is_depot sites k no_site within ∙ rw (← row) refl
 
 -- neither test holds where no rule is broken
-rules-none : {A : Type 0} (a b : Bool) (x y : A) → (if a then Some x else if b then Some y else None) ≡ None → (a ≡ false) × (b ≡ false)
-rules-none true b x y h = cc
-rules-none false true x y h = cc
-rules-none false false x y h = (refl, refl)
+rules_none : {A : Type 0} (a b : Bool) (x y : A) → (if a then Some x else if b then Some y else None) ≡ None → (a ≡ false) × (b ≡ false)
+rules_none true b x y h = cc
+rules_none false true x y h = cc
+rules_none false false x y h = (refl, refl)
 
 -- a depot stands behind no other
-depot-alone : (sites : List SiteRow) (k : ℕ) → site_fault sites k ≡ None → (site_at sites k).depot ≡ true → list_any is_depot (take k sites) ≡ false
-depot-alone sites k h depot =
-    let both = (rules-none (is_among (site_at sites k).name (site_names (take k sites))) ((site_at sites k).depot && list_any is_depot (take k sites)) _ _ h).1 in
+depot_alone : (sites : List SiteRow) (k : ℕ) → site_fault sites k ≡ None → (site_at sites k).depot ≡ true → list_any is_depot (take k sites) ≡ false
+depot_alone sites k h depot =
+    let both = (rules_none (is_among (site_at sites k).name (site_names (take k sites))) ((site_at sites k).depot && list_any is_depot (take k sites)) _ _ h).1 in
     rw depot at both
 
-none-counted : (sites : List SiteRow) → list_any is_depot sites ≡ false → count_by is_depot sites ≡ 0
-none-counted [] h = refl
-none-counted (r ∷ sites) h =
+none_counted : (sites : List SiteRow) → list_any is_depot sites ≡ false → count_by is_depot sites ≡ 0
+none_counted [] h = refl
+none_counted (r ∷ sites) h =
     let parts = or_parts r.depot (list_any is_depot sites) h in
-    sum_by-cons (λ x. if x.depot then 1 else 0) r sites ∙ rw (parts.0, none-counted sites parts.1) refl
+    sum_by-cons (λ x. if x.depot then 1 else 0) r sites ∙ rw (parts.0, none_counted sites parts.1) refl
 
-some-more : (b : Bool) (n : ℕ) → (if b then 1 else 0) + n ≡ 0 → (b ≡ false) × (n ≡ 0)
-some-more true n h = absurd (omega arith)
-some-more false n h = (refl, omega arith)
+some_more : (b : Bool) (n : ℕ) → (if b then 1 else 0) + n ≡ 0 → (b ≡ false) × (n ≡ 0)
+some_more true n h = absurd (omega arith)
+some_more false n h = (refl, omega arith)
 
-none-there : (sites : List SiteRow) → count_by is_depot sites ≡ 0 → list_any is_depot sites ≡ false
-none-there [] h = refl
-none-there (r ∷ sites) h =
-    let parts = some-more r.depot (count_by is_depot sites) (sym (sum_by-cons (λ x. if x.depot then 1 else 0) r sites) ∙ h) in
-    rw (parts.0, none-there sites parts.1) refl
+none_there : (sites : List SiteRow) → count_by is_depot sites ≡ 0 → list_any is_depot sites ≡ false
+none_there [] h = refl
+none_there (r ∷ sites) h =
+    let parts = some_more r.depot (count_by is_depot sites) (sym (sum_by-cons (λ x. if x.depot then 1 else 0) r sites) ∙ h) in
+    rw (parts.0, none_there sites parts.1) refl
 
-one-depot : (sites : List SiteRow) (n : ℕ) → n ≤ length sites → first (site_fault sites) (length sites) ≡ None → count_by is_depot (take n sites) ≤ 1
-one-depot sites zero h none = omega arith
-one-depot sites (suc n) h none =
+one_depot : (sites : List SiteRow) (n : ℕ) → n ≤ length sites → first (site_fault sites) (length sites) ≡ None → count_by is_depot (take n sites) ≤ 1
+one_depot sites zero h none = omega arith
+one_depot sites (suc n) h none =
     let within : n < length sites = omega arith in
-    let before = one-depot sites n (omega arith) none in
+    let before = one_depot sites n (omega arith) none in
     let bound : count_by is_depot (take (n + 1) sites) ≤ 1 = elim (cases_Bool (site_at sites n).depot) [
       | inl depot ↦
-          let zero = none-counted (take n sites) (depot-alone sites n (first-none (site_fault sites) (length sites) n none within) depot) in
+          let zero = none_counted (take n sites) (depot_alone sites n (first_none (site_fault sites) (length sites) n none within) depot) in
           omega (arith, count_by_more_yes is_depot sites n no_site within depot, zero)
       | inr base ↦ omega (arith, before, count_by_more_no is_depot sites n no_site within base)
     ] in
     rw add-one at bound
 
 -- there is one depot at most
-pub few-depots : (sites : List SiteRow) → first (site_fault sites) (length sites) ≡ None → count_by is_depot sites ≤ 1
-few-depots sites none = rw (take_all (length sites) sites (omega arith)) at (one-depot sites (length sites) (omega arith) none)
+pub few_depots : (sites : List SiteRow) → first (site_fault sites) (length sites) ≡ None → count_by is_depot sites ≤ 1
+few_depots sites none = rw (take_all (length sites) sites (omega arith)) at (one_depot sites (length sites) (omega arith) none)
 
-filter-bases : (sites : List SiteRow) → list_any is_depot sites ≡ false → (filter is_depot sites ≡ []) × (filter is_base sites ≡ sites)
-filter-bases [] h = (refl, refl)
-filter-bases (r ∷ sites) h =
+filter_bases : (sites : List SiteRow) → list_any is_depot sites ≡ false → (filter is_depot sites ≡ []) × (filter is_base sites ≡ sites)
+filter_bases [] h = (refl, refl)
+filter_bases (r ∷ sites) h =
     let parts = or_parts r.depot (list_any is_depot sites) h in
-    let rest = filter-bases sites parts.1 in
+    let rest = filter_bases sites parts.1 in
     (rw (parts.0, rest.0) refl, rw (parts.0, rest.1) refl)
 
-append-none : (xs ys : List SiteRow) → xs ++ ys ≡ [] → (xs ≡ []) × (ys ≡ [])
-append-none [] ys h = (refl, h)
-append-none (x ∷ xs) ys h = cc
+append_none : (xs ys : List SiteRow) → xs ++ ys ≡ [] → (xs ≡ []) × (ys ≡ [])
+append_none [] ys h = (refl, h)
+append_none (x ∷ xs) ys h = cc
 
 -- the depot of sites that have one alone, and the bases
-pub depot-apart : (sites : List SiteRow) (d : ℕ) (r : SiteRow) → d < length sites → r ≡ site_at sites d → r.depot ≡ true → count_by is_depot sites ≤ 1
+pub depot_apart : (sites : List SiteRow) (d : ℕ) (r : SiteRow) → d < length sites → r ≡ site_at sites d → r.depot ≡ true → count_by is_depot sites ≤ 1
     → (filter is_depot sites ≡ r ∷ []) × (filter is_base sites ≡ remove sites d)
-depot-apart sites d r within row depot few =
+depot_apart sites d r within row depot few =
     let counted = sum_by-remove (λ x. if x.depot then 1 else 0) sites d no_site within in
     let one : ℕ = 1 in
     let here : (if (site_at sites d).depot then one else 0) ≡ one = rw (← row, depot) refl in
-    let others : list_any is_depot (remove sites d) ≡ false = none-there (remove sites d) (omega (arith, counted, here, few)) in
-    let bases = filter-bases (remove sites d) others in
+    let others : list_any is_depot (remove sites d) ≡ false = none_there (remove sites d) (omega (arith, counted, here, few)) in
+    let bases = filter_bases (remove sites d) others in
     let split : sites ≡ take d sites ++ r ∷ drop (d + 1) sites =
     sym (take-append-drop d sites) ∙ rw (drop_more sites d no_site within, ← row) refl in
     let rest : remove sites d ≡ take d sites ++ drop (d + 1) sites = rw add-one refl in
-    let none = append-none (filter is_depot (take d sites)) (filter is_depot (drop (d + 1) sites)) (sym (filter-append is_depot (take d sites) (drop (d + 1) sites)) ∙ (rw (← rest) bases.0)) in (
+    let none = append_none (filter is_depot (take d sites)) (filter is_depot (drop (d + 1) sites)) (sym (filter-append is_depot (take d sites) (drop (d + 1) sites)) ∙ (rw (← rest) bases.0)) in (
       ap (filter is_depot) split ∙ (filter-append is_depot (take d sites) (r ∷ drop (d + 1) sites) ∙ rw (none.0, none.1, depot) refl),
       ap (filter is_base) split ∙ (filter-append is_base (take d sites) (r ∷ drop (d + 1) sites) ∙ (rw depot (sym (filter-append is_base (take d sites) (drop (d + 1) sites)) ∙ rw (← rest) bases.1))),
     )
@@ -116,38 +121,41 @@ unfound : (b : Bool) (x : ℕ) → ◌≡◌ {A = Option ℕ} (if b then Some x 
 unfound true x h = cc
 unfound false x h = refl
 
-no-position : (p : SiteRow → Bool) (sites : List SiteRow) → position p sites ≡ None → list_any p sites ≡ false
-no-position p sites h =
+no_position : (p : SiteRow → Bool) (sites : List SiteRow) → position p sites ≡ None → list_any p sites ≡ false
+no_position p sites h =
     let past : length sites ≤ position_or_len p sites = ltb-false (position_or_len p sites) (length sites) (unfound (nat_lt (position_or_len p sites) (length sites)) (position_or_len p sites) h) in
     list_any_none p sites (λ k d within. fails_before_first p sites k d (omega (arith, within, past)))
 
-pub kinds-no_depot : (sites : List SiteRow) → position is_depot sites ≡ None → kinds_fault sites ≡ Some fault.NoDepot
-kinds-no_depot sites h = rw (no-position is_depot sites h) refl
+-- sites without a depot break the rule of a depot
+pub kinds_no_depot : (sites : List SiteRow) → position is_depot sites ≡ None → kinds_fault sites ≡ Some fault.NoDepot
+kinds_no_depot sites h = rw (no_position is_depot sites h) refl
 
-a-depot : (sites : List SiteRow) (d : ℕ) → position is_depot sites ≡ Some d → list_any is_depot sites ≡ true
-a-depot sites d h =
+a_depot : (sites : List SiteRow) (d : ℕ) → position is_depot sites ≡ Some d → list_any is_depot sites ≡ true
+a_depot sites d h =
     let found = position-Some is_depot sites d no_site h in
     list_any_at is_depot sites d no_site found.0 found.1
 
-pub kinds-no_base : (sites : List SiteRow) (d : ℕ) → position is_depot sites ≡ Some d → list_any is_base sites ≡ false → kinds_fault sites ≡ Some fault.NoBase
-kinds-no_base sites d h none = rw (a-depot sites d h, none) refl
+-- sites with a depot but without a base break the rule of a base
+pub kinds_no_base : (sites : List SiteRow) (d : ℕ) → position is_depot sites ≡ Some d → list_any is_base sites ≡ false → kinds_fault sites ≡ Some fault.NoBase
+kinds_no_base sites d h none = rw (a_depot sites d h, none) refl
 
-pub kinds-both : (sites : List SiteRow) (d : ℕ) → position is_depot sites ≡ Some d → list_any is_base sites ≡ true → kinds_fault sites ≡ None
-kinds-both sites d h some = rw (a-depot sites d h, some) refl
+-- sites with a depot and a base break neither rule
+pub kinds_both : (sites : List SiteRow) (d : ℕ) → position is_depot sites ≡ Some d → list_any is_base sites ≡ true → kinds_fault sites ≡ None
+kinds_both sites d h some = rw (a_depot sites d h, some) refl
 
-two-long : (sites : List SiteRow) → list_any is_depot sites ≡ true → list_any is_base sites ≡ true → 2 ≤ length sites
-two-long [] h k = absurd (false≢true h)
-two-long (r ∷ []) h k = absurd (both_ways r.depot (not-true r.depot (sym (or-false (not r.depot)) ∙ k)) (sym (or-false r.depot) ∙ h))
-two-long (r ∷ s ∷ sites) h k = omega arith
+two_long : (sites : List SiteRow) → list_any is_depot sites ≡ true → list_any is_base sites ≡ true → 2 ≤ length sites
+two_long [] h k = absurd (false≢true h)
+two_long (r ∷ []) h k = absurd (both_ways r.depot (not-true r.depot (sym (or-false (not r.depot)) ∙ k)) (sym (or-false r.depot) ∙ h))
+two_long (r ∷ s ∷ sites) h k = omega arith
 
-base-there : (sites : List SiteRow) → kinds_fault sites ≡ None → (list_any is_depot sites ≡ true) × (list_any is_base sites ≡ true)
-base-there sites h = kinds-there (list_any is_depot sites) (list_any is_base sites) _ _ h
+base_there : (sites : List SiteRow) → kinds_fault sites ≡ None → (list_any is_depot sites ≡ true) × (list_any is_base sites ≡ true)
+base_there sites h = kinds_there (list_any is_depot sites) (list_any is_base sites) _ _ h
   where
-    kinds-there : {A : Type 0} (a b : Bool) (x y : A) → (if not a then Some x else if not b then Some y else None) ≡ None → (a ≡ true) × (b ≡ true)
-    kinds-there false b x y h = cc
-    kinds-there true false x y h = cc
-    kinds-there true true x y h = (refl, refl)
+    kinds_there : {A : Type 0} (a b : Bool) (x y : A) → (if not a then Some x else if not b then Some y else None) ≡ None → (a ≡ true) × (b ≡ true)
+    kinds_there false b x y h = cc
+    kinds_there true false x y h = cc
+    kinds_there true true x y h = (refl, refl)
 
 -- a depot and a base are two sites
-pub enough-sites : (sites : List SiteRow) → kinds_fault sites ≡ None → 2 ≤ length sites
-enough-sites sites h = let both = base-there sites h in two-long sites both.0 both.1
+pub enough_sites : (sites : List SiteRow) → kinds_fault sites ≡ None → 2 ≤ length sites
+enough_sites sites h = let both = base_there sites h in two_long sites both.0 both.1

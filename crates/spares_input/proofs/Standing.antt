@@ -18,8 +18,9 @@ use Rattle.spares_input.specs.Cases.{CaseRows, frame_rows, rate_place, double_ra
 use Rattle.spares_input.specs.declared.rows.SiteRow.{SiteRow}
 use Rattle.spares_input.specs.declared.rows.PartRow.{PartRow}
 use Rattle.spares_input.specs.declared.rows.RateRow.{RateRow}
-use Rattle.spares_input.proofs.PartFacts.{length-shop_units, part-named}
+use Rattle.spares_input.proofs.PartFacts.{length_shop_units, part_named}
 
+-- where no place has a fault, there is no first one
 pub first_none : {A : Type 0} (at : ℕ → Option A) (n : ℕ) → ((k : ℕ) → k < n → at k ≡ None) → first at n ≡ None
 unfolding first
 first_none at zero h = refl
@@ -34,6 +35,7 @@ bases_same (x ∷ xs) h =
     let here : x.depot ≡ false = h 0 (omega arith) in
     (rw (here, rest.0) refl, rw (here, rest.1) refl)
 
+-- sites of which the first alone is the depot are in order as they stand
 pub stand_in_order : (xs : List SiteRow) → ((i : ℕ) → i < length xs → (get_or xs i no_site).depot ≡ (i == 0)) → sites_in_order xs ≡ xs
 stand_in_order [] h = refl
 stand_in_order (x ∷ xs) h =
@@ -84,7 +86,7 @@ module _ (f : FrameRows) (v : IsFrame f) where
   shop_of : (k l : ℕ) (o : Option (List ℕ)) → (part_at f.parts k).parent ≡ o → option_and_then (λ name. place_of name (part_names f.parts)) o ≡ Some l → is_shop_of (part_at f.parts l) (part_at f.parts k) ≡ true
   shop_of k l None e h = absurd cc
   shop_of k l (Some name) e h =
-      let at = part-named f.parts name l h in
+      let at = part_named f.parts name l h in
       rw e ((bytes_eq-Decides (part_at f.parts l).name name).1 at.1)
 
   few_before : (k l : ℕ) → k < length f.parts → l < length f.parts → is_shop_of (part_at f.parts l) (part_at f.parts k) ≡ true → count_by (is_shop_of (part_at f.parts l)) (take k f.parts) < 8
@@ -92,14 +94,14 @@ module _ (f : FrameRows) (v : IsFrame f) where
       let test = is_shop_of (part_at f.parts l) in
       let more = count_by_more_yes test f.parts k no_part lt h in
       let le : count_by test (take (k + 1) f.parts) ≤ count_by test f.parts = sum_by-take-le (λ x. cond (test x) 1 0) f.parts (k + 1) in
-      omega (arith, more, le, length-shop_units f.parts l, v.few_shop_units l m)
+      omega (arith, more, le, length_shop_units f.parts l, v.few_shop_units l m)
 
   line_there : (k l : ℕ) → line_of f.parts k ≡ Some l → l < length f.parts
   line_there k l h = within (part_at f.parts k).parent h
     where
       within : (o : Option (List ℕ)) → option_and_then (λ name. place_of name (part_names f.parts)) o ≡ Some l → l < length f.parts
       within None e = absurd cc
-      within (Some name) e = (part-named f.parts name l e).0
+      within (Some name) e = (part_named f.parts name l e).0
 
   no_shop_fault : (k : ℕ) (o : Option ℕ) → k < length f.parts → line_of f.parts k ≡ o → option_map_or (λ l. is_line (part_at f.parts l)) o false ≡ true → shop_fault f.parts k o ≡ None
   no_shop_fault k None lt e h = absurd (false≢true h)
@@ -158,14 +160,15 @@ module _ (parts : List PartRow) (distinct : IsDistinct bytes_eq (part_names part
   shop_at : (l m : ℕ) (o : Option (List ℕ)) → l < length parts → option_and_then (λ name. place_of name (part_names parts)) o ≡ Some m → option_map_or (bytes_eq (part_at parts l).name) o false ≡ (m == l)
   shop_at l m None within h = absurd cc
   shop_at l m (Some name) within h =
-      let at = part-named parts name m h in
+      let at = part_named parts name m h in
       ap (bytes_eq (part_at parts l).name) (sym at.1) ∙ here_or_apart m l at.0 within
 
   -- a shop unit whose line unit has place m
   pub shop_of_line : (p l m : ℕ) → l < length parts → line_of parts p ≡ Some m → is_shop_of (part_at parts l) (part_at parts p) ≡ (m == l)
   shop_of_line p l m within h = shop_at l m (part_at parts p).parent within h
 
-no_shop_at : (line : PartRow) (o : Option (List ℕ)) → is_none o ≡ true → option_map_or (bytes_eq line.name) o false ≡ false
+-- no line part is the parent of a part that has none
+pub no_shop_at : (line : PartRow) (o : Option (List ℕ)) → is_none o ≡ true → option_map_or (bytes_eq line.name) o false ≡ false
 no_shop_at line None h = refl
 no_shop_at line (Some name) h = absurd (false≢true h)
 
@@ -255,5 +258,6 @@ rates_stand c v i d lt =
     get_or_any (x ∷ xs) zero d e h = refl
     get_or_any (x ∷ xs) (suc i) d e h = get_or_any xs i d e (omega (arith, h))
 
+-- a valid case is what its own frame and rates give
 pub own_case : (c : CaseRows) → IsCase c → case_of (frame_rows c) c.rates ≡ Ok c
 own_case c v = case_of_standing c v.rate_count (rates_stand c v)

@@ -9,6 +9,7 @@ use Rattle.std.proofs.lemmas.List.FromFn.{fill_by_all, length-map-range_with_len
 use Rattle.std.proofs.lemmas.Nat.{same_from_place}
 use Rattle.std.proofs.lemmas.Nat.{rows as rows_fit}
 use Rattle.std.proofs.lemmas.Option.{slice_get-map, unwrap_or-slice_get}
+use Rattle.std.proofs.lemmas.Simd.{map-map}
 use Rattle.spares_input.specs.First.{first}
 use Rattle.spares_input.specs.Rows.{no_stock}
 use Rattle.spares_input.specs.Frames.{part_at}
@@ -18,97 +19,95 @@ use Rattle.spares_input.specs.Stocks.{IsStockOf, IsWithinLimits, limit_at, missi
 use Rattle.spares_input.specs.Building.{ArePlaced, missing_stock_at}
 use Rattle.spares_input.specs.declared.rows.StockRow.{StockRow}
 use Rattle.spares_input.specs.declared.fault.StockFault.TheVariants as fault
-use Rattle.spares_input.proofs.Firsts.{first-none, or_else-none}
-use Rattle.spares_input.proofs.PlaceFacts.{at-place}
+use Rattle.spares_input.proofs.Firsts.{first_none, or_else_none}
+use Rattle.spares_input.proofs.PlaceFacts.{at_place}
 
 module _ (c : CaseRows) (rows : List StockRow) (k limit : ℕ) where
-  pub stock_fault-over : limit ≡ limit_at c.parts (get_or rows k no_stock).part.0 (get_or rows k no_stock).site.0
+  pub stock_fault_over : limit ≡ limit_at c.parts (get_or rows k no_stock).part.0 (get_or rows k no_stock).site.0
       → limit < (get_or rows k no_stock).stock → stock_fault c rows k ≡ Some (fault.OverLimit (k + 2))
-  stock_fault-over e over =
+  stock_fault_over e over =
       let test : nat_lt (limit_at c.parts (get_or rows k no_stock).part.0 (get_or rows k no_stock).site.0) (get_or rows k no_stock).stock ≡ true =
       lt-ltb _ (get_or rows k no_stock).stock (rw e at over) in
       rw test refl
 
-  pub stock_fault-double : (n : ℕ) → limit ≡ limit_at c.parts (get_or rows k no_stock).part.0 (get_or rows k no_stock).site.0
+  pub stock_fault_double : (n : ℕ) → limit ≡ limit_at c.parts (get_or rows k no_stock).part.0 (get_or rows k no_stock).site.0
       → (get_or rows k no_stock).stock ≤ limit → n ≡ length c.sites → has_row (stock_place n) (take k rows) (stock_place n (get_or rows k no_stock)) ≡ true
       → stock_fault c rows k ≡ Some (fault.Double (k + 2))
-  stock_fault-double n e within sites before =
+  stock_fault_double n e within sites before =
       let test : nat_lt (limit_at c.parts (get_or rows k no_stock).part.0 (get_or rows k no_stock).site.0) (get_or rows k no_stock).stock ≡ false =
       le-ltb _ (get_or rows k no_stock).stock (rw e at within) in
       rw (test, ← sites, before) refl
 
-  pub stock_fault-none : (n : ℕ) → limit ≡ limit_at c.parts (get_or rows k no_stock).part.0 (get_or rows k no_stock).site.0
+  pub stock_fault_none : (n : ℕ) → limit ≡ limit_at c.parts (get_or rows k no_stock).part.0 (get_or rows k no_stock).site.0
       → (get_or rows k no_stock).stock ≤ limit → n ≡ length c.sites → has_row (stock_place n) (take k rows) (stock_place n (get_or rows k no_stock)) ≡ false
       → stock_fault c rows k ≡ None
-  stock_fault-none n e within sites before =
+  stock_fault_none n e within sites before =
       let test : nat_lt (limit_at c.parts (get_or rows k no_stock).part.0 (get_or rows k no_stock).site.0) (get_or rows k no_stock).stock ≡ false =
       le-ltb _ (get_or rows k no_stock).stock (rw e at within) in
       rw (test, ← sites, before) refl
 
-pub stocks-more : (list : List ℕ) (slots : List (Option StockRow)) (i : ℕ) (r : StockRow) → i < length slots → get_or slots i None ≡ Some r
+-- with the stock of the next place appended, the stocks are those of one place more
+pub stocks_more : (list : List ℕ) (slots : List (Option StockRow)) (i : ℕ) (r : StockRow) → i < length slots → get_or slots i None ≡ Some r
     → map (λ s. Some s) list ≡ map (option_map (λ r. r.stock)) (take i slots)
     → map (λ s. Some s) (list ++ r.stock ∷ []) ≡ map (option_map (λ r. r.stock)) (take (i + 1) slots)
-stocks-more list slots i r h e before =
+stocks_more list slots i r h e before =
     map-append (λ s. Some s) list (r.stock ∷ []) ∙ (rw before (sym (rw (take_more slots i None h, e) (map-append (option_map (λ (r : StockRow). r.stock)) (take i slots) (Some r ∷ [])))))
 
-map-map : {A B C : Type 0} (g : B → C) (f : A → B) (xs : List A) → map g (map f xs) ≡ map (λ x. g (f x)) xs
-map-map g f [] = refl
-map-map g f (x ∷ xs) = ap (λ t. g (f x) ∷ t) (map-map g f xs)
+unwrap_mapped : {A B : Type 0} (g : A → B) (o : Option A) (none : A) → unwrap_or (option_map g o) (g none) ≡ g (unwrap_or o none)
+unwrap_mapped g None none = refl
+unwrap_mapped g (Some x) none = refl
 
-unwrap-mapped : {A B : Type 0} (g : A → B) (o : Option A) (none : A) → unwrap_or (option_map g o) (g none) ≡ g (unwrap_or o none)
-unwrap-mapped g None none = refl
-unwrap-mapped g (Some x) none = refl
-
-read-back : (o : Option ℕ) (p : Option ℕ) → ◌≡◌ {A = Option (Option ℕ)} (option_map (λ x. Some x) o) (Some p) → o ≡ p
-read-back None p h = cc
-read-back (Some x) p h = cc
+read_back : (o : Option ℕ) (p : Option ℕ) → ◌≡◌ {A = Option (Option ℕ)} (option_map (λ x. Some x) o) (Some p) → o ≡ p
+read_back None p h = cc
+read_back (Some x) p h = cc
 
 -- the stocks at the places are those of the rows there
-stocks-there : (place : StockRow → ℕ) (rows : List StockRow) (count : ℕ) (slots : List (Option StockRow)) (list : List ℕ) → ArePlaced place count rows slots
+stocks_there : (place : StockRow → ℕ) (rows : List StockRow) (count : ℕ) (slots : List (Option StockRow)) (list : List ℕ) → ArePlaced place count rows slots
     → map (λ s. Some s) list ≡ map (option_map (λ r. r.stock)) slots → list ≡ map (λ r. r.stock) (rows_in_order place no_stock count rows)
-stocks-there place rows count slots list placed e =
+stocks_there place rows count slots list placed e =
     let stock : StockRow → ℕ = λ r. r.stock in
     let len : length list ≡ count =
     sym (length-map list (λ s. Some s)) ∙ (ap (λ (t : List (Option ℕ)). length t) e ∙ (length-map slots (option_map stock) ∙ placed.whole)) in
     let whole : list ≡ map (λ i. stock (unwrap_or (row_at place rows i) no_stock)) (range_with_len 0 count) =
     fill_by_all (λ i. stock (unwrap_or (row_at place rows i) no_stock)) list count 0 len (λ k h.
     let same : slice_get list k ≡ option_map stock (row_at place rows k) =
-    read-back (slice_get list k) (option_map stock (row_at place rows k)) (
+    read_back (slice_get list k) (option_map stock (row_at place rows k)) (
     sym (slice_get-map (λ s. Some s) list k)
     ∙ (ap (λ (t : List (Option ℕ)). slice_get t k) e ∙ (slice_get-map (option_map stock) slots k ∙ ap (option_map (option_map stock)) (placed.each k h)))) in
-    sym (unwrap_or-slice_get list k 0) ∙ (ap (λ o. unwrap_or o 0) same ∙ unwrap-mapped stock (row_at place rows k) no_stock)) in
+    sym (unwrap_or-slice_get list k 0) ∙ (ap (λ o. unwrap_or o 0) same ∙ unwrap_mapped stock (row_at place rows k) no_stock)) in
     whole ∙ sym (map-map stock (λ i. unwrap_or (row_at place rows i) no_stock) (range_with_len 0 count))
 
-pub all-stocks : {E : Type 0} (c : CaseRows) (rows : List StockRow) (slots : List (Option StockRow)) (r : Result (Vec ℕ Global) E)
+-- where each place has a row, the stocks found are the stocks by place
+pub all_stocks : {E : Type 0} (c : CaseRows) (rows : List StockRow) (slots : List (Option StockRow)) (r : Result (Vec ℕ Global) E)
     → ArePlaced (stock_place (length c.sites)) (pair_count (frame_rows c)) rows slots
     → IfOk r (λ v. map (λ s. Some s) v.items ≡ map (option_map (λ r. r.stock)) slots) → IfOk r (λ v. v.items ≡ stocks_in_order c rows)
-all-stocks c rows slots (Err e) placed h = tt
-all-stocks c rows slots (Ok v) placed h = stocks-there (stock_place (length c.sites)) rows (pair_count (frame_rows c)) slots v.items placed h
+all_stocks c rows slots (Err e) placed h = tt
+all_stocks c rows slots (Ok v) placed h = stocks_there (stock_place (length c.sites)) rows (pair_count (frame_rows c)) slots v.items placed h
 
 -- rows that break no rule are within their limits
-over-none : {A : Type 0} (a b : Bool) (x y : A) → (if a then Some x else if b then Some y else None) ≡ None → a ≡ false
-over-none true b x y h = cc
-over-none false b x y h = refl
+over_none : {A : Type 0} (a b : Bool) (x y : A) → (if a then Some x else if b then Some y else None) ≡ None → a ≡ false
+over_none true b x y h = cc
+over_none false b x y h = refl
 
 module _ (c : CaseRows) (rows : List StockRow) (valid : All (IsStockOf (frame_rows c)) rows) (none : stocks_fault c rows ≡ None) where
   IsFine : StockRow → Type 0
   IsFine r = IsStockOf (frame_rows c) r × (r.stock ≤ limit_at c.parts r.part.0 r.site.0)
 
-  all-fine : All IsFine rows
+  all_fine : All IsFine rows
   unfolding IsFine
-  all-fine = All-from_get_or IsFine rows no_stock (λ k h.
-      let rules = or_else-none (first (stock_fault c rows) (length rows)) _ none in
+  all_fine = All-from_get_or IsFine rows no_stock (λ k h.
+      let rules = or_else_none (first (stock_fault c rows) (length rows)) _ none in
       let r = get_or rows k no_stock in
-      (valid k no_stock h, ltb-false (limit_at c.parts r.part.0 r.site.0) r.stock (over-none _ _ _ _ (first-none (stock_fault c rows) (length rows) k rules.0 h))))
+      (valid k no_stock h, ltb-false (limit_at c.parts r.part.0 r.site.0) r.stock (over_none _ _ _ _ (first_none (stock_fault c rows) (length rows) k rules.0 h))))
 
-  pub stocks-within : 2 ≤ length c.sites → (list : List ℕ) → list ≡ stocks_in_order c rows → IsWithinLimits c (record { sites = length c.sites; list = list })
+  pub stocks_within : 2 ≤ length c.sites → (list : List ℕ) → list ≡ stocks_in_order c rows → IsWithinLimits c (record { sites = length c.sites; list = list })
   unfolding IsFine
-  stocks-within some list e p k part site =
+  stocks_within some list e p k part site =
       let n = length c.sites in
       let within : p * n + k < pair_count (frame_rows c) = grind (arith, rows_fit) in
-      let rules = or_else-none (first (stock_fault c rows) (length rows)) _ none in
-      let all = or_else-none (first (missing_stock n rows) (pair_count (frame_rows c))) None rules.1 in
-      let at = at-place (stock_place n) (missing_stock_at n) IsFine rows no_stock (pair_count (frame_rows c)) all-fine all.0 (p * n + k) within in
+      let rules = or_else_none (first (stock_fault c rows) (length rows)) _ none in
+      let all = or_else_none (first (missing_stock n rows) (pair_count (frame_rows c))) None rules.1 in
+      let at = at_place (stock_place n) (missing_stock_at n) IsFine rows no_stock (pair_count (frame_rows c)) all_fine all.0 (p * n + k) within in
       let r = get_or (rows_in_order (stock_place n) no_stock (pair_count (frame_rows c)) rows) (p * n + k) no_stock in
       let pair = same_from_place r.part.0 r.site.0 p k n at.0.0.site site at.1 in
       let long : p * n + k < length (rows_in_order (stock_place n) no_stock (pair_count (frame_rows c)) rows) =
@@ -117,23 +116,26 @@ module _ (c : CaseRows) (rows : List StockRow) (valid : All (IsStockOf (frame_ro
       let limit : limit_at c.parts r.part.0 r.site.0 ≡ limit_at c.parts p k = λ i. limit_at c.parts (pair.0 i) (pair.1 i) in
       rw read (subst (λ m. r.stock ≤ m) limit at.0.1)
 
-pub stocks-long : (c : CaseRows) (rows : List StockRow) → length (stocks_in_order c rows) ≡ pair_count (frame_rows c)
-stocks-long c rows =
+-- there is a stock for each pair
+pub stocks_long : (c : CaseRows) (rows : List StockRow) → length (stocks_in_order c rows) ≡ pair_count (frame_rows c)
+stocks_long c rows =
     length-map (rows_in_order (stock_place (length c.sites)) no_stock (pair_count (frame_rows c)) rows) (λ (r : StockRow). r.stock)
     ∙ length-map-range_with_len (λ i. unwrap_or (row_at (stock_place (length c.sites)) rows i) no_stock) 0 (pair_count (frame_rows c))
 
 -- one more pair of a sum
-pub cost-more : (cost : ℕ → ℕ) (i : ℕ) → sum (map cost (range_with_len 0 (i + 1))) ≡ sum (map cost (range_with_len 0 i)) + cost i
-cost-more cost i = sum_by-map-range_with_len_more (λ x. x) cost 0 i i (omega arith)
+pub cost_more : (cost : ℕ → ℕ) (i : ℕ) → sum (map cost (range_with_len 0 (i + 1))) ≡ sum (map cost (range_with_len 0 i)) + cost i
+cost_more cost i = sum_by-map-range_with_len_more (λ x. x) cost 0 i i (omega arith)
 
-pub cost-step : (c : CaseRows) (s : StockList) (i cost stock each : ℕ)
+-- the cost so far and that of the stock at the next place are the cost of one place more
+pub cost_step : (c : CaseRows) (s : StockList) (i cost stock each : ℕ)
     → cost ≡ sum (map (λ i. get_or s.list i 0 * (part_at c.parts (i / s.sites)).cost) (range_with_len 0 i))
     → stock ≡ get_or s.list i 0 → each ≡ (part_at c.parts (i / s.sites)).cost
     → cost + stock * each ≡ sum (map (λ i. get_or s.list i 0 * (part_at c.parts (i / s.sites)).cost) (range_with_len 0 (i + 1)))
-cost-step c s i cost stock each before e f =
-    sym (cost-more (λ i. get_or s.list i 0 * (part_at c.parts (i / s.sites)).cost) i ∙ rw (← before, ← e, ← f) refl)
+cost_step c s i cost stock each before e f =
+    sym (cost_more (λ i. get_or s.list i 0 * (part_at c.parts (i / s.sites)).cost) i ∙ rw (← before, ← e, ← f) refl)
 
-pub cost-bound : (i cost stock each : ℕ) → cost ≤ i * 25500000000 → stock < 256 → each ≤ 100000000 → cost + stock * each ≤ (i + 1) * 25500000000
-cost-bound i cost stock each before few cheap =
+-- the cost of stocks below 256 at costs of at most 10^8 stays below 255 times that for each place
+pub cost_bound : (i cost stock each : ℕ) → cost ≤ i * 25500000000 → stock < 256 → each ≤ 100000000 → cost + stock * each ≤ (i + 1) * 25500000000
+cost_bound i cost stock each before few cheap =
     let most : stock * each ≤ 255 * 100000000 = mul-le-mul {n₁ = stock} {m₁ = each} {n₂ = 255} {m₂ = 100000000} (omega arith) cheap in
     omega (arith, before, most)

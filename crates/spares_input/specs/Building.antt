@@ -29,7 +29,8 @@ site_rule site is_known has_depot row =
     else None
 
 -- rows that break no rule, with their names at their places, and the place of the depot
-pub record IsNumbered (sites : List SiteRow) (parts : List PartRow) (sites_by_name parts_by_name : List (List ℕ)) (depot : ℕ) : Type 0 where
+pub record IsNumbered (sites : List SiteRow) (parts : List PartRow) (sites_by_name parts_by_name : List (List ℕ))
+    (depot : ℕ) : Type 0 where
   pub no_fault : frame_fault sites parts ≡ None
   pub sites_named : sites_by_name ≡ site_names sites
   pub parts_named : parts_by_name ≡ part_names parts
@@ -54,8 +55,10 @@ IsPairOf sites parts part site = (part.0 < parts) × (site.0 < sites)
 abbrev pub vacant : {A E : Type 0} → (ℕ → E) → List (Option A) → ℕ → Option E
 vacant fault slots i = if is_some (option_flatten (slice_get slots i)) then None else Some (fault i)
 
+-- the fault of a place without a row of rates, where there are n sites
 abbrev pub missing_rate_at : ℕ → ℕ → CaseFault
 missing_rate_at n i = fault.MissingRate (part_of_place n i) (site_of_place n i)
 
+-- the fault of a place without a row of stocks, where there are n sites
 abbrev pub missing_stock_at : ℕ → ℕ → StockFault
 missing_stock_at n i = stock_fault.Missing (part_of_place n i) (site_of_place n i)

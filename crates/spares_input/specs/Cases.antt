@@ -17,9 +17,11 @@ pub record CaseRows : Type 0 where
   pub parts : List PartRow
   pub rates : List RateRow
 
+-- the sites and parts of a case
 abbrev pub frame_rows : CaseRows → FrameRows
 frame_rows c = record { sites = c.sites; parts = c.parts }
 
+-- the rates of part p at site k
 abbrev pub rate_at : CaseRows → ℕ → ℕ → RateRow
 rate_at c p k = get_or c.rates (pair_place (length c.sites) p k) no_rate
 
@@ -34,7 +36,8 @@ pair_count f = length f.parts * length f.sites
 -- row k of the rates has the pair of an earlier row; in its file this is row k + 2
 abbrev pub double_rate : ℕ → List RateRow → ℕ → Option CaseFault
 double_rate n rates k =
-    if has_row (rate_place n) (take k rates) (rate_place n (get_or rates k no_rate)) then Some (fault.DoubleRate (k + 2))
+    if has_row (rate_place n) (take k rates) (rate_place n (get_or rates k no_rate))
+    then Some (fault.DoubleRate (k + 2))
     else None
 
 -- the pair at a place has no row
@@ -68,7 +71,8 @@ pub record IsRateOf (f : FrameRows) (r : RateRow) : Type 0 where
 pub record IsCase (c : CaseRows) : Type 0 where
   pub frame : IsFrame (frame_rows c)
   pub rate_count : length c.rates ≡ pair_count (frame_rows c)
-  pub pairs : (p k : ℕ) → p < length c.parts → k < length c.sites → ((rate_at c p k).part.0 ≡ p) × ((rate_at c p k).site.0 ≡ k)
+  pub pairs : (p k : ℕ) → p < length c.parts → k < length c.sites → ((rate_at c p k).part.0 ≡ p)
+      × ((rate_at c p k).site.0 ≡ k)
   pub rate_rows : All (IsRateOf (frame_rows c)) c.rates
 
 -- an answer without the frame that a refusal hands back

@@ -1,6 +1,7 @@
 -- The first of several faults.
 use Rattle.std.specs.Prelude.{ℕ, zero, suc, List, [], ◌∷◌, Option, Some, None, Result, Ok, Err}
 
+-- the first where it is found, else the second
 abbrev pub or_else : {A : Type 0} → Option A → Option A → Option A
 or_else None next = next
 or_else (Some x) next = Some x

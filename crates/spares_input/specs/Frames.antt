@@ -14,18 +14,23 @@ pub record FrameRows : Type 0 where
   pub sites : List SiteRow
   pub parts : List PartRow
 
+-- row k of the sites
 abbrev pub site_at : List SiteRow → ℕ → SiteRow
 site_at sites k = get_or sites k no_site
 
+-- row p of the parts
 abbrev pub part_at : List PartRow → ℕ → PartRow
 part_at parts p = get_or parts p no_part
 
+-- the names of the sites, in their order
 abbrev pub site_names : List SiteRow → List (List ℕ)
 site_names = map (λ r. r.name)
 
+-- the names of the parts, in their order
 abbrev pub part_names : List PartRow → List (List ℕ)
 part_names = map (λ r. r.name)
 
+-- a name is one of these
 abbrev pub is_among : List ℕ → List (List ℕ) → Bool
 is_among name names = list_any (bytes_eq name) names
 
@@ -41,9 +46,11 @@ line_of parts p = option_and_then (λ name. place_of name (part_names parts)) (p
 abbrev pub is_shop_of : PartRow → PartRow → Bool
 is_shop_of line r = option_map_or (bytes_eq line.name) r.parent false
 
+-- the site is the depot
 abbrev pub is_depot : SiteRow → Bool
 is_depot r = r.depot
 
+-- the site is a base
 abbrev pub is_base : SiteRow → Bool
 is_base r = not r.depot
 

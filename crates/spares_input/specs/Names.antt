@@ -8,6 +8,7 @@ use Rattle.spares_input.specs.declared.name.Name.TheInside.{Inside}
 abbrev pub name_byte : ℕ → Bool
 name_byte b = nat_le 0x20 b && nat_le b 0x7E && not (b == 0x2C) && not (b == 0x22)
 
+-- a name has 1 to 24 bytes
 abbrev pub has_length : List ℕ → Bool
 has_length bytes = nat_le 1 (length bytes) && nat_le (length bytes) 24
 
@@ -30,12 +31,14 @@ pub record IsKept (n : Inside) : Type 0 where
   pub room : length n.bytes ≡ 24
   pub padded : n.bytes ≡ take n.len n.bytes ++ replicate (24 - n.len) 0
 
+-- how these bytes are kept: with zeros up to 24
 abbrev pub kept : List ℕ → Inside
 kept bytes = record { bytes = bytes ++ replicate (24 - length bytes) 0; len = length bytes }
 
 -- the bytes of a name tell how it is kept
-pub kept-bytes_of : (a : Inside) → IsKept a → kept (bytes_of a) ≡ a
-kept-bytes_of a h =
+pub kept_bytes_of : (a : Inside) → IsKept a → kept (bytes_of a) ≡ a
+kept_bytes_of a h =
     let len : length (take a.len a.bytes) ≡ a.len = length-take-le a.len a.bytes (omega (arith, h.few, h.room)) in
-    let bytes : take a.len a.bytes ++ replicate (24 - length (take a.len a.bytes)) 0 ≡ a.bytes = rw len (sym h.padded) in
+    let bytes : take a.len a.bytes ++ replicate (24 - length (take a.len a.bytes)) 0 ≡ a.bytes =
+    rw len (sym h.padded) in
     λ i. record { bytes = bytes i; len = len i }

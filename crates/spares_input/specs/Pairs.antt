@@ -12,6 +12,7 @@ pair_place n p k = p * n + k
 abbrev pub part_of_place : ℕ → ℕ → PartId
 part_of_place n i = record { 0 = i / n }
 
+-- the site of the pair at place i
 abbrev pub site_of_place : ℕ → ℕ → SiteId
 site_of_place n i = record { 0 = i % n }
 

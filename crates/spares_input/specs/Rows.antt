@@ -43,11 +43,21 @@ pub record IsRateRow (line depot : Bool) (r : RateRow) : Type 0 where
 abbrev pub no_site : SiteRow
 no_site = record { name = []; depot = false; systems = 0; ship = 0 }
 
+-- what a look-up past the last part answers: nothing named, with zeros
 abbrev pub no_part : PartRow
 no_part = record { name = []; parent = None; cost = 0; per_system = 0; max_depot = 0; max_base = 0; weight = 0 }
 
+-- what a look-up past the last row of rates answers: zeros
 abbrev pub no_rate : RateRow
-no_rate = record { part = record { 0 = 0 }; site = record { 0 = 0 }; demand = 0; repair_here = 0; share = 0; repair_days = 0 }
+no_rate = record {
+  part = record { 0 = 0 };
+  site = record { 0 = 0 };
+  demand = 0;
+  repair_here = 0;
+  share = 0;
+  repair_days = 0;
+}
 
+-- what a look-up past the last row of stocks answers: zeros
 abbrev pub no_stock : StockRow
 no_stock = record { part = record { 0 = 0 }; site = record { 0 = 0 }; stock = 0 }

@@ -16,6 +16,7 @@ pub record StockList : Type 0 where
   pub sites : ℕ
   pub list : List ℕ
 
+-- the stock of part p at site k
 abbrev pub stock_at : StockList → ℕ → ℕ → ℕ
 stock_at s p k = get_or s.list (pair_place s.sites p k) 0
 
@@ -23,6 +24,7 @@ stock_at s p k = get_or s.list (pair_place s.sites p k) 0
 abbrev pub limit_at : List PartRow → ℕ → ℕ → ℕ
 limit_at parts p k = if k == 0 then (part_at parts p).max_depot else (part_at parts p).max_base
 
+-- the place of the pair of a row of stocks, where there are n sites
 abbrev pub stock_place : ℕ → StockRow → ℕ
 stock_place n r = pair_place n r.part.0 r.site.0
 
@@ -31,7 +33,8 @@ abbrev pub stock_fault : CaseRows → List StockRow → ℕ → Option StockFaul
 stock_fault c rows k =
     let r = get_or rows k no_stock in
     if nat_lt (limit_at c.parts r.part.0 r.site.0) r.stock then Some (fault.OverLimit (k + 2))
-    else if has_row (stock_place (length c.sites)) (take k rows) (stock_place (length c.sites) r) then Some (fault.Double (k + 2))
+    else if has_row (stock_place (length c.sites)) (take k rows) (stock_place (length c.sites) r)
+    then Some (fault.Double (k + 2))
     else None
 
 -- the pair at a place has no row
@@ -83,4 +86,5 @@ IsWithinLimits c s = (p k : ℕ) → p < length c.parts → k < length c.sites �
 
 -- the sum over all pairs of stock times cost of the part
 abbrev pub cost_of : CaseRows → StockList → ℕ
-cost_of c s = sum (map (λ i. get_or s.list i 0 * (part_at c.parts (i / s.sites)).cost) (range_with_len 0 (length s.list)))
+cost_of c s = sum (map (λ i. get_or s.list i 0 * (part_at c.parts (i / s.sites)).cost)
+    (range_with_len 0 (length s.list)))

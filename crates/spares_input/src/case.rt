@@ -105,7 +105,8 @@ impl Case {
     pub fn parent(&self, part: PartId) -> Option<PartId>
         requires { part.0 < length self.now.parts }
         ensures line { option_map (λ p. p.0) result ≡ line_of self.now.parts part.0 }
-        ensures row { IfSome result (λ p. (p.0 < length self.now.parts) × (is_line (part_at self.now.parts p.0) ≡ true)) }
+        ensures row { IfSome result (λ p. (p.0 < length self.now.parts)
+            × (is_line (part_at self.now.parts p.0) ≡ true)) }
         ensures none { is_none result ≡ is_line (part_at self.now.parts part.0) }
     {
         self.frame.parent(part)
@@ -162,7 +163,7 @@ impl Case {
     }
 }
 
-// The row of each pair in the order of pairs, where the rows break no rule.
+/// The row of each pair in the order of pairs, where the rows break no rule.
 fn rates_by_pair(
     alloc: Global,
     rows: &[RateRow],
@@ -180,7 +181,7 @@ fn rates_by_pair(
     rows_of_places(alloc, places.as_slice(), sites)
 }
 
-// The row of each pair at its place, where no two rows have one pair.
+/// The row of each pair at its place, where no two rows have one pair.
 fn place_rows(
     alloc: Global,
     rows: &[RateRow],
@@ -205,7 +206,7 @@ fn place_rows(
     Ok(places)
 }
 
-// The rows of all places, or the first place without one.
+/// The rows of all places, or the first place without one.
 fn rows_of_places(
     alloc: Global,
     places: &[Option<RateRow>],

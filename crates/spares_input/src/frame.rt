@@ -117,7 +117,8 @@ impl Frame {
     pub fn parent(&self, part: PartId) -> Option<PartId>
         requires { part.0 < length self.now.parts }
         ensures line { option_map (λ p. p.0) result ≡ line_of self.now.parts part.0 }
-        ensures row { IfSome result (λ p. (p.0 < length self.now.parts) × (is_line (part_at self.now.parts p.0) ≡ true)) }
+        ensures row { IfSome result (λ p. (p.0 < length self.now.parts)
+            × (is_line (part_at self.now.parts p.0) ≡ true)) }
         ensures none { is_none result ≡ is_line (part_at self.now.parts part.0) }
     {
         self.parents[part.0 as usize]
@@ -162,7 +163,8 @@ impl Frame {
     /// The part of this name. None exactly where no row has it.
     pub fn find_part(&self, name: &Name) -> Option<PartId>
         ensures place { option_map (λ p. p.0) result ≡ place_of name.now (part_names self.now.parts) }
-        ensures row { IfSome result (λ p. (p.0 < length self.now.parts) × ((part_at self.now.parts p.0).name ≡ name.now)) }
+        ensures row { IfSome result (λ p. (p.0 < length self.now.parts)
+            × ((part_at self.now.parts p.0).name ≡ name.now)) }
     {
         match self.part_index.get_index_of(name) {
             Some(place) => Some(PartId(place as u16)),
@@ -173,7 +175,8 @@ impl Frame {
     /// The site of this name. None exactly where no row has it.
     pub fn find_site(&self, name: &Name) -> Option<SiteId>
         ensures place { option_map (λ s. s.0) result ≡ place_of name.now (site_names self.now.sites) }
-        ensures row { IfSome result (λ s. (s.0 < length self.now.sites) × ((site_at self.now.sites s.0).name ≡ name.now)) }
+        ensures row { IfSome result (λ s. (s.0 < length self.now.sites)
+            × ((site_at self.now.sites s.0).name ≡ name.now)) }
     {
         match self.site_index.get_index_of(name) {
             Some(place) => Some(SiteId(place as u8)),
@@ -182,7 +185,7 @@ impl Frame {
     }
 }
 
-// The names of sites and of parts, each at its row's place, and the depot's place, where no rule is broken.
+/// The names of sites and of parts, each at its row's place, and the depot's place, where no rule is broken.
 fn number_rows(
     alloc: Global,
     sites: &[SiteRow],
@@ -206,7 +209,7 @@ fn number_rows(
     Ok((site_names, part_names, depot))
 }
 
-// The names of the sites, each at its row's place, where no row repeats a name or is a second depot.
+/// The names of the sites, each at its row's place, where no row repeats a name or is a second depot.
 fn number_sites(alloc: Global, sites: &[SiteRow]) -> Result<IndexSet<Name>, Stop<CaseFault>>
     requires { length sites.now ≤ 16 }
     ensures fault { StopsAt (first (site_fault sites.now) (length sites.now)) result }
@@ -225,7 +228,7 @@ fn number_sites(alloc: Global, sites: &[SiteRow]) -> Result<IndexSet<Name>, Stop
     Ok(names)
 }
 
-// Adds a name, and says whether it is a new one.
+/// Adds a name, and says whether it is a new one.
 fn add_name(names: &mut IndexSet<Name>, name: Name) -> Result<bool, NoMemory>
     ensures fresh { IfOk result (λ fresh. fresh ≡ not (is_among name names.old.keys)) }
     ensures added { IfOk result (λ fresh. fresh ≡ true → names.new.keys ≡ names.old.keys ++ name ∷ []) }
@@ -236,7 +239,7 @@ fn add_name(names: &mut IndexSet<Name>, name: Name) -> Result<bool, NoMemory>
     }
 }
 
-// The rule that a row of sites breaks.
+/// The rule that a row of sites breaks.
 fn site_fault(site: &SiteRow, is_known: bool, has_depot: bool, row: u32) -> Option<CaseFault>
     ensures { result ≡ site_rule site.now is_known has_depot row }
 {
@@ -249,7 +252,7 @@ fn site_fault(site: &SiteRow, is_known: bool, has_depot: bool, row: u32) -> Opti
     None
 }
 
-// The place of the depot, where there are a depot and a base.
+/// The place of the depot, where there are a depot and a base.
 fn depot_place(sites: &[SiteRow]) -> Result<usize, CaseFault>
     ensures { MatchResult result
         (λ d. (kinds_fault sites.now ≡ None) × (position is_depot sites.now ≡ Some d))
@@ -264,21 +267,21 @@ fn depot_place(sites: &[SiteRow]) -> Result<usize, CaseFault>
     Ok(depot)
 }
 
-// The place of the first depot.
+/// The place of the first depot.
 fn first_depot(sites: &[SiteRow]) -> Option<usize>
     ensures { result ≡ position is_depot sites.now }
 {
     sites.iter().position(|site| site.depot)
 }
 
-// Whether one of the sites is a base.
+/// Whether one of the sites is a base.
 fn has_base(sites: &[SiteRow]) -> bool
     ensures { result ≡ list_any is_base sites.now }
 {
     sites.iter().any(|site| !site.depot)
 }
 
-// Puts one row before all others.
+/// Puts one row before all others.
 fn put_first(sites: &mut Vec<SiteRow>, place: usize) -> Result<(), NoMemory>
     requires { place < vec_len sites.old }
     ensures { OnOk result (sites.new.items ≡ move_index sites.old.items place 0) }
@@ -288,7 +291,7 @@ fn put_first(sites: &mut Vec<SiteRow>, place: usize) -> Result<(), NoMemory>
     Ok(())
 }
 
-// The names of the parts, each at its row's place, where no row repeats one.
+/// The names of the parts, each at its row's place, where no row repeats one.
 fn number_parts(alloc: Global, parts: &[PartRow]) -> Result<IndexSet<Name>, Stop<CaseFault>>
     requires { length parts.now ≤ 2000 }
     ensures fault { StopsAt (first (double_part parts.now) (length parts.now)) result }
@@ -305,7 +308,7 @@ fn number_parts(alloc: Global, parts: &[PartRow]) -> Result<IndexSet<Name>, Stop
     Ok(names)
 }
 
-// The place of the line unit of each shop unit.
+/// The place of the line unit of each shop unit.
 fn parents_of(
     alloc: Global,
     names: &IndexSet<Name>,
@@ -322,16 +325,17 @@ fn parents_of(
     Ok(parents)
 }
 
-// The place of the part whose name is the parent of this one.
+/// The place of the part whose name is the parent of this one.
 fn parent_of(names: &IndexSet<Name>, part: &PartRow) -> Option<PartId>
     requires { length names.now.keys ≤ 2000 }
-    ensures { option_map (λ line. line.0) result ≡ option_and_then (λ name. place_of name names.now.keys) part.now.parent }
+    ensures { option_map (λ line. line.0) result ≡ option_and_then
+        (λ name. place_of name names.now.keys) part.now.parent }
 {
     let place = names.get_index_of(&part.parent?)?;
     Some(PartId(place as u16))
 }
 
-// The first rule that a row breaks by its parent.
+/// The first rule that a row breaks by its parent.
 fn parents_fault(names: &IndexSet<Name>, parts: &[PartRow]) -> Option<CaseFault>
     requires few { length parts.now ≤ 2000 }
     requires numbered { names.now.keys ≡ part_names parts.now }
@@ -345,7 +349,7 @@ fn parents_fault(names: &IndexSet<Name>, parts: &[PartRow]) -> Option<CaseFault>
     None
 }
 
-// The rule that row k breaks by its parent.
+/// The rule that row k breaks by its parent.
 fn parent_fault(names: &IndexSet<Name>, parts: &[PartRow], k: usize) -> Option<CaseFault>
     requires few { length parts.now ≤ 2000 }
     requires within { k < length parts.now }
@@ -359,7 +363,7 @@ fn parent_fault(names: &IndexSet<Name>, parts: &[PartRow], k: usize) -> Option<C
     }
 }
 
-// The rule that row k breaks as a shop unit, whose parent has this place or is none of the parts.
+/// The rule that row k breaks as a shop unit, whose parent has this place or is none of the parts.
 fn shop_fault(parts: &[PartRow], k: usize, line: Option<usize>) -> Option<CaseFault>
     requires few { length parts.now ≤ 2000 }
     requires within { k < length parts.now }
@@ -380,14 +384,14 @@ fn shop_fault(parts: &[PartRow], k: usize, line: Option<usize>) -> Option<CaseFa
     None
 }
 
-// How many of these rows are shop units of this line unit.
+/// How many of these rows are shop units of this line unit.
 fn count_shop_units(line: &PartRow, parts: &[PartRow]) -> usize
     ensures { result ≡ count_by (is_shop_of line.now) parts.now }
 {
     parts.iter().filter(|part| is_shop_of(line, part)).count()
 }
 
-// Whether a row is a shop unit of this line unit.
+/// Whether a row is a shop unit of this line unit.
 fn is_shop_of(line: &PartRow, part: &PartRow) -> bool
     ensures { result ≡ is_shop_of line.now part.now }
 {

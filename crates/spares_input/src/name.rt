@@ -25,7 +25,7 @@ impl Model for Name {
 
     ghost Value = { List ℕ };
 
-    ghost use Rattle.spares_input.specs.Names.{bytes_of, kept, kept-bytes_of, IsKept};
+    ghost use Rattle.spares_input.specs.Names.{bytes_of, kept, kept_bytes_of, IsKept};
 
     ghost view = { bytes_of };
 
@@ -33,7 +33,7 @@ impl Model for Name {
 
     ghost inverse = { kept };
 
-    ghost inverse_ok = { kept-bytes_of };
+    ghost inverse_ok = { kept_bytes_of };
 }
 
 impl Name {
@@ -59,7 +59,7 @@ impl Name {
     }
 }
 
-// At most 24 bytes, and then zeros.
+/// At most 24 bytes, and then zeros.
 fn padded(bytes: &[u8]) -> [u8; 24]
     requires { length bytes.now ≤ 24 }
     ensures { result ≡ bytes.now ++ replicate (24 - length bytes.now) 0 }
@@ -69,13 +69,14 @@ fn padded(bytes: &[u8]) -> [u8; 24]
     padded
 }
 
+/// The room of a name, empty.
 fn zeros() -> [u8; 24]
     ensures { result ≡ replicate 24 0 }
 {
     [0; 24]
 }
 
-// Whether these bytes are a name.
+/// Whether these bytes are a name.
 #[tactic(auto, unfolding(crate::specs::Names::is_name))]
 fn is_name(bytes: &[u8]) -> bool
     ensures { result ≡ is_name bytes.now }
@@ -83,14 +84,14 @@ fn is_name(bytes: &[u8]) -> bool
     has_length(bytes) && is_trimmed(bytes) && has_name_bytes(bytes)
 }
 
-// Whether there are 1 to 24 bytes.
+/// Whether there are 1 to 24 bytes.
 fn has_length(bytes: &[u8]) -> bool
     ensures { result ≡ has_length bytes.now }
 {
     1 <= bytes.len() && bytes.len() <= 24
 }
 
-// Whether no space is at either end.
+/// Whether no space is at either end.
 fn is_trimmed(bytes: &[u8]) -> bool
     requires { IsTrue (has_length bytes.now) }
     ensures { result ≡ is_trimmed bytes.now }
@@ -98,14 +99,14 @@ fn is_trimmed(bytes: &[u8]) -> bool
     bytes[0] != b' ' && bytes[bytes.len() - 1] != b' '
 }
 
-// Whether a name may have each of these bytes.
+/// Whether a name may have each of these bytes.
 fn has_name_bytes(bytes: &[u8]) -> bool
     ensures { result ≡ list_all name_byte bytes.now }
 {
     bytes.iter().all(|b| is_name_byte(*b))
 }
 
-// Whether a name may have this byte.
+/// Whether a name may have this byte.
 fn is_name_byte(b: u8) -> bool
     ensures { result ≡ name_byte b }
 {

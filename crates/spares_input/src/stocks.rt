@@ -65,7 +65,10 @@ impl Stocks {
     /// Sets the stock of a part at a site, and no other.
     pub fn set(&mut self, part: PartId, site: SiteId, stock: u8)
         requires { HasPair self.old part.0 site.0 }
-        ensures { self.new ≡ record self.old { list = slice_set self.old.list (pair_place self.old.sites part.0 site.0) stock } }
+        ensures { self.new ≡ record self.old {
+          list = slice_set self.old.list
+              (pair_place self.old.sites part.0 site.0) stock;
+        } }
     {
         let place = place_in(self.sites, part, site);
         self.list[place] = stock;
@@ -80,7 +83,7 @@ impl Stocks {
     }
 }
 
-// The sum over all pairs of stock times cost of the part.
+/// The sum over all pairs of stock times cost of the part.
 fn cost_of(list: &[u8], sites: usize, case: &Case) -> u64
     requires { IsFor case.now (record { sites = sites; list = list.now }) }
     ensures { result ≡ cost_of case.now (record { sites = sites; list = list.now }) }
@@ -94,7 +97,7 @@ fn cost_of(list: &[u8], sites: usize, case: &Case) -> u64
     cost
 }
 
-// The place of a pair, where there are so many sites.
+/// The place of a pair, where there are so many sites.
 fn place_in(sites: u8, part: PartId, site: SiteId) -> usize
     ensures { result ≡ pair_place sites part.0 site.0 }
 {
@@ -120,7 +123,7 @@ pub fn stocks_from(
     }
 }
 
-// The stock of each pair in the order of pairs, where the rows break no rule.
+/// The stock of each pair in the order of pairs, where the rows break no rule.
 fn stocks_by_pair(
     alloc: Global,
     case: &Case,
@@ -135,7 +138,7 @@ fn stocks_by_pair(
     stocks_of_places(alloc, places.as_slice(), sites)
 }
 
-// The row of each pair at its place, where no row is over its limit and no two have one pair.
+/// The row of each pair at its place, where no row is over its limit and no two have one pair.
 fn place_rows(
     alloc: Global,
     case: &Case,
@@ -143,7 +146,8 @@ fn place_rows(
 ) -> Result<Vec<Option<StockRow>>, Stop<StockFault>>
     requires { All (IsStockOf (frame_rows case.now)) rows.now }
     ensures fault { StopsAt (first (stock_fault case.now rows.now) (length rows.now)) result }
-    ensures placed { IfOk result (λ v. ArePlaced (stock_place (length case.now.sites)) (length case.now.parts * length case.now.sites) rows.now v.items) }
+    ensures placed { IfOk result (λ v. ArePlaced (stock_place (length case.now.sites))
+        (length case.now.parts * length case.now.sites) rows.now v.items) }
 {
     let sites = case.site_count() as usize;
     let parts = case.part_count() as usize;
@@ -162,7 +166,7 @@ fn place_rows(
     Ok(places)
 }
 
-// The stocks of all places, or the first place without a row.
+/// The stocks of all places, or the first place without a row.
 fn stocks_of_places(
     alloc: Global,
     places: &[Option<StockRow>],

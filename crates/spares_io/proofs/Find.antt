@@ -24,9 +24,9 @@ pub record IsPlace (name : List ℕ) (files : List Entry) (place : ℕ) : Type 0
 abbrev pub IsAbsent : List ℕ → List Entry → Type 0
 IsAbsent name files = (k : ℕ) (d : Entry) → k < length files → bytes_eq name (get_or files k d).0 ≡ false
 
-pub IsPlace-position : (name : List ℕ) (files : List Entry) (place : ℕ)
+pub IsPlace_position : (name : List ℕ) (files : List Entry) (place : ℕ)
     → position (λ file. bytes_eq name file.0) files ≡ Some place → IsPlace name files place
-IsPlace-position name files place e = record {
+IsPlace_position name files place e = record {
   below = (position-Some (λ (file : Entry). bytes_eq name file.0) files place ([], []) e).0;
   here = λ d. (position-Some (λ (file : Entry). bytes_eq name file.0) files place d e).1;
   before = λ k d under. (position-Some (λ (file : Entry). bytes_eq name file.0) files place d e).2 k under;
@@ -35,9 +35,9 @@ IsPlace-position name files place e = record {
 all_before : (n m : ℕ) → cond (nat_lt n m) (Some n) None ≡ None → m ≤ n
 all_before n m e = grind arith
 
-pub IsAbsent-position : (name : List ℕ) (files : List Entry)
+pub IsAbsent_position : (name : List ℕ) (files : List Entry)
     → position (λ file. bytes_eq name file.0) files ≡ None → IsAbsent name files
-IsAbsent-position name files e k d below =
+IsAbsent_position name files e k d below =
     fails_before_first (λ (file : Entry). bytes_eq name file.0) files k d (omega (arith, below, all_before _ _ e))
 
 next_place : (name : List ℕ) (file : Entry) (files : List Entry) (place : ℕ) → IsPlace name (file ∷ files) (suc place) → IsPlace name files place
@@ -64,15 +64,16 @@ find_absent name (file ∷ files) absent =
     ∙ find_absent name files (λ k d below. absent (suc k) d (omega (arith, below)))
 
 -- the map holds what the first file of the name holds, and nothing where there is none
-pub file_of-place : (name : List ℕ) (files : List Entry) (place : ℕ) (d : Entry)
+pub file_of_place : (name : List ℕ) (files : List Entry) (place : ℕ) (d : Entry)
     → position (λ file. bytes_eq name file.0) files ≡ Some place → file_of (files_of files) name ≡ Some (get_or files place d).1
-file_of-place name files place d e =
-    get-from_entries nat_list_cmp_total files name ∙ find_at name files place d (IsPlace-position name files place e)
+file_of_place name files place d e =
+    get-from_entries nat_list_cmp_total files name ∙ find_at name files place d (IsPlace_position name files place e)
 
-pub file_of-absent : (name : List ℕ) (files : List Entry)
+-- a name that no file has holds nothing
+pub file_of_absent : (name : List ℕ) (files : List Entry)
     → position (λ file. bytes_eq name file.0) files ≡ None → file_of (files_of files) name ≡ None
-file_of-absent name files e =
-    get-from_entries nat_list_cmp_total files name ∙ find_absent name files (IsAbsent-position name files e)
+file_of_absent name files e =
+    get-from_entries nat_list_cmp_total files name ∙ find_absent name files (IsAbsent_position name files e)
 
 covered : {A : Type 0} (b : Bool) (x y z : A) → cond b x z ≡ cond b x (cond b y z)
 covered true x y z = refl
@@ -111,11 +112,11 @@ names_tie : IsAntisymmetric (slice_cmp nat_cmp)
 names_tie = slice_cmp-IsAntisymmetric nat_cmp-IsAntisymmetric
 
 -- to put new bytes at the place of a name is to insert them
-pub files_of-set : (name bytes : List ℕ) (files : List Entry) (place : ℕ) (key : List ℕ)
+pub files_of_set : (name bytes : List ℕ) (files : List Entry) (place : ℕ) (key : List ℕ)
     → position (λ file. bytes_eq name file.0) files ≡ Some place → (d : Entry) → key ≡ (get_or files place d).0
     → files_of (set files place (key, bytes)) ≡ with_file (files_of files) name bytes
-files_of-set name bytes files place key e d is =
-    let p = IsPlace-position name files place e in
+files_of_set name bytes files place key e d is =
+    let p = IsPlace_position name files place e in
     ap (λ k. files_of (set files place (k, bytes))) (is ∙ sym (same_name name _ (p.here d)))
     ∙ same_map nat_list_cmp_total names_tie _ _ (λ query.
     get-from_entries nat_list_cmp_total _ query
@@ -128,11 +129,11 @@ pub files_of_push : (name bytes : List ℕ) (files : List Entry)
     → position (λ file. bytes_eq name file.0) files ≡ None
     → files_of (files ++ (name, bytes) ∷ []) ≡ with_file (files_of files) name bytes
 files_of_push name bytes files e =
-    from_entries_push nat_list_cmp_total names_tie files name bytes (find_absent name files (IsAbsent-position name files e))
+    from_entries_push nat_list_cmp_total names_tie files name bytes (find_absent name files (IsAbsent_position name files e))
 
 -- what a name holds is gone with the name
-pub remove-insert : (files : Files) (name bytes : List ℕ) → remove (with_file files name bytes) name ≡ remove files name
-remove-insert files name bytes =
+pub remove_insert : (files : Files) (name bytes : List ℕ) → remove (with_file files name bytes) name ≡ remove files name
+remove_insert files name bytes =
     same_map nat_list_cmp_total names_tie _ _ (λ query.
     get-remove nat_list_cmp_total (with_file files name bytes) name query
     ∙ ap (cond (eq_by_cmp (slice_cmp nat_cmp) query name) None) (get-insert nat_list_cmp_total files name bytes query)
@@ -140,10 +141,10 @@ remove-insert files name bytes =
     ∙ sym (get-remove nat_list_cmp_total files name query))
 
 -- a list from some place on is distinct where its first name stands nowhere later, and the rest is distinct
-pub are_distinct-drop : (files : List Entry) (place : ℕ) (d : Entry) → place < length files
+pub are_distinct_drop : (files : List Entry) (place : ℕ) (d : Entry) → place < length files
     → are_distinct (drop place files)
     ≡ (is_none (position (λ later. bytes_eq (get_or files place d).0 later.0) (drop (place + 1) files)) && are_distinct (drop (place + 1) files))
-are_distinct-drop files place d below = at_drop_more are_distinct files place d below
+are_distinct_drop files place d below = at_drop_more are_distinct files place d below
 
 met : (found : Option ℕ) (rest : Bool) → is_some found ≡ true → (is_none found && rest) ≡ false
 met None rest e = absurd (true≢false (sym e))
@@ -153,12 +154,14 @@ unmet : (found : Option ℕ) (rest : Bool) → is_some found ≡ false → (is_n
 unmet None rest e = refl
 unmet (Some place) rest e = absurd (true≢false e)
 
-pub are_distinct-met : (files : List Entry) (place : ℕ) (d : Entry) → place < length files
+-- where the name of a file stands again further on, the names aren't distinct
+pub are_distinct_met : (files : List Entry) (place : ℕ) (d : Entry) → place < length files
     → is_some (position (λ later. bytes_eq (get_or files place d).0 later.0) (drop (place + 1) files)) ≡ true
     → are_distinct (drop place files) ≡ false
-are_distinct-met files place d below e = are_distinct-drop files place d below ∙ met _ _ e
+are_distinct_met files place d below e = are_distinct_drop files place d below ∙ met _ _ e
 
-pub are_distinct-unmet : (files : List Entry) (place : ℕ) (d : Entry) → place < length files
+-- where it doesn't, they are distinct exactly where those further on are
+pub are_distinct_unmet : (files : List Entry) (place : ℕ) (d : Entry) → place < length files
     → is_some (position (λ later. bytes_eq (get_or files place d).0 later.0) (drop (place + 1) files)) ≡ false
     → are_distinct (drop place files) ≡ are_distinct (drop (place + 1) files)
-are_distinct-unmet files place d below e = are_distinct-drop files place d below ∙ unmet _ _ e
+are_distinct_unmet files place d below e = are_distinct_drop files place d below ∙ unmet _ _ e

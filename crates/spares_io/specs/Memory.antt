@@ -25,6 +25,7 @@ are_distinct (file ∷ files) = is_none (position (λ later. bytes_eq file.0 lat
 abbrev pub first_half : List ℕ → List ℕ
 first_half bytes = take (length bytes / 2) bytes
 
+-- the files of a shelf, which of its calls are to fail, and how many calls, failed reads and failed writes it had
 pub record ShelfMemory : Type 0 where
   pub files : Files
   pub fails : List ℕ
@@ -32,9 +33,11 @@ pub record ShelfMemory : Type 0 where
   pub failed_reads : ℕ
   pub failed_writes : ℕ
 
+-- how a shelf is told by lists and numbers alone
 abbrev pub shelf_code : Coded ShelfMemory
 shelf_code = code_by (Files × (List ℕ × (ℕ × (ℕ × ℕ))))
-    (coded× (map.code (coded_list coded_ℕ) (coded_list coded_ℕ)) (coded× (coded_list coded_ℕ) (coded× coded_ℕ (coded× coded_ℕ coded_ℕ))))
+    (coded× (map.code (coded_list coded_ℕ) (coded_list coded_ℕ))
+    (coded× (coded_list coded_ℕ) (coded× coded_ℕ (coded× coded_ℕ coded_ℕ))))
     (λ s. (s.files, (s.fails, (s.calls, (s.failed_reads, s.failed_writes)))))
     (λ p. record { files = p.0; fails = p.1.0; calls = p.1.1.0; failed_reads = p.1.1.1.0; failed_writes = p.1.1.1.1 })
     (λ _. refl)
@@ -64,7 +67,10 @@ Reads (Err error) result into = result ≡ Err error
 -- the shelf after a read: a listed one counts as failed
 abbrev pub after_read : ShelfMemory → ShelfMemory
 after_read shelf =
-    if shelf_fails shelf then record shelf { calls = next_count shelf.calls; failed_reads = next_count shelf.failed_reads } else counted shelf
+    if shelf_fails shelf then record shelf {
+      calls = next_count shelf.calls;
+      failed_reads = next_count shelf.failed_reads;
+    } else counted shelf
 
 -- a write fails exactly where it is listed: then the name holds the first half of the bytes, and the
 -- write counts as failed; without memory it is only numbered
@@ -72,10 +78,14 @@ abbrev pub Writes : ShelfMemory → List ℕ → List ℕ → Result Unit ShelfE
 Writes old name bytes (Ok _) new =
     (shelf_fails old ≡ false) × (new ≡ record (counted old) { files = with_file old.files name bytes })
 Writes old name bytes (Err Failed) new =
-    (shelf_fails old ≡ true) × (new ≡ record (counted old) { files = with_file old.files name (first_half bytes); failed_writes = next_count old.failed_writes })
+    (shelf_fails old ≡ true) × (new ≡ record (counted old) {
+      files = with_file old.files name (first_half bytes);
+      failed_writes = next_count old.failed_writes;
+    })
 Writes old name bytes (Err NoMemory) new = new ≡ counted old
 Writes old name bytes (Err TooLong) new = ⊥
 
+-- what a sink holds and has room for, which of its calls are to fail, and how many calls and faults it had
 pub record SinkMemory : Type 0 where
   pub bytes : List ℕ
   pub room : ℕ

@@ -36,7 +36,7 @@ impl<F: Folder + Drop> FileShelf<F> {
     }
 }
 
-// Want of memory while a file is read is told apart from a read that failed.
+/// Want of memory while a file is read is told apart from a read that failed.
 fn read_error(error: &io::Error) -> ShelfError
     ensures { result ≢ ShelfError.TooLong }
 {
@@ -47,7 +47,7 @@ fn read_error(error: &io::Error) -> ShelfError
     }
 }
 
-// Reads what a file has left, and of a file that is longer than the limit one byte more than that.
+/// Reads what a file has left, and of a file that is longer than the limit one byte more than that.
 fn read_rest<F: Read + Drop>(file: F, limit: usize, into: &mut Vec<u8>) -> Result<(), ShelfError>
     requires empty { into.old.items ≡ [] }
     requires limit { limit < 2 ^ 32 }
@@ -63,7 +63,7 @@ fn read_rest<F: Read + Drop>(file: F, limit: usize, into: &mut Vec<u8>) -> Resul
     }
 }
 
-// Reads the file of that name.
+/// Reads the file of that name.
 fn read_named<F: Folder>(
     folder: &F,
     name: &str,
@@ -86,7 +86,7 @@ fn read_named<F: Folder>(
     answer
 }
 
-// Writes these bytes alone into the file of that name.
+/// Writes these bytes alone into the file of that name.
 fn write_named<F: Folder>(folder: &F, name: &str, bytes: &[u8]) -> Result<(), ShelfError>
     ensures answer { IsOkUnless result ShelfError.Failed }
     ensures content { OnOk result (WritesAll (F.creates folder.now name.now) F.Output.contents bytes.now) }
@@ -95,7 +95,7 @@ fn write_named<F: Folder>(folder: &F, name: &str, bytes: &[u8]) -> Result<(), Sh
     write_and_flush(&mut file, bytes).map_err(|_| ShelfError::Failed)
 }
 
-// Counts an answer that is a failure, and no other.
+/// Counts an answer that is a failure, and no other.
 fn count_failure(faults: &mut u64, answer: Result<(), ShelfError>) -> Result<(), ShelfError>
     ensures answer { result ≡ answer }
     ensures faults { faults.new ≡ (if is_failed answer then next_count faults.old else faults.old) }

@@ -38,14 +38,14 @@ impl Model for MemShelf {
     } };
 }
 
-// Where a name stands in a list of files.
+/// Where a name stands in a list of files.
 fn find_place(files: &[(Text, List<u8>)], name: &str) -> Option<usize>
     ensures { result ≡ position (λ file. bytes_eq name.now file.0) files.now }
 {
     files.iter().position(|(key, _)| name == key.as_str())
 }
 
-// What a name holds in a list of files.
+/// What a name holds in a list of files.
 fn find_file<'a>(files: &'a [(Text, List<u8>)], name: &str) -> Option<&'a [u8]>
     ensures { option_map (λ s. s.now) result ≡ file_of (files_of files.now) name.now }
 {
@@ -53,7 +53,7 @@ fn find_file<'a>(files: &'a [(Text, List<u8>)], name: &str) -> Option<&'a [u8]>
     Some(files[place].1.as_slice())
 }
 
-// Copies what a name holds in a list of files, if it is no longer than the limit.
+/// Copies what a name holds in a list of files, if it is no longer than the limit.
 fn read_file(
     files: &[(Text, List<u8>)],
     name: &str,
@@ -74,7 +74,7 @@ fn read_file(
     Ok(())
 }
 
-// Lets a name hold these bytes in a list of files.
+/// Lets a name hold these bytes in a list of files.
 fn write_file(
     alloc: Global,
     files: &mut Vec<(Text, List<u8>)>,
@@ -167,7 +167,8 @@ impl Shelf for MemShelf {
         ensures nothing { OnErr result (into.new.items ≡ []) }
         ensures too_long { IsErrOf result ShelfError.TooLong → HoldsMore (Some self.old.files) name.now limit }
         ensures failed { IsErrOf result ShelfError.Failed
-            → Rose (count64 self.old.failed_reads) (count64 self.new.failed_reads) ⊎ Lacks (Some self.old.files) name.now }
+            → Rose (count64 self.old.failed_reads) (count64 self.new.failed_reads)
+            ⊎ Lacks (Some self.old.files) name.now }
         ensures reads { (n : prelude.List ℕ) → count64 self.old.failed_reads ≤ count64 self.new.failed_reads }
         ensures still { OnOk result
             ((n : prelude.List ℕ) → count64 self.new.failed_reads ≡ count64 self.old.failed_reads) }

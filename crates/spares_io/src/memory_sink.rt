@@ -63,7 +63,7 @@ impl MemSink {
     }
 }
 
-// How many bytes of a piece a put keeps if they fit: of one that is to fail the first half.
+/// How many bytes of a piece a put keeps if they fit: of one that is to fail the first half.
 fn kept_len(is_listed: bool, len: usize) -> usize
     ensures { result ≡ (if is_listed then len / 2 else len) }
 {

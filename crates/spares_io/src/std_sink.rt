@@ -26,7 +26,7 @@ impl<W: Write + Drop> StdSink<W> {
     }
 }
 
-// Writes these bytes, all of them, and flushes the writer.
+/// Writes these bytes, all of them, and flushes the writer.
 pub(crate) fn write_and_flush<W: Write>(writer: &mut W, bytes: &[u8]) -> io::Result<()>
     ensures { OnOk result (Appends (W.contents writer.old) (W.contents writer.new) bytes.now) }
 {

@@ -205,7 +205,7 @@ fn a_put_fails_where_its_writer_does(rt: HostRuntime) -> Result<(), Fail> {
     Ok(())
 }
 
-// A call whose fault is a number, and one that tells that fault in other words.
+/// A call whose fault is a number, and one that tells that fault in other words.
 fn refuse_odd(number: u8) -> Result<u8, Stop<u8>>
     ensures { IfOk result (λ even. even ≡ number) }
 {

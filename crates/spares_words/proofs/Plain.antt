@@ -45,6 +45,7 @@ pub takes_any_words : TakesAnyWords
 unfolding order_of by_command single_app walk_fault walked defaults_fault
 takes_any_words mean stock = refl
 
+-- `--variance` and its value are taken before, between or after the mean and the stock
 pub takes_option : TakesOptionAnywhere
 unfolding order_of by_command single_app walk_fault walked defaults_fault
 takes_option mean stock variance p q r = record {
@@ -91,6 +92,7 @@ takes_joined mean stock variance p q = record {
   after = rw (no_end mean p, no_long mean p, no_short mean p, no_end stock q, no_long stock q, no_short stock q) refl;
 }
 
+-- one word, three words and an option without its value are refused
 pub refuses : RefusesOtherCounts
 unfolding order_of by_command single_app walk_fault walked defaults_fault
 refuses a b c p q r = record {
@@ -109,6 +111,7 @@ refuses a b c p q r = record {
   no_value = rw (no_end a p, no_long a p, no_short a p, no_end b q, no_long b q, no_short b q) refl;
 }
 
+-- a second variance is refused
 pub refuses_second : RefusesSecondOption
 unfolding order_of by_command single_app walk_fault walked defaults_fault
 refuses_second variance second rest = refl

@@ -33,6 +33,7 @@ pub record TakesOption (mean stock variance : Text) : Type 0 where
   pub after : order_of (single_words (mean ∷ stock ∷ codes "--variance" ∷ variance ∷ []))
       ≡ single_from mean (Some variance) stock
 
+-- `--variance V` is taken at each of these places, where V is a plain word too
 abbrev pub TakesOptionAnywhere : Type 0
 TakesOptionAnywhere = (mean stock variance : Text) → IsPlain mean → IsPlain stock → IsPlain variance
     → TakesOption mean stock variance
@@ -46,6 +47,7 @@ pub record TakesJoined (mean stock variance : Text) : Type 0 where
   pub after : order_of (single_words (mean ∷ stock ∷ (codes "--variance=" ++ variance) ∷ []))
       ≡ single_from mean (Some variance) stock
 
+-- `--variance=V` is taken at each of these places
 abbrev pub TakesJoinedAnywhere : Type 0
 TakesJoinedAnywhere = (mean stock variance : Text) → IsPlain mean → IsPlain stock
     → TakesJoined mean stock variance
@@ -56,6 +58,7 @@ pub record Refuses (a b c : Text) : Type 0 where
   pub three_words : order_of (single_words (a ∷ b ∷ c ∷ [])) ≡ Err Shape
   pub no_value : order_of (single_words (a ∷ b ∷ codes "--variance" ∷ [])) ≡ Err Shape
 
+-- these counts of words are refused, whatever plain words they are
 abbrev pub RefusesOtherCounts : Type 0
 RefusesOtherCounts = (a b c : Text) → IsPlain a → IsPlain b → IsPlain c → Refuses a b c
 

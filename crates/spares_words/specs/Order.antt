@@ -65,6 +65,7 @@ single_from mean_text variance_text stock_text = do
   stock ← whole_of which.Stock 0 63 stock_text
   Ok (Single mean variance stock)
 
+-- the order of `single` by the rows of its words
 abbrev pub single_of : List Row → Result Order WordsFault
 single_of rows =
     single_from (text_of rows (codes "mean")) (first_of (codes "variance") rows) (text_of rows (codes "stock"))
@@ -90,6 +91,7 @@ eval_from names stocks bits_text = do
   bits ← bits_of bits_text
   Ok (Eval names.sites names.parts names.rates stocks bits)
 
+-- the order of `eval` by the rows of its words
 abbrev pub eval_of : List Row → Result Order WordsFault
 eval_of rows = eval_from (names_of rows) (text_of rows (codes "stocks")) (first_of (codes "bits") rows)
 
@@ -130,6 +132,7 @@ plan_terms_from on_hand budget_text format_text objective_text = do
   objective ← objective_from (objective_of objective_text)
   Ok (record { budget = budget; format = format; objective = objective })
 
+-- budget, format and objective of `plan` by the rows of its words
 abbrev pub plan_terms_of : List Row → Result PlanTerms WordsFault
 plan_terms_of rows =
     plan_terms_from (first_of (codes "on-hand") rows) (text_of rows (codes "budget"))
@@ -141,6 +144,7 @@ plan_from names on_hand terms_read certificate = do
   terms ← terms_read
   Ok (Plan names.sites names.parts names.rates on_hand terms.budget terms.format terms.objective certificate)
 
+-- the order of `plan` by the rows of its words
 abbrev pub plan_of : List Row → Result Order WordsFault
 plan_of rows =
     plan_from (names_of rows) (first_of (codes "on-hand") rows) (plan_terms_of rows)
@@ -157,6 +161,7 @@ demo_from number_text lines_text = do
   lines ← whole_of which.Lines 1 80 lines_text
   Ok (Demo number lines)
 
+-- the order of `demo` by the rows of its words
 abbrev pub demo_of : List Row → Result Order WordsFault
 demo_of rows = demo_from (text_of rows (codes "number")) (text_of rows (codes "lines"))
 
@@ -174,6 +179,7 @@ target_from names backorders_text = do
   backorders ← within which.Target 4 0 most_target backorders_text
   Ok (Target names.sites names.parts names.rates backorders)
 
+-- the order of `target` by the rows of its words
 abbrev pub target_of : List Row → Result Order WordsFault
 target_of rows = target_from (names_of rows) (text_of rows (codes "backorders"))
 
@@ -181,6 +187,7 @@ target_of rows = target_from (names_of rows) (text_of rows (codes "backorders"))
 abbrev pub session_of : List Row → Result Order WordsFault
 session_of rows = let names = names_of rows in Ok (Session names.sites names.parts names.rates (text_of rows (codes "edits")))
 
+-- the order of `compare` by the rows of its words
 abbrev pub compare_of : List Row → Result Order WordsFault
 compare_of rows = let names = names_of rows in Ok (Compare names.sites names.parts names.rates (text_of rows (codes "stocks")))
 

@@ -91,6 +91,7 @@ fn bare<'a>(alloc: Global, name: &'a str) -> Command<'a>
         .disable_version_flag(true)
 }
 
+/// The command with one more argument.
 fn with_arg<'a>(command: Command<'a>, arg: Arg<'a>) -> Result<Command<'a>, AllocError>
     requires { arg.global ≡ false }
     ensures { IfOk result (λ c. app_of c ≡ with_rule (app_of command.entry) (rule_of arg.entry)) }

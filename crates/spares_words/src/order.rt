@@ -103,8 +103,8 @@ pub enum Order {
         rates: Text,
         edits: Text,
     },
-    /// `compare --sites F --parts F --rates F --stocks F`: the backorders of a case at given stocks, beside those where each
-    /// pipeline is taken for Poisson.
+    /// `compare --sites F --parts F --rates F --stocks F`: the backorders of a case at given stocks, beside those
+    /// where each pipeline is taken for Poisson.
     Compare {
         sites: Text,
         parts: Text,

@@ -27,6 +27,7 @@ use price_certificate::Objective;
 use spares_io::{Stop, Text};
 use std::alloc::Global;
 
+/// The order of `single`.
 fn single_order(matches: &ArgMatches<'_>) -> Result<Order, WordsFault>
     ensures order { result ≡ single_of (rows_of (found_of matches.now)) }
     ensures range { IfOk result IsInRange }
@@ -41,6 +42,7 @@ fn single_order(matches: &ArgMatches<'_>) -> Result<Order, WordsFault>
     })
 }
 
+/// The order of `eval`.
 fn eval_order(alloc: Global, matches: &ArgMatches<'_>) -> Result<Order, Stop<WordsFault>>
     ensures order { Gives (eval_of (rows_of (found_of matches.now))) result }
     ensures range { IfOk result IsInRange }
@@ -72,6 +74,7 @@ struct PlanTerms {
     objective: Objective,
 }
 
+/// The budget, the format and the objective of a plan.
 fn plan_terms(matches: &ArgMatches<'_>) -> Result<PlanTerms, WordsFault>
     ensures terms { result ≡ plan_terms_of (rows_of (found_of matches.now)) }
     ensures range { IfOk result (AreInRange (first_of (codes "on-hand") (rows_of (found_of matches.now)))) }
@@ -91,6 +94,7 @@ fn plan_terms(matches: &ArgMatches<'_>) -> Result<PlanTerms, WordsFault>
     }
 }
 
+/// The order of `plan`.
 fn plan_order(alloc: Global, matches: &ArgMatches<'_>) -> Result<Order, Stop<WordsFault>>
     ensures order { Gives (plan_of (rows_of (found_of matches.now))) result }
     ensures range { IfOk result IsInRange }
@@ -122,6 +126,7 @@ fn plan_order(alloc: Global, matches: &ArgMatches<'_>) -> Result<Order, Stop<Wor
     })
 }
 
+/// The order of `check`.
 fn check_order(alloc: Global, matches: &ArgMatches<'_>) -> Result<Order, Stop<WordsFault>>
     ensures order { Gives (check_of (rows_of (found_of matches.now))) result }
     ensures range { IfOk result IsInRange }
@@ -130,6 +135,7 @@ fn check_order(alloc: Global, matches: &ArgMatches<'_>) -> Result<Order, Stop<Wo
     Ok(Order::Check { certificate })
 }
 
+/// The order of `demo`.
 fn demo_order(matches: &ArgMatches<'_>) -> Result<Order, WordsFault>
     ensures order { result ≡ demo_of (rows_of (found_of matches.now)) }
     ensures range { IfOk result IsInRange }
@@ -139,6 +145,7 @@ fn demo_order(matches: &ArgMatches<'_>) -> Result<Order, WordsFault>
     Ok(Order::Demo { number, lines })
 }
 
+/// The order of `sweep`.
 fn sweep_order(alloc: Global, matches: &ArgMatches<'_>) -> Result<Order, Stop<WordsFault>>
     ensures order { Gives (sweep_of (rows_of (found_of matches.now))) result }
     ensures range { IfOk result IsInRange }
@@ -155,6 +162,7 @@ fn sweep_order(alloc: Global, matches: &ArgMatches<'_>) -> Result<Order, Stop<Wo
     })
 }
 
+/// The order of `target`.
 fn target_order(alloc: Global, matches: &ArgMatches<'_>) -> Result<Order, Stop<WordsFault>>
     ensures order { Gives (target_of (rows_of (found_of matches.now))) result }
     ensures range { IfOk result IsInRange }
@@ -177,6 +185,7 @@ fn target_order(alloc: Global, matches: &ArgMatches<'_>) -> Result<Order, Stop<W
     })
 }
 
+/// The order of `session`.
 fn session_order(alloc: Global, matches: &ArgMatches<'_>) -> Result<Order, Stop<WordsFault>>
     ensures order { Gives (session_of (rows_of (found_of matches.now))) result }
     ensures range { IfOk result IsInRange }
@@ -195,6 +204,7 @@ fn session_order(alloc: Global, matches: &ArgMatches<'_>) -> Result<Order, Stop<
     })
 }
 
+/// The order of `compare`.
 fn compare_order(alloc: Global, matches: &ArgMatches<'_>) -> Result<Order, Stop<WordsFault>>
     ensures order { Gives (compare_of (rows_of (found_of matches.now))) result }
     ensures range { IfOk result IsInRange }

@@ -192,7 +192,8 @@ fn takes_plan(rt: HostRuntime) -> Result<(), Fail> {
     gives_plans(&rt, rt.alloc(), &PLANS)
 }
 
-/// Lines of `plan` with stocks on hand or an objective: each with the stocks, the format and the objective that it gives.
+/// Lines of `plan` with stocks on hand or an objective: each with the stocks, the format and the objective that it
+/// gives.
 const AIMS: [(&str, Option<&str>, u8, Objective); 4] = [
     (
         "plan --sites a --parts b --rates c --budget 1 --certificate d --objective backorders",

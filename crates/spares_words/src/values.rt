@@ -26,6 +26,7 @@ pub(crate) fn text_of<'a>(matches: &ArgMatches<'a>, id: &str) -> &'a str
     }
 }
 
+/// A copy of a text.
 fn copy_of(alloc: Global, text: &str) -> Result<Text, Stop<WordsFault>>
     ensures { Gives (Ok text.now) result }
 {

@@ -3,10 +3,10 @@ use Rattle.std.proofs.Common.{◌≡◌, ℕ, suc, ◌+◌, ◌<◌, ◌≤◌, 
 use Rattle.std.specs.List.Sorted.{IsPermutation}
 use Rattle.std.specs.BinaryHeap.{IsUpperBound, IsHeap}
 use Rattle.std.proofs.lemmas.List.Sorted.{IsPermutation-refl}
+use Rattle.std.proofs.lemmas.List.{get_or_default}
 use Rattle.hull.specs.declared.point.Point.{Point}
 use Rattle.step_walk.specs.Prefix.{HasStep, IsBefore, IsPrefix, IsNext, HaveShapes}
 use Rattle.step_walk.proofs.Taking.{next_of}
-use Rattle.step_walk.proofs.Greedy.{read_at}
 use Rattle.step_walk.specs.declared.step.Step.{Step}
 use Rattle.step_walk.specs.Steps.{step_cmp, TellsStep, HoldsNext}
 use Rattle.step_walk.specs.Walks.{IsWalk, TellsFirst, MovesOn}
@@ -47,6 +47,7 @@ pub record Peeked (curves : List (List Point)) (picks : List ℕ) (x : Step) : T
   pub next : IsNext curves picks x.family
   pub told : TellsStep curves x.family (slice_index picks x.family) x
 
+-- the greatest of the waiting steps is the next of all steps
 pub peeked : (curves : List (List Point)) (picks : List ℕ) (x : Step) (waiting : List Step) → HaveShapes curves → HoldsNext curves picks (length curves) waiting
     → 0 < length waiting → x ≡ slice_index_or waiting 0 x → IsUpperBound step_cmp x waiting → Peeked curves picks x
 peeked curves picks x [] shapes held some is top = absurd (let l : 0 < 0 = some in omega arith)
@@ -66,7 +67,7 @@ pub tells : (curves : List (List Point)) (picks : List ℕ) (x : Step) (pick : �
 tells curves picks x pick shapes pre p is =
     let count = pre.vertices.count in
     let family = p.next.step.family in
-    let e : pick ≡ slice_index picks x.family = is ∙ read_at picks x.family pick 0 (omega (arith, count, family)) in
+    let e : pick ≡ slice_index picks x.family = is ∙ get_or_default picks x.family pick 0 (omega (arith, count, family)) in
     record {
       way = record { shapes = shapes; prefix = pre };
       first = p.next;
@@ -89,6 +90,7 @@ not_both curves f k g j (inr a) (inr b) = places a.1 b.1
     places (inr a) (inl b) = (let e = a.0 in omega (arith, b, e))
     places (inr a) (inr b) = (let l = a.1 in let m = b.1 in omega (arith, l, m))
 
+-- one family alone has the next step
 pub one_next : (curves : List (List Point)) (picks : List ℕ) (f g : ℕ) → IsNext curves picks f → IsNext curves picks g → f ≡ g
 one_next curves picks f g a b = elim (a.first g (slice_index picks g) b.step (omega arith)) [
   | inl e ↦ sym e.0

@@ -10,15 +10,18 @@ use Rattle.step_walk.specs.Prefix.{curve_at, vertex_at, HasStep, fall, rise, IsB
 abbrev pub own_fall : List Point → ℕ → ℕ
 own_fall c k = (point_at c k).lo - (point_at c (k + 1)).lo
 
+-- how much more the vertex after the place k costs than that at k
 abbrev pub own_rise : List Point → ℕ → ℕ
 own_rise c k = (point_at c (k + 1)).cost - (point_at c k).cost
 
+-- a step that comes before another falls as much per money, or more
 pub before_is_steeper : (curves : List (List Point)) (f k g j : ℕ) → IsBefore curves f k g j → fall curves g j * rise curves f k ≤ fall curves f k * rise curves g j
 before_is_steeper curves f k g j h = elim h [ inl l ↦ omega (arith, l) | inr e ↦ (let z = e.0 in omega (arith, z)) ]
 
 one_more : (k : ℕ) → suc k + 1 ≡ suc (k + 1)
 one_more k = omega arith
 
+-- each step of a chain costs more and is lower
 pub own_step : (c : List Point) → IsChain c → (k : ℕ) → k + 1 < length c → Steps (point_at c k) (point_at c (k + 1))
 own_step [] h k b = absurd (let l : k + 1 < 0 = b in omega arith)
 own_step (v ∷ []) h k b = absurd (let l : k + 1 < 1 = b in omega arith)
@@ -65,6 +68,7 @@ before_later curves f k g i j c l s h pos =
     let later : fall curves g j * rise curves g i < fall curves g i * rise curves g j = slopes_fall (curve_at curves g) c i j l s.place in
     inl (falls_after (fall curves f k) (rise curves f k) (fall curves g i) (rise curves g i) (fall curves g j) (rise curves g j) later (before_is_steeper curves f k g i h) pos)
 
+-- a step of a family's curve costs money
 pub rises_at : (curves : List (List Point)) (f k : ℕ) → IsChain (curve_at curves f) → HasStep curves f k → 0 < rise curves f k
 rises_at curves f k c s = (let r : Steps (vertex_at curves f k) (vertex_at curves f (k + 1)) = own_step (curve_at curves f) c k s.place in let l = r.cost in omega (arith, l))
 
@@ -162,12 +166,14 @@ steps_left [] picks = 0
 steps_left (c ∷ curves) [] = 0
 steps_left (c ∷ curves) (k ∷ picks) = (length c - k) + steps_left curves picks
 
+-- with one step more taken, fewer are left
 pub left_falls : (curves : List (List Point)) (picks : List ℕ) (f : ℕ) → f < length curves → length picks ≡ length curves → slice_index picks f < length (curve_at curves f) → steps_left curves (set picks f (slice_index picks f + 1)) < steps_left curves picks
 left_falls [] picks f b n h = absurd (let l : f < 0 = b in omega arith)
 left_falls (c ∷ curves) [] f b n h = absurd (let l : 0 ≡ suc (length curves) = n in omega arith)
 left_falls (c ∷ curves) (k ∷ picks) zero b n h = omega (arith, h)
 left_falls (c ∷ curves) (k ∷ picks) (suc f) b n h = (let r = left_falls curves picks f (omega arith) (let l : suc (length picks) ≡ suc (length curves) = n in omega arith) h in omega (arith, r))
 
+-- a step of a family's curve leads to no smaller cost
 pub cost_rises : (curves : List (List Point)) (f k : ℕ) → IsChain (curve_at curves f) → HasStep curves f k → (vertex_at curves f k).cost ≤ (vertex_at curves f (k + 1)).cost
 cost_rises curves f k c s = (let r : Steps (vertex_at curves f k) (vertex_at curves f (k + 1)) = own_step (curve_at curves f) c k s.place in let l = r.cost in omega (arith, l))
 
@@ -178,6 +184,7 @@ none_taken curves picks n z shapes = record {
   before = λ f k g j sf sg l m. absurd (let e = z f in omega (arith, e, l));
 }
 
+-- with one family more, of which no step is taken either, no step is taken
 pub zeros_more : (xs : List ℕ) → ((g : ℕ) → slice_index xs g ≡ 0) → (g : ℕ) → slice_index (xs ++ 0 ∷ []) g ≡ 0
 zeros_more [] h zero = refl
 zeros_more [] h (suc g) = refl

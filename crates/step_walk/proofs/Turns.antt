@@ -2,11 +2,11 @@
 use Rattle.std.proofs.Common.{◌≡◌, ℕ, ◌+◌, ◌<◌, List, ◌∷◌, length, set, slice_index, sym, ◌∙◌, subst, arith, get_or, get_or-set_same}
 use Rattle.std.specs.List.Sorted.{IsPermutation}
 use Rattle.std.specs.BinaryHeap.{IsUpperBound}
+use Rattle.std.proofs.lemmas.List.{get_or_default}
 use Rattle.hull.specs.declared.point.Point.{Point}
 use Rattle.step_walk.specs.declared.step.Step.{Step}
 use Rattle.step_walk.specs.Prefix.{curve_at, IsPrefix, IsNext, HaveShapes}
 use Rattle.step_walk.specs.Steps.{step_cmp, TellsStep, HoldsNext}
-use Rattle.step_walk.proofs.Greedy.{read_at}
 use Rattle.step_walk.proofs.Taking.{next_of, taken_prefix, left_falls, steps_left}
 use Rattle.step_walk.proofs.Waiting.{HoldsOthers, steepest_of, own_of, others_of}
 
@@ -47,5 +47,5 @@ module _ (curves : List (List Point)) (picks : List ℕ) (x : Step) (old rest : 
   pub turn_of : (pick : ℕ) → pick ≡ get_or picks x.family pick → Turn curves picks x rest (pick + 1)
   turn_of pick is =
       let known = by_pick in
-      let e : pick ≡ slice_index picks x.family = is ∙ read_at picks x.family pick 0 known.in_picks in
+      let e : pick ≡ slice_index picks x.family = is ∙ get_or_default picks x.family pick 0 known.in_picks in
       subst (λ n. Turn curves picks x rest (n + 1)) (sym e) known

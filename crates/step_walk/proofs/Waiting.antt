@@ -10,6 +10,7 @@ use Rattle.std.proofs.lemmas.Cmp.{ranked}
 use Rattle.std.proofs.lemmas.List.Elements.{All-from_recursion, recursion_from_All}
 use Rattle.std.proofs.lemmas.List.Sorted.{All-permutation, sum_by_pushed, sum_by_popped}
 use Rattle.std.proofs.lemmas.List.Recursion.{is_sum_by}
+use Rattle.std.proofs.lemmas.Bool.{cases_eq}
 use Rattle.hull.specs.declared.point.Point.{Point}
 use Rattle.step_walk.specs.declared.step.Step.{Step}
 use Rattle.step_walk.specs.Prefix.{HasStep, fall, rise, IsBefore}
@@ -37,9 +38,6 @@ count_pushed g x xs ys h = count_is g ys ∙ sum_by_pushed (λ s. is_of g s.fami
 count_popped : (g : ℕ) (x : Step) (xs ys : List Step) → IsPermutation xs (x ∷ ys) → count_of g ys + is_of g x.family ≡ count_of g xs
 count_popped g x xs ys h = ap (λ n. n + is_of g x.family) (count_is g ys) ∙ sum_by_popped (λ s. is_of g s.family) x xs ys h ∙ sym (count_is g xs)
 
-same_or_not : (g f : ℕ) → (g ≡ f) ⊎ (g ≢ f)
-same_or_not g f = grind arith
-
 of_own : (g f : ℕ) → f ≡ g → is_of g f ≡ 1
 of_own g f e = omega (arith, e)
 
@@ -57,7 +55,7 @@ pub record Found (P : Step → Type 0) (g : ℕ) : Type 0 where
 
 found : (P : Step → Type 0) (g : ℕ) (xs : List Step) → AllByRecursion P xs → 0 < count_of g xs → Found P g
 found P g [] a h = absurd (let l : 0 < 0 = h in omega arith)
-found P g (x ∷ xs) a h = elim (same_or_not g x.family) [
+found P g (x ∷ xs) a h = elim (cases_eq g x.family) [
   | inl e ↦ record { step = x; family = sym e; holds = a.0 }
   | inr n ↦ found P g xs a.1 (let z = of_other g x.family n in omega (arith, h, z))
 ]
@@ -141,7 +139,7 @@ pub without : (curves : List (List Point)) (picks : List ℕ) (n f : ℕ) (steps
 without curves picks n f steps all out = record {
   own = all.own;
   once = all.once;
-  held = λ g l s. elim (same_or_not g f) [
+  held = λ g l s. elim (cases_eq g f) [
     | inl e ↦ absurd (out (subst (λ z. HasStep curves z (slice_index picks z)) e s))
     | inr d ↦ all.held g l d s
   ];
@@ -154,11 +152,11 @@ with_step curves picks n f x steps new b all told h = record {
     record { below = subst (λ z. z < n) (sym told.family) b; told = subst (λ z. TellsStep curves z (slice_index picks z) x) (sym told.family) told },
     all.own,
   );
-  once = λ g. elim (same_or_not g f) [
+  once = λ g. elim (cases_eq g f) [
     | inl e ↦ (let c = count_pushed g x steps new h in let z = ap (λ k. count_of k steps) e ∙ all.no_own in omega (arith, c, z))
     | inr d ↦ (let c = count_pushed g x steps new h in let o = all.once g in let z = of_other g f d in let y = ap (λ k. is_of g k) told.family in omega (arith, c, o, y, z))
   ];
-  held = λ g l s. elim (same_or_not g f) [
+  held = λ g l s. elim (cases_eq g f) [
     | inl e ↦ (let c = count_pushed g x steps new h in let y = of_own g x.family (told.family ∙ sym e) in omega (arith, c, y))
     | inr d ↦ (let c = count_pushed g x steps new h in let o = all.held g l d s in omega (arith, c, o))
   ];

@@ -7,6 +7,7 @@ use Rattle.hull.specs.Curves.{IsShape, point_at}
 abbrev pub curve_at : List (List Point) → ℕ → List Point
 curve_at curves f = slice_index_or curves f []
 
+-- the vertex of the family f at the place k of its curve
 abbrev pub vertex_at : List (List Point) → ℕ → ℕ → Point
 vertex_at curves f k = point_at (curve_at curves f) k
 
@@ -15,13 +16,16 @@ pub record HasStep (curves : List (List Point)) (f k : ℕ) : Type 0 where
   pub family : f < length curves
   pub place : k + 1 < length (curve_at curves f)
 
+-- how much lower the vertex after the place k of the family f is than that at k
 abbrev pub fall : List (List Point) → ℕ → ℕ → ℕ
 fall curves f k = (vertex_at curves f k).lo - (vertex_at curves f (k + 1)).lo
 
+-- how much more the vertex after the place k of the family f costs than that at k
 abbrev pub rise : List (List Point) → ℕ → ℕ → ℕ
 rise curves f k = (vertex_at curves f (k + 1)).cost - (vertex_at curves f k).cost
 
--- the one step comes before the other: it falls more per money, or as much and its family is the first, or then its place
+-- the one step comes before the other: it falls more per money, or as much and its family is the first, or then its
+-- place
 abbrev pub IsBefore : List (List Point) → ℕ → ℕ → ℕ → ℕ → Type 0
 IsBefore curves f k g j =
     (fall curves g j * rise curves f k < fall curves f k * rise curves g j)
@@ -41,12 +45,14 @@ pub record AreVertices (curves : List (List Point)) (picks : List ℕ) : Type 0 
 -- The picks have taken a prefix of all steps in that order: each taken step comes before each other one.
 pub record IsPrefix (curves : List (List Point)) (picks : List ℕ) : Type 0 where
   pub vertices : AreVertices curves picks
-  pub before : (f k g j : ℕ) → HasStep curves f k → HasStep curves g j → k < slice_index picks f → slice_index picks g ≤ j → IsBefore curves f k g j
+  pub before : (f k g j : ℕ) → HasStep curves f k → HasStep curves g j → k < slice_index picks f
+      → slice_index picks g ≤ j → IsBefore curves f k g j
 
 -- the first step that isn't taken
 pub record IsNext (curves : List (List Point)) (picks : List ℕ) (f : ℕ) : Type 0 where
   pub step : HasStep curves f (slice_index picks f)
-  pub first : (g j : ℕ) → HasStep curves g j → slice_index picks g ≤ j → ((g ≡ f) × (j ≡ slice_index picks f)) ⊎ IsBefore curves f (slice_index picks f) g j
+  pub first : (g j : ℕ) → HasStep curves g j → slice_index picks g ≤ j → ((g ≡ f) × (j ≡ slice_index picks f))
+      ⊎ IsBefore curves f (slice_index picks f) g j
 
 -- no step is left
 abbrev pub AllTaken : List (List Point) → List ℕ → Type 0

@@ -12,6 +12,7 @@ use Rattle.step_walk.specs.Prefix.{HasStep, fall, rise}
 abbrev pub slope_cmp : Step → Step → Ordering
 slope_cmp x y = nat_cmp (x.price.p * y.price.q) (y.price.p * x.price.q)
 
+-- by slope, and of equal slopes the first family is the greatest
 abbrev pub step_cmp : Step → Step → Ordering
 step_cmp = then_cmp slope_cmp (flip_args (on (λ s. s.family) nat_cmp))
 

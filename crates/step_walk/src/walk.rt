@@ -12,8 +12,8 @@ use std::alloc::Global;
 use std::collections::BinaryHeap;
 use std::marker::Model;
 
-/// The next step: its family, the vertex that it would reach, and its price, the fall of the lower end in units of 2^-48 for its
-/// rise of cost in whole money.
+/// The next step: its family, the vertex that it would reach, and its price, the fall of the lower end in units of
+/// 2^-48 for its rise of cost in whole money.
 #[derive(Clone, Copy, Drop)]
 pub struct Next {
     pub family: u32,
@@ -21,7 +21,8 @@ pub struct Next {
     pub price: Price,
 }
 
-/// The steps of at most 2,000 curves, as far as they were taken: by falling slope, of equal slopes by family and then by place.
+/// The steps of at most 2,000 curves, as far as they were taken: by falling slope, of equal slopes by family and then
+/// by place.
 ///
 /// It is seen as the curves and the picks, which are one vertex of each curve.
 #[derive(Drop)]

@@ -2,10 +2,11 @@ use Rattle.std.proofs.Common.{List, ◌≡◌, ◌∙◌, ◌<◌, ◌^◌, leng
 use Rattle.std.proofs.Math.Seq.{take-length}
 use Rattle.std.proofs.lemmas.List.Elements.{All-get_or}
 use Rattle.fixed_interval.specs.Ends.{Ends, In, ends_over}
+use Rattle.fixed_interval.proofs.Laws.{ceil_most}
 use Rattle.availability.specs.declared.Weighted.{Weighted}
 use Rattle.availability.specs.Profile.{weighted_sum, all_systems}
 use Rattle.availability.specs.Exact.{weighted_mean, IsWeighted}
-use Rattle.availability.proofs.Laws.{fleet_in, sum_room, mean_most}
+use Rattle.availability.proofs.Laws.{fleet_in, sum_room}
 use Rattle.availability.proofs.fleet.Goals as goal
 
 pub add-sum-requires : goal.add-sum-requires
@@ -35,4 +36,4 @@ returns-clause-most g c =
     let p : 0 < c.loop-base.systems =
     omega (arith, c.loop-base-test.false, c.loop-base.auto.base-index-end, c.loop-base.invariant.some, c.requires.some) in
     let e = ap (λ (z : Ends). z.hi) c.over.ensures.ends in
-    omega (arith, e, mean_most c.loop-base.sum.hi c.loop-base.systems (2 ^ g.row.F) p c.loop-base.invariant.most)
+    omega (arith, e, ceil_most c.loop-base.sum.hi c.loop-base.systems (2 ^ g.row.F) p c.loop-base.invariant.most)

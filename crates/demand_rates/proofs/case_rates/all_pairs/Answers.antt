@@ -1,10 +1,10 @@
 use Rattle.std.proofs.Common.{◌*◌, ◌∙◌, refl, sym, length}
 use Rattle.spares_input.specs.First.{first}
-use Rattle.spares_input.proofs.Firsts.{first-found, first-more}
+use Rattle.spares_input.proofs.Firsts.{first_found, first_more}
 use Rattle.demand_rates.specs.Limits.{place_fault}
 use Rattle.demand_rates.specs.Rates.{place_rates}
 use Rattle.demand_rates.proofs.Grown.{mapped_more}
-use Rattle.demand_rates.proofs.RateFacts.{fault-at, place-rates, within-pairs}
+use Rattle.demand_rates.proofs.RateFacts.{fault_at, rates_of_place, within_pairs}
 use Rattle.demand_rates.proofs.case_rates.all_pairs.Goals as goal
 
 pub loop-i-init : goal.loop-i-init
@@ -13,21 +13,21 @@ loop-i-init c = record { pairs = c.new-pairs.ensures.items; faultless = refl }
 
 pub returns-in-Some-clause-fault : goal.returns-in-Some-clause-fault
 returns-in-Some-clause-fault c =
-    let rule = fault-at c.args.case.now c.site_count-sites.result c.loop-i.i c.pair_at.result.0 c.pair_at.result.1 c.pair_rates-rates.result
+    let rule = fault_at c.args.case.now c.site_count-sites.result c.loop-i.i c.pair_at.result.0 c.pair_at.result.1 c.pair_rates-rates.result
     c.site_count-sites.ensures.count c.pair_at.ensures.part c.pair_at.ensures.site c.pair_rates-rates.ensures.rates in
-    let within = within-pairs c.loop-i.i c.part_count.result c.site_count-sites.result (length c.args.case.now.parts) (length c.args.case.now.sites)
+    let within = within_pairs c.loop-i.i c.part_count.result c.site_count-sites.result (length c.args.case.now.parts) (length c.args.case.now.sites)
     c.part_count.ensures.count c.site_count-sites.ensures.count c.loop-i-test.true in
-    first-found (place_fault c.args.case.now) c.loop-i.i (length c.args.case.now.parts * length c.args.case.now.sites) c.in-Some.fault
+    first_found (place_fault c.args.case.now) c.loop-i.i (length c.args.case.now.parts * length c.args.case.now.sites) c.in-Some.fault
     c.loop-i.invariant.faultless (sym rule ∙ sym c.in-Some.ensures) within
 
 pub loop-i-preserved : goal.loop-i-preserved
 loop-i-preserved c =
-    let rule = fault-at c.args.case.now c.site_count-sites.result c.loop-i.i c.pair_at.result.0 c.pair_at.result.1 c.pair_rates-rates.result
+    let rule = fault_at c.args.case.now c.site_count-sites.result c.loop-i.i c.pair_at.result.0 c.pair_at.result.1 c.pair_rates-rates.result
     c.site_count-sites.ensures.count c.pair_at.ensures.part c.pair_at.ensures.site c.pair_rates-rates.ensures.rates in
     record {
       pairs = mapped_more (place_rates c.args.case.now) c.loop-i.i c.loop-i.pairs.items c.push.new.self.items c.pair_rates-rates.result c.in_ok-push.ensures.items
           c.loop-i.invariant.pairs
-          (place-rates c.args.case.now c.site_count-sites.result c.loop-i.i c.pair_at.result.0 c.pair_at.result.1 c.pair_rates-rates.result
+          (rates_of_place c.args.case.now c.site_count-sites.result c.loop-i.i c.pair_at.result.0 c.pair_at.result.1 c.pair_rates-rates.result
           c.site_count-sites.ensures.count c.pair_at.ensures.part c.pair_at.ensures.site c.pair_rates-rates.ensures.rates);
-      faultless = first-more (place_fault c.args.case.now) c.loop-i.i c.loop-i.invariant.faultless (sym rule ∙ sym c.in_default.ensures);
+      faultless = first_more (place_fault c.args.case.now) c.loop-i.i c.loop-i.invariant.faultless (sym rule ∙ sym c.in_default.ensures);
     }

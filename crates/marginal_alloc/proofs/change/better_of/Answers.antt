@@ -1,11 +1,12 @@
 use Rattle.std.proofs.Common.{◌≡◌, ◌+◌, ◌-◌, ◌<◌, [], length, slice_index, sym, ap, ◌∙◌, subst, arith}
+use Rattle.std.proofs.lemmas.List.{get_or_default}
 use Rattle.hull.specs.Curves.{IsShape, point_at}
 use Rattle.marginal_alloc.specs.declared.change.Change.{Change}
 use Rattle.price_bounds.specs.Sums.{cost_of}
 use Rattle.step_walk.specs.Prefix.{curve_at, vertex_at, picked}
 use Rattle.marginal_alloc.specs.Filling.{gain}
 use Rattle.marginal_alloc.specs.Changes.{IsBestAmong}
-use Rattle.step_walk.proofs.Greedy.{read_at, vertex_is}
+use Rattle.step_walk.proofs.Greedy.{vertex_is}
 use Rattle.marginal_alloc.proofs.Along.{lo_below}
 use Rattle.marginal_alloc.proofs.Best.{part_of_cost, lowest_is, bounded, no_better, better}
 use Rattle.marginal_alloc.proofs.change.better_of.Goals as goal
@@ -17,7 +18,7 @@ overflow_sub-here c =
     let shape = c.len.ensures.shape in
     let some = shape.some in
     let count = c.len.ensures.len in
-    let within : slice_index c.args.picks.now f < length r = subst (λ x. slice_index c.args.picks.now f < length x) (sym (c.index-curves-family.is ∙ read_at c.args.curves.now f r [] c.requires.family)) c.requires.pick in
+    let within : slice_index c.args.picks.now f < length r = subst (λ x. slice_index c.args.picks.now f < length x) (sym (c.index-curves-family.is ∙ get_or_default c.args.curves.now f r [] c.requires.family)) c.requires.pick in
     let low = lo_below r shape (slice_index c.args.picks.now f) (length r - 1) (omega (arith, within)) (omega (arith, some)) in
     let here = ap (λ v. v.hi) c.point-here.ensures in
     let end : c.point-end.result.now.lo ≡ (point_at r (length r - 1)).lo = ap (λ v. v.lo) c.point-end.ensures ∙ ap (λ n. (point_at r (n - 1)).lo) count in
@@ -28,7 +29,7 @@ returns-then-here-end c =
     let curves = c.args.curves.now in
     let f = c.args.family in
     let r = c.index-curves-family.result in
-    let is : r ≡ curve_at curves f = c.index-curves-family.is ∙ read_at curves f r [] c.requires.family in
+    let is : r ≡ curve_at curves f = c.index-curves-family.is ∙ get_or_default curves f r [] c.requires.family in
     let shape : IsShape (curve_at curves f) = subst IsShape is c.len.ensures.shape in
     let some = c.len.ensures.shape.some in
     let count = c.len.ensures.len in
@@ -43,7 +44,7 @@ overflow_add-left c =
     let curves = c.args.curves.now in
     let f = c.args.family in
     let r = c.index-curves-family.result in
-    let is : r ≡ curve_at curves f = c.index-curves-family.is ∙ read_at curves f r [] c.requires.family in
+    let is : r ≡ curve_at curves f = c.index-curves-family.is ∙ get_or_default curves f r [] c.requires.family in
     let here = ap (λ v. v.cost) (vertex_is curves f (slice_index c.args.picks.now f) r c.point-here.result.now c.index-curves-family.is c.requires.family c.point-here.ensures) in
     let part = part_of_cost curves c.args.picks.now f c.requires.family c.requires.count in
     let money = c.requires.money in
@@ -55,7 +56,7 @@ returns-then-gain-least c =
     let f = c.args.family in
     let v = c.lowest_vertex-vertex.result in
     let r = c.index-curves-family.result in
-    let is : r ≡ curve_at curves f = c.index-curves-family.is ∙ read_at curves f r [] c.requires.family in
+    let is : r ≡ curve_at curves f = c.index-curves-family.is ∙ get_or_default curves f r [] c.requires.family in
     let here = vertex_is curves f (slice_index c.args.picks.now f) r c.point-here.result.now c.index-curves-family.is c.requires.family c.point-here.ensures in
     let there = vertex_is curves f v r c.point.result.now c.index-curves-family.is c.requires.family c.point.ensures in
     let lowest = lowest_is r (curve_at curves f) (slice_index c.args.picks.now f) (c.args.left + c.point-here.result.now.cost) (c.args.left + (vertex_at curves f (slice_index c.args.picks.now f)).cost) v
@@ -71,7 +72,7 @@ returns c =
     let f = c.args.family in
     let v = c.lowest_vertex-vertex.result in
     let r = c.index-curves-family.result in
-    let is : r ≡ curve_at curves f = c.index-curves-family.is ∙ read_at curves f r [] c.requires.family in
+    let is : r ≡ curve_at curves f = c.index-curves-family.is ∙ get_or_default curves f r [] c.requires.family in
     let here = vertex_is curves f (slice_index c.args.picks.now f) r c.point-here.result.now c.index-curves-family.is c.requires.family c.point-here.ensures in
     let there = vertex_is curves f v r c.point.result.now c.index-curves-family.is c.requires.family c.point.ensures in
     let lowest = lowest_is r (curve_at curves f) (slice_index c.args.picks.now f) (c.args.left + c.point-here.result.now.cost) (c.args.left + (vertex_at curves f (slice_index c.args.picks.now f)).cost) v

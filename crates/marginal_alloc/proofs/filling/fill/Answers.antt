@@ -1,8 +1,9 @@
 use Rattle.std.proofs.Common.{◌≡◌, ◌+◌, slice_index, ap, ◌∙◌, subst, arith}
+use Rattle.std.proofs.lemmas.List.{get_or_default}
 use Rattle.price_bounds.specs.Sums.{cost_of}
 use Rattle.step_walk.specs.Prefix.{vertex_at, picked}
 use Rattle.marginal_alloc.specs.Filling.{IsBestChange, IsFull, full, change}
-use Rattle.step_walk.proofs.Greedy.{read_at, vertex_is}
+use Rattle.step_walk.proofs.Greedy.{vertex_is}
 use Rattle.marginal_alloc.proofs.Filled.{hi_falls, changed_vertices}
 use Rattle.marginal_alloc.proofs.Best.{part_of_cost}
 use Rattle.marginal_alloc.proofs.Costs.{left_on}
@@ -18,7 +19,7 @@ overflow_add-left c =
     subst (λ l. IsBestChange curves (cost_of (picked curves l) + c.changes.left) l f k) c.as_slice-in-changes.ensures.value c.in-Some.ensures.some in
     let fam = b.change.family in
     let n = c.changes.invariant.vertices.count in
-    let pick : c.index-pick.result.now ≡ slice_index picks f = c.index-pick.ensures ∙ read_at picks f c.index-pick.result.now 0 (omega (arith, fam, n)) in
+    let pick : c.index-pick.result.now ≡ slice_index picks f = c.index-pick.ensures ∙ get_or_default picks f c.index-pick.result.now 0 (omega (arith, fam, n)) in
     let here = vertex_is curves f c.index-pick.result.now c.index-curves-change.result c.point.result.now c.index-curves-change.is fam c.point.ensures ∙ ap (λ i. vertex_at curves f i) pick in
     let part = part_of_cost curves picks f fam n in
     let cost = ap (λ v. v.cost) here in
@@ -36,7 +37,7 @@ overflow_sub-left-in-Some c =
     subst (λ l. IsBestChange curves (cost_of (picked curves l) + c.changes.left) l f k) c.as_slice-in-changes.ensures.value c.in-Some.ensures.some in
     let fam = b.change.family in
     let n = c.changes.invariant.vertices.count in
-    let pick : c.index-pick.result.now ≡ slice_index picks f = c.index-pick.ensures ∙ read_at picks f c.index-pick.result.now 0 (omega (arith, fam, n)) in
+    let pick : c.index-pick.result.now ≡ slice_index picks f = c.index-pick.ensures ∙ get_or_default picks f c.index-pick.result.now 0 (omega (arith, fam, n)) in
     let here = vertex_is curves f c.index-pick.result.now c.index-curves-change.result c.point.result.now c.index-curves-change.is fam c.point.ensures ∙ ap (λ i. vertex_at curves f i) pick in
     let there = vertex_is curves f k c.index-curves-change.result c.point-in-Some.result.now c.index-curves-change.is fam c.point-in-Some.ensures in
     let m = left_on curves picks c.changes.left f k c.point.result.now c.point-in-Some.result.now b n here there in
@@ -63,7 +64,7 @@ changes-preserved c =
     subst (λ l. IsBestChange curves (cost_of (picked curves l) + c.changes.left) l f k) c.as_slice-in-changes.ensures.value c.in-Some.ensures.some in
     let fam = b.change.family in
     let n = c.changes.invariant.vertices.count in
-    let pick : c.index-pick.result.now ≡ slice_index picks f = c.index-pick.ensures ∙ read_at picks f c.index-pick.result.now 0 (omega (arith, fam, n)) in
+    let pick : c.index-pick.result.now ≡ slice_index picks f = c.index-pick.ensures ∙ get_or_default picks f c.index-pick.result.now 0 (omega (arith, fam, n)) in
     let here = vertex_is curves f c.index-pick.result.now c.index-curves-change.result c.point.result.now c.index-curves-change.is fam c.point.ensures ∙ ap (λ i. vertex_at curves f i) pick in
     let there = vertex_is curves f k c.index-curves-change.result c.point-in-Some.result.now c.index-curves-change.is fam c.point-in-Some.ensures in
     let m = left_on curves picks c.changes.left f k c.point.result.now c.point-in-Some.result.now b n here there in

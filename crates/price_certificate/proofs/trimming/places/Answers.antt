@@ -1,7 +1,8 @@
 use Rattle.std.proofs.Common.{◌<◌, ◌≤◌, subst, sym, ◌∙◌, arith}
+use Rattle.std.proofs.lemmas.List.Elements.{All-push}
 use Rattle.price_certificate.specs.declared.place.Place.{Place}
 use Rattle.price_certificate.specs.Covers.{IsPlace, place_count}
-use Rattle.price_certificate.proofs.Families.{place_is, site_below, places_more, all_more}
+use Rattle.price_certificate.proofs.Families.{place_is, site_below, places_more}
 use Rattle.price_certificate.proofs.trimming.places.Goals as goal
 
 pub overflow_cast-site : goal.overflow_cast-site
@@ -22,5 +23,5 @@ loop-m-preserved c =
     let rows = c.args.case.now in
     let same = place_is rows c.args.line.0 c.args.parts.now c.args.held.now c.loop-m.m (record { 0 = 0 }) c.requires.parts in (
       places_more rows c.args.line.0 c.args.held.now c.loop-m.m c.loop-m.found.items c.push.new.self.items c.place_of.result c.loop-m.invariant.0 (c.place_of.ensures.place ∙ same) c.in_ok-push.ensures.items,
-      rw c.in_ok-push.ensures.items (all_more IsPlace c.loop-m.found.items c.place_of.result c.loop-m.invariant.1 c.place_of.ensures.valid),
+      rw c.in_ok-push.ensures.items (All-push IsPlace c.loop-m.found.items c.place_of.result c.loop-m.invariant.1 c.place_of.ensures.valid),
     )

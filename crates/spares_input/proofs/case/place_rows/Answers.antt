@@ -2,8 +2,8 @@ use Rattle.std.proofs.Common.{◌≡◌, ◌*◌, refl, sym, get_or, length, tak
 use Rattle.spares_input.specs.First.{first}
 use Rattle.spares_input.specs.Rows.{no_rate}
 use Rattle.spares_input.specs.Cases.{double_rate, rate_place}
-use Rattle.spares_input.proofs.Firsts.{first-more, first-found}
-use Rattle.spares_input.proofs.PlaceFacts.{kept-at, has-before, placed-none, placed-more, taken-none, taken-more}
+use Rattle.spares_input.proofs.Firsts.{first_more, first_found}
+use Rattle.spares_input.proofs.PlaceFacts.{kept_at, has_before, placed_none, placed_more, taken_none, taken_more}
 use Rattle.spares_input.proofs.case.place_rows.Goals as goal
 
 pub loop-k-init : goal.loop-k-init
@@ -12,8 +12,8 @@ loop-k-init c =
     let empty : c.in_ok-places.places.items ≡ replicate (c.args.parts * c.args.sites) None = search rules in
     record {
       fault = refl;
-      placed = placed-none (rate_place c.args.sites) (c.args.parts * c.args.sites) c.in_ok-places.places.items empty;
-      taken = taken-none (rate_place c.args.sites) (c.args.parts * c.args.sites) c.in_ok-places.places.items empty;
+      placed = placed_none (rate_place c.args.sites) (c.args.parts * c.args.sites) c.in_ok-places.places.items empty;
+      taken = taken_none (rate_place c.args.sites) (c.args.parts * c.args.sites) c.in_ok-places.places.items empty;
     }
 
 pub returns-then-is_some-clause-fault : goal.returns-then-is_some-clause-fault
@@ -21,9 +21,9 @@ returns-then-is_some-clause-fault c =
     let inv = c.loop-k.invariant in
     let place = rate_place c.args.sites in
     let rows = c.args.rows.now in
-    let kept = kept-at place _ (take c.loop-k.k rows) c.loop-k.places.items c.pair_place-place.result c.index.result.now inv.placed c.pair_place-place.ensures.within c.index.ensures in
-    let before = has-before place rows c.loop-k.k no_rate (get_or rows c.loop-k.k no_rate) c.pair_place-place.result c.index.result.now _ refl c.pair_place-place.ensures.place kept (sym c.if-is_some.ensures) in
-    first-found (double_rate c.args.sites rows) c.loop-k.k (length rows) _ inv.fault (rw before refl) c.loop-k-test.true
+    let kept = kept_at place _ (take c.loop-k.k rows) c.loop-k.places.items c.pair_place-place.result c.index.result.now inv.placed c.pair_place-place.ensures.within c.index.ensures in
+    let before = has_before place rows c.loop-k.k no_rate (get_or rows c.loop-k.k no_rate) c.pair_place-place.result c.index.result.now _ refl c.pair_place-place.ensures.place kept (sym c.if-is_some.ensures) in
+    first_found (double_rate c.args.sites rows) c.loop-k.k (length rows) _ inv.fault (rw before refl) c.loop-k-test.true
 
 pub loop-k-preserved : goal.loop-k-preserved
 loop-k-preserved c =
@@ -33,12 +33,12 @@ loop-k-preserved c =
     let row = get_or rows c.loop-k.k no_rate in
     let p = c.pair_place-place.result in
     let o = c.index.result.now in
-    let kept = kept-at place _ (take c.loop-k.k rows) c.loop-k.places.items p o inv.placed c.pair_place-place.ensures.within c.index.ensures in
+    let kept = kept_at place _ (take c.loop-k.k rows) c.loop-k.places.items p o inv.placed c.pair_place-place.ensures.within c.index.ensures in
     let new = sym c.if-is_some.ensures in
-    let before = has-before place rows c.loop-k.k no_rate row p o _ refl c.pair_place-place.ensures.place kept new in
+    let before = has_before place rows c.loop-k.k no_rate row p o _ refl c.pair_place-place.ensures.place kept new in
     record {
-      fault = first-more (double_rate c.args.sites rows) c.loop-k.k inv.fault (rw before refl);
-      placed = placed-more place _ rows c.loop-k.k no_rate row c.loop-k.places.items p o c.loop-k-test.true refl
+      fault = first_more (double_rate c.args.sites rows) c.loop-k.k inv.fault (rw before refl);
+      placed = placed_more place _ rows c.loop-k.k no_rate row c.loop-k.places.items p o c.loop-k-test.true refl
           c.pair_place-place.ensures.place c.pair_place-place.ensures.within inv.placed kept new;
-      taken = taken-more place c.loop-k.places.items c.loop-k.k p row o (rw inv.placed.whole c.pair_place-place.ensures.within) c.index.ensures new inv.taken;
+      taken = taken_more place c.loop-k.places.items c.loop-k.k p row o (rw inv.placed.whole c.pair_place-place.ensures.within) c.index.ensures new inv.taken;
     }

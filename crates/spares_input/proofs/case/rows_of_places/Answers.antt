@@ -1,8 +1,8 @@
 use Rattle.std.proofs.Common.{◌≡◌, refl, get_or, length, None, Some}
 use Rattle.spares_input.specs.First.{first}
 use Rattle.spares_input.specs.Building.{vacant, missing_rate_at}
-use Rattle.spares_input.proofs.Firsts.{first-more, first-found}
-use Rattle.spares_input.proofs.PlaceFacts.{vacant-here, vacant-not, found-more}
+use Rattle.spares_input.proofs.Firsts.{first_more, first_found}
+use Rattle.spares_input.proofs.PlaceFacts.{vacant_here, vacant_not, found_more}
 use Rattle.spares_input.proofs.case.rows_of_places.Goals as goal
 
 pub loop-i-init : goal.loop-i-init
@@ -12,14 +12,14 @@ loop-i-init c = record { fault = refl; rows = rw c.new-rows.ensures.items refl }
 pub returns-in-None-clause-fault : goal.returns-in-None-clause-fault
 returns-in-None-clause-fault c =
     let nothing : get_or c.args.places.now c.loop-i.i None ≡ None = c.in-None.is in
-    rw (c.pair_at.ensures.part, c.pair_at.ensures.site) (first-found (vacant (missing_rate_at c.args.sites) c.args.places.now) c.loop-i.i (length c.args.places.now) _ c.loop-i.invariant.fault
-    (vacant-here (missing_rate_at c.args.sites) c.args.places.now c.loop-i.i c.loop-i-test.true nothing) c.loop-i-test.true)
+    rw (c.pair_at.ensures.part, c.pair_at.ensures.site) (first_found (vacant (missing_rate_at c.args.sites) c.args.places.now) c.loop-i.i (length c.args.places.now) _ c.loop-i.invariant.fault
+    (vacant_here (missing_rate_at c.args.sites) c.args.places.now c.loop-i.i c.loop-i-test.true nothing) c.loop-i-test.true)
 
 pub loop-i-preserved : goal.loop-i-preserved
 loop-i-preserved c =
     let something : get_or c.args.places.now c.loop-i.i None ≡ Some c.in-Some.row = c.in-Some.is in
     record {
-      fault = first-more (vacant (missing_rate_at c.args.sites) c.args.places.now) c.loop-i.i c.loop-i.invariant.fault
-          (vacant-not (missing_rate_at c.args.sites) c.args.places.now c.loop-i.i c.in-Some.row c.loop-i-test.true something);
-      rows = rw c.in_ok-push-in-Some.ensures.items (found-more c.loop-i.rows.items c.args.places.now c.loop-i.i c.in-Some.row c.loop-i-test.true something c.loop-i.invariant.rows);
+      fault = first_more (vacant (missing_rate_at c.args.sites) c.args.places.now) c.loop-i.i c.loop-i.invariant.fault
+          (vacant_not (missing_rate_at c.args.sites) c.args.places.now c.loop-i.i c.in-Some.row c.loop-i-test.true something);
+      rows = rw c.in_ok-push-in-Some.ensures.items (found_more c.loop-i.rows.items c.args.places.now c.loop-i.i c.in-Some.row c.loop-i-test.true something c.loop-i.invariant.rows);
     }

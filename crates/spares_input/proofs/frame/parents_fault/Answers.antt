@@ -1,7 +1,7 @@
 use Rattle.std.proofs.Common.{refl, sym, length}
 use Rattle.spares_input.specs.First.{first}
 use Rattle.spares_input.specs.Frames.{parent_fault}
-use Rattle.spares_input.proofs.Firsts.{first-more, first-found}
+use Rattle.spares_input.proofs.Firsts.{first_more, first_found}
 use Rattle.spares_input.proofs.frame.parents_fault.Goals as goal
 
 pub loop-k-init : goal.loop-k-init
@@ -10,7 +10,7 @@ loop-k-init c = refl
 
 pub returns-in-Some : goal.returns-in-Some
 returns-in-Some c =
-    sym (first-found (parent_fault c.args.parts.now) c.loop-k.k (length c.args.parts.now) c.in-Some.fault c.loop-k.invariant (sym c.in-Some.ensures) c.loop-k-test.true)
+    sym (first_found (parent_fault c.args.parts.now) c.loop-k.k (length c.args.parts.now) c.in-Some.fault c.loop-k.invariant (sym c.in-Some.ensures) c.loop-k-test.true)
 
 pub loop-k-preserved : goal.loop-k-preserved
-loop-k-preserved c = first-more (parent_fault c.args.parts.now) c.loop-k.k c.loop-k.invariant (sym c.in_default.ensures)
+loop-k-preserved c = first_more (parent_fault c.args.parts.now) c.loop-k.k c.loop-k.invariant (sym c.in_default.ensures)

@@ -2,9 +2,9 @@ use Rattle.std.proofs.Common.{◌≡◌, ◌*◌, refl, sym, get_or, length, tak
 use Rattle.spares_input.specs.First.{first}
 use Rattle.spares_input.specs.Rows.{no_stock}
 use Rattle.spares_input.specs.Stocks.{stock_fault, stock_place}
-use Rattle.spares_input.proofs.Firsts.{first-more, first-found}
-use Rattle.spares_input.proofs.PlaceFacts.{kept-at, has-before, placed-none, placed-more, taken-none, taken-more}
-use Rattle.spares_input.proofs.StockFacts.{stock_fault-over, stock_fault-double, stock_fault-none}
+use Rattle.spares_input.proofs.Firsts.{first_more, first_found}
+use Rattle.spares_input.proofs.PlaceFacts.{kept_at, has_before, placed_none, placed_more, taken_none, taken_more}
+use Rattle.spares_input.proofs.StockFacts.{stock_fault_over, stock_fault_double, stock_fault_none}
 use Rattle.spares_input.proofs.stocks.place_rows.Goals as goal
 
 pub loop-k-init : goal.loop-k-init
@@ -13,25 +13,25 @@ loop-k-init c =
     let empty : c.in_ok-places.places.items ≡ replicate (c.part_count-parts.result * c.site_count-sites.result) None = search rules in
     record {
       fault = refl;
-      placed = placed-none (stock_place c.site_count-sites.result) _ c.in_ok-places.places.items empty;
-      taken = taken-none (stock_place c.site_count-sites.result) _ c.in_ok-places.places.items empty;
+      placed = placed_none (stock_place c.site_count-sites.result) _ c.in_ok-places.places.items empty;
+      taken = taken_none (stock_place c.site_count-sites.result) _ c.in_ok-places.places.items empty;
     }
 
 pub returns-then-row-limit-clause-fault : goal.returns-then-row-limit-clause-fault
 returns-then-row-limit-clause-fault c =
     let rows = c.args.rows.now in
-    first-found (stock_fault c.args.case.now rows) c.loop-k.k (length rows) _ c.loop-k.invariant.fault
-    (stock_fault-over c.args.case.now rows c.loop-k.k c.limit.result c.limit.ensures.limit c.if-row-limit.true) c.loop-k-test.true
+    first_found (stock_fault c.args.case.now rows) c.loop-k.k (length rows) _ c.loop-k.invariant.fault
+    (stock_fault_over c.args.case.now rows c.loop-k.k c.limit.result c.limit.ensures.limit c.if-row-limit.true) c.loop-k-test.true
 
 pub returns-then-is_some-clause-fault : goal.returns-then-is_some-clause-fault
 returns-then-is_some-clause-fault c =
     let inv = c.loop-k.invariant in
     let n = c.site_count-sites.result in
     let rows = c.args.rows.now in
-    let kept = kept-at (stock_place n) _ (take c.loop-k.k rows) c.loop-k.places.items c.pair_place-place.result c.index.result.now inv.placed c.pair_place-place.ensures.within c.index.ensures in
-    let before = has-before (stock_place n) rows c.loop-k.k no_stock (get_or rows c.loop-k.k no_stock) c.pair_place-place.result c.index.result.now _ refl c.pair_place-place.ensures.place kept (sym c.if-is_some.ensures) in
-    first-found (stock_fault c.args.case.now rows) c.loop-k.k (length rows) _ inv.fault
-    (stock_fault-double c.args.case.now rows c.loop-k.k c.limit.result n c.limit.ensures.limit c.if-row-limit.false c.site_count-sites.ensures.count before) c.loop-k-test.true
+    let kept = kept_at (stock_place n) _ (take c.loop-k.k rows) c.loop-k.places.items c.pair_place-place.result c.index.result.now inv.placed c.pair_place-place.ensures.within c.index.ensures in
+    let before = has_before (stock_place n) rows c.loop-k.k no_stock (get_or rows c.loop-k.k no_stock) c.pair_place-place.result c.index.result.now _ refl c.pair_place-place.ensures.place kept (sym c.if-is_some.ensures) in
+    first_found (stock_fault c.args.case.now rows) c.loop-k.k (length rows) _ inv.fault
+    (stock_fault_double c.args.case.now rows c.loop-k.k c.limit.result n c.limit.ensures.limit c.if-row-limit.false c.site_count-sites.ensures.count before) c.loop-k-test.true
 
 pub loop-k-preserved : goal.loop-k-preserved
 loop-k-preserved c =
@@ -41,13 +41,13 @@ loop-k-preserved c =
     let row = get_or rows c.loop-k.k no_stock in
     let p = c.pair_place-place.result in
     let o = c.index.result.now in
-    let kept = kept-at (stock_place n) _ (take c.loop-k.k rows) c.loop-k.places.items p o inv.placed c.pair_place-place.ensures.within c.index.ensures in
+    let kept = kept_at (stock_place n) _ (take c.loop-k.k rows) c.loop-k.places.items p o inv.placed c.pair_place-place.ensures.within c.index.ensures in
     let new = sym c.if-is_some.ensures in
-    let before = has-before (stock_place n) rows c.loop-k.k no_stock row p o _ refl c.pair_place-place.ensures.place kept new in
+    let before = has_before (stock_place n) rows c.loop-k.k no_stock row p o _ refl c.pair_place-place.ensures.place kept new in
     record {
-      fault = first-more (stock_fault c.args.case.now rows) c.loop-k.k inv.fault
-          (stock_fault-none c.args.case.now rows c.loop-k.k c.limit.result n c.limit.ensures.limit c.if-row-limit.false c.site_count-sites.ensures.count before);
-      placed = placed-more (stock_place n) _ rows c.loop-k.k no_stock row c.loop-k.places.items p o c.loop-k-test.true refl
+      fault = first_more (stock_fault c.args.case.now rows) c.loop-k.k inv.fault
+          (stock_fault_none c.args.case.now rows c.loop-k.k c.limit.result n c.limit.ensures.limit c.if-row-limit.false c.site_count-sites.ensures.count before);
+      placed = placed_more (stock_place n) _ rows c.loop-k.k no_stock row c.loop-k.places.items p o c.loop-k-test.true refl
           c.pair_place-place.ensures.place c.pair_place-place.ensures.within inv.placed kept new;
-      taken = taken-more (stock_place n) c.loop-k.places.items c.loop-k.k p row o (rw inv.placed.whole c.pair_place-place.ensures.within) c.index.ensures new inv.taken;
+      taken = taken_more (stock_place n) c.loop-k.places.items c.loop-k.k p row o (rw inv.placed.whole c.pair_place-place.ensures.within) c.index.ensures new inv.taken;
     }

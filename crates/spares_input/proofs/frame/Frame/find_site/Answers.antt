@@ -1,7 +1,7 @@
 use Rattle.std.proofs.Common.{sym}
-use Rattle.spares_input.proofs.PartFacts.{site-named}
+use Rattle.spares_input.proofs.PartFacts.{site_named}
 use Rattle.spares_input.proofs.frame.Frame.find_site.Goals as goal
 
 pub returns-in-Some-clause-row : goal.returns-in-Some-clause-row
 returns-in-Some-clause-row c =
-    rw (← c.self.view_is) (site-named c.self.inside.sites.items c.args.name.now c.in-Some.place (rw c.self.invariant.1 at (sym c.in-Some.ensures.index)))
+    rw (← c.self.view_is) (site_named c.self.inside.sites.items c.args.name.now c.in-Some.place (rw c.self.invariant.1 at (sym c.in-Some.ensures.index)))

@@ -1,6 +1,6 @@
 use Rattle.std.proofs.Common.{◌≡◌, ◌∙◌, ap, sym, is_some, drop, bytes_eq, position, List, ℕ, ◌+◌, get_or}
 use Rattle.std.proofs.lemmas.List.{take_rest}
-use Rattle.spares_io.proofs.Find.{Entry, are_distinct-met, are_distinct-unmet}
+use Rattle.spares_io.proofs.Find.{Entry, are_distinct_met, are_distinct_unmet}
 use Rattle.spares_io.proofs.memory_shelf.MemShelf.are_distinct.Goals as goal
 use Rattle.spares_io.proofs.memory_shelf.MemShelf.are_distinct.Goals.{After-is_some}
 
@@ -17,11 +17,11 @@ found_later c =
 pub returns-then-is_some : goal.returns-then-is_some
 returns-then-is_some c =
     sym (c.loop-index.invariant
-    ∙ are_distinct-met c.args.files.now c.loop-index.index c.index-files-index.result c.loop-index-test.true
+    ∙ are_distinct_met c.args.files.now c.loop-index.index c.index-files-index.result c.loop-index-test.true
     (sym (found_later (goal.at.returns-then-is_some c).After-is_some) ∙ c.if-is_some.true))
 
 pub loop-index-preserved : goal.loop-index-preserved
 loop-index-preserved c =
     c.loop-index.invariant
-    ∙ are_distinct-unmet c.args.files.now c.loop-index.index c.index-files-index.result c.loop-index-test.true
+    ∙ are_distinct_unmet c.args.files.now c.loop-index.index c.index-files-index.result c.loop-index-test.true
     (sym (found_later (goal.at.loop-index-preserved c).After-is_some) ∙ c.if-is_some.false)
