@@ -12,7 +12,15 @@ held_at {f} shops k = get_or shops k (record { backorders = ends_exact f 0; spre
 
 -- the shop unit at a base: the direct part, and what its depot adds
 abbrev pub base_shop_ends : (f : ℕ) → Ends → ℕ → Feed f → Moments f
-base_shop_ends f direct cap depot = capped_at f cap (ends_add direct (mean_part f depot)) (ends_add direct (variance_part f depot))
+base_shop_ends f direct cap depot = capped_at f cap (ends_add direct (mean_part f depot))
+    (ends_add direct (variance_part f depot))
+
+-- what the line unit at a base holds without its shop units there: the direct part, and what its depot adds
+abbrev pub base_own_ends : (f : ℕ) → Ends → Feed f → Moments f
+base_own_ends f direct depot = record {
+  mean = ends_add direct (mean_part f depot);
+  variance = ends_add direct (variance_part f depot);
+}
 
 -- the line unit at a base: the direct part, what its depot adds, and the backorders of each shop unit there
 abbrev pub base_line_ends : (f : ℕ) → Ends → ℕ → Feed f → List (Held f) → Moments f

@@ -1,8 +1,9 @@
 //! The mean and the variance of what a base's pipelines hold, for a shop unit and for a line unit.
 //!
-//! A base's pipeline holds the units that are in repair there or on their way from the depot. Its direct part D is what it
-//! would hold if the depot were never short. Of the depot's backorders, which are E on average and have the variance V, the
-//! share f is this base's; and a line unit's repair at the base waits for each shop unit i that the base is short of:
+//! A base's pipeline holds the units that are in repair there or on their way from the depot. Its direct part D is
+//! what it would hold if the depot were never short. Of the depot's backorders, which are E on average and have the
+//! variance V, the share f is this base's; and a line unit's repair at the base waits for each shop unit i that the
+//! base is short of:
 //!
 //! ```text
 //! a shop unit   mean     = D + f E
@@ -21,7 +22,7 @@ ghost use Rattle.exact_model.specs.Fraction.{Fraction, sum_below, ◌+ℚ◌, �
 ghost use Rattle.exact_model.specs.Shares.{shared};
 ghost use Rattle.fixed_interval.specs.Ends.{In, IsWithinLimit};
 ghost use Rattle.depot_pipeline.specs.Exact.{IsAtMost, FeedIn, IsSmallFeed};
-ghost use Rattle.base_pipeline.specs.Profile.{base_shop_ends, base_line_ends};
+ghost use Rattle.base_pipeline.specs.Profile.{base_shop_ends, base_own_ends, base_line_ends};
 ghost use Rattle.base_pipeline.specs.Exact.{AllHeldIn, IsSmallHeld};
 
 #[cfg(test)]
@@ -30,7 +31,8 @@ mod tests;
 use depot_pipeline::{Feed, Moments, mean_of, variance_of};
 use fixed_interval::Iv;
 
-/// The backorders of a shop unit at the same base, which hold a line unit's repair there: their mean and their variance.
+/// The backorders of a shop unit at the same base, which hold a line unit's repair there: their mean and their
+/// variance.
 #[derive(Clone, Copy, Drop)]
 pub struct Held<const F: u32> {
     pub backorders: Iv<F>,
@@ -39,8 +41,8 @@ pub struct Held<const F: u32> {
 
 /// The pipeline of a shop unit at a base: its direct part, at most 256 units, and what the depot feeds into it.
 ///
-/// `cap` is what the caller knows the mean and the variance to be at most, in units of `2^-F`: each is capped there, and
-/// encloses the exact value where that is at most the cap.
+/// `cap` is what the caller knows the mean and the variance to be at most, in units of `2^-F`: each is capped there,
+/// and encloses the exact value where that is at most the cap.
 pub fn base_shop<const F: u32>(direct: Iv<F>, cap: u128, depot: Feed<F>) -> Moments<F>
     requires direct { IsWithinLimit F direct }
     requires small { IsSmallFeed F depot }
@@ -53,6 +55,21 @@ pub fn base_shop<const F: u32>(direct: Iv<F>, cap: u128, depot: Feed<F>) -> Mome
     Moments {
         mean: direct.add(mean_of(&depot)).capped(cap),
         variance: direct.add(variance_of(&depot)).capped(cap),
+    }
+}
+
+/// What the pipeline of a line unit at a base has without its shop units there: its direct part, at most 256 units,
+/// and what the depot feeds into it. With the backorders of the shop units added, and capped, it is [`base_line`].
+pub fn base_own<const F: u32>(direct: Iv<F>, depot: &Feed<F>) -> Moments<F>
+    requires direct { IsWithinLimit F direct }
+    requires small { IsSmallFeed F depot.now }
+    ensures ends { result ≡ base_own_ends F direct.entry depot.now }
+    ensures mean_most { result.mean.hi ≤ 768 * 2 ^ F }
+    ensures variance_most { result.variance.hi ≤ 768 * 2 ^ F }
+{
+    Moments {
+        mean: direct.add(mean_of(depot)),
+        variance: direct.add(variance_of(depot)),
     }
 }
 
@@ -71,15 +88,19 @@ pub fn base_line<const F: u32>(
     requires few { length shops.now ≤ 8 }
     requires held { All (IsSmallHeld F) shops.now }
     ensures ends { result ≡ base_line_ends F direct.entry cap depot.entry shops.now }
-    ensures mean { (d f e v : Fraction) (b s : ℕ → Fraction) → In F direct.entry d → FeedIn F depot.entry f e v → AllHeldIn F shops.now b s
+    ensures mean { (d f e v : Fraction) (b s : ℕ → Fraction) → In F direct.entry d → FeedIn F depot.entry f e v
+        → AllHeldIn F shops.now b s
         → IsAtMost F cap (d +ℚ f *ℚ e +ℚ sum_below b (length shops.now))
         → In F result.mean (d +ℚ f *ℚ e +ℚ sum_below b (length shops.now)) }
-    ensures variance { (d f e v : Fraction) (b s : ℕ → Fraction) → In F direct.entry d → FeedIn F depot.entry f e v → AllHeldIn F shops.now b s
+    ensures variance { (d f e v : Fraction) (b s : ℕ → Fraction) → In F direct.entry d → FeedIn F depot.entry f e v
+        → AllHeldIn F shops.now b s
         → IsAtMost F cap (d +ℚ shared f e v +ℚ sum_below s (length shops.now))
         → In F result.variance (d +ℚ shared f e v +ℚ sum_below s (length shops.now)) }
 {
-    let mut mean = direct.add(mean_of(&depot));
-    let mut variance = direct.add(variance_of(&depot));
+    let Moments {
+        mut mean,
+        mut variance,
+    } = base_own(direct, &depot);
     for shop in shops {
         mean = mean.add(shop.backorders);
         variance = variance.add(shop.spread);

@@ -23,6 +23,7 @@ added first part (suc n) = ends_add (added first part n) (part n)
 abbrev pub no_feed : (f : ℕ) → Feed f
 no_feed f = record { share = ends_exact f 0; backorders = ends_exact f 0; spread = ends_exact f 0 }
 
+-- the feed at the place k, and zeros where there is none
 abbrev pub feed_at : {f : ℕ} → List (Feed f) → ℕ → Feed f
 feed_at {f} feeds k = get_or feeds k (no_feed f)
 

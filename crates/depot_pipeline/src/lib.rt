@@ -1,8 +1,9 @@
 //! The mean and the variance of what a depot's pipelines hold, for a shop unit and for a line unit.
 //!
-//! A pipeline holds the units that are in repair or on their way. Its direct part D is what the depot's own work holds, a
-//! number that is both its mean and its variance. A line unit's repair also waits for shop units that the depot is short of:
-//! with a share f of a shop unit's backorders at the depot, which are E on average and have the variance V,
+//! A pipeline holds the units that are in repair or on their way. Its direct part D is what the depot's own work
+//! holds, a number that is both its mean and its variance. A line unit's repair also waits for shop units that the
+//! depot is short of: with a share f of a shop unit's backorders at the depot, which are E on average and have the
+//! variance V,
 //!
 //! ```text
 //! mean     = D + sum of f E
@@ -77,8 +78,8 @@ pub fn variance_of<const F: u32>(feed: &Feed<F>) -> Iv<F>
 
 /// The pipeline of a shop unit at the depot: its direct part, at most 256 units, and nothing more.
 ///
-/// `cap` is what the caller knows the mean and the variance to be at most, in units of `2^-F`: each is capped there, and
-/// encloses the exact value where that is at most the cap.
+/// `cap` is what the caller knows the mean and the variance to be at most, in units of `2^-F`: each is capped there,
+/// and encloses the exact value where that is at most the cap.
 pub fn depot_shop<const F: u32>(direct: Iv<F>, cap: u128) -> Moments<F>
     requires direct { IsWithinLimit F direct }
     ensures ends { result ≡ depot_shop_ends F direct.entry cap }
@@ -91,8 +92,8 @@ pub fn depot_shop<const F: u32>(direct: Iv<F>, cap: u128) -> Moments<F>
     }
 }
 
-/// The pipeline of a line unit at the depot: its direct part, at most 256 units, and what its shop units there feed into it,
-/// at most 8 of them.
+/// The pipeline of a line unit at the depot: its direct part, at most 256 units, and what its shop units there feed
+/// into it, at most 8 of them.
 ///
 /// `cap` is as in [`depot_shop`].
 pub fn depot_line<const F: u32>(direct: Iv<F>, cap: u128, feeds: &[Feed<F>]) -> Moments<F>

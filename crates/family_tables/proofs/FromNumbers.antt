@@ -20,6 +20,7 @@ use Rattle.family_eval.specs.Profile.{base_line, base_shop, depot_feed, depot_li
 use Rattle.family_eval.proofs.Items.{base_line_item, flat_at}
 use Rattle.family_eval.proofs.Ranges.{can_capped}
 
+-- a mean that begins at or above a pair's direct part has a table once it is capped
 pub can_rows : (f : ℕ) (x : PairNumbers f) (m v : Ends) → ArePairNumbers f x → x.direct.lo ≤ m.lo → HasTable f (capped_at f x.cap m v)
 can_rows f x m v h l = can_capped f x.cap x.direct m v h.some h.order h.cap_most l
 

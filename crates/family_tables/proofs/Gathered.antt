@@ -1,12 +1,9 @@
 -- The numbers that are read from a case are those of its definition, and they are a family's.
-use Rattle.std.proofs.Common.{◌≡◌, ℕ, zero, suc, ◌+◌, ◌<◌, ◌≤◌, ◌==◌, List, length, get_or, map, flat_map, sym, ap, ap₂, ◌∙◌, subst, arith, ◌-◌, le_trans, mul-le-mul_right}
-use Rattle.std.proofs.lemmas.Bool.{cond_both}
+use Rattle.std.proofs.Common.{◌≡◌, ℕ, ◌+◌, ◌<◌, ◌≤◌, List, length, get_or, map, flat_map, sym, ap, ap₂, ◌∙◌, subst, arith, ◌-◌, le_trans, mul-le-mul_right}
 use Rattle.std.proofs.lemmas.List.{get_or-map, length-map}
 use Rattle.std.proofs.lemmas.List.Folds.{flat_map-map}
-use Rattle.spares_input.specs.Rows.{no_part}
-use Rattle.spares_input.specs.Frames.{part_at}
 use Rattle.spares_input.specs.Cases.{CaseRows, IsCase}
-use Rattle.spares_input.specs.Stocks.{HasPair, IsFor, IsWithinLimits, StockList, limit_at, stock_at}
+use Rattle.spares_input.specs.Stocks.{HasPair, IsFor, IsWithinLimits, StockList, stock_at}
 use Rattle.std.specs.List.{All}
 use Rattle.std.proofs.lemmas.List.FromFn.{length-map-range_with_len}
 use Rattle.family_tables.specs.Kept.{depot_stocks}
@@ -14,27 +11,26 @@ use Rattle.family_tables.proofs.Served.{all_numbered}
 use Rattle.spares_input.specs.declared.rows.PartId.{PartId}
 use Rattle.fleet_model.specs.Rows.{all_sites, weight}
 use Rattle.fleet_model.specs.Fleet.{family}
+use Rattle.fleet_model.proofs.AllocationLaws.{limit_most}
 use Rattle.demand_rates.specs.RateLists.{RateList}
 use Rattle.demand_rates.specs.Rates.{pair_rates, ArePairRates, AreRatesOf}
 use Rattle.family_tables.specs.declared.numbers.PairNumbers.{PairNumbers}
 use Rattle.family_eval.specs.Inputs.{IsLine}
 use Rattle.family_tables.specs.Numbers.{AreNumbers, ArePairNumbers, FamilyNumbers, numbers_of, no_numbers, pair_numbers}
-use Rattle.family_eval.proofs.Families.{weight_most}
+use Rattle.family_eval.proofs.Families.{weight_most, member_in_case}
 use Rattle.family_eval.proofs.Items.{flat_at, flat_length}
 use Rattle.family_eval.proofs.Ranges.{pipeline_from_is, rated, share_most}
-use Rattle.family_eval.proofs.Units.{few_shops, shop_at}
+use Rattle.family_eval.proofs.Units.{few_shops}
 
-member : (c : CaseRows) (l i : ℕ) → IsCase c → IsLine c l → i < length (family c l) → get_or (family c l) i 0 < length c.parts
-member c l zero valid line h = line.is_part
-member c l (suc i) valid line h = (shop_at c l i valid line (omega arith)).is_part
-
+-- each id of a family is that of a part of the case
 pub member_in : (c : CaseRows) (l : ℕ) (xs ys : List PartId) (k : ℕ) (d : PartId) → IsCase c → IsLine c l → ys ≡ xs → map (λ (p : PartId). p.0) xs ≡ family c l
     → k < length ys → (get_or ys k d).0 < length c.parts
 member_in c l xs ys k d valid line same e h =
     let all = ap (map (λ (p : PartId). p.0)) same ∙ e in
     let n : k < length (family c l) = omega (arith, h, ap (λ (v : List ℕ). length v) all, length-map ys (λ (p : PartId). p.0)) in
-    subst (λ i. i < length c.parts) (ap (λ v. get_or v k 0) (sym all) ∙ get_or-map (λ (p : PartId). p.0) ys k d 0 h) (member c l k valid line n)
+    subst (λ i. i < length c.parts) (ap (λ v. get_or v k 0) (sym all) ∙ get_or-map (λ (p : PartId). p.0) ys k d 0 h) (member_in_case c l k valid line n)
 
+-- a family's ids, sites, weight and what each of its pairs has make the numbers of the family
 pub gathered : (f : ℕ) (c : CaseRows) (l : ℕ) (members slice : List PartId) (sites w : ℕ) (own : List (PairNumbers f)) → map (λ (p : PartId). p.0) members ≡ family c l
     → sites ≡ length c.sites → slice ≡ members → own ≡ flat_map (λ (p : PartId). map (pair_numbers f c p.0) (all_sites c)) slice → w ≡ weight c l
     → record { parts = map (λ (p : PartId). p.0) members; sites = sites; pairs = own; weight = w } ≡ numbers_of f c l
@@ -44,11 +40,6 @@ gathered f c l members slice sites w own hm hs hl ho hw =
     ho ∙ ap (flat_map (λ (p : PartId). row p.0)) hl ∙ sym (flat_map-map row (λ (p : PartId). p.0) members) ∙ ap (flat_map row) hm in
     ap₂ (λ (a : List ℕ) (b : List (PairNumbers f)). record { parts = a; sites = sites; pairs = b; weight = w }) hm pairs
     ∙ ap₂ (λ (n v : ℕ). record { parts = family c l; sites = n; pairs = flat_map row (family c l); weight = v }) hs hw
-
-limit_most : (c : CaseRows) (p k : ℕ) → IsCase c → p < length c.parts → limit_at c.parts p k ≤ 63
-limit_most c p k h l =
-    let row = h.frame.part_rows p no_part l in
-    cond_both (k == 0) (part_at c.parts p).max_depot (part_at c.parts p).max_base (λ n. n ≤ 63) (λ e. row.max_depot) (λ e. row.max_base)
 
 pair_valid : (f : ℕ) (c : CaseRows) (p k : ℕ) → 24 ≤ f → IsCase c → p < length c.parts → ArePairRates c p k (pair_rates c p k) → ArePairNumbers f (pair_numbers f c p k)
 pair_valid f c p k least valid l r =
@@ -69,7 +60,7 @@ numbers_valid f c r l least valid rates line = record {
   fewest_sites = valid.frame.fewest_sites;
   most_sites = valid.frame.most_sites;
   complete = flat_length (pair_numbers f c) (length c.sites) (family c l);
-  pairs = λ i k h m. (let p = member c l i valid line h in
+  pairs = λ i k h m. (let p = member_in_case c l i valid line h in
       let a = rates.pairs (get_or (family c l) i 0) k p m in
       subst (ArePairNumbers f) (sym (flat_at (pair_numbers f c) (length c.sites) (no_numbers f) (family c l) i k h m))
       (pair_valid f c (get_or (family c l) i 0) k least valid p (subst (ArePairRates c (get_or (family c l) i 0) k) a.units a)));
@@ -85,19 +76,22 @@ numbers_made f c r l x least valid rates line e = subst (AreNumbers f) (sym e) (
 has_pair : (c : CaseRows) (s : StockList) (p : ℕ) → IsFor c s → p < length c.parts → 0 < length c.sites → HasPair s p 0
 has_pair c s p for l k = grind (arith, for.sites, for.pairs, mul-le-mul_right (length c.sites) l)
 
+-- stocks of the case have a number for each part of the family at the depot
 pub stocks_there : (f : ℕ) (c : CaseRows) (l : ℕ) (s : StockList) (x : FamilyNumbers f) → IsCase c → IsLine c l → IsFor c s → x ≡ numbers_of f c l
     → (i : ℕ) → i < length x.parts → HasPair s (get_or x.parts i 0) 0
 stocks_there f c l s x valid line for e =
     subst (λ (y : FamilyNumbers f). (i : ℕ) → i < length y.parts → HasPair s (get_or y.parts i 0) 0) (sym e)
-    (λ i h. has_pair c s (get_or (family c l) i 0) for (member c l i valid line h) (omega (arith, valid.frame.fewest_sites)))
+    (λ i h. has_pair c s (get_or (family c l) i 0) for (member_in_case c l i valid line h) (omega (arith, valid.frame.fewest_sites)))
 
+-- the shop units' stocks at the depot are at most 63 where stocks are within the limits
 pub stocks_few : (f : ℕ) (c : CaseRows) (l : ℕ) (s : StockList) (x : FamilyNumbers f) → IsCase c → IsLine c l → IsWithinLimits c s → x ≡ numbers_of f c l
     → All (λ n. n ≤ 63) (depot_stocks x s)
 stocks_few f c l s x valid line within e =
     subst (λ (y : FamilyNumbers f). All (λ n. n ≤ 63) (depot_stocks y s)) (sym e)
     (all_numbered (λ n. n ≤ 63) (λ i. stock_at s (get_or (family c l) (i + 1) 0) 0) (length (family c l) - 1)
-    (λ i h. (let p = member c l (i + 1) valid line (omega (arith, h)) in
+    (λ i h. (let p = member_in_case c l (i + 1) valid line (omega (arith, h)) in
     le_trans (within (get_or (family c l) (i + 1) 0) 0 p (omega (arith, valid.frame.fewest_sites))) (limit_most c (get_or (family c l) (i + 1) 0) 0 valid p))))
 
+-- there is such a stock for each shop unit
 pub stocks_count : (f : ℕ) (x : FamilyNumbers f) (s : StockList) → length (depot_stocks x s) ≡ length x.parts - 1
 stocks_count f x s = length-map-range_with_len (λ i. stock_at s (get_or x.parts (i + 1) 0) 0) 0 (length x.parts - 1)

@@ -42,6 +42,7 @@ flat_more h a (suc n) =
     ap (λ v. h a ++ v) (flat_more h (a + 1) n) ∙ sym (append_assoc (h a) (flat_map h (range_with_len (a + 1) n)) (h (a + 1 + n)))
     ∙ ap (λ m. (h a ++ flat_map h (range_with_len (a + 1) n)) ++ h m) next
 
+-- the lists of one number more, one after the other, have its list at the end
 pub flat_next : {X : Type 0} (h : ℕ → List X) (n : ℕ) → flat_map h (range_with_len 0 (n + 1)) ≡ flat_map h (range_with_len 0 n) ++ h n
 flat_next h n =
     let same : 0 + n ≡ n = omega arith in
@@ -58,6 +59,7 @@ all_flat P h a (suc n) e =
     All-append P (h a) (flat_map h (range_with_len (a + 1) n)) (subst (λ m. All P (h m)) first (e 0 (omega arith)))
     (all_flat P h (a + 1) n (λ k l. let next : a + suc k ≡ a + 1 + k = omega arith in subst (λ m. All P (h m)) next (e (suc k) (omega (arith, l)))))
 
+-- the keys that belong to stocks of at most 63 of the shop units at the depot are keys of the family
 pub keys_valid : (f : ℕ) (x : FamilyNumbers f) (d : List ℕ) → AreNumbers f x → length d ≡ length x.parts - 1 → All (λ n. n ≤ 63) d → All (IsKey x) (keys_of x d)
 keys_valid f x d are same few =
     All-append (IsKey x) (map (λ i. key_at (i + 1) 0 []) (shop_numbers x)) _

@@ -4,3 +4,4 @@ pub mod Gathered
 pub mod Served
 pub mod Found
 pub mod Keyed
+pub mod Own

@@ -15,7 +15,8 @@ use Rattle.family_eval.specs.Inputs.{IsLine}
 use Rattle.family_tables.specs.Numbers.{AgreeAt}
 use Rattle.family_eval.proofs.Items.{base_line_item}
 
-abbrev Agree : CaseRows → ℕ → List ℕ → List ℕ → ℕ → Type 0
+-- two lists of stocks agree on each part of a family at site k
+abbrev pub Agree : CaseRows → ℕ → List ℕ → List ℕ → ℕ → Type 0
 Agree c l s t k = AllByRecursion (λ p. stock c s p k ≡ stock c t p k) (family c l)
 
 each_same : (g h : ℕ → ℕ) (xs : List ℕ) → map g xs ≡ map h xs → AllByRecursion (λ p. g p ≡ h p) xs
@@ -62,9 +63,15 @@ module _ (f : ℕ) (c : CaseRows) (s t : List ℕ) where
       (map_same (λ i. (stock c s i 0 ≡ stock c t i 0) × (stock c s i j ≡ stock c t i j)) (λ i. held_of f (base_shop f c s i j)) (λ i. held_of f (base_shop f c t i j))
       (shop_units c l) (λ i e. ap (held_of f) (base_shop_same i j e.0 e.1)) (both _ _ (shop_units c l) d.1 a.1)))
 
+-- stocks that agree on each part of a family at the depot and at a base give its line unit the same item there
+pub item_agrees : (f : ℕ) (c : CaseRows) (s t : List ℕ) (l j : ℕ) → IsLine c l → 0 < j → Agree c l s t 0 → Agree c l s t j
+    → item_of f c s l j ≡ item_of f c t l j
+item_agrees f c s t l j line some d a =
+    sym (base_line_item f c s l j line some) ∙ base_line_same f c s t l j d a ∙ base_line_item f c t l j line some
+
+-- the item of a line unit at a base depends on the family's stocks at the depot and there alone
 pub item_same : (f : ℕ) (c : CaseRows) (s t : List ℕ) (l j : ℕ) → IsLine c l → 0 < j → AgreeAt c l s t 0 → AgreeAt c l s t j
     → item_of f c s l j ≡ item_of f c t l j
 item_same f c s t l j line some d a =
-    sym (base_line_item f c s l j line some)
-    ∙ base_line_same f c s t l j (each_same (λ p. stock c s p 0) (λ p. stock c t p 0) (family c l) d) (each_same (λ p. stock c s p j) (λ p. stock c t p j) (family c l) a)
-    ∙ base_line_item f c t l j line some
+    item_agrees f c s t l j line some
+    (each_same (λ p. stock c s p 0) (λ p. stock c t p 0) (family c l) d) (each_same (λ p. stock c s p j) (λ p. stock c t p j) (family c l) a)

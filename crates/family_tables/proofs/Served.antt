@@ -13,7 +13,6 @@ use Rattle.depot_pipeline.specs.declared.Moments.{Moments}
 use Rattle.depot_pipeline.specs.declared.Feed.{Feed}
 use Rattle.depot_pipeline.specs.Exact.{IsSmallFeed}
 use Rattle.depot_pipeline.specs.Profile.{feed_at, mean_part}
-use Rattle.base_pipeline.specs.Exact.{IsSmallHeld}
 use Rattle.base_pipeline.specs.Profile.{held_at}
 use Rattle.family_eval.specs.Inputs.{HasTable}
 use Rattle.family_tables.specs.Numbers.{AreBaseBackorders, AreNumbers, ArePairNumbers, FamilyNumbers, nth_stock, base_backorders, base_helds, base_line_moments, base_shop_moments, base_shop_row, depot_feeds, depot_line_moments, depot_line_row, depot_shop_moments, depot_shop_row, feed_from, pair_at, rows_of}
@@ -22,12 +21,15 @@ use Rattle.family_eval.proofs.Ranges.{added_least}
 
 -- ---- lists by number
 
+-- where there is an entry for each number below n, there is one at each such place
 pub count_of : {X : Type 0} (h : ℕ → X) (n i : ℕ) (xs : List X) → xs ≡ map h (range_with_len 0 n) → i < n → i < length xs
 count_of h n i xs e l = omega (arith, l, ap (λ (ys : List _). length ys) e, length-map-range_with_len h 0 n)
 
+-- the entry at such a place is that of its number
 pub read_of : {X : Type 0} (h : ℕ → X) (n i : ℕ) (xs : List X) (x : X) → xs ≡ map h (range_with_len 0 n) → i < n → x ≡ get_or xs i x → x ≡ h i
 read_of h n i xs x e l r = r ∙ ap (λ ys. get_or ys i x) e ∙ get_or-map-range_with_len h 0 n i i x l (omega arith)
 
+-- what holds of the entry of each number below n holds of all entries
 pub all_numbered : {X : Type 0} (Q : X → Type 0) (h : ℕ → X) (n : ℕ) → ((k : ℕ) → k < n → Q (h k)) → All Q (map h (range_with_len 0 n))
 all_numbered Q h n e k d l =
     let m : k < n = omega (arith, l, length-map-range_with_len h 0 n) in
@@ -35,6 +37,7 @@ all_numbered Q h n e k d l =
 
 -- ---- what is passed on is small
 
+-- backorders and their variance are at most 256 units
 pub record IsSmallRow (f : ℕ) (row : Row f) : Type 0 where
   pub ebo : row.ebo.hi ≤ 256 * 2 ^ f
   pub vbo : row.vbo.hi ≤ 256 * 2 ^ f
@@ -50,6 +53,7 @@ rows_small f m can s few =
       vbo = le_trans r.vbo (either_most m.variance m.mean (256 * 2 ^ f) can.variance_top can.mean_top);
     }
 
+-- a small row fed by a share of at most 1 is a small feed
 pub feed_is_small : (f : ℕ) (share : Ends) (row : Row f) (feed : Feed f) → feed ≡ feed_from f share row → share.hi ≤ 2 ^ f → IsSmallRow f row → IsSmallFeed f feed
 feed_is_small f share row feed e h small = subst (IsSmallFeed f) (sym e) (record { share = h; backorders = small.ebo; spread = small.vbo })
 
@@ -80,20 +84,17 @@ module _ (f : ℕ) (x : FamilyNumbers f) (are : AreNumbers f x) where
   base_shop_small i k n s h m few =
       rows_small f (base_shop_moments f x i k n) (can_rows f (pair_at x (i + 1) k) _ _ (are.pairs (i + 1) k (place_of_shop i h) m) (omega arith)) s few
 
-  pub base_helds_small : (k : ℕ) (d b : List ℕ) → k < x.sites → All (λ n. n ≤ 63) b → length b ≡ length x.parts - 1 → All (IsSmallHeld f) (base_helds f x k d b)
-  base_helds_small k d b m few same =
-      all_numbered (IsSmallHeld f) _ (length x.parts - 1)
-      (λ i h. (let r = base_shop_small i k (nth_stock d i) (nth_stock b i) h m (few i 0 (omega (arith, h, same))) in record { backorders = r.ebo; spread = r.vbo }))
-
-  pub base_line_small : (k o : ℕ) (d b : List ℕ) (s : ℕ) → k < x.sites → s ≤ 63 → (base_backorders f x k o d b s).hi ≤ 256 * 2 ^ f
-  base_line_small k o d b s m few =
-      (rows_small f (base_line_moments f x k o d b)
-      (can_rows f (pair_at x 0 k) _ _ (are.pairs 0 k are.some m)
+  pub base_line_table : (k o : ℕ) (d b : List ℕ) → k < x.sites → HasTable f (base_line_moments f x k o d b)
+  base_line_table k o d b m =
+      can_rows f (pair_at x 0 k) _ _ (are.pairs 0 k are.some m)
       (omega (
         arith,
         added_least (ends_add (pair_at x 0 k).direct (mean_part f (feed_from f (pair_at x 0 k).share (depot_line_row f x d o))))
             (λ n. (held_at (base_helds f x k d b) n).backorders) (length (base_helds f x k d b)),
-      ))) s few).ebo
+      ))
+
+  pub base_line_small : (k o : ℕ) (d b : List ℕ) (s : ℕ) → k < x.sites → s ≤ 63 → (base_backorders f x k o d b s).hi ≤ 256 * 2 ^ f
+  base_line_small k o d b s m few = (rows_small f (base_line_moments f x k o d b) (base_line_table k o d b m) s few).ebo
 
   pub all_backorders_small : (k o : ℕ) (d b : List ℕ) (list : List Ends) → k < x.sites → AreBaseBackorders f x k o d b list
       → All (λ (y : Ends). y.hi ≤ 256 * 2 ^ f) list

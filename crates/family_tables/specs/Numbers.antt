@@ -1,5 +1,5 @@
--- The numbers of a family, and its levels from them alone. A place is that of a part in the family: 0 for the line unit, and
--- i + 1 for its shop unit i, in part order.
+-- The numbers of a family, and its levels from them alone. A place is that of a part in the family: 0 for the line
+-- unit, and i + 1 for its shop unit i, in part order.
 use Rattle.std.specs.Prelude.{◌≡◌, ℕ, ◌+◌, ◌-◌, ◌*◌, ◌^◌, ◌<◌, ◌≤◌, ◌⊎◌, List, length, map, flat_map, get_or}
 use Rattle.std.specs.List.{range_with_len}
 use Rattle.fixed_interval.specs.Ends.{Ends, IsWithinLimit, ends_exact, ends_ratio}
@@ -10,7 +10,7 @@ use Rattle.depot_pipeline.specs.declared.Moments.{Moments}
 use Rattle.depot_pipeline.specs.declared.Feed.{Feed}
 use Rattle.depot_pipeline.specs.Profile.{depot_shop_ends, depot_line_ends}
 use Rattle.base_pipeline.specs.declared.Held.{Held}
-use Rattle.base_pipeline.specs.Profile.{base_shop_ends, base_line_ends}
+use Rattle.base_pipeline.specs.Profile.{base_shop_ends, base_own_ends, base_line_ends}
 use Rattle.spares_input.specs.Cases.{CaseRows}
 use Rattle.spares_input.specs.Stocks.{limit_at}
 use Rattle.fleet_model.specs.Rows.{all_sites, stock, weight}
@@ -19,10 +19,11 @@ use Rattle.fleet_model.specs.Fleet.{family}
 use Rattle.demand_rates.specs.declared.kinds.PairRates.{PairRates}
 use Rattle.demand_rates.specs.Rates.{pair_rates}
 use Rattle.family_tables.specs.declared.numbers.PairNumbers.{PairNumbers}
+use Rattle.family_tables.specs.declared.own_part.OwnPart.{OwnPart}
 use Rattle.family_eval.specs.Profile.{share_from}
 
--- what a family is computed from: its parts, the line unit first; how many sites there are; what each pair has of its own, by
--- part and then by site; and how much a backorder of the line unit counts
+-- what a family is computed from: its parts, the line unit first; how many sites there are; what each pair has of its
+-- own, by part and then by site; and how much a backorder of the line unit counts
 pub record FamilyNumbers (f : ℕ) : Type 0 where
   pub parts : List ℕ
   pub sites : ℕ
@@ -39,9 +40,11 @@ numbers_from f r limit = record {
   limit = limit;
 }
 
+-- what part p at site k has of its own
 abbrev pub pair_numbers : (f : ℕ) → CaseRows → ℕ → ℕ → PairNumbers f
 pair_numbers f c p k = numbers_from f (pair_rates c p k) (limit_at c.parts p k)
 
+-- the numbers of the family of the line unit l
 abbrev pub numbers_of : (f : ℕ) → CaseRows → ℕ → FamilyNumbers f
 numbers_of f c l = record {
   parts = family c l;
@@ -52,6 +55,7 @@ numbers_of f c l = record {
 
 -- ---- what a family's numbers are
 
+-- what a look-up past the last pair answers: zeros
 abbrev pub no_numbers : (f : ℕ) → PairNumbers f
 no_numbers f = record { direct = ends_exact f 0; cap = 0; share = ends_exact f 0; limit = 0 }
 
@@ -68,6 +72,7 @@ pub record ArePairNumbers (f : ℕ) (x : PairNumbers f) : Type 0 where
   pub share_most : x.share.hi ≤ 2 ^ f
   pub limit_most : x.limit ≤ 63
 
+-- 1 to 9 parts, 2 to 16 sites, each pair with numbers that are in order, and a weight of at most 100
 pub record AreNumbers (f : ℕ) (x : FamilyNumbers f) : Type 0 where
   pub some : 0 < length x.parts
   pub few : length x.parts ≤ 9
@@ -79,6 +84,7 @@ pub record AreNumbers (f : ℕ) (x : FamilyNumbers f) : Type 0 where
 
 -- ---- the levels
 
+-- the table of a pipeline, row by row
 abbrev pub rows_of : (f : ℕ) → Moments f → List (Row f)
 rows_of f m = table_rows f m.mean m.variance
 
@@ -86,6 +92,7 @@ rows_of f m = table_rows f m.mean m.variance
 abbrev pub feed_from : (f : ℕ) → Ends → Row f → Feed f
 feed_from f share row = record { share = share; backorders = row.ebo; spread = row.vbo }
 
+-- what a pair with this row holds back of its line unit
 abbrev pub held_from : (f : ℕ) → Row f → Held f
 held_from f row = record { backorders = row.ebo; spread = row.vbo }
 
@@ -93,6 +100,7 @@ held_from f row = record { backorders = row.ebo; spread = row.vbo }
 abbrev pub shop_numbers : {f : ℕ} → FamilyNumbers f → List ℕ
 shop_numbers x = range_with_len 0 (length x.parts - 1)
 
+-- the stock of shop unit i in such a list, 0 past its end
 abbrev pub nth_stock : List ℕ → ℕ → ℕ
 nth_stock stocks i = get_or stocks i 0
 
@@ -100,24 +108,30 @@ nth_stock stocks i = get_or stocks i 0
 abbrev pub depot_shop_moments : (f : ℕ) → FamilyNumbers f → ℕ → Moments f
 depot_shop_moments f x i = depot_shop_ends f (pair_at x (i + 1) 0).direct (pair_at x (i + 1) 0).cap
 
+-- its row where the depot has s of it
 abbrev pub depot_shop_row : (f : ℕ) → FamilyNumbers f → ℕ → ℕ → Row f
 depot_shop_row f x i s = at_stock (rows_of f (depot_shop_moments f x i)) s
 
 -- the line unit at the depot, where the shop units have the stocks d there
 abbrev pub depot_feeds : (f : ℕ) → FamilyNumbers f → List ℕ → List (Feed f)
-depot_feeds f x d = map (λ i. feed_from f (pair_at x (i + 1) 0).share (depot_shop_row f x i (nth_stock d i))) (shop_numbers x)
+depot_feeds f x d = map (λ i. feed_from f (pair_at x (i + 1) 0).share (depot_shop_row f x i (nth_stock d i)))
+    (shop_numbers x)
 
+-- the pipeline of the line unit at the depot, with these feeds
 abbrev pub depot_line_moments : (f : ℕ) → FamilyNumbers f → List ℕ → Moments f
 depot_line_moments f x d = depot_line_ends f (pair_at x 0 0).direct (pair_at x 0 0).cap (depot_feeds f x d)
 
+-- its row where the depot has s of it
 abbrev pub depot_line_row : (f : ℕ) → FamilyNumbers f → List ℕ → ℕ → Row f
 depot_line_row f x d s = at_stock (rows_of f (depot_line_moments f x d)) s
 
 -- the shop unit i at base k, where the depot has n of it
 abbrev pub base_shop_moments : (f : ℕ) → FamilyNumbers f → ℕ → ℕ → ℕ → Moments f
 base_shop_moments f x i k n =
-    base_shop_ends f (pair_at x (i + 1) k).direct (pair_at x (i + 1) k).cap (feed_from f (pair_at x (i + 1) k).share (depot_shop_row f x i n))
+    base_shop_ends f (pair_at x (i + 1) k).direct (pair_at x (i + 1) k).cap
+    (feed_from f (pair_at x (i + 1) k).share (depot_shop_row f x i n))
 
+-- its row where the base has s of it
 abbrev pub base_shop_row : (f : ℕ) → FamilyNumbers f → ℕ → ℕ → ℕ → ℕ → Row f
 base_shop_row f x i k n s = at_stock (rows_of f (base_shop_moments f x i k n)) s
 
@@ -125,18 +139,29 @@ base_shop_row f x i k n s = at_stock (rows_of f (base_shop_moments f x i k n)) s
 abbrev pub base_helds : (f : ℕ) → FamilyNumbers f → ℕ → List ℕ → List ℕ → List (Held f)
 base_helds f x k d b = map (λ i. held_from f (base_shop_row f x i k (nth_stock d i) (nth_stock b i))) (shop_numbers x)
 
+-- the pipeline of the line unit at base k, with these stocks
 abbrev pub base_line_moments : (f : ℕ) → FamilyNumbers f → ℕ → ℕ → List ℕ → List ℕ → Moments f
 base_line_moments f x k o d b =
-    base_line_ends f (pair_at x 0 k).direct (pair_at x 0 k).cap (feed_from f (pair_at x 0 k).share (depot_line_row f x d o)) (base_helds f x k d b)
+    base_line_ends f (pair_at x 0 k).direct (pair_at x 0 k).cap
+    (feed_from f (pair_at x 0 k).share (depot_line_row f x d o)) (base_helds f x k d b)
 
--- and its backorders where the base has s of it, on which its pipeline there doesn't depend
+-- what the line unit at base k has without its shop units there, whatever they have at the base
+abbrev pub own_part : (f : ℕ) → FamilyNumbers f → ℕ → ℕ → List ℕ → OwnPart f
+own_part f x k o d = record {
+  moments = base_own_ends f (pair_at x 0 k).direct (feed_from f (pair_at x 0 k).share (depot_line_row f x d o));
+  cap = (pair_at x 0 k).cap;
+  limit = (pair_at x 0 k).limit;
+}
+
+-- its backorders where the base has s of it, on which its pipeline there doesn't depend
 abbrev pub base_backorders : (f : ℕ) → FamilyNumbers f → ℕ → ℕ → List ℕ → List ℕ → ℕ → Ends
 base_backorders f x k o d b s = (at_stock (rows_of f (base_line_moments f x k o d b)) s).ebo
 
 -- the list has these at the stocks 0 to its limit there
 abbrev pub AreBaseBackorders : (f : ℕ) → FamilyNumbers f → ℕ → ℕ → List ℕ → List ℕ → List Ends → Type 0
 AreBaseBackorders f x k o d b list =
-    AreBackorders f (base_line_moments f x k o d b).mean (base_line_moments f x k o d b).variance (pair_at x 0 k).limit list
+    AreBackorders f (base_line_moments f x k o d b).mean (base_line_moments f x k o d b).variance
+    (pair_at x 0 k).limit list
 
 -- ---- the stocks of a case
 

@@ -1,16 +1,11 @@
 //! The levels of a family from its numbers and its stocks, by tables that serve many stocks.
 
 ghost use Rattle.std.specs.Prelude.{◌≡◌, ◌+◌, ◌-◌, ◌*◌, ◌^◌, ◌<◌, ◌≤◌, IfOk, length, map, All};
-ghost use Rattle.fixed_interval.specs.Ends.{IsWithinLimit};
-ghost use Rattle.family_tables.specs.Numbers.{AreBaseBackorders, base_helds, base_shop_moments, depot_feeds, depot_line_moments, depot_shop_moments, nth_stock, rows_of, shop_numbers};
+ghost use Rattle.family_tables.specs.Numbers.{base_shop_moments, depot_feeds, depot_line_moments, depot_shop_moments, nth_stock, rows_of, shop_numbers};
 
 use crate::numbers::Numbers;
-use crate::pair_tables::{
-    base_line_backorders, base_shop_table, depot_line_table, depot_shop_table, feed_from, held_from,
-};
-use base_pipeline::Held;
+use crate::pair_tables::{base_shop_table, depot_line_table, depot_shop_table, feed_from};
 use depot_pipeline::Feed;
-use fixed_interval::Iv;
 use moment_table::kinds::Table;
 use spares_input::SiteId;
 use spares_io::NoMemory;
@@ -21,7 +16,8 @@ pub(crate) fn depot_shop_tables<const F: u32>(
     alloc: Global,
     numbers: &Numbers<F>,
 ) -> Result<Vec<Table<F>>, NoMemory>
-    ensures { IfOk result (λ v. v.items ≡ map (λ i. rows_of F (depot_shop_moments F numbers.now i)) (shop_numbers numbers.now)) }
+    ensures { IfOk result (λ v. v.items ≡ map (λ i. rows_of F (depot_shop_moments F numbers.now i))
+        (shop_numbers numbers.now)) }
 {
     let _valid = numbers.sites();
     let mut tables = Vec::new(alloc);
@@ -39,7 +35,8 @@ fn feeds_at<const F: u32>(
     tables: &[Table<F>],
     depot: &[u8],
 ) -> Result<Vec<Feed<F>>, NoMemory>
-    requires tables { tables.now ≡ map (λ i. rows_of F (depot_shop_moments F numbers.now i)) (shop_numbers numbers.now) }
+    requires tables { tables.now ≡ map (λ i. rows_of F (depot_shop_moments F numbers.now i))
+        (shop_numbers numbers.now) }
     requires count { length depot.now ≡ length numbers.now.parts - 1 }
     requires stocks { All (λ n. n ≤ 63) depot.now }
     ensures { IfOk result (λ v. v.items ≡ depot_feeds F numbers.now depot.now) }
@@ -60,7 +57,8 @@ pub(crate) fn depot_line<const F: u32>(
     tables: &[Table<F>],
     depot: &[u8],
 ) -> Result<Table<F>, NoMemory>
-    requires tables { tables.now ≡ map (λ i. rows_of F (depot_shop_moments F numbers.now i)) (shop_numbers numbers.now) }
+    requires tables { tables.now ≡ map (λ i. rows_of F (depot_shop_moments F numbers.now i))
+        (shop_numbers numbers.now) }
     requires count { length depot.now ≡ length numbers.now.parts - 1 }
     requires stocks { All (λ n. n ≤ 63) depot.now }
     ensures { IfOk result (λ t. t ≡ rows_of F (depot_line_moments F numbers.now depot.now)) }
@@ -78,11 +76,14 @@ pub(crate) fn base_shop_tables<const F: u32>(
     depot: &[u8],
     site: SiteId,
 ) -> Result<Vec<Table<F>>, NoMemory>
-    requires tables { tables.now ≡ map (λ i. rows_of F (depot_shop_moments F numbers.now i)) (shop_numbers numbers.now) }
+    requires tables { tables.now ≡ map (λ i. rows_of F (depot_shop_moments F numbers.now i))
+        (shop_numbers numbers.now) }
     requires count { length depot.now ≡ length numbers.now.parts - 1 }
     requires stocks { All (λ n. n ≤ 63) depot.now }
     requires site { site.0 < numbers.now.sites }
-    ensures { IfOk result (λ v. v.items ≡ map (λ i. rows_of F (base_shop_moments F numbers.now i site.0 (nth_stock depot.now i))) (shop_numbers numbers.now)) }
+    ensures { IfOk result (λ v. v.items ≡ map
+        (λ i. rows_of F (base_shop_moments F numbers.now i site.0 (nth_stock depot.now i)))
+        (shop_numbers numbers.now)) }
 {
     let _valid = numbers.sites();
     let mut made = Vec::new(alloc);
@@ -93,56 +94,4 @@ pub(crate) fn base_shop_tables<const F: u32>(
         made.push(table)?;
     }
     Ok(made)
-}
-
-/// What the shop units hold back of their line unit at a base, at these stocks there.
-fn helds_at<const F: u32>(
-    alloc: Global,
-    numbers: &Numbers<F>,
-    tables: &[Table<F>],
-    depot: &[u8],
-    site: SiteId,
-    base: &[u8],
-) -> Result<Vec<Held<F>>, NoMemory>
-    requires tables { tables.now ≡ map (λ i. rows_of F (base_shop_moments F numbers.now i site.0 (nth_stock depot.now i))) (shop_numbers numbers.now) }
-    requires count { length base.now ≡ length numbers.now.parts - 1 }
-    requires stocks { All (λ n. n ≤ 63) base.now }
-    ensures { IfOk result (λ v. v.items ≡ base_helds F numbers.now site.0 depot.now base.now) }
-{
-    let _valid = numbers.sites();
-    let mut helds = Vec::new(alloc);
-    for i in 0..numbers.shops() {
-        helds.push(held_from(&tables[i], base[i]))?;
-    }
-    Ok(helds)
-}
-
-/// The backorders of the line unit at a base at each of its stocks there up to its limit. The depot has `own` of it with the
-/// table `line`, and the shop units have these stocks at the depot and at the base, with these tables at the base.
-pub(crate) fn line_backorders<const F: u32>(
-    alloc: Global,
-    numbers: &Numbers<F>,
-    line: &Table<F>,
-    own: u8,
-    depot: &[u8],
-    site: SiteId,
-    tables: &[Table<F>],
-    base: &[u8],
-) -> Result<Vec<Iv<F>>, NoMemory>
-    requires line { line.now ≡ rows_of F (depot_line_moments F numbers.now depot.now) }
-    requires own { own ≤ 63 }
-    requires depot_count { length depot.now ≡ length numbers.now.parts - 1 }
-    requires depot_stocks { All (λ n. n ≤ 63) depot.now }
-    requires site { site.0 < numbers.now.sites }
-    requires tables { tables.now ≡ map (λ i. rows_of F (base_shop_moments F numbers.now i site.0 (nth_stock depot.now i))) (shop_numbers numbers.now) }
-    requires count { length base.now ≡ length numbers.now.parts - 1 }
-    requires stocks { All (λ n. n ≤ 63) base.now }
-    ensures ends { IfOk result (λ v. AreBaseBackorders F numbers.now site.0 own depot.now base.now v.items) }
-    ensures most { IfOk result (λ v. All (IsWithinLimit F) v.items) }
-{
-    let _valid = numbers.sites();
-    let helds = helds_at(alloc, numbers, tables, depot, site, base)?;
-    let pair = numbers.pair(0, site.0);
-    let feed = feed_from(pair.share, line, own);
-    base_line_backorders(alloc, pair, feed, helds.as_slice())
 }

@@ -7,12 +7,13 @@ ghost use Rattle.family_eval.specs.Inputs.{IsLine};
 ghost use Rattle.family_eval.specs.Profile.{family_of};
 ghost use Rattle.family_eval.specs.Encloses.{CanEvaluate, EnclosesFamily, IsSmallFamily};
 ghost use Rattle.family_tables.specs.Kept.{Grows, Has, depot_stocks, is_kept, keys_of, rows_kept};
-ghost use Rattle.family_tables.specs.Numbers.{AreBaseBackorders, base_shop_moments, depot_line_moments, depot_shop_moments, nth_stock, numbers_of, rows_of, shop_numbers};
+ghost use Rattle.family_tables.specs.Numbers.{AreBaseBackorders, base_shop_moments, depot_line_moments, depot_shop_moments, nth_stock, numbers_of, own_part, rows_of, shop_numbers};
 
 use crate::by_numbers;
 use crate::keys::{Kept, table_at};
 use crate::making::{depot_stocks, keep_each, keys_of};
 use crate::numbers::Numbers;
+use crate::own_part::{OwnPart, line_backorders, own_part};
 use demand_rates::kinds::Rates;
 use family_eval::{FamilyResult, evaluate};
 use fixed_interval::Iv;
@@ -22,7 +23,8 @@ use spares_io::NoMemory;
 use std::alloc::Global;
 use std::marker::Model;
 
-/// The numbers of a family, with tables that were made of them. Contracts see its numbers and the keys of the kept tables.
+/// The numbers of a family, with tables that were made of them. Contracts see its numbers and the keys of the kept
+/// tables.
 #[derive(Drop)]
 pub struct Evaluator<const F: u32> {
     alloc: Global,
@@ -43,7 +45,8 @@ impl<const F: u32> Model for Evaluator<F> {
 }
 
 impl<const F: u32> Evaluator<F> {
-    /// The evaluator of a family, which keeps no table yet. The rates are those of the case, and `line` is one of its line units.
+    /// The evaluator of a family, which keeps no table yet. The rates are those of the case, and `line` is one of its
+    /// line units.
     pub fn new(
         alloc: Global,
         case: &Case,
@@ -63,9 +66,9 @@ impl<const F: u32> Evaluator<F> {
         })
     }
 
-    /// The table of a part of the family at a site, where the stocks on which its pipeline depends are these: none for a shop
-    /// unit at the depot, those of the depot's shop units for the line unit there, and its own at the depot for a shop unit at a
-    /// base. None where it isn't kept.
+    /// The table of a part of the family at a site, where the stocks on which its pipeline depends are these: none
+    /// for a shop unit at the depot, those of the depot's shop units for the line unit there, and its own at the
+    /// depot for a shop unit at a base. None where it isn't kept.
     pub fn kept(&self, part: PartId, site: SiteId, key: &[u8]) -> Option<&Table<F>>
         ensures kept { is_some result ≡ is_kept self.now part.0 site.0 key.now }
         ensures rows { IfSome result (λ t. t.now ≡ rows_kept F self.now part.0 site.0 key.now) }
@@ -76,10 +79,11 @@ impl<const F: u32> Evaluator<F> {
         }
     }
 
-    /// The family at these stocks, as [`family_eval::evaluate`] gives it. Then the tables that belong to the stocks are kept.
+    /// The family at these stocks, as [`family_eval::evaluate`] gives it. Then the tables that belong to the stocks
+    /// are kept.
     ///
-    /// The case and the rates are those of which the evaluator was made. No kept table goes, and after `NoMemory` only tables
-    /// that belong to the stocks may have come.
+    /// The case and the rates are those of which the evaluator was made. No kept table goes, and after `NoMemory`
+    /// only tables that belong to the stocks may have come.
     pub fn evaluate(
         &mut self,
         case: &Case,
@@ -94,8 +98,10 @@ impl<const F: u32> Evaluator<F> {
         ensures encloses { IfOk result (EnclosesFamily F case.now stocks.now.list (get_or self.old.numbers.parts 0 0)) }
         ensures small { IfOk result (IsSmallFamily F case.now (get_or self.old.numbers.parts 0 0)) }
         ensures numbers { self.new.numbers ≡ self.old.numbers }
-        ensures grows { Grows (keys_of self.old.numbers (depot_stocks self.old.numbers stocks.now)) self.old.keys self.new.keys }
-        ensures has { IfOk result (λ _. Has (keys_of self.old.numbers (depot_stocks self.old.numbers stocks.now)) self.new.keys) }
+        ensures grows { Grows (keys_of self.old.numbers (depot_stocks self.old.numbers stocks.now)) self.old.keys
+            self.new.keys }
+        ensures has { IfOk result (λ _. Has (keys_of self.old.numbers (depot_stocks self.old.numbers stocks.now))
+            self.new.keys) }
     {
         let _numbers = self.family.sites();
         let depot = depot_stocks(self.alloc, &self.family, stocks)?;
@@ -106,14 +112,16 @@ impl<const F: u32> Evaluator<F> {
 
     /// The tables of the shop units at the depot, in part order.
     pub fn depot_shops(&self) -> Result<Vec<Table<F>>, NoMemory>
-        ensures { IfOk result (λ v. v.items ≡ map (λ i. rows_of F (depot_shop_moments F self.now.numbers i)) (shop_numbers self.now.numbers)) }
+        ensures { IfOk result (λ v. v.items ≡ map (λ i. rows_of F (depot_shop_moments F self.now.numbers i))
+            (shop_numbers self.now.numbers)) }
     {
         by_numbers::depot_shop_tables(self.alloc, &self.family)
     }
 
     /// The table of the line unit at the depot, where the shop units have these stocks there; `shops` are their tables.
     pub fn depot_line(&self, shops: &[Table<F>], depot: &[u8]) -> Result<Table<F>, NoMemory>
-        requires shops { shops.now ≡ map (λ i. rows_of F (depot_shop_moments F self.now.numbers i)) (shop_numbers self.now.numbers) }
+        requires shops { shops.now ≡ map (λ i. rows_of F (depot_shop_moments F self.now.numbers i))
+            (shop_numbers self.now.numbers) }
         requires count { length depot.now ≡ length self.now.numbers.parts - 1 }
         requires stocks { All (λ n. n ≤ 63) depot.now }
         ensures { IfOk result (λ t. t ≡ rows_of F (depot_line_moments F self.now.numbers depot.now)) }
@@ -121,48 +129,64 @@ impl<const F: u32> Evaluator<F> {
         by_numbers::depot_line(self.alloc, &self.family, shops, depot)
     }
 
-    /// The tables of the shop units at a site, where they have these stocks at the depot; `shops` are their tables there.
+    /// The tables of the shop units at a site, where they have these stocks at the depot; `shops` are their tables
+    /// there.
     pub fn base_shops(
         &self,
         shops: &[Table<F>],
         depot: &[u8],
         site: SiteId,
     ) -> Result<Vec<Table<F>>, NoMemory>
-        requires shops { shops.now ≡ map (λ i. rows_of F (depot_shop_moments F self.now.numbers i)) (shop_numbers self.now.numbers) }
+        requires shops { shops.now ≡ map (λ i. rows_of F (depot_shop_moments F self.now.numbers i))
+            (shop_numbers self.now.numbers) }
         requires count { length depot.now ≡ length self.now.numbers.parts - 1 }
         requires stocks { All (λ n. n ≤ 63) depot.now }
         requires site { site.0 < self.now.numbers.sites }
-        ensures { IfOk result (λ v. v.items ≡ map (λ i. rows_of F (base_shop_moments F self.now.numbers i site.0 (nth_stock depot.now i))) (shop_numbers self.now.numbers)) }
+        ensures { IfOk result (λ v. v.items ≡ map
+            (λ i. rows_of F (base_shop_moments F self.now.numbers i site.0 (nth_stock depot.now i)))
+            (shop_numbers self.now.numbers)) }
     {
         by_numbers::base_shop_tables(self.alloc, &self.family, shops, depot, site)
     }
 
-    /// The backorders of the line unit at a base at each of its stocks there up to its limit. The depot has `own` of it, with the
-    /// table `line`; the shop units have the stocks `depot` there and `base` at the base, with the tables `shops` at the base.
+    /// What the line unit at a base has without its shop units there, where the depot has `own` of it, with the table
+    /// `line`, and the stocks `depot` of the shop units: [`Evaluator::backorders`] begins with it, whatever the shop
+    /// units have at the base.
+    pub fn own_part(&self, line: &Table<F>, own: u8, depot: &[u8], site: SiteId) -> OwnPart<F>
+        requires line { line.now ≡ rows_of F (depot_line_moments F self.now.numbers depot.now) }
+        requires own { own ≤ 63 }
+        requires site { site.0 < self.now.numbers.sites }
+        ensures { result ≡ own_part F self.now.numbers site.0 own depot.now }
+    {
+        own_part(&self.family, line, own, depot, site)
+    }
+
+    /// The backorders of the line unit at a base at each of its stocks there up to its limit. Its own part there is
+    /// `part`, where the depot has `own` of it and the stocks `depot` of the shop units; these have the stocks `base`
+    /// at the base, with the tables `shops` there.
     pub fn backorders(
         &self,
-        line: &Table<F>,
+        part: &OwnPart<F>,
         own: u8,
         depot: &[u8],
         site: SiteId,
         shops: &[Table<F>],
         base: &[u8],
     ) -> Result<Vec<Iv<F>>, NoMemory>
-        requires line { line.now ≡ rows_of F (depot_line_moments F self.now.numbers depot.now) }
+        requires part { part.now ≡ own_part F self.now.numbers site.0 own depot.now }
         requires own { own ≤ 63 }
-        requires depot_count { length depot.now ≡ length self.now.numbers.parts - 1 }
-        requires depot_stocks { All (λ n. n ≤ 63) depot.now }
         requires site { site.0 < self.now.numbers.sites }
-        requires shops { shops.now ≡ map (λ i. rows_of F (base_shop_moments F self.now.numbers i site.0 (nth_stock depot.now i))) (shop_numbers self.now.numbers) }
+        requires shops { shops.now ≡ map (λ i. rows_of F
+            (base_shop_moments F self.now.numbers i site.0 (nth_stock depot.now i))) (shop_numbers self.now.numbers) }
         requires count { length base.now ≡ length self.now.numbers.parts - 1 }
         requires stocks { All (λ n. n ≤ 63) base.now }
         ensures ends { IfOk result (λ v. AreBaseBackorders F self.now.numbers site.0 own depot.now base.now v.items) }
         ensures most { IfOk result (λ v. All (IsWithinLimit F) v.items) }
     {
-        by_numbers::line_backorders(
+        line_backorders(
             self.alloc,
             &self.family,
-            line,
+            part,
             own,
             depot,
             site,

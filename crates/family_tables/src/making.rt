@@ -28,7 +28,8 @@ fn feed_at<const F: u32>(
     requires shop { shop < length numbers.now.parts - 1 }
     requires site { site < numbers.now.sites }
     requires stock { stock ≤ 63 }
-    ensures { IfOk result (λ x. x ≡ feed_from F (pair_at numbers.now (shop + 1) site).share (depot_shop_row F numbers.now shop stock)) }
+    ensures { IfOk result (λ x. x ≡ feed_from F (pair_at numbers.now (shop + 1) site).share
+        (depot_shop_row F numbers.now shop stock)) }
 {
     let _valid = numbers.sites();
     let share = numbers.pair(shop + 1, site).share;
@@ -97,7 +98,9 @@ pub(crate) fn keep<const F: u32>(
     requires kept { All (IsKept F numbers.now) kept.old.items }
     requires key { IsKey numbers.now key }
     ensures kept { All (IsKept F numbers.now) kept.new.items }
-    ensures ok { OnOk result (((kept.new.items ≡ kept.old.items) × (is_among (map (λ x. x.key) kept.old.items) key.place key.site.0 key.stocks ≡ true)) ⊎ (map (λ x. x.key) kept.new.items ≡ map (λ x. x.key) kept.old.items ++ key ∷ [])) }
+    ensures ok { OnOk result (((kept.new.items ≡ kept.old.items)
+        × (is_among (map (λ x. x.key) kept.old.items) key.place key.site.0 key.stocks ≡ true))
+        ⊎ (map (λ x. x.key) kept.new.items ≡ map (λ x. x.key) kept.old.items ++ key ∷ [])) }
     ensures err { OnErr result (kept.new.items ≡ kept.old.items) }
 {
     let found = table_at(
@@ -209,7 +212,9 @@ fn place_keys(alloc: Global, place: usize, bases: u8, stock: u8) -> Result<Vec<K
 fn base_keys(alloc: Global, bases: u8, depot: &[u8]) -> Result<Vec<Key>, NoMemory>
     requires bases { bases ≤ 15 }
     requires few { length depot.now ≤ 8 }
-    ensures { IfOk result (λ v. v.items ≡ flat_map (λ i. map (λ j. key_at (i + 1) (j + 1) (nth_stock depot.now i ∷ [])) (range_with_len 0 bases)) (range_with_len 0 (length depot.now))) }
+    ensures { IfOk result (λ v. v.items ≡ flat_map
+        (λ i. map (λ j. key_at (i + 1) (j + 1) (nth_stock depot.now i ∷ [])) (range_with_len 0 bases))
+        (range_with_len 0 (length depot.now))) }
 {
     let mut keys = Vec::new(alloc);
     for i in 0..depot.len() {

@@ -44,9 +44,19 @@ impl<const F: u32> Model for Numbers<F> {
 
     ghost Value = { FamilyNumbers F };
 
-    ghost view = { λ x. record { parts = map (λ p. p.0) x.members.items; sites = x.site_count; pairs = x.own.items; weight = x.line_weight } };
+    ghost view = { λ x. record {
+      parts = map (λ p. p.0) x.members.items;
+      sites = x.site_count;
+      pairs = x.own.items;
+      weight = x.line_weight;
+    } };
 
-    ghost invariant = { λ x. AreNumbers F (record { parts = map (λ p. p.0) x.members.items; sites = x.site_count; pairs = x.own.items; weight = x.line_weight }) };
+    ghost invariant = { λ x. AreNumbers F (record {
+      parts = map (λ p. p.0) x.members.items;
+      sites = x.site_count;
+      pairs = x.own.items;
+      weight = x.line_weight;
+    }) };
 }
 
 /// The place of a part among these.
@@ -107,7 +117,8 @@ fn all_numbers<const F: u32>(
     requires scale { InScale F }
     requires rates { AreRatesOf case.now rates.now }
     requires parts { All (λ p. p.0 < length case.now.parts) parts.now }
-    ensures { IfOk result (λ v. v.items ≡ flat_map (λ p. map (pair_numbers F case.now p.0) (all_sites case.now)) parts.now) }
+    ensures { IfOk result (λ v. v.items ≡ flat_map
+        (λ p. map (pair_numbers F case.now p.0) (all_sites case.now)) parts.now) }
 {
     let mut numbers = Vec::new(alloc);
     for part in parts {

@@ -1,19 +1,18 @@
 //! The tables of a pair from what feeds its pipeline.
 
 ghost use Rattle.std.specs.Prelude.{◌≡◌, ◌+◌, ◌*◌, ◌^◌, ◌<◌, ◌≤◌, IfOk, length, All};
-ghost use Rattle.moment_table.specs.Rows.{at_stock, AreBackorders};
+ghost use Rattle.moment_table.specs.Rows.{at_stock};
 ghost use Rattle.depot_pipeline.specs.Exact.{IsSmallFeed};
 ghost use Rattle.depot_pipeline.specs.Profile.{depot_shop_ends, depot_line_ends};
-ghost use Rattle.base_pipeline.specs.Exact.{IsSmallHeld};
-ghost use Rattle.base_pipeline.specs.Profile.{base_shop_ends, base_line_ends};
-ghost use Rattle.family_tables.specs.Numbers.{ArePairNumbers, feed_from, held_from, rows_of};
+ghost use Rattle.base_pipeline.specs.Profile.{base_shop_ends};
+ghost use Rattle.family_tables.specs.Numbers.{ArePairNumbers, feed_from, rows_of};
 
 use crate::numbers::PairNumbers;
-use base_pipeline::{Held, base_line, base_shop};
+use base_pipeline::base_shop;
 use depot_pipeline::{Feed, depot_line, depot_shop};
 use fixed_interval::Iv;
 use moment_table::kinds::Table;
-use moment_table::{backorders_to, table_to};
+use moment_table::table_to;
 use spares_io::NoMemory;
 use std::alloc::Global;
 
@@ -24,17 +23,6 @@ pub(crate) fn feed_from<const F: u32>(share: Iv<F>, table: &Table<F>, stock: u8)
 {
     Feed {
         share,
-        backorders: table.ebo(stock),
-        spread: table.vbo(stock),
-    }
-}
-
-/// What a shop unit at a base with this table holds back of its line unit there at its stock.
-pub(crate) fn held_from<const F: u32>(table: &Table<F>, stock: u8) -> Held<F>
-    requires { stock ≤ 63 }
-    ensures { result ≡ held_from F (at_stock table.now stock) }
-{
-    Held {
         backorders: table.ebo(stock),
         spread: table.vbo(stock),
     }
@@ -79,22 +67,4 @@ pub(crate) fn base_shop_table<const F: u32>(
 {
     let moments = base_shop(pair.direct, pair.cap, depot);
     table_to(alloc, moments.mean, moments.variance, pair.limit)
-}
-
-/// The backorders of a line unit at a base at each of its stocks there up to its limit, where the depot and the shop units at
-/// that base feed it.
-pub(crate) fn base_line_backorders<const F: u32>(
-    alloc: Global,
-    pair: PairNumbers<F>,
-    depot: Feed<F>,
-    shops: &[Held<F>],
-) -> Result<Vec<Iv<F>>, NoMemory>
-    requires pair { ArePairNumbers F pair }
-    requires small { IsSmallFeed F depot }
-    requires few { length shops.now ≤ 8 }
-    requires held { All (IsSmallHeld F) shops.now }
-    ensures { let m = base_line_ends F pair.entry.direct pair.entry.cap depot.entry shops.now in IfOk result (λ v. AreBackorders F m.mean m.variance pair.entry.limit v.items) }
-{
-    let moments = base_line(pair.direct, pair.cap, depot, shops);
-    backorders_to(alloc, moments.mean, moments.variance, pair.limit)
 }

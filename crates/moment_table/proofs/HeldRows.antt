@@ -1,12 +1,13 @@
 -- The rows that a table holds, as they are made and as they are read.
 use Rattle.std.proofs.Common.{◌≡◌, ℕ, ◌+◌, ◌*◌, ◌<◌, ◌≤◌, ◌^◌, ◌==◌, nat_lt, min, max, cond, List, [], ◌∷◌, ◌++◌, length, sym, ap, ◌∙◌, arith, subst, inl, inr}
 use Rattle.std.proofs.lemmas.Bool.{cond-true, cond-false, cond_both, lt-ltb, le-ltb, cases_lt}
+use Rattle.std.proofs.Math.Nat.{max-le}
 use Rattle.fixed_interval.specs.Ends.{Ends, IsWithinLimit}
+use Rattle.fixed_interval.proofs.Laws.{unit_most}
 use Rattle.series_bounds.specs.Profile.{listed}
 use Rattle.series_bounds.specs.Answer.{at_place}
-use Rattle.series_bounds.proofs.Ranges.{unit_most}
 use Rattle.series_bounds.proofs.Walks.{listed_same}
-use Rattle.series_bounds.proofs.Enclosure.{listed_at, length-listed}
+use Rattle.series_bounds.proofs.Enclosure.{listed_at, length_listed}
 use Rattle.moment_table.specs.declared.kinds.Row.{Row}
 use Rattle.moment_table.specs.declared.held.Rows.{Rows}
 use Rattle.moment_table.specs.Held.{HasRows, IsHeld, IsShort, bare_row, held_row, held_at}
@@ -18,6 +19,7 @@ use Rattle.moment_table.proofs.Most.{ebo_below, vbo_below}
 
 -- ---- as they are made
 
+-- where nothing is held, there are the first 0 rows
 pub rows_none : (f : ℕ) (u : ℕ → Row f) (tails : ℕ) (rows : Rows f) → rows.held.items ≡ [] → rows.tails.items ≡ [] → HasRows f u 0 tails rows
 rows_none f u tails rows h k = record {
   held = listed_none (λ k. held_row (u k)) rows.held.items h;
@@ -36,6 +38,7 @@ tails_next u s tails xs ys x h k e = elim (cases_lt s tails) [
       e ∙ cond-false (nat_lt s tails) (xs ++ x ∷ []) xs (le-ltb s tails l) ∙ h ∙ ap (listed u) a)
 ]
 
+-- with one row more, and its tail where it is wanted, the rows up to the next stock are held
 pub rows_next : (f : ℕ) (u : ℕ → Row f) (s tails : ℕ) (rows more : Rows f) (row : Row f) → HasRows f u s tails rows
     → more.held.items ≡ rows.held.items ++ held_row row ∷ [] → more.tails.items ≡ cond (nat_lt s tails) (rows.tails.items ++ row.tail ∷ []) rows.tails.items
     → row ≡ u s → HasRows f u (s + 1) tails more
@@ -44,6 +47,7 @@ rows_next f u s tails rows more row h a b e = record {
   tails = tails_next (λ k. (u k).tail) s tails rows.tails.items more.tails.items row.tail h.tails (ap (λ (z : Row f). z.tail) e) b;
 }
 
+-- held rows are those of any other rows that agree with them
 pub rows_same : (f : ℕ) (u v : ℕ → Row f) (n tails : ℕ) (rows : Rows f) → ((s : ℕ) → s < n → u s ≡ v s) → HasRows f u n tails rows → HasRows f v n tails rows
 rows_same f u v n tails rows h r = record {
   held = r.held ∙ listed_same (λ k. held_row (u k)) (λ k. held_row (v k)) n (λ k l. ap (λ (z : Row f). held_row z) (h k l));
@@ -55,9 +59,7 @@ rows_same f u v n tails rows h r = record {
 unit_short : (f n : ℕ) → f ≤ 52 → n ≤ 256 * 2 ^ f → n < 2 ^ 64
 unit_short f n s h = omega (arith, h, unit_most f s)
 
-max_most : (a b c : ℕ) → a ≤ c → b ≤ c → max a b ≤ c
-max_most a b c h k = grind arith
-
+-- what is within the limit has ends of 64 bits
 pub limit_short : (f : ℕ) (x : Ends) → f ≤ 52 → IsWithinLimit f x → x.hi < 2 ^ 64
 limit_short f x s h = unit_short f x.hi s h
 
@@ -66,9 +68,10 @@ unfolding known_row tail_ends
 known_is_short f m v list sum s w a b =
     let e = ebo_below f m list sum s in
     let x = vbo_below f m v list sum s in
-    let t : max v.hi m.hi ≤ 256 * 2 ^ f = max_most v.hi m.hi (256 * 2 ^ f) b a in
+    let t : max v.hi m.hi ≤ 256 * 2 ^ f = max-le b a in
     record { ebo = unit_short f _ w (omega (arith, e, a)); vbo = unit_short f _ w (omega (arith, x, t)); tail = unit_short f _ w (omega arith) }
 
+-- a row from known weights has ends of 64 bits
 pub known_short : (f : ℕ) (m v : Ends) (list : List Ends) (sum : Ends) (s : ℕ) (row : Row f) → f ≤ 52 → IsWithinLimit f m → IsWithinLimit f v
     → row ≡ known_row f m v list sum s → IsShort f row
 known_short f m v list sum s row w a b e = subst (λ z. IsShort f z) (sym e) (known_is_short f m v list sum s w a b)
@@ -80,22 +83,24 @@ empty_is_short f = record { ebo = omega arith; vbo = omega arith; tail = omega a
 wide_is_short : (f : ℕ) (m v : Ends) (s : ℕ) → f ≤ 52 → IsWithinLimit f m → IsWithinLimit f v → IsShort f (wide_row f m v s)
 unfolding wide_row
 wide_is_short f m v s w a b =
-    let t : max v.hi m.hi ≤ 256 * 2 ^ f = max_most v.hi m.hi (256 * 2 ^ f) b a in
+    let t : max v.hi m.hi ≤ 256 * 2 ^ f = max-le b a in
     record { ebo = unit_short f _ w a; vbo = unit_short f _ w t; tail = unit_short f _ w (omega arith) }
 
+-- a row of an empty pipeline, or of Wide weights, has ends of 64 bits
 pub bare_short : (f : ℕ) (m v : Ends) (s : ℕ) (row : Row f) → f ≤ 52 → IsWithinLimit f m → IsWithinLimit f v → row ≡ bare_row f m v s → IsShort f row
 bare_short f m v s row w a b e =
     subst (λ z. IsShort f z) (sym e) (cond_both (m.hi == 0) (empty_row f) (wide_row f m v s) (λ z. IsShort f z) (λ h. empty_is_short f) (λ h. wide_is_short f m v s w a b))
 
 -- ---- as they are read
 
+-- held rows that are those of a table are a beginning of it
 pub rows_held : (f : ℕ) (m v : Ends) (n tails : ℕ) (rows : Rows f) → CanTable f m v → HasRows f (at_stock (table_rows f m v)) n tails rows → IsHeld f m v rows
 rows_held f m v n tails rows can h = record {
   can = can;
   held = λ s l.
-      let i : s < n = (let a = ap length h.held ∙ length-listed (λ k. held_row (at_stock (table_rows f m v) k)) n in omega (arith, a, l)) in
+      let i : s < n = (let a = ap length h.held ∙ length_listed (λ k. held_row (at_stock (table_rows f m v) k)) n in omega (arith, a, l)) in
       ap (λ z. held_at z s) h.held ∙ listed_at (λ k. held_row (at_stock (table_rows f m v) k)) n s (held_row (empty_row f)) i;
   tails = λ s l.
-      let i : s < min n tails = (let a = ap length h.tails ∙ length-listed (λ k. (at_stock (table_rows f m v) k).tail) (min n tails) in omega (arith, a, l)) in
+      let i : s < min n tails = (let a = ap length h.tails ∙ length_listed (λ k. (at_stock (table_rows f m v) k).tail) (min n tails) in omega (arith, a, l)) in
       ap (λ z. at_place z s) h.tails ∙ listed_at (λ k. (at_stock (table_rows f m v) k).tail) (min n tails) s (record { lo = 0; hi = 0 }) i;
 }

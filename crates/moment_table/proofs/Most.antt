@@ -10,11 +10,13 @@ use Rattle.moment_table.specs.declared.kinds.Row.{Row}
 use Rattle.moment_table.specs.Profile.{ebo_ends, empty_row, excess_ends, known_row, row_from, table_rows, vbo_ends, wide_row}
 use Rattle.moment_table.specs.Rows.{IsBelow, at_stock}
 
+-- backorders from known weights are at most the mean
 pub ebo_below : (f : ℕ) (m : Ends) (list : List Ends) (sum : Ends) (s : ℕ) → (ebo_ends f m list sum s).hi ≤ m.hi
 unfolding ebo_ends
 ebo_below f m list sum zero = omega arith
 ebo_below f m list sum (suc s) = omega (arith, ebo_below f m list sum s)
 
+-- the variance of backorders from known weights is at most the larger of variance and mean
 pub vbo_below : (f : ℕ) (m v : Ends) (list : List Ends) (sum : Ends) (s : ℕ) → (vbo_ends f m v list sum s).hi ≤ (ends_max v m).hi
 unfolding vbo_ends
 vbo_below f m v list sum zero = omega arith
@@ -39,8 +41,10 @@ table_below f m v s l =
     (λ h. at_below f m v (λ s. empty_row f) s l (empty_below f m v))
     (λ h. at_below f m v (row_from f m v (weights_of f m (excess_ends f m v))) s l (row_below f m v (weights_of f m (excess_ends f m v)) s))
 
+-- no row of a table has more backorders than the mean, or a variance above the larger of variance and mean
 pub rows_below : (f : ℕ) (m v : Ends) (rows : List (Row f)) → rows ≡ table_rows f m v → (s : ℕ) → s < 64 → IsBelow f m v (at_stock rows s)
 rows_below f m v rows e s l = rw e (table_below f m v s l)
 
+-- the same of a row by itself that is the table's at its stock
 pub row_is_below : (f : ℕ) (m v : Ends) (row : Row f) (s : ℕ) → row ≡ at_stock (table_rows f m v) s → s ≤ 63 → IsBelow f m v row
 row_is_below f m v row s e l = rw e (table_below f m v s (omega arith))

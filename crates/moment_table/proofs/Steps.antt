@@ -2,22 +2,25 @@
 use Rattle.std.proofs.Common.{◌≡◌, ℕ, suc, ◌+◌, ◌*◌, ◌<◌, ◌≤◌, ◌^◌, List, [], ◌∷◌, ◌++◌, length, get_or, refl, sym, ap, ap₂, ◌∙◌, arith, subst, le_trans, add-one, mul-le-mul_left, mul-le-mul_right, pow_pos}
 use Rattle.std.proofs.lemmas.List.{get_or_default}
 use Rattle.fixed_interval.specs.Ends.{Ends, ends_exact, ends_add, ends_less, ends_times, ends_mul, ends_div, ends_max}
+use Rattle.fixed_interval.proofs.Laws.{ceil_most}
 use Rattle.series_bounds.specs.Profile.{listed}
 use Rattle.series_bounds.specs.Answer.{Sized, at_place}
-use Rattle.series_bounds.proofs.Ranges.{ceil_most}
 use Rattle.moment_table.specs.declared.running.Running.{Running}
 use Rattle.moment_table.specs.declared.shares.Inverses.{Inverses}
 use Rattle.moment_table.specs.Running.{IsRunning, AreSmall}
 use Rattle.moment_table.specs.Profile.{chance_ends, below_ends, tail_ends, ebo_ends, vbo_ends, known_row, wide_row, empty_row}
 
+-- the list of u(0), .., u(n - 1), with u(n) put to its end, is that of one entry more
 pub listed_next : {X : Type 0} (u : ℕ → X) (n : ℕ) (xs : List X) (x : X) → xs ≡ listed u n → x ≡ u n → xs ++ x ∷ [] ≡ listed u (n + 1)
 unfolding listed
 listed_next u n xs x h k = rw add-one (ap₂ (λ y z. y ++ z ∷ []) h k)
 
+-- the empty list is the list of no entries
 pub listed_none : {X : Type 0} (u : ℕ → X) (xs : List X) → xs ≡ [] → xs ≡ listed u 0
 unfolding listed
 listed_none u xs h = h
 
+-- with no stock, the mean, the larger of variance and mean and a sum of no chances run along
 pub running_first : (f : ℕ) (m v : Ends) (list : List Ends) (sum spread below weight chance : Ends) (inverses : Inverses) → spread ≡ ends_max v m → below ≡ ends_exact f 0
     → IsRunning f m v list sum 0 (record { expected = m; spread = spread; below = below; weight = weight; chance = chance; inverses = inverses })
 unfolding ebo_ends vbo_ends below_ends
@@ -34,6 +37,7 @@ chance_small f sum e p t l h =
     (le_trans (mul-le-mul_right (2 ^ f) t) (mul-le-mul_left (8 * 2 ^ f) l)) in
     subst (λ (y : Ends). y.hi ≤ 8 * 2 ^ f) (sym h) q
 
+-- an entry that is read, whatever the default, is that at its place
 pub entry_is : (list : List Ends) (x : ℕ) (e : Ends) → x < length list → e ≡ get_or list x e → e ≡ at_place list x
 entry_is list x e l h = h ∙ get_or_default list x e (record { lo = 0; hi = 0 }) l
 
@@ -41,6 +45,7 @@ pub chance_is : (f : ℕ) (list : List Ends) (sum e p : Ends) (x : ℕ) → e �
 unfolding chance_ends
 chance_is f list sum e p x h k = k ∙ ap (λ (z : Ends). ends_div f z sum) h
 
+-- a weight that is read of a list of proper sizes is at most 8
 pub step_weight : (f : ℕ) (list : List Ends) (sum e : Ends) (s : ℕ) → Sized f list sum → s < length list → e ≡ get_or list s e → e.hi ≤ 8 * 2 ^ f
 step_weight f list sum e s z l he = subst (λ (y : Ends). y.hi ≤ 8 * 2 ^ f) (sym (entry_is list s e l he)) (z.tops s l)
 
@@ -72,6 +77,13 @@ below_is : (f : ℕ) (m v : Ends) (list : List Ends) (sum : Ends) (s : ℕ) (run
 below_is f m v list sum s running h e p below he hp hb =
     hb ∙ ap₂ ends_add h.below (chance_is f list sum e p s he hp) ∙ sym (below_next f list sum s)
 
+-- what runs along has the backorders of the row from known weights
+pub expected_known : (f : ℕ) (m v : Ends) (list : List Ends) (sum : Ends) (s : ℕ) (running : Running f) → IsRunning f m v list sum s running
+    → running.expected ≡ (known_row f m v list sum s).ebo
+unfolding known_row
+expected_known f m v list sum s running h = h.expected
+
+-- what runs along, with the tail from the next chance, is the row from known weights
 pub row_known : (f : ℕ) (m v : Ends) (list : List Ends) (sum : Ends) (s : ℕ) (running : Running f) → IsRunning f m v list sum s running
     → (e p below tail : Ends) → e ≡ at_place list s → p ≡ ends_div f e sum → below ≡ ends_add running.below p → tail ≡ ends_less (ends_exact f 1) below
     → record { ebo = running.expected; vbo = running.spread; tail = tail } ≡ known_row f m v list sum s
@@ -79,6 +91,7 @@ row_known f m v list sum s running h e p below tail he hp hb ht =
     row_is f m v list sum s running.expected running.spread tail h.expected h.spread
     (tail_is f list sum tail below s (below_is f m v list sum s running h e p below he hp hb) ht)
 
+-- what runs along to the next stock: one chance more, backorders less the tail, their variance less its fall
 pub running_next : (f : ℕ) (m v : Ends) (list : List Ends) (sum : Ends) (s : ℕ) (running : Running f) → IsRunning f m v list sum s running
     → (e p below tail expected fall spread : Ends) → e ≡ at_place list s → p ≡ ends_div f e sum → below ≡ ends_add running.below p → tail ≡ ends_less (ends_exact f 1) below
     → expected ≡ ends_less running.expected tail → fall ≡ ends_mul f (ends_add (ends_times expected 2) tail) (ends_less (ends_exact f 1) tail) → spread ≡ ends_less running.spread fall
@@ -96,6 +109,7 @@ running_next f m v list sum s running h e p below tail expected fall spread he h
       below = bi ∙ ap (below_ends f list sum) (sym (add-one s));
     }
 
+-- the sizes on which a step rests hold at the next stock too
 pub small_next : (f : ℕ) (sum : Ends) (s : ℕ) (running : Running f) → AreSmall f sum s running
     → (e p below tail expected spread : Ends) → e.hi ≤ 8 * 2 ^ f → 2 ^ f ≤ sum.lo → p ≡ ends_div f e sum → below ≡ ends_add running.below p → expected ≡ ends_less running.expected tail
     → AreSmall f sum (s + 1) (record { expected = expected; spread = spread; below = below; weight = e; chance = p; inverses = running.inverses })
@@ -109,6 +123,7 @@ small_next f sum s running h e p below tail expected spread t l hp hb hx =
 
 -- ---- the other rows
 
+-- the ends that are found where the weights are Wide are the row at the stock
 pub wide_is : (f : ℕ) (m v short start one ebo vbo tail : Ends) (s lo hi top unit : ℕ) → start ≡ ends_max v m → short ≡ ends_less m (ends_exact f s) → one ≡ ends_exact f 1
     → lo ≡ short.lo → hi ≡ m.hi → top ≡ start.hi → unit ≡ one.hi
     → ebo ≡ record { lo = lo; hi = hi } → vbo ≡ record { lo = 0; hi = top } → tail ≡ record { lo = 0; hi = unit }
@@ -116,6 +131,7 @@ pub wide_is : (f : ℕ) (m v short start one ebo vbo tail : Ends) (s lo hi top u
 unfolding wide_row
 wide_is f m v short start one ebo vbo tail s lo hi top unit hs hh ho hl hi' ht hu he hv hg = rw (he, hv, hg, hl, hi', ht, hu, hs, hh, ho) refl
 
+-- a row of zeros is that of a pipeline that is always empty
 pub empty_is : (f : ℕ) (a : Ends) → a ≡ ends_exact f 0 → record { ebo = a; vbo = a; tail = a } ≡ empty_row f
 unfolding empty_row
 empty_is f a h = rw h refl

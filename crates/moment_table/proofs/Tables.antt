@@ -2,10 +2,9 @@
 use Rattle.std.proofs.Common.{◌≡◌, ℕ, ◌*◌, ◌^◌, ◌<◌, ◌≤◌, true, false, inl, inr, List, refl, subst, arith, pow_pos, mul-le-mul_right}
 use Rattle.std.proofs.Math.Nat.{div-le_of_le-mul, le_refl}
 use Rattle.std.proofs.lemmas.Bool.{cases_Bool}
-use Rattle.exact_model.specs.Fraction.{Fraction}
 use Rattle.exact_model.specs.Series.{excess, relative_sum}
-use Rattle.fixed_interval.specs.Ends.{Ends, In}
-use Rattle.fixed_interval.proofs.Laws.{cancel, floor_below_ceil}
+use Rattle.fixed_interval.specs.Ends.{Ends}
+use Rattle.fixed_interval.proofs.Laws.{floor_below_ceil, ends_ordered}
 use Rattle.series_bounds.specs.Profile.{is_wide, pivot_at, weights_of}
 use Rattle.series_bounds.specs.declared.kinds.Weights.TheVariants.{Known}
 use Rattle.series_bounds.specs.Answer.{EncloseWeights, Sized}
@@ -14,10 +13,6 @@ use Rattle.moment_table.specs.Profile.{empty_row, excess_ends, known_row, table_
 use Rattle.moment_table.specs.Rows.{at_stock, EncloseRows, EnclosesRow}
 use Rattle.moment_table.proofs.Enclosure as tables
 use Rattle.moment_table.specs.Inputs.{CanTable}
-
--- an interval that contains a fraction has its ends in order
-ordered : (f : ℕ) (x : Ends) (q : Fraction) → In f x q → x.lo ≤ x.hi
-ordered f x q h = cancel q.den x.lo x.hi q.positive (omega (arith, h.low, h.high))
 
 excess_ordered : (f : ℕ) (m v : Ends) → 0 < m.lo → m.lo ≤ m.hi → v.lo ≤ v.hi → (excess_ends f m v).lo ≤ (excess_ends f m v).hi
 unfolding excess_ends
@@ -40,7 +35,7 @@ module _ (f : ℕ) (m v : Ends) (s : ℕ) (few : s ≤ 63) where
       let all = (weighs u (excess u w) a (tables.excess_in f m v u w pos mo a b)).1 1024 (le_refl 1024) in
       subst (EnclosesRow f m v s) (tables.row_of_known f m v c list sum (known_row f m v list sum s) s few (omega (arith, pos, mo)) h refl)
       (tables.known_row_in f m v c list sum (known_row f m v list sum s) s few refl pos mo (omega (arith, pow_pos f, sized.sum_least))
-      (ordered f sum (relative_sum u (excess u w) c 1024) all) sized.enough weighs) u w a b
+      (ends_ordered f sum (relative_sum u (excess u w) c 1024) all) sized.enough weighs) u w a b
 
   known_table : 0 < m.lo → m.lo ≤ m.hi → v.lo ≤ v.hi → m.hi ≤ 256 * 2 ^ f → is_wide f m (excess_ends f m v) ≡ false
       → EnclosesRow f m v s (at_stock (table_rows f m v) s)
@@ -63,8 +58,9 @@ module _ (f : ℕ) (m v : Ends) (s : ℕ) (few : s ≤ 63) where
 pub table_encloses : (f : ℕ) (m v : Ends) (s : ℕ) → CanTable f m v → s ≤ 63 → EnclosesRow f m v s (at_stock (table_rows f m v) s)
 table_encloses f m v s can few u w a b = elim can.ratio [
   | inl e ↦ empty_table f m v s few e.0 u w a b
-  | inr e ↦ full_table f m v s few e.0 (ordered f m u a) (ordered f v w b) can.mean_top u w a b
+  | inr e ↦ full_table f m v s few e.0 (ends_ordered f m u a) (ends_ordered f v w b) can.mean_top u w a b
 ]
 
+-- the rows of a table enclose EBO, VBO and tail at each stock and each depth from 1024 on
 pub rows_enclose : (f : ℕ) (m v : Ends) → CanTable f m v → EncloseRows f m v (table_rows f m v)
 rows_enclose f m v can u w a b n deep s l = table_encloses f m v s can (omega (arith, l)) u w a b n deep

@@ -7,4 +7,5 @@ use Rattle.fixed_interval.specs.Ends.{Ends, IsWithinLimit}
 pub record CanTable (f : ℕ) (mean variance : Ends) : Type 0 where
   pub mean_top : IsWithinLimit f mean
   pub variance_top : IsWithinLimit f variance
-  pub ratio : ((mean.hi ≡ 0) × (variance.hi ≡ 0)) ⊎ ((0 < mean.lo) × ((mean.hi ≤ 2048 * mean.lo) × (variance.hi ≤ 2048 * mean.lo)))
+  pub ratio : ((mean.hi ≡ 0) × (variance.hi ≡ 0))
+      ⊎ ((0 < mean.lo) × ((mean.hi ≤ 2048 * mean.lo) × (variance.hi ≤ 2048 * mean.lo)))

@@ -29,7 +29,8 @@ fn known<const F: u32>(
     requires mean_top { IsWithinLimit F mean }
     requires sized { Sized F list.now sum }
     requires count { count ≤ 64 }
-    ensures { IfOk result (λ found. found.items ≡ listed (λ s. (known_row F mean.entry variance.entry list.now sum.entry s).ebo) count) }
+    ensures { IfOk result (λ found. found.items ≡ listed
+        (λ s. (known_row F mean.entry variance.entry list.now sum.entry s).ebo) count) }
 {
     let mut running = Running::first(mean, variance, list[0], sum);
     let mut found = Vec::with_capacity(alloc, count as usize)?;
@@ -40,30 +41,33 @@ fn known<const F: u32>(
     Ok(found)
 }
 
-/// The backorders from the first weights and the sum of all.
+/// The backorders from the first weights and the sum of all, put over the weights.
 fn first<const F: u32>(
-    alloc: Global,
     mean: Iv<F>,
     variance: Iv<F>,
-    list: &[Iv<F>],
+    weights: Vec<Iv<F>>,
     sum: Iv<F>,
     count: u32,
-) -> Result<Vec<Iv<F>>, NoMemory>
+) -> Vec<Iv<F>>
     requires mean_top { IsWithinLimit F mean }
-    requires begun { IsBeginning F mean (excess_ends F mean variance) count list.now sum }
+    requires begun { IsBeginning F mean (excess_ends F mean variance) count weights.items sum }
     requires sum { 2 ^ F ≤ sum.lo }
     requires some { 0 < count }
     requires few { count ≤ 63 }
-    ensures { IfOk result (λ found. found.items
-        ≡ listed (λ s. (known_row F mean.entry variance.entry (all_weights F mean.entry (excess_ends F mean.entry variance.entry)) sum.entry s).ebo) count) }
+    ensures { let all = all_weights F mean.entry (excess_ends F mean.entry variance.entry) in
+        result.items ≡ listed (λ s. (known_row F mean.entry variance.entry all sum.entry s).ebo) count }
 {
-    let mut running = Running::first(mean, variance, list[0], sum);
-    let mut found = Vec::with_capacity(alloc, count as usize)?;
-    for s in 0..count {
-        let row = running.step(list[s as usize], sum, s);
-        found.push(row.ebo)?;
+    let mut found = weights;
+    let mut running = Running::first(mean, variance, found[0], sum);
+    let last = count - 1;
+    for s in 0..last {
+        let weight = found[s as usize];
+        found[s as usize] = running.expected();
+        running.step(weight, sum, s);
     }
-    Ok(found)
+    found[last as usize] = running.expected();
+    found.truncate(count as usize);
+    found
 }
 
 /// The backorders of a pipeline that is always empty, or whose weights aren't known.
@@ -97,8 +101,7 @@ fn few<const F: u32>(
     let count = u32::from(limit) + 1;
     match weigh_to(alloc, mean, variance, count as usize)? {
         Some(begun) => {
-            let list = begun.list.as_slice();
-            let found = first(alloc, mean, variance, list, begun.sum, count)?;
+            let found = first(mean, variance, begun.list, begun.sum, count);
             Ok(found)
         }
         None => {
@@ -133,11 +136,11 @@ fn many<const F: u32>(
     }
 }
 
-/// The expected backorders of the table at the stocks 0 to `limit`, at most 63, for a mean and a variance as `table` takes
-/// them. Nothing else of the table is made.
+/// The expected backorders of the table at the stocks 0 to `limit`, at most 63, for a mean and a variance as `table`
+/// takes them. Nothing else of the table is made.
 ///
-/// They enclose the model's, at each depth from 1024 on, for every mean and every variance in the two intervals. Want of memory
-/// is the only error.
+/// They enclose the model's, at each depth from 1024 on, for every mean and every variance in the two intervals. Want
+/// of memory is the only error.
 pub fn backorders_to<const F: u32>(
     alloc: Global,
     mean: Iv<F>,

@@ -23,7 +23,8 @@ pub struct Row<const F: u32> {
 
 /// The figures of a pipeline at the stocks 0 to 63.
 ///
-/// It is seen as the list of its rows. It holds the first of them, and its mean and variance, from which the others follow.
+/// It is seen as the list of its rows. It holds the first of them, and its mean and variance, from which the others
+/// follow.
 #[derive(Drop)]
 pub struct Table<const F: u32> {
     mean: Span<F>,

@@ -30,6 +30,7 @@ pub(crate) struct Running<const F: u32> {
 
 impl<const F: u32> Running<F> {
     /// At the stock 0. `weight` is the weight there.
+    #[inline(always)]
     pub(crate) fn first(mean: Iv<F>, variance: Iv<F>, weight: Iv<F>, sum: Iv<F>) -> Running<F>
         requires mean_top { IsWithinLimit F mean }
         requires top { weight.hi ≤ 8 * 2 ^ F }
@@ -46,6 +47,15 @@ impl<const F: u32> Running<F> {
             chance: inverses.share(weight, sum),
             inverses,
         }
+    }
+
+    /// The expected backorders at the stock, which its weight doesn't change.
+    #[inline(always)]
+    pub(crate) fn expected(&self) -> Iv<F>
+        ensures { (m v sum : Ends) (list : List Ends) (s : ℕ) → IsRunning F m v list sum s self.now
+            → result ≡ (known_row F m v list sum s).ebo }
+    {
+        self.expected
     }
 
     /// The row at the stock `s`, from the weight there. It goes on to the next stock.
@@ -83,14 +93,17 @@ impl<const F: u32> Running<F> {
         requires sized { Sized F list.now sum }
         requires small { AreSmall F sum s self.old }
         ensures small { AreSmall F sum.entry (s + 1) self.new }
-        ensures running { (m v : Ends) → IsRunning F m v list.now sum.entry s self.old → IsRunning F m v list.now sum.entry (s + 1) self.new }
-        ensures row { (m v : Ends) → IsRunning F m v list.now sum.entry s self.old → result ≡ known_row F m v list.now sum.entry s }
+        ensures running { (m v : Ends) → IsRunning F m v list.now sum.entry s self.old
+            → IsRunning F m v list.now sum.entry (s + 1) self.new }
+        ensures row { (m v : Ends) → IsRunning F m v list.now sum.entry s self.old
+            → result ≡ known_row F m v list.now sum.entry s }
     {
         self.step(list[s as usize], sum, s)
     }
 }
 
-/// `weight / sum`, where `chance` is `before / sum`. The weights far out are mostly the same, and need no division then.
+/// `weight / sum`, where `chance` is `before / sum`. The weights far out are mostly the same, and need no division
+/// then.
 #[inline(always)]
 fn chance_of<const F: u32>(
     weight: Iv<F>,

@@ -8,8 +8,8 @@ use super::*;
 use std::process::Abort;
 use std::test::Fail;
 
-// A row has the ends of a mean and of a variance, a stock up to 62, and then the ends of the backorders, of their variance
-// and of the tail there.
+/// A row has the ends of a mean and of a variance, a stock up to 62, and then the ends of the backorders, of their
+/// variance and of the tail there.
 const AT_32: [&str; 14] = [
     "2147483648 2147483648 2147483648 2147483648 0 2147483648 2147483648 2147483648 2147483648 1689937947 1689937971",
     "2147483648 2147483648 2147483648 2147483648 7 30 312 0 2220 260 309",

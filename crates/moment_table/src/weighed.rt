@@ -23,6 +23,7 @@ pub(crate) struct Weighed<const F: u32> {
 }
 
 /// The variance over the mean, less 1.
+#[inline(always)]
 pub(crate) fn excess_of<const F: u32>(mean: Iv<F>, variance: Iv<F>) -> Iv<F>
     requires mean_least { 0 < mean.lo }
     requires variance_top { IsWithinLimit F variance }
@@ -40,8 +41,10 @@ pub(crate) fn weigh<const F: u32>(
     variance: Iv<F>,
 ) -> Result<Option<Weighed<F>>, NoMemory>
     requires { CanTable F mean variance }
-    ensures bare { IfOk result (λ found. IfNone found (AreRowsOf F mean.entry variance.entry (bare_row F mean.entry variance.entry))) }
-    ensures known { IfOk result (λ found. IfSome found (λ w. AreRowsOf F mean.entry variance.entry (known_row F mean.entry variance.entry w.list w.sum))) }
+    ensures bare { IfOk result (λ found. IfNone found
+        (AreRowsOf F mean.entry variance.entry (bare_row F mean.entry variance.entry))) }
+    ensures known { IfOk result (λ found. IfSome found
+        (λ w. AreRowsOf F mean.entry variance.entry (known_row F mean.entry variance.entry w.list w.sum))) }
     ensures sized { IfOk result (λ found. IfSome found (λ w. Sized F w.list w.sum)) }
 {
     if mean.hi() == 0 {
@@ -58,8 +61,8 @@ pub(crate) fn weigh<const F: u32>(
     }
 }
 
-/// The first weights of a pipeline with this mean and variance, `wanted` of them or more, at most 63 being wanted, and the sum of
-/// all. None where it is always empty, or its weights aren't known.
+/// The first weights of a pipeline with this mean and variance, `wanted` of them or more, at most 63 being wanted,
+/// and the sum of all. None where it is always empty, or its weights aren't known.
 pub(crate) fn weigh_to<const F: u32>(
     alloc: Global,
     mean: Iv<F>,
@@ -68,8 +71,10 @@ pub(crate) fn weigh_to<const F: u32>(
 ) -> Result<Option<Beginning<F>>, NoMemory>
     requires table { CanTable F mean variance }
     requires wanted { wanted ≤ 63 }
-    ensures bare { IfOk result (λ found. IfNone found (AreRowsOf F mean.entry variance.entry (bare_row F mean.entry variance.entry))) }
-    ensures known { IfOk result (λ found. IfSome found (λ b. IsBeginning F mean.entry (excess_ends F mean.entry variance.entry) wanted b.list.items b.sum)) }
+    ensures bare { IfOk result (λ found. IfNone found
+        (AreRowsOf F mean.entry variance.entry (bare_row F mean.entry variance.entry))) }
+    ensures known { IfOk result (λ found. IfSome found
+        (λ b. IsBeginning F mean.entry (excess_ends F mean.entry variance.entry) wanted b.list.items b.sum)) }
     ensures least { IfOk result (λ found. IfSome found (λ b. 2 ^ F ≤ b.sum.lo)) }
     ensures positive { IfOk result (λ found. IfSome found (λ b. 0 < mean.entry.hi)) }
 {

@@ -1,9 +1,10 @@
 //! Quotients of whole numbers, found without a division where they can be guessed.
 //!
-//! Nothing rests on a guess: each is tried, and where it fails a division is made. So what makes guesses has no clauses.
+//! Nothing rests on a guess: each is tried, and where it fails a division is made. So what makes guesses has no
+//! clauses.
 #![tactic(auto)]
 
-ghost use Rattle.std.specs.Prelude.{◌≡◌, ◌/◌, ◌<◌, ◌≤◌};
+ghost use Rattle.std.specs.Prelude.{◌≡◌, ◌*◌, ◌/◌, ◌^◌, ◌<◌, ◌≤◌};
 ghost use Rattle.std.specs.Int.{div_ceil};
 
 mod inverses;
@@ -31,7 +32,7 @@ pub fn quotient_near(num: u128, den: u64, guess: u64) -> u128
 }
 
 /// The same for a number of 64 bits.
-pub fn short_quotient_near(num: u64, den: u64, guess: u64) -> u64
+fn short_quotient_near(num: u64, den: u64, guess: u64) -> u64
     requires { 0 < den }
     ensures { result ≡ num / den }
 {
@@ -48,8 +49,24 @@ pub fn short_quotient_near(num: u64, den: u64, guess: u64) -> u64
     num / den
 }
 
-/// `num / den`, rounded up. Where `guess` is the quotient rounded down, or one less, no division is made; with any other
-/// guess it is.
+/// `num / den`, rounded down. Where the number has at most 56 bits, and `inverse` is `2^64 / den` or at most 1 above
+/// it, it is the upper half of one product; else that is taken for a guess.
+#[inline(always)]
+pub fn short_quotient_by(num: u64, den: u8, inverse: u64) -> u64
+    requires { 0 < den }
+    ensures { result ≡ num / den }
+{
+    let whole = u128::from(inverse) * u128::from(den);
+    let past = whole.wrapping_sub(1 << 64);
+    let quotient = high_half(num, inverse);
+    if num < 1 << 56 && past <= u128::from(den) {
+        return quotient;
+    }
+    short_quotient_near(num, u64::from(den), quotient)
+}
+
+/// `num / den`, rounded up. Where `guess` is the quotient rounded down, or one less, no division is made; with any
+/// other guess it is.
 pub fn quotient_up_near(num: u128, den: u64, guess: u64) -> u128
     requires { 0 < den }
     ensures { result ≡ div_ceil num den }
@@ -77,7 +94,8 @@ pub fn short_inverse(x: u8) -> u64 {
     INVERSES[usize::from(x)]
 }
 
-/// About `2^126 / den`, for a `den` of `2^63` or more: from the inverse of its first eight bits, by three of Newton's steps.
+/// About `2^126 / den`, for a `den` of `2^63` or more: from the inverse of its first eight bits, by three of Newton's
+/// steps.
 fn full_inverse(den: u64) -> u64 {
     let mut inverse = short_inverse((den >> 56) as u8).min(1 << 57) << 6;
     for _step in 0..3 {
@@ -93,7 +111,9 @@ fn nearer(inverse: u64, den: u64) -> u64 {
 }
 
 /// The upper 64 bits of a product.
-fn high_half(a: u64, b: u64) -> u64 {
+fn high_half(a: u64, b: u64) -> u64
+    ensures { result ≡ a * b / 2 ^ 64 }
+{
     ((u128::from(a) * u128::from(b)) >> 64) as u64
 }
 
@@ -129,7 +149,8 @@ pub fn inverse_beside<const F: u32>(inverse: u64, den: u64, below: u64) -> u64
     with_part(inverse, part.min(u128::from(u64::MAX)) as u64)
 }
 
-/// The inverse of a number from that of a larger one, by a few of Newton's steps. It is the better the nearer the two are.
+/// The inverse of a number from that of a larger one, by a few of Newton's steps. It is the better the nearer the two
+/// are.
 pub fn inverse_refined<const F: u32>(inverse: u64, den: u64) -> u64
     requires { F ≤ 52 }
 {

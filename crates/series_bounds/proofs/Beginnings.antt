@@ -6,13 +6,14 @@ use Rattle.fixed_interval.specs.Ends.{Ends, ends_add, ends_mul, ends_times}
 use Rattle.series_bounds.specs.Profile.{pivot_at, least_end, weight_ends, ratio_ends, ratio_bound, last_index, ends_sum, ends_raised, listed}
 use Rattle.series_bounds.specs.Walk.{ToPivot, ToNext, SumsTo, Begins, AtLeastEnd, EndsAt, ToEnd}
 use Rattle.series_bounds.specs.Answer.{IsSum, IsBeginning, at_place}
-use Rattle.series_bounds.proofs.Enclosure.{listed_at, length-listed, narrow_tops}
+use Rattle.series_bounds.proofs.Enclosure.{listed_at, length_listed, narrow_tops}
 use Rattle.series_bounds.proofs.Walks.{listed_next, next_least, ascent_again, end_from_63, end_most, last_start}
 use Rattle.series_bounds.proofs.Bounds.{one_of, bound_half, weight_stays}
 use Rattle.series_bounds.proofs.Unlisted.{Climb, sums_next, climb_weight, climb_done, late_end}
 
 -- ---- the first weights
 
+-- first weights with the next one put after them, while fewer stand there than are wanted
 pub begins_more : (u : ℕ → Ends) (wanted x : ℕ) (list : List Ends) (w : Ends) → Begins u wanted x list → length list < wanted → w ≡ u x → Begins u wanted (x + 1) (list ++ w ∷ [])
 begins_more u wanted x list w h l e =
     let n : length list ≡ x = h.all l in
@@ -25,18 +26,20 @@ begins_more u wanted x list w h l e =
 pub begins_same : (u : ℕ → Ends) (wanted x : ℕ) (list : List Ends) → Begins u wanted x list → wanted ≤ length list → Begins u wanted (x + 1) list
 begins_same u wanted x list h l = record { entries = h.entries; all = λ i. absurd (omega (arith, l, i)) }
 
+-- the weights from 0 to the pivot are first weights below the index past it
 pub begins_start : (f : ℕ) (m d : Ends) (wanted c : ℕ) (list : List Ends) → c ≡ pivot_at f m d → ToPivot f m d list → Begins (weight_ends f m d) wanted (c + 1) list
 begins_start f m d wanted c list e h =
-    let n : length list ≡ suc (pivot_at f m d) = ap length h.weights ∙ length-listed (weight_ends f m d) (suc (pivot_at f m d)) in
+    let n : length list ≡ suc (pivot_at f m d) = ap length h.weights ∙ length_listed (weight_ends f m d) (suc (pivot_at f m d)) in
     record { entries = h.weights ∙ ap (listed (weight_ends f m d)) (sym n); all = λ _. omega (arith, n, e) }
 
 -- ---- the sum
 
+-- the sum of the weights from 0 to the pivot, as a walk's sum below the index past it
 pub sums_low : (f : ℕ) (m d sum : Ends) (c : ℕ) (list : List Ends) → c ≡ pivot_at f m d → ToPivot f m d list → sum ≡ ends_sum list → sum.hi ≤ length list * (8 * 2 ^ f)
     → SumsTo f m d sum (c + 1)
 sums_low f m d sum c list e h s t =
     let i : suc (pivot_at f m d) ≡ c + 1 = omega (arith, e) in
-    let n : length list ≡ c + 1 = ap length h.weights ∙ length-listed (weight_ends f m d) (suc (pivot_at f m d)) ∙ i in
+    let n : length list ≡ c + 1 = ap length h.weights ∙ length_listed (weight_ends f m d) (suc (pivot_at f m d)) ∙ i in
     record {
       sum_is = s ∙ ap ends_sum (h.weights ∙ ap (listed (weight_ends f m d)) i);
       most = subst (λ z. sum.hi ≤ z * (8 * 2 ^ f)) n t;
@@ -59,6 +62,7 @@ sums_level f m d sum last next (suc k) h t same =
 
 -- ---- at the first index at which the list may end
 
+-- a last weight that stays the same and the sum to the first possible end are the state of the walk there
 pub at_least_end : (f : ℕ) (m d : Ends) (sum last : Ends) (next : ℕ) → ToNext f m d (listed (weight_ends f m d) next) last next
     → SumsTo f m d sum (least_end f m d) → AtLeastEnd f m d sum last
 at_least_end f m d sum last next h s = record {
@@ -66,6 +70,7 @@ at_least_end f m d sum last next h s = record {
   sums = s;
 }
 
+-- the walk up goes on from the first index at which the list may end
 pub climb_again : (f : ℕ) (m d : Ends) (sum last : Ends) → pivot_at f m d ≤ 256 → AtLeastEnd f m d sum last → Climb f m d last sum (least_end f m d)
 climb_again f m d sum last q h = record {
   ascent = ascent_again f m d (listed (weight_ends f m d) (least_end f m d)) last q h.walk;
@@ -95,6 +100,7 @@ closed_sum f m d low before all h q a e p bl bh l t k =
 
 -- ---- what is answered
 
+-- first weights that are as many as wanted, and the sum of all, are a beginning of the answer
 pub beginning : (f : ℕ) (m d : Ends) (wanted : ℕ) (list : List Ends) (sum low last : Ends) → wanted ≤ 63 → wanted ≤ length list → Begins (weight_ends f m d) wanted wanted list
     → AtLeastEnd f m d low last → IsSum f m d sum → IsBeginning f m d wanted list sum
 beginning f m d wanted list sum low last a b h s e = record {
@@ -110,7 +116,7 @@ pub beginning_all : (f : ℕ) (m d : Ends) (wanted rest : ℕ) (list : List Ends
 beginning_all f m d wanted rest list sum a h e =
     let l : 63 ≤ last_index f m d = le_trans (end_from_63 f m d) (last_start f m d) in
     record {
-      enough = omega (arith, a, l, ap length h.weights ∙ length-listed (weight_ends f m d) (suc (last_index f m d)));
+      enough = omega (arith, a, l, ap length h.weights ∙ length_listed (weight_ends f m d) (suc (last_index f m d)));
       weights = λ x i. ap (λ z. at_place z x) h.weights ∙ listed_at (weight_ends f m d) (suc (last_index f m d)) x (record { lo = 0; hi = 0 }) (omega (arith, i, a, l));
       tops = λ x i. narrow_tops f m d h.narrow x (omega (arith, i, a, l));
       sum_is = record { narrow = h.narrow; sum_is = e ∙ ap₂ (λ y z. ends_raised (ends_sum y) z) h.weights h.rest };
@@ -118,11 +124,13 @@ beginning_all f m d wanted rest list sum a h e =
 
 -- ---- the list to the pivot
 
+-- the list of the weights from 0 to the pivot has at most 1025 entries
 pub low_long : (f : ℕ) (m d : Ends) (list : List Ends) → ToPivot f m d list → pivot_at f m d ≤ 256 → length list ≤ 1025
-low_long f m d list h q = omega (arith, ap length h.weights ∙ length-listed (weight_ends f m d) (suc (pivot_at f m d)), q)
+low_long f m d list h q = omega (arith, ap length h.weights ∙ length_listed (weight_ends f m d) (suc (pivot_at f m d)), q)
 
+-- none of the weights from 0 to the pivot passes 8
 pub low_tops : (f : ℕ) (m d : Ends) (list : List Ends) → ToPivot f m d list → (k : ℕ) (z : Ends) → k < length list → (get_or list k z).hi ≤ 8 * 2 ^ f
 low_tops f m d list h k z l =
-    let i : k < suc (pivot_at f m d) = omega (arith, l, ap length h.weights ∙ length-listed (weight_ends f m d) (suc (pivot_at f m d))) in
+    let i : k < suc (pivot_at f m d) = omega (arith, l, ap length h.weights ∙ length_listed (weight_ends f m d) (suc (pivot_at f m d))) in
     let e : get_or list k z ≡ weight_ends f m d k = ap (λ y. get_or y k z) h.weights ∙ listed_at (weight_ends f m d) (suc (pivot_at f m d)) k z i in
     subst (λ (y : Ends). y.hi ≤ 8 * 2 ^ f) (sym e) (h.tops k (omega (arith, i)))

@@ -4,34 +4,37 @@ use Rattle.std.specs.Int.{div_ceil}
 use Rattle.std.proofs.Math.Nat.{mul-pos, lt_of_mul-lt-mul_right, zero-div}
 use Rattle.std.proofs.lemmas.Bool.{lt-ltb, le-ltb}
 use Rattle.fixed_interval.specs.Ends.{Ends, ends_less, ends_mul}
+use Rattle.fixed_interval.proofs.Laws.{ceil_most}
 use Rattle.series_bounds.specs.Profile.{ratio_ends, far_ratio, ratio_bound, has_remainder, remainder_from, pivot_at}
 use Rattle.series_bounds.specs.Walk.{StaysFrom}
-use Rattle.series_bounds.proofs.Ranges.{ceil_most, ceil_above}
+use Rattle.series_bounds.proofs.Ranges.{ceil_above}
 
+-- the larger of the ratio at K + 1 and of what the ratios tend to is their bound past K
 pub bound_is : (f : ℕ) (m d : Ends) (K b hi far : ℕ) (r : Ends) → hi ≡ r.hi → r ≡ ratio_ends f m d (K + 1) → far ≡ far_ratio f d → b ≡ max hi far → b ≡ ratio_bound f m d K
 unfolding ratio_bound
 bound_is f m d K b hi far r h hr hf hb = rw (hb, h, hr, hf) refl
 
+-- a bound below 1 gives the weights past K a remainder
 pub exists_is : (f : ℕ) (m d : Ends) (K b : ℕ) → b ≡ ratio_bound f m d K → b < 2 ^ f → has_remainder f m d K ≡ true
 unfolding has_remainder
 exists_is f m d K b h l = lt-ltb (ratio_bound f m d K) (2 ^ f) (subst (λ z. z < 2 ^ f) h l)
 
+-- a bound of at least 1 gives the weights past K no remainder
 pub missing_is : (f : ℕ) (m d : Ends) (K b : ℕ) → b ≡ ratio_bound f m d K → 2 ^ f ≤ b → has_remainder f m d K ≡ false
 unfolding has_remainder
 missing_is f m d K b h l = le-ltb (ratio_bound f m d K) (2 ^ f) (subst (λ z. 2 ^ f ≤ z) h l)
 
+-- the weight at K times the bound, over what the bound lacks of 1, is the remainder at K
 pub rest_is : (f : ℕ) (m d : Ends) (K b top t : ℕ) → b ≡ ratio_bound f m d K → t ≡ top → div_ceil (t * b) (2 ^ f - b) ≡ remainder_from f m d top K
 unfolding remainder_from
 rest_is f m d K b top t h e = rw (e, h) refl
 
+-- the mean less the excess, in whole units, is the pivot
 pub pivot_is : (f : ℕ) (m d : Ends) (n x o : ℕ) (e : Ends) → x ≡ e.lo → e ≡ ends_less m d → o ≡ 2 ^ f → n ≡ x / o → n ≡ pivot_at f m d
 unfolding pivot_at
 pivot_is f m d n x o e h k ho hn = hn ∙ ap₂ (λ y z. y / z) (h ∙ ap (λ (z : Ends). z.lo) k) ho
 
--- product / gap rounded up is at most t where the product is at most t gaps, and above t where it is more
-pub few_gaps : (n gap t : ℕ) → 0 < gap → n ≤ t * gap → div_ceil n gap ≤ t
-few_gaps n gap t p h = ceil_most n gap t p h
-
+-- more than t gaps, over the gap and rounded up, is more than t
 pub many_gaps : (n gap t : ℕ) → 0 < gap → t * gap < n → t < div_ceil n gap
 many_gaps n gap t p h =
     let a : n ≤ div_ceil n gap * gap = ceil_above n gap (div_ceil n gap) p refl in
@@ -49,6 +52,7 @@ small_stays f r p h =
     let e : 0 * r.lo ≡ 0 = omega arith in
     ap₂ (λ y z. record { lo = y; hi = z }) (ap (λ y. y / 2 ^ f) e ∙ zero-div (2 ^ f)) (one_of r.hi (2 ^ f) p h)
 
+-- a weight from 0 to 1 unit stays the same over a ratio above 0 and of at most 1
 pub weight_stays : (f : ℕ) (m d w : Ends) (x : ℕ) → 0 < x → 0 < m.hi → w.lo ≡ 0 → w.hi ≡ 1 → m.hi + d.hi * (x - 1) ≤ (1 * 2 ^ f + d.lo) * x → w ≡ ends_mul f w (ratio_ends f m d x)
 unfolding ratio_ends
 weight_stays f m d w x p q l h k =
@@ -68,6 +72,7 @@ falls_on m e q x y p h l s =
     let b : q * y ≡ q * x + q * (y - x) = ap (λ z. q * z) j ∙ omega arith in
     omega (arith, a, b, l, mul-le-mul_right (y - x) s)
 
+-- a weight from 0 to 1 unit stays the same over every ratio from x on, where those are at most 1
 pub weight_stays_on : (f : ℕ) (m d w : Ends) (x y : ℕ) → 0 < x → x ≤ y → 0 < m.hi → StaysFrom f m d w x → w ≡ ends_mul f w (ratio_ends f m d y)
 weight_stays_on f m d w x y p h q s =
     weight_stays f m d w y (omega arith) q s.least s.most (falls_on m.hi d.hi (1 * 2 ^ f + d.lo) x y p h s.falls s.goes_on)

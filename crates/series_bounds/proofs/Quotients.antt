@@ -11,6 +11,7 @@ use Rattle.series_bounds.specs.declared.parts.Parts.{Parts}
 whole_is : (n d : ℕ) (p : Parts) → AreParts n d p → p.whole ≡ n / d
 whole_is n d p h = sym (div-mul-add p.whole d p.rest h.rest) ∙ ap (λ z. z / d) h.sum
 
+-- the whole part of n / d, over x and rounded down, is n / (d x) rounded down
 pub floor_twice : (n d x : ℕ) (p : Parts) → AreParts n d p → p.whole / x ≡ n / (d * x)
 floor_twice n d x p h = ap (λ z. z / x) (whole_is n d p h) ∙ div-div-eq-div-mul n d x
 
@@ -31,12 +32,14 @@ ceil_twice n d x more p q h a b =
     let u : (p.whole + more) * d < n + d = grind (arith, w, r, a, b) in
     ceil_by_sum (p.whole + more) x q ∙ ceil_of_ceil n d x (p.whole + more) (div_ceil (p.whole + more) x) (omega (arith, r)) q l u (omega (arith, s.0)) (omega (arith, s.1))
 
+-- where nothing is left the whole part is the quotient rounded up
 pub ceil_whole : (n d : ℕ) (p : Parts) → AreParts n d p → p.rest ≡ 0 → p.whole ≡ div_ceil n d
 ceil_whole n d p h e =
     let w = h.sum in
     let r = h.rest in
     ceil_is n d p.whole (omega (arith, r)) (omega (arith, w, e)) (omega (arith, w, e, r))
 
+-- where something is left the whole part and 1 is the quotient rounded up
 pub ceil_more : (n d : ℕ) (p : Parts) → AreParts n d p → 0 < p.rest → p.whole + 1 ≡ div_ceil n d
 ceil_more n d p h l =
     let w = h.sum in

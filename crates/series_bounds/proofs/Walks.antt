@@ -1,7 +1,7 @@
 -- The weights' recursions by their index, the last index, and the steps of the walks down and up from the pivot.
 use Rattle.std.proofs.Common.{◌≡◌, ℕ, zero, suc, ◌+◌, ◌-◌, ◌*◌, ◌<◌, ◌≤◌, ◌^◌, Bool, true, false, not, nat_lt, nat_le, max, List, [], ◌∷◌, ◌++◌, reverse, refl, sym, ap, ap₂, ◌∙◌, arith, subst, inl, inr, ◌⊎◌, le_trans, le_of_eq, add-one}
 use Rattle.std.specs.Int.{div_ceil}
-use Rattle.std.proofs.Math.Nat.{eq-or-lt_of_le, le-max_left, le-max_right}
+use Rattle.std.proofs.Math.Nat.{eq-or-lt_of_le, le-max_left, le-max_right, max-le}
 use Rattle.std.proofs.lemmas.Bool.{lt-ltb, le-ltb, le-leb, lt-leb, cond-true, cond-false, or_left, or_right, or_from, and_left, and_right, and_from, cases_Bool, cases_lt}
 use Rattle.std.proofs.lemmas.List.{reverse-append}
 use Rattle.fixed_interval.specs.Ends.{Ends, ends_exact, ends_mul}
@@ -84,6 +84,7 @@ first_is p x (suc n) y h l t k = elim (eq-or-lt_of_le {n = x} {m = y} l) [
       ∙ first_is p (suc x) n y (λ z a b. h z (omega arith) b) i (λ a. t (omega arith)) (omega arith)
 ]
 
+-- the first that passes from x on isn't below x
 pub first_from_start : (p : ℕ → Bool) (x n : ℕ) → x ≤ first_from p x n
 first_from_start p x n = first_least p x n x (λ z i j. absurd (omega arith)) (omega arith)
 
@@ -93,16 +94,15 @@ pub end_past_pivot : (f : ℕ) (m d : Ends) → pivot_at f m d < least_end f m d
 unfolding least_end
 end_past_pivot f m d = omega (arith, le-max_left (pivot_at f m d + 1) 63)
 
+-- the list may end at 63 at the earliest
 pub end_from_63 : (f : ℕ) (m d : Ends) → 63 ≤ least_end f m d
 unfolding least_end
 end_from_63 f m d = le-max_right (pivot_at f m d + 1) 63
 
-max_most : (a b n : ℕ) → a ≤ n → b ≤ n → max a b ≤ n
-max_most a b n h k = grind arith
-
+-- no index past the pivot and from 63 on is before the first at which the list may end
 pub end_most : (f : ℕ) (m d : Ends) (x : ℕ) → pivot_at f m d < x → 63 ≤ x → least_end f m d ≤ x
 unfolding least_end
-end_most f m d x h k = max_most (pivot_at f m d + 1) 63 x (omega arith) k
+end_most f m d x h k = max-le (omega arith) k
 
 -- no index below x may be the last one
 abbrev pub Passed : (f : ℕ) → Ends → Ends → ℕ → Type 0
@@ -155,10 +155,12 @@ last_here f m d q =
     let a : least_end f m d ≤ 1024 = end_most f m d 1024 (omega arith) (omega arith) in
     elim (first_here (may_end f m d) (least_end f m d) (1024 - least_end f m d)) [ inl h ↦ inl h | inr h ↦ inr (h ∙ omega arith) ]
 
+-- the last index isn't before the first at which the list may end
 pub last_start : (f : ℕ) (m d : Ends) → least_end f m d ≤ last_index f m d
 unfolding last_index
 last_start f m d = first_from_start (may_end f m d) (least_end f m d) (1024 - least_end f m d)
 
+-- the pivot is below the last index
 pub pivot_below_last : (f : ℕ) (m d : Ends) → pivot_at f m d < last_index f m d
 unfolding last_index
 pivot_below_last f m d = omega (arith, end_past_pivot f m d, first_from_start (may_end f m d) (least_end f m d) (1024 - least_end f m d))
@@ -200,10 +202,12 @@ narrow_from f m d h k =
 
 -- ---- lists
 
+-- the list of u(0), .., u(n) has u(n) at its end
 pub listed_next : {X : Type 0} (u : ℕ → X) (n : ℕ) → listed u (n + 1) ≡ listed u n ++ u n ∷ []
 unfolding listed
 listed_next u n = rw add-one refl
 
+-- sequences that agree below n have the same list of n entries
 pub listed_same : {X : Type 0} (u v : ℕ → X) (n : ℕ) → ((k : ℕ) → k < n → u k ≡ v k) → listed u n ≡ listed v n
 unfolding listed
 listed_same u v zero h = refl
@@ -235,6 +239,7 @@ each_more P n h k x l = elim (eq-or-lt_of_le {n = x} {m = n + 1} l) [
   | inr m ↦ h x (omega arith)
 ]
 
+-- the walk down begins at the pivot with the weight 1
 pub descent_start : (f : ℕ) (m d term : Ends) → term ≡ ends_exact f 1 → Descent f m d (term ∷ []) term 0
 unfolding listed
 descent_start f m d term e =
@@ -247,9 +252,11 @@ descent_start f m d term e =
           rw (i, w) (omega arith);
     }
 
+-- the weight at which the walk down stands doesn't pass 8
 pub descent_top : (f : ℕ) (m d : Ends) (list : List Ends) (term : Ends) (step : ℕ) → Descent f m d list term step → term.hi ≤ 8 * 2 ^ f
 descent_top f m d list term step h = subst (λ (z : Ends). z.hi ≤ 8 * 2 ^ f) (sym h.last) (h.tops step (omega arith))
 
+-- a step down: the weight times the ratio there is the one below it
 pub descent_next : (f : ℕ) (m d : Ends) (list : List Ends) (term v r : Ends) (step : ℕ) → Descent f m d list term step → step < pivot_at f m d
     → r ≡ back_ends f m d (pivot_at f m d - step) → v ≡ ends_mul f term r → v.hi ≤ 8 * 2 ^ f → Descent f m d (list ++ v ∷ []) v (step + 1)
 descent_next f m d list term v r step h l er ev t =
@@ -260,12 +267,14 @@ descent_next f m d list term v r step h l er ev t =
       tops = each_more (λ k. (weight_ends f m d (pivot_at f m d - k)).hi ≤ 8 * 2 ^ f) step h.tops (subst (λ (z : Ends). z.hi ≤ 8 * 2 ^ f) w t);
     }
 
+-- a step down to a weight that passes 8 makes the answer wide
 pub descent_wide : (f : ℕ) (m d : Ends) (list : List Ends) (term v r : Ends) (step : ℕ) → Descent f m d list term step → step < pivot_at f m d
     → r ≡ back_ends f m d (pivot_at f m d - step) → v ≡ ends_mul f term r → 8 * 2 ^ f < v.hi → is_wide f m d ≡ true
 descent_wide f m d list term v r step h l er ev t =
     let w : v ≡ weight_ends f m d (pivot_at f m d - (step + 1)) = ev ∙ ap₂ (ends_mul f) h.last er ∙ sym (weight_down f m d (pivot_at f m d - step) (omega arith) (omega arith)) ∙ ap (weight_ends f m d) (omega arith) in
     wide_at f m d (pivot_at f m d - (step + 1)) (omega (arith, pivot_below_last f m d)) (subst (λ (z : Ends). 8 * 2 ^ f < z.hi) w t)
 
+-- a walk down to 0 has, turned around, the weights from 0 to the pivot
 pub descent_done : (f : ℕ) (m d : Ends) (list : List Ends) (term : Ends) (step : ℕ) → step ≡ pivot_at f m d → Descent f m d list term step → ToPivot f m d (reverse list)
 descent_done f m d list term step e h = record {
   weights = ap reverse h.weights ∙ reversed (λ k. weight_ends f m d (pivot_at f m d - k)) (step + 1)
@@ -285,6 +294,7 @@ pub record Ascent (f : ℕ) (m d : Ends) (list : List Ends) (term : Ends) (x : �
   pub passed : Passed f m d x
   pub unended : 1024 < x → has_remainder f m d 1024 ≡ false
 
+-- the walk up begins past the pivot with the weights from 0 to it
 pub ascent_start : (f : ℕ) (m d : Ends) (list : List Ends) (term : Ends) → ToPivot f m d list → pivot_at f m d ≤ 256 → term ≡ ends_exact f 1 → Ascent f m d list term (pivot_at f m d + 1)
 ascent_start f m d list term h q e = record {
   weights = h.weights ∙ ap (listed (weight_ends f m d)) (omega arith);
@@ -298,8 +308,9 @@ ascent_start f m d list term h q e = record {
 -- the first index at which the list may end, from where the walk to it stops
 least_is : (f : ℕ) (m d : Ends) (x : ℕ) → pivot_at f m d < x → 63 ≤ x → x ≤ max (pivot_at f m d + 1) 63 → x ≡ least_end f m d
 unfolding least_end
-least_is f m d x p q r = omega (arith, max_most (pivot_at f m d + 1) 63 x (omega arith) q)
+least_is f m d x p q r = (let most : max (pivot_at f m d + 1) 63 ≤ x = max-le (omega arith) q in omega (arith, most))
 
+-- a walk up to the first index at which the list may end may stop there
 pub ascent_least : (f : ℕ) (m d : Ends) (list : List Ends) (term : Ends) (x : ℕ) → Ascent f m d list term x → x ≡ least_end f m d → ToNext f m d list term x
 ascent_least f m d list term x h e = record {
   weights = h.weights;
@@ -333,10 +344,12 @@ ascent_stays f m d list term x h q l s = record {
       ap (weight_ends f m d) i ∙ stay_past f m d term x (y - (x - 1)) h.past q h.last s;
 }
 
+-- the weight that stays the same is the one at each index up to the first possible end
 pub next_same : (f : ℕ) (m d : Ends) (list more : List Ends) (last : Ends) (next y : ℕ) → ToNext f m d list last next → next ≤ y → y < least_end f m d
     → more ≡ listed (weight_ends f m d) y → more ++ last ∷ [] ≡ listed (weight_ends f m d) (y + 1)
 next_same f m d list more last next y h a b e = ap₂ (λ z w. z ++ w ∷ []) e (sym (h.same y a b)) ∙ sym (listed_next (weight_ends f m d) y)
 
+-- a list filled up with the weight that stays the same has the weights below the first possible end
 pub next_least : (f : ℕ) (m d : Ends) (list more : List Ends) (last : Ends) (next : ℕ) → ToNext f m d list last next
     → more ≡ listed (weight_ends f m d) (least_end f m d) → ToLeastEnd f m d more last
 next_least f m d list more last next h e =
@@ -354,9 +367,11 @@ next_least f m d list more last next h e =
       ];
     }
 
+-- a walk that reaches the first index at which the list may end has the weights below it
 pub next_done : (f : ℕ) (m d : Ends) (list : List Ends) (last : Ends) (next : ℕ) → ToNext f m d list last next → next ≡ least_end f m d → ToLeastEnd f m d list last
 next_done f m d list last next h e = next_least f m d list list last next h (h.weights ∙ ap (listed (weight_ends f m d)) e)
 
+-- the walk up goes on from the weights below the first index at which the list may end
 pub ascent_again : (f : ℕ) (m d : Ends) (list : List Ends) (term : Ends) → pivot_at f m d ≤ 256 → ToLeastEnd f m d list term → Ascent f m d list term (least_end f m d)
 ascent_again f m d list term q h = record {
   weights = h.weights;
@@ -367,23 +382,28 @@ ascent_again f m d list term q h = record {
   unended = λ l. absurd (omega (arith, end_most f m d 1024 (omega arith) (omega arith)));
 }
 
+-- the larger of 63 and of the index past the pivot is the first at which the list may end
 pub least_from : (f : ℕ) (m d : Ends) (c x : ℕ) → c ≡ pivot_at f m d → x ≡ max (c + 1) 63 → x ≡ least_end f m d
 unfolding least_end
 least_from f m d c x h k = k ∙ ap (λ y. max (y + 1) 63) h
 
+-- the weight at which the walk up stands doesn't pass 8
 pub ascent_top : (f : ℕ) (m d : Ends) (list : List Ends) (term : Ends) (x : ℕ) → Ascent f m d list term x → term.hi ≤ 8 * 2 ^ f
 ascent_top f m d list term x h = subst (λ (z : Ends). z.hi ≤ 8 * 2 ^ f) (sym h.last) (h.tops (x - 1) (omega (arith, h.past)))
 
+-- the weight times the ratio at x is the weight at x
 pub next_weight : (f : ℕ) (m d : Ends) (list : List Ends) (term v r : Ends) (x : ℕ) → Ascent f m d list term x
     → r ≡ ratio_ends f m d x → v ≡ ends_mul f term r → v ≡ weight_ends f m d x
 next_weight f m d list term v r x h er ev = ev ∙ ap₂ (ends_mul f) h.last er ∙ sym (weight_up f m d x h.past)
 
-below_more : (P : ℕ → Type 0) (n : ℕ) → ((x : ℕ) → x < n → P x) → P n → (x : ℕ) → x < n + 1 → P x
+-- what holds below a number and at it holds below the next
+pub below_more : (P : ℕ → Type 0) (n : ℕ) → ((x : ℕ) → x < n → P x) → P n → (x : ℕ) → x < n + 1 → P x
 below_more P n h k x l = elim (eq-or-lt_of_le {n = suc x} {m = n + 1} l) [
   | inl e ↦ (let i : n ≡ x = omega arith in subst P i k)
   | inr m ↦ h x (omega arith)
 ]
 
+-- a step up: the weight at x is put to the list, where the list doesn't end there
 pub ascent_next : (f : ℕ) (m d : Ends) (list : List Ends) (term v r : Ends) (x : ℕ) → Ascent f m d list term x
     → r ≡ ratio_ends f m d x → v ≡ ends_mul f term r → v.hi ≤ 8 * 2 ^ f
     → (63 ≤ x → may_end f m d x ≡ false) → (1024 < x + 1 → has_remainder f m d 1024 ≡ false) → Ascent f m d (list ++ v ∷ []) v (x + 1)
@@ -406,6 +426,7 @@ ascent_wide f m d list term v r x h q l er ev t =
     let w : v ≡ weight_ends f m d x = next_weight f m d list term v r x h er ev in
     wide_at f m d x (last_least f m d x q l h.passed) (subst (λ (z : Ends). 8 * 2 ^ f < z.hi) w t)
 
+-- a list past 1024 without an end makes the answer wide
 pub ascent_unended : (f : ℕ) (m d : Ends) (list : List Ends) (term : Ends) (x : ℕ) → Ascent f m d list term x → pivot_at f m d ≤ 256 → 1024 < x → is_wide f m d ≡ true
 ascent_unended f m d list term x h q l =
     let e : last_index f m d ≡ 1024 = last_is f m d 1024 (omega arith) (omega arith) (omega arith) (λ y a b. h.passed y a (omega arith)) (λ i. absurd (omega arith)) in
@@ -415,6 +436,7 @@ pub may_from : (f : ℕ) (m d : Ends) (x rem : ℕ) → has_remainder f m d x �
 unfolding may_end
 may_from f m d x rem h e l = and_from (has_remainder f m d x) (nat_le (remainder_at f m d x) 256) h (le-leb (remainder_at f m d x) 256 (subst (λ z. z ≤ 256) e l))
 
+-- the list may not end at an index without a remainder
 pub may_not : (f : ℕ) (m d : Ends) (x : ℕ) → has_remainder f m d x ≡ false → may_end f m d x ≡ false
 unfolding may_end
 may_not f m d x h = and_left (has_remainder f m d x) (nat_le (remainder_at f m d x) 256) h
@@ -430,6 +452,7 @@ may_not_over f m d list term v r x rem h er ev e l =
     let w : v ≡ weight_ends f m d x = next_weight f m d list term v r x h er ev in
     and_right (has_remainder f m d x) (nat_le (remainder_at f m d x) 256) (lt-leb (remainder_at f m d x) 256 (subst (λ z. 256 < z) (rest_at f m d v x rem w e) l))
 
+-- the list ends with the weight at x: these are all weights, with their remainder
 pub ascent_done : (f : ℕ) (m d : Ends) (list : List Ends) (term v r : Ends) (x rem : ℕ) → Ascent f m d list term x
     → r ≡ ratio_ends f m d x → v ≡ ends_mul f term r → v.hi ≤ 8 * 2 ^ f → 63 ≤ x → x ≤ 1024
     → has_remainder f m d x ≡ true → rem ≡ remainder_from f m d v.hi x → (x < 1024 → rem ≤ 256) → ToEnd f m d (list ++ v ∷ []) rem

@@ -79,7 +79,8 @@ any_below p (suc n) = any_below p n || p n
 -- a weight from 0 to the last index passes 8, or the last index has no remainder
 unfoldable pub is_wide : ℕ → Ends → Ends → Bool
 is_wide f m d =
-    any_below (λ x. nat_lt (8 * 2 ^ f) (weight_ends f m d x).hi) (suc (last_index f m d)) || not (has_remainder f m d (last_index f m d))
+    any_below (λ x. nat_lt (8 * 2 ^ f) (weight_ends f m d x).hi) (suc (last_index f m d))
+    || not (has_remainder f m d (last_index f m d))
 
 -- u(0), .., u(n - 1)
 unfoldable pub listed : {X : Type 0} → (ℕ → X) → ℕ → List X
@@ -99,4 +100,5 @@ unfoldable pub weights_of : (f : ℕ) → Ends → Ends → Weights f
 weights_of f m d =
     if is_wide f m d then Wide
     else Known (pivot_at f m d) (listed (weight_ends f m d) (suc (last_index f m d)))
-    (ends_raised (ends_sum (listed (weight_ends f m d) (suc (last_index f m d)))) (remainder_at f m d (last_index f m d)))
+    (ends_raised (ends_sum (listed (weight_ends f m d) (suc (last_index f m d))))
+    (remainder_at f m d (last_index f m d)))

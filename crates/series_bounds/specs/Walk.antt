@@ -63,7 +63,8 @@ pub record Begins (u : ℕ → Ends) (wanted x : ℕ) (list : List Ends) : Type 
   pub entries : list ≡ listed u (length list)
   pub all : length list < wanted → length list ≡ x
 
--- the first weights, the sum of those below next, and the last of them, where all that follow before the list may end are the same
+-- the first weights, the sum of those below next, and the last of them, where all that follow before the list may end
+-- are the same
 pub record Midway (f : ℕ) (m d : Ends) (wanted : ℕ) (list : List Ends) (sum last : Ends) (next : ℕ) : Type 0 where
   pub first : Begins (weight_ends f m d) wanted next list
   pub walk : ToNext f m d (listed (weight_ends f m d) next) last next

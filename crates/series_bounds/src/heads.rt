@@ -45,7 +45,8 @@ struct Walked<const F: u32> {
 /// Adds a weight where fewer are held than are wanted.
 #[inline(always)]
 fn hold<const F: u32>(list: &mut Vec<Iv<F>>, weight: Iv<F>, wanted: usize) -> Result<(), NoMemory>
-    ensures { OnOk result ((u : ℕ → Ends) (x : ℕ) → Begins u wanted x list.old.items → weight.entry ≡ u x → Begins u wanted (x + 1) list.new.items) }
+    ensures { OnOk result ((u : ℕ → Ends) (x : ℕ) → Begins u wanted x list.old.items → weight.entry ≡ u x
+        → Begins u wanted (x + 1) list.new.items) }
 {
     if list.len() < wanted {
         list.push(weight)?;
@@ -53,8 +54,8 @@ fn hold<const F: u32>(list: &mut Vec<Iv<F>>, weight: Iv<F>, wanted: usize) -> Re
     Ok(())
 }
 
-/// The first weights and the sum, from the pivot on to the first index at which the list may end, or to where the weights stay
-/// the same, and None where one passes 8. `begun` has those to the pivot, and `low` is their sum.
+/// The first weights and the sum, from the pivot on to the first index at which the list may end, or to where the
+/// weights stay the same, and None where one passes 8. `begun` has those to the pivot, and `low` is their sum.
 fn rise<const F: u32>(
     mean: Iv<F>,
     excess: Iv<F>,
@@ -72,7 +73,8 @@ fn rise<const F: u32>(
     requires begun { Begins (weight_ends F mean excess) wanted (pivot + 1) begun.items }
     requires low { SumsTo F mean excess low (pivot + 1) }
     ensures wide { IfOk result (λ found. IfNone found (is_wide F mean.entry excess.entry ≡ true)) }
-    ensures known { IfOk result (λ found. IfSome found (λ b. Midway F mean.entry excess.entry wanted b.list.items b.sum b.last b.next)) }
+    ensures known { IfOk result (λ found. IfSome found
+        (λ b. Midway F mean.entry excess.entry wanted b.list.items b.sum b.last b.next)) }
     ensures ratios { IfOk result (λ found. IfSome found (λ b. AreRatios F mean.entry excess.entry b.next b.ratios)) }
 {
     let most = most_weight::<F>();
@@ -173,8 +175,9 @@ fn brought<const F: u32>(
     }
 }
 
-/// The sum of all weights with what the ones past the list come to at most, from those below the first index at which the list
-/// may end: `low` is their sum, and `before` the last of them. None where a weight passes 8 or the rest needn't fall.
+/// The sum of all weights with what the ones past the list come to at most, from those below the first index at which
+/// the list may end: `low` is their sum, and `before` the last of them. None where a weight passes 8 or the rest
+/// needn't fall.
 fn close<const F: u32>(
     mean: Iv<F>,
     excess: Iv<F>,
@@ -215,8 +218,9 @@ fn close<const F: u32>(
     None
 }
 
-/// The sum of all weights where the list ends at the first index at which it may, with a weight of 1 unit at most and a rest of
-/// 1, as it mostly does: no ratio is needed for that. None where this isn't seen. The rest is as for [`close`].
+/// The sum of all weights where the list ends at the first index at which it may, with a weight of 1 unit at most and
+/// a rest of 1, as it mostly does: no ratio is needed for that. None where this isn't seen. The rest is as for
+/// [`close`].
 fn closed_at_once<const F: u32>(
     mean: Iv<F>,
     excess: Iv<F>,
@@ -244,8 +248,8 @@ fn closed_at_once<const F: u32>(
     Some(Iv::of_ends(low.lo(), low.hi() + 2))
 }
 
-/// The sum of all weights, from what was found below an index and brought to the first one at which the list may end. None
-/// where a weight passes 8 or the rest needn't fall.
+/// The sum of all weights, from what was found below an index and brought to the first one at which the list may end.
+/// None where a weight passes 8 or the rest needn't fall.
 fn closed<const F: u32>(
     mean: Iv<F>,
     excess: Iv<F>,
@@ -288,7 +292,8 @@ fn near_weights<const F: u32>(
     requires near { excess.hi ≤ 2 ^ F + excess.lo }
     requires wanted { wanted ≤ 63 }
     ensures wide { IfOk result (λ found. IfNone found (is_wide F mean.entry excess.entry ≡ true)) }
-    ensures known { IfOk result (λ found. IfSome found (λ b. IsBeginning F mean.entry excess.entry wanted b.list.items b.sum)) }
+    ensures known { IfOk result (λ found. IfSome found
+        (λ b. IsBeginning F mean.entry excess.entry wanted b.list.items b.sum)) }
     ensures least { IfOk result (λ found. IfSome found (λ b. 2 ^ F ≤ b.sum.lo)) }
 {
     let pivot = pivot_of(mean, excess);
@@ -327,7 +332,8 @@ fn far_weights<const F: u32>(
     requires excess_top { excess.hi ≤ 2048 * 2 ^ F }
     requires wanted { wanted ≤ 63 }
     ensures wide { IfOk result (λ found. IfNone found (is_wide F mean.entry excess.entry ≡ true)) }
-    ensures known { IfOk result (λ found. IfSome found (λ b. IsBeginning F mean.entry excess.entry wanted b.list.items b.sum)) }
+    ensures known { IfOk result (λ found. IfSome found
+        (λ b. IsBeginning F mean.entry excess.entry wanted b.list.items b.sum)) }
     ensures least { IfOk result (λ found. IfSome found (λ b. 2 ^ F ≤ b.sum.lo)) }
 {
     let pivot = pivot_of(mean, excess);
@@ -340,8 +346,8 @@ fn far_weights<const F: u32>(
     Ok(Some(Beginning { list, sum }))
 }
 
-/// The first weights, `wanted` of them or more, at most 63 being wanted, and the sum of all, with a mean and an excess as
-/// [`crate::weights`] takes them. None where its answer is `Wide`. Want of memory is the only error.
+/// The first weights, `wanted` of them or more, at most 63 being wanted, and the sum of all, with a mean and an
+/// excess as [`crate::weights`] takes them. None where its answer is `Wide`. Want of memory is the only error.
 pub fn first_weights<const F: u32>(
     alloc: Global,
     mean: Iv<F>,
@@ -353,7 +359,8 @@ pub fn first_weights<const F: u32>(
     requires excess_top { excess.hi ≤ 2048 * 2 ^ F }
     requires wanted { wanted ≤ 63 }
     ensures wide { IfOk result (λ found. IfNone found (is_wide F mean.entry excess.entry ≡ true)) }
-    ensures known { IfOk result (λ found. IfSome found (λ b. IsBeginning F mean.entry excess.entry wanted b.list.items b.sum)) }
+    ensures known { IfOk result (λ found. IfSome found
+        (λ b. IsBeginning F mean.entry excess.entry wanted b.list.items b.sum)) }
     ensures least { IfOk result (λ found. IfSome found (λ b. 2 ^ F ≤ b.sum.lo)) }
 {
     let found = if is_near(excess) {

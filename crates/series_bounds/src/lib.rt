@@ -1,14 +1,15 @@
 //! The weights of a pipeline's distribution, relative to the one at the pivot, near the mode.
 //!
-//! The number of units in a pipeline is Poisson where its variance is its mean, and negative binomial where the variance is
-//! larger (Sherbrooke, *Optimal Inventory Modeling of Systems*, 2nd ed., the chapters on METRIC and VARI-METRIC). With the mean
-//! `m` and the excess `d`, the variance over the mean less 1, the weights have `w(0) = 1` and
-//! `w(x) = w(x - 1) (m + (x - 1) d) / (x (1 + d))`; a chance is a weight over the sum of all.
+//! The number of units in a pipeline is Poisson where its variance is its mean, and negative binomial where the
+//! variance is larger (Sherbrooke, *Optimal Inventory Modeling of Systems*, 2nd ed., the chapters on METRIC and
+//! VARI-METRIC). With the mean `m` and the excess `d`, the variance over the mean less 1, the weights have `w(0) = 1`
+//! and `w(x) = w(x - 1) (m + (x - 1) d) / (x (1 + d))`; a chance is a weight over the sum of all.
 //!
-//! The list of weights ends at the first index from 63 on, past the pivot, at which all later weights together come to at most
-//! 256 units of `2^-F`, and at 1024 where there is none. What they come to is bounded by a geometric series: a later ratio is
-//! never above the larger of the next one and `d / (1 + d)`. Where that isn't below 1 at the last index, or where a weight
-//! passes 8, as may be with wide intervals, nothing is said of them, and the answer is `Wide`.
+//! The list of weights ends at the first index from 63 on, past the pivot, at which all later weights together come
+//! to at most 256 units of `2^-F`, and at 1024 where there is none. What they come to is bounded by a geometric
+//! series: a later ratio is never above the larger of the next one and `d / (1 + d)`. Where that isn't below 1 at the
+//! last index, or where a weight passes 8, as may be with wide intervals, nothing is said of them, and the answer is
+//! `Wide`.
 #![tactic(auto)]
 
 ghost use Rattle.std.specs.Prelude.{◌≡◌, ◌+◌, ◌-◌, ◌*◌, ◌/◌, ◌^◌, ◌<◌, ◌≤◌, true, false, max, ℕ, ◌⊎◌, IfOk, IfSome, IfNone, length};
@@ -58,13 +59,15 @@ pub fn weights_by_index()
         → weight_ends f m d x ≡ ends_mul f (weight_ends f m d (x - 1)) (ratio_ends f m d x) }
 {}
 
-/// The last index is the first from the pivot's next one or 63 on, whichever is larger, at which the list may end, and 1024
-/// where none is.
+/// The last index is the first from the pivot's next one or 63 on, whichever is larger, at which the list may end,
+/// and 1024 where none is.
 pub fn last_index_is_first()
     ensures from { (f : ℕ) (m d : Ends) → max (pivot_at f m d + 1) 63 ≤ last_index f m d }
     ensures to { (f : ℕ) (m d : Ends) → pivot_at f m d ≤ 256 → last_index f m d ≤ 1024 }
-    ensures passed { (f : ℕ) (m d : Ends) (y : ℕ) → max (pivot_at f m d + 1) 63 ≤ y → y < last_index f m d → may_end f m d y ≡ false }
-    ensures here { (f : ℕ) (m d : Ends) → pivot_at f m d ≤ 256 → (may_end f m d (last_index f m d) ≡ true) ⊎ (last_index f m d ≡ 1024) }
+    ensures passed { (f : ℕ) (m d : Ends) (y : ℕ) → max (pivot_at f m d + 1) 63 ≤ y → y < last_index f m d
+        → may_end f m d y ≡ false }
+    ensures here { (f : ℕ) (m d : Ends) → pivot_at f m d ≤ 256 → (may_end f m d (last_index f m d) ≡ true)
+        ⊎ (last_index f m d ≡ 1024) }
 {}
 
 /// The first index at which a list may end, where the pivot is below it.
@@ -124,8 +127,8 @@ fn back_divisor<const F: u32>(mean: Iv<F>, excess: Iv<F>, x: u32) -> u64
     below.hi().clamp(1, u128::from(u64::MAX)) as u64
 }
 
-/// The ratio of the weight before `x` to the one at `x`, where the mean is at least 1 above the excess. `inverse` is taken for
-/// that of the upper end of what it is divided by.
+/// The ratio of the weight before `x` to the one at `x`, where the mean is at least 1 above the excess. `inverse` is
+/// taken for that of the upper end of what it is divided by.
 fn back_at<const F: u32>(mean: Iv<F>, excess: Iv<F>, x: u32, inverse: u64) -> Iv<F>
     requires mean_top { IsWithinLimit F mean }
     requires above { 2 ^ F + excess.hi ≤ mean.lo }
@@ -149,8 +152,8 @@ fn times<const F: u32>(weight: Iv<F>, ratio: Iv<F>) -> Iv<F>
     product(weight, ratio)
 }
 
-/// Whether a weight before the index `x` is from 0 to 1 unit, and all ratios from there on are at most 1. Then all weights
-/// from there on are the same.
+/// Whether a weight before the index `x` is from 0 to 1 unit, and all ratios from there on are at most 1. Then all
+/// weights from there on are the same.
 fn stays<const F: u32>(mean: Iv<F>, excess: Iv<F>, before: Iv<F>, x: u32) -> bool
     requires mean_top { IsWithinLimit F mean }
     requires excess_top { excess.hi ≤ 2048 * 2 ^ F }
@@ -181,8 +184,8 @@ fn quotient_few(num: u128, den: u128) -> u128
     }
 }
 
-/// What the weights past `x` come to at most, where the list ends there: `top` is the weight at `x`, and `bound` bounds the
-/// ratios past it.
+/// What the weights past `x` come to at most, where the list ends there: `top` is the weight at `x`, and `bound`
+/// bounds the ratios past it.
 fn rest_at<const F: u32>(top: u128, bound: u128, x: u32) -> Option<u128>
     requires scale { InScale F }
     requires top { top ≤ 8 * 2 ^ F }
@@ -260,8 +263,8 @@ fn down<const F: u32>(
     Ok(Some(list))
 }
 
-/// The weights from the pivot on to the first index at which the list may end, or to where they stay the same, and None where
-/// one passes 8.
+/// The weights from the pivot on to the first index at which the list may end, or to where they stay the same, and
+/// None where one passes 8.
 fn climb<const F: u32>(
     mean: Iv<F>,
     excess: Iv<F>,
@@ -276,7 +279,8 @@ fn climb<const F: u32>(
     requires place { pivot ≡ pivot_at F mean excess }
     requires begun { ToPivot F mean excess begun.items }
     ensures wide { IfOk result (λ found. IfNone found (is_wide F mean.entry excess.entry ≡ true)) }
-    ensures known { IfOk result (λ found. IfSome found (λ b. ToNext F mean.entry excess.entry b.list.items b.last b.next)) }
+    ensures known { IfOk result (λ found. IfSome found
+        (λ b. ToNext F mean.entry excess.entry b.list.items b.last b.next)) }
     ensures ratios { IfOk result (λ found. IfSome found (λ b. AreRatios F mean.entry excess.entry b.next b.ratios)) }
 {
     let most = most_weight::<F>();
@@ -345,8 +349,8 @@ fn level<const F: u32>(
     })
 }
 
-/// The list of weights to its last place, with what the rest comes to, and None where a weight passes 8 or the rest needn't
-/// fall. Each ratio is used twice: in the remainder before its index, and in the weight there.
+/// The list of weights to its last place, with what the rest comes to, and None where a weight passes 8 or the rest
+/// needn't fall. Each ratio is used twice: in the remainder before its index, and in the weight there.
 fn finish<const F: u32>(
     mean: Iv<F>,
     excess: Iv<F>,
@@ -388,8 +392,8 @@ fn finish<const F: u32>(
     Ok(None)
 }
 
-/// All weights from those to the pivot on, with what the ones past them come to at most, and None where a weight passes 8 or the
-/// rest needn't fall.
+/// All weights from those to the pivot on, with what the ones past them come to at most, and None where a weight
+/// passes 8 or the rest needn't fall.
 fn risen<const F: u32>(
     mean: Iv<F>,
     excess: Iv<F>,
@@ -422,7 +426,8 @@ fn is_near<const F: u32>(excess: Iv<F>) -> bool
     excess.width() <= unit::<F>()
 }
 
-/// All weights, with what the ones past them come to at most, and None where a weight passes 8 or the rest needn't fall.
+/// All weights, with what the ones past them come to at most, and None where a weight passes 8 or the rest needn't
+/// fall.
 fn all_weights<const F: u32>(
     alloc: Global,
     mean: Iv<F>,
@@ -465,11 +470,11 @@ fn sum_of<const F: u32>(list: &[Iv<F>]) -> Iv<F>
     sum
 }
 
-/// The weights of a pipeline's distribution with this mean and excess (the variance over the mean, less 1), both in units of
-/// `2^-F`: the mean is above 0 and at most 256, the excess at most 2048.
+/// The weights of a pipeline's distribution with this mean and excess (the variance over the mean, less 1), both in
+/// units of `2^-F`: the mean is above 0 and at most 256, the excess at most 2048.
 ///
-/// Each weight encloses the model's, and the sum encloses that of the weights from 0 to `n` at each depth `n` from 1024 on, for
-/// every mean and every excess in the two intervals. Want of memory is the only error.
+/// Each weight encloses the model's, and the sum encloses that of the weights from 0 to `n` at each depth `n` from
+/// 1024 on, for every mean and every excess in the two intervals. Want of memory is the only error.
 pub fn weights<const F: u32>(
     alloc: Global,
     mean: Iv<F>,

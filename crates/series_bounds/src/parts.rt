@@ -4,7 +4,7 @@ ghost use Rattle.std.specs.Prelude.{◌≡◌, ℕ, ◌+◌, ◌*◌, ◌/◌, �
 ghost use Rattle.std.specs.Int.{div_ceil};
 ghost use Rattle.series_bounds.specs.Ratios.{AreParts};
 
-use quotients::{quotient_near, short_inverse, short_quotient_near};
+use quotients::{quotient_near, short_inverse, short_quotient_by};
 
 /// How often a divisor goes into a number, and what is left.
 #[derive(Clone, Copy, Drop)]
@@ -88,8 +88,8 @@ fn over(num: u64, x: u32) -> u64
     ensures { result ≡ num / x }
 {
     if x < 256 {
-        let guess = (u128::from(num) * u128::from(short_inverse(x as u8))) >> 64;
-        short_quotient_near(num, u64::from(x), guess as u64)
+        let inverse = short_inverse(x as u8).wrapping_add(1);
+        short_quotient_by(num, x as u8, inverse)
     } else {
         num / u64::from(x)
     }

@@ -1,7 +1,8 @@
-//! The weights one by one and their sum, without memory: what `weights` finds, by the divisions that the definitions name.
+//! The weights one by one and their sum, without memory: what `weights` finds, by the divisions that the definitions
+//! name.
 //!
-//! A weight is walked to from the pivot anew, so this is slow. It serves the few who can't wait for memory, and it is the plain
-//! form beside which the fast one can be read and tried.
+//! A weight is walked to from the pivot anew, so this is slow. It serves the few who can't wait for memory, and it is
+//! the plain form beside which the fast one can be read and tried.
 
 ghost use Rattle.std.specs.Prelude.{◌≡◌, ◌+◌, ◌-◌, ◌*◌, ◌^◌, ◌<◌, ◌≤◌, true, IfOk, IfSome, IfNone};
 ghost use Rattle.fixed_interval.specs.Ends.{IsWithinLimit};
@@ -111,7 +112,8 @@ fn sum_to_pivot<const F: u32>(mean: Iv<F>, excess: Iv<F>, pivot: u16) -> Option<
     Some(sum)
 }
 
-/// What the weights past `x` come to at most, where the list ends there, and None where it goes on: `top` is the weight at `x`.
+/// What the weights past `x` come to at most, where the list ends there, and None where it goes on: `top` is the
+/// weight at `x`.
 fn rest_past<const F: u32>(mean: Iv<F>, excess: Iv<F>, top: u128, x: u32) -> Option<u128>
     requires mean_top { IsWithinLimit F mean }
     requires excess_top { excess.hi ≤ 2048 * 2 ^ F }
@@ -129,8 +131,8 @@ fn rest_past<const F: u32>(mean: Iv<F>, excess: Iv<F>, top: u128, x: u32) -> Opt
     Some(rest)
 }
 
-/// The sum of all weights with what the ones past the list come to at most, from the sum up to the pivot, and None where the
-/// answer is wide.
+/// The sum of all weights with what the ones past the list come to at most, from the sum up to the pivot, and None
+/// where the answer is wide.
 fn sum_past<const F: u32>(mean: Iv<F>, excess: Iv<F>, pivot: u16, low: Iv<F>) -> Option<Iv<F>>
     requires mean_top { IsWithinLimit F mean }
     requires excess_top { excess.hi ≤ 2048 * 2 ^ F }
@@ -156,8 +158,8 @@ fn sum_past<const F: u32>(mean: Iv<F>, excess: Iv<F>, pivot: u16, low: Iv<F>) ->
     None
 }
 
-/// All weights from those to the pivot on, with what the ones past them come to at most, and None where a weight passes 8 or the
-/// rest needn't fall: by the definitions' divisions, for an excess whose ends are far apart.
+/// All weights from those to the pivot on, with what the ones past them come to at most, and None where a weight
+/// passes 8 or the rest needn't fall: by the definitions' divisions, for an excess whose ends are far apart.
 pub(crate) fn risen_plain<const F: u32>(
     mean: Iv<F>,
     excess: Iv<F>,

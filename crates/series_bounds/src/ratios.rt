@@ -10,8 +10,8 @@ use crate::unit;
 use fixed_interval::Iv;
 use quotients::{guess_by, inverse_beside, inverse_of};
 
-/// A ratio of weights but for its division by the index, and what the next index adds to it. The parts have 64 bits where the
-/// ends of the excess are at most 1 apart.
+/// A ratio of weights but for its division by the index, and what the next index adds to it. The parts have 64 bits
+/// where the ends of the excess are at most 1 apart.
 #[derive(Drop)]
 pub(crate) struct Ratios<const F: u32> {
     low: Parts,
@@ -54,6 +54,7 @@ fn divisors_of<const F: u32>(excess: Iv<F>) -> Divisors
 
 impl<const F: u32> Ratios<F> {
     /// At the index `x`.
+    #[inline(always)]
     pub(crate) fn at(mean: Iv<F>, excess: Iv<F>, x: u32) -> Ratios<F>
         requires mean_top { IsWithinLimit F mean }
         requires excess_top { excess.hi ≤ 2048 * 2 ^ F }
@@ -81,6 +82,7 @@ impl<const F: u32> Ratios<F> {
     }
 
     /// At the index `x`, with what the inverses of the two divisors are taken for.
+    #[inline(always)]
     fn with_inverses(
         mean: Iv<F>,
         excess: Iv<F>,

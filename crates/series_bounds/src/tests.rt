@@ -7,8 +7,8 @@ use super::*;
 use std::process::Abort;
 use std::test::Fail;
 
-// A row has the ends of a mean and of an excess, and then the pivot, the last index and the ends of the sum, or nothing
-// where the weights are wide.
+/// A row has the ends of a mean and of an excess, and then the pivot, the last index and the ends of the sum, or nothing
+/// where the weights are wide.
 const AT_32: [&str; 8] = [
     "2147483648 2147483648 0 0 0 63 7081203934 7081203997",
     "4294967296 4294967297 0 3 0 63 11674931536 11674931621",

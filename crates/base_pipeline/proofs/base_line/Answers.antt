@@ -1,30 +1,26 @@
-use Rattle.std.proofs.Common.{ℕ, ◌≡◌, ◌*◌, ◌^◌, ◌≤◌, length, arith, sym, ap, ap₂, subst}
+use Rattle.std.proofs.Common.{◌≡◌, length, arith, sym, ap, ap₂, subst}
 use Rattle.exact_model.specs.Fraction.{sum_below, ◌+ℚ◌, ◌*ℚ◌}
 use Rattle.fixed_interval.specs.Ends.{Ends, In, ends_add}
 use Rattle.fixed_interval.proofs.Laws.{add_encloses}
+use Rattle.depot_pipeline.specs.declared.Moments.{Moments}
 use Rattle.depot_pipeline.specs.Profile.{mean_part, variance_part}
 use Rattle.exact_model.specs.Shares.{shared}
 use Rattle.depot_pipeline.proofs.Laws.{mean_part_in, variance_part_in, added_in}
-use Rattle.depot_pipeline.proofs.Walk.{Summed, summed_start, summed_next, at_the_end, capped_is}
+use Rattle.depot_pipeline.proofs.Walk.{summed_next, at_the_end, capped_is}
 use Rattle.base_pipeline.specs.Profile.{held_at}
 use Rattle.base_pipeline.specs.declared.Held.{Held}
-use Rattle.base_pipeline.proofs.Walk.{held_is, held_small, two_most, sum_is}
+use Rattle.base_pipeline.proofs.Walk.{held_is, held_small, started}
 use Rattle.base_pipeline.proofs.base_line.Goals as goal
 
 pub loop-shop-init : goal.loop-shop-init
 loop-shop-init g c =
-    let p = sum_is c.args.direct c.mean_of.result (mean_part g.row.F c.args.depot) c.add-mean.result c.mean_of.ensures.ends c.add-mean.ensures.ends in
-    let q = sum_is c.args.direct c.variance_of.result (variance_part g.row.F c.args.depot) c.add-variance.result c.variance_of.ensures.ends c.add-variance.ensures.ends in
-    let m = two_most g.row.F c.args.direct c.mean_of.result c.add-mean.result c.requires.direct (omega (arith, c.mean_of.ensures.most)) c.add-mean.ensures.ends in
-    let v = two_most g.row.F c.args.direct c.variance_of.result c.add-variance.result c.requires.direct c.variance_of.ensures.most c.add-variance.ensures.ends in
+    let own = c.base_own-mean.ensures in
     record {
-      mean = started g.row.F (ends_add c.args.direct (mean_part g.row.F c.args.depot)) c.add-mean.result (λ k. (held_at c.args.shops.now k).backorders) p m;
-      variance = started g.row.F (ends_add c.args.direct (variance_part g.row.F c.args.depot)) c.add-variance.result (λ k. (held_at c.args.shops.now k).spread) q v;
+      mean = started g.row.F (ends_add c.args.direct (mean_part g.row.F c.args.depot)) c.base_own-mean.result.mean (λ k. (held_at c.args.shops.now k).backorders)
+          (ap (λ (m : Moments g.row.F). m.mean) own.ends) own.mean_most;
+      variance = started g.row.F (ends_add c.args.direct (variance_part g.row.F c.args.depot)) c.base_own-mean.result.variance (λ k. (held_at c.args.shops.now k).spread)
+          (ap (λ (m : Moments g.row.F). m.variance) own.ends) own.variance_most;
     }
-  where
-    started : (b : ℕ) (first sum : Ends) (part : ℕ → Ends) → sum ≡ first → sum.hi ≤ 768 * 2 ^ b → Summed b 768 first part sum 0
-    started b first sum part e h =
-        subst (λ (z : Ends). Summed b 768 first part z 0) (sym e) (summed_start b 768 first part (subst (λ (z : Ends). z.hi ≤ 768 * 2 ^ b) e h))
 
 pub loop-shop-preserved : goal.loop-shop-preserved
 loop-shop-preserved g c =
@@ -32,11 +28,11 @@ loop-shop-preserved g c =
     let t = held_small g.row.F c.args.shops.now c.loop-shop.shop-index c.shop-item.result c.loop-shop-test.true c.shop-item.is c.requires.held in
     record {
       mean = summed_next g.row.F 768 (ends_add c.args.direct (mean_part g.row.F c.args.depot)) (λ k. (held_at c.args.shops.now k).backorders) c.loop-shop.mean
-          c.shop-item.result.backorders c.add-mean-in-loop-shop.result c.loop-shop.shop-index
-          c.loop-shop.invariant.mean (ap (λ (z : Held g.row.F). z.backorders) e) (omega (arith, t.backorders)) c.add-mean-in-loop-shop.ensures.ends;
+          c.shop-item.result.backorders c.add-mean.result c.loop-shop.shop-index
+          c.loop-shop.invariant.mean (ap (λ (z : Held g.row.F). z.backorders) e) (omega (arith, t.backorders)) c.add-mean.ensures.ends;
       variance = summed_next g.row.F 768 (ends_add c.args.direct (variance_part g.row.F c.args.depot)) (λ k. (held_at c.args.shops.now k).spread) c.loop-shop.variance
-          c.shop-item.result.spread c.add-variance-in-loop-shop.result c.loop-shop.shop-index
-          c.loop-shop.invariant.variance (ap (λ (z : Held g.row.F). z.spread) e) (omega (arith, t.spread)) c.add-variance-in-loop-shop.ensures.ends;
+          c.shop-item.result.spread c.add-variance.result c.loop-shop.shop-index
+          c.loop-shop.invariant.variance (ap (λ (z : Held g.row.F). z.spread) e) (omega (arith, t.spread)) c.add-variance.ensures.ends;
     }
 
 pub returns-clause-ends : goal.returns-clause-ends

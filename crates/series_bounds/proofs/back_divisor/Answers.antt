@@ -1,6 +1,7 @@
 use Rattle.std.proofs.Common.{◌^◌, ◌*◌, ◌-◌, ◌≤◌, arith, ap, rules, lit<}
 use Rattle.fixed_interval.specs.Ends.{Ends, InScale, IsInterval}
-use Rattle.series_bounds.proofs.Ranges.{unit_most, product_most}
+use Rattle.fixed_interval.proofs.Laws.{unit_most}
+use Rattle.series_bounds.proofs.Ranges.{product_most}
 use Rattle.series_bounds.proofs.back_divisor.Goals as goal
 
 pub times-requires : goal.times-requires

@@ -1,6 +1,7 @@
 use Rattle.std.proofs.Common.{◌<◌, ◌-◌, ◌*◌, ◌^◌, arith, inr, subst}
-use Rattle.series_bounds.proofs.Bounds.{few_gaps, many_gaps}
-use Rattle.series_bounds.proofs.Ranges.{unit_most, product_room}
+use Rattle.fixed_interval.proofs.Laws.{ceil_most, unit_most}
+use Rattle.series_bounds.proofs.Bounds.{many_gaps}
+use Rattle.series_bounds.proofs.Ranges.{product_room}
 use Rattle.series_bounds.proofs.rest_at.Goals as goal
 use Rattle.series_bounds.proofs.rest_at.Goals.{else-product-gap-via-then-product-gap+else-x-lt-LAST_END, else-product-gap-via-else-product-gap}
 
@@ -19,5 +20,5 @@ pub returns-clause-small : goal.returns-clause-small
 returns-clause-small g c = λ l. elim c.else-product-gap.branch [
   | else-product-gap-via-then-product-gap+else-x-lt-LAST_END w ↦ absurd (omega (arith, w.if-x-lt-LAST_END.false))
   | else-product-gap-via-else-product-gap w ↦
-      rw c.quotient_few.ensures (few_gaps (c.args.top * c.args.bound) (c.unit-unit.result - c.args.bound) 256 (omega arith) w.if-product-gap.false)
+      rw c.quotient_few.ensures (ceil_most (c.args.top * c.args.bound) (c.unit-unit.result - c.args.bound) 256 (omega arith) w.if-product-gap.false)
 ]

@@ -1,6 +1,7 @@
 use Rattle.std.proofs.Common.{◌-◌, ◌^◌, arith, lit<, rules}
 use Rattle.fixed_interval.specs.Ends.{InScale}
-use Rattle.series_bounds.proofs.Ranges.{unit_most, product_most}
+use Rattle.fixed_interval.proofs.Laws.{unit_most}
+use Rattle.series_bounds.proofs.Ranges.{product_most}
 use Rattle.series_bounds.proofs.stays.Goals as goal
 
 pub times-requires : goal.times-requires

@@ -1,6 +1,7 @@
 use Rattle.std.proofs.Common.{◌^◌, arith, lit<, rules}
 use Rattle.fixed_interval.specs.Ends.{InScale}
-use Rattle.series_bounds.proofs.Ranges.{unit_most, pair_room}
+use Rattle.fixed_interval.proofs.Laws.{unit_most}
+use Rattle.series_bounds.proofs.Ranges.{pair_room}
 use Rattle.series_bounds.proofs.times.Goals as goal
 
 pub product-requires : goal.product-requires

@@ -7,14 +7,14 @@ use Rattle.moment_table.proofs.Backorder_lists.{are_backorders}
 use Rattle.moment_table.proofs.Firsts.{first_rows}
 use Rattle.moment_table.proofs.backorders.few.Goals as goal
 
-pub returns-in_ok-found-in-Some : goal.returns-in_ok-found-in-Some
-returns-in_ok-found-in-Some g c =
+pub returns-in-Some : goal.returns-in-Some
+returns-in-Some g c =
     let h : IsBeginning g.row.F c.args.mean (excess_ends g.row.F c.args.mean c.args.variance) (c.from-count.result + 1) c.in-Some.begun.list.items c.in-Some.begun.sum =
     rw c.in-Some.is at c.in_ok-begun.ensures.known in
     let p : 0 < c.args.mean.hi = rw c.in-Some.is at c.in_ok-begun.ensures.positive in
     are_backorders g.row.F c.args.mean c.args.variance
     (known_row g.row.F c.args.mean c.args.variance (all_weights g.row.F c.args.mean (excess_ends g.row.F c.args.mean c.args.variance)) c.in-Some.begun.sum)
-    c.in_ok-found-in-Some.found.items (c.from-count.result + 1) c.args.limit (omega (arith, c.from-count.ensures)) (omega (arith, c.requires.limit)) c.in_ok-found-in-Some.ensures
+    c.first-found.result.items (c.from-count.result + 1) c.args.limit (omega (arith, c.from-count.ensures)) (omega (arith, c.requires.limit)) c.first-found.ensures
     (first_rows g.row.F c.args.mean c.args.variance (c.from-count.result + 1) c.in-Some.begun.list.items c.in-Some.begun.sum h p)
 
 pub returns-in_ok-found-in-None : goal.returns-in_ok-found-in-None

@@ -1,40 +1,63 @@
-use Rattle.std.proofs.Common.{◌≡◌, arith, ap, lit<}
+use Rattle.std.proofs.Common.{◌≡◌, ◌+◌, ◌-◌, ◌<◌, ◌∙◌, arith, get_or, length, lit<, refl}
+use Rattle.std.proofs.lemmas.Grind.{take-set_at}
+use Rattle.std.proofs.lemmas.List.{length-set}
 use Rattle.series_bounds.specs.Answer.{at_place}
-use Rattle.moment_table.specs.declared.kinds.Row.{Row}
 use Rattle.moment_table.specs.Profile.{excess_ends, known_row}
 use Rattle.moment_table.specs.Running.{all_weights}
 use Rattle.moment_table.proofs.Steps.{listed_none, listed_next}
-use Rattle.moment_table.proofs.Firsts.{first_top, first_place}
+use Rattle.moment_table.proofs.Firsts.{first_top, first_place, put_last, rest_next, still_there}
 use Rattle.moment_table.proofs.backorders.first.Goals as goal
 
 pub first-running-requires : goal.first-running-requires
 first-running-requires g c =
-    let t = first_top g.row.F c.args.mean (excess_ends g.row.F c.args.mean c.args.variance) c.args.count c.args.list.now c.args.sum c.requires.begun 0 c.requires.some c.index-list-0.result c.index-list-0.is in
+    let t = first_top g.row.F c.args.mean (excess_ends g.row.F c.args.mean c.args.variance) c.args.count c.args.weights.items c.args.sum c.requires.begun 0 c.requires.some c.index.result.now c.index.ensures in
     (lit< tt, (lit< tt, (c.requires.mean_top, (t, c.requires.sum))))
 
 pub loop-s-init : goal.loop-s-init
 loop-s-init g c =
     let all = all_weights g.row.F c.args.mean (excess_ends g.row.F c.args.mean c.args.variance) in
     record {
-      found = listed_none (λ s. (known_row g.row.F c.args.mean c.args.variance all c.args.sum s).ebo) _ c.in_ok-found.ensures.items;
+      found = listed_none (λ s. (known_row g.row.F c.args.mean c.args.variance all c.args.sum s).ebo) _ refl;
+      rest = refl;
+      long = refl;
       running = c.first-running.ensures.running all;
       small = c.first-running.ensures.small;
     }
 
-pub step-row-requires : goal.step-row-requires
-step-row-requires g c =
-    let t = first_top g.row.F c.args.mean (excess_ends g.row.F c.args.mean c.args.variance) c.args.count c.args.list.now c.args.sum c.requires.begun c.loop-s.s c.loop-s-test.true c.index-list-s.result c.index-list-s.is in
-    (lit< tt, (lit< tt, (lit< tt, (omega (arith, c.loop-s-test.true, c.requires.few), (t, (c.requires.sum, c.loop-s.invariant.small))))))
+pub step-requires : goal.step-requires
+step-requires g c =
+    let weight = c.index-weight.result.now in
+    let inside : c.loop-s.s < c.args.count = omega (arith, c.loop-s-test.true) in
+    let is : weight ≡ get_or c.args.weights.items c.loop-s.s weight = still_there c.loop-s.s c.loop-s.found.items c.args.weights.items c.loop-s.invariant.rest weight c.index-weight.ensures in
+    let t = first_top g.row.F c.args.mean (excess_ends g.row.F c.args.mean c.args.variance) c.args.count c.args.weights.items c.args.sum c.requires.begun c.loop-s.s inside weight is in
+    (lit< tt, (lit< tt, (lit< tt, (omega (arith, inside, c.requires.few), (t, (c.requires.sum, c.loop-s.invariant.small))))))
 
 pub loop-s-preserved : goal.loop-s-preserved
 loop-s-preserved g c =
     let all = all_weights g.row.F c.args.mean (excess_ends g.row.F c.args.mean c.args.variance) in
-    let at : c.index-list-s.result ≡ at_place all c.loop-s.s =
-    first_place g.row.F c.args.mean (excess_ends g.row.F c.args.mean c.args.variance) c.args.count c.args.list.now c.args.sum c.requires.begun c.loop-s.s c.loop-s-test.true c.index-list-s.result c.index-list-s.is c.requires.few in
+    let weight = c.index-weight.result.now in
+    let items = c.loop-s.found.items in
+    let ebo = c.expected.result in
+    let below : c.loop-s.s < c.args.count = omega (arith, c.loop-s-test.true) in
+    let is : weight ≡ get_or c.args.weights.items c.loop-s.s weight = still_there c.loop-s.s items c.args.weights.items c.loop-s.invariant.rest weight c.index-weight.ensures in
+    let at : weight ≡ at_place all c.loop-s.s =
+    first_place g.row.F c.args.mean (excess_ends g.row.F c.args.mean c.args.variance) c.args.count c.args.weights.items c.args.sum c.requires.begun c.loop-s.s below weight is c.requires.few in
+    let inside : c.loop-s.s < length items = omega (arith, below, c.requires.begun.enough, c.loop-s.invariant.long) in
     record {
-      found = rw c.in_ok-push.ensures.items
-          (listed_next (λ s. (known_row g.row.F c.args.mean c.args.variance all c.args.sum s).ebo) c.loop-s.s c.loop-s.found.items _ c.loop-s.invariant.found
-          (ap (λ (r : Row g.row.F). r.ebo) (c.step-row.ensures.row c.args.mean c.args.variance all at c.loop-s.invariant.running)));
-      running = c.step-row.ensures.running c.args.mean c.args.variance all at c.loop-s.invariant.running;
-      small = c.step-row.ensures.small;
+      found = take-set_at items c.loop-s.s (c.loop-s.s + 1) ebo refl inside
+          ∙ listed_next (λ s. (known_row g.row.F c.args.mean c.args.variance all c.args.sum s).ebo) c.loop-s.s _ ebo c.loop-s.invariant.found
+          (c.expected.ensures c.args.mean c.args.variance c.args.sum all c.loop-s.s c.loop-s.invariant.running);
+      rest = rest_next c.loop-s.s items c.args.weights.items c.loop-s.invariant.rest ebo;
+      long = length-set items c.loop-s.s ebo ∙ c.loop-s.invariant.long;
+      running = c.step.ensures.running c.args.mean c.args.variance all at c.loop-s.invariant.running;
+      small = c.step.ensures.small;
     }
+
+pub returns : goal.returns
+returns g c =
+    let all = all_weights g.row.F c.args.mean (excess_ends g.row.F c.args.mean c.args.variance) in
+    let last = c.args.count - 1 in
+    let end : c.loop-s.s ≡ last = omega (arith, c.loop-s-test.false, c.loop-s.auto.s-end) in
+    put_last (λ s. (known_row g.row.F c.args.mean c.args.variance all c.args.sum s).ebo) c.loop-s.found.items c.truncate.new.self.items c.loop-s.s last c.args.count c.expected-2.result
+    c.loop-s.invariant.found end (omega (arith, c.requires.some)) (omega (arith, c.requires.some, c.requires.begun.enough, c.loop-s.invariant.long))
+    (c.expected-2.ensures c.args.mean c.args.variance c.args.sum all c.loop-s.s c.loop-s.invariant.running) c.truncate.ensures.items

@@ -1,10 +1,10 @@
 use Rattle.std.proofs.Common.{◌≡◌, ◌+◌, ◌*◌, ◌^◌, ◌≤◌, ◌∙◌, arith, ap, ap₂, subst, sym, le_trans, mul-le-mul_right, rules, lit<}
 use Rattle.fixed_interval.specs.Ends.{Ends, InScale}
+use Rattle.fixed_interval.proofs.Laws.{unit_most}
 use Rattle.series_bounds.specs.Profile.{least_end, ratio_bound, listed, weight_ends}
 use Rattle.series_bounds.specs.Walk.{EndsAt}
 use Rattle.series_bounds.proofs.Bounds.{bound_is}
 use Rattle.series_bounds.proofs.Enclosure.{end_rest}
-use Rattle.series_bounds.proofs.Ranges.{unit_most}
 use Rattle.series_bounds.proofs.Walks.{ascent_top, end_from_63, end_most}
 use Rattle.series_bounds.proofs.Unlisted.{Climb, climb_weight, climb_wide, climb_next, climb_ended, climb_done, climb_unended, late_on, late_end}
 use Rattle.series_bounds.proofs.Beginnings.{climb_again}

@@ -1,8 +1,8 @@
 use Rattle.std.proofs.Common.{◌+◌, ◌≤◌, ◌≡◌, ◌∙◌, arith, ap, ap₂, rules, lit<}
 use Rattle.fixed_interval.specs.Ends.{Ends, InScale}
+use Rattle.fixed_interval.proofs.Laws.{unit_most}
 use Rattle.series_bounds.specs.Profile.{ends_sum, ends_raised, pivot_at}
 use Rattle.series_bounds.specs.Walk.{ToEnd}
-use Rattle.series_bounds.proofs.Ranges.{unit_most}
 use Rattle.series_bounds.proofs.Enclosure.{end_long, end_tops, end_rest}
 use Rattle.series_bounds.proofs.Unlisted.{sum_least}
 use Rattle.series_bounds.proofs.Beginnings.{beginning_all}

@@ -1,6 +1,6 @@
 use Rattle.std.proofs.Common.{◌≡◌, ◌∙◌, length, sym, ap, ap₂, ◌++◌, ◌∷◌, [], arith}
 use Rattle.series_bounds.specs.Profile.{weight_ends, listed}
-use Rattle.series_bounds.proofs.Enclosure.{length-listed}
+use Rattle.series_bounds.proofs.Enclosure.{length_listed}
 use Rattle.series_bounds.proofs.Walks.{listed_next}
 use Rattle.series_bounds.proofs.heads.filled.Goals as goal
 
@@ -22,7 +22,7 @@ loop-x-preserved g c =
 
 pub returns-clause-begins : goal.returns-clause-begins
 returns-clause-begins g c =
-    let n : length c.loop-x.list.items ≡ c.loop-x._x = ap length c.loop-x.invariant.entries ∙ length-listed (weight_ends g.row.F c.args.mean c.args.excess) c.loop-x._x in
+    let n : length c.loop-x.list.items ≡ c.loop-x._x = ap length c.loop-x.invariant.entries ∙ length_listed (weight_ends g.row.F c.args.mean c.args.excess) c.loop-x._x in
     record {
       entries = c.loop-x.invariant.entries ∙ ap (listed (weight_ends g.row.F c.args.mean c.args.excess)) (sym n);
       all = λ l. absurd (omega (arith, l, n, c.loop-x-test.false));
@@ -30,5 +30,5 @@ returns-clause-begins g c =
 
 pub returns-clause-enough : goal.returns-clause-enough
 returns-clause-enough g c =
-    let n : length c.loop-x.list.items ≡ c.loop-x._x = ap length c.loop-x.invariant.entries ∙ length-listed (weight_ends g.row.F c.args.mean c.args.excess) c.loop-x._x in
+    let n : length c.loop-x.list.items ≡ c.loop-x._x = ap length c.loop-x.invariant.entries ∙ length_listed (weight_ends g.row.F c.args.mean c.args.excess) c.loop-x._x in
     omega (arith, n, c.loop-x-test.false)

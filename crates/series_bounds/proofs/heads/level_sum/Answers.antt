@@ -1,7 +1,7 @@
 use Rattle.std.proofs.Common.{◌≡◌, ◌+◌, ◌-◌, ◌*◌, ◌^◌, ◌≤◌, ◌∙◌, sym, ap, subst, arith, lit<, rules, mul-le-mul, mul-le-mul_right, le_trans}
 use Rattle.fixed_interval.specs.Ends.{Ends, InScale, ends_add, ends_times}
+use Rattle.fixed_interval.proofs.Laws.{unit_most}
 use Rattle.series_bounds.specs.Walk.{SumsTo}
-use Rattle.series_bounds.proofs.Ranges.{unit_most}
 use Rattle.series_bounds.proofs.Beginnings.{sums_level}
 use Rattle.series_bounds.proofs.heads.level_sum.Goals as goal
 

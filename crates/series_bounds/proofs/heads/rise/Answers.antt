@@ -1,9 +1,9 @@
 use Rattle.std.proofs.Common.{ℕ, max, ◌+◌, ◌≡◌, ◌≤◌, ◌*◌, ◌^◌, ◌∙◌, arith, subst, rules, lit<, le_trans, mul-le-mul_right}
 use Rattle.std.proofs.Math.Nat.{le-max_left, le-max_right}
 use Rattle.fixed_interval.specs.Ends.{InScale, IsInterval}
+use Rattle.fixed_interval.proofs.Laws.{unit_most}
 use Rattle.series_bounds.specs.Profile.{pivot_at, least_end, listed, weight_ends}
 use Rattle.series_bounds.specs.Walk.{Begins}
-use Rattle.series_bounds.proofs.Ranges.{unit_most}
 use Rattle.series_bounds.proofs.Walks.{ascent_least, ascent_stays, ascent_top, end_from_63, least_from}
 use Rattle.series_bounds.proofs.Unlisted.{Climb, climb_start, climb_weight, climb_wide, climb_next, early_on}
 use Rattle.series_bounds.proofs.heads.rise.Goals as goal

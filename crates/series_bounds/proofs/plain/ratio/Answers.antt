@@ -1,8 +1,9 @@
 use Rattle.std.proofs.Common.{◌<◌, ◌*◌, ◌+◌, ◌-◌, ◌^◌, ◌≡◌, arith, pow_pos, ap, ◌∙◌, lit<, rules, refl}
 use Rattle.std.proofs.Math.Nat.{mul-pos}
 use Rattle.fixed_interval.specs.Ends.{Ends, InScale}
+use Rattle.fixed_interval.proofs.Laws.{unit_most}
 use Rattle.series_bounds.specs.Profile.{ratio_ends}
-use Rattle.series_bounds.proofs.Ranges.{unit_most, product_most, above_most, room_over, ratio_most}
+use Rattle.series_bounds.proofs.Ranges.{product_most, above_most, room_over, ratio_most}
 use Rattle.series_bounds.proofs.plain.ratio.Goals as goal
 
 pub times-requires : goal.times-requires

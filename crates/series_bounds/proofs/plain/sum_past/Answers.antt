@@ -1,7 +1,7 @@
 use Rattle.std.proofs.Common.{◌≡◌, ◌+◌, ◌≤◌, ◌*◌, ◌^◌, ◌∙◌, arith, ap, ap₂, le_trans, mul-le-mul_right, rules, lit<}
 use Rattle.fixed_interval.specs.Ends.{Ends, InScale}
+use Rattle.fixed_interval.proofs.Laws.{unit_most}
 use Rattle.series_bounds.proofs.Enclosure.{end_rest}
-use Rattle.series_bounds.proofs.Ranges.{unit_most}
 use Rattle.series_bounds.proofs.Unlisted.{climb_start, climb_weight, climb_wide, climb_next, climb_ended, climb_done, climb_unended}
 use Rattle.series_bounds.proofs.plain.sum_past.Goals as goal
 

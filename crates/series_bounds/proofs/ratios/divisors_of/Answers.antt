@@ -1,6 +1,6 @@
 use Rattle.std.proofs.Common.{◌≡◌, ◌+◌, ◌*◌, ◌^◌, ap, arith, rules}
 use Rattle.fixed_interval.specs.Ends.{Ends, InScale, IsInterval}
-use Rattle.series_bounds.proofs.Ranges.{unit_most}
+use Rattle.fixed_interval.proofs.Laws.{unit_most}
 use Rattle.series_bounds.proofs.Carried.{below_is}
 use Rattle.series_bounds.proofs.ratios.divisors_of.Goals as goal
 

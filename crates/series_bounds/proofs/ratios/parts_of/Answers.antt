@@ -1,6 +1,7 @@
 use Rattle.std.proofs.Common.{arith, ◌^◌}
+use Rattle.fixed_interval.proofs.Laws.{unit_most}
 use Rattle.series_bounds.proofs.Carried.{scaled_room}
-use Rattle.series_bounds.proofs.Ranges.{unit_most, part_room}
+use Rattle.series_bounds.proofs.Ranges.{part_room}
 use Rattle.series_bounds.proofs.ratios.parts_of.Goals as goal
 
 pub overflow_mul-num : goal.overflow_mul-num

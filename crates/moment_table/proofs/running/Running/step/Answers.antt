@@ -1,6 +1,7 @@
 use Rattle.std.proofs.Common.{◌*◌, ◌≤◌, ◌^◌, ◌∙◌, arith, ap, ap₂, pow_pos, mul-le-mul_right, lit<, rules}
 use Rattle.fixed_interval.specs.Ends.{Ends, InScale, ends_add, ends_less, ends_mul}
-use Rattle.series_bounds.proofs.Ranges.{unit_most, pair_room}
+use Rattle.fixed_interval.proofs.Laws.{unit_most}
+use Rattle.series_bounds.proofs.Ranges.{pair_room}
 use Rattle.moment_table.proofs.Steps.{running_next, row_known, small_next, chance_small}
 use Rattle.moment_table.proofs.running.Running.step.Goals as goal
 

@@ -2,7 +2,7 @@ use Rattle.std.proofs.Common.{◌^◌, ◌*◌, ◌/◌, ◌≡◌, ◌∙◌, a
 use Rattle.std.specs.Int.{div_ceil}
 use Rattle.fixed_interval.specs.Ends.{InScale, IsInterval}
 use Rattle.series_bounds.proofs.Ranges.{room_over}
-use Rattle.moment_table.proofs.Sizes.{share_ordered, share_most}
+use Rattle.series_bounds.proofs.Carried.{share_ordered, share_most}
 use Rattle.moment_table.proofs.shares.Inverses.share.Goals as goal
 
 pub of_ends-requires : goal.of_ends-requires
@@ -19,7 +19,7 @@ of_ends-requires g c =
         s,
         (
           share_ordered g.row.F c.args.weight.lo c.args.weight.hi c.args.sum.lo c.args.sum.hi c.share_down-lower.result c.share_up-upper.result v.ordered c.requires.divisor w.ordered lower upper,
-          share_most g.row.F c.args.weight.hi c.args.sum.lo c.share_up-upper.result s.1 c.requires.top c.requires.divisor upper,
+          share_most g.row.F c.args.weight.hi c.args.sum.lo c.share_up-upper.result s.1 (omega (arith, c.requires.top)) c.requires.divisor upper,
         ),
       ),
     )

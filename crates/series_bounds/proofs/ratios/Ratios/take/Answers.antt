@@ -1,7 +1,8 @@
 use Rattle.std.proofs.Common.{◌-◌, ◌^◌, ◌*◌, ◌≤◌, ◌+◌, ◌/◌, ◌≡◌, arith, lit<, rules, pow_pos}
 use Rattle.std.specs.Int.{div_ceil}
 use Rattle.fixed_interval.specs.Ends.{InScale, IsInterval}
-use Rattle.series_bounds.proofs.Ranges.{unit_most, ratio_most}
+use Rattle.fixed_interval.proofs.Laws.{unit_most}
+use Rattle.series_bounds.proofs.Ranges.{ratio_most}
 use Rattle.series_bounds.proofs.Carried.{whole_room, step_room, ends_are, ends_ordered, next_parts}
 use Rattle.series_bounds.proofs.ratios.Ratios.take.Goals as goal
 

@@ -1,6 +1,7 @@
 use Rattle.std.proofs.Common.{◌-◌, ◌^◌, ◌*◌, ◌≡◌, ap, ◌∙◌, arith, lit<, rules, pow_pos}
 use Rattle.fixed_interval.specs.Ends.{Ends, InScale, IsInterval, ends_add, ends_times}
-use Rattle.series_bounds.proofs.Ranges.{unit_most, product_most, part_most}
+use Rattle.fixed_interval.proofs.Laws.{unit_most}
+use Rattle.series_bounds.proofs.Ranges.{product_most, part_most}
 use Rattle.series_bounds.proofs.Carried.{same_parts}
 use Rattle.series_bounds.proofs.ratios.Ratios.with_inverses.Goals as goal
 

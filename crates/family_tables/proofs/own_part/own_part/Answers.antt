@@ -1,0 +1,26 @@
+use Rattle.std.proofs.Common.{◌≡◌, ◌∙◌, List, ap, lit<}
+use Rattle.moment_table.specs.declared.kinds.Row.{Row}
+use Rattle.moment_table.specs.Rows.{at_stock}
+use Rattle.family_tables.specs.Numbers.{depot_line_row, feed_from}
+use Rattle.family_tables.proofs.Served.{depot_line_small, feed_is_small}
+use Rattle.family_tables.proofs.own_part.own_part.Goals as goal
+
+pub base_own-requires : goal.base_own-requires
+base_own-requires g c =
+    let x = c.args.numbers.now in
+    let share = c.pair-pair.result.share in
+    let feed : c.feed_from-feed.result ≡ feed_from g.row.F share (depot_line_row g.row.F x c.args.depot.now c.args.own) =
+    c.feed_from-feed.ensures ∙ ap (λ (rows : List (Row g.row.F)). feed_from g.row.F share (at_stock rows c.args.own)) c.requires.line in (
+      lit< tt,
+      (
+        lit< tt,
+        (
+          lit< tt,
+          (
+            c.pair-pair.ensures.valid.direct_most,
+            feed_is_small g.row.F share _ c.feed_from-feed.result feed c.pair-pair.ensures.valid.share_most
+                (depot_line_small g.row.F x c.sites-valid.ensures.valid c.args.depot.now c.args.own c.requires.own),
+          ),
+        ),
+      ),
+    )
