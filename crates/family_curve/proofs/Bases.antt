@@ -16,6 +16,7 @@ use Rattle.family_curve.proofs.Points.{depot_points_small, over_more, over_small
 use Rattle.family_curve.proofs.Sites.{size}
 use Rattle.family_curve.proofs.Walks.{sums_one_more}
 
+-- with one list more, the lengths of all come to that list's length more
 pub lengths_one_more : (ls : List (List Point)) (l : List Point) → sum_by length (ls ++ l ∷ []) ≡ sum_by length ls + length l
 lengths_one_more ls l = omega (arith, sum_by-append length ls (l ∷ []), sum_by-cons length l [])
 

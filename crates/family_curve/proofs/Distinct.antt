@@ -77,9 +77,9 @@ by_place f (x ∷ xs) [] e h = absurd (omega (arith, e))
 by_place f (x ∷ xs) (s ∷ v) e h = ap₂ (λ (y : ℕ) (ys : List ℕ). y ∷ ys) (h 0 (omega arith)) (by_place f xs v (omega (arith, e)) (λ i l. h (suc i) (omega (arith, l))))
 
 -- the stocks of a family at a site are those that were put in
-pub family_stocks-in : (c : CaseRows) (l : ℕ) (own : ℕ → List ℕ) (k : ℕ) → IsCase c → IsLine c l → k < length c.sites → length (own k) ≡ size c l
+pub family_stocks_in : (c : CaseRows) (l : ℕ) (own : ℕ → List ℕ) (k : ℕ) → IsCase c → IsLine c l → k < length c.sites → length (own k) ≡ size c l
     → family_stocks c l (stocks_in c l own) k ≡ own k
-family_stocks-in c l own k valid line m e =
+family_stocks_in c l own k valid line m e =
     same_map (λ p. p < length c.parts) (λ p. stock c (stocks_in c l own) p k) (λ p. stock_in c l own p k) (family c l) (λ p h. stock_is c l own p k h m)
     (members c l valid line)
     ∙ by_place (λ p. stock_in c l own p k) (family c l) (own k) e (λ i h. read_at (family c l) (own k) i (family_apart c l valid line) h)

@@ -13,7 +13,7 @@ use Rattle.hull.specs.Scores.{LeavesRoom}
 use Rattle.hull.proofs.Chains.{chain_is_curve}
 use Rattle.hull.proofs.Stand.{among_either, curve_stands, stand_for, stand_for_both}
 use Rattle.hull.proofs.Steps_of.{stand_self}
-use Rattle.family_curve.specs.declared.base.Base.{Base}
+use Rattle.family_curve.specs.declared.order.Base.{Base}
 use Rattle.family_curve.specs.Inputs.{FamilyBox, IsAt, IsFamilyBox}
 use Rattle.family_curve.specs.Joining.{HaveWidthOf}
 use Rattle.family_curve.specs.Points.{ScoreEnds}
@@ -27,6 +27,7 @@ use Rattle.family_curve.proofs.Sites.{size}
 pub curve_grows : (ps qs c e : List Point) → IsCurve ps c → IsCurve (c ++ qs) e → IsCurve (ps ++ qs) e
 curve_grows ps qs c e a h = stand_for (ps ++ qs) (c ++ qs) e (stand_for_both ps qs c qs (curve_stands ps c a) (stand_self qs)) h
 
+-- the curve of a curve and of some points is the curve of all points that they stand for
 pub curve_grows_on : (so ps qs c e : List Point) → IsCurve (so ++ ps) c → IsCurve (c ++ qs) e → IsCurve (so ++ (ps ++ qs)) e
 curve_grows_on so ps qs c e a h = subst (λ (l : List Point). IsCurve l e) (append_assoc so ps qs) (curve_grows (so ++ ps) qs c e a h)
 
@@ -35,6 +36,7 @@ pub curve_stays : (c qs path : List Point) → IsChain c → path ≡ [] → Sta
 curve_stays c qs path chain none stands =
     stand_for (c ++ qs) c c (subst (StandFor (c ++ qs)) (append-nil c) (subst (λ (l : List Point). StandFor (c ++ qs) (c ++ l)) none stands)) (chain_is_curve c chain)
 
+-- where the vertices so far and the points that come have a stock for each place, so has the curve of both
 pub widths_grow : (x : FamilyBox) (c qs e : List Point) → HaveWidthOf x c → HaveWidthOf x qs → IsCurve (c ++ qs) e → HaveWidthOf x e
 widths_grow x c qs e a b h v m = elim (among_either v c qs (h.among v m)) [ inl k ↦ a v k | inr k ↦ b v k ]
 
@@ -55,12 +57,14 @@ zip_read x (j ∷ js) [] k b a h e = absurd a
 zip_read x (j ∷ js) (y ∷ bs) zero b a h e = subst (IsBaseOf x j) (sym e) a.0
 zip_read x (j ∷ js) (y ∷ bs) (suc k) b a h e = zip_read x js bs k b a.1 (omega arith) e
 
+-- what stands at the place j - 1 of the list of bases is base j
 pub base_read : (x : FamilyBox) (j : ℕ) (bs : List Base) (b : Base) → AreBases x bs → 0 < j → j < length x.case.sites → b ≡ get_or bs (j - 1) b → IsBaseOf x j b
 base_read x j bs b a some most e =
     let within : j - 1 < length x.case.sites - 1 = omega (arith, some, most) in
     let at : get_or (bases x.case) (j - 1) 0 ≡ j = omega (arith, some, get_or-range_with_len 1 (length x.case.sites - 1) (j - 1) 0 within) in
     subst (λ k. IsBaseOf x k b) at (zip_read x (bases x.case) bs (j - 1) b a (omega (arith, within, length-range_with_len 1 (length x.case.sites - 1))) e)
 
+-- the list of bases has an entry for each base of the case
 pub bases_long : (x : FamilyBox) (bs : List Base) → AreBases x bs → length bs ≡ length x.case.sites - 1
 bases_long x bs a = omega (arith, AllZip-long (IsBaseOf x) (bases x.case) bs a, length-range_with_len 1 (length x.case.sites - 1))
 
@@ -68,6 +72,7 @@ nil_of : (l : List Point) → length l ≡ 0 → l ≡ []
 nil_of [] e = refl
 nil_of (x ∷ l) e = absurd (omega (arith, e))
 
+-- a list whose length is found to be 0 is empty
 pub none_of : (l : List Point) (n : ℕ) (b : Bool) → n ≡ length l → b ≡ (n == 0) → b ≡ true → l ≡ []
 none_of l n b long e h = nil_of l (sym long ∙ eqb-true n 0 (sym e ∙ h))
 
@@ -75,5 +80,6 @@ none_of l n b long e h = nil_of l (sym long ∙ eqb-true n 0 (sym e ∙ h))
 pub room_for : (n most v a b m : ℕ) → a ≤ b + n * v → n < most → b + most * v ≤ m → a + v ≤ m
 room_for n most v a b m f l h = let more : (n + 1) * v ≤ most * v = mul-le-mul_right v (let k : n + 1 ≤ most = omega arith in k) in omega (arith, f, more, h)
 
+-- where there is room for as many parts as there may be, there is room for one more
 pub room_for_one : (most v b m : ℕ) → 0 < most → b + most * v ≤ m → b + v ≤ m
 room_for_one most v b m l h = room_for 0 most v b b m (omega arith) l h

@@ -18,6 +18,7 @@ pub mod Products
 pub mod Distinct
 pub mod Tabled
 pub mod Spotted
+pub mod Ordered
 pub mod Walks
 pub mod Bases
 pub mod Stands

@@ -9,12 +9,14 @@ use Rattle.family_curve.specs.Vectors.{vectors}
 use Rattle.family_curve.specs.Counts.{product, widths}
 use Rattle.family_curve.specs.Boxes.{IsBox, nth}
 
+-- a list that is at least another place by place is as long
 pub same_length : (low high : List ℕ) → AllZip (λ x y. x ≤ y) low high → length high ≡ length low
 same_length [] [] h = refl
 same_length [] (b ∷ high) h = absurd h
 same_length (a ∷ low) [] h = absurd h
 same_length (a ∷ low) (b ∷ high) h = ap suc (same_length low high h.1)
 
+-- of ordered bounds the least at each place is at most the most
 pub ordered_at : (low high : List ℕ) → AllZip (λ x y. x ≤ y) low high → (i : ℕ) → i < length low → get_or low i 0 ≤ get_or high i 0
 ordered_at [] high h i m = absurd (omega (arith, m))
 ordered_at (a ∷ low) [] h i m = absurd h
@@ -23,6 +25,7 @@ ordered_at (a ∷ low) (b ∷ high) h (suc i) m = ordered_at low high h.1 i (ome
 
 -- ---- how many vectors there are
 
+-- a box with ordered bounds has at least one vector
 pub product_some : (low high : List ℕ) → AllZip (λ x y. x ≤ y) low high → 0 < product (widths low high)
 product_some [] high h = omega arith
 product_some (a ∷ low) [] h = absurd h
@@ -66,6 +69,7 @@ pub record Counted (low high : List ℕ) (i n : ℕ) : Type 0 where
   pub whole : n * product (widths (drop i low) (drop i high)) ≡ product (widths low high)
   pub most : n ≤ 64 ^ i
 
+-- the count of the vectors goes on with one place more, whose width multiplies it
 pub count_step : (low high : List ℕ) (i n w : ℕ) → IsBox low high → i < length low → w ≡ get_or high i 0 - get_or low i 0 → Counted low high i n
     → Counted low high (i + 1) (n * (w + 1))
 count_step low high i n w valid m e h =
@@ -79,6 +83,7 @@ count_step low high i n w valid m e h =
     turn : (a b d : ℕ) → a * b * d ≡ a * (b * d)
     turn a b d = mul_assoc a b d
 
+-- the count of a box's vectors stays below 2^64 at each place
 pub fits_count : (low high : List ℕ) (i n : ℕ) → IsBox low high → i < length low → Counted low high (i + 1) n → n < 2 ^ 64
 fits_count low high i n valid m h =
     let top : 64 ^ (i + 1) ≤ 64 ^ 9 = pow-le-pow_right {n = 64} (omega arith) {i = i + 1} {j = 9} (omega (arith, m, valid.few)) in
@@ -120,6 +125,7 @@ pub record Stands (low high : List ℕ) (number i size rest : ℕ) (made : List 
   pub within : rest < size
   pub goes_on : made ++ nth (drop i low) (drop i high) rest ≡ nth low high number
 
+-- the vectors of the places behind place i are those from i on, divided by the width at i
 pub next_size : (low high : List ℕ) (i size w : ℕ) → IsBox low high → i < length low → w ≡ get_or high i 0 - get_or low i 0
     → size ≡ product (widths (drop i low) (drop i high)) → size / (w + 1) ≡ product (widths (drop (i + 1) low) (drop (i + 1) high))
 next_size low high i size w valid m e h =
@@ -138,24 +144,26 @@ drop_ordered [] (b ∷ high) (suc i) h = absurd h
 drop_ordered (a ∷ low) [] (suc i) h = absurd h
 drop_ordered (a ∷ low) (b ∷ high) (suc i) h = drop_ordered low high i h.1
 
-pub some_left : (low high : List ℕ) (i : ℕ) → IsBox low high → 0 < product (widths (drop i low) (drop i high))
-some_left low high i valid = product_some (drop i low) (drop i high) (drop_ordered low high i valid.ordered)
+-- the places from the i-th on have at least one choice
+pub some_choice : (low high : List ℕ) (i : ℕ) → IsBox low high → 0 < product (widths (drop i low) (drop i high))
+some_choice low high i valid = product_some (drop i low) (drop i high) (drop_ordered low high i valid.ordered)
 
 -- what is added at a place is at most its width
 pub digit_most : (low high : List ℕ) (i size rest w next : ℕ) → IsBox low high → i < length low → w ≡ get_or high i 0 - get_or low i 0
     → size ≡ product (widths (drop i low) (drop i high)) → rest < size → next ≡ product (widths (drop (i + 1) low) (drop (i + 1) high))
     → get_or low i 0 + rest / next ≤ get_or high i 0
 digit_most low high i size rest w next valid m e h l g =
-    let some : 0 < next = omega (arith, g, some_left low high (i + 1) valid) in
+    let some : 0 < next = omega (arith, g, some_choice low high (i + 1) valid) in
     let all : size ≡ (w + 1) * next = h ∙ product_at low high i valid.ordered m ∙ ap₂ (λ x y. (x + 1) * y) (sym e) (sym g) in
     omega (arith, div_below rest next (w + 1) some (omega (arith, l, all)), e, ordered_at low high valid.ordered i m)
 
+-- the walk to the vector of a number goes one place on, to the stock that the rest of the number gives there
 pub stands_on : (low high : List ℕ) (number i size rest next x : ℕ) (made more : List ℕ) → IsBox low high → i < length low
     → next ≡ product (widths (drop (i + 1) low) (drop (i + 1) high)) → x ≡ get_or low i 0 + rest / next → more ≡ made ++ x ∷ []
     → Stands low high number i size rest made → Stands low high number (i + 1) next (rest % next) more
 stands_on low high number i size rest next x made more valid m g e h at = record {
   size_is = g;
-  within = mod_below rest next (omega (arith, g, some_left low high (i + 1) valid));
+  within = mod_below rest next (omega (arith, g, some_choice low high (i + 1) valid));
   goes_on =
       let after : List ℕ = nth (drop (i + 1) low) (drop (i + 1) high) (rest % next) in
       ap (λ (v : List ℕ). v ++ after) h ∙ append_assoc made (x ∷ []) after
@@ -196,17 +204,20 @@ at_block vs a (suc m) (suc q) r h l =
     ∙ at_block vs (a + 1) m q r (omega (arith, h)) l
     ∙ ap (λ k. k ∷ get_or vs r []) next
 
+-- m first stocks before each of some vectors make m times as many
 pub block_length : (vs : List (List ℕ)) (a m : ℕ) → length (flat_map (λ x. map (λ v. x ∷ v) vs) (range_with_len a m)) ≡ m * length vs
 block_length vs a zero = omega arith
 block_length vs a (suc m) =
     omega (arith, length-append (map (λ v. a ∷ v) vs) (flat_map (λ x. map (λ v. x ∷ v) vs) (range_with_len (a + 1) m)), mapped_long a vs, block_length vs (a + 1) m)
 
+-- the vectors of a box are as many as the product of its widths
 pub vectors_count : (low high : List ℕ) → AllZip (λ x y. x ≤ y) low high → length (vectors low high) ≡ product (widths low high)
 vectors_count [] [] h = refl
 vectors_count [] (b ∷ high) h = absurd h
 vectors_count (a ∷ low) [] h = absurd h
 vectors_count (a ∷ low) (b ∷ high) h = block_length (vectors low high) a (suc b - a) ∙ ap (λ n. (suc b - a) * n) (vectors_count low high h.1)
 
+-- the vector that is made from a number is the one at this place in the list of all
 pub nth_is : (low high : List ℕ) (n : ℕ) → AllZip (λ x y. x ≤ y) low high → n < product (widths low high) → get_or (vectors low high) n [] ≡ nth low high n
 nth_is [] [] n h m = one n (omega (arith, m))
   where
@@ -224,6 +235,7 @@ nth_is (a ∷ low) (b ∷ high) n h m =
     ∙ at_block vs a (suc b - a) (n / p) (n % p) (div_below n p (suc b - a) some m) (omega (arith, count, mod_below n p some))
     ∙ ap (λ (v : List ℕ). (a + n / p) ∷ v) (nth_is low high (n % p) h.1 (mod_below n p some))
 
+-- a count of at most 64 for each place of a box is at most 64^9
 pub count_most : (low high : List ℕ) (i n : ℕ) → IsBox low high → i ≤ length low → n ≤ 64 ^ i → n ≤ 64 ^ 9
 count_most low high i n valid m h =
     let top : 64 ^ i ≤ 64 ^ 9 = pow-le-pow_right {n = 64} (omega arith) {i = i} {j = 9} (omega (arith, m, valid.few)) in
@@ -231,6 +243,7 @@ count_most low high i n valid m h =
 
 -- ---- sums of widths
 
+-- the width at a place is the most there less the least, and one
 pub width_at : (low high : List ℕ) (i : ℕ) → AllZip (λ x y. x ≤ y) low high → i < length low → get_or (widths low high) i 0 ≡ get_or high i 0 - get_or low i 0 + 1
 width_at [] high i h m = absurd (omega (arith, m))
 width_at (a ∷ low) [] i h m = absurd h
@@ -240,6 +253,7 @@ width_at (a ∷ low) (b ∷ high) zero h m = width a b h.0
     width a b e = omega (arith, e)
 width_at (a ∷ low) (b ∷ high) (suc i) h m = width_at low high i h.1 (omega (arith, m))
 
+-- there is a width for each place
 pub widths_long : (low high : List ℕ) → AllZip (λ x y. x ≤ y) low high → length (widths low high) ≡ length low
 widths_long [] high h = refl
 widths_long (a ∷ low) [] h = absurd h
@@ -253,10 +267,12 @@ sum_from (w ∷ ws) (suc i) m = sum_from ws i (omega (arith, m)) ∙ ap (λ n. g
     next : (i : ℕ) → suc (i + 1) ≡ suc i + 1
     next i = omega arith
 
+-- the widths of the places from 1 to i - 1 are in the total, each at most 64, and the rest is to come
 pub record Summed (low high : List ℕ) (i total : ℕ) : Type 0 where
   pub goes_on : total + sum (drop i (widths low high)) ≡ sum (drop 1 (widths low high))
   pub most : total ≤ i * 64
 
+-- the width of one place more comes to the sum
 pub sum_step : (low high : List ℕ) (i total w : ℕ) → IsBox low high → i < length low → w ≡ get_or high i 0 - get_or low i 0 → Summed low high i total
     → Summed low high (i + 1) (total + (w + 1))
 sum_step low high i total w valid m e h =
@@ -266,14 +282,17 @@ sum_step low high i total w valid m e h =
       most = omega (arith, h.most, small);
     }
 
+-- behind the last place the sum is that of the widths of all places but the first
 pub sum_end : (low high : List ℕ) (i total : ℕ) → IsBox low high → length low ≤ i → Summed low high i total → total ≡ sum (drop 1 (widths low high))
 sum_end low high i total valid m h =
     let none : sum (drop i (widths low high)) ≡ 0 = ap sum (drop_all i (widths low high) (omega (arith, m, widths_long low high valid.ordered))) in
     omega (arith, h.goes_on, none)
 
+-- the width at the first place, which is that of the line unit
 pub first_width : (low high : List ℕ) (w : ℕ) → IsBox low high → 0 < length low → w ≡ get_or high 0 0 - get_or low 0 0 → w + 1 ≡ get_or (widths low high) 0 0
 first_width low high w valid m e = omega (arith, e, width_at low high 0 valid.ordered m)
 
+-- the number of all vectors divided by the first width is the number of vectors of the other places
 pub product_rest : (low high : List ℕ) (w n : ℕ) → IsBox low high → 0 < length low → w ≡ get_or (widths low high) 0 0 → n ≡ product (widths low high) → 0 < w
     → n / w ≡ product (drop 1 (widths low high))
 product_rest low high w n valid m e h some = rest (widths low high) (omega (arith, m, widths_long low high valid.ordered)) e h
@@ -301,5 +320,6 @@ widths_drop (suc n) [] (b ∷ high) h = absurd h
 widths_drop (suc n) (a ∷ low) [] h = absurd h
 widths_drop (suc n) (a ∷ low) (b ∷ high) h = widths_drop n low high h.1
 
+-- the widths of a part of the bounds are that part of the widths
 pub widths_part : (m n : ℕ) (low high : List ℕ) → AllZip (λ x y. x ≤ y) low high → widths (take n (drop m low)) (take n (drop m high)) ≡ take n (drop m (widths low high))
 widths_part m n low high h = widths_take n (drop m low) (drop m high) (drop_ordered low high m h) ∙ ap (take n) (widths_drop m low high h)

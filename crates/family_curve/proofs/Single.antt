@@ -20,64 +20,65 @@ ones : (v : List ℕ) → AreOnes (widths v v)
 ones [] = tt
 ones (x ∷ v) = (omega arith, ones v)
 
-ones-take : (n : ℕ) (xs : List ℕ) → AreOnes xs → AreOnes (take n xs)
-ones-take zero xs h = tt
-ones-take (suc n) [] h = tt
-ones-take (suc n) (x ∷ xs) h = (h.0, ones-take n xs h.1)
+ones_take : (n : ℕ) (xs : List ℕ) → AreOnes xs → AreOnes (take n xs)
+ones_take zero xs h = tt
+ones_take (suc n) [] h = tt
+ones_take (suc n) (x ∷ xs) h = (h.0, ones_take n xs h.1)
 
-ones-drop : (n : ℕ) (xs : List ℕ) → AreOnes xs → AreOnes (drop n xs)
-ones-drop zero xs h = h
-ones-drop (suc n) [] h = tt
-ones-drop (suc n) (x ∷ xs) h = ones-drop n xs h.1
+ones_drop : (n : ℕ) (xs : List ℕ) → AreOnes xs → AreOnes (drop n xs)
+ones_drop zero xs h = h
+ones_drop (suc n) [] h = tt
+ones_drop (suc n) (x ∷ xs) h = ones_drop n xs h.1
 
-ones-part : (c : CaseRows) (l k : ℕ) (v : List ℕ) → AreOnes (site_part c l (widths v v) k)
-ones-part c l k v = ones-take (length (family c l)) (drop (k * length (family c l)) (widths v v)) (ones-drop (k * length (family c l)) (widths v v) (ones v))
+ones_part : (c : CaseRows) (l k : ℕ) (v : List ℕ) → AreOnes (site_part c l (widths v v) k)
+ones_part c l k v = ones_take (length (family c l)) (drop (k * length (family c l)) (widths v v)) (ones_drop (k * length (family c l)) (widths v v) (ones v))
 
-product-ones : (xs : List ℕ) → AreOnes xs → product xs ≡ 1
-product-ones [] h = refl
-product-ones (x ∷ xs) h = (let a = h.0 in ap (λ z. z * product xs) a ∙ ap (λ z. 1 * z) (product-ones xs h.1))
+product_ones : (xs : List ℕ) → AreOnes xs → product xs ≡ 1
+product_ones [] h = refl
+product_ones (x ∷ xs) h = (let a = h.0 in ap (λ z. z * product xs) a ∙ ap (λ z. 1 * z) (product_ones xs h.1))
 
-sum-ones : (xs : List ℕ) → AreOnes xs → sum_by (λ x. x) xs ≤ length xs
-sum-ones [] h = omega arith
-sum-ones (x ∷ xs) h = (let a = h.0 in omega (arith, a, sum_by-cons (λ y. y) x xs, sum-ones xs h.1))
+sum_ones : (xs : List ℕ) → AreOnes xs → sum_by (λ x. x) xs ≤ length xs
+sum_ones [] h = omega arith
+sum_ones (x ∷ xs) h = (let a = h.0 in omega (arith, a, sum_by-cons (λ y. y) x xs, sum_ones xs h.1))
 
-first-one : (xs : List ℕ) → AreOnes xs → get_or xs 0 0 ≤ 1
-first-one [] h = omega arith
-first-one (x ∷ xs) h = (let a = h.0 in omega (arith, a))
+first_one : (xs : List ℕ) → AreOnes xs → get_or xs 0 0 ≤ 1
+first_one [] h = omega arith
+first_one (x ∷ xs) h = (let a = h.0 in omega (arith, a))
 
-bases-ones : (f : ℕ → List ℕ) (js : List ℕ) → ((j : ℕ) → AreOnes (f j)) → sum_by product (map f js) ≡ length js
-bases-ones f [] h = refl
-bases-ones f (j ∷ js) h = omega (arith, sum_by-cons product (f j) (map f js), product-ones (f j) (h j), bases-ones f js h)
+bases_ones : (f : ℕ → List ℕ) (js : List ℕ) → ((j : ℕ) → AreOnes (f j)) → sum_by product (map f js) ≡ length js
+bases_ones f [] h = refl
+bases_ones f (j ∷ js) h = omega (arith, sum_by-cons product (f j) (map f js), product_ones (f j) (h j), bases_ones f js h)
 
-long-take : (n : ℕ) (xs : List ℕ) → length (take n xs) ≤ n
-long-take zero xs = omega arith
-long-take (suc n) [] = omega arith
-long-take (suc n) (x ∷ xs) = omega (arith, long-take n xs)
+long_take : (n : ℕ) (xs : List ℕ) → length (take n xs) ≤ n
+long_take zero xs = omega arith
+long_take (suc n) [] = omega arith
+long_take (suc n) (x ∷ xs) = omega (arith, long_take n xs)
 
-long-drop : (n : ℕ) (xs : List ℕ) → length xs ≤ n → length (drop 1 xs) ≤ n - 1
-long-drop n [] h = omega arith
-long-drop n (x ∷ xs) h = omega (arith, h)
+long_drop : (n : ℕ) (xs : List ℕ) → length xs ≤ n → length (drop 1 xs) ≤ n - 1
+long_drop n [] h = omega arith
+long_drop n (x ∷ xs) h = omega (arith, h)
 
-few-tables : (m j a b c d e : ℕ) → m ≤ 8 → j ≤ 15 → a ≡ 1 → b ≤ m → c ≤ 1 → d ≡ 1 → e ≡ j → m + a + j * b + c * d * e ≤ 144
-few-tables m j a b c d e m8 j15 a1 bm c1 d1 ej =
+few_tables : (m j a b c d e : ℕ) → m ≤ 8 → j ≤ 15 → a ≡ 1 → b ≤ m → c ≤ 1 → d ≡ 1 → e ≡ j → m + a + j * b + c * d * e ≤ 144
+few_tables m j a b c d e m8 j15 a1 bm c1 d1 ej =
     let x : j * b ≤ j * 8 = mul-le-mul_left j (let t : b ≤ 8 = omega arith in t) in
     let y : c * d ≡ c * 1 = ap (λ z. c * z) d1 in
     let z : c * d * e ≡ c * 1 * e = ap (λ q. q * e) y in
     let u : e * (c * 1) ≤ e * 1 = mul-le-mul_left e (let t : c * 1 ≤ 1 = omega arith in t) in
     omega (arith, x, z, u)
 
+-- a box of a single vector takes at most 144 tables
 pub one_vector : (c : CaseRows) (l : ℕ) (v : List ℕ) → IsCase c → IsLine c l → tables_between c l v v ≤ 144
 one_vector c l v valid line =
     let part : ℕ → List ℕ = λ k. site_part c l (widths v v) k in
     let shops : ℕ → List ℕ = λ k. drop 1 (site_part c l (widths v v) k) in
-    let all : (k : ℕ) → AreOnes (drop 1 (site_part c l (widths v v) k)) = λ k. ones-drop 1 (site_part c l (widths v v) k) (ones-part c l k v) in
+    let all : (k : ℕ) → AreOnes (drop 1 (site_part c l (widths v v) k)) = λ k. ones_drop 1 (site_part c l (widths v v) k) (ones_part c l k v) in
     let count : length (drop 1 (site_part c l (widths v v) 0)) ≤ 8 =
     omega (
       arith,
       few_members c l valid line,
-      long-drop (length (family c l)) (site_part c l (widths v v) 0) (long-take (length (family c l)) (drop (0 * length (family c l)) (widths v v))),
+      long_drop (length (family c l)) (site_part c l (widths v v) 0) (long_take (length (family c l)) (drop (0 * length (family c l)) (widths v v))),
     ) in
-    few-tables (length (shops 0)) (length (map shops (bases c))) (product (shops 0)) (sum (shops 0)) (get_or (part 0) 0 0) (product (shops 0)) (sum_by product (map shops (bases c))) count
+    few_tables (length (shops 0)) (length (map shops (bases c))) (product (shops 0)) (sum (shops 0)) (get_or (part 0) 0 0) (product (shops 0)) (sum_by product (map shops (bases c))) count
     (omega (arith, length-map (bases c) shops, length-range_with_len 1 (length c.sites - 1), valid.frame.most_sites))
-    (product-ones (shops 0) (all 0)) (sum-ones (shops 0) (all 0)) (first-one (part 0) (ones-part c l 0 v)) (product-ones (shops 0) (all 0))
-    (omega (arith, bases-ones shops (bases c) all, length-map (bases c) shops))
+    (product_ones (shops 0) (all 0)) (sum_ones (shops 0) (all 0)) (first_one (part 0) (ones_part c l 0 v)) (product_ones (shops 0) (all 0))
+    (omega (arith, bases_ones shops (bases c) all, length-map (bases c) shops))

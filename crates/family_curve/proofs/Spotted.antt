@@ -1,12 +1,12 @@
 -- Stocks at a base as the code keeps them.
 use Rattle.std.proofs.Common.{◌≡◌, ℕ, zero, suc, ◌+◌, ◌-◌, ◌*◌, ◌<◌, ◌≤◌, List, [], ◌∷◌, ◌++◌, length, map, take, get_or, refl, sym, ap, ◌∙◌, arith}
-use Rattle.std.specs.List.{All, AllZip}
+use Rattle.std.specs.List.{AllZip}
 use Rattle.std.proofs.lemmas.List.{map-append}
 use Rattle.spares_input.specs.Frames.{part_at}
 use Rattle.spares_input.specs.Cases.{CaseRows}
 use Rattle.fleet_model.specs.Fleet.{family}
 use Rattle.fleet_model.specs.Rows.{shop_units}
-use Rattle.family_curve.specs.declared.base.ShopVector.{ShopVector}
+use Rattle.family_curve.specs.declared.order.ShopVector.{ShopVector}
 use Rattle.family_curve.specs.Points.{cost_above}
 use Rattle.family_curve.specs.Inputs.{AreShopsAt, FamilyBox, IsAt, IsFamilyBox, held_at, line_high, line_low}
 use Rattle.family_curve.proofs.Bounded.{held_most, held_part_long}
@@ -46,6 +46,7 @@ stocks_more xs ys v all n d e g h is same =
     ap (map (λ (v : ShopVector). v.stocks)) e ∙ map-append (λ (v : ShopVector). v.stocks) xs (v ∷ []) ∙ ap (λ (l : List (List ℕ)). l ++ v.stocks ∷ []) g
     ∙ ap (λ (w : List ℕ). take n all ++ w ∷ []) (same ∙ is) ∙ sym (take_next all n h)
 
+-- the stocks of the shop units read at a place are those of the vector at this place
 pub stock_read : (xs : List ShopVector) (n : ℕ) (v d : ShopVector) (all : List (List ℕ)) → map (λ (v : ShopVector). v.stocks) xs ≡ all → n < length xs → v ≡ get_or xs n d → v.stocks ≡ get_or all n []
 stock_read xs n v d all e h g = ap (λ (v : ShopVector). v.stocks) g ∙ mapped xs n h ∙ ap (λ (l : List (List ℕ)). get_or l n []) e
   where
@@ -54,14 +55,9 @@ stock_read xs n v d all e h g = ap (λ (v : ShopVector). v.stocks) g ∙ mapped 
     mapped (x ∷ xs) zero h = refl
     mapped (x ∷ xs) (suc n) h = mapped xs n (omega (arith, h))
 
-pub all_push : {X : Type 0} (P : X → Type 0) (xs : List X) (x : X) → All P xs → P x → All P (xs ++ x ∷ [])
-all_push P [] x a h zero d m = h
-all_push P [] x a h (suc i) d m = absurd (omega (arith, m))
-all_push P (y ∷ xs) x a h zero d m = a zero d (omega arith)
-all_push P (y ∷ xs) x a h (suc i) d m = all_push P xs x (λ k e l. a (suc k) e (omega (arith, l))) h i d (omega (arith, m))
-
-pub zip_on : {X Y : Type 0} (R : X → Y → Type 0) (xs : List X) (ys : List Y) (x : X) (y : Y) → AllZip R xs ys → R x y → AllZip R (xs ++ x ∷ []) (ys ++ y ∷ [])
-zip_on R [] [] x y a h = (h, tt)
-zip_on R [] (b ∷ ys) x y a h = absurd a
-zip_on R (c ∷ xs) [] x y a h = absurd a
-zip_on R (c ∷ xs) (b ∷ ys) x y a h = (a.0, zip_on R xs ys x y a.1 h)
+-- two lists in a relation place by place stay so with a related pair put behind them
+pub zip_push : {X Y : Type 0} (R : X → Y → Type 0) (xs : List X) (ys : List Y) (x : X) (y : Y) → AllZip R xs ys → R x y → AllZip R (xs ++ x ∷ []) (ys ++ y ∷ [])
+zip_push R [] [] x y a h = (h, tt)
+zip_push R [] (b ∷ ys) x y a h = absurd a
+zip_push R (c ∷ xs) [] x y a h = absurd a
+zip_push R (c ∷ xs) (b ∷ ys) x y a h = (a.0, zip_push R xs ys x y a.1 h)

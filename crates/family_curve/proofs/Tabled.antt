@@ -22,7 +22,7 @@ use Rattle.family_curve.proofs.Boxes.{same_map}
 use Rattle.family_curve.specs.Inputs.{AreShopsAt, FamilyBox, IsFamilyBox, IsAt, high_at, line_high, line_low, line_stocks, low_at, scored_point, shop_high, shop_low}
 use Rattle.family_curve.specs.Tabled.{AreShopStocks, AreTables, base_shops, numbers}
 use Rattle.family_curve.proofs.Bounded.{at_limit, at_long, box_at, high_long}
-use Rattle.family_curve.proofs.Distinct.{family_stocks-in}
+use Rattle.family_curve.proofs.Distinct.{family_stocks_in}
 use Rattle.family_curve.proofs.Numbers.{same_length}
 use Rattle.family_curve.proofs.Points.{begins, box_begins, joined_at, low_begins, high_begins, stocks_between_at}
 use Rattle.family_curve.proofs.Separate.{at_base}
@@ -30,6 +30,7 @@ use Rattle.family_curve.proofs.Sites.{part_long, size}
 
 -- ---- lists that grow
 
+-- a list that has f at all numbers from a to s - 1 behind older entries has it at s too, with f s put behind
 pub mapped_from : {X : Type 0} (f : ℕ → X) (a s : ℕ) (old xs ys : List X) (x : X) → a ≤ s → ys ≡ xs ++ x ∷ [] → xs ≡ old ++ map f (range_with_len a (s - a)) → x ≡ f s
     → ys ≡ old ++ map f (range_with_len a (s + 1 - a))
 mapped_from {X} f a s old xs ys x h e g t =
@@ -39,14 +40,17 @@ mapped_from {X} f a s old xs ys x h e g t =
     ∙ ap (λ (r : List X). old ++ r) (sym (map-range_with_len_more f a (s - a) s at))
     ∙ ap (λ n. old ++ map f (range_with_len a n)) next
 
+-- what is read at a place of a list within its length is the entry there
 pub read_place : (list : List Ends) (i s : ℕ) (e : Ends) → e ≡ get_or list i e → i ≡ s → s < length list → e ≡ at_place list s
 read_place list i s e h g m = h ∙ ap (λ k. get_or list k e) g ∙ get_or_default list s e (record { lo = 0; hi = 0 }) m
 
 -- ---- the tables of each base
 
+-- the tables for given depot stocks have an entry for each base
 pub tables_long : (n : FamilyNumbers 48) (d : List ℕ) (t : DepotTables) → AreTables n d t → length t.bases.items ≡ n.sites - 1
 tables_long n d t h = ap length h.bases ∙ length-map (range_with_len 1 (n.sites - 1)) (base_shops n d) ∙ length-range_with_len 1 (n.sites - 1)
 
+-- what is read there for a base are the tables of its shop units
 pub read_base : (n : FamilyNumbers 48) (d : List ℕ) (t : DepotTables) (i j : ℕ) (rows : List (List (Row 48))) → AreTables n d t → 1 + i ≡ j → i < n.sites - 1
     → rows ≡ get_or t.bases.items i rows → rows ≡ base_shops n d j
 read_base n d t i j rows h e m g =
@@ -73,6 +77,7 @@ all_below (x ∷ xs) [] h a i d m = absurd h
 all_below (x ∷ xs) (y ∷ ys) h a zero d m = omega (arith, h.0, a 0 d (omega arith))
 all_below (x ∷ xs) (y ∷ ys) h a (suc i) d m = all_below xs ys h.1 (λ k e l. a (suc k) e (omega (arith, l))) i d (omega (arith, m))
 
+-- without its first place a vector is still within the bounds without theirs
 pub rest_between : (low high v : List ℕ) → IsBetween low high v → IsBetween (drop 1 low) (drop 1 high) (drop 1 v)
 rest_between low high v h = record { least = rest low v h.least; most = rest v high h.most }
   where
@@ -120,8 +125,8 @@ module _ (x : FamilyBox) (valid : IsFamilyBox x) where
       let depot_long = at_long x valid 0 d (omega (arith, some)) h in
       is.ends s (omega (arith, line_limit j base.1, at_limit x valid j 0 (s ∷ b) base.1 g (omega arith)))
       ∙ sym (backorders_alone 48 x.case x.line j (base_stocks x.case x.line d j (s ∷ b)) (get_or d 0 0) (drop 1 d) s b valid.is_line base.0 base.1
-      (family_stocks-in x.case x.line own 0 valid.valid valid.is_line (omega (arith, some)) depot_long ∙ sym (begins d (omega (arith, depot_long))))
-      (family_stocks-in x.case x.line own j valid.valid valid.is_line base.1 (ap length (at_base d j (s ∷ b) base.0) ∙ at_long x valid j (s ∷ b) base.1 g)
+      (family_stocks_in x.case x.line own 0 valid.valid valid.is_line (omega (arith, some)) depot_long ∙ sym (begins d (omega (arith, depot_long))))
+      (family_stocks_in x.case x.line own j valid.valid valid.is_line base.1 (ap length (at_base d j (s ∷ b) base.0) ∙ at_long x valid j (s ∷ b) base.1 g)
       ∙ at_base d j (s ∷ b) base.0))
 
   -- the points that are scored by such a list are those of the base

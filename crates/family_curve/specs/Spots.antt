@@ -1,16 +1,21 @@
 -- What is the same at each base whatever the depot has, and the points that stocks at a base stand for.
 -- No promise rests on this file: it speaks of the code's own steps.
-use Rattle.std.specs.Prelude.{◌≡◌, ℕ, List, ◌∷◌, map, All}
+use Rattle.std.specs.Prelude.{◌≡◌, ℕ, ◌<◌, ◌≤◌, List, [], ◌∷◌, flat_map, get_or, length, map, All}
 use Rattle.std.specs.List.{AllZip}
-use Rattle.spares_input.specs.Frames.{part_at}
+use Rattle.std.specs.List.Sorted.{IsNonDecreasingBy, IsPermutation}
+use Rattle.fixed_interval.specs.Ends.{Ends, IsWithinLimit}
+use Rattle.series_bounds.specs.Answer.{at_place}
 use Rattle.fleet_model.specs.Rows.{bases}
 use Rattle.fleet_model.specs.Fleet.{family}
+use Rattle.family_eval.specs.Profile.{item_of}
 use Rattle.hull.specs.declared.point.Point.{Point}
-use Rattle.family_curve.specs.declared.base.Base.{Base}
 use Rattle.family_curve.specs.declared.base.BaseSpot.{BaseSpot}
-use Rattle.family_curve.specs.declared.base.ShopVector.{ShopVector}
-use Rattle.family_curve.specs.Points.{cost_above}
-use Rattle.family_curve.specs.Inputs.{AreShopsAt, FamilyBox, held_at, line_high, line_low, shop_vectors}
+use Rattle.family_curve.specs.declared.order.Base.{Base}
+use Rattle.family_curve.specs.declared.order.Choice.{Choice}
+use Rattle.family_curve.specs.declared.order.ShopVector.{ShopVector}
+use Rattle.family_curve.specs.Points.{ScoreEnds, cost_above}
+use Rattle.family_curve.specs.Separation.{base_point, base_stocks}
+use Rattle.family_curve.specs.Inputs.{AreShopsAt, FamilyBox, IsAt, held_at, line_high, line_low, line_stocks, shop_vectors}
 
 -- the point of stocks at a base
 abbrev pub spot_point : BaseSpot → Point
@@ -21,12 +26,45 @@ pub record IsShopVector (x : FamilyBox) (j : ℕ) (v : ShopVector) : Type 0 wher
   pub within : AreShopsAt x j v.stocks
   pub cost : v.cost ≡ cost_above x.case (family x.case x.line) (held_at x j) (line_low x j ∷ v.stocks)
 
+-- all stocks of base j: those of the line unit for each of its shop units'
+abbrev pub turned_stocks : FamilyBox → ℕ → List (List ℕ)
+turned_stocks x j = flat_map (λ shops. map (λ s. s ∷ shops) (line_stocks x j)) (shop_vectors x j)
+
+-- the stocks of a choice at base j
+abbrev pub choice_stocks : FamilyBox → ℕ → Choice → List ℕ
+choice_stocks x j v = v.line ∷ get_or (shop_vectors x j) v.shops []
+
+-- their point, where the depot has the stocks d
+abbrev pub choice_point : FamilyBox → ScoreEnds → List ℕ → ℕ → Choice → Point
+choice_point x ends d j v = base_point x.case x.line ends x.held d j (choice_stocks x j v)
+
+-- a choice at base j, with its cost
+pub record IsChoice (x : FamilyBox) (j : ℕ) (v : Choice) : Type 0 where
+  pub place : v.shops < length (shop_vectors x j)
+  pub least : line_low x j ≤ v.line
+  pub most : v.line ≤ line_high x j
+  pub cost : v.cost ≡ cost_above x.case (family x.case x.line) (held_at x j) (choice_stocks x j v)
+
+-- all choices at base j by rising cost
+pub record IsOrder (x : FamilyBox) (j : ℕ) (order : List Choice) : Type 0 where
+  pub all : IsPermutation (turned_stocks x j) (map (choice_stocks x j) order)
+  pub choices : All (IsChoice x j) order
+  pub rises : IsNonDecreasingBy (λ (v : Choice). v.cost) order
+
+-- what is kept of base j: the shop units' stocks with their costs, and the order of all choices
 pub record IsBaseOf (x : FamilyBox) (j : ℕ) (b : Base) : Type 0 where
-  pub low : b.low ≡ line_low x j
-  pub high : b.high ≡ line_high x j
-  pub each : b.each ≡ (part_at x.case.parts x.line).cost
   pub stocks : map (λ (v : ShopVector). v.stocks) b.shops.items ≡ shop_vectors x j
   pub are_vectors : All (IsShopVector x j) b.shops.items
+  pub order : IsOrder x j b.order.items
 
+-- and so for each base of the case in turn
 abbrev pub AreBases : FamilyBox → List Base → Type 0
 AreBases x bs = AllZip (IsBaseOf x) (bases x.case) bs
+
+-- the line unit's backorders at base j, by its stock there, where the depot has the stocks d and the base has these of
+-- its shop units
+pub record IsRow (x : FamilyBox) (d : List ℕ) (j : ℕ) (shops : List ℕ) (row : List Ends) : Type 0 where
+  pub long : line_high x j < length row
+  pub small : All (IsWithinLimit 48) row
+  pub ends : (s : ℕ) → IsAt x j (s ∷ shops)
+      → at_place row s ≡ (item_of 48 x.case (base_stocks x.case x.line d j (s ∷ shops)) x.line j).backorders

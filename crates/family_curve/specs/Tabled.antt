@@ -1,12 +1,14 @@
 -- The tables from which the points of a family are made.
 -- No promise rests on this file: it speaks of the code's own steps.
-use Rattle.std.specs.Prelude.{◌≡◌, ℕ, ◌-◌, ◌≤◌, List, length, map}
+use Rattle.std.specs.Prelude.{◌≡◌, ℕ, ◌-◌, ◌≤◌, List, drop, length, map}
 use Rattle.std.specs.List.{All, range_with_len}
 use Rattle.moment_table.specs.declared.kinds.Row.{Row}
-use Rattle.family_tables.specs.Numbers.{FamilyNumbers, base_shop_moments, depot_line_moments, depot_shop_moments, nth_stock, numbers_of, rows_of, shop_numbers}
+use Rattle.family_tables.specs.declared.own_part.OwnPart.{OwnPart}
+use Rattle.family_tables.specs.Numbers.{FamilyNumbers, base_shop_moments, depot_line_moments, depot_shop_moments, nth_stock, numbers_of, own_part, rows_of, shop_numbers}
 use Rattle.family_curve.specs.declared.depot.DepotTables.{DepotTables}
 use Rattle.family_curve.specs.Inputs.{FamilyBox}
 
+-- the numbers of the family at 48 fraction bits, from which its tables are made
 abbrev pub numbers : FamilyBox → FamilyNumbers 48
 numbers x = numbers_of 48 x.case x.line
 
@@ -27,3 +29,7 @@ base_shops n d j = map (λ i. rows_of 48 (base_shop_moments 48 n i j (nth_stock 
 pub record AreTables (n : FamilyNumbers 48) (d : List ℕ) (t : DepotTables) : Type 0 where
   pub line : t.line ≡ rows_of 48 (depot_line_moments 48 n d)
   pub bases : t.bases.items ≡ map (base_shops n d) (range_with_len 1 (n.sites - 1))
+
+-- what the line unit at base j has without its shop units there, where the depot has the stocks d
+abbrev pub own_at : FamilyNumbers 48 → List ℕ → ℕ → OwnPart 48
+own_at n d j = own_part 48 n j (nth_stock d 0) (drop 1 d)

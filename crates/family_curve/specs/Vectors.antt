@@ -1,5 +1,5 @@
--- The vectors of a family, and the stocks of a case that a vector stands for. A vector lists the stocks of a family site by
--- site, the depot first; at each site stands the line unit and then its shop units in part order.
+-- The vectors of a family, and the stocks of a case that a vector stands for. A vector lists the stocks of a family
+-- site by site, the depot first; at each site stands the line unit and then its shop units in part order.
 use Rattle.std.specs.Prelude.{◌==◌, ℕ, suc, ◌-◌, ◌*◌, ◌≤◌, List, [], ◌∷◌, map, flat_map, length, take, drop, get_or, position}
 use Rattle.std.specs.List.{range_with_len, AllZip}
 use Rattle.std.specs.Option.{option_map_or}
@@ -51,6 +51,7 @@ stocks_in c l own = flat_map (λ p. map (stock_in c l own p) (all_sites c)) (all
 abbrev pub stocks_with : CaseRows → ℕ → List ℕ → List ℕ
 stocks_with c l v = stocks_in c l (site_part c l v)
 
+-- a list of stocks, read by the sites of the case
 abbrev pub stock_list : CaseRows → List ℕ → StockList
 stock_list c s = record { sites = length c.sites; list = s }
 

@@ -9,8 +9,9 @@ use spares_input::{Case, PartId};
 use spares_io::{List, NoMemory};
 use std::alloc::Global;
 
-/// Which vectors of a family a curve is made of, and from which stocks on their cost counts. The lists are in the order of a
-/// vector: site by site, the depot first, and at each site the line unit and then its shop units in part order.
+/// Which vectors of a family a curve is made of, and from which stocks on their cost counts. The lists are in the
+/// order of a vector: site by site, the depot first, and at each site the line unit and then its shop units in part
+/// order.
 #[derive(Debug, Drop)]
 pub struct Bounds {
     /// What is held already.
@@ -25,7 +26,11 @@ impl Bounds {
     /// All vectors of the family of a line unit, with nothing held.
     pub(crate) fn whole(alloc: Global, case: &Case, line: PartId) -> Result<Bounds, NoMemory>
         requires { IsLine case.now line.0 }
-        ensures { IfOk result (λ bounds. bounds ≡ record { held = zeros case.now line.0; low = zeros case.now line.0; high = limits case.now line.0 }) }
+        ensures { IfOk result (λ bounds. bounds ≡ record {
+          held = zeros case.now line.0;
+          low = zeros case.now line.0;
+          high = limits case.now line.0;
+        }) }
     {
         let high = limits_of(alloc, case, line)?;
         let places = high.as_slice().len();

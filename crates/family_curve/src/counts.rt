@@ -88,8 +88,8 @@ pub fn tables(case: &Case, line: PartId) -> u64
         .saturating_add(depot.saturating_mul(bases.saturating_mul(shops.base)))
 }
 
-/// The tables of all families together, where they are at most 1,000,000; and else this count is the refusal, or 2^64 - 1 where
-/// it is larger.
+/// The tables of all families together, where they are at most 1,000,000; and else this count is the refusal, or
+/// 2^64 - 1 where it is larger.
 pub fn work(case: &Case) -> Result<u64, u64>
     ensures { result ≡ work_of case.now }
 {
@@ -147,7 +147,8 @@ fn site_ways(case: &Case, line: PartId, bounds: &Bounds, size: usize, site: Site
     requires site { site.0 < length case.now.sites }
     ensures line { result.line ≡ get_or (site_part case.now line.0 (widths bounds.now.low bounds.now.high) site.0) 0 0 }
     ensures sum { result.sum ≡ sum (drop 1 (site_part case.now line.0 (widths bounds.now.low bounds.now.high) site.0)) }
-    ensures shops { result.shops ≡ product (drop 1 (site_part case.now line.0 (widths bounds.now.low bounds.now.high) site.0)) }
+    ensures shops { result.shops ≡ product (drop 1
+        (site_part case.now line.0 (widths bounds.now.low bounds.now.high) site.0)) }
     ensures few { (result.line ≤ 64) × ((result.sum ≤ 576) × (result.shops ≤ 64 ^ 9)) }
 {
     let _sites = case.site_count();
@@ -156,7 +157,8 @@ fn site_ways(case: &Case, line: PartId, bounds: &Bounds, size: usize, site: Site
     ways(low, high)
 }
 
-/// How many tables the curve of a family takes over the vectors from the least to the most, or 2^64 - 1 where it takes more.
+/// How many tables the curve of a family takes over the vectors from the least to the most, or 2^64 - 1 where it
+/// takes more.
 pub fn tables_within(case: &Case, line: PartId, bounds: &Bounds) -> u64
     requires line { IsLine case.now line.0 }
     requires ordered { AreOrdered case.now line.0 bounds.now.held bounds.now.low bounds.now.high }

@@ -42,9 +42,23 @@ impl<'a> Model for Family<'a> {
 
     ghost Value = { FamilyBox };
 
-    ghost view = { λ x. record { case = x.case.now; rates = x.rates.now; line = x.line.0; held = x.bounds.now.held; low = x.bounds.now.low; high = x.bounds.now.high } };
+    ghost view = { λ x. record {
+      case = x.case.now;
+      rates = x.rates.now;
+      line = x.line.0;
+      held = x.bounds.now.held;
+      low = x.bounds.now.low;
+      high = x.bounds.now.high;
+    } };
 
-    ghost invariant = { λ x. IsFamilyBox (record { case = x.case.now; rates = x.rates.now; line = x.line.0; held = x.bounds.now.held; low = x.bounds.now.low; high = x.bounds.now.high })
+    ghost invariant = { λ x. IsFamilyBox (record {
+      case = x.case.now;
+      rates = x.rates.now;
+      line = x.line.0;
+      held = x.bounds.now.held;
+      low = x.bounds.now.low;
+      high = x.bounds.now.high;
+    })
         × (map (λ p. p.0) x.members.items ≡ family x.case.now x.line.0) };
 }
 
@@ -88,7 +102,14 @@ impl<'a> Family<'a> {
         requires rates { AreRatesOf case.now rates.now }
         requires line { IsLine case.now line.0 }
         requires ordered { AreOrdered case.now line.0 bounds.now.held bounds.now.low bounds.now.high }
-        ensures { IfOk result (λ x. x ≡ record { case = case.now; rates = rates.now; line = line.0; held = bounds.now.held; low = bounds.now.low; high = bounds.now.high }) }
+        ensures { IfOk result (λ x. x ≡ record {
+          case = case.now;
+          rates = rates.now;
+          line = line.0;
+          held = bounds.now.held;
+          low = bounds.now.low;
+          high = bounds.now.high;
+        }) }
     {
         let _valid = case.site_count();
         let members = members(alloc, case, line)?;
@@ -202,7 +223,8 @@ impl<'a> Family<'a> {
     pub(crate) fn cost(&self, site: SiteId, stocks: &[u8]) -> u64
         requires site { site.0 < length self.now.case.sites }
         requires stocks { IsAt self.now site.0 stocks.now }
-        ensures cost { result ≡ cost_above self.now.case (family self.now.case self.now.line) (held_at self.now site.0) stocks.now }
+        ensures cost { result ≡ cost_above self.now.case (family self.now.case self.now.line)
+            (held_at self.now site.0) stocks.now }
         ensures most { result ≤ 9 * 6300000000 }
     {
         let size = self.size();
@@ -227,7 +249,8 @@ impl<'a> Family<'a> {
     pub(crate) fn score<S: Score>(&self, score: &S, site: SiteId, backorders: Iv<48>) -> Iv<48>
         requires site { IsBase self.now.case site.0 }
         requires small { IsWithinLimit 48 backorders }
-        ensures ends { result ≡ S.ends (systems self.now.case site.0) (per_system self.now.case self.now.line) (weight self.now.case self.now.line) backorders }
+        ensures ends { result ≡ S.ends (systems self.now.case site.0) (per_system self.now.case self.now.line)
+            (weight self.now.case self.now.line) backorders }
         ensures room { result.hi < 2 ^ 70 }
     {
         let _sites = self.case.site_count();

@@ -10,9 +10,10 @@ ghost use Rattle.family_curve.specs.Joining.{HaveWidthOf, vertices_of};
 ghost use Rattle.family_curve.specs.Spots.{AreBases};
 ghost use Rattle.family_curve.specs.Tabled.{AreTables, depot_shops, numbers};
 
-use crate::base::{Base, base_curve, bases_of};
+use crate::base::base_curve;
 use crate::depot::{DepotTables, depot_tables};
 use crate::family::{Family, joined};
+use crate::order::{Base, bases_of};
 use crate::walk::walk;
 use family_tables::Evaluator;
 use hull::{Curve, Point, Score};
@@ -38,7 +39,8 @@ fn depot_point(alloc: Global, family: &Family<'_>, stocks: &[u8]) -> Result<Poin
     })
 }
 
-/// The points of the vectors that have these stocks at the depot, but for those that are no vertices beside the points below.
+/// The points of the vectors that have these stocks at the depot, but for those that are no vertices beside the
+/// points below.
 fn depot_path<S: Score>(
     alloc: Global,
     family: &Family<'_>,
@@ -55,8 +57,12 @@ fn depot_path<S: Score>(
     requires bases { AreBases family.now bases.now }
     requires room { length below.now + vertex_count family.now ≤ 65000000 }
     requires ranges { (v : Point) → Among v below.now → InRange v }
-    ensures stands { IfOk result (λ path. StandFor (below.now ++ depot_points family.now.case family.now.line S.ends family.now.held family.now.low family.now.high depot.now) (below.now ++ path.items)) }
-    ensures among { IfOk result (λ path. (v : Point) → Among v path.items → Among v (depot_points family.now.case family.now.line S.ends family.now.held family.now.low family.now.high depot.now)) }
+    ensures stands { IfOk result (λ path. StandFor (below.now
+        ++ depot_points family.now.case family.now.line S.ends family.now.held family.now.low family.now.high depot.now)
+        (below.now ++ path.items)) }
+    ensures among { IfOk result (λ path. (v : Point) → Among v path.items
+        → Among v (depot_points family.now.case family.now.line S.ends family.now.held family.now.low family.now.high
+        depot.now)) }
     ensures some { below.now ≡ [] → IfOk result (λ path. 0 < length path.items) }
     ensures few { IfOk result (λ path. length path.items ≤ vertex_count family.now) }
 {
@@ -90,7 +96,9 @@ fn with_depot<S: Score>(
     requires bases { AreBases family.now bases.now }
     requires room { length (vertices_of so_far) + vertex_count family.now ≤ 65000000 }
     requires widths { HaveWidthOf family.now (vertices_of so_far) }
-    ensures curve { IfOk result (IsCurve (vertices_of so_far ++ depot_points family.now.case family.now.line S.ends family.now.held family.now.low family.now.high depot.now)) }
+    ensures curve { IfOk result (IsCurve (vertices_of so_far
+        ++ depot_points family.now.case family.now.line S.ends family.now.held family.now.low family.now.high
+        depot.now)) }
     ensures few { IfOk result (λ curve. length curve ≤ length (vertices_of so_far) + vertex_count family.now) }
     ensures widths { IfOk result (HaveWidthOf family.now) }
 {
@@ -112,8 +120,8 @@ fn with_depot<S: Score>(
     Ok(curve)
 }
 
-/// The curve of the points so far and of all vectors whose shop units have these stocks at the depot; `shops` are their tables
-/// there.
+/// The curve of the points so far and of all vectors whose shop units have these stocks at the depot; `shops` are
+/// their tables there.
 fn with_shops<S: Score>(
     alloc: Global,
     so_far: Option<Curve>,
@@ -128,10 +136,14 @@ fn with_shops<S: Score>(
     requires shops { shops.now ≡ depot_shops evaluator.now.numbers }
     requires depot { AreShopsAt family.now 0 depot.now }
     requires bases { AreBases family.now bases.now }
-    requires room { length (vertices_of so_far) + length (line_stocks family.now 0) * vertex_count family.now ≤ 65000000 }
+    requires room { length (vertices_of so_far) + length (line_stocks family.now 0) * vertex_count family.now
+        ≤ 65000000 }
     requires widths { HaveWidthOf family.now (vertices_of so_far) }
-    ensures curve { IfOk result (IsCurve (vertices_of so_far ++ flat_map (λ s. depot_points family.now.case family.now.line S.ends family.now.held family.now.low family.now.high (s ∷ depot.now)) (line_stocks family.now 0))) }
-    ensures few { IfOk result (λ curve. length curve ≤ length (vertices_of so_far) + length (line_stocks family.now 0) * vertex_count family.now) }
+    ensures curve { IfOk result (IsCurve (vertices_of so_far
+        ++ flat_map (λ s. depot_points family.now.case family.now.line S.ends family.now.held family.now.low
+        family.now.high (s ∷ depot.now)) (line_stocks family.now 0))) }
+    ensures few { IfOk result (λ curve. length curve ≤ length (vertices_of so_far) + length (line_stocks family.now 0)
+        * vertex_count family.now) }
     ensures widths { IfOk result (HaveWidthOf family.now) }
 {
     let _size = family.size();
@@ -172,7 +184,9 @@ pub(crate) fn family_curve<S: Score>(
     score: &S,
 ) -> Result<Curve, NoMemory>
     requires { vector_count family.now 0 * vertex_count family.now ≤ 65000000 }
-    ensures { IfOk result (IsCurve (points_within family.now.case family.now.line S.ends family.now.held family.now.low family.now.high)) }
+    ensures { IfOk result
+        (IsCurve (points_within family.now.case family.now.line S.ends family.now.held family.now.low
+        family.now.high)) }
 {
     let _size = family.size();
     let evaluator = family.evaluator(alloc)?;

@@ -1,9 +1,10 @@
 //! The curve of a family, a line unit with its shop units: which stocks of it are worth their money, at each price.
 //!
-//! A vector lists the stocks of a family, site by site. Each has a cost and the ends of its scored backorders, and the curve has
-//! the strict lower vertices of these points. A family may have 2^96 vectors and more, and the curve is made without trying them
-//! all: with given stocks at the depot, cost and score are sums over the bases, each part of which depends on the stocks of that
-//! base alone. So each base has a curve, the curves of the bases are added, and what the depot's choices give is joined.
+//! A vector lists the stocks of a family, site by site. Each has a cost and the ends of its scored backorders, and
+//! the curve has the strict lower vertices of these points. A family may have 2^96 vectors and more, and the curve is
+//! made without trying them all: with given stocks at the depot, cost and score are sums over the bases, each part of
+//! which depends on the stocks of that base alone. So each base has a curve, the curves of the bases are added, and
+//! what the depot's choices give is joined.
 #![tactic(auto)]
 
 ghost use Rattle.std.specs.Prelude.{◌≡◌, ℕ, ◌≤◌, IfOk, List};
@@ -33,6 +34,7 @@ mod depot;
 mod family;
 mod joining;
 mod laws;
+mod order;
 mod places;
 mod vectors;
 mod walk;
@@ -47,7 +49,8 @@ pub fn points_separate()
     ensures { Separates }
 {}
 
-/// A family's rates, items and points depend on the sites and parts of the case and on the rates of its own parts alone.
+/// A family's rates, items and points depend on the sites and parts of the case and on the rates of its own parts
+/// alone.
 pub fn families_are_local()
     ensures { FamiliesAreLocal }
 {}
@@ -59,9 +62,9 @@ pub fn changes_are_local()
 
 /// The curve of the family of a line unit over the vectors from `low` to `high`, with the cost of what is above `held`.
 ///
-/// The rates are those of the case, and the bounds are in order: what is held is at most the least, and the most is within the
-/// limits. Of vectors with the same cost and the same lower end it keeps the first in the order of a dictionary. It begins at
-/// cost 0 where nothing but what is held is asked for. Want of memory is the only error.
+/// The rates are those of the case, and the bounds are in order: what is held is at most the least, and the most is
+/// within the limits. Of vectors with the same cost and the same lower end it keeps the first in the order of a
+/// dictionary. It begins at cost 0 where nothing but what is held is asked for. Want of memory is the only error.
 pub fn curve_within<S: Score>(
     alloc: Global,
     case: &Case,
@@ -74,10 +77,12 @@ pub fn curve_within<S: Score>(
     requires line { IsLine case.now line.0 }
     requires ordered { AreOrdered case.now line.0 bounds.now.held bounds.now.low bounds.now.high }
     requires few { tables_between case.now line.0 bounds.now.low bounds.now.high ≤ most_tables }
-    ensures curve { IfOk result (IsCurve (points_within case.now line.0 S.ends bounds.now.held bounds.now.low bounds.now.high)) }
+    ensures curve { IfOk result
+        (IsCurve (points_within case.now line.0 S.ends bounds.now.held bounds.now.low bounds.now.high)) }
     ensures ranges { IfOk result (λ curve. (v : Point) → Among v curve → InRange v) }
     ensures begins { bounds.now.held ≡ bounds.now.low → IfOk result (λ curve. (point_at curve 0).cost ≡ 0) }
-    ensures stocks { IfOk result (λ curve. (v : Point) → Among v curve → IsBetween bounds.now.low bounds.now.high v.stocks) }
+    ensures stocks { IfOk result (λ curve. (v : Point) → Among v curve
+        → IsBetween bounds.now.low bounds.now.high v.stocks) }
 {
     let _sites = case.site_count();
     let family = Family::of(alloc, case, rates, line, bounds)?;
@@ -97,10 +102,12 @@ pub fn curve<S: Score>(
     requires rates { AreRatesOf case.now rates.now }
     requires line { IsLine case.now line.0 }
     requires few { tables_of case.now line.0 ≤ most_tables }
-    ensures curve { IfOk result (IsCurve (points_within case.now line.0 S.ends (zeros case.now line.0) (zeros case.now line.0) (limits case.now line.0))) }
+    ensures curve { IfOk result (IsCurve (points_within case.now line.0 S.ends (zeros case.now line.0)
+        (zeros case.now line.0) (limits case.now line.0))) }
     ensures ranges { IfOk result (λ curve. (v : Point) → Among v curve → InRange v) }
     ensures begins { IfOk result (λ curve. (point_at curve 0).cost ≡ 0) }
-    ensures stocks { IfOk result (λ curve. (v : Point) → Among v curve → IsBetween (zeros case.now line.0) (limits case.now line.0) v.stocks) }
+    ensures stocks { IfOk result (λ curve. (v : Point) → Among v curve
+        → IsBetween (zeros case.now line.0) (limits case.now line.0) v.stocks) }
 {
     let _valid = case.site_count();
     let bounds = Bounds::whole(alloc, case, line)?;

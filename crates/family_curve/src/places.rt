@@ -1,5 +1,5 @@
-//! The places of a family's vectors: site by site, the depot first, and at each site the line unit and then its shop units in part
-//! order.
+//! The places of a family's vectors: site by site, the depot first, and at each site the line unit and then its shop
+//! units in part order.
 
 ghost use Rattle.std.specs.Prelude.{◌≡◌, ◌<◌, ◌++◌, IfOk, All, length, map};
 ghost use Rattle.spares_input.specs.Stocks.{HasPair, IsFor, limit_at, stock_at};
@@ -33,7 +33,8 @@ fn put_limits(
 ) -> Result<(), NoMemory>
     requires members { All (λ p. p.0 < length case.now.parts) members.now }
     requires site { site.0 < length case.now.sites }
-    ensures { IfOk result (λ _. list.new.items ≡ list.old.items ++ map (λ p. limit_at case.now.parts p.0 site.0) members.now) }
+    ensures { IfOk result (λ _. list.new.items ≡ list.old.items
+        ++ map (λ p. limit_at case.now.parts p.0 site.0) members.now) }
 {
     for part in members {
         list.push(case.limit(*part, site))?;
@@ -62,7 +63,8 @@ fn put_stocks(
     site: SiteId,
 ) -> Result<(), NoMemory>
     requires { All (λ p. HasPair stocks.now p.0 site.0) members.now }
-    ensures { IfOk result (λ _. list.new.items ≡ list.old.items ++ map (λ p. stock_at stocks.now p.0 site.0) members.now) }
+    ensures { IfOk result (λ _. list.new.items ≡ list.old.items
+        ++ map (λ p. stock_at stocks.now p.0 site.0) members.now) }
 {
     for part in members {
         list.push(stocks.get(*part, site))?;
@@ -70,7 +72,8 @@ fn put_stocks(
     Ok(())
 }
 
-/// The vector of a family in the stocks of a case: what they have at each of its places. Want of memory is the only error.
+/// The vector of a family in the stocks of a case: what they have at each of its places. Want of memory is the only
+/// error.
 pub fn vector_of(
     alloc: Global,
     case: &Case,

@@ -1,6 +1,6 @@
 -- A chain is the curve of its own points.
 use Rattle.std.proofs.Common.{◌≡◌, ℕ, zero, suc, ◌+◌, ◌-◌, ◌*◌, ◌<◌, ◌≤◌, ◌⊎◌, inl, inr, List, [], ◌∷◌, refl, sym, ap, ◌∙◌, subst, arith}
-use Rattle.std.proofs.Math.Nat.{mul-le-mul_left, mul-lt-mul_of_pos_left, lt_of_mul-lt-mul_left}
+use Rattle.std.proofs.Math.Nat.{mul-le-mul_left, mul-lt-mul_of_pos_left, lt_of_mul-lt-mul_left, mul-pos}
 use Rattle.hull.specs.declared.point.Point.{Point}
 use Rattle.hull.specs.Curves.{lagrangian, SamePlace, Among, IsVertexAt, IsVertex, IsFirstOf, Rises, IsCurve, Steps, TurnsInto, IsChain}
 use Rattle.hull.proofs.Stand.{same_self, same_lagrangian, first_self}
@@ -81,15 +81,12 @@ both_positive a b c h = (left b h, right c h)
     right : (c : ℕ) → a < b * c → 0 < c
     right c h = grind arith
 
-product_positive : (a b : ℕ) → 0 < a → 0 < b → 0 < a * b
-product_positive a b h k = let l : a * 1 ≤ a * b = mul-le-mul_left a k in omega arith
-
 -- the same where c may be 0
 pub falls_over : (f c g d h e : ℕ) → h * d < g * e → g * c < f * d → h * c < f * e
 falls_over f zero g d h e x y =
     let fp : 0 < f = (both_positive (g * zero) f d y).0 in
     let ep : 0 < e = (both_positive (h * d) g e x).1 in
-    let k : 0 < f * e = product_positive f e fp ep in
+    let k : 0 < f * e = mul-pos fp ep in
     omega (arith, k)
 falls_over f (suc c) g d h e x y = falls_on f (suc c) g d h e x y (omega arith)
 

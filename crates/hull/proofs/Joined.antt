@@ -25,6 +25,7 @@ chain_rises (x ∷ y ∷ xs) c =
     let step = c.0.cost in
     (λ w m. elim m [ inl e ↦ subst (λ z. x.cost ≤ z.cost) (sym e) (omega (arith, step)) | inr n ↦ (let l = rest.0 w n in omega (arith, step, l)) ], rest)
 
+-- before the scan of two lists in order of cost, nothing is on the stack and all points are to come
 pub joined_begins : (left right : List Point) → CostsRise left → CostsRise right → ((v : Point) → Among v (left ++ right) → InRange v) → Joined (left ++ right) [] left right
 joined_begins left right l r h = record {
   chain = tt;

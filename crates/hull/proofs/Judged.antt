@@ -42,6 +42,7 @@ module _ (stack rest : List Point) (t p : Point) (is : stack ≡ rest ++ t ∷ [
     pub tells_straight : Steps t p → (Turns b t p → ⊥) → Tells stack p Drop
     tells_straight s n = dropped (subst (λ r. StandFor ((r ++ t ∷ []) ++ p ∷ []) (r ++ p ∷ [])) (sym rest_is) (drop_straight front b t p below_steps s.cost s.lo n))
 
+-- the last point of a list stands in it
 pub among_last : (stack rest : List Point) (t : Point) → stack ≡ rest ++ t ∷ [] → Among t stack
 among_last stack rest t is = subst (λ s. Among t s) (sym is) (among_right t rest (t ∷ []) (inl refl))
 

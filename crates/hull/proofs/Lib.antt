@@ -9,3 +9,4 @@ pub mod Joined
 pub mod Stops
 pub mod Sums
 pub mod Shapes
+pub mod Members

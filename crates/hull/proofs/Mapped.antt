@@ -17,6 +17,7 @@ pub record Origin {X : Type 0} (f : X → Point) (xs : List X) (w : Point) : Typ
   pub below : at < length xs
   pub is : (d : X) → f (get_or xs at d) ≡ w
 
+-- a point among those that a list stands for has a place in the list
 pub origin_of : {X : Type 0} (f : X → Point) (xs : List X) (w : Point) → Among w (map f xs) → Origin f xs w
 origin_of f [] w m = absurd m
 origin_of f (x ∷ xs) w m = elim m [
@@ -29,6 +30,7 @@ mapped_head f x xs h w m =
     let r : Origin f xs w = origin_of f xs w m in
     subst (λ y. (f x).cost ≤ y.cost) (r.is x) (h zero (suc r.at) x (omega arith) (let b = r.below in omega arith))
 
+-- things in order of their points' costs have points in order of cost
 pub mapped_rise : {X : Type 0} (f : X → Point) (xs : List X) → IsNonDecreasingBy (λ v. (f v).cost) xs → CostsRise (map f xs)
 mapped_rise f [] h = tt
 mapped_rise f (x ∷ xs) h = (mapped_head f x xs h, mapped_rise f xs (λ i j d a b. h (suc i) (suc j) d (omega arith) (omega arith)))
@@ -37,6 +39,7 @@ mapped_rise f (x ∷ xs) h = (mapped_head f x xs h, mapped_rise f xs (λ i j d a
 pub mapped_permuted : {X : Type 0} (f : X → Point) (xs ys : List X) → IsPermutation xs ys → IsPermutation (map f xs) (map f ys)
 mapped_permuted f xs ys h = IsPermutation-map f xs ys h
 
+-- in another order the things have the same points
 pub mapped_members : {X : Type 0} (f : X → Point) (xs ys : List X) → IsPermutation xs ys → (w : Point) → Among w (map f ys) → Among w (map f xs)
 mapped_members f xs ys h w m = among_permuted (map f xs) (map f ys) (IsPermutation-map f xs ys h) w m
 
@@ -46,6 +49,7 @@ mapped_at f [] k x d h e = absurd (let l : k < 0 = h in omega arith)
 mapped_at f (y ∷ xs) zero x d h e = ap f e
 mapped_at f (y ∷ xs) (suc k) x d h e = mapped_at f xs k x d (omega arith) e
 
+-- what stands at two places next to each other is a step of the chain of points
 pub mapped_step : {X : Type 0} (f : X → Point) (xs : List X) (now : List Point) (k : ℕ) (s e : X) → IsChain (map f xs) → map f xs ≡ now → k + 1 < length now → s ≡ get_or xs k s → e ≡ get_or xs (k + 1) e → StepRead now k (f s) (f e)
 mapped_step f xs now k s e chain view below s_is e_is =
     let n : length xs ≡ length now = sym (length-map xs f) ∙ ap length view in

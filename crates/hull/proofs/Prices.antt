@@ -8,6 +8,7 @@ use Rattle.hull.specs.Curves.{lagrangian, SamePlace, Among, IsVertex}
 abbrev pub Leads : (Point → ℕ) → (Point → ℕ) → Point → Point → Type 0
 Leads f g v w = (f v < f w) ⊎ ((f v ≡ f w) × (g v ≤ g w))
 
+-- of some points one at which f is least, and g is least of those with as little f
 pub record LeastOf (f g : Point → ℕ) (points : List Point) : Type 0 where
   pub one : Point
   pub among : Among one points
@@ -22,6 +23,7 @@ leads_on a b c x y z h k = grind arith
 leads_self : (f g : Point → ℕ) (v w : Point) → w ≡ v → Leads f g v w
 leads_self f g v w e = inr (ap f (sym e), subst (λ u. g v ≤ g u) (sym e) (omega arith))
 
+-- of points there is one that leads them all
 pub least_of : (f g : Point → ℕ) (x : Point) (xs : List Point) → LeastOf f g (x ∷ xs)
 least_of f g x [] = record {
   one = x;
@@ -44,6 +46,7 @@ least_of f g x (y ∷ ys) =
       }
     ]
 
+-- a factor above 0 on both sides may be left out
 pub same_factor : (q a b : ℕ) → 0 < q → q * a ≡ q * b → a ≡ b
 same_factor q a b h e =
     let l : q * a ≤ q * b = omega (arith, e) in
@@ -87,6 +90,7 @@ low_alone p q v w h l = elim l [
 pos_mul : (q n : ℕ) → 0 < q → 0 < q * (n + 1)
 pos_mul q n h = let k : q * 1 ≤ q * (n + 1) = mul-le-mul_left q (let i : 1 ≤ n + 1 = omega arith in i) in omega arith
 
+-- at each price, of the points of least Lagrangian the one of least cost is a vertex
 pub low_vertex : (p q : ℕ) (x : Point) (xs : List Point) → 0 < q → LowVertex p q (x ∷ xs)
 low_vertex p q x xs h =
     let r : LeastOf (lagrangian p q) (λ u. u.cost) (x ∷ xs) = least_of (lagrangian p q) (λ u. u.cost) x xs in
@@ -135,6 +139,7 @@ deep_alone p q v w h l = elim l [
   ]
 ]
 
+-- at each price above 0, of the points of least Lagrangian the one of least lower end is a vertex
 pub deep_vertex : (p q : ℕ) (x : Point) (xs : List Point) → 0 < p → DeepVertex p q (x ∷ xs)
 deep_vertex p q x xs h =
     let r : LeastOf (lagrangian p q) (λ u. u.lo) (x ∷ xs) = least_of (lagrangian p q) (λ u. u.lo) x xs in

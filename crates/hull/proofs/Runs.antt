@@ -42,6 +42,7 @@ pub costs_rise : (xs : List Point) → IsNonDecreasingBy (λ v. v.cost) xs → C
 costs_rise [] h = tt
 costs_rise (x ∷ xs) h = (head_first x xs h, costs_rise xs (λ i j d a b. h (suc i) (suc j) d (omega arith) (omega arith)))
 
+-- before the scan of points by cost, nothing is on the stack and all points are to come
 pub begins_rising : (points : List Point) → CostsRise points → ((v : Point) → Among v points → InRange v) → Scanned points [] points
 begins_rising points s r = record {
   chain = tt;
@@ -84,15 +85,17 @@ module _ (points stack : List Point) (x : Point) (rest : List Point) (s : Scanne
       ];
     }
 
-curve_of_stands : (points made : List Point) → StandFor points made → IsChain made → IsCurve points made
-curve_of_stands points made s c = stand_for points made made s (chain_is_curve made c)
+-- a chain that stands for some points is their curve
+pub curve_made : (points made : List Point) → StandFor points made → IsChain made → IsCurve points made
+curve_made points made s c = stand_for points made made s (chain_is_curve made c)
 
 -- a list that isn't empty has a member
 place_at_head : (xs : List Point) → 0 < length xs → (u : Point) × Among u xs
 place_at_head [] h = absurd (let l : 0 < 0 = h in omega arith)
 place_at_head (x ∷ xs) h = (x, inl refl)
 
-pub among_at : (xs : List Point) (k : ℕ) (d : Point) → k < length xs → Among (get_or xs k d) xs
+-- what stands at a place of a list is in it
+pub among_at : {X : Type 0} (xs : List X) (k : ℕ) (d : X) → k < length xs → Among (get_or xs k d) xs
 among_at [] k d h = absurd (let l : k < 0 = h in omega arith)
 among_at (x ∷ xs) zero d h = inl refl
 among_at (x ∷ xs) (suc k) d h = inr (among_at xs k d (omega arith))
@@ -110,7 +113,7 @@ module _ (a b made : List Point) (sa : IsShape a) (ranges : (v : Point) → Amon
   added_ranges v m = elim (among_either v a b m) [ inl x ↦ sa.ranges v x | inr y ↦ ranges v y ]
 
   pub added_curve : IsCurve (a ++ b) made
-  added_curve = curve_of_stands (a ++ b) made stands chain
+  added_curve = curve_made (a ++ b) made stands chain
 
   of_either : (v : Point) → Among v made → Among v a ⊎ Among v b
   of_either v m = among_either v a b (stands.among v m)
@@ -161,6 +164,7 @@ pub record StepRead (points : List Point) (k : ℕ) (start end : Point) : Type 0
   pub starts : point_at points k ≡ start
   pub ends : point_at points (k + 1) ≡ end
 
+-- what stands at two places of a chain next to each other is a step of it
 pub step_read : (vs now : List Point) (k : ℕ) (s e : Point) → IsChain vs → vs ≡ now → k + 1 < length now → s ≡ get_or vs k s → e ≡ get_or vs (k + 1) e → StepRead now k s e
 step_read vs now k s e chain view below s_is e_is =
     let inside : k + 1 < length vs = subst (λ l. k + 1 < length l) (sym view) below in
@@ -174,6 +178,3 @@ step_read vs now k s e chain view below s_is e_is =
 pub permuted_stands : (points other made : List Point) → IsPermutation points other → StandFor other made → StandFor points made
 permuted_stands points other made perm s =
     stand_trans points other made (stand_same points other (λ v m. among_permuted other points (IsPermutation-sym points other perm) v m) (λ v m. among_permuted points other perm v m)) s
-
-pub curve_made : (points made : List Point) → StandFor points made → IsChain made → IsCurve points made
-curve_made points made s c = curve_of_stands points made s c

@@ -8,7 +8,9 @@ use Rattle.hull.proofs.Prices.{LeastOf, Leads, least_of}
 use Rattle.hull.proofs.Stand.{same_sym, stand_for, among_right}
 use Rattle.hull.proofs.Steps_of.{stand_same}
 use Rattle.hull.proofs.Chains.{falls_on}
+use Rattle.hull.proofs.Sums.{first_falls}
 
+-- order and repetition of the points don't matter for their curve
 pub of_members : IsOfMembers
 of_members points other curve same c = stand_for other points curve (stand_same other points (λ v m. (same v).1 m) (λ v m. (same v).0 m)) c
 
@@ -74,6 +76,7 @@ shared_member points curve other tell c d v m =
     let stocks : v.stocks ≡ k.0.stocks = first_both v.stocks k.0.stocks (c.firsts v k.0 m (d.among k.0 k.1) k.2) (d.firsts k.0 v k.1 (c.among v m) (same_sym k.2)) in
     subst (λ y. Among y other) (sym (tell v k.0 (c.among v m) (d.among k.0 k.1) stocks)) k.1
 
+-- points that are told apart by their stocks have one curve
 pub one_curve : HasOneCurve
 one_curve points curve other tell c d =
     same_lists curve other c.rises d.rises (shared_member points curve other tell c d) (shared_member points other curve tell d c)
@@ -102,15 +105,6 @@ rise_below p q vl vc ul uc a b h = moved (ul - vl) (vc - uc) (omega arith) (omeg
         let y : p * (d + uc) ≡ p * vc = ap (λ t. p * t) g in
         omega (arith, x, y, h)
 
-fall_below : (p q vl vc wl wc : ℕ) → vc < wc → wl < vl → q * vl + p * vc < q * wl + p * wc → (vl - wl) * q < p * (wc - vc)
-fall_below p q vl vc wl wc a b h = moved (vl - wl) (wc - vc) (omega arith) (omega arith)
-  where
-    moved : (f d : ℕ) → f + wl ≡ vl → d + vc ≡ wc → f * q < p * d
-    moved f d e g =
-        let x : q * (f + wl) ≡ q * vl = ap (λ t. q * t) e in
-        let y : p * (d + vc) ≡ p * wc = ap (λ t. p * t) g in
-        omega (arith, x, y, h)
-
 step_of : (points : List Point) (u v : Point) → Among u points → IsVertex points v → u.cost < v.cost → Steps u v
 step_of points u v m h l = record {
   cost = l;
@@ -124,7 +118,7 @@ turn_of points u v w m n h s t =
     let before : lagrangian h.p h.q v < lagrangian h.p h.q u = less_there h.p h.q points v u h.at m (λ e. omega (arith, sc, e)) in
     let after : lagrangian h.p h.q v < lagrangian h.p h.q w = less_there h.p h.q points v w h.at n (λ e. omega (arith, tc, e)) in
     falls_on (u.lo - v.lo) (v.cost - u.cost) h.p h.q (v.lo - w.lo) (w.cost - v.cost)
-    (fall_below h.p h.q v.lo v.cost w.lo w.cost t.cost t.lo after)
+    (first_falls h.p h.q v.lo v.cost w.lo w.cost t.cost t.lo after)
     (rise_below h.p h.q v.lo v.cost u.lo u.cost s.cost s.lo before)
     (omega (arith, sc))
 
@@ -137,6 +131,7 @@ vertices_turn points (u ∷ v ∷ w ∷ rest) r sub h =
     let more : IsChain (v ∷ w ∷ rest) = vertices_turn points (v ∷ w ∷ rest) r.1 (λ x m. sub x (inr m)) (λ x m. h x (inr m)) in
     (s, turn_of points u v w (sub u (inl refl)) (sub w (inr (inr (inl refl)))) (h v (inr (inl refl))) s more.0, more)
 
+-- on a curve the cost rises, the lower end falls, and each step falls less per money than the one before
 pub convex : IsConvex
 convex points curve c = vertices_turn points curve c.rises c.among c.vertices
 
@@ -168,6 +163,7 @@ least_first a b c d h = grind arith
 cost_of_head : (v : Point) (rest : List Point) → Rises (v ∷ rest) → (w : Point) → Among w (v ∷ rest) → v.cost ≤ w.cost
 cost_of_head v rest r w m = elim m [ inl e ↦ subst (λ y. v.cost ≤ y.cost) (sym e) (omega arith) | inr n ↦ (let k = rises_from_head v rest r w n in omega (arith, k)) ]
 
+-- a curve begins at the least cost
 pub begins_cheapest : BeginsCheapest
 begins_cheapest [] rest v w c m = absurd m
 begins_cheapest (x ∷ xs) rest v w c m =
@@ -215,6 +211,7 @@ no_higher p q vl vc ul uc a h = elim (either vl ul) [ inl l ↦ l | inr k ↦ ab
     higher : ul ≤ vl → ⊥
     higher k = let x = mul-le-mul_left q k in let y = mul-le-mul_left p a in omega (arith, h, x, y)
 
+-- a curve ends at the smallest lower end
 pub ends_lowest : EndsLowest
 ends_lowest [] front v w c m = absurd m
 ends_lowest (x ∷ xs) front v w c m =

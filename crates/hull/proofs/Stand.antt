@@ -5,22 +5,28 @@ use Rattle.hull.specs.declared.point.Point.{Point}
 use Rattle.hull.specs.Curves.{lagrangian, SamePlace, Among, IsVertexAt, IsVertex, IsFirstOf, IsCurve, StandFor}
 use Rattle.hull.proofs.Prices.{Leads, LowVertex, DeepVertex, low_vertex, deep_vertex, same_factor}
 
+-- a point is at the place of those that are at its own
 pub same_sym : {v w : Point} → SamePlace v w → SamePlace w v
 same_sym s = record { cost = sym s.cost; lo = sym s.lo }
 
+-- points at one place with a second are at one place with all that the second is
 pub same_trans : {u v w : Point} → SamePlace u v → SamePlace v w → SamePlace u w
 same_trans s t = record { cost = s.cost ∙ t.cost; lo = s.lo ∙ t.lo }
 
+-- a point is at its own place
 pub same_self : (v : Point) → SamePlace v v
 same_self v = record { cost = refl; lo = refl }
 
+-- points at one place have the same Lagrangian at each price
 pub same_lagrangian : (p q : ℕ) {v w : Point} → SamePlace v w → lagrangian p q v ≡ lagrangian p q w
 same_lagrangian p q {v} {w} s = ap (λ x. q * x + p * v.cost) s.lo ∙ ap (λ x. q * w.lo + p * x) s.cost
 
+-- stocks come no later than themselves in the order of a dictionary
 pub first_self : (xs : List ℕ) → IsFirstOf xs xs
 first_self [] = tt
 first_self (x ∷ xs) = inr (refl, first_self xs)
 
+-- stocks that come no later than a second come no later than all that the second come no later than
 pub first_trans : (xs ys zs : List ℕ) → IsFirstOf xs ys → IsFirstOf ys zs → IsFirstOf xs zs
 first_trans [] ys zs h k = tt
 first_trans (x ∷ xs) [] zs h k = absurd h
@@ -137,14 +143,17 @@ stand_for points kept curve s c = record {
     vertices : (v : Point) → Among v curve → IsVertex points v
     vertices v m = let h : IsVertex kept v = c.vertices v m in record { p = h.p; q = h.q; at = vertex_of_all kept h.p h.q v h.at points s }
 
+-- what stands in the first of two lists stands in both together
 pub among_left : {X : Type 0} (x : X) (xs ys : List X) → Among x xs → Among x (xs ++ ys)
 among_left x [] ys h = absurd h
 among_left x (y ∷ xs) ys h = elim h [ inl e ↦ inl e | inr m ↦ inr (among_left x xs ys m) ]
 
+-- what stands in the second of two lists stands in both together
 pub among_right : {X : Type 0} (x : X) (xs ys : List X) → Among x ys → Among x (xs ++ ys)
 among_right x [] ys h = h
 among_right x (y ∷ xs) ys h = inr (among_right x xs ys h)
 
+-- what stands in two lists together stands in one of them
 pub among_either : {X : Type 0} (x : X) (xs ys : List X) → Among x (xs ++ ys) → Among x xs ⊎ Among x ys
 among_either x [] ys h = inr h
 among_either x (y ∷ xs) ys h = elim h [
@@ -169,5 +178,6 @@ stand_for_both ps qs c d s t = record {
   ];
 }
 
+-- the curve of what two curves have together is the curve of all their points
 pub curve_of_both : (ps qs c d e : List Point) → IsCurve ps c → IsCurve qs d → IsCurve (c ++ d) e → IsCurve (ps ++ qs) e
 curve_of_both ps qs c d e a b h = stand_for (ps ++ qs) (c ++ d) e (stand_for_both ps qs c d (curve_stands ps c a) (curve_stands qs d b)) h

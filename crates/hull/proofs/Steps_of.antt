@@ -1,13 +1,16 @@
 -- Steps of the scan by cost: which point may go, and what a push keeps.
 use Rattle.std.proofs.Common.{◌≡◌, ℕ, ◌+◌, ◌-◌, ◌*◌, ◌<◌, ◌≤◌, ◌⊎◌, inl, inr, List, [], ◌∷◌, ◌++◌, refl, sym, ap, subst, arith}
 use Rattle.std.proofs.Math.Nat.{mul-le-mul_left, mul-lt-mul_of_pos_left}
+use Rattle.std.proofs.lemmas.Bool.{cases_lt}
 use Rattle.hull.specs.declared.point.Point.{Point}
 use Rattle.hull.specs.Curves.{SamePlace, Among, IsVertex, IsFirstOf, StandFor, Steps, Turns, IsChain}
 use Rattle.hull.proofs.Stand.{same_self, same_sym, same_trans, first_self, first_trans, vertex_of_part, vertex_at_place, among_left, among_right, among_either}
 
+-- points stand for themselves
 pub stand_self : (points : List Point) → StandFor points points
 stand_self points = record { among = λ v m. m; covers = λ w m h. (w, m, same_self w, first_self w.stocks) }
 
+-- what stands for points that stand for others stands for those
 pub stand_trans : (a b c : List Point) → StandFor a b → StandFor b c → StandFor a c
 stand_trans a b c s t = record {
   among = λ v m. s.among v (t.among v m);
@@ -32,14 +35,15 @@ stand_drop all kept t sub split cover = record {
   ];
 }
 
-lagrangian_mono : (p q vl vc wl wc : ℕ) → vl ≤ wl → vc ≤ wc → q * vl + p * vc ≤ q * wl + p * wc
-lagrangian_mono p q vl vc wl wc a b = let k = mul-le-mul_left q a in let l = mul-le-mul_left p b in omega (arith, k, l)
+-- a point with no less of either is no less in the lagrangian
+pub lagrangian_no_less : (p q vl vc wl wc : ℕ) → vl ≤ wl → vc ≤ wc → q * vl + p * vc ≤ q * wl + p * wc
+lagrangian_no_less p q vl vc wl wc a b = let k = mul-le-mul_left q a in let l = mul-le-mul_left p b in omega (arith, k, l)
 
 -- a vertex that costs no less and is no lower than another point stands at its place
 beaten : (all : List Point) (t u : Point) → Among u all → u.cost ≤ t.cost → u.lo ≤ t.lo → IsVertex all t → SamePlace u t
 beaten all t u m a b h = elim (h.at.alone u m) [
   | inl s ↦ s
-  | inr l ↦ absurd (let k = lagrangian_mono h.p h.q u.lo u.cost t.lo t.cost b a in omega (arith, l, k))
+  | inr l ↦ absurd (let k = lagrangian_no_less h.p h.q u.lo u.cost t.lo t.cost b a in omega (arith, l, k))
 ]
 
 -- the last point of a list goes where its place is taken, or it is beaten
@@ -63,6 +67,7 @@ drop_last xs t p f = stand_drop ((xs ++ t ∷ []) ++ p ∷ []) (xs ++ p ∷ []) 
     ])
     (λ h. let r = f h in (p, among_right p xs (p ∷ []) (inl refl), r.0, r.1))
 
+-- the last but one may go where the last costs no more, is no higher, and has first stocks at the same place
 pub drop_beaten : (xs : List Point) (t p : Point) → p.cost ≤ t.cost → p.lo ≤ t.lo → (SamePlace p t → IsFirstOf p.stocks t.stocks) → StandFor ((xs ++ t ∷ []) ++ p ∷ []) (xs ++ p ∷ [])
 drop_beaten xs t p a b f = drop_last xs t p (λ h. let s = beaten ((xs ++ t ∷ []) ++ p ∷ []) t p (among_right p (xs ++ t ∷ []) (p ∷ []) (inl refl)) a b h in (s, f s))
 
@@ -93,9 +98,7 @@ no_turn P Q bl bc tl tc pl pc a b c d o x y = elim o [
         let w : Q * (f * e) ≤ Q * (g * d) = mul-le-mul_left Q l in
         omega arith
 
-turn_or_not : (a b : ℕ) → (a < b) ⊎ (b ≤ a)
-turn_or_not a b = grind arith
-
+-- the last but one may go where the step from it falls as much per money as the step to it, or more
 pub drop_straight : (xs : List Point) (b t p : Point) → Steps b t → t.cost < p.cost → p.lo < t.lo → (Turns b t p → ⊥) → StandFor (((xs ++ b ∷ []) ++ t ∷ []) ++ p ∷ []) ((xs ++ b ∷ []) ++ p ∷ [])
 drop_straight xs b t p s c l n = drop_last (xs ++ b ∷ []) t p (λ h. absurd (n (turned h)))
   where
@@ -107,7 +110,7 @@ drop_straight xs b t p s c l n = drop_last (xs ++ b ∷ []) t p (λ h. absurd (n
       | inl e ↦ absurd (let k = e.cost in let j = s.cost in omega (arith, k, j))
       | inr u ↦ elim (h.at.alone p (among_right p ((xs ++ b ∷ []) ++ t ∷ []) (p ∷ []) (inl refl))) [
         | inl e ↦ absurd (let k = e.cost in omega (arith, k, c))
-        | inr v ↦ no_turn h.p h.q b.lo b.cost t.lo t.cost p.lo p.cost s.cost s.lo c l (turn_or_not ((t.lo - p.lo) * (t.cost - b.cost)) ((b.lo - t.lo) * (p.cost - t.cost))) u v
+        | inr v ↦ no_turn h.p h.q b.lo b.cost t.lo t.cost p.lo p.cost s.cost s.lo c l (cases_lt ((t.lo - p.lo) * (t.cost - b.cost)) ((b.lo - t.lo) * (p.cost - t.cost))) u v
       ]
     ]
 
@@ -115,6 +118,7 @@ drop_straight xs b t p s c l n = drop_last (xs ++ b ∷ []) t p (λ h. absurd (n
 pub push_second : (t p : Point) → Steps t p → IsChain ((t ∷ []) ++ p ∷ [])
 push_second t p s = (s, tt, tt)
 
+-- a chain goes on with a step that falls less per money than its last one
 pub push_on : (xs : List Point) (b t p : Point) → IsChain ((xs ++ b ∷ []) ++ t ∷ []) → Steps t p → Turns b t p → IsChain (((xs ++ b ∷ []) ++ t ∷ []) ++ p ∷ [])
 push_on [] b t p c s n = (c.0, n, (s, tt, tt))
 push_on (x ∷ []) b t p c s n = (c.0, c.1, push_on [] b t p c.2 s n)
@@ -128,6 +132,7 @@ chain_front (x ∷ []) t c = tt
 chain_front (x ∷ y ∷ []) t c = (c.0, tt, tt)
 chain_front (x ∷ y ∷ z ∷ xs) t c = (c.0, c.1, chain_front (y ∷ z ∷ xs) t c.2)
 
+-- between the last two points of a chain the cost rises and the lower end falls
 pub steps_last : (xs : List Point) (b t : Point) → IsChain ((xs ++ b ∷ []) ++ t ∷ []) → Steps b t
 steps_last [] b t c = c.0
 steps_last (x ∷ []) b t c = steps_last [] b t c.2

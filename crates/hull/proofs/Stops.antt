@@ -25,6 +25,7 @@ step_down_weak p q vl vc wl wc a b h = moved (vl - wl) (wc - vc) (omega arith) (
         let y : p * (d + vc) ≡ p * wc = ap (λ t. p * t) g in
         omega arith
 
+-- a step flatter than one whose slope is at most f/c has itself a slope below f/c
 pub falls_after : (f c g d h e : ℕ) → h * d < g * e → g * c ≤ f * d → 0 < c → h * c < f * e
 falls_after f c g d h e x y z =
     let k : c * (h * d) < c * (g * e) = mul-lt-mul_of_pos_left x z in
@@ -52,6 +53,7 @@ head_stops p q v (x ∷ y ∷ rest) hq c s w m =
       ]
     ]
 
+-- where a price stops a chain, the point there has the least Lagrangian
 pub least_at_stop : (p q : ℕ) (points : List Point) (k : ℕ) (d : Point) → 0 < q → IsChain points → StopsAt p q points k → IsLeastAt p q points (get_or points k d)
 least_at_stop p q [] k d hq c s = absurd s
 least_at_stop p q (v ∷ []) zero d hq c s = head_stops p q v [] hq c s

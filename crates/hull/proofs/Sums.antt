@@ -20,6 +20,7 @@ each_parts : (v : Point) (ws : List Point) (s : Point) → Among s (plus_each v 
 each_parts v [] s m = absurd m
 each_parts v (w ∷ ws) s m = elim m [ inl e ↦ (w, inl refl, e) | inr n ↦ (let r = each_parts v ws s n in (r.0, inr r.1, r.2)) ]
 
+-- each of the sums is the sum of a point of the one list and one of the other
 pub parts_of : (vs ws : List Point) (s : Point) → Among s (sums vs ws) → Parts vs ws s
 parts_of [] ws s m = absurd m
 parts_of (v ∷ vs) ws s m = elim (among_either s (plus_each v ws) (sums vs ws) m) [
@@ -31,6 +32,7 @@ each_among : (v w : Point) (ws : List Point) → Among w ws → Among (plus v w)
 each_among v w [] m = absurd m
 each_among v w (x ∷ ws) m = elim m [ inl e ↦ inl (ap (plus v) e) | inr n ↦ inr (each_among v w ws n) ]
 
+-- the sum of a point of the one list and one of the other is among the sums
 pub sum_among : (v w : Point) (vs ws : List Point) → Among v vs → Among w ws → Among (plus v w) (sums vs ws)
 sum_among v w [] ws m n = absurd m
 sum_among v w (x ∷ vs) ws m n = elim m [
@@ -92,15 +94,15 @@ pub record Passed (a b path left right : List Point) : Type 0 where
   pub right_in : (w : Point) → Among w right → Among w b
   pub or_ahead : (p q : ℕ) (v w : Point) → Among v a → Among w b → IsVertexAt p q a v → IsVertexAt p q b w → Among (plus v w) path ⊎ (Among v left × Among w right)
 
--- the step of the one falls as much per money as that of the other, or more
-crossed : (f c g d p q : ℕ) → g * c ≤ f * d → f * q < p * c → 0 < d → g * q < p * d
-crossed f c g d p q h k z =
+-- a step that falls no more per money than one below a price is below it
+pub below_price : (f c g d p q : ℕ) → g * c ≤ f * d → f * q < p * c → 0 < d → g * q < p * d
+below_price f c g d p q h k z =
     let m : c * (g * q) ≤ d * (f * q) = (let i : q * (g * c) ≤ q * (f * d) = mul-le-mul_left q h in omega arith) in
     let n : d * (f * q) < d * (p * c) = mul-lt-mul_of_pos_left k z in
     lt_of_mul-lt-mul_left c (let i : c * (g * q) < c * (p * d) = omega arith in i)
 
 -- at a price where v is alone in a chain from v, the first step falls less
-first_falls : (p q vl vc wl wc : ℕ) → vc < wc → wl < vl → q * vl + p * vc < q * wl + p * wc → (vl - wl) * q < p * (wc - vc)
+pub first_falls : (p q vl vc wl wc : ℕ) → vc < wc → wl < vl → q * vl + p * vc < q * wl + p * wc → (vl - wl) * q < p * (wc - vc)
 first_falls p q vl vc wl wc a b h = moved (vl - wl) (wc - vc) (omega arith) (omega arith)
   where
     moved : (f d : ℕ) → f + wl ≡ vl → d + vc ≡ wc → f * q < p * d
@@ -118,7 +120,7 @@ module _ (p q : ℕ) (v x : Point) (ms : List Point) (u y : Point) (ns : List Po
       let dearer : lagrangian p q v < lagrangian p q x = elim (av.alone x (inr (inl refl))) [ inl e ↦ absurd (let k = e.cost in let l = sa.cost in omega (arith, k, l)) | inr l ↦ l ] in
       let flat : (v.lo - x.lo) * q < p * (x.cost - v.cost) = first_falls p q v.lo v.cost x.lo x.cost sa.cost sa.lo dearer in
       let rise : 0 < y.cost - u.cost = (let l = sb.cost in omega (arith, l)) in
-      let other : (u.lo - y.lo) * q < p * (y.cost - u.cost) = crossed (v.lo - x.lo) (x.cost - v.cost) (u.lo - y.lo) (y.cost - u.cost) p q steeper flat rise in
+      let other : (u.lo - y.lo) * q < p * (y.cost - u.cost) = below_price (v.lo - x.lo) (x.cost - v.cost) (u.lo - y.lo) (y.cost - u.cost) p q steeper flat rise in
       let less : lagrangian p q u < lagrangian p q w = head_least p q u (y ∷ ns) aw.q_positive cb other w m in
       elim (aw.alone u (inl refl)) [
         | inl e ↦ (let z : lagrangian p q u ≡ lagrangian p q w = same_lagrangian p q e in omega (arith, less, z))
@@ -201,6 +203,7 @@ path_begins a b = record { among = λ s m. absurd m; left_in = λ v m. m; right_
 chain_two : (a b : Point) (ls : List Point) (v x : Point) → v ≡ a → x ≡ b → IsChain (a ∷ b ∷ ls) → IsChain (v ∷ x ∷ ls)
 chain_two a b ls v x e g c = subst (λ z. IsChain (z ∷ x ∷ ls)) (sym e) (subst (λ z. IsChain (a ∷ z ∷ ls)) (sym g) c)
 
+-- where the first step of the left chain falls as much per money or more, the walk goes on to the left
 pub turned_left : (left right : List Point) (v x u y : Point) → 2 ≤ length left → 2 ≤ length right → v ≡ get_or left 0 v → x ≡ get_or left 1 x → u ≡ get_or right 0 u → y ≡ get_or right 1 y
     → IsChain left → IsChain right → (u.lo - y.lo) * (x.cost - v.cost) ≤ (v.lo - x.lo) * (y.cost - u.cost) → LeadsTo left right Left
 turned_left [] right v x u y m n e f g h ca cb s = absurd (let k : 2 ≤ 0 = m in omega arith)
@@ -216,6 +219,7 @@ turned_left (a ∷ b ∷ ls) (c ∷ d ∷ rs) v x u y m n e f g h ca cb s = (
       (blocks_steep v x ls u y rs (chain_two a b ls v x e f ca) (chain_two c d rs u y g h cb) s)))),
 )
 
+-- where the first step of the right chain falls as much per money or more, the walk goes on to the right
 pub turned_right : (left right : List Point) (v x u y : Point) → 2 ≤ length left → 2 ≤ length right → v ≡ get_or left 0 v → x ≡ get_or left 1 x → u ≡ get_or right 0 u → y ≡ get_or right 1 y
     → IsChain left → IsChain right → (v.lo - x.lo) * (y.cost - u.cost) ≤ (u.lo - y.lo) * (x.cost - v.cost) → LeadsTo left right Right
 turned_right [] right v x u y m n e f g h ca cb s = absurd (let k : 2 ≤ 0 = m in omega arith)
@@ -231,6 +235,7 @@ turned_right (a ∷ b ∷ ls) (c ∷ d ∷ rs) v x u y m n e f g h ca cb s = (
       (blocks_steep u y rs v x ls (chain_two c d rs u y g h cb) (chain_two a b ls v x e f ca) s)))),
 )
 
+-- where the right chain has but one point, the walk goes on to the left
 pub turned_alone : (left right : List Point) → 2 ≤ length left → 0 < length right → length right < 2 → LeadsTo left right Left
 turned_alone [] right m n o = absurd (let k : 2 ≤ 0 = m in omega arith)
 turned_alone (a ∷ ls) [] m n o = absurd (let k : 0 < 0 = n in omega arith)

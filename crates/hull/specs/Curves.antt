@@ -51,7 +51,8 @@ pub record IsCurve (points curve : List Point) : Type 0 where
 -- some points stand for all: each vertex of all has its place among them, with its first stocks
 pub record StandFor (points kept : List Point) : Type 0 where
   pub among : (v : Point) → Among v kept → Among v points
-  pub covers : (w : Point) → Among w points → IsVertex points w → (v : Point) × Among v kept × SamePlace v w × IsFirstOf v.stocks w.stocks
+  pub covers : (w : Point) → Among w points → IsVertex points w → (v : Point) × Among v kept × SamePlace v w
+      × IsFirstOf v.stocks w.stocks
 
 -- from v to w the cost rises and the lower end falls
 pub record Steps (v w : Point) : Type 0 where
@@ -109,7 +110,8 @@ pub record IsBestAt (p q : ℕ) (points : List Point) (at : ℕ) : Type 0 where
   pub before : (k : ℕ) → k < at → lagrangian p q (point_at points at) < lagrangian p q (point_at points k)
   pub least : (k : ℕ) → k < length points → lagrangian p q (point_at points at) ≤ lagrangian p q (point_at points k)
 
--- the price p/q stops a chain at a place: each step up to it falls as much per money or more, and the next as much or less
+-- the price p/q stops a chain at a place: each step up to it falls as much per money or more, and the next as much or
+-- less
 abbrev pub StopsAt : ℕ → ℕ → List Point → ℕ → Type 0
 StopsAt p q [] m = ⊥
 StopsAt p q (v ∷ []) zero = Unit {0}

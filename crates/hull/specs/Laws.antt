@@ -13,11 +13,13 @@ JoinsCurves = (ps qs c d e : List Point) → IsCurve ps c → IsCurve qs d → I
 
 -- and so it is with all sums of two points, where the stocks of the first have one length
 abbrev pub AddsCurves : Type 0
-AddsCurves = (ps qs c d e : List Point) → IsCurve ps c → IsCurve qs d → HaveOneWidth ps → IsCurve (sums c d) e → IsCurve (sums ps qs) e
+AddsCurves = (ps qs c d e : List Point) → IsCurve ps c → IsCurve qs d → HaveOneWidth ps → IsCurve (sums c d) e
+    → IsCurve (sums ps qs) e
 
 -- a curve is the same however often and in whatever order its points are listed
 abbrev pub IsOfMembers : Type 0
-IsOfMembers = (points other curve : List Point) → ((v : Point) → Among v points ↔ Among v other) → IsCurve points curve → IsCurve other curve
+IsOfMembers = (points other curve : List Point) → ((v : Point) → Among v points ↔ Among v other) → IsCurve points curve
+    → IsCurve other curve
 
 -- points with the same stocks are the same
 abbrev pub StocksTell : List Point → Type 0
@@ -25,11 +27,13 @@ StocksTell points = (v w : Point) → Among v points → Among w points → v.st
 
 -- such points have one curve
 abbrev pub HasOneCurve : Type 0
-HasOneCurve = (points curve other : List Point) → StocksTell points → IsCurve points curve → IsCurve points other → curve ≡ other
+HasOneCurve = (points curve other : List Point) → StocksTell points → IsCurve points curve → IsCurve points other
+    → curve ≡ other
 
 -- what has the least Lagrangian on a curve has the least of all points
 abbrev pub ReachesLeast : Type 0
-ReachesLeast = (points curve : List Point) (p q : ℕ) → 0 < q → IsCurve points curve → (v : Point) → IsLeastAt p q curve v → IsLeastAt p q points v
+ReachesLeast = (points curve : List Point) (p q : ℕ) → 0 < q → IsCurve points curve → (v : Point)
+    → IsLeastAt p q curve v → IsLeastAt p q points v
 
 -- on a curve the cost rises, the lower end falls, and each step falls less per money than the one before
 abbrev pub IsConvex : Type 0

@@ -16,13 +16,17 @@ pub record InLimits (systems per_system weight : ℕ) (backorders : Ends) : Type
 -- at each depth from 1024 on, the answered interval contains the value at each backorder value of the given interval
 abbrev pub EnclosesValue : (ℕ → ℕ → ℕ → Ends → Ends) → (ℕ → ℕ → ℕ → Fraction → ℕ → Fraction) → Type 0
 EnclosesValue ends value =
-    (systems per_system weight : ℕ) (backorders : Ends) (x : Fraction) → InLimits systems per_system weight backorders → In 48 backorders x
-    → Encloses 48 (ends systems per_system weight backorders).lo (ends systems per_system weight backorders).hi (value systems per_system weight x)
+    (systems per_system weight : ℕ) (backorders : Ends) (x : Fraction) → InLimits systems per_system weight backorders
+    → In 48 backorders x
+    → Encloses 48 (ends systems per_system weight backorders).lo (ends systems per_system weight backorders).hi
+    (value systems per_system weight x)
 
 -- the answered interval is in order, where the given one is, and leaves room to add up
 abbrev pub LeavesRoom : (ℕ → ℕ → ℕ → Ends → Ends) → Type 0
-LeavesRoom ends = (systems per_system weight : ℕ) (backorders : Ends) → InLimits systems per_system weight backorders → backorders.lo ≤ backorders.hi
-    → ((ends systems per_system weight backorders).lo ≤ (ends systems per_system weight backorders).hi) × ((ends systems per_system weight backorders).hi < 2 ^ 70)
+LeavesRoom ends = (systems per_system weight : ℕ) (backorders : Ends) → InLimits systems per_system weight backorders
+    → backorders.lo ≤ backorders.hi
+    → ((ends systems per_system weight backorders).lo ≤ (ends systems per_system weight backorders).hi)
+    × ((ends systems per_system weight backorders).hi < 2 ^ 70)
 
 -- the weight times the backorders
 abbrev pub weighted : ℕ → Fraction → Fraction

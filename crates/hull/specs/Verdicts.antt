@@ -8,6 +8,7 @@ use Rattle.hull.specs.declared.walk.Turn.{Turn}
 use Rattle.hull.specs.declared.walk.Turn.TheVariants.{Left, Right, End}
 use Rattle.hull.specs.Curves.{Among, IsVertexAt, StandFor, IsChain}
 
+-- what a verdict says: the points with p are a chain, or their last may go, or p may, and no vertex is lost
 abbrev pub Tells : List Point → Point → Verdict → Type 0
 Tells stack p Keep = IsChain (stack ++ p ∷ [])
 Tells stack p Drop = (0 < length stack) × StandFor (stack ++ p ∷ []) (take (length stack - 1) stack ++ p ∷ [])
@@ -30,6 +31,7 @@ abbrev pub IsNoDearer : {X : Type 0} → (X → ℕ) → X → List X → Type 0
 IsNoDearer cost x [] = Unit {0}
 IsNoDearer cost x (y ∷ ys) = cost x ≤ cost y
 
+-- what is taken of two lists is the first of one, and costs no more than the first of the other
 abbrev pub TakesCheaper : {X : Type 0} → (X → ℕ) → X → List X → List X → List X → List X → Type 0
 TakesCheaper cost x left right left_rest right_rest =
     ((left ≡ x ∷ left_rest) × (right ≡ right_rest) × IsNoDearer cost x right)

@@ -31,8 +31,8 @@ impl<T: Spot> Model for Chain<T> {
 }
 
 impl<T: Spot> Chain<T> {
-    /// The curve of one point or more, whose stocks have one length. Of points with the same cost and the same lower end it
-    /// keeps the one whose stocks are first in the order of a dictionary.
+    /// The curve of one point or more, whose stocks have one length. Of points with the same cost and the same lower
+    /// end it keeps the one whose stocks are first in the order of a dictionary.
     pub fn of(alloc: Global, spots: Vec<T>) -> Result<Chain<T>, NoMemory>
         requires some { 0 < length spots.items }
         requires few { length spots.items ≤ 2 ^ 31 }
@@ -44,6 +44,14 @@ impl<T: Spot> Chain<T> {
         let room = Vec::with_capacity(alloc, spots.len())?;
         let vertices = scan(in_order(spots), room);
         Ok(Chain { vertices })
+    }
+
+    /// The chain of these vertices.
+    pub(crate) fn of_vertices(vertices: Vec<T>) -> Chain<T>
+        requires { IsShape (map T.point vertices.items) }
+        ensures { result ≡ map T.point vertices.items }
+    {
+        Chain { vertices }
     }
 
     /// How many vertices there are. What is true of each chain is told with it.
@@ -62,8 +70,8 @@ impl<T: Spot> Chain<T> {
         &self.vertices[k as usize]
     }
 
-    /// The step from the vertex at `k` to the next, `k + 1` being below the number of vertices: the fall of the lower end and
-    /// the rise of the cost. Both are above 0.
+    /// The step from the vertex at `k` to the next, `k + 1` being below the number of vertices: the fall of the lower
+    /// end and the rise of the cost. Both are above 0.
     pub fn slope(&self, k: u32) -> Price
         requires { k + 1 < length self.now }
         ensures fall { result.p + (point_at self.now (k + 1)).lo ≡ (point_at self.now k).lo }

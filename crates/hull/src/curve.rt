@@ -15,8 +15,8 @@ use std::mem;
 
 /// The strict lower vertices of points, seen as their list by rising cost.
 ///
-/// There is at least one, at most 2^31, and all have stocks of one length. Costs rise, lower ends fall, and each fall per
-/// money is smaller than the one before.
+/// There is at least one, at most 2^31, and all have stocks of one length. Costs rise, lower ends fall, and each fall
+/// per money is smaller than the one before.
 #[derive(Debug, Drop)]
 pub struct Curve {
     vertices: Vec<Point>,
@@ -45,8 +45,8 @@ impl Curve {
         Ok(Curve { vertices })
     }
 
-    /// The curve of one point or more, whose stocks have one length. Of points with the same cost and the same lower end it
-    /// keeps the one whose stocks are first in the order of a dictionary.
+    /// The curve of one point or more, whose stocks have one length. Of points with the same cost and the same lower
+    /// end it keeps the one whose stocks are first in the order of a dictionary.
     pub fn of(alloc: Global, points: Vec<Point>) -> Result<Curve, NoMemory>
         requires some { 0 < length points.items }
         requires few { length points.items ≤ 2 ^ 31 }
@@ -61,8 +61,8 @@ impl Curve {
         Ok(Curve { vertices })
     }
 
-    /// Makes this the curve of its points and one more, whose stocks have the curve's length. Of points with the same cost
-    /// and the same lower end it keeps the one whose stocks are first in the order of a dictionary.
+    /// Makes this the curve of its points and one more, whose stocks have the curve's length. Of points with the same
+    /// cost and the same lower end it keeps the one whose stocks are first in the order of a dictionary.
     ///
     /// After `NoMemory` the curve is as before.
     pub fn add_point(&mut self, point: Point) -> Result<(), NoMemory>
@@ -99,7 +99,8 @@ impl Curve {
         Ok(())
     }
 
-    /// Makes this the curve of the points of both, whose stocks have one length. Ties are broken as in [`Curve::add_point`].
+    /// Makes this the curve of the points of both, whose stocks have one length. Ties are broken as in
+    /// [`Curve::add_point`].
     ///
     /// After `NoMemory` the curve is as before.
     pub fn merge(&mut self, other: Curve) -> Result<(), NoMemory>
@@ -112,8 +113,8 @@ impl Curve {
         self.add_points(other.vertices)
     }
 
-    /// The curve of all sums of a point of the one and a point of the other. In a sum the stocks of `a` stand before those of
-    /// `b`. Ties are broken as in [`Curve::add_point`].
+    /// The curve of all sums of a point of the one and a point of the other. In a sum the stocks of `a` stand before
+    /// those of `b`. Ties are broken as in [`Curve::add_point`].
     pub fn sum(alloc: Global, a: &Curve, b: &Curve) -> Result<Curve, NoMemory>
         requires few { length a.now + length b.now ≤ 2 ^ 31 }
         requires ranges { (v w : Point) → Among v a.now → Among w b.now → InRange (plus v w) }
@@ -148,13 +149,14 @@ impl Curve {
         &self.vertices[k as usize]
     }
 
-    /// The place of the first vertex whose Lagrangian `q * lo + p * cost` is least, `p` being at most 2^74 and `q` at most
-    /// 10^12. Where `q` is above 0, no point of which this is the curve has a smaller one.
+    /// The place of the first vertex whose Lagrangian `q * lo + p * cost` is least, `p` being at most 2^74 and `q` at
+    /// most 10^12. Where `q` is above 0, no point of which this is the curve has a smaller one.
     pub fn best_at(&self, p: u128, q: u64) -> u32
         requires p_range { p ≤ 2 ^ 74 }
         requires q_range { q ≤ 1000000000000 }
         ensures first { IsBestAt p q self.now result }
-        ensures reaches { (points : List Point) → IsCurve points self.now → 0 < q → IsLeastAt p q points (point_at self.now result) }
+        ensures reaches { (points : List Point) → IsCurve points self.now → 0 < q
+            → IsLeastAt p q points (point_at self.now result) }
     {
         let mut best = 0;
         let mut least = self.vertices[0].lagrangian_at(p, q);
@@ -168,8 +170,8 @@ impl Curve {
         best as u32
     }
 
-    /// The step from the vertex at `k` to the next, `k + 1` being below the number of vertices: the fall of the lower end and
-    /// the rise of the cost. Both are above 0.
+    /// The step from the vertex at `k` to the next, `k + 1` being below the number of vertices: the fall of the lower
+    /// end and the rise of the cost. Both are above 0.
     pub fn slope(&self, k: u32) -> Price
         requires { k + 1 < length self.now }
         ensures fall { result.p + (point_at self.now (k + 1)).lo ≡ (point_at self.now k).lo }

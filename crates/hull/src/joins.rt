@@ -13,7 +13,8 @@ use std::collections::VecDeque;
 
 /// Takes the first of two lists that costs less than the other's, or as much.
 fn take_cheaper<T: Spot>(left: &mut VecDeque<T>, right: &mut VecDeque<T>) -> Option<T>
-    ensures { MatchOption result ((left.old.items ≡ []) × (right.old.items ≡ [])) (λ v. TakesCheaper (λ x. (T.point x).cost) v left.old.items right.old.items left.new.items right.new.items) }
+    ensures { MatchOption result ((left.old.items ≡ []) × (right.old.items ≡ []))
+        (λ v. TakesCheaper (λ x. (T.point x).cost) v left.old.items right.old.items left.new.items right.new.items) }
 {
     let Some(first) = left.front() else {
         return right.pop_front();

@@ -22,8 +22,8 @@ pub fn joins_curves()
     ensures { JoinsCurves }
 {}
 
-/// The curve of the sums of two curves is the curve of the sums of all their points, where those of the first have stocks of
-/// one length.
+/// The curve of the sums of two curves is the curve of the sums of all their points, where those of the first have
+/// stocks of one length.
 pub fn adds_curves()
     ensures { AddsCurves }
 {}
@@ -43,8 +43,8 @@ pub fn reaches_least()
     ensures { ReachesLeast }
 {}
 
-/// The vertices by prices are convex: the cost rises, the lower end falls, and each step falls less per money than the one
-/// before.
+/// The vertices by prices are convex: the cost rises, the lower end falls, and each step falls less per money than
+/// the one before.
 pub fn is_convex()
     ensures { IsConvex }
 {}

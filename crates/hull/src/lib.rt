@@ -1,10 +1,10 @@
 //! Curves: the strict lower vertices of points, each with a cost and a lower end of backorders, and the score of a line
 //! unit's backorders that is added up over the bases.
 //!
-//! A point is a vertex where at some price it alone has the least Lagrangian, which is a multiple of its lower end and a
-//! multiple of its cost together. At every price the least over all points is reached at a vertex, so a curve is all that
-//! is needed of its points. Marginal analysis walks such curves (C. C. Sherbrooke, *Optimal Inventory Modeling of Systems*,
-//! 2nd ed.).
+//! A point is a vertex where at some price it alone has the least Lagrangian, which is a multiple of its lower end
+//! and a multiple of its cost together. At every price the least over all points is reached at a vertex, so a curve
+//! is all that is needed of its points. Marginal analysis walks such curves (C. C. Sherbrooke, *Optimal Inventory
+//! Modeling of Systems*, 2nd ed.).
 #![tactic(auto)]
 
 mod chain;
@@ -13,6 +13,7 @@ mod joins;
 mod laws;
 mod point;
 mod price;
+mod rising;
 mod scan;
 mod score;
 mod spot;
@@ -28,5 +29,6 @@ pub use laws::{
 };
 pub use point::Point;
 pub use price::Price;
+pub use rising::Rising;
 pub use score::{Plain, Score};
 pub use spot::{Spot, is_first};

@@ -6,8 +6,8 @@ ghost use Rattle.hull.specs.Curves.{lagrangian, InRange, plus};
 use spares_io::{List, NoMemory};
 use std::alloc::Global;
 
-/// Stocks, with their cost and the ends of their score. Curves take points with a cost of at most 10^12, a lower end that
-/// is at most the upper one, and both below 2^74.
+/// Stocks, with their cost and the ends of their score. Curves take points with a cost of at most 10^12, a lower end
+/// that is at most the upper one, and both below 2^74.
 #[derive(Debug, Drop, PartialEq, Eq)]
 pub struct Point {
     /// What the stocks cost, in whole money.

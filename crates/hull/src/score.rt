@@ -7,8 +7,8 @@ ghost use Rattle.hull.specs.Scores.{InLimits, EnclosesValue, LeavesRoom, weighte
 
 use fixed_interval::Iv;
 
-/// What a line unit's backorders at a base count for. Its meaning has two halves: an interval, which is what is answered,
-/// and a fraction, which the interval encloses.
+/// What a line unit's backorders at a base count for. Its meaning has two halves: an interval, which is what is
+/// answered, and a fraction, which the interval encloses.
 pub trait Score {
     /// The interval for a base's systems, the units per system, the line unit's weight, and an interval of backorders.
     ghost ends: { ℕ → ℕ → ℕ → Ends → Ends };
@@ -16,8 +16,9 @@ pub trait Score {
     /// The score's value for these numbers, a backorder value and a depth of the cut series.
     ghost value: { ℕ → ℕ → ℕ → Fraction → ℕ → Fraction };
 
-    /// The score of an interval of backorders, in units of 2^-48, whose upper end is at most 2^56. There are 1 to 10,000
-    /// `systems`, 1 to 100 units `per_system`, and a `weight` from 1 to 100. The answer's upper end is below 2^70.
+    /// The score of an interval of backorders, in units of 2^-48, whose upper end is at most 2^56. There are 1 to
+    /// 10,000 `systems`, 1 to 100 units `per_system`, and a `weight` from 1 to 100. The answer's upper end is below
+    /// 2^70.
     fn of(&self, systems: u32, per_system: u32, weight: u8, backorders: Iv<48>) -> Iv<48>
         requires { InLimits systems per_system weight backorders }
         ensures ends { result ≡ ends systems per_system weight backorders }
@@ -49,5 +50,8 @@ impl Score for Plain {
 
     ghost encloses = { λ _ _ weight backorders x _ inside _ _. times_encloses 48 backorders weight x inside };
 
-    ghost leaves_room = { λ _ _ weight backorders limits ordered. (Prim.omega (arith, mul-le-mul_left weight ordered), Prim.omega (arith, mul-le-mul_left weight limits.room, limits.most_weight)) };
+    ghost leaves_room = { λ _ _ weight backorders limits ordered. (
+      Prim.omega (arith, mul-le-mul_left weight ordered),
+      Prim.omega (arith, mul-le-mul_left weight limits.room, limits.most_weight),
+    ) };
 }

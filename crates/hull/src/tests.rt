@@ -62,7 +62,8 @@ fn point(rt: &impl Abort, alloc: Global, row: &Row) -> Result<Point, Fail>
 }
 
 fn curve_of(rt: &impl Abort, alloc: Global, rows: &[Row]) -> Result<Curve, Fail>
-    ensures { IfOk result (λ curve. (v : Point) → Among v curve → (v.cost ≤ 1000) × ((v.lo ≤ v.hi) × ((v.hi ≤ 2 ^ 60) × (length v.stocks ≡ 2)))) }
+    ensures { IfOk result (λ curve. (v : Point) → Among v curve → (v.cost ≤ 1000)
+        × ((v.lo ≤ v.hi) × ((v.hi ≤ 2 ^ 60) × (length v.stocks ≡ 2)))) }
 {
     assert!(rt; rows.len() > 0);
     let first = point(rt, alloc, &rows[0])?;
@@ -77,7 +78,8 @@ fn curve_of(rt: &impl Abort, alloc: Global, rows: &[Row]) -> Result<Curve, Fail>
 
 fn points_of(rt: &impl Abort, alloc: Global, rows: &[Row]) -> Result<Vec<Point>, Fail>
     ensures count { IfOk result (λ points. (0 < length points.items) × (length points.items ≤ 100)) }
-    ensures each { IfOk result (λ points. (v : Point) → Among v points.items → (v.cost ≤ 1000) × ((v.lo ≤ v.hi) × ((v.hi ≤ 2 ^ 60) × (length v.stocks ≡ 2)))) }
+    ensures each { IfOk result (λ points. (v : Point) → Among v points.items → (v.cost ≤ 1000)
+        × ((v.lo ≤ v.hi) × ((v.hi ≤ 2 ^ 60) × (length v.stocks ≡ 2)))) }
 {
     let mut points = Vec::new(alloc);
     for row in rows {

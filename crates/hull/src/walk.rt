@@ -23,7 +23,8 @@ fn is_steeper(v: &Point, x: &Point, u: &Point, y: &Point) -> bool
     requires x_range { InRange x.now }
     requires u_range { InRange u.now }
     requires y_range { InRange y.now }
-    ensures { IsTrue result ↔ ((u.now.lo - y.now.lo) * (x.now.cost - v.now.cost) ≤ (v.now.lo - x.now.lo) * (y.now.cost - u.now.cost)) }
+    ensures { IsTrue result ↔ ((u.now.lo - y.now.lo) * (x.now.cost - v.now.cost) ≤ (v.now.lo - x.now.lo)
+        * (y.now.cost - u.now.cost)) }
 {
     (u.lo - y.lo) * u128::from(x.cost - v.cost) <= (v.lo - x.lo) * u128::from(y.cost - u.cost)
 }

@@ -1,13 +1,11 @@
-use Rattle.std.proofs.Common.{◌≡◌, ◌-◌, ◌+◌, ◌<◌, ◌≤◌, ◌∷◌, length, get_or, drop, sym, ap, ◌∙◌, subst, arith, lit<}
-use Rattle.std.specs.List.{All}
-use Rattle.family_tables.specs.Numbers.{AreBaseBackorders, FamilyNumbers, depot_line_moments, rows_of}
+use Rattle.std.proofs.Common.{◌≡◌, ◌-◌, ◌+◌, ◌<◌, ◌∷◌, length, get_or, drop, sym, ap, ◌∙◌, subst, arith, lit<}
+use Rattle.family_tables.specs.Numbers.{AreBaseBackorders, FamilyNumbers, own_part}
 use Rattle.family_curve.specs.Inputs.{line_high}
 use Rattle.family_curve.specs.Tabled.{base_shops}
 use Rattle.family_curve.proofs.Bounded.{stock_small}
 use Rattle.family_curve.proofs.Points.{box_begins, joined_at}
-use Rattle.family_curve.specs.Inputs.{low_at, high_at}
 use Rattle.family_curve.proofs.Bounded.{at_long}
-use Rattle.family_curve.proofs.Tabled.{line_listed, read_base, rest_between, shop_stocks, tabled, tables_long}
+use Rattle.family_curve.proofs.Tabled.{line_listed, read_base, shop_stocks, tabled, tables_long}
 use Rattle.family_curve.proofs.depot.backorders_at.Goals as goal
 
 pub index-base-requires : goal.index-base-requires
@@ -41,12 +39,11 @@ backorders-requires c =
     let j = c.args.site.0 in
     let valid = c.size-size.ensures.valid in
     let some : 0 < length x.case.sites = omega (arith, c.requires.site.1) in
-    let depot = shop_stocks x valid 0 (drop 1 c.args.depot.now) n c.requires.evaluator some (rest_between (low_at x 0) (high_at x 0) c.args.depot.now c.requires.depot) in
     let base = shop_stocks x valid j c.args.shops.now n c.requires.evaluator c.requires.site.1 c.requires.shops in
     let inside : j < n.sites = subst (λ (n : FamilyNumbers 48). j < n.sites) (sym c.requires.evaluator) c.requires.site.1 in
     let place : 1 + (c.from.result - 1) ≡ j = omega (arith, c.from.ensures, c.requires.site.0) in
-    let line : c.args.tables.now.line ≡ rows_of 48 (depot_line_moments 48 n c.shops_of.result.now) =
-    c.requires.tables.line ∙ ap (λ d. rows_of 48 (depot_line_moments 48 n d)) (sym c.shops_of.ensures) in
+    let own : c.args.own.now ≡ own_part 48 n j (get_or c.args.depot.now 0 0) c.shops_of.result.now =
+    c.requires.own ∙ ap (λ d. own_part 48 n j (get_or c.args.depot.now 0 0) d) (sym c.shops_of.ensures) in
     let shops : c.as_slice.result.now ≡ base_shops n c.shops_of.result.now j =
     c.as_slice.ensures
     ∙ read_base n (drop 1 c.args.depot.now) c.args.tables.now (c.from.result - 1) j c.index-base.result.now c.requires.tables place
@@ -55,22 +52,7 @@ backorders-requires c =
       lit< tt,
       (
         lit< tt,
-        (
-          lit< tt,
-          (
-            line,
-            (
-              stock_small x valid 0 0 c.args.depot.now some c.requires.depot (omega arith),
-              (
-                ap length c.shops_of.ensures ∙ depot.count,
-                (
-                  subst (All (λ s. s ≤ 63)) (sym c.shops_of.ensures) depot.small,
-                  (inside, (shops, (base.count, base.small))),
-                ),
-              ),
-            ),
-          ),
-        ),
+        (lit< tt, (lit< tt, (own, (stock_small x valid 0 0 c.args.depot.now some c.requires.depot (omega arith), (inside, (shops, (base.count, base.small))))))),
       ),
     )
 

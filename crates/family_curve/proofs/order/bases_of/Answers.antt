@@ -1,9 +1,9 @@
 use Rattle.std.proofs.Common.{◌≡◌, suc, ◌+◌, ◌-◌, [], ◌∷◌, ◌++◌, length, sym, ap, ◌∙◌, subst, arith}
 use Rattle.std.specs.List.{AllZip, range_with_len}
+use Rattle.spares_input.proofs.Ranges.{range_more}
 use Rattle.family_curve.specs.Spots.{IsBaseOf}
-use Rattle.family_curve.proofs.Spotted.{zip_on}
-use Rattle.family_curve.proofs.Points.{range_more}
-use Rattle.family_curve.proofs.base.bases_of.Goals as goal
+use Rattle.family_curve.proofs.Spotted.{zip_push}
+use Rattle.family_curve.proofs.order.bases_of.Goals as goal
 
 pub loop-j-preserved : goal.loop-j-preserved
 loop-j-preserved c =
@@ -13,7 +13,7 @@ loop-j-preserved c =
     let more : range_with_len 1 (j + 1 - 1) ≡ range_with_len 1 (j - 1) ++ j ∷ [] = ap (range_with_len 1) (sym next) ∙ range_more 1 (j - 1) j (omega (arith, c.loop-j.auto.j)) in
     subst (λ r. AllZip (IsBaseOf x) r c.push.new.self.items) (sym more)
     (subst (AllZip (IsBaseOf x) (range_with_len 1 (j - 1) ++ j ∷ [])) (sym c.in_ok-push.ensures.items)
-    (zip_on (IsBaseOf x) (range_with_len 1 (j - 1)) c.loop-j.bases.items j c.in_ok-base.base c.loop-j.invariant c.in_ok-base.ensures))
+    (zip_push (IsBaseOf x) (range_with_len 1 (j - 1)) c.loop-j.bases.items j c.in_ok-base.base c.loop-j.invariant c.in_ok-base.ensures))
 
 pub returns : goal.returns
 returns c =

@@ -1,9 +1,9 @@
 use Rattle.std.proofs.Common.{◌≡◌, map, take}
 use Rattle.std.specs.List.{All}
-use Rattle.family_curve.specs.declared.base.ShopVector.{ShopVector}
+use Rattle.family_curve.specs.declared.order.ShopVector.{ShopVector}
 use Rattle.family_curve.specs.Inputs.{shop_vectors}
 use Rattle.family_curve.specs.Spots.{IsShopVector}
-use Rattle.family_curve.proofs.base.base_of.Given as goal
+use Rattle.family_curve.proofs.order.shops_of_base.Given as goal
 
 abbrev pub invariant-loop-n : goal.invariant-loop-n
 invariant-loop-n l = record {

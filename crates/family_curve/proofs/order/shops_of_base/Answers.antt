@@ -1,12 +1,13 @@
 use Rattle.std.proofs.Common.{◌≡◌, ℕ, ◌<◌, ◌≤◌, ◌∷◌, List, length, sym, ap, ap₂, ◌∙◌, subst, arith}
 use Rattle.std.specs.List.{All}
+use Rattle.std.proofs.lemmas.List.Elements.{All-push}
 use Rattle.fleet_model.specs.Fleet.{family}
 use Rattle.family_curve.specs.Points.{cost_above}
 use Rattle.family_curve.specs.Inputs.{AreShopsAt, IsAt, held_at, line_high, line_low, shop_vectors}
 use Rattle.family_curve.specs.Spots.{IsShopVector}
 use Rattle.family_curve.proofs.Points.{joined_at}
-use Rattle.family_curve.proofs.Spotted.{all_push, stocks_more}
-use Rattle.family_curve.proofs.base.base_of.Goals as goal
+use Rattle.family_curve.proofs.Spotted.{stocks_more}
+use Rattle.family_curve.proofs.order.shops_of_base.Goals as goal
 
 pub cost-cost-requires-clause-stocks : goal.cost-cost-requires-clause-stocks
 cost-cost-requires-clause-stocks c =
@@ -30,7 +31,7 @@ loop-n-preserved c =
     record {
       stocks = stocks_more c.loop-n.shops.items c.push.new.self.items _ (shop_vectors x j) c.loop-n.n v c.in_ok-push.ensures.items c.loop-n.invariant.stocks within c.in_ok-stocks.ensures.vector same;
       are_vectors = subst (All (IsShopVector x j)) (sym c.in_ok-push.ensures.items)
-          (all_push (IsShopVector x j) c.loop-n.shops.items _ c.loop-n.invariant.are_vectors (record {
+          (All-push (IsShopVector x j) c.loop-n.shops.items _ c.loop-n.invariant.are_vectors (record {
             within = subst (AreShopsAt x j) (sym same) c.in_ok-stocks.ensures.within;
             cost = c.cost-cost.ensures.cost ∙ ap (λ (w : List ℕ). cost_above x.case (family x.case x.line) (held_at x j) w) (whole ∙ ap (λ (w : List ℕ). line_low x j ∷ w) (sym same));
           }));
