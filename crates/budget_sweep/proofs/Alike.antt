@@ -1,12 +1,12 @@
 -- As many steps taken in order are the same ones, so a sweep is a function of its curves.
-use Rattle.std.proofs.Common.{◌≡◌, ℕ, zero, suc, ◌+◌, ◌<◌, ◌≤◌, inl, inr, List, [], ◌∷◌, Option, Some, None, length, slice_index, sum, refl, sym, ap, ap₂, ◌∙◌, subst, arith}
+use Rattle.std.proofs.Common.{◌≡◌, ℕ, zero, suc, ◌<◌, ◌≤◌, inl, inr, List, [], ◌∷◌, Option, Some, None, length, slice_index, sum, refl, sym, ap, ap₂, ◌∙◌, subst, arith}
 use Rattle.std.proofs.lemmas.List.{ext_get_or}
-use Rattle.std.proofs.lemmas.List.Sums.{sum_by-cons}
 use Rattle.hull.specs.declared.point.Point.{Point}
 use Rattle.hull.specs.declared.price.Price.{Price}
 use Rattle.marginal_alloc.specs.declared.allocation.Critical.{Critical}
 use Rattle.marginal_alloc.specs.declared.allocation.Chosen.{Chosen}
 use Rattle.price_bounds.specs.Sums.{cost_of, lo_of, hi_of}
+use Rattle.price_bounds.proofs.Floors.{sum_cons}
 use Rattle.step_walk.specs.Prefix.{fall, rise, IsPrefix, picked, HaveShapes}
 use Rattle.marginal_alloc.specs.Choice.{IsHullChoice, StopsWith}
 use Rattle.marginal_alloc.proofs.Told.{told}
@@ -18,9 +18,6 @@ use Rattle.budget_sweep.specs.Choices.{IsPriceOf, IsChoiceAt, IsStateOf}
 use Rattle.budget_sweep.proofs.States_of.{IsPriced, end_price, at_end, at_step, room_left}
 
 -- ---- as many steps
-
-sum_cons : (k : ℕ) (ks : List ℕ) → sum (k ∷ ks) ≡ k + sum ks
-sum_cons k ks = sum_by-cons (λ x. x) k ks
 
 sum_up : (xs ys : List ℕ) → length xs ≡ length ys → ((f : ℕ) → f < length ys → slice_index xs f ≤ slice_index ys f)
     → sum xs ≤ sum ys
@@ -95,6 +92,7 @@ one_state curves k a b s t =
     (s.state.hi ∙ ap (λ z. hi_of (picked curves z)) e ∙ sym t.state.hi)
     (one_price curves t.picks a.price b.price (subst (λ z. TellsPrice curves z a.price) e s.state.price) t.state.price)
 
+-- the states of the sweep of some curves are determined: two sweeps are one
 pub one_sweep : (curves : List (List Point)) (one other : List SweepPoint) → IsSweep curves one → IsSweep curves other
     → one ≡ other
 one_sweep curves one other a b =
@@ -127,6 +125,7 @@ choice_of curves point picks (Some price) shapes pre s is t =
     at_budget curves point picks price s (at_step curves picks price shapes pre t)
     (subst (λ z. IsPriceOf z price) (sym is) refl)
 
+-- each state of a sweep is the hull choice under its own cost
 pub state_is_choice : (curves : List (List Point)) (points : List SweepPoint) (k : ℕ) → HaveShapes curves
     → IsSweep curves points → k < length points → IsChoiceAt curves (state_at points k)
 state_is_choice curves points k shapes h l =
@@ -148,6 +147,7 @@ price_of curves budget picks cost price (Some c) (Some a) s t =
     same_prices price a (s.2 ∙ ap (λ z. fall curves z (slice_index picks z)) e ∙ sym t.2)
     (s.3 ∙ ap (λ z. rise curves z (slice_index picks z)) e ∙ sym t.3)
 
+-- the hull choice under any budget is a state of the sweep
 pub choice_is_state : (curves : List (List Point)) (points : List SweepPoint) (budget : ℕ) (chosen : Chosen)
     → IsSweep curves points → IsHullChoice curves budget chosen → IsStateOf curves points chosen
 choice_is_state curves points budget chosen h c =

@@ -38,6 +38,7 @@ one_points ends c held curves others one other a b s t =
 same_sweeps : (one other : SweepReport) → one.points ≡ other.points → one ≡ other
 same_sweeps one other e = ap (λ ps. let r : SweepReport = record { points = ps } in r) e
 
+-- a case has one sweep
 pub one_case_sweep : (ends : ScoreEnds) (c : CaseRows) (held : List ℕ) (one other : SweepReport)
     → IsCaseSweep ends c held one → IsCaseSweep ends c held other → one ≡ other
 one_case_sweep ends c held one other a b =
@@ -98,6 +99,7 @@ one_told points one other e a b =
     (one_least points (units_above one.target.units) one.at_least other.at_least a.at_least
     (subst (λ z. IsLeastCost points (units_above z.units) other.at_least) (sym e) b.at_least))
 
+-- a case has one report of a target
 pub one_case_target : (ends : ScoreEnds) (c : CaseRows) (held : List ℕ) (target : Decimal) (one other : TargetReport)
     → IsCaseTarget ends c held target one → IsCaseTarget ends c held target other → one ≡ other
 one_case_target ends c held target one other a b =

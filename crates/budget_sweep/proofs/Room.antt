@@ -13,11 +13,12 @@ use Rattle.step_walk.proofs.Taking.{own_step, rises_at}
 use Rattle.marginal_alloc.proofs.Least.{critical_stops}
 use Rattle.marginal_alloc.proofs.Bounds.{all_least, all_picked}
 use Rattle.price_bounds.proofs.Duality.{lagrangian_of_all, least_together}
+use Rattle.fixed_interval.proofs.Laws.{ceil_most}
 use Rattle.budget_sweep.specs.declared.report.SweepPoint.{SweepPoint}
 use Rattle.budget_sweep.specs.Sweep.{TellsPrice, IsState, IsSweep, no_state, state_at, last_state}
 use Rattle.budget_sweep.specs.Target.{cost_floor, floor_at, least_cost}
 use Rattle.budget_sweep.specs.Fits.{PointFits, PriceFits}
-use Rattle.budget_sweep.proofs.States_of.{all_below, ceil_most, cheaper_step}
+use Rattle.budget_sweep.proofs.States_of.{all_below, cheaper_step}
 use Rattle.budget_sweep.proofs.Together.{vertex_range, cost_room, hi_room}
 
 -- ---- what is small
@@ -74,6 +75,7 @@ state_small curves k point few shapes s =
       price = small_price curves s.picks point.price shapes s.taken.prefix s.state.price;
     }
 
+-- the sums and prices of a sweep of at most 2,000 curves are in their ranges
 pub all_small : (curves : List (List Point)) (points : List SweepPoint) → length curves ≤ 2000 → HaveShapes curves
     → IsSweep curves points → All PointFits points
 all_small curves points few shapes h =
@@ -127,6 +129,7 @@ state_floor curves k n limit point last shapes s e most =
     (subst (λ x. cost_floor limit (lo_of (picked curves s.picks)) x point.price ≤ cost_of (picked curves e.picks))
     (sym s.state.cost) f))
 
+-- the least cost of a limit that the last state comes to is below 2^64
 pub least_fits : (curves : List (List Point)) (points : List SweepPoint) (limit : ℕ) → length curves ≤ 2000
     → HaveShapes curves → IsSweep curves points
     → (last_state points).lo ≤ limit → least_cost limit points < 2 ^ 64

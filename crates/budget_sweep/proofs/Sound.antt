@@ -35,6 +35,7 @@ contained families n allocation e l own =
     (sum_contains (points_at families allocation) (values_at n families allocation)
     (allocation_values n families allocation l e own))
 
+-- no allocation that costs at most what a state costs has fewer backorders than its lower end
 pub none_fewer_at : (families : List Family) (curves : List (List Point)) (points : List SweepPoint) (k : ℕ)
     → AreEnclosed families
     → IsSweepFor (map points_of families) curves points → k < length points
@@ -66,6 +67,7 @@ vertices_picked families curves picks areas v =
 same_ends : (lo hi l h : ℕ) (q : Fraction) → lo ≡ l → hi ≡ h → Contains 48 l h q → Contains 48 lo hi q
 same_ends lo hi l h q a b c = subst (λ z. Contains 48 z hi q) (sym a) (subst (λ z. Contains 48 l z q) (sym b) c)
 
+-- behind each state stands an allocation of its cost, with a total between its ends
 pub state_behind : (families : List Family) (curves : List (List Point)) (k : ℕ) (point : SweepPoint)
     → AreEnclosed families → AreCurves (map points_of families) curves → IsState curves k point → Behind families point
 state_behind families curves k point e areas s = behind

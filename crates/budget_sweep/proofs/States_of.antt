@@ -1,9 +1,7 @@
 -- Each state of a sweep is a hull choice under its own cost, so its vertices are least at its price.
 use Rattle.std.proofs.Common.{◌≡◌, ℕ, zero, suc, ◌+◌, ◌-◌, ◌*◌, ◌<◌, ◌≤◌, List, [], ◌∷◌, Option, Some, None, length, slice_index, sum, max, refl, sym, subst, arith}
 use Rattle.std.specs.Int.{div_ceil}
-use Rattle.std.proofs.Math.Nat.{mul-le-mul_left, le_of_mul-le-mul_left, lt_of_mul-lt-mul_right, le_refl}
-use Rattle.std.proofs.lemmas.Grind.{div_ceil_times}
-use Rattle.std.proofs.lemmas.List.Sums.{sum_by-cons}
+use Rattle.std.proofs.Math.Nat.{mul-le-mul_left, le_of_mul-le-mul_left, le_refl}
 use Rattle.hull.specs.declared.point.Point.{Point}
 use Rattle.hull.specs.declared.price.Price.{Price}
 use Rattle.hull.specs.Curves.{Steps}
@@ -15,6 +13,8 @@ use Rattle.marginal_alloc.proofs.Told.{told}
 use Rattle.step_walk.proofs.Taking.{own_step, rises_at}
 use Rattle.marginal_alloc.proofs.Bounds.{choice_least}
 use Rattle.price_bounds.proofs.Duality.{lagrangian_of_all, least_together}
+use Rattle.price_bounds.proofs.Floors.{sum_cons}
+use Rattle.fixed_interval.proofs.Laws.{ceil_most}
 use Rattle.budget_sweep.specs.declared.report.SweepPoint.{SweepPoint}
 use Rattle.budget_sweep.specs.Sweep.{all_steps, TellsPrice, IsState, state_at, last_state}
 use Rattle.budget_sweep.specs.Target.{cost_floor, floor_at, least_cost}
@@ -22,14 +22,17 @@ use Rattle.budget_sweep.specs.Cases.{IsSweepFor}
 
 -- ---- a price at which the picks are a hull choice under their own cost
 
+-- at this price the picks are the hull choice under their own cost
 pub record IsPriced (curves : List (List Point)) (picks : List ℕ) (price : Price) : Type 0 where
   pub critical : Option Critical
   pub choice : IsHullChoice curves (cost_of (picked curves picks))
       (told picks (cost_of (picked curves picks)) price critical)
 
+-- the price where no step is left, 0/1
 abbrev pub end_price : Price
 end_price = record { p = 0; q = 1 }
 
+-- where all steps are taken, the picks are the hull choice under their cost at the price 0/1
 pub at_end : (curves : List (List Point)) (picks : List ℕ) → IsPrefix curves picks → AllTaken curves picks
     → IsPriced curves picks end_price
 at_end curves picks pre t = record {
@@ -42,6 +45,7 @@ at_end curves picks pre t = record {
   };
 }
 
+-- where a step is left, they are so at the price of the next one
 pub at_step : (curves : List (List Point)) (picks : List ℕ) (price : Price) → HaveShapes curves → IsPrefix curves picks
     → TellsPrice curves picks (Some price) → IsPriced curves picks price
 at_step curves picks price shapes pre t =
@@ -88,6 +92,7 @@ lower_step p q l c m d h k b =
     let y : q * l ≤ q * m = omega arith in
     le_of_mul-le-mul_left y h
 
+-- where no state asks for more than a cost, the least cost is at most that
 pub all_below : (limit top : ℕ) (ps : List SweepPoint)
     → ((k : ℕ) → k < length ps → floor_at limit (state_at ps k) ≤ top) → least_cost limit ps ≤ top
 all_below limit top [] f = omega arith
@@ -99,12 +104,7 @@ all_below limit top (p ∷ ps) f =
     most : (a b c : ℕ) → a ≤ c → b ≤ c → max a b ≤ c
     most a b c h k = grind arith
 
-pub ceil_most : (a b top : ℕ) → 0 < b → a ≤ top * b → div_ceil a b ≤ top
-ceil_most a b top p h =
-    let t = div_ceil_times a b p in
-    let x : div_ceil a b < top + 1 = lt_of_mul-lt-mul_right b (omega (arith, t.1, h)) in
-    omega arith
-
+-- what has no smaller Lagrangian than a state and comes to the limit costs at least what the price asks for
 pub cheaper_step : (p q l c m d x : ℕ) → q * l + p * c ≤ q * m + p * d → m ≤ x → q * l + p * c - q * x ≤ d * p
 cheaper_step p q l c m d x k b =
     let y : q * m ≤ q * x = mul-le-mul_left q b in
@@ -175,9 +175,7 @@ module _ (families curves : List (List Point)) (areas : AreCurves families curve
 
 -- ---- the last state
 
-sum_cons : (k : ℕ) (ks : List ℕ) → sum (k ∷ ks) ≡ k + sum ks
-sum_cons k ks = sum_by-cons (λ x. x) k ks
-
+-- picks that stand on their curves have taken at most all steps
 pub room_left : (curves : List (List Point)) (picks : List ℕ) → length picks ≡ length curves
     → ((f : ℕ) → f < length curves → slice_index picks f < length (curve_at curves f)) → sum picks ≤ all_steps curves
 room_left [] [] n below = omega arith

@@ -1,5 +1,5 @@
 -- The states so far, and one more.
-use Rattle.std.proofs.Common.{◌≡◌, ℕ, zero, suc, ◌+◌, ◌<◌, ◌⊎◌, inl, inr, List, [], ◌∷◌, ◌++◌, Some, None, length, length-append, set, slice_index, sum, refl, sym, ap, ◌∙◌, subst, arith}
+use Rattle.std.proofs.Common.{◌≡◌, ℕ, zero, suc, ◌+◌, ◌<◌, inl, inr, List, [], ◌∷◌, ◌++◌, Some, None, length, length-append, set, slice_index, sum, refl, sym, ap, ◌∙◌, subst, arith}
 use Rattle.std.proofs.lemmas.List.Sums.{sum_by-cons, sum_by-set}
 use Rattle.hull.specs.declared.point.Point.{Point}
 use Rattle.step_walk.specs.Prefix.{curve_at, IsPrefix, HaveShapes}
@@ -7,6 +7,7 @@ use Rattle.step_walk.proofs.Taking.{steps_left, left_falls}
 use Rattle.budget_sweep.specs.declared.report.SweepPoint.{SweepPoint}
 use Rattle.step_walk.specs.declared.walk.Next.{Next}
 use Rattle.step_walk.specs.Walks.{Walked, AllDone, TellsFirst, MovesOn}
+use Rattle.step_walk.proofs.Greedy.{below_or}
 use Rattle.budget_sweep.specs.declared.sums.Sums.{Sums}
 use Rattle.budget_sweep.specs.Sums.{AreSums}
 use Rattle.budget_sweep.specs.Sweep.{all_steps, IsStateAt, IsState, IsSweep, state_at}
@@ -16,6 +17,7 @@ pub record Swept (curves : List (List Point)) (picks : List ℕ) (points : List 
   pub count : length points ≡ sum picks
   pub each : (k : ℕ) → k < length points → IsState curves k (state_at points k)
 
+-- before the first step no states are listed
 pub none_swept : (curves : List (List Point)) (picks : List ℕ) → ((f : ℕ) → slice_index picks f ≡ 0)
     → Swept curves picks []
 none_swept curves picks z = record {
@@ -37,9 +39,6 @@ earlier (q ∷ points) p (suc k) l = earlier points p k (omega arith)
 latest : (points : List SweepPoint) (p : SweepPoint) → state_at (points ++ p ∷ []) (length points) ≡ p
 latest [] p = refl
 latest (q ∷ points) p = latest points p
-
-below_or : (k n : ℕ) → k < n + 1 → (k < n) ⊎ (k ≡ n)
-below_or k n l = grind arith
 
 module _ (curves : List (List Point)) (picks : List ℕ) (points : List SweepPoint) (h : Swept curves picks points)
     (p : SweepPoint) (pre : IsPrefix curves picks) (state : IsStateAt curves picks p) where
@@ -92,6 +91,7 @@ pub record Stepped (curves : List (List Point)) (new : Walked) (picks : List ℕ
   pub swept : Swept curves new.picks more
   pub smaller : steps_left curves new.picks < steps_left curves picks
 
+-- with the state put down and the next step taken, the sweep goes on with one step less to go
 pub stepped : (curves : List (List Point)) (old new : Walked) (next : Next) (points more : List SweepPoint)
     (p : SweepPoint) (sums after : Sums)
     → old.curves ≡ curves → TellsFirst old next → MovesOn old new → AreSums curves old.picks sums
@@ -127,6 +127,7 @@ pub record Ended (curves : List (List Point)) (points : List SweepPoint) : Type 
   pub shapes : HaveShapes curves
   pub sweep : IsSweep curves points
 
+-- with the last state put down, the list is the sweep of the curves
 pub ended : (curves : List (List Point)) (old : Walked) (points more : List SweepPoint) (p : SweepPoint) (sums : Sums)
     → old.curves ≡ curves → AllDone old → AreSums curves old.picks sums → Swept curves old.picks points
     → p ≡ record { cost = sums.cost; lo = sums.lo; hi = sums.hi; price = None } → more ≡ points ++ p ∷ []

@@ -29,11 +29,13 @@ together g most (c ∷ curves) (k ∷ picks) n h =
     (λ f l. h (suc f) (omega arith)) in
     omega (arith, a, b)
 
+-- the numbers at a curve's pick are within a point's limits
 pub vertex_range : (curves : List (List Point)) (picks : List ℕ) (f : ℕ) → HaveShapes curves → AreVertices curves picks
     → f < length curves → InRange (vertex_at curves f (slice_index picks f))
 vertex_range curves picks f shapes v b = (shapes f b).ranges (vertex_at curves f (slice_index picks f))
     (among_at (curve_at curves f) (slice_index picks f) nowhere (v.below f b))
 
+-- the picks of at most 2,000 curves cost at most 2 * 10^15 together
 pub cost_room : (curves : List (List Point)) (picks : List ℕ) → length curves ≤ 2000 → HaveShapes curves
     → AreVertices curves picks → cost_of (picked curves picks) ≤ 2000000000000000
 cost_room curves picks few shapes v =
@@ -41,6 +43,7 @@ cost_room curves picks few shapes v =
     (λ f b. (vertex_range curves picks f shapes v b).cost) in
     omega (arith, t, few)
 
+-- their upper ends come to at most 2^85
 pub hi_room : (curves : List (List Point)) (picks : List ℕ) → length curves ≤ 2000 → HaveShapes curves
     → AreVertices curves picks → hi_of (picked curves picks) ≤ 2 ^ 85
 hi_room curves picks few shapes v =
@@ -133,6 +136,7 @@ summed_none curves picks = record {
   small_hi = omega arith;
 }
 
+-- with the pick of one curve more, the sums are those of the first f + 1 curves
 pub summed_more : (curves : List (List Point)) (picks : List ℕ) (f : ℕ) (sums : Sums) (v : Point) → InRange v
     → v ≡ vertex_at curves f (slice_index picks f) → SummedTo curves picks f sums
     → SummedTo curves picks (f + 1) (record { cost = sums.cost + v.cost; lo = sums.lo + v.lo; hi = sums.hi + v.hi })
@@ -149,6 +153,7 @@ summed_more curves picks f sums v r e s =
       small_hi = omega (arith, m3, r3);
     }
 
+-- with the picks of all curves the sums are those of the state
 pub summed_all : (curves : List (List Point)) (picks : List ℕ) (f : ℕ) (sums : Sums) → f ≡ length curves
     → length picks ≡ length curves → SummedTo curves picks f sums → AreSums curves picks sums
 summed_all curves picks f sums e n s = record {
@@ -165,6 +170,7 @@ pub record Going (curves : List (List Point)) (picks : List ℕ) (next : Next) (
   pub start_is : start.hi ≡ (vertex_at curves next.family (slice_index picks next.family)).hi
   pub end_is : end.hi ≡ (vertex_at curves next.family (slice_index picks next.family + 1)).hi
 
+-- the first step that isn't taken goes from one vertex of its curve to the next
 pub going : (curves : List (List Point)) (w : Walked) (next : Next) (r : List Point) (start end : Point)
     → length curves ≤ 2000 → w.curves ≡ curves → TellsFirst w next
     → r ≡ get_or curves next.family r → start ≡ point_at r (next.vertex - 1) → end ≡ point_at r next.vertex

@@ -30,10 +30,12 @@ pub record IsTargetOf (curves : List (List Point)) (target : Decimal) (report : 
 
 -- ---- of a case
 
+-- the report is the sweep of the case from what is held: the states of its families' curves
 pub record IsCaseSweep (ends : ScoreEnds) (c : CaseRows) (held : List ℕ) (report : SweepReport) : Type 0 where
   pub curves : List (List Point)
   pub is_sweep : IsSweepFor (case_points ends c held) curves report.points
 
+-- the report is what this sweep tells of the target
 pub record IsCaseTarget (ends : ScoreEnds) (c : CaseRows) (held : List ℕ) (target : Decimal) (report : TargetReport)
     : Type 0 where
   pub curves : List (List Point)

@@ -17,8 +17,10 @@ pub record PointFits (point : SweepPoint) : Type 0 where
   pub hi : point.hi ≤ 2 ^ 85
   pub price : PriceFits point.price
 
+-- all points of a sweep's report are in range
 abbrev pub SweepFits : SweepReport → Type 0
 SweepFits report = All PointFits report.points
 
+-- so is the point of a target's report, where there is one
 abbrev pub TargetFits : TargetReport → Type 0
 TargetFits report = IfSome report.reach PointFits

@@ -20,12 +20,14 @@ use Rattle.budget_sweep.specs.Truth.{IsTruePoint, IsTrueTarget}
 
 -- ---- cases, for every score whose intervals enclose its value, and for stocks that are held
 
+-- each point of a case's sweep is true: some stocks stand behind it, and none as cheap have less
 abbrev pub SweepsAreTrue : Type 0
 SweepsAreTrue =
     (ends : ScoreEnds) (value : Value) (c : CaseRows) (held : List ℕ) (report : SweepReport) (k : ℕ)
     → IsAcceptedCase c → EnclosesValue ends value → IsCaseSweep ends c held report → k < length report.points
     → IsTruePoint value c held (state_at report.points k)
 
+-- what a report says of its target is true of the case
 abbrev pub TargetsAreTrue : Type 0
 TargetsAreTrue =
     (ends : ScoreEnds) (value : Value) (c : CaseRows) (held : List ℕ) (target : Decimal) (report : TargetReport)
@@ -38,6 +40,7 @@ SweepsAreOne =
     (ends : ScoreEnds) (c : CaseRows) (held : List ℕ) (one other : SweepReport)
     → IsCaseSweep ends c held one → IsCaseSweep ends c held other → one ≡ other
 
+-- a case has one report of a target
 abbrev pub TargetsAreOne : Type 0
 TargetsAreOne =
     (ends : ScoreEnds) (c : CaseRows) (held : List ℕ) (target : Decimal) (one other : TargetReport)

@@ -10,6 +10,7 @@ use Rattle.budget_sweep.specs.Sweep.{state_at, last_state}
 abbrev pub units_below : ℕ → ℕ
 units_below target = target * 2 ^ 48 / 10000
 
+-- a target in units of 2^-48, rounded up
 abbrev pub units_above : ℕ → ℕ
 units_above target = div_ceil (target * 2 ^ 48) 10000
 
@@ -25,6 +26,7 @@ abbrev pub cost_floor : ℕ → ℕ → ℕ → Option Price → ℕ
 cost_floor limit lo cost None = 0
 cost_floor limit lo cost (Some price) = div_ceil (price.q * lo + price.p * cost - price.q * limit) price.p
 
+-- what it costs to come from a state to the limit, at the state's price
 abbrev pub floor_at : ℕ → SweepPoint → ℕ
 floor_at limit point = cost_floor limit point.lo point.cost point.price
 

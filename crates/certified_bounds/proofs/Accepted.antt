@@ -1,13 +1,14 @@
 -- An accepted certificate is true of its case.
-use Rattle.std.proofs.Common.{◌≡◌, refl, ℕ, ◌+◌, ◌-◌, ◌*◌, ◌<◌, ◌≤◌, ◌⊎◌, inl, inr, List, [], length, replicate, None, sym, ap, ◌∙◌, subst, arith}
+use Rattle.std.proofs.Common.{◌≡◌, refl, ℕ, ◌+◌, ◌-◌, ◌*◌, ◌≤◌, inl, inr, List, [], length, replicate, None, sym, ap, ◌∙◌, subst, arith}
 use Rattle.std.proofs.lemmas.List.{get_or-replicate, get_or_past, length-replicate}
+use Rattle.std.proofs.lemmas.Bool.{cases_lt}
 use Rattle.hull.specs.Scores.{EnclosesValue}
 use Rattle.spares_input.specs.Frames.{part_at}
 use Rattle.spares_input.specs.Cases.{CaseRows, frame_rows, pair_count}
 use Rattle.spares_input.specs.Stocks.{StockList, IsFor}
 use Rattle.fleet_model.specs.Rows.{all_parts, all_sites, stock}
 use Rattle.fleet_model.specs.Aims.{Value, weighted_backorders, part_cost_beyond, cost_beyond}
-use Rattle.fleet_model.proofs.FamilyLaws.{sum-each}
+use Rattle.fleet_model.proofs.FamilyLaws.{sum_each}
 use Rattle.fleet_model.proofs.WordLaws.{plain_words}
 use Rattle.family_curve.specs.Points.{ScoreEnds}
 use Rattle.fleet_plan.specs.Plans.{AreTrueClaims, ArePlainClaims}
@@ -21,6 +22,7 @@ use Rattle.gap_checker.specs.Soundness.{nothing_held}
 use Rattle.gap_checker.proofs.Acceptable.{accepted_are_acceptable, breaks_none, map_none}
 use Rattle.certified_bounds.specs.Laws.{claims_of}
 
+-- what a certificate claims is true of its case, where it breaks no rule and its score encloses the value
 pub accepted_true : (ends : ScoreEnds) (value : Value) (cert : Certificate) (held : StockList) → EnclosesValue ends value → IsWellFormed cert → IsFor cert.case held
     → reject_of ends cert held ≡ None → AreTrueClaims value cert.case held.list cert.budget (claims_of cert)
 accepted_true ends value cert held encloses formed is_for none =
@@ -30,11 +32,9 @@ accepted_true ends value cert held encloses formed is_for none =
 
 -- ---- nothing held
 
-in_or_past : (i n : ℕ) → (i < n) ⊎ (n ≤ i)
-in_or_past i n = grind arith
-
-pub none_held : (c : CaseRows) (p k : ℕ) → stock c (nothing_held c).list p k ≡ 0
-none_held c p k = elim (in_or_past (p * length c.sites + k) (pair_count (frame_rows c))) [
+-- where nothing is held, each pair has 0 of that
+pub nothing_held_at : (c : CaseRows) (p k : ℕ) → stock c (nothing_held c).list p k ≡ 0
+nothing_held_at c p k = elim (cases_lt (p * length c.sites + k) (pair_count (frame_rows c))) [
   | inl h ↦ get_or-replicate (pair_count (frame_rows c)) (p * length c.sites + k) 0 0 h
   | inr h ↦ get_or_past (replicate (pair_count (frame_rows c)) 0) (p * length c.sites + k) 0 (omega (arith, h, length-replicate {A = ℕ} (pair_count (frame_rows c)) 0))
 ]
@@ -44,9 +44,10 @@ pay_same s h m e = ap (λ z. (s - z) * m) e
 
 cost_same : (c : CaseRows) (s : List ℕ) → cost_beyond c (nothing_held c).list s ≡ cost_beyond c [] s
 cost_same c s =
-    sum-each (part_cost_beyond c (nothing_held c).list s) (part_cost_beyond c [] s) (all_parts c)
-    (λ p. sum-each _ _ (all_sites c) (λ k. pay_same (stock c s p k) (stock c (nothing_held c).list p k) (part_at c.parts p).cost (none_held c p k)))
+    sum_each (part_cost_beyond c (nothing_held c).list s) (part_cost_beyond c [] s) (all_parts c)
+    (λ p. sum_each _ _ (all_sites c) (λ k. pay_same (stock c s p k) (stock c (nothing_held c).list p k) (part_at c.parts p).cost (nothing_held_at c p k)))
 
+-- an accepted certificate of weighted backorders, nothing held, is true in the model's plain words
 pub plain_true : (cert : Certificate) → IsWellFormed cert → reject_of plain_ends cert (nothing_held cert.case) ≡ None → ArePlainClaims cert.case cert.budget (claims_of cert)
 plain_true cert formed none =
     plain_of (accepted_true plain_ends weighted_backorders cert (nothing_held cert.case) plain_encloses formed
@@ -61,6 +62,6 @@ plain_true cert formed none =
           no_more = k.no_more;
           fewer = λ n deep s a f.
               k.none_less n deep s
-              (record { allocation = a.allocation; keeps = λ p j lp lj. subst (λ z. z ≤ stock c s p j) (sym (none_held c p j)) (omega arith) })
+              (record { allocation = a.allocation; keeps = λ p j lp lj. subst (λ z. z ≤ stock c s p j) (sym (nothing_held_at c p j)) (omega arith) })
               (subst (λ z. z ≤ cert.budget) (sym (cost_same c s)) f);
         }

@@ -14,6 +14,7 @@ use Rattle.hull.specs.Curves.{lagrangian, Among}
 use Rattle.spares_input.specs.First.{first, unless}
 use Rattle.spares_input.specs.Cases.{CaseRows, frame_rows, pair_count}
 use Rattle.spares_input.specs.Stocks.{StockList, limit_at}
+use Rattle.spares_input.proofs.Standing.{first_none}
 use Rattle.fleet_model.specs.Rows.{line_units, stock}
 use Rattle.price_bounds.specs.Certificates.{AreFloors}
 use Rattle.family_eval.specs.Inputs.{IsLine}
@@ -36,7 +37,7 @@ use Rattle.gap_checker.specs.Covers.{leaves}
 use Rattle.gap_checker.specs.Trees.{leaves_of}
 use Rattle.gap_checker.specs.Values.{value_of, cover_tables}
 use Rattle.gap_checker.specs.Refusals.{family_count, box_from, cover_of, family_leaves, gap_at, family_tables, work_of, over_limit, too_low, below_held, cost_above, leaf_value, low_at, upper_of, largest_of, reject_of}
-use Rattle.gap_checker.proofs.Costs.{added-is}
+use Rattle.gap_checker.proofs.Costs.{added_is}
 use Rattle.gap_checker.proofs.Judging.{by_none}
 use Rattle.gap_checker.proofs.Readings.{trees_are_read}
 use Rattle.gap_checker.proofs.Stock_faults.{else_none}
@@ -55,11 +56,6 @@ use Rattle.certified_plan.proofs.Scores.{scores_enclose}
 use Rattle.certified_plan.proofs.Trees.{HasOneWhole, trimmed_whole}
 
 -- ---- general
-
-pub none_first : {A : Type 0} (at : ℕ → Option A) (n : ℕ) → ((k : ℕ) → k < n → at k ≡ None) → first at n ≡ None
-unfolding first
-none_first at zero h = refl
-none_first at (suc n) h = rw (none_first at n (λ k b. h k (omega (arith, b))), h n (omega arith)) refl
 
 no_fault : {A E : Type 0} (o : Option E) (x y : A) → unless o x ≡ Ok y → o ≡ None
 no_fault None x y h = refl
@@ -227,11 +223,11 @@ module _ (c : CaseRows) (held : StockList) (terms : Terms) (p : CasePlan) (on : 
         (subst (λ z. z ≤ get_or p.stocks i 0) (stock_at held.list) (subst (λ z. stock c held.list part site ≤ z) (stock_at p.stocks) (true_plan.allocation.keeps part site part_in site_in)))
 
   all_kept : first (below_held c held (stock_list c p.stocks)) (pair_count (frame_rows c)) ≡ None
-  all_kept = none_first _ (pair_count (frame_rows c)) (λ i b. kept i b)
+  all_kept = first_none _ (pair_count (frame_rows c)) (λ i b. kept i b)
 
   cost_fits : cost_above c held (stock_list c p.stocks) ≤ terms.budget
   cost_fits =
-      let e = added-is c held (stock_list c p.stocks) on.accepted.valid on.is_held.is_for (record { sites = refl; pairs = on.plan.count }) all_kept in
+      let e = added_is c held (stock_list c p.stocks) on.accepted.valid on.is_held.is_for (record { sites = refl; pairs = on.plan.count }) all_kept in
       let f = families_beyond c held.list p.stocks on.accepted.valid in
       let g = true_plan.certificate.fits in
       omega (arith, e, f, g)
@@ -241,11 +237,11 @@ module _ (c : CaseRows) (held : StockList) (terms : Terms) (p : CasePlan) (on : 
       let few = within_work c held.list within in
       no_fault (reject_of score cert held) _ _
       (by_none score cert held (ap (option_map reject.Rate) on.accepted.no_fault)
-      (none_first (gap_at cert held) (family_count c) (λ f b. no_gap f b))
+      (first_none (gap_at cert held) (family_count c) (λ f b. no_gap f b))
       (work_of cert held) refl (work_few few)
-      (none_first (over_limit c (stock_list c p.stocks)) (pair_count (frame_rows c)) (λ i b. limited i b))
+      (first_none (over_limit c (stock_list c p.stocks)) (pair_count (frame_rows c)) (λ i b. limited i b))
       all_kept
       (cost_above c held (stock_list c p.stocks)) refl cost_fits
-      (none_first (low_at score cert held) (family_count c) (λ f b. no_low f b))
+      (first_none (low_at score cert held) (family_count c) (λ f b. no_low f b))
       (upper_of score cert held) refl (let u = on.plan.plan.upper in omega (arith, u))
       (largest_of score cert) refl (let u = on.plan.plan.bound in omega (arith, u)))

@@ -1,42 +1,30 @@
 -- Corners of boxes as functions of places, and as lists of stocks.
-use Rattle.std.proofs.Common.{◌≡◌, ℕ, ◌-◌, ◌<◌, ◌≤◌, ◌⊎◌, inl, inr, true, ◌&&◌, nat_le, List, length, get_or, set, refl, sym, ap₂, ◌∙◌, subst, arith, eq-eqb, ne_eqb}
-use Rattle.std.proofs.lemmas.Bool.Decides.{nat_tests}
+use Rattle.std.proofs.Common.{◌≡◌, ℕ, ◌-◌, ◌<◌, ◌≤◌, inl, inr, true, ◌&&◌, List, length, get_or, set, sym, ap₂, ◌∙◌, subst, arith, lt-ltb, le-leb}
 use Rattle.std.proofs.lemmas.List.{get_or-set_same, get_or-set_other, length-set}
+use Rattle.std.proofs.lemmas.Bool.{cases_eq}
 use Rattle.family_curve.specs.declared.bounds.Bounds.{Bounds}
 use Rattle.price_certificate.specs.Covers as cover
 use Rattle.price_certificate.specs.Covers.{Tree, Corner, put}
+use Rattle.price_certificate.proofs.Trims.{put_here, put_there}
 use Rattle.gap_checker.specs.Boxes.{AtMost}
 use Rattle.gap_checker.specs.Covers.{fewer, as_many, has_parts}
 use Rattle.gap_checker.specs.Trees.{IsLawful}
-use Rattle.gap_checker.proofs.Boxes.{at_most-set_high, at_most-set_low}
-use Rattle.gap_checker.proofs.Stock_faults.{less_true}
+use Rattle.gap_checker.proofs.Boxes.{at_most_set_high, at_most_set_low}
 
 -- the list has what the corner has at the first n places, and no more
 pub record Lists (n : ℕ) (corner : Corner) (xs : List ℕ) : Type 0 where
   pub long : length xs ≡ n
   pub same : (i : ℕ) → i < n → corner i ≡ get_or xs i 0
 
-same_or_other : (i at : ℕ) → (i ≡ at) ⊎ (i ≡ at → ⊥)
-same_or_other i at = grind arith
-
-put_here : (at v : ℕ) (f : Corner) → put at v f at ≡ v
-put_here at v f = rw (eq-eqb at at refl) refl
-
-put_there : (at v : ℕ) (f : Corner) (i : ℕ) → (i ≡ at → ⊥) → put at v f i ≡ f i
-put_there at v f i h = rw (ne_eqb i at h) refl
-
 pub put_lists : (n at v : ℕ) (corner : Corner) (xs : List ℕ) → at < n → Lists n corner xs → Lists n (put at v corner) (set xs at v)
 put_lists n at v corner xs there h = record {
   long = length-set xs at v ∙ h.long;
-  same = λ i b. elim (same_or_other i at) [
+  same = λ i b. elim (cases_eq i at) [
     | inl e ↦ subst (λ k. put at v corner k ≡ get_or (set xs at v) k 0) (sym e)
         (put_here at v corner ∙ sym (get_or-set_same xs at v 0 (let w = h.long in omega (arith, w, there))))
     | inr o ↦ put_there at v corner i o ∙ h.same i b ∙ sym (get_or-set_other xs at i v 0 o)
   ];
 }
-
-le_true : (a b : ℕ) → a ≤ b → nat_le a b ≡ true
-le_true a b h = grind (arith, nat_tests)
 
 -- a box between two corners, with both as lists
 pub record Boxed (n : ℕ) (low high : Corner) (box : Bounds) : Type 0 where
@@ -58,7 +46,7 @@ module _ (n : ℕ) (low high : Corner) (box : Bounds) (at from : ℕ) (b : Boxed
   high_more = (let s = b.high_is.same at cut.there in let m = cut.most in omega (arith, s, m))
 
   pub has_both : has_parts box at from ≡ true
-  has_both = ap₂ (λ x y. x && y) (less_true (get_or box.low at 0) from low_less) (le_true from (get_or box.high at 0) high_more)
+  has_both = ap₂ (λ x y. x && y) (lt-ltb (get_or box.low at 0) from low_less) (le-leb from (get_or box.high at 0) high_more)
 
   pub below_high : from - 1 ≤ get_or box.high at 0
   below_high = (let m = high_more in omega (arith, m))
@@ -67,16 +55,17 @@ module _ (n : ℕ) (low high : Corner) (box : Bounds) (at from : ℕ) (b : Boxed
   fewer_boxed = record {
     low_is = b.low_is;
     high_is = put_lists n at (from - 1) high box.high cut.there b.high_is;
-    order = at_most-set_high box.low box.high at (from - 1) b.order (let m = low_less in omega (arith, m));
+    order = at_most_set_high box.low box.high at (from - 1) b.order (let m = low_less in omega (arith, m));
   }
 
   pub as_many_boxed : Boxed n (put at from low) high (as_many box at from)
   as_many_boxed = record {
     low_is = put_lists n at from low box.low cut.there b.low_is;
     high_is = b.high_is;
-    order = at_most-set_low box.low box.high at from b.order high_more;
+    order = at_most_set_low box.low box.high at from b.order high_more;
   }
 
+-- a place among the n, with a number above its least and at most its most, cuts the box there
 pub cut_of : (n : ℕ) (low high : Corner) (at from : ℕ) → (at < n) × ((low at < from) × (from ≤ high at)) → IsCutAt n low high at from
 cut_of n low high at from h = record { there = h.0; more = h.1.0; most = h.1.1 }
 

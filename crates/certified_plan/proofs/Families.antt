@@ -17,7 +17,7 @@ use Rattle.price_certificate.specs.declared.place.Place.{Place}
 use Rattle.price_certificate.specs.Covers.{Corner, no_place, held_at, most_at, IsPlace, IsHeld, added_from, added, place_at, place_count, places_of}
 use Rattle.price_certificate.proofs.Families.{are_places}
 use Rattle.gap_checker.specs.Boxes.{AtMost}
-use Rattle.gap_checker.proofs.Boxes.{at_most-at}
+use Rattle.gap_checker.proofs.Boxes.{at_most_at}
 use Rattle.certified_plan.proofs.Corners.{Lists}
 
 -- no pair
@@ -93,7 +93,7 @@ module _ (c : CaseRows) (l : ℕ) where
         let h : m < length (places c l) = (let e = length_places c l in omega (arith, b, e)) in
         let p = ap (λ (x : Place). x.most) (place_in m h) in
         let q = most_is m h in
-        let r = at_most-at held (limits c l) m within in
+        let r = at_most_at held (limits c l) m within in
         omega (arith, p, q, r)
 
     pub valid_places : IsCase c → IsLine c l → AtMost held (limits c l) → All IsPlace (places_of c l held)
@@ -136,6 +136,7 @@ added_same c i (p ∷ ps) (x ∷ xs) (b ∷ held) (s ∷ v) corner a e h =
     on : (i j : ℕ) → suc i + j ≡ i + suc j
     on i j = omega arith
 
+-- what a corner adds to what is held costs what the vector that lists it costs the family
 pub added_is : (c : CaseRows) (l : ℕ) (held v : List ℕ) (corner : Corner) → length held ≡ length (places c l) → Lists (length (places c l)) corner v
     → added (places_of c l held) corner ≡ added_cost c l held v
 added_is c l held v corner e h =

@@ -1,17 +1,17 @@
 -- The certificate of a plan is well formed.
-use Rattle.std.proofs.Common.{◌≡◌, ◌==◌, ℕ, zero, suc, ◌<◌, ◌≤◌, ◌⊎◌, inl, inr, Bool, true, false, cond, List, [], ◌∷◌, length, map, get_or, All, refl, sym, ap, ◌∙◌, subst, arith, eq-eqb, ne_eqb}
+use Rattle.std.proofs.Common.{◌≡◌, ℕ, zero, suc, ◌<◌, ◌≤◌, inl, inr, cond, List, [], ◌∷◌, length, map, get_or, All, refl, sym, ap, ◌∙◌, subst, arith, eq-eqb, ne_eqb}
 use Rattle.std.proofs.lemmas.List.{get_or_past}
 use Rattle.std.proofs.lemmas.List.Elements.{All-from_recursion, All-from_get_or}
 use Rattle.std.proofs.lemmas.List.FromFn.{get_or-map-range_with_len, length-map-range_with_len}
-use Rattle.spares_input.specs.Rows.{no_part}
-use Rattle.spares_input.specs.Frames.{part_at}
+use Rattle.std.proofs.lemmas.Bool.{cases_lt}
 use Rattle.spares_input.specs.Stocks.{StockList, limit_at}
 use Rattle.spares_input.specs.Cases.{CaseRows, IsCase}
 use Rattle.fleet_model.specs.Rows.{line_units}
+use Rattle.fleet_model.proofs.AllocationLaws.{limit_most}
 use Rattle.family_eval.specs.Inputs.{IsLine}
 use Rattle.family_curve.specs.Vectors.{Pair, places, vector_of, limits}
 use Rattle.fleet_plan.specs.Plans.{CasePlan}
-use Rattle.fleet_plan.proofs.Places.{lines_are, at_among}
+use Rattle.fleet_plan.proofs.Places.{lines_are}
 use Rattle.case_plan.specs.Laws.{FitsItsPlace}
 use Rattle.case_plan.proofs.Ranges.{plan_fits}
 use Rattle.price_certificate.specs.declared.place.Place.{Place}
@@ -22,9 +22,10 @@ use Rattle.price_certificate.proofs.Trims.{trim_is}
 use Rattle.gap_checker.specs.Boxes.{AtMost}
 use Rattle.gap_checker.proofs.Adding.{few_places}
 use Rattle.gap_checker.proofs.Families.{held_limited}
-use Rattle.gap_checker.proofs.Formed.{lines-counted}
+use Rattle.gap_checker.proofs.Formed.{lines_counted}
 use Rattle.gap_checker.proofs.Places.{place_pair}
 use Rattle.hull.specs.Curves.{Among}
+use Rattle.hull.proofs.Runs.{among_at}
 use Rattle.certified_plan.specs.declared.terms.Terms.{Terms}
 use Rattle.certified_plan.specs.Scores.{ends_of, value_of}
 use Rattle.certified_plan.specs.Certificates.{cover_at, covers_of, certificate_of, claims_of}
@@ -35,19 +36,7 @@ use Rattle.certified_plan.proofs.Scores.{scores_enclose, scores_leave_room}
 use Rattle.certified_plan.proofs.Families.{count_is, most_is, valid_places}
 use Rattle.certified_plan.proofs.Trees.{some_nodes, few_nodes, lawful_nodes}
 
-in_or_past : (i n : ℕ) → (i < n) ⊎ (n ≤ i)
-in_or_past i n = grind arith
-
 -- ---- limits
-
-chosen : (b : Bool) (m n : ℕ) → m ≤ 63 → n ≤ 63 → cond b m n ≤ 63
-chosen true m n h k = h
-chosen false m n h k = k
-
-limit_small : (c : CaseRows) (p k : ℕ) → IsCase c → p < length c.parts → limit_at c.parts p k ≤ 63
-limit_small c p k valid h =
-    let row = valid.frame.part_rows p no_part h in
-    chosen (k == 0) (part_at c.parts p).max_depot (part_at c.parts p).max_base row.max_depot row.max_base
 
 maps_small : (f : Pair → ℕ) (xs : List Pair) (i : ℕ) → ((x : Pair) → Among x xs → f x ≤ 63) → get_or (map f xs) i 0 ≤ 63
 maps_small f [] i h = omega arith
@@ -56,10 +45,10 @@ maps_small f (x ∷ xs) (suc i) h = maps_small f xs i (λ y m. h y (inr m))
 
 module _ (c : CaseRows) (l : ℕ) (held : List ℕ) (valid : IsCase c) (line : IsLine c l) where
   pub places_small : (i : ℕ) → most_at (places_of c l held) i ≤ 63
-  places_small i = elim (in_or_past i (length (places c l))) [
+  places_small i = elim (cases_lt i (length (places c l))) [
     | inl b ↦ (
         let e = most_is c l held i b in
-        let s = maps_small (λ (x : Pair). limit_at c.parts x.part x.site) (places c l) i (λ x m. limit_small c x.part x.site valid (place_pair c l x line.is_part m).part) in
+        let s = maps_small (λ (x : Pair). limit_at c.parts x.part x.site) (places c l) i (λ x m. limit_most c x.part x.site valid (place_pair c l x line.is_part m).part) in
         omega (arith, e, s)
         )
     | inr b ↦ (
@@ -85,15 +74,19 @@ module _ (c : CaseRows) (l : ℕ) (held : List ℕ) (valid : IsCase c) (line : I
 
 -- ---- the line units, by their numbers
 
+-- the line unit at place f is a line unit of the case
 pub line_is : (c : CaseRows) (f : ℕ) → IsCase c → f < length (line_units c) → IsLine c (get_or (line_units c) f 0)
-line_is c f valid h = lines_are c valid (get_or (line_units c) f 0) (at_among (line_units c) f h)
+line_is c f valid h = lines_are c valid (get_or (line_units c) f 0) (among_at (line_units c) f 0 h)
 
+-- what is held is within the limits of each family
 pub held_line : (c : CaseRows) (held : StockList) (l : ℕ) → IsLine c l → IsHeld c held → AtMost (vector_of c l held.list) (limits c l)
 held_line c held l line h = held_limited c l held line.is_part h.is_for h.limits
 
+-- the cover at place f is that of family f at its floor
 pub cover_is : (c : CaseRows) (held : List ℕ) (p : ℕ) (floors : List ℕ) (f : ℕ) → f < length (line_units c) → get_or (covers_of c held p floors) f [] ≡ cover_at c held p floors f
 cover_is c held p floors f h = get_or-map-range_with_len (cover_at c held p floors) 0 (length (line_units c)) f f [] h (omega arith)
 
+-- there is a cover for each line unit
 pub covers_count : (c : CaseRows) (held : List ℕ) (p : ℕ) (floors : List ℕ) → length (covers_of c held p floors) ≡ length (line_units c)
 covers_count c held p floors = length-map-range_with_len (cover_at c held p floors) 0 (length (line_units c))
 
@@ -106,6 +99,7 @@ covers_all c held p floors valid h = All-from_get_or IsCover (covers_of c held.l
 
 -- ---- the certificate
 
+-- what a plan claims is in the range of a certificate's numbers
 pub plan_claims : (c : CaseRows) (held : StockList) (terms : Terms) (p : CasePlan) → IsPlanOn c held terms p → AreClaims c (claims_of c p)
 plan_claims c held terms p on =
     let fits : FitsItsPlace c p =
@@ -128,7 +122,7 @@ module _ (c : CaseRows) (held : StockList) (terms : Terms) (claims : PlanClaims)
 
   second_of : (certificate_of c held terms claims).covers ≡ covers_of c held.list claims.price.p claims.floors → IsSecond (certificate_of c held terms claims)
   second_of e = record {
-    count = ap length e ∙ covers_count c held.list claims.price.p claims.floors ∙ lines-counted c;
+    count = ap length e ∙ covers_count c held.list claims.price.p claims.floors ∙ lines_counted c;
     covers = subst (λ z. All IsCover z) (sym e) (covers_all c held claims.price.p claims.floors valid had);
   }
 
@@ -140,7 +134,7 @@ module _ (c : CaseRows) (held : StockList) (terms : Terms) (claims : PlanClaims)
     budget = are.budget;
     price = fits.price;
     money = (fits.money, fits.most_money);
-    floor_count = fits.floor_count ∙ lines-counted c;
+    floor_count = fits.floor_count ∙ lines_counted c;
     floors = fits.floors;
     first = λ e. record { objective = are.first e; covers = ap (λ b. cond b own []) (ne_eqb terms.format 2 (λ two. omega (arith, e, two))) };
     second = λ e. second_of (ap (λ b. cond b own []) (eq-eqb terms.format 2 e));

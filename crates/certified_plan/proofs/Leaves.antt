@@ -1,10 +1,12 @@
 -- The leaves of a trimmed cover: none is below the floor, and together they take no more tables than the whole family.
-use Rattle.std.proofs.Common.{◌≡◌, ℕ, suc, ◌+◌, ◌-◌, ◌*◌, ◌<◌, ◌≤◌, inl, inr, List, [], ◌∷◌, length, get_or, set, None, refl, sym, ap, ◌∙◌, subst, arith}
+use Rattle.std.proofs.Common.{◌≡◌, ℕ, suc, ◌+◌, ◌-◌, ◌*◌, ◌<◌, ◌≤◌, inl, inr, List, [], ◌∷◌, length, get_or, set, None, refl, sym, ap, ◌∙◌, subst, arith, le-ltb}
 use Rattle.std.proofs.lemmas.List.{ext_get_or}
 use Rattle.std.proofs.lemmas.List.Sums.{sum_by-cons, sum_by-append}
 use Rattle.hull.specs.declared.point.Point.{Point}
 use Rattle.hull.specs.declared.price.Price.{Price}
 use Rattle.hull.specs.Curves.{lagrangian, Among}
+use Rattle.hull.proofs.Stand.{among_either}
+use Rattle.hull.proofs.Members.{among_map, Mapped, among_mapped}
 use Rattle.spares_input.specs.Cases.{CaseRows}
 use Rattle.family_curve.specs.declared.bounds.Bounds.{Bounds}
 use Rattle.family_curve.specs.Vectors.{places, limits, vectors}
@@ -18,9 +20,8 @@ use Rattle.gap_checker.specs.Covers.{box_of, fewer, as_many}
 use Rattle.gap_checker.specs.Trees.{leaves_of}
 use Rattle.gap_checker.specs.Values.{least, least_within, value_of, leaf_tables, cover_tables}
 use Rattle.gap_checker.specs.Refusals.{low_leaf}
-use Rattle.gap_checker.proofs.Boxes.{at_most-self, at_most-chain, at_most-unset_high}
-use Rattle.gap_checker.proofs.Among_laws.{IsOf, IsBetween, among-either, among-map, among-of, among-vectors, between}
-use Rattle.gap_checker.proofs.Stock_faults.{less_false}
+use Rattle.gap_checker.proofs.Boxes.{at_most_self, at_most_chain, at_most_unset_high}
+use Rattle.gap_checker.proofs.Among_laws.{IsBetween, among_vectors, between}
 use Rattle.certified_plan.proofs.Corners.{Lists, Boxed, cut_of, fewer_boxed, as_many_boxed, below_high}
 use Rattle.certified_plan.proofs.Families.{added_is, held_is}
 use Rattle.certified_plan.proofs.Trees.{HasOneWhole}
@@ -47,22 +48,23 @@ least_above f floor (x ∷ y ∷ rest) u m h =
 low_none : (value : Leaf → ℕ) (floor k : ℕ) (ls : List Leaf) → ((x : Leaf) → Among x ls → floor ≤ value x) → low_leaf value floor k ls ≡ None
 unfolding low_leaf
 low_none value floor k [] h = refl
-low_none value floor k (x ∷ ls) h = rw (less_false (value x) floor (h x (inl refl))) (low_none value floor (k + 1) ls (λ y m. h y (inr m)))
+low_none value floor k (x ∷ ls) h = rw (le-ltb (value x) floor (h x (inl refl))) (low_none value floor (k + 1) ls (λ y m. h y (inr m)))
 
+-- where no leaf's value is below the floor, no leaf is found too low
 pub none_low : (value : Leaf → ℕ) (floor : ℕ) (ls : List Leaf) → ((x : Leaf) → Among x ls → floor ≤ value x) → low_leaf value floor 0 ls ≡ None
 none_low value floor ls h = low_none value floor 0 ls h
 
 list_most : (n : ℕ) (corner top : Corner) (xs ys : List ℕ) → Lists n corner xs → Lists n top ys → ((i : ℕ) → i < n → corner i ≤ top i) → AtMost xs ys
-list_most n corner top xs ys a b h = at_most-all xs ys (a.long ∙ sym b.long) (λ i l.
+list_most n corner top xs ys a b h = at_most_all xs ys (a.long ∙ sym b.long) (λ i l.
     let k : i < n = (let e = a.long in omega (arith, e, l)) in
     let p = a.same i k in let q = b.same i k in let r = h i k in omega (arith, p, q, r))
   where
-    at_most-all : (xs ys : List ℕ) → length xs ≡ length ys → ((i : ℕ) → i < length xs → get_or xs i 0 ≤ get_or ys i 0) → AtMost xs ys
-    at_most-all [] [] e h = tt
-    at_most-all [] (y ∷ ys) e h = absurd (let z : 0 ≡ suc (length ys) = e in omega (arith, z))
-    at_most-all (x ∷ xs) [] e h = absurd (let z : suc (length xs) ≡ 0 = e in omega (arith, z))
-    at_most-all (x ∷ xs) (y ∷ ys) e h =
-        (h 0 (omega arith), at_most-all xs ys (let z : suc (length xs) ≡ suc (length ys) = e in omega (arith, z)) (λ i l. h (suc i) (omega (arith, l))))
+    at_most_all : (xs ys : List ℕ) → length xs ≡ length ys → ((i : ℕ) → i < length xs → get_or xs i 0 ≤ get_or ys i 0) → AtMost xs ys
+    at_most_all [] [] e h = tt
+    at_most_all [] (y ∷ ys) e h = absurd (let z : 0 ≡ suc (length ys) = e in omega (arith, z))
+    at_most_all (x ∷ xs) [] e h = absurd (let z : suc (length xs) ≡ 0 = e in omega (arith, z))
+    at_most_all (x ∷ xs) (y ∷ ys) e h =
+        (h 0 (omega arith), at_most_all xs ys (let z : suc (length xs) ≡ suc (length ys) = e in omega (arith, z)) (λ i l. h (suc i) (omega (arith, l))))
 
 list_same : (n : ℕ) (corner : Corner) (xs ys : List ℕ) → Lists n corner xs → Lists n corner ys → xs ≡ ys
 list_same n corner xs ys a b = ext_get_or 0 xs ys (a.long ∙ sym b.long) (λ i l.
@@ -88,14 +90,14 @@ module _ (score : ScoreEnds) (c : CaseRows) (l : ℕ) (price : Price) (floor : �
   unfolding least_within
   whole_floor box h low order most =
       least_above (lagrangian price.p price.q) floor (points_within c l score box.held box.low box.high) (point_at_vector c l score box.held box.low)
-      (among-map (point_at_vector c l score box.held) box.low (vectors box.low box.high) (among-vectors box.low box.high box.low (at_most-self box.low) order))
+      (among_map (point_at_vector c l score box.held) (vectors box.low box.high) box.low (among_vectors box.low box.high box.low (at_most_self box.low) order))
       (λ w m.
-      let r : IsOf (point_at_vector c l score box.held) w (vectors box.low box.high) = among-of (point_at_vector c l score box.held) w (vectors box.low box.high) m in
-      let b : IsBetween box.low r.of box.high = between box.low box.high r.of r.among in
-      let from : AtMost held r.of = subst (λ z. AtMost z r.of) low b.low in
-      let own : Among (point_at_vector c l score held r.of) (points_within c l score held held (limits c l)) =
-      among-map (point_at_vector c l score held) r.of (vectors held (limits c l)) (among-vectors held (limits c l) r.of from (at_most-chain r.of box.high (limits c l) b.high most)) in
-      subst (λ z. floor ≤ lagrangian price.p price.q z) (sym (r.is ∙ ap (λ z. point_at_vector c l score z r.of) h)) (floor_is (point_at_vector c l score held r.of) own))
+      let r : Mapped (point_at_vector c l score box.held) (vectors box.low box.high) w = among_mapped (point_at_vector c l score box.held) (vectors box.low box.high) w m in
+      let b : IsBetween box.low r.from box.high = between box.low box.high r.from r.there in
+      let from : AtMost held r.from = subst (λ z. AtMost z r.from) low b.low in
+      let own : Among (point_at_vector c l score held r.from) (points_within c l score held held (limits c l)) =
+      among_map (point_at_vector c l score held) (vectors held (limits c l)) r.from (among_vectors held (limits c l) r.from from (at_most_chain r.from box.high (limits c l) b.high most)) in
+      subst (λ z. floor ≤ lagrangian price.p price.q z) (sym (r.is ∙ ap (λ z. point_at_vector c l score z r.from) h)) (floor_is (point_at_vector c l score held r.from) own))
 
   abbrev limit_lists : (corner : Corner) → Type 0
   limit_lists corner = Lists n corner (limits c l)
@@ -123,7 +125,7 @@ module _ (score : ScoreEnds) (c : CaseRows) (l : ℕ) (price : Price) (floor : �
   leaf_floor most cover.Cost low high box b h lawful pays part x (inr m) = absurd m
   leaf_floor most (cover.Cut at from one other) low high box b h lawful pays part x m =
       let cut = cut_of n low high at from lawful.0 in
-      elim (among-either x (leaves_of one (fewer box at from)) (leaves_of other (as_many box at from)) m) [
+      elim (among_either x (leaves_of one (fewer box at from)) (leaves_of other (as_many box at from)) m) [
         | inl a ↦ leaf_floor most one low (put at (from - 1) high) (fewer box at from) (fewer_boxed n low high box at from b cut) h lawful.1.0 pays.0 part.0 x a
         | inr a ↦ leaf_floor most other (put at from low) high (as_many box at from) (as_many_boxed n low high box at from b cut) h lawful.1.1 pays.1 part.1 x a
       ]
@@ -154,5 +156,5 @@ module _ (c : CaseRows) (l n : ℕ) where
       let e : cover_tables c l (leaves_of other (as_many box at from)) ≡ 0 = ap (λ t. cover_tables c l (leaves_of t (as_many box at from))) one.1 ∙ none in
       let r = tables_most first low (put at (from - 1) high) (fewer box at from) one.0 (fewer_boxed n low high box at from b cut) h.1.0 in
       let m = tables_more c l box.low (set box.high at (from - 1)) box.high
-      (at_most-unset_high (set box.high at (from - 1)) box.high at (from - 1) (at_most-self (set box.high at (from - 1))) (below_high n low high box at from b cut)) in
+      (at_most_unset_high (set box.high at (from - 1)) box.high at (from - 1) (at_most_self (set box.high at (from - 1))) (below_high n low high box at from b cut)) in
       omega (arith, s, e, r, m)

@@ -12,7 +12,7 @@ use Rattle.fleet_plan.proofs.Places.{length_places, length_vector}
 use Rattle.price_certificate.specs.declared.certificate.Node.{Node}
 use Rattle.price_certificate.specs.Covers as cover
 use Rattle.price_certificate.specs.Covers.{place_count}
-use Rattle.gap_checker.proofs.Families.{line_of, count_lines}
+use Rattle.gap_checker.proofs.Families.{line_read_at, count_lines}
 use Rattle.certified_plan.specs.Inputs.{IsHeld}
 use Rattle.certified_plan.specs.Certificates.{cover_of, cover_at, covers_of}
 use Rattle.certified_plan.proofs.Families.{within_most}
@@ -22,6 +22,7 @@ use Rattle.certified_plan.proofs.Formed.{held_line}
 pub held_count : (c : CaseRows) (held : List ℕ) (l : ℕ) (v : List ℕ) → v ≡ vector_of c l held → length v ≡ place_count c l
 held_count c held l v e = ap (λ (x : List ℕ). length x) e ∙ length_vector c l held ∙ length_places c l
 
+-- what is held of a family is within the most of each of its places
 pub held_within : (c : CaseRows) (held : StockList) (l : ℕ) (v : List ℕ) → IsLine c l → IsHeld c held → v ≡ vector_of c l held.list → cover.IsHeld c l v
 held_within c held l v line h e = subst (λ x. cover.IsHeld c l x) (sym e) (within_most c l (vector_of c l held.list) (held_line c held l line h))
 
@@ -33,7 +34,7 @@ module _ (c : CaseRows) (held : List ℕ) (p : ℕ) (floors : List ℕ) (lines :
   covers_more f floor covers new nodes h own is_floor next =
       next
       ∙ ap₂ (λ (a : List (List Node)) (b : List Node). a ++ b ∷ []) h
-      (own ∙ ap (λ x. cover_of c held p x (get_or lines f (record { 0 = 0 })).0) is_floor ∙ ap (λ l. cover_of c held p (get_or floors f 0) l) (line_of c lines f are))
+      (own ∙ ap (λ x. cover_of c held p x (get_or lines f (record { 0 = 0 })).0) is_floor ∙ ap (λ l. cover_of c held p (get_or floors f 0) l) (line_read_at c lines f are))
       ∙ sym (map-range_with_len_more (cover_at c held p floors) 0 f f (omega arith))
 
   pub covers_all_made : (f : ℕ) (covers : List (List Node)) → covers ≡ map (cover_at c held p floors) (range_with_len 0 f) → length lines ≤ f → f ≤ length lines → covers ≡ covers_of c held p floors

@@ -5,7 +5,8 @@ use Rattle.std.proofs.lemmas.List.Elements.{recursion_from_All, All-from_get_or}
 use Rattle.spares_input.specs.Stocks.{StockList}
 use Rattle.spares_input.specs.Cases.{CaseRows, IsCase}
 use Rattle.fleet_model.specs.Rows.{line_units}
-use Rattle.fleet_model.proofs.AllocationLaws.{allocation_reaches, stocks-allocation}
+use Rattle.fleet_model.proofs.AllocationLaws.{allocation_reaches, stocks_allocation}
+use Rattle.fleet_model.proofs.FrameLaws.{few_lines}
 use Rattle.family_curve.specs.Vectors.{vector_of}
 use Rattle.fleet_plan.specs.Plans.{CasePlan}
 use Rattle.price_certificate.specs.declared.certificate.Node.{Node}
@@ -14,7 +15,6 @@ use Rattle.price_certificate.specs.Certificates.{IsNode, cert_text}
 use Rattle.price_certificate.specs.Grammar.{certificate_format}
 use Rattle.on_hand.specs.declared.held.HeldCertificate.{HeldCertificate}
 use Rattle.on_hand.specs.Held.{held_format, held_text}
-use Rattle.gap_checker.proofs.Judging.{few_lines}
 use Rattle.certified_plan.specs.declared.terms.Terms.{Terms}
 use Rattle.certified_plan.specs.Certificates.{cover_at, covers_of, certificate_of, claims_of}
 use Rattle.certified_plan.specs.Inputs.{IsHeld}
@@ -68,7 +68,7 @@ module _ (c : CaseRows) (held : StockList) (terms : Terms) (p : CasePlan) (on : 
 
   held_small : AllByRecursion (λ n. n ≤ 63) held.list
   held_small =
-      let own = stocks-allocation c held on.is_held.is_for on.is_held.limits in
+      let own = stocks_allocation c held on.is_held.is_for on.is_held.limits in
       recursion_from_All (λ n. n ≤ 63) held.list (All-from_get_or (λ n. n ≤ 63) held.list 0
       (λ i b. subst (λ j. get_or held.list j 0 ≤ 63) (first_row i (length c.sites)) (allocation_reaches c held.list 62 on.accepted.valid own (omega arith) 0 i)))
     where

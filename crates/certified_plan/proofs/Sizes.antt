@@ -1,10 +1,10 @@
 -- The text of a plan's certificate is short enough to be read.
-use Rattle.std.proofs.Common.{◌≡◌, ◌==◌, ℕ, ◌+◌, ◌*◌, ◌/◌, ◌%◌, ◌^◌, ◌<◌, ◌≤◌, ◌⊎◌, ◌&&◌, not, inl, inr, Bool, true, false, cond, List, [], ◌∷◌, ◌++◌, length, All, Option, Some, None, is_none, refl, ap, arith}
+use Rattle.std.proofs.Common.{◌≡◌, ◌==◌, ℕ, ◌+◌, ◌*◌, ◌/◌, ◌%◌, ◌^◌, ◌<◌, ◌≤◌, ◌&&◌, not, inl, inr, Bool, true, false, cond, List, [], ◌∷◌, ◌++◌, length, All, Option, Some, None, is_none, refl, ap, arith}
 use Rattle.std.specs.Fmt.{decimal}
 use Rattle.std.specs.List.{AllByRecursion}
 use Rattle.std.proofs.Math.Nat.{div-le_self}
 use Rattle.std.proofs.lemmas.Nat.{mul-le}
-use Rattle.std.proofs.lemmas.Bool.{and_parts, leb-true}
+use Rattle.std.proofs.lemmas.Bool.{and_parts, leb-true, cases_lt}
 use Rattle.std.proofs.lemmas.List.{get_or_past}
 use Rattle.std.proofs.lemmas.List.Elements.{recursion_from_All}
 use Rattle.fixed_interval.specs.Text.{fixed_text}
@@ -129,17 +129,14 @@ parts_most ps few all =
 
 -- ---- rates
 
-in_or_past : (i n : ℕ) → (i < n) ⊎ (n ≤ i)
-in_or_past i n = grind arith
-
 part_name : (ps : List PartRow) (i : ℕ) → All IsPartRow ps → length (part_at ps i).name ≤ 24
-part_name ps i all = elim (in_or_past i (length ps)) [
+part_name ps i all = elim (cases_lt i (length ps)) [
   | inl b ↦ name_most (part_at ps i).name (all i no_part b).name
   | inr b ↦ (let e = ap (λ (r : PartRow). length r.name) (get_or_past ps i no_part b) in omega (arith, e))
 ]
 
 site_name : (ss : List SiteRow) (i : ℕ) → All IsSiteRow ss → length (site_at ss i).name ≤ 24
-site_name ss i all = elim (in_or_past i (length ss)) [
+site_name ss i all = elim (cases_lt i (length ss)) [
   | inl b ↦ name_most (site_at ss i).name (all i no_site b).name
   | inr b ↦ (let e = ap (λ (r : SiteRow). length r.name) (get_or_past ss i no_site b) in omega (arith, e))
 ]
@@ -275,6 +272,7 @@ pub record HasFew (cert : Certificate) : Type 0 where
   pub covers : length cert.covers ≤ 2000
   pub short : AllByRecursion IsShort cert.covers
 
+-- a certificate of at most 2,000 families takes at most 12,400,000 bytes
 pub certificate_most : (cert : Certificate) → HasFew cert → width ((certificate_format 1).print cert) ≤ 12400000
 certificate_most cert h =
     let w = h.formed in
@@ -303,6 +301,7 @@ certificate_most cert h =
     (end_most tt)))))))))) in
     omega (arith, all)
 
+-- with what is held it takes at most 12,600,000 bytes
 pub held_most : (h : HeldCertificate) → HasFew h.certificate → IsFor h.certificate.case h.held → AllByRecursion (λ n. n ≤ 63) h.held.list → width (held_format.print h) ≤ 12600000
 held_most h few is_for small =
     let c = h.certificate.case in

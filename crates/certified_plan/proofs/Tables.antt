@@ -9,7 +9,7 @@ use Rattle.fleet_model.specs.Fleet.{family}
 use Rattle.family_curve.specs.Vectors.{site_part}
 use Rattle.family_curve.specs.Counts.{product, tables_between, widths}
 use Rattle.gap_checker.specs.Boxes.{AtMost}
-use Rattle.gap_checker.proofs.Boxes.{at_most-at, at_most-length}
+use Rattle.gap_checker.proofs.Boxes.{at_most_at, at_most_length}
 
 widths_more : (low high most : List ℕ) → AtMost high most → AtMost (widths low high) (widths low most)
 widths_more [] high most h = tt
@@ -82,10 +82,10 @@ module _ (c : CaseRows) (l : ℕ) (low high most : List ℕ) (more : AtMost high
       let shops : ℕ → List ℕ = λ k. drop 1 (site_part c l (widths low most) k) in
       add_up (length (fewer 0)) (product (fewer 0)) (length (map fewer (bases c))) (sum (fewer 0)) (get_or (at 0) 0 0) (product (fewer 0)) (sum_by product (map fewer (bases c)))
       (length (shops 0)) (product (shops 0)) (length (map shops (bases c))) (sum (shops 0)) (get_or (to 0) 0 0) (product (shops 0)) (sum_by product (map shops (bases c)))
-      (at_most-length (fewer 0) (shops 0) (shops_more 0))
+      (at_most_length (fewer 0) (shops 0) (shops_more 0))
       (product_more (fewer 0) (shops 0) (shops_more 0))
       (omega (arith, length-map (bases c) fewer, length-map (bases c) shops))
       (sum_more (fewer 0) (shops 0) (shops_more 0))
-      (at_most-at (at 0) (to 0) 0 (site_more 0))
+      (at_most_at (at 0) (to 0) 0 (site_more 0))
       (product_more (fewer 0) (shops 0) (shops_more 0))
       (bases_more fewer shops (bases c) shops_more)

@@ -3,13 +3,14 @@ use Rattle.std.proofs.Common.{◌≡◌, ℕ, suc, ◌+◌, ◌-◌, ◌*◌, �
 use Rattle.std.specs.Prelude.{⊤, ◌==◌, nat_le}
 use Rattle.std.specs.List.{AllByRecursion}
 use Rattle.std.proofs.lemmas.List.{length-append}
-use Rattle.family_curve.proofs.Boxes.{each_append}
 use Rattle.price_certificate.specs.declared.place.Place.{Place}
 use Rattle.price_certificate.specs.Certificates.{IsNode}
 use Rattle.price_certificate.specs.Covers.{Tree, Whole, Cost, Cut, Corner, put, IsLawful, nodes_of, reach, trimmed_from, trimmed}
+use Rattle.family_eval.proofs.Units.{each_append}
 
 -- ---- one leaf is shown whole
 
+-- of the leaves of the tree one is a whole one, and all that it cuts off are left to cost
 abbrev pub HasOneWhole : Tree → Type 0
 HasOneWhole Whole = ⊤
 HasOneWhole Cost = ⊥
@@ -28,11 +29,13 @@ whole_at : (p floor : ℕ) (xs : List Place) (b : Bool) → HasOneWhole (cond b 
 whole_at p floor xs true = tt
 whole_at p floor xs false = whole_from p floor 0 xs
 
+-- a trimmed cover has one whole leaf
 pub trimmed_whole : (p floor : ℕ) (xs : List Place) → HasOneWhole (trimmed p floor xs)
 trimmed_whole p floor xs = whole_at p floor xs (p == 0)
 
 -- ---- how many nodes
 
+-- each tree has a node at least
 pub some_nodes : (tree : Tree) → 1 ≤ length (nodes_of tree)
 some_nodes Whole = omega arith
 some_nodes Cost = omega arith
@@ -53,11 +56,13 @@ few_at : (p floor : ℕ) (xs : List Place) (b : Bool) → length (nodes_of (cond
 few_at p floor xs true = omega arith
 few_at p floor xs false = few_from p floor 0 xs
 
+-- a trimmed cover has at most two nodes for each place, and one
 pub few_nodes : (p floor : ℕ) (xs : List Place) → length (nodes_of (trimmed p floor xs)) ≤ 2 * length xs + 1
 few_nodes p floor xs = few_at p floor xs (p == 0)
 
 -- ---- nodes within their ranges
 
+-- the nodes of a lawful tree over at most 144 places have numbers in a certificate's range
 pub lawful_nodes : (n : ℕ) (tree : Tree) (low high : Corner) → n ≤ 144 → ((i : ℕ) → high i ≤ 63) → IsLawful n tree low high → AllByRecursion IsNode (nodes_of tree)
 lawful_nodes n Whole low high few most h = (tt, tt)
 lawful_nodes n Cost low high few most h = (tt, tt)

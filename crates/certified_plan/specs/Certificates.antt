@@ -14,8 +14,8 @@ use Rattle.on_hand.specs.Held.{held_text}
 use Rattle.certified_plan.specs.declared.terms.Terms.{Terms}
 use Rattle.certified_plan.specs.declared.terms.PlanClaims.{PlanClaims}
 
--- the cover of the family of the line unit l at a price and a floor: over the vectors from what is held to the limits, what
--- cost alone shows is left to it
+-- the cover of the family of the line unit l at a price and a floor: over the vectors from what is held to the
+-- limits, what cost alone shows is left to it
 abbrev pub cover_of : CaseRows → List ℕ → ℕ → ℕ → ℕ → List Node
 cover_of c held p floor l = nodes_of (trimmed p floor (places_of c l (vector_of c l held)))
 

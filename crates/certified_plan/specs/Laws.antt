@@ -1,16 +1,13 @@
 -- What holds of a plan's certificate.
-use Rattle.std.specs.Prelude.{◌≡◌, ℕ, ◌≤◌, [], length, None}
-use Rattle.std.specs.Result.{IsOk}
+use Rattle.std.specs.Prelude.{◌≡◌, ℕ, ◌≤◌, length, None}
 use Rattle.hull.specs.Scores.{EnclosesValue, LeavesRoom}
-use Rattle.spares_input.specs.Cases.{CaseRows, IsCase}
+use Rattle.spares_input.specs.Cases.{CaseRows}
 use Rattle.spares_input.specs.Stocks.{StockList}
-use Rattle.family_curve.specs.Counts.{work_of}
 use Rattle.fleet_plan.specs.Plans.{CasePlan, IsCasePlan}
 use Rattle.fleet_plan.specs.Laws.{IsAcceptedCase}
 use Rattle.price_certificate.specs.declared.certificate.Objective.{Objective}
 use Rattle.price_certificate.specs.Certificates.{cert_text}
 use Rattle.gap_checker.specs.Refusals.{reject_of}
-use Rattle.gap_checker.specs.Soundness.{nothing_held}
 use Rattle.on_hand.specs.Held.{held_text}
 use Rattle.certified_plan.specs.declared.terms.Terms.{Terms}
 use Rattle.certified_plan.specs.Scores.{ends_of, value_of}
@@ -21,6 +18,7 @@ use Rattle.certified_plan.specs.Certificates.{certificate_of, claims_of}
 abbrev pub ScoresEnclose : Type 0
 ScoresEnclose = (o : Objective) → EnclosesValue (ends_of o) (value_of o)
 
+-- the intervals of each objective leave room to be summed over the bases
 abbrev pub ScoresLeaveRoom : Type 0
 ScoresLeaveRoom = (o : Objective) → LeavesRoom (ends_of o)
 
@@ -54,8 +52,10 @@ TextsAreShort =
     (c : CaseRows) (held : StockList) (terms : Terms) (p : CasePlan)
     → IsPlanOn c held terms p → length (cert_text (certificate_of c held terms (claims_of c p))) ≤ most_bytes
 
+-- a plan's certificate with what is held is within the bytes that are read
 abbrev pub HeldTextsAreShort : Type 0
 HeldTextsAreShort =
     (c : CaseRows) (held : StockList) (terms : Terms) (p : CasePlan)
     → IsPlanOn c held terms p
-    → length (held_text (record { certificate = certificate_of c held terms (claims_of c p); held = held })) ≤ most_bytes
+    → length (held_text (record { certificate = certificate_of c held terms (claims_of c p); held = held }))
+    ≤ most_bytes

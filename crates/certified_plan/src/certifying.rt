@@ -99,7 +99,8 @@ fn covers_in(
 ) -> Result<List<List<Node>>, NoMemory>
     requires held { IsHeld case.now held.now }
     requires claims { AreClaims case.now claims.now }
-    ensures { IfOk result (λ covers. covers ≡ covers_in case.now held.now.list format claims.now.price.p claims.now.floors) }
+    ensures { IfOk result (λ covers. covers ≡ covers_in case.now held.now.list format claims.now.price.p
+        claims.now.floors) }
 {
     if format == 2 {
         let covers = covers_of(alloc, case, held, claims.price, claims.floors.as_slice())?;
@@ -109,11 +110,11 @@ fn covers_in(
     }
 }
 
-/// The certificate of a plan's claims on its terms, over what is held. In format 2 the covers leave to cost what these floors
-/// allow.
+/// The certificate of a plan's claims on its terms, over what is held. In format 2 the covers leave to cost what
+/// these floors allow.
 ///
-/// The terms and the claims are in their ranges, and what is held is a list for the case, within its limits. Want of memory is
-/// the only error.
+/// The terms and the claims are in their ranges, and what is held is a list for the case, within its limits. Want of
+/// memory is the only error.
 pub fn certificate(
     alloc: Global,
     case: Case,

@@ -14,8 +14,8 @@ pub fn demonstrations_are_accepted()
     ensures made { (number lines : ℕ) → lines ≤ 80 → rate_fault_of (made number lines) ≡ None }
 {}
 
-/// A family of a demonstration case takes at most 142 tables, and so 80 families together at most 11,360: its curves are
-/// within the limit of what is planned.
+/// A family of a demonstration case takes at most 142 tables, and so 80 families together at most 11,360: its curves
+/// are within the limit of what is planned.
 pub fn demonstrations_take_few_tables()
     ensures family { (number lines : ℕ) → lines ≤ 80 → HasFewTables 142 (made number lines) }
     ensures all { (number lines : ℕ) → lines ≤ 80 → all_tables (made number lines) ≤ 142 * lines }

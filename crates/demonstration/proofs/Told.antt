@@ -1,27 +1,26 @@
 -- A plan of the demonstration case is accepted, and its summary is what is asked for.
-use Rattle.std.proofs.Common.{◌≡◌, ◌∙◌, ap, arith, refl, subst, sym, false, ℕ, ◌*◌, ◌^◌, ◌<◌, ◌≤◌, length, List, None, Result, Ok}
+use Rattle.std.proofs.Common.{◌≡◌, ◌∙◌, ap, arith, refl, subst, sym, ℕ, ◌<◌, ◌≤◌, length, None, Result, Ok}
 use Rattle.std.specs.Result.{IsOk}
 use Rattle.std.proofs.lemmas.List.{get_or-replicate, length-replicate}
 use Rattle.spares_input.specs.Cases.{CaseRows, IsCase, frame_rows, pair_count}
 use Rattle.spares_input.specs.Stocks.{StockList, IsFor, IsWithinLimits}
 use Rattle.case_figures.specs.Spans.{places}
 use Rattle.case_maker.specs.Demonstration.{made}
-use Rattle.case_maker.proofs.Valid.{made-few, made-lines, made-valid}
-use Rattle.case_maker.proofs.Whole.{made-drawn}
+use Rattle.case_maker.proofs.Valid.{made_few, made_lines, made_valid}
+use Rattle.case_maker.proofs.Whole.{made_drawn}
 use Rattle.case_plan.specs.Report.{IsOutcome, IsPlanned, outcome_of}
 use Rattle.case_plan.specs.declared.outcome.Outcome.{Outcome}
 use Rattle.case_plan.proofs.Truths.{report_fits}
 use Rattle.certified_plan.specs.Certificates.{certificate_of, claims_of}
-use Rattle.certified_plan.specs.Inputs.{AreClaims, AreTerms, IsHeld}
+use Rattle.certified_plan.specs.Inputs.{AreClaims, AreTerms}
 use Rattle.certified_plan.specs.Laws.{IsPlanOn}
 use Rattle.certified_plan.proofs.Accepted.{accepted}
 use Rattle.certified_plan.proofs.Formed.{plan_claims}
 use Rattle.certified_plan.proofs.Scores.{scores_enclose, scores_leave_room}
 use Rattle.certified_plan.proofs.Short.{text_short}
 use Rattle.demand_rates.specs.Limits.{rate_fault_of}
-use Rattle.demo_accepts.proofs.FewTables.{all-few, work-few}
-use Rattle.family_curve.specs.Counts.{work_of}
-use Rattle.fleet_plan.specs.Laws.{IsAcceptedCase, plain_ends}
+use Rattle.demo_accepts.proofs.FewTables.{all_few, work_few}
+use Rattle.fleet_plan.specs.Laws.{plain_ends}
 use Rattle.fleet_plan.specs.Plans.{CasePlan, IsCasePlan}
 use Rattle.gap_checker.specs.Refusals.{reject_of}
 use Rattle.gap_checker.specs.Soundness.{nothing_held, plain_score}
@@ -38,20 +37,23 @@ use Rattle.demonstration.specs.Demonstrations.{IsDemonstrated, budget_of, claims
 is_ok : {A E : Type 0} (r : Result A E) (n : A) → r ≡ Ok n → IsOk r
 is_ok {A} {E} r n e = subst (λ (x : Result A E). IsOk x) (sym e) refl
 
+-- where nothing is held, the list of that holds nothing of any pair
 pub zeros_hold : (c : CaseRows) → IsNothing (nothing_held c).list
 zeros_hold c i d b = get_or-replicate (pair_count (frame_rows c)) i 0 d (subst (λ n. i < n) (length-replicate {A = ℕ} (pair_count (frame_rows c)) 0) b)
 
+-- the curves of a demonstration case take few enough tables
 pub demo_work : (number lines : ℕ) (c : CaseRows) (held : StockList) → lines ≤ 80 → c ≡ made number lines → held ≡ nothing_held c
     → IsOk (held_work_of c held.list)
 demo_work number lines c held few is none =
-    let valid = made-valid number lines few in
-    let all = all-few (made number lines) valid (made-drawn number lines) (made-few number lines few) lines (made-lines number lines) in
+    let valid = made_valid number lines few in
+    let all = all_few (made number lines) valid (made_drawn number lines) (made_few number lines few) lines (made_lines number lines) in
     subst (λ (s : StockList). IsOk (held_work_of c s.list)) (sym none)
     (subst (λ (d : CaseRows). IsOk (held_work_of d (nothing_held d).list)) (sym is)
-    (is_ok _ _ (all_work (made number lines) (nothing_held (made number lines)).list valid (zeros_hold (made number lines)) ∙ work-few (made number lines) lines few all)))
+    (is_ok _ _ (all_work (made number lines) (nothing_held (made number lines)).list valid (zeros_hold (made number lines)) ∙ work_few (made number lines) lines few all)))
 
 -- ---- the plan
 
+-- the terms of the demonstration's plan are those of a certificate
 pub are_terms : (lines : ℕ) → lines ≤ 80 → AreTerms (demo_terms (budget_of lines))
 are_terms lines few = record { budget = omega (arith, few); fewest = omega arith; most = omega arith; first = λ e. refl }
 

@@ -39,7 +39,8 @@ summary_of number lines p = record {
 -- the certificate of the plan
 abbrev pub demo_certificate : ℕ → ℕ → CasePlan → Certificate
 demo_certificate number lines p =
-    certificate_of (made number lines) (nothing_held (made number lines)) (demo_terms (budget_of lines)) (claims_of (made number lines) p)
+    certificate_of (made number lines) (nothing_held (made number lines)) (demo_terms (budget_of lines))
+    (claims_of (made number lines) p)
 
 -- The summary is that of the plan of the demonstration case, from no stock of anything; there is one.
 pub record IsDemonstrated (number lines : ℕ) (summary : Summary) : Type 0 where
@@ -49,6 +50,7 @@ pub record IsDemonstrated (number lines : ℕ) (summary : Summary) : Type 0 wher
 
 -- ---- the same from a plan's outcome: no promise rests on these words
 
+-- the summary of the demonstration, from its plan's outcome
 abbrev pub summary_in : ℕ → ℕ → ℕ → Outcome → Summary
 summary_in number lines parts o = record {
   number = number;
@@ -61,8 +63,10 @@ summary_in number lines parts o = record {
   gap = o.report.gap;
 }
 
+-- what the outcome of a plan claims
 abbrev pub claims_in : Outcome → PlanClaims
 claims_in o = record { stocks = o.stocks; price = o.price; floors = o.floors; upper = o.upper; bound = o.report.bound }
 
+-- the terms of the demonstration's report: its budget, no loss, nothing on hand
 abbrev pub report_terms : ℕ → reports.Terms
 report_terms budget = record { budget = budget; loss = false; on_hand = None }

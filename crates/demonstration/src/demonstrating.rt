@@ -65,7 +65,8 @@ fn certificate_in(
     requires held { IsHeld case held.now }
     requires terms { AreTerms (demo_terms budget) }
     requires claims { AreClaims case (claims_in plan) }
-    ensures certificate { IfOk result (λ cert. cert ≡ certificate_of case held.now (demo_terms budget) (claims_in plan)) }
+    ensures certificate { IfOk result (λ cert. cert ≡ certificate_of case held.now (demo_terms budget)
+        (claims_in plan)) }
     ensures formed { IfOk result IsWellFormed }
 {
     let terms = Terms {
@@ -83,8 +84,9 @@ fn certificate_in(
     certificate(alloc, case, held, terms, claims)
 }
 
-/// Plans the demonstration case of a number with 1 to 80 line units, with 2,000 of money for each of them, writes the certificate of
-/// the plan, reads it back and checks it, all in memory. It gives the summary of the plan. Want of memory is the only error.
+/// Plans the demonstration case of a number with 1 to 80 line units, with 2,000 of money for each of them, writes the
+/// certificate of the plan, reads it back and checks it, all in memory. It gives the summary of the plan. Want of
+/// memory is the only error.
 pub fn demonstrate(alloc: Global, number: u32, lines: u16) -> Result<Summary, NoMemory>
     requires some { 1 ≤ lines }
     requires few { lines ≤ 80 }

@@ -6,6 +6,7 @@ use Rattle.exact_model.specs.Fraction.{Fraction, whole, ◌+ℚ◌, ◌*ℚ◌, 
 use Rattle.fixed_interval.specs.Ends.{Ends}
 use Rattle.hull.specs.Curves.{Among}
 use Rattle.hull.specs.Scores.{EnclosesValue}
+use Rattle.hull.proofs.Members.{among_map}
 use Rattle.spares_input.specs.Cases.{CaseRows, IsCase, frame_rows, pair_count}
 use Rattle.spares_input.specs.Stocks.{limit_at}
 use Rattle.exact_model.specs.Sums.{sum_over}
@@ -13,6 +14,7 @@ use Rattle.fleet_model.specs.Rows.{stock, line_units}
 use Rattle.family_eval.specs.Inputs.{IsLine}
 use Rattle.family_curve.specs.Vectors.{Pair, places, vector_of, limits, vectors, stocks_with, IsBetween}
 use Rattle.family_curve.specs.Points.{ScoreEnds, scored_total, added_cost, point_at_vector}
+use Rattle.family_curve.proofs.Stands.{vector_stands}
 use Rattle.price_bounds.specs.Sums.{cost_of, hi_of, Picks}
 use Rattle.price_bounds.specs.Values.{IsAtLeast, IsAtMost}
 use Rattle.marginal_alloc.specs.Plans.{IsPlan}
@@ -28,11 +30,11 @@ use Rattle.fleet_model.specs.Bounds.{NoneHasLess, PriceShows, HasNoMore}
 use Rattle.fleet_plan.specs.Families.{HasWidth, family_at, families_at, family_points, case_points, vectors_at, points_at, hi_at}
 use Rattle.fleet_plan.specs.Plans.{CasePlan, IsCasePlan, CaseClaims, claims_of, AreAcceptable, IsTruePlan, AreTrueClaims}
 use Rattle.fleet_plan.specs.Laws.{claims_at, IsAcceptedCase, IsSameChoice, IsOfStocks}
-use Rattle.fleet_model.proofs.DependLaws.{family_aim-same, has_sites}
-use Rattle.fleet_plan.proofs.Lists.{among_map, is_among, is_between, zip_maps}
-use Rattle.fleet_plan.proofs.Places.{stocks_from, length_listed, from_families, vectors-from, vector-with, length_vector, agree_on, family_of_part, lines_are, line_among, place_has, in_case, zip_each}
+use Rattle.fleet_model.proofs.DependLaws.{family_aim_same, has_sites}
+use Rattle.fleet_plan.proofs.Lists.{is_among, is_between, zip_maps}
+use Rattle.fleet_plan.proofs.Places.{stocks_from, length_listed, from_families, vectors_from, length_vector, agree_on, family_of_part, lines_are, line_among, place_has, in_case, zip_each}
 use Rattle.fleet_plan.proofs.Costs.{families_beyond}
-use Rattle.fleet_plan.proofs.Scores.{scored_total-same, scored_encloses, width_of, within_family, with_sound}
+use Rattle.fleet_plan.proofs.Scores.{scored_total_same, scored_encloses, width_of, within_family, with_sound}
 
 -- ---- the points of the families
 
@@ -40,6 +42,7 @@ points_in : (ends : ScoreEnds) (value : Value) (c : CaseRows) (held ls : List �
 points_in ends value c held [] = refl
 points_in ends value c held (l ∷ ls) = ap (λ z. family_points ends c held l ∷ z) (points_in ends value c held ls)
 
+-- the points of the families are the case's, whatever value is aimed at
 pub points_are : (ends : ScoreEnds) (value : Value) (c : CaseRows) (held : List ℕ) → map points_of (families_at ends value c held) ≡ case_points ends c held
 points_are ends value c held = points_in ends value c held (line_units c)
 
@@ -47,6 +50,7 @@ stocks_in : (ends : ScoreEnds) (c : CaseRows) (held s ls : List ℕ) → stocks_
 stocks_in ends c held s [] = refl
 stocks_in ends c held s (l ∷ ls) = ap (λ z. vector_of c l s ∷ z) (stocks_in ends c held s ls)
 
+-- the stocks of the families' points at s are the vectors of s
 pub stocks_are : (ends : ScoreEnds) (c : CaseRows) (held s : List ℕ) → stocks_of (points_at ends c held s) ≡ vectors_at c s
 stocks_are ends c held s = stocks_in ends c held s (line_units c)
 
@@ -60,6 +64,7 @@ enclosed_in ends value c held (l ∷ ls) accepted encloses lines =
       enclosed_in ends value c held ls accepted encloses (λ m b. lines m (inr b)),
     )
 
+-- each vector's interval encloses its aim, where the score's intervals enclose its value
 pub families_enclosed : (ends : ScoreEnds) (value : Value) (c : CaseRows) (held : List ℕ) → IsAcceptedCase c → EnclosesValue ends value → AreEnclosed (families_at ends value c held)
 families_enclosed ends value c held accepted encloses = enclosed_in ends value c held (line_units c) accepted encloses (lines_are c accepted.valid)
 
@@ -89,13 +94,13 @@ module _ (ends : ScoreEnds) (value : Value) (c : CaseRows) (held : List ℕ) (va
   same_cost s = cost_in s (line_units c) ∙ families_beyond c held s valid
 
   own_vector : (s : List ℕ) (l : ℕ) → IsLine c l → vector_of c l (stocks_with c l (vector_of c l s)) ≡ vector_of c l s
-  own_vector s l line = vector-with c l (vector_of c l s) valid line (length_vector c l s)
+  own_vector s l line = vector_stands c l (vector_of c l s) valid line (length_vector c l s)
 
   total_in : (s : List ℕ) (n : ℕ) (ls : List ℕ) → ((l : ℕ) → Among l ls → IsLine c l) → total_at n (map (family_at ends value c held) ls) (map (λ l. vector_of c l s) ls) ≡ sum_over ls (family_aim value c s n)
   unfolding total_at sum_over
   total_in s n [] lines = refl
   total_in s n (l ∷ ls) lines =
-      ap₂ (λ a b. a +ℚ b) (family_aim-same c (stocks_with c l (vector_of c l s)) s (has_sites c valid) value n l (agree_on c l (stocks_with c l (vector_of c l s)) s (own_vector s l (lines l (inl refl)))))
+      ap₂ (λ a b. a +ℚ b) (family_aim_same c (stocks_with c l (vector_of c l s)) s (has_sites c valid) value n l (agree_on c l (stocks_with c l (vector_of c l s)) s (own_vector s l (lines l (inl refl)))))
       (total_in s n ls (λ m b. lines m (inr b)))
 
   pub same_total : (s : List ℕ) (n : ℕ) → total_at n (families_at ends value c held) (vectors_at c s) ≡ aim value c s n
@@ -129,7 +134,7 @@ module _ (ends : ScoreEnds) (value : Value) (c : CaseRows) (held : List ℕ) (va
   pub of_stocks : (allocation : List (List ℕ)) → IsAllocation (families_at ends value c held) allocation → IsOfStocks c held allocation
   of_stocks allocation a =
       let widths : AllZip (HasWidth c) (line_units c) allocation = zip_each (λ l v. IsBetween (vector_of c l held) (limits c l) v) (HasWidth c) (line_units c) allocation (λ l v m b. width_of c l held v b) (betweens (line_units c) allocation a) in
-      let same : vectors_at c (stocks_from c allocation) ≡ allocation = vectors-from c valid allocation widths in
+      let same : vectors_at c (stocks_from c allocation) ≡ allocation = vectors_from c valid allocation widths in
       record {
         stocks = stocks_from c allocation;
         is_allocation = held_of (stocks_from c allocation) (length_listed c (from_families c (line_units c) allocation)) (subst (IsAllocation (families_at ends value c held)) (sym same) a);
@@ -144,11 +149,12 @@ hi_in ends c held s [] valid lines = refl
 hi_in ends c held s (l ∷ ls) valid lines =
     let line = lines l (inl refl) in
     ap₂ (λ a b. a + b)
-    (ap (λ (x : Ends). x.hi) (scored_total-same c ends (stocks_with c l (vector_of c l s)) s l line
-    (agree_on c l (stocks_with c l (vector_of c l s)) s (vector-with c l (vector_of c l s) valid line (length_vector c l s)))))
+    (ap (λ (x : Ends). x.hi) (scored_total_same c ends (stocks_with c l (vector_of c l s)) s l line
+    (agree_on c l (stocks_with c l (vector_of c l s)) s (vector_stands c l (vector_of c l s) valid line (length_vector c l s)))))
     (hi_in ends c held s ls valid (λ m b. lines m (inr b)))
     ∙ sym (sum_by-cons (λ m. (scored_total c m ends s).hi) l ls)
 
+-- the upper ends of the points at s come to that of the scored totals at s
 pub hi_same : (ends : ScoreEnds) (c : CaseRows) (held s : List ℕ) → IsCase c → hi_of (points_at ends c held s) ≡ hi_at ends c s
 hi_same ends c held s valid = hi_in ends c held s (line_units c) valid (lines_are c valid)
 
@@ -172,6 +178,7 @@ cost_of_in ends c held s (l ∷ ls) =
 pub cost_same : (ends : ScoreEnds) (c : CaseRows) (held s : List ℕ) → IsCase c → cost_of (points_at ends c held s) ≡ cost_beyond c held s
 cost_same ends c held s valid = cost_of_in ends c held s (line_units c) ∙ families_beyond c held s valid
 
+-- claims that are acceptable for the case are so over the families' points
 pub over_points : (ends : ScoreEnds) (c : CaseRows) (held : List ℕ) (budget : ℕ) (x : CaseClaims) → IsCase c → AreAcceptable ends c held budget x → IsAcceptable (case_points ends c held) budget (claims_at ends c held x)
 over_points ends c held budget x valid h = record {
   money = h.money;
@@ -182,6 +189,7 @@ over_points ends c held budget x valid h = record {
   bound = h.bound_is;
 }
 
+-- claims that are acceptable over the families' points are so for the case
 pub from_points : (ends : ScoreEnds) (c : CaseRows) (held : List ℕ) (budget : ℕ) (x : CaseClaims) → IsCase c → length x.stocks ≡ pair_count (frame_rows c)
     → IsAcceptable (case_points ends c held) budget (claims_at ends c held x) → AreAcceptable ends c held budget x
 from_points ends c held budget x valid count h = record {

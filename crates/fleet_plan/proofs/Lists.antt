@@ -1,46 +1,16 @@
 -- Lists by what stands in them.
-use Rattle.std.proofs.Common.{◌≡◌, ℕ, zero, suc, ◌+◌, ◌-◌, ◌<◌, ◌≤◌, ◌⊎◌, inl, inr, List, [], ◌∷◌, map, flat_map, refl, sym, ap, ap₂, ◌∙◌, subst, arith}
-use Rattle.std.specs.List.{range_with_len, AllByRecursion, AllZip}
+use Rattle.std.proofs.Common.{◌≡◌, ℕ, suc, ◌-◌, inl, inr, List, [], ◌∷◌, map, refl, sym, ap, ap₂, ◌∙◌, subst, arith}
+use Rattle.std.specs.List.{AllByRecursion, AllZip}
 use Rattle.hull.specs.Curves.{Among}
-use Rattle.hull.proofs.Stand.{among_left, among_right, among_either}
+use Rattle.hull.proofs.Members.{among_map, among_mapped, among_flat, among_flattened, in_range, range_has}
 use Rattle.family_curve.specs.Vectors.{between, vectors, IsBetween}
 
-pub among_map : {X Y : Type 0} (f : X → Y) (xs : List X) (x : X) → Among x xs → Among (f x) (map f xs)
-among_map f [] x a = absurd a
-among_map f (y ∷ ys) x (inl e) = inl (ap f e)
-among_map f (y ∷ ys) x (inr a) = inr (among_map f ys x a)
-
-pub record Mapped {X Y : Type 0} (f : X → Y) (xs : List X) (y : Y) : Type 0 where
-  pub from : X
-  pub there : Among from xs
-  pub is : y ≡ f from
-
-pub among_mapped : {X Y : Type 0} (f : X → Y) (xs : List X) (y : Y) → Among y (map f xs) → Mapped f xs y
-among_mapped f [] y a = absurd a
-among_mapped f (x ∷ xs) y (inl e) = record { from = x; there = inl refl; is = e }
-among_mapped f (x ∷ xs) y (inr a) = (let m = among_mapped f xs y a in record { from = m.from; there = inr m.there; is = m.is })
-
-pub among_flat : {X Y : Type 0} (f : X → List Y) (xs : List X) (x : X) (y : Y) → Among x xs → Among y (f x) → Among y (flat_map f xs)
-among_flat f [] x y a b = absurd a
-among_flat f (z ∷ zs) x y (inl e) b = among_left y (f z) (flat_map f zs) (subst (λ w. Among y (f w)) e b)
-among_flat f (z ∷ zs) x y (inr a) b = among_right y (f z) (flat_map f zs) (among_flat f zs x y a b)
-
-pub record Flattened {X Y : Type 0} (f : X → List Y) (xs : List X) (y : Y) : Type 0 where
-  pub from : X
-  pub there : Among from xs
-  pub in_it : Among y (f from)
-
-pub among_flattened : {X Y : Type 0} (f : X → List Y) (xs : List X) (y : Y) → Among y (flat_map f xs) → Flattened f xs y
-among_flattened f [] y a = absurd a
-among_flattened f (x ∷ xs) y a = elim (among_either y (f x) (flat_map f xs) a) [
-  | inl b ↦ record { from = x; there = inl refl; in_it = b }
-  | inr b ↦ (let m = among_flattened f xs y b in record { from = m.from; there = inr m.there; in_it = m.in_it })
-]
-
+-- what is true of each that is among a list is true of all of it
 pub all_from_among : {X : Type 0} (P : X → Type 0) (xs : List X) → ((x : X) → Among x xs → P x) → AllByRecursion P xs
 all_from_among P [] h = tt
 all_from_among P (x ∷ xs) h = (h x (inl refl), all_from_among P xs (λ y a. h y (inr a)))
 
+-- what is true of all of a list is true of each that is among it
 pub among_all : {X : Type 0} (P : X → Type 0) (xs : List X) (x : X) → AllByRecursion P xs → Among x xs → P x
 among_all P [] x h a = absurd a
 among_all P (y ∷ ys) x h (inl e) = subst P (sym e) h.0
@@ -54,25 +24,31 @@ abbrev first_or : {X : Type 0} → X → List X → X
 first_or d [] = d
 first_or d (x ∷ xs) = x
 
+-- lists that are the same begin with the same
 pub same_first : {X : Type 0} (x y : X) (xs ys : List X) → x ∷ xs ≡ y ∷ ys → x ≡ y
 same_first x y xs ys e = ap (first_or x) e
 
+-- and go on with the same
 pub same_rest : {X : Type 0} (x y : X) (xs ys : List X) → x ∷ xs ≡ y ∷ ys → xs ≡ ys
 same_rest x y xs ys e = ap rest_of e
 
+-- two maps that give the same list give the same for each member
 pub maps_agree : {X Y : Type 0} (f g : X → Y) (xs : List X) → map f xs ≡ map g xs → (x : X) → Among x xs → f x ≡ g x
 maps_agree f g [] e x a = absurd a
 maps_agree f g (y ∷ ys) e x (inl i) = ap f i ∙ same_first _ _ _ _ e ∙ ap g (sym i)
 maps_agree f g (y ∷ ys) e x (inr a) = maps_agree f g ys (same_rest _ _ _ _ e) x a
 
+-- two maps that give the same for each member give the same list
 pub map_among : {X Y : Type 0} (f g : X → Y) (xs : List X) → ((x : X) → Among x xs → f x ≡ g x) → map f xs ≡ map g xs
 map_among f g [] h = refl
 map_among f g (x ∷ xs) h = ap₂ (λ a b. a ∷ b) (h x (inl refl)) (map_among f g xs (λ y a. h y (inr a)))
 
+-- two maps whose results are related for each member give lists that are so, place by place
 pub zip_maps : {X A B : Type 0} (R : A → B → Type 0) (f : X → A) (g : X → B) (xs : List X) → ((x : X) → Among x xs → R (f x) (g x)) → AllZip R (map f xs) (map g xs)
 zip_maps R f g [] h = tt
 zip_maps R f g (x ∷ xs) h = (h x (inl refl), zip_maps R f g xs (λ y a. h y (inr a)))
 
+-- and from such lists the results for each member are related
 pub zipped_maps : {X A B : Type 0} (R : A → B → Type 0) (f : X → A) (g : X → B) (xs : List X) → AllZip R (map f xs) (map g xs) → (x : X) → Among x xs → R (f x) (g x)
 zipped_maps R f g [] h x a = absurd a
 zipped_maps R f g (y ∷ ys) h x (inl e) = subst (λ z. R (f z) (g z)) (sym e) h.0
@@ -80,20 +56,9 @@ zipped_maps R f g (y ∷ ys) h x (inr a) = zipped_maps R f g ys h.1 x a
 
 -- ---- ranges
 
-first_or_later : (a x : ℕ) → a ≤ x → (x ≡ a) ⊎ (a + 1 ≤ x)
-first_or_later a x h = grind arith
-
-pub in_range : (x a n : ℕ) → a ≤ x → x < a + n → Among x (range_with_len a n)
-in_range x a zero h l = absurd (omega arith)
-in_range x a (suc n) h l = elim (first_or_later a x h) [ inl e ↦ inl e | inr m ↦ inr (in_range x (a + 1) n m (omega arith)) ]
-
-pub range_has : (x a n : ℕ) → Among x (range_with_len a n) → (a ≤ x) × (x < a + n)
-range_has x a zero h = absurd h
-range_has x a (suc n) (inl e) = (omega (arith, e), omega (arith, e))
-range_has x a (suc n) (inr h) = (let r = range_has x (a + 1) n h in (omega (arith, r.0), omega (arith, r.1)))
-
 -- ---- boxes
 
+-- a vector that lies between two is among the vectors from the one to the other
 pub is_among : (low high v : List ℕ) → IsBetween low high v → Among v (vectors low high)
 is_among [] [] [] b = inl refl
 is_among [] (h ∷ high) [] b = absurd b.most
@@ -105,6 +70,7 @@ is_among (l ∷ low) (h ∷ high) (x ∷ v) b =
     (in_range x l (suc h - l) b.least.0 (let m = b.most.0 in omega (arith, m)))
     (among_map (λ w. x ∷ w) (vectors low high) v (is_among low high v (record { least = b.least.1; most = b.most.1 })))
 
+-- a vector among those from one to another lies between these
 pub is_between : (low high v : List ℕ) → Among v (vectors low high) → IsBetween low high v
 is_between [] [] v (inl i) = subst (λ w. IsBetween [] [] w) (sym i) (record { least = tt; most = tt })
 is_between [] [] v (inr a) = absurd a

@@ -4,6 +4,7 @@ use Rattle.hull.specs.declared.point.Point.{Point}
 use Rattle.hull.specs.declared.price.Price.{Price}
 use Rattle.hull.specs.Curves.{Among, lagrangian, IsCurve}
 use Rattle.hull.proofs.Stops.{least_of_all}
+use Rattle.hull.proofs.Members.{among_mapped}
 use Rattle.spares_input.specs.Cases.{CaseRows, IsCase, frame_rows, pair_count}
 use Rattle.fleet_model.specs.Rows.{line_units}
 use Rattle.family_curve.specs.Vectors.{vector_of, limits, vectors}
@@ -17,7 +18,7 @@ use Rattle.marginal_alloc.proofs.OnePlan.{one_plan}
 use Rattle.marginal_alloc.proofs.Kept.{plan_acceptable}
 use Rattle.fleet_plan.specs.Families.{family_points, case_points, vectors_at, points_at}
 use Rattle.fleet_plan.specs.Plans.{CasePlan, IsCasePlan}
-use Rattle.fleet_plan.proofs.Lists.{among_mapped, same_first, same_rest}
+use Rattle.fleet_plan.proofs.Lists.{same_first, same_rest}
 use Rattle.fleet_plan.proofs.Places.{one_list}
 use Rattle.fleet_plan.proofs.Scores.{stocks_tell_all}
 use Rattle.fleet_plan.proofs.Bridge.{stocks_are}
@@ -30,6 +31,7 @@ same_plan p q s l f =
     ∙ ap (λ z. let x : CasePlan = record { stocks = q.stocks; floors = z; numbers = p.numbers } in x) l
     ∙ ap (λ z. let x : CasePlan = record { stocks = q.stocks; floors = q.floors; numbers = z } in x) f
 
+-- a case has one plan under a budget, whatever the score and what is held
 pub one_case_plan : (ends : ScoreEnds) (c : CaseRows) (held : List ℕ) (budget : ℕ) (p q : CasePlan) → IsCase c → IsCasePlan ends c held budget p → IsCasePlan ends c held budget q → p ≡ q
 one_case_plan ends c held budget p q valid h k =
     let same = one_plan (case_points ends c held) budget (points_at ends c held p.stocks) (points_at ends c held q.stocks) p.floors q.floors p.numbers q.numbers (stocks_tell_all ends c held) h.plan k.plan in
@@ -39,6 +41,7 @@ one_case_plan ends c held budget p q valid h k =
 
 -- ---- how it is made
 
+-- points picked from the families whose stocks are the vectors of s are the points at s
 pub chosen_in : (ends : ScoreEnds) (c : CaseRows) (held s ls : List ℕ) (chosen : List Point) → Picks (map (family_points ends c held) ls) chosen → stocks_of chosen ≡ map (λ l. vector_of c l s) ls
     → chosen ≡ map (λ l. point_at_vector c l ends (vector_of c l held) (vector_of c l s)) ls
 chosen_in ends c held s [] [] a e = refl
@@ -49,6 +52,8 @@ chosen_in ends c held s (l ∷ ls) (v ∷ vs) a e =
     let from : m.from ≡ vector_of c l s = sym (ap (λ (z : Point). z.stocks) m.is) ∙ same_first _ _ _ _ e in
     ap₂ (λ x y. x ∷ y) (m.is ∙ ap (point_at_vector c l ends (vector_of c l held)) from) (chosen_in ends c held s ls vs a.1 (same_rest _ _ _ _ e))
 
+-- a plan of all points whose chosen points have the vectors of some stocks is the plan of the case
+-- with these stocks
 pub chosen_of_stocks : (ends : ScoreEnds) (c : CaseRows) (held : List ℕ) (budget : ℕ) (chosen : List Point) (p : CasePlan) → IsPlan (case_points ends c held) budget chosen p.floors p.numbers
     → stocks_of chosen ≡ vectors_at c p.stocks → length p.stocks ≡ pair_count (frame_rows c) → IsCasePlan ends c held budget p
 chosen_of_stocks ends c held budget chosen p plan e count =
@@ -78,6 +83,7 @@ chosen_of_stocks ends c held budget chosen p plan e count =
 tail_areas : (points : List Point) (families : List (List Point)) (curve : List Point) (curves : List (List Point)) → AreCurves (points ∷ families) (curve ∷ curves) → AreCurves families curves
 tail_areas points families curve curves a = record { count = (let n = a.count in omega (arith, n)); each = λ f b. a.each (suc f) (omega (arith, b)) }
 
+-- the least Lagrangians over the curves' vertices are the least over all points of the families
 pub floors_of_curves : (families curves : List (List Point)) (price : Price) (floors : List ℕ) → 0 < price.q → AreCurves families curves → AreLeastFloors price curves floors → AreLeastFloors price families floors
 floors_of_curves [] [] price floors pos a h = h
 floors_of_curves [] (curve ∷ curves) price floors pos a h = absurd (let n = a.count in omega (arith, n))

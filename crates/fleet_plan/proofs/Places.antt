@@ -11,6 +11,8 @@ use Rattle.std.proofs.lemmas.Nat.{div-add-mod'}
 use Rattle.std.proofs.Math.Nat.{mod-lt, div-lt_iff_lt-mul}
 use Rattle.std.proofs.lemmas.List.FromFn.{length-range_with_len, get_or-range_with_len}
 use Rattle.hull.specs.Curves.{Among}
+use Rattle.hull.proofs.Runs.{among_at}
+use Rattle.hull.proofs.Members.{among_map, among_mapped, among_flat, among_flattened, in_range, range_has}
 use Rattle.spares_input.specs.Rows.{is_line}
 use Rattle.spares_input.specs.Frames.{part_at, is_shop_of}
 use Rattle.spares_input.specs.Cases.{CaseRows, IsCase, frame_rows, pair_count}
@@ -18,16 +20,16 @@ use Rattle.fleet_model.specs.Rows.{all_parts, all_sites, stock, shop_units, line
 use Rattle.fleet_model.specs.Fleet.{family}
 use Rattle.fleet_model.proofs.FamilyLaws.{HasLine, HasFamilies}
 use Rattle.fleet_model.proofs.FrameLaws.{has_families}
-use Rattle.demand_rates.proofs.DepotFacts.{line-none}
+use Rattle.demand_rates.proofs.DepotFacts.{no_line_there}
 use Rattle.family_eval.specs.Inputs.{IsLine, IsShop}
 use Rattle.family_eval.proofs.Items.{flat_at, flat_length}
 use Rattle.family_eval.proofs.Units.{shops_all}
 use Rattle.family_curve.proofs.Boxes.{map_flat}
 use Rattle.family_curve.proofs.Sites.{all_joined, members, part_long}
-use Rattle.family_curve.specs.Vectors.{Pair, places_at, places, vector_of, site_part, stock_in, stocks_with}
+use Rattle.family_curve.specs.Vectors.{Pair, places_at, places, vector_of, site_part}
 use Rattle.fleet_model.specs.Laws.{AgreeOnFamily}
 use Rattle.fleet_plan.specs.Families.{HasWidth}
-use Rattle.fleet_plan.proofs.Lists.{among_map, among_flat, among_flattened, among_mapped, all_from_among, among_all, maps_agree, map_among, in_range, range_has}
+use Rattle.fleet_plan.proofs.Lists.{all_from_among, among_all, maps_agree, map_among}
 
 -- ---- what a test keeps
 
@@ -36,6 +38,7 @@ kept_step t y ys true x e h (inl i) = (inl i, ap t i ∙ e)
 kept_step t y ys true x e h (inr a) = (let r = h a in (inr r.0, r.1))
 kept_step t y ys false x e h a = (let r = h a in (inr r.0, r.1))
 
+-- what is kept of a list by a test is in the list and passes the test
 pub kept : (t : ℕ → Bool) (xs : List ℕ) (x : ℕ) → Among x (filter t xs) → Among x xs × (t x ≡ true)
 kept t [] x a = absurd a
 kept t (y ∷ ys) x a = kept_step t y ys (t y) x refl (λ b. kept t ys x b) a
@@ -52,6 +55,7 @@ keeps t (y ∷ ys) x (inr a) h = keeps_step t y ys (t y) x refl h (inr (keeps t 
 
 -- ---- lists without repetition
 
+-- no number stands twice in the list
 abbrev pub IsApart : List ℕ → Type 0
 IsApart [] = Unit {0}
 IsApart (x ∷ xs) = (Among x xs → ⊥) × IsApart xs
@@ -64,20 +68,20 @@ pub kept_apart : (t : ℕ → Bool) (a n : ℕ) → IsApart (filter t (range_wit
 kept_apart t a zero = tt
 kept_apart t a (suc n) = apart_step t a n (t a) (kept_apart t (a + 1) n)
 
+-- the number at a place of a list is among its numbers
 pub at_among : (xs : List ℕ) (i : ℕ) → i < length xs → Among (get_or xs i 0) xs
-at_among [] i h = absurd (omega arith)
-at_among (x ∷ xs) zero h = inl refl
-at_among (x ∷ xs) (suc i) h = inr (at_among xs i (omega arith))
+at_among xs i h = among_at xs i 0 h
 
 pub place_of : (xs : List ℕ) (x : ℕ) → Among x xs → (i : ℕ) × (i < length xs) × (get_or xs i 0 ≡ x)
 place_of [] x a = absurd a
 place_of (y ∷ ys) x (inl e) = (0, omega arith, sym e)
 place_of (y ∷ ys) x (inr a) = (let r = place_of ys x a in (suc r.0, omega (arith, r.1), r.2))
 
+-- in a list without repetitions, two places have two numbers
 pub apart_at : (xs : List ℕ) (k i : ℕ) → IsApart xs → k < i → i < length xs → get_or xs k 0 ≡ get_or xs i 0 → ⊥
 apart_at [] k i a l h e = absurd (omega arith)
 apart_at (x ∷ xs) k zero a l h e = absurd (omega arith)
-apart_at (x ∷ xs) zero (suc i) a l h e = a.0 (subst (λ y. Among y xs) (sym e) (at_among xs i (omega arith)))
+apart_at (x ∷ xs) zero (suc i) a l h e = a.0 (subst (λ y. Among y xs) (sym e) (among_at xs i 0 (omega arith)))
 apart_at (x ∷ xs) (suc k) (suc i) a l h e = apart_at xs k i a.1 (omega arith) (omega arith) e
 
 first_place : (xs : List ℕ) (i : ℕ) → IsApart xs → i < length xs → position_or_len (λ q. q == get_or xs i 0) xs ≡ i
@@ -120,7 +124,7 @@ module _ (c : CaseRows) (valid : IsCase c) where
   is_there (Some x) = true
 
   not_both : (l m : ℕ) → IsLine c l → IsShop c m l → ⊥
-  not_both l m line shop = false≢true (ap is_there (sym (line-none c.parts l line.no_parent) ∙ shop.line_is))
+  not_both l m line shop = false≢true (ap is_there (sym (no_line_there c.parts l line.no_parent) ∙ shop.line_is))
 
   -- a part is of one family
   pub one_family : (l m p : ℕ) → IsLine c l → IsLine c m → Among p (family c l) → Among p (family c m) → l ≡ m
@@ -137,21 +141,25 @@ module _ (c : CaseRows) (valid : IsCase c) where
 abbrev pub listed : CaseRows → (ℕ → ℕ → ℕ) → List ℕ
 listed c σ = flat_map (λ p. map (σ p) (all_sites c)) (all_parts c)
 
+-- stocks listed by part and then by site are read back for each pair
 pub stock_listed : (c : CaseRows) (σ : ℕ → ℕ → ℕ) (p k : ℕ) → p < length c.parts → k < length c.sites → stock c (listed c σ) p k ≡ σ p k
 stock_listed c σ p k lp lk =
     flat_at σ (length c.sites) 0 (all_parts c) p k (omega (arith, lp, length-range_with_len 0 (length c.parts))) lk
     ∙ ap (λ q. σ q k) (get_or-range_with_len 0 (length c.parts) p 0 lp ∙ omega arith)
 
+-- a listed stock is there for each pair of the case
 pub length_listed : (c : CaseRows) (σ : ℕ → ℕ → ℕ) → length (listed c σ) ≡ pair_count (frame_rows c)
 length_listed c σ = flat_length σ (length c.sites) (all_parts c) ∙ ap (λ n. n * length c.sites) (length-range_with_len 0 (length c.parts))
 
 -- ---- vectors
 
+-- a part of the family at a site of the case is a place of the family
 pub is_place : (c : CaseRows) (l p k : ℕ) → Among p (family c l) → k < length c.sites → Among (record { part = p; site = k }) (places c l)
 is_place c l p k a h =
     among_flat (places_at c l) (all_sites c) k (record { part = p; site = k }) (in_range k 0 (length c.sites) (omega arith) (omega (arith, h)))
     (among_map (λ q. let x : Pair = record { part = q; site = k } in x) (family c l) p a)
 
+-- a place of a family is one of its parts at a site of the case
 pub place_has : (c : CaseRows) (l : ℕ) (x : Pair) → Among x (places c l) → Among x.part (family c l) × (x.site < length c.sites)
 place_has c l x a =
     let f = among_flattened (places_at c l) (all_sites c) x a in
@@ -164,6 +172,7 @@ place_has c l x a =
 pub agrees : (c : CaseRows) (l : ℕ) (s t : List ℕ) → vector_of c l s ≡ vector_of c l t → (p k : ℕ) → Among p (family c l) → k < length c.sites → stock c s p k ≡ stock c t p k
 agrees c l s t e p k a h = maps_agree (λ (x : Pair). stock c s x.part x.site) (λ (x : Pair). stock c t x.part x.site) (places c l) e (record { part = p; site = k }) (is_place c l p k a h)
 
+-- stocks with the same vector of a family agree at all of its pairs
 pub agree_on : (c : CaseRows) (l : ℕ) (s t : List ℕ) → vector_of c l s ≡ vector_of c l t → AgreeOnFamily c s t l
 agree_on c l s t e = all_from_among (λ p. (k : ℕ) → k < length c.sites → stock c s p k ≡ stock c t p k) (family c l) (λ p a k h. agrees c l s t e p k a h)
 
@@ -177,6 +186,7 @@ pub by_site : {Y : Type 0} (c : CaseRows) (l : ℕ) (f : Pair → Y) → map f (
 by_site c l f = map_flat f (places_at c l) (all_sites c)
     ∙ flat_each _ _ (all_sites c) (λ k a. map-map f (λ p. let x : Pair = record { part = p; site = k } in x) (family c l))
 
+-- a family has a place for each of its parts at each site
 pub length_places : (c : CaseRows) (l : ℕ) → length (places c l) ≡ length c.sites * length (family c l)
 length_places c l = counted (range_with_len 0 (length c.sites)) ∙ ap (λ n. n * length (family c l)) (length-range_with_len 0 (length c.sites))
   where
@@ -208,8 +218,8 @@ vector_listed c l σ v parts e own =
 abbrev pub looked_up : List ℕ → List ℕ → ℕ → ℕ → ℕ
 looked_up xs ys d p = option_map_or (λ i. get_or ys i 0) (position (λ q. q == p) xs) d
 
-looked-up_all : (xs ys : List ℕ) (d : ℕ → ℕ) → IsApart xs → length ys ≡ length xs → map (λ p. looked_up xs ys (d p) p) xs ≡ ys
-looked-up_all xs ys d a e =
+looked_up_all : (xs ys : List ℕ) (d : ℕ → ℕ) → IsApart xs → length ys ≡ length xs → map (λ p. looked_up xs ys (d p) p) xs ≡ ys
+looked_up_all xs ys d a e =
     ext_get_or 0 (map (λ p. looked_up xs ys (d p) p) xs) ys (length-map xs (λ p. looked_up xs ys (d p) p) ∙ sym e) (λ i h.
     let l : i < length xs = omega (arith, h, length-map xs (λ p. looked_up xs ys (d p) p)) in
     get_or-map (λ p. looked_up xs ys (d p) p) xs i 0 0 l ∙ ap (λ o. option_map_or (λ j. get_or ys j 0) o (d (get_or xs i 0))) (found xs i a l))
@@ -218,36 +228,35 @@ missing_at : (xs : List ℕ) (p : ℕ) (o : Option ℕ) → position (λ q. q ==
 missing_at xs p None e h = refl
 missing_at xs p (Some i) e h =
     let f = position-Some (λ q. q == p) xs i 0 e in
-    absurd (h (subst (λ q. Among q xs) (eqb-true (get_or xs i 0) p f.1) (at_among xs i f.0)))
+    absurd (h (subst (λ q. Among q xs) (eqb-true (get_or xs i 0) p f.1) (among_at xs i 0 f.0)))
 
 pub missing : (xs : List ℕ) (p : ℕ) → (Among p xs → ⊥) → position (λ q. q == p) xs ≡ None
 missing xs p h = missing_at xs p (position (λ q. q == p) xs) refl h
 
+-- what stands in a vector for a site has an entry for each part of the family
 pub length_part : (c : CaseRows) (l : ℕ) (v : List ℕ) (k : ℕ) → length v ≡ length (places c l) → k < length c.sites → length (site_part c l v k) ≡ length (family c l)
 length_part c l v k e h = part_long c l v k (length c.sites) (e ∙ length_places c l) h
 
--- the stocks with a vector have that vector
-pub vector-with : (c : CaseRows) (l : ℕ) (v : List ℕ) → IsCase c → IsLine c l → length v ≡ length (places c l) → vector_of c l (stocks_with c l v) ≡ v
-vector-with c l v valid line e =
-    vector_listed c l (stock_in c l (site_part c l v)) v (λ p a. in_case c valid l p line a) e
-    (λ k h. looked-up_all (family c l) (site_part c l v k) (λ p. 0) (family_apart c valid l line) (length_part c l v k e h))
-
+-- the vector of any stocks has an entry for each place of the family
 pub length_vector : (c : CaseRows) (l : ℕ) (s : List ℕ) → length (vector_of c l s) ≡ length (places c l)
 length_vector c l s = length-map (places c l) (λ (x : Pair). stock c s x.part x.site)
 
 -- ---- stocks that are made of a vector of each family
 
+-- the stock of part p at site k from a vector of each family, 0 where no family has the part
 abbrev pub from_families : CaseRows → List ℕ → List (List ℕ) → ℕ → ℕ → ℕ
 from_families c [] vs p k = 0
 from_families c (l ∷ ls) [] p k = 0
 from_families c (l ∷ ls) (v ∷ vs) p k = looked_up (family c l) (site_part c l v k) (from_families c ls vs p k) p
 
+-- the stocks of the case that these vectors make together
 abbrev pub stocks_from : CaseRows → List (List ℕ) → List ℕ
 stocks_from c vs = listed c (from_families c (line_units c) vs)
 
 abbrev AreOwn : CaseRows → (ℕ → ℕ → ℕ) → ℕ → List ℕ → Type 0
 AreOwn c σ l v = (k : ℕ) → k < length c.sites → map (λ p. σ p k) (family c l) ≡ site_part c l v k
 
+-- two lists in one relation are in another where that follows from the first for each member
 pub zip_each : {X Y : Type 0} (R S : X → Y → Type 0) (xs : List X) (ys : List Y) → ((x : X) (y : Y) → Among x xs → R x y → S x y) → AllZip R xs ys → AllZip S xs ys
 zip_each R S [] [] h a = tt
 zip_each R S [] (y ∷ ys) h a = absurd a
@@ -266,7 +275,7 @@ module _ (c : CaseRows) (valid : IsCase c) where
   own_parts [] (v ∷ vs) apart lines widths = absurd widths
   own_parts (l ∷ ls) [] apart lines widths = absurd widths
   own_parts (l ∷ ls) (v ∷ vs) apart lines widths = (
-    (λ k h. looked-up_all (family c l) (site_part c l v k) (λ p. from_families c ls vs p k) (family_apart c valid l (lines l (inl refl))) (length_part c l v k widths.0 h)),
+    (λ k h. looked_up_all (family c l) (site_part c l v k) (λ p. from_families c ls vs p k) (family_apart c valid l (lines l (inl refl))) (length_part c l v k widths.0 h)),
     zip_each (AreOwn c (from_families c ls vs)) (AreOwn c (from_families c (l ∷ ls) (v ∷ vs))) ls vs (λ m w b own k h. passed_by m k b ∙ own k h)
         (own_parts ls vs apart.1 (λ m b. lines m (inr b)) widths.1),
   )
@@ -277,8 +286,8 @@ module _ (c : CaseRows) (valid : IsCase c) where
           (missing (family c l) p (λ d. apart.0 (subst (λ z. Among z ls) (sym (one_family c valid l m p (lines l (inl refl)) (lines m (inr b)) d a)) b))))
 
   -- these have the vectors that they are made of
-  pub vectors-from : (vs : List (List ℕ)) → AllZip (HasWidth c) (line_units c) vs → map (λ l. vector_of c l (stocks_from c vs)) (line_units c) ≡ vs
-  vectors-from vs widths =
+  pub vectors_from : (vs : List (List ℕ)) → AllZip (HasWidth c) (line_units c) vs → map (λ l. vector_of c l (stocks_from c vs)) (line_units c) ≡ vs
+  vectors_from vs widths =
       zip_map (λ l. vector_of c l (stocks_from c vs)) (line_units c) vs
       (both (line_units c) vs (lines_are c valid) widths (own_parts (line_units c) vs (lines_apart c valid) (lines_are c valid) widths))
     where

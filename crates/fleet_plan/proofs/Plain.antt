@@ -17,9 +17,11 @@ use Rattle.fleet_plan.specs.Laws.{IsAcceptedCase, plain_ends}
 use Rattle.fleet_model.proofs.WordLaws.{plain_words}
 use Rattle.fleet_plan.proofs.Bridge.{plan_true, claims_true}
 
+-- the plain score encloses the weighted backorders, which it stands for
 pub plain_encloses : EnclosesValue plain_ends weighted_backorders
 plain_encloses systems per_system weight backorders x limits inside n deep = times_encloses 48 backorders weight x inside
 
+-- the plain score leaves room to be summed over the bases
 pub plain_room : LeavesRoom plain_ends
 plain_room systems per_system weight backorders limits ordered =
     let wide : weight * backorders.hi ≤ weight * 2 ^ 56 = mul-le-mul_left weight limits.room in
@@ -30,6 +32,7 @@ plain_room systems per_system weight backorders limits ordered =
 plain_cost : (c : CaseRows) (s : List ℕ) → cost_beyond c [] s ≡ cost c s
 plain_cost c s = (plain_words c s).cost_is
 
+-- the plan of an accepted case with nothing held is true in the model's plain words
 pub plain_plan : (c : CaseRows) (budget : ℕ) (p : CasePlan) → IsAcceptedCase c → IsCasePlan plain_ends c [] budget p → IsPlainPlan c budget p
 plain_plan c budget p accepted h = plain_of (plan_true plain_ends weighted_backorders c [] accepted plain_encloses budget p h)
   where
@@ -46,6 +49,7 @@ plain_plan c budget p accepted h = plain_of (plan_true plain_ends weighted_backo
           no_more = k.no_more;
         }
 
+-- so are acceptable claims of it
 pub plain_claims : (c : CaseRows) (budget : ℕ) (x : CaseClaims) → IsAcceptedCase c → AreAcceptable plain_ends c [] budget x → ArePlainClaims c budget x
 plain_claims c budget x accepted h = plain_of (claims_true plain_ends weighted_backorders c [] accepted plain_encloses budget x h)
   where
@@ -57,8 +61,9 @@ plain_claims c budget x accepted h = plain_of (claims_true plain_ends weighted_b
       fewer = k.none_less;
     }
 
-pub nothing_held : (c : CaseRows) (l : ℕ) → vector_of c l [] ≡ zeros c l
-nothing_held c l = refl
+-- where nothing is held, a family's vector of that is zeros
+pub vector_of_nothing : (c : CaseRows) (l : ℕ) → vector_of c l [] ≡ zeros c l
+vector_of_nothing c l = refl
 
 -- ---- the upper end of the sum of totals
 
@@ -66,5 +71,6 @@ folded_hi : (f : ℕ → Ends) (first : Ends) (ls : List ℕ) → (fold ends_add
 folded_hi f first [] = omega arith
 folded_hi f first (l ∷ ls) = folded_hi f (ends_add first (f l)) ls ∙ omega (arith, sum_by-cons (λ m. (f m).hi) l ls)
 
+-- the plain scored totals' upper ends come to that of the sum of the families' totals
 pub upper_is_total : (c : CaseRows) (s : List ℕ) → (fold ends_add (ends_exact 48 0) (map (total_of 48 c s) (line_units c))).hi ≡ hi_at plain_ends c s
 upper_is_total c s = folded_hi (total_of 48 c s) (ends_exact 48 0) (line_units c) ∙ omega arith

@@ -1,13 +1,12 @@
 -- The scored total of a family: it depends on the family's stocks alone, encloses the aim, and is in range.
-use Rattle.std.proofs.Common.{◌≡◌, ℕ, zero, suc, ◌+◌, ◌-◌, ◌*◌, ◌^◌, ◌<◌, ◌≤◌, ◌==◌, ◌⊎◌, Bool, if◌then◌else◌, not, inl, inr, true, false, List, [], ◌∷◌, length, map, get_or, position, Option, Some, None, refl, sym, ap, ap₂, ◌∙◌, subst, arith, eqb-true, mul-le-mul_right}
+use Rattle.std.proofs.Common.{◌≡◌, ℕ, zero, suc, ◌+◌, ◌-◌, ◌*◌, ◌^◌, ◌<◌, ◌≤◌, ◌==◌, ◌⊎◌, not, inl, inr, List, [], ◌∷◌, length, map, get_or, position, Option, Some, None, refl, sym, ap, ◌∙◌, subst, arith, eqb-true, mul-le-mul_right}
 use Rattle.std.specs.List.{AllByRecursion, AllZip}
 use Rattle.std.specs.Option.{option_map_or}
-use Rattle.std.proofs.Math.Nat.{le_of_mul-le-mul_right}
 use Rattle.std.proofs.lemmas.List.Quantifiers.{position-Some}
 use Rattle.std.proofs.lemmas.List.Elements.{length_all_zip}
-use Rattle.exact_model.specs.Fraction.{Fraction, Contains, Encloses, whole, ◌≈◌, ◌+ℚ◌}
-use Rattle.exact_model.proofs.Fractions.{contains-same, ◌≈≈◌}
-use Rattle.fixed_interval.specs.Ends.{Ends, In, ends_exact, ends_add}
+use Rattle.exact_model.specs.Fraction.{Encloses, whole}
+use Rattle.exact_model.proofs.Fractions.{contains_same, ◌≈≈◌, none_plus}
+use Rattle.fixed_interval.specs.Ends.{Ends, In, ends_exact}
 use Rattle.fixed_interval.proofs.Laws.{exact_encloses}
 use Rattle.depot_pipeline.specs.Profile.{added}
 use Rattle.depot_pipeline.proofs.Laws.{added_in}
@@ -15,6 +14,8 @@ use Rattle.hull.specs.declared.point.Point.{Point}
 use Rattle.hull.specs.Curves.{Among, InRange}
 use Rattle.hull.specs.Laws.{StocksTell}
 use Rattle.hull.specs.Scores.{InLimits, EnclosesValue, LeavesRoom}
+use Rattle.hull.proofs.Runs.{among_at}
+use Rattle.hull.proofs.Members.{among_mapped}
 use Rattle.spares_input.specs.Rows.{no_site, no_part}
 use Rattle.spares_input.specs.Frames.{part_at}
 use Rattle.spares_input.specs.Cases.{CaseRows}
@@ -23,22 +24,26 @@ use Rattle.fleet_model.specs.Rows.{stock, systems, per_system, weight, line_unit
 use Rattle.fleet_model.specs.Pipelines.{ebo_0j}
 use Rattle.fleet_model.specs.Fleet.{family}
 use Rattle.fleet_model.specs.Laws.{IsBase}
-use Rattle.fleet_model.proofs.SumLaws.{sum-range}
+use Rattle.fleet_model.proofs.SumLaws.{sum_range}
 use Rattle.family_eval.specs.Profile.{item_of}
 use Rattle.family_eval.specs.Inputs.{IsLine, IsSound}
 use Rattle.family_eval.proofs.Units.{few_shops}
 use Rattle.family_eval.proofs.Families.{evaluable, line_in}
 use Rattle.family_eval.proofs.Enclosed.{item_small}
+use Rattle.family_eval.proofs.Items.{added_same}
 use Rattle.family_curve.specs.Vectors.{Pair, places, vector_of, limits, vectors, site_part, stock_in, stocks_with, stock_list, IsBetween}
 use Rattle.family_curve.proofs.Depend.{scored_same}
 use Rattle.family_curve.specs.Points.{ScoreEnds, scored, scored_total, cost_above, point_at_vector}
+use Rattle.family_curve.proofs.Stands.{vector_stands}
 use Rattle.fleet_model.specs.Aims.{Value, family_aim}
 use Rattle.fleet_model.specs.Laws.{AgreeOnFamily}
+use Rattle.fleet_model.proofs.AllocationLaws.{chosen_most}
+use Rattle.price_bounds.proofs.Vectors.{ends_of}
 use Rattle.fleet_plan.specs.Laws.{IsAcceptedCase}
 use Rattle.marginal_alloc.specs.Promises.{StocksTellAll}
 use Rattle.fleet_plan.specs.Families.{family_points, case_points}
-use Rattle.fleet_plan.proofs.Lists.{is_between, zipped_maps, among_mapped}
-use Rattle.fleet_plan.proofs.Places.{stock_listed, length_listed, vector-with, length_vector, length_places, is_place, place_has, in_case, at_among}
+use Rattle.fleet_plan.proofs.Lists.{is_between, zipped_maps}
+use Rattle.fleet_plan.proofs.Places.{stock_listed, length_listed, length_vector, length_places, is_place, place_has, in_case}
 
 -- ---- the family's stocks alone
 
@@ -48,27 +53,13 @@ at_site : (c : CaseRows) (s t : List ℕ) (k : ℕ) → k < length c.sites → (
 at_site c s t k h [] a = tt
 at_site c s t k h (p ∷ ps) a = (a.0 k h, at_site c s t k h ps a.1)
 
-added-same : (first : Ends) (f g : ℕ → Ends) (n : ℕ) → ((k : ℕ) → k < n → f k ≡ g k) → added first f n ≡ added first g n
-unfolding added
-added-same first f g zero h = refl
-added-same first f g (suc n) h = ap₂ (λ (a b : Ends). ends_add a b) (added-same first f g n (λ k l. h k (omega arith))) (h n (omega arith))
-
-pub scored_total-same : (c : CaseRows) (ends : ScoreEnds) (s t : List ℕ) (l : ℕ) → IsLine c l → AgreeOnFamily c s t l → scored_total c l ends s ≡ scored_total c l ends t
-scored_total-same c ends s t l line h =
-    added-same (ends_exact 48 0) (λ j. scored c l ends s (j + 1)) (λ j. scored c l ends t (j + 1)) (length c.sites - 1)
+-- stocks that agree on a family give it the same scored total
+pub scored_total_same : (c : CaseRows) (ends : ScoreEnds) (s t : List ℕ) (l : ℕ) → IsLine c l → AgreeOnFamily c s t l → scored_total c l ends s ≡ scored_total c l ends t
+scored_total_same c ends s t l line h =
+    added_same (ends_exact 48 0) (λ j. scored c l ends s (j + 1)) (λ j. scored c l ends t (j + 1)) (length c.sites - 1)
     (λ k b. scored_same c l ends s t (k + 1) line (omega arith) (at_site c s t 0 (omega (arith, b)) (family c l) h) (at_site c s t (k + 1) (omega (arith, b)) (family c l) h))
 
 -- ---- enclosure and range
-
-zero_more : (q : Fraction) → whole 0 +ℚ q ≈ q
-unfolding whole ◌+ℚ◌
-zero_more q = record { cross = omega arith }
-
-ends_step : (E l h n d : ℕ) → 0 < d → l * d ≤ n * E → n * E ≤ h * d → l ≤ h
-ends_step E l h n d p a b = (let i : l * d ≤ h * d = omega (arith, a, b) in le_of_mul-le-mul_right i p)
-
-ends_of : (lo hi : ℕ) (q : Fraction) → Contains 48 lo hi q → lo ≤ hi
-ends_of lo hi q c = ends_step (2 ^ 48) lo hi q.num q.den q.positive c.low c.high
 
 added_range : (f : ℕ → Ends) (n : ℕ) → ((k : ℕ) → k < n → ((f k).lo ≤ (f k).hi) × ((f k).hi < 2 ^ 70)) → ((added (ends_exact 48 0) f n).lo ≤ (added (ends_exact 48 0) f n).hi) × ((added (ends_exact 48 0) f n).hi ≤ n * 2 ^ 70)
 unfolding added
@@ -102,7 +93,7 @@ module _ (c : CaseRows) (s : List ℕ) (l : ℕ) (sound : IsSound c s) (line : I
       → Encloses 48 (scored_total c l ends s).lo (scored_total c l ends s).hi (λ n. family_aim value c s n l)
   unfolding family_aim
   scored_encloses ends value encloses n deep =
-      contains-same (zero_more _ ≈≈ sum-range (λ j. value (systems c j) (per_system c l) (weight c l) (ebo_0j c s n l j) n) 1 (length c.sites - 1))
+      contains_same (none_plus _ ≈≈ sum_range (λ j. value (systems c j) (per_system c l) (weight c l) (ebo_0j c s n l j) n) 1 (length c.sites - 1))
       (added_in 48 (ends_exact 48 0) (λ j. scored c l ends s (j + 1)) (whole 0) (λ j. value (systems c (1 + j)) (per_system c l) (weight c l) (ebo_0j c s n l (1 + j)) n)
       (length c.sites - 1) (exact_encloses 48 0) (λ j h. at j h))
     where
@@ -130,7 +121,7 @@ in_or_none : (xs : List ℕ) (p : ℕ) (o : Option ℕ) → position (λ q. q ==
 in_or_none xs p None e = inr refl
 in_or_none xs p (Some i) e =
     let f = position-Some (λ q. q == p) xs i 0 e in
-    inl (subst (λ q. Among q xs) (eqb-true (get_or xs i 0) p f.1) (at_among xs i f.0))
+    inl (subst (λ q. Among q xs) (eqb-true (get_or xs i 0) p f.1) (among_at xs i 0 f.0))
 
 module _ (c : CaseRows) (l : ℕ) where
   pub width_of : (held v : List ℕ) → IsBetween (vector_of c l held) (limits c l) v → length v ≡ length (places c l)
@@ -148,7 +139,7 @@ module _ (c : CaseRows) (l : ℕ) where
 module _ (c : CaseRows) (accepted : IsAcceptedCase c) (l : ℕ) (line : IsLine c l) where
   pub with_limits : (held v : List ℕ) → IsBetween (vector_of c l held) (limits c l) v → IsWithinLimits c (stock_list c (stocks_with c l v))
   with_limits held v b p k lp lk = elim (in_or_none (family c l) p (position (λ q. q == p) (family c l)) refl) [
-    | inl a ↦ (within_family c l (stocks_with c l v) held v b (vector-with c l v accepted.valid line (width_of c l held v b)) p k a lk).1
+    | inl a ↦ (within_family c l (stocks_with c l v) held v b (vector_stands c l v accepted.valid line (width_of c l held v b)) p k a lk).1
     | inr e ↦ subst (λ z. z ≤ limit_at c.parts p k)
         (sym (stock_listed c (stock_in c l (site_part c l v)) p k lp lk ∙ ap (λ o. option_map_or (λ i. get_or (site_part c l v k) i 0) o 0) e)) (omega arith)
   ]
@@ -175,10 +166,6 @@ most_money c (x ∷ xs) (b ∷ held) (s ∷ v) h a =
     let here = h x (inl refl) in
     let most : (s - b) * (part_at c.parts x.part).cost ≤ 63 * (part_at c.parts x.part).cost = mul-le-mul_right (part_at c.parts x.part).cost (omega (arith, a.0, here.1)) in
     omega (arith, rest, most, here.0)
-
-chosen_most : (b : Bool) (m n most : ℕ) → m ≤ most → n ≤ most → (if b then m else n) ≤ most
-chosen_most true m n most h k = h
-chosen_most false m n most h k = k
 
 few_places : (n w : ℕ) → n ≤ 16 → w ≤ 9 → n * w * 6300000000 ≤ 1000000000000
 few_places n w h l =
@@ -214,5 +201,6 @@ tell_all ends c held [] f h = absurd (omega arith)
 tell_all ends c held (l ∷ ls) zero h = stocks_tell ends c held l
 tell_all ends c held (l ∷ ls) (suc f) h = tell_all ends c held ls f (omega arith)
 
+-- the points of each family are told apart by their stocks
 pub stocks_tell_all : (ends : ScoreEnds) (c : CaseRows) (held : List ℕ) → StocksTellAll (case_points ends c held)
 stocks_tell_all ends c held = tell_all ends c held (line_units c)

@@ -1,5 +1,5 @@
--- The families of a case as a choice of points sees them: each has the vectors from what is held to the limits, with the
--- cost beyond what is held, the ends of the scored total, and the aim that the model has.
+-- The families of a case as a choice of points sees them: each has the vectors from what is held to the limits, with
+-- the cost beyond what is held, the ends of the scored total, and the aim that the model has.
 use Rattle.std.specs.Prelude.{◌≡◌, ℕ, List, length, map, sum_by}
 use Rattle.hull.specs.declared.point.Point.{Point}
 use Rattle.spares_input.specs.Cases.{CaseRows}
@@ -9,6 +9,7 @@ use Rattle.family_curve.specs.Points.{ScoreEnds, scored_total, added_cost, point
 use Rattle.price_bounds.specs.Allocations.{Family}
 use Rattle.fleet_model.specs.Aims.{Value, family_aim}
 
+-- the family of the line unit l: its vectors with their costs, the ends of their totals, and their aims
 abbrev pub family_at : ScoreEnds → Value → CaseRows → List ℕ → ℕ → Family
 family_at ends value c held l = record {
   vectors = vectors (vector_of c l held) (limits c l);
@@ -18,6 +19,7 @@ family_at ends value c held l = record {
   backorders = λ n v. family_aim value c (stocks_with c l v) n l;
 }
 
+-- the families of all line units of the case
 abbrev pub families_at : ScoreEnds → Value → CaseRows → List ℕ → List Family
 families_at ends value c held = map (family_at ends value c held) (line_units c)
 
@@ -25,6 +27,7 @@ families_at ends value c held = map (family_at ends value c held) (line_units c)
 abbrev pub family_points : ScoreEnds → CaseRows → List ℕ → ℕ → List Point
 family_points ends c held l = points_within c l ends (vector_of c l held) (vector_of c l held) (limits c l)
 
+-- the points of each family of the case
 abbrev pub case_points : ScoreEnds → CaseRows → List ℕ → List (List Point)
 case_points ends c held = map (family_points ends c held) (line_units c)
 
@@ -36,6 +39,7 @@ HasWidth c l v = length v ≡ length (places c l)
 abbrev pub vectors_at : CaseRows → List ℕ → List (List ℕ)
 vectors_at c s = map (λ l. vector_of c l s) (line_units c)
 
+-- the point of each family at the stocks s
 abbrev pub points_at : ScoreEnds → CaseRows → List ℕ → List ℕ → List Point
 points_at ends c held s = map (λ l. point_at_vector c l ends (vector_of c l held) (vector_of c l s)) (line_units c)
 

@@ -64,6 +64,7 @@ pub record IsSameChoice (ends : ScoreEnds) (value : Value) (c : CaseRows) (held 
   pub cost : cost_at (families_at ends value c held) (vectors_at c s) ≡ cost_beyond c held s
   pub total : (n : ℕ) → total_at n (families_at ends value c held) (vectors_at c s) ≡ aim value c s n
 
+-- each allocation of the case is a choice of a vector from each family, at the same cost and aim
 abbrev pub AllocationsAreChoices : Type 0
 AllocationsAreChoices =
     (ends : ScoreEnds) (value : Value) (c : CaseRows) (held s : List ℕ)
@@ -75,6 +76,7 @@ pub record IsOfStocks (c : CaseRows) (held : List ℕ) (allocation : List (List 
   pub is_allocation : IsHeldAllocation c held stocks
   pub vectors : vectors_at c stocks ≡ allocation
 
+-- each choice of a vector from each family is that of an allocation of the case
 abbrev pub ChoicesAreAllocations : Type 0
 ChoicesAreAllocations =
     (ends : ScoreEnds) (value : Value) (c : CaseRows) (held : List ℕ) (allocation : List (List ℕ))
@@ -82,12 +84,14 @@ ChoicesAreAllocations =
 
 -- ---- plans
 
+-- the plan of an accepted case is true of it, for any score that encloses its value
 abbrev pub PlansAreTrue : Type 0
 PlansAreTrue =
     (ends : ScoreEnds) (value : Value) (c : CaseRows) (held : List ℕ) (budget : ℕ) (p : CasePlan)
     → IsAcceptedCase c → EnclosesValue ends value
     → IsCasePlan ends c held budget p → IsTruePlan ends value c held budget p
 
+-- acceptable claims of an accepted case are true of it, for any score that encloses its value
 abbrev pub ClaimsAreTrue : Type 0
 ClaimsAreTrue =
     (ends : ScoreEnds) (value : Value) (c : CaseRows) (held : List ℕ) (budget : ℕ) (x : CaseClaims)
@@ -100,6 +104,7 @@ PlainPlansAreTrue =
     (c : CaseRows) (budget : ℕ) (p : CasePlan)
     → IsAcceptedCase c → IsCasePlan plain_ends c [] budget p → IsPlainPlan c budget p
 
+-- acceptable claims of weighted backorders with nothing held are true in the model's plain words
 abbrev pub PlainClaimsAreTrue : Type 0
 PlainClaimsAreTrue =
     (c : CaseRows) (budget : ℕ) (x : CaseClaims)
@@ -141,7 +146,8 @@ ChosenAreOfStocks =
 abbrev pub CurvesShowFloors : Type 0
 CurvesShowFloors =
     (families curves : List (List Point)) (price : Price) (floors : List ℕ)
-    → 0 < price.q → AreCurves families curves → AreLeastFloors price curves floors → AreLeastFloors price families floors
+    → 0 < price.q → AreCurves families curves → AreLeastFloors price curves floors
+    → AreLeastFloors price families floors
 
 -- nothing held is a vector of zeros
 abbrev pub NothingHeld : Type 0

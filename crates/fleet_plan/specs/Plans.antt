@@ -25,6 +25,7 @@ pub record CasePlan : Type 0 where
 abbrev pub line_of_step : CaseRows → Critical → ℕ
 line_of_step c step = get_or (line_units c) step.family 0
 
+-- the line unit of a plan's critical step, where there is one
 abbrev pub critical_line : CaseRows → CasePlan → Option ℕ
 critical_line c p = option_map (line_of_step c) p.numbers.critical
 
@@ -51,7 +52,8 @@ claims_of p = record {
   bound = p.numbers.bound;
 }
 
--- The claims follow: from the stocks, from floors that no point of a family is below at the price, and from one another.
+-- The claims follow: from the stocks, from floors that no point of a family is below at the price, and from one
+-- another.
 pub record AreAcceptable (ends : ScoreEnds) (c : CaseRows) (held : List ℕ) (budget : ℕ) (x : CaseClaims) : Type 0 where
   pub money : 0 < x.price.q
   pub allocation : IsHeldAllocation c held x.stocks
@@ -97,6 +99,8 @@ pub record IsPlainPlan (c : CaseRows) (budget : ℕ) (p : CasePlan) : Type 0 whe
   pub gap : p.numbers.bound + p.numbers.gap ≡ p.numbers.upper
   pub no_more : HasAtMost c p.stocks p.numbers.upper
 
+-- what such claims say: an allocation within the budget, with backorders up to the upper end,
+-- and none within the budget has fewer than the bound
 pub record ArePlainClaims (c : CaseRows) (budget : ℕ) (x : CaseClaims) : Type 0 where
   pub allocation : IsAllocation c x.stocks
   pub fits : cost c x.stocks ≤ budget

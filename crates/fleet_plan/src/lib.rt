@@ -1,8 +1,8 @@
 //! Plans and certificates of a case, in the words of its model.
 //!
-//! The choice of points under a budget knows families of vectors; the model knows the stocks of a case. The laws here carry
-//! what is said of the one over to the other, for every score, and for stocks that are held and may only be raised. Each
-//! law is the contract of a public function with an empty body.
+//! The choice of points under a budget knows families of vectors; the model knows the stocks of a case. The laws here
+//! carry what is said of the one over to the other, for every score, and for stocks that are held and may only be
+//! raised. Each law is the contract of a public function with an empty body.
 #![tactic(auto)]
 
 ghost use Rattle.fleet_plan.specs.Laws.{

@@ -1,8 +1,8 @@
 -- How the tables of a cover are counted, node by node.
-use Rattle.std.proofs.Common.{◌≡◌, ℕ, zero, suc, ◌+◌, ◌<◌, ◌≤◌, min, List, [], ◌∷◌, length, drop, get_or, reverse, Option, Some, None, refl, sym, ap, ◌∙◌, arith}
+use Rattle.std.proofs.Common.{◌≡◌, ℕ, zero, suc, ◌+◌, ◌<◌, ◌≤◌, min, List, [], ◌∷◌, length, drop, get_or, reverse, Option, Some, None, refl, sym, ap, ◌∙◌, arith, zero-add}
 use Rattle.std.specs.Option.{option_map}
 use Rattle.std.proofs.lemmas.List.Sums.{sum_by-cons}
-use Rattle.std.proofs.lemmas.List.{length-reverse}
+use Rattle.std.proofs.lemmas.List.{length-reverse, drop_all}
 use Rattle.spares_input.specs.Cases.{CaseRows}
 use Rattle.family_curve.specs.declared.bounds.Bounds.{Bounds}
 use Rattle.family_curve.specs.Counts.{counted}
@@ -32,12 +32,6 @@ next_node (x ∷ nodes) (suc k) h = rw (one k) (next_node nodes k (omega arith))
   where
     one : (k : ℕ) → suc k + 1 ≡ suc (k + 1)
     one k = omega arith
-
-pub drop_past : {A : Type 0} (xs : List A) (k : ℕ) → length xs ≤ k → drop k xs ≡ []
-drop_past [] zero h = refl
-drop_past [] (suc k) h = refl
-drop_past (x ∷ xs) zero h = absurd (omega arith)
-drop_past (x ∷ xs) (suc k) h = drop_past xs k (omega arith)
 
 -- the leaves of what is left, when a node has been read
 pub advance : (nodes : List Node) (k : ℕ) (before after : List Bounds) (r : Read) → k < length nodes → Reads before (get_or nodes k (Split 0 0)) r after
@@ -83,10 +77,7 @@ module _ (c : CaseRows) (l : ℕ) where
 
   from_zero : (o : Option (List Leaf)) → with_more c l 0 o ≡ option_map (λ ls. counted (cover_tables c l ls)) o
   from_zero None = refl
-  from_zero (Some ls) = ap (λ z. Some (counted z)) (none_more (cover_tables c l ls))
-    where
-      none_more : (n : ℕ) → 0 + n ≡ n
-      none_more n = omega arith
+  from_zero (Some ls) = ap (λ z. Some (counted z)) (zero-add (cover_tables c l ls))
 
   at_cap : (t : ℕ) → t ≤ 18446744073709551615 → t ≡ min (t + 0) 18446744073709551615
   at_cap t h = omega arith
@@ -99,13 +90,13 @@ module _ (c : CaseRows) (l : ℕ) where
   pub counted_end : (bounds : Bounds) (nodes : List Node) (k : ℕ) (waiting : List Bounds) (t : ℕ) → Counted c l bounds nodes k waiting t → length nodes ≤ k → length waiting ≡ 0
       → Some t ≡ option_map (λ ls. counted (cover_tables c l ls)) (leaves nodes (bounds ∷ []))
   counted_end bounds nodes k waiting t h b e =
-      all_read waiting t e h.small ∙ sym (ap (λ z. with_more c l t (leaves z (reverse waiting))) (drop_past nodes k b)) ∙ h.counts ∙ from_zero (leaves nodes (bounds ∷ []))
+      all_read waiting t e h.small ∙ sym (ap (λ z. with_more c l t (leaves z (reverse waiting))) (drop_all k nodes b)) ∙ h.counts ∙ from_zero (leaves nodes (bounds ∷ []))
 
   pub counted_left : (bounds : Bounds) (nodes : List Node) (k : ℕ) (waiting : List Bounds) (t : ℕ) → Counted c l bounds nodes k waiting t → length nodes ≤ k → 0 < length waiting
       → None ≡ option_map (λ ls. counted (cover_tables c l ls)) (leaves nodes (bounds ∷ []))
   counted_left bounds nodes k waiting t h b e =
       sym (ap (λ z. with_more c l t z) (left_over (reverse waiting) (omega (arith, length-reverse waiting, e))))
-      ∙ sym (ap (λ z. with_more c l t (leaves z (reverse waiting))) (drop_past nodes k b)) ∙ h.counts ∙ from_zero (leaves nodes (bounds ∷ []))
+      ∙ sym (ap (λ z. with_more c l t (leaves z (reverse waiting))) (drop_all k nodes b)) ∙ h.counts ∙ from_zero (leaves nodes (bounds ∷ []))
 
   pub counted_gap : (bounds : Bounds) (nodes : List Node) (k : ℕ) (before after : List Bounds) (r : Read) (t : ℕ) → Counted c l bounds nodes k before t → k < length nodes
       → Reads before (get_or nodes k (Split 0 0)) r after → r ≡ read.Gap → None ≡ option_map (λ ls. counted (cover_tables c l ls)) (leaves nodes (bounds ∷ []))

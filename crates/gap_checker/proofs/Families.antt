@@ -4,17 +4,19 @@ use Rattle.std.specs.Prelude.{if◌then◌else◌, unwrap_or, is_some}
 use Rattle.std.specs.List.{range_with_len}
 use Rattle.std.specs.Option.{option_map}
 use Rattle.std.proofs.lemmas.List.Sums.{sum_by-cons}
+use Rattle.std.proofs.lemmas.List.{length-map}
 use Rattle.fixed_interval.specs.Ends.{Ends}
 use Rattle.spares_input.specs.declared.rows.PartId.{PartId}
 use Rattle.spares_input.specs.First.{first}
 use Rattle.spares_input.specs.Cases.{CaseRows}
 use Rattle.spares_input.specs.Stocks.{StockList, IsFor, IsWithinLimits, limit_at}
-use Rattle.spares_input.proofs.Firsts.{first-none, first-found, first-more}
+use Rattle.spares_input.proofs.Firsts.{first_none, first_found, first_more}
 use Rattle.fleet_model.specs.Rows.{line_units}
-use Rattle.fleet_model.proofs.AllocationLaws.{stock-is}
-use Rattle.demand_rates.proofs.Sums.{sum-more}
+use Rattle.fleet_model.proofs.AllocationLaws.{stock_holds}
+use Rattle.demand_rates.proofs.Sums.{sum_more}
 use Rattle.family_eval.specs.Inputs.{IsLine}
 use Rattle.family_curve.specs.declared.bounds.Bounds.{Bounds}
+use Rattle.hull.proofs.Runs.{among_at}
 use Rattle.gap_checker.specs.Boxes.{AtMost, IsOrdered}
 use Rattle.family_curve.specs.Vectors.{places, vector_of, limits}
 use Rattle.family_curve.specs.Counts.{counted}
@@ -26,36 +28,41 @@ use Rattle.gap_checker.specs.declared.refusal.Reject.TheVariants as reject
 use Rattle.gap_checker.specs.Covers.{leaves}
 use Rattle.gap_checker.specs.Values.{cover_tables, value_of}
 use Rattle.gap_checker.specs.Refusals.{line_at, family_count, box_from, nodes_of, cover_of, family_leaves, gap_at, family_tables, tables_of_first, work_of, too_low, low_leaf, low_at}
-use Rattle.gap_checker.proofs.Boxes.{at_most-self}
-use Rattle.gap_checker.proofs.Places.{IsPair, place_pair, line_part, at_most-maps}
-use Rattle.gap_checker.proofs.Adding.{part_first, length_map}
-use Rattle.gap_checker.proofs.Acceptable.{among-at, some_leaves}
+use Rattle.gap_checker.proofs.Boxes.{at_most_self}
+use Rattle.gap_checker.proofs.Places.{IsPair, place_pair, line_part, at_most_maps}
+use Rattle.gap_checker.proofs.Adding.{part_first}
+use Rattle.gap_checker.proofs.Acceptable.{some_leaves}
 
 -- ---- line units
 
-pub line_of : (c : CaseRows) (lines : List PartId) (f : ℕ) → map (λ (p : PartId). p.0) lines ≡ line_units c → (get_or lines f (record { 0 = 0 })).0 ≡ line_at c f
-line_of c lines f h = part_first lines f ∙ ap (λ xs. get_or xs f 0) h
+-- the line unit read by its id at place f is that of family f
+pub line_read_at : (c : CaseRows) (lines : List PartId) (f : ℕ) → map (λ (p : PartId). p.0) lines ≡ line_units c → (get_or lines f (record { 0 = 0 })).0 ≡ line_at c f
+line_read_at c lines f h = part_first lines f ∙ ap (λ xs. get_or xs f 0) h
 
+-- there are as many ids of line units as families
 pub count_lines : (c : CaseRows) (lines : List PartId) → map (λ (p : PartId). p.0) lines ≡ line_units c → length lines ≡ family_count c
-count_lines c lines h = sym (length_map (λ (p : PartId). p.0) lines) ∙ ap length h
+count_lines c lines h = sym (length-map lines (λ (p : PartId). p.0)) ∙ ap length h
 
+-- what is read there is a line unit of the case
 pub line_is : (c : CaseRows) (lines : List PartId) (f : ℕ) → map (λ (p : PartId). p.0) lines ≡ line_units c → f < length lines → IsLine c (get_or lines f (record { 0 = 0 })).0
 line_is c lines f h b =
     let n = count_lines c lines h in
-    let r = line_part c (line_at c f) (among-at (line_units c) f (omega (arith, n, b))) in
+    let r = line_part c (line_at c f) (among_at (line_units c) f 0 (omega (arith, n, b))) in
     let own : IsLine c (line_at c f) = record { is_part = r.0; no_parent = r.1 } in
-    subst (λ l. IsLine c l) (sym (line_of c lines f h)) own
+    subst (λ l. IsLine c l) (sym (line_read_at c lines f h)) own
 
 -- ---- boxes
 
+-- stocks held within their limits are within those of each family
 pub held_limited : (c : CaseRows) (l : ℕ) (held : StockList) → l < length c.parts → IsFor c held → IsWithinLimits c held → AtMost (vector_of c l held.list) (limits c l)
 held_limited c l held b is_for within =
-    at_most-maps _ _ (places c l) (λ x m. (let p : IsPair c x = place_pair c l x b m in subst (λ z. z ≤ limit_at c.parts x.part x.site) (sym (stock-is c held x.part x.site is_for)) (within x.part x.site p.part p.site)))
+    at_most_maps _ _ (places c l) (λ x m. (let p : IsPair c x = place_pair c l x b m in subst (λ z. z ≤ limit_at c.parts x.part x.site) (sym (stock_holds c held x.part x.site is_for)) (within x.part x.site p.part p.site)))
 
+-- the box from what is held to the limits is in order
 pub box_ordered : (c : CaseRows) (l : ℕ) (held : StockList) → l < length c.parts → IsFor c held → IsWithinLimits c held → IsOrdered c l (box_from c l held.list)
 box_ordered c l held b is_for within =
     let h = held_limited c l held b is_for within in
-    record { held_least = at_most-self (vector_of c l held.list); low_least = h; within = at_most-self (limits c l) }
+    record { held_least = at_most_self (vector_of c l held.list); low_least = h; within = at_most_self (limits c l) }
 
 -- ---- covers
 
@@ -93,8 +100,9 @@ module _ (cert : Certificate) (held : StockList) (f l : ℕ) (nodes : List Node)
 some_is : {A : Type 0} (o : Option A) (x : A) → o ≡ Some x → is_some o ≡ true
 some_is o x e = ap (λ z. is_some z) e
 
+-- where no family has a gap, each family's nodes are a tree
 pub tree_at : (cert : Certificate) (held : StockList) (f : ℕ) → first (gap_at cert held) (family_count cert.case) ≡ None → f < family_count cert.case → is_some (cover_of cert held f) ≡ true
-tree_at cert held f none b = some_is (cover_of cert held f) _ (some_leaves (cover_of cert held f) (reject.CoverGap f) (first-none (gap_at cert held) (family_count cert.case) f none b))
+tree_at cert held f none b = some_is (cover_of cert held f) _ (some_leaves (cover_of cert held f) (reject.CoverGap f) (first_none (gap_at cert held) (family_count cert.case) f none b))
 
 term_most : (g : ℕ → ℕ) (n a j : ℕ) → a ≤ j → j < a + n → g j ≤ sum_by g (range_with_len a n)
 term_most g zero a j h k = absurd (omega arith)
@@ -109,6 +117,7 @@ term_most g (suc n) a j h k = elim (here a j h) [
 uncounted : (n : ℕ) → counted n ≤ 1000000 → n ≤ 1000000
 uncounted n h = omega arith
 
+-- where the work of all families is within the limit, so are the tables of each
 pub work_at : (cert : Certificate) (held : StockList) (f : ℕ) → work_of cert held ≤ 1000000 → f < family_count cert.case → family_tables cert held f ≤ 1000000
 work_at cert held f h b =
     let s = uncounted (tables_of_first cert held (family_count cert.case)) h in
@@ -117,12 +126,14 @@ work_at cert held f h b =
 
 -- ---- the first of all families
 
+-- the first fault found, with none before it, is the first of all
 pub found_some : (at : ℕ → Option Reject) (f n : ℕ) (o : Option Reject) → o ≡ at f → is_some o ≡ true → first at f ≡ None → f < n → o ≡ first at n
 found_some at f n None e h before b = absurd (cc)
-found_some at f n (Some x) e h before b = sym (first-found at f n x before (sym e) b)
+found_some at f n (Some x) e h before b = sym (first_found at f n x before (sym e) b)
 
+-- with no fault found so far and none here, there is none up to the next
 pub found_none : (at : ℕ → Option Reject) (f : ℕ) (o : Option Reject) → o ≡ at f → is_some o ≡ false → first at f ≡ None → first at (f + 1) ≡ None
-found_none at f None e h before = first-more at f before (sym e)
+found_none at f None e h before = first_more at f before (sym e)
 found_none at f (Some x) e h before = absurd (cc)
 
 -- ---- the count
@@ -146,8 +157,8 @@ module _ (cert : Certificate) (held : StockList) (f : ℕ) where
   counted_more work tables now before w t n =
       let r = count_by (cover_of cert held f) tables t in
       let s : tables_of_first cert held (f + 1) ≡ tables_of_first cert held f + family_tables cert held f =
-      ap (λ k. sum_by (family_tables cert held) (range_with_len 0 k)) (one f) ∙ sum-more (family_tables cert held) 0 f ∙ ap (λ k. tables_of_first cert held f + family_tables cert held k) (none f) in
-      (first-more (gap_at cert held) f before r.0, n ∙ cap_sum (tables_of_first cert held f) (family_tables cert held f) work tables w r.1 ∙ sym (ap counted s))
+      ap (λ k. sum_by (family_tables cert held) (range_with_len 0 k)) (one f) ∙ sum_more (family_tables cert held) 0 f ∙ ap (λ k. tables_of_first cert held f + family_tables cert held k) (none f) in
+      (first_more (gap_at cert held) f before r.0, n ∙ cap_sum (tables_of_first cert held f) (family_tables cert held f) work tables w r.1 ∙ sym (ap counted s))
     where
       one : (f : ℕ) → f + 1 ≡ suc f
       one f = omega arith
@@ -157,4 +168,4 @@ module _ (cert : Certificate) (held : StockList) (f : ℕ) where
 
   pub counted_gap_at : (n : ℕ) → first (gap_at cert held) f ≡ None → None ≡ option_map (λ ls. counted (cover_tables cert.case (line_at cert.case f) ls)) (cover_of cert held f) → f < n
       → first (gap_at cert held) n ≡ Some (reject.CoverGap f)
-  counted_gap_at n before h b = first-found (gap_at cert held) f n (reject.CoverGap f) before (gap_by (cover_of cert held f) h) b
+  counted_gap_at n before h b = first_found (gap_at cert held) f n (reject.CoverGap f) before (gap_by (cover_of cert held f) h) b

@@ -49,18 +49,22 @@ kept parts k (x ∷ xs) h =
     step false true e r = absurd (cc)
     step false false e r = omega (arith, r)
 
-pub lines-counted : (c : CaseRows) → length (line_units c) ≡ count_by is_line c.parts
-lines-counted c = kept c.parts 0 c.parts refl
+-- a case has as many line units as parts that are one
+pub lines_counted : (c : CaseRows) → length (line_units c) ≡ count_by is_line c.parts
+lines_counted c = kept c.parts 0 c.parts refl
 
+-- a well formed certificate has a floor for each family
 pub has_floors : (cert : Certificate) → IsWellFormed cert → length cert.floors ≡ length (line_units cert.case)
-has_floors cert h = h.floor_count ∙ sym (lines-counted cert.case)
+has_floors cert h = h.floor_count ∙ sym (lines_counted cert.case)
 
+-- a well formed certificate of format 2 has a cover for each family
 pub has_cover : (cert : Certificate) (f : ℕ) → IsWellFormed cert → f < family_count cert.case → cert.format ≡ 2 → f < length cert.covers
-has_cover cert f h b two = (let s = (h.second two).count in let n = lines-counted cert.case in omega (arith, b, s, n))
+has_cover cert f h b two = (let s = (h.second two).count in let n = lines_counted cert.case in omega (arith, b, s, n))
 
 few_in : (covers : List (List Node)) (f : ℕ) → All IsCover covers → f < length covers → length (get_or covers f []) ≤ 100000
 few_in covers f h b = (All-get_or IsCover covers f [] b h).few
 
+-- no family of a well formed certificate has more than 100,000 nodes
 pub few_nodes : (cert : Certificate) (f : ℕ) → IsWellFormed cert → f < family_count cert.case → length (nodes_of cert f) ≤ 100000
 few_nodes cert f h b = by_format (cert.format == 2) refl
   where

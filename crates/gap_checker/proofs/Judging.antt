@@ -1,9 +1,7 @@
 -- The first refusal, rule by rule.
-use Rattle.std.proofs.Common.{◌≡◌, ℕ, suc, ◌<◌, ◌≤◌, Bool, true, false, cond, filter, List, [], ◌∷◌, length, Option, Some, None, refl, sym, ap, ◌∙◌, subst, arith}
-use Rattle.spares_input.specs.Rows.{is_line}
-use Rattle.spares_input.specs.Frames.{part_at}
+use Rattle.std.proofs.Common.{◌≡◌, ℕ, ◌<◌, ◌≤◌, Option, Some, None, refl, sym, ap, ◌∙◌, subst}
 use Rattle.spares_input.specs.First.{first, or_else, unless}
-use Rattle.spares_input.specs.Cases.{CaseRows, IsCase, frame_rows, pair_count}
+use Rattle.spares_input.specs.Cases.{frame_rows, pair_count}
 use Rattle.spares_input.specs.Stocks.{StockList}
 use Rattle.spares_input.specs.Building.{StopsAt}
 use Rattle.spares_io.specs.Answers.{Gives}
@@ -19,29 +17,13 @@ use Rattle.gap_checker.specs.declared.refusal.Reject.{Reject}
 use Rattle.gap_checker.specs.declared.refusal.Reject.TheVariants as reject
 use Rattle.gap_checker.specs.Refusals.{family_count, gap_at, work_of, over_limit, below_held, cost_above, low_at, upper_of, largest_of, reject_of, judged}
 use Rattle.gap_checker.proofs.Stock_faults.{then_some, else_none}
-use Rattle.fleet_model.specs.Rows.{all_parts, line_units}
-use Rattle.gap_checker.proofs.Adding.{length_range}
+pub use Rattle.fleet_model.proofs.FrameLaws.{few_lines}
 
 pub skip : {A : Type 0} (a rest r : Option A) → a ≡ None → rest ≡ r → or_else a rest ≡ r
 skip a rest r h k = ap (λ z. or_else z rest) h ∙ k
 
 pub stop : {A : Type 0} (a rest : Option A) (x : A) → a ≡ Some x → or_else a rest ≡ Some x
 stop a rest x h = ap (λ z. or_else z rest) h
-
-kept_few : (t : ℕ → Bool) (xs : List ℕ) → length (filter t xs) ≤ length xs
-kept_few t [] = omega arith
-kept_few t (x ∷ xs) = step (t x) (kept_few t xs)
-  where
-    step : (b : Bool) → length (filter t xs) ≤ length xs → length (cond b (x ∷ filter t xs) (filter t xs)) ≤ suc (length xs)
-    step true h = omega (arith, h)
-    step false h = omega (arith, h)
-
-pub few_lines : (c : CaseRows) → IsCase c → length (line_units c) ≤ 2000
-few_lines c valid =
-    let a = kept_few (λ p. is_line (part_at c.parts p)) (all_parts c) in
-    let b = length_range (length c.parts) 0 in
-    let m = valid.frame.most_parts in
-    omega (arith, a, b, m)
 
 -- a number over its limit, by its name
 pub over : (lim n m : ℕ) (refuse : ℕ → Reject) → n ≡ m → lim < n → (if nat_lt lim m then Some (refuse m) else None) ≡ Some (refuse n)

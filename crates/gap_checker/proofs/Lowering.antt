@@ -1,7 +1,8 @@
 -- How the first low leaf is found, node by node.
-use Rattle.std.proofs.Common.{◌≡◌, ℕ, ◌+◌, ◌<◌, ◌≤◌, inl, inr, true, nat_lt, List, [], ◌∷◌, length, drop, get_or, reverse, Option, Some, None, refl, sym, ap, ◌∙◌, subst, arith}
+use Rattle.std.proofs.Common.{◌≡◌, ℕ, ◌+◌, ◌<◌, ◌≤◌, inl, inr, true, nat_lt, List, [], ◌∷◌, length, drop, get_or, reverse, Option, Some, None, refl, sym, ap, ◌∙◌, subst, arith, lt-ltb, le-ltb}
 use Rattle.std.specs.Prelude.{if◌then◌else◌, unwrap_or, is_some}
 use Rattle.std.proofs.lemmas.List.Sums.{sum_by-cons}
+use Rattle.std.proofs.lemmas.List.{drop_all}
 use Rattle.hull.specs.Curves.{Among}
 use Rattle.spares_input.specs.Cases.{CaseRows}
 use Rattle.family_curve.specs.declared.bounds.Bounds.{Bounds}
@@ -16,8 +17,7 @@ use Rattle.gap_checker.specs.Values.{leaf_tables, cover_tables}
 use Rattle.gap_checker.specs.Reading.{joined, Reads, AllOrdered, IsOrderedRead, KeepsOrder}
 use Rattle.gap_checker.specs.Refusals.{low_leaf}
 use Rattle.gap_checker.proofs.Trees.{IsCons, cons_of}
-use Rattle.gap_checker.proofs.Counting.{advance, drop_past}
-use Rattle.gap_checker.proofs.Stock_faults.{less_true, less_false}
+use Rattle.gap_checker.proofs.Counting.{advance}
 
 -- the leaves of a box's nodes
 abbrev pub all_leaves : List Node → Bounds → List Leaf
@@ -89,14 +89,14 @@ module _ (c : CaseRows) (l : ℕ) (value : Leaf → ℕ) (floor : ℕ) (bounds :
       pub lower_found : (worth : ℕ) → worth ≡ value x → worth < floor → Some (number, worth) ≡ low_leaf value floor 0 (all_leaves nodes bounds)
       lower_found worth w less =
           ap (λ z. Some (number, z)) w
-          ∙ sym (ap (λ t. if t then Some (number, value x) else low_leaf value floor (number + 1) own_cons.rest) (less_true (value x) floor (omega (arith, w, less))))
+          ∙ sym (ap (λ t. if t then Some (number, value x) else low_leaf value floor (number + 1) own_cons.rest) (lt-ltb (value x) floor (omega (arith, w, less))))
           ∙ own_low
 
       pub lower_more : (worth : ℕ) → worth ≡ value x → floor ≤ worth → Lowering c l value floor bounds nodes (k + 1) after (number + 1)
       lower_more worth w most = record {
         rest = own_cons.rest;
         tree = own_cons.some;
-        low = sym (ap (λ t. if t then Some (number, value x) else low_leaf value floor (number + 1) own_cons.rest) (less_false (value x) floor (omega (arith, w, most)))) ∙ own_low;
+        low = sym (ap (λ t. if t then Some (number, value x) else low_leaf value floor (number + 1) own_cons.rest) (le-ltb (value x) floor (omega (arith, w, most)))) ∙ own_low;
         work = (let t = tables_split in omega (arith, t));
         ordered = (keeps c l h.ordered).0;
         few = (let f = h.few in omega (arith, f));
@@ -113,4 +113,4 @@ module _ (c : CaseRows) (l : ℕ) (value : Leaf → ℕ) (floor : ℕ) (bounds :
   pub lower_end : (k : ℕ) (waiting : List Bounds) (number : ℕ) → Lowering c l value floor bounds nodes k waiting number → length nodes ≤ k → None ≡ low_leaf value floor 0 (all_leaves nodes bounds)
   unfolding low_leaf
   lower_end k waiting number h b =
-      ap (low_leaf value floor number) (none_rest (reverse waiting) h.rest (sym (ap (λ z. leaves z (reverse waiting)) (drop_past nodes k b)) ∙ h.tree)) ∙ h.low
+      ap (low_leaf value floor number) (none_rest (reverse waiting) h.rest (sym (ap (λ z. leaves z (reverse waiting)) (drop_all k nodes b)) ∙ h.tree)) ∙ h.low

@@ -32,6 +32,7 @@ read_then (cover.Cut at from one other) box rest boxes h =
     assoc : (xs ys zs : List Node) → (xs ++ ys) ++ zs ≡ xs ++ (ys ++ zs)
     assoc xs ys zs = append_assoc xs ys zs
 
+-- the nodes of a tree are read as the leaves of that tree
 pub trees_are_read : TreesAreRead
 unfolding leaves
 trees_are_read tree box h =
@@ -87,5 +88,6 @@ one_tree nodes box ls g = record {
   leaves_are = g.5 ∙ ap (λ z. leaves_of g.0 box ++ z) g.6.1 ∙ append-nil (leaves_of g.0 box);
 }
 
+-- what is read as leaves is a tree of them
 pub only_trees_are_read : OnlyTreesAreRead
 only_trees_are_read nodes box ls h = one_tree nodes box ls (grows nodes (box ∷ []) ls h)

@@ -25,6 +25,7 @@ all_points : (score : ℕ → ℕ → ℕ → Ends → Ends) (value : ℕ → �
 all_points score value c held [] = refl
 all_points score value c held (l ∷ ls) = ap₂ (λ x xs. x ∷ xs) (own_points score value c held l) (all_points score value c held ls)
 
+-- a certificate that breaks no rule is sound where the score's intervals enclose its values
 pub accepted_are_sound : AcceptedAreSound
 accepted_are_sound score value cert held valid formed is_for enclosed none =
     certificate_sound (models_of score value cert.case held) cert.budget (claims_of score cert held) enclosed
@@ -45,5 +46,6 @@ nothing_within c p k a b = (let e = same_at 0 (pair_count (frame_rows c)) (p * l
 pub nothing_for : (c : CaseRows) → IsFor c (nothing_held c)
 nothing_for c = record { sites = refl; pairs = length_same 0 (pair_count (frame_rows c)) }
 
+-- as many entries as whole rows of sites leave no rest when divided by the sites
 pub whole_rows : (n a b sites : ℕ) → n ≡ a * b → b ≡ sites → n % sites ≡ 0
 whole_rows n a b sites e f = ap (λ z. z % sites) (e ∙ ap (λ z. a * z) f) ∙ mul-mod_left a sites

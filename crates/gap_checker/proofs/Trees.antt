@@ -19,15 +19,18 @@ pub record Finds (ls : List Leaf) (v had : List ℕ) : Type 0 where
   pub inside : IsIn v (box_of leaf)
   pub held : (box_of leaf).held ≡ had
 
+-- the leaves are x and then those of the rest, which are some
 pub record IsCons (x : Leaf) (o : Option (List Leaf)) (ls : List Leaf) : Type 0 where
   pub rest : List Leaf
   pub some : o ≡ Some rest
   pub is : ls ≡ x ∷ rest
 
+-- leaves that begin with a made leaf have the rest behind it
 pub cons_of : (x : Leaf) (o : Option (List Leaf)) (ls : List Leaf) → option_map (λ r. x ∷ r) o ≡ Some ls → IsCons x o ls
 cons_of x None ls h = absurd (cc)
 cons_of x (Some rest) ls h = record { rest = rest; some = refl; is = (cc) }
 
+-- where something is answered under a test, the test held and that is the answer
 pub then_of : (t : Bool) (o : Option (List Leaf)) (ls : List Leaf) → (if t then o else None) ≡ Some ls → (t ≡ true) × (o ≡ Some ls)
 then_of true o ls h = (refl, h)
 then_of false o ls h = absurd (cc)
@@ -131,6 +134,7 @@ parts_apart box at from boxes p a = (
   (λ other v m i j. a.0 other v m (as_many_in box at from v p i) j, a.1),
 )
 
+-- where the waiting boxes share no vector, the leaves read from them share none
 pub apart : (nodes : List Node) (boxes : List Bounds) (ls : List Leaf) → leaves nodes boxes ≡ Some ls → AreApart boxes → AreApart (map box_of ls)
 unfolding leaves
 apart [] [] ls h a = subst (λ z. AreApart (map box_of z)) (none ls h) tt

@@ -3,6 +3,7 @@ use Rattle.std.proofs.Common.{◌≡◌, ℕ, zero, suc, ◌+◌, ◌<◌, ◌�
 use Rattle.fixed_interval.specs.Ends.{Ends}
 use Rattle.hull.specs.declared.point.Point.{Point}
 use Rattle.hull.specs.Curves.{Among, IsCurve, point_at}
+use Rattle.hull.proofs.Members.{Mapped, among_mapped}
 use Rattle.spares_input.specs.Cases.{CaseRows, IsCase}
 use Rattle.price_bounds.specs.Sums.{hi_of}
 use Rattle.family_eval.specs.Inputs.{IsLine}
@@ -11,25 +12,26 @@ use Rattle.family_curve.specs.Vectors.{vectors, limits}
 use Rattle.family_curve.specs.Points.{point_at_vector, points_within}
 use Rattle.family_curve.specs.Counts.{tables_between}
 use Rattle.family_curve.proofs.Single.{one_vector}
-use Rattle.gap_checker.proofs.Among_laws.{IsOf, IsBetween, among-of, between}
+use Rattle.gap_checker.proofs.Among_laws.{IsBetween, between}
 use Rattle.gap_checker.proofs.Leasts.{vertex_among}
-use Rattle.gap_checker.proofs.Boxes.{at_most-self}
+use Rattle.gap_checker.proofs.Boxes.{at_most_self}
 
-at_most-same : (a b : List ℕ) → AtMost a b → AtMost b a → a ≡ b
-at_most-same [] [] h k = refl
-at_most-same [] (y ∷ b) h k = absurd h
-at_most-same (x ∷ a) [] h k = absurd h
-at_most-same (x ∷ a) (y ∷ b) h k =
+at_most_same : (a b : List ℕ) → AtMost a b → AtMost b a → a ≡ b
+at_most_same [] [] h k = refl
+at_most_same [] (y ∷ b) h k = absurd h
+at_most_same (x ∷ a) [] h k = absurd h
+at_most_same (x ∷ a) (y ∷ b) h k =
     let p = h.0 in let q = k.0 in
     let e : x ≡ y = omega (arith, p, q) in
-    ap₂ (λ z w. z ∷ w) e (at_most-same a b h.1 k.1)
+    ap₂ (λ z w. z ∷ w) e (at_most_same a b h.1 k.1)
 
 only_point : (c : CaseRows) (l : ℕ) (score : ℕ → ℕ → ℕ → Ends → Ends) (held v : List ℕ) (w : Point) → Among w (points_within c l score held v v) → w ≡ point_at_vector c l score held v
 only_point c l score held v w m =
-    let r : IsOf (point_at_vector c l score held) w (vectors v v) = among-of (point_at_vector c l score held) w (vectors v v) m in
-    let b : IsBetween v r.of v = between v v r.of r.among in
-    r.is ∙ ap (point_at_vector c l score held) (at_most-same r.of v b.high b.low)
+    let r : Mapped (point_at_vector c l score held) (vectors v v) w = among_mapped (point_at_vector c l score held) (vectors v v) w m in
+    let b : IsBetween v r.from v = between v v r.from r.there in
+    r.is ∙ ap (point_at_vector c l score held) (at_most_same r.from v b.high b.low)
 
+-- the first vertex of a box of one vector has that vector's upper end
 pub one_curve : (c : CaseRows) (l : ℕ) (score : ℕ → ℕ → ℕ → Ends → Ends) (held low high a v : List ℕ) (curve : List Point) (p : Point) → held ≡ a → low ≡ v → high ≡ v
     → IsCurve (points_within c l score held low high) curve → 0 < length curve → p ≡ point_at curve 0 → p.hi ≡ (point_at_vector c l score a v).hi
 one_curve c l score held low high a v curve p h e f is some q =
@@ -37,16 +39,19 @@ one_curve c l score held low high a v curve p h e f is some q =
     subst (λ x. IsCurve (points_within c l score x v v) curve) h (subst (λ x. IsCurve (points_within c l score held x v) curve) e (subst (λ x. IsCurve (points_within c l score held low x) curve) f is)) in
     ap (λ (z : Point). z.hi) (only_point c l score a v p (own.among p (vertex_among curve 0 p q some)))
 
+-- a box of one vector is in order where the vector lies between what is held and the limits
 pub one_ordered : (c : CaseRows) (l : ℕ) (held low high a v : List ℕ) → held ≡ a → low ≡ v → high ≡ v → AtMost a v → AtMost v (limits c l) → IsOrdered c l (record { held = held; low = low; high = high })
 one_ordered c l held low high a v h e f order limit = record {
   held_least = subst (λ x. AtMost x low) (sym h) (subst (λ x. AtMost a x) (sym e) order);
-  low_least = subst (λ x. AtMost x high) (sym e) (subst (λ x. AtMost v x) (sym f) (at_most-self v));
+  low_least = subst (λ x. AtMost x high) (sym e) (subst (λ x. AtMost v x) (sym f) (at_most_self v));
   within = subst (λ x. AtMost x (limits c l)) (sym f) limit;
 }
 
+-- a box of one vector takes few enough tables
 pub one_work : (c : CaseRows) (l : ℕ) (low high v : List ℕ) → low ≡ v → high ≡ v → IsCase c → IsLine c l → tables_between c l low high ≤ 1000000
 one_work c l low high v e f valid line = subst (λ x. tables_between c l x high ≤ 1000000) (sym e) (subst (λ x. tables_between c l v x ≤ 1000000) (sym f) (let t = one_vector c l v valid line in omega (arith, t)))
 
+-- the upper ends from family f on are that of f and those behind it
 pub hi_next : (g : ℕ → Point) (ls : List ℕ) (f : ℕ) → f < length ls → hi_of (map g (drop f ls)) ≡ (g (get_or ls f 0)).hi + hi_of (map g (drop (f + 1) ls))
 hi_next g [] f b = absurd (omega arith)
 hi_next g (l ∷ ls) zero b = refl

@@ -12,6 +12,7 @@ use Rattle.gap_checker.specs.declared.leaf.Leaf.TheVariants as leaf
 abbrev pub fewer : Bounds → ℕ → ℕ → Bounds
 fewer box at from = record { held = box.held; low = box.low; high = set box.high at (from - 1) }
 
+-- the part of a box whose vectors have `from` or more at a place
 abbrev pub as_many : Bounds → ℕ → ℕ → Bounds
 as_many box at from = record { held = box.held; low = set box.low at from; high = box.high }
 

@@ -27,27 +27,33 @@ pub record HasLeaf (ls : List Leaf) (v : List ℕ) : Type 0 where
 
 -- Each vector of a box lies in a leaf of each tree of it.
 abbrev pub LeavesCover : Type 0
-LeavesCover = (nodes : List Node) (box : Bounds) (ls : List Leaf) (v : List ℕ) → leaves nodes (box ∷ []) ≡ Some ls → IsIn v box → HasLeaf ls v
+LeavesCover = (nodes : List Node) (box : Bounds) (ls : List Leaf) (v : List ℕ) → leaves nodes (box ∷ []) ≡ Some ls
+    → IsIn v box → HasLeaf ls v
 
 -- no vector lies in two of the boxes
 abbrev pub AreApart : List Bounds → Type 0
 AreApart [] = Unit {0}
-AreApart (box ∷ boxes) = ((other : Bounds) (v : List ℕ) → Among other boxes → IsIn v box → IsIn v other → ⊥) × AreApart boxes
+AreApart (box ∷ boxes) = ((other : Bounds) (v : List ℕ) → Among other boxes → IsIn v box → IsIn v other → ⊥)
+    × AreApart boxes
 
 -- No vector lies in two leaves of a tree.
 abbrev pub LeavesAreApart : Type 0
-LeavesAreApart = (nodes : List Node) (box : Bounds) (ls : List Leaf) → leaves nodes (box ∷ []) ≡ Some ls → AreApart (map box_of ls)
+LeavesAreApart = (nodes : List Node) (box : Bounds) (ls : List Leaf) → leaves nodes (box ∷ []) ≡ Some ls
+    → AreApart (map box_of ls)
 
 -- A floor that no leaf's value is below is at most the Lagrangian of each vector.
 abbrev pub FloorsHold : Type 0
-FloorsHold = (score : ℕ → ℕ → ℕ → Ends → Ends) (c : CaseRows) (l : ℕ) (price : Price) (nodes : List Node) (box : Bounds) (ls : List Leaf) (floor : ℕ)
+FloorsHold = (score : ℕ → ℕ → ℕ → Ends → Ends) (c : CaseRows) (l : ℕ) (price : Price) (nodes : List Node) (box : Bounds)
+    (ls : List Leaf) (floor : ℕ)
     → leaves nodes (box ∷ []) ≡ Some ls → ((x : Leaf) → Among x ls → floor ≤ value_of c l score price x)
     → (w : Point) → Among w (points_within c l score box.held box.low box.high) → floor ≤ lagrangian price.p price.q w
 
 -- the points of all families, from what is held to the limits
 abbrev pub families_of : (ℕ → ℕ → ℕ → Ends → Ends) → CaseRows → StockList → List (List Point)
-families_of score c held = map (λ l. points_within c l score (vector_of c l held.list) (vector_of c l held.list) (limits c l)) (line_units c)
+families_of score c held = map (λ l. points_within c l score (vector_of c l held.list) (vector_of c l held.list)
+    (limits c l)) (line_units c)
 
+-- what a certificate claims: its chosen points, price, floors, upper end and bound
 abbrev pub claims_of : (ℕ → ℕ → ℕ → Ends → Ends) → Certificate → StockList → Claims
 claims_of score cert held = record {
   chosen = chosen_of score cert held;
@@ -59,6 +65,7 @@ claims_of score cert held = record {
 
 -- A certificate that breaks no rule is acceptable over the points of the families.
 abbrev pub AcceptedAreAcceptable : Type 0
-AcceptedAreAcceptable = (score : ℕ → ℕ → ℕ → Ends → Ends) (cert : Certificate) (held : StockList) → IsCase cert.case → IsWellFormed cert
+AcceptedAreAcceptable = (score : ℕ → ℕ → ℕ → Ends → Ends) (cert : Certificate) (held : StockList) → IsCase cert.case
+    → IsWellFormed cert
     → IsFor cert.case held → reject_of score cert held ≡ None
     → IsAcceptable (families_of score cert.case held) cert.budget (claims_of score cert held)

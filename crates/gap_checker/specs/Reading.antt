@@ -21,8 +21,10 @@ joined read.Gap rest = None
 joined read.Inner rest = rest
 joined (read.Leaf x) rest = option_map (λ ls. x ∷ ls) rest
 
+-- reading the node turns the boxes that wait into those after it, and gives this leaf, a gap or none
 abbrev pub Reads : List Bounds → Node → Read → List Bounds → Type 0
-Reads before node read after = (nodes : List Node) → leaves (node ∷ nodes) (reverse before) ≡ joined read (leaves nodes (reverse after))
+Reads before node read after = (nodes : List Node)
+    → leaves (node ∷ nodes) (reverse before) ≡ joined read (leaves nodes (reverse after))
 
 -- all boxes are within the limits and what is held
 abbrev pub AllOrdered : CaseRows → ℕ → List Bounds → Type 0
@@ -34,5 +36,7 @@ IsOrderedRead c l (read.Leaf x) = IsOrdered c l (box_of x)
 IsOrderedRead c l read.Inner = Unit {0}
 IsOrderedRead c l read.Gap = Unit {0}
 
+-- where the boxes that wait are in order, so are those after it, and the leaf that was read
 abbrev pub KeepsOrder : List Bounds → Read → List Bounds → Type 0
-KeepsOrder before read after = (c : CaseRows) (l : ℕ) → AllOrdered c l before → AllOrdered c l after × IsOrderedRead c l read
+KeepsOrder before read after = (c : CaseRows) (l : ℕ) → AllOrdered c l before → AllOrdered c l after
+    × IsOrderedRead c l read

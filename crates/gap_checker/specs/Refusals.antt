@@ -27,9 +27,11 @@ use Rattle.gap_checker.specs.Values.{value_of, cover_tables}
 
 -- ---- covers
 
+-- how many families a case has
 abbrev pub family_count : CaseRows → ℕ
 family_count c = length (line_units c)
 
+-- the line unit of family f
 abbrev pub line_at : CaseRows → ℕ → ℕ
 line_at c f = get_or (line_units c) f 0
 
@@ -45,9 +47,11 @@ nodes_of cert f = if cert.format == 2 then get_or cert.covers f [] else Whole �
 unfoldable pub cover_of : Certificate → StockList → ℕ → Option (List Leaf)
 cover_of cert held f = leaves (nodes_of cert f) (box_from cert.case (line_at cert.case f) held.list ∷ [])
 
+-- the leaves of family f, none where its nodes are no tree
 abbrev pub family_leaves : Certificate → StockList → ℕ → List Leaf
 family_leaves cert held f = unwrap_or (cover_of cert held f) []
 
+-- the reject of family f where its nodes are no tree of its box
 abbrev pub gap_at : Certificate → StockList → ℕ → Option Reject
 gap_at cert held f = if is_none (cover_of cert held f) then Some (reject.CoverGap f) else None
 
@@ -55,26 +59,34 @@ gap_at cert held f = if is_none (cover_of cert held f) then Some (reject.CoverGa
 abbrev pub family_tables : Certificate → StockList → ℕ → ℕ
 family_tables cert held f = cover_tables cert.case (line_at cert.case f) (family_leaves cert held f)
 
+-- the tables of the whole leaves of the first n families
 abbrev pub tables_of_first : Certificate → StockList → ℕ → ℕ
 tables_of_first cert held n = sum_by (family_tables cert held) (range_with_len 0 n)
 
+-- those of all families, as a count
 abbrev pub work_of : Certificate → StockList → ℕ
 work_of cert held = counted (tables_of_first cert held (family_count cert.case))
 
 -- ---- stocks
 
+-- the reject of the pair at place i where its stock is over its limit
 abbrev pub over_limit : CaseRows → StockList → ℕ → Option Reject
 over_limit c s i =
-    if nat_lt (limit_at c.parts (part_of_place (length c.sites) i).0 (site_of_place (length c.sites) i).0) (get_or s.list i 0)
-    then Some (reject.StocksOverLimit (part_of_place (length c.sites) i) (site_of_place (length c.sites) i) (get_or s.list i 0))
+    if nat_lt (limit_at c.parts (part_of_place (length c.sites) i).0 (site_of_place (length c.sites) i).0)
+    (get_or s.list i 0)
+    then Some (reject.StocksOverLimit (part_of_place (length c.sites) i) (site_of_place (length c.sites) i)
+    (get_or s.list i 0))
     else None
 
+-- the reject of the pair at place i where its stock is below what is held there
 abbrev pub below_held : CaseRows → StockList → StockList → ℕ → Option Reject
 below_held c held s i =
     if nat_lt (get_or s.list i 0) (get_or held.list i 0)
-    then Some (reject.StocksBelowHeld (part_of_place (length c.sites) i) (site_of_place (length c.sites) i) (get_or s.list i 0))
+    then Some (reject.StocksBelowHeld (part_of_place (length c.sites) i) (site_of_place (length c.sites) i)
+    (get_or s.list i 0))
     else None
 
+-- what stocks cost above the cost of what is held
 abbrev pub cost_above : CaseRows → StockList → StockList → ℕ
 cost_above c held s = cost_of c s - cost_of c held
 
@@ -82,7 +94,8 @@ cost_above c held s = cost_of c s - cost_of c held
 
 -- a leaf of family f whose value is below the claimed floor; in format 1 it is the family itself
 abbrev pub too_low : ℕ → ℕ → ℕ → ℕ → ℕ → Reject
-too_low format f k floor value = if format == 2 then reject.LeafTooLow f k floor value else reject.FloorTooHigh f floor value
+too_low format f k floor value = if format == 2 then reject.LeafTooLow f k floor value
+    else reject.FloorTooHigh f floor value
 
 -- of leaves that are numbered from k on, the first whose value is below the floor
 unfoldable pub low_leaf : (Leaf → ℕ) → ℕ → ℕ → List Leaf → Option (ℕ × ℕ)
@@ -100,7 +113,8 @@ module _ (score : ℕ → ℕ → ℕ → Ends → Ends) where
 
   -- the point of a family at the certificate's stocks
   abbrev pub chosen_point : Certificate → StockList → ℕ → Point
-  chosen_point cert held l = point_at_vector cert.case l score (vector_of cert.case l held.list) (vector_of cert.case l cert.stocks.list)
+  chosen_point cert held l = point_at_vector cert.case l score (vector_of cert.case l held.list)
+      (vector_of cert.case l cert.stocks.list)
 
   abbrev pub chosen_of : Certificate → StockList → List Point
   chosen_of cert held = map (chosen_point cert held) (line_units cert.case)
@@ -119,12 +133,15 @@ module _ (score : ℕ → ℕ → ℕ → Ends → Ends) where
       ∷ (if nat_lt 1000000 (work_of cert held) then Some (reject.WorkTooLarge (work_of cert held)) else None)
       ∷ first (over_limit cert.case cert.stocks) (pair_count (frame_rows cert.case))
       ∷ first (below_held cert.case held cert.stocks) (pair_count (frame_rows cert.case))
-      ∷ (if nat_lt cert.budget (cost_above cert.case held cert.stocks) then Some (reject.OverBudget (cost_above cert.case held cert.stocks)) else None)
+      ∷ (if nat_lt cert.budget (cost_above cert.case held cert.stocks)
+      then Some (reject.OverBudget (cost_above cert.case held cert.stocks)) else None)
       ∷ first (low_at cert held) (family_count cert.case)
-      ∷ (if nat_lt cert.upper (upper_of cert held) then Some (reject.UpperTooLow cert.upper (upper_of cert held)) else None)
+      ∷ (if nat_lt cert.upper (upper_of cert held) then Some (reject.UpperTooLow cert.upper (upper_of cert held))
+      else None)
       ∷ (if nat_lt (largest_of cert) cert.bound then Some (reject.BoundTooHigh cert.bound (largest_of cert)) else None)
       ∷ [])
 
   -- what is answered
   abbrev pub judged : Certificate → StockList → Result Accepted Reject
-  judged cert held = unless (reject_of cert held) (record { bound = cert.bound; upper = cert.upper; cost = cost_above cert.case held cert.stocks })
+  judged cert held = unless (reject_of cert held)
+      (record { bound = cert.bound; upper = cert.upper; cost = cost_above cert.case held cert.stocks })

@@ -14,8 +14,8 @@ use Rattle.price_certificate.specs.Certificates.{IsWellFormed}
 use Rattle.gap_checker.specs.Refusals.{reject_of}
 use Rattle.gap_checker.specs.Laws.{claims_of}
 
--- The family of the line unit l from what is held on, where a score's value at each depth is given for each vector. Its cost is
--- what is added to what is held.
+-- The family of the line unit l from what is held on, where a score's value at each depth is given for each vector.
+-- Its cost is what is added to what is held.
 abbrev pub family_model : (ℕ → ℕ → ℕ → Ends → Ends) → (ℕ → ℕ → List ℕ → Fraction) → CaseRows → StockList → ℕ → Family
 family_model score value c held l = record {
   vectors = vectors (vector_of c l held.list) (limits c l);
@@ -25,13 +25,15 @@ family_model score value c held l = record {
   backorders = value l;
 }
 
+-- the families of all line units of the case, from what is held on
 abbrev pub models_of : (ℕ → ℕ → ℕ → Ends → Ends) → (ℕ → ℕ → List ℕ → Fraction) → CaseRows → StockList → List Family
 models_of score value c held = map (family_model score value c held) (line_units c)
 
--- Where the score's intervals enclose its values, a certificate that breaks no rule is sound: its stocks fit the budget and have
--- no more than its upper end, and no allocation within the budget has fewer than its bound.
+-- Where the score's intervals enclose its values, a certificate that breaks no rule is sound: its stocks fit the
+-- budget and have no more than its upper end, and no allocation within the budget has fewer than its bound.
 abbrev pub AcceptedAreSound : Type 0
-AcceptedAreSound = (score : ℕ → ℕ → ℕ → Ends → Ends) (value : ℕ → ℕ → List ℕ → Fraction) (cert : Certificate) (held : StockList) → IsCase cert.case → IsWellFormed cert
+AcceptedAreSound = (score : ℕ → ℕ → ℕ → Ends → Ends) (value : ℕ → ℕ → List ℕ → Fraction) (cert : Certificate)
+    (held : StockList) → IsCase cert.case → IsWellFormed cert
     → IsFor cert.case held → AreEnclosed (models_of score value cert.case held) → reject_of score cert held ≡ None
     → IsSoundCertificate (models_of score value cert.case held) cert.budget (claims_of score cert held)
 

@@ -12,7 +12,8 @@ use Rattle.gap_checker.specs.Covers.{leaves, fewer, as_many, has_parts}
 unfoldable pub IsLawful : Tree → Bounds → Type 0
 IsLawful cover.Cost box = Unit {0}
 IsLawful cover.Whole box = Unit {0}
-IsLawful (cover.Cut at from one other) box = (has_parts box at from ≡ true) × IsLawful one (fewer box at from) × IsLawful other (as_many box at from)
+IsLawful (cover.Cut at from one other) box = (has_parts box at from ≡ true) × IsLawful one (fewer box at from)
+    × IsLawful other (as_many box at from)
 
 -- the leaves of a box's tree, in the same order
 unfoldable pub leaves_of : Tree → Bounds → List Leaf
@@ -29,8 +30,10 @@ pub record IsTreeOf (nodes : List Node) (box : Bounds) (ls : List Leaf) : Type 0
 
 -- The nodes of a lawful tree are read as its leaves,
 abbrev pub TreesAreRead : Type 0
-TreesAreRead = (tree : Tree) (box : Bounds) → IsLawful tree box → leaves (nodes_of tree) (box ∷ []) ≡ Some (leaves_of tree box)
+TreesAreRead = (tree : Tree) (box : Bounds) → IsLawful tree box
+    → leaves (nodes_of tree) (box ∷ []) ≡ Some (leaves_of tree box)
 
 -- and nothing else is read.
 abbrev pub OnlyTreesAreRead : Type 0
-OnlyTreesAreRead = (nodes : List Node) (box : Bounds) (ls : List Leaf) → leaves nodes (box ∷ []) ≡ Some ls → IsTreeOf nodes box ls
+OnlyTreesAreRead = (nodes : List Node) (box : Bounds) (ls : List Leaf) → leaves nodes (box ∷ []) ≡ Some ls
+    → IsTreeOf nodes box ls

@@ -19,7 +19,8 @@ least f (v ∷ w ∷ rest) = min (f v) (least f (w ∷ rest))
 
 -- the least Lagrangian of the vectors of a box of the family of the line unit l
 unfoldable pub least_within : CaseRows → ℕ → (ℕ → ℕ → ℕ → Ends → Ends) → Price → Bounds → ℕ
-least_within c l score price box = least (lagrangian price.p price.q) (points_within c l score box.held box.low box.high)
+least_within c l score price box = least (lagrangian price.p price.q)
+    (points_within c l score box.held box.low box.high)
 
 -- The value of a leaf: by cost alone the price of its low corner, or else the least Lagrangian of its vectors.
 unfoldable pub value_of : CaseRows → ℕ → (ℕ → ℕ → ℕ → Ends → Ends) → Price → Leaf → ℕ
@@ -31,5 +32,6 @@ unfoldable pub leaf_tables : CaseRows → ℕ → Leaf → ℕ
 leaf_tables c l (leaf.Cost box) = 0
 leaf_tables c l (leaf.Whole box) = tables_between c l box.low box.high
 
+-- the tables that the leaves of a cover take together
 abbrev pub cover_tables : CaseRows → ℕ → List Leaf → ℕ
 cover_tables c l ls = sum_by (leaf_tables c l) ls

@@ -40,12 +40,12 @@ fn rates_of(alloc: Global, case: &Case) -> Result<Rates, Stop<Reject>>
     }
 }
 
-/// Checks a certificate over the stocks that are held, by a score: what it claims, or the first rule that it breaks, in the
-/// order of [`Reject`].
+/// Checks a certificate over the stocks that are held, by a score: what it claims, or the first rule that it breaks,
+/// in the order of [`Reject`].
 ///
-/// The certificate is well formed, and what is held is a list for its case, within the limits. Costs count what the stocks add
-/// to it. Nothing is computed before the work is known to be at most 1,000,000 tables. A smaller floor, a larger upper end or a
-/// smaller bound than needed is accepted.
+/// The certificate is well formed, and what is held is a list for its case, within the limits. Costs count what the
+/// stocks add to it. Nothing is computed before the work is known to be at most 1,000,000 tables. A smaller floor, a
+/// larger upper end or a smaller bound than needed is accepted.
 pub fn check_within<S: Score>(
     alloc: Global,
     cert: &Certificate,

@@ -34,7 +34,9 @@ fn family_work(
     requires family { family < family_count cert.now.case }
     requires line { line.0 ≡ line_at cert.now.case family }
     requires is_line { IsLine cert.now.case line.0 }
-    ensures { IfOk result (λ work. work ≡ option_map (λ ls. counted (cover_tables cert.now.case (line_at cert.now.case family) ls)) (cover_of cert.now held.now family)) }
+    ensures { IfOk result (λ work. work ≡ option_map
+        (λ ls. counted (cover_tables cert.now.case (line_at cert.now.case family) ls))
+        (cover_of cert.now held.now family)) }
 {
     let one = [Node::Whole];
     let nodes = nodes_of(cert, family as usize, &one);

@@ -1,9 +1,10 @@
-//! The checker of certificates, which believes nothing of them: it computes each floor anew, or shows it by boxes of stocks whose
-//! cheapest corner is dear enough, and says which claim is the first that is false, and what would be true.
+//! The checker of certificates, which believes nothing of them: it computes each floor anew, or shows it by boxes of
+//! stocks whose cheapest corner is dear enough, and says which claim is the first that is false, and what would be
+//! true.
 //!
-//! A certificate has a case, a budget, a price, a floor for each family, stocks, an upper end and a bound. Where the checker
-//! accepts it, no allocation that the budget allows has less than the bound at any depth of the model from 1024 on, and its own
-//! stocks have no more than the upper end.
+//! A certificate has a case, a budget, a price, a floor for each family, stocks, an upper end and a bound. Where the
+//! checker accepts it, no allocation that the budget allows has less than the bound at any depth of the model from
+//! 1024 on, and its own stocks have no more than the upper end.
 #![tactic(auto)]
 
 mod bound;

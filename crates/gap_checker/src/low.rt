@@ -42,7 +42,8 @@ pub(crate) fn low_leaf<S: Score>(
     requires money { 0 < price.q }
     requires most_money { price.q ≤ 1000000000000 }
     requires price { price.p ≤ 2 ^ 74 }
-    ensures { IfOk result (λ low. low ≡ low_leaf (value_of case.now line.0 S.ends price) floor 0 (unwrap_or (leaves nodes.now (bounds ∷ [])) [])) }
+    ensures { IfOk result (λ low. low ≡ low_leaf (value_of case.now line.0 S.ends price) floor 0
+        (unwrap_or (leaves nodes.now (bounds ∷ [])) [])) }
 {
     let mut waiting = Vec::new(alloc);
     waiting.push(bounds)?;

@@ -32,7 +32,8 @@ fn family_upper<S: Score>(
     requires rates { AreRatesOf cert.now.case rates.now }
     requires is_line { IsLine cert.now.case line.0 }
     requires limited { first (over_limit cert.now.case cert.now.stocks) (pair_count (frame_rows cert.now.case)) ≡ None }
-    requires kept { first (below_held cert.now.case held.now cert.now.stocks) (pair_count (frame_rows cert.now.case)) ≡ None }
+    requires kept { first (below_held cert.now.case held.now cert.now.stocks) (pair_count (frame_rows cert.now.case))
+        ≡ None }
     ensures upper { IfOk result (λ hi. hi ≡ (chosen_point S.ends cert.now held.now line.0).hi) }
     ensures most { IfOk result (λ hi. hi ≤ 2 ^ 74) }
 {
@@ -62,7 +63,8 @@ pub(crate) fn upper_of<S: Score>(
     requires lines { map (λ p. p.0) lines.now ≡ line_units cert.now.case }
     requires few { length lines.now ≤ 2000 }
     requires limited { first (over_limit cert.now.case cert.now.stocks) (pair_count (frame_rows cert.now.case)) ≡ None }
-    requires kept { first (below_held cert.now.case held.now cert.now.stocks) (pair_count (frame_rows cert.now.case)) ≡ None }
+    requires kept { first (below_held cert.now.case held.now cert.now.stocks) (pair_count (frame_rows cert.now.case))
+        ≡ None }
     ensures { IfOk result (λ upper. upper ≡ upper_of S.ends cert.now held.now) }
 {
     let mut upper = 0;

@@ -43,7 +43,8 @@ fn least_within<S: Score>(
     Ok(u128::from(price.q) * vertex.lo + price.p * u128::from(vertex.cost))
 }
 
-/// The value of a leaf at a price: by cost alone the price of its low corner, or else the least Lagrangian of its vectors.
+/// The value of a leaf at a price: by cost alone the price of its low corner, or else the least Lagrangian of its
+/// vectors.
 pub(crate) fn value_of<S: Score>(
     alloc: Global,
     case: &Case,

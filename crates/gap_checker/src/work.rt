@@ -38,7 +38,8 @@ pub(crate) fn cover_tables(
 ) -> Result<Option<u64>, NoMemory>
     requires line { IsLine case.now line.0 }
     requires ordered { IsOrdered case.now line.0 bounds }
-    ensures { IfOk result (λ tables. tables ≡ option_map (λ ls. counted (cover_tables case.now line.0 ls)) (leaves nodes.now (bounds ∷ []))) }
+    ensures { IfOk result (λ tables. tables ≡ option_map (λ ls. counted (cover_tables case.now line.0 ls))
+        (leaves nodes.now (bounds ∷ []))) }
 {
     let mut waiting = Vec::new(alloc);
     waiting.push(bounds)?;

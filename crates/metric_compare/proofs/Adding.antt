@@ -1,5 +1,5 @@
 -- Sums of ends as loops make them.
-use Rattle.std.proofs.Common.{◌≡◌, ℕ, zero, suc, ◌+◌, ◌*◌, ◌^◌, ◌<◌, ◌≤◌, Bool, true, false, List, [], ◌∷◌, length, get_or, map, filter, Option, Some, None, refl, sym, ap, ap₂, ◌∙◌, subst, arith, mul-le-mul_left}
+use Rattle.std.proofs.Common.{◌≡◌, ℕ, zero, suc, ◌+◌, ◌*◌, ◌^◌, ◌<◌, ◌≤◌, Bool, true, false, List, [], ◌∷◌, length, get_or, map, filter, Option, Some, None, refl, sym, ap, ap₂, ◌∙◌, subst, arith, mul-le-mul_left, zero-add}
 use Rattle.std.specs.List.{fold, range_with_len}
 use Rattle.std.proofs.lemmas.List.{map_push}
 use Rattle.std.proofs.lemmas.List.Sums.{fold-append}
@@ -59,18 +59,17 @@ pub all_length : (c : CaseRows) (g : ℕ → ℕ → Ends) (all : List Ends) →
 all_length c g all e =
     ap (λ (xs : List Ends). length xs) e ∙ flat_length g (length c.sites) (all_parts c) ∙ ap (λ n. n * length c.sites) (length-range_with_len 0 (length c.parts))
 
+-- where there is a number for each pair, there is one at each place of a pair
 pub all_within : (c : CaseRows) (g : ℕ → ℕ → Ends) (all : List Ends) (i : ℕ) → all ≡ by_part c g → i < length c.parts * length c.sites → i < length all
 all_within c g all i e h = omega (arith, h, all_length c g all e)
 
-none_more : (p : ℕ) → 0 + p ≡ p
-none_more p = omega arith
-
+-- the number found at the place of a pair is that of the pair
 pub read_all : (c : CaseRows) (g : ℕ → ℕ → Ends) (all : List Ends) (p k i : ℕ) (d y : Ends) → all ≡ by_part c g → p < length c.parts → k < length c.sites
     → i ≡ pair_place (length c.sites) p k → y ≡ get_or all i d → y ≡ g p k
 read_all c g all p k i d y e lp lk hi hy =
     let long : p < length (all_parts c) = omega (arith, lp, length-range_with_len 0 (length c.parts)) in
     hy ∙ ap₂ (λ (xs : List Ends) (j : ℕ). get_or xs j d) e hi ∙ flat_at g (length c.sites) d (all_parts c) p k long lk
-    ∙ ap (λ q. g q k) (get_or-range_with_len 0 (length c.parts) p 0 lp ∙ none_more p)
+    ∙ ap (λ q. g q k) (get_or-range_with_len 0 (length c.parts) p 0 lp ∙ zero-add p)
 
 -- ---- sums
 
@@ -82,6 +81,7 @@ pub record Sums (h : ℕ → Ends) (a n most : ℕ) (x : Ends) : Type 0 where
 pub sums_start : (h : ℕ → Ends) (a most : ℕ) (x : Ends) → x ≡ ends_exact 48 0 → Sums h a 0 most x
 sums_start h a most x e = record { is = e; top = omega (arith, ap (λ (y : Ends). y.hi) e) }
 
+-- with the next base's number added, the sum is that of one more base
 pub sums_next : (h : ℕ → Ends) (a n m j most : ℕ) (x y z : Ends) → Sums h a n most x → a + n ≡ j → m ≡ n + 1 → y ≡ h j → y.hi ≤ most → z ≡ ends_add x y → Sums h a m most z
 sums_next h a n m j most x y z sums hj hm hy top hz =
     subst (λ k. Sums h a k most z) (sym hm) (record {
@@ -90,6 +90,7 @@ sums_next h a n m j most x y z sums hj hm hy top hz =
       top = omega (arith, sums.top, top, ap (λ (v : Ends). v.hi) hz);
     })
 
+-- the upper end of backorders of at most 256, weighted by at most 100, is at most 25,600
 pub times_small : (x : Ends) (w : ℕ) → IsWithinLimit 48 x → w ≤ 100 → x.hi * w ≤ 25600 * 2 ^ 48
 times_small x w h l =
     let p : x.hi * w ≤ x.hi * 100 = mul-le-mul_left x.hi l in
@@ -97,10 +98,12 @@ times_small x w h l =
 
 -- ---- one part more
 
+-- the sum of those of the first n parts that are counted, each at most most
 pub record Lines (h : ℕ → Ends) (t : ℕ → Bool) (n most : ℕ) (x : Ends) : Type 0 where
   pub is : x ≡ fold ends_add (ends_exact 48 0) (map h (filter t (range_with_len 0 n)))
   pub top : x.hi ≤ n * most
 
+-- with the number of a part that counts added, the sum is that of one more part
 pub line_more : (h : ℕ → Ends) (t : ℕ → Bool) (n most : ℕ) (x y z : Ends) → Lines h t n most x → t n ≡ true → y ≡ h n → y.hi ≤ most → z ≡ ends_add x y → Lines h t (n + 1) most z
 line_more h t n most x y z lines on hy top hz = record {
   is = hz ∙ ap₂ ends_add lines.is hy ∙ sym (fold-append ends_add (ends_exact 48 0) (map h (filter t (range_with_len 0 n))) (h n ∷ []))
@@ -108,6 +111,7 @@ line_more h t n most x y z lines on hy top hz = record {
   top = omega (arith, lines.top, top, ap (λ (v : Ends). v.hi) hz);
 }
 
+-- a part that doesn't count leaves the sum as it is
 pub line_less : (h : ℕ → Ends) (t : ℕ → Bool) (n most : ℕ) (x : Ends) → Lines h t n most x → t n ≡ false → Lines h t (n + 1) most x
 line_less h t n most x lines off = record {
   is = lines.is ∙ sym (ap (λ ls. fold ends_add (ends_exact 48 0) (map h ls)) (left_out t n off));

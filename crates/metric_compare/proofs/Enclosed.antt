@@ -2,9 +2,9 @@
 use Rattle.std.proofs.Common.{◌≡◌, ℕ, zero, suc, ◌-◌, ◌<◌, ◌≤◌, true, List, length, get_or, map, Option, Some, None, refl, sym, subst, arith, zero-lt-suc}
 use Rattle.std.proofs.Math.Nat.{le_refl}
 use Rattle.std.proofs.lemmas.List.{get_or-map, length-map}
-use Rattle.exact_model.specs.Fraction.{Encloses, Fraction, whole, sum_below, ◌≈◌, ◌≤ℚ◌, ◌+ℚ◌, ◌*ℚ◌}
+use Rattle.exact_model.specs.Fraction.{Encloses, Fraction, whole, ◌≤ℚ◌, ◌+ℚ◌, ◌*ℚ◌}
 use Rattle.exact_model.specs.Series.{ebo}
-use Rattle.exact_model.proofs.Fractions.{add-same, contains-same, le-chain, le-refl, same, turned}
+use Rattle.exact_model.proofs.Fractions.{contains_same, le_chain, le_self, turned}
 use Rattle.exact_model.proofs.Sums.{ebo_within as ebo_most}
 use Rattle.fixed_interval.specs.Ends.{Ends, In, ends_add, ends_capped}
 use Rattle.fixed_interval.proofs.Laws.{add_encloses, capped_encloses, times_encloses}
@@ -17,64 +17,64 @@ use Rattle.base_pipeline.specs.Profile.{held_at}
 use Rattle.spares_input.specs.Rows.{is_line}
 use Rattle.spares_input.specs.Frames.{line_of, part_at}
 use Rattle.spares_input.specs.Cases.{CaseRows}
-use Rattle.exact_model.specs.Sums.{sum_over}
 use Rattle.fleet_model.specs.Rows.{bases, line_units, shop_units, stock, weight}
 use Rattle.fleet_model.specs.Demand.{f_i0, f_ij, f_0j}
 use Rattle.fleet_model.specs.ZeroStock.{direct_i0, direct_00, direct_ij, direct_0j, zero_stock_i0, zero_stock_00, zero_stock_ij, zero_stock_0j}
 use Rattle.fleet_model.specs.Pairs.{by_pair}
 use Rattle.fleet_model.specs.Laws.{IsBase, Reaches}
-use Rattle.fleet_model.proofs.Order.{le-add, le-mul, le-of-same}
-use Rattle.fleet_model.proofs.SumLaws.{passed, sum-most, sum-places}
+use Rattle.fleet_model.proofs.Order.{le_add, le_mul, le_of_same}
+use Rattle.fleet_model.proofs.SumLaws.{passed, sum_most}
 use Rattle.fleet_model.proofs.MeanLaws as zero_mean
 use Rattle.fleet_model.proofs.AllocationLaws.{allocation_reaches}
-use Rattle.demand_rates.proofs.DepotFacts.{line-none}
+use Rattle.demand_rates.proofs.DepotFacts.{no_line_there}
 use Rattle.family_eval.specs.Profile.{pipeline_of, share_of}
 use Rattle.moment_table.specs.Inputs.{CanTable}
 use Rattle.family_eval.specs.Inputs.{IsLine, IsPipeline, IsShop, IsSound}
 use Rattle.moment_table.proofs.Tables.{table_encloses}
-use Rattle.family_eval.proofs.Ranges.{added_least, can_table, cap_in, direct_in, pipeline_is, share_in}
-use Rattle.family_eval.proofs.Units.{all_same, line_at, shop_at}
+use Rattle.family_eval.proofs.Ranges.{added_least, can_table, cap_in, pipeline_is}
+use Rattle.family_eval.proofs.Units.{line_at, shop_at, each_in_range}
+use Rattle.family_eval.proofs.Enclosed.{sum_by_places, direct_level, share_level}
 use Rattle.fleet_model.specs.Poisson.{mean_i0, mean_00, mean_ij, mean_0j, poisson, poisson_i0, poisson_00, poisson_ij, poisson_0j, poisson_family_total, poisson_total}
-use Rattle.case_figures.proofs.Each.{each_in_range}
+use Rattle.fleet_model.proofs.DependLaws.{all_follow}
 use Rattle.case_figures.proofs.Enclosing.{sum_in}
 use Rattle.metric_compare.specs.Profile.{backorders_at, poisson_at, base_line, base_shop, depot_feed, depot_line, depot_shop, fed, held, poisson_family_total_of, poisson_of, poisson_total_of, weighed}
 
 -- ---- what caps them
 
 module _ (c : CaseRows) (s : List ℕ) (n : ℕ) (r : Reaches c s n) where
-  ebo-most : (u : Fraction) (p k : ℕ) (most : Fraction) → u ≤ℚ most → ebo n u u (stock c s p k) ≤ℚ most
-  ebo-most u p k most h = le-chain (ebo_most n u u (stock c s p k) (r p k)) h
+  most_ebo_there : (u : Fraction) (p k : ℕ) (most : Fraction) → u ≤ℚ most → ebo n u u (stock c s p k) ≤ℚ most
+  most_ebo_there u p k most h = le_chain (ebo_most n u u (stock c s p k) (r p k)) h
 
-  poisson_i0-most : (l i : ℕ) → poisson_i0 c s n l i ≤ℚ zero_stock_i0 c l i
+  poisson_i0_most : (l i : ℕ) → poisson_i0 c s n l i ≤ℚ zero_stock_i0 c l i
   unfolding poisson_i0 mean_i0 zero_stock_i0
-  poisson_i0-most l i = ebo-most (direct_i0 c l i) i 0 _ (le-refl (direct_i0 c l i))
+  poisson_i0_most l i = most_ebo_there (direct_i0 c l i) i 0 _ (le_self (direct_i0 c l i))
 
-  mean_00-most : (l : ℕ) → mean_00 c s n l ≤ℚ zero_stock_00 c l
+  mean_00_most : (l : ℕ) → mean_00 c s n l ≤ℚ zero_stock_00 c l
   unfolding mean_00
-  mean_00-most l =
-      le-chain (le-add (le-refl (direct_00 c l)) (sum-most (shop_units c l) _ _ (λ i. le-mul (le-refl (f_i0 c l i)) (poisson_i0-most l i))))
-      (le-of-same (turned (zero_mean.mean_00 c l)))
+  mean_00_most l =
+      le_chain (le_add (le_self (direct_00 c l)) (sum_most (shop_units c l) _ _ (λ i. le_mul (le_self (f_i0 c l i)) (poisson_i0_most l i))))
+      (le_of_same (turned (zero_mean.mean_00 c l)))
 
-  poisson_00-most : (l : ℕ) → poisson_00 c s n l ≤ℚ zero_stock_00 c l
+  poisson_00_most : (l : ℕ) → poisson_00 c s n l ≤ℚ zero_stock_00 c l
   unfolding poisson_00
-  poisson_00-most l = ebo-most (mean_00 c s n l) l 0 _ (mean_00-most l)
+  poisson_00_most l = most_ebo_there (mean_00 c s n l) l 0 _ (mean_00_most l)
 
-  mean_ij-most : (l i j : ℕ) → IsBase c j → mean_ij c s n l i j ≤ℚ zero_stock_ij c l i j
+  mean_ij_most : (l i j : ℕ) → IsBase c j → mean_ij c s n l i j ≤ℚ zero_stock_ij c l i j
   unfolding mean_ij
-  mean_ij-most l i j b =
-      le-chain (le-add (le-refl (direct_ij c l i j)) (le-mul (le-refl (f_ij c l i j)) (poisson_i0-most l i)))
-      (le-of-same (turned (zero_mean.mean_ij c l i j b)))
+  mean_ij_most l i j b =
+      le_chain (le_add (le_self (direct_ij c l i j)) (le_mul (le_self (f_ij c l i j)) (poisson_i0_most l i)))
+      (le_of_same (turned (zero_mean.mean_ij c l i j b)))
 
-  poisson_ij-most : (l i j : ℕ) → IsBase c j → poisson_ij c s n l i j ≤ℚ zero_stock_ij c l i j
+  poisson_ij_most : (l i j : ℕ) → IsBase c j → poisson_ij c s n l i j ≤ℚ zero_stock_ij c l i j
   unfolding poisson_ij
-  poisson_ij-most l i j b = ebo-most (mean_ij c s n l i j) i j _ (mean_ij-most l i j b)
+  poisson_ij_most l i j b = most_ebo_there (mean_ij c s n l i j) i j _ (mean_ij_most l i j b)
 
-  mean_0j-most : (l j : ℕ) → IsBase c j → mean_0j c s n l j ≤ℚ zero_stock_0j c l j
+  mean_0j_most : (l j : ℕ) → IsBase c j → mean_0j c s n l j ≤ℚ zero_stock_0j c l j
   unfolding mean_0j
-  mean_0j-most l j b =
-      le-chain (le-add (le-add (le-refl (direct_0j c l j)) (le-mul (le-refl (f_0j c l j)) (poisson_00-most l)))
-      (sum-most (shop_units c l) _ _ (λ i. poisson_ij-most l i j b)))
-      (le-of-same (turned (zero_mean.mean_0j c l j b)))
+  mean_0j_most l j b =
+      le_chain (le_add (le_add (le_self (direct_0j c l j)) (le_mul (le_self (f_0j c l j)) (poisson_00_most l)))
+      (sum_most (shop_units c l) _ _ (λ i. poisson_ij_most l i j b)))
+      (le_of_same (turned (zero_mean.mean_0j c l j b)))
 
 -- ---- the ends
 
@@ -82,12 +82,6 @@ backorders_in : (f : ℕ) (m : Ends) (s : ℕ) → CanTable f m m → s ≤ 63 �
     → In f (poisson_at f m s) (ebo n u u s)
 unfolding backorders_at
 backorders_in f m s can few u a n deep = (table_encloses f m m s can few u u a a n deep).ebo
-
--- the sum by places is the one over the list
-places : (xs : List ℕ) (q : ℕ → Fraction) (d : Fraction) (count : ℕ) → count ≡ length xs
-    → d +ℚ sum_below (λ k. q (get_or xs k 0)) count ≈ d +ℚ sum_over xs q
-places xs q d count e =
-    add-same (same d) (subst (λ m. sum_below (λ k. q (get_or xs k 0)) m ≈ sum_over xs q) (sym e) (sum-places xs q))
 
 fed_in : (f : ℕ) (share x : Ends) (q e : Fraction) → In f share q → In f x e → FeedIn f (fed f share x) q e e
 fed_in f share x q e h i = record { share = h; backorders = i; spread = i }
@@ -101,17 +95,6 @@ module _ (f : ℕ) (c : CaseRows) (s : List ℕ) (least : 24 ≤ f) (sound : IsS
 
   some_sites : 0 < length c.sites
   some_sites = omega (arith, sound.valid.frame.fewest_sites)
-
-  direct_level : (o : Option ℕ) (p k : ℕ) → line_of c.parts p ≡ o → p < length c.parts → k < length c.sites
-      → In f (pipeline_of f c s p k).direct (by_pair (direct_i0 c) (direct_00 c) (direct_ij c) (direct_0j c) o p k)
-  direct_level o p k e lp lk =
-      subst (λ o. In f (pipeline_of f c s p k).direct (by_pair (direct_i0 c) (direct_00 c) (direct_ij c) (direct_0j c) o p k)) e
-      (direct_in f c p k (sound.pairs p k lp lk))
-
-  share_level : (o : Option ℕ) (p k : ℕ) → line_of c.parts p ≡ o → p < length c.parts → k < length c.sites
-      → In f (share_of f c p k) (by_pair (f_i0 c) (λ l. whole 1) (f_ij c) (f_0j c) o p k)
-  share_level o p k e lp lk =
-      subst (λ o. In f (share_of f c p k) (by_pair (f_i0 c) (λ l. whole 1) (f_ij c) (f_0j c) o p k)) e (share_in f c p k (sound.pairs p k lp lk))
 
   -- the mean m, before its cap, gives the backorders of the pair
   level : (o : Option ℕ) (p k n : ℕ) (m : Ends) (u : Fraction) → line_of c.parts p ≡ o → p < length c.parts → k < length c.sites → 1024 ≤ n
@@ -129,7 +112,7 @@ module _ (f : ℕ) (c : CaseRows) (s : List ℕ) (least : 24 ≤ f) (sound : IsS
   unfolding depot_shop poisson_i0 mean_i0 zero_stock_i0
   in_i0 l i n shop deep =
       level (Some l) i 0 n (pipeline_of f c s i 0).direct (direct_i0 c l i) shop.line_is shop.is_part some_sites deep (le_refl (pipeline_of f c s i 0).direct.lo)
-      (direct_level (Some l) i 0 shop.line_is shop.is_part some_sites) (le-refl (direct_i0 c l i))
+      (direct_level f c s least sound (Some l) i 0 shop.line_is shop.is_part some_sites) (le_self (direct_i0 c l i))
 
   -- ---- the line unit at the depot
 
@@ -142,20 +125,20 @@ module _ (f : ℕ) (c : CaseRows) (s : List ℕ) (least : 24 ≤ f) (sound : IsS
       let shop = shop_at c l k sound.valid line w in
       subst (λ (z : Feed f). FeedIn f z (f_i0 c l i) (poisson_i0 c s n l i) (poisson_i0 c s n l i))
       (sym (get_or-map (depot_feed f c s) (shop_units c l) k 0 (no_feed f) w))
-      (fed_in f (share_of f c i 0) (depot_shop f c s i) (f_i0 c l i) _ (share_level (Some l) i 0 shop.line_is shop.is_part some_sites) (in_i0 l i n shop deep))
+      (fed_in f (share_of f c i 0) (depot_shop f c s i) (f_i0 c l i) _ (share_level f c s least sound (Some l) i 0 shop.line_is shop.is_part some_sites) (in_i0 l i n shop deep))
 
   in_00 : (l n : ℕ) → IsLine c l → 1024 ≤ n → In f (depot_line f c s l) (poisson_00 c s n l)
   unfolding depot_line poisson_00 mean_00
   in_00 l n line deep =
-      let e = line-none c.parts l line.no_parent in
+      let e = no_line_there c.parts l line.no_parent in
       let feeds = map (depot_feed f c s) (shop_units c l) in
       level None l 0 n (added (pipeline_of f c s l 0).direct (λ k. mean_part f (feed_at feeds k)) (length feeds)) (mean_00 c s n l) e line.is_part some_sites deep
       (added_least (pipeline_of f c s l 0).direct (λ k. mean_part f (feed_at feeds k)) (length feeds))
-      (contains-same (places (shop_units c l) (λ i. f_i0 c l i *ℚ poisson_i0 c s n l i) (direct_00 c l) _ (length-map (shop_units c l) (depot_feed f c s)))
+      (contains_same (sum_by_places (shop_units c l) (λ i. f_i0 c l i *ℚ poisson_i0 c s n l i) (direct_00 c l) _ (length-map (shop_units c l) (depot_feed f c s)))
       (added_in f (pipeline_of f c s l 0).direct _ (direct_00 c l) (λ k. f_i0 c l (get_or (shop_units c l) k 0) *ℚ poisson_i0 c s n l (get_or (shop_units c l) k 0)) _
-      (direct_level None l 0 e line.is_part some_sites)
+      (direct_level f c s least sound None l 0 e line.is_part some_sites)
       (λ k h. mean_part_in f (feed_at feeds k) _ _ _ (feeds_in l n k line deep h))))
-      (mean_00-most c s n (reach n deep) l)
+      (mean_00_most c s n (reach n deep) l)
 
   -- ---- the shop unit at base j + 1
 
@@ -163,13 +146,13 @@ module _ (f : ℕ) (c : CaseRows) (s : List ℕ) (least : 24 ≤ f) (sound : IsS
   unfolding base_shop poisson_ij mean_ij
   in_ij l i j n shop lj deep =
       let feed = fed f (share_of f c i (suc j)) (depot_shop f c s i) in
-      let d : In f (pipeline_of f c s i (suc j)).direct (direct_ij c l i (suc j)) = direct_level (Some l) i (suc j) shop.line_is shop.is_part lj in
+      let d : In f (pipeline_of f c s i (suc j)).direct (direct_ij c l i (suc j)) = direct_level f c s least sound (Some l) i (suc j) shop.line_is shop.is_part lj in
       let part = fed_in f (share_of f c i (suc j)) (depot_shop f c s i) (f_ij c l i (suc j)) (poisson_i0 c s n l i)
-      (share_level (Some l) i (suc j) shop.line_is shop.is_part lj) (in_i0 l i n shop deep) in
+      (share_level f c s least sound (Some l) i (suc j) shop.line_is shop.is_part lj) (in_i0 l i n shop deep) in
       level (Some l) i (suc j) n (ends_add (pipeline_of f c s i (suc j)).direct (mean_part f feed)) (mean_ij c s n l i (suc j)) shop.line_is shop.is_part lj deep
       (omega arith)
       (add_encloses f (pipeline_of f c s i (suc j)).direct _ (direct_ij c l i (suc j)) (f_ij c l i (suc j) *ℚ poisson_i0 c s n l i) d (mean_part_in f _ _ _ _ part))
-      (mean_ij-most c s n (reach n deep) l i (suc j) (zero-lt-suc j, lj))
+      (mean_ij_most c s n (reach n deep) l i (suc j) (zero-lt-suc j, lj))
 
   -- ---- the line unit at base j + 1
 
@@ -184,20 +167,20 @@ module _ (f : ℕ) (c : CaseRows) (s : List ℕ) (least : 24 ≤ f) (sound : IsS
   in_0j : (l j n : ℕ) → IsLine c l → suc j < length c.sites → 1024 ≤ n → In f (base_line f c s l (suc j)) (poisson_0j c s n l (suc j))
   unfolding base_line poisson_0j mean_0j
   in_0j l j n line lj deep =
-      let e = line-none c.parts l line.no_parent in
+      let e = no_line_there c.parts l line.no_parent in
       let feed = fed f (share_of f c l (suc j)) (depot_line f c s l) in
       let shops = map (λ i. held f (base_shop f c s i (suc j))) (shop_units c l) in
-      let d = direct_level None l (suc j) e line.is_part lj in
-      let part = fed_in f (share_of f c l (suc j)) (depot_line f c s l) (f_0j c l (suc j)) (poisson_00 c s n l) (share_level None l (suc j) e line.is_part lj) (in_00 l n line deep) in
+      let d = direct_level f c s least sound None l (suc j) e line.is_part lj in
+      let part = fed_in f (share_of f c l (suc j)) (depot_line f c s l) (f_0j c l (suc j)) (poisson_00 c s n l) (share_level f c s least sound None l (suc j) e line.is_part lj) (in_00 l n line deep) in
       let first = add_encloses f (pipeline_of f c s l (suc j)).direct _ (direct_0j c l (suc j)) (f_0j c l (suc j) *ℚ poisson_00 c s n l) d (mean_part_in f _ _ _ _ part) in
       level None l (suc j) n (added (ends_add (pipeline_of f c s l (suc j)).direct (mean_part f feed)) (λ k. (held_at shops k).backorders) (length shops)) (mean_0j c s n l (suc j))
       e line.is_part lj deep
       (omega (arith, added_least (ends_add (pipeline_of f c s l (suc j)).direct (mean_part f feed)) (λ k. (held_at shops k).backorders) (length shops)))
-      (contains-same (places (shop_units c l) (λ i. poisson_ij c s n l i (suc j)) (direct_0j c l (suc j) +ℚ f_0j c l (suc j) *ℚ poisson_00 c s n l) _
+      (contains_same (sum_by_places (shop_units c l) (λ i. poisson_ij c s n l i (suc j)) (direct_0j c l (suc j) +ℚ f_0j c l (suc j) *ℚ poisson_00 c s n l) _
       (length-map (shop_units c l) (λ i. held f (base_shop f c s i (suc j)))))
       (added_in f _ _ (direct_0j c l (suc j) +ℚ f_0j c l (suc j) *ℚ poisson_00 c s n l) (λ k. poisson_ij c s n l (get_or (shop_units c l) k 0) (suc j)) _ first
       (λ k h. helds_in l j n k line lj deep h)))
-      (mean_0j-most c s n (reach n deep) l (suc j) (zero-lt-suc j, lj))
+      (mean_0j_most c s n (reach n deep) l (suc j) (zero-lt-suc j, lj))
 
   -- ---- by pair
 
@@ -219,7 +202,7 @@ module _ (f : ℕ) (c : CaseRows) (s : List ℕ) (least : 24 ≤ f) (sound : IsS
   line_in l zero n line h lj deep = absurd (omega (arith, h))
   line_in l (suc j) n line h lj deep =
       subst (λ o. In f (by_pair (λ l i. depot_shop f c s i) (depot_line f c s) (λ l i j. base_shop f c s i j) (base_line f c s) o l (suc j)) (poisson_0j c s n l (suc j)))
-      (sym (line-none c.parts l line.no_parent)) (in_0j f c s least sound l j n line lj deep)
+      (sym (no_line_there c.parts l line.no_parent)) (in_0j f c s least sound l j n line lj deep)
 
   family_in : (l n : ℕ) → IsLine c l → 1024 ≤ n → In f (poisson_family_total_of f c s l) (poisson_family_total c s n l)
   unfolding poisson_family_total
@@ -231,6 +214,6 @@ module _ (f : ℕ) (c : CaseRows) (s : List ℕ) (least : 24 ≤ f) (sound : IsS
   unfolding poisson_total
   total_in n deep =
       sum_in f (poisson_family_total_of f c s) (poisson_family_total c s n) (line_units c)
-      (all_same (λ p. (p < length c.parts) × (is_line (part_at c.parts p) ≡ true)) _ (line_units c)
+      (all_follow (λ p. (p < length c.parts) × (is_line (part_at c.parts p) ≡ true)) _ (line_units c)
       (λ p h. family_in p n (record { is_part = h.0; no_parent = h.1 }) deep)
       (passed (λ p. is_line (part_at c.parts p)) (length c.parts) (length c.parts) 0 (omega arith)))

@@ -1,5 +1,5 @@
 -- What a pair's pipeline has of its own, and what its level makes of it.
-use Rattle.std.proofs.Common.{◌≡◌, ℕ, zero, suc, Option, Some, ◌<◌, ◌≤◌, ◌+◌, List, [], ◌∷◌, ◌++◌, length, get_or, map, flat_map, replicate, refl, add-one, sym, ap, ap₂, ◌∙◌, subst, arith}
+use Rattle.std.proofs.Common.{◌≡◌, ℕ, zero, suc, Option, Some, ◌<◌, ◌≤◌, ◌+◌, List, [], ◌∷◌, ◌++◌, length, get_or, map, flat_map, replicate, refl, sym, ap, ap₂, ◌∙◌, subst, arith}
 use Rattle.std.specs.List.{range_with_len}
 use Rattle.std.proofs.lemmas.List.{flat_map_more, length-map}
 use Rattle.std.proofs.lemmas.Simd.{map-map}
@@ -11,13 +11,14 @@ use Rattle.base_pipeline.specs.declared.Held.{Held}
 use Rattle.base_pipeline.specs.Profile.{base_line_ends, base_shop_ends, held_at}
 use Rattle.fleet_model.specs.Rows.{shop_units, stock}
 use Rattle.fleet_model.specs.Units.{pipeline_scale}
-use Rattle.fleet_model.proofs.AllocationLaws.{stock-is}
+use Rattle.fleet_model.proofs.AllocationLaws.{stock_holds}
 use Rattle.fleet_model.specs.Pairs.{by_pair}
 use Rattle.spares_input.specs.Cases.{CaseRows, IsCase}
 use Rattle.spares_input.specs.Frames.{line_of}
 use Rattle.spares_input.specs.declared.rows.PartId.{PartId}
-use Rattle.demand_rates.proofs.DepotFacts.{line-none}
+use Rattle.demand_rates.proofs.DepotFacts.{no_line_there}
 use Rattle.spares_input.specs.Stocks.{stock_at}
+use Rattle.spares_input.proofs.Ranges.{range_next}
 use Rattle.demand_rates.specs.declared.kinds.PairRates.{PairRates}
 use Rattle.demand_rates.specs.RateLists.{rates_at}
 use Rattle.moment_table.specs.Inputs.{CanTable}
@@ -28,6 +29,7 @@ use Rattle.family_eval.proofs.Ranges.{added_least, can_table, pipeline_is, sound
 use Rattle.metric_compare.specs.Levels.{IsPipe, of_shop}
 use Rattle.metric_compare.specs.Profile.{poisson_at, base_line, base_shop, depot_feed, depot_line, depot_shop, fed, held, poisson_of}
 
+-- direct part, cap and stock as the inputs have them are those of the pair, and within their ranges
 pub pipe_is : (x : InputRows) (p k : ℕ) (direct : Ends) (cap stocked : ℕ) → AreInputs x → p < length x.case.parts → k < length x.case.sites
     → direct ≡ ends_ratio 48 (rates_at x.rates p k).direct pipeline_scale → cap ≡ (ends_ratio 48 (rates_at x.rates p k).zero_stock pipeline_scale).hi
     → stocked ≡ stock_at x.stocks p k → IsPipe x.case x.stocks.list p k direct cap stocked
@@ -36,7 +38,7 @@ pipe_is x p k direct cap stocked h lp lk hd hc hs =
     record {
       direct_is = hd ∙ ap (λ (r : PairRates). ends_ratio 48 r.direct pipeline_scale) r;
       cap_is = hc ∙ ap (λ (r : PairRates). (ends_ratio 48 r.zero_stock pipeline_scale).hi) r;
-      stock_is = hs ∙ sym (stock-is x.case x.stocks p k h.are_stocks);
+      stock_is = hs ∙ sym (stock_holds x.case x.stocks p k h.are_stocks);
       valid = pipeline_is 48 x.case x.stocks.list p k (omega arith) (sound_of x h) lp lk;
     }
 
@@ -48,6 +50,7 @@ can_mean c s p k direct cap stocked m pipe lo =
     subst (λ n. CanTable 48 (ends_capped m n) (ends_capped m n)) (sym pipe.cap_is)
     (can_table 48 (pipeline_of 48 c s p k) m m pipe.valid (subst (λ (d : Ends). d.lo ≤ m.lo) pipe.direct_is lo))
 
+-- the capped mean of a line unit at the depot has a table with itself as the variance
 pub depot_line_can : (c : CaseRows) (s : List ℕ) (p k : ℕ) (direct : Ends) (cap stocked : ℕ) (feeds : List (Feed 48)) (m : Moments 48) → IsPipe c s p k direct cap stocked
     → m ≡ depot_line_ends 48 direct cap feeds → CanTable 48 m.mean m.mean
 depot_line_can c s p k direct cap stocked feeds m pipe e =
@@ -55,6 +58,7 @@ depot_line_can c s p k direct cap stocked feeds m pipe e =
     (can_mean c s p k direct cap stocked (added direct (λ k. mean_part 48 (feed_at feeds k)) (length feeds)) pipe
     (added_least direct (λ k. mean_part 48 (feed_at feeds k)) (length feeds)))
 
+-- so does that of a line unit at a base
 pub base_line_can : (c : CaseRows) (s : List ℕ) (p k : ℕ) (direct : Ends) (cap stocked : ℕ) (feed : Feed 48) (shops : List (Held 48)) (m : Moments 48)
     → IsPipe c s p k direct cap stocked → m ≡ base_line_ends 48 direct cap feed shops → CanTable 48 m.mean m.mean
 base_line_can c s p k direct cap stocked feed shops m pipe e =
@@ -65,12 +69,14 @@ base_line_can c s p k direct cap stocked feed shops m pipe e =
 
 -- ---- what a step computed is the definition's
 
+-- what is computed of a shop unit at the depot are its Poisson backorders
 pub depot_shop_is : (c : CaseRows) (s : List ℕ) (p : ℕ) (direct : Ends) (cap stocked : ℕ) (m : Moments 48) (x : Ends) → IsPipe c s p 0 direct cap stocked
     → m ≡ depot_shop_ends 48 direct cap → x ≡ poisson_at 48 m.mean stocked → x ≡ depot_shop 48 c s p
 unfolding depot_shop
 depot_shop_is c s p direct cap stocked m x pipe e h =
     h ∙ ap₂ (λ (m : Moments 48) (n : ℕ). poisson_at 48 m.mean n) (e ∙ ap₂ (λ (d : Ends) (n : ℕ). depot_shop_ends 48 d n) pipe.direct_is pipe.cap_is) pipe.stock_is
 
+-- what is computed of a shop unit at a base and the depot's feed are its Poisson backorders
 pub base_shop_is : (c : CaseRows) (s : List ℕ) (p k : ℕ) (direct : Ends) (cap stocked : ℕ) (share depot : Ends) (feed : Feed 48) (m : Moments 48) (x : Ends)
     → IsPipe c s p k direct cap stocked → share ≡ share_of 48 c p k → depot ≡ depot_shop 48 c s p → feed ≡ fed 48 share depot
     → m ≡ base_shop_ends 48 direct cap feed → x ≡ poisson_at 48 m.mean stocked → x ≡ base_shop 48 c s p k
@@ -80,6 +86,7 @@ base_shop_is c s p k direct cap stocked share depot feed m x pipe hs hd hf e h =
     ∙ (λ t. poisson_at 48 (base_shop_ends 48 (pipe.direct_is t) (pipe.cap_is t) (hf t)).mean (pipe.stock_is t))
     ∙ (λ t. poisson_at 48 (base_shop_ends 48 (pipeline_of 48 c s p k).direct (pipeline_of 48 c s p k).cap (fed 48 (hs t) (hd t))).mean (stock c s p k))
 
+-- what is computed of a line unit at the depot and the feeds of its shop units are its Poisson backorders
 pub depot_line_is : (c : CaseRows) (s : List ℕ) (p : ℕ) (direct : Ends) (cap stocked : ℕ) (feeds : List (Feed 48)) (m : Moments 48) (x : Ends)
     → IsPipe c s p 0 direct cap stocked → feeds ≡ map (depot_feed 48 c s) (shop_units c p) → m ≡ depot_line_ends 48 direct cap feeds
     → x ≡ poisson_at 48 m.mean stocked → x ≡ depot_line 48 c s p
@@ -88,6 +95,8 @@ depot_line_is c s p direct cap stocked feeds m x pipe hf e h =
     h ∙ (λ t. poisson_at 48 (e t).mean stocked)
     ∙ (λ t. poisson_at 48 (depot_line_ends 48 (pipe.direct_is t) (pipe.cap_is t) (hf t)).mean (pipe.stock_is t))
 
+-- what is computed of a line unit at a base, the depot's feed and what its shop units hold back there
+-- are its Poisson backorders
 pub base_line_is : (c : CaseRows) (s : List ℕ) (p k : ℕ) (direct : Ends) (cap stocked : ℕ) (share depot : Ends) (feed : Feed 48) (shops : List (Held 48)) (m : Moments 48) (x : Ends)
     → IsPipe c s p k direct cap stocked → share ≡ share_of 48 c p k → depot ≡ depot_line 48 c s p → feed ≡ fed 48 share depot
     → shops ≡ map (λ i. held 48 (base_shop 48 c s i k)) (shop_units c p) → m ≡ base_line_ends 48 direct cap feed shops
@@ -110,6 +119,7 @@ shop_by c s o p k = by_pair (λ l i. depot_shop 48 c s i) (λ l. ends_exact 48 0
 pub depot_of_shop : (c : CaseRows) (s : List ℕ) (l p : ℕ) → line_of c.parts p ≡ Some l → of_shop c s p 0 ≡ depot_shop 48 c s p
 depot_of_shop c s l p e = ap (λ o. shop_by c s o p 0) e
 
+-- the number of a shop unit at a base is that of the third level
 pub base_of_shop : (c : CaseRows) (s : List ℕ) (l p k : ℕ) → line_of c.parts p ≡ Some l → 0 < k → of_shop c s p k ≡ base_shop 48 c s p k
 base_of_shop c s l p zero e h = absurd (omega arith)
 base_of_shop c s l p (suc j) e h = ap (λ o. shop_by c s o p (suc j)) e
@@ -120,24 +130,26 @@ shop_is_poisson c s l p zero e = ap (λ o. shop_by c s o p 0) e ∙ ap (λ o. po
 shop_is_poisson c s l p (suc j) e = ap (λ o. shop_by c s o p (suc j)) e ∙ ap (λ o. poisson_by c s o p (suc j)) (sym e)
 
 line_none : (c : CaseRows) (s : List ℕ) (l k : ℕ) → IsLine c l → of_shop c s l k ≡ ends_exact 48 0
-line_none c s l zero line = ap (λ o. shop_by c s o l 0) (line-none c.parts l line.no_parent)
-line_none c s l (suc j) line = ap (λ o. shop_by c s o l (suc j)) (line-none c.parts l line.no_parent)
+line_none c s l zero line = ap (λ o. shop_by c s o l 0) (no_line_there c.parts l line.no_parent)
+line_none c s l (suc j) line = ap (λ o. shop_by c s o l (suc j)) (no_line_there c.parts l line.no_parent)
 
 same_all : (g : ℕ → Ends) (d : Ends) (a n : ℕ) → ((k : ℕ) → g k ≡ d) → replicate n d ≡ map g (range_with_len a n)
 same_all g d a zero h = refl
 same_all g d a (suc n) h = ap₂ (λ (x : Ends) (xs : List Ends). x ∷ xs) (sym (h a)) (same_all g d (a + 1) n h)
 
+-- a line unit has 0 at each site in the numbers of all shop units
 pub nothing_row : (c : CaseRows) (s : List ℕ) (l n : ℕ) (x : Ends) → IsLine c l → x ≡ ends_exact 48 0 → n ≡ length c.sites
     → replicate n x ≡ map (of_shop c s l) (range_with_len 0 (length c.sites))
 nothing_row c s l n x line hx hn =
     ap₂ (λ (m : ℕ) (y : Ends). replicate m y) hn hx ∙ same_all (of_shop c s l) (ends_exact 48 0) 0 (length c.sites) (λ k. line_none c s l k line)
 
 pub depot_line_at_pair : (c : CaseRows) (s : List ℕ) (l : ℕ) → IsLine c l → depot_line 48 c s l ≡ poisson_of 48 c s l 0
-depot_line_at_pair c s l line = ap (λ o. poisson_by c s o l 0) (sym (line-none c.parts l line.no_parent))
+depot_line_at_pair c s l line = ap (λ o. poisson_by c s o l 0) (sym (no_line_there c.parts l line.no_parent))
 
+-- the Poisson backorders of a line unit at a base are those of the fourth level
 pub base_line_at_pair : (c : CaseRows) (s : List ℕ) (l k : ℕ) → IsLine c l → 0 < k → base_line 48 c s l k ≡ poisson_of 48 c s l k
 base_line_at_pair c s l zero line h = absurd (omega arith)
-base_line_at_pair c s l (suc j) line h = ap (λ o. poisson_by c s o l (suc j)) (sym (line-none c.parts l line.no_parent))
+base_line_at_pair c s l (suc j) line h = ap (λ o. poisson_by c s o l (suc j)) (sym (no_line_there c.parts l line.no_parent))
 
 -- the same of the ids and of the shop units
 pub by_ids : {X : Type 0} (c : CaseRows) (l : ℕ) (g : ℕ → X) (xs : List PartId) → map (λ (p : PartId). p.0) xs ≡ shop_units c l
@@ -149,20 +161,15 @@ pub units_are : (c : CaseRows) (l : ℕ) (xs : List PartId) → IsCase c → IsL
     → (k : ℕ) (d : PartId) → k < length xs → IsShopUnit c (get_or xs k d).0
 units_are c l xs valid line e k d h = record { line = l; is_shop = shop_of c l xs valid line e k d h }
 
+-- with one entry for each shop unit of a line unit there are at most 8
 pub few_of : {X : Type 0} (c : CaseRows) (l : ℕ) (g : PartId → X) (xs : List PartId) (ys : List X) → IsCase c → IsLine c l
     → map (λ (p : PartId). p.0) xs ≡ shop_units c l → ys ≡ map g xs → length ys ≤ 8
 few_of {X} c l g xs ys valid line e h = omega (arith, ids_few c l xs valid line e, ap (λ (zs : List X). length zs) h, length-map xs g)
 
 -- ---- lists
 
-range_more_from : (a n j : ℕ) → a + n ≡ j → range_with_len a (suc n) ≡ range_with_len a n ++ j ∷ []
-range_more_from a zero j e = let same : a ≡ j = omega arith in ap (λ k. k ∷ []) same
-range_more_from a (suc n) j e = ap (λ l. a ∷ l) (range_more_from (a + 1) n j (omega arith))
-
-range_more : (n : ℕ) → range_with_len 0 (n + 1) ≡ range_with_len 0 n ++ n ∷ []
-range_more n = ap (range_with_len 0) (add-one n) ∙ range_more_from 0 n n (omega arith)
-
+-- with the next part's row appended, there are the rows of one more part
 pub rows_more : {X : Type 0} (g : ℕ → List X) (p : ℕ) (all row new : List X) → new ≡ all ++ row → all ≡ flat_map g (range_with_len 0 p) → row ≡ g p
     → new ≡ flat_map g (range_with_len 0 (p + 1))
 rows_more {X} g p all row new e h k =
-    e ∙ ap₂ (λ (a b : List X). a ++ b) h k ∙ flat_map_more g [] (range_with_len 0 p) p ∙ ap (flat_map g) (sym (range_more p))
+    e ∙ ap₂ (λ (a b : List X). a ++ b) h k ∙ flat_map_more g [] (range_with_len 0 p) p ∙ ap (flat_map g) (sym (range_next p))

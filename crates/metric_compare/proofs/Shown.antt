@@ -17,11 +17,12 @@ use Rattle.family_eval.specs.Encloses as evaluated
 use Rattle.family_eval.specs.Inputs.{IsLine}
 use Rattle.family_eval.proofs.Enclosed.{item_in, item_small}
 use Rattle.family_eval.proofs.Families.{evaluable, family_in, weight_most}
+use Rattle.family_eval.proofs.Units.{each_in_range}
 use Rattle.case_figures.specs.Spans.{ends, places}
 use Rattle.case_figures.specs.Figures.{all_items, item_at_place, named}
 use Rattle.case_figures.specs.declared.figures.ItemLine.{ItemLine}
 use Rattle.case_figures.proofs.Covering.{item_pair, pair_within}
-use Rattle.case_figures.proofs.Each.{all_of, each_map, each_in_range, each_that_passes, few_that_pass}
+use Rattle.case_figures.proofs.Each.{all_of, each_map, each_that_passes, few_that_pass}
 use Rattle.case_figures.proofs.Enclosing.{total_at_in}
 use Rattle.case_figures.proofs.Limits.{sum_most}
 use Rattle.case_figures.proofs.Shown.{evaluated_as, figures_fit}
@@ -106,6 +107,7 @@ module _ (c : CaseRows) (s : StockList) (can : CanEvaluate 48 c s) where
 
 -- ---- the lines, one by one
 
+-- the line found at a place of the figures is that of the item there
 pub line_is : (c : CaseRows) (s : List ℕ) (i : ℕ) (lines : List ItemLine) (d y : ItemLine) → lines ≡ map (named 48 c) (all_items 48 c s) → i < pair_count (frame_rows c)
     → y ≡ get_or lines i d → y ≡ named 48 c (item_at_place 48 c s i)
 line_is c s i lines d y e h hy =
@@ -113,6 +115,7 @@ line_is c s i lines d y e h hy =
     ∙ get_or-map (named 48 c) (all_items 48 c s) i (evaluated.no_item 48) d (omega (arith, h, length-map-range_with_len (item_at_place 48 c s) 0 (pair_count (frame_rows c))))
     ∙ ap (named 48 c) (get_or-map-range_with_len (item_at_place 48 c s) 0 (pair_count (frame_rows c)) i i (evaluated.no_item 48) h (omega arith))
 
+-- names, stock and the two columns of a pair make its line of the comparison
 pub row_is : (c : CaseRows) (s : List ℕ) (i : ℕ) (line : ItemLine) (b q : Ends) → line ≡ named 48 c (item_at_place 48 c s i) → b ≡ ends line.backorders
     → q ≡ poisson_of 48 c s (part_of_place (length c.sites) i).0 (site_of_place (length c.sites) i).0
     → record { part = line.part; site = line.site; stock = line.stock; backorders = b; poisson = q } ≡ compared_at c s i
@@ -124,9 +127,11 @@ row_is c s i line b q e hb hq =
     let back = hb ∙ ap (λ (x : ItemLine). ends x.backorders) e in
     λ t. record { part = part t; site = site t; stock = stocked t; backorders = back t; poisson = hq t }
 
+-- the backorders of an item line have 48 binary places
 pub span_places : (c : CaseRows) (s : List ℕ) (i : ℕ) (line : ItemLine) → line ≡ named 48 c (item_at_place 48 c s i) → places line.backorders ≡ 48
 span_places c s i line e = ap (λ (x : ItemLine). places x.backorders) e
 
+-- there is an item line for each pair
 pub lines_length : (c : CaseRows) (s : List ℕ) (lines : List ItemLine) → lines ≡ map (named 48 c) (all_items 48 c s) → length lines ≡ pair_count (frame_rows c)
 lines_length c s lines e =
     ap (λ (xs : List ItemLine). length xs) e ∙ length-map (all_items 48 c s) (named 48 c) ∙ length-map-range_with_len (item_at_place 48 c s) 0 (pair_count (frame_rows c))
@@ -140,6 +145,7 @@ pub record HasPlace (c : CaseRows) (i : ℕ) : Type 0 where
 below : (i m n : ℕ) → 0 < n → i < m * n → i / n < m
 below i m n some h = (div-lt_iff_lt-mul {k = n} {x = i} {y = m} some).1 h
 
+-- a place below the number of pairs is that of a part and a site of the case
 pub place_at : (c : CaseRows) (i : ℕ) → 0 < length c.sites → i < pair_count (frame_rows c) → HasPlace c i
 place_at c i some h = record {
   part = below i (length c.parts) (length c.sites) some h;

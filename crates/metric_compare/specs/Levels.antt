@@ -26,6 +26,7 @@ of_shop c s p k =
 abbrev pub by_site : CaseRows → (ℕ → Ends) → List Ends
 by_site c row = map row (all_sites c)
 
+-- a number of each pair, by part and then by site
 abbrev pub by_part : CaseRows → (ℕ → ℕ → Ends) → List Ends
 by_part c number = flat_map (λ p. by_site c (number p)) (all_parts c)
 
@@ -33,5 +34,6 @@ by_part c number = flat_map (λ p. by_site c (number p)) (all_parts c)
 abbrev pub shop_numbers : CaseRows → List ℕ → List Ends
 shop_numbers c s = by_part c (of_shop c s)
 
+-- the Poisson backorders of all pairs
 abbrev pub poisson_numbers : CaseRows → List ℕ → List Ends
 poisson_numbers c s = by_part c (poisson_of 48 c s)

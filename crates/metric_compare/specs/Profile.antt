@@ -27,6 +27,7 @@ poisson_at f m s = backorders_at f m m s
 abbrev pub fed : (f : ℕ) → Ends → Ends → Feed f
 fed f share x = record { share = share; backorders = x; spread = x }
 
+-- what backorders of a shop unit hold back of its line unit
 abbrev pub held : (f : ℕ) → Ends → Held f
 held f x = record { backorders = x; spread = x }
 
@@ -82,6 +83,7 @@ poisson_of f c s p k =
 abbrev pub weighed : (f : ℕ) → CaseRows → List ℕ → ℕ → ℕ → Ends
 weighed f c s l j = ends_times (poisson_of f c s l j) (weight c l)
 
+-- the Poisson total of the family of the line unit l
 abbrev pub poisson_family_total_of : (f : ℕ) → CaseRows → List ℕ → ℕ → Ends
 poisson_family_total_of f c s l = fold ends_add (ends_exact f 0) (map (weighed f c s l) (bases c))
 

@@ -11,7 +11,7 @@ use Rattle.line_text.proofs.FieldLaws.{a_field, word_line_is_exact, number_line_
 use Rattle.spares_input.specs.Frames.{part_at}
 use Rattle.spares_input.specs.Rows.{IsPartRow, no_part}
 use Rattle.spares_input.specs.Cases.{CaseRows, frame_rows, pair_count}
-use Rattle.spares_input.specs.Stocks.{StockList, limit_at}
+use Rattle.spares_input.specs.Stocks.{limit_at}
 use Rattle.spares_input.specs.declared.rows.PartRow.{PartRow}
 use Rattle.case_lines.proofs.Few.{few_pairs}
 use Rattle.case_reading.proofs.Framed.{are_part_rows}
@@ -19,6 +19,7 @@ use Rattle.price_certificate.specs.declared.certificate.Certificate.{Certificate
 use Rattle.price_certificate.specs.Grammar.{certificate_format}
 use Rattle.price_certificate.proofs.Exact.{certificate_is_exact}
 use Rattle.price_certificate.proofs.Fits.{fits_case, later_fits}
+use Rattle.price_certificate.proofs.Sequences.{with_sites}
 use Rattle.on_hand.specs.Held.{held_line, held_lines, held, front, held_format}
 use lib.Chars.{codes}
 
@@ -31,15 +32,13 @@ held_lines_are_exact c h small =
     counted_is_exact (codes "held") (pair_count (frame_rows c)) (pair_count (frame_rows c)) (held_line c) (a_field (codes "held") refl) (omega arith) (omega (arith, h))
     (λ i. number_line_is_exact (limit_at c.parts (i / length c.sites) (i % length c.sites)) (omega (arith, small (i / length c.sites) (i % length c.sites))))
 
-abbrev stocks_at : List ℕ → ℕ → StockList
-stocks_at list n = record { sites = n; list = list }
-
+-- the lines of what is held are read back as they were written, and no others are
 pub held_is_exact : (c : CaseRows) → pair_count (frame_rows c) ≤ 32000 → AreSmall c → IsExact IsLine (held c)
 held_is_exact c h small =
     as_shape_is_exact IsLine (held_lines c) (λ list. record { sites = length c.sites; list = list }) (λ s. s.list) (λ s. s.sites == length c.sites)
     (held_lines_are_exact c h small)
     (λ a f. (refl, eq-eqb (length c.sites) (length c.sites) refl))
-    (λ s k f. ap (stocks_at s.list) (sym (eqb-true s.sites (length c.sites) k)))
+    (λ s k f. ap (λ (n : ℕ). with_sites n s.list) (sym (eqb-true s.sites (length c.sites) k)))
 
 one_is : (n : ℕ) → (count_line (codes "spares-held") 1 1).fits n ≡ true → 1 ≡ n
 one_is n h =
@@ -50,6 +49,7 @@ one_is n h =
 abbrev headed : Certificate → ℕ → ℕ × Certificate
 headed c n = (n, c)
 
+-- so are the first line of a held certificate and the certificate behind it
 pub front_is_exact : IsExact IsLine front
 front_is_exact =
     as_shape_is_exact IsLine (and_then (count_line (codes "spares-held") 1 1) (λ _. certificate_format 2)) (λ x. x.1) (λ c. (1, c)) (λ _. true)
@@ -61,6 +61,7 @@ front_is_exact =
 pub front_fits : (c : Certificate) → front.fits c ≡ true → (certificate_format 1).fits c ≡ true
 front_fits c h = later_fits c (and_parts ((count_line (codes "spares-held") 1 1).fits 1) ((certificate_format 2).fits c) (and_parts true ((count_line (codes "spares-held") 1 1).fits 1 && (certificate_format 2).fits c) h).1).1
 
+-- no part of such rows has a limit above 63 at any site
 pub small_at : (parts : List PartRow) → All IsPartRow parts → (p k : ℕ) → limit_at parts p k ≤ 63
 small_at parts h p k = by_site (k == 0)
   where
@@ -84,6 +85,7 @@ small_at parts h p k = by_site (k == 0)
     by_site true = depot parts h p
     by_site false = base parts h p
 
+-- the lines of a held certificate are read back as they were written, and no others are
 pub held_format_is_exact : IsExact IsLine held_format
 held_format_is_exact =
     as_shape_is_exact IsLine (and_then front (λ c. and_then (held c.case) (λ _. word_line (codes "end"))))
@@ -94,6 +96,7 @@ held_format_is_exact =
 
 -- ---- a well formed one has lines
 
+-- where each number fits the format of its place, the list fits the formats of its places
 pub each_fits : (format : ℕ → Format ℕ) (xs before : List ℕ) (first : ℕ) → ((j : ℕ) → j < length xs → (format (first + j)).fits (get_or xs j 0) ≡ true) → fits_after (λ _ i. format i) before (numbers_from first (length xs)) xs ≡ true
 each_fits format [] before first h = refl
 each_fits format (x ∷ xs) before first h =

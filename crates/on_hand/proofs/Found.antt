@@ -3,13 +3,13 @@ use Rattle.std.proofs.Common.{◌≡◌, ◌+◌, ◌*◌, ◌/◌, ◌%◌, ◌
 use Rattle.std.specs.Prelude.{◌==◌, nat_le, IfOk}
 use Rattle.std.proofs.lemmas.Bool.{and_parts, eqb-true, leb-true}
 use Rattle.std.proofs.lemmas.Nat.{div-mul-add, mod-mul-add}
-use Rattle.std.proofs.lemmas.Nat.{rows as rows_fit}
 use Rattle.line_text.specs.Formats.{fits_after}
 use Rattle.line_text.specs.Texts.{count_line, number_line, numbers_from}
 use Rattle.spares_io.specs.Answers.{Gives}
 use Rattle.spares_io.specs.declared.stop.Stop.{Stop}
 use Rattle.spares_input.specs.Cases.{CaseRows, frame_rows, pair_count}
 use Rattle.spares_input.specs.Stocks.{StockList, limit_at, IsFor, IsWithinLimits}
+use Rattle.spares_input.proofs.CaseFacts.{place_fits}
 use Rattle.case_lines.specs.Grammar.{case_format}
 use Rattle.case_reading.proofs.Rows.{fits_at}
 use Rattle.price_certificate.specs.declared.certificate.Certificate.{Certificate}
@@ -30,9 +30,6 @@ is_second c h =
     omega (arith, f.0, f.1)
 
 -- ---- what is held is within its limits
-
-place_fits : (a k m n : ℕ) → a < m → k < n → a * n + k < m * n
-place_fits a k m n la lk = grind (arith, rows_fit)
 
 up_to : (most n : ℕ) → (number_line most).fits n ≡ true → n ≤ most
 up_to most n h = leb-true n most (and_parts (nat_le 0 n) (nat_le n most) h).1
@@ -74,9 +71,11 @@ well_held h f w =
 
 -- ---- what reading answers
 
+-- a held certificate that is answered is well formed, and the bytes are its text
 pub found : (bytes : List ℕ) (r : Result HeldCertificate (Stop CertFault)) → Gives (held_of bytes) r → IfOk r (λ h. IsWellFormed h.certificate) → IfOk r (λ h. IsWellHeld h × (bytes ≡ held_text h))
 found bytes (Ok h) g w = let p = its_text bytes h g in (well_held h p.0 w, p.1)
 found bytes (Err e) g w = tt
 
+-- bytes that are a well formed held certificate's text are answered with it
 pub only : (bytes : List ℕ) (r : Result HeldCertificate (Stop CertFault)) → Gives (held_of bytes) r → (h : HeldCertificate) → IsWellHeld h → bytes ≡ held_text h → Gives (Ok h) r
 only bytes r g h w e = subst (λ (a : Result HeldCertificate CertFault). Gives a r) (ap held_of e ∙ again h w) g

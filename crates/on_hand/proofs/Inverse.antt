@@ -1,7 +1,6 @@
 -- Text and reading of held certificates are inverse.
 use Rattle.std.proofs.Common.{◌≡◌, ◌-◌, ◌≤◌, ◌+◌, ◌*◌, ◌/◌, ◌%◌, ◌<◌, ℕ, suc, true, ◌&&◌, List, [], ◌∷◌, ◌++◌, length, get_or, Option, Some, None, Result, Ok, Err, refl, sym, ap, subst, ◌∙◌, append_assoc, arith}
 use Rattle.std.specs.List.{concat}
-use Rattle.std.proofs.lemmas.List.Folds.{concat-append}
 use Rattle.std.proofs.lemmas.Bool.{and_parts, and_from, eq-eqb, le-leb}
 use Rattle.std.proofs.Math.Nat.{mul-mod_left}
 use Rattle.std.specs.Prelude.{◌==◌}
@@ -32,6 +31,7 @@ use Rattle.line_text.specs.Texts.{number_line}
 use Rattle.price_certificate.specs.Certificates.{IsWellFormed, cert_text}
 use Rattle.price_certificate.specs.Certificates as certified
 use Rattle.price_certificate.proofs.Fits.{well_formed_fits, format_fits, count_within}
+use Rattle.price_certificate.proofs.Written.{joined}
 use Rattle.on_hand.specs.declared.held.HeldCertificate.{HeldCertificate}
 use Rattle.on_hand.specs.Held.{rest, held_line, held_lines, held, front, held_format, IsWellHeld, held_text, refusal, case_fault, judged, held_of}
 use Rattle.on_hand.proofs.Exact.{front_is_exact, held_format_is_exact, held_is_exact, small_at, each_fits}
@@ -47,9 +47,11 @@ judged_line None (Ok x) n e = absurd cc
 judged_line None (Err m) n e = let s : m ≡ n = cc in ap (λ (k : ℕ). Err k) s
 judged_line (Some f) r n e = absurd cc
 
+-- bytes that are read as a held certificate are the text of it, and it fits the format
 pub its_text : (bytes : List ℕ) (h : HeldCertificate) → held_of bytes ≡ Ok h → (held_format.fits h ≡ true) × (bytes ≡ held_text h)
 its_text bytes h e = answer_takes held_format held_format_is_exact bytes h (judged_ok (case_fault (front.read (lines_of bytes))) (file_answer held_format bytes) h e).1
 
+-- a bad line that is answered is the first one of the bytes that isn't in the grammar
 pub bad_line : (bytes : List ℕ) (n : ℕ) → held_of bytes ≡ Err (fault.BadLine n) → (before : ℕ) × (n ≡ suc before) × IsFirstBad held_format bytes before
 bad_line bytes n e = answer_refuses held_format held_format_is_exact bytes n (judged_line (case_fault (front.read (lines_of bytes))) (file_answer held_format bytes) n e)
 
@@ -85,6 +87,7 @@ fits h w =
 no_refusal : (c : Certificate) (ts rest : List Token) → front.read ts ≡ Ok (c, rest) → frame_of c.case.sites c.case.parts ≡ Ok (frame_rows c.case) → case_fault (front.read ts) ≡ None
 no_refusal c ts rest h e = ap case_fault h ∙ ap refusal e
 
+-- the text of a well formed held certificate is read as that certificate
 pub again : (h : HeldCertificate) → IsWellHeld h → held_of (held_text h) ≡ Ok h
 again h w =
     let c = h.certificate in
@@ -95,9 +98,6 @@ again h w =
     let free : case_fault (front.read (lines_of (held_text h))) ≡ None = no_refusal c (lines_of (held_text h)) ((held c.case).print h.held ++ (codes "end\n" ∷ [])) (ap front.read lines ∙ first) (own_frame (frame_rows c.case) w.certificate.case.frame) in
     ap (λ (o : Option CaseFault). judged o (file_answer held_format (held_text h))) free
     ∙ ap (judged None) (answer_again held_format held_format_is_exact h f)
-
-joined : (a b : List Token) (z : List ℕ) → concat b ≡ z → concat (a ++ b) ≡ concat a ++ z
-joined a b z h = concat-append a b ∙ ap (λ (x : List ℕ). concat a ++ x) h
 
 -- the parts of a held certificate's text
 pub parts_of_text : (h : HeldCertificate) → held_text h ≡ file_text (count_line (codes "spares-held") 1 1) 1 ++ (cert_text h.certificate ++ (concat ((held h.certificate.case).print h.held) ++ codes "end\n"))
@@ -165,5 +165,6 @@ pairs_read c v ts left list n h =
     let w = count_within (codes "held") pairs pairs (length list) (and_parts count rows (and_parts true (count && rows) q.1).1).0 in
     omega (arith, w.0, w.1)
 
+-- a number for each pair makes whole rows of sites
 pub whole_pairs : (c : CaseRows) (n : ℕ) (list : List ℕ) → length list ≡ pair_count (frame_rows c) → n ≡ length c.sites → length list % n ≡ 0
 whole_pairs c n list e h = ap (λ (k : ℕ). k % n) (e ∙ ap (λ (m : ℕ). length c.parts * m) (sym h)) ∙ mul-mod_left (length c.parts) n

@@ -1,6 +1,5 @@
 -- The vectors of a family from what is held, their tables, and where nothing is held.
-use Rattle.std.proofs.Common.{◌≡◌, ℕ, zero, suc, ◌+◌, ◌≤◌, Bool, true, false, nat_le, inl, inr, List, [], ◌∷◌, ◌++◌, length, get_or, sum_by, Result, Ok, Err, if◌then◌else◌, refl, sym, ap, ap₂, ◌∙◌, subst, arith}
-use Rattle.std.specs.List.{AllZip}
+use Rattle.std.proofs.Common.{◌≡◌, ℕ, zero, suc, ◌≤◌, Bool, true, false, nat_le, inl, inr, List, [], ◌∷◌, length, get_or, sum_by, Result, Ok, Err, if◌then◌else◌, refl, sym, ap, ◌∙◌, subst, arith}
 use Rattle.std.specs.Result.{IsOk}
 use Rattle.std.proofs.lemmas.Bool.{false≢true}
 use Rattle.std.proofs.lemmas.Bool.Decides.{nat_tests}
@@ -12,7 +11,8 @@ use Rattle.spares_input.specs.Pairs.{pair_place}
 use Rattle.spares_input.specs.Stocks.{StockList, IsFor, IsWithinLimits}
 use Rattle.fleet_model.specs.Aims.{weighted_backorders, IsHeldAllocation}
 use Rattle.fleet_model.specs.Rows.{line_units, stock}
-use Rattle.fleet_model.proofs.AllocationLaws.{stocks-allocation}
+use Rattle.fleet_model.proofs.AllocationLaws.{stocks_allocation}
+use Rattle.fleet_model.proofs.FamilyLaws.{sum_each}
 use Rattle.family_eval.specs.Inputs.{IsLine}
 use Rattle.family_curve.specs.declared.bounds.Bounds.{Bounds}
 use Rattle.family_curve.specs.Vectors.{Pair, limits, places, vector_of, zeros, IsBetween}
@@ -20,6 +20,7 @@ use Rattle.family_curve.specs.Points.{ScoreEnds, points_within, AreOrdered}
 use Rattle.family_curve.specs.Counts.{counted, limited, most_tables, tables_between, tables_of, work_of}
 use Rattle.family_curve.proofs.Boxes.{each_any, same_map}
 use Rattle.family_curve.proofs.Whole.{tables_whole, whole_ordered}
+pub use Rattle.family_curve.proofs.Spotted.{zip_push}
 use Rattle.fleet_plan.specs.Families.{case_points, family_points}
 use Rattle.fleet_plan.specs.Laws.{plain_ends}
 use Rattle.fleet_plan.proofs.Bridge.{vector_between}
@@ -32,7 +33,7 @@ use Rattle.on_hand.specs.Work.{held_work_of, tables_from, IsNothing}
 pub ordered_from : (c : CaseRows) (l : ℕ) (held : StockList) → IsCase c → IsLine c l → IsFor c held → IsWithinLimits c held
     → AreOrdered c l (vector_of c l held.list) (vector_of c l held.list) (limits c l)
 ordered_from c l held valid line is_for within =
-    let kept : IsHeldAllocation c held.list held.list = record { allocation = stocks-allocation c held is_for within; keeps = λ p k _ _. omega arith } in
+    let kept : IsHeldAllocation c held.list held.list = record { allocation = stocks_allocation c held is_for within; keeps = λ p k _ _. omega arith } in
     let between = vector_between plain_ends weighted_backorders c held.list valid held.list l line kept in
     record { held_least = between.least; low_least = between.most; within = (whole_ordered c l).within }
 
@@ -55,6 +56,7 @@ term_most f (y ∷ ys) x (inr a) = omega (arith, sum_by-cons f y ys, term_most f
 abbrev tables_at : CaseRows → List ℕ → ℕ → ℕ
 tables_at c held l = tables_between c l (vector_of c l held) (limits c l)
 
+-- where the work from what is held is within the limit, so are the tables of each family
 pub few_tables : (c : CaseRows) (held : List ℕ) (l : ℕ) → IsCase c → IsLine c l → IsOk (held_work_of c held)
     → tables_between c l (vector_of c l held) (limits c l) ≤ most_tables
 few_tables c held l valid line h =
@@ -67,14 +69,17 @@ few_tables c held l valid line h =
 abbrev pub box_from : CaseRows → ℕ → List ℕ → Bounds
 box_from c l held = record { held = vector_of c l held; low = vector_of c l held; high = limits c l }
 
+-- the bounds of a family from what is held to its limits are in order
 pub box_ordered : (c : CaseRows) (l : ℕ) (held : StockList) (b : Bounds) → b ≡ box_from c l held.list → IsCase c → IsLine c l → IsFor c held → IsWithinLimits c held
     → AreOrdered c l b.held b.low b.high
 box_ordered c l held b e valid line is_for within = subst (λ (x : Bounds). AreOrdered c l x.held x.low x.high) (sym e) (ordered_from c l held valid line is_for within)
 
+-- within the work's limit, the box of each family takes few enough tables
 pub box_few : (c : CaseRows) (l : ℕ) (held : List ℕ) (b : Bounds) → b ≡ box_from c l held → IsCase c → IsLine c l → IsOk (held_work_of c held)
     → tables_between c l b.low b.high ≤ most_tables
 box_few c l held b e valid line h = subst (λ (x : Bounds). tables_between c l x.low x.high ≤ most_tables) (sym e) (few_tables c held l valid line h)
 
+-- the curve of this box is the family's curve from what is held
 pub box_curve : (ends : ScoreEnds) (c : CaseRows) (l : ℕ) (held : List ℕ) (b : Bounds) (curve : List Point) → b ≡ box_from c l held
     → IsCurve (points_within c l ends b.held b.low b.high) curve → (b.held ≡ b.low → (point_at curve 0).cost ≡ 0)
     → ((v : Point) → Among v curve → IsBetween b.low b.high v.stocks) → IsFamilyCurve ends c held l curve
@@ -83,12 +88,6 @@ box_curve ends c l held b curve e is free within = record {
   free = free (ap (λ (x : Bounds). x.held) e ∙ sym (ap (λ (x : Bounds). x.low) e));
   within = subst (λ (x : Bounds). (v : Point) → Among v curve → IsBetween x.low x.high v.stocks) e within;
 }
-
-pub zip_push : {X Y : Type 0} (R : X → Y → Type 0) (xs : List X) (ys : List Y) (x : X) (y : Y) → AllZip R xs ys → R x y → AllZip R (xs ++ x ∷ []) (ys ++ y ∷ [])
-zip_push R [] [] x y a h = (h, tt)
-zip_push R [] (z ∷ ys) x y a h = absurd a
-zip_push R (z ∷ xs) [] x y a h = absurd a
-zip_push R (z ∷ xs) (w ∷ ys) x y a h = (a.0, zip_push R xs ys x y a.1 h)
 
 -- ---- where nothing is held
 
@@ -102,17 +101,16 @@ no_vector c l held h =
     same_map (λ (x : Pair). Unit {0}) (λ (x : Pair). stock c held x.part x.site) (λ (x : Pair). 0) (places c l)
     (λ x _. nothing_at held h (pair_place (length c.sites) x.part x.site)) (each_any (places c l))
 
-same_sum : (f g : ℕ → ℕ) (ls : List ℕ) → ((l : ℕ) → f l ≡ g l) → sum_by f ls ≡ sum_by g ls
-same_sum f g [] h = refl
-same_sum f g (l ∷ ls) h = sum_by-cons f l ls ∙ ap₂ (λ m n. m + n) (h l) (same_sum f g ls h) ∙ sym (sum_by-cons g l ls)
-
+-- with nothing held, the tables are those of all vectors of each family
 pub all_tables : (c : CaseRows) (held : List ℕ) → IsCase c → IsNothing held → tables_from c held ≡ sum_by (tables_of c) (line_units c)
 all_tables c held valid h =
-    same_sum (tables_at c held) (tables_of c) (line_units c) (λ l. ap (λ (v : List ℕ). tables_between c l v (limits c l)) (no_vector c l held h) ∙ sym (tables_whole c l valid))
+    sum_each (tables_at c held) (tables_of c) (line_units c) (λ l. ap (λ (v : List ℕ). tables_between c l v (limits c l)) (no_vector c l held h) ∙ sym (tables_whole c l valid))
 
+-- with nothing held, the work is that of all vectors
 pub all_work : (c : CaseRows) (held : List ℕ) → IsCase c → IsNothing held → held_work_of c held ≡ work_of c
 all_work c held valid h = ap (λ n. limited (counted n)) (all_tables c held valid h)
 
+-- a list of zeros held leaves the points of the case as they are with nothing held
 pub all_points : (ends : ScoreEnds) (c : CaseRows) (held : List ℕ) → IsNothing held → case_points ends c held ≡ case_points ends c []
 all_points ends c held h =
     same_map (λ (l : ℕ). Unit {0}) (family_points ends c held) (family_points ends c []) (line_units c)

@@ -95,10 +95,12 @@ module _ (bytes : List ℕ) (f : CaseFault) where
 
 -- ---- the form
 
+-- the text of a held certificate begins as one
 pub held_form : (h : HeldCertificate) → is_held_form (held_text h) ≡ true
 held_form h =
     ap is_held_form
     (parts_of_text h ∙ ap (λ (x : List ℕ). x ++ (cert_text h.certificate ++ (concat ((held h.certificate.case).print h.held) ++ codes "end\n"))) first_is)
 
+-- the text of a certificate without held stocks doesn't begin as a held one
 pub plain_form : (c : Certificate) → is_held_form (cert_text c) ≡ false
 plain_form c = refl

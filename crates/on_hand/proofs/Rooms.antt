@@ -1,8 +1,7 @@
 -- The counts of what can stand above what is held.
-use Rattle.std.proofs.Common.{◌≡◌, ℕ, zero, suc, ◌+◌, ◌-◌, ◌*◌, ◌<◌, ◌≤◌, true, false, List, [], ◌∷◌, ◌++◌, length, get_or, map, flat_map, filter, take, drop, sum, sum_by, refl, sym, ap, ap₂, ◌∙◌, arith}
-use Rattle.std.specs.List.{range_with_len, AllByRecursion}
+use Rattle.std.proofs.Common.{◌≡◌, ℕ, suc, ◌+◌, ◌-◌, ◌*◌, ◌<◌, ◌≤◌, true, false, List, [], ◌∷◌, ◌++◌, length, get_or, map, filter, drop, sum, sum_by, refl, sym, ap, ap₂, ◌∙◌, arith}
+use Rattle.std.specs.List.{range_with_len}
 use Rattle.std.proofs.Math.Nat.{mul_comm}
-use Rattle.std.proofs.Math.Seq.{take-append_seam, drop-append-add}
 use Rattle.std.proofs.lemmas.List.{map_push, length_push, length-map}
 use Rattle.std.proofs.lemmas.List.FromFn.{length-map-range_with_len, sum_by-map-range_with_len_more}
 use Rattle.std.proofs.lemmas.List.Sums.{sum_by-append}
@@ -17,24 +16,13 @@ use Rattle.family_eval.proofs.Items.{kept_more, left_out}
 use Rattle.family_curve.specs.Vectors.{Pair, limits, places, places_at, site_part, vector_of}
 use Rattle.family_curve.specs.Counts.{counted, product, tables_between, tables_by, widths}
 use Rattle.family_curve.proofs.Boxes.{map_flat, same_map}
-use Rattle.family_curve.proofs.Counting.{below, counted_times, product_push, sum_push}
+use Rattle.family_curve.proofs.Counting.{below, counted_times, product_push, sum_push, counted_both}
 use Rattle.family_curve.proofs.Sites.{size}
+use Rattle.family_curve.proofs.Bounded.{part_of_flat}
+use Rattle.family_curve.proofs.Stands.{below_all}
 use Rattle.on_hand.specs.Work.{room}
 
 -- ---- what stands at a site
-
-part_of_flat : (f : ℕ → List ℕ) (w : ℕ) → ((k : ℕ) → length (f k) ≡ w) → (a n k j : ℕ) → k < n → a + k ≡ j
-    → take w (drop (k * w) (flat_map f (range_with_len a n))) ≡ f j
-part_of_flat f w long a zero k j h e = absurd (omega (arith, h))
-part_of_flat f w long a (suc n) zero j h e =
-    let rest : List ℕ = flat_map f (range_with_len (a + 1) n) in
-    let start : 0 * w ≡ 0 = omega arith in
-    let same : a ≡ j = omega (arith, e) in
-    ap (λ i. take w (drop i (f a ++ rest))) start ∙ ap (λ i. take i (f a ++ rest)) (sym (long a)) ∙ take-append_seam (f a) rest ∙ ap f same
-part_of_flat f w long a (suc n) (suc k) j h e =
-    let rest : List ℕ = flat_map f (range_with_len (a + 1) n) in
-    let at : suc k * w ≡ length (f a) + k * w = omega (arith, long a) in
-    ap (λ i. take w (drop i (f a ++ rest))) at ∙ ap (take w) (drop-append-add (f a) rest (k * w)) ∙ part_of_flat f w long (a + 1) n k j (omega (arith, h)) (omega (arith, e))
 
 -- a number of each place, at site k
 site_of : (f : Pair → ℕ) (c : CaseRows) (l k : ℕ) → k < length c.sites → site_part c l (map f (places c l)) k ≡ map (λ p. f (record { part = p; site = k })) (family c l)
@@ -56,10 +44,6 @@ rooms_at c held l k h =
     let high : Pair → ℕ = λ x. limit_at c.parts x.part x.site in
     ap (λ (v : List ℕ). site_part c l v k) (widths_maps low high (places c l)) ∙ site_of (λ x. suc (high x) - low x) c l k h
 
-below_all : (n a m : ℕ) → a + n ≤ m → AllByRecursion (λ k. k < m) (range_with_len a n)
-below_all zero a m h = tt
-below_all (suc n) a m h = (omega (arith, h), below_all n (a + 1) m (omega (arith, h)))
-
 -- the rooms of the shop units
 abbrev pub shop_rooms : CaseRows → List ℕ → ℕ → ℕ → List ℕ
 shop_rooms c held l k = map (room c held k) (shop_units c l)
@@ -76,6 +60,8 @@ tables_rooms c held l valid =
 
 -- ---- the shop units below part p, at site k
 
+-- the numbers that are kept for a site: of l's shop units before part p, their number,
+-- and the sum and the product of how many stocks each can have there
 pub record Rooms (c : CaseRows) (held : List ℕ) (l k p count total ways : ℕ) : Type 0 where
   pub count_is : count ≡ length (below c l p)
   pub total_is : total ≡ sum (map (room c held k) (below c l p))
@@ -83,9 +69,11 @@ pub record Rooms (c : CaseRows) (held : List ℕ) (l k p count total ways : ℕ)
   pub count_few : count ≤ p
   pub total_few : total ≤ p * 64
 
+-- before the first part there are no shop units: the sum is 0, the product 1
 pub rooms_begin : (c : CaseRows) (held : List ℕ) (l k : ℕ) → Rooms c held l k 0 0 0 1
 rooms_begin c held l k = record { count_is = refl; total_is = refl; ways_is = refl; count_few = omega arith; total_few = omega arith }
 
+-- with one shop unit of l more the numbers go on, by the stocks that it can have at the site
 pub rooms_more : (c : CaseRows) (held : List ℕ) (l k p count total ways own more : ℕ) → is_shop_of (part_at c.parts l) (part_at c.parts p) ≡ true
     → own ≡ room c held k p → own ≤ 64 → more ≡ counted (ways * own)
     → Rooms c held l k p count total ways → Rooms c held l k (p + 1) (count + 1) (total + own) more
@@ -103,6 +91,7 @@ rooms_more c held l k p count total ways own more shop own_is small next h =
       total_few = omega (arith, h.total_few, small);
     }
 
+-- a part that is no shop unit of l leaves them as they are
 pub rooms_same : (c : CaseRows) (held : List ℕ) (l k p count total ways : ℕ) → is_shop_of (part_at c.parts l) (part_at c.parts p) ≡ false
     → Rooms c held l k p count total ways → Rooms c held l k (p + 1) count total ways
 rooms_same c held l k p count total ways other h =
@@ -117,12 +106,14 @@ rooms_same c held l k p count total ways other h =
 
 -- ---- the bases below j
 
+-- how many stocks the shop units can have at each base before base j, summed over these bases
 abbrev pub ways_below : CaseRows → List ℕ → ℕ → ℕ → ℕ
 ways_below c held l j = sum_by product (map (shop_rooms c held l) (range_with_len 1 (j - 1)))
 
 counted_sum : (x y : ℕ) → counted (counted x + counted y) ≡ counted (x + y)
 counted_sum x y = omega arith
 
+-- with base j counted too, the sum has its shop units' stocks
 pub ways_more : (c : CaseRows) (held : List ℕ) (l j ways own next : ℕ) → 1 ≤ j → own ≡ counted (product (shop_rooms c held l j)) → next ≡ counted (ways + own)
     → ways ≡ counted (ways_below c held l j) → next ≡ counted (ways_below c held l (j + 1))
 ways_more c held l j ways own next some own_is e h =
@@ -134,10 +125,7 @@ ways_more c held l j ways own next some own_is e h =
 
 -- ---- the tables of a family
 
-counted_both : (a b : ℕ) → counted (counted a * counted b) ≡ counted (a * b)
-counted_both a b =
-    counted_times a (counted b) ∙ ap counted (mul_comm a (counted b)) ∙ counted_times b a ∙ ap counted (mul_comm b a)
-
+-- the tables counted from these sums are those of the family's vectors from what is held to the limits
 pub tables_held : (c : CaseRows) (held : List ℕ) (l count total ways own bases_ways lines first rest all : ℕ) → IsCase c
     → count ≡ length (shop_units c l) → total ≡ sum (shop_rooms c held l 0) → ways ≡ counted (product (shop_rooms c held l 0))
     → own ≡ room c held 0 l → bases_ways ≡ counted (sum_by product (map (shop_rooms c held l) (bases c)))
@@ -169,12 +157,15 @@ tables_held c held l count total ways own bases_ways lines first rest all valid 
 
 -- ---- the tables of the line units below part p
 
+-- the tables of the family of l over its vectors from what is held to the limits
 abbrev pub tables_at : CaseRows → List ℕ → ℕ → ℕ
 tables_at c held l = tables_between c l (vector_of c l held) (limits c l)
 
+-- the line units before part p
 abbrev pub lines_below : CaseRows → ℕ → List ℕ
 lines_below c p = filter (λ q. is_line (part_at c.parts q)) (range_with_len 0 p)
 
+-- a line unit more adds its tables to the work of those before it
 pub work_more : (c : CaseRows) (held : List ℕ) (p total own next : ℕ) → is_line (part_at c.parts p) ≡ true → own ≡ counted (tables_at c held p) → next ≡ counted (total + own)
     → total ≡ counted (sum_by (tables_at c held) (lines_below c p)) → next ≡ counted (sum_by (tables_at c held) (lines_below c (p + 1)))
 work_more c held p total own next line own_is e h =
@@ -186,6 +177,7 @@ work_more c held p total own next line own_is e h =
     one : (n x : ℕ) → n + (0 + x) ≡ n + x
     one n x = omega arith
 
+-- a part that is no line unit adds no tables to the work
 pub work_same : (c : CaseRows) (held : List ℕ) (p total : ℕ) → is_line (part_at c.parts p) ≡ false
     → total ≡ counted (sum_by (tables_at c held) (lines_below c p)) → total ≡ counted (sum_by (tables_at c held) (lines_below c (p + 1)))
 work_same c held p total other h = h ∙ ap (λ (xs : List ℕ). counted (sum_by (tables_at c held) xs)) (sym (left_out (λ q. is_line (part_at c.parts q)) p other))

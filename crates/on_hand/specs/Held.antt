@@ -23,11 +23,14 @@ use lib.Chars.{codes}
 abbrev pub held_line : CaseRows → ℕ → Format ℕ
 held_line c i = number_line (limit_at c.parts (i / length c.sites) (i % length c.sites))
 
+-- the line that counts the pairs, and a line for each pair's held stock
 abbrev pub held_lines : CaseRows → Format (List ℕ)
 held_lines c = counted (codes "held") (pair_count (frame_rows c)) (pair_count (frame_rows c)) (held_line c)
 
+-- these lines as stocks of the case
 abbrev pub held : CaseRows → Format StockList
-held c = as_shape (held_lines c) (λ list. record { sites = length c.sites; list = list }) (λ s. s.list) (λ s. s.sites == length c.sites)
+held c = as_shape (held_lines c) (λ list. record { sites = length c.sites; list = list }) (λ s. s.list)
+    (λ s. s.sites == length c.sites)
 
 -- spares-held,1 and then a certificate of format 2 with its own end
 abbrev pub front : Format Certificate
@@ -37,9 +40,11 @@ front = as_shape (and_then (count_line (codes "spares-held") 1 1) (λ _. certifi
 abbrev pub rest : CaseRows → Format (StockList × Unit {0})
 rest c = and_then (held c) (λ _. word_line (codes "end"))
 
+-- the held stocks read from a list of numbers, and the end behind them
 abbrev pub rest_of : ℕ → Vec ℕ Global → StockList × Unit {0}
 rest_of sites v = (record { sites = sites; list = v.items }, tt)
 
+-- the lines of a held certificate: the certificate, then what is held, then a second end
 abbrev pub held_format : Format HeldCertificate
 held_format =
     as_shape (and_then front (λ c. rest c.case))
@@ -56,9 +61,11 @@ pub record IsWellHeld (h : HeldCertificate) : Type 0 where
   pub held : IsFor h.certificate.case h.held
   pub limits : IsWithinLimits h.certificate.case h.held
 
+-- the text of a held certificate
 abbrev pub held_text : HeldCertificate → List ℕ
 held_text h = file_text held_format h
 
+-- the rule that sites and parts break, where they break one
 abbrev pub refusal : Result FrameRows CaseFault → Option CaseFault
 refusal (Ok frame) = None
 refusal (Err f) = Some f

@@ -23,7 +23,7 @@ enum Outcome {
     Else,
 }
 
-// The sum of some stocks.
+/// The sum of some stocks.
 fn sum_of(stocks: &[u8]) -> u32 {
     let mut sum: u32 = 0;
     for stock in stocks {
@@ -44,7 +44,7 @@ fn read_held(alloc: Global, bytes: &[u8]) -> Outcome {
     }
 }
 
-// The text with another line in place of one, counted from 1.
+/// The text with another line in place of one, counted from 1.
 fn with_line(alloc: Global, text: &[u8], number: usize, line: &[u8]) -> Result<Vec<u8>, Fail> {
     let mut changed = Vec::new(alloc);
     let mut at = 1;
@@ -97,7 +97,7 @@ fn a_case_fault_stands_before_a_bad_line_after_the_first_end(rt: HostRuntime) ->
     Ok(())
 }
 
-// The work of a held certificate's case from what is held.
+/// The work of a held certificate's case from what is held.
 fn work_read(alloc: Global, bytes: &[u8]) -> Result<u64, u64> {
     if bytes.len() > 16_777_216 {
         return Err(0);

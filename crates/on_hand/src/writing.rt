@@ -15,7 +15,7 @@ use spares_input::{Case, Stocks};
 use spares_io::NoMemory;
 use std::alloc::Global;
 
-// Writes a line for each pair.
+/// Writes a line for each pair.
 fn put_each_held(out: &mut Vec<u8>, list: &[u8]) -> Result<(), NoMemory>
     ensures { OnOk result ((c : CaseRows) → out.new.items ≡ out.old.items
         ++ concat ((each (numbers_from 0 (length list.now)) (held_line c)).print list.now)) }
@@ -26,7 +26,7 @@ fn put_each_held(out: &mut Vec<u8>, list: &[u8]) -> Result<(), NoMemory>
     Ok(())
 }
 
-// Writes the lines of what is held.
+/// Writes the lines of what is held.
 fn put_held(out: &mut Vec<u8>, case: &Case, list: &Stocks) -> Result<(), NoMemory>
     requires { IsFor case.now list.now }
     ensures { OnOk result (out.new.items ≡ out.old.items ++ concat ((held case.now).print list.now)) }
@@ -37,8 +37,8 @@ fn put_held(out: &mut Vec<u8>, case: &Case, list: &Stocks) -> Result<(), NoMemor
     Ok(())
 }
 
-/// The text of a held certificate: `spares-held,1`, all lines of the certificate with its own `end`, what is held of each
-/// pair, and a second `end`.
+/// The text of a held certificate: `spares-held,1`, all lines of the certificate with its own `end`, what is held of
+/// each pair, and a second `end`.
 pub fn text(alloc: Global, certificate: &HeldCertificate) -> Result<Vec<u8>, NoMemory>
     requires { IsWellHeld certificate.now }
     ensures { IfOk result (λ bytes. bytes.items ≡ held_text certificate.now) }

@@ -1,5 +1,5 @@
 use Rattle.std.proofs.Common.{sym, ◌∙◌}
-use Rattle.gap_checker.proofs.Formed.{lines-counted}
+use Rattle.gap_checker.proofs.Formed.{lines_counted}
 use Rattle.certified_plan.proofs.tests.remade.Goals as goal
 
 pub certificate-requires-clause-claims : goal.certificate-requires-clause-claims
@@ -9,7 +9,7 @@ certificate-requires-clause-claims c =
       price = formed.price;
       money = formed.money.0;
       most_money = formed.money.1;
-      floor_count = formed.floor_count ∙ sym (lines-counted c.args.read.case);
+      floor_count = formed.floor_count ∙ sym (lines_counted c.args.read.case);
       floors = formed.floors;
       stocks = formed.stocks;
       stock_numbers = formed.stock_numbers;

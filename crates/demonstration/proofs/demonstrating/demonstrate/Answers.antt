@@ -1,7 +1,7 @@
-use Rattle.std.proofs.Common.{◌≡◌, ℕ, ◌*◌, ap, subst, sym}
+use Rattle.std.proofs.Common.{◌≡◌, ℕ, ◌*◌, subst, sym}
 use Rattle.case_plan.specs.Report.{IsOutcome}
 use Rattle.certified_plan.specs.Certificates.{certificate_of}
-use Rattle.demonstration.specs.Demonstrations.{budget_of, claims_in, demo_terms, report_terms}
+use Rattle.demonstration.specs.Demonstrations.{claims_in, demo_terms, report_terms}
 use Rattle.plan_report.specs.Fits.{FitsSummary}
 use Rattle.fleet_plan.specs.Laws.{plain_ends}
 use Rattle.demonstration.proofs.Told.{demo_work, have_claims, is_accepted, is_short, sums_fit}

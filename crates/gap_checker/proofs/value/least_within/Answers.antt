@@ -1,8 +1,9 @@
 use Rattle.std.proofs.Common.{◌*◌, ◌+◌, ◌^◌, ◌≤◌, ap, ◌∙◌, arith}
+use Rattle.std.proofs.lemmas.Nat.{mul-le}
 use Rattle.hull.specs.Curves.{InRange}
 use Rattle.family_curve.specs.Points.{points_within}
 use Rattle.gap_checker.specs.Values.{least_within}
-use Rattle.gap_checker.proofs.Leasts.{within, least_vertex, vertex_among}
+use Rattle.gap_checker.proofs.Leasts.{least_vertex, vertex_among}
 use Rattle.gap_checker.proofs.value.least_within.Goals as goal
 
 pub overflow_mul-result : goal.overflow_mul-result
@@ -12,7 +13,7 @@ overflow_mul-result g c =
     let e = r.ends in let h = r.hi in
     let q : c.from.result ≤ 1000000000000 = omega (arith, c.from.ensures, c.requires.most_money) in
     let lo : v.lo ≤ 2 ^ 74 = omega (arith, e, h) in
-    let p : c.from.result * v.lo ≤ 1000000000000 * 2 ^ 74 = within c.from.result v.lo 1000000000000 (2 ^ 74) q lo in
+    let p : c.from.result * v.lo ≤ 1000000000000 * 2 ^ 74 = mul-le c.from.result v.lo 1000000000000 (2 ^ 74) q lo in
     omega (arith, p)
 
 pub overflow_mul-result-2 : goal.overflow_mul-result-2
@@ -21,7 +22,7 @@ overflow_mul-result-2 g c =
     let r : InRange v = c.len-shape.ensures.shape.ranges v (vertex_among c.in_ok-curve.curve c.best_at.result v c.point-vertex.ensures c.best_at.ensures.first.below) in
     let k = r.cost in
     let cost : c.from-2.result ≤ 1000000000000 = omega (arith, c.from-2.ensures, k) in
-    let p : c.args.price.p * c.from-2.result ≤ 2 ^ 74 * 1000000000000 = within c.args.price.p c.from-2.result (2 ^ 74) 1000000000000 c.requires.price cost in
+    let p : c.args.price.p * c.from-2.result ≤ 2 ^ 74 * 1000000000000 = mul-le c.args.price.p c.from-2.result (2 ^ 74) 1000000000000 c.requires.price cost in
     omega (arith, p)
 
 pub overflow_add-result : goal.overflow_add-result
@@ -32,8 +33,8 @@ overflow_add-result g c =
     let q : c.from.result ≤ 1000000000000 = omega (arith, c.from.ensures, c.requires.most_money) in
     let lo : v.lo ≤ 2 ^ 74 = omega (arith, e, h) in
     let cost : c.from-2.result ≤ 1000000000000 = omega (arith, c.from-2.ensures, k) in
-    let p : c.from.result * v.lo ≤ 1000000000000 * 2 ^ 74 = within c.from.result v.lo 1000000000000 (2 ^ 74) q lo in
-    let m : c.args.price.p * c.from-2.result ≤ 2 ^ 74 * 1000000000000 = within c.args.price.p c.from-2.result (2 ^ 74) 1000000000000 c.requires.price cost in
+    let p : c.from.result * v.lo ≤ 1000000000000 * 2 ^ 74 = mul-le c.from.result v.lo 1000000000000 (2 ^ 74) q lo in
+    let m : c.args.price.p * c.from-2.result ≤ 2 ^ 74 * 1000000000000 = mul-le c.args.price.p c.from-2.result (2 ^ 74) 1000000000000 c.requires.price cost in
     omega (arith, p, m)
 
 pub returns : goal.returns

@@ -5,13 +5,13 @@ use Rattle.family_curve.specs.Points.{added_cost}
 use Rattle.family_curve.specs.Vectors.{limits}
 use Rattle.gap_checker.specs.Covers.{box_of}
 use Rattle.gap_checker.specs.Values.{leaf_tables, value_of}
-use Rattle.gap_checker.proofs.Boxes.{at_most-chain}
+use Rattle.gap_checker.proofs.Boxes.{at_most_chain}
 use Rattle.gap_checker.proofs.value.value_of.Goals as goal
 
 pub added_cost-cost-requires-clause-limit : goal.added_cost-cost-requires-clause-limit
 added_cost-cost-requires-clause-limit g c =
     let o : IsOrdered c.args.case.now c.args.line.0 c.in-Cost.bounds = subst (λ x. IsOrdered c.args.case.now c.args.line.0 (box_of x)) c.in-Cost.is c.requires.ordered in
-    subst (λ z. AtMost z (limits c.args.case.now c.args.line.0)) (sym c.as_slice-in-Cost.ensures) (at_most-chain c.in-Cost.bounds.low c.in-Cost.bounds.high (limits c.args.case.now c.args.line.0) o.low_least o.within)
+    subst (λ z. AtMost z (limits c.args.case.now c.args.line.0)) (sym c.as_slice-in-Cost.ensures) (at_most_chain c.in-Cost.bounds.low c.in-Cost.bounds.high (limits c.args.case.now c.args.line.0) o.low_least o.within)
 
 pub least_within-requires-clause-work : goal.least_within-requires-clause-work
 unfolding leaf_tables
