@@ -1,18 +1,16 @@
 -- The first line of an edits file, and what stands after it.
-use Rattle.std.proofs.Common.{◌≡◌, ◌≢◌, ℕ, zero, suc, ◌+◌, ◌-◌, ◌<◌, ◌≤◌, ◌⊎◌, inl, inr, Bool, true, false, eqb, nat_lt, cond, List, [], ◌∷◌, ◌++◌, length, map, take, drop, position, Option, Some, None, refl, sym, ap, ap₂, ◌∙◌, subst, arith}
-use Rattle.std.specs.List.{AllByRecursion, position_or_len, before_first, after_first}
+use Rattle.std.proofs.Common.{◌≡◌, ℕ, ◌+◌, ◌-◌, ◌<◌, ◌≤◌, Bool, true, false, eqb, nat_lt, cond, List, [], ◌∷◌, ◌++◌, length, map, take, drop, position, Some, None, refl, sym, ap, ap₂, ◌∙◌, arith}
+use Rattle.std.specs.List.{AllByRecursion, position_or_len, before_first}
 use Rattle.std.specs.Option.{option_map_or}
-use Rattle.std.specs.Prelude.{option_map}
 use Rattle.std.specs.Str.Lines.{strip_carriage_return}
-use Rattle.std.proofs.lemmas.Bool.{eqb-true, false≢true}
 use Rattle.std.proofs.lemmas.Bool.Decides.{nat_tests}
 use Rattle.std.proofs.lemmas.List.{drop-drop, length-drop, take_all}
 use Rattle.std.proofs.lemmas.List.Elements.{recursion_from_All}
 use Rattle.std.proofs.lemmas.List.Sums.{fails_before_first}
-use Rattle.line_text.specs.Files.{lines_of, onto_line, unended}
+use Rattle.line_text.specs.Files.{lines_of}
 use Rattle.line_text.specs.Exact.{is_end}
-use Rattle.line_text.proofs.Cursors.{empty_lines, line_found}
-use Rattle.line_text.proofs.LineLaws.{lines_cons, unended_again}
+use Rattle.line_text.proofs.Cursors.{empty_lines, line_found, one_line, never_ended}
+use Rattle.line_text.proofs.LineLaws.{unended_again}
 use Rattle.case_edits.specs.Lines.{body_of, edit_lines}
 
 -- the place of the first line feed, where there is one
@@ -34,6 +32,7 @@ no_feed bytes h = missed_step (nat_lt (position_or_len is_end bytes) (length byt
 ended_body : (text : List ℕ) → body_of (text ++ 10 ∷ []) ≡ strip_carriage_return text
 ended_body text = ap (λ o. option_map_or strip_carriage_return o (text ++ 10 ∷ [])) (unended_again text)
 
+-- up to the first line feed is the first line, without a carriage return at its end, and then come the others
 pub first_ended : (bytes : List ℕ) (end : ℕ) → position is_end bytes ≡ Some end
     → edit_lines bytes ≡ strip_carriage_return (take end bytes) ∷ edit_lines (drop (end + 1) bytes)
 first_ended bytes end h =
@@ -48,23 +47,15 @@ pub after_feed : (bytes back : List ℕ) (end : ℕ) → back ≡ drop end bytes
 after_feed bytes back end e =
     take_all (length back - 1) (drop 1 back) (omega (arith, length-drop 1 back)) ∙ ap (λ (xs : List ℕ). drop 1 xs) e ∙ drop-drop 1 end bytes
 
--- the last line, which has none
-one_line : (b : ℕ) (bytes : List ℕ) → AllByRecursion (λ b. eqb b 10 ≡ false) (b ∷ bytes) → lines_of (b ∷ bytes) ≡ (b ∷ bytes) ∷ []
-one_line b [] h = lines_cons b [] false h.0 ∙ ap (onto_line b) (empty_lines [] refl)
-one_line b (c ∷ bytes) h = lines_cons b (c ∷ bytes) false h.0 ∙ ap (onto_line b) (one_line c bytes h.1)
-
-never_ended : (bytes : List ℕ) → AllByRecursion (λ b. eqb b 10 ≡ false) bytes → unended bytes ≡ None
-never_ended [] h = refl
-never_ended (b ∷ []) h = rw h.0 refl
-never_ended (b ∷ c ∷ rest) h = ap (option_map (λ t. b ∷ t)) (never_ended (c ∷ rest) h.1)
-
 last_line : (bytes : List ℕ) → 0 < length bytes → AllByRecursion (λ b. eqb b 10 ≡ false) bytes → lines_of bytes ≡ bytes ∷ []
 last_line [] some h = absurd (omega (arith, some))
 last_line (b ∷ bytes) some h = one_line b bytes h
 
+-- no bytes have no lines
 pub no_lines : (bytes : List ℕ) → length bytes ≡ 0 → edit_lines bytes ≡ []
 no_lines bytes h = ap (map body_of) (empty_lines bytes h)
 
+-- bytes without a line feed are the last line as they are
 pub last_body : (bytes rest : List ℕ) → 0 < length bytes → position is_end bytes ≡ None → length rest ≡ 0 → edit_lines bytes ≡ bytes ∷ edit_lines rest
 last_body bytes rest some h none =
     let plain = recursion_from_All (λ b. eqb b 10 ≡ false) bytes (λ k d lt. fails_before_first is_end bytes k d (omega (arith, lt, no_feed bytes h))) in

@@ -1,5 +1,5 @@
 -- What follows of the lines of an edits file: a case and a budget for each plan, or the first fault.
-use Rattle.std.specs.Prelude.{◌≡◌, ◌==◌, ⊤, ℕ, suc, nat_le, nat_lt, List, [], ◌∷◌, ◌++◌, length, Option, Some, None, Result, Ok, Err, if◌then◌else◌}
+use Rattle.std.specs.Prelude.{◌==◌, ℕ, suc, nat_le, nat_lt, List, [], ◌∷◌, ◌++◌, length, Option, Some, None, Result, Ok, Err, if◌then◌else◌}
 use Rattle.spares_io.specs.Steps.{◌>>=◌}
 use Rattle.spares_input.specs.Cases.{CaseRows, frame_rows}
 use Rattle.spares_input.specs.Edits.{with_rate}
@@ -22,9 +22,11 @@ pub record Standing : Type 0 where
   pub budget : ℕ
   pub due : List PlanDue
 
+-- the most lines that an edits file may have
 abbrev pub most_lines : ℕ
 most_lines = 4000
 
+-- the most plans that it may ask for
 abbrev pub most_plans : ℕ
 most_plans = 64
 
@@ -33,6 +35,7 @@ abbrev pub due_at : ℕ → Standing → Option RateFault → Result Standing Ed
 due_at n at (Some f) = Err (fault.Rate n f)
 due_at n at None = Ok (record at { due = at.due ++ record { case = at.case; budget = at.budget } ∷ [] })
 
+-- a plan at line n, which is refused where as many are due as may be
 abbrev pub planned : ℕ → Standing → Option RateFault → Result Standing EditFault
 planned n at broken = if nat_le most_plans (length at.due) then Err (fault.TooManyPlans n) else due_at n at broken
 
@@ -42,6 +45,7 @@ carried n at (edit.Budget budget) = Ok (record at { budget = budget })
 carried n at (edit.Rate row) = Ok (record at { case = with_rate at.case row })
 carried n at edit.Plan = planned n at (rate_fault_of at.case)
 
+-- what line n makes of it: an edit, or a line that says none
 abbrev pub edited : ℕ → Standing → Option Edit → Result Standing EditFault
 edited n at (Some said) = carried n at said
 edited n at None = Err (fault.BadLine n)

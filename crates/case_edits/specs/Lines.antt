@@ -17,6 +17,7 @@ use Rattle.case_edits.specs.declared.lines.Edit.TheVariants as edit
 abbrev pub body_of : List ℕ → List ℕ
 body_of line = option_map_or strip_carriage_return (unended line) line
 
+-- the lines of an edits file, without their ends
 abbrev pub edit_lines : List ℕ → List (List ℕ)
 edit_lines bytes = map body_of (lines_of bytes)
 

@@ -40,11 +40,13 @@ item_by f c s p zero None = record { part_is = refl; site_is = refl; stock_is = 
 item_by f c s p (suc j) (Some l) = record { part_is = refl; site_is = refl; stock_is = refl }
 item_by f c s p (suc j) None = record { part_is = refl; site_is = refl; stock_is = refl }
 
+-- an item bears its part, its site and their stock
 pub item_pair : (f : ℕ) (c : CaseRows) (s : List ℕ) (p k : ℕ) → HasPairOf f c s p k (item_of f c s p k)
 item_pair f c s p k = item_by f c s p k (line_of c.parts p)
 
 -- ---- the place of a pair
 
+-- the item at the place of a pair is that of the pair
 pub at_place : (f : ℕ) (c : CaseRows) (s : List ℕ) (p k : ℕ) → k < length c.sites
     → item_at_place f c s (pair_place (length c.sites) p k) ≡ item_of f c s p k
 at_place f c s p k h =
@@ -54,6 +56,7 @@ pub place_is : (f : ℕ) (c : CaseRows) (s : List ℕ) (p k : ℕ) → place_of 
 place_is f c s p k =
     let h = item_pair f c s p k in ap₂ (λ (a b : ℕ). a * length c.sites + b) h.part_is h.site_is
 
+-- the place of a pair of the case is below the number of its pairs
 pub pair_within : (c : CaseRows) (p k : ℕ) → p < length c.parts → k < length c.sites → pair_place (length c.sites) p k < pair_count (frame_rows c)
 pair_within c p k h l = omega (arith, mul-add-lt p (length c.sites) k (length c.parts) h l)
 

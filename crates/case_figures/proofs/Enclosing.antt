@@ -7,7 +7,7 @@ use Rattle.std.proofs.lemmas.List.Sums.{sum_by-cons}
 use Rattle.std.proofs.lemmas.List.FromFn.{get_or-map-range_with_len, length-map-range_with_len}
 use Rattle.exact_model.specs.Fraction.{Fraction, whole, ◌≈◌, ◌+ℚ◌, ◌*ℚ◌}
 use Rattle.exact_model.specs.Series.{ebo}
-use Rattle.exact_model.proofs.Fractions.{turned, div-same, positive-same, contains-same, times_assoc, nothing_more}
+use Rattle.exact_model.proofs.Fractions.{turned, div_same, positive_same, contains_same, times_assoc, nothing_more, one_times, plus_assoc, none_plus}
 use Rattle.fixed_interval.specs.Ends.{Ends, In, ends_exact, ends_add, ends_mul}
 use Rattle.fixed_interval.proofs.Laws.{add_encloses, mul_encloses, exact_encloses}
 use Rattle.spares_input.specs.Rows.{is_line}
@@ -19,9 +19,9 @@ use Rattle.fleet_model.specs.Pipelines.{Moments, pipeline_i0, pipeline_00, pipel
 use Rattle.fleet_model.specs.Pairs.{by_pair, pipeline, backorders}
 use Rattle.fleet_model.specs.Fleet.{factor, availability, fleet, family_total, total}
 use Rattle.fleet_model.specs.Laws.{IsBase}
-use Rattle.fleet_model.proofs.Order.{one_times, times_one, plus_assoc}
-use Rattle.fleet_model.proofs.SumLaws.{sum-range}
-use Rattle.fleet_model.proofs.DivisorLaws.{systems-positive, per_system-positive, all_systems-positive}
+use Rattle.fleet_model.proofs.Order.{times_one}
+use Rattle.fleet_model.proofs.SumLaws.{sum_range}
+use Rattle.fleet_model.proofs.DivisorLaws.{systems_positive, per_system_positive, all_systems_positive}
 use Rattle.availability.specs.declared.Weighted.{Weighted}
 use Rattle.availability.specs.Profile.{all_systems}
 use Rattle.availability.specs.Exact.{factor_of, weighted_mean, BaseIn, BasesIn}
@@ -33,31 +33,28 @@ use Rattle.case_figures.proofs.Each.{each_that_passes}
 
 -- ---- sums and products over a list
 
-none_plus : (q : Fraction) → whole 0 +ℚ q ≈ q
-unfolding whole ◌+ℚ◌
-none_plus q = record { cross = omega arith }
-
 sums_in : (f : ℕ) (a : Ends) (x : Fraction) (h : ℕ → Ends) (q : ℕ → Fraction) (ls : List ℕ) → In f a x → AllByRecursion (λ l. In f (h l) (q l)) ls
     → In f (fold ends_add a (map h ls)) (x +ℚ sum_over ls q)
 unfolding sum_over
-sums_in f a x h q [] s t = contains-same (turned (nothing_more x)) s
+sums_in f a x h q [] s t = contains_same (turned (nothing_more x)) s
 sums_in f a x h q (l ∷ ls) s t =
-    contains-same (plus_assoc x (q l) (sum_over ls q)) (sums_in f (ends_add a (h l)) (x +ℚ q l) h q ls (add_encloses f a (h l) x (q l) s t.0) t.1)
+    contains_same (plus_assoc x (q l) (sum_over ls q)) (sums_in f (ends_add a (h l)) (x +ℚ q l) h q ls (add_encloses f a (h l) x (q l) s t.0) t.1)
 
+-- a sum of intervals over line units contains the sum of the fractions that each contains
 pub sum_in : (f : ℕ) (h : ℕ → Ends) (q : ℕ → Fraction) (ls : List ℕ) → AllByRecursion (λ l. In f (h l) (q l)) ls
     → In f (fold ends_add (ends_exact f 0) (map h ls)) (sum_over ls q)
-sum_in f h q ls t = contains-same (none_plus (sum_over ls q)) (sums_in f (ends_exact f 0) (whole 0) h q ls (exact_encloses f 0) t)
+sum_in f h q ls t = contains_same (none_plus (sum_over ls q)) (sums_in f (ends_exact f 0) (whole 0) h q ls (exact_encloses f 0) t)
 
 products_in : (f : ℕ) (a : Ends) (x : Fraction) (h : ℕ → Ends) (q : ℕ → Fraction) (ls : List ℕ) → In f a x → AllByRecursion (λ l. In f (h l) (q l)) ls
     → In f (fold (ends_mul f) a (map h ls)) (x *ℚ product_over ls q)
 unfolding product_over
-products_in f a x h q [] s t = contains-same (turned (times_one x)) s
+products_in f a x h q [] s t = contains_same (turned (times_one x)) s
 products_in f a x h q (l ∷ ls) s t =
-    contains-same (times_assoc x (q l) (product_over ls q)) (products_in f (ends_mul f a (h l)) (x *ℚ q l) h q ls (mul_encloses f a (h l) x (q l) s t.0) t.1)
+    contains_same (times_assoc x (q l) (product_over ls q)) (products_in f (ends_mul f a (h l)) (x *ℚ q l) h q ls (mul_encloses f a (h l) x (q l) s t.0) t.1)
 
 pub product_in : (f : ℕ) (h : ℕ → Ends) (q : ℕ → Fraction) (ls : List ℕ) → AllByRecursion (λ l. In f (h l) (q l)) ls
     → In f (fold (ends_mul f) (ends_exact f 1) (map h ls)) (product_over ls q)
-product_in f h q ls t = contains-same (one_times (product_over ls q)) (products_in f (ends_exact f 1) (whole 1) h q ls (exact_encloses f 1) t)
+product_in f h q ls t = contains_same (one_times (product_over ls q)) (products_in f (ends_exact f 1) (whole 1) h q ls (exact_encloses f 1) t)
 
 -- ---- a line unit at a base
 
@@ -92,9 +89,10 @@ factor_at_in : (f : ℕ) (c : CaseRows) (s : List ℕ) (n l j : ℕ) → IsCase 
     → In f (item_of f c s l j).backorders (backorders c s l j n) → In f (factor_at f c s j l) (factor c s n l j)
 factor_at_in f c s n l j v b h e i =
     subst (In f (factor_at f c s j l)) (factor_is c s n l j)
-    (factor_in f (item_of f c s l j).backorders (ebo_0j c s n l j) (systems c j) (per_system c l) (systems-positive c j v b) (per_system-positive c l v h e)
+    (factor_in f (item_of f c s l j).backorders (ebo_0j c s n l j) (systems c j) (per_system c l) (systems_positive c j v b) (per_system_positive c l v h e)
     (subst (In f (item_of f c s l j).backorders) (line_backorders c s n l j e b.0) i))
 
+-- the availability of a base lies in its ends where the backorders of each line unit there lie in theirs
 pub availability_in : (f : ℕ) (c : CaseRows) (s : List ℕ) (n j : ℕ) → IsCase c → IsBase c j → LinesIn f c s n j
     → In f (availability_at f c s j) (availability c s n j)
 unfolding availability
@@ -110,10 +108,11 @@ some_systems f c s zero h p = absurd (omega arith)
 some_systems f c s (suc m) h p =
     omega (arith, p, sum_by-cons (λ (base : Weighted f). base.systems) (weighted_at f c s 1) (map (weighted_at f c s) (range_with_len 2 m)))
 
+-- the bases of a valid case have systems
 pub fleet_has_systems : (f : ℕ) (c : CaseRows) (s : List ℕ) → IsCase c → 0 < all_systems (map (weighted_at f c s) (bases c))
 fleet_has_systems f c s v =
     let two = v.frame.fewest_sites in
-    some_systems f c s (length c.sites - 1) (omega (arith, two)) (systems-positive c 1 v (omega arith, omega (arith, two)))
+    some_systems f c s (length c.sites - 1) (omega (arith, two)) (systems_positive c 1 v (omega arith, omega (arith, two)))
 
 abbrev BasesAreIn : ℕ → CaseRows → List ℕ → ℕ → Type 0
 BasesAreIn f c s n = (j : ℕ) → IsBase c j → In f (availability_at f c s j) (availability c s n j)
@@ -132,18 +131,20 @@ mean_is : (c : CaseRows) (s : List ℕ) (n : ℕ) → IsCase c
 unfolding fleet
 mean_is c s n v =
     let m = length c.sites - 1 in
-    let weights = sum-range (λ j. whole (systems c j)) 1 m in
-    div-same (positive-same (turned weights) (all_systems-positive c v)) (sum-range (λ j. whole (systems c j) *ℚ availability c s n j) 1 m) weights
+    let weights = sum_range (λ j. whole (systems c j)) 1 m in
+    div_same (positive_same (turned weights) (all_systems_positive c v)) (sum_range (λ j. whole (systems c j) *ℚ availability c s n j) 1 m) weights
 
+-- the fleet's availability lies in its ends where that of each base does
 pub fleet_at_in : (f : ℕ) (c : CaseRows) (s : List ℕ) (n : ℕ) → IsCase c → BasesAreIn f c s n → In f (fleet_of f c s) (fleet c s n)
 fleet_at_in f c s n v i =
-    contains-same (mean_is c s n v)
+    contains_same (mean_is c s n v)
     (subst (λ m. In f (fleet_of f c s) (weighted_mean (λ k. systems c (1 + k)) (λ k. availability c s n (1 + k)) m))
     (length-map-range_with_len (weighted_at f c s) 1 (length c.sites - 1))
     (fleet_in f (map (weighted_at f c s) (bases c)) (λ k. systems c (1 + k)) (λ k. availability c s n (1 + k)) (fleet_has_systems f c s v) (bases_in f c s n i)))
 
 -- ---- the total
 
+-- the total lies in its ends where that of each family does
 pub total_at_in : (f : ℕ) (c : CaseRows) (s : List ℕ) (n : ℕ)
     → ((l : ℕ) → l < length c.parts → is_line (part_at c.parts l) ≡ true → In f (family.total_of f c s l) (family_total c s n l))
     → In f (total_of f c s) (total c s n)

@@ -20,12 +20,13 @@ use Rattle.family_eval.specs.declared.item.FamilyResult.{FamilyResult}
 use Rattle.family_eval.specs.Encloses.{no_item}
 use Rattle.family_eval.specs.Profile.{item_of, part_items, family_of, families_of}
 use Rattle.family_eval.specs.Profile as evaluated
+use Rattle.family_eval.proofs.Units.{each_in_range}
 use Rattle.case_figures.specs.declared.figures.BaseLine.{BaseLine}
 use Rattle.case_figures.specs.declared.figures.Figures.{Figures}
 use Rattle.case_figures.specs.Figures.{span_of, named, item_at_place, all_items, factor_at, weighted_at, base_line, figures_of}
 use Rattle.case_figures.specs.Gathering.{IsItemOf, IsFamilyOf, items_by_pair, factor_from, weighted_from, base_line_from}
 use Rattle.case_figures.proofs.Covering.{item_pair, placed_all}
-use Rattle.case_figures.proofs.Each.{all_of, each_map, each_in_range, each_that_passes, each_flat, map_each, few_that_pass}
+use Rattle.case_figures.proofs.Each.{all_of, each_map, each_that_passes, each_flat, map_each, few_that_pass}
 
 module _ (f : ℕ) (c : CaseRows) (t : StockList) where
   abbrev item : ℕ → ℕ → Item f

@@ -5,15 +5,17 @@ use Rattle.std.proofs.Math.Nat.{suc-mul}
 use Rattle.std.proofs.lemmas.Nat.{mul-le}
 use Rattle.std.proofs.lemmas.List.Sums.{sum_by-cons}
 use Rattle.fixed_interval.specs.Ends.{Ends, ends_exact, ends_add, ends_mul, ends_times}
+use Rattle.fixed_interval.proofs.Laws.{ceil_most}
 use Rattle.availability.specs.declared.Weighted.{Weighted}
 use Rattle.availability.specs.Profile.{multiplied, filled_ends, factor_ends, base_ends, weighted_sum, all_systems, fleet_ends}
-use Rattle.availability.proofs.Laws.{product_most, mean_most}
+use Rattle.availability.proofs.Laws.{product_most}
 
 multiplied_most : (f : ℕ) (g : Ends) (n : ℕ) → g.hi ≤ 2 ^ f → (multiplied f g n).hi ≤ 2 ^ f
 unfolding multiplied
 multiplied_most f g zero h = h
 multiplied_most f g (suc n) h = product_most f (multiplied f g n) g (ends_mul f (multiplied f g n) g) (multiplied_most f g n h) h refl
 
+-- the factor of a line unit is at most 1
 pub factor_most : (f : ℕ) (e : Ends) (systems per_system : ℕ) → (factor_ends f e systems per_system).hi ≤ 2 ^ f
 factor_most f e systems per_system = multiplied_most f (filled_ends f e (systems * per_system)) (per_system - 1) (omega arith)
 
@@ -21,6 +23,7 @@ products_most : (f : ℕ) (a : Ends) (xs : List Ends) → a.hi ≤ 2 ^ f → All
 products_most f a [] h t = h
 products_most f a (x ∷ xs) h t = products_most f (ends_mul f a x) xs (product_most f a x (ends_mul f a x) h t.0 refl) t.1
 
+-- the availability of a base is at most 1 where each factor is
 pub base_most : (f : ℕ) (xs : List Ends) → AllByRecursion (λ (x : Ends). x.hi ≤ 2 ^ f) xs → (base_ends f xs).hi ≤ 2 ^ f
 base_most f xs t = products_most f (ends_exact f 1) xs (omega arith) t
 
@@ -35,11 +38,12 @@ weighted_most f a n (x ∷ xs) h t =
     let same : n + x.systems + all_systems xs ≡ n + all_systems (x ∷ xs) = omega (arith, more) in
     rw same at rest
 
+-- the fleet's availability is at most 1 where there are systems and each base's is
 pub fleet_most : (f : ℕ) (xs : List (Weighted f)) → 0 < all_systems xs → AllByRecursion (λ (x : Weighted f). x.value.hi ≤ 2 ^ f) xs
     → (fleet_ends f xs).hi ≤ 2 ^ f
 fleet_most f xs p t =
     let h = weighted_most f (ends_exact f 0) 0 xs (omega arith) t in
-    mean_most (weighted_sum f xs).hi (all_systems xs) (2 ^ f) p (omega (arith, h))
+    ceil_most (weighted_sum f xs).hi (all_systems xs) (2 ^ f) p (omega (arith, h))
 
 -- each at most b
 pub sum_most : (a : Ends) (b : ℕ) (xs : List Ends) → AllByRecursion (λ (x : Ends). x.hi ≤ b) xs → (fold ends_add a xs).hi ≤ a.hi + length xs * b

@@ -15,6 +15,7 @@ not_first j h = grind (arith, nat_tests)
 pub of_base : (row : SiteRow) (j : ℕ) → IsSiteRow row → row.depot ≡ (j == 0) → 0 < j → (1 ≤ row.systems) × (row.systems ≤ 10000)
 of_base row j h e p = h.systems.within (ap not (e ∙ not_first j p))
 
+-- a system has 1 to 100 of a line unit
 pub of_line : (row : PartRow) → IsPartRow row → is_line row ≡ true → (1 ≤ row.per_system) × (row.per_system ≤ 100)
 of_line row h e = h.per_system.within e
 

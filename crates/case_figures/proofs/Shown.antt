@@ -9,7 +9,6 @@ use Rattle.std.proofs.lemmas.List.{get_or-map, length-map}
 use Rattle.std.proofs.lemmas.List.FromFn.{get_or-map-range_with_len, length-map-range_with_len}
 use Rattle.exact_model.specs.Fraction.{Fraction, Encloses}
 use Rattle.fixed_interval.specs.Ends.{Ends, InScale, ends_exact}
-use Rattle.fixed_interval.proofs.Laws.{up_to}
 use Rattle.spares_input.specs.Rows.{is_line}
 use Rattle.spares_input.specs.Frames.{part_at, site_at}
 use Rattle.spares_input.specs.Pairs.{pair_place}
@@ -19,7 +18,7 @@ use Rattle.demand_rates.specs.Limits.{rate_fault_of}
 use Rattle.fleet_model.specs.Rows.{bases, line_units}
 use Rattle.fleet_model.specs.Fleet.{availability, fleet, family_total, total}
 use Rattle.fleet_model.specs.Laws.{IsBase}
-use Rattle.fleet_model.proofs.AllocationLaws.{cost-is}
+use Rattle.fleet_model.proofs.AllocationLaws.{cost_holds}
 use Rattle.availability.specs.declared.Weighted.{Weighted}
 use Rattle.family_eval.specs.declared.item.Item.{Item}
 use Rattle.family_eval.specs.Encloses.{CanEvaluate, EnclosesItem, IsSmallItem, no_item}
@@ -27,13 +26,15 @@ use Rattle.family_eval.specs.Profile.{item_of}
 use Rattle.family_eval.specs.Profile as evaluated
 use Rattle.family_eval.proofs.Enclosed.{item_in, item_small}
 use Rattle.family_eval.proofs.Families.{evaluable, family_in, family_small}
+use Rattle.family_eval.proofs.Units.{each_in_range}
 use Rattle.case_figures.specs.Fits.{SpanFits, ItemFits, BaseFits, FitsPrint}
 use Rattle.case_figures.specs.Spans.{places, ends}
 use Rattle.fixed_interval.specs.Widths.{IsWidth}
+use Rattle.fixed_interval.proofs.Laws.{unit_most}
 use Rattle.case_figures.specs.Figures.{span_of, named, item_at_place, all_items, factor_at, availability_at, base_line, weighted_at, fleet_of, total_of, figures_of}
 use Rattle.case_figures.specs.Shows.{ShowsSpan, ShowsItem, ShowsBase, ShowsFigures, no_item_line, no_base_line}
 use Rattle.case_figures.proofs.Covering.{item_pair, at_place, pair_within}
-use Rattle.case_figures.proofs.Each.{all_of, each_map, each_in_range, each_that_passes, few_that_pass}
+use Rattle.case_figures.proofs.Each.{all_of, each_map, each_that_passes, few_that_pass}
 use Rattle.case_figures.proofs.Enclosing.{availability_in, fleet_at_in, fleet_has_systems, total_at_in}
 use Rattle.case_figures.proofs.Limits.{factor_most, base_most, fleet_most, sum_most}
 
@@ -67,13 +68,14 @@ places_of_one f (inl e) = (omega (arith, e), omega (arith, e))
 places_of_one f (inr (inl e)) = (omega (arith, e), omega (arith, e))
 places_of_one f (inr (inr e)) = (omega (arith, e), omega (arith, e))
 
-pub few_places : (f : ℕ) → IsWidth f → InScale f
-few_places f h = places_of_one f (widths f h)
+-- each of the three widths is one that intervals can have
+pub width_in_scale : (f : ℕ) → IsWidth f → InScale f
+width_in_scale f h = places_of_one f (widths f h)
 
 -- at most so many wholes
 span_fits : (f : ℕ) (x : Ends) (n : ℕ) → IsWidth f → x.hi ≤ n * 2 ^ f → n < 2 ^ 34 → SpanFits (span_of f x)
 span_fits f x n h m k =
-    let two = up_to f (few_places f h).1 in
+    let two = unit_most f (width_in_scale f h).1 in
     let top : n * 2 ^ f ≤ n * 2 ^ 52 = mul-le n (2 ^ f) n (2 ^ 52) (omega arith) two in
     subst (λ (y : Ends). y.hi < 2 ^ 86) (sym (span_is f x h).ends_are) (omega (arith, m, top, k))
 
@@ -128,7 +130,7 @@ module _ (f : ℕ) (c : CaseRows) (t : StockList) (has : IsWidth f) (can : CanEv
 
   pub figures_shown : ShowsFigures f c t (figures_of f c t)
   figures_shown = record {
-    cost_is = sym (cost-is c t can.are_stocks);
+    cost_is = sym (cost_holds c t can.are_stocks);
     item_count = length-map (all_items f c t.list) (named f c) ∙ length-map-range_with_len (item_at_place f c t.list) 0 (pair_count (frame_rows c));
     items_in = λ p k h l. subst (ShowsItem f c t.list p k) (sym (line_at p k h l)) (item_shown p k h l);
     base_count = length-map-range_with_len (base_line f c t.list) 1 (length c.sites - 1);
@@ -196,6 +198,7 @@ module _ (f : ℕ) (c : CaseRows) (t : StockList) (has : IsWidth f) (can : CanEv
     total = span_fits f (total_of f c t.list) 768000000 has total_most (omega arith);
   }
 
+-- what can be evaluated has items and totals that enclose the model, and are small
 pub evaluated_as : (f : ℕ) (c : CaseRows) (t : StockList) → CanEvaluate f c t → IsEvaluated f c t
 evaluated_as f c t h =
     let sound = evaluable f c t h in
@@ -208,4 +211,4 @@ evaluated_as f c t h =
 
 -- what an evaluation takes, from what is known of a case, its rates and its stocks
 pub can_evaluate : (f : ℕ) (c : CaseRows) (t : StockList) → IsWidth f → IsCase c → rate_fault_of c ≡ None → IsFor c t → IsWithinLimits c t → CanEvaluate f c t
-can_evaluate f c t h v a s l = record { scale = few_places f h; valid = v; no_fault = a; are_stocks = s; limits = l }
+can_evaluate f c t h v a s l = record { scale = width_in_scale f h; valid = v; no_fault = a; are_stocks = s; limits = l }

@@ -38,6 +38,7 @@ named f c x = record {
 abbrev pub item_at_place : (f : ℕ) → CaseRows → List ℕ → ℕ → Item f
 item_at_place f c s i = item_of f c s (part_of_place (length c.sites) i).0 (site_of_place (length c.sites) i).0
 
+-- those of all pairs
 abbrev pub all_items : (f : ℕ) → CaseRows → List ℕ → List (Item f)
 all_items f c s = map (item_at_place f c s) (range_with_len 0 (pair_count (frame_rows c)))
 
@@ -49,6 +50,7 @@ factor_at f c s j l = factor_ends f (item_of f c s l j).backorders (systems c j)
 abbrev pub availability_at : ℕ → CaseRows → List ℕ → ℕ → Ends
 availability_at f c s j = base_ends f (map (factor_at f c s j) (line_units c))
 
+-- the availability of base j under its name
 abbrev pub base_line : ℕ → CaseRows → List ℕ → ℕ → BaseLine
 base_line f c s j = record { site = (site_at c.sites j).name; availability = span_of f (availability_at f c s j) }
 
@@ -56,6 +58,7 @@ base_line f c s j = record { site = (site_at c.sites j).name; availability = spa
 abbrev pub weighted_at : (f : ℕ) → CaseRows → List ℕ → ℕ → Weighted f
 weighted_at f c s j = record { systems = systems c j; value = availability_at f c s j }
 
+-- the mean availability, each base counted by its systems
 abbrev pub fleet_of : ℕ → CaseRows → List ℕ → Ends
 fleet_of f c s = fleet_ends f (map (weighted_at f c s) (bases c))
 

@@ -51,4 +51,7 @@ weighted_from f c families j = record { systems = systems c j; value = base_ends
 
 -- the line of base j, where the bases are listed from 1 on
 abbrev pub base_line_from : (f : ℕ) → CaseRows → List (Weighted f) → ℕ → BaseLine
-base_line_from f c weighted j = record { site = (site_at c.sites j).name; availability = span_of f (base_at weighted (j - 1)).value }
+base_line_from f c weighted j = record {
+  site = (site_at c.sites j).name;
+  availability = span_of f (base_at weighted (j - 1)).value;
+}

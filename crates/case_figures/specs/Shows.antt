@@ -41,13 +41,22 @@ pub record ShowsBase (f : ℕ) (c : CaseRows) (s : List ℕ) (j : ℕ) (base : B
 abbrev pub no_item_line : ItemLine
 no_item_line =
     let nothing = Bits48 (ends_exact 48 0) in
-    record { part = []; site = []; stock = 0; mean = nothing; variance = nothing; backorders = nothing; spread = nothing }
+    record {
+      part = [];
+      site = [];
+      stock = 0;
+      mean = nothing;
+      variance = nothing;
+      backorders = nothing;
+      spread = nothing;
+    }
 
+-- what a look-up past the last base gives: no name, and nothing available
 abbrev pub no_base_line : BaseLine
 no_base_line = record { site = []; availability = Bits48 (ends_exact 48 0) }
 
--- figures with f places: the cost of the stocks, a line for each pair by part and then by site, a line for each base, the
--- fleet and the total
+-- figures with f places: the cost of the stocks, a line for each pair by part and then by site, a line for each base,
+-- the fleet and the total
 pub record ShowsFigures (f : ℕ) (c : CaseRows) (s : StockList) (figures : Figures) : Type 0 where
   pub cost_is : figures.cost ≡ cost c s.list
   pub item_count : length figures.items ≡ pair_count (frame_rows c)

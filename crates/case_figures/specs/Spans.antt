@@ -10,6 +10,7 @@ places (Bits32 x) = 32
 places (Bits48 x) = 48
 places (Bits52 x) = 52
 
+-- the ends of an interval of any width
 abbrev pub ends : Span → Ends
 ends (Bits32 x) = x
 ends (Bits48 x) = x

@@ -41,7 +41,7 @@ fn base_factors<const F: u32>(
     ensures factors { IfOk result (λ v. v.items ≡ map (factor_from F case.now base.0) families.now) }
     ensures most { IfOk result (λ v. All (λ x. x.hi ≤ 2 ^ F) v.items) }
 {
-    let mut factors = Vec::new(alloc);
+    let mut factors = Vec::with_capacity(alloc, families.len())?;
     for family in families {
         factors.push(factor_from(case, family, base))?;
     }

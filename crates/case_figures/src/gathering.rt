@@ -23,8 +23,10 @@ use std::alloc::Global;
 
 /// The figures of a case enclose the model's at every depth, and can be printed.
 pub fn figures_enclose()
-    ensures shows { (f : ℕ) (c : CaseRows) (s : StockList) → IsWidth f → CanEvaluate f c s → ShowsFigures f c s (figures_of f c s) }
-    ensures printed { (f : ℕ) (c : CaseRows) (s : StockList) → IsWidth f → CanEvaluate f c s → FitsPrint (figures_of f c s) }
+    ensures shows { (f : ℕ) (c : CaseRows) (s : StockList) → IsWidth f → CanEvaluate f c s
+        → ShowsFigures f c s (figures_of f c s) }
+    ensures printed { (f : ℕ) (c : CaseRows) (s : StockList) → IsWidth f → CanEvaluate f c s
+        → FitsPrint (figures_of f c s) }
 {}
 
 /// The sum of the families' totals in their order.
@@ -43,8 +45,8 @@ fn total_of<const F: u32>(families: &[FamilyResult<F>]) -> Iv<F>
 
 /// The figures of a case at stocks of it, from the evaluation of its families at them, with 32, 48 or 52 binary places.
 ///
-/// The items stand by part in file order and then by site, in whatever order the families have them. Want of memory is the
-/// only error.
+/// The items stand by part in file order and then by site, in whatever order the families have them. Want of memory
+/// is the only error.
 pub fn figures_at<const F: u32>(
     alloc: Global,
     case: &Case,

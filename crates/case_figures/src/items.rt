@@ -101,7 +101,7 @@ pub(crate) fn item_lines<const F: u32>(
     requires pairs { All (IsItemOf F case.now) items.now }
     ensures { IfOk result (λ v. v.items ≡ map (named F case.now) items.now) }
 {
-    let mut lines = Vec::new(alloc);
+    let mut lines = Vec::with_capacity(alloc, items.len())?;
     for item in items {
         lines.push(named(case, item))?;
     }

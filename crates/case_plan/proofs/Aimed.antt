@@ -1,9 +1,9 @@
 -- What is aimed at, at the stocks of a plan.
-use Rattle.std.proofs.Common.{◌≡◌, ℕ, ◌+◌, ◌≤◌, inl, inr, List, [], ◌∷◌, map, sum_by, refl, sym, ap, ap₂, ◌∙◌, subst, arith}
+use Rattle.std.proofs.Common.{◌≡◌, ℕ, ◌+◌, ◌≤◌, inl, inr, List, [], ◌∷◌, map, sum_by, refl, sym, ap, ap₂, ◌∙◌, subst}
 use Rattle.std.proofs.lemmas.List.Sums.{sum_by-cons}
-use Rattle.exact_model.specs.Fraction.{Encloses, whole, ◌+ℚ◌}
+use Rattle.exact_model.specs.Fraction.{Encloses, ◌+ℚ◌}
 use Rattle.exact_model.specs.Sums.{sum_over}
-use Rattle.fixed_interval.specs.Ends.{Ends, In, ends_add, ends_exact}
+use Rattle.fixed_interval.specs.Ends.{Ends, In, ends_add}
 use Rattle.fixed_interval.proofs.Laws.{add_encloses, exact_encloses}
 use Rattle.hull.specs.declared.point.Point.{Point}
 use Rattle.hull.specs.Curves.{Among}
@@ -11,11 +11,10 @@ use Rattle.hull.specs.Scores.{EnclosesValue}
 use Rattle.spares_input.specs.Cases.{CaseRows, IsCase}
 use Rattle.fleet_model.specs.Rows.{line_units}
 use Rattle.fleet_model.specs.Aims.{Value, aim, family_aim}
-use Rattle.family_eval.specs.Encloses.{CanEvaluate}
 use Rattle.family_eval.specs.Inputs.{IsLine, IsSound}
-use Rattle.family_eval.proofs.Families.{evaluable}
-use Rattle.family_curve.specs.Vectors.{vector_of, stocks_with, stock_list}
+use Rattle.family_curve.specs.Vectors.{vector_of, stocks_with}
 use Rattle.family_curve.specs.Points.{ScoreEnds, scored_total, point_at_vector}
+use Rattle.family_curve.proofs.Stands.{vector_stands}
 use Rattle.price_bounds.specs.Sums.{hi_of, lo_of}
 use Rattle.price_bounds.specs.Soundness.{stocks_of}
 use Rattle.marginal_alloc.specs.Plans.{IsPlan}
@@ -24,8 +23,8 @@ use Rattle.fleet_plan.specs.Families.{case_points, points_at, vectors_at, hi_at}
 use Rattle.fleet_plan.specs.Plans.{CasePlan}
 use Rattle.fleet_plan.proofs.Bridge.{hi_same}
 use Rattle.fleet_plan.proofs.Ones.{chosen_in}
-use Rattle.fleet_plan.proofs.Places.{agree_on, length_vector, lines_are, vector-with}
-use Rattle.fleet_plan.proofs.Scores.{scored_encloses, scored_total-same}
+use Rattle.fleet_plan.proofs.Places.{agree_on, length_vector, lines_are}
+use Rattle.fleet_plan.proofs.Scores.{scored_encloses, scored_total_same}
 use Rattle.case_plan.specs.Report.{lo_at, aim_ends}
 
 -- ---- the ends
@@ -36,8 +35,8 @@ lo_in ends c held s [] valid lines = refl
 lo_in ends c held s (l ∷ ls) valid lines =
     let line = lines l (inl refl) in
     ap₂ (λ a b. a + b)
-    (ap (λ (x : Ends). x.lo) (scored_total-same c ends (stocks_with c l (vector_of c l s)) s l line
-    (agree_on c l (stocks_with c l (vector_of c l s)) s (vector-with c l (vector_of c l s) valid line (length_vector c l s)))))
+    (ap (λ (x : Ends). x.lo) (scored_total_same c ends (stocks_with c l (vector_of c l s)) s l line
+    (agree_on c l (stocks_with c l (vector_of c l s)) s (vector_stands c l (vector_of c l s) valid line (length_vector c l s)))))
     (lo_in ends c held s ls valid (λ m b. lines m (inr b)))
     ∙ sym (sum_by-cons (λ m. (scored_total c m ends s).lo) l ls)
 

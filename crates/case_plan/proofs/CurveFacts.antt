@@ -1,23 +1,16 @@
 -- The curves of a case, family by family.
-use Rattle.std.proofs.Common.{◌≡◌, ℕ, zero, suc, ◌<◌, ◌≤◌, Bool, true, false, nat_le, inl, inr, List, [], ◌∷◌, ◌++◌, length, map, sum_by, Result, Ok, Err, if◌then◌else◌, refl, ap, subst, arith}
+use Rattle.std.proofs.Common.{◌≡◌, ℕ, zero, suc, ◌<◌, ◌≤◌, List, [], ◌∷◌, length, map, refl, arith}
 use Rattle.std.specs.List.{AllZip}
-use Rattle.std.specs.Result.{IsOk}
-use Rattle.std.proofs.lemmas.Bool.{false≢true}
-use Rattle.std.proofs.lemmas.Bool.Decides.{nat_tests}
 use Rattle.std.proofs.lemmas.List.{length-map}
-use Rattle.std.proofs.lemmas.List.Sums.{sum_by-cons}
 use Rattle.hull.specs.declared.point.Point.{Point}
 use Rattle.hull.specs.Curves.{Among, IsCurve}
-use Rattle.spares_input.specs.Cases.{CaseRows, IsCase}
+use Rattle.spares_input.specs.Cases.{CaseRows}
 use Rattle.fleet_model.specs.Rows.{line_units}
-use Rattle.family_eval.specs.Inputs.{IsLine}
 use Rattle.family_curve.specs.Vectors.{limits}
 use Rattle.family_curve.specs.Points.{ScoreEnds}
-use Rattle.family_curve.specs.Counts.{counted, most_tables}
 use Rattle.step_walk.specs.Prefix.{curve_at, vertex_at}
 use Rattle.marginal_alloc.specs.Choice.{AreCurves}
 use Rattle.fleet_plan.specs.Families.{family_points, case_points}
-use Rattle.fleet_plan.proofs.Places.{line_among}
 use Rattle.on_hand.specs.Curves.{IsFamilyCurve}
 use Rattle.case_plan.specs.Report.{AreFamilyCurves}
 
@@ -35,6 +28,7 @@ are_curves_in ends c held (l ∷ ls) (x ∷ xs) a =
     each rest zero b = a.0.is_curve
     each rest (suc f) b = rest.each f (omega (arith, b))
 
+-- the curves of the families from what is held are the curves of the case's points
 pub are_curves : (ends : ScoreEnds) (c : CaseRows) (held : List ℕ) (curves : List (List Point)) → AllZip (IsFamilyCurve ends c held) (line_units c) curves → AreCurves (case_points ends c held) curves
 are_curves ends c held curves a = are_curves_in ends c held (line_units c) curves a
 
@@ -52,6 +46,7 @@ within_in ends c held [] (x ∷ xs) a = absurd a
 within_in ends c held (l ∷ ls) [] a = absurd a
 within_in ends c held (l ∷ ls) (x ∷ xs) a = ((λ v m. (a.0.within v m).most), within_in ends c held ls xs a.1)
 
+-- they are such as a plan takes: one for each line unit, from cost 0, within the limits
 pub are_family_curves : (ends : ScoreEnds) (c : CaseRows) (held : List ℕ) (curves : List (List Point)) → AllZip (IsFamilyCurve ends c held) (line_units c) curves → AreFamilyCurves c curves
 are_family_curves ends c held curves a = record {
   count = (let n = (are_curves ends c held curves a).count in omega (arith, n, length-map (line_units c) (family_points ends c held)));

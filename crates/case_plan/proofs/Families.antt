@@ -5,6 +5,8 @@ use Rattle.std.proofs.lemmas.List.{map_push, ext_get_or, get_or-map, length-map,
 use Rattle.std.proofs.lemmas.Bool.{false≢true}
 use Rattle.hull.specs.declared.point.Point.{Point}
 use Rattle.hull.specs.Curves.{Among}
+use Rattle.hull.proofs.Runs.{among_at}
+use Rattle.hull.proofs.Members.{range_has}
 use Rattle.spares_input.specs.Rows.{is_line}
 use Rattle.spares_input.specs.Frames.{part_at}
 use Rattle.spares_input.specs.Cases.{CaseRows, IsCase}
@@ -12,18 +14,19 @@ use Rattle.spares_input.specs.Stocks.{StockList, IsFor, HasPair}
 use Rattle.spares_input.specs.declared.rows.PartId.{PartId}
 use Rattle.fleet_model.specs.Rows.{stock, line_units}
 use Rattle.fleet_model.specs.Fleet.{family}
-use Rattle.fleet_model.proofs.AllocationLaws.{stock-is}
+use Rattle.fleet_model.proofs.AllocationLaws.{stock_holds}
 use Rattle.family_eval.specs.Inputs.{IsLine}
 use Rattle.family_eval.proofs.Items.{kept_more, left_out}
 use Rattle.family_curve.specs.Vectors.{Pair, places, vector_of, site_part}
 use Rattle.step_walk.specs.Prefix.{vertex_at, picked}
 use Rattle.price_bounds.specs.Soundness.{stocks_of}
 use Rattle.fleet_plan.specs.Families.{HasWidth}
-use Rattle.fleet_plan.proofs.Lists.{map_among, range_has}
-use Rattle.fleet_plan.proofs.Places.{kept, family_apart, in_case, at_among, one_family, place_has, vector_by, length_part, length_places}
+use Rattle.fleet_plan.proofs.Lists.{map_among}
+use Rattle.fleet_plan.proofs.Places.{kept, family_apart, in_case, one_family, place_has, vector_by, length_part, length_places}
 use Rattle.case_plan.specs.Placing.{ids, IsPlacedFamily, lines_below, ArePlaced}
 use Rattle.case_plan.proofs.Placed.{part_of, id_at}
 
+-- part q is a line unit
 abbrev pub is_line_at : CaseRows → ℕ → Bool
 is_line_at c q = is_line (part_at c.parts q)
 
@@ -53,6 +56,7 @@ front t a zero p m e h k = absurd (omega arith)
 front t a (suc n) p zero e h k = (let same : a ≡ p = omega (arith, e) in front_here (t a) a p (filter t (range_with_len (a + 1) n)) (ap t same ∙ k) same)
 front t a (suc n) p (suc m) e h k = front_step (t a) a p (filter t (range_with_len (a + 1) n)) (filter t (range_with_len (a + 1) m)) (front t (a + 1) n p m (omega (arith, e)) (omega (arith, h)) k)
 
+-- a line unit's place among the line units is the number of those before it
 pub line_place : (c : CaseRows) (p : ℕ) → p < length c.parts → is_line_at c p ≡ true → get_or (line_units c) (length (lines_below c p)) 0 ≡ p
 line_place c p h k = front (is_line_at c) 0 (length c.parts) p p (omega arith) h k
 
@@ -70,6 +74,7 @@ fewer t a zero p m e h k = absurd (omega arith)
 fewer t a (suc n) p zero e h k = (let same : a ≡ p = omega (arith, e) in fewer_here (t a) a (filter t (range_with_len (a + 1) n)) (ap t same ∙ k))
 fewer t a (suc n) p (suc m) e h k = fewer_step (t a) a (filter t (range_with_len (a + 1) n)) (filter t (range_with_len (a + 1) m)) (fewer t (a + 1) n p m (omega (arith, e)) (omega (arith, h)) k)
 
+-- before a line unit stand fewer line units than the case has
 pub line_fewer : (c : CaseRows) (p : ℕ) → p < length c.parts → is_line_at c p ≡ true → length (lines_below c p) < length (line_units c)
 line_fewer c p h k = fewer (is_line_at c) 0 (length c.parts) p p (omega arith) h k
 
@@ -95,9 +100,9 @@ module _ (c : CaseRows) (valid : IsCase c) where
   kept_vector s new p l v is was lp ll below h =
       map_among (λ (x : Pair). stock c new.list x.part x.site) (λ (x : Pair). stock c s.list x.part x.site) (places c l) (λ x a.
       let m = place_has c l x a in
-      stock-is c new x.part x.site was
+      stock_holds c new x.part x.site was
       ∙ h.others x.part x.site (subst (λ n. x.site < n) (sym is.sites) m.1) (λ b. (let e = one_family c valid l p x.part ll lp m.0 b in omega (arith, e, below)))
-      ∙ sym (stock-is c s x.part x.site is))
+      ∙ sym (stock_holds c s x.part x.site is))
 
   own_vector : (s new : StockList) (p : ℕ) (v : List ℕ) → IsFor c new → IsLine c p → HasWidth c p v → IsPlacedFamily s new (family c p) v (length c.sites) → vector_of c p new.list ≡ v
   own_vector s new p v was lp width h =
@@ -105,7 +110,7 @@ module _ (c : CaseRows) (valid : IsCase c) where
       (length-map (family c p) (λ q. stock c new.list q k) ∙ sym (length_part c p v k width b)) (λ i l.
       let m : i < length (family c p) = omega (arith, l, length-map (family c p) (λ q. stock c new.list q k)) in
       get_or-map (λ q. stock c new.list q k) (family c p) i 0 0 m
-      ∙ stock-is c new (get_or (family c p) i 0) k was
+      ∙ stock_holds c new (get_or (family c p) i 0) k was
       ∙ h.own (family_apart c valid p lp) k i b m ∙ sym (part_of v (length (family c p)) k i m)))
 
   pub family_placed : (vs : List (List ℕ)) (s new : StockList) (p f : ℕ) (v : List ℕ) → p < length c.parts → is_line_at c p ≡ true → ArePlaced c vs s p f → AllZip (HasWidth c) (line_units c) vs → get_or vs f [] ≡ v
@@ -154,6 +159,7 @@ pub record IsHere (c : CaseRows) (curves : List (List Point)) (picks : List ℕ)
   pub vector : get_or (stocks_of (picked curves picks)) f [] ≡ (vertex_at curves f (slice_index picks f)).stocks
   pub few : f < length c.parts
 
+-- the line unit at part p is the next family, and its curve's pick has a stock for each of its places
 pub here : (c : CaseRows) (valid : IsCase c) (curves : List (List Point)) (picks : List ℕ) (s : StockList) (p f : ℕ) → p < length c.parts → is_line_at c p ≡ true → length picks ≡ length curves
     → AllZip (HasWidth c) (line_units c) (stocks_of (picked curves picks)) → ArePlaced c (stocks_of (picked curves picks)) s p f → IsHere c curves picks p f
 here c valid curves picks s p f h k e widths a =
@@ -195,5 +201,5 @@ pub unit_pair : (c : CaseRows) (s : StockList) (units : List PartId) (p i k : �
 unit_pair c s units p i k d valid is h t e l lk =
     let n = length-map units (λ (q : PartId). q.0) in
     let m : i < length (ids units) = omega (arith, l, n) in
-    let a : Among (get_or (ids units) i 0) (family c p) = subst (λ z. Among (get_or (ids units) i 0) z) e (at_among (ids units) i m) in
+    let a : Among (get_or (ids units) i 0) (family c p) = subst (λ z. Among (get_or (ids units) i 0) z) e (among_at (ids units) i 0 m) in
     pair_in c s (get_or units i d).0 k is (subst (λ z. z < length c.parts) (id_at units i d l) (in_case c valid p (get_or (ids units) i 0) (record { is_part = h; no_parent = t }) a)) lk

@@ -1,27 +1,22 @@
 -- A list of zeros holds nothing.
-use Rattle.std.proofs.Common.{◌≡◌, ℕ, ◌+◌, ◌*◌, ◌<◌, ◌≤◌, ◌⊎◌, inl, inr, List, [], length, map, get_or, sum_by, refl, sym, ap, ap₂, ◌∙◌, subst, arith}
+use Rattle.std.proofs.Common.{◌≡◌, ℕ, ◌+◌, ◌*◌, inl, inr, List, [], length, get_or, sym, ap, subst}
 use Rattle.std.proofs.lemmas.List.{get_or_past}
 use Rattle.std.proofs.lemmas.List.Elements.{All-get_or}
+use Rattle.std.proofs.lemmas.Bool.{cases_lt}
 use Rattle.hull.specs.declared.point.Point.{Point}
-use Rattle.spares_input.specs.Cases.{CaseRows, IsCase}
+use Rattle.spares_input.specs.Cases.{CaseRows}
 use Rattle.fleet_model.specs.Rows.{stock, line_units}
-use Rattle.fleet_model.proofs.FamilyLaws.{sum-each}
 use Rattle.family_curve.specs.Vectors.{Pair, places, vector_of, limits}
 use Rattle.family_curve.specs.Points.{ScoreEnds, point_at_vector, points_within}
-use Rattle.family_curve.specs.Counts.{counted, limited, tables_between, tables_of, work_of}
-use Rattle.family_curve.proofs.Whole.{tables_whole}
 use Rattle.marginal_alloc.specs.Plans.{IsPlan}
 use Rattle.fleet_plan.specs.Families.{family_points, case_points, points_at}
 use Rattle.fleet_plan.specs.Plans.{CasePlan, IsCasePlan}
 use Rattle.fleet_plan.proofs.Lists.{map_among}
 use Rattle.on_hand.specs.Work.{IsNothing}
 
-in_or_past : (i n : ℕ) → (i < n) ⊎ (n ≤ i)
-in_or_past i n = grind arith
-
 module _ (c : CaseRows) (held : List ℕ) (nothing : IsNothing held) where
   none_at : (i : ℕ) → get_or held i 0 ≡ 0
-  none_at i = elim (in_or_past i (length held)) [
+  none_at i = elim (cases_lt i (length held)) [
     | inl h ↦ All-get_or (λ n. n ≡ 0) held i 0 h nothing
     | inr h ↦ get_or_past held i 0 h
   ]

@@ -23,10 +23,12 @@ exact price [] (v ∷ vs) a k = absurd a
 exact price (x ∷ xs) [] a k = absurd a
 exact price (x ∷ xs) (v ∷ vs) a k = (a.0, (v, k.0, refl), exact price xs vs a.1 k.1)
 
+-- the widths at the picks and at the critical vertex, and one, are the rounding
 pub rounded : (curves : List (List Point)) (picks : List ℕ) (critical : Option Critical) → width_of (picked curves picks) + slack curves critical + 1 ≡ rounding_at curves picks critical
 rounded curves picks None = omega arith
 rounded curves picks (Some c) = refl
 
+-- the critical vertex of a hull choice is one of its curve
 pub place_at : (curves : List (List Point)) (budget : ℕ) (hull : Chosen) (critical : Option Critical) → hull.critical ≡ critical → IsHullChoice curves budget hull → IsPlace curves critical
 place_at curves budget hull None e h = tt
 place_at curves budget hull (Some c) e h =

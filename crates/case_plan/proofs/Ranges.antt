@@ -1,18 +1,15 @@
 -- The numbers of a plan have room.
-use Rattle.std.proofs.Common.{◌≡◌, ℕ, ◌+◌, ◌*◌, ◌^◌, ◌<◌, ◌≤◌, Bool, true, false, cond, inl, inr, List, [], ◌∷◌, Option, Some, None, length, map, filter, get_or, slice_index, refl, sym, ◌∙◌, subst, arith, mul-le-mul_right}
+use Rattle.std.proofs.Common.{◌≡◌, ℕ, ◌+◌, ◌*◌, ◌^◌, ◌<◌, ◌≤◌, inl, inr, List, [], ◌∷◌, Option, Some, None, length, map, get_or, slice_index, refl, sym, ◌∙◌, subst, arith, mul-le-mul_right}
 use Rattle.std.specs.List.{AllByRecursion}
 use Rattle.std.proofs.lemmas.List.Elements.{All-from_recursion, All-from_get_or}
 use Rattle.std.proofs.lemmas.List.{length-map}
-use Rattle.std.proofs.lemmas.List.FromFn.{length-range_with_len}
 use Rattle.hull.specs.declared.point.Point.{Point}
 use Rattle.hull.specs.declared.price.Price.{Price}
 use Rattle.hull.specs.Curves.{Among, InRange, Steps, nowhere}
 use Rattle.hull.specs.Scores.{EnclosesValue, LeavesRoom}
 use Rattle.hull.proofs.Runs.{among_at}
-use Rattle.spares_input.specs.Rows.{is_line}
-use Rattle.spares_input.specs.Frames.{part_at}
-use Rattle.spares_input.specs.Cases.{CaseRows, IsCase}
-use Rattle.fleet_model.specs.Rows.{line_units, all_parts}
+use Rattle.spares_input.specs.Cases.{CaseRows}
+use Rattle.fleet_model.specs.Rows.{line_units}
 use Rattle.fleet_model.proofs.AllocationLaws.{allocation_reaches}
 use Rattle.family_eval.specs.Inputs.{IsLine}
 use Rattle.family_curve.specs.Points.{ScoreEnds}
@@ -26,6 +23,7 @@ use Rattle.step_walk.proofs.Taking.{own_step}
 use Rattle.marginal_alloc.proofs.Bounds.{all_picked}
 use Rattle.marginal_alloc.proofs.Kept.{plan_acceptable}
 use Rattle.fleet_model.specs.Aims.{Value}
+pub use Rattle.fleet_model.proofs.FrameLaws.{few_lines}
 use Rattle.fleet_plan.specs.Families.{family_points, case_points, points_at}
 use Rattle.fleet_plan.specs.Plans.{CasePlan, IsCasePlan}
 use Rattle.fleet_plan.specs.Laws.{IsAcceptedCase}
@@ -100,27 +98,13 @@ floors_small price (x ∷ xs) (d ∷ ds) s r h =
     let b = (lagrangian_small price.p price.q w.0 s.p s.q (r.0 w.0 w.1)).2 in
     (omega (arith, b, w.2), floors_small price xs ds s r.1 h.2)
 
-filter_step : (b : Bool) (x : ℕ) (xs ys : List ℕ) → length ys ≤ length xs → length (cond b (x ∷ ys) ys) ≤ length (x ∷ xs)
-filter_step true x xs ys h = omega (arith, h)
-filter_step false x xs ys h = omega (arith, h)
-
-filter_most : (t : ℕ → Bool) (xs : List ℕ) → length (filter t xs) ≤ length xs
-filter_most t [] = omega arith
-filter_most t (x ∷ xs) = filter_step (t x) x xs (filter t xs) (filter_most t xs)
-
-pub few_lines : (c : CaseRows) → IsCase c → length (line_units c) ≤ 2000
-few_lines c valid =
-    let a = filter_most (λ p. is_line (part_at c.parts p)) (all_parts c) in
-    let b = length-range_with_len 0 (length c.parts) in
-    let m = valid.frame.most_parts in
-    omega (arith, a, b, m)
-
 few : (n m : ℕ) → n ≡ m → m ≤ 2000 → n * 2 ^ 74 ≤ 2000 * 2 ^ 74
 few n m e h = (let k : n ≤ 2000 = omega (arith, e, h) in mul-le-mul_right (2 ^ 74) k)
 
 length_points : (ends : ScoreEnds) (c : CaseRows) (held ls : List ℕ) → length (map (family_points ends c held) ls) ≡ length ls
 length_points ends c held ls = length-map ls (family_points ends c held)
 
+-- the numbers of a case's plan have room in a certificate
 pub plan_fits : (ends : ScoreEnds) (value : Value) (c : CaseRows) (held : List ℕ) (budget : ℕ) (p : CasePlan) → IsAcceptedCase c → EnclosesValue ends value → LeavesRoom ends → IsCasePlan ends c held budget p → FitsItsPlace c p
 plan_fits ends value c held budget p accepted encloses room h =
     let plan = h.plan in

@@ -1,35 +1,25 @@
 -- Curves of a case's points are such as a plan takes.
-use Rattle.std.proofs.Common.{◌≡◌, ℕ, suc, ◌-◌, ◌*◌, ◌<◌, ◌≤◌, List, [], ◌∷◌, length, map, get_or, refl, sym, ap, ◌∙◌, subst, arith}
+use Rattle.std.proofs.Common.{◌≡◌, ℕ, suc, ◌<◌, ◌≤◌, List, [], ◌∷◌, length, map, get_or, sym, ap, ◌∙◌, subst, arith}
 use Rattle.std.specs.List.{AllZip}
 use Rattle.std.proofs.lemmas.List.{get_or-map, length-map}
 use Rattle.hull.specs.declared.point.Point.{Point}
 use Rattle.hull.specs.Curves.{Among, IsCurve, point_at}
 use Rattle.hull.proofs.Shapes.{begins_cheapest}
-use Rattle.spares_input.specs.Frames.{part_at}
+use Rattle.hull.proofs.Runs.{among_at}
+use Rattle.hull.proofs.Members.{among_map, among_mapped}
 use Rattle.spares_input.specs.Cases.{CaseRows, IsCase}
 use Rattle.fleet_model.specs.Rows.{line_units}
 use Rattle.family_curve.specs.Vectors.{Pair, places, vector_of, limits, vectors}
-use Rattle.family_curve.specs.Points.{ScoreEnds, cost_above, point_at_vector}
+use Rattle.family_curve.specs.Points.{ScoreEnds, point_at_vector}
+use Rattle.family_curve.proofs.Points.{nothing_above}
 use Rattle.step_walk.specs.Prefix.{curve_at, vertex_at, HaveShapes}
 use Rattle.marginal_alloc.specs.Choice.{AreCurves}
 use Rattle.fleet_model.specs.Aims.{weighted_backorders, IsHeldAllocation}
 use Rattle.fleet_plan.specs.Families.{family_points, case_points}
-use Rattle.fleet_plan.proofs.Lists.{among_map, among_mapped, is_among, is_between}
-use Rattle.fleet_plan.proofs.Places.{lines_are, at_among}
+use Rattle.fleet_plan.proofs.Lists.{is_among, is_between}
+use Rattle.fleet_plan.proofs.Places.{lines_are}
 use Rattle.fleet_plan.proofs.Bridge.{vector_between}
 use Rattle.case_plan.specs.Report.{AreFamilyCurves}
-
--- what is held costs nothing more
-nothing_more : (c : CaseRows) (ps held : List ℕ) → cost_above c ps held held ≡ 0
-nothing_more c [] held = refl
-nothing_more c (p ∷ ps) [] = refl
-nothing_more c (p ∷ ps) (h ∷ held) = (let r = nothing_more c ps held in let z = none h (part_at c.parts p).cost in omega (arith, r, z))
-  where
-    none : (h m : ℕ) → (h - h) * m ≡ 0
-    none h m = (let e : h - h ≡ 0 = omega arith in ap (λ z. z * m) e ∙ zero_times m)
-      where
-        zero_times : (m : ℕ) → 0 * m ≡ 0
-        zero_times m = omega arith
 
 begins : (points curve : List Point) (w : Point) → IsCurve points curve → 0 < length curve → Among w points → w.cost ≡ 0 → (point_at curve 0).cost ≡ 0
 begins points [] w h some a e = absurd (omega arith)
@@ -48,6 +38,7 @@ lows_in ends c held (l ∷ ls) (x ∷ xs) a =
       lows_in ends c held ls xs (record { count = (let n = a.count in omega (arith, n)); each = λ f h. a.each (suc f) (omega (arith, h)) }),
     )
 
+-- curves of a case's points from what is held are such as a plan takes
 pub curves_serve : (ends : ScoreEnds) (c : CaseRows) (held : List ℕ) (curves : List (List Point)) → IsCase c → IsHeldAllocation c held held → HaveShapes curves
     → AreCurves (case_points ends c held) curves → AreFamilyCurves c curves
 curves_serve ends c held curves valid h shapes a = record {
@@ -62,7 +53,7 @@ curves_serve ends c held curves valid h shapes a = record {
         let k = a.count in
         let within : f < length (line_units c) = omega (arith, n, k, b) in
         let l = get_or (line_units c) f 0 in
-        let line = lines_are c valid (get_or (line_units c) f 0) (at_among (line_units c) f within) in
+        let line = lines_are c valid (get_or (line_units c) f 0) (among_at (line_units c) f 0 within) in
         let own : IsCurve (family_points ends c held (get_or (line_units c) f 0)) (curve_at curves f) =
         subst (λ z. IsCurve z (curve_at curves f)) (get_or-map (family_points ends c held) (line_units c) f 0 [] within) (a.each f b) in
         begins (family_points ends c held (get_or (line_units c) f 0)) (curve_at curves f)
@@ -71,4 +62,4 @@ curves_serve ends c held curves valid h shapes a = record {
         (vector_of c (get_or (line_units c) f 0) held)
         (is_among (vector_of c (get_or (line_units c) f 0) held) (limits c (get_or (line_units c) f 0)) (vector_of c (get_or (line_units c) f 0) held)
         (vector_between ends weighted_backorders c held valid held (get_or (line_units c) f 0) line h)))
-        (nothing_more c (map (λ (x : Pair). x.part) (places c (get_or (line_units c) f 0))) (vector_of c (get_or (line_units c) f 0) held))
+        (nothing_above c (map (λ (x : Pair). x.part) (places c (get_or (line_units c) f 0))) (vector_of c (get_or (line_units c) f 0) held))

@@ -1,6 +1,7 @@
 -- Sums and lists over the picks of all families.
 use Rattle.std.proofs.Common.{◌≡◌, ℕ, zero, suc, ◌+◌, ◌*◌, ◌^◌, ◌<◌, ◌≤◌, List, [], ◌∷◌, ◌++◌, map, length, slice_index, refl, sym, ap, ◌∙◌, arith}
 use Rattle.std.proofs.Math.Nat.{mul-le-mul_right}
+use Rattle.std.proofs.Math.Numerals.{add-one}
 use Rattle.hull.specs.declared.point.Point.{Point}
 use Rattle.hull.specs.Curves.{lagrangian, InRange}
 use Rattle.price_bounds.specs.Sums.{total}
@@ -11,6 +12,7 @@ part_front : (g : Point → ℕ) (c : List Point) (cs : List (List Point)) (k : 
 part_front g c cs k ks zero = omega arith
 part_front g c cs k ks (suc i) = (let r = part_front g c cs k ks i in omega (arith, r))
 
+-- the sum over the picks of all families is the total of the picked points
 pub part_all : (g : Point → ℕ) (curves : List (List Point)) (picks : List ℕ) (n : ℕ) → n ≡ length curves → length picks ≡ length curves → part g curves picks n ≡ total g (picked curves picks)
 part_all g [] picks zero e n = refl
 part_all g [] picks (suc i) e n = absurd (omega arith)
@@ -19,11 +21,9 @@ part_all g (c ∷ cs) (k ∷ ks) zero e n = absurd (let l : 0 ≡ suc (length cs
 part_all g (c ∷ cs) (k ∷ ks) (suc i) e n =
     part_front g c cs k ks i ∙ ap (λ z. g (vertex_at (c ∷ cs) 0 k) + z) (part_all g cs ks i (let l : suc i ≡ suc (length cs) = e in omega arith) (let l : suc (length ks) ≡ suc (length cs) = n in omega arith))
 
-one_more : (i : ℕ) → i + 1 ≡ suc i
-one_more i = omega arith
-
+-- the pick of one family more adds its number to the sum
 pub part_more : (g : Point → ℕ) (curves : List (List Point)) (picks : List ℕ) (i : ℕ) (v : Point) → v ≡ vertex_at curves i (slice_index picks i) → part g curves picks i + g v ≡ part g curves picks (i + 1)
-part_more g curves picks i v e = ap (λ z. part g curves picks i + z) (ap g e) ∙ sym (ap (λ z. part g curves picks z) (one_more i))
+part_more g curves picks i v e = ap (λ z. part g curves picks i + z) (ap g e) ∙ sym (ap (λ z. part g curves picks z) (add-one i))
 
 -- the Lagrangian of a point in range
 pub lagrangian_small : (p q : ℕ) (v : Point) → p ≤ 2 ^ 74 → q ≤ 1000000000000 → InRange v → (q * v.lo ≤ 1000000000000 * 2 ^ 74) × (p * v.cost ≤ 2 ^ 74 * 1000000000000) × (lagrangian p q v < 2 ^ 115)
@@ -37,6 +37,7 @@ parts_front : (g : Point → ℕ) (c : List Point) (cs : List (List Point)) (k :
 parts_front g c cs k ks zero = refl
 parts_front g c cs k ks (suc i) = ap (λ z. z ++ g (vertex_at cs i (slice_index ks i)) ∷ []) (parts_front g c cs k ks i)
 
+-- the list over the picks of all families is that of the picked points
 pub parts_all : (g : Point → ℕ) (curves : List (List Point)) (picks : List ℕ) (n : ℕ) → n ≡ length curves → length picks ≡ length curves → parts g curves picks n ≡ map g (picked curves picks)
 parts_all g [] picks zero e n = refl
 parts_all g [] picks (suc i) e n = absurd (omega arith)
@@ -46,4 +47,4 @@ parts_all g (c ∷ cs) (k ∷ ks) (suc i) e n =
     parts_front g c cs k ks i ∙ ap (λ z. g (vertex_at (c ∷ cs) 0 k) ∷ z) (parts_all g cs ks i (let l : suc i ≡ suc (length cs) = e in omega arith) (let l : suc (length ks) ≡ suc (length cs) = n in omega arith))
 
 pub parts_more : (g : Point → ℕ) (curves : List (List Point)) (picks : List ℕ) (i : ℕ) (v : Point) → v ≡ vertex_at curves i (slice_index picks i) → parts g curves picks i ++ g v ∷ [] ≡ parts g curves picks (i + 1)
-parts_more g curves picks i v e = ap (λ z. parts g curves picks i ++ g z ∷ []) e ∙ sym (ap (λ z. parts g curves picks z) (one_more i))
+parts_more g curves picks i v e = ap (λ z. parts g curves picks i ++ g z ∷ []) e ∙ sym (ap (λ z. parts g curves picks z) (add-one i))

@@ -65,6 +65,7 @@ printed_step bound num den h =
     let three : bound * 10 ^ 6 / 2 ^ 48 * den * 2 ^ 48 ≤ num * 10 ^ 6 * 2 ^ 48 = omega (arith, one, two) in
     le_of_mul-le-mul_right three (omega arith)
 
+-- what is printed of a bound in millionths is at most each value that the bound is at most
 pub below_printed : (bound : ℕ) (q : Fraction) → whole bound ≤ℚ q *ℚ whole (2 ^ 48) → text_value 6 (millionths_down 48 bound) ≤ℚ q
 unfolding whole ◌*ℚ◌ ◌/ℚ◌ scaled
 below_printed bound q h = record { cross = (let c = h.cross in let l = printed_step bound q.num q.den (omega (arith, c)) in omega (arith, l)) }
@@ -131,6 +132,7 @@ plain_true c held terms report accepted nothing h = subst (IsTruePlanReport c te
           gap = k.gap ∙ t.upper_is ∙ sym (upper_is_total c h.plan.stocks);
         }
 
+-- a case has one report of its plan
 pub planned_one : (ends : ScoreEnds) (c : CaseRows) (held : List ℕ) (terms : Terms) (one other : PlanReport) → IsCase c
     → IsPlanned ends c held terms one → IsPlanned ends c held terms other → one ≡ other
 planned_one ends c held terms one other valid h k = h.is ∙ ap (report_of ends c terms) (one_case_plan ends c held terms.budget h.plan k.plan valid h.is_plan k.is_plan) ∙ sym k.is
@@ -141,6 +143,7 @@ asked_fits : (asked : Bool) (x : Ends) → x.hi ≤ 2 ^ 85 → IfSome (if_asked 
 asked_fits true x h = omega (arith, h)
 asked_fits false x h = tt
 
+-- the numbers of a plan's report have room in its text
 pub report_fits : (ends : ScoreEnds) (value : Value) (c : CaseRows) (held : List ℕ) (terms : Terms) (report : PlanReport) → IsAcceptedCase c → EnclosesValue ends value → LeavesRoom ends
     → IsPlanned ends c held terms report → FitsPlan report
 report_fits ends value c held terms report accepted encloses room h = subst FitsPlan (sym h.is) fits

@@ -1,19 +1,18 @@
 -- The plan of a case from its curves.
-use Rattle.std.proofs.Common.{◌≡◌, ℕ, suc, ◌<◌, ◌≤◌, Bool, List, [], ◌∷◌, Option, Some, None, IfSome, length, map, get_or, slice_index, option_map, sym, ap, ap₂, ◌∙◌, subst, arith}
+use Rattle.std.proofs.Common.{◌≡◌, ℕ, suc, ◌<◌, ◌≤◌, List, [], ◌∷◌, Option, Some, None, IfSome, length, map, get_or, slice_index, option_map, sym, ap, ap₂, ◌∙◌, subst, arith}
 use Rattle.std.specs.List.{AllZip}
 use Rattle.std.proofs.lemmas.List.{length-map}
 use Rattle.std.proofs.lemmas.List.Elements.{length_all_zip}
 use Rattle.hull.specs.declared.point.Point.{Point}
 use Rattle.hull.specs.Curves.{Among, nowhere, point_at}
 use Rattle.hull.proofs.Runs.{among_at}
+use Rattle.hull.proofs.Members.{range_has}
 use Rattle.spares_input.specs.Cases.{CaseRows, IsCase}
 use Rattle.spares_input.specs.Stocks.{StockList, IsFor, IsWithinLimits, limit_at}
 use Rattle.spares_input.specs.Rows.{is_line}
 use Rattle.spares_input.specs.Frames.{part_at}
 use Rattle.fleet_model.specs.Rows.{all_parts, stock, line_units}
-use Rattle.fleet_model.proofs.AllocationLaws.{stock-is}
-use Rattle.demand_rates.specs.Limits.{rate_fault_of}
-use Rattle.family_eval.specs.Encloses.{CanEvaluate}
+use Rattle.fleet_model.proofs.AllocationLaws.{stock_holds}
 use Rattle.family_curve.specs.Vectors.{Pair, places, vector_of, limits, stock_list, IsBetween}
 use Rattle.marginal_alloc.specs.declared.allocation.Critical.{Critical}
 use Rattle.marginal_alloc.specs.declared.plans.PlanNumbers.{PlanNumbers}
@@ -26,8 +25,8 @@ use Rattle.fleet_model.specs.Aims.{weighted_backorders}
 use Rattle.fleet_plan.specs.Families.{family_at, families_at, vectors_at}
 use Rattle.fleet_plan.specs.Plans.{CasePlan, line_of_step}
 use Rattle.fleet_plan.specs.Laws.{plain_ends}
-use Rattle.fleet_plan.proofs.Lists.{is_among, range_has}
-use Rattle.fleet_plan.proofs.Places.{kept, at_among, zip_each}
+use Rattle.fleet_plan.proofs.Lists.{is_among}
+use Rattle.fleet_plan.proofs.Places.{kept, zip_each}
 use Rattle.fleet_plan.proofs.Bridge.{held_of}
 use Rattle.fixed_interval.specs.Ends.{Ends}
 use Rattle.family_curve.specs.Points.{ScoreEnds}
@@ -77,12 +76,9 @@ module _ (c : CaseRows) (valid : IsCase c) (curves : List (List Point)) (picks :
   pub within : (s : StockList) → IsFor c s → vectors_at c s.list ≡ stocks_of (picked curves picks) → IsWithinLimits c s
   within s is e p k lp lk =
       let a = held_of plain_ends weighted_backorders c [] valid s.list is.pairs (subst (IsAllocation (families_at plain_ends weighted_backorders c [])) (sym e) (allocated c (line_units c) (stocks_of (picked curves picks)) lows)) in
-      subst (λ n. n ≤ limit_at c.parts p k) (stock-is c s p k is) (a.allocation.within p k lp lk)
+      subst (λ n. n ≤ limit_at c.parts p k) (stock_holds c s p k is) (a.allocation.within p k lp lk)
 
-  -- such stocks can be evaluated
-  pub can_evaluate : (s : StockList) → rate_fault_of c ≡ None → IsFor c s → vectors_at c s.list ≡ stocks_of (picked curves picks) → CanEvaluate 48 c s
-  can_evaluate s accepted is e = record { scale = (omega arith, omega arith); valid = valid; no_fault = accepted; are_stocks = is; limits = within s is e }
-
+-- the family of a critical vertex is one of as many as there are curves
 pub place_some : (curves : List (List Point)) (n : ℕ) (o : Option Critical) → length curves ≡ n → IsPlace curves o → IfSome o (λ step. step.family < n)
 place_some curves n None e h = tt
 place_some curves n (Some s) e h = subst (λ m. s.family < m) e h.0
@@ -91,6 +87,7 @@ place_some curves n (Some s) e h = subst (λ m. s.family < m) e h.0
 abbrev pub plan_with : StockList → List ℕ → PlanNumbers → CasePlan
 plan_with s floors f = record { stocks = s.list; floors = floors; numbers = f }
 
+-- the answer that is made of stocks, floors, a plan's numbers, figures, aim and critical line
 abbrev pub outcome : Terms → StockList → List ℕ → PlanNumbers → Figures → Option Ends → Option CriticalLine → Outcome
 outcome terms s floors f figures aim line = record {
   report = record {
@@ -111,6 +108,7 @@ outcome terms s floors f figures aim line = record {
   upper = f.upper;
 }
 
+-- made of the case's own figures, aim and critical line it is the answer to the plan
 pub same_outcome : (ends : ScoreEnds) (c : CaseRows) (terms : Terms) (s : StockList) (floors : List ℕ) (f : PlanNumbers) (figures : Figures) (aim : Option Ends) (line : Option CriticalLine) → s.sites ≡ length c.sites
     → figures ≡ figures_of 48 c s → aim ≡ if_asked terms.loss (aim_ends ends c s.list) → line ≡ option_map (step_line c f.price.q) (option_map (line_of_step c) f.critical)
     → outcome terms s floors f figures aim line ≡ outcome_of ends c terms (plan_with s floors f)
@@ -120,5 +118,6 @@ same_outcome ends c terms s floors f figures aim line e g a l =
     ∙ ap (λ (y : Option Ends). outcome terms s floors f (figures_of 48 c s) y (option_map (step_line c f.price.q) (option_map (line_of_step c) f.critical))) a
     ∙ ap (λ (t : StockList). outcome terms t floors f (figures_of 48 c t) (if_asked terms.loss (aim_ends ends c s.list)) (option_map (step_line c f.price.q) (option_map (line_of_step c) f.critical))) same
 
+-- the line unit at place f is a part of the case
 pub line_in : (c : CaseRows) (f : ℕ) → f < length (line_units c) → get_or (line_units c) f 0 < length c.parts
-line_in c f h = (let r = range_has (get_or (line_units c) f 0) 0 (length c.parts) (kept (λ p. is_line (part_at c.parts p)) (all_parts c) (get_or (line_units c) f 0) (at_among (line_units c) f h)).0 in omega (arith, r.1))
+line_in c f h = (let r = range_has (get_or (line_units c) f 0) 0 (length c.parts) (kept (λ p. is_line (part_at c.parts p)) (all_parts c) (get_or (line_units c) f 0) (among_at (line_units c) f 0 h)).0 in omega (arith, r.1))

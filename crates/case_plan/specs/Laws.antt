@@ -56,6 +56,7 @@ pub record FitsItsPlace (c : CaseRows) (p : CasePlan) : Type 0 where
   pub gap : p.numbers.gap ≤ 2 ^ 85
   pub rounding : p.numbers.rounding ≤ 2 ^ 85
 
+-- the numbers of each plan of an accepted case have room in a certificate
 abbrev pub PlansFit : Type 0
 PlansFit =
     (ends : ScoreEnds) (value : Value) (c : CaseRows) (held : List ℕ) (budget : ℕ) (p : CasePlan)

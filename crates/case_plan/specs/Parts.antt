@@ -10,6 +10,7 @@ abbrev pub part : (Point → ℕ) → List (List Point) → List ℕ → ℕ →
 part g curves picks zero = 0
 part g curves picks (suc i) = part g curves picks i + g (vertex_at curves i (slice_index picks i))
 
+-- what each of the first i picks has, as a list
 abbrev pub parts : (Point → ℕ) → List (List Point) → List ℕ → ℕ → List ℕ
 parts g curves picks zero = []
 parts g curves picks (suc i) = parts g curves picks i ++ g (vertex_at curves i (slice_index picks i)) ∷ []

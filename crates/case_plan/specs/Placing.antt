@@ -25,7 +25,8 @@ pub record IsPlacedAt (old new : StockList) (ps : List ℕ) (k : ℕ) (part : Li
 pub record IsPlacedFamily (old new : StockList) (ps vector : List ℕ) (m : ℕ) : Type 0 where
   pub sites : new.sites ≡ old.sites
   pub count : length new.list ≡ length old.list
-  pub own : IsApart ps → (k i : ℕ) → k < m → i < length ps → stock_at new (get_or ps i 0) k ≡ get_or vector (k * length ps + i) 0
+  pub own : IsApart ps → (k i : ℕ) → k < m → i < length ps
+      → stock_at new (get_or ps i 0) k ≡ get_or vector (k * length ps + i) 0
   pub others : (p j : ℕ) → j < old.sites → (Among p ps → ⊥) → stock_at new p j ≡ stock_at old p j
 
 -- the line units below part p

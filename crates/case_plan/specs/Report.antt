@@ -29,6 +29,7 @@ pub record Terms : Type 0 where
 abbrev pub lo_at : ScoreEnds → CaseRows → List ℕ → ℕ
 lo_at ends c s = sum_by (λ l. (scored_total c l ends s).lo) (line_units c)
 
+-- the lower and the upper end of what is aimed at, at the stocks s
 abbrev pub aim_ends : ScoreEnds → CaseRows → List ℕ → Ends
 aim_ends ends c s = record { lo = lo_at ends c s; hi = hi_at ends c s }
 

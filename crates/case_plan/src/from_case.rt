@@ -16,8 +16,8 @@ use spares_input::{Case, Stocks};
 use spares_io::NoMemory;
 use std::alloc::Global;
 
-/// The plan of a case under a budget in whole money, from what is held on: a list for the case, within the limits. Where
-/// nothing is held, that is a list of zeros.
+/// The plan of a case under a budget in whole money, from what is held on: a list for the case, within the limits.
+/// Where nothing is held, that is a list of zeros.
 ///
 /// It is the one plan of all vectors of the families from what is held to the limits, reported as [`plan`] does.
 /// The work from it is within its limit. Want of memory is the only error.
@@ -36,7 +36,8 @@ pub fn plan_case<S: Score>(
     requires limits { IsWithinLimits case.now held.now }
     requires work { IsOk (held_work_of case.now held.now.list) }
     requires budget { budget ≤ 1000000000000000 }
-    ensures { IfOk result (IsOutcome S.ends case.now held.now.list (record { budget = budget; loss = loss; on_hand = on_hand })) }
+    ensures { IfOk result (IsOutcome S.ends case.now held.now.list
+        (record { budget = budget; loss = loss; on_hand = on_hand })) }
 {
     let curves = held_curves(alloc, case, rates, held, score)?;
     plan(alloc, case, rates, curves.as_slice(), budget, loss, on_hand)

@@ -1,17 +1,22 @@
 //! The plan of a case.
 
-ghost use Rattle.std.specs.Prelude.{◌≡◌, ◌^◌, ◌<◌, ◌≤◌, IfOk, IfSome, length, get_or, option_map};
+ghost use Rattle.std.specs.Prelude.{◌≡◌, ◌^◌, ◌<◌, ◌≤◌, List, IfOk, IfSome, length, get_or, option_map};
+ghost use Rattle.demand_rates.specs.Limits.{rate_fault_of};
 ghost use Rattle.demand_rates.specs.Rates.{AreRatesOf};
+ghost use Rattle.family_eval.specs.Profile.{families_of};
+ghost use Rattle.hull.specs.declared.point.Point.{Point};
 ghost use Rattle.fleet_model.specs.Rows.{line_units};
 ghost use Rattle.fleet_plan.specs.Plans.{line_of_step};
+ghost use Rattle.case_plan.specs.Chosen.{FitsCase, IsChosen};
 ghost use Rattle.case_plan.specs.Report.{if_asked, step_line, AreFamilyCurves, IsPlanOf};
 
 use crate::choose::choose;
+use crate::chosen::ChosenStocks;
 use crate::outcome::Outcome;
 use crate::placing::stocks_of;
 use case_figures::figures_at;
 use demand_rates::kinds::Rates;
-use family_eval::evaluate_all;
+use family_eval::{FamilyResult, evaluate_all};
 use fixed_interval::Iv;
 use hull::{Curve, Price};
 use marginal_alloc::Critical;
@@ -66,6 +71,76 @@ fn aim_of(asked: bool, lower: u128, upper: u128) -> Option<Iv<48>>
     }
 }
 
+/// What is chosen for a case under a budget in whole money, from a curve for each line unit in order.
+///
+/// Each curve begins at cost 0, and the stocks of its points are vectors of its family within the limits. Of whatever
+/// points these are the curves, what is chosen is the one plan of these points. Want of memory is the only error.
+pub fn choose_stocks(
+    alloc: Global,
+    case: &Case,
+    curves: &[Curve],
+    budget: u64,
+) -> Result<ChosenStocks, NoMemory>
+    requires budget { budget ≤ 1000000000000000 }
+    requires curves { AreFamilyCurves case.now curves.now }
+    ensures fits { IfOk result (FitsCase case.now) }
+    ensures chosen { IfOk result (IsChosen case.now curves.now budget) }
+{
+    let _sites = case.site_count();
+    let choice = choose(alloc, curves, budget)?;
+    let stocks = stocks_of(alloc, case, curves, choice.picks.as_slice())?;
+    Ok(ChosenStocks {
+        stocks,
+        floors: choice.floors,
+        lower: choice.lower,
+        numbers: choice.numbers,
+    })
+}
+
+/// The answer of what is chosen for a case, from the families' evaluation at its stocks.
+///
+/// Of whatever curves it was chosen, the answer is that of their plan, as [`plan`] gives it with these terms. Want of
+/// memory is the only error.
+pub fn outcome_at(
+    alloc: Global,
+    case: &Case,
+    chosen: ChosenStocks,
+    families: &[FamilyResult<48>],
+    budget: u64,
+    loss: bool,
+    on_hand: Option<u64>,
+) -> Result<Outcome, NoMemory>
+    requires rates { rate_fault_of case.now ≡ None }
+    requires fits { FitsCase case.now chosen }
+    requires families { families.now ≡ families_of 48 case.now chosen.stocks }
+    ensures { IfOk result (λ outcome. (curves : List (List Point)) → IsChosen case.now curves budget chosen
+        → IsPlanOf case.now curves (record { budget = budget; loss = loss; on_hand = on_hand }) outcome) }
+{
+    let _sites = case.site_count();
+    let numbers = chosen.numbers;
+    let mut figures = figures_at::<48>(alloc, case, families, &chosen.stocks)?;
+    figures.cost = numbers.cost;
+    let report = PlanReport {
+        budget,
+        figures,
+        on_hand,
+        loss: aim_of(loss, chosen.lower, numbers.upper),
+        bound: numbers.bound,
+        gap: numbers.gap,
+        rounding: numbers.rounding,
+        price: numbers.price,
+        hull: numbers.hull_cost,
+        critical: line_of(case, numbers.critical, numbers.price),
+    };
+    Ok(Outcome {
+        report,
+        stocks: chosen.stocks,
+        price: numbers.price,
+        floors: List::of(chosen.floors),
+        upper: numbers.upper,
+    })
+}
+
 /// The plan of a case under a budget in whole money, from a curve for each line unit in order.
 ///
 /// Each curve begins at cost 0, and the stocks of its points are vectors of its family within the limits. Of whatever
@@ -87,29 +162,15 @@ pub fn plan(
     ensures { IfOk result (IsPlanOf case.now curves.now (record { budget = budget; loss = loss; on_hand = on_hand })) }
 {
     let _sites = case.site_count();
-    let choice = choose(alloc, curves, budget)?;
-    let numbers = choice.numbers;
-    let stocks = stocks_of(alloc, case, curves, choice.picks.as_slice())?;
-    let families = evaluate_all::<48>(alloc, case, rates, &stocks)?;
-    let mut figures = figures_at::<48>(alloc, case, families.as_slice(), &stocks)?;
-    figures.cost = numbers.cost;
-    let report = PlanReport {
+    let chosen = choose_stocks(alloc, case, curves, budget)?;
+    let families = evaluate_all::<48>(alloc, case, rates, &chosen.stocks)?;
+    outcome_at(
+        alloc,
+        case,
+        chosen,
+        families.as_slice(),
         budget,
-        figures,
+        loss,
         on_hand,
-        loss: aim_of(loss, choice.lower, numbers.upper),
-        bound: numbers.bound,
-        gap: numbers.gap,
-        rounding: numbers.rounding,
-        price: numbers.price,
-        hull: numbers.hull_cost,
-        critical: line_of(case, numbers.critical, numbers.price),
-    };
-    Ok(Outcome {
-        report,
-        stocks,
-        price: numbers.price,
-        floors: List::of(choice.floors),
-        upper: numbers.upper,
-    })
+    )
 }

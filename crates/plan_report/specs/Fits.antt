@@ -7,17 +7,21 @@ use Rattle.plan_report.specs.declared.plan.PlanReport.{PlanReport}
 use Rattle.plan_report.specs.declared.check.CheckReport.{CheckReport}
 use Rattle.plan_report.specs.declared.summary.Summary.{Summary}
 
+-- a number in units of 2^-48 is small enough to be printed
 abbrev pub UnitsFit : ℕ → Type 0
 UnitsFit n = n < 2 ^ 86
 
+-- so is the upper end of an interval
 abbrev pub IntervalFits : Ends → Type 0
 IntervalFits x = UnitsFit x.hi
 
+-- a price is small enough, and its money is from 1 to 10^12
 pub record PriceFits (price : Price) : Type 0 where
   pub p : price.p < 2 ^ 75
   pub money : 0 < price.q
   pub most_money : price.q ≤ 1000000000000
 
+-- the numbers of a plan's report can be printed
 pub record FitsPlan (report : PlanReport) : Type 0 where
   pub figures : FitsPrint report.figures
   pub loss : IfSome report.loss IntervalFits
@@ -26,10 +30,12 @@ pub record FitsPlan (report : PlanReport) : Type 0 where
   pub rounding : UnitsFit report.rounding
   pub price : PriceFits report.price
 
+-- so can those of a check's report
 pub record FitsCheck (report : CheckReport) : Type 0 where
   pub upper : UnitsFit report.upper
   pub bound : UnitsFit report.bound
 
+-- so can those of the demonstration's summary
 pub record FitsSummary (summary : Summary) : Type 0 where
   pub total : IntervalFits summary.total
   pub bound : UnitsFit summary.bound

@@ -32,6 +32,7 @@ millionths_up f n = div_ceil (n * 10 ^ 6) (2 ^ f)
 abbrev pub lower_millionths : ℕ → Ends → ℕ
 lower_millionths f x = millionths_down f x.lo
 
+-- the upper end of an interval in millionths, rounded up
 abbrev pub upper_millionths : ℕ → Ends → ℕ
 upper_millionths f x = millionths_up f x.hi
 
@@ -48,6 +49,7 @@ PrintsOutward f x = (q : Fraction) → In f x q
 abbrev pub down_text : ℕ → List ℕ
 down_text n = fixed_text 6 (millionths_down 48 n)
 
+-- n units of 2^-48 with 6 decimals, rounded up
 abbrev pub up_text : ℕ → List ℕ
 up_text n = fixed_text 6 (millionths_up 48 n)
 
@@ -55,13 +57,16 @@ up_text n = fixed_text 6 (millionths_up 48 n)
 abbrev pub of_units : ℕ → Fraction
 of_units n = whole n /ℚ whole (2 ^ 48)
 
+-- what is printed rounded down is no more than the number
 abbrev pub PrintsBelow : ℕ → Type 0
 PrintsBelow n = text_value 6 (millionths_down 48 n) ≤ℚ of_units n
 
+-- what is printed rounded up is no less than the number
 abbrev pub PrintsAbove : ℕ → Type 0
 PrintsAbove n = of_units n ≤ℚ text_value 6 (millionths_up 48 n)
 
--- a number that is above another by no more than a rounding is printed, rounded down, above it by no more than the printed rounding
+-- a number that is above another by no more than a rounding is printed, rounded down, above it by no more than the
+-- printed rounding
 abbrev pub PrintsWithin : ℕ → ℕ → ℕ → Type 0
 PrintsWithin n m rounding =
     n ≤ m + rounding → millionths_down 48 n ≤ millionths_down 48 m + millionths_up 48 rounding
@@ -77,6 +82,7 @@ price_down price = price.p * 10 ^ 12 / (price.q * 2 ^ 48)
 abbrev pub price_text : Price → List ℕ
 price_text price = fixed_text 12 (price_down price)
 
+-- what is printed of a price is no more than the price
 abbrev pub PrintsPriceBelow : Price → Type 0
 PrintsPriceBelow price = 0 < price.q → text_value 12 (price_down price) ≤ℚ price_value price
 
@@ -102,6 +108,7 @@ single_text report =
 abbrev pub pair_text : ItemLine → List ℕ
 pair_text item = item.part ++ (44 ∷ item.site ++ (44 ∷ decimal item.stock))
 
+-- the four intervals of a pair, each behind a comma
 abbrev pub intervals_text : ItemLine → List ℕ
 intervals_text item =
     44 ∷ span_text item.mean
@@ -124,6 +131,7 @@ stocks_text figures =
     ++ (flat_map base_text figures.bases
     ++ (line (codes "fleet") (span_text figures.fleet) ++ line (codes "total") (span_text figures.total)))
 
+-- the line of the cost
 abbrev pub cost_text : Figures → List ℕ
 cost_text figures = line (codes "cost") (decimal figures.cost)
 
@@ -195,6 +203,7 @@ case_text summary =
     line (codes "demo") (decimal summary.number ++ (44 ∷ decimal summary.lines))
     ++ line (codes "parts") (decimal summary.parts)
 
+-- the lines of a summary that its plan gives: budget, cost, total, bound and gap
 abbrev pub planned_text : Summary → List ℕ
 planned_text summary =
     line (codes "budget") (decimal summary.budget)

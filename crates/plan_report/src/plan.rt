@@ -126,19 +126,34 @@ impl PlanReport {
         put_critical(text, self.critical)
     }
 
-    /// The line `plan,BUDGET`, the lines of given stocks from `cost` to `total`, and the lines `bound,X`, `gap,X`,
-    /// `rounding,X`, `price,X`, `hull,COST` and `critical,PART,COST` or `critical,none`. The bound is rounded down,
-    /// the gap and the rounding up, to 6 decimals; the price is rounded down to 12. Where stocks are on hand,
+    /// How many bytes to make room for before the text is put: most lines of items have fewer than 112, and all other
+    /// lines together fewer than 4,096.
+    pub fn room(&self) -> usize {
+        let lines = self.figures.items.as_slice().len();
+        lines.saturating_mul(112).saturating_add(4_096)
+    }
+
+    /// Appends the line `plan,BUDGET`, the lines of given stocks from `cost` to `total`, and the lines `bound,X`,
+    /// `gap,X`, `rounding,X`, `price,X`, `hull,COST` and `critical,PART,COST` or `critical,none`. The bound is rounded
+    /// down, the gap and the rounding up, to 6 decimals; the price is rounded down to 12. Where stocks are on hand,
     /// `on-hand,COST` stands after `cost`; where there is a loss, `loss,LO,HI` after `total`.
+    pub fn put_text(&self, text: &mut Vec<u8>) -> Result<(), NoMemory>
+        requires { FitsPlan self.now }
+        ensures { OnOk result (text.new.items ≡ text.old.items ++ plan_text self.now) }
+    {
+        put_number_line(text, b"plan", self.budget)?;
+        self.put_gains(text)?;
+        self.put_bounds(text)?;
+        self.put_steps(text)
+    }
+
+    /// The text that [`put_text`](PlanReport::put_text) appends.
     pub fn text(&self, alloc: Global) -> Result<Vec<u8>, NoMemory>
         requires { FitsPlan self.now }
         ensures { IfOk result (λ text. text.items ≡ plan_text self.now) }
     {
-        let mut text = Vec::new(alloc);
-        put_number_line(&mut text, b"plan", self.budget)?;
-        self.put_gains(&mut text)?;
-        self.put_bounds(&mut text)?;
-        self.put_steps(&mut text)?;
+        let mut text = Vec::with_capacity(alloc, self.room())?;
+        self.put_text(&mut text)?;
         Ok(text)
     }
 }

@@ -3,6 +3,7 @@ ghost use Rattle.std.specs.Prelude.{◌≡◌, ◌++◌, ◌∷◌, ◌<◌, ◌
 ghost use Rattle.std.specs.List.{flat_map};
 ghost use Rattle.std.specs.Fmt.{decimal};
 ghost use Rattle.fixed_interval.specs.Ends.{Ends};
+ghost use Rattle.fixed_interval.specs.Text.{fixed_text, last_digits};
 ghost use Rattle.case_figures.specs.Fits.{BaseFits, FitsPrint, ItemFits, SpanFits};
 ghost use Rattle.case_figures.specs.Spans.{ends, places};
 ghost use Rattle.hull.specs.declared.price.Price.{Price};
@@ -21,16 +22,19 @@ ghost use Rattle.plan_report.specs.Texts.{
   intervals_text,
   item_text,
   line,
+  lower_millionths,
   on_hand_text,
   pair_text,
   span_text,
   stocks_text,
   up_text,
+  upper_millionths,
 };
 
 use case_figures::{BaseLine, Figures, ItemLine, Span};
 use fixed_interval::Iv;
-use line_text::{put_count_line, put_number};
+use itoa::Buffer;
+use line_text::{put_count_line, put_fixed, put_number};
 use spares_io::NoMemory;
 
 /// The two numbers that are printed of an interval enclose all that it contains. A number that is printed rounded down
@@ -45,15 +49,66 @@ pub fn prints_outward()
     ensures price { (price : Price) → PrintsPriceBelow price }
 {}
 
+/// A point and the last 6 decimal digits of a number.
+fn decimals(number: u64) -> [u8; 7]
+    ensures { result ≡ 46 ∷ last_digits 6 number }
+{
+    [
+        b'.',
+        b'0' + (number / 100_000 % 10) as u8,
+        b'0' + (number / 10_000 % 10) as u8,
+        b'0' + (number / 1_000 % 10) as u8,
+        b'0' + (number / 100 % 10) as u8,
+        b'0' + (number / 10 % 10) as u8,
+        b'0' + (number % 10) as u8,
+    ]
+}
+
+/// Appends a number of millionths that has 64 bits with 6 decimals.
+fn put_small_millionths(text: &mut Vec<u8>, millionths: u64) -> Result<(), NoMemory>
+    ensures { OnOk result (text.new.items ≡ text.old.items ++ fixed_text 6 millionths) }
+{
+    let mut buffer = Buffer::new();
+    text.extend_from_slice(buffer.format(millionths / 1_000_000).as_bytes())?;
+    text.extend_from_slice(&decimals(millionths))?;
+    Ok(())
+}
+
+/// Appends a number of millionths with 6 decimals.
+fn put_millionths(text: &mut Vec<u8>, millionths: u128) -> Result<(), NoMemory>
+    ensures { OnOk result (text.new.items ≡ text.old.items ++ fixed_text 6 millionths) }
+{
+    if millionths < 1 << 64 {
+        put_small_millionths(text, millionths as u64)
+    } else {
+        put_fixed(text, 6, millionths)
+    }
+}
+
+/// The lower end of an interval in millionths, rounded down.
+fn lower_millionths<const F: u32>(interval: &Iv<F>) -> u128
+    requires { interval.now.hi < 2 ^ 86 }
+    ensures { result ≡ lower_millionths F interval.now }
+{
+    (interval.lo() * 1_000_000) >> F
+}
+
+/// The upper end of an interval in millionths, rounded up.
+fn upper_millionths<const F: u32>(interval: &Iv<F>) -> u128
+    requires { interval.now.hi < 2 ^ 86 }
+    ensures { result ≡ upper_millionths F interval.now }
+{
+    (interval.hi() * 1_000_000).div_ceil(1 << F)
+}
+
 /// Appends both ends of an interval with 6 decimals, the lower one rounded down, the upper one up.
 pub fn put_interval<const F: u32>(text: &mut Vec<u8>, interval: &Iv<F>) -> Result<(), NoMemory>
     requires { interval.now.hi < 2 ^ 86 }
     ensures { OnOk result (text.new.items ≡ text.old.items ++ interval_text F interval.now) }
 {
-    text.extend_from_slice(interval.down_text(6).as_slice())?;
+    put_millionths(text, lower_millionths(interval))?;
     text.push(b',')?;
-    text.extend_from_slice(interval.up_text(6).as_slice())?;
-    Ok(())
+    put_millionths(text, upper_millionths(interval))
 }
 
 /// Appends both ends of an interval of any of the three kinds.

@@ -29,6 +29,7 @@ planned_step : (b : Bool) (n : ℕ) (at : Standing) (broken : Option RateFault) 
     → planned n at broken ≡ (if b then Err (fault.TooManyPlans n) else due_at n at broken)
 planned_step b n at broken h = rw h refl
 
+-- a plan asked for after 64 others is the fault of too many plans
 pub too_many : (n : ℕ) (s : SessionRows) (ds : List PlanDue) (plans : List PlanReport) (broken : Option RateFault) → AllZip IsReportOf ds plans → 64 ≤ length plans
     → planned n (standing s ds) broken ≡ Err (fault.TooManyPlans n)
 too_many n s ds plans broken told many =
@@ -102,9 +103,11 @@ module _ (c : CaseRows) (bytes : List ℕ) (s : SessionRows) (plans : List PlanR
       let now : taken (suc n) (standing s h.ds) text ≡ Err f = ap (λ i. taken i (standing s h.ds) text) (omega (arith, e)) ∙ k in
       at_line ∙ ap (λ r. r >>= session_from (suc (suc n)) (edit_lines left)) now
 
+-- before the first line the session is as started, with no plans
 pub begun : (c : CaseRows) (bytes : List ℕ) (s : SessionRows) (plans : List PlanReport) → s ≡ started c 0 → plans ≡ [] → IsOnItsWay c bytes s plans 0 bytes
 begun c bytes s plans e none = rw (e, none) (record { ds = []; is = refl; told = tt; few = omega arith })
 
+-- a fault where the lines stand is the fault of the whole file
 pub refused_by : (answer : Result (List PlanDue) EditFault) (at : Result Standing EditFault) (s : SessionRows) (plans : List PlanReport) (why : Stop EditFault)
     → ((f : EditFault) → at ≡ Err f → answer ≡ Err f) → Follows {U = Unit {0}} at s plans (Err why) → AnswersEdits answer (Err why)
 refused_by answer at s plans stop.NoMemory h k = tt
@@ -114,6 +117,7 @@ answered : (answer : Result (List PlanDue) EditFault) (ds : List PlanDue) (repor
     → AnswersEdits answer (Ok report)
 answered answer ds report e told = subst (λ (a : Result (List PlanDue) EditFault). AnswersEdits a (Ok report)) (sym e) told
 
+-- behind the last line the plans so far are the answer to the edits
 pub ended : (c : CaseRows) (bytes : List ℕ) (s : SessionRows) (plans : List PlanReport) (n : ℕ) (rest : List ℕ) (report : SessionReport) → IsOnItsWay c bytes s plans n rest
     → length rest ≡ 0 → report.plans ≡ plans → AnswersEdits (session_of c bytes) (Ok report)
 ended c bytes s plans n rest report h none e =

@@ -1,4 +1,7 @@
+pub mod Marking
+pub mod Evaluations
 pub mod Families
 pub mod Keeping
+pub mod Settled
 pub mod Reported
 pub mod Followed

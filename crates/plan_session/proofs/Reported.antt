@@ -40,7 +40,7 @@ zip_from R (x ∷ xs) (y ∷ ys) d e n h = (h 0 (omega arith), zip_from R xs ys 
 module _ (c : CaseRows) (marks : List Bool) (curves : List (List Point)) (kept : AreKept c marks curves) (on : marks ≡ replicate (length (line_units c)) true) where
   each_kept : AllZip (IsFamilyCurve plain_ends c []) (line_units c) curves
   each_kept =
-      zip_from (IsFamilyCurve plain_ends c []) (line_units c) curves 0 [] kept.curve_count
+      zip_from (IsFamilyCurve plain_ends c []) (line_units c) curves 0 [] kept.value_count
       (λ k b. kept.kept k (ap (λ m. has_mark m k) on ∙ get_or-replicate (length (line_units c)) k true false b))
 
   pub serve : AreFamilyCurves c curves
@@ -69,6 +69,7 @@ printed_at (d ∷ due) [] a i e b = absurd a
 printed_at (d ∷ due) (p ∷ plans) a zero e b = report_printed d p a.0
 printed_at (d ∷ due) (p ∷ plans) a (suc i) e b = printed_at due plans a.1 i e (omega (arith, b))
 
+-- the reports of plans that were due can all be printed
 pub all_printed : (due : List PlanDue) (plans : List PlanReport) → AllZip IsReportOf due plans → All FitsPlan plans
 all_printed due plans a i e b = printed_at due plans a i e b
 

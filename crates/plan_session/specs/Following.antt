@@ -19,7 +19,9 @@ pub record HasFollowed (at : Result Standing EditFault) (s : SessionRows) (plans
   pub is : at ≡ Ok (standing s due)
   pub told : AllZip IsReportOf due plans
 
-abbrev pub Follows : {U : Type 0} → Result Standing EditFault → SessionRows → List PlanReport → Result U (Stop EditFault) → Type 0
+-- the session has followed the lines, or the fault is theirs; want of memory is free
+abbrev pub Follows : {U : Type 0} → Result Standing EditFault → SessionRows → List PlanReport
+    → Result U (Stop EditFault) → Type 0
 Follows at s plans (Ok u) = HasFollowed at s plans
 Follows at s plans (Err stop.NoMemory) = ⊤
 Follows at s plans (Err (stop.Fault f)) = at ≡ Err f

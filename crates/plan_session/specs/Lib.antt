@@ -1,3 +1,4 @@
 pub mod Sessions
+pub mod Settling
 pub mod Answers
 pub mod Following

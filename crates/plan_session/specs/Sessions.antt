@@ -6,14 +6,18 @@ use Rattle.spares_io.specs.declared.stop.Stop.{Stop}
 use Rattle.spares_io.specs.declared.stop.Stop.TheVariants as stop
 use Rattle.case_edits.specs.Edits.{PlanDue}
 use Rattle.case_edits.specs.Lines.{most_budget}
+use Rattle.fixed_interval.specs.Ends.{ends_exact}
 use Rattle.spares_input.specs.Rows.{is_line}
 use Rattle.spares_input.specs.Frames.{part_at}
 use Rattle.spares_input.specs.Cases.{CaseRows, IsCase}
 use Rattle.spares_input.specs.Edits.{with_rate}
+use Rattle.spares_input.specs.Stocks.{StockList, IsFor}
 use Rattle.spares_input.specs.declared.rows.RateRow.{RateRow}
 use Rattle.fleet_model.specs.Rows.{line_units}
 use Rattle.demand_rates.specs.Limits.{rate_fault_of}
 use Rattle.demand_rates.specs.declared.fault.RateFault.{RateFault}
+use Rattle.family_eval.specs.declared.item.FamilyResult.{FamilyResult}
+use Rattle.family_eval.specs.Profile.{family_of}
 use Rattle.hull.specs.declared.point.Point.{Point}
 use Rattle.family_curve.specs.Counts.{work_of}
 use Rattle.family_curve.specs.Local.{home_of}
@@ -22,6 +26,7 @@ use Rattle.on_hand.specs.Curves.{IsFamilyCurve}
 use Rattle.on_hand.specs.Work.{IsNothing}
 use Rattle.case_plan.specs.Report.{IsPlanned, Terms}
 use Rattle.plan_report.specs.declared.plan.PlanReport.{PlanReport}
+use Rattle.plan_session.specs.declared.evaluated.Evaluated.{Evaluated}
 
 -- a case, a budget, and for each family in order whether its curve is kept
 pub record SessionRows : Type 0 where
@@ -33,28 +38,49 @@ pub record SessionRows : Type 0 where
 abbrev pub family_place : CaseRows → ℕ → ℕ
 family_place c p = length (filter (λ q. is_line (part_at c.parts q)) (range_with_len 0 (home_of c p)))
 
+-- the curve of family k is kept
 abbrev pub has_mark : List Bool → ℕ → Bool
 has_mark marks k = get_or marks k false
 
--- There is a mark and a curve for each family, and where the mark is on, the curve is that of the family in this case:
--- of its weighted backorders, over all its vectors.
-pub record AreKept (c : CaseRows) (marks : List Bool) (curves : List (List Point)) : Type 0 where
+-- There is a mark and a value for each family, and where the mark is on, the value is the family's.
+pub record AreMarked {X : Type 0} (IsOf : ℕ → X → Type 0) (none : X) (c : CaseRows) (marks : List Bool)
+    (values : List X) : Type 0 where
   pub mark_count : length marks ≡ length (line_units c)
-  pub curve_count : length curves ≡ length (line_units c)
-  pub kept : (k : ℕ) → has_mark marks k ≡ true → IsFamilyCurve plain_ends c [] (get_or (line_units c) k 0) (get_or curves k [])
+  pub value_count : length values ≡ length (line_units c)
+  pub kept : (k : ℕ) → has_mark marks k ≡ true → IsOf (get_or (line_units c) k 0) (get_or values k none)
 
--- what is true of every session with these curves
-pub record IsSession (s : SessionRows) (curves : List (List Point)) : Type 0 where
+-- where the mark is on, the curve is that of the family in this case: of its weighted backorders, over all its vectors
+abbrev pub AreKept : CaseRows → List Bool → List (List Point) → Type 0
+AreKept c marks curves = AreMarked (IsFamilyCurve plain_ends c []) [] c marks curves
+
+-- the evaluation of the family of line unit l at these stocks, and what stands in the place of none
+abbrev pub IsEvaluation : CaseRows → StockList → ℕ → FamilyResult 48 → Type 0
+IsEvaluation c s l family = family ≡ family_of 48 c l s
+
+-- what stands for an evaluation that isn't made
+abbrev pub no_family : FamilyResult 48
+no_family = record { items = []; total = ends_exact 48 0 }
+
+-- The stocks are of the case, and where the mark is on, the evaluation is that of the family in this case at them.
+pub record AreEvaluated (c : CaseRows) (x : Evaluated) : Type 0 where
+  pub is_for : IsFor c x.stocks
+  pub are_marked : AreMarked (IsEvaluation c x.stocks) no_family c x.marks.items x.families.items
+
+-- what is true of every session with these curves and these evaluations
+pub record IsSession (s : SessionRows) (curves : List (List Point)) (evaluated : Evaluated) : Type 0 where
   pub valid : IsCase s.case
   pub work : IsOk (work_of s.case)
   pub budget_most : s.budget ≤ most_budget
   pub are_kept : AreKept s.case s.marks curves
+  pub are_evaluated : AreEvaluated s.case evaluated
 
 -- ---- what the calls make of a session
 
+-- a session at its start: the case and the budget, and no curve kept
 abbrev pub started : CaseRows → ℕ → SessionRows
 started c budget = record { case = c; budget = budget; marks = replicate (length (line_units c)) false }
 
+-- the session under another budget
 abbrev pub with_budget : SessionRows → ℕ → SessionRows
 with_budget s budget = record s { budget = budget }
 

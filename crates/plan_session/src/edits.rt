@@ -30,9 +30,10 @@ const MOST_PLANS: usize = 64;
 
 /// The plans that an edits file asks for, of this case and with a budget that begins at 0, or the file's first fault.
 ///
-/// Its lines are `budget,N`, `plan`, and `rate,` with the fields of a row of rates. They are taken in order, and each plan
-/// is that of the case and the budget as they then are. At each line these are tried in this order: line 4,001; a line
-/// that is none of these; the 65th plan; a plan whose rates are refused. The work of the case is within its limit.
+/// Its lines are `budget,N`, `plan`, and `rate,` with the fields of a row of rates. They are taken in order, and each
+/// plan is that of the case and the budget as they then are. At each line these are tried in this order: line 4,001;
+/// a line that is none of these; the 65th plan; a plan whose rates are refused. The work of the case is within its
+/// limit.
 pub fn run_edits(alloc: Global, case: Case, bytes: &[u8]) -> Result<SessionReport, Stop<EditFault>>
     requires work { IsOk (work_of case) }
     ensures answer { AnswersEdits (session_of case bytes.now) result }
@@ -62,7 +63,8 @@ fn take(
     line: u32,
     text: &[u8],
 ) -> Result<(), Stop<EditFault>>
-    ensures due { (due : List PlanDue) → AllZip IsReportOf due plans.old.items → Follows (taken line (standing session.old due) text.now) session.new plans.new.items result }
+    ensures due { (due : List PlanDue) → AllZip IsReportOf due plans.old.items
+        → Follows (taken line (standing session.old due) text.now) session.new plans.new.items result }
     ensures within { OnOk result (line ≤ most_lines) }
 {
     if line > MOST_LINES {
@@ -85,7 +87,8 @@ fn carry_out(
     edit: Edit,
 ) -> Result<(), Stop<EditFault>>
     requires { IsEditOf (frame_rows session.old.case) edit }
-    ensures { (due : List PlanDue) → AllZip IsReportOf due plans.old.items → Follows (carried line (standing session.old due) edit) session.new plans.new.items result }
+    ensures { (due : List PlanDue) → AllZip IsReportOf due plans.old.items
+        → Follows (carried line (standing session.old due) edit) session.new plans.new.items result }
 {
     match edit {
         Edit::Budget(budget) => session.set_budget(budget),
@@ -102,7 +105,8 @@ fn put_plan(
     line: u32,
 ) -> Result<(), Stop<EditFault>>
     ensures { (due : List PlanDue) → AllZip IsReportOf due plans.old.items
-        → Follows (planned line (standing session.old due) (rate_fault_of session.old.case)) session.new plans.new.items result }
+        → Follows (planned line (standing session.old due) (rate_fault_of session.old.case)) session.new plans.new.items
+        result }
 {
     if plans.len() >= MOST_PLANS {
         return Err(Stop::Fault(EditFault::TooManyPlans(line)));

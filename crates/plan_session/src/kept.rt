@@ -43,7 +43,7 @@ fn placeholders(alloc: Global, count: usize) -> Result<Vec<Curve>, NoMemory>
 }
 
 /// How many line units stand before a part.
-fn lines_before(case: &Case, part: u16) -> usize
+pub(crate) fn lines_before(case: &Case, part: u16) -> usize
     requires { part ≤ length case.now.parts }
     ensures count { result ≡ length (lines_below case.now part) }
     ensures few { result ≤ part }

@@ -15,14 +15,22 @@ pub struct SessionReport {
     pub plans: List<PlanReport>,
 }
 
+/// How many bytes to make room for before the texts of plans are put.
+fn room_of(plans: &[PlanReport]) -> usize {
+    let mut room: usize = 0;
+    for plan in plans {
+        room = room.saturating_add(plan.room());
+    }
+    room
+}
+
 /// Appends the texts of plans.
-fn put_plans(text: &mut Vec<u8>, alloc: Global, plans: &[PlanReport]) -> Result<(), NoMemory>
+fn put_plans(text: &mut Vec<u8>, plans: &[PlanReport]) -> Result<(), NoMemory>
     requires { All FitsPlan plans.now }
     ensures { OnOk result (text.new.items ≡ text.old.items ++ flat_map plan_text plans.now) }
 {
     for plan in plans {
-        let lines = plan.text(alloc)?;
-        text.extend_from_slice(lines.as_slice())?;
+        plan.put_text(text)?;
     }
     Ok(())
 }
@@ -33,8 +41,9 @@ impl SessionReport {
         requires { All FitsPlan self.now.plans }
         ensures { IfOk result (λ text. text.items ≡ flat_map plan_text self.now.plans) }
     {
-        let mut text = Vec::new(alloc);
-        put_plans(&mut text, alloc, self.plans.as_slice())?;
+        let plans = self.plans.as_slice();
+        let mut text = Vec::with_capacity(alloc, room_of(plans))?;
+        put_plans(&mut text, plans)?;
         Ok(text)
     }
 }

@@ -1,4 +1,4 @@
-//! The case and the budget of a session, with the curves that are kept.
+//! The case and the budget of a session, with the curves and the evaluations that are kept.
 
 ghost use Rattle.std.specs.Prelude.{◌≡◌, ◌<◌, ◌≤◌, [], true, not, length, get_or, replicate, is_none, IfOk, IfSome};
 ghost use Rattle.std.specs.Result.{IsOk};
@@ -10,8 +10,9 @@ ghost use Rattle.on_hand.specs.Curves.{IsFamilyCurve};
 ghost use Rattle.case_edits.specs.Lines.{most_budget};
 ghost use Rattle.plan_session.specs.Sessions.{due, has_mark, started, with_budget, with_row, AnswersPlan, IsLater};
 
+use crate::evaluated::{Evaluated, evaluate_at, nothing_evaluated};
 use crate::kept::{keep_all, nothing_kept, place_of};
-use case_plan::plan;
+use case_plan::{choose_stocks, outcome_at};
 use demand_rates::{RateFault, rates};
 use hull::Curve;
 use plan_report::PlanReport;
@@ -20,16 +21,17 @@ use spares_io::{NoMemory, Stop};
 use std::alloc::Global;
 use std::marker::Model;
 
-/// A case and a budget, with the curves of the families that are marked.
+/// A case and a budget, with the curves of the families that are marked, and with what was evaluated for the last plan.
 ///
-/// It is seen as its case, its budget and one mark for each family, which is on where the family's curve is kept. Where a
-/// mark is off, what stands in the curve's place is a curve of no meaning.
+/// It is seen as its case, its budget and one mark for each family, which is on where the family's curve is kept.
+/// Where a mark is off, what stands in the curve's place is a curve of no meaning.
 #[derive(Drop)]
 pub struct Session {
     case: Case,
     budget: u64,
     curves: Vec<Curve>,
     marks: Vec<bool>,
+    evaluated: Evaluated,
 }
 
 impl Model for Session {
@@ -39,7 +41,11 @@ impl Model for Session {
 
     ghost view = { λ s. record { case = s.case; budget = s.budget; marks = s.marks.items } };
 
-    ghost invariant = { λ s. IsSession (record { case = s.case; budget = s.budget; marks = s.marks.items }) s.curves.items };
+    ghost invariant = { λ s. IsSession (record {
+      case = s.case;
+      budget = s.budget;
+      marks = s.marks.items;
+    }) s.curves.items s.evaluated };
 }
 
 impl Session {
@@ -50,11 +56,13 @@ impl Session {
         ensures { IfOk result (λ s. s ≡ started case budget) }
     {
         let (curves, marks) = nothing_kept(alloc, &case)?;
+        let evaluated = nothing_evaluated(alloc, &case)?;
         Ok(Session {
             case,
             budget,
             curves,
             marks,
+            evaluated,
         })
     }
 
@@ -67,6 +75,7 @@ impl Session {
     }
 
     /// Puts a row in the place of its pair's row, and turns off the mark of the family of its part. All else stays.
+    /// What was evaluated for this family is forgotten.
     pub fn set_rate(&mut self, row: RateRow)
         requires { IsRateOf (frame_rows self.old.case) row }
         ensures { self.new ≡ with_row self.old row }
@@ -74,6 +83,7 @@ impl Session {
         let place = place_of(&self.case, row.part);
         self.case.set_rate(row);
         self.marks[place] = false;
+        self.evaluated.marks[place] = false;
     }
 
     /// The plan of the case as it is under the budget as it is, or the first rule that its rates break.
@@ -92,7 +102,17 @@ impl Session {
         };
         keep_all(alloc, &self.case, &rates, &mut self.curves, &mut self.marks)?;
         let curves = self.curves.as_slice();
-        let outcome = plan(alloc, &self.case, &rates, curves, self.budget, false, None)?;
+        let chosen = choose_stocks(alloc, &self.case, curves, self.budget)?;
+        evaluate_at(
+            alloc,
+            &self.case,
+            &rates,
+            &chosen.stocks,
+            &mut self.evaluated,
+        )?;
+        let families = self.evaluated.families.as_slice();
+        let budget = self.budget;
+        let outcome = outcome_at(alloc, &self.case, chosen, families, budget, false, None)?;
         Ok(outcome.report)
     }
 
@@ -108,7 +128,8 @@ impl Session {
     pub fn curve(&self, family: u32) -> Option<&Curve>
         requires { family < length (line_units self.now.case) }
         ensures mark { is_none result ≡ not (has_mark self.now.marks family) }
-        ensures curve { IfSome result (λ c. IsFamilyCurve plain_ends self.now.case [] (get_or (line_units self.now.case) family 0) c.now) }
+        ensures curve { IfSome result (λ c. IsFamilyCurve plain_ends self.now.case []
+            (get_or (line_units self.now.case) family 0) c.now) }
     {
         let place = family as usize;
         if self.marks[place] {

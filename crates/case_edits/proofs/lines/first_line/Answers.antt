@@ -1,6 +1,5 @@
-use Rattle.std.proofs.Common.{◌∷◌, ◌+◌, ◌-◌, length, take, drop, sym, ap, ◌∙◌, arith}
+use Rattle.std.proofs.Common.{◌-◌, length, take, drop, sym, ◌∙◌, arith}
 use Rattle.std.proofs.lemmas.List.{length-take}
-use Rattle.case_edits.specs.Lines.{edit_lines}
 use Rattle.case_edits.proofs.LineFacts.{after_feed, first_ended, last_body}
 use Rattle.case_edits.proofs.lines.first_line.Goals as goal
 

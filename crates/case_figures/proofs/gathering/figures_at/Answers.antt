@@ -16,7 +16,7 @@ use Rattle.case_figures.specs.Figures.{named}
 use Rattle.case_figures.specs.Shows.{ShowsFigures}
 use Rattle.case_figures.specs.Gathering.{IsItemOf, IsFamilyOf, weighted_from, base_line_from, items_by_pair}
 use Rattle.case_figures.proofs.Families.{are_families, are_all_items, few_families, items_made, made}
-use Rattle.case_figures.proofs.Shown.{few_places, evaluated_as, figures_shown, figures_fit}
+use Rattle.case_figures.proofs.Shown.{width_in_scale, evaluated_as, figures_shown, figures_fit}
 use Rattle.case_figures.proofs.gathering.figures_at.Goals as goal
 
 families_of_case : (f : ℕ) (c : CaseRows) (t : StockList) (rs : List (FamilyResult f)) → CanEvaluate f c t → rs ≡ families_of f c t → All (IsFamilyOf f c) rs
@@ -76,7 +76,7 @@ fleet-requires g c =
       (
         lit< tt,
         (
-          few_places f c.requires.width,
+          width_in_scale f c.requires.width,
           (
             omega (arith, count, valid.frame.fewest_sites),
             (

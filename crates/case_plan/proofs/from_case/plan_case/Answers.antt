@@ -1,4 +1,4 @@
-use Rattle.std.proofs.Common.{List, [], IfOk, Result, Ok, Err, sym, subst}
+use Rattle.std.proofs.Common.{List, IfOk, Result, Ok, Err, sym, subst}
 use Rattle.hull.specs.declared.point.Point.{Point}
 use Rattle.marginal_alloc.specs.Choice.{AreCurves}
 use Rattle.fleet_plan.specs.Families.{case_points}

@@ -1,7 +1,7 @@
 use Rattle.std.proofs.Common.{ℕ, ◌*◌, ◌^◌, ◌<◌, lit<, arith}
 use Rattle.std.proofs.Math.Nat.{le_refl, mul-pos}
 use Rattle.exact_model.specs.Fraction.{whole, ◌/ℚ◌, ◌≈◌}
-use Rattle.exact_model.proofs.Fractions.{over, same, le-same, turned, ◌≈≈◌}
+use Rattle.exact_model.proofs.Fractions.{over, same, le_same, turned, ◌≈≈◌}
 use Rattle.fixed_interval.specs.Ends.{In}
 use Rattle.fixed_interval.proofs.Laws.{ceil_above, down_below, up_above, ratio_below, quotient_is}
 use Rattle.case_figures.specs.Spans.{ends, places}
@@ -20,16 +20,16 @@ alone : (n : ℕ) → In 48 (record { lo = n; hi = n }) (over n (2 ^ 48) some)
 alone n = record { low = le_refl (n * 2 ^ 48); high = le_refl (n * 2 ^ 48) }
 
 below : (n : ℕ) → PrintsBelow n
-below n = le-same (same _) (turned (parts_of n (2 ^ 48) some)) (down_below 48 6 (record { lo = n; hi = n }) (over n (2 ^ 48) some) (alone n))
+below n = le_same (same _) (turned (parts_of n (2 ^ 48) some)) (down_below 48 6 (record { lo = n; hi = n }) (over n (2 ^ 48) some) (alone n))
 
 above : (n : ℕ) → PrintsAbove n
-above n = le-same (turned (parts_of n (2 ^ 48) some)) (same _) (up_above 48 6 (record { lo = n; hi = n }) (over n (2 ^ 48) some) (alone n))
+above n = le_same (turned (parts_of n (2 ^ 48) some)) (same _) (up_above 48 6 (record { lo = n; hi = n }) (over n (2 ^ 48) some) (alone n))
 
 within : (n m rounding : ℕ) → PrintsWithin n m rounding
 within n m rounding h = (let up = ceil_above (rounding * 10 ^ 6) (2 ^ 48) some in omega (arith, h, up))
 
 price_below : (price : Price) → PrintsPriceBelow price
-price_below price h = le-same (same _) (turned (parts_of price.p (price.q * 2 ^ 48) (mul-pos h some))) (ratio_below price.p (price.q * 2 ^ 48) 12 (mul-pos h some))
+price_below price h = le_same (same _) (turned (parts_of price.p (price.q * 2 ^ 48) (mul-pos h some))) (ratio_below price.p (price.q * 2 ^ 48) 12 (mul-pos h some))
 
 pub returns : goal.returns
 returns c = record {

@@ -1,6 +1,9 @@
-use Rattle.std.proofs.Common.{◌≤◌}
-use Rattle.plan_session.proofs.Keeping.{AreKeptTo}
+use Rattle.std.proofs.Common.{◌≤◌, []}
+use Rattle.fleet_plan.specs.Laws.{plain_ends}
+use Rattle.on_hand.specs.Curves.{IsFamilyCurve}
+use Rattle.plan_session.proofs.Marking.{AreMarkedTo}
 use Rattle.plan_session.proofs.kept.keep_all.Given as goal
 
 abbrev pub invariant-loop-p : goal.invariant-loop-p
-invariant-loop-p l = AreKeptTo l.fn.case l.fn.marks l.marks l.curves l.p l.place × (l.place ≤ l.p)
+invariant-loop-p l =
+    AreMarkedTo (IsFamilyCurve plain_ends l.fn.case []) [] l.fn.case l.fn.marks l.marks l.curves l.p l.place × (l.place ≤ l.p)

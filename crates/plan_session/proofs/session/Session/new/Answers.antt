@@ -1,6 +1,8 @@
-use Rattle.std.proofs.Common.{subst}
+use Rattle.std.proofs.Common.{[], subst}
 use Rattle.spares_input.specs.Cases.{IsCase}
-use Rattle.plan_session.proofs.Keeping.{unkept}
+use Rattle.fleet_plan.specs.Laws.{plain_ends}
+use Rattle.on_hand.specs.Curves.{IsFamilyCurve}
+use Rattle.plan_session.proofs.Marking.{unkept}
 use Rattle.plan_session.proofs.session.Session.new.Goals as goal
 
 pub invariant_of-result : goal.invariant_of-result
@@ -8,5 +10,7 @@ invariant_of-result c = record {
   valid = subst IsCase c.case.view_is c.case.invariant;
   work = c.requires.work;
   budget_most = c.requires.budget;
-  are_kept = unkept c.args.case c.in_ok-curves.marks.items c.in_ok-curves.curves.items c.in_ok-curves.ensures.marks c.in_ok-curves.ensures.curves;
+  are_kept = unkept (IsFamilyCurve plain_ends c.args.case []) [] c.args.case c.in_ok-curves.marks.items c.in_ok-curves.curves.items
+      c.in_ok-curves.ensures.marks c.in_ok-curves.ensures.curves;
+  are_evaluated = c.in_ok-evaluated.ensures;
 }

@@ -2,14 +2,14 @@ use Rattle.std.proofs.Common.{List, sym, subst, ◌∙◌, arith}
 use Rattle.hull.specs.declared.point.Point.{Point}
 use Rattle.case_plan.specs.Report.{AreFamilyCurves, IsPlanOf}
 use Rattle.plan_session.specs.Sessions.{due, plain_terms, IsReportOf, SessionRows}
-use Rattle.plan_session.proofs.Keeping.{written}
+use Rattle.plan_session.proofs.Marking.{written}
 use Rattle.plan_session.proofs.Reported.{reported, serve}
 use Rattle.plan_session.proofs.session.Session.plan.Goals as goal
 
-pub plan-requires-clause-curves : goal.plan-requires-clause-curves
-plan-requires-clause-curves c =
+pub choose_stocks-requires-clause-curves : goal.choose_stocks-requires-clause-curves
+choose_stocks-requires-clause-curves c =
     let all = written c.self.inside.curves.len c.keep_all.new.curves c.self.inside.curves.items
-    (let n = c.keep_all.ensures.kept.curve_count in let m = c.self.invariant.are_kept.curve_count in let k = c.self.inside.curves.ok.0 in omega (arith, n, m, k))
+    (let n = c.keep_all.ensures.kept.value_count in let m = c.self.invariant.are_kept.value_count in let k = c.self.inside.curves.ok.0 in omega (arith, n, m, k))
     (sym c.self.inside.curves.ok.0) in
     subst (λ (z : List (List Point)). AreFamilyCurves c.self.inside.case z) (sym (c.as_slice-curves.ensures.value ∙ all))
     (serve c.self.inside.case c.keep_all.new.marks c.keep_all.new.curves c.keep_all.ensures.kept c.in_ok-keep_all.ensures.on)
@@ -17,7 +17,7 @@ plan-requires-clause-curves c =
 pub invariant_of-self-2 : goal.invariant_of-self-2
 invariant_of-self-2 c =
     let all = written c.self.inside.curves.len c.keep_all.new.curves c.self.inside.curves.items
-    (let n = c.keep_all.ensures.kept.curve_count in let m = c.self.invariant.are_kept.curve_count in let k = c.self.inside.curves.ok.0 in omega (arith, n, m, k))
+    (let n = c.keep_all.ensures.kept.value_count in let m = c.self.invariant.are_kept.value_count in let k = c.self.inside.curves.ok.0 in omega (arith, n, m, k))
     (sym c.self.inside.curves.ok.0) in
     let marks = written c.self.inside.marks.len c.keep_all.new.marks c.self.inside.marks.items
     (let n = c.keep_all.ensures.kept.mark_count in let m = c.self.invariant.are_kept.mark_count in let k = c.self.inside.marks.ok.0 in omega (arith, n, m, k))
@@ -27,14 +27,16 @@ invariant_of-self-2 c =
       work = c.self.invariant.work;
       budget_most = c.self.invariant.budget_most;
       are_kept = c.keep_all.ensures.kept;
+      are_evaluated = c.evaluate_at.ensures.kept;
     })
 
 pub returns-clause-answer : goal.returns-clause-answer
 returns-clause-answer c =
     let all = written c.self.inside.curves.len c.keep_all.new.curves c.self.inside.curves.items
-    (let n = c.keep_all.ensures.kept.curve_count in let m = c.self.invariant.are_kept.curve_count in let k = c.self.inside.curves.ok.0 in omega (arith, n, m, k))
+    (let n = c.keep_all.ensures.kept.value_count in let m = c.self.invariant.are_kept.value_count in let k = c.self.inside.curves.ok.0 in omega (arith, n, m, k))
     (sym c.self.inside.curves.ok.0) in
     subst (λ (s : SessionRows). IsReportOf (due s) c.in_ok-outcome.outcome.report) c.self.view_is
     (reported c.self.inside.case c.keep_all.new.marks c.keep_all.new.curves c.keep_all.ensures.kept c.in_ok-keep_all.ensures.on c.self.inside.budget c.in_ok-outcome.outcome
     (record { valid = c.self.invariant.valid; no_fault = c.in-Ok.ensures.model.no_fault })
-    (subst (λ (z : List (List Point)). IsPlanOf c.self.inside.case z (plain_terms c.self.inside.budget) c.in_ok-outcome.outcome) (c.as_slice-curves.ensures.value ∙ all) c.in_ok-outcome.ensures))
+    (subst (λ (z : List (List Point)). IsPlanOf c.self.inside.case z (plain_terms c.self.inside.budget) c.in_ok-outcome.outcome) (c.as_slice-curves.ensures.value ∙ all)
+    (c.in_ok-outcome.ensures c.as_slice-curves.result.now c.in_ok-chosen.ensures.chosen)))

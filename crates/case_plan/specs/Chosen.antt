@@ -1,0 +1,29 @@
+-- What is chosen for a case, before it is evaluated.
+use Rattle.std.specs.Prelude.{◌≡◌, ◌^◌, ◌<◌, ◌≤◌, ℕ, List, IfSome, length}
+use Rattle.hull.specs.declared.point.Point.{Point}
+use Rattle.spares_input.specs.Cases.{CaseRows}
+use Rattle.spares_input.specs.Stocks.{IsFor, IsWithinLimits}
+use Rattle.fleet_model.specs.Rows.{line_units}
+use Rattle.price_bounds.specs.Sums.{lo_of}
+use Rattle.price_bounds.specs.Soundness.{stocks_of}
+use Rattle.marginal_alloc.specs.Choice.{AreCurves}
+use Rattle.marginal_alloc.specs.Plans.{IsPlan}
+use Rattle.fleet_plan.specs.Families.{vectors_at}
+use Rattle.case_plan.specs.declared.chosen.ChosenStocks.{ChosenStocks}
+
+-- The stocks are of the case and within its limits, and the numbers have room in a report.
+pub record FitsCase (c : CaseRows) (x : ChosenStocks) : Type 0 where
+  pub is_for : IsFor c x.stocks
+  pub limits : IsWithinLimits c x.stocks
+  pub ordered : x.lower ≤ x.numbers.upper
+  pub room : x.numbers.upper < 2 ^ 86
+  pub critical : IfSome x.numbers.critical (λ step. step.family < length (line_units c))
+
+-- There is a vertex of each curve, and the stocks are theirs. Of whatever points these are the curves, the plan of
+-- these points under this budget has these vertices.
+pub record IsChosen (c : CaseRows) (curves : List (List Point)) (budget : ℕ) (x : ChosenStocks) : Type 0 where
+  pub vertices : List Point
+  pub is_plan : (families : List (List Point)) → AreCurves families curves
+      → IsPlan families budget vertices x.floors.items x.numbers
+  pub stocks_are : vectors_at c x.stocks.list ≡ stocks_of vertices
+  pub lower_is : x.lower ≡ lo_of vertices
