@@ -58,6 +58,19 @@ fault,edit-rate,3|\nrate,L,B,10000,0,,0\nplan\nx
 fault,edit,3|\nrate,L,B,10000,0,,0\nx
 ROWS
 
+# rates that the model doesn't take are looked at where a plan is asked for, and edits may mend them before
+mended() {
+  rm -rf "$room/mended"
+  cp -r "$one" "$room/mended"
+  printf 'part,site,demand,repair_here,share,repair_days\nL,D,,,,20\nL,B,10000,0,,0\n' >"$room/mended/rates.csv"
+  printf '%b' "$5" >"$room/mended/edits.csv"
+  sessions "$1" "$2" "$3" "$4" "$room/mended"
+}
+mended 'refused rates that no plan uses' 0 '' '' 'budget,250\n'
+mended 'refused rates that edits mend' 0 "$under_250" '' 'budget,250\nrate,L,B,36.5,0,,0\nplan\n'
+mended 'refused rates at the first plan' 3 '' 'fault,edit-rate,2\n' 'budget,250\nplan\n'
+mended 'a bad line before refused rates' 3 '' 'fault,edit,1\n' 'x\nplan\n'
+
 # the shipped fleet: each plan is that of `plan` on tables with the same rates
 cat >"$room/changes.py" <<'CHANGES'
 import csv, pathlib, subprocess, sys, tempfile
@@ -89,7 +102,7 @@ check 'a session without edits' 2 '' 'fault,words\n' session "${tables[@]}"
 check 'a session under a budget' 2 '' 'fault,words\n' session "${tables[@]}" --edits "$one/stocks.csv" --budget 1
 for folder in "$one" "$shop"; do printf 'plan\n' >"$folder/edits.csv"; done
 tries_files sessions "$of_nothing" sites parts rates
-refused_tables | tries_tables sessions
+tries_tables sessions < <(refused_tables | sed 's/|fault,thin-pipeline,.*/|fault,edit-rate,1/')
 tables_of "$one"
 check 'no edits to read' 5 '' 'fault,read,edits\n' session "${tables[@]}" --edits "$one/none.csv"
 { printf 'plan\n'; yes '' | head -c 4194304; } >"$room/long.csv"

@@ -62,7 +62,8 @@ pub record StockedCase : Type 0 where
   pub case : CaseRows
   pub stocks : StockList
 
--- the case and the stocks of four tables, the fourth of which this file is, where the model takes all pipelines of the case
+-- the case and the stocks of four tables, the fourth of which this file is, where the model takes all pipelines of
+-- the case
 unfoldable pub stocked_of : File → List ℕ → List ℕ → List ℕ → List ℕ → Result StockedCase Failure
 stocked_of file sites_bytes parts_bytes rates_bytes stocks_bytes = do
   case ← case_of_tables sites_bytes parts_bytes rates_bytes

@@ -1,4 +1,5 @@
-//! From the bytes of tables to a case, its stocks and its rates, or to the first refusal, with the names of the case at hand.
+//! From the bytes of tables to a case, its stocks and its rates, or to the first refusal, with the names of the case
+//! at hand.
 #![tactic(auto)]
 
 ghost use Rattle.std.specs.Prelude.{◌≤◌, IfOk, length};
@@ -67,8 +68,16 @@ fn case_in(alloc: Global, frame: Frame, bytes: &[u8]) -> Result<Case, Stop<Failu
     }
 }
 
-/// The case of three tables.
-fn case_of(alloc: Global, sites: &[u8], parts: &[u8], rates: &[u8]) -> Result<Case, Stop<Failure>>
+/// The case of three tables: sites, parts and rates. Whether the model takes its rates isn't looked at.
+///
+/// The answer is the first refusal: `Table` of the sites, `Table` of the parts, `Case` of the two, `Table` of the
+/// rates, or `Case` of the three.
+pub fn case_of(
+    alloc: Global,
+    sites: &[u8],
+    parts: &[u8],
+    rates: &[u8],
+) -> Result<Case, Stop<Failure>>
     requires sites { length sites.now ≤ table_limit }
     requires parts { length parts.now ≤ table_limit }
     requires rates { length rates.now ≤ table_limit }
@@ -129,8 +138,8 @@ pub struct Accepted {
 
 /// The case of three tables: sites, parts and rates, with its rates.
 ///
-/// The answer is the first refusal: `Table` of the sites, `Table` of the parts, `Case` of the two, `Table` of the rates, `Case`
-/// of the three, or `Rate` where a pipeline is beyond the model's limits.
+/// The answer is the first refusal: `Table` of the sites, `Table` of the parts, `Case` of the two, `Table` of the
+/// rates, `Case` of the three, or `Rate` where a pipeline is beyond the model's limits.
 #[tactic(auto, unfolding(crate::specs::Tables::accepted_of))]
 pub fn accepted_of(
     alloc: Global,

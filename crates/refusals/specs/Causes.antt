@@ -18,6 +18,7 @@ pub data Kind : Type 0 where
   of_memory : Kind
   of_task : Kind
 
+-- what a refusal is of
 abbrev pub kind_of : Refusal → Kind
 kind_of (refusal.Words fault) = of_words fault
 kind_of (refusal.ReadFault file) = of_reading file

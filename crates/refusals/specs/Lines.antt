@@ -1,5 +1,5 @@
 -- The line of a refusal. Fields are parted by commas (44), and the line ends with a line feed (10).
-use Rattle.std.specs.Prelude.{◌≡◌, ℕ, List, [], ◌∷◌, ◌++◌, codes, Option, Some, None, Result, Ok, Err}
+use Rattle.std.specs.Prelude.{◌≡◌, ℕ, List, [], ◌∷◌, ◌++◌, codes, Option, Some, None}
 use Rattle.std.specs.Fmt.{decimal}
 use Rattle.case_edits.specs.declared.fault.EditFault.{EditFault}
 use Rattle.case_edits.specs.declared.fault.EditFault.TheVariants as edit
@@ -38,6 +38,7 @@ abbrev pub names_of : Option FrameRows → FrameRows
 names_of None = no_names
 names_of (Some frame) = frame
 
+-- the word for a number that the words give
 abbrev pub which_text : Which → List ℕ
 which_text which.Mean = codes "mean"
 which_text which.Stock = codes "stock"
@@ -50,6 +51,7 @@ which_text which.Number = codes "number"
 which_text which.Lines = codes "lines"
 which_text which.Target = codes "target"
 
+-- the word for a file
 abbrev pub file_text : File → List ℕ
 file_text file.Sites = codes "sites"
 file_text file.Parts = codes "parts"
@@ -72,11 +74,13 @@ abbrev pub place_text : FrameRows → Place → List ℕ
 place_text names Single = codes "single"
 place_text names (Pair part site) = pair_text names part site
 
+-- a fault of the words: their shape, or a number by its name
 abbrev pub words_text : WordsFault → List ℕ
 words_text Shape = codes "words"
 words_text (Number which fault) = codes "number," ++ which_text which
 words_text (Range which) = codes "range," ++ which_text which
 
+-- a fault of a table: its file, and the row and the column where it has them
 abbrev pub table_text : File → TableFault → List ℕ
 table_text file table.NoHeader = codes "no-header," ++ file_text file
 table_text file (table.FieldCount row found) = codes "field-count," ++ (file_text file ++ (number_field row ++ number_field found))
@@ -93,6 +97,7 @@ table_text file (table.BadNumber row column fault) =
     codes "bad-number," ++ (file_text file ++ (number_field row ++ number_field column))
 table_text file (table.OutOfRange row column) = codes "out-of-range," ++ (file_text file ++ (number_field row ++ number_field column))
 
+-- a rule of a case that is broken: the row, or the pair by its names
 abbrev pub case_text : FrameRows → CaseFault → List ℕ
 case_text names (case.DoubleSite row) = codes "double-site" ++ number_field row
 case_text names (case.TwoDepots row) = codes "two-depots" ++ number_field row
@@ -105,20 +110,24 @@ case_text names (case.TooManyShopUnits row) = codes "too-many-shop-units" ++ num
 case_text names (case.DoubleRate row) = codes "double-rate" ++ number_field row
 case_text names (case.MissingRate part site) = codes "missing-rate," ++ pair_text names part site
 
+-- a rule of stocks that is broken: the row, or the pair by its names
 abbrev pub stock_text : FrameRows → StockFault → List ℕ
 stock_text names (stock.OverLimit row) = codes "over-limit" ++ number_field row
 stock_text names (stock.Double row) = codes "double-stock" ++ number_field row
 stock_text names (stock.Missing part site) = codes "missing-stock," ++ pair_text names part site
 
+-- a pipeline that the model can't take, by the names of its pair
 abbrev pub rate_text : FrameRows → RateFault → List ℕ
 rate_text names (ThinPipeline place direct) = codes "thin-pipeline," ++ place_text names place
 rate_text names (PipelineTooLarge place mean) = codes "pipeline-too-large," ++ place_text names place
 rate_text names (PipelineRatio place mean direct) = codes "pipeline-ratio," ++ place_text names place
 
+-- a fault of a certificate: its first bad line, or a case that breaks a rule
 abbrev pub cert_text : CertFault → List ℕ
 cert_text (cert.BadLine line) = codes "bad-line" ++ number_field line
 cert_text (cert.BadCase fault) = codes "bad-case"
 
+-- why a certificate is rejected, with the numbers that show it
 abbrev pub reject_text : FrameRows → Reject → List ℕ
 reject_text names (reject.Rate fault) = codes "rejected,rate"
 reject_text names (reject.CoverGap family) = codes "rejected,cover-gap" ++ number_field family
@@ -142,6 +151,7 @@ edit_text (edit.BadLine line) = codes "edit" ++ number_field line
 edit_text (edit.TooManyPlans line) = codes "edit-plans" ++ number_field line
 edit_text (edit.Rate line fault) = codes "edit-rate" ++ number_field line
 
+-- the fields of a refusal's line
 abbrev pub refusal_text : FrameRows → Refusal → List ℕ
 refusal_text names (refusal.Words fault) = words_text fault
 refusal_text names (refusal.ReadFault file) = codes "read," ++ file_text file

@@ -68,7 +68,8 @@ impl Line {
     /// Appends what was wrong and where.
     pub(crate) fn push_refusal(&mut self, frame: Option<&Frame>, refusal: &Refusal)
         requires { length self.old ≤ 6 }
-        ensures text { self.new ≡ self.old ++ refusal_text (names_of (option_map (λ f. f.now) frame.entry)) refusal.now }
+        ensures text { self.new ≡ self.old ++ refusal_text
+            (names_of (option_map (λ f. f.now) frame.entry)) refusal.now }
         ensures short { length self.new ≤ 159 }
     {
         match refusal {

@@ -119,7 +119,8 @@ impl Line {
     pub(crate) fn push_at_field(&mut self, head: &'static [u8], file: File, row: u32, number: u32)
         requires old { length self.old ≤ 6 }
         requires head { length head.now ≤ 16 }
-        ensures text { self.new ≡ self.old ++ (head.now ++ (file_text file ++ (number_field row ++ number_field number))) }
+        ensures text { self.new ≡ self.old ++ (head.now
+            ++ (file_text file ++ (number_field row ++ number_field number))) }
         ensures short { length self.new ≤ 159 }
     {
         self.push_in_file(head, file, row);

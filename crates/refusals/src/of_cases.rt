@@ -35,7 +35,8 @@ impl Line {
     )
         requires old { length self.old ≤ 6 }
         requires head { length head.now ≤ 20 }
-        ensures text { self.new ≡ self.old ++ (head.now ++ pair_text (names_of (option_map (λ f. f.now) frame.entry)) part site) }
+        ensures text { self.new ≡ self.old ++ (head.now
+            ++ pair_text (names_of (option_map (λ f. f.now) frame.entry)) part site) }
         ensures short { length self.new ≤ 159 }
     {
         self.push_all(head);
@@ -83,7 +84,8 @@ impl Line {
     pub(crate) fn push_place(&mut self, head: &'static [u8], frame: Option<&Frame>, place: Place)
         requires old { length self.old ≤ 6 }
         requires head { length head.now ≤ 20 }
-        ensures text { self.new ≡ self.old ++ (head.now ++ place_text (names_of (option_map (λ f. f.now) frame.entry)) place) }
+        ensures text { self.new ≡ self.old ++ (head.now
+            ++ place_text (names_of (option_map (λ f. f.now) frame.entry)) place) }
         ensures short { length self.new ≤ 159 }
     {
         match place {

@@ -43,7 +43,8 @@ impl Line {
     )
         requires old { length self.old ≤ 6 }
         requires head { length head.now ≤ 28 }
-        ensures text { self.new ≡ self.old ++ (head.now ++ (pair_text (names_of (option_map (λ f. f.now) frame.entry)) part site ++ number_field stock)) }
+        ensures text { self.new ≡ self.old ++ (head.now
+            ++ (pair_text (names_of (option_map (λ f. f.now) frame.entry)) part site ++ number_field stock)) }
         ensures short { length self.new ≤ 159 }
     {
         self.push_all(head);
@@ -67,7 +68,8 @@ impl Line {
     fn push_floor(&mut self, head: &'static [u8], family: u32, floor: u128, least: u128)
         requires old { length self.old ≤ 6 }
         requires head { length head.now ≤ 24 }
-        ensures text { self.new ≡ self.old ++ (head.now ++ (number_field family ++ (number_field floor ++ number_field least))) }
+        ensures text { self.new ≡ self.old ++ (head.now
+            ++ (number_field family ++ (number_field floor ++ number_field least))) }
         ensures short { length self.new ≤ 159 }
     {
         self.push_all(head);
@@ -80,7 +82,8 @@ impl Line {
     fn push_leaf(&mut self, head: &'static [u8], family: u32, leaf: u32, floor: u128, least: u128)
         requires old { length self.old ≤ 6 }
         requires head { length head.now ≤ 24 }
-        ensures text { self.new ≡ self.old ++ (head.now ++ (number_field family ++ (number_field leaf ++ (number_field floor ++ number_field least)))) }
+        ensures text { self.new ≡ self.old ++ (head.now
+            ++ (number_field family ++ (number_field leaf ++ (number_field floor ++ number_field least)))) }
         ensures short { length self.new ≤ 159 }
     {
         self.push_all(head);

@@ -1,12 +1,11 @@
 -- What a session makes is what its task asks for, and it is true.
-use Rattle.std.proofs.Common.{◌≡◌, refl, Option, Some, None, Result, Ok, Err, ℕ, List, [], ◌∷◌}
+use Rattle.std.proofs.Common.{◌≡◌, refl, Result, Ok, Err, ℕ, List, [], ◌∷◌}
 use Rattle.std.specs.List.{AllZip}
 use Rattle.std.specs.Prelude.{All}
 use Rattle.case_edits.specs.Edits.{PlanDue, session_of}
 use Rattle.case_edits.specs.declared.fault.EditFault.{EditFault}
 use Rattle.case_plan.proofs.Truths.{plain_true, planned_true}
 use Rattle.case_tables.proofs.Refuse.{Refuses, is_of_task}
-use Rattle.case_tables.specs.Answers.{Tells}
 use Rattle.fleet_model.specs.Aims.{weighted_backorders}
 use Rattle.fleet_plan.proofs.Plain.{plain_encloses}
 use Rattle.fleet_plan.specs.Laws.{plain_ends}
@@ -21,14 +20,15 @@ use Rattle.refusals.specs.Lines.{no_names}
 use Rattle.refusals.specs.declared.failure.Failure.{Failure}
 use Rattle.refusals.specs.declared.refusal.Refusal.TheVariants as refusal
 use Rattle.spares_input.specs.Cases.{CaseRows}
+use Rattle.spares_io.specs.Answers.{Gives}
 use Rattle.spares_io.specs.Steps.{◌>>=◌}
 use Rattle.spares_io.specs.declared.stop.Stop.{Stop}
 use Rattle.spares_io.specs.declared.stop.Stop.TheVariants as stop
+use Rattle.demonstration.proofs.Told.{zeros_hold}
 use Rattle.spares_top.specs.Headline.{IsTrueAnswer}
 use Rattle.spares_top.specs.Making.{Is, IsMade, MakesBy}
 use Rattle.spares_top.specs.Task.{Task, plan_in_turn, printed}
 use Rattle.spares_top.specs.declared.done.Done.TheVariants.{Session}
-use Rattle.spares_top.proofs.Planned.{zeros_hold}
 use Rattle.spares_top.proofs.Shown.{span_prints}
 
 -- the report of a plan is true of its case and budget
@@ -75,6 +75,6 @@ module _ (c : CaseRows) (edits : List ℕ) (given : Result CaseRows Failure) (is
   refused_edits fault e = (rw (is_given, e) refl, tt)
 
 -- what isn't given isn't edited
-pub unedited : (given : Result CaseRows Failure) (edits : List ℕ) (e : Stop Failure) → Refuses given → Tells given (Err e) → MakesBy (Is (asked given edits)) (Err e)
+pub unedited : (given : Result CaseRows Failure) (edits : List ℕ) (e : Stop Failure) → Refuses given → Gives given (Err e) → MakesBy (Is (asked given edits)) (Err e)
 unedited given edits stop.NoMemory r h = tt
 unedited given edits (stop.Fault failure) r h = (rw h refl, rw (is_of_task given failure r h) tt)

@@ -1,17 +1,12 @@
 -- What a check confirms.
-use Rattle.std.proofs.Common.{◌≡◌, ◌∙◌, ap, arith, refl, subst, sym, Bool, true, false, Option, Some, None, Result, Ok, Err, ℕ, ◌^◌, ◌<◌, ◌≤◌, List, if◌then◌else◌}
+use Rattle.std.proofs.Common.{◌≡◌, ap, arith, refl, subst, sym, Bool, true, false, Option, Some, None, Ok, Err, ℕ, List, if◌then◌else◌}
 use Rattle.spares_input.specs.Cases.{CaseRows, frame_rows}
 use Rattle.spares_input.specs.First.{unless}
 use Rattle.spares_input.specs.Stocks.{StockList}
-use Rattle.spares_io.specs.Answers.{Gives}
-use Rattle.spares_io.specs.Steps.{◌>>=◌}
 use Rattle.spares_io.specs.declared.stop.Stop.{Stop}
 use Rattle.spares_io.specs.declared.stop.Stop.TheVariants as stop
-use Rattle.price_certificate.specs.Certificates.{IsWellFormed}
-use Rattle.price_certificate.specs.declared.certificate.Certificate.{Certificate}
 use Rattle.price_certificate.specs.declared.certificate.Objective.{Objective}
 use Rattle.price_certificate.specs.declared.certificate.Objective.TheVariants.{Backorders}
-use Rattle.price_certificate.specs.declared.fault.CertFault.{CertFault}
 use Rattle.case_plan.specs.Truth.{NoneHasLessThanPrinted}
 use Rattle.certified_bounds.specs.Laws.{claims_of}
 use Rattle.certified_bounds.proofs.Accepted.{accepted_true, plain_true}
@@ -37,12 +32,12 @@ use Rattle.spares_top.specs.Task.{check_task, confirm}
 use Rattle.spares_top.specs.declared.done.Done.TheVariants.{Checked}
 use Rattle.spares_top.proofs.Stops.{claimed_refuses}
 use Rattle.spares_top.specs.Checking.{IsClaim, TellsClaim, claimed_by}
-use Rattle.spares_top.specs.Checks.{Claimed, check_of, claimed_of, form_of, judged_of}
+use Rattle.spares_top.specs.Checks.{check_of, claimed_of, form_of, judged_of}
 use Rattle.spares_top.specs.Held.{held_in}
 use Rattle.spares_top.specs.declared.check.Claim.{Claim}
 
 -- what is held of a claim is what its certificate says, or nothing
-held_by : (c : CaseRows) (held : StockList) (on_hand : Bool) → (on_hand ≡ false → held ≡ nothing_held c) → held_in c (if on_hand then Some held else None) ≡ held
+pub held_by : (c : CaseRows) (held : StockList) (on_hand : Bool) → (on_hand ≡ false → held ≡ nothing_held c) → held_in c (if on_hand then Some held else None) ≡ held
 held_by c held true h = refl
 held_by c held false h = sym (h refl)
 
@@ -54,7 +49,8 @@ none_by : (r : Option Reject) (a b : Accepted) → unless r a ≡ Ok b → r ≡
 none_by None a b e = refl
 none_by (Some reject) a b e = grind (arith, e)
 
-off_by : (held : StockList) (on_hand : Bool) → (if on_hand then Some held else None) ≡ None → on_hand ≡ false
+-- with no list of stocks on hand the flag for it is off
+pub off_by : (held : StockList) (on_hand : Bool) → (if on_hand then Some held else None) ≡ None → on_hand ≡ false
 off_by held false e = refl
 off_by held true e = grind (arith, e)
 
@@ -122,6 +118,7 @@ none_claimed : (bytes : List ℕ) (failure : Failure) → or_refuse no_names ref
 unfolding claimed_of
 none_claimed bytes failure e = rw e refl
 
+-- bytes that are no certificate of either form are refused as the check's task says
 pub unclaimed : (bytes : List ℕ) (e : Stop Failure) → TellsClaim (form_of bytes) (Err e) → MakesBy (Is (check_task bytes)) (Err e)
 unclaimed bytes stop.NoMemory h = tt
 unclaimed bytes (stop.Fault failure) h =

@@ -1,11 +1,10 @@
 -- What a demonstration shows.
-use Rattle.std.proofs.Common.{◌≡◌, refl, subst, sym, ℕ, ◌≤◌, Result, Ok, None}
-use Rattle.std.specs.Result.{IsOk}
+use Rattle.std.proofs.Common.{refl, subst, sym, ℕ, ◌≤◌, Ok}
 use Rattle.exact_model.specs.Fraction.{Encloses}
 use Rattle.spares_input.specs.Cases.{CaseRows}
 use Rattle.case_maker.specs.Demonstration.{made}
-use Rattle.case_maker.proofs.Valid.{made-valid}
-use Rattle.case_maker.proofs.Whole.{made-drawn}
+use Rattle.case_maker.proofs.Valid.{made_valid}
+use Rattle.case_maker.proofs.Whole.{made_drawn}
 use Rattle.case_plan.specs.Report.{report_of}
 use Rattle.case_plan.specs.Truth.{IsTruePlanReport}
 use Rattle.case_plan.proofs.Nothing.{from_nothing}
@@ -13,7 +12,7 @@ use Rattle.case_plan.proofs.Truths.{plain_true}
 use Rattle.certified_plan.specs.Laws.{IsPlanOn}
 use Rattle.certified_plan.proofs.Accepted.{accepted}
 use Rattle.certified_plan.proofs.Zeros.{none_is_held}
-use Rattle.demo_accepts.proofs.Accepted.{no-fault}
+use Rattle.demo_accepts.proofs.Accepted.{faultless}
 use Rattle.demonstration.specs.Demonstrations.{IsDemonstrated, budget_of, demo_terms, report_terms}
 use Rattle.demonstration.proofs.Told.{are_terms, demo_work, zeros_hold}
 use Rattle.fleet_model.specs.Fleet.{total}
@@ -25,7 +24,7 @@ use Rattle.plan_report.specs.Fits.{FitsSummary}
 use Rattle.plan_report.specs.declared.summary.Summary.{Summary}
 use Rattle.spares_top.specs.Headline.{IsTrueDemo}
 use Rattle.spares_top.specs.Making.{Is, IsMade}
-use Rattle.spares_top.specs.Task.{Task, demonstrate, printed}
+use Rattle.spares_top.specs.Task.{demonstrate, printed}
 use Rattle.spares_top.specs.declared.done.Done.TheVariants.{Demo}
 
 module _ (number lines : ℕ) (few : lines ≤ 80) (summary : Summary) (h : IsDemonstrated number lines summary) where
@@ -36,7 +35,7 @@ module _ (number lines : ℕ) (few : lines ≤ 80) (summary : Summary) (h : IsDe
   plan = h.plan
 
   is_accepted : IsAcceptedCase case
-  is_accepted = record { valid = made-valid number lines few; no_fault = no-fault case (made-valid number lines few) (made-drawn number lines) }
+  is_accepted = record { valid = made_valid number lines few; no_fault = faultless case (made_valid number lines few) (made_drawn number lines) }
 
   on_plan : IsPlanOn case (nothing_held case) (demo_terms (budget_of lines)) plan
   on_plan = record { accepted = is_accepted; are_terms = are_terms lines few; is_held = none_is_held case; plan = h.is_plan }

@@ -1,19 +1,13 @@
 -- What a plan makes is what its task asks for, and it is true.
-use Rattle.std.proofs.Common.{◌≡◌, ◌∙◌, ap, ap₂, arith, refl, subst, sym, Bool, true, false, Option, Some, None, Result, Ok, Err, ℕ, ◌<◌, ◌≤◌, List, length, if◌then◌else◌}
-use Rattle.std.specs.Option.{option_map}
-use Rattle.std.proofs.lemmas.List.{get_or-replicate, length-replicate}
-use Rattle.exact_model.specs.Fraction.{Fraction}
-use Rattle.spares_input.specs.Cases.{CaseRows, IsCase, frame_rows, pair_count}
-use Rattle.spares_input.specs.Stocks.{StockList, IsFor, IsWithinLimits, cost_of}
-use Rattle.spares_io.specs.Steps.{◌>>=◌}
-use Rattle.case_figures.specs.Shows.{ShowsSpan}
-use Rattle.case_figures.specs.declared.figures.Span.{Span}
+use Rattle.std.proofs.Common.{◌≡◌, ◌∙◌, ap, ap₂, refl, subst, sym, Bool, true, false, Option, Some, None, Result, Ok, ℕ, ◌≤◌, List, length, if◌then◌else◌}
+use Rattle.spares_input.specs.Cases.{CaseRows, IsCase}
+use Rattle.spares_input.specs.Stocks.{StockList, IsFor, IsWithinLimits}
 use Rattle.case_plan.specs.Report.{IsOutcome, IsPlanned, outcome_of, report_of}
 use Rattle.case_plan.specs.Truth.{IsTruePlanReport, IsTrueReport}
 use Rattle.case_plan.specs.declared.outcome.Outcome as plans
 use Rattle.case_plan.proofs.Truths.{plain_true, planned_true, report_fits}
 use Rattle.certified_plan.specs.Certificates.{certificate_of, claims_of, text_of}
-use Rattle.certified_plan.specs.Inputs.{AreClaims, AreTerms, IsHeld}
+use Rattle.certified_plan.specs.Inputs.{AreClaims, AreTerms}
 use Rattle.certified_plan.specs.declared.terms.PlanClaims.{PlanClaims}
 use Rattle.certified_plan.specs.declared.terms.Terms.{Terms}
 use Rattle.certified_plan.proofs.Formed.{plan_claims}
@@ -28,13 +22,12 @@ use Rattle.certified_plan.proofs.Scores.{scores_enclose, scores_leave_room}
 use Rattle.certified_plan.proofs.Short.{held_short, text_short}
 use Rattle.fleet_plan.specs.Laws.{IsAcceptedCase}
 use Rattle.fleet_plan.specs.Plans.{CasePlan, IsCasePlan}
-use Rattle.gap_checker.specs.Refusals.{judged, reject_of}
+use Rattle.gap_checker.specs.Refusals.{reject_of}
 use Rattle.gap_checker.specs.Soundness.{nothing_held}
 use Rattle.price_certificate.specs.declared.certificate.Objective.{Objective}
-use Rattle.price_certificate.specs.declared.certificate.Objective.TheVariants.{Backorders, LogAvailability}
+use Rattle.price_certificate.specs.declared.certificate.Objective.TheVariants.{Backorders}
 use Rattle.on_hand.specs.Work.{IsNothing, held_work_of}
 use Rattle.family_curve.specs.Points.{ScoreEnds}
-use Rattle.fleet_plan.specs.Laws.{plain_ends}
 use Rattle.on_hand.specs.Held.{IsWellHeld, held_text}
 use Rattle.on_hand.specs.declared.held.HeldCertificate.{HeldCertificate}
 use Rattle.on_hand.proofs.Inverse as held_inverse
@@ -42,6 +35,7 @@ use Rattle.on_hand.proofs.Refused.{held_form, plain_form}
 use Rattle.price_certificate.specs.Certificates.{IsWellFormed, cert_text}
 use Rattle.price_certificate.specs.declared.certificate.Certificate.{Certificate}
 use Rattle.price_certificate.proofs.Inverse.{again}
+use Rattle.demonstration.proofs.Told.{zeros_hold}
 use Rattle.spares_top.specs.Files.{certificate_limit}
 use Rattle.spares_top.specs.Making.{Is, IsMade}
 use Rattle.spares_top.specs.Task.{make_plan}
@@ -54,19 +48,9 @@ use Rattle.spares_top.specs.Planning.{IsGround, planning_on}
 use Rattle.spares_top.specs.Plans.{Planning, certificate_text, held_of, plan_certificate, plan_terms, planned}
 use Rattle.spares_top.specs.declared.plan.Ground.{Ground}
 use Rattle.spares_top.proofs.Shown.{span_prints}
+use Rattle.spares_top.proofs.Confirmed.{held_by, off_by}
 
 -- ---- what is held
-
-pub zeros_hold : (c : CaseRows) → IsNothing (nothing_held c).list
-zeros_hold c i d b = get_or-replicate (pair_count (frame_rows c)) i 0 d (subst (λ n. i < n) (length-replicate {A = ℕ} (pair_count (frame_rows c)) 0) b)
-
-held_by : (c : CaseRows) (held : StockList) (on_hand : Bool) → (on_hand ≡ false → held ≡ nothing_held c) → held_in c (if on_hand then Some held else None) ≡ held
-held_by c held true h = refl
-held_by c held false h = sym (h refl)
-
-off_by : (held : StockList) (on_hand : Bool) → (if on_hand then Some held else None) ≡ None → on_hand ≡ false
-off_by held false e = refl
-off_by held true e = grind (arith, e)
 
 -- ---- the certificate's text is read back
 

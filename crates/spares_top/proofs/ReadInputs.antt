@@ -83,6 +83,7 @@ stops_of_work told before now (i ∷ is) failure (inl u) = subst (λ (f : Failur
 stops_of_work told before now (i ∷ is) failure (inr (inl l)) = subst (λ (f : Failure). IsOfWork (kind_of f.refusal)) (sym l.0) tt
 stops_of_work told before now (i ∷ is) failure (inr (inr h)) = stops_of_work told before now is failure h.1.1
 
+-- what stops the reading of inputs is a refusal of the kind that reading a file has
 pub stops_kind : (told : Option Files) (before now : List ℕ → ℕ) (inputs : List Input) (failure : Failure) → StopsAt told before now inputs failure
     → (file : File) × (kind_of failure.refusal ≡ of_reading file)
 stops_kind told before now [] failure h = absurd h

@@ -41,9 +41,11 @@ span_prints bits x value h =
       below_high = λ n deep. up_above (places x) 6 (ends x) (value n) (e n deep);
     }
 
+-- the report of figures shows what the figures show, and its decimals too
 pub case_shown : (bits : ℕ) (c : CaseRows) (s : StockList) (figures : Figures) → ShowsFigures bits c s figures
     → ShowsCase bits c s (record { bits = bits; figures = figures })
 case_shown bits c s figures h = record { bits_are = refl; shows = h; prints = span_prints bits }
 
+-- a comparison that shows the two columns is true of them, as are its printed decimals
 pub comparison_true : (c : CaseRows) (s : StockList) (report : CompareReport) → ShowsComparison c s report → IsTrueComparison c s report
 comparison_true c s report h = record { says = h; prints = shown }

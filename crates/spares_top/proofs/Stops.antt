@@ -1,5 +1,5 @@
 -- Where what a command works on isn't given, its task is refused; and such refusals are of the task.
-use Rattle.std.proofs.Common.{◌≡◌, ap, refl, subst, sym, Option, Some, None, Result, Ok, Err, MatchResult, ℕ, List}
+use Rattle.std.proofs.Common.{ap, refl, sym, Option, Some, None, Result, Ok, Err, ℕ, List}
 use Rattle.spares_input.specs.Cases.{CaseRows, frame_rows}
 use Rattle.family_curve.specs.Counts.{work_of}
 use Rattle.on_hand.specs.Work.{held_work_of}
@@ -7,25 +7,33 @@ use Rattle.certified_plan.specs.declared.terms.Terms.{Terms}
 use Rattle.spares_io.specs.Steps.{◌>>=◌}
 use Rattle.spares_io.specs.declared.stop.Stop.{Stop}
 use Rattle.spares_io.specs.declared.stop.Stop.TheVariants as stop
-use Rattle.refusals.specs.Causes.{of_task, kind_of, or_refuse}
+use Rattle.refusals.specs.Causes.{or_refuse}
 use Rattle.refusals.specs.Lines.{no_names}
 use Rattle.refusals.specs.declared.failure.Failure.{Failure}
 use Rattle.refusals.specs.declared.refusal.File.TheVariants as file
 use Rattle.refusals.specs.declared.refusal.Refusal.TheVariants as refusal
 use Rattle.case_tables.specs.Answers.{Tells, TellsStocked}
-use Rattle.case_tables.specs.Tables.{StockedCase, accepted_of, stocked_of}
-use Rattle.case_tables.proofs.Refuse.{Refuses, accepted_refuses, is_of_task, or_refuses, stocked_refuses, then_refuses}
-use Rattle.spares_top.specs.Checks.{Claimed, claimed_of, form_of, judged_of}
+use Rattle.case_tables.specs.Tables.{StockedCase, accepted_of, case_of_tables, stocked_of}
+use Rattle.case_tables.proofs.Refuse.{Refuses, accepted_refuses, is_of_task, or_refuses, stocked_refuses, tables_refuse, then_refuses}
+use Rattle.spares_top.specs.Checks.{claimed_of, form_of, judged_of}
 use Rattle.spares_top.specs.Making.{Evaluates, Is, MakesBy}
 use Rattle.spares_top.specs.Planning.{TellsGround}
-use Rattle.spares_top.specs.Plans.{Planning, case_within_work, planning_of}
+use Rattle.spares_top.specs.Plans.{Planning, case_to_edit, case_within_work, planning_of}
 use Rattle.spares_top.specs.Task.{Task, eval_task, evaluate, make_plan, set_beside}
 
+-- what refuses a case's tables or its work is a refusal of the task
 pub within_work_refuses : (sites parts rates : List ℕ) → Refuses (case_within_work sites parts rates)
 within_work_refuses sites parts rates =
     then_refuses (accepted_of sites parts rates) _ (accepted_refuses sites parts rates) (λ case.
     then_refuses (or_refuse no_names refusal.Work (work_of case)) _ (or_refuses no_names refusal.Work (work_of case) (λ count. refl)) (λ work. tt))
 
+-- a case to edit that isn't given is refused
+pub to_edit_refuses : (sites parts rates : List ℕ) → Refuses (case_to_edit sites parts rates)
+to_edit_refuses sites parts rates =
+    then_refuses (case_of_tables sites parts rates) _ (tables_refuse sites parts rates) (λ case.
+    then_refuses (or_refuse no_names refusal.Work (work_of case)) _ (or_refuses no_names refusal.Work (work_of case) (λ count. refl)) (λ work. tt))
+
+-- what refuses the tables of a plan, or its work, is a refusal of the task
 pub planning_refuses : (sites parts rates : List ℕ) (on_hand : Option (List ℕ)) (terms : Terms) → Refuses (planning_of sites parts rates on_hand terms)
 planning_refuses sites parts rates None terms =
     then_refuses (case_within_work sites parts rates) _ (within_work_refuses sites parts rates) (λ case. tt)
@@ -34,6 +42,7 @@ planning_refuses sites parts rates (Some stocks) terms =
     then_refuses (or_refuse no_names refusal.Work (held_work_of given.case given.stocks.list)) _
     (or_refuses no_names refusal.Work (held_work_of given.case given.stocks.list) (λ count. refl)) (λ work. tt))
 
+-- what refuses a certificate, by its form or by a rule, is a refusal of the task
 pub claimed_refuses : (bytes : List ℕ) → Refuses (claimed_of bytes)
 unfolding claimed_of
 claimed_refuses bytes =

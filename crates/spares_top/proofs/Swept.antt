@@ -15,7 +15,7 @@ use Rattle.spares_input.specs.Cases.{CaseRows}
 use Rattle.spares_io.specs.Steps.{◌>>=◌}
 use Rattle.spares_top.specs.Headline.{IsTruePrice, IsTrueSweep}
 use Rattle.spares_top.specs.Making.{Is, IsMade}
-use Rattle.spares_top.specs.Task.{Task, price_target, printed, sweep_budgets}
+use Rattle.spares_top.specs.Task.{price_target, printed, sweep_budgets}
 use Rattle.spares_top.specs.declared.done.Done.TheVariants.{Priced, Swept}
 
 module _ (c : CaseRows) (accepted : IsAcceptedCase c) (given : Result CaseRows Failure) (is_given : given ≡ Ok c) where

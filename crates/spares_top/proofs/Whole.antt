@@ -27,20 +27,19 @@ use Rattle.spares_input.specs.Cases.{CaseRows}
 use Rattle.std.proofs.lemmas.List.Elements.{All-cons}
 use Rattle.refusals.specs.declared.refusal.File.{File}
 use Rattle.spares_top.specs.Files.{AllGave, case_in, certificate_in, if_named, table_in, Reads, StandStill, StopsAt, inputs, inputs_of, output_of, reads}
-use Rattle.spares_top.specs.Headline.{IsTrue}
 use Rattle.spares_top.specs.Making.{AreWithin, ComesOf, Delivers, Is, IsMade, MakesBy}
 use Rattle.spares_top.specs.Promises.{Completes, Errors, NoneFailed, Performs, PutsLine, Runs, Serves}
 use Rattle.spares_top.specs.Reading.{IsReadable, ReadsGive}
 use Rattle.spares_top.specs.State.{HasDelivered, HasFailed, HasFailedToWrite, IsUntouched, Scene, after_write}
 use Rattle.spares_top.specs.Checks.{claimed_of}
-use Rattle.spares_top.specs.Plans.{case_within_work, planning_of}
+use Rattle.spares_top.specs.Plans.{case_to_edit, case_within_work, planning_of}
 use Rattle.spares_top.specs.Task.{Fulfils, Task, confirm, demonstrate, evaluate, make_plan, plan_in_turn, price_target, set_beside, show_pipeline, sweep_budgets, bytes_at, task_of, task_on, task_on_words, unless_refused}
 use Rattle.spares_top.specs.Texts.{text_of}
 use Rattle.spares_top.proofs.ReadInputs.{none_is, read_is, stops_kind, stops_of_work}
 use Rattle.case_tables.specs.Tables.{stocked_of}
 use Rattle.case_edits.specs.Edits.{session_of}
 use Rattle.case_tables.proofs.Refuse.{Refuses, is_of_task, or_refuses, stocked_refuses, then_refuses}
-use Rattle.spares_top.proofs.Stops.{claimed_refuses, planning_refuses, within_work_refuses}
+use Rattle.spares_top.proofs.Stops.{claimed_refuses, planning_refuses, to_edit_refuses, within_work_refuses}
 
 -- ---- refusals
 
@@ -64,7 +63,7 @@ task_refuses (order.Sweep sites parts rates) bytes =
 task_refuses (order.Target sites parts rates backorders) bytes =
     then_refuses (case_within_work (bytes_at bytes 0) (bytes_at bytes 1) (bytes_at bytes 2)) _ (within_work_refuses (bytes_at bytes 0) (bytes_at bytes 1) (bytes_at bytes 2)) (λ case. tt)
 task_refuses (order.Session sites parts rates edits) bytes =
-    then_refuses (case_within_work (bytes_at bytes 0) (bytes_at bytes 1) (bytes_at bytes 2)) _ (within_work_refuses (bytes_at bytes 0) (bytes_at bytes 1) (bytes_at bytes 2)) (λ case.
+    then_refuses (case_to_edit (bytes_at bytes 0) (bytes_at bytes 1) (bytes_at bytes 2)) _ (to_edit_refuses (bytes_at bytes 0) (bytes_at bytes 1) (bytes_at bytes 2)) (λ case.
     then_refuses (or_refuse no_names refusal.Edit (session_of case (bytes_at bytes 3))) _ (or_refuses no_names refusal.Edit (session_of case (bytes_at bytes 3)) (λ fault. refl)) (λ due. tt))
 task_refuses (order.Compare sites parts rates stocks) bytes =
     then_refuses (stocked_of file.Stocks (bytes_at bytes 0) (bytes_at bytes 1) (bytes_at bytes 2) (bytes_at bytes 3)) _
@@ -149,7 +148,7 @@ task_named (order.Sweep sites parts rates) bytes task e =
 task_named (order.Target sites parts rates backorders) bytes task e =
     then_named (case_within_work (bytes_at bytes 0) (bytes_at bytes 1) (bytes_at bytes 2)) (λ case. price_target case backorders) None task (λ case. refl) e
 task_named (order.Session sites parts rates edits) bytes task e =
-    session_named (case_within_work (bytes_at bytes 0) (bytes_at bytes 1) (bytes_at bytes 2)) (bytes_at bytes 3) task e
+    session_named (case_to_edit (bytes_at bytes 0) (bytes_at bytes 1) (bytes_at bytes 2)) (bytes_at bytes 3) task e
 task_named (order.Compare sites parts rates stocks) bytes task e =
     then_named (stocked_of file.Stocks (bytes_at bytes 0) (bytes_at bytes 1) (bytes_at bytes 2) (bytes_at bytes 3))
     (λ stocked. set_beside stocked.case stocked.stocks) None task (λ stocked. refl) e
@@ -190,6 +189,7 @@ case_readable sites parts rates more h =
 certificate_readable : (name : List ℕ) → IsReadable (certificate_in name)
 certificate_readable name = omega arith
 
+-- the inputs of each order have limits below 2^32 bytes
 pub are_readable : (o : Order) → All IsReadable (inputs o)
 are_readable (order.Single mean variance stock) = none_readable
 are_readable (order.Eval sites parts rates stocks bits) = case_readable sites parts rates (if_named file.Stocks (Some stocks)) (named_readable file.Stocks (Some stocks))
@@ -366,6 +366,7 @@ module _ (order : Result Order WordsFault) (old new : Scene) (held : Files) (fai
 
 -- ---- run
 
+-- what an order performs with a report is a run, where nothing is put to the place for refusals
 pub done : (words : List (List ℕ)) (old new : Scene) (before after : Errors) (report : Done) → Performs (order_of words) old new (Ok report)
     → after.bytes ≡ before.bytes → after.faults ≡ before.faults → Runs words old new before after (Ok report)
 done words old new before after report h b f = record {
@@ -375,6 +376,7 @@ done words old new before after report h b f = record {
   puts = (b, f);
 }
 
+-- what an order performs with a failure is a run, where the failure's line is put there
 pub refused : (words : List (List ℕ)) (old new : Scene) (before after : Errors) (failure : Failure) → Performs (order_of words) old new (Err failure)
     → PutsLine failure.line before.bytes before.faults after.bytes after.faults → Runs words old new before after (Err failure.refusal)
 refused words old new before after failure h puts = record {

@@ -12,8 +12,8 @@ use Rattle.spares_top.specs.Headline.{IsTrue}
 use Rattle.spares_top.specs.State.{HasDelivered, HasFailed, IsUntouched, Scene}
 use Rattle.spares_top.specs.Task.{Fulfils, Task, task_on_words}
 
--- The bytes that the inputs of an order gave. Where the shelf tells what it holds, these are the bytes that it holds; where it doesn't,
--- they are some bytes, and all that is said of one answer is said of the same ones.
+-- The bytes that the inputs of an order gave. Where the shelf tells what it holds, these are the bytes that it holds;
+-- where it doesn't, they are some bytes, and all that is said of one answer is said of the same ones.
 pub record HaveGiven (order : Result Order WordsFault) (old new : Scene) (bytes : List (List ℕ)) : Type 0 where
   pub reads : Reads old.held old.read_faults new.read_faults (inputs_of order) (Ok bytes)
 
@@ -34,7 +34,8 @@ pub record IsDone (order : Result Order WordsFault) (old new : Scene) (done : Do
   pub delivered : HasDelivered outcome old new
 
 -- the words give no order
-pub record IsWordless (order : Result Order WordsFault) (fault : WordsFault) (old new : Scene) (failure : Failure) : Type 0 where
+pub record IsWordless (order : Result Order WordsFault) (fault : WordsFault) (old new : Scene) (failure : Failure) :
+    Type 0 where
   pub order_is : order ≡ Err fault
   pub failure_is : failure ≡ plain_failure (refusal.Words fault)
   pub untouched : IsUntouched old new

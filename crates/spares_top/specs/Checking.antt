@@ -1,5 +1,5 @@
 -- How the calls that check answer. No promise of the top rests on these words.
-use Rattle.std.specs.Prelude.{◌≡◌, ⊤, false, Option, Some, None, Result, Ok, Err, if◌then◌else◌}
+use Rattle.std.specs.Prelude.{◌≡◌, ⊤, false, Some, None, Result, Ok, Err, if◌then◌else◌}
 use Rattle.gap_checker.specs.Soundness.{nothing_held}
 use Rattle.price_certificate.specs.Certificates.{IsWellFormed}
 use Rattle.price_certificate.specs.declared.fault.CertFault.{CertFault}

@@ -27,10 +27,12 @@ pub record Claimed : Type 0 where
 
 -- ---- what bytes claim
 
+-- a held certificate as what is claimed, with the stocks on hand that it begins with
 abbrev pub with_held : Result HeldCertificate CertFault → Result Claimed CertFault
 with_held (Ok h) = Ok (record { certificate = h.certificate; on_hand = Some h.held })
 with_held (Err fault) = Err fault
 
+-- a certificate as what is claimed, with no stocks on hand
 abbrev pub with_nothing : Result Certificate CertFault → Result Claimed CertFault
 with_nothing (Ok cert) = Ok (record { certificate = cert; on_hand = None })
 with_nothing (Err fault) = Err fault
@@ -51,6 +53,7 @@ claimed_of bytes = do
 
 -- ---- the report
 
+-- the report of a check: format, budget, cost, upper end and bound as they are claimed
 abbrev pub check_of : Claimed → CheckReport
 check_of x = record {
   format = x.certificate.format;

@@ -39,7 +39,8 @@ if_named file (Some name) = table_in file name ∷ []
 abbrev pub inputs : Order → List Input
 inputs (order.Single mean variance stock) = []
 inputs (order.Eval sites parts rates stocks bits) = case_in sites parts rates (if_named Stocks (Some stocks))
-inputs (order.Plan sites parts rates on_hand budget format objective certificate) = case_in sites parts rates (if_named OnHand on_hand)
+inputs (order.Plan sites parts rates on_hand budget format objective certificate) =
+    case_in sites parts rates (if_named OnHand on_hand)
 inputs (order.Check certificate) = certificate_in certificate ∷ []
 inputs (order.Demo number lines) = []
 inputs (order.Sweep sites parts rates) = case_in sites parts rates []
@@ -47,6 +48,7 @@ inputs (order.Target sites parts rates backorders) = case_in sites parts rates [
 inputs (order.Session sites parts rates edits) = case_in sites parts rates (if_named Edits (Some edits))
 inputs (order.Compare sites parts rates stocks) = case_in sites parts rates (if_named Stocks (Some stocks))
 
+-- the inputs of the words' order; words with a fault read none
 abbrev pub inputs_of : Result Order WordsFault → List Input
 inputs_of (Ok o) = inputs o
 inputs_of (Err fault) = []
@@ -86,10 +88,12 @@ reads held (input ∷ rest) = do
 abbrev pub StandStill : (List ℕ → ℕ) → (List ℕ → ℕ) → Type 0
 StandStill before now = (name : List ℕ) → now name ≡ before name
 
--- these bytes are what an input gave: they are within its limit and, where the shelf tells what it holds, they are what its name holds
+-- these bytes are what an input gave: they are within its limit and, where the shelf tells what it holds, they are
+-- what its name holds
 abbrev pub Gave : Option Files → Input → List ℕ → Type 0
 Gave told input bytes = Holds told input.name bytes × (length bytes ≤ input.limit)
 
+-- the bytes of all inputs in turn are what these gave
 abbrev pub AllGave : Option Files → List Input → List (List ℕ) → Type 0
 AllGave told [] [] = ⊤
 AllGave told (input ∷ rest) (bytes ∷ more) = Gave told input bytes × AllGave told rest more
@@ -99,12 +103,14 @@ AllGave told (input ∷ rest) [] = ⊥
 -- why an input wasn't read: the count of its name's failed reads rose, or the shelf tells that it hasn't the name
 abbrev pub IsUnread : Option Files → (List ℕ → ℕ) → (List ℕ → ℕ) → Input → Failure → Type 0
 IsUnread told before now input failure =
-    (failure ≡ plain_failure (refusal.ReadFault input.file)) × (Rose (before input.name) (now input.name) ⊎ Lacks told input.name)
+    (failure ≡ plain_failure (refusal.ReadFault input.file))
+    × (Rose (before input.name) (now input.name) ⊎ Lacks told input.name)
 
--- an input is too long, where the shelf tells it. A shelf that tells nothing shows no bytes of a file that is too long, so over it
--- this says no more than which input was refused.
+-- an input is too long, where the shelf tells it. A shelf that tells nothing shows no bytes of a file that is too
+-- long, so over it this says no more than which input was refused.
 abbrev pub IsTooLong : Option Files → Input → Failure → Type 0
-IsTooLong told input failure = (failure ≡ plain_failure (refusal.TooLong input.file)) × HoldsMore told input.name input.limit
+IsTooLong told input failure = (failure ≡ plain_failure (refusal.TooLong input.file))
+    × HoldsMore told input.name input.limit
 
 -- the first input that isn't read is refused, after those before it gave their bytes
 abbrev pub StopsAt : Option Files → (List ℕ → ℕ) → (List ℕ → ℕ) → List Input → Failure → Type 0
@@ -118,8 +124,8 @@ abbrev pub NoneRose : (List ℕ → ℕ) → (List ℕ → ℕ) → List Input �
 NoneRose before now [] = ⊤
 NoneRose before now (input ∷ rest) = ¬ Rose (before input.name) (now input.name) × NoneRose before now rest
 
--- What reading the inputs in turn gave: the bytes of all, with no failed read, or the first refusal. The counts are those of failed
--- reads before and now.
+-- What reading the inputs in turn gave: the bytes of all, with no failed read, or the first refusal. The counts are
+-- those of failed reads before and now.
 abbrev pub Reads : Option Files → (List ℕ → ℕ) → (List ℕ → ℕ) → List Input → Result (List (List ℕ)) Failure → Type 0
 Reads told before now inputs (Ok bytes) = AllGave told inputs bytes × StandStill before now
 Reads told before now inputs (Err failure) = StopsAt told before now inputs failure

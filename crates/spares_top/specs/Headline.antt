@@ -98,9 +98,11 @@ pub record IsTruePlan (x : Planning) (name : List ℕ) (writes : Option Written)
   -- the case is accepted: it is valid, and no rate of it is refused
   pub accepted : IsAcceptedCase x.case
   -- in the words of the model, for what is aimed at and from what is held
-  pub says : IsTrueReport (ends_of x.terms.objective) (value_of x.terms.objective) x.case (held_of x).list (plan_terms x) plan report
+  pub says : IsTrueReport (ends_of x.terms.objective) (value_of x.terms.objective) x.case (held_of x).list
+      (plan_terms x) plan report
   -- and of weighted backorders, where no stocks are on hand, in its plain words
-  pub plainly : x.terms.objective ≡ Backorders → x.on_hand ≡ None → IsTruePlanReport x.case x.terms.budget plan.stocks report
+  pub plainly : x.terms.objective ≡ Backorders → x.on_hand ≡ None
+      → IsTruePlanReport x.case x.terms.budget plan.stocks report
   -- the two numbers that are printed of a span lie round what it encloses
   pub prints : (span : Span) (value : ℕ → Fraction) → ShowsSpan 48 value span → PrintsAround span value
   -- the certificate that is written breaks no rule of the checker
@@ -108,19 +110,22 @@ pub record IsTruePlan (x : Planning) (name : List ℕ) (writes : Option Written)
   pub acceptable : reject_of (ends_of x.terms.objective) (plan_certificate x plan) (held_of x) ≡ None
   -- and `check` of these bytes confirms it
   pub within : length (certificate_text x plan) ≤ certificate_limit
-  pub confirmed : claimed_of (certificate_text x plan) ≡ Ok (record { certificate = plan_certificate x plan; on_hand = x.on_hand })
+  pub confirmed : claimed_of (certificate_text x plan) ≡ Ok
+      (record { certificate = plan_certificate x plan; on_hand = x.on_hand })
 
 -- ---- a check
 
 -- What the claims of a certificate that breaks no rule say of its case, whoever made it.
 pub record IsTrueCheck (x : Claimed) (report : CheckReport) : Type 0 where
   pub report_is : report ≡ check_of x
-  -- its stocks have what is held and fit the budget, what is aimed at is at most its upper end, and no stocks within the budget
-  -- have less than its bound
-  pub says : AreTrueClaims (value_of x.certificate.objective) x.certificate.case (held_in x.certificate.case x.on_hand).list x.certificate.budget
+  -- its stocks have what is held and fit the budget, what is aimed at is at most its upper end, and no stocks within
+  -- the budget have less than its bound
+  pub says : AreTrueClaims (value_of x.certificate.objective) x.certificate.case
+      (held_in x.certificate.case x.on_hand).list x.certificate.budget
       (claims_of x.certificate)
   -- nor than what is printed of it
-  pub printed : NoneHasLessThanPrinted (value_of x.certificate.objective) x.certificate.case (held_in x.certificate.case x.on_hand).list
+  pub printed : NoneHasLessThanPrinted (value_of x.certificate.objective) x.certificate.case
+      (held_in x.certificate.case x.on_hand).list
       report.budget report.bound
   -- and of weighted backorders, where no stocks are on hand, in the model's plain words
   pub plainly : x.certificate.objective ≡ Backorders → x.on_hand ≡ None
@@ -133,8 +138,8 @@ pub record IsTrueDemo (number lines : ℕ) (summary : Summary) : Type 0 where
   pub plan : CasePlan
   pub accepted : IsAcceptedCase (made number lines)
   pub is : summary ≡ summary_of number lines plan
-  -- the stocks are within the limits and fit the budget, none has fewer backorders than the bound, and no price shows more than
-  -- bound and rounding
+  -- the stocks are within the limits and fit the budget, none has fewer backorders than the bound, and no price shows
+  -- more than bound and rounding
   pub says : IsPlainPlan (made number lines) (budget_of lines) plan
   -- the total is enclosed
   pub encloses : Encloses 48 summary.total.lo summary.total.hi (total (made number lines) plan.stocks)
@@ -147,10 +152,12 @@ pub record IsTrueDemo (number lines : ℕ) (summary : Summary) : Type 0 where
 -- backorders between its ends, and between the printed ones; and none that cost as little have less than its lower end.
 pub record IsTrueSweep (c : CaseRows) (report : SweepReport) : Type 0 where
   pub accepted : IsAcceptedCase c
-  pub says : (k : ℕ) → k < length report.points → IsTruePoint weighted_backorders c (nothing_held c).list (state_at report.points k)
+  pub says : (k : ℕ) → k < length report.points
+      → IsTruePoint weighted_backorders c (nothing_held c).list (state_at report.points k)
 
 -- What is told of a target is true of the case: the stocks behind the point that reaches it have no more weighted
--- backorders than the target, and all stocks that come to it cost at least what is told; where nothing is told there are none.
+-- backorders than the target, and all stocks that come to it cost at least what is told; where nothing is told there
+-- are none.
 pub record IsTruePrice (c : CaseRows) (backorders : Decimal) (report : TargetReport) : Type 0 where
   pub accepted : IsAcceptedCase c
   pub target_is : report.target ≡ backorders
@@ -158,21 +165,22 @@ pub record IsTruePrice (c : CaseRows) (backorders : Decimal) (report : TargetRep
 
 -- ---- a session
 
--- What the report of one plan of a session says of the case as it then is, under the budget as it then is. The stocks are those of
--- the plan.
+-- What the report of one plan of a session says of the case as it then is, under the budget as it then is. The stocks
+-- are those of the plan.
 pub record IsTrueAnswer (d : PlanDue) (report : PlanReport) : Type 0 where
   pub plan : CasePlan
   pub accepted : IsAcceptedCase d.case
   -- in the words of the model, for any score, of weighted backorders and where nothing is held; and in its plain words
-  pub says : IsTrueReport plain_ends weighted_backorders d.case (nothing_held d.case).list (plain_terms d.budget) plan report
+  pub says : IsTrueReport plain_ends weighted_backorders d.case (nothing_held d.case).list
+      (plain_terms d.budget) plan report
   pub plainly : IsTruePlanReport d.case d.budget plan.stocks report
   -- the two numbers that are printed of a span lie round what it encloses
   pub prints : (span : Span) (value : ℕ → Fraction) → ShowsSpan 48 value span → PrintsAround span value
 
 -- ---- a comparison
 
--- What a comparison says of the case at the stocks: the model's backorders and those of Poisson pipelines, pair by pair, and
--- the two weighted totals. Of each interval that encloses a value two numbers are printed that do.
+-- What a comparison says of the case at the stocks: the model's backorders and those of Poisson pipelines, pair by
+-- pair, and the two weighted totals. Of each interval that encloses a value two numbers are printed that do.
 pub record IsTrueComparison (c : CaseRows) (s : StockList) (report : CompareReport) : Type 0 where
   pub says : ShowsComparison c s report
   pub prints : (x : Ends) (value : ℕ → Fraction) → Encloses 48 x.lo x.hi value → Shows x value

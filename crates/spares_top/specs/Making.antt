@@ -1,4 +1,5 @@
--- How the calls that carry out a command answer, before anything is written. No promise of the top rests on these words.
+-- How the calls that carry out a command answer, before anything is written. No promise of the top rests on these
+-- words.
 use Rattle.std.specs.Prelude.{◌≡◌, ◌⊎◌, ◌≤◌, ⊤, All, ℕ, List, [], ◌∷◌, length, Option, IsSomeAnd, Result, Ok, Err}
 use Rattle.plan_report.specs.declared.eval.EvalReport.{EvalReport}
 use Rattle.case_figures.specs.Fits.{FitsPrint}
@@ -27,7 +28,8 @@ abbrev pub Is : Result Task Failure → Result Task Failure → Type 0
 Is task t = t ≡ task
 
 -- the task of an order, or why it is refused, from what its reading gave
-pub record ComesOf (order : Order) (told : Option Files) (before now : List ℕ → ℕ) (task : Result Task Failure) : Type 0 where
+pub record ComesOf (order : Order) (told : Option Files) (before now : List ℕ → ℕ) (task : Result Task Failure) :
+    Type 0 where
   pub read : Result (List (List ℕ)) Failure
   pub reads : Reads told before now (inputs order) read
   pub task_is : task ≡ (read >>= task_on order)
@@ -74,6 +76,7 @@ pub record IsEvaluated (stocked : Result StockedCase Failure) (bits : ℕ) (repo
   pub shows : ShowsCase bits given.case given.stocks report
   pub prints : FitsPrint report.figures
 
+-- the answer is the report of the case at its stocks, or the refusal of its tables; want of memory is free
 abbrev pub Evaluates : Result StockedCase Failure → ℕ → Result EvalReport (Stop Failure) → Type 0
 Evaluates stocked bits (Ok report) = IsEvaluated stocked bits report
 Evaluates stocked bits (Err stop.NoMemory) = ⊤
@@ -83,10 +86,12 @@ Evaluates stocked bits (Err (stop.Fault failure)) = stocked ≡ Err failure
 abbrev pub WriteRefused : Option Written → Option Files → Option Files → (List ℕ → ℕ) → (List ℕ → ℕ) → Failure → Type 0
 WriteRefused writes old new before now failure =
     ((failure ≡ plain_failure refusal.NoMemory) × (new ≡ old))
-    ⊎ ((failure ≡ plain_failure refusal.WriteFault) × IsSomeAnd writes (λ w. KeepsOthers w.name old new × Rose (before w.name) (now w.name)))
+    ⊎ ((failure ≡ plain_failure refusal.WriteFault)
+    × IsSomeAnd writes (λ w. KeepsOthers w.name old new × Rose (before w.name) (now w.name)))
 
 -- what the delivery of an outcome leaves
 abbrev pub Delivers : Outcome → Scene → Scene → Result Done Failure → Type 0
 Delivers outcome old new (Ok done) = (outcome.done ≡ done) × HasDelivered outcome old new
 Delivers outcome old new (Err failure) =
-    ((failure ≡ plain_failure refusal.NoMemory) × IsUntouched old new) ⊎ ((failure ≡ plain_failure refusal.WriteFault) × HasFailed outcome old new)
+    ((failure ≡ plain_failure refusal.NoMemory) × IsUntouched old new)
+    ⊎ ((failure ≡ plain_failure refusal.WriteFault) × HasFailed outcome old new)

@@ -20,8 +20,8 @@ use Rattle.spares_top.specs.Task.{bytes_at}
 abbrev pub planning_on : Ground → Planning
 planning_on g = record { case = g.case; on_hand = if g.on_hand then Some g.held else None; terms = g.terms }
 
--- the case is valid, its rates are those of the case, what is held is within its limits, and nothing where none is on hand, and the work is within
--- the limit
+-- the case is valid, its rates are those of the case, what is held is within its limits, and nothing where none is on
+-- hand, and the work is within the limit
 pub record IsGround (g : Ground) : Type 0 where
   pub valid : IsCase g.case
   pub rates : AreRatesOf g.case g.rates
@@ -34,6 +34,7 @@ pub record IsGround (g : Ground) : Type 0 where
 abbrev pub IsPlanFor : Ground → plans.Outcome → Type 0
 IsPlanFor g o = IsOutcome (ends_of g.terms.objective) g.case g.held.list (plan_terms (planning_on g)) o
 
+-- the answer is a ground of what is planned, or its refusal; want of memory is free
 abbrev pub TellsGround : Result Planning Failure → Result Ground (Stop Failure) → Type 0
 TellsGround given (Ok g) = given ≡ Ok (planning_on g)
 TellsGround given (Err stop.NoMemory) = ⊤

@@ -3,7 +3,7 @@ use Rattle.std.specs.Prelude.{◌≡◌, ℕ, Bool, true, false, List, Option, S
 use Rattle.std.specs.Option.{option_map}
 use Rattle.case_plan.specs.Report.{report_of}
 use Rattle.case_plan.specs.Report as reports
-use Rattle.case_tables.specs.Tables.{accepted_of, stocked_of}
+use Rattle.case_tables.specs.Tables.{accepted_of, case_of_tables, stocked_of}
 use Rattle.certified_plan.specs.Certificates.{certificate_of, claims_of, text_of}
 use Rattle.certified_plan.specs.Scores.{ends_of}
 use Rattle.certified_plan.specs.declared.terms.Terms.{Terms}
@@ -33,12 +33,21 @@ pub record Planning : Type 0 where
 
 -- ---- what is planned of tables: the case that they give, if its curves don't take too many tables
 
+-- the case of tables with accepted rates, refused where its curves take too many tables
 abbrev pub case_within_work : List ℕ → List ℕ → List ℕ → Result CaseRows Failure
 case_within_work sites parts rates = do
   case ← accepted_of sites parts rates
   work ← or_refuse no_names refusal.Work (work_of case)
   Ok case
 
+-- the case of tables, if its curves don't take too many tables, whether or not the model takes its rates
+abbrev pub case_to_edit : List ℕ → List ℕ → List ℕ → Result CaseRows Failure
+case_to_edit sites parts rates = do
+  case ← case_of_tables sites parts rates
+  work ← or_refuse no_names refusal.Work (work_of case)
+  Ok case
+
+-- what is planned of tables, from stocks on hand where a table says them, or the first refusal
 abbrev pub planning_of : List ℕ → List ℕ → List ℕ → Option (List ℕ) → Terms → Result Planning Failure
 planning_of sites parts rates None terms = do
   case ← case_within_work sites parts rates
@@ -50,6 +59,7 @@ planning_of sites parts rates (Some stocks) terms = do
 
 -- ---- the plan
 
+-- what is held: the stocks on hand, or nothing
 abbrev pub held_of : Planning → StockList
 held_of x = held_in x.case x.on_hand
 
@@ -66,6 +76,7 @@ abbrev pub is_loss : Objective → Bool
 is_loss Backorders = false
 is_loss LogAvailability = true
 
+-- the terms of the plan's report: budget, whether the loss is aimed at, the cost of the stocks on hand
 abbrev pub plan_terms : Planning → reports.Terms
 plan_terms x = record {
   budget = x.terms.budget;

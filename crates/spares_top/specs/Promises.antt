@@ -41,7 +41,8 @@ IsReportOf result task = IsOkAnd result (λ done. (outcome : Outcome) × (Fulfil
 
 -- the answer is the task's, but for want of memory
 abbrev pub Completes : Result Task Failure → Result Done Failure → Type 0
-Completes task result = IsErrOf result (plain_failure refusal.NoMemory) ⊎ MatchResult task (IsReportOf result) (IsErrOf result)
+Completes task result = IsErrOf result (plain_failure refusal.NoMemory)
+    ⊎ MatchResult task (IsReportOf result) (IsErrOf result)
 
 -- an answer whose refusal has this line
 abbrev pub with_line : List ℕ → Result Done Refusal → Result Done Failure
@@ -66,13 +67,15 @@ pub record Errors : Type 0 where
 abbrev pub errors : Option (List ℕ) → ℕ → Errors
 errors bytes faults = record { bytes = bytes; faults = faults }
 
-pub record Runs (words : List (List ℕ)) (old new : Scene) (before after : Errors) (result : Result Done Refusal) : Type 0 where
+-- what the whole call promises of its answer, of shelf and output, and of the place for refusals
+pub record Runs (words : List (List ℕ)) (old new : Scene) (before after : Errors) (result : Result Done Refusal) :
+    Type 0 where
   -- the line of a refusal
   pub line : List ℕ
   -- the answer to the words' order with that line, its cause, what it leaves, and the headline
   pub performs : Performs (order_of words) old new (with_line line result)
-  -- where the shelf tells what it holds, or no file is used, and no read, no write and no put fails, it is the task's answer, but for
-  -- want of memory
+  -- where the shelf tells what it holds, or no file is used, and no read, no write and no put fails, it is the task's
+  -- answer, but for want of memory
   pub completes : (held : Files) → Serves (order_of words) old.held held → NoneFailed (order_of words) old new
       → Completes (task_of (order_of words) held) (with_line line result)
   -- `err` got that line, and nothing with a report

@@ -14,10 +14,12 @@ IsReadable input = input.limit < 2 ^ 32
 -- an input wasn't read, or there was no memory
 abbrev pub Unread : Option Files → (List ℕ → ℕ) → (List ℕ → ℕ) → Input → Stop Failure → Type 0
 Unread told before now input stop.NoMemory = ⊤
-Unread told before now input (stop.Fault failure) = IsUnread told before now input failure ⊎ IsTooLong told input failure
+Unread told before now input (stop.Fault failure) = IsUnread told before now input failure
+    ⊎ IsTooLong told input failure
 
 -- what the reading gave, but for want of memory
-abbrev pub ReadsGive : Option Files → (List ℕ → ℕ) → (List ℕ → ℕ) → List Input → Result (List (List ℕ)) (Stop Failure) → Type 0
+abbrev pub ReadsGive : Option Files → (List ℕ → ℕ) → (List ℕ → ℕ) → List Input → Result (List (List ℕ)) (Stop Failure)
+    → Type 0
 ReadsGive told before now inputs (Ok bytes) = Reads told before now inputs (Ok bytes)
 ReadsGive told before now inputs (Err stop.NoMemory) = ⊤
 ReadsGive told before now inputs (Err (stop.Fault failure)) = Reads told before now inputs (Err failure)

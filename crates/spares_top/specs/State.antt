@@ -56,4 +56,5 @@ pub record HasFailedToPut (outcome : Outcome) (old new : Scene) : Type 0 where
 
 -- the delivery of an outcome failed at one of its two places
 abbrev pub HasFailed : Outcome → Scene → Scene → Type 0
-HasFailed outcome old new = IsSomeAnd outcome.writes (λ written. HasFailedToWrite written old new) ⊎ HasFailedToPut outcome old new
+HasFailed outcome old new = IsSomeAnd outcome.writes (λ written. HasFailedToWrite written old new)
+    ⊎ HasFailedToPut outcome old new

@@ -35,7 +35,7 @@ use Rattle.refusals.specs.Causes.{or_refuse, plain_failure}
 use Rattle.refusals.specs.Lines.{no_names}
 use Rattle.case_tables.specs.Tables.{stocked_of}
 use Rattle.spares_top.specs.Files.{inputs_of, reads}
-use Rattle.spares_top.specs.Plans.{Planning, IsPlanned, case_within_work, planning_of}
+use Rattle.spares_top.specs.Plans.{Planning, IsPlanned, case_to_edit, case_within_work, planning_of}
 use Rattle.demonstration.specs.Demonstrations.{IsDemonstrated}
 use Rattle.spares_top.specs.Checks.{Claimed, claimed_of, check_of}
 
@@ -105,10 +105,10 @@ target_task sites parts rates backorders = do
   case ← case_within_work sites parts rates
   Ok (price_target case backorders)
 
--- the plans that edits of a case ask for are made
+-- the plans that edits of a case ask for are made; its rates are looked at where a plan is asked for
 abbrev pub session_task : List ℕ → List ℕ → List ℕ → List ℕ → Result Task Failure
 session_task sites parts rates edits = do
-  case ← case_within_work sites parts rates
+  case ← case_to_edit sites parts rates
   due ← or_refuse no_names refusal.Edit (session_of case edits)
   Ok (plan_in_turn due)
 
@@ -125,16 +125,20 @@ bytes_at bytes place = get_or bytes place []
 -- the task of an order on the bytes of its inputs, or why it is refused
 abbrev pub task_on : Order → List (List ℕ) → Result Task Failure
 task_on (order.Single mean variance stock) bytes = single_task mean.units (variance_of mean variance).units stock
-task_on (order.Eval sites parts rates stocks bits) bytes = eval_task (bytes_at bytes 0) (bytes_at bytes 1) (bytes_at bytes 2) (bytes_at bytes 3) bits
+task_on (order.Eval sites parts rates stocks bits) bytes =
+    eval_task (bytes_at bytes 0) (bytes_at bytes 1) (bytes_at bytes 2) (bytes_at bytes 3) bits
 task_on (order.Plan sites parts rates on_hand budget format objective certificate) bytes =
     plan_task (bytes_at bytes 0) (bytes_at bytes 1) (bytes_at bytes 2) (option_map (λ name. bytes_at bytes 3) on_hand)
     (record { budget = budget; format = format; objective = objective }) certificate
 task_on (order.Check certificate) bytes = check_task (bytes_at bytes 0)
 task_on (order.Demo number lines) bytes = Ok (demonstrate number lines)
 task_on (order.Sweep sites parts rates) bytes = sweep_task (bytes_at bytes 0) (bytes_at bytes 1) (bytes_at bytes 2)
-task_on (order.Target sites parts rates backorders) bytes = target_task (bytes_at bytes 0) (bytes_at bytes 1) (bytes_at bytes 2) backorders
-task_on (order.Session sites parts rates edits) bytes = session_task (bytes_at bytes 0) (bytes_at bytes 1) (bytes_at bytes 2) (bytes_at bytes 3)
-task_on (order.Compare sites parts rates stocks) bytes = compare_task (bytes_at bytes 0) (bytes_at bytes 1) (bytes_at bytes 2) (bytes_at bytes 3)
+task_on (order.Target sites parts rates backorders) bytes =
+    target_task (bytes_at bytes 0) (bytes_at bytes 1) (bytes_at bytes 2) backorders
+task_on (order.Session sites parts rates edits) bytes =
+    session_task (bytes_at bytes 0) (bytes_at bytes 1) (bytes_at bytes 2) (bytes_at bytes 3)
+task_on (order.Compare sites parts rates stocks) bytes =
+    compare_task (bytes_at bytes 0) (bytes_at bytes 1) (bytes_at bytes 2) (bytes_at bytes 3)
 
 -- words without an order are refused
 abbrev pub task_on_words : Result Order WordsFault → List (List ℕ) → Result Task Failure
@@ -155,7 +159,10 @@ row_of mean variance stock = at_stock (table_rows 48 (ends_ratio 48 mean 10000) 
 
 -- the report of a single pipeline
 abbrev pub single_of : ℕ → ℕ → ℕ → SingleReport
-single_of mean variance stock = record { backorders = (row_of mean variance stock).ebo; spread = (row_of mean variance stock).vbo }
+single_of mean variance stock = record {
+  backorders = (row_of mean variance stock).ebo;
+  spread = (row_of mean variance stock).vbo;
+}
 
 -- the report of a case at stocks, with so many bits
 abbrev pub eval_of : ℕ → CaseRows → StockList → EvalReport
@@ -179,6 +186,7 @@ Fulfils (make_plan planning name) outcome = IsPlanned planning name outcome
 Fulfils (confirm claimed) outcome = outcome ≡ printed (Checked (check_of claimed))
 Fulfils (demonstrate number lines) outcome = Shows Demo (IsDemonstrated number lines) outcome
 Fulfils (sweep_budgets case) outcome = Shows Swept (IsCaseSweep plain_ends case (nothing_held case).list) outcome
-Fulfils (price_target case backorders) outcome = Shows Priced (IsCaseTarget plain_ends case (nothing_held case).list backorders) outcome
+Fulfils (price_target case backorders) outcome =
+    Shows Priced (IsCaseTarget plain_ends case (nothing_held case).list backorders) outcome
 Fulfils (plan_in_turn due) outcome = Shows Session (λ report. AllZip IsReportOf due report.plans) outcome
 Fulfils (set_beside case stocks) outcome = outcome ≡ printed (Compared (comparison_of case stocks))

@@ -100,7 +100,8 @@ fn accepted(alloc: Global, claim: &Claim) -> Result<Accepted, Stop<Reject>>
 /// The report of a claim that was accepted.
 fn report_of(claim: &Claim, accepted: Accepted) -> CheckReport
     requires claim { IsClaim claim.now }
-    requires accepted { judged (ends_of claim.now.certificate.objective) claim.now.certificate claim.now.held ≡ Ok accepted }
+    requires accepted { judged (ends_of claim.now.certificate.objective) claim.now.certificate claim.now.held
+        ≡ Ok accepted }
     ensures { result ≡ check_of (claimed_by claim.now) }
 {
     let Claim {

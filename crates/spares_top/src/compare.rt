@@ -69,7 +69,8 @@ fn beside(
 /// Carries out `compare` on the bytes of its four tables: sites, parts, rates and stocks.
 pub(crate) fn compare(alloc: Global, files: &[List<u8>]) -> Result<Outcome, Stop<Failure>>
     requires { AreTables 4 files.now }
-    ensures { MakesBy (Is (compare_task (bytes_at files.now 0) (bytes_at files.now 1) (bytes_at files.now 2) (bytes_at files.now 3))) result }
+    ensures { MakesBy (Is (compare_task (bytes_at files.now 0) (bytes_at files.now 1) (bytes_at files.now 2)
+        (bytes_at files.now 3))) result }
 {
     let (sites, parts) = (files[0].as_slice(), files[1].as_slice());
     let (rates, stocks) = (files[2].as_slice(), files[3].as_slice());

@@ -17,7 +17,8 @@ use spares_io::{Shelf, ShelfError, Sink, SinkFailed};
 fn write<H: Shelf>(writes: &Option<Written>, shelf: &mut H) -> Result<(), Failure>
     ensures held { OnOk result (H.held shelf.new ≡ after_write writes.now (H.held shelf.old)) }
     ensures still { OnOk result (StandStill (H.write_faults shelf.old) (H.write_faults shelf.new)) }
-    ensures refused { IfErr result (WriteRefused writes.now (H.held shelf.old) (H.held shelf.new) (H.write_faults shelf.old) (H.write_faults shelf.new)) }
+    ensures refused { IfErr result (WriteRefused writes.now (H.held shelf.old) (H.held shelf.new)
+        (H.write_faults shelf.old) (H.write_faults shelf.new)) }
     ensures nothing { writes.now ≡ None → StandStill (H.write_faults shelf.old) (H.write_faults shelf.new) }
     ensures reads { StandStill (H.read_faults shelf.old) (H.read_faults shelf.new) }
 {

@@ -122,7 +122,8 @@ fn report_of(
 pub(crate) fn eval(alloc: Global, files: &[List<u8>], bits: u8) -> Result<Outcome, Stop<Failure>>
     requires files { AreTables 4 files.now }
     requires bits { IsWidth bits }
-    ensures { MakesBy (Is (eval_task (bytes_at files.now 0) (bytes_at files.now 1) (bytes_at files.now 2) (bytes_at files.now 3) bits)) result }
+    ensures { MakesBy (Is (eval_task (bytes_at files.now 0) (bytes_at files.now 1) (bytes_at files.now 2)
+        (bytes_at files.now 3) bits)) result }
 {
     let (sites, parts) = (files[0].as_slice(), files[1].as_slice());
     let (rates, stocks) = (files[2].as_slice(), files[3].as_slice());

@@ -72,7 +72,8 @@ fn tables_and(
     file: File,
     more: Option<&Text>,
 ) -> Result<Vec<Input>, NoMemory>
-    ensures { IfOk result (λ tables. tables.items ≡ case_in sites.now parts.now rates.now (if_named file (option_map (λ t. t.now) more.entry))) }
+    ensures { IfOk result (λ tables. tables.items ≡ case_in sites.now parts.now rates.now
+        (if_named file (option_map (λ t. t.now) more.entry))) }
 {
     let mut tables = case_tables(alloc, sites, parts, rates)?;
     if let Some(name) = more {
@@ -142,7 +143,8 @@ fn read_file<H: Shelf>(
     ensures held { H.held shelf.new ≡ H.held shelf.old }
     ensures bytes { IfOk result (Gave (H.held shelf.old) input.now) }
     ensures still { OnOk result (StandStill (H.read_faults shelf.old) (H.read_faults shelf.new)) }
-    ensures stops { IfErr result (Unread (H.held shelf.old) (H.read_faults shelf.old) (H.read_faults shelf.new) input.now) }
+    ensures stops { IfErr result (Unread (H.held shelf.old) (H.read_faults shelf.old)
+        (H.read_faults shelf.new) input.now) }
     ensures writes { StandStill (H.write_faults shelf.old) (H.write_faults shelf.new) }
 {
     let mut bytes = Vec::new(alloc);

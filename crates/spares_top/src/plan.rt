@@ -28,7 +28,8 @@ use spares_input::{Case, Stocks};
 use spares_io::{List, NoMemory, Stop, Text};
 use std::alloc::Global;
 
-/// What is planned: a case with its rates, what is held of it, and the terms. Where nothing is on hand, no stock is held.
+/// What is planned: a case with its rates, what is held of it, and the terms. Where nothing is on hand, no stock is
+/// held.
 #[derive(Drop)]
 pub(crate) struct Ground {
     pub(crate) case: Case,
@@ -39,7 +40,7 @@ pub(crate) struct Ground {
 }
 
 /// The case of sites, parts and rates, with its exact rates, if its curves don't take too many tables.
-pub(crate) fn within_work(
+fn within_work(
     alloc: Global,
     sites: &[u8],
     parts: &[u8],
@@ -67,7 +68,8 @@ pub(crate) fn within_work(
 /// The case of three tables, if its curves don't take too many tables.
 pub(crate) fn case_within_work(alloc: Global, files: &[List<u8>]) -> Result<Accepted, Stop<Failure>>
     requires { AreTables 3 files.now }
-    ensures answer { Tells (case_within_work (bytes_at files.now 0) (bytes_at files.now 1) (bytes_at files.now 2)) result }
+    ensures answer { Tells (case_within_work (bytes_at files.now 0) (bytes_at files.now 1) (bytes_at files.now 2))
+        result }
     ensures rates { IfOk result (λ given. AreRatesOf given.case given.rates) }
     ensures accepted { IfOk result (λ given. IsAcceptedCase given.case) }
     ensures work { IfOk result (λ given. IsOk (work_of given.case)) }
@@ -79,7 +81,8 @@ pub(crate) fn case_within_work(alloc: Global, files: &[List<u8>]) -> Result<Acce
 /// What is planned of three tables.
 fn plain_ground(alloc: Global, files: &[List<u8>], terms: Terms) -> Result<Ground, Stop<Failure>>
     requires { AreTables 3 files.now }
-    ensures answer { TellsGround (planning_of (bytes_at files.now 0) (bytes_at files.now 1) (bytes_at files.now 2) None terms) result }
+    ensures answer { TellsGround (planning_of (bytes_at files.now 0) (bytes_at files.now 1)
+        (bytes_at files.now 2) None terms) result }
     ensures ground { IfOk result IsGround }
 {
     let Accepted { case, rates } = match case_within_work(alloc, files) {
@@ -99,7 +102,8 @@ fn plain_ground(alloc: Global, files: &[List<u8>], terms: Terms) -> Result<Groun
 /// What is planned of three tables and that of the stocks on hand.
 fn held_ground(alloc: Global, files: &[List<u8>], terms: Terms) -> Result<Ground, Stop<Failure>>
     requires { AreTables 4 files.now }
-    ensures answer { TellsGround (planning_of (bytes_at files.now 0) (bytes_at files.now 1) (bytes_at files.now 2) (Some (bytes_at files.now 3)) terms) result }
+    ensures answer { TellsGround (planning_of (bytes_at files.now 0) (bytes_at files.now 1) (bytes_at files.now 2)
+        (Some (bytes_at files.now 3)) terms) result }
     ensures ground { IfOk result IsGround }
 {
     let (sites, parts) = (files[0].as_slice(), files[1].as_slice());
@@ -134,7 +138,8 @@ fn ground_of(
     terms: Terms,
 ) -> Result<Ground, Stop<Failure>>
     requires { AreTables (if on_hand then 4 else 3) files.now }
-    ensures answer { TellsGround (planning_of (bytes_at files.now 0) (bytes_at files.now 1) (bytes_at files.now 2) (fourth on_hand files.now) terms) result }
+    ensures answer { TellsGround (planning_of (bytes_at files.now 0) (bytes_at files.now 1) (bytes_at files.now 2)
+        (fourth on_hand files.now) terms) result }
     ensures ground { IfOk result IsGround }
 {
     if on_hand {
@@ -214,7 +219,8 @@ pub(crate) fn plan(
     requires files { AreTables (if on_hand then 4 else 3) files.now }
     requires terms { AreTerms terms }
     requires held { on_hand ≡ true → terms.format ≡ 2 }
-    ensures { MakesBy (Is (plan_task (bytes_at files.now 0) (bytes_at files.now 1) (bytes_at files.now 2) (fourth on_hand files.now) terms name)) result }
+    ensures { MakesBy (Is (plan_task (bytes_at files.now 0) (bytes_at files.now 1) (bytes_at files.now 2)
+        (fourth on_hand files.now) terms name)) result }
 {
     let ground = match ground_of(alloc, files, on_hand, terms) {
         Ok(ground) => ground,

@@ -30,7 +30,8 @@ fn curves_of(alloc: Global, given: &Accepted) -> Result<Vec<Curve>, NoMemory>
     requires accepted { IsAcceptedCase given.now.case }
     requires work { IsOk (work_of given.now.case) }
     ensures few { IfOk result (λ curves. length curves.items ≤ 2000) }
-    ensures curves { IfOk result (λ curves. AreCurves (case_points plain_ends given.now.case (nothing_held given.now.case).list) curves.items) }
+    ensures curves { IfOk result (λ curves. AreCurves
+        (case_points plain_ends given.now.case (nothing_held given.now.case).list) curves.items) }
 {
     let held = nothing_held(alloc, &given.case)?;
     let curves = held_curves(alloc, &given.case, &given.rates, &held, &Plain)?;
@@ -56,7 +57,8 @@ fn target_of(alloc: Global, given: &Accepted, backorders: Decimal) -> Result<Tar
     requires work { IsOk (work_of given.now.case) }
     requires places { backorders.places ≡ 4 }
     requires most { backorders.units ≤ 10000000000000 }
-    ensures target { IfOk result (IsCaseTarget plain_ends given.now.case (nothing_held given.now.case).list backorders) }
+    ensures target { IfOk result (IsCaseTarget plain_ends given.now.case
+        (nothing_held given.now.case).list backorders) }
     ensures fits { IfOk result TargetFits }
 {
     let curves = curves_of(alloc, given)?;
@@ -87,7 +89,8 @@ pub(crate) fn target(
     requires files { AreTables 3 files.now }
     requires places { backorders.places ≡ 4 }
     requires most { backorders.units ≤ 10000000000000 }
-    ensures { MakesBy (Is (target_task (bytes_at files.now 0) (bytes_at files.now 1) (bytes_at files.now 2) backorders)) result }
+    ensures { MakesBy (Is (target_task (bytes_at files.now 0) (bytes_at files.now 1) (bytes_at files.now 2) backorders))
+        result }
 {
     let given = match case_within_work(alloc, files) {
         Ok(given) => given,

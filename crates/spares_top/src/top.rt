@@ -19,7 +19,8 @@ fn put_line<E: Sink>(line: &Line, err: &mut E)
 /// Puts the line of a refusal that stands at no pair of a case, by one put. Where that fails nothing else is done.
 pub fn refuse<E: Sink>(refusal: &Refusal, err: &mut E)
     requires { NamesNoPair refusal.now }
-    ensures { PutsLine (line_of no_names refusal.now) (E.bytes err.old) (E.faults err.old) (E.bytes err.new) (E.faults err.new) }
+    ensures { PutsLine (line_of no_names refusal.now) (E.bytes err.old) (E.faults err.old) (E.bytes err.new)
+        (E.faults err.new) }
 {
     let failure = Failure::of(*refusal);
     put_line(&failure.line, err);
@@ -35,9 +36,10 @@ pub fn refuse<E: Sink>(refusal: &Refusal, err: &mut E)
 /// In this order: `Words` where the words give no order; `ReadFault` or `TooLong` at the first file that isn't read;
 /// the first `Table` or `Case` of sites, parts and rates, and then `Table` or `Stock` of the stocks; `Rate` where a
 /// pipeline is beyond the model's limits; `Work` where the curves of a case take too many tables; of `check`, `Cert`
-/// where its file is no certificate and `Rejected` where it breaks a rule; and `WriteFault` where the certificate isn't
-/// written or the put of the report fails. After `WriteFault` the output holds a prefix of the report, and after the
-/// others it is as before. `NoMemory` may come at any step before the put.
+/// where its file is no certificate and `Rejected` where it breaks a rule; of `session`, which looks at rates only
+/// where its edits ask for a plan, `Edit` at the first line that is wrong or whose plan isn't made; and `WriteFault`
+/// where the certificate isn't written or the put of the report fails. After `WriteFault` the output holds a prefix
+/// of the report, and after the others it is as before. `NoMemory` may come at any step before the put.
 pub fn run<H: Shelf, W: Sink, E: Sink>(
     alloc: Global,
     words: &[Text],

@@ -68,7 +68,8 @@ fn outcome_of<H: Shelf>(
     shelf: &mut H,
 ) -> Result<Outcome, Stop<Failure>>
     requires { IsInRange order }
-    ensures makes { MakesBy (ComesOf order (H.held shelf.old) (H.read_faults shelf.old) (H.read_faults shelf.new)) result }
+    ensures makes { MakesBy (ComesOf order (H.held shelf.old) (H.read_faults shelf.old) (H.read_faults shelf.new))
+        result }
     ensures held { H.held shelf.new ≡ H.held shelf.old }
     ensures writes { StandStill (H.write_faults shelf.old) (H.write_faults shelf.new) }
     ensures reads { inputs order ≡ [] → StandStill (H.read_faults shelf.old) (H.read_faults shelf.new) }

@@ -8,6 +8,9 @@ const PARTS: &str = "part,parent,cost,per_system,max_depot,max_base\nL,,100,1,2,
 
 const RATES: &str = "part,site,demand,repair_here,share,repair_days\nL,D,,,,20\nL,B,36.5,0,,0\n";
 
+/// Rates of which a pipeline is beyond the model's limits.
+const REFUSED_RATES: &str = "part,site,demand,repair_here,share,repair_days\nL,D,,,,20\nL,B,10000,0,,0\n";
+
 /// A line unit and its shop unit, with stocks.
 const SHOP: [&str; 4] = [
     "site,kind,systems,ship_days\nD,depot,,\nB,base,10,5\n",
@@ -39,25 +42,33 @@ fn compares_with_poisson_pipelines(rt: HostRuntime) -> Result<(), Fail> {
     Ok(())
 }
 
-/// Edits of the first case, with the reports of their plans.
-const EDITED: [(&str, &str); 3] = [
+/// Edits of the first case with these rates, and the reports of their plans.
+const EDITED: [(&str, &str, &str); 5] = [
     (
+        RATES,
         "budget,250\nplan\nrate,L,B,36.5,0,,0\nplan\n",
         "plan,250\ncost,200\nitem,L,D,0,2.000000,2.000000,2.000000,2.000000,2.000000,2.000000,2.000000,2.000000\nitem,L,B,2,3.000000,3.000000,3.000000,3.000000,1.248935,1.248936,2.091651,2.091652\nbase,B,0.895922,0.895923\nfleet,0.895922,0.895923\ntotal,1.248935,1.248936\nbound,0.960530\ngap,0.288405\nrounding,0.000001\nprice,0.005768099188\nhull,200\ncritical,L,100\nplan,250\ncost,200\nitem,L,D,0,2.000000,2.000000,2.000000,2.000000,2.000000,2.000000,2.000000,2.000000\nitem,L,B,2,3.000000,3.000000,3.000000,3.000000,1.248935,1.248936,2.091651,2.091652\nbase,B,0.895922,0.895923\nfleet,0.895922,0.895923\ntotal,1.248935,1.248936\nbound,0.960530\ngap,0.288405\nrounding,0.000001\nprice,0.005768099188\nhull,200\ncritical,L,100\n",
     ),
     (
+        RATES,
         "plan\r\n\r\nrate,L,B,0,0,,0\r\nplan",
         "plan,0\ncost,0\nitem,L,D,0,2.000000,2.000000,2.000000,2.000000,2.000000,2.000000,2.000000,2.000000\nitem,L,B,0,3.000000,3.000000,3.000000,3.000000,3.000000,3.000000,3.000000,3.000000\nbase,B,0.750000,0.750000\nfleet,0.750000,0.750000\ntotal,3.000000,3.000000\nbound,3.000000\ngap,0.000000\nrounding,0.000001\nprice,0.009502129316\nhull,0\ncritical,L,100\nplan,0\ncost,0\nitem,L,D,0,0.000000,0.000000,0.000000,0.000000,0.000000,0.000000,0.000000,0.000000\nitem,L,B,0,0.000000,0.000000,0.000000,0.000000,0.000000,0.000000,0.000000,0.000000\nbase,B,1.000000,1.000000\nfleet,1.000000,1.000000\ntotal,0.000000,0.000000\nbound,0.000000\ngap,0.000000\nrounding,0.000001\nprice,0.000000000000\nhull,0\ncritical,none\n",
     ),
-    ("\n\nbudget,7", ""),
+    (RATES, "\n\nbudget,7", ""),
+    (REFUSED_RATES, "budget,250\n", ""),
+    (
+        REFUSED_RATES,
+        "rate,L,B,36.5,0,,0\nbudget,250\nplan\n",
+        "plan,250\ncost,200\nitem,L,D,0,2.000000,2.000000,2.000000,2.000000,2.000000,2.000000,2.000000,2.000000\nitem,L,B,2,3.000000,3.000000,3.000000,3.000000,1.248935,1.248936,2.091651,2.091652\nbase,B,0.895922,0.895923\nfleet,0.895922,0.895923\ntotal,1.248935,1.248936\nbound,0.960530\ngap,0.288405\nrounding,0.000001\nprice,0.005768099188\nhull,200\ncritical,L,100\n",
+    ),
 ];
 
 #[test]
 fn plans_edits_in_turn(rt: HostRuntime) -> Result<(), Fail> {
     let alloc = rt.alloc();
     let line = "session --sites sites --parts parts --rates rates --edits stocks";
-    for (edits, report) in &EDITED {
-        let mut shelf = shelf_of(alloc, [SITES, PARTS, RATES, *edits], &[])?;
+    for (rates, edits, report) in &EDITED {
+        let mut shelf = shelf_of(alloc, [SITES, PARTS, *rates, *edits], &[])?;
         ends(&rt, alloc, line, &mut shelf, &[], printed(report))?;
     }
     Ok(())

@@ -7,7 +7,8 @@ use std::test::*;
 /// The words of `check` on a shelf that holds a certificate.
 const CHECK: &str = "check --certificate certificate";
 
-/// Nothing bought for a line unit at the depot and one base, at a price of one backorder for 100 of money; without the last line feed.
+/// Nothing bought for a line unit at the depot and one base, at a price of one backorder for 100 of money; without
+/// the last line feed.
 const PLAIN: &str =
     "spares-certificate,1\nsites,2\nD,depot,,\nB,base,12,10.00\nparts,1\nL,,100,1,2,3\nrates,2\nL,D,,,,20.00\nL,B,36.5000,0.0000,,0.00\nbudget,0\nprice,281474976710656,100\nfloors,1\n84442493013196800\nstocks,2\n0\n0\nupper,844424930131968\nbound,844424930131968\nend";
 

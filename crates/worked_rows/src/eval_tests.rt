@@ -140,7 +140,8 @@ const HOSTILE: [(usize, &str, &str); 22] = [
     ),
 ];
 
-/// What is printed below the first line: of the first case, also in quotes, with a weight, of the shop unit, and where none is sent.
+/// What is printed below the first line: of the first case, also in quotes, with a weight, of the shop unit, and
+/// where none is sent.
 const ONE_FIGURES: &str =
     "cost,0\nitem,L,D,0,2.000000,2.000000,2.000000,2.000000,2.000000,2.000000,2.000000,2.000000\nitem,L,B,0,3.000000,3.000000,3.000000,3.000000,3.000000,3.000000,3.000000,3.000000\nbase,B,0.750000,0.750000\nfleet,0.750000,0.750000\ntotal,3.000000,3.000000\n";
 
@@ -263,7 +264,8 @@ fn stops_at_each_call_that_fails(rt: HostRuntime) -> Result<(), Fail> {
     stops(&rt, rt.alloc(), &UNREAD)
 }
 
-/// Four calls of the shelf are made, so that the fifth doesn't fail. A failing put keeps the first half of a report of 254 bytes.
+/// Four calls of the shelf are made, so that the fifth doesn't fail. A failing put keeps the first half of a report
+/// of 254 bytes.
 #[test]
 fn keeps_half_of_a_report(rt: HostRuntime) -> Result<(), Fail> {
     let alloc = rt.alloc();

@@ -159,8 +159,9 @@ const WHOLE_REPORT: &str =
 const HALF_REPORT: &str =
     "plan,250\ncost,200\nitem,L,D,0,2.000000,2.000000,2.000000,2.000000,2.000000,2.000000,2.000000,2.000000\nitem,L,B,2,3.000000,3.000000,3.000000,3.000000,1.248935,1.248936,2.091651";
 
-/// A call of the shelf that fails and one of the output, each 0 where none does, at a budget of 250; what the shelf then
-/// holds under the certificate's name, nothing where it isn't held; what the output holds, the line and the status.
+/// A call of the shelf that fails and one of the output, each 0 where none does, at a budget of 250; what the shelf
+/// then holds under the certificate's name, nothing where it isn't held; what the output holds, the line and the
+/// status.
 const FAILING: [(u32, u32, &str, &str, &str, u8); 6] = [
     (1, 0, "", "", "fault,read,sites\n", 5),
     (2, 0, "", "", "fault,read,parts\n", 5),

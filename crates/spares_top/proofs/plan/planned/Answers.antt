@@ -1,4 +1,4 @@
-use Rattle.std.proofs.Common.{◌∙◌, sym, refl, ap, Some, None, if◌then◌else◌}
+use Rattle.std.proofs.Common.{◌∙◌, sym, ap, Some, None, if◌then◌else◌}
 use Rattle.spares_top.proofs.Planned.{formed_of, have_claims, made_of, well_held_by}
 use Rattle.spares_top.proofs.plan.planned.Goals as goal
 use Rattle.spares_top.proofs.plan.planned.Goals.{then-ground, else-ground}

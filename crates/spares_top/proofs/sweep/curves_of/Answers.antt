@@ -1,14 +1,12 @@
-use Rattle.std.proofs.Common.{arith, subst, List}
+use Rattle.std.proofs.Common.{arith, subst}
 use Rattle.case_plan.proofs.CurveFacts.{are_curves}
-use Rattle.case_plan.proofs.Ranges.{few_lines}
 use Rattle.fleet_model.specs.Rows.{line_units}
+use Rattle.fleet_model.proofs.FrameLaws.{few_lines}
 use Rattle.fleet_plan.specs.Families.{case_points, family_points}
 use Rattle.fleet_plan.specs.Laws.{plain_ends}
-use Rattle.hull.specs.declared.point.Point.{Point}
 use Rattle.marginal_alloc.specs.Choice.{AreCurves}
 use Rattle.spares_input.specs.Stocks.{StockList}
 use Rattle.std.proofs.lemmas.List.{length-map}
-use Rattle.gap_checker.specs.Soundness.{nothing_held}
 use Rattle.spares_top.proofs.Planned.{plain_work}
 use Rattle.spares_top.proofs.sweep.curves_of.Goals as goal
 

@@ -1,8 +1,8 @@
-use Rattle.std.proofs.Common.{List, Ok, Err, subst, ◌∙◌}
-use Rattle.spares_top.specs.Making.{AreWithin, Is, MakesBy}
-use Rattle.spares_top.specs.Reading.{IsReadable, ReadsGive}
+use Rattle.std.proofs.Common.{Ok, Err, subst, ◌∙◌}
+use Rattle.spares_top.specs.Making.{Is, MakesBy}
+use Rattle.spares_top.specs.Reading.{ReadsGive}
 use Rattle.spares_top.specs.Task.{task_on}
-use Rattle.spares_top.proofs.Whole.{are_readable, made_of, unread, within_of}
+use Rattle.spares_top.proofs.Whole.{made_of, unread}
 use Rattle.spares_top.proofs.work.outcome_of.Goals as goal
 
 pub returns-in-Ok-read_files-clause-makes : goal.returns-in-Ok-read_files-clause-makes
