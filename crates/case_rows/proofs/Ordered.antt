@@ -2,6 +2,7 @@
 use Rattle.std.proofs.Common.{◌≡◌, ℕ, suc, ◌<◌, ◌≤◌, List, [], ◌∷◌, length, get_or, arith}
 use Rattle.std.specs.List.{AllZip}
 
+-- where each entry is at most the one at its place in a list of the same length, the lists are so entry by entry
 pub zip_from : (xs ys : List ℕ) → length xs ≡ length ys → ((k : ℕ) → k < length xs → get_or xs k 0 ≤ get_or ys k 0) → AllZip (λ x y. x ≤ y) xs ys
 zip_from [] [] e h = tt
 zip_from [] (y ∷ ys) e h = absurd (omega (arith, e))

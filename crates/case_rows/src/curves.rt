@@ -1,17 +1,17 @@
-//! Curves and counts of families, over tables. The numbers are those of a program that was written apart from this one; of small
-//! families it tries all vectors one by one.
+//! Curves and counts of families, over tables. The numbers are those of a program that was written apart from this
+//! one; of small families it tries all vectors one by one.
 ghost use Rattle.std.specs.Prelude.{◌≡◌, ◌≤◌, true, IfSome};
 ghost use Rattle.std.specs.List.{AllZip};
 ghost use Rattle.family_eval.specs.Inputs.{IsLine};
 ghost use Rattle.family_curve.specs.Points.{AreOrdered};
 
-use crate::helpers::{case_of, rates_of};
 use family_curve::{Bounds, choices, curve, curve_within, limits_of, tables, tables_within, work};
 use hull::{Curve, Plain, Point};
 use spares_input::{Case, PartId};
 use spares_io::List;
 use std::alloc::Global;
 use std::test::*;
+use text_cases::{family_of, rates_of};
 
 /// A line unit alone with 20,000 choices.
 const FEW: [&str; 3] = [
@@ -61,17 +61,6 @@ const FLEET: [&str; 3] = [
     "part,parent,cost,per_system,max_depot,max_base\nradar,,80000,1,4,3\nradar-rf,radar,12000,,4,0\nradar-ps,radar,7000,,4,0\nradio,,30000,1,4,3\nradio-board,radio,5000,,4,1\npump,,9000,1,4,3\ngyro,,45000,1,4,3\ndisplay,,16000,1,4,3\nvalve,,2500,1,4,3\n",
     "part,site,demand,repair_here,share,repair_days\nradar,D,,,,60\nradar,North,23.2,0.2,,5\nradar,South,23.2,0.2,,5\nradar,East,23.2,0.2,,5\nradar-rf,D,,,0.4,30\nradar-rf,North,,0.1,0.3,4\nradar-rf,South,,0.1,0.3,4\nradar-rf,East,,0.1,0.3,4\nradar-ps,D,,,0.4,30\nradar-ps,North,,0.1,0.3,4\nradar-ps,South,,0.1,0.3,4\nradar-ps,East,,0.1,0.3,4\nradio,D,,,,60\nradio,North,11.6,0.2,,5\nradio,South,11.6,0.2,,5\nradio,East,11.6,0.2,,5\nradio-board,D,,,0.4,30\nradio-board,North,,0.1,0.3,4\nradio-board,South,,0.1,0.3,4\nradio-board,East,,0.1,0.3,4\npump,D,,,,60\npump,North,5.8,0.2,,5\npump,South,5.8,0.2,,5\npump,East,5.8,0.2,,5\ngyro,D,,,,60\ngyro,North,2.9,0.2,,5\ngyro,South,2.9,0.2,,5\ngyro,East,2.9,0.2,,5\ndisplay,D,,,,60\ndisplay,North,8.7,0.2,,5\ndisplay,South,8.7,0.2,,5\ndisplay,East,8.7,0.2,,5\nvalve,D,,,,60\nvalve,North,14.5,0.2,,5\nvalve,South,14.5,0.2,,5\nvalve,East,14.5,0.2,,5\n",
 ];
-/// A case whose first part is a line unit.
-fn family_of(alloc: Global, files: [&str; 3]) -> Option<Case>
-    ensures { IfSome result (λ c. IsLine c 0) }
-{
-    let case = case_of(alloc, files[0], files[1], files[2])?;
-    if case.part_count() == 0 || !case.is_line(PartId(0)) {
-        return None;
-    }
-    Some(case)
-}
-
 /// The choices and the tables of a case's first family, and the work of the case.
 fn counts(alloc: Global, files: [&str; 3]) -> Option<(u64, u64, Result<u64, u64>)> {
     let case = family_of(alloc, files)?;

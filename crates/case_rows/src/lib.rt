@@ -6,5 +6,3 @@
 mod certificates;
 #[cfg(test)]
 mod curves;
-#[cfg(test)]
-mod helpers;

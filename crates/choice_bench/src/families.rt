@@ -8,8 +8,8 @@ use hull::{Curve, Point};
 use spares_io::List;
 use std::alloc::Global;
 
-/// Families of a number of vertices, whose intervals have widths below a number of units. The first family is `dear` times
-/// as dear as the others, and falls as much more.
+/// Families of a number of vertices, whose intervals have widths below a number of units. The first family is `dear`
+/// times as dear as the others, and falls as much more.
 #[derive(Clone, Copy, Drop)]
 pub struct Families {
     pub count: u32,

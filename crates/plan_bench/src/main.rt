@@ -1,9 +1,9 @@
 //! Times the curves of a case's families, and the reading and the check of a certificate.
 //!
-//! With the words `SITES PARTS RATES CERTIFICATE` it reads the three tables of a case and prints how many tables of pipelines the
-//! curves of its families take and how many vertices they have; then it reads a certificate, which may be of another case, checks it,
-//! and prints what was accepted. With a fifth word `timed` it prints the nanoseconds too: of all curves, made one after another;
-//! of the reading; and of reading and check together.
+//! With the words `SITES PARTS RATES CERTIFICATE` it reads the three tables of a case and prints how many tables of
+//! pipelines the curves of its families take and how many vertices they have; then it reads a certificate, which may
+//! be of another case, checks it, and prints what was accepted. With a fifth word `timed` it prints the nanoseconds
+//! too: of all curves, made one after another; of the reading; and of reading and check together.
 #![tactic(auto)]
 
 ghost use Rattle.std.specs.Prelude.{◌≤◌, length};

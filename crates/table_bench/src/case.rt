@@ -26,7 +26,8 @@ impl Case {
         })
     }
 
-    /// The ends of all tables taken together: the lower one of the backorders at 7, and the upper one of their variance at 9.
+    /// The ends of all tables taken together: the lower one of the backorders at 7, and the upper one of their
+    /// variance at 9.
     pub fn checksum(self, alloc: Global) -> anyhow::Result<u128> {
         let mut sum = 0;
         for i in 0..self.count {

@@ -1,5 +1,5 @@
 -- Each vertex of the new curve is one of the old ones or the new point.
-use Rattle.std.proofs.Common.{◌≡◌, inl, inr, [], ◌∷◌, length, ◌∙◌, ap}
+use Rattle.std.proofs.Common.{inl, inr, [], ◌∷◌, length, ◌∙◌, ap}
 use Rattle.hull.proofs.Stand.{among_either}
 use Rattle.choice_bench.proofs.families.Families.curve.Goals as goal
 
