@@ -1,17 +1,19 @@
 #!/bin/bash
-# Times the curves of a case's families, and the reading and the check of a certificate, beside a peer that plans the case.
-#   bench/curves.sh PEER FOLDER BUDGET [RUNS]
-# PEER: a program without proof that takes `plan --sites F --parts F --rates F --budget N --certificate F`, plans the case and writes its
-# certificate. FOLDER has sites.csv, parts.csv and rates.csv. RUNS: how many times each is run, 5 if left out; the best time counts.
+# Times the curves of a case's families, and the reading and the check of a certificate, beside a peer that plans the
+# case.
+#   bench/curves.sh FOLDER BUDGET [RUNS [PEER]]
+# FOLDER has sites.csv, parts.csv and rates.csv. RUNS: how many times each is run, 5 if left out; the best time counts.
+# The peer is peers/plan.rs, which is built here, or PEER: another program that takes the words of `plan`.
 #
-# The peer's time is the wall time of its whole run. Ours are those of all curves, of reading the peer's certificate, and of reading and checking it,
-# which a program of this repository takes inside. All are run in turn on one processor.
+# The peer's time is the wall time of its whole run. Ours are those of all curves, of reading the peer's certificate,
+# and of reading and checking it, which a program of this repository takes inside. All are run in turn on one processor.
+# Before that the built program plans the case as well, and it stops where the peer's report or certificate isn't ours.
 set -eu
 cd "$(dirname "$0")/.."
-peer=${1:?words: PEER FOLDER BUDGET [RUNS]}
-folder=${2:?words: PEER FOLDER BUDGET [RUNS]}
-budget=${3:?words: PEER FOLDER BUDGET [RUNS]}
-runs=${4:-5}
+folder=${1:?words: FOLDER BUDGET [RUNS [PEER]]}
+budget=${2:?words: FOLDER BUDGET [RUNS [PEER]]}
+runs=${3:-5}
+peer=${4:-}
 
 work=$(mktemp -d)
 trap 'rm -rf "$work"' EXIT
@@ -20,12 +22,21 @@ ours=crates/plan_bench/out/plan_bench
 on_one=()
 command -v taskset > /dev/null && on_one=(taskset -c "$(($(nproc) - 1))")
 tables=("$folder/sites.csv" "$folder/parts.csv" "$folder/rates.csv")
+words=(plan --sites "${tables[0]}" --parts "${tables[1]}" --rates "${tables[2]}" --budget "$budget" --certificate)
+if [ -z "$peer" ]; then
+    peer=$work/plan_peer
+    rustc --edition 2024 -O -C target-cpu=native bench/peers/plan.rs -o "$peer"
+fi
+
+./spares "${words[@]}" "$work/ours" > "$work/ours.report"
+"$peer" "${words[@]}" "$work/certificate" > "$work/report"
+cmp "$work/certificate" "$work/ours"
+cmp "$work/report" "$work/ours.report"
 
 microseconds() { printf '%s' "${EPOCHREALTIME//[.,]/}"; }
 for _ in $(seq "$runs"); do
     start=$(microseconds)
-    "${on_one[@]}" "$peer" plan --sites "${tables[0]}" --parts "${tables[1]}" --rates "${tables[2]}" --budget "$budget" \
-        --certificate "$work/certificate" > /dev/null
+    "${on_one[@]}" "$peer" "${words[@]}" "$work/certificate" > /dev/null
     echo $(($(microseconds) - start)) >> "$work/peer.all"
     "${on_one[@]}" "$ours" "${tables[@]}" "$work/certificate" timed > "$work/line"
     sed -n '1s/.*nanoseconds //p' "$work/line" >> "$work/curves.all"

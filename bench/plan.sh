@@ -1,14 +1,17 @@
 #!/bin/bash
-# Times `plan` by both aims, `check` of both certificates, `sweep` and a `session`, in turn on one processor, by the processor's time.
+# Times `plan` by both aims, `check` of both certificates, `sweep` and a `session`, in turn on one processor, by the
+# processor's time.
 #   bench/plan.sh PROGRAM FOLDER BUDGET [RUNS [PEER]]
-# PROGRAM is the built program; FOLDER has sites.csv, parts.csv and rates.csv, whose fields aren't quoted. RUNS: how many times each is
-# run, 5 if left out; the least time counts. PEER: a program without proof that takes the same words of `plan` without an aim, plans the
-# case and writes its certificate; its plan is then timed as well, and its report and certificate must be ours.
+# PROGRAM is the built program; FOLDER has sites.csv, parts.csv and rates.csv, whose fields aren't quoted. RUNS: how
+# many times each is run, 5 if left out; the least time counts. The plan of peers/plan.rs, which is built here, is timed
+# as well, or that of PEER: another program that takes the same words of `plan` without an aim. It stops where the
+# peer's report or certificate isn't ours.
 #
-# What counts is the user time of the whole run, with the reading of the tables and the writing of the certificate in it. The tables
-# are counted by the formula of docs/FORMATS.md. A score is what the backorders of a line unit at one base count for, at one choice of
-# stocks for the depot and that base; those are counted from the limits as well.
+# What counts is the user time of the whole run, with the reading of the tables and the writing of the certificate in
+# it. The tables are counted by the formula of docs/FORMATS.md. A score is what the backorders of a line unit at one
+# base count for, at one choice of stocks for the depot and that base; those are counted from the limits as well.
 set -eu
+bench=$(cd "$(dirname "$0")" && pwd)
 program=${1:?words: PROGRAM FOLDER BUDGET [RUNS [PEER]]}
 folder=${2:?words: PROGRAM FOLDER BUDGET [RUNS [PEER]]}
 budget=${3:?words: PROGRAM FOLDER BUDGET [RUNS [PEER]]}
@@ -17,6 +20,10 @@ peer=${5:-}
 
 work=$(mktemp -d)
 trap 'rm -rf "$work"' EXIT
+if [ -z "$peer" ]; then
+    peer=$work/plan_peer
+    rustc --edition 2024 -O -C target-cpu=native "$bench/peers/plan.rs" -o "$peer"
+fi
 on_one=()
 command -v taskset > /dev/null && on_one=(taskset -c "$(($(nproc) - 1))")
 files=(--sites "$folder/sites.csv" --parts "$folder/parts.csv" --rates "$folder/rates.csv")
@@ -41,18 +48,16 @@ timed() {
 } > "$work/edits"
 
 for _ in $(seq "$runs"); do
-    [ -z "$peer" ] || timed peer "$peer" "${words[@]}" --certificate "$work/peer"
+    timed peer "$peer" "${words[@]}" --certificate "$work/peer"
     timed plan "$program" "${words[@]}" --certificate "$work/plain"
+    cmp "$work/peer" "$work/plain"
+    cmp "$work/peer.report" "$work/plan.report"
     timed check "$program" check --certificate "$work/plain"
     timed sweep "$program" sweep "${files[@]}"
     timed session "$program" session "${files[@]}" --edits "$work/edits"
     timed loss_plan "$program" "${words[@]}" --objective log-availability --certificate "$work/loss"
     timed loss_check "$program" check --certificate "$work/loss"
 done
-if [ -n "$peer" ]; then
-    cmp "$work/peer" "$work/plain"
-    cmp "$work/peer.report" "$work/plan.report"
-fi
 
 # the tables and the scores of all families
 read -r tables scores < <(tr -d '\r' < "$folder/parts.csv" | awk -F, -v sites="$(grep -c , "$folder/sites.csv")" '
@@ -73,11 +78,11 @@ read -r tables scores < <(tr -d '\r' < "$folder/parts.csv" | awk -F, -v sites="$
 least() { sort -n "$work/$1.all" | head -n 1; }
 awk -v runs="$runs" -v tables="$tables" -v scores="$scores" -v plan="$(least plan)" -v check="$(least check)" -v sweep="$(least sweep)" -v session="$(least session)" \
     -v loss_plan="$(least loss_plan)" -v loss_check="$(least loss_check)" \
-    -v peer="$([ -z "$peer" ] || least peer)" '
+    -v peer="$(least peer)" '
     function ratio(a, b) { return b > 0 ? sprintf("%.2f", a / b) : "-" }
     BEGIN {
     printf "%d tables, %d scores; user seconds, least of %d\n", tables, scores, runs
-    if (peer != "") printf "peer: plan %.3f; ours/peer %s\n", peer, ratio(plan, peer)
+    printf "peer: plan %.3f; ours/peer %s\n", peer, ratio(plan, peer)
     printf "backorders: plan %.3f, check %.3f, check/plan %s\n", plan, check, ratio(check, plan)
     printf "sweep %.3f, sweep/plan %s\n", sweep, ratio(sweep, plan)
     printf "session of 64 plans %.3f, session/plan %s\n", session, ratio(session, plan)
