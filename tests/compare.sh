@@ -37,7 +37,7 @@ with_python 'the first column of a comparison' "$room/columns.py" "$program" "$f
 tables_of "$one"
 check 'a comparison without stocks' 2 '' 'fault,words\n' compare "${tables[@]}"
 check 'a comparison with 32 bits' 2 '' 'fault,words\n' compare "${tables[@]}" --stocks "$one/stocks.csv" --bits 32
-refused_tables | tries_tables compares
+tries_tables compares < <(refused_tables)
 tries_files compares "$beside" sites parts rates stocks
 tables_of "$one"
 on_full_device 'a full device: compare' compare "${tables[@]}" --stocks "$one/stocks.csv"

@@ -63,8 +63,8 @@ check 'a target that is too large' 2 '' 'fault,range,target\n' target "${tables[
 # files and devices
 tries_files sweeps "$whole" sites parts rates
 tries_files prices "$at_one" sites parts rates
-refused_tables | tries_tables sweeps
-refused_tables | tries_tables prices
+tries_tables sweeps < <(refused_tables)
+tries_tables prices < <(refused_tables)
 tables_of "$one"
 on_full_device 'a full device: sweep' sweep "${tables[@]}"
 on_full_device 'a full device: target' target "${tables[@]}" --backorders 1

@@ -1,0 +1,112 @@
+#!/usr/bin/env python3
+"""The habits of docs/CONTRIBUTING.md that a script can see: prints each place that breaks one, and how many there are.
+
+Usage: tests/habits.py [ROOT]
+"""
+import collections
+import pathlib
+import re
+import sys
+
+COLUMNS = 120
+IMPORT = re.compile(r'use Rattle\.([\w.]+)\.\{([^}]*)\}')
+DECLARED = re.compile(r'(?:abbrev )?pub (?:record |data )?([^\s(:]+)')
+OPERATOR = '◌'
+
+
+def lines_of(path):
+    return path.read_text().split('\n')
+
+
+def opening(crates):
+    """a file opens with a sentence that says what lives there"""
+    for path in [*crates.glob('*/src/*.rt'), *crates.glob('*/specs/*.antt')]:
+        if path.stem != 'Lib' and not path.stem.endswith('tests') and not re.match(r'(//!|--) ', path.read_text()):
+            yield path, 1, 'none'
+
+
+def wide(crates):
+    """clauses, code and definitions have at most 120 columns; imports and texts may have more"""
+    for path in [*crates.glob('*/src/*.rt'), *crates.glob('*/specs/*.antt')]:
+        for number, line in enumerate(lines_of(path), 1):
+            free = re.match(r'\s*(pub |ghost )*(use |inverse)|\s*#\[tactic', line) or '"' in line or path.stem == 'tests'
+            if len(line) > COLUMNS and not free:
+                yield path, number, '%d columns' % len(line)
+
+
+def undocumented(crates):
+    """each function and each type has a comment of three strokes, but for tests, `main` and what a trait documents"""
+    for path in crates.glob('*/src/*.rt'):
+        of_trait = False
+        lines = lines_of(path)
+        for number, line in enumerate(lines):
+            if line.startswith('impl'):
+                of_trait = ' for ' in line
+            elif line == '}':
+                of_trait = False
+            if of_trait or not re.match(r'\s*(pub(\(crate\))? )?(const )?(fn|struct|enum|trait) \w+', line):
+                continue
+            above = number - 1
+            while re.match(r'\s*(#\[|\)\])', lines[above]):
+                above -= 1
+            is_test = '#[test]' in lines[above + 1:number] or re.search(r'tests?\.rt|worked_rows|_rows/', str(path))
+            if not re.match(r'\s*///', lines[above]) and not is_test and ' fn main' not in ' ' + line:
+                yield path, number + 1, 'no comment'
+
+
+def written_by_hand(crates):
+    """files of definitions and lemmas, whose names the check doesn't make"""
+    for path in [*crates.glob('*/specs/**/*.antt'), *crates.glob('*/proofs/**/*.antt')]:
+        if path.name not in ('Answers.antt', 'Invariants.antt') and 'out' not in path.parts:
+            yield path
+
+
+def hyphened(crates):
+    """words of a name are joined by `_`"""
+    for path in written_by_hand(crates):
+        for number, line in enumerate(lines_of(path), 1):
+            name = re.match(r"(?:abbrev |unfoldable )?(?:pub )?(\S*\w-\w\S*) :", line)
+            if name and OPERATOR not in name.group(1):
+                yield path, number, name.group(1)
+
+
+def uncommented(crates):
+    """what another file imports has a comment above it"""
+    users = collections.defaultdict(set)
+    for path in [*crates.glob('*/**/*.antt'), *crates.glob('*/src/*.rt')]:
+        for module, names in IMPORT.findall(path.read_text()):
+            for name in names.split(','):
+                users[module, name.strip().split(' as ')[0]].add(path)
+    for path in written_by_hand(crates):
+        module = '.'.join(path.relative_to(crates).with_suffix('').parts)
+        lines = lines_of(path)
+        for number, line in enumerate(lines):
+            name = DECLARED.match(line)
+            above = lines[number - 1]
+            if name and users[module, name.group(1)] and not above.startswith('--') and not above.startswith('infix'):
+                yield path, number + 1, name.group(1)
+
+
+def stale(crates):
+    """the text that a wrong body replaces stands once in its file"""
+    for path in crates.glob('*/must-fail/*.edit'):
+        text = ''
+        for number, line in enumerate(lines_of(path), 1):
+            if line.startswith('file: '):
+                text = (path.parent.parent / line[6:].strip()).read_text()
+            if line.startswith('old: ') and text.count(line[5:]) != 1:
+                yield path, number, 'stands %d times' % text.count(line[5:])
+
+
+def main():
+    root = pathlib.Path(sys.argv[1] if len(sys.argv) > 1 else pathlib.Path(__file__).parent.parent)
+    broken = 0
+    for rule in (opening, wide, undocumented, hyphened, uncommented, stale):
+        for path, number, what in rule(root / 'crates'):
+            print('%s:%d: %s: %s' % (path.relative_to(root), number, what, rule.__doc__))
+            broken += 1
+    print('%d places break a habit' % broken)
+    return 1 if broken else 0
+
+
+sys.exit(main())
