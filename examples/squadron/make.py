@@ -20,21 +20,21 @@ BASES = [
     ("Strip", 2, 14, 360, False),
 ]
 
-# line units by system; how many shop units each has, and whether it is electronics
-SYSTEMS = [
-    ("radar", "antenna transmitter receiver processor supply", 2, True),
-    ("radio", "transceiver amplifier tuner panel intercom", 2, True),
-    ("nav", "inertial-unit air-data gps-receiver compass display", 2, True),
-    ("mission", "computer recorder head-up map-unit data-link", 2, True),
-    ("engine", "fuel-control starter igniter sensor-box oil-pump", 1, False),
-    ("power", "generator control-unit inverter battery relay-box", 1, True),
-    ("controls", "computer actuator trim-motor servo stick-sensor", 1, True),
-    ("weapons", "release-unit panel gun-drive pylon-box sight", 1, True),
-    ("hydraulics", "pump reservoir manifold accumulator filter-module", 0, False),
-    ("fuel", "boost-pump valve gauge-unit transfer-pump probe-set", 0, False),
-    ("gear", "actuator wheel brake strut-valve steering-unit", 0, False),
-    ("cabin", "cooling-pack pressure-valve fan heat-exchanger seat", 0, False),
-]
+# the systems, a line each: how many shop units each line unit has, what kind they are, and the line units
+SYSTEMS = """\
+radar 2 electronic antenna transmitter receiver processor supply
+radio 2 electronic transceiver amplifier tuner panel intercom
+nav 2 electronic inertial-unit air-data gps-receiver compass display
+mission 2 electronic computer recorder head-up map-unit data-link
+engine 1 mechanical fuel-control starter igniter sensor-box oil-pump
+power 1 electronic generator control-unit inverter battery relay-box
+controls 1 electronic computer actuator trim-motor servo stick-sensor
+weapons 1 electronic release-unit panel gun-drive pylon-box sight
+hydraulics 0 mechanical pump reservoir manifold accumulator filter-module
+fuel 0 mechanical boost-pump valve gauge-unit transfer-pump probe-set
+gear 0 mechanical actuator wheel brake strut-valve steering-unit
+cabin 0 mechanical cooling-pack pressure-valve fan heat-exchanger seat
+"""
 
 
 class Draws:
@@ -87,9 +87,10 @@ def main():
         "parts": ["part,parent,cost,per_system,max_depot,max_base"],
         "rates": ["part,site,demand,repair_here,share,repair_days"],
     }
-    for system, units, shop_units, is_electronic in SYSTEMS:
-        for unit in units.split():
-            parts, rates = line_unit(draws, "%s-%s" % (system, unit), shop_units, is_electronic)
+    for row in SYSTEMS.splitlines():
+        system, shop_units, kind, *units = row.split()
+        for unit in units:
+            parts, rates = line_unit(draws, "%s-%s" % (system, unit), int(shop_units), kind == "electronic")
             tables["parts"] += parts
             tables["rates"] += rates
     for table, rows in tables.items():
