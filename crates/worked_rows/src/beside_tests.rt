@@ -9,7 +9,8 @@ const PARTS: &str = "part,parent,cost,per_system,max_depot,max_base\nL,,100,1,2,
 const RATES: &str = "part,site,demand,repair_here,share,repair_days\nL,D,,,,20\nL,B,36.5,0,,0\n";
 
 /// Rates of which a pipeline is beyond the model's limits.
-const REFUSED_RATES: &str = "part,site,demand,repair_here,share,repair_days\nL,D,,,,20\nL,B,10000,0,,0\n";
+const REFUSED_RATES: &str =
+    "part,site,demand,repair_here,share,repair_days\nL,D,,,,20\nL,B,10000,0,,0\n";
 
 /// A line unit and its shop unit, with stocks.
 const SHOP: [&str; 4] = [
