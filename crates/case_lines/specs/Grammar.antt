@@ -129,7 +129,11 @@ part_lines weighted n = each_after [] (numbers_from 0 n) (part_line weighted n)
 -- parts,N,weights
 abbrev pub weights_fields : Format ℕ
 weights_fields =
-    as_shape (and_then (word (codes "parts")) (λ _. and_then (one (number 1 2000)) (λ _. word (codes "weights")))) (λ x. x.1.0) (λ n. (tt, (n, tt))) (λ _. true)
+    as_shape
+    (and_then (word (codes "parts")) (λ _. and_then (one (number 1 2000)) (λ _. word (codes "weights"))))
+    (λ x. x.1.0)
+    (λ n. (tt, (n, tt)))
+    (λ _. true)
 
 -- parts,N or parts,N,weights
 abbrev pub parts_line : Format (Either ℕ ℕ)
