@@ -11,13 +11,15 @@ use Rattle.plan_report.specs.Texts.{lower_millionths, upper_millionths}
 use Rattle.budget_sweep.specs.declared.report.SweepPoint.{SweepPoint}
 use Rattle.budget_sweep.specs.declared.report.TargetReport.{TargetReport}
 
--- both ends of a point, and the numbers that are printed of them
+-- both ends of a point
 abbrev pub ends_of : SweepPoint → Ends
 ends_of point = record { lo = point.lo; hi = point.hi }
 
+-- the number that is printed of its lower end
 abbrev pub printed_lo : SweepPoint → Fraction
 printed_lo point = text_value 6 (lower_millionths 48 (ends_of point))
 
+-- the number that is printed of its upper end
 abbrev pub printed_hi : SweepPoint → Fraction
 printed_hi point = text_value 6 (upper_millionths 48 (ends_of point))
 

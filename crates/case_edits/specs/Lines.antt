@@ -9,6 +9,7 @@ use Rattle.line_text.specs.Files.{lines_of, unended}
 use Rattle.spares_input.specs.First.{or_else}
 use Rattle.spares_input.specs.Frames.{FrameRows}
 use Rattle.spares_input.specs.Cases.{IsRateOf}
+use Rattle.spares_input.specs.Money.{most_budget}
 use Rattle.csv_tables.specs.Rates.{rate_line}
 use Rattle.case_edits.specs.declared.lines.Edit.{Edit}
 use Rattle.case_edits.specs.declared.lines.Edit.TheVariants as edit
@@ -24,10 +25,6 @@ edit_lines bytes = map body_of (lines_of bytes)
 -- what stands after a word at the start of a line
 abbrev pub after : List ℕ → List ℕ → Option (List ℕ)
 after word line = if bytes_eq (take (length word) line) word then Some (drop (length word) line) else None
-
--- the most that a budget can be
-abbrev pub most_budget : ℕ
-most_budget = 1000000000000000
 
 -- a number that a budget can be
 abbrev pub as_budget : Result Decimal NumberFault → Option ℕ

@@ -8,7 +8,7 @@ ghost use Rattle.case_edits.specs.Lines.{after, budget_in, edit_lines, edit_of, 
 
 use csv_tables::rate_line;
 use exact_ratio::read_decimal;
-use spares_input::{Frame, RateRow};
+use spares_input::{Frame, MOST_BUDGET, RateRow};
 
 /// What a line says.
 #[derive(Clone, Copy)]
@@ -20,9 +20,6 @@ pub enum Edit {
     /// A row in the place of its pair's.
     Rate(RateRow),
 }
-
-/// The most that a budget can be.
-const MOST_BUDGET: u64 = 1_000_000_000_000_000;
 
 /// Where the first line feed stands.
 fn line_feed(bytes: &[u8]) -> Option<usize>

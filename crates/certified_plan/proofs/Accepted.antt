@@ -41,7 +41,7 @@ use Rattle.gap_checker.proofs.Costs.{added_is}
 use Rattle.gap_checker.proofs.Judging.{by_none}
 use Rattle.gap_checker.proofs.Readings.{trees_are_read}
 use Rattle.gap_checker.proofs.Stock_faults.{else_none}
-use Rattle.certified_plan.specs.declared.terms.Terms.{Terms}
+use Rattle.price_certificate.specs.declared.certificate.Terms.{Terms}
 use Rattle.certified_plan.specs.Scores as scores
 use Rattle.certified_plan.specs.Scores.{ends_of}
 use Rattle.certified_plan.specs.Certificates.{covers_of, certificate_of, claims_of}

@@ -15,7 +15,7 @@ use Rattle.price_certificate.specs.Certificates.{IsNode, cert_text}
 use Rattle.price_certificate.specs.Grammar.{certificate_format}
 use Rattle.on_hand.specs.declared.held.HeldCertificate.{HeldCertificate}
 use Rattle.on_hand.specs.Held.{held_format, held_text}
-use Rattle.certified_plan.specs.declared.terms.Terms.{Terms}
+use Rattle.price_certificate.specs.declared.certificate.Terms.{Terms}
 use Rattle.certified_plan.specs.Certificates.{cover_at, covers_of, certificate_of, claims_of}
 use Rattle.certified_plan.specs.Inputs.{IsHeld}
 use Rattle.certified_plan.specs.Laws.{IsPlanOn, most_bytes}

@@ -11,7 +11,7 @@ use Rattle.price_certificate.specs.declared.certificate.Node.{Node}
 use Rattle.price_certificate.specs.Covers.{places_of, trimmed, nodes_of}
 use Rattle.price_certificate.specs.Certificates.{cert_text}
 use Rattle.on_hand.specs.Held.{held_text}
-use Rattle.certified_plan.specs.declared.terms.Terms.{Terms}
+use Rattle.price_certificate.specs.declared.certificate.Terms.{Terms}
 use Rattle.certified_plan.specs.declared.terms.PlanClaims.{PlanClaims}
 
 -- the cover of the family of the line unit l at a price and a floor: over the vectors from what is held to the

@@ -2,16 +2,17 @@
 use Rattle.std.specs.Prelude.{◌≡◌, ℕ, ◌^◌, ◌≤◌, List, length, All}
 use Rattle.std.specs.Result.{IsOk}
 use Rattle.spares_input.specs.Cases.{CaseRows}
+use Rattle.spares_input.specs.Money.{most_budget}
 use Rattle.spares_input.specs.Stocks.{StockList, IsFor, IsWithinLimits}
 use Rattle.fleet_model.specs.Rows.{line_units}
 use Rattle.on_hand.specs.Work.{held_work_of}
 use Rattle.price_certificate.specs.declared.certificate.Objective.TheVariants.{Backorders}
-use Rattle.certified_plan.specs.declared.terms.Terms.{Terms}
+use Rattle.price_certificate.specs.declared.certificate.Terms.{Terms}
 use Rattle.certified_plan.specs.declared.terms.PlanClaims.{PlanClaims}
 
 -- the budget is in its range, and the format is 1 or 2; format 1 has backorders alone
 pub record AreTerms (terms : Terms) : Type 0 where
-  pub budget : terms.budget ≤ 10 ^ 15
+  pub budget : terms.budget ≤ most_budget
   pub fewest : 1 ≤ terms.format
   pub most : terms.format ≤ 2
   pub first : terms.format ≡ 1 → terms.objective ≡ Backorders

@@ -9,7 +9,7 @@ use Rattle.price_certificate.specs.declared.certificate.Objective.{Objective}
 use Rattle.price_certificate.specs.Certificates.{cert_text}
 use Rattle.gap_checker.specs.Refusals.{reject_of}
 use Rattle.on_hand.specs.Held.{held_text}
-use Rattle.certified_plan.specs.declared.terms.Terms.{Terms}
+use Rattle.price_certificate.specs.declared.certificate.Terms.{Terms}
 use Rattle.certified_plan.specs.Scores.{ends_of, value_of}
 use Rattle.certified_plan.specs.Inputs.{AreTerms, IsHeld, AreClaims, IsWithinWork}
 use Rattle.certified_plan.specs.Certificates.{certificate_of, claims_of}

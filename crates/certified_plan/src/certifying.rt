@@ -8,10 +8,10 @@ ghost use Rattle.price_certificate.specs.Certificates.{IsWellFormed};
 ghost use Rattle.certified_plan.specs.Inputs.{AreClaims, AreTerms, IsHeld};
 ghost use Rattle.certified_plan.specs.Certificates.{certificate_of, cover_of, covers_in, covers_of};
 
-use crate::terms::{PlanClaims, Terms};
+use crate::terms::PlanClaims;
 use family_curve::vector_of;
 use hull::Price;
-use price_certificate::{Certificate, Node, trim};
+use price_certificate::{Certificate, Node, Terms, trim};
 use spares_input::{Case, PartId, Stocks};
 use spares_io::{List, NoMemory};
 use std::alloc::Global;

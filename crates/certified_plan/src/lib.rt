@@ -15,5 +15,5 @@ mod writing;
 
 pub use certifying::certificate;
 pub use laws::{plans_are_accepted, plans_claim, scores_are_sound, texts_are_short};
-pub use terms::{PlanClaims, Terms};
+pub use terms::PlanClaims;
 pub use writing::certificate_text;

@@ -1,19 +1,8 @@
-//! What a plan is made for, and what its certificate claims.
+//! What the certificate of a plan claims.
 
 use hull::Price;
-use price_certificate::Objective;
 use spares_input::Stocks;
 use spares_io::List;
-
-/// What a plan is made for, and how its certificate is written.
-#[derive(Clone, Copy, Debug, Drop, PartialEq, Eq)]
-pub struct Terms {
-    /// Whole money, 0 to 10^15.
-    pub budget: u64,
-    /// 1, or 2 where covers show the floors. Format 1 has backorders alone.
-    pub format: u8,
-    pub objective: Objective,
-}
 
 /// What a plan claims of its case.
 #[derive(Drop)]

@@ -6,9 +6,9 @@ ghost use Rattle.price_certificate.specs.Certificates.{IsWellFormed};
 ghost use Rattle.gap_checker.specs.Soundness.{nothing_held};
 ghost use Rattle.certified_plan.specs.Inputs.{IsHeld};
 
-use crate::{PlanClaims, Terms, certificate, certificate_text};
+use crate::{PlanClaims, certificate, certificate_text};
 use on_hand::HeldCertificate;
-use price_certificate::{Certificate, Objective};
+use price_certificate::{Certificate, Objective, Terms};
 use spares_input::{Case, Stocks};
 use spares_io::NoMemory;
 use std::alloc::Global;

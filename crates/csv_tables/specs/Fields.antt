@@ -13,6 +13,7 @@ use Rattle.csv_tables.specs.declared.fault.TableFault.TheVariants as fault
 abbrev pub is_blank : ℕ → Bool
 is_blank b = (b == 32) || (b == 9)
 
+-- a text without the blanks in front
 unfoldable pub trim_start : List ℕ → List ℕ
 trim_start [] = []
 trim_start (b ∷ rest) = if is_blank b then trim_start rest else b ∷ rest
@@ -22,6 +23,7 @@ abbrev pub has_none : List ℕ → Bool
 has_none [] = true
 has_none (b ∷ rest) = false
 
+-- a text without the blanks at its end
 unfoldable pub trim_end : List ℕ → List ℕ
 trim_end [] = []
 trim_end (b ∷ rest) = if is_blank b && has_none (trim_end rest) then [] else b ∷ trim_end rest

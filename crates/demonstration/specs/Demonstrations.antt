@@ -7,7 +7,7 @@ use Rattle.case_plan.specs.Report as reports
 use Rattle.case_plan.specs.declared.outcome.Outcome.{Outcome}
 use Rattle.certified_plan.specs.Certificates.{certificate_of, claims_of}
 use Rattle.certified_plan.specs.declared.terms.PlanClaims.{PlanClaims}
-use Rattle.certified_plan.specs.declared.terms.Terms.{Terms}
+use Rattle.price_certificate.specs.declared.certificate.Terms.{Terms}
 use Rattle.fleet_plan.specs.Laws.{plain_ends}
 use Rattle.fleet_plan.specs.Plans.{CasePlan, IsCasePlan}
 use Rattle.gap_checker.specs.Soundness.{nothing_held}

@@ -11,13 +11,13 @@ ghost use Rattle.price_certificate.specs.Certificates.{IsWellFormed};
 use crate::confirming::confirm;
 use case_figures::Span;
 use case_plan::{Outcome, plan_case};
-use certified_plan::{PlanClaims, Terms, certificate};
+use certified_plan::{PlanClaims, certificate};
 use demo_accepts::demonstration;
 use fixed_interval::Iv;
 use gap_checker::nothing_held;
 use hull::Plain;
 use plan_report::Summary;
-use price_certificate::{Certificate, Objective};
+use price_certificate::{Certificate, Objective, Terms};
 use spares_input::{Case, Stocks};
 use spares_io::NoMemory;
 use std::alloc::Global;
@@ -85,8 +85,8 @@ fn certificate_in(
 }
 
 /// Plans the demonstration case of a number with 1 to 80 line units, with 2,000 of money for each of them, writes the
-/// certificate of the plan, reads it back and checks it, all in memory. It gives the summary of the plan. Want of
-/// memory is the only error.
+/// certificate of the plan, reads it back and checks it, all in memory (no clause says so). It gives the summary of
+/// the plan. Want of memory is the only error.
 pub fn demonstrate(alloc: Global, number: u32, lines: u16) -> Result<Summary, NoMemory>
     requires some { 1 ≤ lines }
     requires few { lines ≤ 80 }

@@ -24,6 +24,7 @@ infix 4 ◌≤ℚ◌
 pub record ◌≤ℚ◌ (q r : Fraction) : Type 0 where
   pub cross : q.num * r.den ≤ r.num * q.den
 
+-- the sum
 infixl 6 ◌+ℚ◌
 unfoldable pub ◌+ℚ◌ : Fraction → Fraction → Fraction
 q +ℚ r = record { num = q.num * r.den + r.num * q.den; den = q.den * r.den; positive = mul-pos q.positive r.positive }
@@ -33,6 +34,7 @@ infixl 6 ◌-ℚ◌
 unfoldable pub ◌-ℚ◌ : Fraction → Fraction → Fraction
 q -ℚ r = record { num = q.num * r.den - r.num * q.den; den = q.den * r.den; positive = mul-pos q.positive r.positive }
 
+-- the product
 infixl 7 ◌*ℚ◌
 unfoldable pub ◌*ℚ◌ : Fraction → Fraction → Fraction
 q *ℚ r = record { num = q.num * r.num; den = q.den * r.den; positive = mul-pos q.positive r.positive }

@@ -37,10 +37,11 @@ ten_thousandths n = record { num = n; den = 10000; positive = zero-lt-suc 9999 }
 unfoldable pub years : ℕ → Fraction
 years n = record { num = n; den = 36500; positive = zero-lt-suc 36499 }
 
--- r, the probability that part p is repaired at base j, and 1 - r, that it is sent to the depot
+-- r, the probability that part p is repaired at base j
 unfoldable pub here : CaseRows → ℕ → ℕ → Fraction
 here c p j = ten_thousandths (rate_at c p j).repair_here
 
+-- 1 - r, the probability that it is sent to the depot
 unfoldable pub sent : CaseRows → ℕ → ℕ → Fraction
 sent c p j = whole 1 -ℚ here c p j
 

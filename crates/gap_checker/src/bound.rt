@@ -1,6 +1,7 @@
 //! The bound that claimed floors give.
 
 ghost use Rattle.std.specs.Prelude.{◌≡◌, ◌^◌, ◌<◌, ◌≤◌, All, length, sum};
+ghost use Rattle.spares_input.specs.Money.{most_budget};
 ghost use Rattle.price_bounds.specs.Sums.{bound_of};
 
 use hull::Price;
@@ -22,7 +23,7 @@ fn sum_of(floors: &[u128]) -> u128
 pub(crate) fn largest_bound(price: Price, floors: &[u128], budget: u64) -> u128
     requires money { 0 < price.q }
     requires price { price.p ≤ 2 ^ 74 }
-    requires budget { budget ≤ 1000000000000000 }
+    requires budget { budget ≤ most_budget }
     requires few { length floors.now ≤ 2000 }
     requires most { All (λ floor. floor ≤ 2 ^ 115) floors.now }
     ensures { result ≡ bound_of price.p price.q (sum floors.now) budget }

@@ -3,6 +3,7 @@ use Rattle.std.specs.Prelude.{◌≡◌, ⊤, ℕ, ◌^◌, ◌≤◌, List, [],
 use Rattle.line_text.specs.Files.{file_text, file_answer}
 use Rattle.spares_input.specs.Frames.{FrameRows, frame_of}
 use Rattle.spares_input.specs.Cases.{IsCase}
+use Rattle.spares_input.specs.Money.{most_budget}
 use Rattle.spares_input.specs.Stocks.{IsFor}
 use Rattle.spares_input.specs.declared.fault.CaseFault.{CaseFault}
 use Rattle.price_certificate.specs.declared.certificate.Certificate.{Certificate}
@@ -46,7 +47,7 @@ pub record IsWellFormed (c : Certificate) : Type 0 where
   pub fewest : 1 ≤ c.format
   pub most : c.format ≤ 2
   pub case : IsCase c.case
-  pub budget : c.budget ≤ 10 ^ 15
+  pub budget : c.budget ≤ most_budget
   pub price : c.price.p ≤ 2 ^ 74
   pub money : (1 ≤ c.price.q) × (c.price.q ≤ 10 ^ 12)
   pub floor_count : length c.floors ≡ family_count c.case.parts

@@ -6,6 +6,7 @@ use Rattle.line_text.specs.Texts.{number, word, no_field, word_line, number_line
 use Rattle.hull.specs.declared.price.Price.{Price}
 use Rattle.spares_input.specs.Rows.{is_line}
 use Rattle.spares_input.specs.Cases.{CaseRows, frame_rows, pair_count}
+use Rattle.spares_input.specs.Money.{most_budget}
 use Rattle.spares_input.specs.Stocks.{StockList}
 use Rattle.spares_input.specs.declared.rows.PartRow.{PartRow}
 use Rattle.case_lines.specs.Grammar.{case_format}
@@ -46,7 +47,7 @@ objective_line format = if format == 2 then one (line objective_fields)
 
 -- budget,B
 abbrev pub budget_line : Format ℕ
-budget_line = count_line (codes "budget") 0 (10 ^ 15)
+budget_line = count_line (codes "budget") 0 most_budget
 
 -- price,P,Q
 abbrev pub price_fields : Format Price

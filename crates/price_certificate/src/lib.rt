@@ -16,7 +16,7 @@ mod tests;
 mod trimming;
 mod writing;
 
-pub use certificate::{Certificate, Node, Objective};
+pub use certificate::{Certificate, Node, Objective, Terms};
 pub use exactness::certificates_are_exact;
 pub use fault::CertFault;
 pub use place::Place;

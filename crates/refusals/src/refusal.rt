@@ -8,7 +8,7 @@ use price_certificate::CertFault;
 use spares_input::{CaseFault, StockFault};
 use spares_words::WordsFault;
 
-/// A file that a command names. Files are read in this order.
+/// A file that a command names.
 #[derive(Clone, Copy, Debug, PartialEq, Eq)]
 pub enum File {
     /// The table of sites.

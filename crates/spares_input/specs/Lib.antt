@@ -1,4 +1,5 @@
 pub mod First
+pub mod Money
 pub mod Names
 pub mod Rows
 pub mod Frames

@@ -9,7 +9,7 @@ use Rattle.case_plan.proofs.Truths.{plain_true, planned_true, report_fits}
 use Rattle.certified_plan.specs.Certificates.{certificate_of, claims_of, text_of}
 use Rattle.certified_plan.specs.Inputs.{AreClaims, AreTerms}
 use Rattle.certified_plan.specs.declared.terms.PlanClaims.{PlanClaims}
-use Rattle.certified_plan.specs.declared.terms.Terms.{Terms}
+use Rattle.price_certificate.specs.declared.certificate.Terms.{Terms}
 use Rattle.certified_plan.proofs.Formed.{plan_claims}
 use Rattle.case_plan.specs.Report as reports
 use Rattle.family_curve.specs.Counts.{work_of}

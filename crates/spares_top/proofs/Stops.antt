@@ -3,7 +3,7 @@ use Rattle.std.proofs.Common.{ap, refl, sym, Option, Some, None, Result, Ok, Err
 use Rattle.spares_input.specs.Cases.{CaseRows, frame_rows}
 use Rattle.family_curve.specs.Counts.{work_of}
 use Rattle.on_hand.specs.Work.{held_work_of}
-use Rattle.certified_plan.specs.declared.terms.Terms.{Terms}
+use Rattle.price_certificate.specs.declared.certificate.Terms.{Terms}
 use Rattle.spares_io.specs.Steps.{◌>>=◌}
 use Rattle.spares_io.specs.declared.stop.Stop.{Stop}
 use Rattle.spares_io.specs.declared.stop.Stop.TheVariants as stop

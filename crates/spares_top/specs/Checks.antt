@@ -45,6 +45,7 @@ form_of bytes = if is_held_form bytes then with_held (held_of bytes) else with_n
 abbrev pub judged_of : Claimed → Result Accepted Reject
 judged_of x = judged (ends_of x.certificate.objective) x.certificate (held_in x.certificate.case x.on_hand)
 
+-- what the bytes of a certificate claim, or the first rule that they break
 unfoldable pub claimed_of : List ℕ → Result Claimed Failure
 claimed_of bytes = do
   claimed ← or_refuse no_names refusal.Cert (form_of bytes)

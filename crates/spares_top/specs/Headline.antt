@@ -50,10 +50,11 @@ use Rattle.spares_top.specs.declared.done.Written.{Written}
 
 -- ---- a single pipeline
 
--- the values of the two texts that are printed of an interval: its lower end rounded down, its upper end up
+-- the value of the text that is printed of the lower end of an interval, rounded down
 abbrev pub printed_low : Ends → Fraction
 printed_low x = text_value 6 (lower_millionths 48 x)
 
+-- that of its upper end, rounded up
 abbrev pub printed_high : Ends → Fraction
 printed_high x = text_value 6 (upper_millionths 48 x)
 
@@ -71,10 +72,11 @@ pub record ShowsModel (mean variance : Fraction) (stock : ℕ) (report : SingleR
 
 -- ---- a case
 
--- the values of the two texts that are printed of a span
+-- the value of the text that is printed of the lower end of a span, rounded down
 abbrev pub span_low : Span → Fraction
 span_low x = text_value 6 (lower_millionths (places x) (ends x))
 
+-- that of its upper end, rounded up
 abbrev pub span_high : Span → Fraction
 span_high x = text_value 6 (upper_millionths (places x) (ends x))
 
@@ -170,7 +172,7 @@ pub record IsTruePrice (c : CaseRows) (backorders : Decimal) (report : TargetRep
 pub record IsTrueAnswer (d : PlanDue) (report : PlanReport) : Type 0 where
   pub plan : CasePlan
   pub accepted : IsAcceptedCase d.case
-  -- in the words of the model, for any score, of weighted backorders and where nothing is held; and in its plain words
+  -- in the words of the model: of weighted backorders, where nothing is held; and in its plain words
   pub says : IsTrueReport plain_ends weighted_backorders d.case (nothing_held d.case).list
       (plain_terms d.budget) plan report
   pub plainly : IsTruePlanReport d.case d.budget plan.stocks report

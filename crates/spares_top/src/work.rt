@@ -18,7 +18,7 @@ use crate::plan::plan;
 use crate::session::session;
 use crate::single::single;
 use crate::sweep::{sweep, target};
-use certified_plan::Terms;
+use price_certificate::Terms;
 use refusals::{Failure, Refusal, failure_of};
 use spares_io::{List, NoMemory, Shelf, Sink, Stop, Text};
 use spares_words::{Order, read_words};

@@ -10,6 +10,8 @@ use Rattle.fixed_interval.specs.Widths.{is_width, IsWidth}
 use Rattle.price_certificate.specs.Grammar.{objective_name}
 use Rattle.price_certificate.specs.declared.certificate.Objective.{Objective}
 use Rattle.price_certificate.specs.declared.certificate.Objective.TheVariants as objective
+use Rattle.price_certificate.specs.declared.certificate.Terms.{Terms}
+use Rattle.spares_input.specs.Money.{most_budget}
 use Rattle.spares_io.specs.Steps.{◌>>=◌}
 use Rattle.spares_io.specs.declared.stop.Stop.{Stop}
 use Rattle.spares_io.specs.declared.stop.Stop.TheVariants as stop
@@ -22,7 +24,6 @@ use Rattle.spares_words.specs.declared.order.Which.{Which}
 use Rattle.spares_words.specs.declared.order.Which.TheVariants as which
 use Rattle.spares_words.specs.declared.order.WordsFault.{WordsFault}
 use Rattle.spares_words.specs.declared.order.WordsFault.TheVariants.{Shape, Number, Range}
-use Rattle.spares_words.specs.declared.orders.PlanTerms.{PlanTerms}
 use Rattle.spares_words.specs.declared.values.Names.{Names}
 
 -- the value of an argument that may not be left out
@@ -95,10 +96,6 @@ eval_from names stocks bits_text = do
 abbrev pub eval_of : List Row → Result Order WordsFault
 eval_of rows = eval_from (names_of rows) (text_of rows (codes "stocks")) (first_of (codes "bits") rows)
 
--- the most that a budget may be
-abbrev pub most_budget : ℕ
-most_budget = 1000000000000000
-
 -- the objective of a text, if there is one of this name, and backorders where there is no text
 abbrev pub objective_of : Option Text → Option Objective
 objective_of None = Some objective.Backorders
@@ -125,7 +122,7 @@ format_of lowest None = Ok lowest
 format_of lowest (Some text) = whole_of which.Format lowest 2 text
 
 -- what the texts of `plan` say beside names: the budget, then the format, then the objective
-abbrev pub plan_terms_from : Option Text → Text → Option Text → Option Text → Result PlanTerms WordsFault
+abbrev pub plan_terms_from : Option Text → Text → Option Text → Option Text → Result Terms WordsFault
 plan_terms_from on_hand budget_text format_text objective_text = do
   budget ← whole_of which.Budget 0 most_budget budget_text
   format ← format_of (lowest_format on_hand (objective_of objective_text)) format_text
@@ -133,13 +130,13 @@ plan_terms_from on_hand budget_text format_text objective_text = do
   Ok (record { budget = budget; format = format; objective = objective })
 
 -- budget, format and objective of `plan` by the rows of its words
-abbrev pub plan_terms_of : List Row → Result PlanTerms WordsFault
+abbrev pub plan_terms_of : List Row → Result Terms WordsFault
 plan_terms_of rows =
     plan_terms_from (first_of (codes "on-hand") rows) (text_of rows (codes "budget"))
     (first_of (codes "format") rows) (first_of (codes "objective") rows)
 
 -- `plan` with the names as they stand
-abbrev pub plan_from : Names → Option Text → Result PlanTerms WordsFault → Text → Result Order WordsFault
+abbrev pub plan_from : Names → Option Text → Result Terms WordsFault → Text → Result Order WordsFault
 plan_from names on_hand terms_read certificate = do
   terms ← terms_read
   Ok (Plan names.sites names.parts names.rates on_hand terms.budget terms.format terms.objective certificate)
@@ -220,7 +217,7 @@ order_of [] = Err Shape
 order_of (name ∷ rest) = by_named (command_named name) (name ∷ rest)
 
 -- the ranges of what `plan` says beside names
-abbrev pub AreInRange : Option Text → PlanTerms → Type 0
+abbrev pub AreInRange : Option Text → Terms → Type 0
 AreInRange on_hand terms =
     (terms.budget ≤ most_budget) × (lowest_format on_hand (Some terms.objective) ≤ terms.format) × (terms.format ≤ 2)
 

@@ -23,7 +23,8 @@ use crate::number::{bits, format, lowest_format, number, objective_of, optional,
 use crate::values::{Names, copied, copied_if_given, names_of, text_of, value_of};
 use crate::{Order, Which, WordsFault};
 use clap::ArgMatches;
-use price_certificate::Objective;
+use price_certificate::Terms;
+use spares_input::MOST_BUDGET;
 use spares_io::{Stop, Text};
 use std::alloc::Global;
 
@@ -66,26 +67,17 @@ fn eval_order(alloc: Global, matches: &ArgMatches<'_>) -> Result<Order, Stop<Wor
     })
 }
 
-/// What the words of `plan` say beside names.
-#[derive(Drop)]
-struct PlanTerms {
-    budget: u64,
-    format: u8,
-    objective: Objective,
-}
-
 /// The budget, the format and the objective of a plan.
-fn plan_terms(matches: &ArgMatches<'_>) -> Result<PlanTerms, WordsFault>
+fn plan_terms(matches: &ArgMatches<'_>) -> Result<Terms, WordsFault>
     ensures terms { result ≡ plan_terms_of (rows_of (found_of matches.now)) }
     ensures range { IfOk result (AreInRange (first_of (codes "on-hand") (rows_of (found_of matches.now)))) }
 {
     let objective = objective_of(value_of(matches, "objective"));
     let lowest = lowest_format(value_of(matches, "on-hand"), objective);
-    let most = 1_000_000_000_000_000;
-    let budget = whole(Which::Budget, 0, most, text_of(matches, "budget"))?;
+    let budget = whole(Which::Budget, 0, MOST_BUDGET, text_of(matches, "budget"))?;
     let format = format(lowest, value_of(matches, "format"))?;
     match objective {
-        Some(objective) => Ok(PlanTerms {
+        Some(objective) => Ok(Terms {
             budget,
             format,
             objective,
@@ -99,7 +91,7 @@ fn plan_order(alloc: Global, matches: &ArgMatches<'_>) -> Result<Order, Stop<Wor
     ensures order { Gives (plan_of (rows_of (found_of matches.now))) result }
     ensures range { IfOk result IsInRange }
 {
-    let PlanTerms {
+    let Terms {
         budget,
         format,
         objective,
