@@ -23,3 +23,5 @@ pub mod Walks
 pub mod Bases
 pub mod Stands
 pub mod Grown
+pub mod Rows
+mod Queued

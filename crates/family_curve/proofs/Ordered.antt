@@ -1,6 +1,5 @@
 -- The choices of stocks at a base in order of cost, and their points.
-use Rattle.std.proofs.Common.{◌≡◌, ℕ, zero, suc, ◌+◌, ◌<◌, ◌≤◌, List, [], ◌∷◌, ◌++◌, length, get_or, map, take, sym, ap, ◌∙◌, subst, arith}
-use Rattle.std.specs.List.{AllZip}
+use Rattle.std.proofs.Common.{◌≡◌, ℕ, zero, suc, ◌+◌, ◌*◌, ◌<◌, ◌≤◌, List, [], ◌∷◌, ◌++◌, length, get_or, map, take, sym, ap, ◌∙◌, subst, arith}
 use Rattle.std.specs.List.Sorted.{IsPermutation}
 use Rattle.std.proofs.lemmas.List.{get_or-take, length-map, map-append}
 use Rattle.std.proofs.lemmas.List.Sorted.{IsPermutation-map, length_permutation}
@@ -25,20 +24,14 @@ use Rattle.family_curve.proofs.Sites.{size}
 
 -- ---- places of lists
 
--- entries at one place of two related lists are related
-pub zip_at : {X Y : Type 0} (R : X → Y → Type 0) (xs : List X) (ys : List Y) (n : ℕ) (d : X) (e : Y) → AllZip R xs ys → n < length xs → R (get_or xs n d) (get_or ys n e)
-zip_at R [] ys n d e a h = absurd (omega (arith, h))
-zip_at R (x ∷ xs) [] n d e a h = absurd a
-zip_at R (x ∷ xs) (y ∷ ys) zero d e a h = a.0
-zip_at R (x ∷ xs) (y ∷ ys) (suc n) d e a h = zip_at R xs ys n d e a.1 (omega (arith, h))
-
 take_below : {X : Type 0} (n : ℕ) (xs : List X) (k : ℕ) → k < length (take n xs) → k < n
 take_below zero xs k h = absurd (let l : k < 0 = h in omega (arith, l))
 take_below (suc n) [] k h = absurd (let l : k < 0 = h in omega (arith, l))
 take_below (suc n) (x ∷ xs) zero h = omega arith
 take_below (suc n) (x ∷ xs) (suc k) h = let l = take_below n xs k (omega (arith, h)) in omega (arith, l)
 
-take_on : {X : Type 0} (xs : List X) (n : ℕ) (x : X) → n < length xs → x ≡ get_or xs n x → take (n + 1) xs ≡ take n xs ++ x ∷ []
+-- the first of a list and the one at the place behind them
+pub take_on : {X : Type 0} (xs : List X) (n : ℕ) (x : X) → n < length xs → x ≡ get_or xs n x → take (n + 1) xs ≡ take n xs ++ x ∷ []
 take_on [] n x h e = absurd (omega (arith, h))
 take_on {X} (y ∷ ys) zero x h e = ap (λ (z : X). z ∷ []) (sym e)
 take_on {X} (y ∷ ys) (suc n) x h e = ap (λ k. take k (y ∷ ys)) (next n) ∙ ap (λ (zs : List X). y ∷ zs) (take_on ys n x (omega (arith, h)) e)
@@ -81,6 +74,18 @@ module _ (x : FamilyBox) (j : ℕ) (order : List Choice) (is : IsOrder x j order
       let rises : u.cost ≤ (get_or order n w).cost = is.rises r.at n w (omega (arith, below)) h in
       let same : w.cost ≡ (get_or order n w).cost = ap (λ (c : Choice). c.cost) e in
       omega (arith, cost, rises, same)
+
+  -- each earlier point has as many stocks as another choice
+  pub earlier_wide : IsFamilyBox x → LeavesRoom ends → IsAt x 0 d → IsBase x.case j → (n : ℕ) (w : Choice) (v : Point) → n ≤ length order → IsChoice x j w → Among v (before n)
+      → length v.stocks ≡ length (choice_stocks x j w)
+  earlier_wide valid room at_depot base n w v h is_choice m =
+      let r : Origin (choice_point x ends d j) (take n order) v = origin_of (choice_point x ends d j) (take n order) v m in
+      let below : r.at < n = take_below n order r.at r.below in
+      let u : Choice = get_or order r.at w in
+      let point : choice_point x ends d j u ≡ v = ap (choice_point x ends d j) (sym (get_or-take n order r.at w below)) ∙ r.is w in
+      let wide : (c : Choice) → IsChoice x j c → length (choice_point x ends d j c).stocks ≡ 1 * size x.case x.line =
+      λ c i. (base_small x valid ends room d at_depot j (choice_stocks x j c) base (choice_at x valid j c i base)).width in
+      sym (ap (λ (p : Point). length p.stocks) point) ∙ wide u (is.choices r.at w (omega (arith, below, h))) ∙ sym (wide w is_choice)
 
   -- what stands for the points so far and one more
   pub stands_on : (n : ℕ) (w : Choice) (old new : List Point) → n < length order → w ≡ get_or order n w → StandFor (before n) old

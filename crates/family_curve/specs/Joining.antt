@@ -3,7 +3,15 @@
 use Rattle.std.specs.Prelude.{◌≡◌, List, [], Option, None, Some, length}
 use Rattle.hull.specs.declared.point.Point.{Point}
 use Rattle.hull.specs.Curves.{Among}
+use Rattle.family_curve.specs.declared.joining.Sources.{Sources}
 use Rattle.family_curve.specs.Inputs.{FamilyBox}
+use Rattle.family_curve.specs.Spots.{AreBases}
+use Rattle.family_curve.specs.Tabled.{numbers}
+
+-- the evaluator and the bases are those of the family
+pub record AreSources (s : Sources) : Type 0 where
+  pub evaluator : s.evaluator.numbers ≡ numbers s.family.now
+  pub bases : AreBases s.family.now s.bases.items
 
 -- its vertices, where there is one
 abbrev pub vertices_of : Option (List Point) → List Point

@@ -5,17 +5,19 @@ use Rattle.std.specs.List.{AllZip}
 use Rattle.std.specs.List.Sorted.{IsNonDecreasingBy, IsPermutation}
 use Rattle.fixed_interval.specs.Ends.{Ends, IsWithinLimit}
 use Rattle.series_bounds.specs.Answer.{at_place}
-use Rattle.fleet_model.specs.Rows.{bases}
+use Rattle.fleet_model.specs.Laws.{IsBase}
+use Rattle.fleet_model.specs.Rows.{bases, systems, per_system, weight}
 use Rattle.fleet_model.specs.Fleet.{family}
 use Rattle.family_eval.specs.Profile.{item_of}
 use Rattle.hull.specs.declared.point.Point.{Point}
 use Rattle.family_curve.specs.declared.base.BaseSpot.{BaseSpot}
+use Rattle.family_curve.specs.declared.base_at.BaseAt.{BaseAt}
 use Rattle.family_curve.specs.declared.order.Base.{Base}
 use Rattle.family_curve.specs.declared.order.Choice.{Choice}
 use Rattle.family_curve.specs.declared.order.ShopVector.{ShopVector}
 use Rattle.family_curve.specs.Points.{ScoreEnds, cost_above}
 use Rattle.family_curve.specs.Separation.{base_point, base_stocks}
-use Rattle.family_curve.specs.Inputs.{AreShopsAt, FamilyBox, IsAt, held_at, line_high, line_low, line_stocks, shop_vectors}
+use Rattle.family_curve.specs.Inputs.{AreShopsAt, FamilyBox, IsAt, IsFamilyBox, held_at, line_high, line_low, line_stocks, shop_vectors}
 
 -- the point of stocks at a base
 abbrev pub spot_point : BaseSpot → Point
@@ -61,6 +63,16 @@ pub record IsBaseOf (x : FamilyBox) (j : ℕ) (b : Base) : Type 0 where
 abbrev pub AreBases : FamilyBox → List Base → Type 0
 AreBases x bs = AllZip (IsBaseOf x) (bases x.case) bs
 
+-- a base of a family, where the depot has stocks within their bounds, with its numbers
+pub record IsBaseAt (b : BaseAt) : Type 0 where
+  pub valid : IsFamilyBox b.family.now
+  pub depot : IsAt b.family.now 0 b.depot.now
+  pub site : IsBase b.family.now.case b.site.0
+  pub base : IsBaseOf b.family.now b.site.0 b.base.now
+  pub systems : b.systems ≡ systems b.family.now.case b.site.0
+  pub per_system : b.per_system ≡ per_system b.family.now.case b.family.now.line
+  pub weight : b.weight ≡ weight b.family.now.case b.family.now.line
+
 -- the line unit's backorders at base j, by its stock there, where the depot has the stocks d and the base has these of
 -- its shop units
 pub record IsRow (x : FamilyBox) (d : List ℕ) (j : ℕ) (shops : List ℕ) (row : List Ends) : Type 0 where
@@ -68,3 +80,7 @@ pub record IsRow (x : FamilyBox) (d : List ℕ) (j : ℕ) (shops : List ℕ) (ro
   pub small : All (IsWithinLimit 48) row
   pub ends : (s : ℕ) → IsAt x j (s ∷ shops)
       → at_place row s ≡ (item_of 48 x.case (base_stocks x.case x.line d j (s ∷ shops)) x.line j).backorders
+
+-- and so for each of the shop units' stocks at a base
+abbrev pub AreRows : BaseAt → List (List Ends) → Type 0
+AreRows b rows = AllZip (IsRow b.family.now b.depot.now b.site.0) (shop_vectors b.family.now b.site.0) rows

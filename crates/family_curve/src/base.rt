@@ -1,24 +1,23 @@
 //! The curve of each base with given stocks at the depot.
 
-ghost use Rattle.std.specs.Prelude.{◌≡◌, ◌+◌, ◌<◌, ◌≤◌, ◌++◌, ◌∷◌, [], IfOk, drop, length, map};
-ghost use Rattle.std.specs.List.{AllZip};
-ghost use Rattle.fleet_model.specs.Laws.{IsBase};
+ghost use Rattle.std.specs.Prelude.{◌≡◌, ◌+◌, ◌^◌, ◌<◌, ◌≤◌, ◌++◌, ◌∷◌, [], IfOk, drop, length, map, take, vec_len};
+ghost use Rattle.fixed_interval.specs.Ends.{IsWithinLimit};
+ghost use Rattle.family_eval.specs.Profile.{item_of};
 ghost use Rattle.hull.specs.declared.point.Point.{Point};
 ghost use Rattle.hull.specs.Curves.{Among, IsCurve, StandFor};
 ghost use Rattle.family_curve.specs.Separation.{base_points, base_stocks};
-ghost use Rattle.family_curve.specs.Points.{scored};
-ghost use Rattle.family_curve.specs.Inputs.{IsAt, shop_vectors, vector_count};
-ghost use Rattle.family_curve.specs.Spots.{IsBaseOf, IsChoice, IsRow, choice_point, choice_stocks, spot_point};
+ghost use Rattle.family_curve.specs.Inputs.{shop_vectors, vector_count};
+ghost use Rattle.family_curve.specs.Spots.{AreRows, IsBaseAt, IsChoice, choice_point, choice_stocks, spot_point};
 ghost use Rattle.family_curve.specs.Tabled.{AreTables, numbers};
 
-use crate::depot::{DepotTables, backorders_at, own_at};
-use crate::family::Family;
+use crate::base_at::BaseAt;
+use crate::depot::{DepotTables, own_at, put_backorders};
 use crate::order::{Base, Choice};
 use family_tables::Evaluator;
 use fixed_interval::Iv;
-use hull::{Chain, Rising, Score, Spot, is_first};
-use spares_input::SiteId;
-use spares_io::{List, NoMemory};
+use hull::{Chain, Score, Spot, is_first};
+use series_bounds::short::Iv64;
+use spares_io::NoMemory;
 use std::alloc::Global;
 
 /// Stocks at a base, with their cost and the ends of their score.
@@ -60,157 +59,183 @@ impl<'a> Spot for BaseSpot<'a> {
         to.extend_from_slice(self.shops)?;
         Ok(())
     }
+
+    fn write_stocks(&self, to: &mut [u8]) {
+        to[0] = self.line;
+        if self.shops.is_empty() {
+            return;
+        }
+        to[1..].copy_from_slice(self.shops);
+    }
 }
 
-/// The backorders at a base, where the depot has these stocks: a row for each of the shop units' stocks, which lists
-/// those of the line unit by its stock.
-fn rows_at(
+/// A chain for each base, of a point that costs and scores nothing and has no stocks.
+pub(crate) fn chains_of<'a>(
     alloc: Global,
-    family: &Family<'_>,
+    bases: &'a [Base],
+) -> Result<Vec<Chain<BaseSpot<'a>>>, NoMemory>
+    ensures { IfOk result (λ v. length v.items ≡ length bases.now) }
+{
+    let count = bases.len();
+    let mut chains = Vec::with_capacity(alloc, count)?;
+    for _place in 0..count {
+        let nothing = BaseSpot {
+            cost: 0,
+            lo: 0,
+            hi: 0,
+            line: 0,
+            shops: &[],
+        };
+        let chain = Chain::one(alloc, 1, nothing)?;
+        chains.push(chain)?;
+    }
+    Ok(chains)
+}
+
+/// Makes so many rows or more.
+fn make_rows(rows: &mut Vec<Vec<Iv64<48>>>, count: usize) -> Result<(), NoMemory>
+    ensures { IfOk result (λ _. count ≤ vec_len rows.new) }
+{
+    let alloc = *rows.allocator();
+    for _place in rows.len()..count {
+        rows.push(Vec::new(alloc))?;
+    }
+    Ok(())
+}
+
+/// Puts the backorders at a base into rows: the first has those for the first of the shop units' stocks, and so on; a
+/// row lists those of the line unit by its stock.
+fn put_rows(
+    rows: &mut Vec<Vec<Iv64<48>>>,
+    here: &BaseAt<'_, '_>,
     evaluator: &Evaluator<48>,
     tables: &DepotTables,
-    depot: &[u8],
-    site: SiteId,
-    base: &Base,
-) -> Result<Vec<List<Iv<48>>>, NoMemory>
-    requires evaluator { evaluator.now.numbers ≡ numbers family.now }
-    requires depot { IsAt family.now 0 depot.now }
-    requires tables { AreTables evaluator.now.numbers (drop 1 depot.now) tables.now }
-    requires site { IsBase family.now.case site.0 }
-    requires base { IsBaseOf family.now site.0 base.now }
-    ensures { IfOk result (λ v. AllZip (IsRow family.now depot.now site.0) (shop_vectors family.now site.0) v.items) }
+) -> Result<(), NoMemory>
+    requires here { IsBaseAt here.now }
+    requires evaluator { evaluator.now.numbers ≡ numbers here.now.family.now }
+    requires tables { AreTables evaluator.now.numbers (drop 1 here.now.depot.now) tables.now }
+    ensures long { IfOk result
+        (λ _. length (shop_vectors here.now.family.now here.now.site.0) ≤ length rows.new.items) }
+    ensures rows { IfOk result (λ _. AreRows here.now (map (λ r. r.items)
+        (take (length (shop_vectors here.now.family.now here.now.site.0)) rows.new.items))) }
 {
-    let count = base.shops.len();
-    let mut rows = Vec::with_capacity(alloc, count)?;
-    let own = own_at(family, evaluator, tables, depot, site);
+    let count = here.base.shops.len();
+    make_rows(rows, count)?;
+    let own = own_at(here, evaluator, tables);
     for n in 0..count {
-        let stocks = base.shops[n].stocks.as_slice();
-        let row = backorders_at(family, evaluator, tables, &own, depot, site, stocks)?;
-        rows.push(List::of(row))?;
+        let stocks = here.base.shops[n].stocks.as_slice();
+        put_backorders(&mut rows[n], here, evaluator, tables, &own, stocks)?;
     }
-    Ok(rows)
+    Ok(())
 }
 
-/// What the line unit's backorders score at a choice, where the depot has these stocks and so the base these rows.
-fn score_at<S: Score>(
-    family: &Family<'_>,
-    score: &S,
-    depot: &[u8],
-    site: SiteId,
-    rows: &[List<Iv<48>>],
-    choice: &Choice,
-) -> Iv<48>
-    requires site { IsBase family.now.case site.0 }
-    requires rows { AllZip (IsRow family.now depot.now site.0) (shop_vectors family.now site.0) rows.now }
-    requires choice { IsChoice family.now site.0 choice.now }
-    ensures { result ≡ scored family.now.case family.now.line S.ends (base_stocks family.now.case family.now.line
-        depot.now site.0 (choice_stocks family.now site.0 choice.now)) site.0 }
+/// The line unit's backorders at a choice at a base that has these rows.
+fn backorders_of(here: &BaseAt<'_, '_>, rows: &[Vec<Iv64<48>>], choice: &Choice) -> Iv<48>
+    requires here { IsBaseAt here.now }
+    requires rows { AreRows here.now (map (λ r. r.items) rows.now) }
+    requires choice { IsChoice here.now.family.now here.now.site.0 choice.now }
+    ensures small { IsWithinLimit 48 result }
+    ensures ends { let x = here.now.family.now in let j = here.now.site.0 in result ≡ (item_of 48 x.case
+        (base_stocks x.case x.line here.now.depot.now j (choice_stocks x j choice.now)) x.line j).backorders }
 {
-    let _size = family.size();
     let count = rows.len();
     prove!(choice.shops < count);
     let row = rows[choice.shops].as_slice();
-    family.score(score, site, row[usize::from(choice.line)])
+    row[usize::from(choice.line)].open()
 }
 
-/// Takes the point of a choice, where the depot has these stocks and so the base these rows.
-fn take_choice<'a, S: Score>(
-    vertices: &mut Rising<BaseSpot<'a>>,
-    family: &Family<'_>,
+/// What stands for the point of a choice at a base that has these rows.
+fn spot_at<'b, S: Score>(
+    here: &BaseAt<'_, 'b>,
     score: &S,
-    depot: &[u8],
-    site: SiteId,
-    rows: &[List<Iv<48>>],
-    base: &'a Base,
+    rows: &[Vec<Iv64<48>>],
     choice: &Choice,
-) -> Result<(), NoMemory>
-    requires depot { IsAt family.now 0 depot.now }
-    requires site { IsBase family.now.case site.0 }
-    requires rows { AllZip (IsRow family.now depot.now site.0) (shop_vectors family.now site.0) rows.now }
-    requires base { IsBaseOf family.now site.0 base.now }
-    requires choice { IsChoice family.now site.0 choice.now }
-    requires order { (v : Point) → Among v vertices.old → v.cost ≤ choice.now.cost }
-    ensures stands { IfOk result (λ _. StandFor
-        (vertices.old ++ choice_point family.now S.ends depot.now site.0 choice.now ∷ []) vertices.new) }
-    ensures some { IfOk result (λ _. 0 < length vertices.new) }
-    ensures few { IfOk result (λ _. length vertices.new ≤ length vertices.old + 1) }
+) -> BaseSpot<'b>
+    requires here { IsBaseAt here.now }
+    requires rows { AreRows here.now (map (λ r. r.items) rows.now) }
+    requires choice { IsChoice here.now.family.now here.now.site.0 choice.now }
+    ensures { spot_point result
+        ≡ choice_point here.now.family.now S.ends here.now.depot.now here.now.site.0 choice.now }
 {
-    let _size = family.size();
-    let scored = score_at(family, score, depot, site, rows, choice);
-    if vertices.refuses(choice.cost, scored.lo()) {
-        return Ok(());
-    }
-    let spot = BaseSpot {
+    let backorders = backorders_of(here, rows, choice);
+    let scored = here.score(score, backorders);
+    BaseSpot {
         cost: choice.cost,
         lo: scored.lo(),
         hi: scored.hi(),
         line: choice.line,
-        shops: base.shops[choice.shops].stocks.as_slice(),
-    };
-    vertices.take(spot)
-}
-
-/// The vertices of the points of a base, where the depot has these stocks and so the base these rows.
-fn vertices_of<'a, S: Score>(
-    alloc: Global,
-    family: &Family<'_>,
-    score: &S,
-    depot: &[u8],
-    site: SiteId,
-    rows: &[List<Iv<48>>],
-    base: &'a Base,
-) -> Result<Rising<BaseSpot<'a>>, NoMemory>
-    requires depot { IsAt family.now 0 depot.now }
-    requires site { IsBase family.now.case site.0 }
-    requires rows { AllZip (IsRow family.now depot.now site.0) (shop_vectors family.now site.0) rows.now }
-    requires base { IsBaseOf family.now site.0 base.now }
-    ensures stands { IfOk result
-        (StandFor (map (choice_point family.now S.ends depot.now site.0) base.now.order.items)) }
-    ensures some { 0 < length base.now.order.items → IfOk result (λ vertices. 0 < length vertices) }
-    ensures few { IfOk result (λ vertices. length vertices ≤ length base.now.order.items) }
-{
-    let count = base.order.len();
-    let mut vertices = Rising::with_capacity(alloc, count)?;
-    for n in 0..count {
-        let choice = &base.order[n];
-        take_choice(
-            &mut vertices,
-            family,
-            score,
-            depot,
-            site,
-            rows,
-            base,
-            choice,
-        )?;
+        shops: here.base.shops[choice.shops].stocks.as_slice(),
     }
-    Ok(vertices)
 }
 
-/// The curve of a base, where the depot has these stocks.
-pub(crate) fn base_curve<'a, S: Score>(
-    alloc: Global,
-    family: &Family<'_>,
+/// Makes a chain take the point of a choice at a base that has these rows.
+fn take_choice<'b, S: Score>(
+    chain: &mut Chain<BaseSpot<'b>>,
+    here: &BaseAt<'_, 'b>,
+    score: &S,
+    rows: &[Vec<Iv64<48>>],
+    choice: &Choice,
+) -> Result<(), NoMemory>
+    requires here { IsBaseAt here.now }
+    requires rows { AreRows here.now (map (λ r. r.items) rows.now) }
+    requires choice { IsChoice here.now.family.now here.now.site.0 choice.now }
+    requires order { (v : Point) → Among v chain.old → v.cost ≤ choice.now.cost }
+    requires width { (v : Point) → Among v chain.old
+        → length v.stocks ≡ length (choice_stocks here.now.family.now here.now.site.0 choice.now) }
+    requires room { length chain.old + 1 ≤ 2 ^ 31 }
+    ensures stands { IfOk result (λ _. StandFor (chain.old
+        ++ choice_point here.now.family.now S.ends here.now.depot.now here.now.site.0 choice.now ∷ []) chain.new) }
+    ensures few { IfOk result (λ _. length chain.new ≤ length chain.old + 1) }
+{
+    let spot = spot_at(here, score, rows, choice);
+    chain.take(spot)
+}
+
+/// Makes a chain that of the points of a base that has these rows.
+fn put_points<'b, S: Score>(
+    chain: &mut Chain<BaseSpot<'b>>,
+    here: &BaseAt<'_, 'b>,
+    score: &S,
+    rows: &[Vec<Iv64<48>>],
+) -> Result<(), NoMemory>
+    requires here { IsBaseAt here.now }
+    requires rows { AreRows here.now (map (λ r. r.items) rows.now) }
+    requires some { 0 < length here.now.base.now.order.items }
+    requires room { length here.now.base.now.order.items ≤ 65000000 }
+    ensures stands { IfOk result (λ _. StandFor
+        (map (choice_point here.now.family.now S.ends here.now.depot.now here.now.site.0)
+        here.now.base.now.order.items) chain.new) }
+    ensures few { IfOk result (λ _. length chain.new ≤ length here.now.base.now.order.items) }
+{
+    let first = &here.base.order[0];
+    chain.begin_with(spot_at(here, score, rows, first));
+    for n in 1..here.base.order.len() {
+        let choice = &here.base.order[n];
+        take_choice(chain, here, score, rows, choice)?;
+    }
+    Ok(())
+}
+
+/// Makes a chain the curve of a base, and puts the backorders there into rows.
+pub(crate) fn put_curve<'b, S: Score>(
+    chain: &mut Chain<BaseSpot<'b>>,
+    rows: &mut Vec<Vec<Iv64<48>>>,
+    here: &BaseAt<'_, 'b>,
     score: &S,
     evaluator: &Evaluator<48>,
     tables: &DepotTables,
-    depot: &[u8],
-    site: SiteId,
-    base: &'a Base,
-) -> Result<Chain<BaseSpot<'a>>, NoMemory>
-    requires evaluator { evaluator.now.numbers ≡ numbers family.now }
-    requires depot { IsAt family.now 0 depot.now }
-    requires tables { AreTables evaluator.now.numbers (drop 1 depot.now) tables.now }
-    requires site { IsBase family.now.case site.0 }
-    requires base { IsBaseOf family.now site.0 base.now }
-    requires room { vector_count family.now site.0 ≤ 65000000 }
-    ensures curve { IfOk result
-        (IsCurve (base_points family.now.case family.now.line S.ends family.now.held family.now.low family.now.high
-        depot.now site.0)) }
-    ensures few { IfOk result (λ chain. length chain ≤ vector_count family.now site.0) }
+) -> Result<(), NoMemory>
+    requires here { IsBaseAt here.now }
+    requires evaluator { evaluator.now.numbers ≡ numbers here.now.family.now }
+    requires tables { AreTables evaluator.now.numbers (drop 1 here.now.depot.now) tables.now }
+    requires room { vector_count here.now.family.now here.now.site.0 ≤ 65000000 }
+    ensures curve { IfOk result (λ _. let x = here.now.family.now in
+        IsCurve (base_points x.case x.line S.ends x.held x.low x.high here.now.depot.now here.now.site.0) chain.new) }
+    ensures few { IfOk result (λ _. length chain.new ≤ vector_count here.now.family.now here.now.site.0) }
 {
-    let _size = family.size();
-    let rows = rows_at(alloc, family, evaluator, tables, depot, site, base)?;
-    let vertices = vertices_of(alloc, family, score, depot, site, rows.as_slice(), base)?;
-    Ok(vertices.chain())
+    put_rows(rows, here, evaluator, tables)?;
+    let count = here.base.shops.len();
+    put_points(chain, here, score, &rows.as_slice()[..count])?;
+    let _vertices = chain.len();
+    Ok(())
 }

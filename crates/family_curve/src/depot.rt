@@ -1,20 +1,17 @@
 //! The tables from which the points of a family are made, and the backorders that they give.
 
-ghost use Rattle.std.specs.Prelude.{◌≡◌, ℕ, ◌-◌, ◌<◌, ◌≤◌, ◌∷◌, IfOk, All, drop, length, map};
+ghost use Rattle.std.specs.Prelude.{◌≡◌, ◌-◌, ◌≤◌, IfOk, drop, length, map};
 ghost use Rattle.std.specs.List.{range_with_len};
-ghost use Rattle.fixed_interval.specs.Ends.{IsWithinLimit};
-ghost use Rattle.series_bounds.specs.Answer.{at_place};
-ghost use Rattle.fleet_model.specs.Laws.{IsBase};
-ghost use Rattle.family_eval.specs.Profile.{item_of};
 ghost use Rattle.family_tables.specs.Numbers.{rows_of, depot_line_moments};
-ghost use Rattle.family_curve.specs.Separation.{base_stocks};
-ghost use Rattle.family_curve.specs.Inputs.{AreShopsAt, IsAt, line_high};
+ghost use Rattle.family_curve.specs.Inputs.{AreShopsAt};
+ghost use Rattle.family_curve.specs.Spots.{IsBaseAt, IsRow};
 ghost use Rattle.family_curve.specs.Tabled.{AreTables, base_shops, depot_shops, numbers, own_at};
 
+use crate::base_at::BaseAt;
 use crate::family::{Family, shops_of};
 use family_tables::{Evaluator, OwnPart};
-use fixed_interval::Iv;
 use moment_table::kinds::Table;
+use series_bounds::short::Iv64;
 use spares_input::SiteId;
 use spares_io::{List, NoMemory};
 use std::alloc::Global;
@@ -70,52 +67,43 @@ pub(crate) fn depot_tables(
     Ok(DepotTables { line, bases })
 }
 
-/// What the line unit at a base has without its shop units there, where the depot has these stocks: it serves all
-/// stocks of the shop units at the base.
+/// What the line unit at a base has without its shop units there: it serves all stocks of the shop units at the base.
 pub(crate) fn own_at(
-    family: &Family<'_>,
+    here: &BaseAt<'_, '_>,
     evaluator: &Evaluator<48>,
     tables: &DepotTables,
-    depot: &[u8],
-    site: SiteId,
 ) -> OwnPart<48>
-    requires evaluator { evaluator.now.numbers ≡ numbers family.now }
-    requires depot { IsAt family.now 0 depot.now }
-    requires tables { AreTables evaluator.now.numbers (drop 1 depot.now) tables.now }
-    requires site { IsBase family.now.case site.0 }
-    ensures { result ≡ own_at evaluator.now.numbers depot.now site.0 }
+    requires here { IsBaseAt here.now }
+    requires evaluator { evaluator.now.numbers ≡ numbers here.now.family.now }
+    requires tables { AreTables evaluator.now.numbers (drop 1 here.now.depot.now) tables.now }
+    ensures { result ≡ own_at evaluator.now.numbers here.now.depot.now here.now.site.0 }
 {
-    let _size = family.size();
-    evaluator.own_part(&tables.line, depot[0], shops_of(depot), site)
+    let depot = here.depot;
+    evaluator.own_part(&tables.line, depot[0], shops_of(depot), here.site)
 }
 
-/// The backorders of the line unit at a base at each of its stocks there, where the depot has these stocks, the shop
-/// units have these at the base, and `own` is what the line unit has there without them.
-pub(crate) fn backorders_at(
-    family: &Family<'_>,
+/// Puts the backorders of the line unit at a base, at each of its stocks there, in the place of what `found` holds. The
+/// shop units have these stocks at the base, and `own` is what the line unit has there without them.
+pub(crate) fn put_backorders(
+    found: &mut Vec<Iv64<48>>,
+    here: &BaseAt<'_, '_>,
     evaluator: &Evaluator<48>,
     tables: &DepotTables,
     own: &OwnPart<48>,
-    depot: &[u8],
-    site: SiteId,
     shops: &[u8],
-) -> Result<Vec<Iv<48>>, NoMemory>
-    requires evaluator { evaluator.now.numbers ≡ numbers family.now }
-    requires depot { IsAt family.now 0 depot.now }
-    requires tables { AreTables evaluator.now.numbers (drop 1 depot.now) tables.now }
-    requires site { IsBase family.now.case site.0 }
-    requires shops { AreShopsAt family.now site.0 shops.now }
-    requires own { own.now ≡ own_at evaluator.now.numbers depot.now site.0 }
-    ensures count { IfOk result (λ v. line_high family.now site.0 < length v.items) }
-    ensures small { IfOk result (λ v. All (IsWithinLimit 48) v.items) }
-    ensures ends { IfOk result (λ v. (s : ℕ) → IsAt family.now site.0 (s ∷ shops.now)
-        → at_place v.items s ≡ (item_of 48 family.now.case
-        (base_stocks family.now.case family.now.line depot.now site.0 (s ∷ shops.now)) family.now.line
-        site.0).backorders) }
+) -> Result<(), NoMemory>
+    requires here { IsBaseAt here.now }
+    requires evaluator { evaluator.now.numbers ≡ numbers here.now.family.now }
+    requires tables { AreTables evaluator.now.numbers (drop 1 here.now.depot.now) tables.now }
+    requires own { own.now ≡ own_at evaluator.now.numbers here.now.depot.now here.now.site.0 }
+    requires shops { AreShopsAt here.now.family.now here.now.site.0 shops.now }
+    ensures { IfOk result
+        (λ _. IsRow here.now.family.now here.now.depot.now here.now.site.0 shops.now found.new.items) }
 {
-    let _size = family.size();
+    let (site, depot) = (here.site, here.depot);
     let base = &tables.bases[usize::from(site.0) - 1];
-    let backorders = evaluator.backorders(
+    evaluator.put_backorders(
+        found,
         own,
         depot[0],
         shops_of(depot),
@@ -123,5 +111,5 @@ pub(crate) fn backorders_at(
         base.as_slice(),
         shops,
     )?;
-    Ok(backorders)
+    Ok(())
 }

@@ -1,11 +1,10 @@
 //! A family with the bounds of its vectors.
 
-ghost use Rattle.std.specs.Prelude.{◌≡◌, ◌+◌, ◌*◌, ◌^◌, ◌<◌, ◌≤◌, IfOk, length, map, take, drop, get_or, [], ◌∷◌};
-ghost use Rattle.fixed_interval.specs.Ends.{IsWithinLimit};
+ghost use Rattle.std.specs.Prelude.{◌≡◌, ◌+◌, ◌*◌, ◌<◌, ◌≤◌, IfOk, length, map, take, drop, get_or, [], ◌∷◌};
 ghost use Rattle.spares_input.specs.Frames.{part_at};
 ghost use Rattle.fleet_model.specs.Laws.{IsBase};
 ghost use Rattle.fleet_model.specs.Fleet.{family};
-ghost use Rattle.fleet_model.specs.Rows.{systems, per_system, weight};
+ghost use Rattle.fleet_model.specs.Rows.{systems};
 ghost use Rattle.demand_rates.specs.Rates.{AreRatesOf};
 ghost use Rattle.family_eval.specs.Inputs.{IsLine};
 ghost use Rattle.family_curve.specs.Points.{AreOrdered, cost_above};
@@ -18,9 +17,7 @@ use crate::vectors::{count, vector_at};
 use demand_rates::kinds::Rates;
 use family_eval::members;
 use family_tables::Evaluator;
-use fixed_interval::Iv;
-use hull::Score;
-use spares_input::{Case, PartId, SiteId};
+use spares_input::{Case, PartId, PartRow, SiteId};
 use spares_io::NoMemory;
 use std::alloc::Global;
 use std::marker::Model;
@@ -237,25 +234,27 @@ impl<'a> Family<'a> {
         cost
     }
 
+    /// The row of the line unit.
+    pub(crate) fn line_row(&self) -> &PartRow
+        ensures { result.now ≡ part_at self.now.case.parts self.now.line }
+    {
+        let _sites = self.case.site_count();
+        self.case.part(self.line)
+    }
+
     /// What one line unit costs.
     pub(crate) fn line_cost(&self) -> u64
         ensures { result ≡ (part_at self.now.case.parts self.now.line).cost }
     {
-        let _sites = self.case.site_count();
-        u64::from(self.case.part(self.line).cost)
+        u64::from(self.line_row().cost)
     }
 
-    /// What backorders at a base, of at most 256, score.
-    pub(crate) fn score<S: Score>(&self, score: &S, site: SiteId, backorders: Iv<48>) -> Iv<48>
-        requires site { IsBase self.now.case site.0 }
-        requires small { IsWithinLimit 48 backorders }
-        ensures ends { result ≡ S.ends (systems self.now.case site.0) (per_system self.now.case self.now.line)
-            (weight self.now.case self.now.line) backorders }
-        ensures room { result.hi < 2 ^ 70 }
+    /// How many systems a base has.
+    pub(crate) fn systems(&self, site: SiteId) -> u32
+        requires { IsBase self.now.case site.0 }
+        ensures { result ≡ systems self.now.case site.0 }
     {
         let _sites = self.case.site_count();
-        let base = self.case.site(site);
-        let line = self.case.part(self.line);
-        score.of(base.systems, line.per_system, line.weight, backorders)
+        self.case.site(site).systems
     }
 }

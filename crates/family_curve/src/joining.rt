@@ -6,21 +6,59 @@ ghost use Rattle.hull.specs.Curves.{Among, InRange, IsCurve, StandFor};
 ghost use Rattle.family_curve.specs.Separation.{depot_point, depot_points};
 ghost use Rattle.family_curve.specs.Points.{points_within};
 ghost use Rattle.family_curve.specs.Inputs.{AreShopsAt, IsAt, line_stocks, vector_count, vertex_count};
-ghost use Rattle.family_curve.specs.Joining.{HaveWidthOf, vertices_of};
-ghost use Rattle.family_curve.specs.Spots.{AreBases};
-ghost use Rattle.family_curve.specs.Tabled.{AreTables, depot_shops, numbers};
+ghost use Rattle.family_curve.specs.Joining.{AreSources, HaveWidthOf, vertices_of};
+ghost use Rattle.family_curve.specs.Tabled.{AreTables, depot_shops};
 
-use crate::base::base_curve;
+use crate::base::{BaseSpot, chains_of, put_curve};
+use crate::base_at::BaseAt;
 use crate::depot::{DepotTables, depot_tables};
 use crate::family::{Family, joined};
 use crate::order::{Base, bases_of};
 use crate::walk::walk;
 use family_tables::Evaluator;
-use hull::{Curve, Point, Score};
+use hull::{Chain, Curve, Point, Score};
 use moment_table::kinds::Table;
+use series_bounds::short::Iv64;
 use spares_input::SiteId;
 use spares_io::{List, NoMemory};
 use std::alloc::Global;
+
+/// What the curve of a family is made from, whatever the depot has.
+#[derive(Drop)]
+struct Sources<'f> {
+    /// The family.
+    family: &'f Family<'f>,
+    /// What makes its tables.
+    evaluator: Evaluator<48>,
+    /// What is the same at each base, the first base first.
+    bases: Vec<Base>,
+}
+
+impl<'f> Sources<'f> {
+    /// The sources of a family.
+    fn of(alloc: Global, family: &'f Family<'f>) -> Result<Sources<'f>, NoMemory>
+        ensures are { IfOk result AreSources }
+        ensures family { IfOk result (λ s. s.family.now ≡ family.now) }
+    {
+        let evaluator = family.evaluator(alloc)?;
+        let bases = bases_of(alloc, family)?;
+        Ok(Sources {
+            family,
+            evaluator,
+            bases,
+        })
+    }
+}
+
+/// Lists that are filled anew for each of the depot's vectors. What they hold matters to none but the one that fills
+/// them.
+#[derive(Drop)]
+struct Work<'b> {
+    /// The curves of the bases, the first base first.
+    chains: Vec<Chain<BaseSpot<'b>>>,
+    /// The backorders at a base.
+    rows: Vec<Vec<Iv64<48>>>,
+}
 
 /// The point of stocks at the depot.
 fn depot_point(alloc: Global, family: &Family<'_>, stocks: &[u8]) -> Result<Point, NoMemory>
@@ -41,78 +79,80 @@ fn depot_point(alloc: Global, family: &Family<'_>, stocks: &[u8]) -> Result<Poin
 
 /// The points of the vectors that have these stocks at the depot, but for those that are no vertices beside the
 /// points below.
-fn depot_path<S: Score>(
+fn depot_path<'b, S: Score>(
     alloc: Global,
-    family: &Family<'_>,
+    work: &mut Work<'b>,
+    sources: &'b Sources<'_>,
     score: &S,
-    evaluator: &Evaluator<48>,
     tables: &DepotTables,
     depot: &[u8],
-    bases: &[Base],
     below: &[Point],
 ) -> Result<Vec<Point>, NoMemory>
-    requires evaluator { evaluator.now.numbers ≡ numbers family.now }
-    requires depot { IsAt family.now 0 depot.now }
-    requires tables { AreTables evaluator.now.numbers (drop 1 depot.now) tables.now }
-    requires bases { AreBases family.now bases.now }
-    requires room { length below.now + vertex_count family.now ≤ 65000000 }
+    requires sources { AreSources sources.now }
+    requires depot { IsAt sources.now.family.now 0 depot.now }
+    requires tables { AreTables sources.now.evaluator.numbers (drop 1 depot.now) tables.now }
+    requires room { length below.now + vertex_count sources.now.family.now ≤ 65000000 }
     requires ranges { (v : Point) → Among v below.now → InRange v }
-    ensures stands { IfOk result (λ path. StandFor (below.now
-        ++ depot_points family.now.case family.now.line S.ends family.now.held family.now.low family.now.high depot.now)
-        (below.now ++ path.items)) }
-    ensures among { IfOk result (λ path. (v : Point) → Among v path.items
-        → Among v (depot_points family.now.case family.now.line S.ends family.now.held family.now.low family.now.high
-        depot.now)) }
+    requires work { length work.old.chains.items ≡ length sources.now.bases.items }
+    ensures stands { IfOk result (λ path. let x = sources.now.family.now in StandFor (below.now
+        ++ depot_points x.case x.line S.ends x.held x.low x.high depot.now) (below.now ++ path.items)) }
+    ensures among { IfOk result (λ path. let x = sources.now.family.now in (v : Point) → Among v path.items
+        → Among v (depot_points x.case x.line S.ends x.held x.low x.high depot.now)) }
     ensures some { below.now ≡ [] → IfOk result (λ path. 0 < length path.items) }
-    ensures few { IfOk result (λ path. length path.items ≤ vertex_count family.now) }
+    ensures few { IfOk result (λ path. length path.items ≤ vertex_count sources.now.family.now) }
+    ensures work { IfOk result (λ _. length work.new.chains.items ≡ length sources.now.bases.items) }
 {
-    let _size = family.size();
-    let first = depot_point(alloc, family, depot)?;
-    let mut curves = Vec::new(alloc);
-    for j in 1..family.sites() {
-        let site = SiteId(j);
-        let base = &bases[usize::from(j) - 1];
-        let curve = base_curve(alloc, family, score, evaluator, tables, depot, site, base)?;
-        curves.push(curve)?;
+    let _size = sources.family.size();
+    let first = depot_point(alloc, sources.family, depot)?;
+    for j in 1..sources.family.sites() {
+        let place = usize::from(j) - 1;
+        let base = &sources.bases[place];
+        let here = BaseAt::of(sources.family, depot, SiteId(j), base);
+        put_curve(
+            &mut work.chains[place],
+            &mut work.rows,
+            &here,
+            score,
+            &sources.evaluator,
+            tables,
+        )?;
     }
-    let path = walk(alloc, &first, curves.as_slice(), below)?;
+    let path = walk(alloc, &first, work.chains.as_slice(), below)?;
     Ok(path)
 }
 
 /// The curve of the points so far and of all vectors that have these stocks at the depot.
-fn with_depot<S: Score>(
+fn with_depot<'b, S: Score>(
     alloc: Global,
     so_far: Option<Curve>,
-    family: &Family<'_>,
+    work: &mut Work<'b>,
+    sources: &'b Sources<'_>,
     score: &S,
-    evaluator: &Evaluator<48>,
     tables: &DepotTables,
     depot: &[u8],
-    bases: &[Base],
 ) -> Result<Curve, NoMemory>
-    requires evaluator { evaluator.now.numbers ≡ numbers family.now }
-    requires depot { IsAt family.now 0 depot.now }
-    requires tables { AreTables evaluator.now.numbers (drop 1 depot.now) tables.now }
-    requires bases { AreBases family.now bases.now }
-    requires room { length (vertices_of so_far) + vertex_count family.now ≤ 65000000 }
-    requires widths { HaveWidthOf family.now (vertices_of so_far) }
-    ensures curve { IfOk result (IsCurve (vertices_of so_far
-        ++ depot_points family.now.case family.now.line S.ends family.now.held family.now.low family.now.high
-        depot.now)) }
-    ensures few { IfOk result (λ curve. length curve ≤ length (vertices_of so_far) + vertex_count family.now) }
-    ensures widths { IfOk result (HaveWidthOf family.now) }
+    requires sources { AreSources sources.now }
+    requires depot { IsAt sources.now.family.now 0 depot.now }
+    requires tables { AreTables sources.now.evaluator.numbers (drop 1 depot.now) tables.now }
+    requires room { length (vertices_of so_far) + vertex_count sources.now.family.now ≤ 65000000 }
+    requires widths { HaveWidthOf sources.now.family.now (vertices_of so_far) }
+    requires work { length work.old.chains.items ≡ length sources.now.bases.items }
+    ensures curve { IfOk result (let x = sources.now.family.now in IsCurve (vertices_of so_far
+        ++ depot_points x.case x.line S.ends x.held x.low x.high depot.now)) }
+    ensures few { IfOk result
+        (λ curve. length curve ≤ length (vertices_of so_far) + vertex_count sources.now.family.now) }
+    ensures widths { IfOk result (HaveWidthOf sources.now.family.now) }
+    ensures work { IfOk result (λ _. length work.new.chains.items ≡ length sources.now.bases.items) }
 {
-    let _size = family.size();
+    let _size = sources.family.size();
     let Some(mut curve) = so_far else {
         let below = [];
-        let path = depot_path(
-            alloc, family, score, evaluator, tables, depot, bases, &below,
-        )?;
+        let path = depot_path(alloc, work, sources, score, tables, depot, &below)?;
         let curve = Curve::of(alloc, path)?;
         return Ok(curve);
     };
     let below = curve.vertices();
-    let path = depot_path(alloc, family, score, evaluator, tables, depot, bases, below)?;
+    let path = depot_path(alloc, work, sources, score, tables, depot, below)?;
     if path.is_empty() {
         return Ok(curve);
     }
@@ -122,56 +162,76 @@ fn with_depot<S: Score>(
 
 /// The curve of the points so far and of all vectors whose shop units have these stocks at the depot; `shops` are
 /// their tables there.
-fn with_shops<S: Score>(
+fn with_shops<'b, S: Score>(
     alloc: Global,
     so_far: Option<Curve>,
-    family: &Family<'_>,
+    work: &mut Work<'b>,
+    sources: &'b Sources<'_>,
     score: &S,
-    evaluator: &Evaluator<48>,
     shops: &[Table<48>],
     depot: &[u8],
-    bases: &[Base],
 ) -> Result<Curve, NoMemory>
-    requires evaluator { evaluator.now.numbers ≡ numbers family.now }
-    requires shops { shops.now ≡ depot_shops evaluator.now.numbers }
-    requires depot { AreShopsAt family.now 0 depot.now }
-    requires bases { AreBases family.now bases.now }
-    requires room { length (vertices_of so_far) + length (line_stocks family.now 0) * vertex_count family.now
-        ≤ 65000000 }
-    requires widths { HaveWidthOf family.now (vertices_of so_far) }
-    ensures curve { IfOk result (IsCurve (vertices_of so_far
-        ++ flat_map (λ s. depot_points family.now.case family.now.line S.ends family.now.held family.now.low
-        family.now.high (s ∷ depot.now)) (line_stocks family.now 0))) }
-    ensures few { IfOk result (λ curve. length curve ≤ length (vertices_of so_far) + length (line_stocks family.now 0)
-        * vertex_count family.now) }
-    ensures widths { IfOk result (HaveWidthOf family.now) }
+    requires sources { AreSources sources.now }
+    requires shops { shops.now ≡ depot_shops sources.now.evaluator.numbers }
+    requires depot { AreShopsAt sources.now.family.now 0 depot.now }
+    requires room { let x = sources.now.family.now in
+        length (vertices_of so_far) + length (line_stocks x 0) * vertex_count x ≤ 65000000 }
+    requires widths { HaveWidthOf sources.now.family.now (vertices_of so_far) }
+    requires work { length work.old.chains.items ≡ length sources.now.bases.items }
+    ensures curve { IfOk result (let x = sources.now.family.now in IsCurve (vertices_of so_far
+        ++ flat_map (λ s. depot_points x.case x.line S.ends x.held x.low x.high (s ∷ depot.now)) (line_stocks x 0))) }
+    ensures few { IfOk result (λ curve. let x = sources.now.family.now in
+        length curve ≤ length (vertices_of so_far) + length (line_stocks x 0) * vertex_count x) }
+    ensures widths { IfOk result (HaveWidthOf sources.now.family.now) }
+    ensures work { IfOk result (λ _. length work.new.chains.items ≡ length sources.now.bases.items) }
 {
+    let family = sources.family;
     let _size = family.size();
-    let tables = depot_tables(alloc, family, evaluator, shops, depot)?;
+    let tables = depot_tables(alloc, family, &sources.evaluator, shops, depot)?;
     let low = family.line_low(SiteId(0));
     let high = family.line_high(SiteId(0));
     let first = joined(alloc, low, depot)?;
-    let mut curve = with_depot(
-        alloc,
-        so_far,
-        family,
-        score,
-        evaluator,
-        &tables,
-        first.as_slice(),
-        bases,
-    )?;
+    let at_first = first.as_slice();
+    let mut curve = with_depot(alloc, so_far, work, sources, score, &tables, at_first)?;
     for s in low + 1..high + 1 {
         let stocks = joined(alloc, s, depot)?;
-        curve = with_depot(
+        let at_depot = stocks.as_slice();
+        curve = with_depot(alloc, Some(curve), work, sources, score, &tables, at_depot)?;
+    }
+    Ok(curve)
+}
+
+/// The curve of all vectors of the family within its bounds.
+fn whole_curve<'b, S: Score>(
+    alloc: Global,
+    work: &mut Work<'b>,
+    sources: &'b Sources<'_>,
+    score: &S,
+) -> Result<Curve, NoMemory>
+    requires sources { AreSources sources.now }
+    requires room { vector_count sources.now.family.now 0 * vertex_count sources.now.family.now ≤ 65000000 }
+    requires work { length work.old.chains.items ≡ length sources.now.bases.items }
+    ensures { IfOk result
+        (let x = sources.now.family.now in IsCurve (points_within x.case x.line S.ends x.held x.low x.high)) }
+{
+    let family = sources.family;
+    let _size = family.size();
+    let shops = sources.evaluator.depot_shops()?;
+    let tables = shops.as_slice();
+    let depot = SiteId(0);
+    let count = family.shop_count(depot);
+    let first = family.shop_vector(alloc, depot, 0)?;
+    let mut curve = with_shops(alloc, None, work, sources, score, tables, first.as_slice())?;
+    for n in 1..count {
+        let stocks = family.shop_vector(alloc, depot, n)?;
+        curve = with_shops(
             alloc,
             Some(curve),
-            family,
+            work,
+            sources,
             score,
-            evaluator,
-            &tables,
+            tables,
             stocks.as_slice(),
-            bases,
         )?;
     }
     Ok(curve)
@@ -188,36 +248,11 @@ pub(crate) fn family_curve<S: Score>(
         (IsCurve (points_within family.now.case family.now.line S.ends family.now.held family.now.low
         family.now.high)) }
 {
-    let _size = family.size();
-    let evaluator = family.evaluator(alloc)?;
-    let bases = bases_of(alloc, family)?;
-    let shops = evaluator.depot_shops()?;
-    let tables = shops.as_slice();
-    let depot = SiteId(0);
-    let count = family.shop_count(depot);
-    let first = family.shop_vector(alloc, depot, 0)?;
-    let mut curve = with_shops(
-        alloc,
-        None,
-        family,
-        score,
-        &evaluator,
-        tables,
-        first.as_slice(),
-        bases.as_slice(),
-    )?;
-    for n in 1..count {
-        let stocks = family.shop_vector(alloc, depot, n)?;
-        curve = with_shops(
-            alloc,
-            Some(curve),
-            family,
-            score,
-            &evaluator,
-            tables,
-            stocks.as_slice(),
-            bases.as_slice(),
-        )?;
-    }
+    let sources = Sources::of(alloc, family)?;
+    let mut work = Work {
+        chains: chains_of(alloc, sources.bases.as_slice())?,
+        rows: Vec::new(alloc),
+    };
+    let curve = whole_curve(alloc, &mut work, &sources, score)?;
     Ok(curve)
 }

@@ -28,6 +28,7 @@ use spares_io::NoMemory;
 use std::alloc::Global;
 
 mod base;
+mod base_at;
 pub mod bounds;
 mod counts;
 mod depot;

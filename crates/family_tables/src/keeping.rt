@@ -1,6 +1,6 @@
 //! Evaluators, which keep tables.
 
-ghost use Rattle.std.specs.Prelude.{◌≡◌, ◌+◌, ◌-◌, ◌*◌, ◌^◌, ◌<◌, ◌≤◌, [], IfOk, IfSome, is_some, length, get_or, map, All};
+ghost use Rattle.std.specs.Prelude.{◌≡◌, ◌+◌, ◌-◌, ◌*◌, ◌^◌, ◌<◌, ◌≤◌, [], IfOk, IfSome, OnOk, is_some, length, get_or, map, All};
 ghost use Rattle.fixed_interval.specs.Ends.{InScale, IsWithinLimit};
 ghost use Rattle.demand_rates.specs.Rates.{AreRatesOf};
 ghost use Rattle.family_eval.specs.Inputs.{IsLine};
@@ -13,11 +13,11 @@ use crate::by_numbers;
 use crate::keys::{Kept, table_at};
 use crate::making::{depot_stocks, keep_each, keys_of};
 use crate::numbers::Numbers;
-use crate::own_part::{OwnPart, line_backorders, own_part};
+use crate::own_part::{OwnPart, own_part, put_line_backorders};
 use demand_rates::kinds::Rates;
 use family_eval::{FamilyResult, evaluate};
-use fixed_interval::Iv;
 use moment_table::kinds::Table;
+use series_bounds::short::Iv64;
 use spares_input::{Case, PartId, SiteId, Stocks};
 use spares_io::NoMemory;
 use std::alloc::Global;
@@ -150,8 +150,8 @@ impl<const F: u32> Evaluator<F> {
     }
 
     /// What the line unit at a base has without its shop units there, where the depot has `own` of it, with the table
-    /// `line`, and the stocks `depot` of the shop units: [`Evaluator::backorders`] begins with it, whatever the shop
-    /// units have at the base.
+    /// `line`, and the stocks `depot` of the shop units: [`Evaluator::put_backorders`] begins with it, whatever the
+    /// shop units have at the base.
     pub fn own_part(&self, line: &Table<F>, own: u8, depot: &[u8], site: SiteId) -> OwnPart<F>
         requires line { line.now ≡ rows_of F (depot_line_moments F self.now.numbers depot.now) }
         requires own { own ≤ 63 }
@@ -161,18 +161,20 @@ impl<const F: u32> Evaluator<F> {
         own_part(&self.family, line, own, depot, site)
     }
 
-    /// The backorders of the line unit at a base at each of its stocks there up to its limit. Its own part there is
-    /// `part`, where the depot has `own` of it and the stocks `depot` of the shop units; these have the stocks `base`
-    /// at the base, with the tables `shops` there.
-    pub fn backorders(
+    /// Puts the backorders of the line unit at a base, at each of its stocks there up to its limit, in the place of
+    /// what `found` holds, whose room serves again. Its own part there is `part`, where the depot has `own` of it and
+    /// the stocks `depot` of the shop units; these have the stocks `base` at the base, with the tables `shops` there.
+    /// `NoMemory` leaves anything in `found`.
+    pub fn put_backorders(
         &self,
+        found: &mut Vec<Iv64<F>>,
         part: &OwnPart<F>,
         own: u8,
         depot: &[u8],
         site: SiteId,
         shops: &[Table<F>],
         base: &[u8],
-    ) -> Result<Vec<Iv<F>>, NoMemory>
+    ) -> Result<(), NoMemory>
         requires part { part.now ≡ own_part F self.now.numbers site.0 own depot.now }
         requires own { own ≤ 63 }
         requires site { site.0 < self.now.numbers.sites }
@@ -180,18 +182,10 @@ impl<const F: u32> Evaluator<F> {
             (base_shop_moments F self.now.numbers i site.0 (nth_stock depot.now i))) (shop_numbers self.now.numbers) }
         requires count { length base.now ≡ length self.now.numbers.parts - 1 }
         requires stocks { All (λ n. n ≤ 63) base.now }
-        ensures ends { IfOk result (λ v. AreBaseBackorders F self.now.numbers site.0 own depot.now base.now v.items) }
-        ensures most { IfOk result (λ v. All (IsWithinLimit F) v.items) }
+        ensures ends { OnOk result
+            (AreBaseBackorders F self.now.numbers site.0 own depot.now base.now found.new.items) }
+        ensures most { OnOk result (All (IsWithinLimit F) found.new.items) }
     {
-        line_backorders(
-            self.alloc,
-            &self.family,
-            part,
-            own,
-            depot,
-            site,
-            shops,
-            base,
-        )
+        put_line_backorders(found, &self.family, part, own, depot, site, shops, base)
     }
 }

@@ -1,6 +1,6 @@
 //! A line unit at a base: what it has without its shop units there, which serves all their stocks, and its backorders.
 
-ghost use Rattle.std.specs.Prelude.{◌≡◌, ◌-◌, ◌*◌, ◌^◌, ◌<◌, ◌≤◌, IfOk, length, map, All};
+ghost use Rattle.std.specs.Prelude.{◌≡◌, ◌-◌, ◌*◌, ◌^◌, ◌<◌, ◌≤◌, OnOk, length, map, All};
 ghost use Rattle.fixed_interval.specs.Ends.{IsWithinLimit};
 ghost use Rattle.family_tables.specs.Numbers.{AreBaseBackorders, base_line_moments, base_shop_moments, depot_line_moments, nth_stock, own_part, rows_of, shop_numbers};
 
@@ -8,12 +8,11 @@ use crate::numbers::Numbers;
 use crate::pair_tables::feed_from;
 use base_pipeline::base_own;
 use depot_pipeline::Moments;
-use fixed_interval::Iv;
-use moment_table::backorders_to;
 use moment_table::kinds::Table;
+use moment_table::put_backorders;
+use series_bounds::short::Iv64;
 use spares_input::SiteId;
 use spares_io::NoMemory;
-use std::alloc::Global;
 
 /// What a line unit at a base has without its shop units there: it is the same whatever stocks they have at the base.
 #[derive(Clone, Copy, Drop)]
@@ -84,11 +83,11 @@ fn line_moments<const F: u32>(
     }
 }
 
-/// The backorders of the line unit at a base at each of its stocks there up to its limit. Its own part there is `part`,
-/// where the depot has `own` of it and the stocks `depot` of the shop units; these have the stocks `base` at the base,
-/// with these tables.
-pub(crate) fn line_backorders<const F: u32>(
-    alloc: Global,
+/// Puts the backorders of the line unit at a base, at each of its stocks there up to its limit, in the place of what
+/// `found` holds. Its own part there is `part`, where the depot has `own` of it and the stocks `depot` of the shop
+/// units; these have the stocks `base` at the base, with these tables.
+pub(crate) fn put_line_backorders<const F: u32>(
+    found: &mut Vec<Iv64<F>>,
     numbers: &Numbers<F>,
     part: &OwnPart<F>,
     own: u8,
@@ -96,7 +95,7 @@ pub(crate) fn line_backorders<const F: u32>(
     site: SiteId,
     tables: &[Table<F>],
     base: &[u8],
-) -> Result<Vec<Iv<F>>, NoMemory>
+) -> Result<(), NoMemory>
     requires part { part.now ≡ own_part F numbers.now site.0 own depot.now }
     requires own { own ≤ 63 }
     requires site { site.0 < numbers.now.sites }
@@ -104,10 +103,10 @@ pub(crate) fn line_backorders<const F: u32>(
         (base_shop_moments F numbers.now i site.0 (nth_stock depot.now i))) (shop_numbers numbers.now) }
     requires count { length base.now ≡ length numbers.now.parts - 1 }
     requires stocks { All (λ n. n ≤ 63) base.now }
-    ensures ends { IfOk result (λ v. AreBaseBackorders F numbers.now site.0 own depot.now base.now v.items) }
-    ensures most { IfOk result (λ v. All (IsWithinLimit F) v.items) }
+    ensures ends { OnOk result (AreBaseBackorders F numbers.now site.0 own depot.now base.now found.new.items) }
+    ensures most { OnOk result (All (IsWithinLimit F) found.new.items) }
 {
     let _valid = numbers.sites();
     let moments = line_moments(numbers, part, own, depot, site, tables, base);
-    backorders_to(alloc, moments.mean, moments.variance, part.limit)
+    put_backorders(found, moments.mean, moments.variance, part.limit)
 }

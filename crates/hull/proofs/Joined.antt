@@ -1,11 +1,11 @@
 -- The scan of two lists in order of cost.
-use Rattle.std.proofs.Common.{◌≡◌, ℕ, ◌+◌, ◌≤◌, ◌⊎◌, inl, inr, List, [], ◌∷◌, ◌++◌, map, length, refl, sym, ap, subst, arith}
+use Rattle.std.proofs.Common.{◌≡◌, ℕ, zero, suc, ◌+◌, ◌<◌, ◌≤◌, take, get_or, ◌⊎◌, inl, inr, List, [], ◌∷◌, ◌++◌, map, length, refl, sym, ap, subst, arith}
 use Rattle.hull.specs.declared.point.Point.{Point}
 use Rattle.hull.specs.Curves.{Among, StandFor, IsChain, InRange}
 use Rattle.hull.specs.Verdicts.{IsNoDearer, TakesCheaper}
 use Rattle.hull.proofs.Stand.{among_left, among_right, among_either, stand_for_both}
 use Rattle.hull.proofs.Steps_of.{stand_self, stand_trans, stand_same}
-use Rattle.hull.proofs.Runs.{CostsRise}
+use Rattle.hull.proofs.Runs.{CostsRise, among_at}
 
 -- a scan has made a stack of some points, and two lists are to come
 pub record Joined (points stack left right : List Point) : Type 0 where
@@ -25,16 +25,63 @@ chain_rises (x ∷ y ∷ xs) c =
     let step = c.0.cost in
     (λ w m. elim m [ inl e ↦ subst (λ z. x.cost ≤ z.cost) (sym e) (omega (arith, step)) | inr n ↦ (let l = rest.0 w n in omega (arith, step, l)) ], rest)
 
--- before the scan of two lists in order of cost, nothing is on the stack and all points are to come
-pub joined_begins : (left right : List Point) → CostsRise left → CostsRise right → ((v : Point) → Among v (left ++ right) → InRange v) → Joined (left ++ right) [] left right
-joined_begins left right l r h = record {
-  chain = tt;
-  stands = stand_self (left ++ right);
-  order = λ v w m n. absurd m;
+-- before the scan of two lists in order of cost, a chain that costs no more is on the stack and all points are to come
+pub joined_begins : (stack left right : List Point) → IsChain stack → CostsRise left → CostsRise right → ((v w : Point) → Among v stack → Among w (left ++ right) → v.cost ≤ w.cost)
+    → ((v : Point) → Among v (stack ++ (left ++ right)) → InRange v) → Joined (stack ++ (left ++ right)) stack left right
+joined_begins stack left right c l r o h = record {
+  chain = c;
+  stands = stand_self (stack ++ (left ++ right));
+  order = o;
   left_rises = l;
   right_rises = r;
   ranges = h;
 }
+
+-- what is before a place of a list whose costs rise costs no more than what is behind it
+pub rise_apart : (xs ys : List Point) → CostsRise (xs ++ ys) → (v w : Point) → Among v xs → Among w ys → v.cost ≤ w.cost
+rise_apart [] ys r v w m n = absurd m
+rise_apart (x ∷ xs) ys r v w m n = elim m [
+  | inl e ↦ subst (λ z. z.cost ≤ w.cost) (sym e) (r.0 w (among_right w xs ys n))
+  | inr k ↦ rise_apart xs ys r.1 v w k n
+]
+
+-- where costs rise, what stands up to a place costs no more than what stands there
+pub rise_upto : (xs : List Point) → CostsRise xs → (k : ℕ) (d : Point) → k < length xs → (v : Point) → Among v (take (suc k) xs) → v.cost ≤ (get_or xs k d).cost
+rise_upto [] r k d h v m = absurd (let e : k < 0 = h in omega arith)
+rise_upto (x ∷ xs) r zero d h v m = elim m [ inl e ↦ subst (λ z. z.cost ≤ x.cost) (sym e) (omega arith) | inr n ↦ absurd n ]
+rise_upto (x ∷ xs) r (suc k) d h v m = elim m [
+  | inl e ↦ subst (λ z. z.cost ≤ (get_or xs k d).cost) (sym e) (r.0 (get_or xs k d) (among_at xs k d (omega arith)))
+  | inr n ↦ rise_upto xs r.1 k d (omega arith) v n
+]
+
+-- a chain begins anywhere
+pub chain_rest : (x : Point) (xs : List Point) → IsChain (x ∷ xs) → IsChain xs
+chain_rest x [] c = tt
+chain_rest x (y ∷ xs) c = c.2
+
+-- what is left of a chain is one
+pub chain_suffix : (xs ys : List Point) → IsChain (xs ++ ys) → IsChain ys
+chain_suffix [] ys c = c
+chain_suffix (x ∷ xs) ys c = chain_suffix xs ys (chain_rest x (xs ++ ys) c)
+
+-- two chains that have two points in common are one
+pub chain_glued : (xs : List Point) (t p : Point) (ys : List Point) → IsChain ((xs ++ t ∷ []) ++ p ∷ []) → IsChain (t ∷ p ∷ ys) → IsChain ((xs ++ t ∷ []) ++ p ∷ ys)
+chain_glued [] t p ys c d = d
+chain_glued (x ∷ []) t p ys c d = (c.0, c.1, d)
+chain_glued (x ∷ y ∷ []) t p ys c d = (c.0, c.1, chain_glued (y ∷ []) t p ys c.2 d)
+chain_glued (x ∷ y ∷ z ∷ xs) t p ys c d = (c.0, c.1, chain_glued (y ∷ z ∷ xs) t p ys c.2 d)
+
+-- the last of some points is the one before others in a chain
+pub record Follows (stack rest : List Point) : Type 0 where
+  pub front : List Point
+  pub last : Point
+  pub is : stack ≡ front ++ last ∷ []
+  pub chain : IsChain (last ∷ rest)
+
+-- where such a point goes on, all that come after it do
+pub all_go_on : (stack : List Point) (p : Point) (rest : List Point) → Follows stack (p ∷ rest) → IsChain (stack ++ p ∷ []) → IsChain (stack ++ p ∷ rest)
+all_go_on stack p rest f c =
+    subst (λ s. IsChain (s ++ p ∷ rest)) (sym f.is) (chain_glued f.front f.last p rest (subst (λ s. IsChain (s ++ p ∷ [])) f.is c) f.chain)
 
 -- what a point that comes next leaves: it costs no more than any other, and the others are those before but for it
 pub record Takes (x : Point) (left right left_rest right_rest : List Point) : Type 0 where
@@ -52,7 +99,8 @@ least_of_rising x (y ∷ ys) r h w m = elim m [
   | inr n ↦ (let a = r.0 w n in omega (arith, a, h))
 ]
 
-takes_left : (x : Point) (left right : List Point) → CostsRise (x ∷ left) → CostsRise right → IsNoDearer (λ v. v.cost) x right → Takes x (x ∷ left) right left right
+-- the first of the left is taken, which costs no more than the first of the right
+pub takes_left : (x : Point) (left right : List Point) → CostsRise (x ∷ left) → CostsRise right → IsNoDearer (λ v. v.cost) x right → Takes x (x ∷ left) right left right
 takes_left x left right l r h = record {
   first = inl refl;
   rest = λ w m. inr m;
@@ -141,6 +189,14 @@ module _ (points stack : List Point) (x : Point) (left right left_rest right_res
         | inr b ↦ j.ranges v (among_right v stack (left ++ right) (t.rest v b))
       ];
     }
+
+-- of a chain and another list one is taken, and what is left of the chain is one
+pub taken_chain : {X : Type 0} (f : X → Point) (x : X) (left right left_rest right_rest : List X) (cost : X → ℕ) → TakesCheaper cost x left right left_rest right_rest → IsChain (map f left)
+    → IsChain (map f left_rest)
+taken_chain f x left right left_rest right_rest cost t c = elim t [
+  | inl a ↦ chain_rest (f x) (map f left_rest) (subst (λ l. IsChain (map f l)) a.0 c)
+  | inr b ↦ subst (λ l. IsChain (map f l)) b.1 c
+]
 
 -- one is taken of two lists
 pub taken_length : {X : Type 0} (x : X) (left right left_rest right_rest : List X) (cost : X → ℕ) → TakesCheaper cost x left right left_rest right_rest → length left + length right ≡ length left_rest + length right_rest + 1

@@ -38,6 +38,7 @@ head_first x xs h w m =
     let r : Place xs w = place_of xs w m in
     subst (λ y. x.cost ≤ y.cost) r.is (h zero (suc r.at) w (omega arith) (let b = r.below in omega arith))
 
+-- in order of cost the costs rise
 pub costs_rise : (xs : List Point) → IsNonDecreasingBy (λ v. v.cost) xs → CostsRise xs
 costs_rise [] h = tt
 costs_rise (x ∷ xs) h = (head_first x xs h, costs_rise xs (λ i j d a b. h (suc i) (suc j) d (omega arith) (omega arith)))

@@ -36,3 +36,7 @@ abbrev pub TakesCheaper : {X : Type 0} → (X → ℕ) → X → List X → List
 TakesCheaper cost x left right left_rest right_rest =
     ((left ≡ x ∷ left_rest) × (right ≡ right_rest) × IsNoDearer cost x right)
     ⊎ ((right ≡ x ∷ right_rest) × (left ≡ left_rest) × IsNoDearer cost x left)
+
+-- a list of points ends with p
+abbrev pub IsLastOf : Point → List Point → Type 0
+IsLastOf p points = (front : List Point) × (points ≡ front ++ p ∷ [])

@@ -1,16 +1,17 @@
-//! Chains: curves of points that needn't hold their stocks.
+//! Chains: curves of points that come by rising cost, and needn't hold their stocks.
 
-ghost use Rattle.std.specs.Prelude.{◌≡◌, ℕ, ◌+◌, ◌^◌, ◌<◌, ◌≤◌, List, map, length, IfOk};
+ghost use Rattle.std.specs.Prelude.{◌≡◌, ◌+◌, ◌^◌, ◌<◌, ◌≤◌, [], ◌∷◌, ◌++◌, List, length, IfOk, OnOk, OnErr};
 ghost use Rattle.hull.specs.declared.point.Point.{Point};
-ghost use Rattle.hull.specs.Curves.{Among, InRange, HaveOneWidth, IsCurve, IsShape, point_at};
+ghost use Rattle.hull.specs.Curves.{Among, InRange, IsShape, StandFor, point_at};
 
-use crate::scan::{in_order, scan};
+use crate::scan::grow;
 use crate::{Price, Spot};
 use spares_io::NoMemory;
 use std::alloc::Global;
 use std::marker::Model;
 
-/// The strict lower vertices of points, as what stands for them; seen as the list of these points by rising cost.
+/// The strict lower vertices of the points that came so far, at least one, where none costs less than those before it;
+/// seen as the list of the vertices' points by rising cost.
 ///
 /// What is true of each [`Curve`](crate::Curve) is true of it.
 #[derive(Drop)]
@@ -31,27 +32,41 @@ impl<T: Spot> Model for Chain<T> {
 }
 
 impl<T: Spot> Chain<T> {
-    /// The curve of one point or more, whose stocks have one length. Of points with the same cost and the same lower
-    /// end it keeps the one whose stocks are first in the order of a dictionary.
-    pub fn of(alloc: Global, spots: Vec<T>) -> Result<Chain<T>, NoMemory>
-        requires some { 0 < length spots.items }
-        requires few { length spots.items ≤ 2 ^ 31 }
-        requires ranges { (v : Point) → Among v (map T.point spots.items) → InRange v }
-        requires widths { HaveOneWidth (map T.point spots.items) }
-        ensures curve { IfOk result (λ chain. IsCurve (map T.point spots.items) chain) }
-        ensures few { IfOk result (λ chain. length chain ≤ length spots.items) }
+    /// The chain of one point, with room for so many.
+    pub fn one(alloc: Global, room: usize, point: T) -> Result<Chain<T>, NoMemory>
+        requires { InRange (T.point point) }
+        ensures { IfOk result (λ chain. chain ≡ T.point point ∷ []) }
     {
-        let room = Vec::with_capacity(alloc, spots.len())?;
-        let vertices = scan(in_order(spots), room);
+        let mut vertices = Vec::with_capacity(alloc, room)?;
+        vertices.push(point)?;
         Ok(Chain { vertices })
     }
 
-    /// The chain of these vertices.
-    pub(crate) fn of_vertices(vertices: Vec<T>) -> Chain<T>
-        requires { IsShape (map T.point vertices.items) }
-        ensures { result ≡ map T.point vertices.items }
+    /// Makes this the chain of one point, with the room that it has.
+    pub fn begin_with(&mut self, point: T)
+        requires { InRange (T.point point) }
+        ensures { self.new ≡ T.point point ∷ [] }
     {
-        Chain { vertices }
+        self.vertices.truncate(1);
+        self.vertices[0] = point;
+    }
+
+    /// Takes a point that costs no less than the vertices so far, and whose stocks have their length. Of points with
+    /// the same cost and the same lower end it keeps the one whose stocks are first in the order of a dictionary.
+    ///
+    /// After `NoMemory` the chain is as before.
+    pub fn take(&mut self, point: T) -> Result<(), NoMemory>
+        requires order { (v : Point) → Among v self.old → v.cost ≤ (T.point point).cost }
+        requires range { InRange (T.point point) }
+        requires width { (v : Point) → Among v self.old → length v.stocks ≡ length (T.point point).stocks }
+        requires few { length self.old + 1 ≤ 2 ^ 31 }
+        ensures stands { OnOk result (StandFor (self.old ++ T.point point ∷ []) self.new) }
+        ensures few { OnOk result (length self.new ≤ length self.old + 1) }
+        ensures err { OnErr result (self.new ≡ self.old) }
+    {
+        self.vertices.reserve(1)?;
+        grow(&mut self.vertices, point);
+        Ok(())
     }
 
     /// How many vertices there are. What is true of each chain is told with it.

@@ -1,8 +1,8 @@
 //! Curves, seen as their vertices in order of cost.
 
-ghost use Rattle.std.specs.Prelude.{◌≡◌, ℕ, ◌+◌, ◌^◌, ◌<◌, ◌≤◌, ◌∷◌, [], ◌++◌, List, length, IfOk, OnOk, OnErr};
+ghost use Rattle.std.specs.Prelude.{◌≡◌, ℕ, ◌+◌, ◌^◌, ◌<◌, ◌≤◌, ◌∷◌, [], ◌++◌, List, length, take, IfOk, OnOk, OnErr};
 ghost use Rattle.hull.specs.declared.point.Point.{Point};
-ghost use Rattle.hull.specs.Curves.{Among, InRange, HaveOneWidth, IsCurve, IsShape, IsBestAt, IsLeastAt, point_at, plus, sums};
+ghost use Rattle.hull.specs.Curves.{Among, InRange, HaveOneWidth, IsChain, IsCurve, IsShape, IsBestAt, IsLeastAt, point_at, plus, sums};
 
 use crate::joins::{chain_of, chain_of_both};
 use crate::scan::in_order;
@@ -32,6 +32,23 @@ impl Model for Curve {
     ghost view = { λ c. c.vertices.items };
 
     ghost invariant = { λ c. IsShape c.vertices.items };
+}
+
+/// How many of the vertices, from the first on, cost less.
+fn cheaper(vertices: &[Point], cost: u64) -> usize
+    requires chain { IsChain vertices.now }
+    requires few { length vertices.now ≤ 2 ^ 31 }
+    ensures within { result ≤ length vertices.now }
+    ensures below { (v : Point) → Among v (take result vertices.now) → v.cost ≤ cost }
+{
+    let mut count = vertices.len();
+    while count > 0 {
+        if vertices[count - 1].cost < cost {
+            return count;
+        }
+        count -= 1;
+    }
+    0
 }
 
 impl Curve {
@@ -92,10 +109,15 @@ impl Curve {
         ensures err { OnErr result (self.new ≡ self.old) }
     {
         let alloc = *self.vertices.allocator();
-        let count = self.vertices.len() + points.len();
-        let room = Vec::with_capacity(alloc, count)?;
+        if points.is_empty() {
+            return Ok(());
+        }
+        self.vertices.reserve(points.len())?;
+        let points = in_order(points);
+        let front = cheaper(self.vertices.as_slice(), points[0].cost);
+        let rest = self.vertices.split_off(front)?;
         let vertices = mem::replace(&mut self.vertices, Vec::new(alloc));
-        self.vertices = chain_of_both(vertices, in_order(points), room);
+        self.vertices = chain_of_both(vertices, rest, points);
         Ok(())
     }
 

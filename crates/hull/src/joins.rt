@@ -7,20 +7,20 @@ ghost use Rattle.hull.specs.declared.point.Point.{Point};
 ghost use Rattle.hull.specs.Curves.{Among, StandFor, IsChain, InRange};
 ghost use Rattle.hull.specs.Verdicts.{TakesCheaper};
 
-use crate::scan::{grow, scan};
+use crate::scan::{goes_on, grow, scan};
 use crate::{Point, Spot};
 use std::collections::VecDeque;
 
-/// Takes the first of two lists that costs less than the other's, or as much.
+/// Takes the first of two lists that costs less than the other's, or as much, as long as the right one has any.
 fn take_cheaper<T: Spot>(left: &mut VecDeque<T>, right: &mut VecDeque<T>) -> Option<T>
-    ensures { MatchOption result ((left.old.items ≡ []) × (right.old.items ≡ []))
+    ensures { MatchOption result ((left.new.items ≡ left.old.items) × (right.old.items ≡ []))
         (λ v. TakesCheaper (λ x. (T.point x).cost) v left.old.items right.old.items left.new.items right.new.items) }
 {
+    let Some(second) = right.front() else {
+        return None;
+    };
     let Some(first) = left.front() else {
         return right.pop_front();
-    };
-    let Some(second) = right.front() else {
-        return left.pop_front();
     };
     if first.cost() <= second.cost() {
         left.pop_front()
@@ -29,25 +29,56 @@ fn take_cheaper<T: Spot>(left: &mut VecDeque<T>, right: &mut VecDeque<T>) -> Opt
     }
 }
 
-/// The chain of a chain and of points in order of cost, made in the room of an empty list.
-fn scan_both<T: Spot>(left: Vec<T>, right: Vec<T>, mut stack: Vec<T>) -> Vec<T>
-    requires some { 0 < vec_len left + vec_len right }
-    requires chain { IsChain (map T.point left.items) }
-    requires sorted { IsNonDecreasingBy (λ v. (T.point v).cost) right.items }
-    requires ranges { (v : Point) → Among v (map T.point (left.items ++ right.items)) → InRange v }
-    requires empty { stack.items ≡ [] }
-    requires room { vec_len left + vec_len right ≤ vec_capacity stack }
+/// The chain of a chain and of another whose points cost no less. Where two of these that follow one another go on, so
+/// do all that come after them.
+fn with_rest<T: Spot>(mut stack: Vec<T>, mut left: VecDeque<T>) -> Vec<T>
+    requires some { 0 < vec_len stack }
+    requires chain { IsChain (map T.point stack.items) }
+    requires left_chain { IsChain (map T.point left.items) }
+    requires order { (v w : Point) → Among v (map T.point stack.items) → Among w (map T.point left.items)
+        → v.cost ≤ w.cost }
+    requires ranges { (v : Point) → Among v (map T.point stack.items ++ map T.point left.items) → InRange v }
+    requires room { vec_len stack + deque_len left ≤ vec_capacity stack }
     ensures chain { IsChain (map T.point result.items) }
-    ensures stands { StandFor (map T.point (left.items ++ right.items)) (map T.point result.items) }
+    ensures stands { StandFor (map T.point stack.items ++ map T.point left.items) (map T.point result.items) }
     ensures some { 0 < vec_len result }
-    ensures len { vec_len result ≤ vec_len left + vec_len right }
+    ensures len { vec_len result ≤ vec_len stack + deque_len left }
+{
+    let mut follows = false;
+    while let Some(point) = left.pop_front() {
+        if follows && goes_on(stack.as_slice(), &point) {
+            let _ = stack.push(point);
+            let mut rest = left.into_vec();
+            let _ = stack.append(&mut rest);
+            return stack;
+        }
+        follows = grow(&mut stack, point);
+    }
+    stack
+}
+
+/// The chain of a chain, whose front is the stack, and of points in order of cost that cost no less than that front.
+fn scan_both<T: Spot>(mut stack: Vec<T>, left: Vec<T>, right: Vec<T>) -> Vec<T>
+    requires some { 0 < vec_len right }
+    requires chain { IsChain (map T.point stack.items ++ map T.point left.items) }
+    requires order { (v w : Point) → Among v (map T.point stack.items) → Among w (map T.point right.items)
+        → v.cost ≤ w.cost }
+    requires sorted { IsNonDecreasingBy (λ v. (T.point v).cost) right.items }
+    requires ranges { (v : Point) → Among v (map T.point stack.items ++ (map T.point left.items
+        ++ map T.point right.items)) → InRange v }
+    requires room { vec_len stack + (vec_len left + vec_len right) ≤ vec_capacity stack }
+    ensures chain { IsChain (map T.point result.items) }
+    ensures stands { StandFor (map T.point stack.items ++ (map T.point left.items ++ map T.point right.items))
+        (map T.point result.items) }
+    ensures some { 0 < vec_len result }
+    ensures len { vec_len result ≤ vec_len stack + (vec_len left + vec_len right) }
 {
     let mut left = VecDeque::from_vec(left);
     let mut right = VecDeque::from_vec(right);
     while let Some(point) = take_cheaper(&mut left, &mut right) {
         grow(&mut stack, point);
     }
-    stack
+    with_rest(stack, left)
 }
 
 /// The chain of points in order of cost, made in the room of an empty list.
@@ -65,18 +96,19 @@ pub(crate) fn chain_of(points: Vec<Point>, room: Vec<Point>) -> Vec<Point>
     scan(points, room)
 }
 
-/// The chain of a chain and of points in order of cost, made in the room of an empty list.
-pub(crate) fn chain_of_both(left: Vec<Point>, right: Vec<Point>, room: Vec<Point>) -> Vec<Point>
-    requires some { 0 < vec_len left + vec_len right }
-    requires chain { IsChain left.items }
-    requires sorted { IsNonDecreasingBy (λ v. v.cost) right.items }
-    requires ranges { (v : Point) → Among v (left.items ++ right.items) → InRange v }
-    requires empty { room.items ≡ [] }
-    requires room { vec_len left + vec_len right ≤ vec_capacity room }
+/// The chain of a chain in two parts, front and rest, and of points in order of cost that cost no less than the front.
+/// It is made in the room of the front.
+pub(crate) fn chain_of_both(front: Vec<Point>, rest: Vec<Point>, points: Vec<Point>) -> Vec<Point>
+    requires some { 0 < vec_len points }
+    requires chain { IsChain (front.items ++ rest.items) }
+    requires order { (v w : Point) → Among v front.items → Among w points.items → v.cost ≤ w.cost }
+    requires sorted { IsNonDecreasingBy (λ v. v.cost) points.items }
+    requires ranges { (v : Point) → Among v (front.items ++ (rest.items ++ points.items)) → InRange v }
+    requires room { vec_len front + (vec_len rest + vec_len points) ≤ vec_capacity front }
     ensures chain { IsChain result.items }
-    ensures stands { StandFor (left.items ++ right.items) result.items }
+    ensures stands { StandFor (front.items ++ (rest.items ++ points.items)) result.items }
     ensures some { 0 < vec_len result }
-    ensures len { vec_len result ≤ vec_len left + vec_len right }
+    ensures len { vec_len result ≤ vec_len front + (vec_len rest + vec_len points) }
 {
-    scan_both(left, right, room)
+    scan_both(front, rest, points)
 }

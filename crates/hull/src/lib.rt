@@ -13,7 +13,6 @@ mod joins;
 mod laws;
 mod point;
 mod price;
-mod rising;
 mod scan;
 mod score;
 mod spot;
@@ -29,6 +28,5 @@ pub use laws::{
 };
 pub use point::Point;
 pub use price::Price;
-pub use rising::Rising;
 pub use score::{Plain, Score};
 pub use spot::{Spot, is_first};

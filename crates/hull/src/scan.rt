@@ -4,7 +4,7 @@ ghost use Rattle.std.specs.Prelude.{◌≡◌, ◌+◌, ◌<◌, ◌≤◌, ◌�
 ghost use Rattle.std.specs.List.Sorted.{IsNonDecreasingBy, IsPermutation};
 ghost use Rattle.hull.specs.declared.point.Point.{Point};
 ghost use Rattle.hull.specs.Curves.{Among, StandFor, Steps, Turns, IsChain, InRange};
-ghost use Rattle.hull.specs.Verdicts.{Tells};
+ghost use Rattle.hull.specs.Verdicts.{IsLastOf, Tells};
 
 use crate::Spot;
 
@@ -65,8 +65,22 @@ fn judge<T: Spot>(stack: &[T], point: &T) -> Verdict
     }
 }
 
-/// Takes a point that costs no less than the last of a chain.
-pub(crate) fn grow<T: Spot>(stack: &mut Vec<T>, point: T)
+/// Whether a point that costs no less goes on after the last of a chain.
+pub(crate) fn goes_on<T: Spot>(stack: &[T], point: &T) -> bool
+    requires chain { IsChain (map T.point stack.now) }
+    requires order { (v : Point) → Among v (map T.point stack.now) → v.cost ≤ (T.point point.now).cost }
+    requires ranges { (v : Point) → Among v (map T.point stack.now) → InRange v }
+    requires range { InRange (T.point point.now) }
+    ensures { IsTrue result → IsChain (map T.point stack.now ++ T.point point.now ∷ []) }
+{
+    match judge(stack, point) {
+        Verdict::Keep => true,
+        Verdict::Drop | Verdict::Refuse => false,
+    }
+}
+
+/// Takes a point that costs no less than the last of a chain. Answers whether it is the last one now.
+pub(crate) fn grow<T: Spot>(stack: &mut Vec<T>, point: T) -> bool
     requires room { vec_len stack.old < vec_capacity stack.old }
     requires chain { IsChain (map T.point stack.old.items) }
     requires order { (v : Point) → Among v (map T.point stack.old.items) → v.cost ≤ (T.point point).cost }
@@ -77,17 +91,18 @@ pub(crate) fn grow<T: Spot>(stack: &mut Vec<T>, point: T)
     ensures some { 0 < vec_len stack.new }
     ensures len { vec_len stack.new ≤ vec_len stack.old + 1 }
     ensures capacity { vec_capacity stack.old ≤ vec_capacity stack.new }
+    ensures last { IsTrue result → IsLastOf (T.point point) (map T.point stack.new.items) }
 {
     'pops: loop {
         match judge(stack.as_slice(), &point) {
             Verdict::Keep => {
                 let _ = stack.push(point);
-                return;
+                return true;
             }
             Verdict::Drop => {
                 stack.pop();
             }
-            Verdict::Refuse => return,
+            Verdict::Refuse => return false,
         }
     }
 }

@@ -1,6 +1,6 @@
 //! What a curve needs of a point, whatever it is made of.
 
-ghost use Rattle.std.specs.Prelude.{◌≡◌, ◌++◌, ◌↔◌, IsTrue, OnOk};
+ghost use Rattle.std.specs.Prelude.{◌≡◌, ◌++◌, ◌↔◌, IsTrue, OnOk, length};
 ghost use Rattle.hull.specs.declared.point.Point.{Point};
 ghost use Rattle.hull.specs.Curves.{IsFirstOf};
 
@@ -31,6 +31,11 @@ pub trait Spot: Drop {
     /// Puts the point's stocks behind others. After `NoMemory` some of them may be there.
     fn put_stocks(&self, to: &mut Vec<u8>) -> Result<(), NoMemory>
         ensures { OnOk result (to.new.items ≡ to.old.items ++ (point self.now).stocks) };
+
+    /// Writes the point's stocks over others, as many as they are.
+    fn write_stocks(&self, to: &mut [u8])
+        requires { length to.old ≡ length (point self.now).stocks }
+        ensures { to.new ≡ (point self.now).stocks };
 }
 
 /// Whether the one list is the same as the other or before it in the order of a dictionary.
@@ -62,5 +67,9 @@ impl Spot for Point {
     fn put_stocks(&self, to: &mut Vec<u8>) -> Result<(), NoMemory> {
         to.extend_from_slice(self.stocks.as_slice())?;
         Ok(())
+    }
+
+    fn write_stocks(&self, to: &mut [u8]) {
+        to.copy_from_slice(self.stocks.as_slice());
     }
 }

@@ -174,19 +174,37 @@ fn adds_points_in_any_order(rt: HostRuntime) -> Result<(), Fail> {
 
 #[test]
 fn makes_chains_of_spots(rt: HostRuntime) -> Result<(), Fail> {
-    let points = points_of(&rt, rt.alloc(), &LINE_UNIT)?;
-    let chain = Chain::of(rt.alloc(), points)?;
-    assert!(rt; chain.len() == 6);
-    let step = chain.slope(2);
-    assert_eq!(rt; (step.p, step.q), (162357558481304, 100));
-    let vertex = chain.at(4);
-    assert_eq!(rt;
-        (vertex.cost(), vertex.lo(), vertex.hi()),
-        (400, 90208727985009, 90208727985080)
-    );
-    let mut stocks = Vec::new(rt.alloc());
+    let alloc = rt.alloc();
+    let cheap = Point {
+        cost: 0,
+        lo: 20,
+        hi: 21,
+        stocks: List::of(Vec::from_slice(alloc, &[0, 0])?),
+    };
+    let dear = Point {
+        cost: 9,
+        lo: 2,
+        hi: 5,
+        stocks: List::of(Vec::from_slice(alloc, &[1, 0])?),
+    };
+    let other = Point {
+        cost: 1,
+        lo: 7,
+        hi: 7,
+        stocks: List::of(Vec::from_slice(alloc, &[2])?),
+    };
+    let mut chain = Chain::one(alloc, 1, cheap)?;
+    chain.take(dear)?;
+    assert_eq!(rt; chain.len(), 2);
+    let step = chain.slope(0);
+    assert_eq!(rt; (step.p, step.q), (18, 9));
+    let vertex = chain.at(1);
+    assert_eq!(rt; (vertex.cost(), vertex.lo(), vertex.hi()), (9, 2, 5));
+    let mut stocks = Vec::new(alloc);
     vertex.put_stocks(&mut stocks)?;
-    assert_eq!(rt; stocks.as_slice(), [1, 3].as_slice());
+    assert_eq!(rt; stocks.as_slice(), [1, 0].as_slice());
+    chain.begin_with(other);
+    assert_eq!(rt; (chain.len(), chain.at(0).lo()), (1, 7));
     Ok(())
 }
 

@@ -4,64 +4,24 @@ ghost use Rattle.std.specs.Prelude.{◌≡◌, ◌<◌, ◌^◌, ◌++◌, ◌�
 ghost use Rattle.moment_table.specs.Held.{IsShort, held_row};
 
 use crate::kinds::Row;
-use fixed_interval::Iv;
+use series_bounds::short::Iv64;
 use spares_io::NoMemory;
 use std::alloc::Global;
-use std::marker::Model;
-
-/// An interval with ends of 64 bits.
-#[derive(Clone, Copy, Drop)]
-pub(crate) struct Span<const F: u32> {
-    lo: u64,
-    hi: u64,
-}
-
-impl<const F: u32> Model for Span<F> {
-    ghost use Rattle.fixed_interval.specs.Ends.{Ends, IsInterval};
-
-    ghost Value = { Ends };
-
-    ghost view = { λ a. record { lo = a.lo; hi = a.hi } };
-
-    ghost invariant = { λ a. IsInterval F (record { lo = a.lo; hi = a.hi }) };
-
-    ghost inverse = { λ d. record { lo = d.lo; hi = d.hi } };
-}
-
-impl<const F: u32> Span<F> {
-    /// The same interval.
-    pub(crate) fn of(a: Iv<F>) -> Span<F>
-        requires { a.hi < 2 ^ 64 }
-        ensures { result ≡ a.entry }
-    {
-        Span {
-            lo: a.lo() as u64,
-            hi: a.hi() as u64,
-        }
-    }
-
-    /// The same interval.
-    pub(crate) fn open(self) -> Iv<F>
-        ensures { result ≡ self.entry }
-    {
-        Iv::of_ends(u128::from(self.lo), u128::from(self.hi))
-    }
-}
 
 /// What is held of a row, beside its tail.
 #[derive(Clone, Copy, Drop)]
 pub(crate) struct Held<const F: u32> {
     /// The expected backorders.
-    pub(crate) ebo: Span<F>,
+    pub(crate) ebo: Iv64<F>,
     /// Their variance.
-    pub(crate) vbo: Span<F>,
+    pub(crate) vbo: Iv64<F>,
 }
 
 /// The first rows of a table, and the tails of the first of them.
 #[derive(Drop)]
 pub(crate) struct Rows<const F: u32> {
     pub(crate) held: Vec<Held<F>>,
-    pub(crate) tails: Vec<Span<F>>,
+    pub(crate) tails: Vec<Iv64<F>>,
 }
 
 impl<const F: u32> Rows<F> {
@@ -85,11 +45,11 @@ impl<const F: u32> Rows<F> {
             ≡ (if nat_lt s tails then self.old.tails.items ++ row.entry.tail ∷ [] else self.old.tails.items)) }
     {
         self.held.push(Held {
-            ebo: Span::of(row.ebo),
-            vbo: Span::of(row.vbo),
+            ebo: Iv64::of(row.ebo),
+            vbo: Iv64::of(row.vbo),
         })?;
         if s < tails {
-            self.tails.push(Span::of(row.tail))?;
+            self.tails.push(Iv64::of(row.tail))?;
         }
         Ok(())
     }

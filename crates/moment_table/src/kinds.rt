@@ -5,9 +5,10 @@ ghost use Rattle.moment_table.specs.Held.{IsHeld};
 ghost use Rattle.moment_table.specs.Profile.{table_rows};
 ghost use Rattle.moment_table.specs.Rows.{at_stock};
 
-use crate::held::{Rows, Span};
+use crate::held::Rows;
 use crate::plain::plain_row;
 use fixed_interval::Iv;
+use series_bounds::short::Iv64;
 use std::marker::Model;
 
 /// The figures at one stock, in units of `2^-F`.
@@ -27,8 +28,8 @@ pub struct Row<const F: u32> {
 /// follow.
 #[derive(Drop)]
 pub struct Table<const F: u32> {
-    mean: Span<F>,
-    variance: Span<F>,
+    mean: Iv64<F>,
+    variance: Iv64<F>,
     rows: Rows<F>,
 }
 
@@ -53,8 +54,8 @@ impl<const F: u32> Table<F> {
         ensures { result ≡ table_rows F mean.entry variance.entry }
     {
         Table {
-            mean: Span::of(mean),
-            variance: Span::of(variance),
+            mean: Iv64::of(mean),
+            variance: Iv64::of(variance),
             rows,
         }
     }

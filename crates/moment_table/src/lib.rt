@@ -31,7 +31,7 @@ mod running;
 mod shares;
 mod weighed;
 
-pub use backorders::backorders_to;
+pub use backorders::put_backorders;
 
 /// The stocks of a table are 0 to 63.
 const STOCKS: u32 = 64;

@@ -13,6 +13,7 @@ use crate::kinds::Row;
 use crate::running::Running;
 use crate::weighed::weigh;
 use fixed_interval::Iv;
+use series_bounds::short::Iv64;
 use spares_io::NoMemory;
 use std::alloc::Global;
 
@@ -20,7 +21,7 @@ use std::alloc::Global;
 pub(crate) fn known_row<const F: u32>(
     mean: Iv<F>,
     variance: Iv<F>,
-    list: &[Iv<F>],
+    list: &[Iv64<F>],
     sum: Iv<F>,
     stock: u8,
 ) -> Row<F>
@@ -29,7 +30,7 @@ pub(crate) fn known_row<const F: u32>(
     requires stock { stock ≤ 63 }
     ensures { result ≡ known_row F mean.entry variance.entry list.now sum.entry stock }
 {
-    let mut running = Running::first(mean, variance, list[0], sum);
+    let mut running = Running::first(mean, variance, list[0].open(), sum);
     for s in 0..u32::from(stock) {
         running.row(list, sum, s);
     }
@@ -78,7 +79,7 @@ fn known_to<const F: u32>(
     alloc: Global,
     mean: Iv<F>,
     variance: Iv<F>,
-    list: &[Iv<F>],
+    list: &[Iv64<F>],
     sum: Iv<F>,
     stocks: u32,
     tails: u32,
@@ -89,7 +90,7 @@ fn known_to<const F: u32>(
     requires stocks { stocks ≤ 64 }
     ensures { IfOk result (HasRows F (known_row F mean.entry variance.entry list.now sum.entry) stocks tails) }
 {
-    let mut running = Running::first(mean, variance, list[0], sum);
+    let mut running = Running::first(mean, variance, list[0].open(), sum);
     let mut rows = Rows::with_room(alloc, stocks, tails)?;
     for s in 0..stocks {
         let row = running.row(list, sum, s);

@@ -9,7 +9,7 @@ ghost use Rattle.moment_table.specs.Running.{IsRunning, AreSmall};
 use crate::kinds::Row;
 use crate::shares::Inverses;
 use fixed_interval::Iv;
-use series_bounds::short::product;
+use series_bounds::short::{Iv64, product};
 
 /// The figures at a stock before its tail is known, and what the tail is made of.
 #[derive(Drop)]
@@ -51,11 +51,12 @@ impl<const F: u32> Running<F> {
 
     /// The expected backorders at the stock, which its weight doesn't change.
     #[inline(always)]
-    pub(crate) fn expected(&self) -> Iv<F>
+    pub(crate) fn expected(&self) -> Iv64<F>
+        requires { self.now.expected.hi < 2 ^ 64 }
         ensures { (m v sum : Ends) (list : List Ends) (s : ℕ) → IsRunning F m v list sum s self.now
             → result ≡ (known_row F m v list sum s).ebo }
     {
-        self.expected
+        Iv64::of(self.expected)
     }
 
     /// The row at the stock `s`, from the weight there. It goes on to the next stock.
@@ -88,7 +89,7 @@ impl<const F: u32> Running<F> {
 
     /// The row at the stock `s`, from all weights. It goes on to the next stock.
     #[inline(always)]
-    pub(crate) fn row(&mut self, list: &[Iv<F>], sum: Iv<F>, s: u32) -> Row<F>
+    pub(crate) fn row(&mut self, list: &[Iv64<F>], sum: Iv<F>, s: u32) -> Row<F>
         requires stock { s < 64 }
         requires sized { Sized F list.now sum }
         requires small { AreSmall F sum s self.old }
@@ -98,7 +99,7 @@ impl<const F: u32> Running<F> {
         ensures row { (m v : Ends) → IsRunning F m v list.now sum.entry s self.old
             → result ≡ known_row F m v list.now sum.entry s }
     {
-        self.step(list[s as usize], sum, s)
+        self.step(list[s as usize].open(), sum, s)
     }
 }
 

@@ -5,6 +5,7 @@ ghost use Rattle.fixed_interval.specs.Ends.{InScale};
 ghost use Rattle.moment_table.specs.Inputs.{CanTable};
 
 use super::*;
+use series_bounds::short::Iv64;
 use std::process::Abort;
 use std::test::Fail;
 
@@ -103,8 +104,9 @@ fn all_show<const F: u32>(
     let Row { ebo, vbo, tail } = row_at(alloc, mean, variance, stock)?;
     let found = [ebo.lo(), ebo.hi(), vbo.lo(), vbo.hi(), tail.lo(), tail.hi()];
     assert_eq!(rt; found.as_slice(), ends);
-    let list = backorders_to(alloc, mean, variance, stock)?;
-    let last = list[usize::from(stock)];
+    let mut list = vec![in alloc; Iv64::of(Iv::exact(1))]?;
+    put_backorders(&mut list, mean, variance, stock)?;
+    let last = list[usize::from(stock)].open();
     assert_eq!(rt; [last.lo(), last.hi()].as_slice(), &ends[..2]);
     Ok(())
 }

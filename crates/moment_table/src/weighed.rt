@@ -8,9 +8,10 @@ ghost use Rattle.moment_table.specs.Inputs.{CanTable};
 ghost use Rattle.moment_table.specs.Profile.{known_row, excess_ends};
 
 use fixed_interval::Iv;
-use series_bounds::heads::{Beginning, first_weights};
+use series_bounds::heads::first_weights;
 use series_bounds::kinds::Weights;
 use series_bounds::shares::quotient;
+use series_bounds::short::Iv64;
 use series_bounds::weights;
 use spares_io::{List, NoMemory};
 use std::alloc::Global;
@@ -18,7 +19,7 @@ use std::alloc::Global;
 /// Known weights and their sum.
 #[derive(Drop)]
 pub(crate) struct Weighed<const F: u32> {
-    pub(crate) list: List<Iv<F>>,
+    pub(crate) list: List<Iv64<F>>,
     pub(crate) sum: Iv<F>,
 }
 
@@ -61,26 +62,27 @@ pub(crate) fn weigh<const F: u32>(
     }
 }
 
-/// The first weights of a pipeline with this mean and variance, `wanted` of them or more, at most 63 being wanted,
-/// and the sum of all. None where it is always empty, or its weights aren't known.
+/// Puts the first weights of a pipeline with this mean and variance in the place of what the list holds, `wanted` of
+/// them or more, at most 63 being wanted, and answers the sum of all. None where it is always empty, or its weights
+/// aren't known.
 pub(crate) fn weigh_to<const F: u32>(
-    alloc: Global,
+    list: &mut Vec<Iv64<F>>,
     mean: Iv<F>,
     variance: Iv<F>,
     wanted: usize,
-) -> Result<Option<Beginning<F>>, NoMemory>
+) -> Result<Option<Iv<F>>, NoMemory>
     requires table { CanTable F mean variance }
     requires wanted { wanted ≤ 63 }
     ensures bare { IfOk result (λ found. IfNone found
         (AreRowsOf F mean.entry variance.entry (bare_row F mean.entry variance.entry))) }
     ensures known { IfOk result (λ found. IfSome found
-        (λ b. IsBeginning F mean.entry (excess_ends F mean.entry variance.entry) wanted b.list.items b.sum)) }
-    ensures least { IfOk result (λ found. IfSome found (λ b. 2 ^ F ≤ b.sum.lo)) }
-    ensures positive { IfOk result (λ found. IfSome found (λ b. 0 < mean.entry.hi)) }
+        (IsBeginning F mean.entry (excess_ends F mean.entry variance.entry) wanted list.new.items)) }
+    ensures least { IfOk result (λ found. IfSome found (λ sum. 2 ^ F ≤ sum.lo)) }
+    ensures positive { IfOk result (λ found. IfSome found (λ sum. 0 < mean.entry.hi)) }
 {
     if mean.hi() == 0 {
         return Ok(None);
     }
     let excess = excess_of(mean, variance);
-    first_weights(alloc, mean, excess, wanted)
+    first_weights(list, mean, excess, wanted)
 }

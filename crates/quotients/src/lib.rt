@@ -1,11 +1,12 @@
-//! Quotients of whole numbers, found without a division where they can be guessed.
+//! Quotients of whole numbers, found without a division where they can be guessed, or where the divisor is small.
 //!
 //! Nothing rests on a guess: each is tried, and where it fails a division is made. So what makes guesses has no
-//! clauses.
+//! clauses. The inverses of small divisors are proved, each of a table's, and a quotient by one isn't tried.
 #![tactic(auto)]
 
-ghost use Rattle.std.specs.Prelude.{◌≡◌, ◌*◌, ◌/◌, ◌^◌, ◌<◌, ◌≤◌};
+ghost use Rattle.std.specs.Prelude.{◌≡◌, ◌+◌, ◌*◌, ◌/◌, ◌^◌, ◌<◌, ◌≤◌, IsTrue};
 ghost use Rattle.std.specs.Int.{div_ceil};
+ghost use Rattle.quotients.specs.Inverses.{are_inverses};
 
 mod inverses;
 
@@ -49,20 +50,40 @@ fn short_quotient_near(num: u64, den: u64, guess: u64) -> u64
     num / den
 }
 
-/// `num / den`, rounded down. Where the number has at most 56 bits, and `inverse` is `2^64 / den` or at most 1 above
-/// it, it is the upper half of one product; else that is taken for a guess.
+/// The inverse of `x` in a table of inverses.
 #[inline(always)]
-pub fn short_quotient_by(num: u64, den: u8, inverse: u64) -> u64
+fn entry(table: &[u64], x: u8) -> u64
+    requires table { IsTrue (are_inverses table.now) }
+    requires divisor { 0 < x }
+    ensures least { 2 ^ 63 ≤ result * x }
+    ensures most { result * x < 2 ^ 63 + x }
+{
+    table[usize::from(x)]
+}
+
+/// `2^63 / x`, rounded up.
+#[inline(always)]
+fn short_inverse(x: u8) -> u64
+    requires { 0 < x }
+    ensures least { 2 ^ 63 ≤ result * x }
+    ensures most { result * x < 2 ^ 63 + x }
+{
+    entry(&INVERSES, x)
+}
+
+/// `num / den`, rounded down: by one product where the number has at most 55 bits.
+#[inline(always)]
+pub fn short_quotient(num: u64, den: u8) -> u64
     requires { 0 < den }
     ensures { result ≡ num / den }
 {
-    let whole = u128::from(inverse) * u128::from(den);
-    let past = whole.wrapping_sub(1 << 64);
-    let quotient = high_half(num, inverse);
-    if num < 1 << 56 && past <= u128::from(den) {
-        return quotient;
+    let inverse = short_inverse(den);
+    let quotient = ((u128::from(num) * u128::from(inverse)) >> 63) as u64;
+    if num < 1 << 55 {
+        quotient
+    } else {
+        short_quotient_near(num, u64::from(den), quotient)
     }
-    short_quotient_near(num, u64::from(den), quotient)
 }
 
 /// `num / den`, rounded up. Where `guess` is the quotient rounded down, or one less, no division is made; with any
@@ -89,15 +110,10 @@ pub fn quotient_up_near(num: u128, den: u64, guess: u64) -> u128
     num.div_ceil(den)
 }
 
-/// About `2^64 / x`, of an `x` from 2 on.
-pub fn short_inverse(x: u8) -> u64 {
-    INVERSES[usize::from(x)]
-}
-
 /// About `2^126 / den`, for a `den` of `2^63` or more: from the inverse of its first eight bits, by three of Newton's
 /// steps.
 fn full_inverse(den: u64) -> u64 {
-    let mut inverse = short_inverse((den >> 56) as u8).min(1 << 57) << 6;
+    let mut inverse = INVERSES[usize::from((den >> 56) as u8)].min(1 << 56) << 7;
     for _step in 0..3 {
         inverse = nearer(inverse, den);
     }

@@ -2,7 +2,7 @@
 //!
 //! The weights that nobody asks for are added up as they are found, and those that stay the same all at once.
 
-ghost use Rattle.std.specs.Prelude.{◌≡◌, ℕ, ◌+◌, ◌*◌, ◌^◌, ◌<◌, ◌≤◌, true, IfOk, OnOk, IfSome, IfNone, length};
+ghost use Rattle.std.specs.Prelude.{◌≡◌, ℕ, [], ◌+◌, ◌*◌, ◌^◌, ◌<◌, ◌≤◌, true, IfOk, OnOk, IfSome, IfNone, length};
 ghost use Rattle.fixed_interval.specs.Ends.{Ends, IsWithinLimit};
 ghost use Rattle.series_bounds.specs.Profile.{pivot_at, least_end, weight_ends, is_wide};
 ghost use Rattle.series_bounds.specs.Ratios.{AreRatios};
@@ -10,32 +10,21 @@ ghost use Rattle.series_bounds.specs.Walk.{AtLeastEnd, Begins, Midway, SumsTo, T
 ghost use Rattle.series_bounds.specs.Answer.{IsBeginning, IsSum};
 
 use crate::ratios::Ratios;
+use crate::short::Iv64;
 use crate::{
     Ended, FIRST_END, LAST_END, all_weights, down, is_near, most_weight, pivot_of, rest_at, stays,
-    sum_of, times, unit,
+    sum_of, unit,
 };
 use fixed_interval::Iv;
 use spares_io::NoMemory;
-use std::alloc::Global;
-
-/// The first weights of a pipeline's distribution, and the sum of all.
-#[derive(Drop)]
-pub struct Beginning<const F: u32> {
-    /// The weights from place 0 on.
-    pub list: Vec<Iv<F>>,
-    /// The sum of all, whose upper end also covers all weights past the last index.
-    pub sum: Iv<F>,
-}
 
 /// What the walk up has found below an index.
 #[derive(Drop)]
 struct Walked<const F: u32> {
-    /// The first weights.
-    list: Vec<Iv<F>>,
     /// The sum of all weights below the index.
-    sum: Iv<F>,
+    sum: Iv64<F>,
     /// The last of them.
-    last: Iv<F>,
+    last: Iv64<F>,
     /// The index.
     next: u32,
     /// The ratio there.
@@ -44,7 +33,11 @@ struct Walked<const F: u32> {
 
 /// Adds a weight where fewer are held than are wanted.
 #[inline(always)]
-fn hold<const F: u32>(list: &mut Vec<Iv<F>>, weight: Iv<F>, wanted: usize) -> Result<(), NoMemory>
+fn hold<const F: u32>(
+    list: &mut Vec<Iv64<F>>,
+    weight: Iv64<F>,
+    wanted: usize,
+) -> Result<(), NoMemory>
     ensures { OnOk result ((u : ℕ → Ends) (x : ℕ) → Begins u wanted x list.old.items → weight.entry ≡ u x
         → Begins u wanted (x + 1) list.new.items) }
 {
@@ -55,13 +48,13 @@ fn hold<const F: u32>(list: &mut Vec<Iv<F>>, weight: Iv<F>, wanted: usize) -> Re
 }
 
 /// The first weights and the sum, from the pivot on to the first index at which the list may end, or to where the
-/// weights stay the same, and None where one passes 8. `begun` has those to the pivot, and `low` is their sum.
+/// weights stay the same, and None where one passes 8. `list` has those to the pivot, and `low` is their sum.
 fn rise<const F: u32>(
+    list: &mut Vec<Iv64<F>>,
     mean: Iv<F>,
     excess: Iv<F>,
     pivot: u16,
-    begun: Vec<Iv<F>>,
-    low: Iv<F>,
+    low: Iv64<F>,
     wanted: usize,
 ) -> Result<Option<Walked<F>>, NoMemory>
     requires positive { 0 < mean.lo }
@@ -70,29 +63,26 @@ fn rise<const F: u32>(
     requires near { excess.hi ≤ 2 ^ F + excess.lo }
     requires depth { pivot ≤ 256 }
     requires place { pivot ≡ pivot_at F mean excess }
-    requires begun { Begins (weight_ends F mean excess) wanted (pivot + 1) begun.items }
+    requires begun { Begins (weight_ends F mean excess) wanted (pivot + 1) list.old.items }
     requires low { SumsTo F mean excess low (pivot + 1) }
     ensures wide { IfOk result (λ found. IfNone found (is_wide F mean.entry excess.entry ≡ true)) }
     ensures known { IfOk result (λ found. IfSome found
-        (λ b. Midway F mean.entry excess.entry wanted b.list.items b.sum b.last b.next)) }
+        (λ b. Midway F mean.entry excess.entry wanted list.new.items b.sum b.last b.next)) }
     ensures ratios { IfOk result (λ found. IfSome found (λ b. AreRatios F mean.entry excess.entry b.next b.ratios)) }
 {
-    let most = most_weight::<F>();
     let first = u32::from(pivot) + 1;
-    let mut list = begun;
     let mut sum = low;
-    let mut last = Iv::exact(1);
+    let mut last = Iv64::one();
     let mut ratios = Ratios::at(mean, excess, first);
     for x in first..FIRST_END {
-        last = times(last, ratios.take(mean, excess, x));
-        if last.hi() > most {
+        last = last.times(ratios.take(mean, excess, x));
+        if last.passes_8() {
             return Ok(None);
         }
         sum = sum.add(last);
-        hold(&mut list, last, wanted)?;
+        hold(list, last, wanted)?;
         if stays(mean, excess, last, x + 1) {
             return Ok(Some(Walked {
-                list,
                 sum,
                 last,
                 next: x + 1,
@@ -102,7 +92,6 @@ fn rise<const F: u32>(
     }
     let next = first.max(FIRST_END);
     Ok(Some(Walked {
-        list,
         sum,
         last,
         next,
@@ -110,26 +99,25 @@ fn rise<const F: u32>(
     }))
 }
 
-/// So many first weights or more, from where they stay the same.
-fn filled<const F: u32>(
+/// Adds to the first weights so that there are so many or more, from where they stay the same.
+fn fill<const F: u32>(
+    list: &mut Vec<Iv64<F>>,
     mean: Iv<F>,
     excess: Iv<F>,
     next: u32,
-    last: Iv<F>,
-    begun: Vec<Iv<F>>,
+    last: Iv64<F>,
     wanted: usize,
-) -> Result<Vec<Iv<F>>, NoMemory>
-    requires begun { Begins (weight_ends F mean excess) wanted next begun.items }
+) -> Result<(), NoMemory>
+    requires begun { Begins (weight_ends F mean excess) wanted next list.old.items }
     requires wanted { wanted ≤ least_end F mean excess }
     requires same { (x : ℕ) → next ≤ x → x < least_end F mean excess → weight_ends F mean excess x ≡ last }
-    ensures begins { IfOk result (λ list. Begins (weight_ends F mean.entry excess.entry) wanted wanted list.items) }
-    ensures enough { IfOk result (λ list. wanted ≤ length list.items) }
+    ensures begins { OnOk result (Begins (weight_ends F mean.entry excess.entry) wanted wanted list.new.items) }
+    ensures enough { OnOk result (wanted ≤ length list.new.items) }
 {
-    let mut list = begun;
     for _x in list.len()..wanted {
         list.push(last)?;
     }
-    Ok(list)
+    Ok(())
 }
 
 /// The sum of the weights below the first index at which the list may end, from where they stay the same.
@@ -137,8 +125,8 @@ fn level_sum<const F: u32>(
     mean: Iv<F>,
     excess: Iv<F>,
     start: u32,
-    sum: Iv<F>,
-    last: Iv<F>,
+    sum: Iv64<F>,
+    last: Iv64<F>,
     next: u32,
 ) -> Iv<F>
     requires start { start ≡ least_end F mean excess }
@@ -149,7 +137,7 @@ fn level_sum<const F: u32>(
     requires same { (x : ℕ) → next ≤ x → x < start → weight_ends F mean excess x ≡ last }
     ensures { SumsTo F mean.entry excess.entry result start }
 {
-    sum.add(last.times(start - next))
+    sum.open().add(last.open().times(start - next))
 }
 
 /// The ratio at an index, from the one at another.
@@ -183,7 +171,7 @@ fn close<const F: u32>(
     excess: Iv<F>,
     start: u32,
     low: Iv<F>,
-    before: Iv<F>,
+    before: Iv64<F>,
     at: Ratios<F>,
 ) -> Option<Iv<F>>
     requires mean_top { IsWithinLimit F mean }
@@ -203,12 +191,12 @@ fn close<const F: u32>(
     let mut ratios = at;
     let mut ratio = ratios.take(mean, excess, start);
     for x in start..LAST_END + 1 {
-        last = times(last, ratio);
+        last = last.times(ratio);
         let top = last.hi();
         if top > most {
             return None;
         }
-        sum = sum.add(last);
+        sum = sum.add(last.open());
         ratio = ratios.take(mean, excess, x + 1);
         let bound = ratio.hi().max(far);
         if let Some(rest) = rest_at::<F>(top, bound, x) {
@@ -226,7 +214,7 @@ fn closed_at_once<const F: u32>(
     excess: Iv<F>,
     start: u32,
     low: Iv<F>,
-    before: Iv<F>,
+    before: Iv64<F>,
 ) -> Option<Iv<F>>
     requires positive { 0 < mean.lo }
     requires mean_top { IsWithinLimit F mean }
@@ -255,7 +243,7 @@ fn closed<const F: u32>(
     excess: Iv<F>,
     start: u32,
     low: Iv<F>,
-    before: Iv<F>,
+    before: Iv64<F>,
     next: u32,
     ratios: Ratios<F>,
 ) -> Option<Iv<F>>
@@ -279,13 +267,15 @@ fn closed<const F: u32>(
     }
 }
 
-/// The first weights and the sum of all, where the ends of the excess are at most 1 apart.
+/// Puts the first weights into an empty list, and answers the sum of all, where the ends of the excess are at most 1
+/// apart.
 fn near_weights<const F: u32>(
-    alloc: Global,
+    list: &mut Vec<Iv64<F>>,
     mean: Iv<F>,
     excess: Iv<F>,
     wanted: usize,
-) -> Result<Option<Beginning<F>>, NoMemory>
+) -> Result<Option<Iv<F>>, NoMemory>
+    requires empty { list.old.items ≡ [] }
     requires positive { 0 < mean.lo }
     requires mean_top { IsWithinLimit F mean }
     requires excess_top { excess.hi ≤ 2048 * 2 ^ F }
@@ -293,80 +283,82 @@ fn near_weights<const F: u32>(
     requires wanted { wanted ≤ 63 }
     ensures wide { IfOk result (λ found. IfNone found (is_wide F mean.entry excess.entry ≡ true)) }
     ensures known { IfOk result (λ found. IfSome found
-        (λ b. IsBeginning F mean.entry excess.entry wanted b.list.items b.sum)) }
-    ensures least { IfOk result (λ found. IfSome found (λ b. 2 ^ F ≤ b.sum.lo)) }
+        (IsBeginning F mean.entry excess.entry wanted list.new.items)) }
+    ensures least { IfOk result (λ found. IfSome found (λ sum. 2 ^ F ≤ sum.lo)) }
 {
     let pivot = pivot_of(mean, excess);
-    let Some(begun) = down(alloc, mean, excess, pivot, wanted)? else {
+    let narrow = down(list, mean, excess, pivot)?;
+    if !narrow {
         return Ok(None);
-    };
-    let low = sum_of(&begun);
-    let Some(walked) = rise(mean, excess, pivot, begun, low, wanted)? else {
+    }
+    let low = Iv64::of(sum_of(list.as_slice()));
+    let Some(walked) = rise(list, mean, excess, pivot, low, wanted)? else {
         return Ok(None);
     };
     let start = (u32::from(pivot) + 1).max(FIRST_END);
     let Walked {
-        list,
         sum,
         last,
         next,
         ratios,
     } = walked;
-    let list = filled(mean, excess, next, last, list, wanted)?;
+    fill(list, mean, excess, next, last, wanted)?;
     let low = level_sum(mean, excess, start, sum, last, next);
-    match closed(mean, excess, start, low, last, next, ratios) {
-        Some(sum) => Ok(Some(Beginning { list, sum })),
-        None => Ok(None),
-    }
+    Ok(closed(mean, excess, start, low, last, next, ratios))
 }
 
-/// The first weights and the sum of all, as the beginning of the list of all.
+/// Puts all weights into the list, and answers their sum.
 fn far_weights<const F: u32>(
-    alloc: Global,
+    list: &mut Vec<Iv64<F>>,
     mean: Iv<F>,
     excess: Iv<F>,
     wanted: usize,
-) -> Result<Option<Beginning<F>>, NoMemory>
+) -> Result<Option<Iv<F>>, NoMemory>
     requires positive { 0 < mean.lo }
     requires mean_top { IsWithinLimit F mean }
     requires excess_top { excess.hi ≤ 2048 * 2 ^ F }
     requires wanted { wanted ≤ 63 }
     ensures wide { IfOk result (λ found. IfNone found (is_wide F mean.entry excess.entry ≡ true)) }
     ensures known { IfOk result (λ found. IfSome found
-        (λ b. IsBeginning F mean.entry excess.entry wanted b.list.items b.sum)) }
-    ensures least { IfOk result (λ found. IfSome found (λ b. 2 ^ F ≤ b.sum.lo)) }
+        (IsBeginning F mean.entry excess.entry wanted list.new.items)) }
+    ensures least { IfOk result (λ found. IfSome found (λ sum. 2 ^ F ≤ sum.lo)) }
 {
+    let alloc = *list.allocator();
     let pivot = pivot_of(mean, excess);
     let Some(ended) = all_weights(alloc, mean, excess, pivot)? else {
         return Ok(None);
     };
-    let Ended { list, rest } = ended;
-    let sum = sum_of(&list);
+    let Ended { list: all, rest } = ended;
+    let sum = sum_of(all.as_slice());
     let sum = Iv::of_ends(sum.lo(), sum.hi() + rest);
-    Ok(Some(Beginning { list, sum }))
+    *list = all;
+    Ok(Some(sum))
 }
 
-/// The first weights, `wanted` of them or more, at most 63 being wanted, and the sum of all, with a mean and an
-/// excess as [`crate::weights`] takes them. None where its answer is `Wide`. Want of memory is the only error.
+/// Puts the first weights in the place of what the list holds, `wanted` of them or more, at most 63 being wanted, and
+/// answers the sum of all, whose upper end also covers all weights past the last index. The mean and the excess are as
+/// [`crate::weights`] takes them.
+///
+/// None where its answer is `Wide`. Want of memory is the only error. Both leave anything in the list.
 pub fn first_weights<const F: u32>(
-    alloc: Global,
+    list: &mut Vec<Iv64<F>>,
     mean: Iv<F>,
     excess: Iv<F>,
     wanted: usize,
-) -> Result<Option<Beginning<F>>, NoMemory>
+) -> Result<Option<Iv<F>>, NoMemory>
     requires positive { 0 < mean.lo }
     requires mean_top { IsWithinLimit F mean }
     requires excess_top { excess.hi ≤ 2048 * 2 ^ F }
     requires wanted { wanted ≤ 63 }
     ensures wide { IfOk result (λ found. IfNone found (is_wide F mean.entry excess.entry ≡ true)) }
     ensures known { IfOk result (λ found. IfSome found
-        (λ b. IsBeginning F mean.entry excess.entry wanted b.list.items b.sum)) }
-    ensures least { IfOk result (λ found. IfSome found (λ b. 2 ^ F ≤ b.sum.lo)) }
+        (IsBeginning F mean.entry excess.entry wanted list.new.items)) }
+    ensures least { IfOk result (λ found. IfSome found (λ sum. 2 ^ F ≤ sum.lo)) }
 {
-    let found = if is_near(excess) {
-        near_weights(alloc, mean, excess, wanted)?
+    list.clear();
+    if is_near(excess) {
+        near_weights(list, mean, excess, wanted)
     } else {
-        far_weights(alloc, mean, excess, wanted)?
-    };
-    Ok(found)
+        far_weights(list, mean, excess, wanted)
+    }
 }

@@ -1,5 +1,6 @@
 //! What the weights are answered as.
 
+use crate::short::Iv64;
 use fixed_interval::Iv;
 use spares_io::List;
 
@@ -13,7 +14,7 @@ pub enum Weights<const F: u32> {
         /// The place of the weight 1, near the mode: 0 to 256.
         pivot: u16,
         /// The weights from place 0 on: 64 to 1025 of them, each at most 8.
-        list: List<Iv<F>>,
+        list: List<Iv64<F>>,
         /// Their sum, whose upper end also covers all weights past the list.
         sum: Iv<F>,
     },

@@ -12,7 +12,7 @@
 //! `Wide`.
 #![tactic(auto)]
 
-ghost use Rattle.std.specs.Prelude.{◌≡◌, ◌+◌, ◌-◌, ◌*◌, ◌/◌, ◌^◌, ◌<◌, ◌≤◌, true, false, max, ℕ, ◌⊎◌, IfOk, IfSome, IfNone, length};
+ghost use Rattle.std.specs.Prelude.{◌≡◌, ◌+◌, ◌-◌, ◌*◌, ◌/◌, ◌^◌, ◌<◌, ◌≤◌, true, false, max, ℕ, [], ◌⊎◌, IfOk, IfSome, IfNone, length};
 ghost use Rattle.std.specs.List.{All};
 ghost use Rattle.std.specs.Int.{div_ceil};
 ghost use Rattle.fixed_interval.specs.Ends.{Ends, InScale, IsWithinLimit, ends_exact, ends_mul};
@@ -36,7 +36,7 @@ use crate::kinds::Weights;
 use crate::plain::risen_plain;
 use crate::ratios::Ratios;
 use crate::shares::div_near;
-use crate::short::product;
+use crate::short::Iv64;
 use fixed_interval::Iv;
 use quotients::{inverse_of, inverse_refined};
 use spares_io::{List, NoMemory};
@@ -85,8 +85,8 @@ const MOST_WEIGHT: u32 = 8;
 /// The weights below an index, the last of them, and the ratio there.
 #[derive(Drop)]
 struct Begun<const F: u32> {
-    list: Vec<Iv<F>>,
-    last: Iv<F>,
+    list: Vec<Iv64<F>>,
+    last: Iv64<F>,
     /// The index.
     next: u32,
     ratios: Ratios<F>,
@@ -95,7 +95,7 @@ struct Begun<const F: u32> {
 /// All weights, and what the ones past them come to at most.
 #[derive(Drop)]
 struct Ended<const F: u32> {
-    list: Vec<Iv<F>>,
+    list: Vec<Iv64<F>>,
     rest: u128,
 }
 
@@ -142,19 +142,9 @@ fn back_at<const F: u32>(mean: Iv<F>, excess: Iv<F>, x: u32, inverse: u64) -> Iv
     div_near(above, below, inverse)
 }
 
-/// A weight times a ratio.
-#[inline(always)]
-fn times<const F: u32>(weight: Iv<F>, ratio: Iv<F>) -> Iv<F>
-    requires top { weight.hi ≤ 8 * 2 ^ F }
-    requires ratio_top { ratio.hi ≤ 2048 * 2 ^ F }
-    ensures { result ≡ ends_mul F weight.entry ratio.entry }
-{
-    product(weight, ratio)
-}
-
 /// Whether a weight before the index `x` is from 0 to 1 unit, and all ratios from there on are at most 1. Then all
 /// weights from there on are the same.
-fn stays<const F: u32>(mean: Iv<F>, excess: Iv<F>, before: Iv<F>, x: u32) -> bool
+fn stays<const F: u32>(mean: Iv<F>, excess: Iv<F>, before: Iv64<F>, x: u32) -> bool
     requires mean_top { IsWithinLimit F mean }
     requires excess_top { excess.hi ≤ 2048 * 2 ^ F }
     requires from { 0 < x }
@@ -229,38 +219,37 @@ fn next_inverse<const F: u32>(inverse: u64, den: u64, step: u32) -> u64
     }
 }
 
-/// The weights from 0 to the pivot, with room for so many more, and None where one passes 8.
+/// Puts the weights from 0 to the pivot into an empty list, and answers whether none passes 8.
 fn down<const F: u32>(
-    alloc: Global,
+    list: &mut Vec<Iv64<F>>,
     mean: Iv<F>,
     excess: Iv<F>,
     pivot: u16,
-    room: usize,
-) -> Result<Option<Vec<Iv<F>>>, NoMemory>
+) -> Result<bool, NoMemory>
+    requires empty { list.old.items ≡ [] }
     requires mean_top { IsWithinLimit F mean }
     requires depth { pivot ≤ 256 }
     requires above { 0 < pivot → 2 ^ F + excess.hi ≤ mean.lo }
     requires place { pivot ≡ pivot_at F mean excess }
-    requires room { room ≤ 64 }
-    ensures wide { IfOk result (λ found. IfNone found (is_wide F mean.entry excess.entry ≡ true)) }
-    ensures known { IfOk result (λ found. IfSome found (λ list. ToPivot F mean.entry excess.entry list.items)) }
+    ensures wide { IfOk result (λ narrow. narrow ≡ false → is_wide F mean.entry excess.entry ≡ true) }
+    ensures known { IfOk result (λ narrow. narrow ≡ true → ToPivot F mean.entry excess.entry list.new.items) }
 {
     let most = most_weight::<F>();
-    let mut term = Iv::exact(1);
-    let mut list = Vec::with_capacity(alloc, usize::from(pivot) + room)?;
+    let mut term = Iv64::one();
     list.push(term)?;
     let mut inverse = u64::MAX;
     for step in 0..u32::from(pivot) {
         let x = u32::from(pivot) - step;
         inverse = next_inverse::<F>(inverse, back_divisor(mean, excess, x), step);
-        term = times(term, back_at(mean, excess, x, inverse));
+        let back = Iv64::of(back_at(mean, excess, x, inverse));
+        term = term.times(back);
         if term.hi() > most {
-            return Ok(None);
+            return Ok(false);
         }
         list.push(term)?;
     }
     list.reverse();
-    Ok(Some(list))
+    Ok(true)
 }
 
 /// The weights from the pivot on to the first index at which the list may end, or to where they stay the same, and
@@ -269,7 +258,7 @@ fn climb<const F: u32>(
     mean: Iv<F>,
     excess: Iv<F>,
     pivot: u16,
-    begun: Vec<Iv<F>>,
+    begun: Vec<Iv64<F>>,
 ) -> Result<Option<Begun<F>>, NoMemory>
     requires positive { 0 < mean.lo }
     requires mean_top { IsWithinLimit F mean }
@@ -286,10 +275,10 @@ fn climb<const F: u32>(
     let most = most_weight::<F>();
     let first = u32::from(pivot) + 1;
     let mut list = begun;
-    let mut last = Iv::exact(1);
+    let mut last = Iv64::one();
     let mut ratios = Ratios::at(mean, excess, first);
     for x in first..FIRST_END {
-        last = times(last, ratios.take(mean, excess, x));
+        last = last.times(ratios.take(mean, excess, x));
         if last.hi() > most {
             return Ok(None);
         }
@@ -377,7 +366,7 @@ fn finish<const F: u32>(
     } = begun;
     let mut ratio = ratios.take(mean, excess, start);
     for x in start..LAST_END + 1 {
-        last = times(last, ratio);
+        last = last.times(ratio);
         let top = last.hi();
         if top > most {
             return Ok(None);
@@ -398,7 +387,7 @@ fn risen<const F: u32>(
     mean: Iv<F>,
     excess: Iv<F>,
     pivot: u16,
-    low: Vec<Iv<F>>,
+    low: Vec<Iv64<F>>,
 ) -> Result<Option<Ended<F>>, NoMemory>
     requires positive { 0 < mean.lo }
     requires mean_top { IsWithinLimit F mean }
@@ -443,9 +432,11 @@ fn all_weights<const F: u32>(
     ensures wide { IfOk result (λ found. IfNone found (is_wide F mean.entry excess.entry ≡ true)) }
     ensures known { IfOk result (λ found. IfSome found (λ e. ToEnd F mean.entry excess.entry e.list.items e.rest)) }
 {
-    let Some(low) = down(alloc, mean, excess, pivot, FIRST_END as usize + 1)? else {
+    let mut low = Vec::with_capacity(alloc, usize::from(pivot) + FIRST_END as usize + 1)?;
+    let narrow = down(&mut low, mean, excess, pivot)?;
+    if !narrow {
         return Ok(None);
-    };
+    }
     let ended = if is_near(excess) {
         risen(mean, excess, pivot, low)?
     } else {
@@ -455,7 +446,7 @@ fn all_weights<const F: u32>(
 }
 
 /// The sum of a list.
-fn sum_of<const F: u32>(list: &[Iv<F>]) -> Iv<F>
+fn sum_of<const F: u32>(list: &[Iv64<F>]) -> Iv<F>
     requires scale { InScale F }
     requires long { length list.now ≤ 1025 }
     requires tops { All (λ v. v.hi ≤ 8 * 2 ^ F) list.now }
@@ -465,7 +456,7 @@ fn sum_of<const F: u32>(list: &[Iv<F>]) -> Iv<F>
 {
     let mut sum = Iv::exact(0);
     for v in list {
-        sum = sum.add(*v);
+        sum = sum.add(v.open());
     }
     sum
 }

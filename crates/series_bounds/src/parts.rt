@@ -4,7 +4,7 @@ ghost use Rattle.std.specs.Prelude.{◌≡◌, ℕ, ◌+◌, ◌*◌, ◌/◌, �
 ghost use Rattle.std.specs.Int.{div_ceil};
 ghost use Rattle.series_bounds.specs.Ratios.{AreParts};
 
-use quotients::{quotient_near, short_inverse, short_quotient_by};
+use quotients::{quotient_near, short_quotient};
 
 /// How often a divisor goes into a number, and what is left.
 #[derive(Clone, Copy, Drop)]
@@ -29,6 +29,7 @@ impl Parts {
     }
 
     /// The parts of a sum, from those of its terms.
+    #[inline(always)]
     pub(crate) fn plus(self, step: Parts, den: u64) -> Parts
         requires whole_room { self.whole < 2 ^ 63 }
         requires step_room { step.whole < 2 ^ 63 }
@@ -64,32 +65,34 @@ impl Parts {
     }
 
     /// The number over `x` times the divisor, rounded down.
-    pub(crate) fn floor_over(self, x: u32) -> u128
+    #[inline(always)]
+    pub(crate) fn floor_over(self, x: u32) -> u64
         requires { 0 < x }
         ensures { (n d : ℕ) → AreParts n d self → result ≡ n / (d * x) }
     {
-        u128::from(over(self.whole, x))
+        over(self.whole, x)
     }
 
     /// The number over `x` times the divisor, rounded up.
-    pub(crate) fn ceil_over(self, x: u32) -> u128
+    #[inline(always)]
+    pub(crate) fn ceil_over(self, x: u32) -> u64
         requires from { 0 < x }
         requires room { self.whole < 2 ^ 63 }
         ensures { (n d : ℕ) → AreParts n d self → result ≡ div_ceil n (d * x) }
     {
         let more = if self.rest == 0 { 0 } else { 1 };
-        u128::from(over(self.whole + more + u64::from(x - 1), x))
+        over(self.whole + more + u64::from(x - 1), x)
     }
 }
 
 /// `num / x`, rounded down.
+#[inline(always)]
 fn over(num: u64, x: u32) -> u64
     requires { 0 < x }
     ensures { result ≡ num / x }
 {
     if x < 256 {
-        let inverse = short_inverse(x as u8).wrapping_add(1);
-        short_quotient_by(num, x as u8, inverse)
+        short_quotient(num, x as u8)
     } else {
         num / u64::from(x)
     }

@@ -5,14 +5,25 @@
 //! the plain form beside which the fast one can be read and tried.
 
 ghost use Rattle.std.specs.Prelude.{◌≡◌, ◌+◌, ◌-◌, ◌*◌, ◌^◌, ◌<◌, ◌≤◌, true, IfOk, IfSome, IfNone};
-ghost use Rattle.fixed_interval.specs.Ends.{IsWithinLimit};
+ghost use Rattle.fixed_interval.specs.Ends.{IsWithinLimit, ends_mul};
 ghost use Rattle.series_bounds.specs.Profile.{ratio_ends, back_ends, far_ratio, pivot_at, weight_ends, is_wide};
 ghost use Rattle.series_bounds.specs.Walk.{EndsAt, GoesOn, SumsTo, ToEnd, ToPivot};
 ghost use Rattle.series_bounds.specs.Answer.{IsSum};
 
-use crate::{Ended, FIRST_END, LAST_END, most_weight, pivot_of, rest_at, times, unit};
+use crate::short::{Iv64, product};
+use crate::{Ended, FIRST_END, LAST_END, most_weight, pivot_of, rest_at, unit};
 use fixed_interval::Iv;
 use spares_io::NoMemory;
+
+/// A weight times a ratio.
+#[inline(always)]
+fn times<const F: u32>(weight: Iv<F>, ratio: Iv<F>) -> Iv<F>
+    requires top { weight.hi ≤ 8 * 2 ^ F }
+    requires ratio_top { ratio.hi ≤ 2048 * 2 ^ F }
+    ensures { result ≡ ends_mul F weight.entry ratio.entry }
+{
+    product(weight, ratio)
+}
 
 /// The ratio of the weight at `x` to the one before it.
 fn ratio<const F: u32>(mean: Iv<F>, excess: Iv<F>, x: u32) -> Iv<F>
@@ -164,7 +175,7 @@ pub(crate) fn risen_plain<const F: u32>(
     mean: Iv<F>,
     excess: Iv<F>,
     pivot: u16,
-    low: Vec<Iv<F>>,
+    low: Vec<Iv64<F>>,
 ) -> Result<Option<Ended<F>>, NoMemory>
     requires mean_top { IsWithinLimit F mean }
     requires excess_top { excess.hi ≤ 2048 * 2 ^ F }
@@ -182,7 +193,7 @@ pub(crate) fn risen_plain<const F: u32>(
         if last.hi() > most {
             return Ok(None);
         }
-        list.push(last)?;
+        list.push(Iv64::of(last))?;
         if let Some(rest) = rest_past(mean, excess, last.hi(), x) {
             return Ok(Some(Ended { list, rest }));
         }

@@ -6,6 +6,7 @@ ghost use Rattle.series_bounds.specs.Ratios.{AreParts, AreRatios};
 ghost use Rattle.fixed_interval.specs.Ends.{InScale, IsWithinLimit};
 
 use crate::parts::Parts;
+use crate::short::Iv64;
 use crate::unit;
 use fixed_interval::Iv;
 use quotients::{guess_by, inverse_beside, inverse_of};
@@ -120,7 +121,7 @@ impl<const F: u32> Ratios<F> {
 
     /// The ratio of the weight at `x`, at which they are, to the one before it. They go on to the next index.
     #[inline(always)]
-    pub(crate) fn take(&mut self, mean: Iv<F>, excess: Iv<F>, x: u32) -> Iv<F>
+    pub(crate) fn take(&mut self, mean: Iv<F>, excess: Iv<F>, x: u32) -> Iv64<F>
         requires mean_top { IsWithinLimit F mean }
         requires excess_top { excess.hi ≤ 2048 * 2 ^ F }
         requires near { excess.hi ≤ 2 ^ F + excess.lo }
@@ -129,10 +130,10 @@ impl<const F: u32> Ratios<F> {
         requires at { AreRatios F mean excess x self.old }
         ensures next { AreRatios F mean.entry excess.entry (x + 1) self.new }
         ensures ends { result ≡ ratio_ends F mean.entry excess.entry x }
-        ensures top { result.hi ≤ 2048 * 2 ^ F }
+        ensures top { result.hi ≤ 257 * 2 ^ F }
     {
         let by = divisors_of(excess);
-        let ratio = Iv::of_ends(self.low.floor_over(x), self.high.ceil_over(x));
+        let ratio = Iv64::of_ends(self.low.floor_over(x), self.high.ceil_over(x));
         self.low = self.low.plus(self.low_step, by.low);
         self.high = self.high.plus(self.high_step, by.high);
         ratio

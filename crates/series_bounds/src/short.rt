@@ -1,9 +1,156 @@
 //! Intervals whose ends have 64 bits.
 
-ghost use Rattle.std.specs.Prelude.{◌≡◌, ◌*◌, ◌^◌, ◌<◌};
-ghost use Rattle.fixed_interval.specs.Ends.{ends_mul};
+ghost use Rattle.std.specs.Prelude.{◌≡◌, true, false, ◌+◌, ◌*◌, ◌/◌, ◌^◌, ◌<◌, ◌≤◌};
+ghost use Rattle.std.specs.Int.{div_ceil};
+ghost use Rattle.fixed_interval.specs.Ends.{InScale, IsInterval, ends_add, ends_exact, ends_mul};
 
+use crate::{most_weight, unit};
 use fixed_interval::Iv;
+use std::marker::Model;
+
+/// The numbers from a lower to an upper end, both in units of `2^-F` and of 64 bits. It is seen as an [`Iv`] is, and
+/// takes half the room.
+#[derive(Clone, Copy, Drop)]
+pub struct Iv64<const F: u32> {
+    lo: u64,
+    hi: u64,
+}
+
+impl<const F: u32> Model for Iv64<F> {
+    ghost use Rattle.fixed_interval.specs.Ends.{Ends, IsInterval};
+
+    ghost Value = { Ends };
+
+    ghost view = { λ a. record { lo = a.lo; hi = a.hi } };
+
+    ghost invariant = { λ a. IsInterval F (record { lo = a.lo; hi = a.hi }) };
+
+    ghost inverse = { λ d. record { lo = d.lo; hi = d.hi } };
+}
+
+impl<const F: u32> Iv64<F> {
+    /// The same interval, whose upper end has 64 bits.
+    #[inline(always)]
+    pub fn of(a: Iv<F>) -> Iv64<F>
+        requires { a.hi < 2 ^ 64 }
+        ensures { result ≡ a.entry }
+    {
+        Iv64 {
+            lo: a.lo() as u64,
+            hi: a.hi() as u64,
+        }
+    }
+
+    /// The number 1.
+    #[inline(always)]
+    pub(crate) fn one() -> Iv64<F>
+        requires { InScale F }
+        ensures { result ≡ ends_exact F 1 }
+    {
+        Iv64::of(Iv::exact(1))
+    }
+
+    /// The numbers from `lo` to `hi`.
+    #[inline(always)]
+    pub(crate) fn of_ends(lo: u64, hi: u64) -> Iv64<F>
+        requires scale { InScale F }
+        requires ordered { lo ≤ hi }
+        ensures { result ≡ record { lo = lo; hi = hi } }
+    {
+        Iv64 { lo, hi }
+    }
+
+    /// The same interval.
+    #[inline(always)]
+    pub fn open(self) -> Iv<F>
+        ensures { result ≡ self.entry }
+    {
+        Iv::of_ends(u128::from(self.lo), u128::from(self.hi))
+    }
+
+    /// The lower end.
+    #[inline(always)]
+    pub fn lo(&self) -> u128
+        ensures end { result ≡ self.now.lo }
+        ensures valid { IsInterval F self.now }
+    {
+        u128::from(self.lo)
+    }
+
+    /// The upper end.
+    #[inline(always)]
+    pub fn hi(&self) -> u128
+        ensures end { result ≡ self.now.hi }
+        ensures valid { IsInterval F self.now }
+    {
+        u128::from(self.hi)
+    }
+
+    /// Whether the upper end passes 8.
+    #[inline(always)]
+    pub(crate) fn passes_8(self) -> bool
+        ensures passes { result ≡ true → 8 * 2 ^ F < self.entry.hi }
+        ensures below { result ≡ false → self.entry.hi ≤ 8 * 2 ^ F }
+    {
+        self.hi > most_short::<F>()
+    }
+
+    /// The sum.
+    #[inline(always)]
+    pub(crate) fn add(self, b: Iv64<F>) -> Iv64<F>
+        requires { self.hi + b.hi < 2 ^ 64 }
+        ensures ends { result ≡ ends_add self.entry b.entry }
+    {
+        Iv64 {
+            lo: self.lo + b.lo,
+            hi: self.hi + b.hi,
+        }
+    }
+
+    /// A weight times a ratio.
+    #[inline(always)]
+    pub(crate) fn times(self, ratio: Iv64<F>) -> Iv64<F>
+        requires top { self.hi ≤ 8 * 2 ^ F }
+        requires ratio_top { ratio.hi ≤ 257 * 2 ^ F }
+        ensures { result ≡ ends_mul F self.entry ratio.entry }
+    {
+        let lower = product_down::<F>(self.lo, ratio.lo);
+        let upper = product_up::<F>(self.hi, ratio.hi);
+        Iv64::of_ends(lower, upper)
+    }
+}
+
+/// The number 8 in units of `2^-F`.
+#[inline(always)]
+fn most_short<const F: u32>() -> u64
+    requires { InScale F }
+    ensures { result ≡ 8 * 2 ^ F }
+{
+    most_weight::<F>() as u64
+}
+
+/// The product of an end of a weight and one of a ratio, rounded down.
+#[inline(always)]
+fn product_down<const F: u32>(weight: u64, ratio: u64) -> u64
+    requires scale { InScale F }
+    requires top { weight ≤ 8 * 2 ^ F }
+    requires ratio_top { ratio ≤ 257 * 2 ^ F }
+    ensures { result ≡ weight * ratio / 2 ^ F }
+{
+    ((u128::from(weight) * u128::from(ratio)) >> F) as u64
+}
+
+/// The same rounded up.
+#[inline(always)]
+fn product_up<const F: u32>(weight: u64, ratio: u64) -> u64
+    requires scale { InScale F }
+    requires top { weight ≤ 8 * 2 ^ F }
+    requires ratio_top { ratio ≤ 257 * 2 ^ F }
+    ensures { result ≡ div_ceil (weight * ratio) (2 ^ F) }
+{
+    let product = u128::from(weight) * u128::from(ratio);
+    ((product + (unit::<F>() - 1)) >> F) as u64
+}
 
 /// The same interval, said to have no ends of more than 64 bits: products of such are computed faster.
 #[inline(always)]

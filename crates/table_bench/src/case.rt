@@ -2,7 +2,8 @@
 
 use anyhow::{Context, anyhow};
 use fixed_interval::Iv;
-use moment_table::table;
+use moment_table::{put_backorders, table};
+use series_bounds::short::Iv64;
 use std::alloc::Global;
 
 /// The most of a mean or a variance, in ten-thousandths.
@@ -61,4 +62,32 @@ fn ends(alloc: Global, mean: Iv<48>, variance: Iv<48>) -> anyhow::Result<u128> {
     }
     let table = table(alloc, mean, variance).map_err(|_| anyhow!("out of memory"))?;
     Ok(table.ebo(7).lo() ^ table.vbo(9).hi())
+}
+
+/// The ends of the last backorders of so many lists taken together. List number i is that of a mean from 0.3 to 6, and
+/// of a variance that is from 1 to 1.3 times the mean.
+pub fn backorders_checksum(alloc: Global, count: u32) -> anyhow::Result<u128> {
+    let mut sum = 0;
+    let mut found = Vec::new(alloc);
+    for i in 0..count {
+        let mean = 3_000 + i % 7_919 * 7;
+        let variance = mean / 10 * (10 + i % 4);
+        sum ^= last_ends(&mut found, moment(mean, 1)?, moment(variance, 3)?)?;
+    }
+    Ok(sum)
+}
+
+/// The ends of the backorders at the stock 5, where a mean and a variance of these sizes have a table.
+fn last_ends(found: &mut Vec<Iv64<48>>, mean: Iv<48>, variance: Iv<48>) -> anyhow::Result<u128> {
+    let most = Iv::<48>::exact(256).hi();
+    if mean.hi() > most || variance.hi() > most {
+        return Err(anyhow!("the mean and the variance are at most 256"));
+    }
+    let room = mean.lo() * 2048;
+    if mean.hi() > room || variance.hi() > room {
+        return Err(anyhow!("the variance is at most 2048 times the mean"));
+    }
+    put_backorders(found, mean, variance, 5).map_err(|_| anyhow!("out of memory"))?;
+    let last = found[5].open();
+    Ok(last.lo() ^ (last.hi() % (1 << 64) * 8))
 }

@@ -3,12 +3,14 @@
 //! With the words `COUNT MEAN VARIANCE` it makes COUNT tables, number i of the mean MEAN + i mod 97 and of the variance
 //! VARIANCE + i mod 89, both in ten-thousandths, and prints the checksum. With a fourth word `timed` it prints the
 //! nanoseconds of a table too. With no words it makes a few tables of each of five cases.
+//!
+//! With the words `backorders COUNT [timed]` it makes COUNT lists of the backorders at the stocks 0 to 5 instead.
 #![tactic(auto)]
 
 mod case;
 
-use anyhow::anyhow;
-use case::Case;
+use anyhow::{Context, anyhow};
+use case::{Case, backorders_checksum};
 use std::env;
 use std::time::Instant;
 
@@ -42,6 +44,21 @@ fn report(rt: &HostRuntime, case: Case, timed: bool) -> anyhow::Result<()> {
     Ok(())
 }
 
+/// Makes lists of backorders, and prints their checksum and, where it is asked for, the time of one.
+fn report_backorders(rt: &HostRuntime, count: &str, timed: bool) -> anyhow::Result<()> {
+    let count: u32 = count.parse().context("COUNT")?;
+    let start = Instant::now(rt)?;
+    let sum = backorders_checksum(rt.alloc(), count)?;
+    let spent = start.elapsed(rt)?;
+    print!(rt; "backorders checksum {sum}")?;
+    if timed {
+        let each = spent.as_nanos() / u128::from(count.max(1));
+        print!(rt; " nanoseconds {each}")?;
+    }
+    println!(rt; "")?;
+    Ok(())
+}
+
 fn main(rt: HostRuntime) -> anyhow::Result<()> {
     let words: Vec<String> = env::args(&rt)?.collect(rt.alloc())?;
     match words.as_slice() {
@@ -60,10 +77,14 @@ fn main(rt: HostRuntime) -> anyhow::Result<()> {
             }
             Ok(())
         }
+        [_, kind, count] if kind.as_str() == "backorders" => report_backorders(&rt, count, false),
+        [_, kind, count, timed] if kind.as_str() == "backorders" && timed.as_str() == "timed" => {
+            report_backorders(&rt, count, true)
+        }
         [_, count, mean, variance] => report(&rt, Case::read(count, mean, variance)?, false),
         [_, count, mean, variance, timed] if timed.as_str() == "timed" => {
             report(&rt, Case::read(count, mean, variance)?, true)
         }
-        _ => Err(anyhow!("words: [COUNT MEAN VARIANCE [timed]]")),
+        _ => Err(anyhow!("words: [COUNT MEAN VARIANCE [timed] | backorders COUNT [timed]]")),
     }
 }

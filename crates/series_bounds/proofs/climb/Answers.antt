@@ -9,8 +9,8 @@ pub loop-x-init : goal.loop-x-init
 loop-x-init g c =
     let e : pivot_at g.row.F c.args.mean c.args.excess + 1 ≡ c.from-first.result + 1 = omega (arith, c.from-first.ensures, c.requires.place) in
     record {
-      ascent = subst (λ z. Ascent g.row.F c.args.mean c.args.excess c.args.begun.items c.exact-last.result z) e
-          (ascent_start g.row.F c.args.mean c.args.excess c.args.begun.items c.exact-last.result c.requires.begun (omega (arith, c.requires.place, c.requires.depth)) c.exact-last.ensures.ends);
+      ascent = subst (λ z. Ascent g.row.F c.args.mean c.args.excess c.args.begun.items c.one-last.result z) e
+          (ascent_start g.row.F c.args.mean c.args.excess c.args.begun.items c.one-last.result c.requires.begun (omega (arith, c.requires.place, c.requires.depth)) c.one-last.ensures);
       ratios = c.at-ratios.ensures;
       most = omega (arith, e, le-max_left (pivot_at g.row.F c.args.mean c.args.excess + 1) 63);
     }

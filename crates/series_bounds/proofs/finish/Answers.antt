@@ -9,7 +9,7 @@ pub take-ratio-requires : goal.take-ratio-requires
 take-ratio-requires g c =
     let a : 63 ≤ least_end g.row.F c.args.mean c.args.excess = end_from_63 g.row.F c.args.mean c.args.excess in
     let b : least_end g.row.F c.args.mean c.args.excess ≤ 1024 = end_most g.row.F c.args.mean c.args.excess 1024 (omega (arith, c.requires.depth)) (omega arith) in
-    (lit< tt, (lit< tt, (c.requires.mean_top, (c.requires.excess_top, (c.requires.near, (omega (arith, a, c.requires.start), (omega (arith, b, c.requires.start), c.requires.ratios)))))))
+    (lit< tt, (lit< tt, (lit< tt, (c.requires.mean_top, (c.requires.excess_top, (c.requires.near, (omega (arith, a, c.requires.start), (omega (arith, b, c.requires.start), c.requires.ratios))))))))
 
 pub loop-x-init : goal.loop-x-init
 loop-x-init g c =

@@ -14,7 +14,7 @@ sum_of-sum-requires g c =
     let s : InScale g.row.F = search rules in
     let h : ToEnd g.row.F c.args.mean c.args.excess c.in-Some.ended.list.items c.in-Some.ended.rest = rw c.in-Some.is at c.in_ok-ended.ensures.known in
     let q : pivot_at g.row.F c.args.mean c.args.excess ≤ 256 = omega (arith, c.pivot_of-pivot.ensures.place, c.pivot_of-pivot.ensures.most) in
-    (lit< tt, (s, rw c.deref.ensures.value (end_long g.row.F c.args.mean c.args.excess c.in-Some.ended.list.items c.in-Some.ended.rest h q, λ k d l. end_tops g.row.F c.args.mean c.args.excess c.in-Some.ended.list.items c.in-Some.ended.rest h k d l)))
+    (lit< tt, (lit< tt, (s, rw c.deref.ensures.value (end_long g.row.F c.args.mean c.args.excess c.in-Some.ended.list.items c.in-Some.ended.rest h q, λ k d l. end_tops g.row.F c.args.mean c.args.excess c.in-Some.ended.list.items c.in-Some.ended.rest h k d l))))
 
 pub overflow_add-hi : goal.overflow_add-hi
 overflow_add-hi g c =

@@ -1,4 +1,4 @@
-use Rattle.std.proofs.Common.{◌≡◌, ◌+◌, ◌-◌, ◌≤◌, [], ◌∷◌, length, sum_by}
+use Rattle.std.proofs.Common.{◌≡◌, ◌+◌, ◌-◌, ◌≤◌, [], ◌∷◌, length, sum_by, take}
 use Rattle.std.specs.List.{range_with_len}
 use Rattle.hull.specs.Curves.{StandFor}
 use Rattle.family_curve.specs.Separation.{points_over}
@@ -8,7 +8,7 @@ use Rattle.family_curve.proofs.joining.depot_path.Given as goal
 
 abbrev pub invariant-loop-j : goal.invariant-loop-j
 invariant-loop-j g l = record {
-  stands : StandFor (points_over l.family.case l.family.line g.S.Score.ends l.family.held l.family.low l.family.high l.depot (range_with_len 1 (l.j - 1))) (sums_of_each (l.first ∷ []) l.curves.items);
-  few : 1 + sum_by length l.curves.items ≤ over_count l.family l.j;
-  count : length l.curves.items + 1 ≡ l.j;
+  stands : StandFor (points_over l.sources.family.now.case l.sources.family.now.line g.S.Score.ends l.sources.family.now.held l.sources.family.now.low l.sources.family.now.high l.depot (range_with_len 1 (l.j - 1))) (sums_of_each (l.first ∷ []) (take (l.j - 1) l.work.chains.items));
+  few : 1 + sum_by length (take (l.j - 1) l.work.chains.items) ≤ over_count l.sources.family.now l.j;
+  count : length l.work.chains.items ≡ length l.sources.bases.items;
 }

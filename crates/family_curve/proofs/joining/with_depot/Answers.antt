@@ -9,7 +9,7 @@ use Rattle.family_curve.proofs.joining.with_depot.Goals as goal
 
 pub of-requires-clause-ranges : goal.of-requires-clause-ranges
 of-requires-clause-ranges g c =
-    let x = c.args.family.now in
+    let x = c.args.sources.now.family.now in
     let valid = c.size-size.ensures.valid in
     let d = c.args.depot.now in
     let ends = g.S.Score.ends in
@@ -18,7 +18,7 @@ of-requires-clause-ranges g c =
 
 pub of-requires-clause-widths : goal.of-requires-clause-widths
 of-requires-clause-widths g c =
-    let x = c.args.family.now in
+    let x = c.args.sources.now.family.now in
     let valid = c.size-size.ensures.valid in
     let d = c.args.depot.now in
     let ends = g.S.Score.ends in
@@ -27,7 +27,7 @@ of-requires-clause-widths g c =
 
 pub returns-in_default-clause-curve : goal.returns-in_default-clause-curve
 returns-in_default-clause-curve g c =
-    let x = c.args.family.now in
+    let x = c.args.sources.now.family.now in
     let valid = c.size-size.ensures.valid in
     let d = c.args.depot.now in
     let ends = g.S.Score.ends in
@@ -38,7 +38,7 @@ returns-in_default-clause-curve g c =
 
 pub returns-in_default-clause-widths : goal.returns-in_default-clause-widths
 returns-in_default-clause-widths g c =
-    let x = c.args.family.now in
+    let x = c.args.sources.now.family.now in
     let valid = c.size-size.ensures.valid in
     let d = c.args.depot.now in
     let ends = g.S.Score.ends in
@@ -51,7 +51,7 @@ depot_path-requires-2-clause-ranges g c =
 
 pub add_points-requires-clause-ranges : goal.add_points-requires-clause-ranges
 add_points-requires-clause-ranges g c =
-    let x = c.args.family.now in
+    let x = c.args.sources.now.family.now in
     let valid = c.size-size.ensures.valid in
     let d = c.args.depot.now in
     let ends = g.S.Score.ends in
@@ -60,7 +60,7 @@ add_points-requires-clause-ranges g c =
 
 pub add_points-requires-clause-widths : goal.add_points-requires-clause-widths
 add_points-requires-clause-widths g c =
-    let x = c.args.family.now in
+    let x = c.args.sources.now.family.now in
     let valid = c.size-size.ensures.valid in
     let d = c.args.depot.now in
     let ends = g.S.Score.ends in
@@ -70,7 +70,7 @@ add_points-requires-clause-widths g c =
 
 pub returns-then-is_empty-clause-curve : goal.returns-then-is_empty-clause-curve
 returns-then-is_empty-clause-curve g c =
-    let x = c.args.family.now in
+    let x = c.args.sources.now.family.now in
     let valid = c.size-size.ensures.valid in
     let d = c.args.depot.now in
     let ends = g.S.Score.ends in
@@ -84,7 +84,7 @@ returns-then-is_empty-clause-curve g c =
 
 pub returns-clause-curve : goal.returns-clause-curve
 returns-clause-curve g c =
-    let x = c.args.family.now in
+    let x = c.args.sources.now.family.now in
     let valid = c.size-size.ensures.valid in
     let d = c.args.depot.now in
     let ends = g.S.Score.ends in
@@ -97,11 +97,11 @@ returns-clause-curve g c =
     (stand_for (curve ++ points) (curve ++ c.in_ok-path-2.path.items) c.add_points.new.self stands c.in_ok-add_points.ensures.ok)
 
 pub returns-then-is_empty-clause-widths : goal.returns-then-is_empty-clause-widths
-returns-then-is_empty-clause-widths g c = subst (λ (o : Option (List Point)). HaveWidthOf c.args.family.now (vertices_of o)) c.in-Some.is c.requires.widths
+returns-then-is_empty-clause-widths g c = subst (λ (o : Option (List Point)). HaveWidthOf c.args.sources.now.family.now (vertices_of o)) c.in-Some.is c.requires.widths
 
 pub returns-clause-widths : goal.returns-clause-widths
 returns-clause-widths g c =
-    let x = c.args.family.now in
+    let x = c.args.sources.now.family.now in
     let valid = c.size-size.ensures.valid in
     let d = c.args.depot.now in
     let ends = g.S.Score.ends in

@@ -1,5 +1,5 @@
 use Rattle.std.proofs.Common.{◌≡◌, ◌+◌, ◌*◌, ◌^◌, ◌≤◌, ◌∙◌, arith, ap, ap₂, subst, sym, le_trans, mul-le-mul_right, rules, lit<}
-use Rattle.fixed_interval.specs.Ends.{Ends, InScale}
+use Rattle.fixed_interval.specs.Ends.{Ends, InScale, ends_add}
 use Rattle.fixed_interval.proofs.Laws.{unit_most}
 use Rattle.series_bounds.specs.Profile.{least_end, ratio_bound, listed, weight_ends}
 use Rattle.series_bounds.specs.Walk.{EndsAt}
@@ -14,7 +14,7 @@ pub take-ratio-requires : goal.take-ratio-requires
 take-ratio-requires g c =
     let a : 63 ≤ least_end g.row.F c.args.mean c.args.excess = end_from_63 g.row.F c.args.mean c.args.excess in
     let b : least_end g.row.F c.args.mean c.args.excess ≤ 1024 = end_most g.row.F c.args.mean c.args.excess 1024 (omega (arith, c.requires.depth)) (omega arith) in
-    (lit< tt, (lit< tt, (c.requires.mean_top, (c.requires.excess_top, (c.requires.near, (omega (arith, a, c.requires.start), (omega (arith, b, c.requires.start), c.requires.ratios)))))))
+    (lit< tt, (lit< tt, (lit< tt, (c.requires.mean_top, (c.requires.excess_top, (c.requires.near, (omega (arith, a, c.requires.start), (omega (arith, b, c.requires.start), c.requires.ratios))))))))
 
 pub loop-x-init : goal.loop-x-init
 loop-x-init g c = record {
@@ -43,7 +43,7 @@ add-sum-requires g c =
     let t : c.times-last.result.hi ≤ 8 * 2 ^ g.row.F = omega (arith, c.if-top-most.false, c.most_weight-most.ensures, c.hi-top.ensures.end) in
     let m : c.loop-x.sum.hi ≤ 1024 * (8 * 2 ^ g.row.F) =
     le_trans c.loop-x.invariant.climb.sums.most (mul-le-mul_right (8 * 2 ^ g.row.F) (omega (arith, c.loop-x-test.true))) in
-    (lit< tt, omega (arith, t, m, unit_most g.row.F s.1))
+    (lit< tt, omega (arith, t, m, ap (λ (z : Ends). z.hi) c.open.ensures, unit_most g.row.F s.1))
 
 pub overflow_add-hi : goal.overflow_add-hi
 overflow_add-hi g c =
@@ -61,7 +61,7 @@ overflow_add-hi g c =
     let r = end_rest g.row.F c.args.mean c.args.excess _ c.in-Some.rest
     (climb_ended g.row.F c.args.mean c.args.excess c.loop-x.last c.loop-x.sum c.times-last.result c.loop-x.ratio c.loop-x.x c.loop-x.invariant.climb
     c.loop-x.invariant.ratio c.times-last.ensures t (omega (arith, c.loop-x-test.true)) c.in-Some.rest e) s.1 in
-    let h : c.add-sum.result.hi ≡ c.loop-x.sum.hi + c.times-last.result.hi = ap (λ (z : Ends). z.hi) c.add-sum.ensures.ends in
+    let h : c.add-sum.result.hi ≡ c.loop-x.sum.hi + c.times-last.result.hi = ap (λ (z : Ends). z.hi) (c.add-sum.ensures.ends ∙ ap (ends_add c.loop-x.sum) c.open.ensures) in
     record { fits = omega (arith, h, t, m, r, c.hi-in-Some.ensures.end, unit_most g.row.F s.1) }
 
 pub of_ends-requires : goal.of_ends-requires
@@ -80,7 +80,7 @@ of_ends-requires g c =
     let r = end_rest g.row.F c.args.mean c.args.excess _ c.in-Some.rest
     (climb_ended g.row.F c.args.mean c.args.excess c.loop-x.last c.loop-x.sum c.times-last.result c.loop-x.ratio c.loop-x.x c.loop-x.invariant.climb
     c.loop-x.invariant.ratio c.times-last.ensures t (omega (arith, c.loop-x-test.true)) c.in-Some.rest e) s.1 in
-    let h : c.add-sum.result.hi ≡ c.loop-x.sum.hi + c.times-last.result.hi = ap (λ (z : Ends). z.hi) c.add-sum.ensures.ends in
+    let h : c.add-sum.result.hi ≡ c.loop-x.sum.hi + c.times-last.result.hi = ap (λ (z : Ends). z.hi) (c.add-sum.ensures.ends ∙ ap (ends_add c.loop-x.sum) c.open.ensures) in
     (lit< tt, (s, (omega (arith, c.lo.ensures.end, c.hi-in-Some.ensures.end, c.lo.ensures.valid.ordered), omega (arith, h, t, m, r, c.hi-in-Some.ensures.end, unit_most g.row.F s.1))))
 
 pub returns-in-Some-clause-known : goal.returns-in-Some-clause-known
@@ -94,7 +94,7 @@ returns-in-Some-clause-known g c =
     (omega (arith, c.loop-x.auto.x, c.requires.start, end_from_63 g.row.F c.args.mean c.args.excess)) c.in-Some.ensures.bounded c.in-Some.ensures.rest c.in-Some.ensures.small in
     climb_done g.row.F c.args.mean c.args.excess c.loop-x.last c.loop-x.sum c.times-last.result c.loop-x.ratio c.loop-x.x c.loop-x.invariant.climb
     c.loop-x.invariant.ratio c.times-last.ensures (omega (arith, c.if-top-most.false, c.most_weight-most.ensures, c.hi-top.ensures.end)) (omega (arith, c.loop-x-test.true))
-    c.in-Some.rest e c.add-sum.result c.of_ends.result c.add-sum.ensures.ends
+    c.in-Some.rest e c.add-sum.result c.of_ends.result (c.add-sum.ensures.ends ∙ ap (ends_add c.loop-x.sum) c.open.ensures)
     (c.of_ends.ensures ∙ ap₂ (λ y z. record { lo = y; hi = z + c.in-Some.rest }) c.lo.ensures.end c.hi-in-Some.ensures.end)
 
 pub loop-x-preserved : goal.loop-x-preserved
@@ -106,7 +106,7 @@ loop-x-preserved g c =
     record {
       climb = climb_next g.row.F c.args.mean c.args.excess c.loop-x.last c.loop-x.sum c.times-last.result c.loop-x.ratio c.loop-x.x c.loop-x.invariant.climb
           c.loop-x.invariant.ratio c.times-last.ensures (omega (arith, c.if-top-most.false, c.most_weight-most.ensures, c.hi-top.ensures.end))
-          c.add-sum.result c.add-sum.ensures.ends
+          c.add-sum.result (c.add-sum.ensures.ends ∙ ap (ends_add c.loop-x.sum) c.open.ensures)
           (late_on g.row.F c.args.mean c.args.excess c.loop-x.x c.max-bound.result c.hi-top.result b (c.hi-top.ensures.end ∙ ap (λ (z : Ends). z.hi) w)
           (omega (arith, c.loop-x-test.true)) c.in_default.ensures.goes_on);
       ratio = c.take-ratio-in-loop-x.ensures.ends;

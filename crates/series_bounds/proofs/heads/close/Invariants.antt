@@ -8,6 +8,6 @@ abbrev pub invariant-loop-x : goal.invariant-loop-x
 invariant-loop-x g l = record {
   climb : Climb g.row.F l.mean l.excess l.last l.sum l.x;
   ratio : l.ratio ≡ ratio_ends g.row.F l.mean l.excess l.x;
-  ratio_top : l.ratio.hi ≤ 2048 * 2 ^ g.row.F;
+  ratio_top : l.ratio.hi ≤ 257 * 2 ^ g.row.F;
   ratios : AreRatios g.row.F l.mean l.excess (l.x + 1) l.ratios;
 }

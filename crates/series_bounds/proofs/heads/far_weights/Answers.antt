@@ -13,7 +13,7 @@ sum_of-sum-requires g c =
     let s : InScale g.row.F = search rules in
     let h : ToEnd g.row.F c.args.mean c.args.excess c.in-Some.ended.list.items c.in-Some.ended.rest = rw c.in-Some.is at c.in_ok-ended.ensures.known in
     let q : pivot_at g.row.F c.args.mean c.args.excess ≤ 256 = omega (arith, c.pivot_of-pivot.ensures.place, c.pivot_of-pivot.ensures.most) in
-    (lit< tt, (s, rw c.deref.ensures.value (end_long g.row.F c.args.mean c.args.excess c.in-Some.ended.list.items c.in-Some.ended.rest h q, λ k d l. end_tops g.row.F c.args.mean c.args.excess c.in-Some.ended.list.items c.in-Some.ended.rest h k d l)))
+    (lit< tt, (lit< tt, (s, rw c.as_slice.ensures.value (end_long g.row.F c.args.mean c.args.excess c.in-Some.ended.list.items c.in-Some.ended.rest h q, λ k d l. end_tops g.row.F c.args.mean c.args.excess c.in-Some.ended.list.items c.in-Some.ended.rest h k d l))))
 
 pub overflow_add-hi : goal.overflow_add-hi
 overflow_add-hi g c =
@@ -30,7 +30,7 @@ of_ends-sum-requires g c =
 pub returns-clause-known : goal.returns-clause-known
 returns-clause-known g c =
     let h : ToEnd g.row.F c.args.mean c.args.excess c.in-Some.ended.list.items c.in-Some.ended.rest = rw c.in-Some.is at c.in_ok-ended.ensures.known in
-    let q : c.sum_of-sum.result ≡ ends_sum c.in-Some.ended.list.items = c.sum_of-sum.ensures.ends ∙ ap ends_sum c.deref.ensures.value in
+    let q : c.sum_of-sum.result ≡ ends_sum c.in-Some.ended.list.items = c.sum_of-sum.ensures.ends ∙ ap ends_sum c.as_slice.ensures.value in
     let r : c.of_ends-sum.result ≡ ends_raised (ends_sum c.in-Some.ended.list.items) c.in-Some.ended.rest =
     c.of_ends-sum.ensures ∙ ap₂ (λ y z. record { lo = y; hi = z + c.in-Some.ended.rest }) (c.lo.ensures.end ∙ ap (λ (z : Ends). z.lo) q) (c.hi.ensures.end ∙ ap (λ (z : Ends). z.hi) q) in
     beginning_all g.row.F c.args.mean c.args.excess c.args.wanted c.in-Some.ended.rest c.in-Some.ended.list.items c.of_ends-sum.result c.requires.wanted h r
@@ -38,7 +38,7 @@ returns-clause-known g c =
 pub returns-clause-least : goal.returns-clause-least
 returns-clause-least g c =
     let h : ToEnd g.row.F c.args.mean c.args.excess c.in-Some.ended.list.items c.in-Some.ended.rest = rw c.in-Some.is at c.in_ok-ended.ensures.known in
-    let q : c.sum_of-sum.result ≡ ends_sum c.in-Some.ended.list.items = c.sum_of-sum.ensures.ends ∙ ap ends_sum c.deref.ensures.value in
+    let q : c.sum_of-sum.result ≡ ends_sum c.in-Some.ended.list.items = c.sum_of-sum.ensures.ends ∙ ap ends_sum c.as_slice.ensures.value in
     let r : c.of_ends-sum.result ≡ ends_raised (ends_sum c.in-Some.ended.list.items) c.in-Some.ended.rest =
     c.of_ends-sum.ensures ∙ ap₂ (λ y z. record { lo = y; hi = z + c.in-Some.ended.rest }) (c.lo.ensures.end ∙ ap (λ (z : Ends). z.lo) q) (c.hi.ensures.end ∙ ap (λ (z : Ends). z.hi) q) in
     sum_least g.row.F c.args.mean c.args.excess c.of_ends-sum.result (omega (arith, c.pivot_of-pivot.ensures.place, c.pivot_of-pivot.ensures.most))

@@ -12,9 +12,9 @@ pub loop-x-init : goal.loop-x-init
 loop-x-init g c =
     let e : c.args.pivot + 1 ≡ c.from-first.result + 1 = omega (arith, c.from-first.ensures) in
     record {
-      climb = subst (λ z. Climb g.row.F c.args.mean c.args.excess c.exact-last.result c.args.low z) e
-          (climb_start g.row.F c.args.mean c.args.excess c.exact-last.result c.args.low c.args.pivot c.requires.place c.requires.depth c.exact-last.ensures.ends c.requires.low);
-      first = subst (λ z. Begins (weight_ends g.row.F c.args.mean c.args.excess) c.args.wanted z c.args.begun.items) e c.requires.begun;
+      climb = subst (λ z. Climb g.row.F c.args.mean c.args.excess c.one-last.result c.args.low z) e
+          (climb_start g.row.F c.args.mean c.args.excess c.one-last.result c.args.low c.args.pivot c.requires.place c.requires.depth c.one-last.ensures c.requires.low);
+      first = subst (λ z. Begins (weight_ends g.row.F c.args.mean c.args.excess) c.args.wanted z c.args.list.now.items) e c.requires.begun;
       ratios = c.at-ratios.ensures;
       most = omega (arith, e, c.requires.place, le-max_left (pivot_at g.row.F c.args.mean c.args.excess + 1) 63);
     }
@@ -25,17 +25,17 @@ times-last-requires g c =
     ascent_top g.row.F c.args.mean c.args.excess (listed (weight_ends g.row.F c.args.mean c.args.excess) c.loop-x.x) c.loop-x.last c.loop-x.x c.loop-x.invariant.climb.ascent in
     (lit< tt, (t, c.take.ensures.top))
 
-pub returns-then-hi-most-clause-wide : goal.returns-then-hi-most-clause-wide
-returns-then-hi-most-clause-wide g c =
+pub returns-then-passes_8-clause-wide : goal.returns-then-passes_8-clause-wide
+returns-then-passes_8-clause-wide g c =
     climb_wide g.row.F c.args.mean c.args.excess c.loop-x.last c.loop-x.sum c.times-last.result c.take.result c.loop-x.x c.loop-x.invariant.climb
     c.take.ensures.ends c.times-last.ensures (omega (arith, c.requires.place, c.requires.depth)) (omega (arith, c.loop-x-test.true))
-    (omega (arith, c.if-hi-most.true, c.most_weight-most.ensures, c.hi.ensures.end))
+    (c.passes_8.ensures.passes c.if-passes_8.true)
 
 pub add-sum-requires : goal.add-sum-requires
 add-sum-requires g c =
     let s : InScale g.row.F = search rules in
-    let t : c.times-last.result.hi ≤ 8 * 2 ^ g.row.F = omega (arith, c.if-hi-most.false, c.most_weight-most.ensures, c.hi.ensures.end) in
-    let m : c.loop-x.sum.hi ≤ 1024 * (8 * 2 ^ g.row.F) =
+    let t : c.times-last.result.hi ≤ 8 * 2 ^ g.row.F = c.passes_8.ensures.below c.if-passes_8.false in
+    let m : c.loop-x.sum.hi ≤ 63 * (8 * 2 ^ g.row.F) =
     le_trans c.loop-x.invariant.climb.sums.most (mul-le-mul_right (8 * 2 ^ g.row.F) (omega (arith, c.loop-x-test.true))) in
     (lit< tt, omega (arith, t, m, unit_most g.row.F s.1))
 
@@ -46,7 +46,7 @@ returns-then-stays-clause-known g c =
     c.take.ensures.ends c.times-last.ensures in
     let n : Climb g.row.F c.args.mean c.args.excess c.times-last.result c.add-sum.result (c.loop-x.x + 1) =
     climb_next g.row.F c.args.mean c.args.excess c.loop-x.last c.loop-x.sum c.times-last.result c.take.result c.loop-x.x c.loop-x.invariant.climb
-    c.take.ensures.ends c.times-last.ensures (omega (arith, c.if-hi-most.false, c.most_weight-most.ensures, c.hi.ensures.end))
+    c.take.ensures.ends c.times-last.ensures (c.passes_8.ensures.below c.if-passes_8.false)
     c.add-sum.result c.add-sum.ensures.ends (early_on g.row.F c.args.mean c.args.excess c.loop-x.x (omega (arith, c.loop-x-test.true))) in
     record {
       first = c.in_ok-hold.ensures (weight_ends g.row.F c.args.mean c.args.excess) c.loop-x.x c.loop-x.invariant.first w;
@@ -62,7 +62,7 @@ loop-x-preserved g c =
     c.take.ensures.ends c.times-last.ensures in
     record {
       climb = climb_next g.row.F c.args.mean c.args.excess c.loop-x.last c.loop-x.sum c.times-last.result c.take.result c.loop-x.x c.loop-x.invariant.climb
-          c.take.ensures.ends c.times-last.ensures (omega (arith, c.if-hi-most.false, c.most_weight-most.ensures, c.hi.ensures.end))
+          c.take.ensures.ends c.times-last.ensures (c.passes_8.ensures.below c.if-passes_8.false)
           c.add-sum.result c.add-sum.ensures.ends (early_on g.row.F c.args.mean c.args.excess c.loop-x.x (omega (arith, c.loop-x-test.true)));
       first = c.in_ok-hold.ensures (weight_ends g.row.F c.args.mean c.args.excess) c.loop-x.x c.loop-x.invariant.first w;
       ratios = c.take.ensures.next;

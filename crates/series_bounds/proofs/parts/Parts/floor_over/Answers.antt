@@ -3,4 +3,4 @@ use Rattle.series_bounds.proofs.Quotients.{floor_twice}
 use Rattle.series_bounds.proofs.parts.Parts.floor_over.Goals as goal
 
 pub returns : goal.returns
-returns c = λ n d h. c.from.ensures ∙ c.over.ensures ∙ floor_twice n d c.args.x c.args.self h
+returns c = λ n d h. c.over.ensures ∙ floor_twice n d c.args.x c.args.self h

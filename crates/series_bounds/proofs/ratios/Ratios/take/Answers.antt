@@ -1,8 +1,7 @@
-use Rattle.std.proofs.Common.{◌-◌, ◌^◌, ◌*◌, ◌≤◌, ◌+◌, ◌/◌, ◌≡◌, arith, lit<, rules, pow_pos}
+use Rattle.std.proofs.Common.{◌-◌, ◌^◌, ◌*◌, ◌+◌, ◌/◌, ◌≡◌, arith, lit<, rules, pow_pos}
 use Rattle.std.specs.Int.{div_ceil}
 use Rattle.fixed_interval.specs.Ends.{InScale, IsInterval}
-use Rattle.fixed_interval.proofs.Laws.{unit_most}
-use Rattle.series_bounds.proofs.Ranges.{ratio_most}
+use Rattle.series_bounds.proofs.Ranges.{ratio_near}
 use Rattle.series_bounds.proofs.Carried.{whole_room, step_room, ends_are, ends_ordered, next_parts}
 use Rattle.series_bounds.proofs.ratios.Ratios.take.Goals as goal
 
@@ -18,8 +17,7 @@ of_ends-ratio-requires g c =
     let w : IsInterval g.row.F c.args.excess = search rules in
     let lo : c.floor_over.result ≡ (c.args.mean.lo + c.args.excess.lo * (c.args.x - 1)) * 2 ^ g.row.F / ((1 * 2 ^ g.row.F + c.args.excess.hi) * c.args.x) = c.floor_over.ensures _ _ c.requires.at.low in
     let hi : c.ceil_over.result ≡ div_ceil ((c.args.mean.hi + c.args.excess.hi * (c.args.x - 1)) * 2 ^ g.row.F) ((1 * 2 ^ g.row.F + c.args.excess.lo) * c.args.x) = c.ceil_over.ensures _ _ c.requires.at.high in
-    let t : c.ceil_over.result ≤ 2048 * 2 ^ g.row.F = rw hi (ratio_most (2 ^ g.row.F) c.args.mean.hi c.args.excess.hi c.args.excess.lo c.args.x (pow_pos g.row.F) c.requires.from c.requires.mean_top c.requires.excess_top) in
-    (lit< tt, (s, (ends_ordered g.row.F c.args.mean c.args.excess c.args.x c.floor_over.result c.ceil_over.result c.requires.from v.ordered w.ordered lo hi, omega (arith, t, unit_most g.row.F s.1))))
+    (lit< tt, (s, ends_ordered g.row.F c.args.mean c.args.excess c.args.x c.floor_over.result c.ceil_over.result c.requires.from v.ordered w.ordered lo hi))
 
 pub plus-self-requires-clause-whole_room : goal.plus-self-requires-clause-whole_room
 plus-self-requires-clause-whole_room g c =
@@ -64,4 +62,4 @@ returns-clause-ends g c = ends_are g.row.F c.args.mean c.args.excess c.args.x c.
 pub returns-clause-top : goal.returns-clause-top
 returns-clause-top g c =
     let hi : c.ceil_over.result ≡ div_ceil ((c.args.mean.hi + c.args.excess.hi * (c.args.x - 1)) * 2 ^ g.row.F) ((1 * 2 ^ g.row.F + c.args.excess.lo) * c.args.x) = c.ceil_over.ensures _ _ c.requires.at.high in
-    rw (c.of_ends-ratio.ensures, hi) (ratio_most (2 ^ g.row.F) c.args.mean.hi c.args.excess.hi c.args.excess.lo c.args.x (pow_pos g.row.F) c.requires.from c.requires.mean_top c.requires.excess_top)
+    rw (c.of_ends-ratio.ensures, hi) (ratio_near (2 ^ g.row.F) c.args.mean.hi c.args.excess.hi c.args.excess.lo c.args.x (pow_pos g.row.F) c.requires.from c.requires.mean_top (omega (arith, c.requires.near)))

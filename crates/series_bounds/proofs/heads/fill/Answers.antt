@@ -1,0 +1,34 @@
+use Rattle.std.proofs.Common.{◌≡◌, ◌∙◌, length, sym, ap, ap₂, ◌++◌, ◌∷◌, [], arith}
+use Rattle.series_bounds.specs.Profile.{weight_ends, listed}
+use Rattle.series_bounds.proofs.Enclosure.{length_listed}
+use Rattle.series_bounds.proofs.Walks.{listed_next}
+use Rattle.series_bounds.proofs.heads.fill.Goals as goal
+
+pub loop-x-init : goal.loop-x-init
+loop-x-init g c = record {
+  entries = c.requires.begun.entries ∙ ap (listed (weight_ends g.row.F c.args.mean c.args.excess)) (omega (arith, c.len-x.ensures));
+  from = λ l. omega (arith, c.requires.begun.all (omega (arith, l, c.len-x.ensures)), c.len-x.ensures);
+}
+
+pub loop-x-preserved : goal.loop-x-preserved
+loop-x-preserved g c =
+    let n = c.loop-x.invariant.from c.loop-x-test.true in
+    record {
+      entries = rw c.in_ok-push.ensures.items
+          (ap₂ (λ y z. y ++ z ∷ []) c.loop-x.invariant.entries (sym (c.requires.same c.loop-x._x n (omega (arith, c.loop-x-test.true, c.requires.wanted))))
+          ∙ sym (listed_next (weight_ends g.row.F c.args.mean c.args.excess) c.loop-x._x));
+      from = λ l. omega (arith, n);
+    }
+
+pub returns-clause-begins : goal.returns-clause-begins
+returns-clause-begins g c =
+    let n : length c.loop-x.list.items ≡ c.loop-x._x = ap length c.loop-x.invariant.entries ∙ length_listed (weight_ends g.row.F c.args.mean c.args.excess) c.loop-x._x in
+    record {
+      entries = c.loop-x.invariant.entries ∙ ap (listed (weight_ends g.row.F c.args.mean c.args.excess)) (sym n);
+      all = λ l. absurd (omega (arith, l, n, c.loop-x-test.false));
+    }
+
+pub returns-clause-enough : goal.returns-clause-enough
+returns-clause-enough g c =
+    let n : length c.loop-x.list.items ≡ c.loop-x._x = ap length c.loop-x.invariant.entries ∙ length_listed (weight_ends g.row.F c.args.mean c.args.excess) c.loop-x._x in
+    omega (arith, n, c.loop-x-test.false)
