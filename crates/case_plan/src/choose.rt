@@ -1,6 +1,7 @@
 //! The plan of curves: their filled hull choice with its numbers.
 
 ghost use Rattle.std.specs.Prelude.{◌≡◌, ℕ, ◌+◌, ◌-◌, ◌*◌, ◌/◌, ◌^◌, ◌<◌, ◌≤◌, List, length, map, slice_index, IfOk};
+ghost use Rattle.spares_input.specs.Money.{most_budget};
 ghost use Rattle.hull.specs.declared.point.Point.{Point};
 ghost use Rattle.hull.specs.Curves.{lagrangian, InRange, IsShape};
 ghost use Rattle.price_bounds.specs.Sums.{total, cost_of, hi_of, lo_of, width_of};
@@ -11,7 +12,7 @@ ghost use Rattle.case_plan.specs.Parts.{slack, IsPlace, IsSmallPrice};
 
 use hull::{Curve, Point, Price};
 use marginal_alloc::plans::PlanNumbers;
-use marginal_alloc::{Critical, allocate, fill};
+use marginal_alloc::{Critical, allocate_near, fill};
 use spares_io::NoMemory;
 use std::alloc::Global;
 
@@ -131,11 +132,16 @@ pub(crate) struct Choice {
 }
 
 /// The plan of curves that each begin at cost 0, under a budget: it is that of all points of which these are the
-/// curves.
-pub(crate) fn choose(alloc: Global, curves: &[Curve], budget: u64) -> Result<Choice, NoMemory>
+/// curves. The price is guessed to be near, which changes no answer.
+pub(crate) fn choose(
+    alloc: Global,
+    curves: &[Curve],
+    budget: u64,
+    near: u128,
+) -> Result<Choice, NoMemory>
     requires few { length curves.now ≤ 2000 }
     requires free { (f : ℕ) → f < length curves.now → (vertex_at curves.now f 0).cost ≡ 0 }
-    requires budget { budget ≤ 1000000000000000 }
+    requires budget { budget ≤ most_budget }
     ensures plan { (families : List (List Point)) → AreCurves families curves.now
         → IfOk result (λ choice.
         IsPlan families budget (picked curves.now choice.picks.items) choice.floors.items choice.numbers) }
@@ -145,7 +151,7 @@ pub(crate) fn choose(alloc: Global, curves: &[Curve], budget: u64) -> Result<Cho
     ensures small { IfOk result (λ choice. choice.numbers.upper < 2 ^ 86) }
     ensures critical { IfOk result (λ choice. IsPlace curves.now choice.numbers.critical) }
 {
-    let chosen = allocate(alloc, curves, budget)?;
+    let chosen = allocate_near(alloc, curves, budget, near)?;
     let hull_cost = chosen.cost;
     let price = chosen.price;
     let critical = chosen.critical;

@@ -2,6 +2,7 @@
 
 ghost use Rattle.std.specs.Prelude.{◌≡◌, ◌≤◌, IfOk};
 ghost use Rattle.std.specs.Result.{IsOk};
+ghost use Rattle.spares_input.specs.Money.{most_budget};
 ghost use Rattle.spares_input.specs.Stocks.{IsFor, IsWithinLimits};
 ghost use Rattle.demand_rates.specs.Rates.{AreRatesOf};
 ghost use Rattle.on_hand.specs.Work.{held_work_of};
@@ -35,7 +36,7 @@ pub fn plan_case<S: Score>(
     requires held { IsFor case.now held.now }
     requires limits { IsWithinLimits case.now held.now }
     requires work { IsOk (held_work_of case.now held.now.list) }
-    requires budget { budget ≤ 1000000000000000 }
+    requires budget { budget ≤ most_budget }
     ensures { IfOk result (IsOutcome S.ends case.now held.now.list
         (record { budget = budget; loss = loss; on_hand = on_hand })) }
 {

@@ -12,7 +12,7 @@ ghost use Rattle.fleet_plan.specs.Families.{HasWidth, vectors_at};
 ghost use Rattle.case_plan.specs.Placing.{ids, IsPlacedAt, IsPlacedFamily};
 
 use crate::choose::pick_of;
-use family_eval::members;
+use crate::members::all_members;
 use hull::Curve;
 use spares_input::{Case, PartId, SiteId, Stocks};
 use spares_io::NoMemory;
@@ -61,18 +61,14 @@ pub(crate) fn stocks_of(
     let parts = case.part_count();
     let pairs = parts as usize * sites as usize;
     let mut stocks = Stocks::of(vec![in alloc; 0; pairs]?, sites);
+    let members = all_members(alloc, case)?;
     let mut f: usize = 0;
     for p in 0..parts {
         let line = PartId(p);
         if case.is_line(line) {
-            let units = members(alloc, case, line)?;
+            let units = members[p as usize].as_slice();
             let point = pick_of(curves, picks, f);
-            place_vector(
-                &mut stocks,
-                units.as_slice(),
-                sites,
-                point.stocks.as_slice(),
-            );
+            place_vector(&mut stocks, units, sites, point.stocks.as_slice());
             f += 1;
         }
     }

@@ -1,6 +1,7 @@
 //! The plan of a case.
 
 ghost use Rattle.std.specs.Prelude.{◌≡◌, ◌^◌, ◌<◌, ◌≤◌, List, IfOk, IfSome, length, get_or, option_map};
+ghost use Rattle.spares_input.specs.Money.{most_budget};
 ghost use Rattle.demand_rates.specs.Limits.{rate_fault_of};
 ghost use Rattle.demand_rates.specs.Rates.{AreRatesOf};
 ghost use Rattle.family_eval.specs.Profile.{families_of};
@@ -74,20 +75,23 @@ fn aim_of(asked: bool, lower: u128, upper: u128) -> Option<Iv<48>>
 /// What is chosen for a case under a budget in whole money, from a curve for each line unit in order.
 ///
 /// Each curve begins at cost 0, and the stocks of its points are vectors of its family within the limits. Of whatever
-/// points these are the curves, what is chosen is the one plan of these points. Want of memory is the only error.
+/// points these are the curves, what is chosen is the one plan of these points. A guess of the plan's price, `near` in
+/// units of 2^-48 for whole money, changes nothing of it: one that is little above the price makes it come sooner. Want
+/// of memory is the only error.
 pub fn choose_stocks(
     alloc: Global,
     case: &Case,
     curves: &[Curve],
     budget: u64,
+    near: u128,
 ) -> Result<ChosenStocks, NoMemory>
-    requires budget { budget ≤ 1000000000000000 }
+    requires budget { budget ≤ most_budget }
     requires curves { AreFamilyCurves case.now curves.now }
     ensures fits { IfOk result (FitsCase case.now) }
     ensures chosen { IfOk result (IsChosen case.now curves.now budget) }
 {
     let _sites = case.site_count();
-    let choice = choose(alloc, curves, budget)?;
+    let choice = choose(alloc, curves, budget, near)?;
     let stocks = stocks_of(alloc, case, curves, choice.picks.as_slice())?;
     Ok(ChosenStocks {
         stocks,
@@ -157,12 +161,12 @@ pub fn plan(
     on_hand: Option<u64>,
 ) -> Result<Outcome, NoMemory>
     requires rates { AreRatesOf case.now rates.now }
-    requires budget { budget ≤ 1000000000000000 }
+    requires budget { budget ≤ most_budget }
     requires curves { AreFamilyCurves case.now curves.now }
     ensures { IfOk result (IsPlanOf case.now curves.now (record { budget = budget; loss = loss; on_hand = on_hand })) }
 {
     let _sites = case.site_count();
-    let chosen = choose_stocks(alloc, case, curves, budget)?;
+    let chosen = choose_stocks(alloc, case, curves, budget, 0)?;
     let families = evaluate_all::<48>(alloc, case, rates, &chosen.stocks)?;
     outcome_at(
         alloc,

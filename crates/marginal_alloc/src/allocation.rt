@@ -3,10 +3,10 @@ ghost use Rattle.std.specs.Prelude.{◌≡◌, ℕ, ◌^◌, ◌<◌, ◌≤◌,
 ghost use Rattle.step_walk.specs.Prefix.{vertex_at, HaveShapes};
 ghost use Rattle.marginal_alloc.specs.Choice.{IsHullChoice};
 
+use crate::start::start;
 use hull::{Curve, Price};
 use spares_io::{List, NoMemory};
 use std::alloc::Global;
-use step_walk::Walk;
 
 /// The first step that doesn't fit the budget: its family, and the vertex that it would reach.
 #[derive(Clone, Copy, Debug, Drop, PartialEq, Eq)]
@@ -39,8 +39,26 @@ pub fn allocate(alloc: Global, curves: &[Curve], budget: u64) -> Result<Chosen, 
     ensures price { IfOk result (λ chosen. (chosen.price.p < 2 ^ 74) × (0 < chosen.price.q)
         × (chosen.price.q ≤ 1000000000000)) }
 {
-    let mut walk = Walk::begin(alloc, curves)?;
-    let mut cost = 0;
+    allocate_near(alloc, curves, budget, 0)
+}
+
+/// The hull choice as [`allocate`] gives it, with a guess of its price in units of 2^-48 for whole money.
+///
+/// The guess changes no answer. One that is little above the price makes it come sooner.
+pub fn allocate_near(
+    alloc: Global,
+    curves: &[Curve],
+    budget: u64,
+    near: u128,
+) -> Result<Chosen, NoMemory>
+    requires few { length curves.now ≤ 2000 }
+    requires free { (f : ℕ) → f < length curves.now → (vertex_at curves.now f 0).cost ≡ 0 }
+    ensures choice { IfOk result (λ chosen. IsHullChoice curves.now budget chosen) }
+    ensures shapes { OnOk result (HaveShapes curves.now) }
+    ensures price { IfOk result (λ chosen. (chosen.price.p < 2 ^ 74) × (0 < chosen.price.q)
+        × (chosen.price.q ≤ 1000000000000)) }
+{
+    let (mut walk, mut cost) = start(alloc, curves, budget, near)?;
     'steps: while let Some(next) = walk.next() {
         if next.price.q > budget - cost {
             return Ok(Chosen {

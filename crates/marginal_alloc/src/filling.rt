@@ -8,7 +8,7 @@ use crate::change::best_change;
 use hull::Curve;
 
 /// What the picks cost together.
-fn cost_at(curves: &[Curve], picks: &[u32]) -> u64
+pub(crate) fn cost_at(curves: &[Curve], picks: &[u32]) -> u64
     requires few { length curves.now ≤ 2000 }
     requires vertices { AreVertices curves.now picks.now }
     ensures { result ≡ cost_of (picked curves.now picks.now) }

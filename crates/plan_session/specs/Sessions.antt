@@ -5,7 +5,7 @@ use Rattle.std.specs.Result.{IsOk}
 use Rattle.spares_io.specs.declared.stop.Stop.{Stop}
 use Rattle.spares_io.specs.declared.stop.Stop.TheVariants as stop
 use Rattle.case_edits.specs.Edits.{PlanDue}
-use Rattle.case_edits.specs.Lines.{most_budget}
+use Rattle.spares_input.specs.Money.{most_budget}
 use Rattle.fixed_interval.specs.Ends.{ends_exact}
 use Rattle.spares_input.specs.Rows.{is_line}
 use Rattle.spares_input.specs.Frames.{part_at}

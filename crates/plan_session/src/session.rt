@@ -7,14 +7,14 @@ ghost use Rattle.fleet_model.specs.Rows.{line_units};
 ghost use Rattle.family_curve.specs.Counts.{work_of};
 ghost use Rattle.fleet_plan.specs.Laws.{plain_ends};
 ghost use Rattle.on_hand.specs.Curves.{IsFamilyCurve};
-ghost use Rattle.case_edits.specs.Lines.{most_budget};
+ghost use Rattle.spares_input.specs.Money.{most_budget};
 ghost use Rattle.plan_session.specs.Sessions.{due, has_mark, started, with_budget, with_row, AnswersPlan, IsLater};
 
 use crate::evaluated::{Evaluated, evaluate_at, nothing_evaluated};
 use crate::kept::{keep_all, nothing_kept, place_of};
 use case_plan::{choose_stocks, outcome_at};
 use demand_rates::{RateFault, rates};
-use hull::Curve;
+use hull::{Curve, Price};
 use plan_report::PlanReport;
 use spares_input::{Case, Frame, RateRow};
 use spares_io::{NoMemory, Stop};
@@ -22,6 +22,7 @@ use std::alloc::Global;
 use std::marker::Model;
 
 /// A case and a budget, with the curves of the families that are marked, and with what was evaluated for the last plan.
+/// The price of that plan is where that of the next one is looked for first.
 ///
 /// It is seen as its case, its budget and one mark for each family, which is on where the family's curve is kept.
 /// Where a mark is off, what stands in the curve's place is a curve of no meaning.
@@ -32,6 +33,7 @@ pub struct Session {
     curves: Vec<Curve>,
     marks: Vec<bool>,
     evaluated: Evaluated,
+    near: u128,
 }
 
 impl Model for Session {
@@ -46,6 +48,15 @@ impl Model for Session {
       budget = s.budget;
       marks = s.marks.items;
     }) s.curves.items s.evaluated };
+}
+
+/// A price a little above another, in units of 2^-48 for whole money.
+fn above(price: Price) -> u128 {
+    if price.q == 0 {
+        return 0;
+    }
+    let whole = price.p / u128::from(price.q);
+    whole.saturating_add(whole / 32)
 }
 
 impl Session {
@@ -63,6 +74,7 @@ impl Session {
             curves,
             marks,
             evaluated,
+            near: 0,
         })
     }
 
@@ -102,7 +114,8 @@ impl Session {
         };
         keep_all(alloc, &self.case, &rates, &mut self.curves, &mut self.marks)?;
         let curves = self.curves.as_slice();
-        let chosen = choose_stocks(alloc, &self.case, curves, self.budget)?;
+        let chosen = choose_stocks(alloc, &self.case, curves, self.budget, self.near)?;
+        self.near = above(chosen.numbers.price);
         evaluate_at(
             alloc,
             &self.case,

@@ -3,3 +3,4 @@ pub mod Taking
 pub mod Waiting
 pub mod Turns
 pub mod Going
+pub mod Steeper

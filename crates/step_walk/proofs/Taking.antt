@@ -47,6 +47,7 @@ head_slopes v w (x ∷ c) h (suc j) b =
     let here : Slopes (v ∷ w ∷ x ∷ c) (suc zero) (suc (suc j)) = from_tail v (w ∷ x ∷ c) zero (suc j) more in
     falls_on (v.lo - w.lo) (w.cost - v.cost) (own_fall (v ∷ w ∷ x ∷ c) (suc zero)) (own_rise (v ∷ w ∷ x ∷ c) (suc zero)) (own_fall (v ∷ w ∷ x ∷ c) (suc (suc j))) (own_rise (v ∷ w ∷ x ∷ c) (suc (suc j))) here h.1 (let l = s.cost in omega arith)
 
+-- a later step of a chain falls less for its money
 pub slopes_fall : (c : List Point) → IsChain c → (k j : ℕ) → k < j → j + 1 < length c → Slopes c k j
 slopes_fall [] h k j l b = absurd (let m : j + 1 < 0 = b in omega arith)
 slopes_fall (v ∷ []) h k j l b = absurd (let m : j + 1 < 1 = b in omega arith)

@@ -5,6 +5,7 @@ use Rattle.hull.specs.declared.point.Point.{Point}
 use Rattle.step_walk.specs.Prefix.{fall, rise, IsPrefix, IsNext, AllTaken, HaveShapes}
 use Rattle.step_walk.specs.declared.step.Step.{Step}
 use Rattle.step_walk.specs.declared.walk.Next.{Next}
+use Rattle.step_walk.specs.Steep.{AreAfterSteep}
 use Rattle.step_walk.specs.Steps.{step_cmp, HoldsNext}
 
 -- the curves, and the vertex of each that was come to
@@ -30,6 +31,12 @@ pub record IsAtFirst (curves : List (List Point)) (walk : Walked) : Type 0 where
   pub way : IsOnWay walk
   pub same : walk.curves ≡ curves
   pub zero : (f : ℕ) → slice_index walk.picks f ≡ 0
+
+-- the steps of these curves that fall by more than p for each unit of money are taken, and no others
+pub record IsAfter (p : ℕ) (curves : List (List Point)) (walk : Walked) : Type 0 where
+  pub way : IsOnWay walk
+  pub same : walk.curves ≡ curves
+  pub steep : AreAfterSteep p curves walk.picks
 
 -- no step is left
 pub record AllDone (walk : Walked) : Type 0 where

@@ -3,8 +3,9 @@ ghost use Rattle.std.specs.Prelude.{◌≡◌, ℕ, ◌+◌, ◌^◌, ◌<◌, �
 ghost use Rattle.std.specs.BinaryHeap.{IsHeap, heap_items};
 ghost use Rattle.step_walk.specs.Prefix.{curve_at, AreVertices, HaveShapes};
 ghost use Rattle.step_walk.specs.Steps.{step_cmp, TellsNext, HoldsNext};
-ghost use Rattle.step_walk.specs.Walks.{IsAtFirst, AllDone, TellsFirst, HasNext, MovesOn};
+ghost use Rattle.step_walk.specs.Walks.{IsAfter, IsAtFirst, AllDone, TellsFirst, HasNext, MovesOn};
 
+use crate::steep::all_after_steep;
 use crate::step::Step;
 use hull::{Curve, Price};
 use spares_io::NoMemory;
@@ -101,6 +102,26 @@ impl<'a> Walk<'a> {
         ensures { IfOk result (λ walk. IsAtFirst curves.now walk) }
     {
         let picks = first_picks(alloc, curves)?;
+        let waiting = first_steps(alloc, curves, picks.as_slice())?;
+        Ok(Walk {
+            curves,
+            picks,
+            waiting,
+        })
+    }
+
+    /// A walk that has taken the steps that fall by more than this for each unit of money. It is in units of 2^-48 for
+    /// whole money, and at most 2^74.
+    pub fn begin_after(
+        alloc: Global,
+        curves: &'a [Curve],
+        price: u128,
+    ) -> Result<Walk<'a>, NoMemory>
+        requires few { length curves.now ≤ 2000 }
+        requires price { price ≤ 2 ^ 74 }
+        ensures { IfOk result (λ walk. IsAfter price curves.now walk) }
+    {
+        let picks = all_after_steep(alloc, curves, price)?;
         let waiting = first_steps(alloc, curves, picks.as_slice())?;
         Ok(Walk {
             curves,

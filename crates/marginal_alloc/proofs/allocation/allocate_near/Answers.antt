@@ -1,17 +1,6 @@
-use Rattle.std.proofs.Common.{List, length, sym, ap, ◌∙◌, arith}
-use Rattle.hull.specs.declared.point.Point.{Point}
-use Rattle.marginal_alloc.proofs.Walking.{free_at_first, stepped}
-use Rattle.marginal_alloc.proofs.allocation.allocate.Goals as goal
-
-pub steps-init : goal.steps-init
-steps-init c =
-    let e = c.in_ok-walk.ensures in
-    let count = e.way.prefix.vertices.count ∙ ap (λ (cs : List (List Point)). length cs) e.same in
-    record {
-      same = e.same;
-      cost = sym (free_at_first c.args.curves.now c.in_ok-walk.walk.picks count e.zero c.requires.free);
-      fits = omega arith;
-    }
+use Rattle.std.proofs.Common.{arith}
+use Rattle.marginal_alloc.proofs.Walking.{stepped}
+use Rattle.marginal_alloc.proofs.allocation.allocate_near.Goals as goal
 
 pub steps-smaller : goal.steps-smaller
 steps-smaller c =

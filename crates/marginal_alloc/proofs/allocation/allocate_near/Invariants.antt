@@ -2,7 +2,7 @@ use Rattle.std.proofs.Common.{◌≡◌, ◌≤◌}
 use Rattle.price_bounds.specs.Sums.{cost_of}
 use Rattle.step_walk.specs.Prefix.{picked}
 use Rattle.step_walk.proofs.Taking.{steps_left}
-use Rattle.marginal_alloc.proofs.allocation.allocate.Given as goal
+use Rattle.marginal_alloc.proofs.allocation.allocate_near.Given as goal
 
 abbrev pub invariant-steps : goal.invariant-steps
 invariant-steps l = record {

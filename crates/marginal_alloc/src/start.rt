@@ -1,0 +1,91 @@
+//! Where the walk of a hull choice begins: after all steps above a price, of which many fit the budget at once.
+ghost use Rattle.std.specs.Prelude.{◌≡◌, ℕ, ◌^◌, ◌<◌, ◌≤◌, length, IfOk};
+ghost use Rattle.price_bounds.specs.Sums.{cost_of};
+ghost use Rattle.step_walk.specs.Prefix.{vertex_at, picked};
+
+use crate::filling::cost_at;
+use hull::Curve;
+use spares_io::NoMemory;
+use std::alloc::Global;
+use step_walk::{Walk, all_after_steep};
+
+/// A price that no step is above, in units of 2^-48 for whole money.
+const MOST: u128 = 1 << 74;
+
+/// What it costs to take the steps above a price.
+fn cost_after(alloc: Global, curves: &[Curve], price: u128) -> Result<u64, NoMemory>
+    requires few { length curves.now ≤ 2000 }
+    requires price { price ≤ 2 ^ 74 }
+{
+    let picks = all_after_steep(alloc, curves, price)?;
+    Ok(cost_at(curves, picks.as_slice()))
+}
+
+/// The lower price if the steps above it fit the budget, and else the other.
+fn lower_within(
+    alloc: Global,
+    curves: &[Curve],
+    budget: u64,
+    price: u128,
+    lower: u128,
+) -> Result<u128, NoMemory>
+    requires few { length curves.now ≤ 2000 }
+    requires price { price ≤ 2 ^ 74 }
+    requires lower { lower ≤ 2 ^ 74 }
+    ensures { IfOk result (λ p. p ≤ 2 ^ 74) }
+{
+    if cost_after(alloc, curves, lower)? <= budget {
+        return Ok(lower);
+    }
+    Ok(price)
+}
+
+/// A price above which steps fit the budget, at most a fifth or so above the price where they don't.
+fn price_found(alloc: Global, curves: &[Curve], budget: u64) -> Result<u128, NoMemory>
+    requires few { length curves.now ≤ 2000 }
+    ensures { IfOk result (λ p. p ≤ 2 ^ 74) }
+{
+    let mut price = MOST;
+    let mut halves: u32 = 32;
+    'halves: while halves > 0 {
+        price = lower_within(alloc, curves, budget, price, price >> halves)?;
+        halves /= 2;
+    }
+    price = lower_within(alloc, curves, budget, price, price - price / 4)?;
+    price = lower_within(alloc, curves, budget, price, price - price / 6)?;
+    lower_within(alloc, curves, budget, price, price - price / 11)
+}
+
+/// The guessed price if the steps above it fit the budget, and else one that is found.
+fn price_within(alloc: Global, curves: &[Curve], budget: u64, near: u128) -> Result<u128, NoMemory>
+    requires few { length curves.now ≤ 2000 }
+    ensures { IfOk result (λ p. p ≤ 2 ^ 74) }
+{
+    if near <= MOST && cost_after(alloc, curves, near)? <= budget {
+        return Ok(near);
+    }
+    price_found(alloc, curves, budget)
+}
+
+/// A walk under the budget, and what its picks cost. The price is guessed to be near, which changes no answer.
+pub(crate) fn start<'a>(
+    alloc: Global,
+    curves: &'a [Curve],
+    budget: u64,
+    near: u128,
+) -> Result<(Walk<'a>, u64), NoMemory>
+    requires few { length curves.now ≤ 2000 }
+    requires free { (f : ℕ) → f < length curves.now → (vertex_at curves.now f 0).cost ≡ 0 }
+    ensures same { IfOk result (λ s. s.0.curves ≡ curves.now) }
+    ensures cost { IfOk result (λ s. s.1 ≡ cost_of (picked curves.now s.0.picks)) }
+    ensures fits { IfOk result (λ s. s.1 ≤ budget) }
+{
+    let price = price_within(alloc, curves, budget, near)?;
+    let walk = Walk::begin_after(alloc, curves, price)?;
+    let cost = cost_at(curves, walk.picks());
+    if cost <= budget {
+        return Ok((walk, cost));
+    }
+    let walk = Walk::begin(alloc, curves)?;
+    Ok((walk, 0))
+}

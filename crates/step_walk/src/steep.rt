@@ -1,0 +1,48 @@
+//! The steps that fall by more than a price for each unit of money, which come before all others.
+ghost use Rattle.std.specs.Prelude.{◌≡◌, ◌*◌, ◌^◌, ◌<◌, ◌≤◌, IfOk, IsTrue, ◌↔◌, length};
+ghost use Rattle.hull.specs.Curves.{IsShape};
+ghost use Rattle.step_walk.specs.Steep.{AreAfterSteep, IsAfterSteep};
+
+use hull::{Curve, Price};
+use spares_io::NoMemory;
+use std::alloc::Global;
+
+/// Whether a step falls by more than this for each unit of money.
+fn is_steep(step: Price, price: u128) -> bool
+    requires price { price ≤ 2 ^ 74 }
+    requires rise { step.q ≤ 1000000000000 }
+    ensures { IsTrue result ↔ (price * step.q < step.p) }
+{
+    price * u128::from(step.q) < step.p
+}
+
+/// The vertex of a curve after its steps that fall by more than this for each unit of money.
+fn after_steep(curve: &Curve, price: u128) -> u32
+    requires { price ≤ 2 ^ 74 }
+    ensures { IsAfterSteep price curve.now result }
+{
+    let mut low = 0;
+    let mut high = curve.len() - 1;
+    'halves: while low < high {
+        let middle = low + (high - low) / 2;
+        if is_steep(curve.slope(middle), price) {
+            low = middle + 1;
+        } else {
+            high = middle;
+        }
+    }
+    low
+}
+
+/// The vertex of each curve after its steps that fall by more than this for each unit of money. It is in units of
+/// 2^-48 for whole money, and at most 2^74.
+pub fn all_after_steep(alloc: Global, curves: &[Curve], price: u128) -> Result<Vec<u32>, NoMemory>
+    requires { price ≤ 2 ^ 74 }
+    ensures { IfOk result (λ picks. AreAfterSteep price curves.now picks.items) }
+{
+    let mut picks = Vec::with_capacity(alloc, curves.len())?;
+    for f in 0..curves.len() {
+        picks.push(after_steep(&curves[f], price))?;
+    }
+    Ok(picks)
+}
