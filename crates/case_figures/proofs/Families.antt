@@ -1,5 +1,5 @@
 -- What the families of a case give: its pairs, its bases and its total.
-use Rattle.std.proofs.Common.{◌≡◌, ℕ, ◌-◌, ◌*◌, ◌/◌, ◌%◌, ◌^◌, ◌<◌, ◌≤◌, true, List, length, get_or, map, ap, ◌∙◌, arith}
+use Rattle.std.proofs.Common.{◌≡◌, ℕ, ◌-◌, ◌*◌, ◌/◌, ◌%◌, ◌^◌, ◌<◌, ◌≤◌, true, List, length, get_or, map, sym, ap, ◌∙◌, subst, arith}
 use Rattle.std.specs.Prelude.{All, flat_map}
 use Rattle.std.specs.List.{fold, range_with_len, AllByRecursion}
 use Rattle.std.proofs.Math.Nat.{div-lt_iff_lt-mul}
@@ -8,7 +8,7 @@ use Rattle.std.proofs.lemmas.List.FromFn.{get_or-map-range_with_len, length-map-
 use Rattle.std.proofs.lemmas.Simd.{map-map}
 use Rattle.fixed_interval.specs.Ends.{Ends, ends_exact, ends_add}
 use Rattle.spares_input.specs.Rows.{is_line}
-use Rattle.spares_input.specs.Frames.{part_at, site_at, is_shop_of}
+use Rattle.spares_input.specs.Frames.{part_at, part_names, site_at, site_names, is_shop_of}
 use Rattle.spares_input.specs.Cases.{CaseRows, IsCase, frame_rows, pair_count}
 use Rattle.spares_input.specs.Stocks.{StockList, cost_of}
 use Rattle.fleet_model.specs.Rows.{all_sites, bases, line_units, shop_units, systems, per_system}
@@ -17,37 +17,47 @@ use Rattle.availability.specs.declared.Weighted.{Weighted}
 use Rattle.availability.specs.Profile.{factor_ends, base_ends, fleet_ends}
 use Rattle.family_eval.specs.declared.item.Item.{Item}
 use Rattle.family_eval.specs.declared.item.FamilyResult.{FamilyResult}
-use Rattle.family_eval.specs.Encloses.{no_item}
+use Rattle.family_eval.specs.Encloses.{IsSmallItem, no_item}
 use Rattle.family_eval.specs.Profile.{item_of, part_items, family_of, families_of}
 use Rattle.family_eval.specs.Profile as evaluated
 use Rattle.family_eval.proofs.Units.{each_in_range}
 use Rattle.case_figures.specs.declared.figures.BaseLine.{BaseLine}
 use Rattle.case_figures.specs.declared.figures.Figures.{Figures}
-use Rattle.case_figures.specs.Figures.{span_of, named, item_at_place, all_items, factor_at, weighted_at, base_line, figures_of}
-use Rattle.case_figures.specs.Gathering.{IsItemOf, IsFamilyOf, items_by_pair, factor_from, weighted_from, base_line_from}
+use Rattle.case_figures.specs.Spans.{span_of}
+use Rattle.case_figures.specs.Figures.{item_at_place, all_items, factor_at, weighted_at, base_line, figures_of}
+use Rattle.case_figures.specs.declared.held.HeldItem.{HeldItem}
+use Rattle.case_figures.specs.Held.{IsHeldPair, held_of, line_under}
+use Rattle.case_figures.specs.Gathering.{IsItemOf, IsFamilyOf, held_by_pair, factor_from, weighted_from, base_line_from}
 use Rattle.case_figures.proofs.Covering.{item_pair, placed_all}
+use Rattle.case_figures.proofs.HeldLines.{held_items, held_pairs, lines_named}
 use Rattle.case_figures.proofs.Each.{all_of, each_map, each_that_passes, each_flat, map_each, few_that_pass}
 
 module _ (f : ℕ) (c : CaseRows) (t : StockList) where
   abbrev item : ℕ → ℕ → Item f
   item p k = item_of f c t.list p k
 
-  is_item : (p k : ℕ) → p < length c.parts → k < length c.sites → IsItemOf f c (item p k)
-  is_item p k h l =
-      let x = item_pair f c t.list p k in record { part = omega (arith, x.part_is, h); site = omega (arith, x.site_is, l) }
+  -- no item and no family's total is large
+  pub record AreSmall : Type 0 where
+    pub items_most : (p k : ℕ) → p < length c.parts → k < length c.sites → IsSmallItem f (item p k)
+    pub totals_most : (l : ℕ) → l < length c.parts → is_line (part_at c.parts l) ≡ true → (evaluated.total_of f c t.list l).hi ≤ 384000 * 2 ^ f
 
-  are_items : (p : ℕ) → p < length c.parts → AllByRecursion (IsItemOf f c) (part_items f c t.list p)
-  are_items p h =
+  is_item : AreSmall → (p k : ℕ) → p < length c.parts → k < length c.sites → IsItemOf f c (item p k)
+  is_item m p k h l =
+      let x = item_pair f c t.list p k in
+      record { part = omega (arith, x.part_is, h); site = omega (arith, x.site_is, l); most = m.items_most p k h l }
+
+  are_items : AreSmall → (p : ℕ) → p < length c.parts → AllByRecursion (IsItemOf f c) (part_items f c t.list p)
+  are_items m p h =
       each_map (IsItemOf f c) (item p) (all_sites c)
-      (each_in_range (λ k. IsItemOf f c (item p k)) (length c.sites) 0 (λ k a l. is_item p k h (omega arith)))
+      (each_in_range (λ k. IsItemOf f c (item p k)) (length c.sites) 0 (λ k a l. is_item m p k h (omega arith)))
 
-  family_items : (l : ℕ) → l < length c.parts → All (IsItemOf f c) (family_of f c l t).items
-  family_items l h =
+  family_items : AreSmall → (l : ℕ) → l < length c.parts → All (IsItemOf f c) (family_of f c l t).items
+  family_items m l h =
       all_of (IsItemOf f c) (flat_map (part_items f c t.list) (family c l))
       (each_flat (IsItemOf f c) (part_items f c t.list) (family c l) (
-        are_items l h,
+        are_items m l h,
         each_that_passes (λ p. AllByRecursion (IsItemOf f c) (part_items f c t.list p)) (λ p. is_shop_of (part_at c.parts l) (part_at c.parts p))
-            (length c.parts) 0 (λ p q e. are_items p (omega arith)),
+            (length c.parts) 0 (λ p q e. are_items m p (omega arith)),
       ))
 
   -- the items of the line unit stand first
@@ -57,10 +67,9 @@ module _ (f : ℕ) (c : CaseRows) (t : StockList) where
       (omega (arith, h, length-map-range_with_len (item l) 0 (length c.sites)))
       ∙ get_or-map-range_with_len (item l) 0 (length c.sites) k k (no_item f) h (omega arith)
 
-  is_family : (l : ℕ) → l < length c.parts → is_line (part_at c.parts l) ≡ true → (evaluated.total_of f c t.list l).hi ≤ 384000 * 2 ^ f
-      → IsFamilyOf f c (family_of f c l t)
-  is_family l h e m = record {
-    items = family_items l h;
+  is_family : AreSmall → (l : ℕ) → l < length c.parts → is_line (part_at c.parts l) ≡ true → IsFamilyOf f c (family_of f c l t)
+  is_family m l h e = record {
+    items = family_items m l h;
     enough = omega (
       arith,
       length-append (part_items f c t.list l) (flat_map (part_items f c t.list) (shop_units c l)),
@@ -70,28 +79,23 @@ module _ (f : ℕ) (c : CaseRows) (t : StockList) where
         ap (λ (x : Item f). is_line (part_at c.parts x.part.0)) (line_item l k q)
         ∙ ap (λ p. is_line (part_at c.parts p)) (item_pair f c t.list l k).part_is
         ∙ e;
-    total_most = m;
+    total_most = m.totals_most l h e;
   }
 
   -- each item of all pairs is one
-  pub are_all_items : IsCase c → All (IsItemOf f c) (all_items f c t.list)
-  are_all_items v =
+  are_all_items : AreSmall → IsCase c → AllByRecursion (IsItemOf f c) (all_items f c t.list)
+  are_all_items m v =
       let some : 0 < length c.sites = omega (arith, v.frame.fewest_sites) in
-      all_of (IsItemOf f c) (all_items f c t.list)
-      (each_map (IsItemOf f c) (item_at_place f c t.list) (range_with_len 0 (pair_count (frame_rows c)))
+      each_map (IsItemOf f c) (item_at_place f c t.list) (range_with_len 0 (pair_count (frame_rows c)))
       (each_in_range (λ i. IsItemOf f c (item_at_place f c t.list i)) (pair_count (frame_rows c)) 0
-      (λ i a l. is_item (i / length c.sites) (i % length c.sites) ((div-lt_iff_lt-mul some).1 (omega arith)) (omega (arith, some)))))
-
-  -- no family's total is large
-  abbrev AreSmall : Type 0
-  AreSmall = (l : ℕ) → l < length c.parts → is_line (part_at c.parts l) ≡ true → (evaluated.total_of f c t.list l).hi ≤ 384000 * 2 ^ f
+      (λ i a l. is_item m (i / length c.sites) (i % length c.sites) ((div-lt_iff_lt-mul some).1 (omega arith)) (omega (arith, some))))
 
   pub are_families : AreSmall → All (IsFamilyOf f c) (families_of f c t)
   are_families m =
       all_of (IsFamilyOf f c) (families_of f c t)
       (each_map (IsFamilyOf f c) (λ l. family_of f c l t) (line_units c)
       (each_that_passes (λ l. IsFamilyOf f c (family_of f c l t)) (λ p. is_line (part_at c.parts p)) (length c.parts) 0
-      (λ l h e. is_family l (omega arith) e (m l (omega arith) e))))
+      (λ l h e. is_family m l (omega arith) e)))
 
   pub few_families : IsCase c → length (families_of f c t) ≤ 2000
   few_families v =
@@ -143,33 +147,42 @@ module _ (f : ℕ) (c : CaseRows) (t : StockList) where
   -- ---- the figures
 
   -- what the steps have given, from families and the items and bases that were made of them
-  pub record AreMade (families : List (FamilyResult f)) (items : List (Item f)) (weighted : List (Weighted f)) (fleet total : Ends) (figures : Figures) : Type 0 where
+  pub record AreMade (families : List (FamilyResult f)) (held : List HeldItem) (weighted : List (Weighted f)) (fleet total : Ends) (figures : Figures) : Type 0 where
     pub families_are : families ≡ families_of f c t
-    pub items_are : items ≡ items_by_pair c families
+    pub held_are : held ≡ held_by_pair c families
     pub weighted_from_families : weighted ≡ map (weighted_from f c families) (bases c)
     pub fleet_is : fleet ≡ fleet_ends f weighted
     pub total_is : total ≡ fold ends_add (ends_exact f 0) (map (λ (r : FamilyResult f). r.total) families)
     pub cost_is : figures.cost ≡ cost_of c t
-    pub item_lines : figures.items ≡ map (named f c) items
+    pub item_lines : figures.items ≡ map (line_under (part_names c.parts) (site_names c.sites) f) held
     pub base_lines : figures.bases ≡ map (base_line_from f c weighted) (bases c)
     pub fleet_span : figures.fleet ≡ span_of f fleet
     pub total_span : figures.total ≡ span_of f total
 
-  pub items_made : IsCase c → (families : List (FamilyResult f)) (items : List (Item f)) → families ≡ families_of f c t → items ≡ items_by_pair c families
-      → items ≡ all_items f c t.list
-  items_made v families items h e = e ∙ ap (items_by_pair c) h ∙ placed_all f c t.list v t.sites
+  held_made : IsCase c → (families : List (FamilyResult f)) (held : List HeldItem) → families ≡ families_of f c t → held ≡ held_by_pair c families
+      → held ≡ map held_of (all_items f c t.list)
+  held_made v families held h e =
+      e ∙ ap (held_by_pair c) h ∙ held_items f c (families_of f c t) ∙ ap (map held_of) (placed_all f c t.list v t.sites)
 
-  pub weighted_made : (families : List (FamilyResult f)) (weighted : List (Weighted f)) → families ≡ families_of f c t
+  -- what is held has names
+  pub are_held : AreSmall → IsCase c → (families : List (FamilyResult f)) (held : List HeldItem) → families ≡ families_of f c t
+      → held ≡ held_by_pair c families → All (IsHeldPair (part_names c.parts) (site_names c.sites)) held
+  are_held m v families held h e =
+      subst (λ (xs : List HeldItem). All (IsHeldPair (part_names c.parts) (site_names c.sites)) xs) (sym (held_made v families held h e))
+      (held_pairs f c (all_items f c t.list) (all_of (IsItemOf f c) (all_items f c t.list) (are_all_items m v)))
+
+  weighted_made : (families : List (FamilyResult f)) (weighted : List (Weighted f)) → families ≡ families_of f c t
       → weighted ≡ map (weighted_from f c families) (bases c) → weighted ≡ map (weighted_at f c t.list) (bases c)
   weighted_made families weighted h e = e ∙ ap (λ (rs : List (FamilyResult f)). map (weighted_from f c rs) (bases c)) h ∙ weighted_are
 
-  pub made : IsCase c → (families : List (FamilyResult f)) (items : List (Item f)) (weighted : List (Weighted f)) (fleet total : Ends) (figures : Figures)
-      → AreMade families items weighted fleet total figures → figures ≡ figures_of f c t
-  made v families items weighted fleet total figures m =
-      let items_eq = m.item_lines ∙ ap (map (named f c)) (items_made v families items m.families_are m.items_are) in
-      let weighted_eq = weighted_made families weighted m.families_are m.weighted_from_families in
-      let bases_eq = m.base_lines ∙ ap (λ (ws : List (Weighted f)). map (base_line_from f c ws) (bases c)) weighted_eq ∙ lines_are in
-      let fleet_eq = m.fleet_span ∙ ap (span_of f) (m.fleet_is ∙ ap (fleet_ends f) weighted_eq) in
-      let totals_eq = ap (map (λ (r : FamilyResult f). r.total)) m.families_are ∙ totals_are in
-      let total_eq = m.total_span ∙ ap (span_of f) (m.total_is ∙ ap (fold ends_add (ends_exact f 0)) totals_eq) in
-      λ i. record { cost = m.cost_is i; items = items_eq i; bases = bases_eq i; fleet = fleet_eq i; total = total_eq i }
+  pub made : AreSmall → IsCase c → (families : List (FamilyResult f)) (held : List HeldItem) (weighted : List (Weighted f)) (fleet total : Ends) (figures : Figures)
+      → AreMade families held weighted fleet total figures → figures ≡ figures_of f c t
+  made m v families held weighted fleet total figures a =
+      let under = line_under (part_names c.parts) (site_names c.sites) f in
+      let items_eq = a.item_lines ∙ ap (map under) (held_made v families held a.families_are a.held_are) ∙ lines_named f c (all_items f c t.list) (are_all_items m v) in
+      let weighted_eq = weighted_made families weighted a.families_are a.weighted_from_families in
+      let bases_eq = a.base_lines ∙ ap (λ (ws : List (Weighted f)). map (base_line_from f c ws) (bases c)) weighted_eq ∙ lines_are in
+      let fleet_eq = a.fleet_span ∙ ap (span_of f) (a.fleet_is ∙ ap (fleet_ends f) weighted_eq) in
+      let totals_eq = ap (map (λ (r : FamilyResult f). r.total)) a.families_are ∙ totals_are in
+      let total_eq = a.total_span ∙ ap (span_of f) (a.total_is ∙ ap (fold ends_add (ends_exact f 0)) totals_eq) in
+      λ i. record { cost = a.cost_is i; items = items_eq i; bases = bases_eq i; fleet = fleet_eq i; total = total_eq i }

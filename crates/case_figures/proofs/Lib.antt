@@ -6,3 +6,5 @@ pub mod Families
 pub mod Limits
 pub mod Enclosing
 pub mod Shown
+pub mod Alike
+pub mod HeldLines

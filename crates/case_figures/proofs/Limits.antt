@@ -4,8 +4,8 @@ use Rattle.std.specs.List.{fold, AllByRecursion}
 use Rattle.std.proofs.Math.Nat.{suc-mul}
 use Rattle.std.proofs.lemmas.Nat.{mul-le}
 use Rattle.std.proofs.lemmas.List.Sums.{sum_by-cons}
-use Rattle.fixed_interval.specs.Ends.{Ends, ends_exact, ends_add, ends_mul, ends_times}
-use Rattle.fixed_interval.proofs.Laws.{ceil_most}
+use Rattle.fixed_interval.specs.Ends.{Ends, IsWithinLimit, ends_exact, ends_add, ends_mul, ends_times}
+use Rattle.fixed_interval.proofs.Laws.{ceil_most, unit_most}
 use Rattle.availability.specs.declared.Weighted.{Weighted}
 use Rattle.availability.specs.Profile.{multiplied, filled_ends, factor_ends, base_ends, weighted_sum, all_systems, fleet_ends}
 use Rattle.availability.proofs.Laws.{product_most}
@@ -49,3 +49,7 @@ fleet_most f xs p t =
 pub sum_most : (a : Ends) (b : ℕ) (xs : List Ends) → AllByRecursion (λ (x : Ends). x.hi ≤ b) xs → (fold ends_add a xs).hi ≤ a.hi + length xs * b
 sum_most a b [] t = omega arith
 sum_most a b (x ∷ xs) t = omega (arith, sum_most (ends_add a x) b xs t.1, suc-mul (length xs) b, t.0)
+
+-- ends of at most 256 have 64 bits
+pub limit_room : (f : ℕ) (x : Ends) → IsWithinLimit f x → f ≤ 52 → x.hi < 2 ^ 64
+limit_room f x h s = omega (arith, h, unit_most f s)

@@ -28,10 +28,10 @@ use Rattle.family_eval.proofs.Enclosed.{item_in, item_small}
 use Rattle.family_eval.proofs.Families.{evaluable, family_in, family_small}
 use Rattle.family_eval.proofs.Units.{each_in_range}
 use Rattle.case_figures.specs.Fits.{SpanFits, ItemFits, BaseFits, FitsPrint}
-use Rattle.case_figures.specs.Spans.{places, ends}
+use Rattle.case_figures.specs.Spans.{places, ends, span_of}
 use Rattle.fixed_interval.specs.Widths.{IsWidth}
 use Rattle.fixed_interval.proofs.Laws.{unit_most}
-use Rattle.case_figures.specs.Figures.{span_of, named, item_at_place, all_items, factor_at, availability_at, base_line, weighted_at, fleet_of, total_of, figures_of}
+use Rattle.case_figures.specs.Figures.{named, item_at_place, all_items, factor_at, availability_at, base_line, weighted_at, fleet_of, total_of, figures_of}
 use Rattle.case_figures.specs.Shows.{ShowsSpan, ShowsItem, ShowsBase, ShowsFigures, no_item_line, no_base_line}
 use Rattle.case_figures.proofs.Covering.{item_pair, at_place, pair_within}
 use Rattle.case_figures.proofs.Each.{all_of, each_map, each_that_passes, few_that_pass}

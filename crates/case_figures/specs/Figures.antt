@@ -1,5 +1,5 @@
 -- The figures of a case at its stocks, from the ends of its pairs and its families.
-use Rattle.std.specs.Prelude.{ℕ, ◌==◌, if◌then◌else◌, List, map, length}
+use Rattle.std.specs.Prelude.{ℕ, List, map, length}
 use Rattle.std.specs.List.{fold, range_with_len}
 use Rattle.fixed_interval.specs.Ends.{Ends, ends_exact, ends_add}
 use Rattle.spares_input.specs.Frames.{part_at, site_at}
@@ -12,15 +12,10 @@ use Rattle.availability.specs.Profile.{factor_ends, base_ends, fleet_ends}
 use Rattle.family_eval.specs.declared.item.Item.{Item}
 use Rattle.family_eval.specs.Profile as family
 use Rattle.family_eval.specs.Profile.{item_of}
-use Rattle.case_figures.specs.declared.figures.Span.{Span}
-use Rattle.case_figures.specs.declared.figures.Span.TheVariants.{Bits32, Bits48, Bits52}
+use Rattle.case_figures.specs.Spans.{span_of}
 use Rattle.case_figures.specs.declared.figures.ItemLine.{ItemLine}
 use Rattle.case_figures.specs.declared.figures.BaseLine.{BaseLine}
 use Rattle.case_figures.specs.declared.figures.Figures.{Figures}
-
--- an interval of f such places
-abbrev pub span_of : ℕ → Ends → Span
-span_of f x = if f == 32 then Bits32 x else if f == 48 then Bits48 x else Bits52 x
 
 -- an item under the names of its part and its site
 abbrev pub named : (f : ℕ) → CaseRows → Item f → ItemLine

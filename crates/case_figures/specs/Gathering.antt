@@ -11,15 +11,18 @@ use Rattle.availability.specs.declared.Weighted.{Weighted}
 use Rattle.availability.specs.Profile.{factor_ends, base_ends}
 use Rattle.family_eval.specs.declared.item.Item.{Item}
 use Rattle.family_eval.specs.declared.item.FamilyResult.{FamilyResult}
-use Rattle.family_eval.specs.Encloses.{no_item}
+use Rattle.family_eval.specs.Encloses.{IsSmallItem, no_item}
 use Rattle.availability.specs.Exact.{base_at}
 use Rattle.case_figures.specs.declared.figures.BaseLine.{BaseLine}
-use Rattle.case_figures.specs.Figures.{span_of}
+use Rattle.case_figures.specs.declared.held.HeldItem.{HeldItem}
+use Rattle.case_figures.specs.Held.{held_of}
+use Rattle.case_figures.specs.Spans.{span_of}
 
--- an item is of a pair of the case
+-- an item is of a pair of the case, and none of its ends is above 256
 pub record IsItemOf (f : ℕ) (c : CaseRows) (x : Item f) : Type 0 where
   pub part : x.part.0 < length c.parts
   pub site : x.site.0 < length c.sites
+  pub most : IsSmallItem f x
 
 -- a family has the items of a line unit first, by site
 pub record IsFamilyOf (f : ℕ) (c : CaseRows) (r : FamilyResult f) : Type 0 where
@@ -38,6 +41,14 @@ module _ {f : ℕ} (c : CaseRows) where
 
   abbrev pub items_by_pair : List (FamilyResult f) → List (Item f)
   items_by_pair families = placed (replicate (pair_count (frame_rows c)) (no_item f)) (flat_map (λ r. r.items) families)
+
+  -- the same of items as they are held
+  abbrev pub placed_held : List HeldItem → List (Item f) → List HeldItem
+  placed_held places items = fold (λ places x. slice_set places (place_of x) (held_of x)) places items
+
+  abbrev pub held_by_pair : List (FamilyResult f) → List HeldItem
+  held_by_pair families =
+      placed_held (replicate (pair_count (frame_rows c)) (held_of (no_item f))) (flat_map (λ r. r.items) families)
 
 -- what a family's line unit leaves of the availability of base j
 abbrev pub factor_from : (f : ℕ) → CaseRows → ℕ → FamilyResult f → Ends

@@ -1,5 +1,6 @@
 //! The figures of a case at its stocks.
 
+use crate::held::Items;
 use fixed_interval::Iv;
 use spares_input::Name;
 use spares_io::List;
@@ -39,7 +40,7 @@ pub struct Figures {
     /// Stock times cost of the part, over all pairs, in whole money.
     pub cost: u64,
     /// By part and then by site.
-    pub items: List<ItemLine>,
+    pub items: Items,
     /// In their order.
     pub bases: List<BaseLine>,
     /// The mean of the bases' availabilities by their systems.

@@ -13,7 +13,8 @@ ghost use Rattle.case_figures.specs.Shows.{ShowsFigures};
 
 use crate::bases::{base_lines, weighted_bases};
 use crate::figures::Figures;
-use crate::items::{item_lines, items_by_pair, span_of};
+use crate::held::Items;
+use crate::items::{held_by_pair, part_names, site_names, span_of};
 use availability::fleet;
 use family_eval::FamilyResult;
 use fixed_interval::Iv;
@@ -60,11 +61,13 @@ pub fn figures_at<const F: u32>(
     ensures shows { IfOk result (ShowsFigures F case.now stocks.now) }
     ensures printed { IfOk result FitsPrint }
 {
-    let items = items_by_pair(alloc, case, families)?;
+    let parts = part_names(alloc, case)?;
+    let sites = site_names(alloc, case)?;
+    let held = held_by_pair(alloc, case, families)?;
     let bases = weighted_bases(alloc, case, families)?;
     Ok(Figures {
         cost: stocks.cost(case),
-        items: List::of(item_lines(alloc, case, items.as_slice())?),
+        items: Items::of::<F>(parts, sites, held),
         bases: List::of(base_lines(alloc, case, bases.as_slice())?),
         fleet: span_of(fleet(bases.as_slice())),
         total: span_of(total_of(families)),

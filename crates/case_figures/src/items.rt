@@ -1,15 +1,18 @@
-//! The items of all families under their names, by part and then by site.
+//! The items of all families, by part and then by site, and the names that they stand under.
 ghost use Rattle.std.specs.Prelude.{◌≡◌, ◌*◌, ◌<◌, ◌≤◌, All, IfOk, length, map, vec_len};
 ghost use Rattle.fixed_interval.specs.Ends.{InScale};
+ghost use Rattle.spares_input.specs.Frames.{part_names, site_names};
 ghost use Rattle.family_eval.specs.Encloses.{no_item};
 ghost use Rattle.fixed_interval.specs.Widths.{IsWidth};
-ghost use Rattle.case_figures.specs.Figures.{named, span_of};
-ghost use Rattle.case_figures.specs.Gathering.{IsFamilyOf, IsItemOf, items_by_pair, placed};
+ghost use Rattle.case_figures.specs.Gathering.{IsFamilyOf, IsItemOf, held_by_pair, placed_held};
+ghost use Rattle.case_figures.specs.Held.{held_of};
+ghost use Rattle.case_figures.specs.Spans.{span_of};
 
-use crate::figures::{ItemLine, Span};
+use crate::figures::Span;
+use crate::held::HeldItem;
 use family_eval::{FamilyResult, Item};
 use fixed_interval::Iv;
-use spares_input::{Case, PartId, SiteId, pair_place};
+use spares_input::{Case, Name, PartId, SiteId, pair_place};
 use spares_io::NoMemory;
 use std::alloc::Global;
 
@@ -29,11 +32,11 @@ pub(crate) fn span_of<const F: u32>(interval: Iv<F>) -> Span
 }
 
 /// What a place holds before its item.
-fn no_item<const F: u32>() -> Item<F>
+fn no_item<const F: u32>() -> HeldItem
     requires { InScale F }
-    ensures { result ≡ no_item F }
+    ensures { result ≡ held_of (no_item F) }
 {
-    Item {
+    HeldItem::of::<F>(&Item {
         part: PartId(0),
         site: SiteId(0),
         stock: 0,
@@ -41,69 +44,58 @@ fn no_item<const F: u32>() -> Item<F>
         variance: Iv::exact(0),
         backorders: Iv::exact(0),
         spread: Iv::exact(0),
-    }
+    })
 }
 
 /// Puts each item at the place of its pair, where there are so many sites.
-fn place_items<const F: u32>(places: &mut [Item<F>], case: &Case, items: &[Item<F>])
+fn place_items<const F: u32>(places: &mut [HeldItem], case: &Case, items: &[Item<F>])
+    requires scale { InScale F }
     requires pairs { All (IsItemOf F case.now) items.now }
     requires room { length places.old ≡ length case.now.parts * length case.now.sites }
-    ensures { places.new ≡ placed case.now places.old items.now }
+    ensures { places.new ≡ placed_held case.now places.old items.now }
 {
     let (parts, sites) = (case.part_count() as usize, case.site_count() as usize);
     for item in items {
-        places[pair_place(item.part, item.site, sites, parts)] = *item;
+        places[pair_place(item.part, item.site, sites, parts)] = HeldItem::of(item);
     }
 }
 
 /// The items of all families, by part and then by site.
-pub(crate) fn items_by_pair<const F: u32>(
+pub(crate) fn held_by_pair<const F: u32>(
     alloc: Global,
     case: &Case,
     families: &[FamilyResult<F>],
-) -> Result<Vec<Item<F>>, NoMemory>
+) -> Result<Vec<HeldItem>, NoMemory>
     requires scale { InScale F }
     requires families { All (IsFamilyOf F case.now) families.now }
-    ensures { IfOk result (λ v. v.items ≡ items_by_pair case.now families.now) }
+    ensures { IfOk result (λ v. v.items ≡ held_by_pair case.now families.now) }
 {
     let pairs = case.part_count() as usize * case.site_count() as usize;
-    let mut places = vec![in alloc; no_item(); pairs]?;
+    let mut places = vec![in alloc; no_item::<F>(); pairs]?;
     for family in families {
         place_items(places.as_mut_slice(), case, family.items.as_slice());
     }
     Ok(places)
 }
 
-/// An item under the names of its part and its site.
-fn named<const F: u32>(case: &Case, item: &Item<F>) -> ItemLine
-    requires width { IsWidth F }
-    requires pair { IsItemOf F case.now item.now }
-    ensures { result ≡ named F case.now item.now }
+/// The names of the parts, in their order.
+pub(crate) fn part_names(alloc: Global, case: &Case) -> Result<Vec<Name>, NoMemory>
+    ensures { IfOk result (λ v. v.items ≡ part_names case.now.parts) }
 {
-    ItemLine {
-        part: case.part(item.part).name,
-        site: case.site(item.site).name,
-        stock: item.stock,
-        mean: span_of(item.mean),
-        variance: span_of(item.variance),
-        backorders: span_of(item.backorders),
-        spread: span_of(item.spread),
+    let mut names = Vec::with_capacity(alloc, case.part_count() as usize)?;
+    for p in 0..case.part_count() {
+        names.push(case.part(PartId(p)).name)?;
     }
+    Ok(names)
 }
 
-/// Items under their names, in their order.
-pub(crate) fn item_lines<const F: u32>(
-    alloc: Global,
-    case: &Case,
-    items: &[Item<F>],
-) -> Result<Vec<ItemLine>, NoMemory>
-    requires width { IsWidth F }
-    requires pairs { All (IsItemOf F case.now) items.now }
-    ensures { IfOk result (λ v. v.items ≡ map (named F case.now) items.now) }
+/// The names of the sites, in their order.
+pub(crate) fn site_names(alloc: Global, case: &Case) -> Result<Vec<Name>, NoMemory>
+    ensures { IfOk result (λ v. v.items ≡ site_names case.now.sites) }
 {
-    let mut lines = Vec::with_capacity(alloc, items.len())?;
-    for item in items {
-        lines.push(named(case, item))?;
+    let mut names = Vec::with_capacity(alloc, case.site_count() as usize)?;
+    for k in 0..case.site_count() {
+        names.push(case.site(SiteId(k)).name)?;
     }
-    Ok(lines)
+    Ok(names)
 }

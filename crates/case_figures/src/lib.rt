@@ -4,7 +4,11 @@
 mod bases;
 mod figures;
 mod gathering;
+mod held;
 mod items;
+mod narrow;
 
 pub use figures::{BaseLine, Figures, ItemLine, Span};
 pub use gathering::{figures_at, figures_enclose};
+pub use held::{HeldItem, ItemRef, Items};
+pub use narrow::Narrow;

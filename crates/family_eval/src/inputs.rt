@@ -1,4 +1,4 @@
-//! The numbers that a family is computed from.
+//! The numbers that pipelines are computed from.
 
 ghost use Rattle.std.specs.Prelude.{◌≡◌, ◌*◌, ◌^◌, ◌<◌, ◌≤◌, length};
 ghost use Rattle.fixed_interval.specs.Ends.{InScale};
@@ -16,7 +16,7 @@ use std::marker::Model;
 
 /// A case, its rates, and stocks of it within its limits.
 #[derive(Drop)]
-pub(crate) struct Inputs<'a> {
+pub struct Inputs<'a> {
     case: &'a Case,
     rates: &'a Rates,
     stocks: &'a Stocks,
@@ -34,7 +34,7 @@ impl<'a> Model for Inputs<'a> {
 
 impl<'a> Inputs<'a> {
     /// A case, rates of it, and stocks of it within its limits.
-    pub(crate) fn of(case: &'a Case, rates: &'a Rates, stocks: &'a Stocks) -> Inputs<'a>
+    pub fn of(case: &'a Case, rates: &'a Rates, stocks: &'a Stocks) -> Inputs<'a>
         requires rates { AreRatesOf case.now rates.now }
         requires stocks { IsFor case.now stocks.now }
         requires limits { IsWithinLimits case.now stocks.now }
@@ -49,14 +49,14 @@ impl<'a> Inputs<'a> {
     }
 
     /// The case.
-    pub(crate) fn case(&self) -> &Case
+    pub fn case(&self) -> &Case
         ensures { result.now ≡ self.now.case }
     {
         self.case
     }
 
     /// How many sites there are.
-    pub(crate) fn sites(&self) -> u8
+    pub fn sites(&self) -> u8
         ensures count { result ≡ length self.now.case.sites }
         ensures valid { IsSound self.now.case self.now.stocks.list }
     {
@@ -64,7 +64,7 @@ impl<'a> Inputs<'a> {
     }
 
     /// How much a backorder of a line unit counts, 1 to 100.
-    pub(crate) fn weight(&self, line: PartId) -> u32
+    pub fn weight(&self, line: PartId) -> u32
         requires { line.0 < length self.now.case.parts }
         ensures weight { result ≡ weight self.now.case line.0 }
         ensures most { result ≤ 100 }
@@ -73,7 +73,7 @@ impl<'a> Inputs<'a> {
     }
 
     /// The pipeline of a pair by itself.
-    pub(crate) fn pipeline<const F: u32>(&self, part: PartId, site: SiteId) -> Pipeline<F>
+    pub fn pipeline<const F: u32>(&self, part: PartId, site: SiteId) -> Pipeline<F>
         requires scale { InScale F }
         requires part { part.0 < length self.now.case.parts }
         requires site { site.0 < length self.now.case.sites }
@@ -90,7 +90,7 @@ impl<'a> Inputs<'a> {
     }
 
     /// The share of a pair in the backorders at the depot, at most 1.
-    pub(crate) fn share<const F: u32>(&self, part: PartId, site: SiteId) -> Iv<F>
+    pub fn share<const F: u32>(&self, part: PartId, site: SiteId) -> Iv<F>
         requires scale { InScale F }
         requires part { part.0 < length self.now.case.parts }
         requires site { site.0 < length self.now.case.sites }

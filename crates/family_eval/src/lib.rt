@@ -35,11 +35,11 @@ use spares_input::{Case, PartId, Stocks};
 use spares_io::{List, NoMemory};
 use std::alloc::Global;
 
-mod inputs;
+pub mod inputs;
 mod item;
 mod levels;
 mod lines;
-mod pipeline;
+pub mod pipeline;
 mod shops;
 #[cfg(test)]
 mod tests;

@@ -1,110 +1,91 @@
--- What a pair's pipeline has of its own, and what its level makes of it.
+-- What its level makes of a pair's pipeline.
 use Rattle.std.proofs.Common.{◌≡◌, ℕ, zero, suc, Option, Some, ◌<◌, ◌≤◌, ◌+◌, List, [], ◌∷◌, ◌++◌, length, get_or, map, flat_map, replicate, refl, sym, ap, ap₂, ◌∙◌, subst, arith}
 use Rattle.std.specs.List.{range_with_len}
 use Rattle.std.proofs.lemmas.List.{flat_map_more, length-map}
 use Rattle.std.proofs.lemmas.Simd.{map-map}
-use Rattle.fixed_interval.specs.Ends.{Ends, ends_add, ends_capped, ends_exact, ends_ratio}
+use Rattle.fixed_interval.specs.Ends.{Ends, ends_add, ends_capped, ends_exact}
 use Rattle.depot_pipeline.specs.declared.Moments.{Moments}
 use Rattle.depot_pipeline.specs.declared.Feed.{Feed}
 use Rattle.depot_pipeline.specs.Profile.{added, depot_line_ends, depot_shop_ends, feed_at, mean_part}
 use Rattle.base_pipeline.specs.declared.Held.{Held}
 use Rattle.base_pipeline.specs.Profile.{base_line_ends, base_shop_ends, held_at}
 use Rattle.fleet_model.specs.Rows.{shop_units, stock}
-use Rattle.fleet_model.specs.Units.{pipeline_scale}
-use Rattle.fleet_model.proofs.AllocationLaws.{stock_holds}
 use Rattle.fleet_model.specs.Pairs.{by_pair}
 use Rattle.spares_input.specs.Cases.{CaseRows, IsCase}
 use Rattle.spares_input.specs.Frames.{line_of}
 use Rattle.spares_input.specs.declared.rows.PartId.{PartId}
 use Rattle.demand_rates.proofs.DepotFacts.{no_line_there}
-use Rattle.spares_input.specs.Stocks.{stock_at}
 use Rattle.spares_input.proofs.Ranges.{range_next}
-use Rattle.demand_rates.specs.declared.kinds.PairRates.{PairRates}
-use Rattle.demand_rates.specs.RateLists.{rates_at}
 use Rattle.moment_table.specs.Inputs.{CanTable}
-use Rattle.family_eval.specs.Inputs.{AreInputs, InputRows, IsLine, IsShopUnit}
+use Rattle.family_eval.specs.Inputs.{IsLine, IsPipeline, IsShopUnit}
+use Rattle.family_eval.specs.declared.pipeline.Pipeline.{Pipeline}
 use Rattle.family_eval.specs.Profile.{pipeline_of, share_of}
 use Rattle.family_eval.proofs.Items.{ids_few, shop_of}
-use Rattle.family_eval.proofs.Ranges.{added_least, can_table, pipeline_is, sound_of}
-use Rattle.metric_compare.specs.Levels.{IsPipe, of_shop}
+use Rattle.family_eval.proofs.Ranges.{added_least, can_table}
+use Rattle.metric_compare.specs.Levels.{of_shop}
 use Rattle.metric_compare.specs.Profile.{poisson_at, base_line, base_shop, depot_feed, depot_line, depot_shop, fed, held, poisson_of}
-
--- direct part, cap and stock as the inputs have them are those of the pair, and within their ranges
-pub pipe_is : (x : InputRows) (p k : ℕ) (direct : Ends) (cap stocked : ℕ) → AreInputs x → p < length x.case.parts → k < length x.case.sites
-    → direct ≡ ends_ratio 48 (rates_at x.rates p k).direct pipeline_scale → cap ≡ (ends_ratio 48 (rates_at x.rates p k).zero_stock pipeline_scale).hi
-    → stocked ≡ stock_at x.stocks p k → IsPipe x.case x.stocks.list p k direct cap stocked
-pipe_is x p k direct cap stocked h lp lk hd hc hs =
-    let r = (h.are_rates.pairs p k lp lk).units in
-    record {
-      direct_is = hd ∙ ap (λ (r : PairRates). ends_ratio 48 r.direct pipeline_scale) r;
-      cap_is = hc ∙ ap (λ (r : PairRates). (ends_ratio 48 r.zero_stock pipeline_scale).hi) r;
-      stock_is = hs ∙ sym (stock_holds x.case x.stocks p k h.are_stocks);
-      valid = pipeline_is 48 x.case x.stocks.list p k (omega arith) (sound_of x h) lp lk;
-    }
 
 -- ---- tables
 
-can_mean : (c : CaseRows) (s : List ℕ) (p k : ℕ) (direct : Ends) (cap stocked : ℕ) (m : Ends) → IsPipe c s p k direct cap stocked → direct.lo ≤ m.lo
-    → CanTable 48 (ends_capped m cap) (ends_capped m cap)
-can_mean c s p k direct cap stocked m pipe lo =
-    subst (λ n. CanTable 48 (ends_capped m n) (ends_capped m n)) (sym pipe.cap_is)
-    (can_table 48 (pipeline_of 48 c s p k) m m pipe.valid (subst (λ (d : Ends). d.lo ≤ m.lo) pipe.direct_is lo))
+can_mean : (pipe : Pipeline 48) (m : Ends) → IsPipeline 48 pipe → pipe.direct.lo ≤ m.lo → CanTable 48 (ends_capped m pipe.cap) (ends_capped m pipe.cap)
+can_mean pipe m valid lo = can_table 48 pipe m m valid lo
 
 -- the capped mean of a line unit at the depot has a table with itself as the variance
-pub depot_line_can : (c : CaseRows) (s : List ℕ) (p k : ℕ) (direct : Ends) (cap stocked : ℕ) (feeds : List (Feed 48)) (m : Moments 48) → IsPipe c s p k direct cap stocked
-    → m ≡ depot_line_ends 48 direct cap feeds → CanTable 48 m.mean m.mean
-depot_line_can c s p k direct cap stocked feeds m pipe e =
+pub depot_line_can : (pipe : Pipeline 48) (feeds : List (Feed 48)) (m : Moments 48) → IsPipeline 48 pipe
+    → m ≡ depot_line_ends 48 pipe.direct pipe.cap feeds → CanTable 48 m.mean m.mean
+depot_line_can pipe feeds m valid e =
     subst (λ (m : Moments 48). CanTable 48 m.mean m.mean) (sym e)
-    (can_mean c s p k direct cap stocked (added direct (λ k. mean_part 48 (feed_at feeds k)) (length feeds)) pipe
-    (added_least direct (λ k. mean_part 48 (feed_at feeds k)) (length feeds)))
+    (can_mean pipe (added pipe.direct (λ k. mean_part 48 (feed_at feeds k)) (length feeds)) valid
+    (added_least pipe.direct (λ k. mean_part 48 (feed_at feeds k)) (length feeds)))
 
 -- so does that of a line unit at a base
-pub base_line_can : (c : CaseRows) (s : List ℕ) (p k : ℕ) (direct : Ends) (cap stocked : ℕ) (feed : Feed 48) (shops : List (Held 48)) (m : Moments 48)
-    → IsPipe c s p k direct cap stocked → m ≡ base_line_ends 48 direct cap feed shops → CanTable 48 m.mean m.mean
-base_line_can c s p k direct cap stocked feed shops m pipe e =
-    let first = ends_add direct (mean_part 48 feed) in
+pub base_line_can : (pipe : Pipeline 48) (feed : Feed 48) (shops : List (Held 48)) (m : Moments 48) → IsPipeline 48 pipe
+    → m ≡ base_line_ends 48 pipe.direct pipe.cap feed shops → CanTable 48 m.mean m.mean
+base_line_can pipe feed shops m valid e =
+    let first = ends_add pipe.direct (mean_part 48 feed) in
     subst (λ (m : Moments 48). CanTable 48 m.mean m.mean) (sym e)
-    (can_mean c s p k direct cap stocked (added first (λ k. (held_at shops k).backorders) (length shops)) pipe
+    (can_mean pipe (added first (λ k. (held_at shops k).backorders) (length shops)) valid
     (omega (arith, added_least first (λ k. (held_at shops k).backorders) (length shops))))
 
 -- ---- what a step computed is the definition's
 
 -- what is computed of a shop unit at the depot are its Poisson backorders
-pub depot_shop_is : (c : CaseRows) (s : List ℕ) (p : ℕ) (direct : Ends) (cap stocked : ℕ) (m : Moments 48) (x : Ends) → IsPipe c s p 0 direct cap stocked
-    → m ≡ depot_shop_ends 48 direct cap → x ≡ poisson_at 48 m.mean stocked → x ≡ depot_shop 48 c s p
+pub depot_shop_is : (c : CaseRows) (s : List ℕ) (p : ℕ) (pipe : Pipeline 48) (m : Moments 48) (x : Ends) → pipe ≡ pipeline_of 48 c s p 0
+    → m ≡ depot_shop_ends 48 pipe.direct pipe.cap → x ≡ poisson_at 48 m.mean pipe.stock → x ≡ depot_shop 48 c s p
 unfolding depot_shop
-depot_shop_is c s p direct cap stocked m x pipe e h =
-    h ∙ ap₂ (λ (m : Moments 48) (n : ℕ). poisson_at 48 m.mean n) (e ∙ ap₂ (λ (d : Ends) (n : ℕ). depot_shop_ends 48 d n) pipe.direct_is pipe.cap_is) pipe.stock_is
+depot_shop_is c s p pipe m x hp e h =
+    h ∙ (λ t. poisson_at 48 (e t).mean pipe.stock)
+    ∙ (λ t. poisson_at 48 (depot_shop_ends 48 (hp t).direct (hp t).cap).mean (hp t).stock)
 
 -- what is computed of a shop unit at a base and the depot's feed are its Poisson backorders
-pub base_shop_is : (c : CaseRows) (s : List ℕ) (p k : ℕ) (direct : Ends) (cap stocked : ℕ) (share depot : Ends) (feed : Feed 48) (m : Moments 48) (x : Ends)
-    → IsPipe c s p k direct cap stocked → share ≡ share_of 48 c p k → depot ≡ depot_shop 48 c s p → feed ≡ fed 48 share depot
-    → m ≡ base_shop_ends 48 direct cap feed → x ≡ poisson_at 48 m.mean stocked → x ≡ base_shop 48 c s p k
+pub base_shop_is : (c : CaseRows) (s : List ℕ) (p k : ℕ) (pipe : Pipeline 48) (share depot : Ends) (feed : Feed 48) (m : Moments 48) (x : Ends)
+    → pipe ≡ pipeline_of 48 c s p k → share ≡ share_of 48 c p k → depot ≡ depot_shop 48 c s p → feed ≡ fed 48 share depot
+    → m ≡ base_shop_ends 48 pipe.direct pipe.cap feed → x ≡ poisson_at 48 m.mean pipe.stock → x ≡ base_shop 48 c s p k
 unfolding base_shop
-base_shop_is c s p k direct cap stocked share depot feed m x pipe hs hd hf e h =
-    h ∙ (λ t. poisson_at 48 (e t).mean stocked)
-    ∙ (λ t. poisson_at 48 (base_shop_ends 48 (pipe.direct_is t) (pipe.cap_is t) (hf t)).mean (pipe.stock_is t))
+base_shop_is c s p k pipe share depot feed m x hp hs hd hf e h =
+    h ∙ (λ t. poisson_at 48 (e t).mean pipe.stock)
+    ∙ (λ t. poisson_at 48 (base_shop_ends 48 (hp t).direct (hp t).cap (hf t)).mean (hp t).stock)
     ∙ (λ t. poisson_at 48 (base_shop_ends 48 (pipeline_of 48 c s p k).direct (pipeline_of 48 c s p k).cap (fed 48 (hs t) (hd t))).mean (stock c s p k))
 
 -- what is computed of a line unit at the depot and the feeds of its shop units are its Poisson backorders
-pub depot_line_is : (c : CaseRows) (s : List ℕ) (p : ℕ) (direct : Ends) (cap stocked : ℕ) (feeds : List (Feed 48)) (m : Moments 48) (x : Ends)
-    → IsPipe c s p 0 direct cap stocked → feeds ≡ map (depot_feed 48 c s) (shop_units c p) → m ≡ depot_line_ends 48 direct cap feeds
-    → x ≡ poisson_at 48 m.mean stocked → x ≡ depot_line 48 c s p
+pub depot_line_is : (c : CaseRows) (s : List ℕ) (p : ℕ) (pipe : Pipeline 48) (feeds : List (Feed 48)) (m : Moments 48) (x : Ends)
+    → pipe ≡ pipeline_of 48 c s p 0 → feeds ≡ map (depot_feed 48 c s) (shop_units c p) → m ≡ depot_line_ends 48 pipe.direct pipe.cap feeds
+    → x ≡ poisson_at 48 m.mean pipe.stock → x ≡ depot_line 48 c s p
 unfolding depot_line
-depot_line_is c s p direct cap stocked feeds m x pipe hf e h =
-    h ∙ (λ t. poisson_at 48 (e t).mean stocked)
-    ∙ (λ t. poisson_at 48 (depot_line_ends 48 (pipe.direct_is t) (pipe.cap_is t) (hf t)).mean (pipe.stock_is t))
+depot_line_is c s p pipe feeds m x hp hf e h =
+    h ∙ (λ t. poisson_at 48 (e t).mean pipe.stock)
+    ∙ (λ t. poisson_at 48 (depot_line_ends 48 (hp t).direct (hp t).cap (hf t)).mean (hp t).stock)
 
 -- what is computed of a line unit at a base, the depot's feed and what its shop units hold back there
 -- are its Poisson backorders
-pub base_line_is : (c : CaseRows) (s : List ℕ) (p k : ℕ) (direct : Ends) (cap stocked : ℕ) (share depot : Ends) (feed : Feed 48) (shops : List (Held 48)) (m : Moments 48) (x : Ends)
-    → IsPipe c s p k direct cap stocked → share ≡ share_of 48 c p k → depot ≡ depot_line 48 c s p → feed ≡ fed 48 share depot
-    → shops ≡ map (λ i. held 48 (base_shop 48 c s i k)) (shop_units c p) → m ≡ base_line_ends 48 direct cap feed shops
-    → x ≡ poisson_at 48 m.mean stocked → x ≡ base_line 48 c s p k
+pub base_line_is : (c : CaseRows) (s : List ℕ) (p k : ℕ) (pipe : Pipeline 48) (share depot : Ends) (feed : Feed 48) (shops : List (Held 48)) (m : Moments 48) (x : Ends)
+    → pipe ≡ pipeline_of 48 c s p k → share ≡ share_of 48 c p k → depot ≡ depot_line 48 c s p → feed ≡ fed 48 share depot
+    → shops ≡ map (λ i. held 48 (base_shop 48 c s i k)) (shop_units c p) → m ≡ base_line_ends 48 pipe.direct pipe.cap feed shops
+    → x ≡ poisson_at 48 m.mean pipe.stock → x ≡ base_line 48 c s p k
 unfolding base_line
-base_line_is c s p k direct cap stocked share depot feed shops m x pipe hs hd hf hl e h =
-    h ∙ (λ t. poisson_at 48 (e t).mean stocked)
-    ∙ (λ t. poisson_at 48 (base_line_ends 48 (pipe.direct_is t) (pipe.cap_is t) (hf t) (hl t)).mean (pipe.stock_is t))
+base_line_is c s p k pipe share depot feed shops m x hp hs hd hf hl e h =
+    h ∙ (λ t. poisson_at 48 (e t).mean pipe.stock)
+    ∙ (λ t. poisson_at 48 (base_line_ends 48 (hp t).direct (hp t).cap (hf t) (hl t)).mean (hp t).stock)
     ∙ (λ t. poisson_at 48 (base_line_ends 48 (pipeline_of 48 c s p k).direct (pipeline_of 48 c s p k).cap (fed 48 (hs t) (hd t))
     (map (λ i. held 48 (base_shop 48 c s i k)) (shop_units c p))).mean (stock c s p k))
 

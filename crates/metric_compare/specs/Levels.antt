@@ -3,18 +3,9 @@ use Rattle.std.specs.Prelude.{◌≡◌, ℕ, List, map, flat_map}
 use Rattle.fixed_interval.specs.Ends.{Ends, ends_exact}
 use Rattle.spares_input.specs.Cases.{CaseRows}
 use Rattle.spares_input.specs.Frames.{line_of}
-use Rattle.fleet_model.specs.Rows.{all_parts, all_sites, stock}
+use Rattle.fleet_model.specs.Rows.{all_parts, all_sites}
 use Rattle.fleet_model.specs.Pairs.{by_pair}
-use Rattle.family_eval.specs.Inputs.{IsPipeline}
-use Rattle.family_eval.specs.Profile.{pipeline_of}
 use Rattle.metric_compare.specs.Profile.{base_shop, depot_shop, poisson_of}
-
--- these are the direct part, the cap and the stock of part p at site k, and they are within their ranges
-pub record IsPipe (c : CaseRows) (s : List ℕ) (p k : ℕ) (direct : Ends) (cap stocked : ℕ) : Type 0 where
-  pub direct_is : direct ≡ (pipeline_of 48 c s p k).direct
-  pub cap_is : cap ≡ (pipeline_of 48 c s p k).cap
-  pub stock_is : stocked ≡ stock c s p k
-  pub valid : IsPipeline 48 (pipeline_of 48 c s p k)
 
 -- the backorders of part p at site k where it is a shop unit, and 0 where it is a line unit
 abbrev pub of_shop : CaseRows → List ℕ → ℕ → ℕ → Ends

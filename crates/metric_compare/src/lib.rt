@@ -19,19 +19,18 @@ ghost use Rattle.metric_compare.specs.Report.{comparison_of};
 ghost use Rattle.metric_compare.specs.Shows.{ShowsComparison};
 ghost use Rattle.metric_compare.specs.Fits.{FitsComparison};
 
-use crate::inputs::Inputs;
 use crate::rows::all_numbers;
 use crate::shops::shop_numbers;
 use crate::totals::poisson_total;
 use case_figures::{Span, figures_at};
 use demand_rates::kinds::Rates;
 use family_eval::evaluate_all;
+use family_eval::inputs::Inputs;
 use fixed_interval::Iv;
 use spares_input::{Case, Stocks};
 use spares_io::{List, NoMemory};
 use std::alloc::Global;
 
-mod inputs;
 mod levels;
 mod lines;
 mod report;
@@ -96,10 +95,10 @@ pub fn compare(
     let poisson = numbers.as_slice();
     let families = evaluate_all::<48>(alloc, case, rates, stocks)?;
     let figures = figures_at::<48>(alloc, case, families.as_slice(), stocks)?;
-    let lines = figures.items.as_slice();
+    let lines = &figures.items;
     let mut items = Vec::new(alloc);
     for i in 0..lines.len() {
-        let line = &lines[i];
+        let line = lines.get(i);
         items.push(CompareItem {
             part: line.part,
             site: line.site,

@@ -10,11 +10,11 @@ ghost use Rattle.family_eval.specs.Inputs.{IsLine, IsShopUnit};
 ghost use Rattle.metric_compare.specs.Levels.{by_site, shop_numbers};
 ghost use Rattle.metric_compare.specs.Profile.{base_line, base_shop, depot_feed, depot_line, held, poisson_of};
 
-use crate::inputs::Inputs;
 use crate::levels::{backorders_at, fed};
 use crate::shops::{at_base, at_depot};
 use base_pipeline::{Held, base_line};
 use depot_pipeline::{Feed, depot_line};
+use family_eval::inputs::Inputs;
 use family_eval::shop_units;
 use fixed_interval::Iv;
 use spares_input::{PartId, SiteId};
@@ -85,7 +85,7 @@ fn depot_line_at(
     ensures small { IfOk result (IsWithinLimit 48) }
 {
     let _sites = inputs.sites();
-    let pipe = inputs.pipe(line, SiteId(0));
+    let pipe = inputs.pipeline(line, SiteId(0));
     let depot = depot_line(pipe.direct, pipe.cap, feeds);
     backorders_at(alloc, depot.mean, depot.mean, pipe.stock)
 }
@@ -111,7 +111,7 @@ fn base_line_at(
     ensures ends { IfOk result (λ x. x ≡ base_line 48 inputs.now.case inputs.now.stocks.list line.0 site.0) }
     ensures small { IfOk result (IsWithinLimit 48) }
 {
-    let pipe = inputs.pipe(line, site);
+    let pipe = inputs.pipeline(line, site);
     let feed = fed(inputs.share(line, site), depot);
     let base = base_line(pipe.direct, pipe.cap, feed, held_back);
     backorders_at(alloc, base.mean, base.mean, pipe.stock)

@@ -3,9 +3,9 @@
 ghost use Rattle.std.specs.Prelude.{◌≡◌, IfOk};
 ghost use Rattle.metric_compare.specs.Levels.{poisson_numbers, shop_numbers};
 
-use crate::inputs::Inputs;
 use crate::lines::line_row;
 use crate::shops::row_of;
+use family_eval::inputs::Inputs;
 use fixed_interval::Iv;
 use spares_input::PartId;
 use spares_io::NoMemory;

@@ -7,10 +7,10 @@ ghost use Rattle.family_eval.specs.Inputs.{IsLine, IsShopUnit};
 ghost use Rattle.metric_compare.specs.Levels.{by_site, of_shop, shop_numbers};
 ghost use Rattle.metric_compare.specs.Profile.{base_shop, depot_shop, poisson_of};
 
-use crate::inputs::Inputs;
 use crate::levels::{backorders_at, fed};
 use base_pipeline::base_shop;
 use depot_pipeline::depot_shop;
+use family_eval::inputs::Inputs;
 use fixed_interval::Iv;
 use spares_input::{PartId, SiteId, pair_place};
 use spares_io::NoMemory;
@@ -23,7 +23,7 @@ fn depot_shop_at(alloc: Global, inputs: &Inputs<'_>, part: PartId) -> Result<Iv<
     ensures small { IfOk result (IsWithinLimit 48) }
 {
     let _sites = inputs.sites();
-    let pipe = inputs.pipe(part, SiteId(0));
+    let pipe = inputs.pipeline(part, SiteId(0));
     let depot = depot_shop(pipe.direct, pipe.cap);
     backorders_at(alloc, depot.mean, depot.mean, pipe.stock)
 }
@@ -43,7 +43,7 @@ fn base_shop_at(
     ensures ends { IfOk result (λ x. x ≡ base_shop 48 inputs.now.case inputs.now.stocks.list part.0 site.0) }
     ensures small { IfOk result (IsWithinLimit 48) }
 {
-    let pipe = inputs.pipe(part, site);
+    let pipe = inputs.pipeline(part, site);
     let feed = fed(inputs.share(part, site), depot);
     let base = base_shop(pipe.direct, pipe.cap, feed);
     backorders_at(alloc, base.mean, base.mean, pipe.stock)

@@ -6,7 +6,7 @@ ghost use Rattle.family_eval.specs.Inputs.{IsLine};
 ghost use Rattle.metric_compare.specs.Levels.{poisson_numbers};
 ghost use Rattle.metric_compare.specs.Profile.{poisson_family_total_of, poisson_of, poisson_total_of};
 
-use crate::inputs::Inputs;
+use family_eval::inputs::Inputs;
 use fixed_interval::Iv;
 use spares_input::{PartId, SiteId, pair_place};
 

@@ -3,6 +3,8 @@
 
 mod check;
 mod eval;
+mod item;
+mod line;
 mod plan;
 #[cfg(test)]
 mod plan_tests;

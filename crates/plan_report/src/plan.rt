@@ -129,7 +129,7 @@ impl PlanReport {
     /// How many bytes to make room for before the text is put: most lines of items have fewer than 112, and all other
     /// lines together fewer than 4,096.
     pub fn room(&self) -> usize {
-        let lines = self.figures.items.as_slice().len();
+        let lines = self.figures.items.len();
         lines.saturating_mul(112).saturating_add(4_096)
     }
 

@@ -1,12 +1,12 @@
-ghost use Rattle.std.specs.Prelude.{IfOk, IfSome};
+ghost use Rattle.std.specs.Prelude.{◌≡◌, All, IfOk, IfSome};
 ghost use Rattle.case_figures.specs.Fits.{FitsPrint, ItemFits, SpanFits};
-ghost use Rattle.plan_report.specs.Fits.{FitsPlan, IntervalFits, PriceFits};
+ghost use Rattle.plan_report.specs.Fits.{FitsPlan, IntervalFits, PriceFits, UnitsFit};
 
 use crate::{CheckReport, CriticalLine, PlanReport, Summary};
-use case_figures::{BaseLine, Figures, ItemLine, Span};
+use case_figures::{BaseLine, Figures, HeldItem, Items, Narrow, Span};
 use fixed_interval::Iv;
 use hull::Price;
-use spares_input::Name;
+use spares_input::{Name, PartId, SiteId};
 use spares_io::{List, NoMemory};
 use std::alloc::Global;
 use std::test::*;
@@ -162,18 +162,41 @@ fn span(ends: Ends) -> Span
     Span::Bits48(interval(ends))
 }
 
-fn item(part: Name, site: Name, row: (u8, [Ends; 4])) -> ItemLine
-    ensures { ItemFits result }
+fn narrow(ends: Ends) -> Narrow
+    ensures { UnitsFit result.hi }
 {
-    ItemLine {
-        part,
-        site,
+    let hi = ends.0.saturating_add(ends.1);
+    Narrow::of(Iv::<48>::of_ends(u128::from(ends.0), u128::from(hi)))
+}
+
+/// The item of the part at a site.
+fn held(site: u8, row: (u8, [Ends; 4])) -> HeldItem
+    ensures site { result.site.0 ≡ site }
+    ensures part { result.part.0 ≡ 0 }
+    ensures mean { UnitsFit result.mean.hi }
+    ensures variance { UnitsFit result.variance.hi }
+    ensures backorders { UnitsFit result.backorders.hi }
+    ensures spread { UnitsFit result.spread.hi }
+{
+    HeldItem {
+        part: PartId(0),
+        site: SiteId(site),
         stock: row.0,
-        mean: span(row.1[0]),
-        variance: span(row.1[1]),
-        backorders: span(row.1[2]),
-        spread: span(row.1[3]),
+        mean: narrow(row.1[0]),
+        variance: narrow(row.1[1]),
+        backorders: narrow(row.1[2]),
+        spread: narrow(row.1[3]),
     }
+}
+
+/// The lines of the part at the depot and the base.
+fn items(alloc: Global, names: [Name; 3], rows: [(u8, [Ends; 4]); 2]) -> Result<Items, NoMemory>
+    ensures { IfOk result (All ItemFits) }
+{
+    let parts = Vec::from_array(alloc, [names[0]])?;
+    let sites = Vec::from_array(alloc, [names[1], names[2]])?;
+    let held = Vec::from_array(alloc, [held(0, rows[0]), held(1, rows[1])])?;
+    Ok(Items::of::<48>(parts, sites, held))
 }
 
 /// The price of a fall for 100 of money, or none.
@@ -192,17 +215,13 @@ fn price(fall: Option<u64>) -> Price
 fn figures(alloc: Global, names: [Name; 3], row: &Row) -> Result<Figures, NoMemory>
     ensures { IfOk result FitsPrint }
 {
-    let items = [
-        item(names[0], names[1], row.sites[0]),
-        item(names[0], names[2], row.sites[1]),
-    ];
     let bases = [BaseLine {
         site: names[2],
         availability: span(row.available),
     }];
     Ok(Figures {
         cost: row.cost,
-        items: List::of(Vec::from_array(alloc, items)?),
+        items: items(alloc, names, row.sites)?,
         bases: List::of(Vec::from_array(alloc, bases)?),
         fleet: span(row.available),
         total: span(row.total),

@@ -2,9 +2,9 @@ ghost use Rattle.std.specs.Prelude.{◌≡◌, ◌≤◌, ◌<◌, ◌^◌, IfOk
 ghost use Rattle.case_figures.specs.Fits.{FitsPrint};
 
 use crate::{EvalReport, SingleReport};
-use case_figures::{BaseLine, Figures, ItemLine, Span};
+use case_figures::{BaseLine, Figures, HeldItem, Items, Narrow, Span};
 use fixed_interval::Iv;
-use spares_input::Name;
+use spares_input::{Name, PartId, SiteId};
 use spares_io::{List, NoMemory};
 use std::alloc::Global;
 use std::test::*;
@@ -47,18 +47,26 @@ fn prints_both_lines(rt: HostRuntime) -> Result<(), Fail> {
     Ok(())
 }
 
+/// An interval of an item by its ends, in units of 2^-52.
+fn narrow(lo: u64, hi: u64) -> Narrow
+    requires { lo ≤ hi }
+    ensures { result.hi ≡ hi }
+{
+    Narrow::of(Iv::<52>::of_ends(u128::from(lo), u128::from(hi)))
+}
+
 /// A pair and a base with intervals of all three kinds, and the largest cost.
 fn mixed_figures(alloc: Global, part: Name, site: Name) -> Result<Figures, NoMemory>
     ensures { IfOk result FitsPrint }
 {
-    let items = [ItemLine {
-        part,
-        site,
+    let held = [HeldItem {
+        part: PartId(0),
+        site: SiteId(0),
         stock: 63,
-        mean: Span::Bits32(Iv::of_ends(1 << 31, (1 << 31) + 1)),
-        variance: Span::Bits48(Iv::of_ends(3 << 48, 3 << 48)),
-        backorders: Span::Bits52(Iv::of_ends((3 << 52) - 1, 3 << 52)),
-        spread: Span::Bits48(Iv::of_ends(0, 0)),
+        mean: narrow(1 << 51, (1 << 51) + 1),
+        variance: narrow(255 << 52, 255 << 52),
+        backorders: narrow((3 << 52) - 1, 3 << 52),
+        spread: narrow(0, 0),
     }];
     let bases = [BaseLine {
         site,
@@ -66,7 +74,11 @@ fn mixed_figures(alloc: Global, part: Name, site: Name) -> Result<Figures, NoMem
     }];
     Ok(Figures {
         cost: u64::MAX,
-        items: List::of(Vec::from_array(alloc, items)?),
+        items: Items::of::<52>(
+            Vec::from_array(alloc, [part])?,
+            Vec::from_array(alloc, [site])?,
+            Vec::from_array(alloc, held)?,
+        ),
         bases: List::of(Vec::from_array(alloc, bases)?),
         fleet: Span::Bits52(Iv::of_ends(0, 1)),
         total: Span::Bits48(Iv::of_ends((1 << 86) - 2, (1 << 86) - 1)),
@@ -85,7 +97,7 @@ fn prints_each_line(rt: HostRuntime) -> Result<(), Fail> {
         report.text(rt.alloc())?.as_slice(),
         b"eval,52\n\
           cost,18446744073709551615\n\
-          item,L 1,B,63,0.500000,0.500001,3.000000,3.000000,2.999999,3.000000,0.000000,0.000000\n\
+          item,L 1,B,63,0.500000,0.500001,255.000000,255.000000,2.999999,3.000000,0.000000,0.000000\n\
           base,B,0.000000,1.000000\n\
           fleet,0.000000,0.000001\n\
           total,274877906943.999999,274877906944.000000\n"

@@ -31,10 +31,12 @@ ghost use Rattle.plan_report.specs.Texts.{
   upper_millionths,
 };
 
-use case_figures::{BaseLine, Figures, ItemLine, Span};
+use crate::item::put_item;
+use crate::line::Line;
+use case_figures::{BaseLine, Figures, Items, Span};
 use fixed_interval::Iv;
 use itoa::Buffer;
-use line_text::{put_count_line, put_fixed, put_number};
+use line_text::{put_count_line, put_fixed};
 use spares_io::NoMemory;
 
 /// The two numbers that are printed of an interval enclose all that it contains. A number that is printed rounded down
@@ -50,17 +52,18 @@ pub fn prints_outward()
 {}
 
 /// A point and the last 6 decimal digits of a number.
-fn decimals(number: u64) -> [u8; 7]
+pub(crate) fn decimals(number: u64) -> [u8; 7]
     ensures { result ≡ 46 ∷ last_digits 6 number }
 {
+    let part = (number % 1_000_000) as u32;
     [
         b'.',
-        b'0' + (number / 100_000 % 10) as u8,
-        b'0' + (number / 10_000 % 10) as u8,
-        b'0' + (number / 1_000 % 10) as u8,
-        b'0' + (number / 100 % 10) as u8,
-        b'0' + (number / 10 % 10) as u8,
-        b'0' + (number % 10) as u8,
+        b'0' + (part / 100_000) as u8,
+        b'0' + (part / 10_000 % 10) as u8,
+        b'0' + (part / 1_000 % 10) as u8,
+        b'0' + (part / 100 % 10) as u8,
+        b'0' + (part / 10 % 10) as u8,
+        b'0' + (part % 10) as u8,
     ]
 }
 
@@ -181,48 +184,6 @@ pub(crate) fn put_on_hand(text: &mut Vec<u8>, on_hand: Option<u64>) -> Result<()
     }
 }
 
-/// Appends a field with an interval, and the comma before it.
-fn put_span_field(text: &mut Vec<u8>, span: &Span) -> Result<(), NoMemory>
-    requires { SpanFits span.now }
-    ensures { OnOk result (text.new.items ≡ text.old.items ++ (44 ∷ span_text span.now)) }
-{
-    text.push(b',')?;
-    put_span(text, span)
-}
-
-/// Appends the names and the stock of a pair.
-fn put_pair(text: &mut Vec<u8>, item: &ItemLine) -> Result<(), NoMemory>
-    ensures { OnOk result (text.new.items ≡ text.old.items ++ pair_text item.now) }
-{
-    text.extend_from_slice(item.part.as_bytes())?;
-    text.push(b',')?;
-    text.extend_from_slice(item.site.as_bytes())?;
-    text.push(b',')?;
-    put_number(text, item.stock as u128)
-}
-
-/// Appends the intervals of a pair, each with the comma before it.
-fn put_intervals(text: &mut Vec<u8>, item: &ItemLine) -> Result<(), NoMemory>
-    requires { ItemFits item.now }
-    ensures { OnOk result (text.new.items ≡ text.old.items ++ intervals_text item.now) }
-{
-    put_span_field(text, &item.mean)?;
-    put_span_field(text, &item.variance)?;
-    put_span_field(text, &item.backorders)?;
-    put_span_field(text, &item.spread)
-}
-
-/// Appends the line of a pair.
-fn put_item(text: &mut Vec<u8>, item: &ItemLine) -> Result<(), NoMemory>
-    requires { ItemFits item.now }
-    ensures { OnOk result (text.new.items ≡ text.old.items ++ item_text item.now) }
-{
-    text.extend_from_slice(b"item,")?;
-    put_pair(text, item)?;
-    put_intervals(text, item)?;
-    Ok(text.push(b'\n')?)
-}
-
 /// Appends the line of a base.
 fn put_base(text: &mut Vec<u8>, base: &BaseLine) -> Result<(), NoMemory>
     requires { BaseFits base.now }
@@ -233,12 +194,13 @@ fn put_base(text: &mut Vec<u8>, base: &BaseLine) -> Result<(), NoMemory>
 }
 
 /// Appends the lines of all pairs.
-fn put_items(text: &mut Vec<u8>, items: &[ItemLine]) -> Result<(), NoMemory>
-    requires { All ItemFits items.now }
+fn put_items(text: &mut Vec<u8>, items: &Items) -> Result<(), NoMemory>
     ensures { OnOk result (text.new.items ≡ text.old.items ++ flat_map item_text items.now) }
 {
-    for item in items {
-        put_item(text, item)?;
+    let mut line = Line::new();
+    for n in 0..items.len() {
+        put_item(&mut line, &items.held(n));
+        text.extend_from_slice(line.as_slice())?;
     }
     Ok(())
 }
@@ -266,7 +228,7 @@ pub(crate) fn put_stocks(text: &mut Vec<u8>, figures: &Figures) -> Result<(), No
     requires { FitsPrint figures.now }
     ensures { OnOk result (text.new.items ≡ text.old.items ++ stocks_text figures.now) }
 {
-    put_items(text, figures.items.as_slice())?;
+    put_items(text, &figures.items)?;
     put_bases(text, figures.bases.as_slice())?;
     put_span_line(text, b"fleet", &figures.fleet)?;
     put_span_line(text, b"total", &figures.total)

@@ -2,7 +2,7 @@ use Rattle.std.proofs.Common.{◌-◌, ap, sym, ◌∙◌, arith}
 use Rattle.fixed_interval.specs.Ends.{ends_exact}
 use Rattle.spares_input.specs.declared.rows.SiteRow.{SiteRow}
 use Rattle.availability.specs.declared.Weighted.{Weighted}
-use Rattle.case_figures.specs.Figures.{span_of}
+use Rattle.case_figures.specs.Spans.{span_of}
 use Rattle.case_figures.specs.Gathering.{base_line_from}
 use Rattle.case_figures.proofs.Rows.{pushed, read}
 use Rattle.case_figures.proofs.bases.base_lines.Goals as goal

@@ -4,5 +4,5 @@ use Rattle.metric_compare.proofs.shops.base_shop_at.Goals as goal
 
 pub returns-clause-ends : goal.returns-clause-ends
 returns-clause-ends c = IfOk-weaker c.backorders_at.result _ _
-    (λ x h. base_shop_is c.args.inputs.now.case c.args.inputs.now.stocks.list c.args.part.0 c.args.site.0 c.pipe-pipe.result.direct c.pipe-pipe.result.cap c.pipe-pipe.result.stock c.share.result c.args.depot c.fed-feed.result c.base_shop-base.result x
-    c.pipe-pipe.ensures c.share.ensures.share c.requires.depot c.fed-feed.ensures c.base_shop-base.ensures.ends h) c.backorders_at.ensures.ends
+    (λ x h. base_shop_is c.args.inputs.now.case c.args.inputs.now.stocks.list c.args.part.0 c.args.site.0 c.pipeline-pipe.result c.share.result c.args.depot c.fed-feed.result c.base_shop-base.result x
+    c.pipeline-pipe.ensures.pipeline c.share.ensures.share c.requires.depot c.fed-feed.ensures c.base_shop-base.ensures.ends h) c.backorders_at.ensures.ends

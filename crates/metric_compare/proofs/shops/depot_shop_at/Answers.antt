@@ -4,4 +4,4 @@ use Rattle.metric_compare.proofs.shops.depot_shop_at.Goals as goal
 
 pub returns-clause-ends : goal.returns-clause-ends
 returns-clause-ends c = IfOk-weaker c.backorders_at.result _ _
-    (λ x h. depot_shop_is c.args.inputs.now.case c.args.inputs.now.stocks.list c.args.part.0 c.pipe-pipe.result.direct c.pipe-pipe.result.cap c.pipe-pipe.result.stock c.depot_shop-depot.result x c.pipe-pipe.ensures c.depot_shop-depot.ensures.ends h) c.backorders_at.ensures.ends
+    (λ x h. depot_shop_is c.args.inputs.now.case c.args.inputs.now.stocks.list c.args.part.0 c.pipeline-pipe.result c.depot_shop-depot.result x c.pipeline-pipe.ensures.pipeline c.depot_shop-depot.ensures.ends h) c.backorders_at.ensures.ends

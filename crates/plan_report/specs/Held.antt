@@ -1,0 +1,17 @@
+-- The pieces of a pair's line, from what is held of it. No promise rests on these words.
+use Rattle.std.specs.Prelude.{ℕ, List, ◌∷◌, ◌++◌, codes}
+use Rattle.std.specs.Fmt.{decimal}
+use Rattle.case_figures.specs.declared.held.HeldItem.{HeldItem}
+use Rattle.plan_report.specs.Texts.{interval_text}
+
+-- the names and the stock of a pair, from the beginning of its line on
+abbrev pub names_text : List ℕ → List ℕ → ℕ → List ℕ
+names_text part site stock = codes "item," ++ (part ++ (44 ∷ site ++ (44 ∷ decimal stock)))
+
+-- the four intervals of a pair with f binary places, each behind a comma
+abbrev pub held_text : ℕ → HeldItem → List ℕ
+held_text f x =
+    (44 ∷ interval_text f x.mean)
+    ++ ((44 ∷ interval_text f x.variance)
+    ++ ((44 ∷ interval_text f x.backorders)
+    ++ (44 ∷ interval_text f x.spread)))

@@ -1,0 +1,125 @@
+//! The line of a pair.
+ghost use Rattle.std.specs.Prelude.{◌≡◌, ◌+◌, ◌<◌, ◌≤◌, ◌^◌, ◌++◌, ◌∷◌, [], length};
+ghost use Rattle.std.specs.Fmt.{decimal};
+ghost use Rattle.fixed_interval.specs.Text.{fixed_text};
+ghost use Rattle.fixed_interval.specs.Widths.{IsWidth};
+ghost use Rattle.case_figures.specs.Held.{held_line};
+ghost use Rattle.plan_report.specs.Held.{held_text, names_text};
+ghost use Rattle.plan_report.specs.Texts.{
+  interval_text,
+  item_text,
+  lower_millionths,
+  upper_millionths,
+};
+
+use crate::line::Line;
+use crate::text::decimals;
+use case_figures::{HeldItem, ItemRef, Narrow};
+use itoa::Buffer;
+use spares_input::Name;
+
+/// The lower end of an interval in millionths, rounded down.
+fn lower_millionths<const F: u32>(interval: &Narrow) -> u64
+    requires { IsWidth F }
+    ensures { result ≡ lower_millionths F interval.now }
+{
+    ((u128::from(interval.lo()) * 1_000_000) >> F) as u64
+}
+
+/// The upper end of an interval in millionths, rounded up.
+fn upper_millionths<const F: u32>(interval: &Narrow) -> u64
+    requires { IsWidth F }
+    ensures { result ≡ upper_millionths F interval.now }
+{
+    (u128::from(interval.hi()) * 1_000_000).div_ceil(1 << F) as u64
+}
+
+/// Puts a whole number.
+#[tactic(auto, using(std::proofs::lemmas::Fmt::decimal_digit))]
+fn put_whole(line: &mut Line, whole: u64)
+    requires { length line.old ≤ 300 }
+    ensures text { line.new ≡ line.old ++ decimal whole }
+    ensures short { length line.new ≤ length line.old + 20 }
+{
+    if whole < 10 {
+        line.push(b'0' + whole as u8);
+    } else {
+        let mut buffer = Buffer::new();
+        line.put(buffer.format(whole).as_bytes());
+    }
+}
+
+/// Puts a number of millionths with 6 decimals.
+fn put_millionths(line: &mut Line, millionths: u64)
+    requires { length line.old ≤ 293 }
+    ensures text { line.new ≡ line.old ++ fixed_text 6 millionths }
+    ensures short { length line.new ≤ length line.old + 27 }
+{
+    put_whole(line, millionths / 1_000_000);
+    line.put(&decimals(millionths));
+}
+
+/// Puts a comma and both ends of an interval with 6 decimals, the lower one rounded down, the upper one up.
+fn put_ends<const F: u32>(line: &mut Line, interval: &Narrow)
+    requires width { IsWidth F }
+    requires room { length line.old ≤ 264 }
+    ensures text { line.new ≡ line.old ++ (44 ∷ interval_text F interval.now) }
+    ensures short { length line.new ≤ length line.old + 56 }
+{
+    line.push(b',');
+    put_millionths(line, lower_millionths::<F>(interval));
+    line.push(b',');
+    put_millionths(line, upper_millionths::<F>(interval));
+}
+
+/// Puts the four intervals of a pair, each behind a comma.
+fn put_intervals<const F: u32>(line: &mut Line, held: &HeldItem)
+    requires width { IsWidth F }
+    requires room { length line.old ≤ 96 }
+    ensures text { line.new ≡ line.old ++ held_text F held.now }
+    ensures short { length line.new ≤ length line.old + 224 }
+{
+    put_ends::<F>(line, &held.mean);
+    put_ends::<F>(line, &held.variance);
+    put_ends::<F>(line, &held.backorders);
+    put_ends::<F>(line, &held.spread);
+}
+
+/// Puts a name and the comma behind it.
+fn put_name(line: &mut Line, name: &Name)
+    requires { length line.old ≤ 295 }
+    ensures text { line.new ≡ line.old ++ (name.now ++ 44 ∷ []) }
+    ensures short { length line.new ≤ length line.old + 25 }
+{
+    line.put(name.as_bytes());
+    line.push(b',');
+}
+
+/// Puts the names and the stock of a pair, in place of what the line held.
+fn put_names(line: &mut Line, part: &Name, site: &Name, stock: u8)
+    ensures text { line.new ≡ names_text part.now site.now stock }
+    ensures short { length line.new ≤ 75 }
+{
+    line.clear();
+    line.put(b"item,");
+    put_name(line, part);
+    put_name(line, site);
+    put_whole(line, u64::from(stock));
+}
+
+/// Puts the line of a pair, in place of what the line held.
+pub(crate) fn put_item(line: &mut Line, item: &ItemRef<'_>)
+    requires { IsWidth item.now.bits }
+    ensures { line.new
+        ≡ item_text (held_line item.now.part.now item.now.site.now item.now.bits item.now.held.now) }
+{
+    put_names(line, item.part, item.site, item.held.stock);
+    if item.bits == 32 {
+        put_intervals::<32>(line, item.held);
+    } else if item.bits == 48 {
+        put_intervals::<48>(line, item.held);
+    } else {
+        put_intervals::<52>(line, item.held);
+    }
+    line.push(b'\n');
+}
