@@ -162,6 +162,13 @@ one|rates|3s/0$//|fault,field-empty,rates,3,6
 one|rates|2q|fault,missing-rate,L,B
 one|rates|3p|fault,double-rate,4
 one|rates|3s/36.5/1e3/|fault,bad-number,rates,3,3
+one|sites|3s/base/Base/|fault,bad-kind,sites,3
+one|sites|3s/B/D/|fault,double-site,3
+one|sites|3s/.*/E,depot,,/|fault,two-depots,3
+one|sites|3{p;p;p;p;p;p;p;p;p;p;p;p;p;p;p}|fault,too-many-rows,sites
+one|parts|2p|fault,double-part,3
+shop|parts|3s/,L,/,K,/|fault,unknown-parent,3
+shop|parts|3s/$/\nT,S,10,,0,0/|fault,parent-not-line,4
 one|rates|2s/L/K/|fault,unknown-part,rates,2
 one|rates|3s/L/K/|fault,unknown-part,rates,3
 ROWS
