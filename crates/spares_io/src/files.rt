@@ -3,7 +3,7 @@ ghost use Rattle.std.specs.Prelude.{◌≡◌, ◌≢◌, ◌⊎◌, ◌≤◌, 
 ghost use Rattle.std.specs.Option.{option_map};
 ghost use Rattle.std.proofs.Common.{arith};
 ghost use Rattle.spares_io.specs.Causes.{Rose, count64, next_count};
-ghost use Rattle.spares_io.specs.Files.{ReadsAll, WritesAll};
+ghost use Rattle.spares_io.specs.Files.{ReadsAll, ReadsMore, WritesAll};
 ghost use Rattle.spares_io.specs.Shelf.{untold, with_file, Holds, HoldsMore, KeepsOthers, Lacks, is_failed};
 
 use crate::std_sink::write_and_flush;
@@ -74,6 +74,8 @@ fn read_named<F: Folder>(
     ensures size { OnOk result (length into.new.items ≤ limit) }
     ensures content { OnOk result (ReadsAll (F.opens folder.now name.now) F.Input.remaining into.new.items) }
     ensures nothing { OnErr result (into.new.items ≡ []) }
+    ensures too_long { IsErrOf result ShelfError.TooLong
+        → ReadsMore (F.opens folder.now name.now) F.Input.remaining limit }
 {
     into.clear();
     let answer = match folder.open(name) {
@@ -132,6 +134,8 @@ impl<F: Folder + Drop> Shelf for FileShelf<F> {
         ensures writes { (n : List ℕ) → count64 self.new.write_faults ≡ count64 self.old.write_faults }
         ensures opened { OnOk result
             (ReadsAll (F.opens self.old.folder name.now) F.Input.remaining into.new.items) }
+        ensures longer { IsErrOf result ShelfError.TooLong
+            → ReadsMore (F.opens self.old.folder name.now) F.Input.remaining limit }
         ensures folder { self.new.folder ≡ self.old.folder }
     {
         let answer = read_named(&self.folder, name, limit, into);
