@@ -1,24 +1,18 @@
 -- Numbers and their texts.
-use Rattle.std.proofs.Common.{◌≡◌, ℕ, zero, suc, ◌+◌, ◌-◌, ◌*◌, ◌/◌, ◌%◌, ◌^◌, ◌<◌, ◌≤◌, Bool, true, false, cond, ◌&&◌, List, [], ◌∷◌, ◌++◌, length, get_or, take, drop, Some, None, refl, sym, ap, subst, ◌∙◌, arith, lit<, inl, inr}
+use Rattle.std.proofs.Common.{◌≡◌, ℕ, zero, suc, ◌+◌, ◌-◌, ◌*◌, ◌/◌, ◌%◌, ◌^◌, ◌<◌, ◌≤◌, Bool, true, false, cond, ◌&&◌, List, [], ◌∷◌, ◌++◌, length, get_or, take, Some, None, refl, sym, ap, subst, ◌∙◌, arith, lit<, inl, inr}
 use Rattle.std.specs.List.{AllByRecursion}
 use Rattle.std.specs.Prelude.{nat_le, bytes_eq}
 use Rattle.std.specs.Fmt.{decimal}
 use Rattle.std.specs.Str.Parse.{digits_value, digits_value_after}
-use Rattle.std.specs.Char.{digit_value}
 use Rattle.std.proofs.lemmas.Bool.{and_parts, leb-true, le-leb, cases_eq, cases_lt}
 use Rattle.std.proofs.lemmas.Nat.{mod_below}
 use Rattle.std.proofs.lemmas.Str.{digit_value_digit}
 use Rattle.std.proofs.lemmas.Fmt.{decimal_by_steps_wide, decimal_step_wide, decimal_digit}
-use Rattle.std.proofs.lemmas.List.{take-append-drop}
 use Rattle.std.proofs.lemmas.Grind.{take_at_read}
 use Rattle.std.proofs.lemmas.Slice.Eq.{bytes_eq-Decides}
 use Rattle.std.proofs.Math.Numerals.{add-one}
-use Rattle.fixed_interval.proofs.Text.{after_append, first_digit}
+use Rattle.fixed_interval.proofs.Text.{after_append, first_digit, part_below}
 use Rattle.line_text.specs.Texts.{AreDigits, IsShort, number, in_range}
-
-after_grows : (m : ℕ) (xs : List ℕ) → m ≤ digits_value_after 10 m xs
-after_grows m [] = omega arith
-after_grows m (x ∷ xs) = omega (arith, after_grows (m * 10 + digit_value x) xs)
 
 -- the digits up to i + 1
 pub value_more : (m i : ℕ) (xs : List ℕ) → i < length xs → AreDigits xs → digits_value_after 10 m (take (i + 1) xs) ≡ digits_value_after 10 m (take i xs) * 10 + (get_or xs i 0 - 48)
@@ -29,12 +23,6 @@ value_more m i xs h d =
 
 value_suc : (i : ℕ) (xs : List ℕ) → i < length xs → AreDigits xs → digits_value 10 (take (suc i) xs) ≡ digits_value 10 (take i xs) * 10 + (get_or xs i 0 - 48)
 value_suc i xs h d = ap (λ (k : ℕ). digits_value 10 (take k xs)) (sym (add-one i)) ∙ value_more 0 i xs h d
-
--- a part's value is at most the whole's
-pub part_below : (m i : ℕ) (xs : List ℕ) → digits_value_after 10 m (take i xs) ≤ digits_value_after 10 m xs
-part_below m i xs =
-    let e = ap (digits_value_after 10 m) (take-append-drop i xs) in
-    omega (arith, e, after_append m (take i xs) (drop i xs), after_grows (digits_value_after 10 m (take i xs)) (drop i xs))
 
 first_value : (xs : List ℕ) → 0 < length xs → AreDigits xs → digits_value 10 (take 1 xs) ≡ get_or xs 0 0 - 48
 first_value xs h d = omega (arith, value_suc 0 xs h d)

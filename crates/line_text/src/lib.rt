@@ -11,6 +11,7 @@ mod exactness;
 mod lines;
 mod numbers;
 mod rows;
+mod short_line;
 #[cfg(test)]
 mod tests;
 
@@ -22,3 +23,4 @@ pub use exactness::{
 pub use lines::{Fields, Lines};
 pub use numbers::{number, put_number};
 pub use rows::{count_line, number_line, put_count_line, put_number_line, word_line};
+pub use short_line::ShortLine;

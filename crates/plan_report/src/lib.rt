@@ -4,7 +4,6 @@
 mod check;
 mod eval;
 mod item;
-mod line;
 mod plan;
 #[cfg(test)]
 mod plan_tests;

@@ -32,11 +32,10 @@ ghost use Rattle.plan_report.specs.Texts.{
 };
 
 use crate::item::put_item;
-use crate::line::Line;
 use case_figures::{BaseLine, Figures, Items, Span};
 use fixed_interval::Iv;
 use itoa::Buffer;
-use line_text::{put_count_line, put_fixed};
+use line_text::{ShortLine, put_count_line, put_fixed};
 use spares_io::NoMemory;
 
 /// The two numbers that are printed of an interval enclose all that it contains. A number that is printed rounded down
@@ -197,7 +196,7 @@ fn put_base(text: &mut Vec<u8>, base: &BaseLine) -> Result<(), NoMemory>
 fn put_items(text: &mut Vec<u8>, items: &Items) -> Result<(), NoMemory>
     ensures { OnOk result (text.new.items ≡ text.old.items ++ flat_map item_text items.now) }
 {
-    let mut line = Line::new();
+    let mut line = ShortLine::<320>::new();
     for n in 0..items.len() {
         put_item(&mut line, &items.held(n));
         text.extend_from_slice(line.as_slice())?;

@@ -4,23 +4,21 @@ ghost use Rattle.refusals.specs.Lines.{file_text, number_field};
 
 use crate::refusal::File;
 use itoa::Buffer;
+use line_text::ShortLine;
 use std::marker::Model;
 
 /// A line of at most 160 bytes.
 #[derive(Drop)]
 pub struct Line {
-    bytes: [u8; 160],
-    len: usize,
+    text: ShortLine<160>,
 }
 
 impl Model for Line {
-    ghost use Rattle.std.specs.Prelude.{List, ℕ, take, ◌≤◌};
+    ghost use Rattle.std.specs.Prelude.{List, ℕ};
 
     ghost Value = { List ℕ };
 
-    ghost view = { λ a. take a.len a.bytes };
-
-    ghost invariant = { λ a. a.len ≤ 160 };
+    ghost view = { λ a. a.text };
 }
 
 impl Line {
@@ -29,8 +27,7 @@ impl Line {
         ensures { result ≡ [] }
     {
         Line {
-            bytes: [0; 160],
-            len: 0,
+            text: ShortLine::new(),
         }
     }
 
@@ -38,7 +35,7 @@ impl Line {
     pub fn as_slice(&self) -> &[u8]
         ensures { result.now ≡ self.now }
     {
-        &self.bytes[..self.len]
+        self.text.as_slice()
     }
 
     /// Appends a byte.
@@ -46,8 +43,7 @@ impl Line {
         requires { length self.old < 160 }
         ensures { self.new ≡ self.old ++ byte ∷ [] }
     {
-        self.bytes[self.len] = byte;
-        self.len += 1;
+        self.text.push(byte);
     }
 
     /// Appends these bytes.
@@ -55,9 +51,7 @@ impl Line {
         requires { length self.old + length piece.now ≤ 160 }
         ensures { self.new ≡ self.old ++ piece.now }
     {
-        for byte in piece {
-            self.push(*byte);
-        }
+        self.text.put(piece);
     }
 
     /// Appends a further field with a number, which has at most 10 digits.
