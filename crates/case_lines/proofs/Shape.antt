@@ -17,7 +17,8 @@ use Rattle.spares_input.specs.Names.{is_name}
 use Rattle.spares_input.specs.Frames.{site_at, part_at}
 use Rattle.spares_input.specs.declared.rows.SiteRow.{SiteRow}
 use Rattle.spares_input.specs.declared.rows.PartRow.{PartRow}
-use Rattle.case_lines.specs.Grammar.{depot_fields, base_fields, site_line, sites, parent_field, limit_field, number_if, may_stand, weight_field, part_fields, weighs_more, are_weighted, is_owed, part_line, part_lines, weights_fields, parts_line, count_in, weights_in, header_of, parts, pair_at, rate_line, rates, case_format}
+use Rattle.case_lines.specs.Grammar.{depot_fields, base_fields, site_line, sites, may_stand, weight_field, part_fields, weighs_more, are_weighted, is_owed, part_line, part_lines, weights_fields, parts_line, count_in, weights_in, header_of, parts, pair_at, rate_line, rates, case_format}
+use Rattle.case_lines.proofs.Valid.{part_fields_fit}
 use Rattle.case_lines.proofs.Exact.{sites_are_exact, part_line_is_exact, rate_line_is_exact}
 use lib.Chars.{codes}
 
@@ -55,23 +56,6 @@ header_is_exact =
 
 -- ---- which weights stand in the rows
 
-weight_part : (weighted : Bool) (p : PartRow) → (part_fields weighted).fits p ≡ true → (is_name p.name ≡ true) × ((weight_field weighted (is_none p.parent)).fits p.weight ≡ true)
-weight_part weighted p h =
-    let w = (weight_field weighted (is_none p.parent)).fits p.weight in
-    let base = limit_field.fits p.max_base && w in
-    let depot = limit_field.fits p.max_depot && base in
-    let per = (number_if (is_none p.parent) 1 100).fits p.per_system && depot in
-    let cost = (one (number 1 100000000)).fits p.cost && per in
-    let parent = parent_field.fits p.parent && cost in
-    let a = and_parts true (is_name p.name && parent) h in
-    let b = and_parts (is_name p.name) parent a.1 in
-    let c = and_parts (parent_field.fits p.parent) cost b.1 in
-    let d = and_parts ((one (number 1 100000000)).fits p.cost) per c.1 in
-    let e = and_parts ((number_if (is_none p.parent) 1 100).fits p.per_system) depot d.1 in
-    let f = and_parts (limit_field.fits p.max_depot) base e.1 in
-    let g = and_parts (limit_field.fits p.max_base) w f.1 in
-    (b.0, g.1)
-
 row_part : (weighted owed : Bool) (p : PartRow) → (only (may_stand owed) (line (part_fields weighted))).fits p ≡ true → ((part_fields weighted).fits p ≡ true) × (may_stand owed p ≡ true)
 row_part weighted owed p h = and_parts ((part_fields weighted).fits p) (may_stand owed p) h
 
@@ -89,8 +73,8 @@ unweighted n before [] (x ∷ xs) h = absurd cc
 unweighted n before (k ∷ ks) [] h = absurd cc
 unweighted n before (k ∷ ks) (x ∷ xs) h =
     let p = and_parts ((part_line false n before k).fits x) (fits_after (part_line false n) (before ++ x ∷ []) ks xs) h in
-    let w = weight_part false x (row_part false false x p.0).0 in
-    rw (usual_small (is_none x.parent) x.weight w.1, unweighted n (before ++ x ∷ []) ks xs p.1) refl
+    let w = part_fields_fit false x (row_part false false x p.0).0 in
+    rw (usual_small (is_none x.parent) x.weight w.weight, unweighted n (before ++ x ∷ []) ks xs p.1) refl
 
 last_weighted : (n k : ℕ) (before : List PartRow) (x : PartRow) (c : Bool) → are_weighted before ≡ c → suc k ≡ n → (part_line true n before k).fits x ≡ true → are_weighted (before ++ x ∷ []) ≡ true
 last_weighted n k before x true w e h = rw (list_any-append weighs_more before (x ∷ []), w) refl
@@ -183,7 +167,7 @@ rows_named weighted n before [] (x ∷ xs) h = absurd cc
 rows_named weighted n before (k ∷ ks) [] h = absurd cc
 rows_named weighted n before (k ∷ ks) (x ∷ xs) h =
     let p = and_parts ((part_line weighted n before k).fits x) (fits_after (part_line weighted n) (before ++ x ∷ []) ks xs) h in
-    ((weight_part weighted x (row_part weighted (weighted && is_owed n before k) x p.0).0).0, rows_named weighted n (before ++ x ∷ []) ks xs p.1)
+    ((part_fields_fit weighted x (row_part weighted (weighted && is_owed n before k) x p.0).0).name, rows_named weighted n (before ++ x ∷ []) ks xs p.1)
 
 part_parts : (rows : List PartRow) → parts.fits rows ≡ true → (parts_line.fits (header_of rows) ≡ true) × ((part_lines (weights_in (header_of rows)) (count_in (header_of rows))).fits rows ≡ true)
 part_parts rows h =

@@ -8,7 +8,7 @@ use Rattle.std.proofs.lemmas.List.Folds.{list_any-append}
 use Rattle.std.proofs.lemmas.List.Elements.{recursion_from_All}
 use Rattle.line_text.specs.Formats.{Format, one, fits_after}
 use Rattle.line_text.specs.Files.{line}
-use Rattle.line_text.specs.Texts.{in_range, numbers_from}
+use Rattle.line_text.specs.Texts.{in_range, number, numbers_from}
 use Rattle.line_text.proofs.FieldLaws.{length_numbers_from}
 use Rattle.spares_input.specs.Names.{is_name}
 use Rattle.spares_input.specs.Rows.{IsField, IsSiteRow, IsPartRow, IsRateRow, is_line, no_site, no_rate}
@@ -17,7 +17,7 @@ use Rattle.spares_input.specs.Cases.{CaseRows, rate_at, IsCase}
 use Rattle.spares_input.specs.declared.rows.SiteRow.{SiteRow}
 use Rattle.spares_input.specs.declared.rows.PartRow.{PartRow}
 use Rattle.spares_input.specs.declared.rows.RateRow.{RateRow}
-use Rattle.case_lines.specs.Grammar.{number_if, fixed_if, depot_fields, base_fields, site_line, sites, parent_field, usual, weight_field, part_fields, weighs_more, are_weighted, is_owed, may_stand, part_line, part_lines, parts_line, header, weights_in, count_in, parts, Pair, pair_at, rate_line, rates, case_format}
+use Rattle.case_lines.specs.Grammar.{number_if, fixed_if, depot_fields, base_fields, site_line, sites, parent_field, limit_field, usual, weight_field, part_fields, weighs_more, are_weighted, is_owed, may_stand, part_line, part_lines, parts_line, header, weights_in, count_in, parts, Pair, pair_at, rate_line, rates, case_format}
 
 -- ---- fields
 
@@ -28,6 +28,34 @@ in_range_holds least most n h g = and_from _ _ (le-leb least n h) (le-leb n most
 -- a number that passes the test of its range is at least the least and at most the most
 pub range_parts : (least most n : ℕ) → in_range least most n ≡ true → (least ≤ n) × (n ≤ most)
 range_parts least most n h = let p = and_parts (nat_le least n) (nat_le n most) h in (leb-true least n p.0, leb-true n most p.1)
+
+-- each field of a part's line is in the format of its column
+pub record PartFits (weighted : Bool) (p : PartRow) : Type 0 where
+  pub name : is_name p.name ≡ true
+  pub parent : parent_field.fits p.parent ≡ true
+  pub cost : (one (number 1 100000000)).fits p.cost ≡ true
+  pub per_system : (number_if (is_none p.parent) 1 100).fits p.per_system ≡ true
+  pub max_depot : limit_field.fits p.max_depot ≡ true
+  pub max_base : limit_field.fits p.max_base ≡ true
+  pub weight : (weight_field weighted (is_none p.parent)).fits p.weight ≡ true
+
+-- where a part fits the format of its line, each of its fields fits its own
+pub part_fields_fit : (weighted : Bool) (p : PartRow) → (part_fields weighted).fits p ≡ true → PartFits weighted p
+part_fields_fit weighted p h =
+    let weight = (weight_field weighted (is_none p.parent)).fits p.weight in
+    let max_base = limit_field.fits p.max_base && weight in
+    let max_depot = limit_field.fits p.max_depot && max_base in
+    let per_system = (number_if (is_none p.parent) 1 100).fits p.per_system && max_depot in
+    let cost = (one (number 1 100000000)).fits p.cost && per_system in
+    let parent = parent_field.fits p.parent && cost in
+    let a = and_parts true (is_name p.name && parent) h in
+    let b = and_parts (is_name p.name) parent a.1 in
+    let c = and_parts (parent_field.fits p.parent) cost b.1 in
+    let d = and_parts ((one (number 1 100000000)).fits p.cost) per_system c.1 in
+    let e = and_parts ((number_if (is_none p.parent) 1 100).fits p.per_system) max_depot d.1 in
+    let f = and_parts (limit_field.fits p.max_depot) max_base e.1 in
+    let g = and_parts (limit_field.fits p.max_base) weight f.1 in
+    record { name = b.0; parent = c.0; cost = d.0; per_system = e.0; max_depot = f.0; max_base = g.0; weight = g.1 }
 
 number_fits : (has : Bool) (least most n : ℕ) → IsField has least most n → (number_if has least most).fits n ≡ true
 number_fits true least most n h = let p = h.within refl in in_range_holds least most n p.0 p.1

@@ -6,14 +6,14 @@ use Rattle.std.proofs.lemmas.Bool.{and_parts, eqb-true, false≢true, not-true}
 use Rattle.std.proofs.lemmas.List.Elements.{All-from_get_or}
 use Rattle.line_text.specs.Formats.{Format, one, fits_after}
 use Rattle.line_text.specs.Files.{line}
-use Rattle.line_text.specs.Texts.{in_range, number, numbers_from, only}
+use Rattle.line_text.specs.Texts.{in_range, numbers_from, only}
 use Rattle.spares_input.specs.Names.{is_name}
 use Rattle.spares_input.specs.Rows.{IsField, IsSiteRow, IsPartRow, IsRateRow, no_site, no_part}
 use Rattle.spares_input.specs.declared.rows.SiteRow.{SiteRow}
 use Rattle.spares_input.specs.declared.rows.PartRow.{PartRow}
 use Rattle.spares_input.specs.declared.rows.RateRow.{RateRow}
-use Rattle.case_lines.specs.Grammar.{number_if, fixed_if, chance_if, days_field, depot_fields, base_fields, site_line, parent_field, limit_field, weight_field, part_fields, may_stand, is_owed, part_line, Pair, rate_line}
-use Rattle.case_lines.proofs.Valid.{range_parts}
+use Rattle.case_lines.specs.Grammar.{number_if, fixed_if, chance_if, days_field, depot_fields, base_fields, site_line, parent_field, weight_field, part_fields, may_stand, is_owed, part_line, Pair, rate_line}
+use Rattle.case_lines.proofs.Valid.{part_fields_fit, range_parts}
 
 -- ---- fields
 
@@ -69,27 +69,15 @@ weight_is false false n h = let e = eqb-true n 0 (and_parts (n == 0) true h).0 i
 
 part_row : (weighted : Bool) (p : PartRow) → (part_fields weighted).fits p ≡ true → IsPartRow p
 part_row weighted p h =
-    let w = (weight_field weighted (is_none p.parent)).fits p.weight in
-    let base = limit_field.fits p.max_base && w in
-    let depot = limit_field.fits p.max_depot && base in
-    let per = (number_if (is_none p.parent) 1 100).fits p.per_system && depot in
-    let cost = (one (number 1 100000000)).fits p.cost && per in
-    let parent = parent_field.fits p.parent && cost in
-    let a = and_parts true (is_name p.name && parent) h in
-    let b = and_parts (is_name p.name) parent a.1 in
-    let c = and_parts (parent_field.fits p.parent) cost b.1 in
-    let d = and_parts ((one (number 1 100000000)).fits p.cost) per c.1 in
-    let e = and_parts ((number_if (is_none p.parent) 1 100).fits p.per_system) depot d.1 in
-    let f = and_parts (limit_field.fits p.max_depot) base e.1 in
-    let g = and_parts (limit_field.fits p.max_base) w f.1 in
+    let fits = part_fields_fit weighted p h in
     record {
-      name = b.0;
-      parent = parent_is p.parent c.0;
-      cost = range_parts 1 100000000 p.cost d.0;
-      per_system = number_is (is_none p.parent) 1 100 p.per_system e.0;
-      max_depot = (range_parts 0 63 p.max_depot f.0).1;
-      max_base = (range_parts 0 63 p.max_base g.0).1;
-      weight = weight_is weighted (is_none p.parent) p.weight g.1;
+      name = fits.name;
+      parent = parent_is p.parent fits.parent;
+      cost = range_parts 1 100000000 p.cost fits.cost;
+      per_system = number_is (is_none p.parent) 1 100 p.per_system fits.per_system;
+      max_depot = (range_parts 0 63 p.max_depot fits.max_depot).1;
+      max_base = (range_parts 0 63 p.max_base fits.max_base).1;
+      weight = weight_is weighted (is_none p.parent) p.weight fits.weight;
     }
 
 owed_row : (weighted owed : Bool) (p : PartRow) → (only (may_stand owed) (line (part_fields weighted))).fits p ≡ true → IsPartRow p
