@@ -9,13 +9,13 @@ use Rattle.series_bounds.specs.Answer.{at_place}
 use Rattle.series_bounds.proofs.Walks.{listed_same}
 use Rattle.series_bounds.proofs.Enclosure.{listed_at, length_listed}
 use Rattle.moment_table.specs.declared.kinds.Row.{Row}
+use Rattle.moment_table.specs.declared.held.Held.{Held}
 use Rattle.moment_table.specs.declared.held.Rows.{Rows}
 use Rattle.moment_table.specs.Held.{HasRows, IsHeld, IsShort, bare_row, held_row, held_at}
 use Rattle.moment_table.specs.Inputs.{CanTable}
-use Rattle.moment_table.specs.Profile.{known_row, wide_row, empty_row, tail_ends, table_rows}
+use Rattle.moment_table.specs.Profile.{wide_row, empty_row, table_rows}
 use Rattle.moment_table.specs.Rows.{at_stock}
 use Rattle.moment_table.proofs.Steps.{listed_none, listed_next}
-use Rattle.moment_table.proofs.Most.{ebo_below, vbo_below}
 
 -- ---- as they are made
 
@@ -39,19 +39,28 @@ tails_next u s tails xs ys x h k e = elim (cases_lt s tails) [
 ]
 
 -- with one row more, and its tail where it is wanted, the rows up to the next stock are held
-pub rows_next : (f : ℕ) (u : ℕ → Row f) (s tails : ℕ) (rows more : Rows f) (row : Row f) → HasRows f u s tails rows
-    → more.held.items ≡ rows.held.items ++ held_row row ∷ [] → more.tails.items ≡ cond (nat_lt s tails) (rows.tails.items ++ row.tail ∷ []) rows.tails.items
-    → row ≡ u s → HasRows f u (s + 1) tails more
-rows_next f u s tails rows more row h a b e = record {
-  held = a ∙ listed_next (λ k. held_row (u k)) s rows.held.items (held_row row) h.held (ap (λ (z : Row f). held_row z) e);
-  tails = tails_next (λ k. (u k).tail) s tails rows.tails.items more.tails.items row.tail h.tails (ap (λ (z : Row f). z.tail) e) b;
+pub rows_next : (f : ℕ) (u : ℕ → Row f) (s tails : ℕ) (rows more : Rows f) (held : Held f) (tail : Ends) → HasRows f u s tails rows
+    → more.held.items ≡ rows.held.items ++ held ∷ [] → more.tails.items ≡ cond (nat_lt s tails) (rows.tails.items ++ tail ∷ []) rows.tails.items
+    → held ≡ held_row (u s) → tail ≡ (u s).tail → HasRows f u (s + 1) tails more
+rows_next f u s tails rows more held tail h a b e t = record {
+  held = a ∙ listed_next (λ k. held_row (u k)) s rows.held.items held h.held e;
+  tails = tails_next (λ k. (u k).tail) s tails rows.tails.items more.tails.items tail h.tails t b;
+}
+
+-- with one row more without its tail, where that isn't wanted
+pub rows_last : (f : ℕ) (u : ℕ → Row f) (s tails : ℕ) (rows more : Rows f) (held : Held f) → HasRows f u s tails rows → tails ≤ s
+    → more.held.items ≡ rows.held.items ++ held ∷ [] → more.tails.items ≡ rows.tails.items → held ≡ held_row (u s) → HasRows f u (s + 1) tails more
+rows_last f u s tails rows more held h l a b e = record {
+  held = a ∙ listed_next (λ k. held_row (u k)) s rows.held.items held h.held e;
+  tails = (let i : min s tails ≡ min (s + 1) tails = omega arith in b ∙ h.tails ∙ ap (listed (λ k. (u k).tail)) i);
 }
 
 -- held rows are those of any other rows that agree with them
-pub rows_same : (f : ℕ) (u v : ℕ → Row f) (n tails : ℕ) (rows : Rows f) → ((s : ℕ) → s < n → u s ≡ v s) → HasRows f u n tails rows → HasRows f v n tails rows
-rows_same f u v n tails rows h r = record {
-  held = r.held ∙ listed_same (λ k. held_row (u k)) (λ k. held_row (v k)) n (λ k l. ap (λ (z : Row f). held_row z) (h k l));
-  tails = r.tails ∙ listed_same (λ k. (u k).tail) (λ k. (v k).tail) (min n tails) (λ k l. ap (λ (z : Row f). z.tail) (h k (omega arith)));
+pub rows_same : (f : ℕ) (u v : ℕ → Row f) (n tails : ℕ) (rows : Rows f) → ((s : ℕ) → s < n → held_row (u s) ≡ held_row (v s)) → ((s : ℕ) → s < tails → (u s).tail ≡ (v s).tail)
+    → HasRows f u n tails rows → HasRows f v n tails rows
+rows_same f u v n tails rows h t r = record {
+  held = r.held ∙ listed_same (λ k. held_row (u k)) (λ k. held_row (v k)) n h;
+  tails = r.tails ∙ listed_same (λ k. (u k).tail) (λ k. (v k).tail) (min n tails) (λ k l. t k (omega arith));
 }
 
 -- ---- their sizes
@@ -62,19 +71,6 @@ unit_short f n s h = omega (arith, h, unit_most f s)
 -- what is within the limit has ends of 64 bits
 pub limit_short : (f : ℕ) (x : Ends) → f ≤ 52 → IsWithinLimit f x → x.hi < 2 ^ 64
 limit_short f x s h = unit_short f x.hi s h
-
-known_is_short : (f : ℕ) (m v : Ends) (list : List Ends) (sum : Ends) (s : ℕ) → f ≤ 52 → IsWithinLimit f m → IsWithinLimit f v → IsShort f (known_row f m v list sum s)
-unfolding known_row tail_ends
-known_is_short f m v list sum s w a b =
-    let e = ebo_below f m list sum s in
-    let x = vbo_below f m v list sum s in
-    let t : max v.hi m.hi ≤ 256 * 2 ^ f = max-le b a in
-    record { ebo = unit_short f _ w (omega (arith, e, a)); vbo = unit_short f _ w (omega (arith, x, t)); tail = unit_short f _ w (omega arith) }
-
--- a row from known weights has ends of 64 bits
-pub known_short : (f : ℕ) (m v : Ends) (list : List Ends) (sum : Ends) (s : ℕ) (row : Row f) → f ≤ 52 → IsWithinLimit f m → IsWithinLimit f v
-    → row ≡ known_row f m v list sum s → IsShort f row
-known_short f m v list sum s row w a b e = subst (λ z. IsShort f z) (sym e) (known_is_short f m v list sum s w a b)
 
 empty_is_short : (f : ℕ) → IsShort f (empty_row f)
 unfolding empty_row

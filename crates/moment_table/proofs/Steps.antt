@@ -1,13 +1,16 @@
 -- The steps of a table from a stock to the next one.
-use Rattle.std.proofs.Common.{◌≡◌, ℕ, suc, ◌+◌, ◌*◌, ◌<◌, ◌≤◌, ◌^◌, List, [], ◌∷◌, ◌++◌, length, get_or, refl, sym, ap, ap₂, ◌∙◌, arith, subst, le_trans, add-one, mul-le-mul_left, mul-le-mul_right, pow_pos}
+use Rattle.std.proofs.Common.{◌≡◌, ℕ, suc, min, ◌+◌, ◌-◌, ◌*◌, ◌<◌, ◌≤◌, ◌^◌, List, [], ◌∷◌, ◌++◌, length, get_or, refl, sym, ap, ap₂, ◌∙◌, arith, subst, le_trans, add-one, mul-le-mul_left, mul-le-mul_right, pow_pos}
 use Rattle.std.proofs.lemmas.List.{get_or_default}
-use Rattle.fixed_interval.specs.Ends.{Ends, ends_exact, ends_add, ends_less, ends_times, ends_mul, ends_div, ends_max}
+use Rattle.fixed_interval.specs.Ends.{Ends, ends_exact, ends_add, ends_capped, ends_less, ends_times, ends_mul, ends_div, ends_max}
 use Rattle.fixed_interval.proofs.Laws.{ceil_most}
 use Rattle.series_bounds.specs.Profile.{listed}
-use Rattle.series_bounds.specs.Answer.{Sized, at_place}
+use Rattle.series_bounds.specs.Answer.{at_place}
+use Rattle.moment_table.specs.declared.held.Held.{Held}
+use Rattle.moment_table.specs.declared.kinds.Row.{Row}
+use Rattle.moment_table.specs.declared.running.Falling.{Falling}
 use Rattle.moment_table.specs.declared.running.Running.{Running}
-use Rattle.moment_table.specs.declared.shares.Inverses.{Inverses}
-use Rattle.moment_table.specs.Running.{IsRunning, AreSmall}
+use Rattle.moment_table.specs.Held.{held_row}
+use Rattle.moment_table.specs.Running.{AreFirst, AreSmall, IsFalling, IsRunning}
 use Rattle.moment_table.specs.Profile.{chance_ends, below_ends, tail_ends, ebo_ends, vbo_ends, known_row, wide_row, empty_row}
 
 -- the list of u(0), .., u(n - 1), with u(n) put to its end, is that of one entry more
@@ -20,15 +23,16 @@ pub listed_none : {X : Type 0} (u : ℕ → X) (xs : List X) → xs ≡ [] → x
 unfolding listed
 listed_none u xs h = h
 
--- with no stock, the mean, the larger of variance and mean and a sum of no chances run along
-pub running_first : (f : ℕ) (m v : Ends) (list : List Ends) (sum spread below weight chance : Ends) (inverses : Inverses) → spread ≡ ends_max v m → below ≡ ends_exact f 0
-    → IsRunning f m v list sum 0 (record { expected = m; spread = spread; below = below; weight = weight; chance = chance; inverses = inverses })
-unfolding ebo_ends vbo_ends below_ends
-running_first f m v list sum spread below weight chance inverses h k = record { expected = refl; spread = h; below = k }
+-- with no stock, the mean and a sum of no chances run along
+pub falling_first : (f : ℕ) (m : Ends) (list : List Ends) (sum below shares : Ends) → below ≡ ends_exact f 0 → shares ≡ sum
+    → IsFalling f m list sum 0 (record { expected = m; below = below; shares = shares })
+unfolding ebo_ends below_ends
+falling_first f m list sum below shares k h = record { expected = refl; below = k; shares = h }
 
-pub small_first : (f : ℕ) (sum expected spread below weight chance : Ends) (inverses : Inverses) → expected.hi ≤ 256 * 2 ^ f → below ≡ ends_exact f 0 → chance ≡ ends_div f weight sum
-    → AreSmall f sum 0 (record { expected = expected; spread = spread; below = below; weight = weight; chance = chance; inverses = inverses })
-small_first f sum expected spread below weight chance inverses t k h = record { expected = t; below = rw k (omega arith); chance = h }
+-- and with them the larger of variance and mean
+pub spread_first : (f : ℕ) (m v : Ends) (list : List Ends) (sum : Ends) → ends_max v m ≡ vbo_ends f m v list sum 0
+unfolding vbo_ends
+spread_first f m v list sum = refl
 
 -- the chance of a weight of at most 8
 pub chance_small : (f : ℕ) (sum e p : Ends) → e.hi ≤ 8 * 2 ^ f → 2 ^ f ≤ sum.lo → p ≡ ends_div f e sum → p.hi ≤ 8 * 2 ^ f
@@ -46,8 +50,15 @@ unfolding chance_ends
 chance_is f list sum e p x h k = k ∙ ap (λ (z : Ends). ends_div f z sum) h
 
 -- a weight that is read of a list of proper sizes is at most 8
-pub step_weight : (f : ℕ) (list : List Ends) (sum e : Ends) (s : ℕ) → Sized f list sum → s < length list → e ≡ get_or list s e → e.hi ≤ 8 * 2 ^ f
-step_weight f list sum e s z l he = subst (λ (y : Ends). y.hi ≤ 8 * 2 ^ f) (sym (entry_is list s e l he)) (z.tops s l)
+pub step_weight : (f : ℕ) (n : ℕ) (list : List Ends) (e : Ends) (s : ℕ) → AreFirst f n list → s < n → e ≡ get_or list s e → e.hi ≤ 8 * 2 ^ f
+step_weight f n list e s z l he = subst (λ (y : Ends). y.hi ≤ 8 * 2 ^ f) (sym (entry_is list s e (omega (arith, l, z.enough)) he)) (z.tops s l)
+
+-- what a number leaves of 1 is what it leaves where it is cut at 1
+pub left_is : (f : ℕ) (below cut : Ends) → cut ≡ ends_capped below (2 ^ f) → ends_less (ends_exact f 1) cut ≡ ends_less (ends_exact f 1) below
+left_is f below cut e =
+    let lo : 1 * 2 ^ f - min below.hi (2 ^ f) ≡ 1 * 2 ^ f - below.hi = omega arith in
+    let hi : 1 * 2 ^ f - min below.lo (2 ^ f) ≡ 1 * 2 ^ f - below.lo = omega arith in
+    ap (ends_less (ends_exact f 1)) e ∙ ap₂ (λ y z. record { lo = y; hi = z }) lo hi
 
 tail_is : (f : ℕ) (list : List Ends) (sum tail below : Ends) (s : ℕ) → below ≡ below_ends f list sum (suc s) → tail ≡ ends_less (ends_exact f 1) below → tail ≡ tail_ends f list sum s
 unfolding tail_ends
@@ -66,59 +77,73 @@ vbo_next : (f : ℕ) (m v : Ends) (list : List Ends) (sum : Ends) (s : ℕ) → 
 unfolding vbo_ends
 vbo_next f m v list sum s = refl
 
-row_is : (f : ℕ) (m v : Ends) (list : List Ends) (sum : Ends) (s : ℕ) (e w t : Ends) → e ≡ ebo_ends f m list sum s → w ≡ vbo_ends f m v list sum s → t ≡ tail_ends f list sum s
-    → record { ebo = e; vbo = w; tail = t } ≡ known_row f m v list sum s
-unfolding known_row
-row_is f m v list sum s e w t h k l = rw (h, k, l) refl
-
 -- the chance of at most s, by that of less than s and by the weight at s
-below_is : (f : ℕ) (m v : Ends) (list : List Ends) (sum : Ends) (s : ℕ) (running : Running f) → IsRunning f m v list sum s running
-    → (e p below : Ends) → e ≡ at_place list s → p ≡ ends_div f e sum → below ≡ ends_add running.below p → below ≡ below_ends f list sum (suc s)
-below_is f m v list sum s running h e p below he hp hb =
-    hb ∙ ap₂ ends_add h.below (chance_is f list sum e p s he hp) ∙ sym (below_next f list sum s)
+below_is : (f : ℕ) (m : Ends) (list : List Ends) (sum : Ends) (s : ℕ) (falling : Falling f) → IsFalling f m list sum s falling
+    → (e p below : Ends) → e ≡ at_place list s → p ≡ ends_div f e falling.shares → below ≡ ends_add falling.below p → below ≡ below_ends f list sum (suc s)
+below_is f m list sum s falling h e p below he hp hb =
+    hb ∙ ap₂ ends_add h.below (chance_is f list sum e p s he (hp ∙ ap (ends_div f e) h.shares)) ∙ sym (below_next f list sum s)
 
--- what runs along has the backorders of the row from known weights
-pub expected_known : (f : ℕ) (m v : Ends) (list : List Ends) (sum : Ends) (s : ℕ) (running : Running f) → IsRunning f m v list sum s running
-    → running.expected ≡ (known_row f m v list sum s).ebo
-unfolding known_row
-expected_known f m v list sum s running h = h.expected
+-- the tail by the next chance
+pub falling_tail : (f : ℕ) (m : Ends) (list : List Ends) (sum : Ends) (s : ℕ) (falling : Falling f) → IsFalling f m list sum s falling
+    → (e p below tail : Ends) → e ≡ at_place list s → p ≡ ends_div f e falling.shares → below ≡ ends_add falling.below p → tail ≡ ends_less (ends_exact f 1) below
+    → tail ≡ tail_ends f list sum s
+falling_tail f m list sum s falling h e p below tail he hp hb ht = tail_is f list sum tail below s (below_is f m list sum s falling h e p below he hp hb) ht
 
--- what runs along, with the tail from the next chance, is the row from known weights
-pub row_known : (f : ℕ) (m v : Ends) (list : List Ends) (sum : Ends) (s : ℕ) (running : Running f) → IsRunning f m v list sum s running
-    → (e p below tail : Ends) → e ≡ at_place list s → p ≡ ends_div f e sum → below ≡ ends_add running.below p → tail ≡ ends_less (ends_exact f 1) below
-    → record { ebo = running.expected; vbo = running.spread; tail = tail } ≡ known_row f m v list sum s
-row_known f m v list sum s running h e p below tail he hp hb ht =
-    row_is f m v list sum s running.expected running.spread tail h.expected h.spread
-    (tail_is f list sum tail below s (below_is f m v list sum s running h e p below he hp hb) ht)
-
--- what runs along to the next stock: one chance more, backorders less the tail, their variance less its fall
-pub running_next : (f : ℕ) (m v : Ends) (list : List Ends) (sum : Ends) (s : ℕ) (running : Running f) → IsRunning f m v list sum s running
-    → (e p below tail expected fall spread : Ends) → e ≡ at_place list s → p ≡ ends_div f e sum → below ≡ ends_add running.below p → tail ≡ ends_less (ends_exact f 1) below
-    → expected ≡ ends_less running.expected tail → fall ≡ ends_mul f (ends_add (ends_times expected 2) tail) (ends_less (ends_exact f 1) tail) → spread ≡ ends_less running.spread fall
-    → IsRunning f m v list sum (s + 1) (record { expected = expected; spread = spread; below = below; weight = e; chance = p; inverses = running.inverses })
-running_next f m v list sum s running h e p below tail expected fall spread he hp hb ht hx hf hs =
-    let bi : below ≡ below_ends f list sum (suc s) = below_is f m v list sum s running h e p below he hp hb in
+-- what runs along to the next stock: one chance more, backorders less the tail
+pub falling_next : (f : ℕ) (m : Ends) (list : List Ends) (sum : Ends) (s : ℕ) (falling : Falling f) → IsFalling f m list sum s falling
+    → (e p below tail expected : Ends) → e ≡ at_place list s → p ≡ ends_div f e falling.shares → below ≡ ends_add falling.below p → tail ≡ ends_less (ends_exact f 1) below
+    → expected ≡ ends_less falling.expected tail → IsFalling f m list sum (s + 1) (record { expected = expected; below = below; shares = falling.shares })
+falling_next f m list sum s falling h e p below tail expected he hp hb ht hx =
+    let bi : below ≡ below_ends f list sum (suc s) = below_is f m list sum s falling h e p below he hp hb in
     let ti : tail ≡ tail_ends f list sum s = tail_is f list sum tail below s bi ht in
     let xi : expected ≡ ebo_ends f m list sum (suc s) = hx ∙ ap₂ ends_less h.expected ti ∙ sym (ebo_next f m list sum s) in
-    let fi : fall ≡ ends_mul f (ends_add (ends_times (ebo_ends f m list sum (suc s)) 2) (tail_ends f list sum s)) (ends_less (ends_exact f 1) (tail_ends f list sum s)) =
-    hf ∙ ap₂ (λ (y t : Ends). ends_mul f (ends_add (ends_times y 2) t) (ends_less (ends_exact f 1) t)) xi ti in
-    let si : spread ≡ vbo_ends f m v list sum (suc s) = hs ∙ ap₂ ends_less h.spread fi ∙ sym (vbo_next f m v list sum s) in
     record {
       expected = xi ∙ ap (ebo_ends f m list sum) (sym (add-one s));
-      spread = si ∙ ap (vbo_ends f m v list sum) (sym (add-one s));
       below = bi ∙ ap (below_ends f list sum) (sym (add-one s));
+      shares = h.shares;
     }
 
+-- what runs along is what is held of the row from known weights
+pub held_known : (f : ℕ) (m v : Ends) (list : List Ends) (sum : Ends) (s : ℕ) (running : Running f) → IsRunning f m v list sum s running
+    → (ebo : Ends) → ebo ≡ running.falling.expected → record { ebo = ebo; vbo = running.spread } ≡ held_row (known_row f m v list sum s)
+unfolding known_row
+held_known f m v list sum s running h ebo he = rw (he, h.falling.expected, h.spread) refl
+
+-- the tail is that of the row from known weights
+pub tail_known : (f : ℕ) (m v : Ends) (list : List Ends) (sum tail : Ends) (s : ℕ) → tail ≡ tail_ends f list sum s → tail ≡ (known_row f m v list sum s).tail
+unfolding known_row
+tail_known f m v list sum tail s h = h
+
+-- a row by what is held of it, and its tail
+pub row_known : (f : ℕ) (row : Row f) (held : Held f) (ebo vbo tail : Ends) → held ≡ held_row row → ebo ≡ held.ebo → vbo ≡ held.vbo → tail ≡ row.tail
+    → record { ebo = ebo; vbo = vbo; tail = tail } ≡ row
+row_known f row held ebo vbo tail h he hv ht = rw (he, hv, ht, h) refl
+
+-- what runs along does so for the sum whose shares it takes
+pub own_sum : (f : ℕ) (m v : Ends) (list : List Ends) (sum : Ends) (s : ℕ) (running : Running f) → IsRunning f m v list sum s running
+    → IsRunning f m v list running.falling.shares s running
+own_sum f m v list sum s running h = subst (λ z. IsRunning f m v list z s running) (sym h.falling.shares) h
+
+-- the variance at the next stock: that before less its fall
+pub spread_next : (f : ℕ) (m v : Ends) (list : List Ends) (sum : Ends) (s : ℕ) (spread next expected tail fall : Ends) → spread ≡ vbo_ends f m v list sum s
+    → expected ≡ ebo_ends f m list sum (s + 1) → tail ≡ tail_ends f list sum s
+    → fall ≡ ends_mul f (ends_add (ends_times expected 2) tail) (ends_less (ends_exact f 1) tail) → next ≡ ends_less spread fall → next ≡ vbo_ends f m v list sum (s + 1)
+spread_next f m v list sum s spread next expected tail fall h he ht hf hn =
+    let xi : expected ≡ ebo_ends f m list sum (suc s) = he ∙ ap (ebo_ends f m list sum) (add-one s) in
+    let fi : fall ≡ ends_mul f (ends_add (ends_times (ebo_ends f m list sum (suc s)) 2) (tail_ends f list sum s)) (ends_less (ends_exact f 1) (tail_ends f list sum s)) =
+    hf ∙ ap₂ (λ (y t : Ends). ends_mul f (ends_add (ends_times y 2) t) (ends_less (ends_exact f 1) t)) xi ht in
+    hn ∙ ap₂ ends_less h fi ∙ sym (vbo_next f m v list sum s) ∙ ap (vbo_ends f m v list sum) (sym (add-one s))
+
 -- the sizes on which a step rests hold at the next stock too
-pub small_next : (f : ℕ) (sum : Ends) (s : ℕ) (running : Running f) → AreSmall f sum s running
-    → (e p below tail expected spread : Ends) → e.hi ≤ 8 * 2 ^ f → 2 ^ f ≤ sum.lo → p ≡ ends_div f e sum → below ≡ ends_add running.below p → expected ≡ ends_less running.expected tail
-    → AreSmall f sum (s + 1) (record { expected = expected; spread = spread; below = below; weight = e; chance = p; inverses = running.inverses })
-small_next f sum s running h e p below tail expected spread t l hp hb hx =
-    let pt : p.hi ≤ 8 * 2 ^ f = chance_small f sum e p t l hp in
+pub small_next : (f : ℕ) (s : ℕ) (falling : Falling f) → AreSmall f s falling
+    → (e p below tail expected : Ends) → e.hi ≤ 8 * 2 ^ f → p ≡ ends_div f e falling.shares → below ≡ ends_add falling.below p → expected ≡ ends_less falling.expected tail
+    → AreSmall f (s + 1) (record { expected = expected; below = below; shares = falling.shares })
+small_next f s falling h e p below tail expected t hp hb hx =
+    let pt : p.hi ≤ 8 * 2 ^ f = chance_small f falling.shares e p t h.sum_least hp in
     record {
       expected = (let a = ap (λ (y : Ends). y.hi) hx in omega (arith, a, h.expected));
       below = (let a = ap (λ (y : Ends). y.hi) hb in omega (arith, a, pt, h.below));
-      chance = hp;
+      sum_least = h.sum_least;
     }
 
 -- ---- the other rows
@@ -135,10 +160,3 @@ wide_is f m v short start one ebo vbo tail s lo hi top unit hs hh ho hl hi' ht h
 pub empty_is : (f : ℕ) (a : Ends) → a ≡ ends_exact f 0 → record { ebo = a; vbo = a; tail = a } ≡ empty_row f
 unfolding empty_row
 empty_is f a h = rw h refl
-
--- the same weight has the same chance
-pub same_chance : (f : ℕ) (sum w b p : Ends) (wl wh bl bh : ℕ) → wl ≡ w.lo → wh ≡ w.hi → bl ≡ b.lo → bh ≡ b.hi → wl ≡ bl → wh ≡ bh
-    → p ≡ ends_div f b sum → p ≡ ends_div f w sum
-same_chance f sum w b p wl wh bl bh h k i j l m e =
-    let q : b ≡ w = ap₂ (λ y z. record { lo = y; hi = z }) (sym i ∙ sym l ∙ h) (sym j ∙ sym m ∙ k) in
-    e ∙ ap (λ (z : Ends). ends_div f z sum) q

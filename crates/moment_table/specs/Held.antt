@@ -39,6 +39,10 @@ pub record IsShort (f : ℕ) (row : Row f) : Type 0 where
 abbrev pub bare_row : (f : ℕ) → Ends → Ends → ℕ → Row f
 bare_row f m v s = if m.hi == 0 then empty_row f else wide_row f m v s
 
--- u has the rows of the table
-abbrev pub AreRowsOf : (f : ℕ) → Ends → Ends → (ℕ → Row f) → Type 0
-AreRowsOf f m v u = (s : ℕ) → s ≤ 63 → u s ≡ at_stock (table_rows f m v) s
+-- u(0), .., u(n - 1) are the first rows of the table
+abbrev pub AreRowsTo : (f : ℕ) → Ends → Ends → ℕ → (ℕ → Row f) → Type 0
+AreRowsTo f m v n u = (s : ℕ) → s < n → u s ≡ at_stock (table_rows f m v) s
+
+-- what is held of u(0), .., u(n) is that of the first rows of the table
+abbrev pub AreHeldTo : (f : ℕ) → Ends → Ends → ℕ → (ℕ → Row f) → Type 0
+AreHeldTo f m v n u = (s : ℕ) → s ≤ n → held_row (u s) ≡ held_row (at_stock (table_rows f m v) s)

@@ -17,6 +17,20 @@ pub(crate) struct Held<const F: u32> {
     pub(crate) vbo: Iv64<F>,
 }
 
+impl<const F: u32> Held<F> {
+    /// What is held of a row.
+    #[inline(always)]
+    pub(crate) fn of(row: Row<F>) -> Held<F>
+        requires { IsShort F row }
+        ensures { result ≡ held_row row.entry }
+    {
+        Held {
+            ebo: Iv64::of(row.ebo),
+            vbo: Iv64::of(row.vbo),
+        }
+    }
+}
+
 /// The first rows of a table, and the tails of the first of them.
 #[derive(Drop)]
 pub(crate) struct Rows<const F: u32> {
@@ -38,19 +52,29 @@ impl<const F: u32> Rows<F> {
 
     /// Adds the row at the stock `s`, with its tail where `s` is below `tails`.
     #[inline(always)]
-    pub(crate) fn push(&mut self, row: Row<F>, s: u32, tails: u32) -> Result<(), NoMemory>
-        requires { IsShort F row }
-        ensures held { OnOk result (self.new.held.items ≡ self.old.held.items ++ held_row row.entry ∷ []) }
+    pub(crate) fn push(
+        &mut self,
+        held: Held<F>,
+        tail: Iv64<F>,
+        s: u32,
+        tails: u32,
+    ) -> Result<(), NoMemory>
+        ensures held { OnOk result (self.new.held.items ≡ self.old.held.items ++ held.entry ∷ []) }
         ensures tails { OnOk result (self.new.tails.items
-            ≡ (if nat_lt s tails then self.old.tails.items ++ row.entry.tail ∷ [] else self.old.tails.items)) }
+            ≡ (if nat_lt s tails then self.old.tails.items ++ tail.entry ∷ [] else self.old.tails.items)) }
     {
-        self.held.push(Held {
-            ebo: Iv64::of(row.ebo),
-            vbo: Iv64::of(row.vbo),
-        })?;
+        self.held.push(held)?;
         if s < tails {
-            self.tails.push(Iv64::of(row.tail))?;
+            self.tails.push(tail)?;
         }
         Ok(())
+    }
+
+    /// Adds a row without its tail.
+    pub(crate) fn push_held(&mut self, held: Held<F>) -> Result<(), NoMemory>
+        ensures held { OnOk result (self.new.held.items ≡ self.old.held.items ++ held.entry ∷ []) }
+        ensures tails { self.new.tails.items ≡ self.old.tails.items }
+    {
+        Ok(self.held.push(held)?)
     }
 }

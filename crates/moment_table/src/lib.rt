@@ -9,7 +9,6 @@
 
 ghost use Rattle.std.specs.Prelude.{◌≡◌, ℕ, suc, ◌+◌, ◌-◌, ◌*◌, ◌^◌, ◌<◌, ◌≤◌, IfOk, length, List};
 ghost use Rattle.fixed_interval.specs.Ends.{Ends, ends_max};
-ghost use Rattle.series_bounds.specs.Answer.{Sized};
 ghost use Rattle.moment_table.specs.Held.{HasRows};
 ghost use Rattle.moment_table.specs.Inputs.{CanTable};
 ghost use Rattle.moment_table.specs.Profile.{known_row, table_rows};
@@ -33,8 +32,8 @@ mod weighed;
 
 pub use backorders::put_backorders;
 
-/// The stocks of a table are 0 to 63.
-const STOCKS: u32 = 64;
+/// The last stock of a table.
+const LAST: u32 = 63;
 
 /// The tables of the definitions enclose the model.
 pub fn tables_enclose()
@@ -58,7 +57,7 @@ pub fn table<const F: u32>(
     ensures stocks { IfOk result (λ t. length t ≡ 64) }
     ensures most { IfOk result (λ t. (s : ℕ) → s < 64 → IsBelow F mean.entry variance.entry (at_stock t s)) }
 {
-    let rows = rows_of(alloc, mean, variance, STOCKS, STOCKS)?;
+    let rows = rows_of(alloc, mean, variance, LAST, LAST)?;
     Ok(Table::of(mean, variance, rows))
 }
 
@@ -77,8 +76,7 @@ pub fn table_to<const F: u32>(
     ensures stocks { IfOk result (λ t. length t ≡ 64) }
     ensures most { IfOk result (λ t. (s : ℕ) → s < 64 → IsBelow F mean.entry variance.entry (at_stock t s)) }
 {
-    let count = u32::from(limit) + 1;
-    let rows = rows_of(alloc, mean, variance, count, 0)?;
+    let rows = rows_of(alloc, mean, variance, u32::from(limit), 0)?;
     Ok(Table::of(mean, variance, rows))
 }
 
@@ -99,12 +97,13 @@ pub fn row_at<const F: u32>(
     ensures ebo_most { IfOk result (λ row. row.ebo.hi ≤ mean.entry.hi) }
     ensures vbo_most { IfOk result (λ row. row.vbo.hi ≤ (ends_max variance.entry mean.entry).hi) }
 {
-    match weigh(alloc, mean, variance)? {
+    let stock = u32::from(stock);
+    match weigh(alloc, mean, variance, stock + 1)? {
         Some(weighed) => {
             let list = weighed.list.as_slice();
             Ok(known_row(mean, variance, list, weighed.sum, stock))
         }
-        None => Ok(bare_row(mean, variance, u32::from(stock))),
+        None => Ok(bare_row(mean, variance, stock)),
     }
 }
 

@@ -13,6 +13,7 @@ use crate::running::Running;
 use crate::weighed::excess_of;
 use fixed_interval::Iv;
 use series_bounds::plain::{sum_of_weights, weight_at};
+use series_bounds::short::Iv64;
 
 /// The row at a stock where the weights are known, each weight walked to for itself, and None where they aren't.
 fn known<const F: u32>(mean: Iv<F>, variance: Iv<F>, stock: u8) -> Option<Row<F>>
@@ -25,14 +26,13 @@ fn known<const F: u32>(mean: Iv<F>, variance: Iv<F>, stock: u8) -> Option<Row<F>
 {
     let excess = excess_of(mean, variance);
     let sum = sum_of_weights(mean, excess)?;
-    let first = weight_at(mean, excess, 0)?;
-    let mut running = Running::first(mean, variance, first, sum);
+    let mut running = Running::first(mean, variance, sum);
     for s in 0..u32::from(stock) {
         let weight = weight_at(mean, excess, s)?;
-        running.step(weight, sum, s);
+        running.step(Iv64::of(weight), s);
     }
     let last = weight_at(mean, excess, u32::from(stock))?;
-    let row = running.step(last, sum, u32::from(stock));
+    let row = running.row(Iv64::of(last), u32::from(stock));
     Some(row)
 }
 

@@ -1,17 +1,17 @@
 //! The rows of a table, one or many.
 
-ghost use Rattle.std.specs.Prelude.{◌≡◌, ◌≤◌, IfOk};
+ghost use Rattle.std.specs.Prelude.{◌≡◌, ◌+◌, ◌^◌, ◌≤◌, IfOk};
 ghost use Rattle.fixed_interval.specs.Ends.{InScale, IsWithinLimit};
-ghost use Rattle.series_bounds.specs.Answer.{Sized};
 ghost use Rattle.moment_table.specs.Held.{HasRows, bare_row};
 ghost use Rattle.moment_table.specs.Inputs.{CanTable};
 ghost use Rattle.moment_table.specs.Profile.{known_row, wide_row, empty_row, table_rows};
 ghost use Rattle.moment_table.specs.Rows.{at_stock};
+ghost use Rattle.moment_table.specs.Running.{AreFirst};
 
-use crate::held::Rows;
+use crate::held::{Held, Rows};
 use crate::kinds::Row;
 use crate::running::Running;
-use crate::weighed::weigh;
+use crate::weighed::weigh_to;
 use fixed_interval::Iv;
 use series_bounds::short::Iv64;
 use spares_io::NoMemory;
@@ -23,18 +23,20 @@ pub(crate) fn known_row<const F: u32>(
     variance: Iv<F>,
     list: &[Iv64<F>],
     sum: Iv<F>,
-    stock: u8,
+    stock: u32,
 ) -> Row<F>
     requires mean_top { IsWithinLimit F mean }
-    requires sized { Sized F list.now sum }
+    requires variance_top { IsWithinLimit F variance }
+    requires least { 2 ^ F ≤ sum.lo }
+    requires first { AreFirst F (stock + 1) list.now }
     requires stock { stock ≤ 63 }
     ensures { result ≡ known_row F mean.entry variance.entry list.now sum.entry stock }
 {
-    let mut running = Running::first(mean, variance, list[0].open(), sum);
-    for s in 0..u32::from(stock) {
-        running.row(list, sum, s);
+    let mut running = Running::first(mean, variance, sum);
+    for s in 0..stock {
+        running.step(list[s as usize], s);
     }
-    running.row(list, sum, u32::from(stock))
+    running.row(list[stock as usize], stock)
 }
 
 /// The row at a stock where the weights aren't known: what holds of any distribution with this mean and variance.
@@ -74,28 +76,32 @@ pub(crate) fn bare_row<const F: u32>(mean: Iv<F>, variance: Iv<F>, stock: u32) -
     }
 }
 
-/// The rows from known weights, each from the one before.
+/// The rows at the stocks 0 to `last` from known weights, each from the one before, with the first of their tails.
 fn known_to<const F: u32>(
     alloc: Global,
     mean: Iv<F>,
     variance: Iv<F>,
     list: &[Iv64<F>],
     sum: Iv<F>,
-    stocks: u32,
+    last: u32,
     tails: u32,
 ) -> Result<Rows<F>, NoMemory>
     requires mean_top { IsWithinLimit F mean }
     requires variance_top { IsWithinLimit F variance }
-    requires sized { Sized F list.now sum }
-    requires stocks { stocks ≤ 64 }
-    ensures { IfOk result (HasRows F (known_row F mean.entry variance.entry list.now sum.entry) stocks tails) }
+    requires least { 2 ^ F ≤ sum.lo }
+    requires first { AreFirst F last list.now }
+    requires last { last ≤ 63 }
+    requires tails { tails ≤ last }
+    ensures { IfOk result (HasRows F (known_row F mean.entry variance.entry list.now sum.entry) (last + 1) tails) }
 {
-    let mut running = Running::first(mean, variance, list[0].open(), sum);
-    let mut rows = Rows::with_room(alloc, stocks, tails)?;
-    for s in 0..stocks {
-        let row = running.row(list, sum, s);
-        rows.push(row, s, tails)?;
+    let mut running = Running::first(mean, variance, sum);
+    let mut rows = Rows::with_room(alloc, last + 1, tails)?;
+    for s in 0..last {
+        let held = running.held();
+        let tail = running.step(list[s as usize], s);
+        rows.push(held, tail, s, tails)?;
     }
+    rows.push_held(running.held())?;
     Ok(rows)
 }
 
@@ -114,31 +120,33 @@ fn bare_to<const F: u32>(
     let mut rows = Rows::with_room(alloc, stocks, tails)?;
     for s in 0..stocks {
         let row = bare_row(mean, variance, s);
-        rows.push(row, s, tails)?;
+        let tail = Iv64::of(row.tail);
+        rows.push(Held::of(row), tail, s, tails)?;
     }
     Ok(rows)
 }
 
-/// The first rows of the table of a pipeline, and the tails of the first of them.
+/// The rows of the table of a pipeline at the stocks 0 to `last`, and the tails of the first of them.
 pub(crate) fn rows_of<const F: u32>(
     alloc: Global,
     mean: Iv<F>,
     variance: Iv<F>,
-    stocks: u32,
+    last: u32,
     tails: u32,
 ) -> Result<Rows<F>, NoMemory>
     requires table { CanTable F mean variance }
-    requires stocks { stocks ≤ 64 }
-    ensures { IfOk result (HasRows F (at_stock (table_rows F mean.entry variance.entry)) stocks tails) }
+    requires last { last ≤ 63 }
+    requires tails { tails ≤ last }
+    ensures { IfOk result (HasRows F (at_stock (table_rows F mean.entry variance.entry)) (last + 1) tails) }
 {
-    match weigh(alloc, mean, variance)? {
-        Some(weighed) => {
-            let list = weighed.list.as_slice();
-            let rows = known_to(alloc, mean, variance, list, weighed.sum, stocks, tails)?;
+    let mut list = Vec::with_capacity(alloc, last as usize)?;
+    match weigh_to(&mut list, mean, variance, last)? {
+        Some(sum) => {
+            let rows = known_to(alloc, mean, variance, list.as_slice(), sum, last, tails)?;
             Ok(rows)
         }
         None => {
-            let rows = bare_to(alloc, mean, variance, stocks, tails)?;
+            let rows = bare_to(alloc, mean, variance, last + 1, tails)?;
             Ok(rows)
         }
     }

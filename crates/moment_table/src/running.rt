@@ -1,126 +1,142 @@
 //! The figures of a pipeline at one stock after the other, from known weights.
 
 ghost use Rattle.std.specs.Prelude.{◌≡◌, ℕ, ◌+◌, ◌*◌, ◌^◌, ◌<◌, ◌≤◌, List};
-ghost use Rattle.fixed_interval.specs.Ends.{Ends, IsWithinLimit, ends_div};
-ghost use Rattle.series_bounds.specs.Answer.{Sized, at_place};
-ghost use Rattle.moment_table.specs.Profile.{known_row};
-ghost use Rattle.moment_table.specs.Running.{IsRunning, AreSmall};
+ghost use Rattle.fixed_interval.specs.Ends.{Ends, IsWithinLimit};
+ghost use Rattle.series_bounds.specs.Answer.{at_place};
+ghost use Rattle.moment_table.specs.Held.{held_row};
+ghost use Rattle.moment_table.specs.Profile.{known_row, tail_ends};
+ghost use Rattle.moment_table.specs.Running.{AreSmall, IsFalling, IsRunning};
 
+use crate::held::Held;
 use crate::kinds::Row;
-use crate::shares::Inverses;
+use crate::shares::Shares;
 use fixed_interval::Iv;
-use series_bounds::short::{Iv64, product};
+use series_bounds::short::Iv64;
 
-/// The figures at a stock before its tail is known, and what the tail is made of.
+/// The expected backorders at a stock before its tail is known, and what the tail is made of.
 #[derive(Drop)]
-pub(crate) struct Running<const F: u32> {
+pub(crate) struct Falling<const F: u32> {
     /// The expected backorders.
-    expected: Iv<F>,
-    /// The variance of the backorders.
-    spread: Iv<F>,
+    expected: Iv64<F>,
     /// The chance of less than the stock in the pipeline.
-    below: Iv<F>,
-    /// A weight before the stock's.
-    weight: Iv<F>,
-    /// The chance of that weight.
-    chance: Iv<F>,
-    /// The inverses of the sum of all weights.
-    inverses: Inverses,
+    below: Iv64<F>,
+    /// The shares of the sum of all weights.
+    shares: Shares<F>,
 }
 
-impl<const F: u32> Running<F> {
-    /// At the stock 0. `weight` is the weight there.
+impl<const F: u32> Falling<F> {
+    /// At the stock 0.
     #[inline(always)]
-    pub(crate) fn first(mean: Iv<F>, variance: Iv<F>, weight: Iv<F>, sum: Iv<F>) -> Running<F>
+    pub(crate) fn first(mean: Iv<F>, sum: Iv<F>) -> Falling<F>
         requires mean_top { IsWithinLimit F mean }
-        requires top { weight.hi ≤ 8 * 2 ^ F }
         requires sum { 2 ^ F ≤ sum.lo }
-        ensures running { (list : List Ends) → IsRunning F mean.entry variance.entry list sum.entry 0 result }
-        ensures small { AreSmall F sum.entry 0 result }
+        ensures falling { (list : List Ends) → IsFalling F mean.entry list sum.entry 0 result }
+        ensures small { AreSmall F 0 result }
     {
-        let inverses = Inverses::of(sum);
-        Running {
-            expected: mean,
-            spread: variance.max_of(mean),
-            below: Iv::exact(0),
-            weight,
-            chance: inverses.share(weight, sum),
-            inverses,
+        Falling {
+            expected: Iv64::of(mean),
+            below: Iv64::of(Iv::exact(0)),
+            shares: Shares::of(sum),
         }
     }
 
     /// The expected backorders at the stock, which its weight doesn't change.
     #[inline(always)]
     pub(crate) fn expected(&self) -> Iv64<F>
-        requires { self.now.expected.hi < 2 ^ 64 }
-        ensures { (m v sum : Ends) (list : List Ends) (s : ℕ) → IsRunning F m v list sum s self.now
-            → result ≡ (known_row F m v list sum s).ebo }
+        ensures { result ≡ self.now.expected }
     {
-        Iv64::of(self.expected)
+        self.expected
     }
 
-    /// The row at the stock `s`, from the weight there. It goes on to the next stock.
+    /// The tail at the stock `s`, from the weight there. It goes on to the next stock.
     #[inline(always)]
-    pub(crate) fn step(&mut self, weight: Iv<F>, sum: Iv<F>, s: u32) -> Row<F>
+    pub(crate) fn step(&mut self, weight: Iv64<F>, s: u32) -> Iv64<F>
         requires stock { s < 64 }
         requires top { weight.hi ≤ 8 * 2 ^ F }
-        requires sum { 2 ^ F ≤ sum.lo }
-        requires small { AreSmall F sum s self.old }
-        ensures small { AreSmall F sum.entry (s + 1) self.new }
-        ensures running { (m v : Ends) (list : List Ends) → weight.entry ≡ at_place list s
-            → IsRunning F m v list sum.entry s self.old → IsRunning F m v list sum.entry (s + 1) self.new }
-        ensures row { (m v : Ends) (list : List Ends) → weight.entry ≡ at_place list s
-            → IsRunning F m v list sum.entry s self.old → result ≡ known_row F m v list sum.entry s }
+        requires small { AreSmall F s self.old }
+        ensures small { AreSmall F (s + 1) self.new }
+        ensures part { result.hi ≤ 2 ^ F }
+        ensures falling { (m sum : Ends) (list : List Ends) → weight.entry ≡ at_place list s
+            → IsFalling F m list sum s self.old → IsFalling F m list sum (s + 1) self.new }
+        ensures tail { (m sum : Ends) (list : List Ends) → weight.entry ≡ at_place list s
+            → IsFalling F m list sum s self.old → result ≡ tail_ends F list sum s }
     {
-        self.chance = chance_of(weight, sum, self.weight, self.chance, self.inverses);
-        self.weight = weight;
-        self.below = self.below.add(self.chance);
-        let tail = Iv::exact(1).less(self.below);
-        let row = Row {
-            ebo: self.expected,
-            vbo: self.spread,
-            tail,
-        };
+        self.below = self.below.add(self.shares.share(weight));
+        let tail = self.below.up_to_one().left_of_one();
         self.expected = self.expected.less(tail);
-        let fall = product(self.expected.times(2).add(tail), Iv::exact(1).less(tail));
-        self.spread = self.spread.less(fall);
-        row
-    }
-
-    /// The row at the stock `s`, from all weights. It goes on to the next stock.
-    #[inline(always)]
-    pub(crate) fn row(&mut self, list: &[Iv64<F>], sum: Iv<F>, s: u32) -> Row<F>
-        requires stock { s < 64 }
-        requires sized { Sized F list.now sum }
-        requires small { AreSmall F sum s self.old }
-        ensures small { AreSmall F sum.entry (s + 1) self.new }
-        ensures running { (m v : Ends) → IsRunning F m v list.now sum.entry s self.old
-            → IsRunning F m v list.now sum.entry (s + 1) self.new }
-        ensures row { (m v : Ends) → IsRunning F m v list.now sum.entry s self.old
-            → result ≡ known_row F m v list.now sum.entry s }
-    {
-        self.step(list[s as usize].open(), sum, s)
+        tail
     }
 }
 
-/// `weight / sum`, where `chance` is `before / sum`. The weights far out are mostly the same, and need no division
-/// then.
-#[inline(always)]
-fn chance_of<const F: u32>(
-    weight: Iv<F>,
-    sum: Iv<F>,
-    before: Iv<F>,
-    chance: Iv<F>,
-    inverses: Inverses,
-) -> Iv<F>
-    requires top { weight.hi ≤ 8 * 2 ^ F }
-    requires divisor { 0 < sum.lo }
-    requires chance { chance ≡ ends_div F before sum }
-    ensures { result ≡ ends_div F weight.entry sum.entry }
-{
-    if weight.lo() == before.lo() && weight.hi() == before.hi() {
-        chance
-    } else {
-        inverses.share(weight, sum)
+/// The same, with the variance of the backorders.
+#[derive(Drop)]
+pub(crate) struct Running<const F: u32> {
+    falling: Falling<F>,
+    /// The variance of the backorders.
+    spread: Iv64<F>,
+}
+
+impl<const F: u32> Running<F> {
+    /// At the stock 0.
+    #[inline(always)]
+    pub(crate) fn first(mean: Iv<F>, variance: Iv<F>, sum: Iv<F>) -> Running<F>
+        requires mean_top { IsWithinLimit F mean }
+        requires variance_top { IsWithinLimit F variance }
+        requires sum { 2 ^ F ≤ sum.lo }
+        ensures running { (list : List Ends) → IsRunning F mean.entry variance.entry list sum.entry 0 result }
+        ensures small { AreSmall F 0 result.falling }
+    {
+        Running {
+            falling: Falling::first(mean, sum),
+            spread: Iv64::of(variance.max_of(mean)),
+        }
+    }
+
+    /// What a table holds of the row at the stock, which its weight doesn't change.
+    #[inline(always)]
+    pub(crate) fn held(&self) -> Held<F>
+        ensures { (m v sum : Ends) (list : List Ends) (s : ℕ) → IsRunning F m v list sum s self.now
+            → result ≡ held_row (known_row F m v list sum s) }
+    {
+        Held {
+            ebo: self.falling.expected(),
+            vbo: self.spread,
+        }
+    }
+
+    /// The tail at the stock `s`, from the weight there. It goes on to the next stock.
+    #[inline(always)]
+    pub(crate) fn step(&mut self, weight: Iv64<F>, s: u32) -> Iv64<F>
+        requires stock { s < 64 }
+        requires top { weight.hi ≤ 8 * 2 ^ F }
+        requires small { AreSmall F s self.old.falling }
+        ensures small { AreSmall F (s + 1) self.new.falling }
+        ensures running { (m v sum : Ends) (list : List Ends) → weight.entry ≡ at_place list s
+            → IsRunning F m v list sum s self.old → IsRunning F m v list sum (s + 1) self.new }
+        ensures tail { (m v sum : Ends) (list : List Ends) → weight.entry ≡ at_place list s
+            → IsRunning F m v list sum s self.old → result ≡ (known_row F m v list sum s).tail }
+    {
+        let tail = self.falling.step(weight, s);
+        let twice = self.falling.expected().twice();
+        let fall = twice.add(tail).times_part(tail.left_of_one());
+        self.spread = self.spread.less(fall);
+        tail
+    }
+
+    /// The row at the stock `s`, from the weight there. It goes on to the next stock.
+    pub(crate) fn row(&mut self, weight: Iv64<F>, s: u32) -> Row<F>
+        requires stock { s < 64 }
+        requires top { weight.hi ≤ 8 * 2 ^ F }
+        requires small { AreSmall F s self.old.falling }
+        ensures { (m v sum : Ends) (list : List Ends) → weight.entry ≡ at_place list s
+            → IsRunning F m v list sum s self.old → result ≡ known_row F m v list sum s }
+    {
+        let held = self.held();
+        let tail = self.step(weight, s);
+        Row {
+            ebo: held.ebo.open(),
+            vbo: held.vbo.open(),
+            tail: tail.open(),
+        }
     }
 }

@@ -1,80 +1,79 @@
-//! Shares of a sum, for many weights, with divisions for the first one alone.
+//! Shares of a sum, for many weights, mostly without a division.
 
-ghost use Rattle.std.specs.Prelude.{◌≡◌, ◌*◌, ◌/◌, ◌^◌, ◌<◌, ◌≤◌};
-ghost use Rattle.std.specs.Int.{div_ceil};
-ghost use Rattle.fixed_interval.specs.Ends.{InScale, ends_div};
+ghost use Rattle.std.specs.Prelude.{◌≡◌, ◌*◌, ◌^◌, ◌<◌, ◌≤◌};
+ghost use Rattle.fixed_interval.specs.Ends.{ends_div};
+ghost use Rattle.moment_table.specs.Shares.{AreEnds};
 
 use fixed_interval::Iv;
-use quotients::{guess_by, inverse_beside, inverse_of, quotient_near, quotient_up_near};
+use quotients::Divisor;
+use series_bounds::short::Iv64;
+use std::marker::Model;
 
-/// Inverses of the ends of a sum. Shares are guessed by them, and nothing rests on them.
-#[derive(Clone, Copy, Drop)]
-pub(crate) struct Inverses {
-    of_lower: u64,
-    of_upper: u64,
+/// The ends of a sum as divisors.
+#[derive(Drop)]
+pub(crate) struct Divisors<const F: u32> {
+    lower: Divisor<F>,
+    upper: Divisor<F>,
 }
 
-impl Inverses {
+impl<const F: u32> Divisors<F> {
     /// Those of a sum.
-    pub(crate) fn of<const F: u32>(sum: Iv<F>) -> Inverses
-        requires { 0 < sum.lo }
+    #[inline(always)]
+    fn of(sum: Iv<F>) -> Divisors<F>
+        requires least { 2 ^ F ≤ sum.lo }
+        requires most { sum.hi < 2 ^ 63 }
+        ensures { AreEnds F sum.entry result }
     {
-        if sum.hi() >= 1 << 64 {
-            return Inverses {
-                of_lower: 0,
-                of_upper: 0,
-            };
-        }
-        let (lower, upper) = (sum.lo() as u64, sum.hi() as u64);
-        let of_upper = inverse_of::<F>(upper);
-        Inverses {
-            of_lower: inverse_beside::<F>(of_upper, upper, lower),
-            of_upper,
-        }
+        let upper = Divisor::of(sum.hi() as u64);
+        let lower = upper.beside(sum.lo() as u64);
+        Divisors { lower, upper }
+    }
+}
+
+/// A sum of which shares are taken, with its ends as divisors where they have at most 63 bits. It is seen as the sum.
+#[derive(Drop)]
+pub(crate) struct Shares<const F: u32> {
+    sum: Iv<F>,
+    divisors: Option<Divisors<F>>,
+}
+
+impl<const F: u32> Model for Shares<F> {
+    ghost use Rattle.std.specs.Prelude.{IfSome};
+    ghost use Rattle.fixed_interval.specs.Ends.{Ends};
+    ghost use Rattle.moment_table.specs.Shares.{AreEnds};
+
+    ghost Value = { Ends };
+
+    ghost view = { λ s. s.sum };
+
+    ghost invariant = { λ s. IfSome s.divisors (AreEnds F s.sum) };
+}
+
+impl<const F: u32> Shares<F> {
+    /// Those of a sum.
+    #[inline(always)]
+    pub(crate) fn of(sum: Iv<F>) -> Shares<F>
+        requires { 2 ^ F ≤ sum.lo }
+        ensures { result ≡ sum.entry }
+    {
+        let divisors = if sum.hi() < 1 << 63 {
+            Some(Divisors::of(sum))
+        } else {
+            None
+        };
+        Shares { sum, divisors }
     }
 
     /// `weight / sum`.
     #[inline(always)]
-    pub(crate) fn share<const F: u32>(self, weight: Iv<F>, sum: Iv<F>) -> Iv<F>
+    pub(crate) fn share(&self, weight: Iv64<F>) -> Iv64<F>
         requires top { weight.hi ≤ 8 * 2 ^ F }
-        requires divisor { 0 < sum.lo }
-        ensures { result ≡ ends_div F weight.entry sum.entry }
+        requires least { 2 ^ F ≤ self.now.lo }
+        ensures { result ≡ ends_div F weight.entry self.now }
     {
-        if sum.hi() < 1 << 64 {
-            let lower = share_down::<F>(weight.lo(), sum.hi() as u64, self.of_upper);
-            let upper = share_up::<F>(weight.hi(), sum.lo() as u64, self.of_lower);
-            Iv::of_ends(lower, upper)
-        } else {
-            weight.div(sum)
+        match &self.divisors {
+            Some(divisors) => weight.over(divisors.lower, divisors.upper),
+            None => Iv64::of(weight.open().div(self.sum)),
         }
     }
-}
-
-/// So many whole ones, given in units, in units of units.
-fn scaled<const F: u32>(weight: u128) -> u128
-    requires scale { InScale F }
-    requires top { weight ≤ 8 * 2 ^ F }
-    ensures { result ≡ weight * 2 ^ F }
-{
-    weight * Iv::<F>::exact(1).hi()
-}
-
-/// `weight / sum`, rounded down.
-fn share_down<const F: u32>(weight: u128, sum: u64, inverse: u64) -> u128
-    requires scale { InScale F }
-    requires top { weight ≤ 8 * 2 ^ F }
-    requires divisor { 0 < sum }
-    ensures { result ≡ weight * 2 ^ F / sum }
-{
-    quotient_near(scaled::<F>(weight), sum, guess_by(weight as u64, inverse))
-}
-
-/// `weight / sum`, rounded up.
-fn share_up<const F: u32>(weight: u128, sum: u64, inverse: u64) -> u128
-    requires scale { InScale F }
-    requires top { weight ≤ 8 * 2 ^ F }
-    requires divisor { 0 < sum }
-    ensures { result ≡ div_ceil (weight * 2 ^ F) sum }
-{
-    quotient_up_near(scaled::<F>(weight), sum, guess_by(weight as u64, inverse))
 }

@@ -2,10 +2,11 @@
 
 ghost use Rattle.std.specs.Prelude.{◌≡◌, ◌*◌, ◌^◌, ◌<◌, ◌≤◌, IfOk, IfSome, IfNone};
 ghost use Rattle.fixed_interval.specs.Ends.{IsWithinLimit};
-ghost use Rattle.series_bounds.specs.Answer.{IsBeginning, Sized};
-ghost use Rattle.moment_table.specs.Held.{AreRowsOf, bare_row};
+ghost use Rattle.moment_table.specs.Held.{AreHeldTo, AreRowsTo, bare_row};
 ghost use Rattle.moment_table.specs.Inputs.{CanTable};
 ghost use Rattle.moment_table.specs.Profile.{known_row, excess_ends};
+ghost use Rattle.moment_table.specs.Running.{AreFirst};
+ghost use Rattle.moment_table.specs.Weighed.{IsWeighed};
 
 use fixed_interval::Iv;
 use series_bounds::heads::first_weights;
@@ -13,13 +14,13 @@ use series_bounds::kinds::Weights;
 use series_bounds::shares::quotient;
 use series_bounds::short::Iv64;
 use series_bounds::weights;
-use spares_io::{List, NoMemory};
+use spares_io::NoMemory;
 use std::alloc::Global;
 
-/// Known weights and their sum.
+/// The first weights and the sum of all.
 #[derive(Drop)]
 pub(crate) struct Weighed<const F: u32> {
-    pub(crate) list: List<Iv64<F>>,
+    pub(crate) list: Vec<Iv64<F>>,
     pub(crate) sum: Iv<F>,
 }
 
@@ -35,18 +36,16 @@ pub(crate) fn excess_of<const F: u32>(mean: Iv<F>, variance: Iv<F>) -> Iv<F>
     quotient(variance, mean).less(Iv::exact(1))
 }
 
-/// The weights of a pipeline with this mean and variance, and None where it is always empty, or they aren't known.
-pub(crate) fn weigh<const F: u32>(
+/// All weights of a pipeline with this mean and variance, and None where it is always empty, or they aren't known.
+fn weigh_all<const F: u32>(
     alloc: Global,
     mean: Iv<F>,
     variance: Iv<F>,
 ) -> Result<Option<Weighed<F>>, NoMemory>
     requires { CanTable F mean variance }
     ensures bare { IfOk result (λ found. IfNone found
-        (AreRowsOf F mean.entry variance.entry (bare_row F mean.entry variance.entry))) }
-    ensures known { IfOk result (λ found. IfSome found
-        (λ w. AreRowsOf F mean.entry variance.entry (known_row F mean.entry variance.entry w.list w.sum))) }
-    ensures sized { IfOk result (λ found. IfSome found (λ w. Sized F w.list w.sum)) }
+        (AreRowsTo F mean.entry variance.entry 64 (bare_row F mean.entry variance.entry))) }
+    ensures known { IfOk result (λ found. IfSome found (IsWeighed F mean.entry variance.entry 64)) }
 {
     if mean.hi() == 0 {
         return Ok(None);
@@ -57,7 +56,10 @@ pub(crate) fn weigh<const F: u32>(
             pivot: _,
             list,
             sum,
-        } => Ok(Some(Weighed { list, sum })),
+        } => {
+            let list = list.into_vec();
+            Ok(Some(Weighed { list, sum }))
+        }
         Weights::Wide => Ok(None),
     }
 }
@@ -69,20 +71,46 @@ pub(crate) fn weigh_to<const F: u32>(
     list: &mut Vec<Iv64<F>>,
     mean: Iv<F>,
     variance: Iv<F>,
-    wanted: usize,
+    wanted: u32,
 ) -> Result<Option<Iv<F>>, NoMemory>
     requires table { CanTable F mean variance }
     requires wanted { wanted ≤ 63 }
     ensures bare { IfOk result (λ found. IfNone found
-        (AreRowsOf F mean.entry variance.entry (bare_row F mean.entry variance.entry))) }
-    ensures known { IfOk result (λ found. IfSome found
-        (IsBeginning F mean.entry (excess_ends F mean.entry variance.entry) wanted list.new.items)) }
+        (AreRowsTo F mean.entry variance.entry 64 (bare_row F mean.entry variance.entry))) }
+    ensures rows { IfOk result (λ found. IfSome found (λ sum. AreRowsTo F mean.entry variance.entry wanted
+        (known_row F mean.entry variance.entry list.new.items sum))) }
+    ensures held { IfOk result (λ found. IfSome found (λ sum. AreHeldTo F mean.entry variance.entry wanted
+        (known_row F mean.entry variance.entry list.new.items sum))) }
+    ensures first { IfOk result (λ found. IfSome found (λ sum. AreFirst F wanted list.new.items)) }
     ensures least { IfOk result (λ found. IfSome found (λ sum. 2 ^ F ≤ sum.lo)) }
-    ensures positive { IfOk result (λ found. IfSome found (λ sum. 0 < mean.entry.hi)) }
 {
     if mean.hi() == 0 {
         return Ok(None);
     }
     let excess = excess_of(mean, variance);
-    first_weights(list, mean, excess, wanted)
+    first_weights(list, mean, excess, wanted as usize)
+}
+
+/// The first weights of a pipeline with this mean and variance, `wanted` of them or more, at most 64 being wanted, and
+/// the sum of all. None where it is always empty, or its weights aren't known.
+pub(crate) fn weigh<const F: u32>(
+    alloc: Global,
+    mean: Iv<F>,
+    variance: Iv<F>,
+    wanted: u32,
+) -> Result<Option<Weighed<F>>, NoMemory>
+    requires table { CanTable F mean variance }
+    requires wanted { wanted ≤ 64 }
+    ensures bare { IfOk result (λ found. IfNone found
+        (AreRowsTo F mean.entry variance.entry 64 (bare_row F mean.entry variance.entry))) }
+    ensures known { IfOk result (λ found. IfSome found (IsWeighed F mean.entry variance.entry wanted)) }
+{
+    if wanted == 64 {
+        return weigh_all(alloc, mean, variance);
+    }
+    let mut list = Vec::with_capacity(alloc, wanted as usize)?;
+    match weigh_to(&mut list, mean, variance, wanted)? {
+        Some(sum) => Ok(Some(Weighed { list, sum })),
+        None => Ok(None),
+    }
 }

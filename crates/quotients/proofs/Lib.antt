@@ -1,1 +1,3 @@
 pub mod Products
+pub mod Guesses
+pub mod Rounded

@@ -29,8 +29,8 @@ pub entry_is : (table : List ℕ) (x : ℕ) → IsTrue (are_inverses table) → 
 entry_is [] x h p l = absurd (false≢true h)
 entry_is (m ∷ ms) zero h p l = absurd (omega (arith, p))
 entry_is (m ∷ ms) (suc x) h p l =
-    let b = both_are (nat_eq (length ms) 255) (are_inverses_from 1 ms) h in
-    let n : length ms ≡ 255 = grind (arith, nat_tests, b) in
+    let b = both_are (nat_eq (length ms) 256) (are_inverses_from 1 ms) h in
+    let n : length ms ≡ 256 = grind (arith, nat_tests, b) in
     subst (λ z. IsInverse z (get_or ms x 0)) (omega arith) (from_is 1 x ms b.1 (omega (arith, n, l)))
 
 -- the quotient by the inverse's product

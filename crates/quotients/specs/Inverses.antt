@@ -10,7 +10,7 @@ abbrev pub are_inverses_from : ℕ → List ℕ → Bool
 are_inverses_from x [] = true
 are_inverses_from x (m ∷ ms) = is_inverse x m && are_inverses_from (suc x) ms
 
--- behind an entry for 0 those of 1 to 255
+-- behind an entry for 0 those of 1 to 256
 abbrev pub are_inverses : List ℕ → Bool
 are_inverses [] = false
-are_inverses (m ∷ ms) = nat_eq (length ms) 255 && are_inverses_from 1 ms
+are_inverses (m ∷ ms) = nat_eq (length ms) 256 && are_inverses_from 1 ms

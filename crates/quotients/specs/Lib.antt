@@ -1,1 +1,3 @@
 pub mod Inverses
+pub mod Divisors
+pub mod Parts

@@ -1,7 +1,7 @@
 //! The inverses of small numbers.
 
-/// `2^63 / x` for each `x` from 1 on, rounded up.
-pub(crate) const INVERSES: [u64; 256] = [
+/// `2^63 / x` for each `x` from 1 to 256, rounded up.
+pub(crate) const INVERSES: [u64; 257] = [
     0,
     9223372036854775808,
     4611686018427387904,
@@ -258,4 +258,5 @@ pub(crate) const INVERSES: [u64; 256] = [
     36456015955947731,
     36312488334073921,
     36170086419038337,
+    36028797018963968,
 ];

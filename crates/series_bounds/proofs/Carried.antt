@@ -1,13 +1,15 @@
 -- The ratios in parts: their sizes, their ends, and the step to the next index.
-use Rattle.std.proofs.Common.{◌≡◌, ℕ, ◌+◌, ◌-◌, ◌*◌, ◌/◌, ◌^◌, ◌<◌, ◌≤◌, refl, ap, ◌∙◌, subst, arith, pow_pos, mul-le-mul_right, mul-le-mul}
+use Rattle.std.proofs.Common.{◌≡◌, ℕ, ◌+◌, ◌-◌, ◌*◌, ◌/◌, ◌%◌, ◌^◌, ◌<◌, ◌≤◌, refl, ap, ap₂, sym, ◌∙◌, subst, arith, pow_pos, mul-le-mul_right, mul-le-mul}
 use Rattle.std.specs.Int.{div_ceil}
-use Rattle.std.proofs.Math.Nat.{mul-pos, lt_of_mul-lt-mul_right, div-mul-le_self}
-use Rattle.fixed_interval.specs.Ends.{Ends, ends_add, ends_exact}
-use Rattle.fixed_interval.proofs.Laws.{floor_below_ceil, ceil_le, unit_most}
+use Rattle.std.proofs.Math.Nat.{mul-pos, mul-le-mul_left, lt_of_mul-lt-mul_right, div-mul-le_self, mul-div-mul_left, mod-eq_of_lt}
+use Rattle.std.proofs.lemmas.Grind.{div_ceil_times}
+use Rattle.fixed_interval.specs.Ends.{Ends, ends_add, ends_div, ends_exact}
+use Rattle.fixed_interval.proofs.Laws.{floor_below_ceil, ceil_by_sum, ceil_is, ceil_le, unit_most}
 use Rattle.series_bounds.specs.Profile.{ratio_ends}
-use Rattle.series_bounds.specs.Ratios.{AreParts}
-use Rattle.series_bounds.specs.declared.parts.Parts.{Parts}
-use Rattle.series_bounds.proofs.Ranges.{part_most, part_room}
+use Rattle.quotients.specs.Parts.{AreParts}
+use Rattle.quotients.specs.declared.parts.Parts.{Parts}
+use Rattle.quotients.proofs.Rounded.{floor_twice}
+use Rattle.series_bounds.proofs.Ranges.{part_most, part_room, raised_most}
 
 -- the whole part of a number below so many times the divisor
 below_room : (n d t : ℕ) (p : Parts) → AreParts n d p → n < t * d → p.whole < t
@@ -18,13 +20,21 @@ pub whole_room : (f m e k d : ℕ) (p : Parts) → f ≤ 52 → m ≤ 256 * 2 ^ 
 whole_room f m e k d p s h l i q a =
     below_room ((m + e * (k - 1)) * 2 ^ f) d (2 ^ 63) p a (part_room (2 ^ f) (m + e * (k - 1)) d (unit_most f s) (omega (arith, l, pow_pos f)) (part_most (2 ^ f) m e k d h l i q))
 
+-- the same of the upper numerator, raised
+pub raised_room : (f m e k d : ℕ) (p : Parts) → f ≤ 52 → m ≤ 256 * 2 ^ f → 2 ^ f ≤ d → e ≤ d → k ≤ 1025 → AreParts ((m + e * (k - 1)) * 2 ^ f + k * d - 1) d p → p.whole < 2 ^ 63
+raised_room f m e k d p s h l i q a =
+    let r = raised_most (2 ^ f) (m + e * (k - 1)) d k (unit_most f s) (omega (arith, l, pow_pos f)) (part_most (2 ^ f) m e k d h l i q) q in
+    below_room ((m + e * (k - 1)) * 2 ^ f + k * d - 1) d (2 ^ 63) p a r
+
+-- what the next index adds to the raised one
+pub raised_step_room : (f e d : ℕ) (p : Parts) → f ≤ 52 → 0 < d → e ≤ d → AreParts (e * 2 ^ f + d) d p → p.whole < 2 ^ 63
+raised_step_room f e d p s l q a =
+    let u : e * 2 ^ f ≤ d * 2 ^ 52 = mul-le-mul q (unit_most f s) in
+    below_room (e * 2 ^ f + d) d (2 ^ 63) p a (omega (arith, u, l))
+
 -- what the next index adds to a ratio has a whole part below 2^63
 pub step_room : (f e d : ℕ) (p : Parts) → f ≤ 52 → 0 < d → e ≤ d → AreParts (e * 2 ^ f) d p → p.whole < 2 ^ 63
 step_room f e d p s l q a = below_room (e * 2 ^ f) d (2 ^ 63) p a (part_room (2 ^ f) e d (unit_most f s) l (omega (arith, q)))
-
--- a number below 2^63 divisors has a quotient below 2^63
-pub quotient_room : (n d q : ℕ) → 0 < d → n < 2 ^ 63 * d → q ≡ n / d → q < 2 ^ 63
-quotient_room n d q p h e = lt_of_mul-lt-mul_right d (rw e (omega (arith, h, div-mul-le_self n d)))
 
 -- the divisors
 pub below_is : (f : ℕ) (d one below : Ends) → one ≡ ends_exact f 1 → below ≡ ends_add one d → below ≡ record { lo = 1 * 2 ^ f + d.lo; hi = 1 * 2 ^ f + d.hi }
@@ -59,6 +69,30 @@ next_num m e x o p =
 pub next_parts : (m e x o den d : ℕ) (p : Parts) → 0 < x → den ≡ d → AreParts ((m + e * (x - 1)) * o + e * o) den p → AreParts ((m + e * (x + 1 - 1)) * o) d p
 next_parts m e x o den d p q h a = subst (λ z. AreParts z d p) (next_num m e x o q) (subst (λ z. AreParts ((m + e * (x - 1)) * o + e * o) z p) h a)
 
+-- the same of the raised parts
+pub next_raised : (m e x o den d : ℕ) (p : Parts) → 0 < x → 0 < d → den ≡ d → AreParts (((m + e * (x - 1)) * o + x * d - 1) + (e * o + d)) den p → AreParts ((m + e * (x + 1 - 1)) * o + (x + 1) * d - 1) d p
+next_raised m e x o den d p q l h a =
+    let n = next_num m e x o q in
+    let b : 0 < x * d = mul-pos {m = x} {n = d} q l in
+    let i : ((m + e * (x - 1)) * o + x * d - 1) + (e * o + d) ≡ (m + e * (x + 1 - 1)) * o + (x + 1) * d - 1 = omega (arith, n, b) in
+    subst (λ z. AreParts z d p) i (subst (λ z. AreParts (((m + e * (x - 1)) * o + x * d - 1) + (e * o + d)) z p) h a)
+
+-- a raised number over the index is the number rounded up
+pub raised_over : (n d x : ℕ) (p : Parts) → 0 < x → 0 < d → AreParts (n + x * d - 1) d p → p.whole / x ≡ div_ceil n (d * x)
+raised_over n d x p q l a =
+    let b : 0 < d * x = mul-pos {m = d} {n = x} l q in
+    let e : n + x * d - 1 ≡ n + (d * x - 1) = omega (arith, b) in
+    floor_twice (n + x * d - 1) d x p a ∙ ap (λ z. z / (d * x)) e ∙ ceil_by_sum n (d * x) b
+
+-- the lower whole part is at most the raised upper one
+pub wholes_ordered : (n k d b x : ℕ) (p r : Parts) → n ≤ k → 0 < x → 0 < d → d ≤ b → AreParts n b p → AreParts (k + x * d - 1) d r → p.whole ≤ r.whole
+wholes_ordered n k d b x p r l q t h a c =
+    let u : 0 < x * d = mul-pos {m = x} {n = d} q t in
+    let v : p.whole * d ≤ p.whole * b = mul-le-mul_left p.whole h in
+    let w : p.whole * d < (r.whole + 1) * d = omega (arith, v, u, l, a.sum, c.sum, c.rest) in
+    let y : p.whole < r.whole + 1 = lt_of_mul-lt-mul_right d w in
+    omega (arith, y)
+
 -- parts of a quotient are those of an equal numerator over an equal divisor
 pub same_parts : (n k d e : ℕ) (p : Parts) → n ≡ k → d ≡ e → AreParts n d p → AreParts k e p
 same_parts n k d e p h i a = subst (λ z. AreParts z e p) h (subst (λ z. AreParts n z p) i a)
@@ -84,3 +118,33 @@ share_ordered f al ah bl bh lower upper h p k e i = rw (e, i) (floor_below_ceil 
 -- the upper end of a quotient whose numerator is at most 65536 is below 2^127
 pub share_most : (f ah bl upper : ℕ) → f ≤ 52 → ah ≤ 65536 * 2 ^ f → 0 < bl → upper ≡ div_ceil (ah * 2 ^ f) bl → upper < 2 ^ 127
 share_most f ah bl upper s h p e = omega (arith, e, ceil_le (ah * 2 ^ f) bl p, share_room f ah (2 ^ f) s refl h)
+
+-- a number that is below so many places of a larger one stays below it after the shift
+pub shift_below : (x t p : ℕ) → x < t / p → x * p < t
+shift_below x t p l =
+    let a : (x + 1) * p ≤ t / p * p = mul-le-mul_right p (omega (arith, l)) in
+    let b = div-mul-le_self t p in
+    grind (arith, a, b, l)
+
+-- a quotient rounded up stays the same where both numbers are shifted
+ceil_shift : (a b p : ℕ) → 0 < b → 0 < p → div_ceil (a * p) (b * p) ≡ div_ceil a b
+ceil_shift a b p q h =
+    let t = div_ceil_times a b q in
+    let x : a * p ≤ div_ceil a b * b * p = mul-le-mul_right p t.0 in
+    let y : (div_ceil a b * b + 1) * p ≤ (a + b) * p = mul-le-mul_right p (omega (arith, t.1)) in
+    sym (ceil_is (a * p) (b * p) (div_ceil a b) (mul-pos {m = b} {n = p} q h) (omega (arith, x)) (omega (arith, y, h)))
+
+-- so does a quotient of intervals
+pub shifted_share : (f p : ℕ) (a b x : Ends) (upper lower : ℕ) → 0 < b.lo → 0 < b.hi → 0 < p → x ≡ record { lo = a.lo * p; hi = a.hi * p } → upper ≡ b.hi * p → lower ≡ b.lo * p
+    → ends_div f x (record { lo = lower; hi = upper }) ≡ ends_div f a b
+shifted_share f p a b x upper lower l h q e u k =
+    let i : a.lo * p * 2 ^ f ≡ p * (a.lo * 2 ^ f) = omega arith in
+    let n : b.hi * p ≡ p * b.hi = omega arith in
+    let j : a.hi * p * 2 ^ f ≡ a.hi * 2 ^ f * p = omega arith in
+    let low : a.lo * p * 2 ^ f / (b.hi * p) ≡ a.lo * 2 ^ f / b.hi = ap₂ (λ y z. y / z) i n ∙ mul-div-mul_left (a.lo * 2 ^ f) b.hi q in
+    let high : div_ceil (a.hi * p * 2 ^ f) (b.lo * p) ≡ div_ceil (a.hi * 2 ^ f) b.lo = ap (λ z. div_ceil z (b.lo * p)) j ∙ ceil_shift (a.hi * 2 ^ f) b.lo p l q in
+    rw (e, u, k) (ap₂ (λ y z. record { lo = y; hi = z }) low high)
+
+-- a number of fewer than 64 bits after the shift loses none
+pub shift_is : (y x p : ℕ) → y ≡ x → x * p < 2 ^ 63 → y * p % 2 ^ 64 ≡ x * p
+shift_is y x p e l = ap (λ z. z * p % 2 ^ 64) e ∙ mod-eq_of_lt (omega (arith, l))

@@ -5,7 +5,7 @@
 ghost use Rattle.std.specs.Prelude.{◌≡◌, ℕ, [], ◌+◌, ◌*◌, ◌^◌, ◌<◌, ◌≤◌, true, IfOk, OnOk, IfSome, IfNone, length};
 ghost use Rattle.fixed_interval.specs.Ends.{Ends, IsWithinLimit};
 ghost use Rattle.series_bounds.specs.Profile.{pivot_at, least_end, weight_ends, is_wide};
-ghost use Rattle.series_bounds.specs.Ratios.{AreRatios};
+ghost use Rattle.series_bounds.specs.Ratios.{IsNear};
 ghost use Rattle.series_bounds.specs.Walk.{AtLeastEnd, Begins, Midway, SumsTo, ToPivot};
 ghost use Rattle.series_bounds.specs.Answer.{IsBeginning, IsSum};
 
@@ -27,8 +27,6 @@ struct Walked<const F: u32> {
     last: Iv64<F>,
     /// The index.
     next: u32,
-    /// The ratio there.
-    ratios: Ratios<F>,
 }
 
 /// Adds a weight where fewer are held than are wanted.
@@ -49,6 +47,7 @@ fn hold<const F: u32>(
 
 /// The first weights and the sum, from the pivot on to the first index at which the list may end, or to where the
 /// weights stay the same, and None where one passes 8. `list` has those to the pivot, and `low` is their sum.
+#[inline(never)]
 fn rise<const F: u32>(
     list: &mut Vec<Iv64<F>>,
     mean: Iv<F>,
@@ -60,7 +59,7 @@ fn rise<const F: u32>(
     requires positive { 0 < mean.lo }
     requires mean_top { IsWithinLimit F mean }
     requires excess_top { excess.hi ≤ 2048 * 2 ^ F }
-    requires near { excess.hi ≤ 2 ^ F + excess.lo }
+    requires near { IsNear F excess }
     requires depth { pivot ≤ 256 }
     requires place { pivot ≡ pivot_at F mean excess }
     requires begun { Begins (weight_ends F mean excess) wanted (pivot + 1) list.old.items }
@@ -68,7 +67,6 @@ fn rise<const F: u32>(
     ensures wide { IfOk result (λ found. IfNone found (is_wide F mean.entry excess.entry ≡ true)) }
     ensures known { IfOk result (λ found. IfSome found
         (λ b. Midway F mean.entry excess.entry wanted list.new.items b.sum b.last b.next)) }
-    ensures ratios { IfOk result (λ found. IfSome found (λ b. AreRatios F mean.entry excess.entry b.next b.ratios)) }
 {
     let first = u32::from(pivot) + 1;
     let mut sum = low;
@@ -81,22 +79,16 @@ fn rise<const F: u32>(
         }
         sum = sum.add(last);
         hold(list, last, wanted)?;
-        if stays(mean, excess, last, x + 1) {
+        if stays(&mean, &excess, last, x + 1) {
             return Ok(Some(Walked {
                 sum,
                 last,
                 next: x + 1,
-                ratios,
             }));
         }
     }
     let next = first.max(FIRST_END);
-    Ok(Some(Walked {
-        sum,
-        last,
-        next,
-        ratios,
-    }))
+    Ok(Some(Walked { sum, last, next }))
 }
 
 /// Adds to the first weights so that there are so many or more, from where they stay the same.
@@ -140,29 +132,6 @@ fn level_sum<const F: u32>(
     sum.open().add(last.open().times(start - next))
 }
 
-/// The ratio at an index, from the one at another.
-fn brought<const F: u32>(
-    mean: Iv<F>,
-    excess: Iv<F>,
-    start: u32,
-    next: u32,
-    ratios: Ratios<F>,
-) -> Ratios<F>
-    requires mean_top { IsWithinLimit F mean }
-    requires excess_top { excess.hi ≤ 2048 * 2 ^ F }
-    requires near { excess.hi ≤ 2 ^ F + excess.lo }
-    requires from { 0 < start }
-    requires depth { start ≤ 1025 }
-    requires ratios { AreRatios F mean excess next ratios }
-    ensures { AreRatios F mean.entry excess.entry start result }
-{
-    if next == start {
-        ratios
-    } else {
-        ratios.again(mean, excess, start)
-    }
-}
-
 /// The sum of all weights with what the ones past the list come to at most, from those below the first index at which
 /// the list may end: `low` is their sum, and `before` the last of them. None where a weight passes 8 or the rest
 /// needn't fall.
@@ -172,23 +141,21 @@ fn close<const F: u32>(
     start: u32,
     low: Iv<F>,
     before: Iv64<F>,
-    at: Ratios<F>,
 ) -> Option<Iv<F>>
     requires mean_top { IsWithinLimit F mean }
     requires excess_top { excess.hi ≤ 2048 * 2 ^ F }
-    requires near { excess.hi ≤ 2 ^ F + excess.lo }
+    requires near { IsNear F excess }
     requires depth { pivot_at F mean excess ≤ 256 }
     requires start { start ≡ least_end F mean excess }
     requires begun { AtLeastEnd F mean excess low before }
-    requires ratios { AreRatios F mean excess start at }
     ensures wide { IfNone result (is_wide F mean.entry excess.entry ≡ true) }
     ensures known { IfSome result (IsSum F mean.entry excess.entry) }
 {
     let most = most_weight::<F>();
-    let far = at.far(excess);
+    let mut ratios = Ratios::at(mean, excess, start);
+    let far = ratios.far(excess);
     let mut sum = low;
     let mut last = before;
-    let mut ratios = at;
     let mut ratio = ratios.take(mean, excess, start);
     for x in start..LAST_END + 1 {
         last = last.times(ratio);
@@ -236,34 +203,28 @@ fn closed_at_once<const F: u32>(
     Some(Iv::of_ends(low.lo(), low.hi() + 2))
 }
 
-/// The sum of all weights, from what was found below an index and brought to the first one at which the list may end.
-/// None where a weight passes 8 or the rest needn't fall.
+/// The sum of all weights, from those below the first index at which the list may end, as for [`close`]. None where a
+/// weight passes 8 or the rest needn't fall.
 fn closed<const F: u32>(
     mean: Iv<F>,
     excess: Iv<F>,
     start: u32,
     low: Iv<F>,
     before: Iv64<F>,
-    next: u32,
-    ratios: Ratios<F>,
 ) -> Option<Iv<F>>
     requires positive { 0 < mean.lo }
     requires mean_top { IsWithinLimit F mean }
     requires excess_top { excess.hi ≤ 2048 * 2 ^ F }
-    requires near { excess.hi ≤ 2 ^ F + excess.lo }
+    requires near { IsNear F excess }
     requires depth { pivot_at F mean excess ≤ 256 }
     requires start { start ≡ least_end F mean excess }
     requires begun { AtLeastEnd F mean excess low before }
-    requires ratios { AreRatios F mean excess next ratios }
     ensures wide { IfNone result (is_wide F mean.entry excess.entry ≡ true) }
     ensures known { IfSome result (IsSum F mean.entry excess.entry) }
 {
     match closed_at_once(mean, excess, start, low, before) {
         Some(sum) => Some(sum),
-        None => {
-            let ratios = brought(mean, excess, start, next, ratios);
-            close(mean, excess, start, low, before, ratios)
-        }
+        None => close(mean, excess, start, low, before),
     }
 }
 
@@ -279,7 +240,7 @@ fn near_weights<const F: u32>(
     requires positive { 0 < mean.lo }
     requires mean_top { IsWithinLimit F mean }
     requires excess_top { excess.hi ≤ 2048 * 2 ^ F }
-    requires near { excess.hi ≤ 2 ^ F + excess.lo }
+    requires near { IsNear F excess }
     requires wanted { wanted ≤ 63 }
     ensures wide { IfOk result (λ found. IfNone found (is_wide F mean.entry excess.entry ≡ true)) }
     ensures known { IfOk result (λ found. IfSome found
@@ -296,15 +257,10 @@ fn near_weights<const F: u32>(
         return Ok(None);
     };
     let start = (u32::from(pivot) + 1).max(FIRST_END);
-    let Walked {
-        sum,
-        last,
-        next,
-        ratios,
-    } = walked;
+    let Walked { sum, last, next } = walked;
     fill(list, mean, excess, next, last, wanted)?;
     let low = level_sum(mean, excess, start, sum, last, next);
-    Ok(closed(mean, excess, start, low, last, next, ratios))
+    Ok(closed(mean, excess, start, low, last))
 }
 
 /// Puts all weights into the list, and answers their sum.

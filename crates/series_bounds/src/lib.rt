@@ -28,7 +28,7 @@ ghost use Rattle.series_bounds.specs.Profile.{
   ends_sum,
   weights_of,
 };
-ghost use Rattle.series_bounds.specs.Ratios.{AreRatios};
+ghost use Rattle.series_bounds.specs.Ratios.{AreRatios, IsNear};
 ghost use Rattle.series_bounds.specs.Walk.{ToPivot, ToNext, ToLeastEnd, ToEnd, StaysFrom};
 ghost use Rattle.series_bounds.specs.Answer.{Weighs, SizedAnswer};
 
@@ -38,13 +38,12 @@ use crate::ratios::Ratios;
 use crate::shares::div_near;
 use crate::short::Iv64;
 use fixed_interval::Iv;
-use quotients::{inverse_of, inverse_refined};
+use quotients::Divisor;
 use spares_io::{List, NoMemory};
 use std::alloc::Global;
 
 pub mod heads;
 pub mod kinds;
-mod parts;
 pub mod plain;
 mod ratios;
 pub mod shares;
@@ -82,6 +81,9 @@ const MOST_REMAINDER: u128 = 256;
 /// A weight above this makes the answer wide.
 const MOST_WEIGHT: u32 = 8;
 
+/// Weights of fewer units are looked at for whether they stay the same. It is no power of 2, whose test takes more.
+const FEW: u64 = 3;
+
 /// The weights below an index, the last of them, and the ratio there.
 #[derive(Drop)]
 struct Begun<const F: u32> {
@@ -115,21 +117,9 @@ fn most_weight<const F: u32>() -> u128
     Iv::<F>::exact(MOST_WEIGHT).hi()
 }
 
-/// What the ratio of the weight before `x` to the one at `x` is divided by at most, where that has 64 bits.
-fn back_divisor<const F: u32>(mean: Iv<F>, excess: Iv<F>, x: u32) -> u64
-    requires mean_top { IsWithinLimit F mean }
-    requires above { 2 ^ F + excess.hi ≤ mean.lo }
-    requires from { 0 < x }
-    requires depth { x ≤ 256 }
-    ensures { 0 < result }
-{
-    let below = mean.add(excess.times(x - 1));
-    below.hi().clamp(1, u128::from(u64::MAX)) as u64
-}
-
-/// The ratio of the weight before `x` to the one at `x`, where the mean is at least 1 above the excess. `inverse` is
-/// taken for that of the upper end of what it is divided by.
-fn back_at<const F: u32>(mean: Iv<F>, excess: Iv<F>, x: u32, inverse: u64) -> Iv<F>
+/// The ratio of the weight before `x` to the one at `x`, where the mean is at least 1 above the excess. `near` is a
+/// divisor near the upper end of what it is divided by, and becomes that.
+fn back_at<const F: u32>(mean: Iv<F>, excess: Iv<F>, x: u32, near: &mut Divisor<F>) -> Iv<F>
     requires mean_top { IsWithinLimit F mean }
     requires above { 2 ^ F + excess.hi ≤ mean.lo }
     requires from { 0 < x }
@@ -139,23 +129,37 @@ fn back_at<const F: u32>(mean: Iv<F>, excess: Iv<F>, x: u32, inverse: u64) -> Iv
 {
     let above = Iv::exact(1).add(excess).times(x);
     let below = mean.add(excess.times(x - 1));
-    div_near(above, below, inverse)
+    div_near(above, below, near)
 }
 
 /// Whether a weight before the index `x` is from 0 to 1 unit, and all ratios from there on are at most 1. Then all
 /// weights from there on are the same.
-fn stays<const F: u32>(mean: Iv<F>, excess: Iv<F>, before: Iv64<F>, x: u32) -> bool
-    requires mean_top { IsWithinLimit F mean }
-    requires excess_top { excess.hi ≤ 2048 * 2 ^ F }
+#[inline(always)]
+fn stays<const F: u32>(mean: &Iv<F>, excess: &Iv<F>, before: Iv64<F>, x: u32) -> bool
+    requires mean_top { IsWithinLimit F mean.now }
+    requires excess_top { excess.now.hi ≤ 2048 * 2 ^ F }
     requires from { 0 < x }
     requires depth { x ≤ 1025 }
-    ensures { result ≡ true → StaysFrom F mean.entry excess.entry before.entry x }
+    requires top { before.hi ≤ 8 * 2 ^ F }
+    ensures { result ≡ true → StaysFrom F mean.now excess.now before.entry x }
+{
+    (before.hi() as u64) < FEW && settles(mean, excess, before, x)
+}
+
+/// The same for any weight.
+#[inline(never)]
+fn settles<const F: u32>(mean: &Iv<F>, excess: &Iv<F>, before: Iv64<F>, x: u32) -> bool
+    requires mean_top { IsWithinLimit F mean.now }
+    requires excess_top { excess.now.hi ≤ 2048 * 2 ^ F }
+    requires from { 0 < x }
+    requires depth { x ≤ 1025 }
+    ensures { result ≡ true → StaysFrom F mean.now excess.now before.entry x }
 {
     if before.lo() != 0 || before.hi() != 1 {
         return false;
     }
     let above = mean.add(excess.times(x - 1));
-    let step = Iv::exact(1).add(excess);
+    let step = Iv::exact(1).add(*excess);
     let below = step.times(x);
     above.hi() <= below.lo() && excess.hi() <= step.lo()
 }
@@ -207,18 +211,6 @@ fn pivot_of<const F: u32>(mean: Iv<F>, excess: Iv<F>) -> u16
     (mean.less(excess).lo() / unit) as u16
 }
 
-/// The inverse of `den`, at the first step by a division and later from that of the one before it.
-fn next_inverse<const F: u32>(inverse: u64, den: u64, step: u32) -> u64
-    requires scale { F ≤ 52 }
-    requires divisor { 0 < den }
-{
-    if step == 0 {
-        inverse_of::<F>(den)
-    } else {
-        inverse_refined::<F>(inverse, den)
-    }
-}
-
 /// Puts the weights from 0 to the pivot into an empty list, and answers whether none passes 8.
 fn down<const F: u32>(
     list: &mut Vec<Iv64<F>>,
@@ -237,11 +229,10 @@ fn down<const F: u32>(
     let most = most_weight::<F>();
     let mut term = Iv64::one();
     list.push(term)?;
-    let mut inverse = u64::MAX;
+    let mut near = Divisor::one();
     for step in 0..u32::from(pivot) {
         let x = u32::from(pivot) - step;
-        inverse = next_inverse::<F>(inverse, back_divisor(mean, excess, x), step);
-        let back = Iv64::of(back_at(mean, excess, x, inverse));
+        let back = Iv64::of(back_at(mean, excess, x, &mut near));
         term = term.times(back);
         if term.hi() > most {
             return Ok(false);
@@ -263,7 +254,7 @@ fn climb<const F: u32>(
     requires positive { 0 < mean.lo }
     requires mean_top { IsWithinLimit F mean }
     requires excess_top { excess.hi ≤ 2048 * 2 ^ F }
-    requires near { excess.hi ≤ 2 ^ F + excess.lo }
+    requires near { IsNear F excess }
     requires depth { pivot ≤ 256 }
     requires place { pivot ≡ pivot_at F mean excess }
     requires begun { ToPivot F mean excess begun.items }
@@ -272,18 +263,17 @@ fn climb<const F: u32>(
         (λ b. ToNext F mean.entry excess.entry b.list.items b.last b.next)) }
     ensures ratios { IfOk result (λ found. IfSome found (λ b. AreRatios F mean.entry excess.entry b.next b.ratios)) }
 {
-    let most = most_weight::<F>();
     let first = u32::from(pivot) + 1;
     let mut list = begun;
     let mut last = Iv64::one();
     let mut ratios = Ratios::at(mean, excess, first);
     for x in first..FIRST_END {
         last = last.times(ratios.take(mean, excess, x));
-        if last.hi() > most {
+        if last.passes_8() {
             return Ok(None);
         }
         list.push(last)?;
-        if stays(mean, excess, last, x + 1) {
+        if stays(&mean, &excess, last, x + 1) {
             return Ok(Some(Begun {
                 list,
                 last,
@@ -310,7 +300,7 @@ fn level<const F: u32>(
 ) -> Result<Begun<F>, NoMemory>
     requires mean_top { IsWithinLimit F mean }
     requires excess_top { excess.hi ≤ 2048 * 2 ^ F }
-    requires near { excess.hi ≤ 2 ^ F + excess.lo }
+    requires near { IsNear F excess }
     requires depth { start ≤ 1025 }
     requires start { start ≡ least_end F mean excess }
     requires begun { ToNext F mean excess begun.list.items begun.last begun.next }
@@ -348,7 +338,7 @@ fn finish<const F: u32>(
 ) -> Result<Option<Ended<F>>, NoMemory>
     requires mean_top { IsWithinLimit F mean }
     requires excess_top { excess.hi ≤ 2048 * 2 ^ F }
-    requires near { excess.hi ≤ 2 ^ F + excess.lo }
+    requires near { IsNear F excess }
     requires depth { pivot_at F mean excess ≤ 256 }
     requires start { start ≡ least_end F mean excess }
     requires begun { ToLeastEnd F mean excess begun.list.items begun.last }
@@ -392,7 +382,7 @@ fn risen<const F: u32>(
     requires positive { 0 < mean.lo }
     requires mean_top { IsWithinLimit F mean }
     requires excess_top { excess.hi ≤ 2048 * 2 ^ F }
-    requires near { excess.hi ≤ 2 ^ F + excess.lo }
+    requires near { IsNear F excess }
     requires depth { pivot ≤ 256 }
     requires place { pivot ≡ pivot_at F mean excess }
     requires low { ToPivot F mean excess low.items }
@@ -408,11 +398,12 @@ fn risen<const F: u32>(
     Ok(ended)
 }
 
-/// Whether the ends of the excess are at most 1 apart, as they are but for very wide intervals.
+/// Whether the ends of the excess are at most 1 apart, as they are but for very wide intervals, and have 62 bits.
+#[inline(always)]
 fn is_near<const F: u32>(excess: Iv<F>) -> bool
-    ensures { result ≡ true → excess.entry.hi ≤ 2 ^ F + excess.entry.lo }
+    ensures { result ≡ true → IsNear F excess.entry }
 {
-    excess.width() <= unit::<F>()
+    excess.hi() < 1 << 62 && excess.width() <= unit::<F>()
 }
 
 /// All weights, with what the ones past them come to at most, and None where a weight passes 8 or the rest needn't

@@ -1,56 +1,81 @@
-//! The ratios of the weights from index to index, with divisions for the first one alone.
+//! The ratios of the weights from index to index, each from the one before it by additions.
 
-ghost use Rattle.std.specs.Prelude.{◌≡◌, ◌+◌, ◌-◌, ◌*◌, ◌^◌, ◌<◌, ◌≤◌};
+ghost use Rattle.std.specs.Prelude.{◌≡◌, ◌+◌, ◌-◌, ◌*◌, ◌/◌, ◌^◌, ◌<◌, ◌≤◌};
 ghost use Rattle.series_bounds.specs.Profile.{ratio_ends, far_ratio};
-ghost use Rattle.series_bounds.specs.Ratios.{AreParts, AreRatios};
+ghost use Rattle.quotients.specs.Parts.{AreParts};
+ghost use Rattle.series_bounds.specs.Ratios.{AreRatios, IsNear};
 ghost use Rattle.fixed_interval.specs.Ends.{InScale, IsWithinLimit};
 
-use crate::parts::Parts;
 use crate::short::Iv64;
 use crate::unit;
 use fixed_interval::Iv;
-use quotients::{guess_by, inverse_beside, inverse_of};
+use quotients::{Divisor, Parts, few_quotient, short_quotient};
 
 /// A ratio of weights but for its division by the index, and what the next index adds to it. The parts have 64 bits
-/// where the ends of the excess are at most 1 apart.
+/// where the ends of the excess are at most 1 apart. The upper end is raised so that it is rounded down as the lower.
 #[derive(Drop)]
 pub(crate) struct Ratios<const F: u32> {
     low: Parts,
     high: Parts,
     low_step: Parts,
     high_step: Parts,
-    /// The inverses of the divisors, by which quotients are guessed.
-    low_inverse: u64,
-    high_inverse: u64,
+    /// What the lower ends are divided by, beside the index.
+    by_low: Divisor<F>,
+    /// The same of the upper ends.
+    by_high: Divisor<F>,
 }
 
-/// The parts of so many whole ones, given in units of `2^-F`, by `den` units, of which `inverse` is the inverse.
-fn parts_of<const F: u32>(num: u128, den: u64, inverse: u64) -> Parts
+/// The parts of so many whole ones, given in units of `2^-F`, by a divisor.
+#[inline(always)]
+fn parts_of<const F: u32>(num: u128, by: Divisor<F>) -> Parts
     requires scale { InScale F }
-    requires divisor { 0 < den }
-    requires room { num ≤ 1281 * den }
-    ensures { AreParts (num * 2 ^ F) den result }
+    requires room { num ≤ 1281 * by }
+    ensures { AreParts (num * 2 ^ F) by.entry result }
 {
-    let near = num.min(u128::from(u64::MAX)) as u64;
-    Parts::near(num * unit::<F>(), den, guess_by(near, inverse))
+    if num <= 1 << 62 {
+        by.parts(num as u64)
+    } else {
+        let den = by.number();
+        Parts::of(num * unit::<F>(), den)
+    }
 }
 
-/// What the lower and the upper ends of all ratios are divided by, beside the index.
-#[derive(Clone, Copy, Drop)]
-struct Divisors {
-    low: u64,
-    high: u64,
+/// 1 more than an end of the excess.
+#[inline(always)]
+fn one_more<const F: u32>(end: u64) -> u64
+    requires scale { InScale F }
+    requires short { end < 2 ^ 62 }
+    ensures more { result ≡ 1 * 2 ^ F + end }
+    ensures short { result < 2 ^ 63 }
+{
+    (1 << F) + end
 }
 
-/// 1 more than the excess.
-fn divisors_of<const F: u32>(excess: Iv<F>) -> Divisors
-    requires excess_top { excess.hi ≤ 2048 * 2 ^ F }
-    ensures low { result.low ≡ 1 * 2 ^ F + excess.entry.hi }
-    ensures high { result.high ≡ 1 * 2 ^ F + excess.entry.lo }
+/// The numbers from `lower` to `upper` over an index, both ends rounded down.
+#[inline(always)]
+fn over<const F: u32>(lower: u64, upper: u64, x: u32) -> Iv64<F>
+    requires scale { InScale F }
+    requires ordered { lower ≤ upper }
+    requires from { 0 < x }
+    ensures { result ≡ record { lo = lower / x; hi = upper / x } }
 {
-    let below = Iv::exact(1).add(excess);
-    let (low, high) = (below.hi() as u64, below.lo() as u64);
-    Divisors { low, high }
+    if upper < 1 << 55 && x < 256 {
+        Iv64::of_ends(few_quotient(lower, x as u8), few_quotient(upper, x as u8))
+    } else {
+        Iv64::of_ends(long_over(lower, x), long_over(upper, x))
+    }
+}
+
+/// A number of any length over an index, rounded down.
+fn long_over(num: u64, x: u32) -> u64
+    requires { 0 < x }
+    ensures { result ≡ num / x }
+{
+    if x < 256 {
+        short_quotient(num, x as u8)
+    } else {
+        num / u64::from(x)
+    }
 }
 
 impl<const F: u32> Ratios<F> {
@@ -59,64 +84,66 @@ impl<const F: u32> Ratios<F> {
     pub(crate) fn at(mean: Iv<F>, excess: Iv<F>, x: u32) -> Ratios<F>
         requires mean_top { IsWithinLimit F mean }
         requires excess_top { excess.hi ≤ 2048 * 2 ^ F }
-        requires near { excess.hi ≤ 2 ^ F + excess.lo }
+        requires near { IsNear F excess }
         requires from { 0 < x }
         requires depth { x ≤ 1025 }
         ensures { AreRatios F mean.entry excess.entry x result }
     {
-        let by = divisors_of(excess);
-        let low_inverse = inverse_of::<F>(by.low);
-        let high_inverse = inverse_beside::<F>(low_inverse, by.low, by.high);
-        Ratios::with_inverses(mean, excess, x, low_inverse, high_inverse)
+        let by_low = Divisor::of(one_more::<F>(excess.hi() as u64));
+        let by_high = by_low.beside(one_more::<F>(excess.lo() as u64));
+        Ratios::with_divisors(mean, excess, x, by_low, by_high)
     }
 
     /// At another index.
     pub(crate) fn again(&self, mean: Iv<F>, excess: Iv<F>, x: u32) -> Ratios<F>
         requires mean_top { IsWithinLimit F mean }
         requires excess_top { excess.hi ≤ 2048 * 2 ^ F }
-        requires near { excess.hi ≤ 2 ^ F + excess.lo }
+        requires near { IsNear F excess }
         requires from { 0 < x }
         requires depth { x ≤ 1025 }
+        requires by_low { self.now.by_low ≡ 1 * 2 ^ F + excess.hi }
+        requires by_high { self.now.by_high ≡ 1 * 2 ^ F + excess.lo }
         ensures { AreRatios F mean.entry excess.entry x result }
     {
-        Ratios::with_inverses(mean, excess, x, self.low_inverse, self.high_inverse)
+        Ratios::with_divisors(mean, excess, x, self.by_low, self.by_high)
     }
 
-    /// At the index `x`, with what the inverses of the two divisors are taken for.
+    /// At the index `x`, with 1 more than the excess.
     #[inline(always)]
-    fn with_inverses(
+    fn with_divisors(
         mean: Iv<F>,
         excess: Iv<F>,
         x: u32,
-        low_inverse: u64,
-        high_inverse: u64,
+        by_low: Divisor<F>,
+        by_high: Divisor<F>,
     ) -> Ratios<F>
         requires mean_top { IsWithinLimit F mean }
         requires excess_top { excess.hi ≤ 2048 * 2 ^ F }
-        requires near { excess.hi ≤ 2 ^ F + excess.lo }
+        requires near { IsNear F excess }
         requires from { 0 < x }
         requires depth { x ≤ 1025 }
+        requires low { by_low ≡ 1 * 2 ^ F + excess.hi }
+        requires high { by_high ≡ 1 * 2 ^ F + excess.lo }
         ensures { AreRatios F mean.entry excess.entry x result }
     {
         let above = mean.add(excess.times(x - 1));
-        let by = divisors_of(excess);
         Ratios {
-            low: parts_of::<F>(above.lo(), by.low, low_inverse),
-            high: parts_of::<F>(above.hi(), by.high, high_inverse),
-            low_step: parts_of::<F>(excess.lo(), by.low, low_inverse),
-            high_step: parts_of::<F>(excess.hi(), by.high, high_inverse),
-            low_inverse,
-            high_inverse,
+            low: parts_of(above.lo(), by_low),
+            high: parts_of(above.hi(), by_high).raised(x, by_high.number()),
+            low_step: by_low.parts(excess.lo() as u64),
+            high_step: by_high.parts(excess.hi() as u64).once_more(),
+            by_low,
+            by_high,
         }
     }
 
     /// What bounds all ratios far out: the excess over 1 more than it.
     pub(crate) fn far(&self, excess: Iv<F>) -> u128
-        requires excess_top { excess.hi ≤ 2048 * 2 ^ F }
+        requires near { IsNear F excess }
+        requires by_low { self.now.by_low ≡ 1 * 2 ^ F + excess.hi }
         ensures { result ≡ far_ratio F excess.entry }
     {
-        let by = divisors_of(excess);
-        parts_of::<F>(excess.hi(), by.low, self.low_inverse).ceil()
+        u128::from(self.by_low.ceil(excess.hi() as u64))
     }
 
     /// The ratio of the weight at `x`, at which they are, to the one before it. They go on to the next index.
@@ -124,7 +151,7 @@ impl<const F: u32> Ratios<F> {
     pub(crate) fn take(&mut self, mean: Iv<F>, excess: Iv<F>, x: u32) -> Iv64<F>
         requires mean_top { IsWithinLimit F mean }
         requires excess_top { excess.hi ≤ 2048 * 2 ^ F }
-        requires near { excess.hi ≤ 2 ^ F + excess.lo }
+        requires near { IsNear F excess }
         requires from { 0 < x }
         requires depth { x ≤ 1025 }
         requires at { AreRatios F mean excess x self.old }
@@ -132,10 +159,9 @@ impl<const F: u32> Ratios<F> {
         ensures ends { result ≡ ratio_ends F mean.entry excess.entry x }
         ensures top { result.hi ≤ 257 * 2 ^ F }
     {
-        let by = divisors_of(excess);
-        let ratio = Iv64::of_ends(self.low.floor_over(x), self.high.ceil_over(x));
-        self.low = self.low.plus(self.low_step, by.low);
-        self.high = self.high.plus(self.high_step, by.high);
+        let ratio = over(self.low.whole, self.high.whole, x);
+        self.low = self.low.plus(self.low_step, self.by_low.number());
+        self.high = self.high.plus(self.high_step, self.by_high.number());
         ratio
     }
 }

@@ -2,10 +2,21 @@
 
 ghost use Rattle.std.specs.Prelude.{◌≡◌, true, false, ◌+◌, ◌*◌, ◌/◌, ◌^◌, ◌<◌, ◌≤◌};
 ghost use Rattle.std.specs.Int.{div_ceil};
-ghost use Rattle.fixed_interval.specs.Ends.{InScale, IsInterval, ends_add, ends_exact, ends_mul};
+ghost use Rattle.fixed_interval.specs.Ends.{
+  InScale,
+  IsInterval,
+  ends_add,
+  ends_capped,
+  ends_div,
+  ends_exact,
+  ends_less,
+  ends_mul,
+  ends_times,
+};
 
 use crate::{most_weight, unit};
 use fixed_interval::Iv;
+use quotients::Divisor;
 use std::marker::Model;
 
 /// The numbers from a lower to an upper end, both in units of `2^-F` and of 64 bits. It is seen as an [`Iv`] is, and
@@ -95,9 +106,9 @@ impl<const F: u32> Iv64<F> {
         self.hi > most_short::<F>()
     }
 
-    /// The sum.
+    /// The sum, exactly.
     #[inline(always)]
-    pub(crate) fn add(self, b: Iv64<F>) -> Iv64<F>
+    pub fn add(self, b: Iv64<F>) -> Iv64<F>
         requires { self.hi + b.hi < 2 ^ 64 }
         ensures ends { result ≡ ends_add self.entry b.entry }
     {
@@ -105,6 +116,79 @@ impl<const F: u32> Iv64<F> {
             lo: self.lo + b.lo,
             hi: self.hi + b.hi,
         }
+    }
+
+    /// The difference, exactly, where it is above 0; what is below 0 is cut at 0.
+    #[inline(always)]
+    pub fn less(self, b: Iv64<F>) -> Iv64<F>
+        ensures { result ≡ ends_less self.entry b.entry }
+    {
+        Iv64 {
+            lo: self.lo.saturating_sub(b.hi),
+            hi: self.hi.saturating_sub(b.lo),
+        }
+    }
+
+    /// The same number, known to be at most 1.
+    #[inline(always)]
+    pub fn up_to_one(self) -> Iv64<F>
+        ensures ends { result ≡ ends_capped self.entry (2 ^ F) }
+        ensures most { result.hi ≤ 2 ^ F }
+    {
+        let one = unit::<F>() as u64;
+        Iv64 {
+            lo: self.lo.min(one),
+            hi: self.hi.min(one),
+        }
+    }
+
+    /// What a number of at most 1 leaves of 1, exactly.
+    #[inline(always)]
+    pub fn left_of_one(self) -> Iv64<F>
+        requires { self.hi ≤ 2 ^ F }
+        ensures { result ≡ ends_less (ends_exact F 1) self.entry }
+    {
+        let one = unit::<F>() as u64;
+        Iv64 {
+            lo: one - self.hi,
+            hi: one - self.lo,
+        }
+    }
+
+    /// Twice the number, exactly.
+    #[inline(always)]
+    pub fn twice(self) -> Iv64<F>
+        requires { self.hi < 2 ^ 63 }
+        ensures { result ≡ ends_times self.entry 2 }
+    {
+        Iv64 {
+            lo: self.lo * 2,
+            hi: self.hi * 2,
+        }
+    }
+
+    /// The quotient by the numbers from one divisor to another: the lower end rounded down, the upper end up.
+    #[inline(always)]
+    pub fn over(self, lower: Divisor<F>, upper: Divisor<F>) -> Iv64<F>
+        requires short { self.hi ≤ 2 ^ 62 }
+        requires least { 0 < lower }
+        requires ordered { lower ≤ upper }
+        ensures { result ≡ ends_div F self.entry (record { lo = lower.entry; hi = upper.entry }) }
+    {
+        let least = upper.floor(self.lo);
+        let most = lower.ceil(self.hi);
+        Iv64::of_ends(least, most)
+    }
+
+    /// The product with a number of at most 1: the lower end rounded down, the upper end up.
+    #[inline(always)]
+    pub fn times_part(self, part: Iv64<F>) -> Iv64<F>
+        requires { part.hi ≤ 2 ^ F }
+        ensures { result ≡ ends_mul F self.entry part.entry }
+    {
+        let lower = part_down::<F>(self.lo, part.lo);
+        let upper = part_up::<F>(self.hi, part.hi);
+        Iv64::of_ends(lower, upper)
     }
 
     /// A weight times a ratio.
@@ -149,6 +233,27 @@ fn product_up<const F: u32>(weight: u64, ratio: u64) -> u64
     ensures { result ≡ div_ceil (weight * ratio) (2 ^ F) }
 {
     let product = u128::from(weight) * u128::from(ratio);
+    ((product + (unit::<F>() - 1)) >> F) as u64
+}
+
+/// A part, at most 1, of a number, rounded down.
+#[inline(always)]
+fn part_down<const F: u32>(number: u64, part: u64) -> u64
+    requires scale { InScale F }
+    requires part { part ≤ 2 ^ F }
+    ensures { result ≡ number * part / 2 ^ F }
+{
+    ((u128::from(number) * u128::from(part)) >> F) as u64
+}
+
+/// The same rounded up.
+#[inline(always)]
+fn part_up<const F: u32>(number: u64, part: u64) -> u64
+    requires scale { InScale F }
+    requires part { part ≤ 2 ^ F }
+    ensures { result ≡ div_ceil (number * part) (2 ^ F) }
+{
+    let product = u128::from(number) * u128::from(part);
     ((product + (unit::<F>() - 1)) >> F) as u64
 }
 

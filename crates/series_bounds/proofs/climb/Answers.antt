@@ -21,11 +21,11 @@ times-last-requires g c =
     let t : c.loop-x.last.hi ≤ 8 * 2 ^ g.row.F = ascent_top g.row.F c.args.mean c.args.excess c.loop-x.list.items c.loop-x.last c.loop-x.x c.loop-x.invariant.ascent in
     (lit< tt, (t, c.take.ensures.top))
 
-pub returns-then-hi-most-clause-wide : goal.returns-then-hi-most-clause-wide
-returns-then-hi-most-clause-wide g c =
+pub returns-then-passes_8-clause-wide : goal.returns-then-passes_8-clause-wide
+returns-then-passes_8-clause-wide g c =
     ascent_wide g.row.F c.args.mean c.args.excess c.loop-x.list.items c.loop-x.last c.times-last.result c.take.result c.loop-x.x c.loop-x.invariant.ascent
     (omega (arith, c.requires.place, c.requires.depth)) (omega (arith, c.loop-x-test.true))
-    c.take.ensures.ends c.times-last.ensures (omega (arith, c.if-hi-most.true, c.most_weight-most.ensures, c.hi.ensures.end))
+    c.take.ensures.ends c.times-last.ensures (c.passes_8.ensures.passes c.if-passes_8.true)
 
 pub returns-then-stays-clause-known : goal.returns-then-stays-clause-known
 returns-then-stays-clause-known g c =
@@ -33,7 +33,7 @@ returns-then-stays-clause-known g c =
     rw c.in_ok-push.ensures.items
     (ascent_stays g.row.F c.args.mean c.args.excess _ c.times-last.result (c.loop-x.x + 1)
     (ascent_next g.row.F c.args.mean c.args.excess c.loop-x.list.items c.loop-x.last c.times-last.result c.take.result c.loop-x.x c.loop-x.invariant.ascent
-    c.take.ensures.ends c.times-last.ensures (omega (arith, c.if-hi-most.false, c.most_weight-most.ensures, c.hi.ensures.end))
+    c.take.ensures.ends c.times-last.ensures (c.passes_8.ensures.below c.if-passes_8.false)
     (λ l. absurd (omega (arith, c.loop-x-test.true)))
     (λ l. absurd (omega (arith, c.loop-x-test.true))))
     (omega (arith, v.ordered, c.requires.positive))
@@ -44,7 +44,7 @@ pub loop-x-preserved : goal.loop-x-preserved
 loop-x-preserved g c = record {
   ascent = rw c.in_ok-push.ensures.items
       (ascent_next g.row.F c.args.mean c.args.excess c.loop-x.list.items c.loop-x.last c.times-last.result c.take.result c.loop-x.x c.loop-x.invariant.ascent
-      c.take.ensures.ends c.times-last.ensures (omega (arith, c.if-hi-most.false, c.most_weight-most.ensures, c.hi.ensures.end))
+      c.take.ensures.ends c.times-last.ensures (c.passes_8.ensures.below c.if-passes_8.false)
       (λ l. absurd (omega (arith, c.loop-x-test.true)))
       (λ l. absurd (omega (arith, c.loop-x-test.true))));
   ratios = c.take.ensures.next;

@@ -1,12 +1,16 @@
-use Rattle.std.proofs.Common.{◌≡◌}
+use Rattle.std.proofs.Common.{◌≡◌, drop, length, take}
 use Rattle.series_bounds.specs.Profile.{listed}
-use Rattle.moment_table.specs.Running.{IsRunning, AreSmall}
-use Rattle.moment_table.specs.Profile.{known_row}
+use Rattle.moment_table.specs.Running.{IsFalling, AreSmall}
+use Rattle.moment_table.specs.Profile.{ebo_ends}
 use Rattle.moment_table.proofs.backorders.known.Given as goal
 
 abbrev pub invariant-loop-s : goal.invariant-loop-s
-invariant-loop-s g l = record {
-  found : l.found.items ≡ listed (λ s. (known_row g.row.F l.fn.mean l.fn.variance l.list l.sum s).ebo) l.s;
-  running : IsRunning g.row.F l.fn.mean l.fn.variance l.list l.sum l.s l.running;
-  small : AreSmall g.row.F l.sum l.s l.running;
-}
+invariant-loop-s g l =
+    let list = l.fn.found.items in
+    record {
+      found : take l.s l.found.items ≡ listed (ebo_ends g.row.F l.fn.mean list l.fn.sum) l.s;
+      rest : drop l.s l.found.items ≡ drop l.s list;
+      long : length l.found.items ≡ length list;
+      falling : IsFalling g.row.F l.fn.mean list l.fn.sum l.s l.falling;
+      small : AreSmall g.row.F l.s l.falling;
+    }

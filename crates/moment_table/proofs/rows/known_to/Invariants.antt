@@ -5,7 +5,7 @@ use Rattle.moment_table.proofs.rows.known_to.Given as goal
 
 abbrev pub invariant-loop-s : goal.invariant-loop-s
 invariant-loop-s g l = record {
-  rows : HasRows g.row.F (known_row g.row.F l.fn.mean l.fn.variance l.list l.sum) l.s l.tails l.rows;
-  running : IsRunning g.row.F l.fn.mean l.fn.variance l.list l.sum l.s l.running;
-  small : AreSmall g.row.F l.sum l.s l.running;
+  rows : HasRows g.row.F (known_row g.row.F l.fn.mean l.fn.variance l.list l.fn.sum) l.s l.tails l.rows;
+  running : IsRunning g.row.F l.fn.mean l.fn.variance l.list l.fn.sum l.s l.running;
+  small : AreSmall g.row.F l.s l.running.falling;
 }

@@ -1,13 +1,15 @@
 use Rattle.std.proofs.Common.{◌≡◌, true, subst, ◌<◌, ◌≤◌, ◌*◌, arith, lit<, inl, inr}
 use Rattle.series_bounds.specs.Profile.{is_wide}
+use Rattle.series_bounds.specs.Answer.{IsBeginning}
 use Rattle.series_bounds.proofs.Enclosure.{wide_answer}
+use Rattle.fixed_interval.specs.Ends.{Ends}
 use Rattle.moment_table.specs.Profile.{excess_ends}
 use Rattle.moment_table.proofs.Enclosure.{bare_empty, bare_wide}
-use Rattle.moment_table.proofs.Firsts.{none_then}
+use Rattle.moment_table.proofs.Firsts.{none_then, some_then, first_held, first_rows, first_weights}
 use Rattle.moment_table.proofs.weighed.weigh_to.Goals as goal
 
 pub returns-then-hi-eq0-clause-bare : goal.returns-then-hi-eq0-clause-bare
-returns-then-hi-eq0-clause-bare g c = bare_empty g.row.F c.args.mean c.args.variance (omega (arith, c.if-hi-eq0.true, c.hi.ensures.end))
+returns-then-hi-eq0-clause-bare g c s l = bare_empty g.row.F c.args.mean c.args.variance (omega (arith, c.if-hi-eq0.true, c.hi.ensures.end)) s (omega (arith, l))
 
 pub excess_of-excess-requires : goal.excess_of-excess-requires
 excess_of-excess-requires g c =
@@ -24,6 +26,28 @@ first_weights-requires g c =
 pub returns-clause-bare : goal.returns-clause-bare
 returns-clause-bare g c =
     none_then c.first_weights.result
-    (λ w. bare_wide g.row.F c.args.mean c.args.variance (omega (arith, c.if-hi-eq0.false, c.hi.ensures.end))
-    (wide_answer g.row.F c.args.mean (excess_ends g.row.F c.args.mean c.args.variance) (subst (λ z. is_wide g.row.F c.args.mean z ≡ true) c.excess_of-excess.ensures.ends w)))
+    (λ w s l. bare_wide g.row.F c.args.mean c.args.variance (omega (arith, c.if-hi-eq0.false, c.hi.ensures.end))
+    (wide_answer g.row.F c.args.mean (excess_ends g.row.F c.args.mean c.args.variance) (subst (λ z. is_wide g.row.F c.args.mean z ≡ true) c.excess_of-excess.ensures.ends w)) s (omega (arith, l)))
     c.first_weights.ensures.wide
+
+pub returns-clause-rows : goal.returns-clause-rows
+returns-clause-rows g c =
+    some_then c.first_weights.result
+    (λ sum h. first_rows g.row.F c.args.mean c.args.variance c.args.wanted c.first_weights.new.list.items sum
+    (subst (λ (z : Ends). IsBeginning g.row.F c.args.mean z c.args.wanted c.first_weights.new.list.items sum) c.excess_of-excess.ensures.ends h)
+    (omega (arith, c.if-hi-eq0.false, c.hi.ensures.end)) c.requires.wanted)
+    c.first_weights.ensures.known
+
+pub returns-clause-held : goal.returns-clause-held
+returns-clause-held g c =
+    some_then c.first_weights.result
+    (λ sum h. first_held g.row.F c.args.mean c.args.variance c.args.wanted c.first_weights.new.list.items sum
+    (subst (λ (z : Ends). IsBeginning g.row.F c.args.mean z c.args.wanted c.first_weights.new.list.items sum) c.excess_of-excess.ensures.ends h)
+    (omega (arith, c.if-hi-eq0.false, c.hi.ensures.end)) c.requires.wanted)
+    c.first_weights.ensures.known
+
+pub returns-clause-first : goal.returns-clause-first
+returns-clause-first g c =
+    some_then c.first_weights.result
+    (λ sum h. first_weights g.row.F c.args.mean c.excess_of-excess.result c.args.wanted c.first_weights.new.list.items sum h)
+    c.first_weights.ensures.known

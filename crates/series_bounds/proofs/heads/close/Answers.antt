@@ -10,11 +10,17 @@ use Rattle.series_bounds.proofs.Unlisted.{Climb, climb_weight, climb_wide, climb
 use Rattle.series_bounds.proofs.Beginnings.{climb_again}
 use Rattle.series_bounds.proofs.heads.close.Goals as goal
 
+pub at-ratios-requires : goal.at-ratios-requires
+at-ratios-requires g c =
+    let a : 63 ≤ least_end g.row.F c.args.mean c.args.excess = end_from_63 g.row.F c.args.mean c.args.excess in
+    let b : least_end g.row.F c.args.mean c.args.excess ≤ 1024 = end_most g.row.F c.args.mean c.args.excess 1024 (omega (arith, c.requires.depth)) (omega arith) in
+    (lit< tt, (lit< tt, (c.requires.mean_top, (c.requires.excess_top, (c.requires.near, (omega (arith, a, c.requires.start), omega (arith, b, c.requires.start)))))))
+
 pub take-ratio-requires : goal.take-ratio-requires
 take-ratio-requires g c =
     let a : 63 ≤ least_end g.row.F c.args.mean c.args.excess = end_from_63 g.row.F c.args.mean c.args.excess in
     let b : least_end g.row.F c.args.mean c.args.excess ≤ 1024 = end_most g.row.F c.args.mean c.args.excess 1024 (omega (arith, c.requires.depth)) (omega arith) in
-    (lit< tt, (lit< tt, (lit< tt, (c.requires.mean_top, (c.requires.excess_top, (c.requires.near, (omega (arith, a, c.requires.start), (omega (arith, b, c.requires.start), c.requires.ratios))))))))
+    (lit< tt, (lit< tt, (lit< tt, (c.requires.mean_top, (c.requires.excess_top, (c.requires.near, (omega (arith, a, c.requires.start), (omega (arith, b, c.requires.start), c.at-ratios.ensures))))))))
 
 pub loop-x-init : goal.loop-x-init
 loop-x-init g c = record {

@@ -4,7 +4,6 @@ use Rattle.fixed_interval.specs.Ends.{Ends, InScale}
 use Rattle.fixed_interval.proofs.Laws.{unit_most}
 use Rattle.series_bounds.specs.Profile.{pivot_at, least_end, ends_sum}
 use Rattle.series_bounds.specs.Walk.{ToPivot, Midway, SumsTo, AtLeastEnd}
-use Rattle.series_bounds.specs.Ratios.{AreRatios}
 use Rattle.series_bounds.proofs.Walks.{least_from, end_most, end_from_63}
 use Rattle.series_bounds.proofs.Unlisted.{sum_least}
 use Rattle.series_bounds.proofs.Beginnings.{begins_start, sums_low, at_least_end, beginning, low_long, low_tops}
@@ -64,11 +63,10 @@ closed-requires g c =
     let e : c.max-start.result ≡ least_end g.row.F c.args.mean c.args.excess = least_from g.row.F c.args.mean c.args.excess c.from.result c.max-start.result p c.max-start.ensures in
     let h : Midway g.row.F c.args.mean c.args.excess c.args.wanted c.rise.new.list.items c.in-Some.walked.sum c.in-Some.walked.last c.in-Some.walked.next =
     rw c.in-Some.is at c.in_ok-walked.ensures.known in
-    let r : AreRatios g.row.F c.args.mean c.args.excess c.in-Some.walked.next c.in-Some.walked.ratios = rw c.in-Some.is at c.in_ok-walked.ensures.ratios in
     let a : AtLeastEnd g.row.F c.args.mean c.args.excess c.level_sum-low.result c.in-Some.walked.last =
     at_least_end g.row.F c.args.mean c.args.excess c.level_sum-low.result c.in-Some.walked.last c.in-Some.walked.next h.walk
     (subst (λ z. SumsTo g.row.F c.args.mean c.args.excess c.level_sum-low.result z) e c.level_sum-low.ensures) in
-    (lit< tt, (lit< tt, (lit< tt, (c.requires.positive, (c.requires.mean_top, (c.requires.excess_top, (c.requires.near, (omega (arith, c.pivot_of-pivot.ensures.place, c.pivot_of-pivot.ensures.most), (e, (a, r))))))))))
+    (lit< tt, (lit< tt, (c.requires.positive, (c.requires.mean_top, (c.requires.excess_top, (c.requires.near, (omega (arith, c.pivot_of-pivot.ensures.place, c.pivot_of-pivot.ensures.most), (e, a))))))))
 
 pub returns-clause-known : goal.returns-clause-known
 returns-clause-known g c =

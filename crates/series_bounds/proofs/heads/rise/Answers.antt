@@ -82,9 +82,3 @@ returns-clause-known g c =
       walk = ascent_least g.row.F c.args.mean c.args.excess (listed (weight_ends g.row.F c.args.mean c.args.excess) c.loop-x.x) c.loop-x.last c.loop-x.x c.loop-x.invariant.climb.ascent (x ∙ n);
       sums = c.loop-x.invariant.climb.sums;
     })
-
-pub returns-clause-ratios : goal.returns-clause-ratios
-returns-clause-ratios g c =
-    let p : c.from-first.result ≡ pivot_at g.row.F c.args.mean c.args.excess = c.from-first.ensures ∙ c.requires.place in
-    let x : c.loop-x.x ≡ c.max-next.result = next_is c.from-first.result (pivot_at g.row.F c.args.mean c.args.excess) c.loop-x.x c.max-next.result p c.loop-x.auto.x (omega (arith, c.loop-x-test.false)) c.loop-x.invariant.most c.max-next.ensures in
-    rw (← x) c.loop-x.invariant.ratios

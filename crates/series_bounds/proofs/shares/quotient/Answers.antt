@@ -1,8 +1,7 @@
-use Rattle.std.proofs.Common.{◌^◌, ◌*◌, ◌/◌, ◌≡◌, ◌∙◌, ap, ap₂, arith, lit<, rules, pow_pos}
-use Rattle.std.specs.Int.{div_ceil}
+use Rattle.std.proofs.Common.{◌^◌, ◌*◌, ◌≡◌, ◌∙◌, ◌<◌, ◌≤◌, arith, mul-le-mul_right, lit<, rules, pow_pos}
 use Rattle.fixed_interval.specs.Ends.{InScale, IsInterval}
+use Rattle.series_bounds.proofs.Carried.{shift_below, shift_is, shifted_share}
 use Rattle.series_bounds.proofs.Ranges.{room_over}
-use Rattle.series_bounds.proofs.Carried.{share_ordered, share_most}
 use Rattle.series_bounds.proofs.shares.quotient.Goals as goal
 
 pub div-requires : goal.div-requires
@@ -10,21 +9,12 @@ div-requires g c =
     let s : InScale g.row.F = search rules in
     (lit< tt, (c.requires.divisor, room_over g.row.F c.args.a.hi s.1 (omega (arith, pow_pos g.row.F, c.requires.room))))
 
-pub of_ends-requires : goal.of_ends-requires
-of_ends-requires g c =
-    let s : InScale g.row.F = search rules in
-    let v : IsInterval g.row.F c.args.a = search rules in
-    let w : IsInterval g.row.F c.args.b = search rules in
-    let lower : c.quotient_near-lower.result ≡ c.args.a.lo * 2 ^ g.row.F / c.args.b.hi =
-    c.quotient_near-lower.ensures ∙ ap₂ (λ y z. y / z) (c.scaled.ensures ∙ ap (λ z. z * 2 ^ g.row.F) c.lo-then-hi-2.ensures.end) c.hi-then-hi-2.ensures.end in
-    let upper : c.quotient_up_near-upper.result ≡ div_ceil (c.args.a.hi * 2 ^ g.row.F) c.args.b.lo =
-    c.quotient_up_near-upper.ensures ∙ ap₂ (λ y z. div_ceil y z) (c.scaled-then-hi-2.ensures ∙ ap (λ z. z * 2 ^ g.row.F) c.hi-then-hi-2-2.ensures.end) c.lo.ensures.end in (
-      lit< tt,
-      (
-        s,
-        (
-          share_ordered g.row.F c.args.a.lo c.args.a.hi c.args.b.lo c.args.b.hi c.quotient_near-lower.result c.quotient_up_near-upper.result v.ordered c.requires.divisor w.ordered lower upper,
-          share_most g.row.F c.args.a.hi c.args.b.lo c.quotient_up_near-upper.result s.1 c.requires.room c.requires.divisor upper,
-        ),
-      ),
-    )
+pub returns-then-most-places : goal.returns-then-most-places
+returns-then-most-places g c =
+    let v : IsInterval g.row.F c.args.b = search rules in
+    let p = 2 ^ c.places_to-places.result in
+    let most : c.args.b.hi * p < 2 ^ 63 = shift_below c.args.b.hi (2 ^ 63) p (rw (← c.hi-then-hi-2-2.ensures.end) c.if-most-places.true) in
+    let least : c.args.b.lo * p ≤ c.args.b.hi * p = mul-le-mul_right p v.ordered in
+    let upper : c.of-upper.result ≡ c.args.b.hi * p = c.of-upper.ensures ∙ shift_is c.hi-then-hi-2-2.result c.args.b.hi p c.hi-then-hi-2-2.ensures.end most in
+    let lower : c.beside-lower.result ≡ c.args.b.lo * p = c.beside-lower.ensures ∙ shift_is c.lo.result c.args.b.lo p c.lo.ensures.end (omega (arith, least, most)) in
+    c.quotient_by.ensures ∙ shifted_share g.row.F p c.args.a c.args.b c.shifted.result c.of-upper.result c.beside-lower.result c.requires.divisor (omega (arith, v.ordered, c.requires.divisor)) (pow_pos c.places_to-places.result) c.shifted.ensures upper lower

@@ -1,10 +1,17 @@
-use Rattle.std.proofs.Common.{arith, pow_pos, lit<}
-use Rattle.moment_table.proofs.Steps.{running_first}
+use Rattle.std.proofs.Common.{◌∙◌, lit<, rules}
+use Rattle.std.proofs.Math.Nat.{max-le}
+use Rattle.fixed_interval.specs.Ends.{InScale, ends_max}
+use Rattle.moment_table.proofs.HeldRows.{limit_short}
+use Rattle.moment_table.proofs.Steps.{spread_first}
 use Rattle.moment_table.proofs.running.Running.first.Goals as goal
 
-pub share-requires : goal.share-requires
-share-requires g c = (lit< tt, (c.requires.top, omega (arith, pow_pos g.row.F, c.requires.sum)))
+pub of-requires : goal.of-requires
+of-requires g c =
+    let s : InScale g.row.F = search rules in
+    (lit< tt, (lit< tt, rw c.max_of.ensures.ends (limit_short g.row.F (ends_max c.args.variance c.args.mean) s.1 (max-le c.requires.variance_top c.requires.mean_top))))
 
 pub returns-clause-running : goal.returns-clause-running
-returns-clause-running g c list =
-    running_first g.row.F c.args.mean c.args.variance list c.args.sum c.max_of.result c.exact.result c.args.weight c.share.result c.of-inverses.result c.max_of.ensures.ends c.exact.ensures.ends
+returns-clause-running g c list = record {
+  falling = c.first.ensures.falling list;
+  spread = c.of.ensures ∙ c.max_of.ensures.ends ∙ spread_first g.row.F c.args.mean c.args.variance list c.args.sum;
+}

@@ -1,0 +1,150 @@
+//! Divisors by which quotients are found without a division and without a trial.
+
+ghost use Rattle.std.specs.Prelude.{◌≡◌, ◌+◌, ◌*◌, ◌/◌, ◌^◌, ◌<◌, ◌≤◌};
+ghost use Rattle.std.specs.Int.{div_ceil};
+ghost use Rattle.quotients.specs.Divisors.{IsDivisor};
+ghost use Rattle.quotients.specs.Parts.{AreParts};
+
+use crate::{Parts, inverse_near, inverse_of, quotient_near};
+use std::marker::Model;
+
+/// A divisor with its inverse. It is a number in units of `2^-F`, at least 1 and below `2^63` units; `F` is at most 52.
+#[derive(Clone, Copy, Drop)]
+pub struct Divisor<const F: u32> {
+    den: u64,
+    inverse: u64,
+}
+
+impl<const F: u32> Model for Divisor<F> {
+    ghost use Rattle.std.specs.Prelude.{ℕ, ◌+◌, ◌/◌, ◌^◌};
+    ghost use Rattle.quotients.specs.Divisors.{IsDivisor};
+
+    ghost Value = { ℕ };
+
+    ghost view = { λ d. d.den };
+
+    ghost invariant = { λ d. IsDivisor F d.den d.inverse };
+
+    ghost inverse = { λ n. record { den = n; inverse = 2 ^ (F + 62) / n } };
+}
+
+/// A quotient rounded down or one less, and what it leaves.
+#[derive(Clone, Copy, Drop)]
+struct Guess {
+    whole: u64,
+    left: u64,
+}
+
+impl<const F: u32> Divisor<F> {
+    /// The divisor of so many units. No division is made.
+    pub fn of(den: u64) -> Divisor<F>
+        requires scale { F ≤ 52 }
+        requires least { 2 ^ F ≤ den }
+        requires most { den < 2 ^ 63 }
+        ensures { result ≡ den }
+    {
+        Divisor::by_guess(den, inverse_of::<F>(den))
+    }
+
+    /// The divisor 1.
+    pub fn one() -> Divisor<F>
+        requires { F ≤ 52 }
+        ensures { result ≡ 2 ^ F }
+    {
+        Divisor {
+            den: 1 << F,
+            inverse: 1 << 62,
+        }
+    }
+
+    /// The number.
+    #[inline(always)]
+    pub fn number(self) -> u64
+        ensures number { result ≡ self.entry }
+        ensures valid { (2 ^ F ≤ self.entry) × (self.entry < 2 ^ 63) }
+    {
+        self.den
+    }
+
+    /// Another divisor. Where it is this one or little less, it takes two products and a trial.
+    pub fn beside(self, den: u64) -> Divisor<F>
+        requires scale { F ≤ 52 }
+        requires least { 2 ^ F ≤ den }
+        requires most { den < 2 ^ 63 }
+        ensures { result ≡ den }
+    {
+        Divisor::by_guess(den, inverse_near::<F>(self.inverse, self.den, den))
+    }
+
+    /// The divisor of so many units, with what its inverse is taken for. Where that is the inverse, or one less, no
+    /// division is made.
+    fn by_guess(den: u64, guess: u64) -> Divisor<F>
+        requires scale { F ≤ 52 }
+        requires least { 2 ^ F ≤ den }
+        requires most { den < 2 ^ 63 }
+        ensures { result ≡ den }
+    {
+        let inverse = quotient_near(1 << (F + 62), den, guess) as u64;
+        Divisor { den, inverse }
+    }
+
+    /// What the inverse makes of so many whole ones, given in units.
+    #[inline(always)]
+    fn guess(self, num: u64) -> Guess
+        requires { num ≤ 2 ^ 62 }
+        ensures sum { result.whole * self.entry + result.left ≡ num * 2 ^ F }
+        ensures left { result.left < 2 * self.entry }
+        ensures room { result.whole ≤ 2 ^ 62 }
+        ensures valid { (2 ^ F ≤ self.entry) × (self.entry < 2 ^ 63) }
+    {
+        let whole = ((u128::from(num) * u128::from(self.inverse)) >> 62) as u64;
+        let left = ((u128::from(num) << F) - u128::from(whole) * u128::from(self.den)) as u64;
+        Guess { whole, left }
+    }
+
+    /// So many whole ones, given in units, over the divisor: in units, rounded down.
+    #[inline(always)]
+    pub fn floor(self, num: u64) -> u64
+        requires { num ≤ 2 ^ 62 }
+        ensures { result ≡ num * 2 ^ F / self.entry }
+    {
+        let guess = self.guess(num);
+        if guess.left < self.den {
+            guess.whole
+        } else {
+            guess.whole + 1
+        }
+    }
+
+    /// The same rounded up.
+    #[inline(always)]
+    pub fn ceil(self, num: u64) -> u64
+        requires { num ≤ 2 ^ 62 }
+        ensures { result ≡ div_ceil (num * 2 ^ F) self.entry }
+    {
+        let guess = self.guess(num);
+        let more = if guess.left == 0 { 0 } else { 1 };
+        let second = if guess.left <= self.den { 0 } else { 1 };
+        guess.whole + more + second
+    }
+
+    /// So many whole ones, given in units, in parts by the divisor.
+    #[inline(always)]
+    pub fn parts(self, num: u64) -> Parts
+        requires { num ≤ 2 ^ 62 }
+        ensures { AreParts (num * 2 ^ F) self.entry result }
+    {
+        let guess = self.guess(num);
+        if guess.left < self.den {
+            Parts {
+                whole: guess.whole,
+                rest: guess.left,
+            }
+        } else {
+            Parts {
+                whole: guess.whole + 1,
+                rest: guess.left - self.den,
+            }
+        }
+    }
+}
