@@ -1,7 +1,7 @@
 -- A family's curve so far, and what comes to it.
-use Rattle.std.proofs.Common.{◌≡◌, ◌==◌, Bool, true, refl, ℕ, zero, suc, ◌+◌, ◌-◌, ◌*◌, ◌<◌, ◌≤◌, inl, inr, List, [], ◌∷◌, ◌++◌, length, get_or, sym, ◌∙◌, subst, append_assoc, arith}
-use Rattle.std.specs.List.{AllZip}
-use Rattle.std.proofs.lemmas.Bool.{eqb-true}
+use Rattle.std.proofs.Common.{◌≡◌, ◌==◌, Bool, true, refl, ℕ, zero, suc, ◌+◌, ◌-◌, ◌*◌, ◌<◌, ◌≤◌, inl, inr, List, [], ◌∷◌, ◌++◌, length, get_or, flat_map, append_assoc, sym, ◌∙◌, subst, arith}
+use Rattle.std.specs.List.{AllZip, range_with_len}
+use Rattle.std.proofs.lemmas.Bool.{cases_lt, eqb-true}
 use Rattle.std.proofs.lemmas.List.{append-nil}
 use Rattle.std.proofs.lemmas.List.FromFn.{get_or-range_with_len, length-range_with_len}
 use Rattle.std.proofs.lemmas.Slice.Zip.{AllZip-long}
@@ -11,25 +11,75 @@ use Rattle.hull.specs.declared.point.Point.{Point}
 use Rattle.hull.specs.Curves.{Among, InRange, IsChain, IsCurve, StandFor}
 use Rattle.hull.specs.Scores.{LeavesRoom}
 use Rattle.hull.proofs.Chains.{chain_is_curve}
-use Rattle.hull.proofs.Stand.{among_either, curve_stands, stand_for, stand_for_both}
+use Rattle.hull.proofs.Shapes.{of_members}
+use Rattle.hull.proofs.Stand.{among_either, among_left, among_right, curve_stands, stand_for, stand_for_both}
 use Rattle.hull.proofs.Steps_of.{stand_self}
 use Rattle.family_curve.specs.declared.order.Base.{Base}
 use Rattle.family_curve.specs.Inputs.{FamilyBox, IsAt, IsFamilyBox}
-use Rattle.family_curve.specs.Joining.{HaveWidthOf}
+use Rattle.family_curve.specs.Joining.{HaveWidthOf, middle, run_start}
 use Rattle.family_curve.specs.Points.{ScoreEnds}
 use Rattle.family_curve.specs.Separation.{depot_points}
 use Rattle.family_curve.specs.Spots.{AreBases, IsBaseOf}
 use Rattle.family_curve.proofs.Bounded.{low_long}
-use Rattle.family_curve.proofs.Points.{depot_points_small, small_range}
+use Rattle.family_curve.proofs.Points.{depot_points_small, flat_stock_before, flat_stock_behind, small_range}
 use Rattle.family_curve.proofs.Sites.{size}
 
 -- the curve of points so far, and of what comes to it
 pub curve_grows : (ps qs c e : List Point) → IsCurve ps c → IsCurve (c ++ qs) e → IsCurve (ps ++ qs) e
 curve_grows ps qs c e a h = stand_for (ps ++ qs) (c ++ qs) e (stand_for_both ps qs c qs (curve_stands ps c a) (stand_self qs)) h
 
--- the curve of a curve and of some points is the curve of all points that they stand for
-pub curve_grows_on : (so ps qs c e : List Point) → IsCurve (so ++ ps) c → IsCurve (c ++ qs) e → IsCurve (so ++ (ps ++ qs)) e
-curve_grows_on so ps qs c e a h = subst (λ (l : List Point). IsCurve l e) (append_assoc so ps qs) (curve_grows (so ++ ps) qs c e a h)
+-- points in either order have one curve
+pub curve_grows_back : (ps qs c e : List Point) → IsCurve ps c → IsCurve (c ++ qs) e → IsCurve (qs ++ ps) e
+curve_grows_back ps qs c e a h = of_members (ps ++ qs) (qs ++ ps) e (λ v. (swapped ps qs v, swapped qs ps v)) (curve_grows ps qs c e a h)
+  where
+    swapped : (xs ys : List Point) (v : Point) → Among v (xs ++ ys) → Among v (ys ++ xs)
+    swapped xs ys v m = elim (among_either v xs ys m) [ inl k ↦ among_right v ys xs k | inr k ↦ among_left v ys xs k ]
+
+-- the curve of a curve and of some points is the curve of all points that they stand for, put before those so far
+pub curve_grows_before : (so ps qs c e : List Point) → IsCurve (so ++ ps) c → IsCurve (c ++ qs) e → IsCurve (so ++ (qs ++ ps)) e
+curve_grows_before so ps qs c e a h =
+    of_members ((so ++ ps) ++ qs) (so ++ (qs ++ ps)) e (λ v. (there v, back v)) (curve_grows (so ++ ps) qs c e a h)
+  where
+    there : (v : Point) → Among v ((so ++ ps) ++ qs) → Among v (so ++ (qs ++ ps))
+    there v m = elim (among_either v (so ++ ps) qs m) [
+      | inl k ↦ elim (among_either v so ps k) [ inl i ↦ among_left v so (qs ++ ps) i | inr i ↦ among_right v so (qs ++ ps) (among_right v qs ps i) ]
+      | inr k ↦ among_right v so (qs ++ ps) (among_left v qs ps k)
+    ]
+
+    back : (v : Point) → Among v (so ++ (qs ++ ps)) → Among v ((so ++ ps) ++ qs)
+    back v m = elim (among_either v so (qs ++ ps) m) [
+      | inl k ↦ among_left v (so ++ ps) qs (among_left v so ps k)
+      | inr k ↦ elim (among_either v qs ps k) [ inl i ↦ among_right v (so ++ ps) qs i | inr i ↦ among_left v (so ++ ps) qs (among_right v so ps i) ]
+    ]
+
+-- the same, put behind those so far
+pub curve_grows_behind : (so ps qs c e : List Point) → IsCurve (so ++ ps) c → IsCurve (c ++ qs) e → IsCurve (so ++ (ps ++ qs)) e
+curve_grows_behind so ps qs c e a h = subst (λ (l : List Point). IsCurve l e) (append_assoc so ps qs) (curve_grows (so ++ ps) qs c e a h)
+
+-- the curve of n stocks that go from the middle up and then down, and of the next one
+pub run_grows : (so : List Point) (own : ℕ → List Point) (low high n s : ℕ) (c e : List Point) → low ≤ high → n ≤ high - low
+    → (middle low high + n ≤ high → s ≡ middle low high + n) → (high < middle low high + n → s ≡ high - n)
+    → IsCurve (so ++ flat_map own (range_with_len (run_start low high n) n)) c → IsCurve (c ++ own s) e
+    → IsCurve (so ++ flat_map own (range_with_len (run_start low high (n + 1)) (n + 1))) e
+run_grows so own low high n s c e order within up down a h =
+    elim (cases_lt high (middle low high + n)) as (λ _. IsCurve (so ++ flat_map own (range_with_len (run_start low high (n + 1)) (n + 1))) e) [
+      | inl past ↦
+          let start : run_start low high n ≡ high + 1 - n = omega (arith, past, order) in
+          let next : run_start low high (n + 1) ≡ high + 1 - (n + 1) = omega (arith, past, order) in
+          let all = flat_stock_before own high n s (omega (arith, within, order)) (down past) in
+          let so_far : IsCurve (so ++ flat_map own (range_with_len (high + 1 - n) n)) c =
+          subst (λ k. IsCurve (so ++ flat_map own (range_with_len k n)) c) start a in
+          subst (λ k. IsCurve (so ++ flat_map own (range_with_len k (n + 1))) e) (sym next)
+          (subst (λ (ps : List Point). IsCurve (so ++ ps) e) (sym all) (curve_grows_before so (flat_map own (range_with_len (high + 1 - n) n)) (own s) c e so_far h))
+      | inr room ↦
+          let start : run_start low high n ≡ middle low high = omega (arith, room, order) in
+          let next : run_start low high (n + 1) ≡ middle low high = omega (arith, room, order) in
+          let all = flat_stock_behind own (middle low high) n s (up room) in
+          let so_far : IsCurve (so ++ flat_map own (range_with_len (middle low high) n)) c =
+          subst (λ k. IsCurve (so ++ flat_map own (range_with_len k n)) c) start a in
+          subst (λ k. IsCurve (so ++ flat_map own (range_with_len k (n + 1))) e) (sym next)
+          (subst (λ (ps : List Point). IsCurve (so ++ ps) e) (sym all) (curve_grows_behind so (flat_map own (range_with_len (middle low high) n)) (own s) c e so_far h))
+    ]
 
 -- where nothing comes to it, it stays
 pub curve_stays : (c qs path : List Point) → IsChain c → path ≡ [] → StandFor (c ++ qs) (c ++ path) → IsCurve (c ++ qs) c

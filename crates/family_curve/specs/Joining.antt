@@ -1,6 +1,6 @@
 -- The curve of a family so far.
 -- No promise rests on this file: it speaks of the code's own steps.
-use Rattle.std.specs.Prelude.{◌≡◌, List, [], Option, None, Some, length}
+use Rattle.std.specs.Prelude.{◌≡◌, ℕ, ◌+◌, ◌-◌, ◌/◌, min, List, [], Option, None, Some, length}
 use Rattle.hull.specs.declared.point.Point.{Point}
 use Rattle.hull.specs.Curves.{Among}
 use Rattle.family_curve.specs.declared.joining.Sources.{Sources}
@@ -21,3 +21,11 @@ vertices_of (Some curve) = curve
 -- the points have a stock for each place of the family
 abbrev pub HaveWidthOf : FamilyBox → List Point → Type 0
 HaveWidthOf x points = (v : Point) → Among v points → length v.stocks ≡ length x.low
+
+-- the stock in the middle of those from low to high
+abbrev pub middle : ℕ → ℕ → ℕ
+middle low high = low + (high - low) / 2
+
+-- where n stocks begin that go from the middle one up to high, and then down from it
+abbrev pub run_start : ℕ → ℕ → ℕ → ℕ
+run_start low high n = min (middle low high) (high + 1 - n)

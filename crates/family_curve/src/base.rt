@@ -23,13 +23,13 @@ use std::alloc::Global;
 /// Stocks at a base, with their cost and the ends of their score.
 #[derive(Drop)]
 pub(crate) struct BaseSpot<'a> {
-    cost: u64,
     lo: u128,
     hi: u128,
+    /// The shop units' stocks, in part order.
+    shops: &'a [u8],
+    cost: u64,
     /// The line unit's stock.
     line: u8,
-    /// Its shop units', in part order.
-    shops: &'a [u8],
 }
 
 impl<'a> Spot for BaseSpot<'a> {
@@ -53,19 +53,17 @@ impl<'a> Spot for BaseSpot<'a> {
 
     fn put_stocks(&self, to: &mut Vec<u8>) -> Result<(), NoMemory> {
         to.push(self.line)?;
-        if self.shops.is_empty() {
-            return Ok(());
+        for n in 0..self.shops.len() {
+            to.push(self.shops[n])?;
         }
-        to.extend_from_slice(self.shops)?;
         Ok(())
     }
 
     fn write_stocks(&self, to: &mut [u8]) {
         to[0] = self.line;
-        if self.shops.is_empty() {
-            return;
+        for n in 0..self.shops.len() {
+            to[n + 1] = self.shops[n];
         }
-        to[1..].copy_from_slice(self.shops);
     }
 }
 

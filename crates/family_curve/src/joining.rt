@@ -1,12 +1,12 @@
 //! The curve of a family: what each choice of stocks at the depot adds to the curve so far.
 
-ghost use Rattle.std.specs.Prelude.{◌≡◌, ℕ, ◌+◌, ◌*◌, ◌<◌, ◌≤◌, ◌++◌, ◌∷◌, [], List, IfOk, drop, flat_map, length};
+ghost use Rattle.std.specs.Prelude.{◌≡◌, ℕ, ◌+◌, ◌-◌, ◌*◌, ◌<◌, ◌≤◌, ◌++◌, ◌∷◌, [], List, IfOk, drop, flat_map, length};
 ghost use Rattle.hull.specs.declared.point.Point.{Point};
 ghost use Rattle.hull.specs.Curves.{Among, InRange, IsCurve, StandFor};
 ghost use Rattle.family_curve.specs.Separation.{depot_point, depot_points};
 ghost use Rattle.family_curve.specs.Points.{points_within};
 ghost use Rattle.family_curve.specs.Inputs.{AreShopsAt, IsAt, line_stocks, vector_count, vertex_count};
-ghost use Rattle.family_curve.specs.Joining.{AreSources, HaveWidthOf, vertices_of};
+ghost use Rattle.family_curve.specs.Joining.{AreSources, HaveWidthOf, middle, vertices_of};
 ghost use Rattle.family_curve.specs.Tabled.{AreTables, depot_shops};
 
 use crate::base::{BaseSpot, chains_of, put_curve};
@@ -14,7 +14,7 @@ use crate::base_at::BaseAt;
 use crate::depot::{DepotTables, depot_tables};
 use crate::family::{Family, joined};
 use crate::order::{Base, bases_of};
-use crate::walk::walk;
+use crate::walk::{Runner, Stocks, Turn, walk};
 use family_tables::Evaluator;
 use hull::{Chain, Curve, Point, Score};
 use moment_table::kinds::Table;
@@ -58,6 +58,12 @@ struct Work<'b> {
     chains: Vec<Chain<BaseSpot<'b>>>,
     /// The backorders at a base.
     rows: Vec<Vec<Iv64<48>>>,
+    /// Where a walk stands on each curve.
+    runners: Vec<Runner>,
+    /// The order of its steps.
+    order: Vec<Turn>,
+    /// The stocks of the sum that it has reached.
+    stocks: Stocks,
 }
 
 /// The point of stocks at the depot.
@@ -117,7 +123,15 @@ fn depot_path<'b, S: Score>(
             tables,
         )?;
     }
-    let path = walk(alloc, &first, work.chains.as_slice(), below)?;
+    let path = walk(
+        alloc,
+        &mut work.runners,
+        &mut work.order,
+        &mut work.stocks,
+        &first,
+        work.chains.as_slice(),
+        below,
+    )?;
     Ok(path)
 }
 
@@ -160,8 +174,34 @@ fn with_depot<'b, S: Score>(
     Ok(curve)
 }
 
+/// The stock in the middle of those from a least to a most.
+fn middle(low: u8, high: u8) -> u8
+    requires { low ≤ high }
+    ensures { result ≡ middle low high }
+{
+    low + (high - low) / 2
+}
+
+/// The stock that comes `n` behind the middle one, where they go up to the most, and then down from the middle.
+fn behind_middle(low: u8, high: u8, n: u8) -> u8
+    requires order { low ≤ high }
+    requires within { n ≤ high - low }
+    ensures up { middle low high + n ≤ high → result ≡ middle low high + n }
+    ensures down { high < middle low high + n → result ≡ high - n }
+    ensures least { low ≤ result }
+    ensures most { result ≤ high }
+{
+    let middle = middle(low, high);
+    if n <= high - middle {
+        middle + n
+    } else {
+        high - n
+    }
+}
+
 /// The curve of the points so far and of all vectors whose shop units have these stocks at the depot; `shops` are
-/// their tables there.
+/// their tables there. The line unit's middle stock comes first: its points pass most of the others, of more stock and
+/// of less.
 fn with_shops<'b, S: Score>(
     alloc: Global,
     so_far: Option<Curve>,
@@ -190,18 +230,18 @@ fn with_shops<'b, S: Score>(
     let tables = depot_tables(alloc, family, &sources.evaluator, shops, depot)?;
     let low = family.line_low(SiteId(0));
     let high = family.line_high(SiteId(0));
-    let first = joined(alloc, low, depot)?;
+    let first = joined(alloc, middle(low, high), depot)?;
     let at_first = first.as_slice();
     let mut curve = with_depot(alloc, so_far, work, sources, score, &tables, at_first)?;
-    for s in low + 1..high + 1 {
-        let stocks = joined(alloc, s, depot)?;
+    for n in 1..high - low + 1 {
+        let stocks = joined(alloc, behind_middle(low, high, n), depot)?;
         let at_depot = stocks.as_slice();
         curve = with_depot(alloc, Some(curve), work, sources, score, &tables, at_depot)?;
     }
     Ok(curve)
 }
 
-/// The curve of all vectors of the family within its bounds.
+/// The curve of all vectors of the family within its bounds, those with the most shop units at the depot first.
 fn whole_curve<'b, S: Score>(
     alloc: Global,
     work: &mut Work<'b>,
@@ -220,10 +260,10 @@ fn whole_curve<'b, S: Score>(
     let tables = shops.as_slice();
     let depot = SiteId(0);
     let count = family.shop_count(depot);
-    let first = family.shop_vector(alloc, depot, 0)?;
+    let first = family.shop_vector(alloc, depot, count - 1)?;
     let mut curve = with_shops(alloc, None, work, sources, score, tables, first.as_slice())?;
     for n in 1..count {
-        let stocks = family.shop_vector(alloc, depot, n)?;
+        let stocks = family.shop_vector(alloc, depot, count - 1 - n)?;
         curve = with_shops(
             alloc,
             Some(curve),
@@ -252,6 +292,9 @@ pub(crate) fn family_curve<S: Score>(
     let mut work = Work {
         chains: chains_of(alloc, sources.bases.as_slice())?,
         rows: Vec::new(alloc),
+        runners: Vec::new(alloc),
+        order: Vec::new(alloc),
+        stocks: Stocks::new(alloc),
     };
     let curve = whole_curve(alloc, &mut work, &sources, score)?;
     Ok(curve)

@@ -1,10 +1,10 @@
-use Rattle.std.proofs.Common.{ℕ, ◌*◌, ◌<◌, ◌∷◌, ◌++◌, List, length, flat_map, take, sym, ap, ◌∙◌, subst, arith}
+use Rattle.std.proofs.Common.{◌≡◌, ℕ, ◌-◌, ◌*◌, ◌<◌, ◌∷◌, ◌++◌, List, [], drop, get_or, length, flat_map, sym, ap, ◌∙◌, subst, arith}
 use Rattle.hull.specs.declared.point.Point.{Point}
 use Rattle.hull.specs.Curves.{IsCurve}
 use Rattle.family_curve.specs.Separation.{depot_points}
 use Rattle.family_curve.specs.Inputs.{line_stocks, shop_vectors, vertex_count}
-use Rattle.family_curve.proofs.Grown.{curve_grows, room_for}
-use Rattle.family_curve.proofs.Points.{all_depots, flat_first, flat_next, one_of, whole_room}
+use Rattle.family_curve.proofs.Grown.{curve_grows_back, room_for}
+use Rattle.family_curve.proofs.Points.{all_depots, flat_before, flat_last, one_of, whole_room}
 use Rattle.family_curve.proofs.joining.whole_curve.Goals as goal
 
 pub with_shops-requires-clause-room : goal.with_shops-requires-clause-room
@@ -17,13 +17,15 @@ with_shops-requires-clause-room g c =
 pub loop-n-init : goal.loop-n-init
 loop-n-init g c =
     let x = c.args.sources.now.family.now in
+    let all : List (List ℕ) = shop_vectors x 0 in
     let at : List ℕ → List Point = depot_points x.case x.line g.S.Score.ends x.held x.low x.high in
     let own : List ℕ → List Point = λ d. flat_map (λ s. at (s ∷ d)) (line_stocks x 0) in
-    let some : 0 < length (shop_vectors x 0) = omega (arith, c.shop_count-count.ensures.some, c.shop_count-count.ensures.count) in
+    let some : 0 < length all = omega (arith, c.shop_count-count.ensures.some, c.shop_count-count.ensures.count) in
+    let last : c.in_ok-first.first.items ≡ get_or all (length all - 1) [] = c.in_ok-first.ensures.vector ∙ ap (λ n. get_or all (n - 1) []) c.shop_count-count.ensures.count in
     record {
       few = omega (arith, c.in_ok-curve.ensures.few);
-      curve = subst (λ (ps : List Point). IsCurve ps c.in_ok-curve.curve)
-          (ap own c.as_slice.ensures.value ∙ sym (flat_first own (shop_vectors x 0) c.in_ok-first.first.items some c.in_ok-first.ensures.vector)) c.in_ok-curve.ensures.curve;
+      curve = subst (λ (ps : List Point). IsCurve ps c.in_ok-curve.curve) (ap own c.as_slice.ensures.value ∙ sym (flat_last own all c.in_ok-first.first.items some last))
+          c.in_ok-curve.ensures.curve;
       work = c.in_ok-curve.ensures.work;
       widths = c.in_ok-curve.ensures.widths;
     }
@@ -38,16 +40,19 @@ with_shops-requires-in-loop-n-clause-room g c =
 pub loop-n-preserved : goal.loop-n-preserved
 loop-n-preserved g c =
     let x = c.args.sources.now.family.now in
+    let n = c.loop-n.n in
+    let all : List (List ℕ) = shop_vectors x 0 in
     let at : List ℕ → List Point = depot_points x.case x.line g.S.Score.ends x.held x.low x.high in
     let own : List ℕ → List Point = λ d. flat_map (λ s. at (s ∷ d)) (line_stocks x 0) in
     let stocks = c.in_ok-stocks.stocks.items in
     let made : List Point = c.in_ok-curve-2.curve in
-    let within : c.loop-n.n < length (shop_vectors x 0) = omega (arith, c.loop-n-test.true, c.shop_count-count.ensures.count) in
+    let within : n < length all = omega (arith, c.loop-n-test.true, c.shop_count-count.ensures.count) in
+    let is : stocks ≡ get_or all (length all - 1 - n) [] = c.in_ok-stocks.ensures.vector ∙ ap (λ k. get_or all (k - 1 - n) []) c.shop_count-count.ensures.count in
     let here : IsCurve (c.loop-n.curve ++ own stocks) made = subst (λ (v : List ℕ). IsCurve (c.loop-n.curve ++ own v) made) c.as_slice-in-loop-n.ensures.value c.in_ok-curve-2.ensures.curve in
     record {
       few = omega (arith, c.in_ok-curve-2.ensures.few, c.loop-n.invariant.few);
-      curve = subst (λ (ps : List Point). IsCurve ps made) (sym (flat_next own (shop_vectors x 0) c.loop-n.n stocks within c.in_ok-stocks.ensures.vector))
-          (curve_grows (flat_map own (take c.loop-n.n (shop_vectors x 0))) (own stocks) c.loop-n.curve made c.loop-n.invariant.curve here);
+      curve = subst (λ (ps : List Point). IsCurve ps made) (sym (flat_before own all n stocks within is))
+          (curve_grows_back (flat_map own (drop (length all - n) all)) (own stocks) c.loop-n.curve made c.loop-n.invariant.curve here);
       work = c.in_ok-curve-2.ensures.work;
       widths = c.in_ok-curve-2.ensures.widths;
     }
@@ -55,5 +60,5 @@ loop-n-preserved g c =
 pub returns : goal.returns
 returns g c =
     let x = c.args.sources.now.family.now in
-    all_depots x c.size-size.ensures.valid g.S.Score.ends g.met.S.Score.leaves_room c.loop-n.n c.loop-n.curve
+    all_depots x c.size-size.ensures.valid g.S.Score.ends g.met.S.Score.leaves_room (length (shop_vectors x 0) - c.loop-n.n) c.loop-n.curve
     (omega (arith, c.loop-n-test.false, c.shop_count-count.ensures.count)) c.loop-n.invariant.curve

@@ -1,12 +1,27 @@
-use Rattle.std.proofs.Common.{◌≡◌, ℕ, suc, ◌-◌, List, [], ◌∷◌, ◌++◌, length, set, ap, ◌∙◌, arith}
-use Rattle.std.proofs.lemmas.List.{append-nil, drop_all}
-use borrow.Rule.Slice.PartMut.{put_mid}
+use Rattle.std.proofs.Common.{ℕ, ◌+◌, List, [], ◌∷◌, ◌++◌, get_or, sym, ap, ◌∙◌, arith}
+use Rattle.std.proofs.lemmas.List.{length-set, take_all, take_more, take_more_set}
 use Rattle.family_curve.proofs.base.BaseSpotSpot.write_stocks.Goals as goal
 
-written : (to : List ℕ) (line : ℕ) (shops new : List ℕ) → length to ≡ suc (length shops) → new ≡ shops → put_mid 1 (length (set to 0 line) - 1) (set to 0 line) new ≡ line ∷ shops
-written [] line shops new e is = absurd (let k : 0 ≡ suc (length shops) = e in omega arith)
-written (x ∷ to) line shops new e is =
-    ap (λ (t : List ℕ). line ∷ (new ++ t)) (drop_all (length (line ∷ to) - 1) to (omega arith)) ∙ ap (λ (t : List ℕ). line ∷ t) (append-nil new ∙ is)
+pub loop-n-init : goal.loop-n-init
+loop-n-init c = record {
+  long = length-set c.args.to.now 0 c.args.self.now.line ∙ c.requires;
+  done = take_more_set c.args.to.now 0 c.args.self.now.line (omega (arith, c.requires));
+}
+
+pub loop-n-preserved : goal.loop-n-preserved
+loop-n-preserved c =
+    let shops : List ℕ = c.args.self.now.shops.now in
+    let n = c.loop-n.n in
+    let x : ℕ = get_or shops n 0 in
+    record {
+      long = length-set c.loop-n.to (n + 1) x ∙ c.loop-n.invariant.long;
+      done = take_more_set c.loop-n.to (n + 1) x (omega (arith, c.loop-n.invariant.long, c.loop-n-test.true)) ∙ ap (λ (t : List ℕ). t ++ x ∷ []) c.loop-n.invariant.done
+          ∙ ap (λ (t : List ℕ). c.args.self.now.line ∷ t) (sym (take_more shops n 0 c.loop-n-test.true));
+    }
 
 pub returns : goal.returns
-returns c = written c.args.to.now c.args.self.now.line c.args.self.now.shops.now c.copy_from_slice.new.self c.requires c.copy_from_slice.ensures.after
+returns c =
+    let shops : List ℕ = c.args.self.now.shops.now in
+    let n = c.loop-n.n in
+    sym (take_all (n + 1) c.loop-n.to (omega (arith, c.loop-n.invariant.long, c.loop-n-test.false))) ∙ c.loop-n.invariant.done
+    ∙ ap (λ (t : List ℕ). c.args.self.now.line ∷ t) (take_all n shops c.loop-n-test.false)
