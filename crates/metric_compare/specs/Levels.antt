@@ -1,5 +1,5 @@
 -- What the steps of the levels take and give. No promise rests on these words.
-use Rattle.std.specs.Prelude.{◌≡◌, ℕ, List, map, flat_map}
+use Rattle.std.specs.Prelude.{ℕ, List, map, flat_map}
 use Rattle.fixed_interval.specs.Ends.{Ends, ends_exact}
 use Rattle.spares_input.specs.Cases.{CaseRows}
 use Rattle.spares_input.specs.Frames.{line_of}
