@@ -1,3 +1,3 @@
 pub mod Products
-pub mod Guesses
+pub mod Rough
 pub mod Rounded

@@ -1,4 +1,4 @@
--- What a table of inverses holds.
+-- What a table of inverses holds. No promise of the crate rests on these words.
 use Rattle.std.specs.Prelude.{ℕ, suc, ◌+◌, ◌*◌, ◌^◌, Bool, true, false, ◌&&◌, nat_le, nat_lt, nat_eq, List, [], ◌∷◌, length}
 
 -- m is 2^63 / x rounded up

@@ -30,13 +30,13 @@ impl<const F: u32> Model for Divisor<F> {
 
 /// A quotient rounded down or one less, and what it leaves.
 #[derive(Clone, Copy, Drop)]
-struct Guess {
+struct Rough {
     whole: u64,
     left: u64,
 }
 
 impl<const F: u32> Divisor<F> {
-    /// The divisor of so many units. No division is made.
+    /// The divisor of so many units.
     pub fn of(den: u64) -> Divisor<F>
         requires scale { F ≤ 52 }
         requires least { 2 ^ F ≤ den }
@@ -90,7 +90,7 @@ impl<const F: u32> Divisor<F> {
 
     /// What the inverse makes of so many whole ones, given in units.
     #[inline(always)]
-    fn guess(self, num: u64) -> Guess
+    fn rough(self, num: u64) -> Rough
         requires { num ≤ 2 ^ 62 }
         ensures sum { result.whole * self.entry + result.left ≡ num * 2 ^ F }
         ensures left { result.left < 2 * self.entry }
@@ -99,7 +99,7 @@ impl<const F: u32> Divisor<F> {
     {
         let whole = ((u128::from(num) * u128::from(self.inverse)) >> 62) as u64;
         let left = ((u128::from(num) << F) - u128::from(whole) * u128::from(self.den)) as u64;
-        Guess { whole, left }
+        Rough { whole, left }
     }
 
     /// So many whole ones, given in units, over the divisor: in units, rounded down.
@@ -108,11 +108,11 @@ impl<const F: u32> Divisor<F> {
         requires { num ≤ 2 ^ 62 }
         ensures { result ≡ num * 2 ^ F / self.entry }
     {
-        let guess = self.guess(num);
-        if guess.left < self.den {
-            guess.whole
+        let rough = self.rough(num);
+        if rough.left < self.den {
+            rough.whole
         } else {
-            guess.whole + 1
+            rough.whole + 1
         }
     }
 
@@ -122,10 +122,10 @@ impl<const F: u32> Divisor<F> {
         requires { num ≤ 2 ^ 62 }
         ensures { result ≡ div_ceil (num * 2 ^ F) self.entry }
     {
-        let guess = self.guess(num);
-        let more = if guess.left == 0 { 0 } else { 1 };
-        let second = if guess.left <= self.den { 0 } else { 1 };
-        guess.whole + more + second
+        let rough = self.rough(num);
+        let more = if rough.left == 0 { 0 } else { 1 };
+        let second = if rough.left <= self.den { 0 } else { 1 };
+        rough.whole + more + second
     }
 
     /// So many whole ones, given in units, in parts by the divisor.
@@ -134,16 +134,16 @@ impl<const F: u32> Divisor<F> {
         requires { num ≤ 2 ^ 62 }
         ensures { AreParts (num * 2 ^ F) self.entry result }
     {
-        let guess = self.guess(num);
-        if guess.left < self.den {
+        let rough = self.rough(num);
+        if rough.left < self.den {
             Parts {
-                whole: guess.whole,
-                rest: guess.left,
+                whole: rough.whole,
+                rest: rough.left,
             }
         } else {
             Parts {
-                whole: guess.whole + 1,
-                rest: guess.left - self.den,
+                whole: rough.whole + 1,
+                rest: rough.left - self.den,
             }
         }
     }

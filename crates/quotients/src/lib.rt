@@ -1,8 +1,9 @@
-//! Quotients of whole numbers, found without a division.
+//! Quotients of whole numbers, mostly found without a division.
 //!
-//! A [`Divisor`] holds its inverse, and a quotient by it takes no trial; nor does one by a small divisor, whose inverse
-//! stands in a table. A divisor's inverse is guessed: what makes the guess has no clauses, since it is tried, and where
-//! it fails a division is made.
+//! A [`Divisor`] holds its inverse, and a quotient by it is two products and a comparison. The inverse of a small
+//! divisor stands in a table, and a quotient by it is one product where the number has at most 55 bits. The inverse
+//! that a [`Divisor`] holds is guessed: what makes the guess has no clauses, since it is tried, and where it fails a
+//! division is made.
 #![tactic(auto)]
 
 ghost use Rattle.std.specs.Prelude.{◌≡◌, ◌+◌, ◌*◌, ◌/◌, ◌^◌, ◌<◌, ◌≤◌, IsTrue};
@@ -107,8 +108,8 @@ pub fn short_quotient(num: u64, den: u8) -> u64
     }
 }
 
-/// About `2^126 / den`, for a `den` of `2^63` or more: from the inverse of its first eight bits, rounded, by three of
-/// Newton's steps. It is that rounded down, or one less.
+/// A guess at `2^126 / den`, for a `den` of `2^63` or more: from the inverse of its first eight bits, rounded, by three
+/// of Newton's steps. It is that rounded down, or one less.
 #[inline(always)]
 fn full_inverse(den: u64) -> u64 {
     let first = ((den >> 55) + 1) >> 1;
@@ -146,7 +147,7 @@ fn high_half(a: u64, b: u64) -> u64
     ((u128::from(a) * u128::from(b)) >> 64) as u64
 }
 
-/// `2^(F + 62) / den`, rounded down, or one less, for a `den` of `2^F` or more. No division is made.
+/// A guess at `2^(F + 62) / den`, for a `den` of `2^F` or more: it is that rounded down, or one less.
 #[inline(always)]
 fn inverse_of<const F: u32>(den: u64) -> u64
     requires { F ≤ 52 }
@@ -155,7 +156,7 @@ fn inverse_of<const F: u32>(den: u64) -> u64
     full_inverse(den.wrapping_shl(zeros)).wrapping_shr((64 - F).wrapping_sub(zeros))
 }
 
-/// By how many places two numbers are shifted so that the one, if it isn't 0, has `F + 1` bits or more.
+/// By how many places a number that isn't 0 is shifted so that it has `F + 1` bits or more.
 #[inline(always)]
 pub fn places_to<const F: u32>(den: u64) -> u32
     requires { F ≤ 52 }
@@ -165,8 +166,8 @@ pub fn places_to<const F: u32>(den: u64) -> u32
     den.leading_zeros().saturating_sub(63 - F)
 }
 
-/// The inverse of a number that is `den` or somewhat less, from that of `den`, which is rounded down: by one of
-/// Newton's steps, where the numbers are near enough for that. It is rounded down, or one less.
+/// A guess at the inverse of a number that is `den` or somewhat less, from that of `den`, which is rounded down: by one
+/// of Newton's steps, where the numbers are near enough for that. It is the inverse rounded down, or one less.
 #[inline(always)]
 fn inverse_near<const F: u32>(inverse: u64, den: u64, below: u64) -> u64
     requires { F ≤ 52 }

@@ -1,5 +1,5 @@
 use Rattle.std.proofs.Common.{◌≡◌, ◌∙◌, ◌+◌, ◌/◌, ◌^◌, ap, arith}
-use Rattle.quotients.proofs.Guesses.{inverse_room, unit_room}
+use Rattle.quotients.proofs.Rough.{inverse_room, unit_room}
 use Rattle.quotients.proofs.divisors.Divisor.by_guess.Goals as goal
 
 pub overflow_cast-inverse : goal.overflow_cast-inverse

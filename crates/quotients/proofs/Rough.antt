@@ -38,8 +38,8 @@ inverse_room f d i l e =
     omega (arith, c)
 
 -- what the inverse makes is not too large
-pub guess_most : (s d i n w : ℕ) → i * d ≤ s * 2 ^ 62 → w ≡ n * i / 2 ^ 62 → w * d ≤ n * s
-guess_most s d i n w h e =
+pub rough_most : (s d i n w : ℕ) → i * d ≤ s * 2 ^ 62 → w ≡ n * i / 2 ^ 62 → w * d ≤ n * s
+rough_most s d i n w h e =
     let t = div-add-mod' (n * i) (2 ^ 62) in
     let a : w * 2 ^ 62 ≤ n * i = rw e (omega (arith, t)) in
     let b : w * 2 ^ 62 * d ≤ n * i * d = mul-le-mul_right d a in
@@ -48,8 +48,8 @@ guess_most s d i n w h e =
     omega (arith, x)
 
 -- nor too small by 2
-pub guess_next : (s d i n w : ℕ) → 0 < d → n ≤ 2 ^ 62 → s * 2 ^ 62 < (i + 1) * d → w ≡ n * i / 2 ^ 62 → n * s < (w + 2) * d
-guess_next s d i n w p l h e =
+pub rough_next : (s d i n w : ℕ) → 0 < d → n ≤ 2 ^ 62 → s * 2 ^ 62 < (i + 1) * d → w ≡ n * i / 2 ^ 62 → n * s < (w + 2) * d
+rough_next s d i n w p l h e =
     let t = div-add-mod' (n * i) (2 ^ 62) in
     let m : (n * i) % 2 ^ 62 < 2 ^ 62 = mod-lt (n * i) (omega arith) in
     let a : n * i + n + 1 ≤ (w + 2) * 2 ^ 62 = rw e (omega (arith, t, m, l)) in
@@ -58,8 +58,8 @@ guess_next s d i n w p l h e =
     lt_of_mul-lt-mul_right (2 ^ 62) (omega (arith, b, c, p))
 
 -- it has at most 63 bits
-pub guess_room : (i n w : ℕ) → n ≤ 2 ^ 62 → i ≤ 2 ^ 62 → w ≡ n * i / 2 ^ 62 → w ≤ 2 ^ 62
-guess_room i n w l h e =
+pub rough_room : (i n w : ℕ) → n ≤ 2 ^ 62 → i ≤ 2 ^ 62 → w ≡ n * i / 2 ^ 62 → w ≤ 2 ^ 62
+rough_room i n w l h e =
     let t = div-add-mod' (n * i) (2 ^ 62) in
     let a : n * i ≤ 2 ^ 62 * 2 ^ 62 = mul-le-mul l h in
     let b : w * 2 ^ 62 ≤ n * i = rw e (omega (arith, t)) in
@@ -80,27 +80,27 @@ unit_room f s =
     let b : 1 * 2 ^ (f + 62) ≡ 2 ^ (f + 62) = omega arith in
     ap (λ z. z % 2 ^ 128) b ∙ mod-eq_of_lt (omega (arith, a))
 
--- the quotient rounded up, from a guess that leaves less than two divisors
-pub guess_up : (a d w left more second : ℕ) → w * d + left ≡ a → left < 2 * d → (left ≡ 0 → more ≡ 0) → (0 < left → more ≡ 1)
+-- the quotient rounded up, from one that leaves less than two divisors
+pub rough_up : (a d w left more second : ℕ) → w * d + left ≡ a → left < 2 * d → (left ≡ 0 → more ≡ 0) → (0 < left → more ≡ 1)
     → (left ≤ d → second ≡ 0) → (d < left → second ≡ 1) → w + more + second ≡ div_ceil a d
-guess_up a d w left more second e l m n p q = ceil_is a d (w + more + second) (omega (arith, l)) (grind (arith, e, l, m, n, p, q)) (grind (arith, e, l, m, n, p, q))
+rough_up a d w left more second e l m n p q = ceil_is a d (w + more + second) (omega (arith, l)) (grind (arith, e, l, m, n, p, q)) (grind (arith, e, l, m, n, p, q))
 
--- a guess of a quotient, and what it leaves
-pub record IsGuess (num d whole left : ℕ) : Type 0 where
+-- a quotient rounded down or one less, and what it leaves
+pub record IsRough (num d whole left : ℕ) : Type 0 where
   pub below : whole * d ≤ num
   pub sum : whole * d + left ≡ num
   pub short : left < 2 * d
 
--- the guess by a divisor's inverse, each number as the code has it
-pub guess_is : (f d i n a b x w y left : ℕ) → IsDivisor f d i → n ≤ 2 ^ 62 → a ≡ n → b ≡ i → x ≡ n → y ≡ d → w ≡ a * b / 2 ^ 62
-    → left ≡ x * 2 ^ f % 2 ^ 128 - w * y → (w * y ≤ x * 2 ^ f % 2 ^ 128) × IsGuess (n * 2 ^ f) d w left
-guess_is f d i n a b x w y left v l ea eb ex ey ew el =
+-- what a divisor's inverse makes, each number as the code has it
+pub rough_is : (f d i n a b x w y left : ℕ) → IsDivisor f d i → n ≤ 2 ^ 62 → a ≡ n → b ≡ i → x ≡ n → y ≡ d → w ≡ a * b / 2 ^ 62
+    → left ≡ x * 2 ^ f % 2 ^ 128 - w * y → (w * y ≤ x * 2 ^ f % 2 ^ 128) × IsRough (n * 2 ^ f) d w left
+rough_is f d i n a b x w y left v l ea eb ex ey ew el =
     let e : w ≡ n * i / 2 ^ 62 = ew ∙ ap₂ (λ p q. p * q / 2 ^ 62) ea eb in
     let m : x * 2 ^ f % 2 ^ 128 ≡ n * 2 ^ f = ap (λ z. z * 2 ^ f % 2 ^ 128) ex ∙ mod-eq_of_lt (scaled_room f n v.scale l) in
     let p : w * y ≡ w * d = ap (λ z. w * z) ey in
     let pos : 0 < d = omega (arith, pow_pos f, v.least) in
-    let low = guess_most (2 ^ f) d i n w (inverse_most f d i v.inverse_is) e in
-    let high = guess_next (2 ^ f) d i n w pos l (inverse_next f d i pos v.inverse_is) e in (
+    let low = rough_most (2 ^ f) d i n w (inverse_most f d i v.inverse_is) e in
+    let high = rough_next (2 ^ f) d i n w pos l (inverse_next f d i pos v.inverse_is) e in (
       omega (arith, m, p, low),
       record { below = low; sum = omega (arith, m, p, el, low); short = omega (arith, m, p, el, low, high) },
     )
