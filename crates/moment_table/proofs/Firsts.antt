@@ -84,10 +84,6 @@ first_weights f m d n list sum h = record {
 pub all_first : (f : ℕ) (list : List Ends) (sum : Ends) → Sized f list sum → AreFirst f 64 list
 all_first f list sum h = record { enough = h.enough; tops = λ x l. h.tops x (omega (arith, l, h.enough)) }
 
--- fewer of them too
-pub fewer_first : (f : ℕ) (n k : ℕ) (list : List Ends) → k ≤ n → AreFirst f n list → AreFirst f k list
-fewer_first f n k list l h = record { enough = omega (arith, l, h.enough); tops = λ x i. h.tops x (omega (arith, i, l)) }
-
 -- what is known where nothing is found
 pub none_then : {B E P Q : Type 0} (x : Result (Option B) E) → (P → Q) → IfOk x (λ y. IfNone y P) → IfOk x (λ y. IfNone y Q)
 none_then (Ok None) k h = k h
@@ -103,11 +99,13 @@ some_then (Err e) k h = h
 -- ---- what is put over the weights
 
 module _ {X : Type 0} (s : ℕ) (found weights : List X) (same : drop s found ≡ drop s weights) where
+  -- what is found at place s is the weight there
   pub still_there : (w : X) → w ≡ get_or found s w → w ≡ get_or weights s w
   still_there w e =
       let here : s + 0 ≡ s = omega arith in
       e ∙ ap (λ n. get_or found n w) (sym here) ∙ sym (get_or-drop s found 0 w) ∙ ap (λ rest. get_or rest 0 w) same ∙ get_or-drop s weights 0 w ∙ ap (λ n. get_or weights n w) here
 
+  -- where a value is put over the weight at place s, the weights behind it stay
   pub rest_next : (e : X) → drop (s + 1) (set found s e) ≡ drop (s + 1) weights
   rest_next e =
       drop-set-lt (s + 1) found s e (omega arith) ∙ sym (drop-drop 1 s found) ∙ ap (drop 1) same ∙ drop-drop 1 s weights

@@ -1,4 +1,4 @@
--- The rows that a table holds.
+-- The rows that a table holds. No promise of the crate rests on these words.
 use Rattle.std.specs.Prelude.{ℕ, ◌≡◌, ◌<◌, ◌≤◌, ◌^◌, ◌==◌, if◌then◌else◌, min, List, length, get_or}
 use Rattle.fixed_interval.specs.Ends.{Ends}
 use Rattle.series_bounds.specs.Profile.{listed}

@@ -7,9 +7,8 @@
 //! tail(s)) (1 - tail(s))`.
 #![tactic(auto)]
 
-ghost use Rattle.std.specs.Prelude.{◌≡◌, ℕ, suc, ◌+◌, ◌-◌, ◌*◌, ◌^◌, ◌<◌, ◌≤◌, IfOk, length, List};
+ghost use Rattle.std.specs.Prelude.{◌≡◌, ℕ, ◌+◌, ◌-◌, ◌*◌, ◌^◌, ◌<◌, ◌≤◌, IfOk, length};
 ghost use Rattle.fixed_interval.specs.Ends.{Ends, ends_max};
-ghost use Rattle.moment_table.specs.Held.{HasRows};
 ghost use Rattle.moment_table.specs.Inputs.{CanTable};
 ghost use Rattle.moment_table.specs.Profile.{known_row, table_rows};
 ghost use Rattle.moment_table.specs.Rows.{EncloseRows, EnclosesRow, IsBelow, at_stock};
@@ -62,7 +61,8 @@ pub fn table<const F: u32>(
 }
 
 /// The same table, of which the backorders and their variance are held at the stocks 0 to `limit` alone, at most 63,
-/// in 32 bytes for each. What isn't held is walked to again where it is asked for, which is slow.
+/// in 32 bytes for each. What isn't held is walked to again where it is asked for, which is slow. Want of memory is the
+/// only error.
 pub fn table_to<const F: u32>(
     alloc: Global,
     mean: Iv<F>,

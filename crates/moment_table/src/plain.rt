@@ -1,7 +1,6 @@
 //! The row at one stock, without memory: what `row_at` finds, in its plain form and slowly.
 
 ghost use Rattle.std.specs.Prelude.{◌≡◌, ◌*◌, ◌^◌, ◌<◌, ◌≤◌, true, IfSome, IfNone};
-ghost use Rattle.fixed_interval.specs.Ends.{IsWithinLimit};
 ghost use Rattle.series_bounds.specs.Profile.{is_wide};
 ghost use Rattle.moment_table.specs.Inputs.{CanTable};
 ghost use Rattle.moment_table.specs.Profile.{excess_ends, table_rows};

@@ -17,7 +17,7 @@ pub(crate) struct Divisors<const F: u32> {
 }
 
 impl<const F: u32> Divisors<F> {
-    /// Those of a sum.
+    /// The ends of a sum, each as a divisor.
     #[inline(always)]
     fn of(sum: Iv<F>) -> Divisors<F>
         requires least { 2 ^ F ≤ sum.lo }
@@ -50,7 +50,7 @@ impl<const F: u32> Model for Shares<F> {
 }
 
 impl<const F: u32> Shares<F> {
-    /// Those of a sum.
+    /// The shares of a sum.
     #[inline(always)]
     pub(crate) fn of(sum: Iv<F>) -> Shares<F>
         requires { 2 ^ F ≤ sum.lo }

@@ -1,15 +1,16 @@
--- The walk with the first weights alone, and the sum of all.
-use Rattle.std.proofs.Common.{◌≡◌, ℕ, zero, suc, ◌+◌, ◌-◌, ◌*◌, ◌<◌, ◌≤◌, ◌^◌, List, [], ◌∷◌, ◌++◌, length, get_or, sym, ap, ap₂, ◌∙◌, arith, subst, refl, pow_pos, mul-le-mul_left, le_trans}
+-- The first weights that the walk holds, and the sum of all.
+use Rattle.std.proofs.Common.{◌≡◌, ℕ, zero, suc, ◌+◌, ◌-◌, ◌*◌, ◌<◌, ◌≤◌, ◌^◌, List, [], ◌∷◌, ◌++◌, length, get_or, sym, ap, ap₂, ◌∙◌, arith, subst, refl, pow_pos, mul-le-mul_left, inl, inr}
 use Rattle.std.specs.Int.{div_ceil}
+use Rattle.std.proofs.lemmas.Bool.{cases_lt}
 use Rattle.std.proofs.lemmas.List.{length-append}
 use Rattle.fixed_interval.specs.Ends.{Ends, ends_add, ends_mul, ends_times}
-use Rattle.series_bounds.specs.Profile.{pivot_at, least_end, weight_ends, ratio_ends, ratio_bound, last_index, ends_sum, ends_raised, listed}
-use Rattle.series_bounds.specs.Walk.{ToPivot, ToNext, SumsTo, Begins, AtLeastEnd, EndsAt, ToEnd}
+use Rattle.series_bounds.specs.Profile.{pivot_at, least_end, weight_ends, ratio_ends, ratio_bound, last_index, ends_sum, listed}
+use Rattle.series_bounds.specs.Walk.{ToPivot, SumsTo, Begins, AtLeastEnd, AreWeighed, EndsAt}
 use Rattle.series_bounds.specs.Answer.{IsSum, IsBeginning, at_place}
-use Rattle.series_bounds.proofs.Enclosure.{listed_at, length_listed, narrow_tops}
-use Rattle.series_bounds.proofs.Walks.{listed_next, next_least, ascent_again, end_from_63, end_most, last_start}
+use Rattle.series_bounds.proofs.Enclosure.{listed_at, length_listed, narrow_tops, last_most}
+use Rattle.series_bounds.proofs.Walks.{listed_next, end_from_63, end_most, last_start}
 use Rattle.series_bounds.proofs.Bounds.{one_of, bound_half, weight_stays}
-use Rattle.series_bounds.proofs.Unlisted.{Climb, sums_next, climb_weight, climb_done, late_end}
+use Rattle.series_bounds.proofs.Unlisted.{sums_next, climb_again, climb_weight, climb_done, late_end}
 
 -- ---- the first weights
 
@@ -20,17 +21,23 @@ begins_more u wanted x list w h l e =
     let k : length (list ++ w ∷ []) ≡ x + 1 = length-append list (w ∷ []) ∙ omega (arith, n) in
     record {
       entries = ap₂ (λ y z. y ++ z ∷ []) (h.entries ∙ ap (listed u) n) e ∙ sym (listed_next u x) ∙ ap (listed u) (sym k);
+      most = omega (arith, k);
       all = λ _. k;
     }
 
-pub begins_same : (u : ℕ → Ends) (wanted x : ℕ) (list : List Ends) → Begins u wanted x list → wanted ≤ length list → Begins u wanted (x + 1) list
-begins_same u wanted x list h l = record { entries = h.entries; all = λ i. absurd (omega (arith, l, i)) }
+-- so many as are wanted stay so at any later index
+pub begins_later : (u : ℕ → Ends) (wanted x y : ℕ) (list : List Ends) → Begins u wanted x list → wanted ≤ length list → x ≤ y → Begins u wanted y list
+begins_later u wanted x y list h l q = record { entries = h.entries; most = omega (arith, h.most, q); all = λ i. absurd (omega (arith, l, i)) }
 
--- the weights from 0 to the pivot are first weights below the index past it
-pub begins_start : (f : ℕ) (m d : Ends) (wanted c : ℕ) (list : List Ends) → c ≡ pivot_at f m d → ToPivot f m d list → Begins (weight_ends f m d) wanted (c + 1) list
-begins_start f m d wanted c list e h =
-    let n : length list ≡ suc (pivot_at f m d) = ap length h.weights ∙ length_listed (weight_ends f m d) (suc (pivot_at f m d)) in
-    record { entries = h.weights ∙ ap (listed (weight_ends f m d)) (sym n); all = λ _. omega (arith, n, e) }
+-- all weights below an index are its first weights, however many are wanted
+pub begins_all : (u : ℕ → Ends) (wanted x : ℕ) (list : List Ends) → list ≡ listed u x → Begins u wanted x list
+begins_all u wanted x list e =
+    let n : length list ≡ x = ap length e ∙ length_listed u x in
+    record { entries = e ∙ ap (listed u) (sym n); most = omega (arith, n); all = λ _. n }
+
+-- the weights from 0 to the pivot are those below the index past it
+pub low_listed : (f : ℕ) (m d : Ends) (c : ℕ) (list : List Ends) → c ≡ pivot_at f m d → ToPivot f m d list → list ≡ listed (weight_ends f m d) (c + 1)
+low_listed f m d c list e h = h.weights ∙ ap (listed (weight_ends f m d)) (omega (arith, e))
 
 -- ---- the sum
 
@@ -60,23 +67,6 @@ sums_level f m d sum last next (suc k) h t same =
     subst (λ z. SumsTo f m d (ends_add sum (ends_times last (suc k))) z) i
     (sums_next f m d (ends_add sum (ends_times last k)) last (ends_add sum (ends_times last (suc k))) (next + k) before (sym (same (next + k) (omega arith) (omega arith))) t e)
 
--- ---- at the first index at which the list may end
-
--- a last weight that stays the same and the sum to the first possible end are the state of the walk there
-pub at_least_end : (f : ℕ) (m d : Ends) (sum last : Ends) (next : ℕ) → ToNext f m d (listed (weight_ends f m d) next) last next
-    → SumsTo f m d sum (least_end f m d) → AtLeastEnd f m d sum last
-at_least_end f m d sum last next h s = record {
-  walk = next_least f m d (listed (weight_ends f m d) next) (listed (weight_ends f m d) (least_end f m d)) last next h refl;
-  sums = s;
-}
-
--- the walk up goes on from the first index at which the list may end
-pub climb_again : (f : ℕ) (m d : Ends) (sum last : Ends) → pivot_at f m d ≤ 256 → AtLeastEnd f m d sum last → Climb f m d last sum (least_end f m d)
-climb_again f m d sum last q h = record {
-  ascent = ascent_again f m d (listed (weight_ends f m d) (least_end f m d)) last q h.walk;
-  sums = h.sums;
-}
-
 -- a weight from 0 to 1 unit, before which the last one was the same, with ratios of at most a half past it: the rest is 1
 pub closed_sum : (f : ℕ) (m d low before all : Ends) (h : ℕ) → pivot_at f m d ≤ 256 → AtLeastEnd f m d low before → 2 ^ f ≡ 2 * h → 0 < m.hi → before.lo ≡ 0 → before.hi ≡ 1
     → (m.hi + d.hi * least_end f m d) * 2 ≤ (1 * 2 ^ f + d.lo) * (least_end f m d + 1) → d.hi ≤ 2 ^ f → all ≡ record { lo = low.lo; hi = low.hi + 2 } → IsSum f m d all
@@ -100,27 +90,26 @@ closed_sum f m d low before all h q a e p bl bh l t k =
 
 -- ---- what is answered
 
--- first weights that are as many as wanted, and the sum of all, are a beginning of the answer
-pub beginning : (f : ℕ) (m d : Ends) (wanted : ℕ) (list : List Ends) (sum low last : Ends) → wanted ≤ 63 → wanted ≤ length list → Begins (weight_ends f m d) wanted wanted list
-    → AtLeastEnd f m d low last → IsSum f m d sum → IsBeginning f m d wanted list sum
-beginning f m d wanted list sum low last a b h s e = record {
-  enough = b;
-  weights = λ x l. ap (λ z. at_place z x) h.entries ∙ listed_at (weight_ends f m d) (length list) x (record { lo = 0; hi = 0 }) (omega (arith, l, b));
-  tops = λ x l. s.sums.tops x (omega (arith, l, a, end_from_63 f m d));
-  sum_is = e;
-}
-
--- of the list of all weights
-pub beginning_all : (f : ℕ) (m d : Ends) (wanted rest : ℕ) (list : List Ends) (sum : Ends) → wanted ≤ 63 → ToEnd f m d list rest → sum ≡ ends_raised (ends_sum list) rest
-    → IsBeginning f m d wanted list sum
-beginning_all f m d wanted rest list sum a h e =
-    let l : 63 ≤ last_index f m d = le_trans (end_from_63 f m d) (last_start f m d) in
+-- first weights, as many as wanted, and the sum of all are a beginning of the answer
+pub beginning : (f : ℕ) (m d : Ends) (wanted : ℕ) (list : List Ends) (sum : Ends) → wanted ≤ 63 → AreWeighed f m d wanted list sum → IsBeginning f m d wanted list sum
+beginning f m d wanted list sum a h =
+    let l : 63 ≤ last_index f m d = omega (arith, end_from_63 f m d, last_start f m d) in
+    let n : wanted ≤ length list = elim (cases_lt (length list) wanted) [ inl i ↦ omega (arith, h.first.all i, a, l) | inr i ↦ i ] in
     record {
-      enough = omega (arith, a, l, ap length h.weights ∙ length_listed (weight_ends f m d) (suc (last_index f m d)));
-      weights = λ x i. ap (λ z. at_place z x) h.weights ∙ listed_at (weight_ends f m d) (suc (last_index f m d)) x (record { lo = 0; hi = 0 }) (omega (arith, i, a, l));
-      tops = λ x i. narrow_tops f m d h.narrow x (omega (arith, i, a, l));
-      sum_is = record { narrow = h.narrow; sum_is = e ∙ ap₂ (λ y z. ends_raised (ends_sum y) z) h.weights h.rest };
+      enough = n;
+      weights = λ x i. ap (λ z. at_place z x) h.first.entries ∙ listed_at (weight_ends f m d) (length list) x (record { lo = 0; hi = 0 }) (omega (arith, i, n));
+      tops = λ x i. narrow_tops f m d h.sum_is.narrow x (omega (arith, i, a, l));
+      sum_is = h.sum_is;
     }
+
+-- where 1025 first weights are wanted, these are all
+pub all_listed : (f : ℕ) (m d : Ends) (list : List Ends) (sum : Ends) → pivot_at f m d ≤ 256 → AreWeighed f m d 1025 list sum → list ≡ listed (weight_ends f m d) (suc (last_index f m d))
+all_listed f m d list sum q h =
+    let n : length list ≡ suc (last_index f m d) = elim (cases_lt (length list) 1025) [
+      | inl i ↦ omega (arith, h.first.all i)
+      | inr i ↦ omega (arith, i, h.first.most, last_most f m d q)
+    ] in
+    h.first.entries ∙ ap (listed (weight_ends f m d)) n
 
 -- ---- the list to the pivot
 

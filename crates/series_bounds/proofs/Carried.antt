@@ -4,7 +4,7 @@ use Rattle.std.specs.Int.{div_ceil}
 use Rattle.std.proofs.Math.Nat.{mul-pos, mul-le-mul_left, lt_of_mul-lt-mul_right, div-mul-le_self, mul-div-mul_left, mod-eq_of_lt}
 use Rattle.std.proofs.lemmas.Grind.{div_ceil_times}
 use Rattle.fixed_interval.specs.Ends.{Ends, ends_add, ends_div, ends_exact}
-use Rattle.fixed_interval.proofs.Laws.{floor_below_ceil, ceil_by_sum, ceil_is, ceil_le, unit_most}
+use Rattle.fixed_interval.proofs.Laws.{floor_below_ceil, ceil_by_sum, ceil_is, unit_most}
 use Rattle.series_bounds.specs.Profile.{ratio_ends}
 use Rattle.quotients.specs.Parts.{AreParts}
 use Rattle.quotients.specs.declared.parts.Parts.{Parts}
@@ -46,17 +46,6 @@ pub ends_are : (f : ℕ) (m d : Ends) (x lo hi : ℕ) (r : Ends) → r ≡ recor
     → r ≡ ratio_ends f m d x
 unfolding ratio_ends
 ends_are f m d x lo hi r e h k = rw (e, h, k) refl
-
--- the lower end of a ratio is at most its upper one, where those of mean and excess are
-pub ends_ordered : (f : ℕ) (m d : Ends) (x lo hi : ℕ) → 0 < x → m.lo ≤ m.hi → d.lo ≤ d.hi
-    → lo ≡ (m.lo + d.lo * (x - 1)) * 2 ^ f / ((1 * 2 ^ f + d.hi) * x) → hi ≡ div_ceil ((m.hi + d.hi * (x - 1)) * 2 ^ f) ((1 * 2 ^ f + d.lo) * x)
-    → lo ≤ hi
-ends_ordered f m d x lo hi p om od h k =
-    let a : d.lo * (x - 1) ≤ d.hi * (x - 1) = mul-le-mul_right (x - 1) od in
-    let b : (m.lo + d.lo * (x - 1)) * 2 ^ f ≤ (m.hi + d.hi * (x - 1)) * 2 ^ f = mul-le-mul_right (2 ^ f) (omega (arith, a, om)) in
-    let c : (1 * 2 ^ f + d.lo) * x ≤ (1 * 2 ^ f + d.hi) * x = mul-le-mul_right x (omega (arith, od)) in
-    rw (h, k) (floor_below_ceil ((m.lo + d.lo * (x - 1)) * 2 ^ f) ((1 * 2 ^ f + d.hi) * x) ((m.hi + d.hi * (x - 1)) * 2 ^ f) ((1 * 2 ^ f + d.lo) * x) b
-    (mul-pos {m = 1 * 2 ^ f + d.lo} {n = x} (omega (arith, pow_pos f)) p) c)
 
 -- the next numerator
 next_num : (m e x o : ℕ) → 0 < x → (m + e * (x - 1)) * o + e * o ≡ (m + e * (x + 1 - 1)) * o
@@ -104,20 +93,9 @@ scaled_room f n o d s e q l =
     let c : n * o ≤ (1281 * 2 ^ 64) * 2 ^ 52 = mul-le-mul {n₁ = n} {m₁ = o} {n₂ = 1281 * 2 ^ 64} {m₂ = 2 ^ 52} (omega (arith, q, l)) (omega (arith, u, e)) in
     omega (arith, c)
 
--- a numerator of at most 65536, in units, is at most 2^120
-pub share_room : (f n o : ℕ) → f ≤ 52 → o ≡ 2 ^ f → n ≤ 65536 * 2 ^ f → n * o ≤ 2 ^ 120
-share_room f n o s e l =
-    let u = unit_most f s in
-    let c : n * o ≤ (65536 * 2 ^ 52) * 2 ^ 52 = mul-le-mul {n₁ = n} {m₁ = o} {n₂ = 65536 * 2 ^ 52} {m₂ = 2 ^ 52} (omega (arith, u, l)) (omega (arith, u, e)) in
-    omega (arith, c)
-
 -- the lower end of a quotient is at most its upper one, where those of numerator and divisor are
 pub share_ordered : (f al ah bl bh lower upper : ℕ) → al ≤ ah → 0 < bl → bl ≤ bh → lower ≡ al * 2 ^ f / bh → upper ≡ div_ceil (ah * 2 ^ f) bl → lower ≤ upper
 share_ordered f al ah bl bh lower upper h p k e i = rw (e, i) (floor_below_ceil (al * 2 ^ f) bh (ah * 2 ^ f) bl (mul-le-mul_right (2 ^ f) h) p k)
-
--- the upper end of a quotient whose numerator is at most 65536 is below 2^127
-pub share_most : (f ah bl upper : ℕ) → f ≤ 52 → ah ≤ 65536 * 2 ^ f → 0 < bl → upper ≡ div_ceil (ah * 2 ^ f) bl → upper < 2 ^ 127
-share_most f ah bl upper s h p e = omega (arith, e, ceil_le (ah * 2 ^ f) bl p, share_room f ah (2 ^ f) s refl h)
 
 -- a number that is below so many places of a larger one stays below it after the shift
 pub shift_below : (x t p : ℕ) → x < t / p → x * p < t

@@ -1,16 +1,17 @@
 -- The walks without lists: the sum of the weights, and one weight.
-use Rattle.std.proofs.Common.{◌≡◌, ℕ, suc, ◌+◌, ◌-◌, ◌*◌, ◌<◌, ◌≤◌, ◌^◌, true, false, [], ◌∷◌, ◌++◌, ◌⊎◌, inl, inr, sym, ap, ap₂, ◌∙◌, arith, subst, add-one, List}
+use Rattle.std.proofs.Common.{◌≡◌, ℕ, zero, suc, ◌+◌, ◌-◌, ◌*◌, ◌<◌, ◌≤◌, ◌^◌, true, false, [], ◌∷◌, ◌⊎◌, inl, inr, sym, ap, ap₂, ◌∙◌, arith, subst, le_trans}
 use Rattle.std.specs.Int.{div_ceil}
+use Rattle.std.proofs.Math.Nat.{eq-or-lt_of_le}
 use Rattle.std.proofs.lemmas.Bool.{and_right, lt-leb}
 use Rattle.std.proofs.lemmas.List.Sums.{fold-append}
 use Rattle.fixed_interval.specs.Ends.{Ends, ends_add, ends_exact, ends_mul}
-use Rattle.series_bounds.specs.Profile.{ratio_ends, back_ends, pivot_at, weight_ends, has_remainder, ratio_bound, remainder_from, remainder_at, may_end, last_index, is_wide, ends_sum, ends_raised, listed, weights_of}
-use Rattle.series_bounds.specs.Walk.{ToPivot, ToEnd, EndsAt, GoesOn, SumsTo}
+use Rattle.series_bounds.specs.Profile.{ratio_ends, back_ends, pivot_at, weight_ends, has_remainder, ratio_bound, remainder_at, may_end, last_index, is_wide, ends_sum, ends_raised, least_end, listed, weights_of}
+use Rattle.series_bounds.specs.Walk.{AtLeastEnd, EndsAt, GoesOn, Midway, StaysFrom, SumsTo}
 use Rattle.series_bounds.specs.declared.kinds.Weights.TheVariants.{Known}
 use Rattle.series_bounds.specs.Answer.{IsSum, at_place}
-use Rattle.series_bounds.proofs.Enclosure.{profile_sized, known_answer, listed_at}
-use Rattle.series_bounds.proofs.Bounds.{exists_is, missing_is, rest_is}
-use Rattle.series_bounds.proofs.Walks.{Ascent, ascent_start, ascent_next, ascent_wide, ascent_unended, ascent_done, next_weight, may_not, listed_next, wide_at, last_start, end_from_63, weight_at_pivot, weight_down, weight_up, pivot_below_last, below_more}
+use Rattle.series_bounds.proofs.Enclosure.{profile_sized, known_answer, listed_at, rest_small}
+use Rattle.series_bounds.proofs.Bounds.{exists_is, missing_is, rest_is, weight_stays_on}
+use Rattle.series_bounds.proofs.Walks.{Passed, below_more, end_from_63, end_most, end_past_pivot, last_is, last_least, last_start, listed_next, may_from, may_not, narrow_from, pivot_below_last, weight_at_pivot, weight_down, weight_up, wide_at, wide_unended}
 
 -- ---- sums
 
@@ -42,60 +43,132 @@ sums_next f m d sum w more x h e t k = record {
 
 -- ---- upwards from the pivot
 
--- upwards from the pivot: the weights below x, the last of them in last, and their sum
+-- upwards from the pivot: the sum of the weights below x, and the last of them, where no index below x may be the last one
 pub record Climb (f : ℕ) (m d last sum : Ends) (x : ℕ) : Type 0 where
-  pub ascent : Ascent f m d (listed (weight_ends f m d) x) last x
+  pub past : pivot_at f m d < x
+  pub last_is : last ≡ weight_ends f m d (x - 1)
   pub sums : SumsTo f m d sum x
+  pub passed : Passed f m d x
+  pub unended : 1024 < x → has_remainder f m d 1024 ≡ false
 
 -- the walk up begins past the pivot with the weight 1 and the sum to the pivot
 pub climb_start : (f : ℕ) (m d last low : Ends) (c : ℕ) → c ≡ pivot_at f m d → c ≤ 256 → last ≡ ends_exact f 1 → SumsTo f m d low (c + 1) → Climb f m d last low (c + 1)
-climb_start f m d last low c e q l h =
-    let k : SumsTo f m d low (pivot_at f m d + 1) = subst (λ z. SumsTo f m d low (z + 1)) e h in
-    let to : ToPivot f m d (listed (weight_ends f m d) (pivot_at f m d + 1)) = record {
-      weights = ap (listed (weight_ends f m d)) (add-one (pivot_at f m d));
-      tops = λ y i. k.tops y (omega arith);
-    } in
-    subst (λ z. Climb f m d last low (z + 1)) (sym e) (record {
-      ascent = ascent_start f m d (listed (weight_ends f m d) (pivot_at f m d + 1)) last to (omega (arith, e, q)) l;
-      sums = k;
-    })
+climb_start f m d last low c e q l h = record {
+  past = omega (arith, e);
+  last_is = l ∙ sym (weight_at_pivot f m d) ∙ ap (weight_ends f m d) (omega (arith, e));
+  sums = h;
+  passed = λ y a b. absurd (omega (arith, a, b, e, end_past_pivot f m d));
+  unended = λ i. absurd (omega (arith, i, q));
+}
+
+-- the weight at which the walk up stands doesn't pass 8
+pub climb_top : (f : ℕ) (m d last sum : Ends) (x : ℕ) → Climb f m d last sum x → last.hi ≤ 8 * 2 ^ f
+climb_top f m d last sum x h = subst (λ (z : Ends). z.hi ≤ 8 * 2 ^ f) (sym h.last_is) (h.sums.tops (x - 1) (omega (arith, h.past)))
 
 module _ (f : ℕ) (m d last sum v r : Ends) (x : ℕ) (h : Climb f m d last sum x) (er : r ≡ ratio_ends f m d x) (ev : v ≡ ends_mul f last r) where
+  -- what the walk computes at x is the weight there
   pub climb_weight : v ≡ weight_ends f m d x
-  climb_weight = next_weight f m d (listed (weight_ends f m d) x) last v r x h.ascent er ev
+  climb_weight = ev ∙ ap₂ (ends_mul f) h.last_is er ∙ sym (weight_up f m d x h.past)
 
+  -- where that weight passes 8 the answer is wide
   pub climb_wide : pivot_at f m d ≤ 256 → x ≤ 1024 → 8 * 2 ^ f < v.hi → is_wide f m d ≡ true
-  climb_wide q l t = ascent_wide f m d (listed (weight_ends f m d) x) last v r x h.ascent q l er ev t
+  climb_wide q l t = wide_at f m d x (last_least f m d x q l h.passed) (subst (λ (z : Ends). 8 * 2 ^ f < z.hi) climb_weight t)
 
+  -- where it doesn't, and the list goes on, the walk stands at the next index
   pub climb_next : v.hi ≤ 8 * 2 ^ f → (more : Ends) → more ≡ ends_add sum v → GoesOn f m d x → Climb f m d v more (x + 1)
   climb_next t more k on = record {
-    ascent = subst (λ z. Ascent f m d z v (x + 1)) (ap (λ z. listed (weight_ends f m d) x ++ z ∷ []) climb_weight ∙ sym (listed_next (weight_ends f m d) x))
-        (ascent_next f m d (listed (weight_ends f m d) x) last v r x h.ascent er ev t on.passed on.unended);
+    past = omega (arith, h.past);
+    last_is = climb_weight ∙ ap (weight_ends f m d) (omega arith);
     sums = sums_next f m d sum v more x h.sums climb_weight t k;
+    passed = λ y a b. below_more (λ y. least_end f m d ≤ y → may_end f m d y ≡ false) x (λ y i j. h.passed y j i)
+        (λ a. on.passed (le_trans (end_from_63 f m d) a)) y b a;
+    unended = on.unended;
   }
 
-  pub climb_ended : v.hi ≤ 8 * 2 ^ f → x ≤ 1024 → (rest : ℕ) → EndsAt f m d x rest → ToEnd f m d (listed (weight_ends f m d) x ++ v ∷ []) rest
-  climb_ended t l rest e =
-      ascent_done f m d (listed (weight_ends f m d) x) last v r x rest h.ascent er ev t e.late l e.ends
-      (e.rest_is ∙ ap (λ (z : Ends). remainder_from f m d z.hi x) (sym climb_weight)) e.small
+  -- where the list ends at x, that is the last index
+  pub climb_last : x ≤ 1024 → (rest : ℕ) → EndsAt f m d x rest → last_index f m d ≡ x
+  climb_last l rest e = last_is f m d x h.past e.late l h.passed (λ i. may_from f m d x rest e.ends e.rest_is (e.small i))
 
+  climb_narrow : v.hi ≤ 8 * 2 ^ f → x ≤ 1024 → (rest : ℕ) → EndsAt f m d x rest → is_wide f m d ≡ false
+  climb_narrow t l rest e =
+      let k = climb_last l rest e in
+      let tops : (y : ℕ) → y < x + 1 → (weight_ends f m d y).hi ≤ 8 * 2 ^ f =
+      below_more (λ y. (weight_ends f m d y).hi ≤ 8 * 2 ^ f) x h.sums.tops (subst (λ (z : Ends). z.hi ≤ 8 * 2 ^ f) climb_weight t) in
+      narrow_from f m d (λ y i. tops y (omega (arith, i, k))) (rw k e.ends)
+
+  -- the remainder there has at most 115 bits
+  pub climb_rest : v.hi ≤ 8 * 2 ^ f → x ≤ 1024 → (rest : ℕ) → EndsAt f m d x rest → f ≤ 52 → rest ≤ 2 ^ 115
+  climb_rest t l rest e s =
+      subst (λ z. z ≤ 2 ^ 115) (ap (remainder_at f m d) (climb_last l rest e) ∙ sym e.rest_is) (rest_small f m d s (climb_narrow t l rest e))
+
+  -- the sum with the remainder is then that of all weights
   pub climb_done : v.hi ≤ 8 * 2 ^ f → x ≤ 1024 → (rest : ℕ) → EndsAt f m d x rest → (more all : Ends) → more ≡ ends_add sum v → all ≡ ends_raised more rest → IsSum f m d all
   climb_done t l rest e more all k i =
-      let to = climb_ended t l rest e in
+      let c = climb_last l rest e in
+      let n : x + 1 ≡ suc (last_index f m d) = omega (arith, c) in
       let s : more ≡ ends_sum (listed (weight_ends f m d) (suc (last_index f m d))) =
-      k ∙ ap (λ z. ends_add z v) h.sums.sum_is ∙ sym (fold-append ends_add (record { lo = 0; hi = 0 }) (listed (weight_ends f m d) x) (v ∷ [])) ∙ ap ends_sum to.weights in
-      record { narrow = to.narrow; sum_is = i ∙ ap₂ ends_raised s to.rest }
+      (sums_next f m d sum v more x h.sums climb_weight t k).sum_is ∙ ap (λ z. ends_sum (listed (weight_ends f m d) z)) n in
+      record { narrow = climb_narrow t l rest e; sum_is = i ∙ ap₂ ends_raised s (e.rest_is ∙ ap (remainder_at f m d) (sym c)) }
 
 -- a walk up past 1024 without an end makes the answer wide
 pub climb_unended : (f : ℕ) (m d last sum : Ends) (x : ℕ) → Climb f m d last sum x → pivot_at f m d ≤ 256 → 1024 < x → is_wide f m d ≡ true
-climb_unended f m d last sum x h q l = ascent_unended f m d (listed (weight_ends f m d) x) last x h.ascent q l
+climb_unended f m d last sum x h q l =
+    let e : last_index f m d ≡ 1024 =
+    last_is f m d 1024 (omega (arith, q)) (omega arith) (omega arith) (λ y a b. h.passed y a (omega (arith, b, l))) (λ i. absurd (omega (arith, i))) in
+    wide_unended f m d (rw e (h.unended l))
 
--- the same with the list
-pub ascent_ended : (f : ℕ) (m d : Ends) (list : List Ends) (last v r : Ends) (x rest : ℕ) → Ascent f m d list last x → r ≡ ratio_ends f m d x → v ≡ ends_mul f last r
-    → v.hi ≤ 8 * 2 ^ f → x ≤ 1024 → EndsAt f m d x rest → ToEnd f m d (list ++ v ∷ []) rest
-ascent_ended f m d list last v r x rest h er ev t l e =
-    ascent_done f m d list last v r x rest h er ev t e.late l e.ends
-    (e.rest_is ∙ ap (λ (z : Ends). remainder_from f m d z.hi x) (sym (next_weight f m d list last v r x h er ev))) e.small
+-- ---- at the first index at which the list may end
+
+-- a walk up to the first index at which the list may end may stop there
+pub climb_least : (f : ℕ) (m d last sum : Ends) (x : ℕ) → Climb f m d last sum x → x ≡ least_end f m d → Midway f m d sum last x
+climb_least f m d last sum x h e = record {
+  sums = h.sums;
+  past = h.past;
+  before_end = omega (arith, e);
+  last_is = h.last_is;
+  same = λ y a b. absurd (omega (arith, a, b, e));
+}
+
+stay_past : (f : ℕ) (m d : Ends) (term : Ends) (x k : ℕ) → pivot_at f m d < x → 0 < m.hi → term ≡ weight_ends f m d (x - 1) → StaysFrom f m d term x
+    → weight_ends f m d (x - 1 + k) ≡ term
+stay_past f m d term x zero p q e s = ap (weight_ends f m d) (omega arith) ∙ sym e
+stay_past f m d term x (suc k) p q e s =
+    let i : x - 1 + suc k - 1 ≡ x - 1 + k = omega arith in
+    weight_up f m d (x - 1 + suc k) (omega (arith, p)) ∙ ap (λ z. ends_mul f (weight_ends f m d z) (ratio_ends f m d (x - 1 + suc k))) i
+    ∙ ap (λ z. ends_mul f z (ratio_ends f m d (x - 1 + suc k))) (stay_past f m d term x k p q e s)
+    ∙ sym (weight_stays_on f m d term x (x - 1 + suc k) (omega (arith, p)) (omega (arith, p)) q s)
+
+-- the walk may stop where the weights stay the same
+pub climb_stays : (f : ℕ) (m d last sum : Ends) (x : ℕ) → Climb f m d last sum x → 0 < m.hi → x ≤ least_end f m d → StaysFrom f m d last x → Midway f m d sum last x
+climb_stays f m d last sum x h q l s = record {
+  sums = h.sums;
+  past = h.past;
+  before_end = l;
+  last_is = h.last_is;
+  same = λ y a b.
+      let i : y ≡ x - 1 + (y - (x - 1)) = omega (arith, h.past, a) in
+      ap (weight_ends f m d) i ∙ stay_past f m d last x (y - (x - 1)) h.past q h.last_is s;
+}
+
+-- a last weight that stays the same and the sum to the first possible end are the state of the walk there
+pub at_least_end : (f : ℕ) (m d sum low last : Ends) (next : ℕ) → Midway f m d sum last next → SumsTo f m d low (least_end f m d) → AtLeastEnd f m d low last
+at_least_end f m d sum low last next h s = record {
+  sums = s;
+  last_is = elim (eq-or-lt_of_le {n = next} {m = least_end f m d} h.before_end) [
+    | inl i ↦ h.last_is ∙ ap (λ y. weight_ends f m d (y - 1)) i
+    | inr l ↦ sym (h.same (least_end f m d - 1) (omega (arith, l)) (omega (arith, l)))
+  ];
+}
+
+-- the walk up goes on from the first index at which the list may end
+pub climb_again : (f : ℕ) (m d sum last : Ends) → pivot_at f m d ≤ 256 → AtLeastEnd f m d sum last → Climb f m d last sum (least_end f m d)
+climb_again f m d sum last q h = record {
+  past = end_past_pivot f m d;
+  last_is = h.last_is;
+  sums = h.sums;
+  passed = λ y a b. absurd (omega (arith, a, b));
+  unended = λ l. absurd (omega (arith, l, end_most f m d 1024 (omega (arith, q)) (omega arith)));
+}
 
 -- ---- whether the list ends
 

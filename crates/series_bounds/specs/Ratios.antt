@@ -1,5 +1,4 @@
--- A ratio of weights in parts, from which the next one follows by additions. No promise of the crate rests on these
--- words.
+-- A ratio of weights in parts, and the next one by additions. No promise of the crate rests on these words.
 use Rattle.std.specs.Prelude.{ℕ, ◌≡◌, ◌+◌, ◌-◌, ◌*◌, ◌^◌, ◌<◌, ◌≤◌}
 use Rattle.fixed_interval.specs.Ends.{Ends}
 use Rattle.quotients.specs.Parts.{AreParts}

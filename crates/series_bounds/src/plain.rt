@@ -1,17 +1,16 @@
-//! The weights one by one and their sum, without memory: what `weights` finds, by the divisions that the definitions
-//! name.
+//! What the walk finds, by the divisions that the definitions name; the sum and each weight alone, without memory.
 //!
-//! A weight is walked to from the pivot anew, so this is slow. It serves the few who can't wait for memory, and it is
-//! the plain form beside which the fast one can be read and tried.
+//! A weight alone is walked to from the pivot anew, so this is slow. It serves the few who can't wait for memory, and
+//! an excess whose ends are far apart, and it is the plain form beside which the fast one can be read and tried.
 
-ghost use Rattle.std.specs.Prelude.{◌≡◌, ◌+◌, ◌-◌, ◌*◌, ◌^◌, ◌<◌, ◌≤◌, true, IfOk, IfSome, IfNone};
+ghost use Rattle.std.specs.Prelude.{ℕ, ◌≡◌, ◌+◌, ◌-◌, ◌*◌, ◌^◌, ◌<◌, ◌≤◌, true, IfOk, IfSome, IfNone};
 ghost use Rattle.fixed_interval.specs.Ends.{IsWithinLimit, ends_mul};
-ghost use Rattle.series_bounds.specs.Profile.{ratio_ends, back_ends, far_ratio, pivot_at, weight_ends, is_wide};
-ghost use Rattle.series_bounds.specs.Walk.{EndsAt, GoesOn, SumsTo, ToEnd, ToPivot};
+ghost use Rattle.series_bounds.specs.Profile.{ratio_ends, back_ends, far_ratio, pivot_at, weight_ends, is_wide, listed};
+ghost use Rattle.series_bounds.specs.Walk.{AreWeighed, EndsAt, GoesOn, SumsTo};
 ghost use Rattle.series_bounds.specs.Answer.{IsSum};
 
-use crate::short::{Iv64, product};
-use crate::{Ended, FIRST_END, LAST_END, most_weight, pivot_of, rest_at, unit};
+use crate::short::Iv64;
+use crate::{FIRST_END, LAST_END, most_weight, pivot_of, rest_at, unit};
 use fixed_interval::Iv;
 use spares_io::NoMemory;
 
@@ -22,7 +21,7 @@ fn times<const F: u32>(weight: Iv<F>, ratio: Iv<F>) -> Iv<F>
     requires ratio_top { ratio.hi ≤ 2048 * 2 ^ F }
     ensures { result ≡ ends_mul F weight.entry ratio.entry }
 {
-    product(weight, ratio)
+    weight.mul(ratio)
 }
 
 /// The ratio of the weight at `x` to the one before it.
@@ -169,33 +168,38 @@ fn sum_past<const F: u32>(mean: Iv<F>, excess: Iv<F>, pivot: u16, low: Iv<F>) ->
     None
 }
 
-/// All weights from those to the pivot on, with what the ones past them come to at most, and None where a weight
-/// passes 8 or the rest needn't fall: by the definitions' divisions, for an excess whose ends are far apart.
+/// Puts all weights past the pivot to those from 0 to it, and answers the sum of all with what the ones past the list
+/// come to at most, by the definitions' divisions, for an excess whose ends are far apart. `low` is the sum up to the
+/// pivot. None where a weight passes 8 or the rest needn't fall.
 pub(crate) fn risen_plain<const F: u32>(
+    list: &mut Vec<Iv64<F>>,
     mean: Iv<F>,
     excess: Iv<F>,
     pivot: u16,
-    low: Vec<Iv64<F>>,
-) -> Result<Option<Ended<F>>, NoMemory>
+    low: Iv<F>,
+) -> Result<Option<Iv<F>>, NoMemory>
     requires mean_top { IsWithinLimit F mean }
     requires excess_top { excess.hi ≤ 2048 * 2 ^ F }
     requires depth { pivot ≤ 256 }
     requires place { pivot ≡ pivot_at F mean excess }
-    requires low { ToPivot F mean excess low.items }
+    requires begun { list.old.items ≡ listed (weight_ends F mean excess) (pivot + 1) }
+    requires low { SumsTo F mean excess low (pivot + 1) }
     ensures wide { IfOk result (λ found. IfNone found (is_wide F mean.entry excess.entry ≡ true)) }
-    ensures known { IfOk result (λ found. IfSome found (λ e. ToEnd F mean.entry excess.entry e.list.items e.rest)) }
+    ensures known { IfOk result (λ found. IfSome found
+        (λ sum. (wanted : ℕ) → AreWeighed F mean.entry excess.entry wanted list.new.items sum)) }
 {
     let most = most_weight::<F>();
-    let mut list = low;
+    let mut sum = low;
     let mut last = Iv::exact(1);
     for x in u32::from(pivot) + 1..LAST_END + 1 {
         last = times(last, ratio(mean, excess, x));
         if last.hi() > most {
             return Ok(None);
         }
+        sum = sum.add(last);
         list.push(Iv64::of(last))?;
         if let Some(rest) = rest_past(mean, excess, last.hi(), x) {
-            return Ok(Some(Ended { list, rest }));
+            return Ok(Some(Iv::of_ends(sum.lo(), sum.hi() + rest)));
         }
     }
     Ok(None)

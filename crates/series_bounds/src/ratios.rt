@@ -1,6 +1,6 @@
 //! The ratios of the weights from index to index, each from the one before it by additions.
 
-ghost use Rattle.std.specs.Prelude.{◌≡◌, ◌+◌, ◌-◌, ◌*◌, ◌/◌, ◌^◌, ◌<◌, ◌≤◌};
+ghost use Rattle.std.specs.Prelude.{◌≡◌, ◌+◌, ◌*◌, ◌/◌, ◌^◌, ◌<◌, ◌≤◌};
 ghost use Rattle.series_bounds.specs.Profile.{ratio_ends, far_ratio};
 ghost use Rattle.quotients.specs.Parts.{AreParts};
 ghost use Rattle.series_bounds.specs.Ratios.{AreRatios, IsNear};
@@ -92,20 +92,6 @@ impl<const F: u32> Ratios<F> {
         let by_low = Divisor::of(one_more::<F>(excess.hi() as u64));
         let by_high = by_low.beside(one_more::<F>(excess.lo() as u64));
         Ratios::with_divisors(mean, excess, x, by_low, by_high)
-    }
-
-    /// At another index.
-    pub(crate) fn again(&self, mean: Iv<F>, excess: Iv<F>, x: u32) -> Ratios<F>
-        requires mean_top { IsWithinLimit F mean }
-        requires excess_top { excess.hi ≤ 2048 * 2 ^ F }
-        requires near { IsNear F excess }
-        requires from { 0 < x }
-        requires depth { x ≤ 1025 }
-        requires by_low { self.now.by_low ≡ 1 * 2 ^ F + excess.hi }
-        requires by_high { self.now.by_high ≡ 1 * 2 ^ F + excess.lo }
-        ensures { AreRatios F mean.entry excess.entry x result }
-    {
-        Ratios::with_divisors(mean, excess, x, self.by_low, self.by_high)
     }
 
     /// At the index `x`, with 1 more than the excess.

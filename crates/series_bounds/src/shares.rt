@@ -1,8 +1,9 @@
 //! Quotients of intervals, mostly without a division.
 
-ghost use Rattle.std.specs.Prelude.{◌≡◌, ◌*◌, ◌/◌, ◌^◌, ◌<◌, ◌≤◌};
+ghost use Rattle.std.specs.Prelude.{◌≡◌, ◌*◌, ◌^◌, ◌<◌, ◌≤◌};
 ghost use Rattle.fixed_interval.specs.Ends.{ends_div};
 
+use crate::short::Iv64;
 use crate::unit;
 use fixed_interval::Iv;
 use quotients::{Divisor, places_to};
@@ -18,36 +19,20 @@ pub(crate) fn div_near<const F: u32>(a: Iv<F>, b: Iv<F>, near: &mut Divisor<F>) 
         let upper = near.beside(b.hi() as u64);
         let lower = upper.beside(b.lo() as u64);
         *near = upper;
-        quotient_by(a, upper, lower)
+        Iv64::of(a).over(lower, upper).open()
     } else {
         a.div(b)
     }
 }
 
-/// The quotient by the numbers from `lower` to `upper`.
+/// The interval times a power of 2.
 #[inline(always)]
-fn quotient_by<const F: u32>(a: Iv<F>, upper: Divisor<F>, lower: Divisor<F>) -> Iv<F>
-    requires short { a.hi ≤ 2 ^ 62 }
-    requires least { 0 < lower }
-    requires ordered { lower ≤ upper }
-    ensures { result ≡ ends_div F a.entry (record { lo = lower.entry; hi = upper.entry }) }
-{
-    let least = upper.floor(a.lo() as u64);
-    let most = lower.ceil(a.hi() as u64);
-    Iv::of_ends(u128::from(least), u128::from(most))
-}
-
-/// The same interval times so many powers of 2.
-#[inline(always)]
-fn shifted<const F: u32>(a: Iv<F>, places: u32) -> Iv<F>
+fn shifted<const F: u32>(a: Iv<F>, places: u32) -> Iv64<F>
     requires few { places ≤ 53 }
     requires room { a.hi * 2 ^ places < 2 ^ 63 }
     ensures { result ≡ record { lo = a.entry.lo * 2 ^ places; hi = a.entry.hi * 2 ^ places } }
 {
-    Iv::of_ends(
-        u128::from((a.lo() as u64) << places),
-        u128::from((a.hi() as u64) << places),
-    )
+    Iv64::of_ends((a.lo() as u64) << places, (a.hi() as u64) << places)
 }
 
 /// `a / b`, mostly without a division.
@@ -62,7 +47,7 @@ pub fn quotient<const F: u32>(a: Iv<F>, b: Iv<F>) -> Iv<F>
         if top <= (1 << 62) >> places && most < (1 << 63) >> places {
             let upper = Divisor::of(most << places);
             let lower = upper.beside(least << places);
-            return quotient_by(shifted(a, places), upper, lower);
+            return shifted(a, places).over(lower, upper).open();
         }
     }
     a.div(b)

@@ -186,8 +186,8 @@ impl<const F: u32> Iv64<F> {
         requires { part.hi ≤ 2 ^ F }
         ensures { result ≡ ends_mul F self.entry part.entry }
     {
-        let lower = part_down::<F>(self.lo, part.lo);
-        let upper = part_up::<F>(self.hi, part.hi);
+        let lower = product_down::<F>(self.lo, part.lo);
+        let upper = product_up::<F>(self.hi, part.hi);
         Iv64::of_ends(lower, upper)
     }
 
@@ -213,67 +213,23 @@ fn most_short<const F: u32>() -> u64
     most_weight::<F>() as u64
 }
 
-/// The product of an end of a weight and one of a ratio, rounded down.
+/// The product of two numbers in units of `2^-F`, rounded down.
 #[inline(always)]
-fn product_down<const F: u32>(weight: u64, ratio: u64) -> u64
+fn product_down<const F: u32>(a: u64, b: u64) -> u64
     requires scale { InScale F }
-    requires top { weight ≤ 8 * 2 ^ F }
-    requires ratio_top { ratio ≤ 257 * 2 ^ F }
-    ensures { result ≡ weight * ratio / 2 ^ F }
+    requires room { a * b / 2 ^ F < 2 ^ 64 }
+    ensures { result ≡ a * b / 2 ^ F }
 {
-    ((u128::from(weight) * u128::from(ratio)) >> F) as u64
+    ((u128::from(a) * u128::from(b)) >> F) as u64
 }
 
 /// The same rounded up.
 #[inline(always)]
-fn product_up<const F: u32>(weight: u64, ratio: u64) -> u64
+fn product_up<const F: u32>(a: u64, b: u64) -> u64
     requires scale { InScale F }
-    requires top { weight ≤ 8 * 2 ^ F }
-    requires ratio_top { ratio ≤ 257 * 2 ^ F }
-    ensures { result ≡ div_ceil (weight * ratio) (2 ^ F) }
+    requires room { div_ceil (a * b) (2 ^ F) < 2 ^ 64 }
+    ensures { result ≡ div_ceil (a * b) (2 ^ F) }
 {
-    let product = u128::from(weight) * u128::from(ratio);
+    let product = u128::from(a) * u128::from(b);
     ((product + (unit::<F>() - 1)) >> F) as u64
-}
-
-/// A part, at most 1, of a number, rounded down.
-#[inline(always)]
-fn part_down<const F: u32>(number: u64, part: u64) -> u64
-    requires scale { InScale F }
-    requires part { part ≤ 2 ^ F }
-    ensures { result ≡ number * part / 2 ^ F }
-{
-    ((u128::from(number) * u128::from(part)) >> F) as u64
-}
-
-/// The same rounded up.
-#[inline(always)]
-fn part_up<const F: u32>(number: u64, part: u64) -> u64
-    requires scale { InScale F }
-    requires part { part ≤ 2 ^ F }
-    ensures { result ≡ div_ceil (number * part) (2 ^ F) }
-{
-    let product = u128::from(number) * u128::from(part);
-    ((product + (unit::<F>() - 1)) >> F) as u64
-}
-
-/// The same interval, said to have no ends of more than 64 bits: products of such are computed faster.
-#[inline(always)]
-pub fn short<const F: u32>(a: Iv<F>) -> Iv<F>
-    requires { a.hi < 2 ^ 64 }
-    ensures { result ≡ a.entry }
-{
-    let (lo, hi) = (a.lo() as u64, a.hi() as u64);
-    Iv::of_ends(u128::from(lo), u128::from(hi))
-}
-
-/// The product of two such.
-#[inline(always)]
-pub fn product<const F: u32>(a: Iv<F>, b: Iv<F>) -> Iv<F>
-    requires short { a.hi < 2 ^ 64 }
-    requires other_short { b.hi < 2 ^ 64 }
-    requires room { a.hi * b.hi < 2 ^ 127 }
-    ensures { result ≡ ends_mul F a.entry b.entry }
-{
-    short(a).mul(short(b))
 }

@@ -4,6 +4,7 @@ ghost use Rattle.std.specs.Prelude.{◌<◌, ◌≤◌, ◌*◌, ◌^◌};
 ghost use Rattle.fixed_interval.specs.Ends.{InScale, IsWithinLimit};
 
 use super::*;
+use crate::short::Iv64;
 use std::process::Abort;
 use std::test::Fail;
 

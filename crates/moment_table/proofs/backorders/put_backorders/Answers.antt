@@ -3,7 +3,7 @@ use Rattle.std.proofs.lemmas.Result.{on_ok_weaker}
 use Rattle.moment_table.specs.declared.kinds.Row.{Row}
 use Rattle.moment_table.specs.Held.{AreHeldTo, AreRowsTo, bare_row, held_row}
 use Rattle.moment_table.specs.Profile.{known_row}
-use Rattle.moment_table.proofs.Backorder_lists.{are_backorders, enclose_backorders, of_rows}
+use Rattle.moment_table.proofs.BackorderLists.{are_backorders, enclose_backorders, of_rows}
 use Rattle.moment_table.proofs.backorders.put_backorders.Goals as goal
 
 pub returns-in-Some-clause-ends : goal.returns-in-Some-clause-ends

@@ -1,8 +1,7 @@
 use Rattle.std.proofs.Common.{◌≡◌, ◌+◌, ◌≤◌, ◌*◌, ◌^◌, ◌∙◌, arith, ap, ap₂, le_trans, mul-le-mul_right, rules, lit<}
 use Rattle.fixed_interval.specs.Ends.{Ends, InScale}
 use Rattle.fixed_interval.proofs.Laws.{unit_most}
-use Rattle.series_bounds.proofs.Enclosure.{end_rest}
-use Rattle.series_bounds.proofs.Unlisted.{climb_start, climb_weight, climb_wide, climb_next, climb_ended, climb_done, climb_unended}
+use Rattle.series_bounds.proofs.Unlisted.{climb_start, climb_weight, climb_wide, climb_next, climb_rest, climb_done, climb_unended}
 use Rattle.series_bounds.proofs.plain.sum_past.Goals as goal
 
 pub loop-x-init : goal.loop-x-init
@@ -41,9 +40,8 @@ overflow_add-hi g c =
     let t : c.times-last.result.hi ≤ 8 * 2 ^ g.row.F = omega (arith, c.if-hi-most.false, c.most_weight-most.ensures, c.hi.ensures.end) in
     let m : c.loop-x.sum.hi ≤ 1024 * (8 * 2 ^ g.row.F) =
     le_trans c.loop-x.invariant.sums.most (mul-le-mul_right (8 * 2 ^ g.row.F) (omega (arith, c.loop-x-test.true))) in
-    let r = end_rest g.row.F c.args.mean c.args.excess _ c.in-Some.rest
-    (climb_ended g.row.F c.args.mean c.args.excess c.loop-x.last c.loop-x.sum c.times-last.result c.ratio.result c.loop-x.x c.loop-x.invariant
-    c.ratio.ensures.ends c.times-last.ensures t (omega (arith, c.loop-x-test.true)) c.in-Some.rest c.in-Some.ensures.ended) s.1 in
+    let r = climb_rest g.row.F c.args.mean c.args.excess c.loop-x.last c.loop-x.sum c.times-last.result c.ratio.result c.loop-x.x c.loop-x.invariant
+    c.ratio.ensures.ends c.times-last.ensures t (omega (arith, c.loop-x-test.true)) c.in-Some.rest c.in-Some.ensures.ended s.1 in
     let h : c.add-sum.result.hi ≡ c.loop-x.sum.hi + c.times-last.result.hi = ap (λ (z : Ends). z.hi) c.add-sum.ensures.ends in
     record { fits = omega (arith, h, t, m, r, c.hi-in-Some.ensures.end, unit_most g.row.F s.1) }
 
@@ -53,9 +51,8 @@ of_ends-requires g c =
     let t : c.times-last.result.hi ≤ 8 * 2 ^ g.row.F = omega (arith, c.if-hi-most.false, c.most_weight-most.ensures, c.hi.ensures.end) in
     let m : c.loop-x.sum.hi ≤ 1024 * (8 * 2 ^ g.row.F) =
     le_trans c.loop-x.invariant.sums.most (mul-le-mul_right (8 * 2 ^ g.row.F) (omega (arith, c.loop-x-test.true))) in
-    let r = end_rest g.row.F c.args.mean c.args.excess _ c.in-Some.rest
-    (climb_ended g.row.F c.args.mean c.args.excess c.loop-x.last c.loop-x.sum c.times-last.result c.ratio.result c.loop-x.x c.loop-x.invariant
-    c.ratio.ensures.ends c.times-last.ensures t (omega (arith, c.loop-x-test.true)) c.in-Some.rest c.in-Some.ensures.ended) s.1 in
+    let r = climb_rest g.row.F c.args.mean c.args.excess c.loop-x.last c.loop-x.sum c.times-last.result c.ratio.result c.loop-x.x c.loop-x.invariant
+    c.ratio.ensures.ends c.times-last.ensures t (omega (arith, c.loop-x-test.true)) c.in-Some.rest c.in-Some.ensures.ended s.1 in
     let h : c.add-sum.result.hi ≡ c.loop-x.sum.hi + c.times-last.result.hi = ap (λ (z : Ends). z.hi) c.add-sum.ensures.ends in
     (lit< tt, (s, (omega (arith, c.lo.ensures.end, c.hi-in-Some.ensures.end, c.lo.ensures.valid.ordered), omega (arith, h, t, m, r, c.hi-in-Some.ensures.end, unit_most g.row.F s.1))))
 

@@ -4,8 +4,8 @@ use Rattle.fixed_interval.proofs.Laws.{unit_most}
 use Rattle.series_bounds.proofs.Ranges.{pair_room}
 use Rattle.series_bounds.proofs.plain.times.Goals as goal
 
-pub product-requires : goal.product-requires
-product-requires g c =
+pub mul-requires : goal.mul-requires
+mul-requires g c =
     let s : InScale g.row.F = search rules in
     let o = unit_most g.row.F s.1 in
-    (lit< tt, (omega (arith, o, c.requires.top), (omega (arith, o, c.requires.ratio_top), omega (arith, pair_room (2 ^ g.row.F) c.args.weight.hi c.args.ratio.hi o c.requires.top c.requires.ratio_top))))
+    (lit< tt, omega (arith, pair_room (2 ^ g.row.F) c.args.weight.hi c.args.ratio.hi o c.requires.top c.requires.ratio_top))

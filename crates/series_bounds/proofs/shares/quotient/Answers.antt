@@ -17,4 +17,4 @@ returns-then-most-places g c =
     let least : c.args.b.lo * p ≤ c.args.b.hi * p = mul-le-mul_right p v.ordered in
     let upper : c.of-upper.result ≡ c.args.b.hi * p = c.of-upper.ensures ∙ shift_is c.hi-then-hi-2-2.result c.args.b.hi p c.hi-then-hi-2-2.ensures.end most in
     let lower : c.beside-lower.result ≡ c.args.b.lo * p = c.beside-lower.ensures ∙ shift_is c.lo.result c.args.b.lo p c.lo.ensures.end (omega (arith, least, most)) in
-    c.quotient_by.ensures ∙ shifted_share g.row.F p c.args.a c.args.b c.shifted.result c.of-upper.result c.beside-lower.result c.requires.divisor (omega (arith, v.ordered, c.requires.divisor)) (pow_pos c.places_to-places.result) c.shifted.ensures upper lower
+    c.open.ensures ∙ c.over.ensures ∙ shifted_share g.row.F p c.args.a c.args.b c.shifted.result c.of-upper.result c.beside-lower.result c.requires.divisor (omega (arith, v.ordered, c.requires.divisor)) (pow_pos c.places_to-places.result) c.shifted.ensures upper lower
