@@ -4,17 +4,16 @@ use Rattle.std.specs.List.{range_with_len}
 use Rattle.std.proofs.lemmas.List.Sums.{sum_by-append, sum_by-cons}
 use Rattle.fleet_model.specs.Laws.{IsBase}
 use Rattle.hull.specs.declared.point.Point.{Point}
-use Rattle.hull.specs.Curves.{Among, HaveOneWidth, InRange, IsCurve, StandFor, sums}
+use Rattle.hull.specs.Curves.{HaveOneWidth, IsCurve, StandFor, sums}
 use Rattle.hull.specs.Scores.{LeavesRoom}
-use Rattle.hull.proofs.Stand.{curve_stands, stand_for}
+use Rattle.hull.proofs.Stand.{curve_stands}
 use Rattle.hull.proofs.Sums.{stand_for_sums}
 use Rattle.family_curve.specs.Inputs.{FamilyBox, IsAt, IsFamilyBox}
 use Rattle.family_curve.specs.Points.{ScoreEnds}
-use Rattle.family_curve.specs.Separation.{base_points, depot_points, points_over}
-use Rattle.family_curve.specs.Walks.{sums_of_each}
-use Rattle.family_curve.proofs.Points.{depot_points_small, over_more, over_small, small_range}
-use Rattle.family_curve.proofs.Sites.{size}
-use Rattle.family_curve.proofs.Walks.{sums_one_more}
+use Rattle.family_curve.specs.Separation.{base_points, points_over}
+use Rattle.sum_walk.specs.Sums.{sums_of_each}
+use Rattle.family_curve.proofs.Points.{over_more, over_small}
+use Rattle.sum_walk.proofs.Walks.{sums_one_more}
 
 -- with one list more, the lengths of all come to that list's length more
 pub lengths_one_more : (ls : List (List Point)) (l : List Point) → sum_by length (ls ++ l ∷ []) ≡ sum_by length ls + length l
@@ -24,6 +23,7 @@ module _ (x : FamilyBox) (valid : IsFamilyBox x) (ends : ScoreEnds) (room : Leav
   abbrev pub over : ℕ → List Point
   over n = points_over x.case x.line ends x.held x.low x.high d (range_with_len 1 n)
 
+  -- with the curve of one base more, the sums stand for the points over one base more
   pub base_more : (first : Point) (j : ℕ) (curves made : List (List Point)) (base : List Point) → IsBase x.case j
       → StandFor (over (j - 1)) (sums_of_each (first ∷ []) curves)
       → IsCurve (base_points x.case x.line ends x.held x.low x.high d j) base
@@ -43,17 +43,3 @@ module _ (x : FamilyBox) (valid : IsFamilyBox x) (ends : ScoreEnds) (room : Leav
       (subst (λ ps. StandFor ps (sums_of_each (first ∷ []) made)) (sym more)
       (subst (λ ls. StandFor (sums (over (j - 1)) (base_points x.case x.line ends x.held x.low x.high d j)) (sums_of_each (first ∷ []) ls)) (sym made_is)
       (subst (StandFor (sums (over (j - 1)) (base_points x.case x.line ends x.held x.low x.high d j))) (sym (sums_one_more curves (first ∷ []) base)) both)))
-
-  module _ (path : List Point) (stands : StandFor (depot_points x.case x.line ends x.held x.low x.high d) path) where
-    pub path_ranges : (v : Point) → Among v path → InRange v
-    path_ranges v m =
-        let some = valid.valid.frame.fewest_sites in
-        let few = valid.valid.frame.most_sites in
-        small_range (size x.case x.line) (length x.case.sites) v (omega (arith, some)) (omega (arith, few)) (depot_points_small x valid ends room d at_depot v (stands.among v m))
-
-    pub path_widths : HaveOneWidth path
-    path_widths v w m n =
-        (depot_points_small x valid ends room d at_depot v (stands.among v m)).width ∙ sym (depot_points_small x valid ends room d at_depot w (stands.among w n)).width
-
-    pub path_curve : (curve : List Point) → IsCurve path curve → IsCurve (depot_points x.case x.line ends x.held x.low x.high d) curve
-    path_curve curve h = stand_for (depot_points x.case x.line ends x.held x.low x.high d) path curve stands h

@@ -13,7 +13,7 @@ use Rattle.hull.specs.Scores.{LeavesRoom}
 use Rattle.hull.proofs.Chains.{chain_is_curve}
 use Rattle.hull.proofs.Shapes.{of_members}
 use Rattle.hull.proofs.Stand.{among_either, among_left, among_right, curve_stands, stand_for, stand_for_both}
-use Rattle.hull.proofs.Steps_of.{stand_self}
+use Rattle.hull.proofs.StepsOf.{stand_self}
 use Rattle.family_curve.specs.declared.order.Base.{Base}
 use Rattle.family_curve.specs.Inputs.{FamilyBox, IsAt, IsFamilyBox}
 use Rattle.family_curve.specs.Joining.{HaveWidthOf, middle, run_start}
@@ -91,9 +91,11 @@ pub widths_grow : (x : FamilyBox) (c qs e : List Point) → HaveWidthOf x c → 
 widths_grow x c qs e a b h v m = elim (among_either v c qs (h.among v m)) [ inl k ↦ a v k | inr k ↦ b v k ]
 
 module _ (x : FamilyBox) (valid : IsFamilyBox x) (ends : ScoreEnds) (room : LeavesRoom ends) (d : List ℕ) (at_depot : IsAt x 0 d) where
+  -- the points with these stocks at the depot have a stock for each place of the family
   pub depot_widths : HaveWidthOf x (depot_points x.case x.line ends x.held x.low x.high d)
   depot_widths v m = (depot_points_small x valid ends room d at_depot v m).width ∙ sym (low_long x valid)
 
+  -- the points with these stocks at the depot are in range
   pub depot_ranges : (v : Point) → Among v (depot_points x.case x.line ends x.held x.low x.high d) → InRange v
   depot_ranges v m =
       let some = valid.valid.frame.fewest_sites in

@@ -19,9 +19,7 @@ pub mod Distinct
 pub mod Tabled
 pub mod Spotted
 pub mod Ordered
-pub mod Walks
 pub mod Bases
 pub mod Stands
 pub mod Grown
 pub mod Rows
-mod Queued

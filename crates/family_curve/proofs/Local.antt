@@ -280,7 +280,8 @@ owner_none : (c : CaseRows) (o : Option (List ℕ)) → is_none o ≡ true → o
 owner_none c None h = refl
 owner_none c (Some name) h = cc
 
-line_owner : (c : CaseRows) (l : ℕ) → IsLine c l → line_of c.parts l ≡ None
+-- a line unit belongs to no other part
+pub line_owner : (c : CaseRows) (l : ℕ) → IsLine c l → line_of c.parts l ≡ None
 line_owner c l line = owner_none c (part_at c.parts l).parent line.no_parent
 
 -- two cases with the same sites, parts and rates of a family's parts have its rates, items and points in common

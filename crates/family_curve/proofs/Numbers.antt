@@ -1,7 +1,7 @@
 -- Boxes of vectors by number.
 use Rattle.std.proofs.Common.{◌≡◌, ℕ, zero, suc, ◌+◌, ◌-◌, ◌*◌, ◌/◌, ◌%◌, ◌^◌, ◌<◌, ◌≤◌, List, [], ◌∷◌, ◌++◌, length, get_or, map, flat_map, take, drop, sum, refl, sym, ap, ap₂, ◌∙◌, arith, mul-le-mul_right, length-append, add-one}
 use Rattle.std.specs.List.{range_with_len, AllZip}
-use Rattle.std.proofs.lemmas.List.{drop_all, append_assoc, append-nil, get_or-map, get_or_append_left, get_or-append-add}
+use Rattle.std.proofs.lemmas.List.{drop_all, append_assoc, get_or-map, get_or_append_left, get_or-append-add}
 use Rattle.std.proofs.lemmas.List.Sums.{sum_by-cons}
 use Rattle.std.proofs.Math.Nat.{mul_assoc, pow-suc, pow-le-pow_right}
 use Rattle.std.proofs.lemmas.Nat.{div-mul-add, div-add-mod', div_below, mod_below, mul-le}
@@ -173,10 +173,6 @@ stands_on low high number i size rest next x made more valid m g e h at = record
       ∙ sym (nth_at low high i rest valid.ordered m))
       ∙ at.goes_on;
 }
-
-pub stands_end : (low high : List ℕ) (number i size rest : ℕ) (made : List ℕ) → length low ≤ i → Stands low high number i size rest made → made ≡ nth low high number
-stands_end low high number i size rest made h at =
-    sym (append-nil made) ∙ ap (λ (v : List ℕ). made ++ v) (sym (nth_end low high i rest h)) ∙ at.goes_on
 
 -- ---- the vectors by number
 

@@ -11,7 +11,7 @@ use Rattle.hull.specs.Scores.{LeavesRoom}
 use Rattle.hull.proofs.Mapped.{Origin, origin_of}
 use Rattle.hull.proofs.Runs.{permuted_stands}
 use Rattle.hull.proofs.Stand.{stand_for_both}
-use Rattle.hull.proofs.Steps_of.{stand_self, stand_trans}
+use Rattle.hull.proofs.StepsOf.{stand_self, stand_trans}
 use Rattle.family_curve.specs.declared.order.Choice.{Choice}
 use Rattle.family_curve.specs.Points.{ScoreEnds}
 use Rattle.family_curve.specs.Separation.{base_point}
@@ -45,9 +45,11 @@ module _ (x : FamilyBox) (valid : IsFamilyBox x) (j : ℕ) (v : Choice) (is : Is
   pub choice_shops : AreShopsAt x j (get_or (shop_vectors x j) v.shops [])
   choice_shops = at_each (AreShopsAt x j) (shop_vectors x j) (shops_between x valid j base.1) v.shops [] is.place
 
+  -- the stocks of a choice are within the bounds of its base
   pub choice_at : IsAt x j (choice_stocks x j v)
   choice_at = joined_at x valid j v.line (get_or (shop_vectors x j) v.shops []) base.1 choice_shops is.least is.most
 
+  -- the point of a choice is in range
   pub choice_range : (ends : ScoreEnds) → LeavesRoom ends → (d : List ℕ) → IsAt x 0 d → InRange (choice_point x ends d j v)
   choice_range ends room d at_depot =
       small_range (size x.case x.line) 1 (choice_point x ends d j v) (omega arith) (omega arith)
@@ -113,9 +115,11 @@ module _ (x : FamilyBox) (j : ℕ) (order : List Choice) (is : IsOrder x j order
       (subst (IsPermutation (map (base_point x.case x.line ends x.held d j) (turned_stocks x j))) (map-map (base_point x.case x.line ends x.held d j) (choice_stocks x j) order)
       (IsPermutation-map (base_point x.case x.line ends x.held d j) (turned_stocks x j) (map (choice_stocks x j) order) is.all))
 
+  -- what stands for the points of the choices in order stands for the points of the base
   pub ordered_stands : (made : List Point) → StandFor (map (choice_point x ends d j) order) made → StandFor turned made
   ordered_stands made h = permuted_stands turned (map (choice_point x ends d j) order) made points_permuted h
 
+  -- there are as many choices as the base has vectors
   pub order_count : IsFamilyBox x → LeavesRoom ends → IsAt x 0 d → IsBase x.case j → length order ≡ vector_count x j
   order_count valid room at_depot base =
       sym (length-map order (choice_point x ends d j)) ∙ length_permutation turned (map (choice_point x ends d j) order) points_permuted

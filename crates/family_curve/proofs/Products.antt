@@ -51,6 +51,7 @@ module _ (c : CaseRows) (l : ℕ) where
       ∙ same_flat (λ k. Unit {0}) (λ k. map more (map (own k) (family c l))) (λ k. map (λ p. limit_at c.parts p k + 1) (family c l)) (range_with_len 0 (length c.sites))
       (λ k _. map-map more (own k) (family c l)) (each_any (range_with_len 0 (length c.sites)))
 
+  -- a family has as many choices as there are vectors up to its limits
   pub choices_counted : IsCase c → choices_of c l ≡ length (vectors (zeros c l) (limits c l))
   choices_counted valid =
       let limit : Pair → ℕ = λ x. limit_at c.parts x.part x.site in

@@ -1,6 +1,5 @@
 -- Stocks at a base as the code keeps them.
 use Rattle.std.proofs.Common.{◌≡◌, ℕ, zero, suc, ◌+◌, ◌-◌, ◌*◌, ◌<◌, ◌≤◌, List, [], ◌∷◌, ◌++◌, length, map, take, get_or, refl, sym, ap, ◌∙◌, arith}
-use Rattle.std.specs.List.{AllZip}
 use Rattle.std.proofs.lemmas.List.{map-append}
 use Rattle.spares_input.specs.Frames.{part_at}
 use Rattle.spares_input.specs.Cases.{CaseRows}
@@ -28,6 +27,7 @@ module _ (x : FamilyBox) (valid : IsFamilyBox x) (k s : ℕ) (v : List ℕ) (m :
   first : IsAt x k (line_low x k ∷ v)
   first = joined_at x valid k (line_low x k) v m within (omega arith) (omega (arith, least, most))
 
+  -- each unit of the line unit above its least stock costs its price
   pub line_dearer : cost_above x.case (family x.case x.line) (held_at x k) (s ∷ v)
       ≡ cost_above x.case (family x.case x.line) (held_at x k) (line_low x k ∷ v) + (s - line_low x k) * (part_at x.case.parts x.line).cost
   line_dearer =
@@ -36,10 +36,11 @@ module _ (x : FamilyBox) (valid : IsFamilyBox x) (k s : ℕ) (v : List ℕ) (m :
       let held : get_or (held_at x k) 0 0 ≤ line_low x k = held_most x valid k 0 (line_low x k ∷ v) m first some in
       dearer x.case x.line (shop_units x.case x.line) (held_at x k) v (line_low x k) s (omega (arith, some, long)) held least
 
+  -- such stocks cost at most 56,700,000,000 beyond what is held there
   pub line_cost_most : cost_above x.case (family x.case x.line) (held_at x k) (s ∷ v) ≤ 56700000000
   line_cost_most = site_cost_most x valid k (s ∷ v) m here
 
--- one more of all
+-- shop vectors with the first n stocks of a list have, with the next one added, its first n + 1
 pub stocks_more : (xs ys : List ShopVector) (v : ShopVector) (all : List (List ℕ)) (n : ℕ) (d : List ℕ) → ys ≡ xs ++ v ∷ [] → map (λ (v : ShopVector). v.stocks) xs ≡ take n all
     → n < length all → d ≡ get_or all n [] → v.stocks ≡ d → map (λ (v : ShopVector). v.stocks) ys ≡ take (n + 1) all
 stocks_more xs ys v all n d e g h is same =
@@ -54,10 +55,3 @@ stock_read xs n v d all e h g = ap (λ (v : ShopVector). v.stocks) g ∙ mapped 
     mapped [] n h = absurd (omega (arith, h))
     mapped (x ∷ xs) zero h = refl
     mapped (x ∷ xs) (suc n) h = mapped xs n (omega (arith, h))
-
--- two lists in a relation place by place stay so with a related pair put behind them
-pub zip_push : {X Y : Type 0} (R : X → Y → Type 0) (xs : List X) (ys : List Y) (x : X) (y : Y) → AllZip R xs ys → R x y → AllZip R (xs ++ x ∷ []) (ys ++ y ∷ [])
-zip_push R [] [] x y a h = (h, tt)
-zip_push R [] (b ∷ ys) x y a h = absurd a
-zip_push R (c ∷ xs) [] x y a h = absurd a
-zip_push R (c ∷ xs) (b ∷ ys) x y a h = (a.0, zip_push R xs ys x y a.1 h)

@@ -13,7 +13,6 @@ use Rattle.family_eval.specs.Profile.{item_of}
 use Rattle.family_eval.proofs.Items.{flat_at}
 use Rattle.family_tables.specs.Numbers.{AreBaseBackorders, FamilyNumbers, no_numbers, pair_at, pair_numbers}
 use Rattle.family_tables.proofs.FromNumbers.{backorders_alone}
-use Rattle.family_curve.specs.Vectors.{IsBetween}
 use Rattle.family_curve.specs.Boxes.{IsBox}
 use Rattle.family_curve.specs.declared.depot.DepotTables.{DepotTables}
 use Rattle.family_curve.specs.Points.{ScoreEnds}
@@ -77,17 +76,8 @@ all_below (x ∷ xs) [] h a i d m = absurd h
 all_below (x ∷ xs) (y ∷ ys) h a zero d m = omega (arith, h.0, a 0 d (omega arith))
 all_below (x ∷ xs) (y ∷ ys) h a (suc i) d m = all_below xs ys h.1 (λ k e l. a (suc k) e (omega (arith, l))) i d (omega (arith, m))
 
--- without its first place a vector is still within the bounds without theirs
-pub rest_between : (low high v : List ℕ) → IsBetween low high v → IsBetween (drop 1 low) (drop 1 high) (drop 1 v)
-rest_between low high v h = record { least = rest low v h.least; most = rest v high h.most }
-  where
-    rest : (xs ys : List ℕ) → AllZip (λ x y. x ≤ y) xs ys → AllZip (λ x y. x ≤ y) (drop 1 xs) (drop 1 ys)
-    rest [] [] h = tt
-    rest [] (y ∷ ys) h = absurd h
-    rest (x ∷ xs) [] h = absurd h
-    rest (x ∷ xs) (y ∷ ys) h = h.1
-
 module _ (x : FamilyBox) (valid : IsFamilyBox x) where
+  -- the bounds of the shop units at a site make a box
   pub box_shops : (k : ℕ) → k < length x.case.sites → IsBox (shop_low x k) (shop_high x k)
   box_shops k m = box_rest (low_at x k) (high_at x k) (box_at x k valid m)
 
@@ -116,6 +106,7 @@ module _ (x : FamilyBox) (valid : IsFamilyBox x) where
       → AreBaseBackorders 48 (numbers x) j (get_or d 0 0) (drop 1 d) (drop 1 b) list → get_or b 0 0 < length list
   line_listed j d b list base h is = omega (arith, is.count, line_limit j base.1, at_limit x valid j 0 b base.1 h (omega arith))
 
+  -- the table's backorders at a stock of the line unit are those of the pair at these stocks
   pub tabled : (j s : ℕ) (d b : List ℕ) (list : List Ends) → IsBase x.case j → IsAt x 0 d → IsAt x j (s ∷ b)
       → AreBaseBackorders 48 (numbers x) j (get_or d 0 0) (drop 1 d) b list
       → at_place list s ≡ (item_of 48 x.case (base_stocks x.case x.line d j (s ∷ b)) x.line j).backorders

@@ -1,5 +1,4 @@
--- The curve of a family so far.
--- No promise rests on this file: it speaks of the code's own steps.
+-- The curve of a family so far. No promise of the crate rests on these words.
 use Rattle.std.specs.Prelude.{◌≡◌, ℕ, ◌+◌, ◌-◌, ◌/◌, min, List, [], Option, None, Some, length}
 use Rattle.hull.specs.declared.point.Point.{Point}
 use Rattle.hull.specs.Curves.{Among}

@@ -9,5 +9,4 @@ pub mod Spots
 pub mod Turned
 pub mod Local
 pub mod Tabled
-pub mod Walks
 pub mod Joining

@@ -1,5 +1,4 @@
--- What is the same at each base whatever the depot has, and the points that stocks at a base stand for.
--- No promise rests on this file: it speaks of the code's own steps.
+-- What is the same at a base whatever the depot has, and its points. No promise of the crate rests on these words.
 use Rattle.std.specs.Prelude.{◌≡◌, ℕ, ◌<◌, ◌≤◌, List, [], ◌∷◌, flat_map, get_or, length, map, All}
 use Rattle.std.specs.List.{AllZip}
 use Rattle.std.specs.List.Sorted.{IsNonDecreasingBy, IsPermutation}

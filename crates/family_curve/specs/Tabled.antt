@@ -1,5 +1,4 @@
--- The tables from which the points of a family are made.
--- No promise rests on this file: it speaks of the code's own steps.
+-- The tables from which the points of a family are made. No promise of the crate rests on these words.
 use Rattle.std.specs.Prelude.{◌≡◌, ℕ, ◌-◌, ◌≤◌, List, drop, length, map}
 use Rattle.std.specs.List.{All, range_with_len}
 use Rattle.moment_table.specs.declared.kinds.Row.{Row}

@@ -1,9 +1,10 @@
 //! How much work a family's curve is.
 
-ghost use Rattle.std.specs.Prelude.{◌≡◌, ℕ, ◌+◌, ◌-◌, ◌*◌, ◌^◌, ◌<◌, ◌≤◌, length, get_or, map, sum, take, drop};
+ghost use Rattle.std.specs.Prelude.{◌≡◌, ◌+◌, ◌-◌, ◌*◌, ◌^◌, ◌<◌, ◌≤◌, length, get_or, map, sum, drop};
+ghost use Rattle.spares_io.specs.Causes.{count64};
 ghost use Rattle.fleet_model.specs.Rows.{shop_units};
 ghost use Rattle.family_eval.specs.Inputs.{IsLine};
-ghost use Rattle.family_curve.specs.Counts.{product, counted, depot_width, base_width, choices_of, tables_of, tables_between, widths, work_of};
+ghost use Rattle.family_curve.specs.Counts.{product, depot_width, base_width, choices_of, tables_of, tables_between, widths, work_of};
 ghost use Rattle.fleet_model.specs.Fleet.{family};
 ghost use Rattle.family_curve.specs.Vectors.{site_part};
 ghost use Rattle.family_curve.specs.Points.{AreOrdered};
@@ -15,7 +16,7 @@ use crate::vectors::count;
 use spares_input::{Case, PartId, SiteId};
 
 /// The most tables of all families together.
-const MOST_TABLES: u64 = 1_000_000;
+pub const MOST_TABLES: u64 = 1_000_000;
 
 /// What the shop units of a line unit have together.
 #[derive(Clone, Copy)]
@@ -35,8 +36,8 @@ fn shops(case: &Case, line: PartId) -> ShopCounts
     requires { line.0 < length case.now.parts }
     ensures count { result.count ≡ length (shop_units case.now line.0) }
     ensures sum { result.sum ≡ sum (map (depot_width case.now) (shop_units case.now line.0)) }
-    ensures depot { result.depot ≡ counted (product (map (depot_width case.now) (shop_units case.now line.0))) }
-    ensures base { result.base ≡ counted (product (map (base_width case.now) (shop_units case.now line.0))) }
+    ensures depot { result.depot ≡ count64 (product (map (depot_width case.now) (shop_units case.now line.0))) }
+    ensures base { result.base ≡ count64 (product (map (base_width case.now) (shop_units case.now line.0))) }
     ensures few { (result.count ≤ 2000) × (result.sum ≤ 128000) }
 {
     let mut shops = ShopCounts {
@@ -60,7 +61,7 @@ fn shops(case: &Case, line: PartId) -> ShopCounts
 /// How many vectors the family of a line unit has, or 2^64 - 1 where it has more.
 pub fn choices(case: &Case, line: PartId) -> u64
     requires { IsLine case.now line.0 }
-    ensures { result ≡ counted (choices_of case.now line.0) }
+    ensures { result ≡ count64 (choices_of case.now line.0) }
 {
     let shops = shops(case, line);
     let row = case.part(line);
@@ -76,7 +77,7 @@ pub fn choices(case: &Case, line: PartId) -> u64
 /// How many tables the curve of a family takes over all its vectors, or 2^64 - 1 where it takes more.
 pub fn tables(case: &Case, line: PartId) -> u64
     requires { IsLine case.now line.0 }
-    ensures { result ≡ counted (tables_of case.now line.0) }
+    ensures { result ≡ count64 (tables_of case.now line.0) }
 {
     let shops = shops(case, line);
     let bases = u64::from(case.site_count()) - 1;
@@ -162,7 +163,7 @@ fn site_ways(case: &Case, line: PartId, bounds: &Bounds, size: usize, site: Site
 pub fn tables_within(case: &Case, line: PartId, bounds: &Bounds) -> u64
     requires line { IsLine case.now line.0 }
     requires ordered { AreOrdered case.now line.0 bounds.now.held bounds.now.low bounds.now.high }
-    ensures { result ≡ counted (tables_between case.now line.0 bounds.now.low bounds.now.high) }
+    ensures { result ≡ count64 (tables_between case.now line.0 bounds.now.low bounds.now.high) }
 {
     let _sites = case.site_count();
     let units = shops(case, line).count;

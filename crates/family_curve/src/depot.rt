@@ -1,8 +1,7 @@
 //! The tables from which the points of a family are made, and the backorders that they give.
 
-ghost use Rattle.std.specs.Prelude.{◌≡◌, ◌-◌, ◌≤◌, IfOk, drop, length, map};
+ghost use Rattle.std.specs.Prelude.{◌≡◌, ◌-◌, IfOk, drop, map};
 ghost use Rattle.std.specs.List.{range_with_len};
-ghost use Rattle.family_tables.specs.Numbers.{rows_of, depot_line_moments};
 ghost use Rattle.family_curve.specs.Inputs.{AreShopsAt};
 ghost use Rattle.family_curve.specs.Spots.{IsBaseAt, IsRow};
 ghost use Rattle.family_curve.specs.Tabled.{AreTables, base_shops, depot_shops, numbers, own_at};

@@ -1,6 +1,6 @@
 //! The curve of a family: what each choice of stocks at the depot adds to the curve so far.
 
-ghost use Rattle.std.specs.Prelude.{◌≡◌, ℕ, ◌+◌, ◌-◌, ◌*◌, ◌<◌, ◌≤◌, ◌++◌, ◌∷◌, [], List, IfOk, drop, flat_map, length};
+ghost use Rattle.std.specs.Prelude.{◌≡◌, ◌+◌, ◌-◌, ◌*◌, ◌<◌, ◌≤◌, ◌++◌, ◌∷◌, [], List, IfOk, drop, flat_map, length};
 ghost use Rattle.hull.specs.declared.point.Point.{Point};
 ghost use Rattle.hull.specs.Curves.{Among, InRange, IsCurve, StandFor};
 ghost use Rattle.family_curve.specs.Separation.{depot_point, depot_points};
@@ -14,7 +14,6 @@ use crate::base_at::BaseAt;
 use crate::depot::{DepotTables, depot_tables};
 use crate::family::{Family, joined};
 use crate::order::{Base, bases_of};
-use crate::walk::{Runner, Stocks, Turn, walk};
 use family_tables::Evaluator;
 use hull::{Chain, Curve, Point, Score};
 use moment_table::kinds::Table;
@@ -22,6 +21,7 @@ use series_bounds::short::Iv64;
 use spares_input::SiteId;
 use spares_io::{List, NoMemory};
 use std::alloc::Global;
+use sum_walk::walk::{Runner, Stocks, Turn, walk};
 
 /// What the curve of a family is made from, whatever the depot has.
 #[derive(Drop)]
@@ -241,7 +241,8 @@ fn with_shops<'b, S: Score>(
     Ok(curve)
 }
 
-/// The curve of all vectors of the family within its bounds, those with the most shop units at the depot first.
+/// The curve of all vectors of the family within its bounds. The stocks of its shop units at the depot are taken in
+/// falling order, the first shop unit's first.
 fn whole_curve<'b, S: Score>(
     alloc: Global,
     work: &mut Work<'b>,

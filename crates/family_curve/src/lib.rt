@@ -7,8 +7,7 @@
 //! what the depot's choices give is joined.
 #![tactic(auto)]
 
-ghost use Rattle.std.specs.Prelude.{◌≡◌, ℕ, ◌≤◌, IfOk, List};
-ghost use Rattle.spares_input.specs.Cases.{CaseRows, IsCase};
+ghost use Rattle.std.specs.Prelude.{◌≡◌, ◌≤◌, IfOk};
 ghost use Rattle.demand_rates.specs.Rates.{AreRatesOf};
 ghost use Rattle.family_eval.specs.Inputs.{IsLine};
 ghost use Rattle.hull.specs.declared.point.Point.{Point};
@@ -38,10 +37,9 @@ mod laws;
 mod order;
 mod places;
 mod vectors;
-mod walk;
 
 pub use bounds::Bounds;
-pub use counts::{choices, tables, tables_within, work};
+pub use counts::{MOST_TABLES, choices, tables, tables_within, work};
 pub use laws::{vectors_are_counted, vectors_stand};
 pub use places::{limits_of, place_parts, vector_of};
 

@@ -2,7 +2,7 @@ use Rattle.std.proofs.Common.{◌≡◌, ◌<◌, ◌≤◌, List, [], ◌∷◌
 use Rattle.std.proofs.lemmas.List.{take_all}
 use Rattle.hull.specs.declared.point.Point.{Point}
 use Rattle.hull.specs.Curves.{InRange, StandFor}
-use Rattle.hull.proofs.Steps_of.{stand_self}
+use Rattle.hull.proofs.StepsOf.{stand_self}
 use Rattle.family_curve.specs.declared.order.Choice.{Choice}
 use Rattle.family_curve.specs.Spots.{IsChoice, choice_point}
 use Rattle.family_curve.proofs.Ordered.{choice_range, earlier_cheaper, earlier_wide, stands_on}

@@ -1,6 +1,6 @@
 use Rattle.std.proofs.Common.{◌≡◌, ◌+◌, ◌*◌, ◌≤◌, sym, ap, ◌∙◌, subst}
+use Rattle.spares_io.specs.Causes.{count64}
 use Rattle.spares_input.specs.Frames.{is_shop_of, part_at}
-use Rattle.family_curve.specs.Counts.{counted}
 use Rattle.family_curve.proofs.Counting.{Counts, counts_begin, counts_more, counts_same}
 use Rattle.family_curve.proofs.counts.shops.Goals as goal
 use Rattle.family_curve.proofs.counts.shops.Goals.{then-is_shop_of, else-is_shop_of}
@@ -25,7 +25,7 @@ loop-p-preserved c =
           (sym (ap (λ k. k + 1) depot))
           (counts_more c.args.case.now c.args.line.0 c.loop-p.p c.loop-p.shops.count c.loop-p.shops.sum c.loop-p.shops.depot c.loop-p.shops.base
           w.saturating_mul.result w.saturating_mul-then-is_shop_of.result (sym found ∙ w.if-is_shop_of.true) small
-          (w.saturating_mul.ensures ∙ ap (λ k. counted (c.loop-p.shops.depot * (k + 1))) again)
-          (w.saturating_mul-then-is_shop_of.ensures ∙ ap (λ k. counted (c.loop-p.shops.base * (k + 1))) base) c.loop-p.invariant))
+          (w.saturating_mul.ensures ∙ ap (λ k. count64 (c.loop-p.shops.depot * (k + 1))) again)
+          (w.saturating_mul-then-is_shop_of.ensures ∙ ap (λ k. count64 (c.loop-p.shops.base * (k + 1))) base) c.loop-p.invariant))
       | else-is_shop_of w ↦ rw w.shops-is (counts_same c.args.case.now c.args.line.0 c.loop-p.p _ _ _ _ (sym found ∙ w.if-is_shop_of.false) c.loop-p.invariant)
     ]

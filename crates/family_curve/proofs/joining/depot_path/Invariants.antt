@@ -2,7 +2,7 @@ use Rattle.std.proofs.Common.{◌≡◌, ◌+◌, ◌-◌, ◌≤◌, [], ◌∷
 use Rattle.std.specs.List.{range_with_len}
 use Rattle.hull.specs.Curves.{StandFor}
 use Rattle.family_curve.specs.Separation.{points_over}
-use Rattle.family_curve.specs.Walks.{sums_of_each}
+use Rattle.sum_walk.specs.Sums.{sums_of_each}
 use Rattle.family_curve.proofs.Points.{over_count}
 use Rattle.family_curve.proofs.joining.depot_path.Given as goal
 
