@@ -8,10 +8,10 @@ use Rattle.std.proofs.lemmas.List.Sums.{fold_more}
 use Rattle.exact_model.specs.Fraction.{Fraction, whole, sum_below, ◌≈◌, ◌+ℚ◌, ◌-ℚ◌, ◌*ℚ◌, ◌/ℚ◌}
 use Rattle.exact_model.specs.Sums.{power, product_below}
 use Rattle.exact_model.proofs.Fractions.{same, turned, ◌≈≈◌, add_same, div_same, contains_same, whole_plus, first_power, next_power}
-use Rattle.fixed_interval.specs.Ends.{Ends, In, ends_exact, ends_add, ends_less, ends_times, ends_over, ends_mul}
+use Rattle.fixed_interval.specs.Ends.{Ends, In, ends_exact, ends_add, ends_less, ends_times, ends_over, ends_mul, ends_power}
 use Rattle.fixed_interval.proofs.Laws.{add_encloses, less_encloses, exact_encloses, mul_encloses, over_encloses, times_encloses, mul_below, unit_most}
 use Rattle.availability.specs.declared.Weighted.{Weighted}
-use Rattle.availability.specs.Profile.{filled_ends, multiplied, factor_ends, base_ends, weighted_sum, all_systems, fleet_ends}
+use Rattle.availability.specs.Profile.{filled_ends, factor_ends, base_ends, weighted_sum, all_systems, fleet_ends}
 use Rattle.availability.specs.Exact.{factor_of, weighted_mean, AllIn, base_at, BaseIn, BasesIn}
 
 -- one element more
@@ -23,18 +23,18 @@ next_fold f a xs i d l =
 
 -- ---- the factor of a line unit
 
-multiplied_in : (f : ℕ) (g : Ends) (q : Fraction) (n : ℕ) → In f g q → In f (multiplied f g n) (power q (suc n))
-unfolding multiplied
+multiplied_in : (f : ℕ) (g : Ends) (q : Fraction) (n : ℕ) → In f g q → In f (ends_power f g n) (power q (suc n))
+unfolding ends_power
 multiplied_in f g q zero h = contains_same (first_power q) h
 multiplied_in f g q (suc n) h =
-    contains_same (next_power q (suc n)) (mul_encloses f (multiplied f g n) g (power q (suc n)) q (multiplied_in f g q n h) h)
+    contains_same (next_power q (suc n)) (mul_encloses f (ends_power f g n) g (power q (suc n)) q (multiplied_in f g q n h) h)
 
 -- the interval of a line unit's factor contains the factor of the backorders in its interval
 pub factor_in : (f : ℕ) (e : Ends) (x : Fraction) (systems per_system : ℕ) → 0 < systems → 0 < per_system → In f e x
     → In f (factor_ends f e systems per_system) (factor_of x systems per_system)
 factor_in f e x systems zero s p h = absurd (omega arith)
 factor_in f e x systems (suc z) s p h =
-    subst (λ n. In f (multiplied f (filled_ends f e (systems * suc z)) n) (factor_of x systems (suc z))) (omega arith)
+    subst (λ n. In f (ends_power f (filled_ends f e (systems * suc z)) n) (factor_of x systems (suc z))) (omega arith)
     (multiplied_in f (filled_ends f e (systems * suc z)) (whole 1 -ℚ x /ℚ whole (systems * suc z)) z
     (less_encloses f (ends_exact f 1) (ends_over e (systems * suc z)) (whole 1) (x /ℚ whole (systems * suc z)) (exact_encloses f 1)
     (over_encloses f e (systems * suc z) x (mul-pos s p) h)))
@@ -132,20 +132,20 @@ pub filled_most : (f : ℕ) (one taken g : Ends) → one ≡ ends_exact f 1 → 
 filled_most f one taken g h l = rw (l, h) (omega arith)
 
 -- what is filled, multiplied by itself 0 times, is itself
-pub multiplied_none : (f : ℕ) (g filled : Ends) → filled ≡ g → filled ≡ multiplied f g 0
-unfolding multiplied
+pub multiplied_none : (f : ℕ) (g filled : Ends) → filled ≡ g → filled ≡ ends_power f g 0
+unfolding ends_power
 multiplied_none f g filled h = h
 
-multiplied_next : (f : ℕ) (g : Ends) (n : ℕ) → ends_mul f (multiplied f g n) g ≡ multiplied f g (suc n)
-unfolding multiplied
+multiplied_next : (f : ℕ) (g : Ends) (n : ℕ) → ends_mul f (ends_power f g n) g ≡ ends_power f g (suc n)
+unfolding ends_power
 multiplied_next f g n = refl
 
 -- multiplied once more it is the next power
-pub multiplied_more : (f : ℕ) (g filled all next : Ends) (k : ℕ) → 1 ≤ k → filled ≡ g → all ≡ multiplied f g (k - 1) → next ≡ ends_mul f all filled
-    → next ≡ multiplied f g (k + 1 - 1)
+pub multiplied_more : (f : ℕ) (g filled all next : Ends) (k : ℕ) → 1 ≤ k → filled ≡ g → all ≡ ends_power f g (k - 1) → next ≡ ends_mul f all filled
+    → next ≡ ends_power f g (k + 1 - 1)
 multiplied_more f g filled all next k p h a e =
     let s : suc (k - 1) ≡ k + 1 - 1 = omega arith in
-    subst (λ n. next ≡ multiplied f g n) s (e ∙ ap₂ (ends_mul f) a h ∙ multiplied_next f g (k - 1))
+    subst (λ n. next ≡ ends_power f g n) s (e ∙ ap₂ (ends_mul f) a h ∙ multiplied_next f g (k - 1))
 
 -- the sum of 15 values of at most 10,000 systems each has room
 pub sum_room : (f sum all k value systems : ℕ) → f ≤ 52 → sum ≤ 2 ^ f * all → all ≤ k * 10000 → k ≤ 15 → value ≤ 2 ^ f → systems ≤ 10000

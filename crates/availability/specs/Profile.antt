@@ -1,21 +1,16 @@
 -- The ends of the availability of a base and of a fleet.
-use Rattle.std.specs.Prelude.{ℕ, zero, suc, ◌-◌, ◌*◌, List, sum_by}
+use Rattle.std.specs.Prelude.{ℕ, ◌-◌, ◌*◌, List, sum_by}
 use Rattle.std.specs.List.{fold}
-use Rattle.fixed_interval.specs.Ends.{Ends, ends_exact, ends_add, ends_less, ends_times, ends_over, ends_mul}
+use Rattle.fixed_interval.specs.Ends.{Ends, ends_exact, ends_add, ends_less, ends_times, ends_over, ends_mul, ends_power}
 use Rattle.availability.specs.declared.Weighted.{Weighted}
 
 -- 1 - e / places, and 0 where that is below 0
 abbrev pub filled_ends : (f : ℕ) → Ends → ℕ → Ends
 filled_ends f e places = ends_less (ends_exact f 1) (ends_over e places)
 
--- g multiplied by itself n times, from the left
-unfoldable pub multiplied : (f : ℕ) → Ends → ℕ → Ends
-multiplied f g zero = g
-multiplied f g (suc n) = ends_mul f (multiplied f g n) g
-
 -- what a line unit leaves of a base's availability: of N systems with Z of it each
 abbrev pub factor_ends : (f : ℕ) → Ends → (systems per_system : ℕ) → Ends
-factor_ends f e systems per_system = multiplied f (filled_ends f e (systems * per_system)) (per_system - 1)
+factor_ends f e systems per_system = ends_power f (filled_ends f e (systems * per_system)) (per_system - 1)
 
 -- 1 multiplied by each factor in order
 abbrev pub base_ends : (f : ℕ) → List Ends → Ends

@@ -259,7 +259,7 @@ ceil_by_sum a b p =
     let t = div_ceil_times a b p in
     div-eq_of_lt-le b (omega (arith, t.1)) (omega (arith, t.0))
 
--- the whole part apart
+-- a scaled quotient rounded down is its whole part scaled and what is left, scaled and rounded down
 pub floor_split : (num den s : ℕ) → 0 < den → num / den * s + num % den * s / den ≡ num * s / den
 floor_split num den s p =
     let d = div-add-mod' num den in
@@ -274,7 +274,7 @@ ceil_split num den s p =
     ceil_is (num * s) den (num / den * s + div_ceil (num % den * s) den) p
     (omega (arith, t.0, d)) (omega (arith, t.1, d))
 
--- part of the quotient apart
+-- a quotient rounded up is a whole number within it and the quotient of what is left, rounded up
 pub ceil_after : (num den start : ℕ) → 0 < den → start * den ≤ num → start + div_ceil (num - start * den) den ≡ div_ceil num den
 ceil_after num den start p h =
     let t = div_ceil_times (num - start * den) den p in

@@ -1,5 +1,5 @@
 -- Intervals by their ends, and the rounding of each operation. An end is a whole number in units of 2^-f.
-use Rattle.std.specs.Prelude.{ℕ, ◌+◌, ◌-◌, ◌*◌, ◌/◌, ◌^◌, ◌≤◌, ◌<◌, min, max}
+use Rattle.std.specs.Prelude.{ℕ, zero, suc, ◌+◌, ◌-◌, ◌*◌, ◌/◌, ◌^◌, ◌≤◌, ◌<◌, min, max}
 use Rattle.std.specs.Int.{div_ceil}
 use Rattle.exact_model.specs.Fraction.{Fraction, Contains}
 
@@ -56,6 +56,11 @@ ends_over a k = record { lo = a.lo / k; hi = div_ceil a.hi k }
 -- a times b
 abbrev pub ends_mul : ℕ → Ends → Ends → Ends
 ends_mul f a b = record { lo = a.lo * b.lo / 2 ^ f; hi = div_ceil (a.hi * b.hi) (2 ^ f) }
+
+-- a^(k + 1): a multiplied by itself k times, from the left
+unfoldable pub ends_power : (f : ℕ) → Ends → ℕ → Ends
+ends_power f a zero = a
+ends_power f a (suc k) = ends_mul f (ends_power f a k) a
 
 -- a over b
 abbrev pub ends_div : ℕ → Ends → Ends → Ends

@@ -4,7 +4,7 @@ use Rattle.hull.specs.declared.point.Point.{Point}
 use Rattle.hull.specs.Curves.{Among, StandFor, IsChain, InRange}
 use Rattle.hull.specs.Verdicts.{IsNoDearer, TakesCheaper}
 use Rattle.hull.proofs.Stand.{among_left, among_right, among_either, stand_for_both}
-use Rattle.hull.proofs.Steps_of.{stand_self, stand_trans, stand_same}
+use Rattle.hull.proofs.StepsOf.{stand_self, stand_trans, stand_same}
 use Rattle.hull.proofs.Runs.{CostsRise, among_at}
 
 -- a scan has made a stack of some points, and two lists are to come
@@ -134,6 +134,7 @@ no_dearer_mapped f x [] h = tt
 no_dearer_mapped f x (y ∷ ys) h = h
 
 module _ {X : Type 0} (f : X → Point) (x : X) (left right left_rest right_rest : List X) (l : CostsRise (map f left)) (r : CostsRise (map f right)) where
+  -- where costs rise in both lists, the cheaper of their first ones is by its point the next of all points
   pub takes_mapped : TakesCheaper (λ v. (f v).cost) x left right left_rest right_rest → Takes (f x) (map f left) (map f right) (map f left_rest) (map f right_rest)
   takes_mapped t = elim t [
     | inl a ↦ subst (λ ls. Takes (f x) (map f ls) (map f right) (map f left_rest) (map f right_rest)) (sym a.0)
@@ -145,12 +146,15 @@ module _ {X : Type 0} (f : X → Point) (x : X) (left right left_rest right_rest
   ]
 
 module _ (points stack : List Point) (x : Point) (left right left_rest right_rest : List Point) (j : Joined points stack left right) (t : Takes x left right left_rest right_rest) where
+  -- the points on the stack cost no more than the one that is taken
   pub joined_order : (v : Point) → Among v stack → v.cost ≤ x.cost
   joined_order v m = j.order v x m t.first
 
+  -- the numbers of the points on the stack are within their limits
   pub joined_ranges : (v : Point) → Among v stack → InRange v
   joined_ranges v m = j.ranges v (among_left v stack (left ++ right) m)
 
+  -- the numbers of the point that is taken are within their limits
   pub joined_range : InRange x
   joined_range = j.ranges x (among_right x stack (left ++ right) t.first)
 
@@ -175,6 +179,7 @@ module _ (points stack : List Point) (x : Point) (left right left_rest right_res
     made_in : (v : Point) → Among v made → Among v stack ⊎ (v ≡ x)
     made_in v m = elim (among_either v stack (x ∷ []) (made_of.among v m)) [ inl a ↦ inl a | inr b ↦ elim b [ inl e ↦ inr e | inr n ↦ absurd n ] ]
 
+    -- with a chain that stands for the stack and the point taken, what is left of both lists is to come
     pub joined_goes : Joined points made left_rest right_rest
     joined_goes = record {
       chain = chain;

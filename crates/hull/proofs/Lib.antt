@@ -1,7 +1,7 @@
 pub mod Prices
 pub mod Stand
 pub mod Chains
-pub mod Steps_of
+pub mod StepsOf
 pub mod Judged
 pub mod Runs
 pub mod Mapped

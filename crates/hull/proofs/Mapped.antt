@@ -1,11 +1,10 @@
 -- Lists of what stands for points.
 use Rattle.std.proofs.Common.{◌≡◌, ℕ, zero, suc, ◌+◌, ◌<◌, ◌≤◌, inl, inr, List, [], ◌∷◌, ◌++◌, map, length, get_or, sym, ap, ◌∙◌, subst, arith}
 use Rattle.std.proofs.lemmas.List.{length-map, map-append}
-use Rattle.std.specs.List.Sorted.{IsNonDecreasingBy, IsPermutation}
-use Rattle.std.proofs.lemmas.List.Sorted.{IsPermutation-map}
+use Rattle.std.specs.List.Sorted.{IsNonDecreasingBy}
 use Rattle.hull.specs.declared.point.Point.{Point}
 use Rattle.hull.specs.Curves.{Among, IsChain}
-use Rattle.hull.proofs.Runs.{CostsRise, StepRead, step_read, among_permuted}
+use Rattle.hull.proofs.Runs.{CostsRise, StepRead, step_read}
 
 -- the last of a list
 pub last_mapped : {X : Type 0} (f : X → Point) (xs rest : List X) (t : X) → xs ≡ rest ++ t ∷ [] → map f xs ≡ map f rest ++ f t ∷ []
@@ -34,14 +33,6 @@ mapped_head f x xs h w m =
 pub mapped_rise : {X : Type 0} (f : X → Point) (xs : List X) → IsNonDecreasingBy (λ v. (f v).cost) xs → CostsRise (map f xs)
 mapped_rise f [] h = tt
 mapped_rise f (x ∷ xs) h = (mapped_head f x xs h, mapped_rise f xs (λ i j d a b. h (suc i) (suc j) d (omega arith) (omega arith)))
-
--- a permutation has the same points
-pub mapped_permuted : {X : Type 0} (f : X → Point) (xs ys : List X) → IsPermutation xs ys → IsPermutation (map f xs) (map f ys)
-mapped_permuted f xs ys h = IsPermutation-map f xs ys h
-
--- in another order the things have the same points
-pub mapped_members : {X : Type 0} (f : X → Point) (xs ys : List X) → IsPermutation xs ys → (w : Point) → Among w (map f ys) → Among w (map f xs)
-mapped_members f xs ys h w m = among_permuted (map f xs) (map f ys) (IsPermutation-map f xs ys h) w m
 
 -- what is read of a list stands for what stands at that place
 pub mapped_at : {X : Type 0} (f : X → Point) (xs : List X) (k : ℕ) (x : X) (d : Point) → k < length xs → x ≡ get_or xs k x → f x ≡ get_or (map f xs) k d

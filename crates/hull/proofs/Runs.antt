@@ -5,7 +5,7 @@ use Rattle.std.proofs.lemmas.List.Sorted.{All-permutation, IsPermutation-sym}
 use Rattle.hull.specs.declared.point.Point.{Point}
 use Rattle.hull.specs.Curves.{lagrangian, Among, IsCurve, IsLeastAt, StandFor, Steps, IsChain, InRange, IsShape, nowhere, point_at}
 use Rattle.hull.proofs.Stand.{among_left, among_right, among_either, stand_for_both, stand_for}
-use Rattle.hull.proofs.Steps_of.{stand_self, stand_trans, stand_same}
+use Rattle.hull.proofs.StepsOf.{stand_self, stand_trans, stand_same}
 use Rattle.hull.proofs.Chains.{chain_is_curve}
 
 -- the head costs no more than any other, and so on
@@ -54,12 +54,15 @@ begins_rising points s r = record {
 }
 
 module _ (points stack : List Point) (x : Point) (rest : List Point) (s : Scanned points stack (x ∷ rest)) where
+  -- the points on the stack cost no more than the next one
   pub next_order : (v : Point) → Among v stack → v.cost ≤ x.cost
   next_order v m = s.order v x m (inl refl)
 
+  -- the numbers of the points on the stack are within their limits
   pub next_ranges : (v : Point) → Among v stack → InRange v
   next_ranges v m = s.ranges v (among_left v stack (x ∷ rest) m)
 
+  -- the numbers of the next point are within their limits
   pub next_range : InRange x
   next_range = s.ranges x (among_right x stack (x ∷ rest) (inl refl))
 
@@ -74,6 +77,7 @@ module _ (points stack : List Point) (x : Point) (rest : List Point) (s : Scanne
     whole_stands = stand_trans points (stack ++ (x ∷ rest)) (made ++ rest) s.stands
         (subst (λ l. StandFor l (made ++ rest)) regroup (stand_for_both (stack ++ x ∷ []) rest made rest made_of (stand_self rest)))
 
+    -- with a chain that stands for the stack and the next point, the points behind it are to come
     pub scan_goes : Scanned points made rest
     scan_goes = record {
       chain = chain;
@@ -113,12 +117,14 @@ module _ (a b made : List Point) (sa : IsShape a) (ranges : (v : Point) → Amon
   pub added_ranges : (v : Point) → Among v (a ++ b) → InRange v
   added_ranges v m = elim (among_either v a b m) [ inl x ↦ sa.ranges v x | inr y ↦ ranges v y ]
 
+  -- the chain that was made is the curve of the shape's points and the further ones
   pub added_curve : IsCurve (a ++ b) made
   added_curve = curve_made (a ++ b) made stands chain
 
   of_either : (v : Point) → Among v made → Among v a ⊎ Among v b
   of_either v m = among_either v a b (stands.among v m)
 
+  -- the chain that was made has the shape of a curve, where it is not empty or too long and stocks have one length
   pub added_shape : ((v w : Point) → Among v a → Among w b → length v.stocks ≡ length w.stocks) → 0 < length made → length made ≤ 2 ^ 31 → IsShape made
   added_shape widths some few = record {
     some = some;

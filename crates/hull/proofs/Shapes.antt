@@ -6,7 +6,7 @@ use Rattle.hull.specs.Curves.{lagrangian, SamePlace, Among, IsVertexAt, IsVertex
 use Rattle.hull.specs.Laws.{IsOfMembers, StocksTell, HasOneCurve, IsConvex, BeginsCheapest, EndsLowest}
 use Rattle.hull.proofs.Prices.{LeastOf, Leads, least_of}
 use Rattle.hull.proofs.Stand.{same_sym, stand_for, among_right}
-use Rattle.hull.proofs.Steps_of.{stand_same}
+use Rattle.hull.proofs.StepsOf.{stand_same}
 use Rattle.hull.proofs.Chains.{falls_on}
 use Rattle.hull.proofs.Sums.{first_falls}
 

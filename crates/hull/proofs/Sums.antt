@@ -7,6 +7,7 @@ use Rattle.hull.specs.Verdicts.{Blocks, LeadsTo}
 use Rattle.hull.specs.declared.walk.Turn.TheVariants.{Left, Right, End}
 use Rattle.hull.proofs.Stand.{same_self, same_lagrangian, first_self, among_left, among_right, among_either}
 use Rattle.hull.proofs.Chains.{head_least}
+use Rattle.hull.proofs.Joined.{chain_rest}
 
 -- two points that a sum is of
 pub record Parts (vs ws : List Point) (s : Point) : Type 0 where
@@ -42,6 +43,7 @@ sum_among v w (x ∷ vs) ws m n = elim m [
 
 -- a vertex of the sums is a vertex of each at its price
 module _ (p q : ℕ) (vs ws : List Point) (v w : Point) (v_in : Among v vs) (w_in : Among w ws) (at : IsVertexAt p q (sums vs ws) (plus v w)) where
+  -- the part of the first list is a vertex of that list at the price
   pub first_at : IsVertexAt p q vs v
   first_at = record {
     p_positive = at.p_positive;
@@ -52,6 +54,7 @@ module _ (p q : ℕ) (vs ws : List Point) (v w : Point) (v_in : Among v vs) (w_i
     ];
   }
 
+  -- the part of the second list is a vertex of that list at the price
   pub second_at : IsVertexAt p q ws w
   second_at = record {
     p_positive = at.p_positive;
@@ -242,10 +245,6 @@ turned_alone (a ∷ ls) [] m n o = absurd (let k : 0 < 0 = n in omega arith)
 turned_alone (a ∷ ls) (c ∷ []) m n o = (omega arith, blocks_none (a ∷ ls) (c ∷ []) a)
 turned_alone (a ∷ ls) (c ∷ d ∷ rs) m n o = absurd (let k : length (c ∷ d ∷ rs) < 2 = o in omega arith)
 
-chain_rest : (v : Point) (vs : List Point) → IsChain (v ∷ vs) → IsChain vs
-chain_rest v [] c = tt
-chain_rest v (x ∷ vs) c = c.2
-
 -- a walk through the sums of two chains
 pub record Walked (a b path left right : List Point) : Type 0 where
   pub passed : Passed a b path left right
@@ -294,27 +293,19 @@ walk_ends a b path (v ∷ []) (u ∷ rs) d e w t =
     no_second (y ∷ rs) e = absurd (let k : suc (length rs) ≡ 0 = e in omega arith)
 walk_ends a b path (v ∷ x ∷ ls) (u ∷ rs) d e w t = absurd (let k : suc (length ls) ≡ 0 = t.0 in omega arith)
 
-pub turned_alone_right : (left right : List Point) → 0 < length left → length left < 2 → 2 ≤ length right → LeadsTo left right Right
-turned_alone_right [] right m n o = absurd (let k : 0 < 0 = m in omega arith)
-turned_alone_right (a ∷ ls) [] m n o = absurd (let k : 2 ≤ 0 = o in omega arith)
-turned_alone_right (a ∷ []) (c ∷ rs) m n o = (omega arith, blocks_none (c ∷ rs) (a ∷ []) c)
-turned_alone_right (a ∷ b ∷ ls) (c ∷ rs) m n o = absurd (let k : length (a ∷ b ∷ ls) < 2 = n in omega arith)
-
-pub turned_end : (left right : List Point) → 0 < length left → length left < 2 → 0 < length right → length right < 2 → LeadsTo left right End
-turned_end [] right m n o x = absurd (let k : 0 < 0 = m in omega arith)
-turned_end (a ∷ ls) [] m n o x = absurd (let k : 0 < 0 = o in omega arith)
-turned_end (a ∷ ls) (c ∷ rs) m n o x = (omega arith, omega arith)
-
 -- the same by what the code has read and pushed
 module _ (a b path left right : List Point) (v u s : Point) (made : List Point) (v_is : v ≡ get_or left 0 v) (u_is : u ≡ get_or right 0 u) (s_is : s ≡ plus v u) (made_is : made ≡ path ++ s ∷ []) (w : Walked a b path left right) where
   pushed : path ++ plus (get_or left 0 v) (get_or right 0 u) ∷ [] ≡ made
   pushed = ap (λ z. path ++ z ∷ []) (sym (s_is ∙ ap (λ z. plus z u) v_is ∙ ap (λ z. plus (get_or left 0 v) z) u_is)) ∙ sym made_is
 
+  -- a turn to the left leads on to the left list's next point
   pub goes_left : (rest : List Point) → rest ≡ drop 1 left → LeadsTo left right Left → Walked a b made rest right
   goes_left rest e t = subst (λ z. Walked a b made z right) (sym e) (subst (λ z. Walked a b z (drop 1 left) right) pushed (walk_left a b path left right v u w t))
 
+  -- a turn to the right leads on to the right list's next point
   pub goes_right : (rest : List Point) → rest ≡ drop 1 right → LeadsTo left right Right → Walked a b made left rest
   goes_right rest e t = subst (λ z. Walked a b made left z) (sym e) (subst (λ z. Walked a b z left (drop 1 right)) pushed (walk_right a b path left right v u w t))
 
+  -- at the end the points that were made stand for all sums
   pub goes_to_end : LeadsTo left right End → StandFor (sums a b) made
   goes_to_end t = subst (λ z. StandFor (sums a b) z) pushed (walk_ends a b path left right v u w t)

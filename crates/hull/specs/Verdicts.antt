@@ -1,5 +1,4 @@
--- What a verdict on the last of some points says.
--- No promise rests on this file: it speaks of the code's own steps.
+-- What a verdict on the last of some points says. No promise of the crate rests on these words.
 use Rattle.std.specs.Prelude.{◌≡◌, ℕ, ◌-◌, ◌<◌, ◌≤◌, ◌⊎◌, List, [], ◌∷◌, ◌++◌, length, take}
 use Rattle.hull.specs.declared.point.Point.{Point}
 use Rattle.hull.specs.declared.scan.Verdict.{Verdict}
@@ -26,7 +25,7 @@ LeadsTo (v ∷ ls) (u ∷ rs) Left = (0 < length ls) × Blocks (v ∷ ls) v (u �
 LeadsTo (v ∷ ls) (u ∷ rs) Right = (0 < length rs) × Blocks (u ∷ rs) u (v ∷ ls) ls
 LeadsTo (v ∷ ls) (u ∷ rs) End = (length ls ≡ 0) × (length rs ≡ 0)
 
--- x is the first of one of two lists, and costs no more than the first of the other
+-- x costs no more than the first of a list, where it has one
 abbrev pub IsNoDearer : {X : Type 0} → (X → ℕ) → X → List X → Type 0
 IsNoDearer cost x [] = Unit {0}
 IsNoDearer cost x (y ∷ ys) = cost x ≤ cost y

@@ -1,6 +1,6 @@
 //! Chains: curves of points that come by rising cost, and needn't hold their stocks.
 
-ghost use Rattle.std.specs.Prelude.{◌≡◌, ◌+◌, ◌^◌, ◌<◌, ◌≤◌, [], ◌∷◌, ◌++◌, List, length, IfOk, OnOk, OnErr};
+ghost use Rattle.std.specs.Prelude.{◌≡◌, ◌+◌, ◌^◌, ◌<◌, ◌≤◌, [], ◌∷◌, ◌++◌, List, length, map, IfOk, OnOk, OnErr};
 ghost use Rattle.hull.specs.declared.point.Point.{Point};
 ghost use Rattle.hull.specs.Curves.{Among, InRange, IsShape, StandFor, point_at};
 
@@ -31,8 +31,27 @@ impl<T: Spot> Model for Chain<T> {
     ghost invariant = { λ c. IsShape (map T.point c.vertices.items) };
 }
 
+/// The step from the vertex at the place `k` to the next: the fall of the lower end and the rise of the cost.
+pub(crate) fn slope_of<T: Spot>(vertices: &[T], k: u32) -> Price
+    requires shape { IsShape (map T.point vertices.now) }
+    requires within { k + 1 < length (map T.point vertices.now) }
+    ensures fall { result.p + (point_at (map T.point vertices.now) (k + 1)).lo
+        ≡ (point_at (map T.point vertices.now) k).lo }
+    ensures rise { result.q + (point_at (map T.point vertices.now) k).cost
+        ≡ (point_at (map T.point vertices.now) (k + 1)).cost }
+    ensures positive { (0 < result.p) × (0 < result.q) }
+    ensures small { (result.p < 2 ^ 74) × (result.q ≤ 1000000000000) }
+{
+    let start = &vertices[k as usize];
+    let end = &vertices[k as usize + 1];
+    Price {
+        p: start.lo() - end.lo(),
+        q: end.cost() - start.cost(),
+    }
+}
+
 impl<T: Spot> Chain<T> {
-    /// The chain of one point, with room for so many.
+    /// The chain of one point, with room for so many. Want of memory is the only error.
     pub fn one(alloc: Global, room: usize, point: T) -> Result<Chain<T>, NoMemory>
         requires { InRange (T.point point) }
         ensures { IfOk result (λ chain. chain ≡ T.point point ∷ []) }
@@ -94,11 +113,6 @@ impl<T: Spot> Chain<T> {
         ensures positive { (0 < result.p) × (0 < result.q) }
         ensures small { (result.p < 2 ^ 74) × (result.q ≤ 1000000000000) }
     {
-        let start = &self.vertices[k as usize];
-        let end = &self.vertices[k as usize + 1];
-        Price {
-            p: start.lo() - end.lo(),
-            q: end.cost() - start.cost(),
-        }
+        slope_of(self.vertices.as_slice(), k)
     }
 }

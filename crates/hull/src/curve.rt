@@ -1,9 +1,10 @@
 //! Curves, seen as their vertices in order of cost.
 
-ghost use Rattle.std.specs.Prelude.{◌≡◌, ℕ, ◌+◌, ◌^◌, ◌<◌, ◌≤◌, ◌∷◌, [], ◌++◌, List, length, take, IfOk, OnOk, OnErr};
+ghost use Rattle.std.specs.Prelude.{◌≡◌, ◌+◌, ◌^◌, ◌<◌, ◌≤◌, ◌∷◌, [], ◌++◌, List, length, take, IfOk, OnOk, OnErr};
 ghost use Rattle.hull.specs.declared.point.Point.{Point};
 ghost use Rattle.hull.specs.Curves.{Among, InRange, HaveOneWidth, IsChain, IsCurve, IsShape, IsBestAt, IsLeastAt, point_at, plus, sums};
 
+use crate::chain::slope_of;
 use crate::joins::{chain_of, chain_of_both};
 use crate::scan::in_order;
 use crate::walk::path;
@@ -52,7 +53,7 @@ fn cheaper(vertices: &[Point], cost: u64) -> usize
 }
 
 impl Curve {
-    /// The curve of a single point.
+    /// The curve of a single point. Want of memory is the only error.
     pub fn one(alloc: Global, first: Point) -> Result<Curve, NoMemory>
         requires { InRange first }
         ensures { IfOk result (λ curve. curve ≡ first ∷ []) }
@@ -63,7 +64,7 @@ impl Curve {
     }
 
     /// The curve of one point or more, whose stocks have one length. Of points with the same cost and the same lower
-    /// end it keeps the one whose stocks are first in the order of a dictionary.
+    /// end it keeps the one whose stocks are first in the order of a dictionary. Want of memory is the only error.
     pub fn of(alloc: Global, points: Vec<Point>) -> Result<Curve, NoMemory>
         requires some { 0 < length points.items }
         requires few { length points.items ≤ 2 ^ 31 }
@@ -136,7 +137,7 @@ impl Curve {
     }
 
     /// The curve of all sums of a point of the one and a point of the other. In a sum the stocks of `a` stand before
-    /// those of `b`. Ties are broken as in [`Curve::add_point`].
+    /// those of `b`. Ties are broken as in [`Curve::add_point`]. Want of memory is the only error.
     pub fn sum(alloc: Global, a: &Curve, b: &Curve) -> Result<Curve, NoMemory>
         requires few { length a.now + length b.now ≤ 2 ^ 31 }
         requires ranges { (v w : Point) → Among v a.now → Among w b.now → InRange (plus v w) }
@@ -201,11 +202,6 @@ impl Curve {
         ensures positive { (0 < result.p) × (0 < result.q) }
         ensures small { (result.p < 2 ^ 74) × (result.q ≤ 1000000000000) }
     {
-        let start = &self.vertices[k as usize];
-        let end = &self.vertices[k as usize + 1];
-        Price {
-            p: start.lo - end.lo,
-            q: end.cost - start.cost,
-        }
+        slope_of(self.vertices.as_slice(), k)
     }
 }

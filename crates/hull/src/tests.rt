@@ -3,7 +3,6 @@
 ghost use Rattle.std.specs.Prelude.{◌≡◌, ◌^◌, ◌<◌, ◌≤◌, IfOk, length};
 ghost use Rattle.hull.specs.declared.point.Point.{Point};
 ghost use Rattle.hull.specs.Curves.{Among};
-ghost use Rattle.hull.specs.Scores.{InLimits};
 
 use crate::{Chain, Curve, Plain, Point, Score, Spot};
 use fixed_interval::Iv;

@@ -1,6 +1,6 @@
 //! The walk through two curves that passes the vertices of their sums.
 
-ghost use Rattle.std.specs.Prelude.{ℕ, ◌+◌, ◌-◌, ◌*◌, ◌^◌, ◌<◌, ◌≤◌, ◌↔◌, length, IsTrue, IfOk, vec_len};
+ghost use Rattle.std.specs.Prelude.{◌+◌, ◌-◌, ◌*◌, ◌^◌, ◌<◌, ◌≤◌, ◌↔◌, length, IsTrue, IfOk, vec_len};
 ghost use Rattle.hull.specs.Curves.{Among, StandFor, Steps, IsChain, InRange, plus, sums};
 ghost use Rattle.hull.specs.Verdicts.{LeadsTo};
 

@@ -1,23 +1,23 @@
--- Laws of the ends: they enclose the series and the loss.
+-- Laws of the ends, here because `Score for LogLoss` cites them: they enclose the series and the loss.
 use Rattle.std.proofs.Common.{ℕ, zero, suc, ◌+◌, ◌-◌, ◌*◌, ◌^◌, ◌<◌, ◌≤◌, ◌≡◌, ◌∙◌, ◌⊎◌, inl, inr, arith, refl, ap, subst, zero-lt-suc, min, mul-le-mul}
 use Rattle.std.proofs.Math.Nat.{mul-pos, mul-le-mul_left, mul-le-mul_right, le_of_mul-le-mul_right, mul-sub, lt_of_mul-lt-mul_right, le_refl}
 use Rattle.exact_model.specs.Fraction.{Fraction, whole, sum_below, scaled, Contains, Encloses, ◌≈◌, ◌≤ℚ◌, ◌+ℚ◌, ◌-ℚ◌, ◌*ℚ◌, ◌/ℚ◌}
 use Rattle.exact_model.proofs.Fractions.{over, same, turned, ◌≈≈◌, le_same, le_chain, le_self, le_plus, add_same, sub_same, contains_same, nothing_less, first_power, next_power}
-use Rattle.fixed_interval.specs.Ends.{Ends, In, ends_times, ends_over, ends_capped}
+use Rattle.fixed_interval.specs.Ends.{Ends, In, ends_times, ends_over, ends_capped, ends_power}
 use Rattle.fixed_interval.proofs.Laws.{add_encloses, exact_encloses, mul_encloses, over_encloses, times_encloses, quotient_is, ceil_above, high_le, low_le, capped_encloses, min_steps, floor_below_ceil}
 use Rattle.hull.specs.Scores.{EnclosesValue, LeavesRoom}
 use Rattle.exact_model.specs.Sums.{power}
 use Rattle.log_loss.specs.Loss.{term, loss, smaller, empty_share, loss_of}
-use Rattle.log_loss.specs.Profile.{power_ends, sum_ends, rest_past, series_past, series_ends, share_ends, loss_ends}
+use Rattle.log_loss.specs.Profile.{sum_ends, rest_past, series_past, series_ends, share_ends, loss_ends}
 use Rattle.log_loss.specs.Ranges.{IsShare, gap_positive, series_most, series_ordered}
 
 -- ---- the powers and the sum of the first terms
 
-pub power_in : (f : ℕ) (y : Ends) (q : Fraction) (k : ℕ) → In f y q → In f (power_ends f y k) (power q (suc k))
-unfolding power_ends
+pub power_in : (f : ℕ) (y : Ends) (q : Fraction) (k : ℕ) → In f y q → In f (ends_power f y k) (power q (suc k))
+unfolding ends_power
 power_in f y q zero h = contains_same (first_power q) h
 power_in f y q (suc k) h =
-    contains_same (next_power q (suc k)) (mul_encloses f (power_ends f y k) y (power q (suc k)) q
+    contains_same (next_power q (suc k)) (mul_encloses f (ends_power f y k) y (power q (suc k)) q
     (power_in f y q k h) h)
 
 next_loss : (q : Fraction) (n : ℕ) → loss n q +ℚ term q n ≈ loss (suc n) q
@@ -33,8 +33,8 @@ unfolding sum_ends
 sum_in f y q zero h = contains_same (no_loss q) (exact_encloses f 0)
 sum_in f y q (suc n) h =
     contains_same (next_loss q n)
-    (add_encloses f (sum_ends f y n) (ends_over (power_ends f y n) (suc n)) (loss n q) (term q n) (sum_in f y q n h)
-    (over_encloses f (power_ends f y n) (suc n) (power q (suc n)) (zero-lt-suc n) (power_in f y q n h)))
+    (add_encloses f (sum_ends f y n) (ends_over (ends_power f y n) (suc n)) (loss n q) (term q n) (sum_in f y q n h)
+    (over_encloses f (ends_power f y n) (suc n) (power q (suc n)) (zero-lt-suc n) (power_in f y q n h)))
 
 -- ---- the terms past them
 
@@ -157,9 +157,9 @@ rest_in : (f : ℕ) (y : Ends) (q : Fraction) (g n : ℕ) (h : IsBelowOne q g) �
 rest_in f y q g n h s i = record {
   low = omega arith;
   high =
-      rest_step (2 ^ f) (power_ends f y n).hi y.hi (rest_past f y n) (power q (suc n)).num (power q (suc n)).den q.den g
+      rest_step (2 ^ f) (ends_power f y n).hi y.hi (rest_past f y n) (power q (suc n)).num (power q (suc n)).den q.den g
       (suc n) (2 ^ f - y.hi) (gap_positive f y s)
-      (ceil_above ((power_ends f y n).hi * 2 ^ f) (suc n * (2 ^ f - y.hi))
+      (ceil_above ((ends_power f y n).hi * 2 ^ f) (suc n * (2 ^ f - y.hi))
       (mul-pos (zero-lt-suc n) (gap_positive f y s)))
       (power_in f y q n i).high
       (gap_step (2 ^ f) y.hi q.num q.den g h.gap i.high);

@@ -32,6 +32,7 @@ filled_hi {curves = curves} {picks = picks} {end = end} (change f k b more) n =
     omega (arith, rest, here)
 
 module _ (families curves : List (List Point)) (budget : ℕ) (picks : List ℕ) (cost : ℕ) (price : Price) (areas : AreCurves families curves) (shapes : HaveShapes curves) where
+  -- no point of its family has a smaller Lagrangian at the price than the critical vertex
   pub critical_vertex_least : (c : Critical) → IsHullChoice curves budget (told picks cost price (Some c)) → IsLeastAt price.p price.q (curve_at families c.family) (vertex_at curves c.family c.vertex)
   critical_vertex_least c h =
       let s = h.stops in

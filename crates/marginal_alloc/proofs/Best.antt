@@ -1,11 +1,11 @@
 -- The best change, family by family.
-use Rattle.std.proofs.Common.{◌≡◌, ℕ, zero, suc, ◌+◌, ◌-◌, ◌<◌, ◌≤◌, ◌⊎◌, inl, inr, List, [], ◌∷◌, ◌++◌, Option, Some, None, MatchOption, length, set, slice_index, refl, sym, ap, subst, arith}
+use Rattle.std.proofs.Common.{◌≡◌, ℕ, zero, suc, ◌+◌, ◌-◌, ◌<◌, ◌≤◌, inl, inr, List, [], ◌∷◌, ◌++◌, Option, Some, None, MatchOption, length, set, slice_index, refl, sym, ap, subst, arith}
 use Rattle.hull.specs.declared.point.Point.{Point}
 use Rattle.hull.specs.Curves.{IsShape}
 use Rattle.marginal_alloc.specs.declared.change.Change.{Change}
 use Rattle.price_bounds.specs.Sums.{cost_of}
 use Rattle.step_walk.specs.Prefix.{curve_at, vertex_at, picked}
-use Rattle.marginal_alloc.specs.Filling.{HasChange, IsBestChange, IsFull, gain}
+use Rattle.marginal_alloc.specs.Filling.{HasChange, gain}
 use Rattle.marginal_alloc.specs.Changes.{IsLower, IsLowest, IsBestAmong, IsBestBefore}
 use Rattle.step_walk.proofs.Greedy.{below_or}
 use Rattle.price_bounds.proofs.Duality.{swapped}
@@ -90,10 +90,12 @@ module _ (curves : List (List Point)) (picks : List ℕ) (left f : ℕ) (fam : f
       | inr e ↦ (let s = e.0 in omega (arith, s))
     ]
 
+    -- where the lowest vertex of family f gains no more, the best change so far is that of one family more
     pub no_better : (least : ℕ) → gain curves picks f v ≤ least → (best : Option Change) → MatchOption best (least ≡ 0) (λ c. least ≡ c.gain)
         → IsBestBefore curves (cost_of (picked curves picks) + left) picks f best → IsBestBefore curves (cost_of (picked curves picks) + left) picks (f + 1) best
     no_better least small best known = stays best least known (λ k change. let m = at_most k change in omega (arith, m, small))
 
+    -- where the lowest vertex of family f gains more than the best so far, it is the best of one family more
     pub better : (least : ℕ) → least < gain curves picks f v → (best : Option Change) → MatchOption best (least ≡ 0) (λ c. least ≡ c.gain)
         → IsBestBefore curves (cost_of (picked curves picks) + left) picks f best → IsBestAmong curves (cost_of (picked curves picks) + left) picks (f + 1) (record { family = f; vertex = v; gain = gain curves picks f v })
     better least more best known old = record {
@@ -127,14 +129,3 @@ module _ (curves : List (List Point)) (picks : List ℕ) (left f : ℕ) (fam : f
 -- the lowest vertex of a curve as it is read
 pub lowest_is : (r c : List Point) (pick room_read room v : ℕ) → r ≡ c → room_read ≡ room → IsLowest r pick room_read (length r) v → IsLowest c pick room (length c) v
 lowest_is r c pick room_read room v e a h = subst (λ x. IsLowest x pick room (length x) v) e (subst (λ x. IsLowest r pick x (length r) v) a h)
-
--- all families are seen
-pub none_seen : (curves : List (List Point)) (budget : ℕ) (picks : List ℕ) (n : ℕ) → n ≡ length curves → IsBestBefore curves budget picks n None → IsFull curves budget picks
-none_seen curves budget picks n e h = λ f k change. h f k (let l = change.family in omega (arith, l, e)) change
-
-pub best_seen : (curves : List (List Point)) (budget : ℕ) (picks : List ℕ) (n : ℕ) (c : Change) → n ≡ length curves → IsBestAmong curves budget picks n c → IsBestChange curves budget picks c.family c.vertex
-best_seen curves budget picks n c e h = record {
-  change = h.change;
-  best = λ g j change. subst (λ z. (gain curves picks g j < z) ⊎ ((gain curves picks g j ≡ z) × ((c.family < g) ⊎ ((c.family ≡ g) × (c.vertex ≤ j))))) h.gain_is
-      (h.best g j (let l = change.family in omega (arith, l, e)) change);
-}

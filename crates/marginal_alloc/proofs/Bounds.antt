@@ -14,13 +14,14 @@ use Rattle.price_bounds.proofs.Duality.{AreEnds, no_fewer, no_price, no_price_at
 use Rattle.marginal_alloc.proofs.Least.{critical_least, stops_by_steps}
 use Rattle.step_walk.proofs.Taking.{own_step, taken_prefix}
 
--- Some choice of one point for each family is no dearer than a sum and the budget, where a unit of the upper end costs b, and one of money a.
+-- Some choice of one point for each family is no dearer than a sum and the budget, where a unit of the upper end
+-- costs b, and one of money a.
 pub record HasChoice (families : List (List Point)) (a b sum budget : ℕ) : Type 0 where
   pub points : List Point
   pub picks : Picks families points
   pub within : IsWithin a b sum budget points
 
--- by family
+-- where the pick of each family has the least Lagrangian of its points, so have all picked points
 pub all_least : (p q : ℕ) (families curves : List (List Point)) (picks : List ℕ) → length families ≡ length curves → length picks ≡ length curves
     → ((g : ℕ) → g < length curves → IsLeastAt p q (curve_at families g) (vertex_at curves g (slice_index picks g))) → AllLeast p q families (picked curves picks)
 all_least p q [] [] picks e n h = tt
@@ -116,6 +117,7 @@ module _ (families curves : List (List Point)) (budget : ℕ) (picks : List ℕ)
   own_picks : IsPrefix curves picks → Picks families (picked curves picks)
   own_picks pre = all_picked families curves picks areas.count pre.vertices.count (λ g b. vertex_among g (slice_index picks g) b (pre.vertices.below g b))
 
+  -- the lower end of each picked point is at most its upper end
   pub own_ends : IsPrefix curves picks → AreEnds (picked curves picks)
   own_ends pre = all_ends curves picks pre.vertices.count (λ g b. vertex_ends g (slice_index picks g) b (pre.vertices.below g b))
 

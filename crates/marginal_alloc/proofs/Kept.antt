@@ -122,6 +122,7 @@ module _ (families : List (List Point)) (budget : ℕ) (chosen : List Point) (fl
       (subst (λ z. numbers.price.q * (hi_of (picked plan.curves plan.end) - bound_at plan.curves budget plan.hull.picks numbers.price) ≤ numbers.price.p * (budget - z) + numbers.price.q * (width_of (picked plan.curves plan.hull.picks) + 1)) (sym own.cost_is) w)))
       (subst (λ z. width_of (picked plan.curves plan.hull.picks) + 1 ≤ z) (sym plan.rounding) (rounding_covers plan.hull.critical))
 
+  -- a plan of points that are intervals keeps what plans promise
   pub plan_kept : AreIntervals families → PlanPromises families budget chosen numbers
   plan_kept intervals = record {
     within = chosen_picks;
@@ -134,6 +135,7 @@ module _ (families : List (List Point)) (budget : ℕ) (chosen : List Point) (fl
     small = small intervals;
   }
 
+  -- the plan's points, price, floors, upper end and bound are acceptable as a certificate
   pub plan_acceptable : IsAcceptable families budget (record { chosen = chosen; price = numbers.price; floors = floors; upper = numbers.upper; bound = numbers.bound })
   plan_acceptable = record {
     money = least.0;

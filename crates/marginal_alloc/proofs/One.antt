@@ -143,6 +143,7 @@ module _ (curves : List (List Point)) (budget : ℕ) (shapes : HaveShapes curves
         ap Some (same_criticals c d e (h.stops.1 ∙ ap (λ z. slice_index xs z + 1) e ∙ sym k.stops.1)),
       )
 
+  -- two hull choices of the same curves under the same budget are one
   pub choices_are_one : (xs ys : List ℕ) (cost other_cost : ℕ) (price other_price : Price) (critical other_critical : Option Critical) → IsHullChoice curves budget (told xs cost price critical) → IsHullChoice curves budget (told ys other_cost other_price other_critical)
       → told xs cost price critical ≡ told ys other_cost other_price other_critical
   choices_are_one xs ys cost other_cost price other_price critical other_critical h k =

@@ -75,6 +75,7 @@ module _ (families : List (List Point)) (budget : ℕ) (chosen other : List Poin
   bounds : numbers.bound ≡ other_numbers.bound
   bounds = p.bound ∙ ap (λ z. bound_of z.p z.q (sum floors) budget) prices ∙ ap (λ z. bound_of other_numbers.price.p other_numbers.price.q (sum z) budget) floors_same ∙ sym q.bound
 
+  -- two plans under one budget agree in all they say, where stocks tell points apart
   pub one_plan : IsSamePlan chosen other floors other_floors numbers other_numbers
   one_plan = record {
     chosen = chosen_same;

@@ -16,7 +16,7 @@ cost_taken (c ∷ curves) [] f b n h = absurd (let l : 0 ≡ suc (length curves)
 cost_taken (c ∷ curves) (k ∷ picks) zero b n h = omega (arith, h)
 cost_taken (c ∷ curves) (k ∷ picks) (suc f) b n h = (let r = cost_taken curves picks f (omega arith) (let l : suc (length picks) ≡ suc (length curves) = n in omega arith) h in omega (arith, r))
 
--- and with none
+-- picks at the first vertices cost nothing where the first vertex of each curve costs nothing
 pub free_at_first : (curves : List (List Point)) (picks : List ℕ) → length picks ≡ length curves → ((f : ℕ) → slice_index picks f ≡ 0) → ((f : ℕ) → f < length curves → (vertex_at curves f 0).cost ≡ 0) → cost_of (picked curves picks) ≡ 0
 free_at_first [] picks n z h = refl
 free_at_first (c ∷ curves) [] n z h = refl

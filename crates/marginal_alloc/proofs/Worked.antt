@@ -1,5 +1,5 @@
--- Bounds and roundings of a few choices, whose numbers were computed apart from the definitions. The one family is a line unit
--- whose depot has room for 2 and whose base has room for 3, at 100 a piece.
+-- Bounds and roundings of a few choices, whose numbers were computed apart from the definitions. The one family is a
+-- line unit whose depot has room for 2 and whose base has room for 3, at 100 a piece.
 use Rattle.std.specs.Prelude.{◌≡◌, ℕ, List, [], ◌∷◌, Some, None, refl}
 use Rattle.hull.specs.declared.point.Point.{Point}
 use Rattle.marginal_alloc.specs.declared.allocation.Chosen.{Chosen}

@@ -1,5 +1,4 @@
--- The best change within one curve, and among those of the first families.
--- No promise rests on this file: it speaks of the code's own steps.
+-- The best change of one curve, and of the first families. No promise of the crate rests on these words.
 use Rattle.hull.specs.Curves.{point_at}
 use Rattle.std.specs.Prelude.{◌≡◌, ℕ, ◌<◌, ◌≤◌, ◌⊎◌, List, Option, Some, None, length}
 use Rattle.hull.specs.declared.point.Point.{Point}

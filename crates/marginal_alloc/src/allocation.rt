@@ -30,7 +30,7 @@ pub struct Chosen {
 /// The hull choice of the curves under a budget in whole money.
 ///
 /// The steps of all curves are taken by falling slope, of equal slopes by family and then by place, until one would
-/// pass the budget. There are at most 2,000 curves, and each begins at cost 0.
+/// pass the budget. There are at most 2,000 curves, and each begins at cost 0. Want of memory is the only error.
 pub fn allocate(alloc: Global, curves: &[Curve], budget: u64) -> Result<Chosen, NoMemory>
     requires few { length curves.now ≤ 2000 }
     requires free { (f : ℕ) → f < length curves.now → (vertex_at curves.now f 0).cost ≡ 0 }
@@ -44,7 +44,8 @@ pub fn allocate(alloc: Global, curves: &[Curve], budget: u64) -> Result<Chosen, 
 
 /// The hull choice as [`allocate`] gives it, with a guess of its price in units of 2^-48 for whole money.
 ///
-/// The guess changes no answer. One that is little above the price makes it come sooner.
+/// The guess changes no answer. One that is little above the price makes it come sooner. Want of memory is the only
+/// error.
 pub fn allocate_near(
     alloc: Global,
     curves: &[Curve],

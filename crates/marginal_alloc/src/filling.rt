@@ -1,5 +1,5 @@
 //! The filling: the best change of one family at a time, until there is none.
-ghost use Rattle.std.specs.Prelude.{◌≡◌, ℕ, ◌<◌, ◌≤◌, length, slice_index};
+ghost use Rattle.std.specs.Prelude.{◌≡◌, ◌<◌, ◌≤◌, length};
 ghost use Rattle.price_bounds.specs.Sums.{cost_of};
 ghost use Rattle.step_walk.specs.Prefix.{AreVertices, picked};
 ghost use Rattle.marginal_alloc.specs.Filling.{Fills};

@@ -12,7 +12,7 @@ use step_walk::{Walk, all_after_steep};
 /// A price that no step is above, in units of 2^-48 for whole money.
 const MOST: u128 = 1 << 74;
 
-/// What it costs to take the steps above a price.
+/// What it costs to take the steps above a price. No clause says so.
 fn cost_after(alloc: Global, curves: &[Curve], price: u128) -> Result<u64, NoMemory>
     requires few { length curves.now ≤ 2000 }
     requires price { price ≤ 2 ^ 74 }

@@ -1,8 +1,8 @@
 //! Choices over a few curves, as a program that was written apart from this one makes them.
 
-ghost use Rattle.std.specs.Prelude.{◌≡◌, ℕ, ◌^◌, ◌<◌, ◌≤◌, IfOk, IsTrue, length};
+ghost use Rattle.std.specs.Prelude.{◌≡◌, ℕ, ◌^◌, ◌<◌, IsTrue, length};
 ghost use Rattle.hull.specs.declared.point.Point.{Point};
-ghost use Rattle.hull.specs.Curves.{Among, InRange};
+ghost use Rattle.hull.specs.Curves.{InRange};
 ghost use Rattle.step_walk.specs.Prefix.{vertex_at};
 
 use crate::{Chosen, allocate, fill};

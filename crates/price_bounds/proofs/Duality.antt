@@ -59,7 +59,8 @@ ends_at : (front : List Point) (v : Point) (back : List Point) → AreEnds (fron
 ends_at [] v back h = h.0
 ends_at (x ∷ front) v back h = ends_at front v back h.1
 
--- Where v's step to u doesn't fit the budget, one of the two choices is within the bound and the rounding, whatever the price.
+-- Where v's step to u doesn't fit the budget, one of the two choices is within the bound and the rounding, whatever
+-- the price.
 pub no_price : (a b p q budget : ℕ) (front : List Point) (v u : Point) (back : List Point)
     → AreEnds (front ++ v ∷ back) → u.lo ≤ u.hi → u.lo + p ≡ v.lo → v.cost + q ≡ u.cost
     → cost_of (front ++ v ∷ back) ≤ budget → budget < cost_of (front ++ v ∷ back) + q

@@ -17,6 +17,7 @@ module _ (curves : List (List Point)) (picks : List ℕ) (x : Step) (old rest : 
   turn : Turn curves picks x rest (pick + 1)
   turn = turn_of curves picks x old rest shapes pre popped top held pick is
 
+  -- with the next step of the same family among those that wait, the walk is a step further
   pub goes_with : (y : Step) (new : List Step) → TellsStep curves x.family (pick + 1) y → IsPermutation (y ∷ rest) new → IsHeap step_cmp new → IsWalk curves (set picks x.family (pick + 1)) new
   goes_with y new told pushed order = record {
     few = few;
@@ -27,6 +28,7 @@ module _ (curves : List (List Point)) (picks : List ℕ) (x : Step) (old rest : 
         (subst (λ k. TellsStep curves x.family k y) (sym turn.own) told) pushed;
   }
 
+  -- where the family has no further step, the walk is a step further with the others alone
   pub goes_without : (HasStep curves x.family (pick + 1) → ⊥) → IsHeap step_cmp rest → IsWalk curves (set picks x.family (pick + 1)) rest
   goes_without out order = record {
     few = few;
@@ -36,9 +38,11 @@ module _ (curves : List (List Point)) (picks : List ℕ) (x : Step) (old rest : 
     held = without curves (set picks x.family (pick + 1)) (length curves) x.family rest turn.others (subst (λ k. HasStep curves x.family k → ⊥) (sym turn.own) out);
   }
 
+  -- the greatest waiting step is the next of all steps
   pub goes_next : IsNext curves picks x.family
   goes_next = turn.next
 
+  -- the pick of its family is the one that was read
   pub goes_from : pick ≡ slice_index picks x.family
   goes_from = let e = turn.vertex_is in omega (arith, e)
 

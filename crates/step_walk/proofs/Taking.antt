@@ -134,6 +134,7 @@ module _ (curves : List (List Point)) (picks : List ℕ) (f : ℕ) (pre : IsPref
     | inr d ↦ (let m = at_other g d in omega (arith, l, m))
   ]
 
+  -- with the next step taken too, the picks are still a prefix of all steps
   pub taken_prefix : IsPrefix curves (set picks f (slice_index picks f + 1))
   unfolding taken
   taken_prefix = record {
@@ -177,13 +178,6 @@ left_falls (c ∷ curves) (k ∷ picks) (suc f) b n h = (let r = left_falls curv
 -- a step of a family's curve leads to no smaller cost
 pub cost_rises : (curves : List (List Point)) (f k : ℕ) → IsChain (curve_at curves f) → HasStep curves f k → (vertex_at curves f k).cost ≤ (vertex_at curves f (k + 1)).cost
 cost_rises curves f k c s = (let r : Steps (vertex_at curves f k) (vertex_at curves f (k + 1)) = own_step (curve_at curves f) c k s.place in let l = r.cost in omega (arith, l))
-
--- with no step taken
-pub none_taken : (curves : List (List Point)) (picks : List ℕ) → length picks ≡ length curves → ((f : ℕ) → slice_index picks f ≡ 0) → ((f : ℕ) → f < length curves → IsShape (curve_at curves f)) → IsPrefix curves picks
-none_taken curves picks n z shapes = record {
-  vertices = record { count = n; below = λ f b. (let e = z f in let s = (shapes f b).some in omega (arith, e, s)) };
-  before = λ f k g j sf sg l m. absurd (let e = z f in omega (arith, e, l));
-}
 
 -- with one family more, of which no step is taken either, no step is taken
 pub zeros_more : (xs : List ℕ) → ((g : ℕ) → slice_index xs g ≡ 0) → (g : ℕ) → slice_index (xs ++ 0 ∷ []) g ≡ 0

@@ -120,6 +120,7 @@ module _ (curves : List (List Point)) (picks : List ℕ) where
           → (g ≡ x.family) ⊎ IsBefore curves x.family (slice_index picks x.family) g (slice_index picks g)
       from g f = subst (λ z. (z ≡ x.family) ⊎ IsBefore curves x.family (slice_index picks x.family) z (slice_index picks z)) f.family f.holds
 
+  -- a step out of those that wait is the next one of its family
   pub own_of : (x : Step) (old rest : List Step) → IsPermutation old (x ∷ rest) → HoldsNext curves picks (length curves) old → TellsStep curves x.family (slice_index picks x.family) x
   own_of x old rest h all = (moved (IsNextOfOwn curves picks (length curves)) old (x ∷ rest) h all.own).0.told
 
@@ -183,10 +184,6 @@ others_of curves picks x old rest pick h all = record {
         let o = all.once x.family in
         let z = of_own x.family x.family refl in
         omega (arith, c, o, z)
-
--- nothing waits at first
-pub none_yet : (curves : List (List Point)) (picks : List ℕ) → HoldsNext curves picks 0 []
-none_yet curves picks = record { own = tt; once = λ g. omega arith; held = λ g l s. absurd (let m : g < 0 = l in omega arith) }
 
 -- one family more, of which no step waits yet
 pub one_more : (curves : List (List Point)) (picks : List ℕ) (n : ℕ) (steps : List Step) → HoldsNext curves picks n steps → HoldsOthers curves picks (n + 1) n steps

@@ -3,7 +3,7 @@ use Rattle.std.specs.Prelude.{◌≡◌, ℕ, ◌+◌, ◌-◌, ◌*◌, ◌<◌
 use Rattle.hull.specs.declared.point.Point.{Point}
 use Rattle.hull.specs.Curves.{IsShape, point_at}
 
--- the curve of a family, and its vertex at a place
+-- the curve of the family f
 abbrev pub curve_at : List (List Point) → ℕ → List Point
 curve_at curves f = slice_index_or curves f []
 

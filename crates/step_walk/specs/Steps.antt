@@ -1,5 +1,4 @@
--- The next steps of the families, and their order: by slope, and of equal slopes the first family is the greatest.
--- No promise rests on this file: it speaks of the code's own steps.
+-- The next steps of the families, and their order. No promise of the crate rests on these words.
 use Rattle.std.specs.Prelude.{◌≡◌, ℕ, ◌+◌, ◌-◌, ◌*◌, ◌<◌, ◌≤◌, Option, Some, None, List, [], ◌∷◌, slice_index}
 use Rattle.std.specs.declared.cmp.Ordering.{Ordering}
 use Rattle.std.specs.Ordering.{nat_cmp, on, flip_args, then_cmp}

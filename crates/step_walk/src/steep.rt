@@ -1,6 +1,5 @@
 //! The steps that fall by more than a price for each unit of money, which come before all others.
-ghost use Rattle.std.specs.Prelude.{◌≡◌, ◌*◌, ◌^◌, ◌<◌, ◌≤◌, IfOk, IsTrue, ◌↔◌, length};
-ghost use Rattle.hull.specs.Curves.{IsShape};
+ghost use Rattle.std.specs.Prelude.{◌*◌, ◌^◌, ◌<◌, ◌≤◌, IfOk, IsTrue, ◌↔◌};
 ghost use Rattle.step_walk.specs.Steep.{AreAfterSteep, IsAfterSteep};
 
 use hull::{Curve, Price};
@@ -35,7 +34,7 @@ fn after_steep(curve: &Curve, price: u128) -> u32
 }
 
 /// The vertex of each curve after its steps that fall by more than this for each unit of money. It is in units of
-/// 2^-48 for whole money, and at most 2^74.
+/// 2^-48 for whole money, and at most 2^74. Want of memory is the only error.
 pub fn all_after_steep(alloc: Global, curves: &[Curve], price: u128) -> Result<Vec<u32>, NoMemory>
     requires { price ≤ 2 ^ 74 }
     ensures { IfOk result (λ picks. AreAfterSteep price curves.now picks.items) }

@@ -96,7 +96,7 @@ fn first_picks(alloc: Global, curves: &[Curve]) -> Result<Vec<u32>, NoMemory>
 }
 
 impl<'a> Walk<'a> {
-    /// A walk that has taken no step.
+    /// A walk that has taken no step. Want of memory is the only error.
     pub fn begin(alloc: Global, curves: &'a [Curve]) -> Result<Walk<'a>, NoMemory>
         requires { length curves.now ≤ 2000 }
         ensures { IfOk result (λ walk. IsAtFirst curves.now walk) }
@@ -111,7 +111,7 @@ impl<'a> Walk<'a> {
     }
 
     /// A walk that has taken the steps that fall by more than this for each unit of money. It is in units of 2^-48 for
-    /// whole money, and at most 2^74.
+    /// whole money, and at most 2^74. Want of memory is the only error.
     pub fn begin_after(
         alloc: Global,
         curves: &'a [Curve],
@@ -145,7 +145,7 @@ impl<'a> Walk<'a> {
         })
     }
 
-    /// Takes the next step, where one is left.
+    /// Takes the next step, where one is left. Want of memory is the only error.
     pub fn take(self) -> Result<Walk<'a>, NoMemory>
         requires { HasNext self }
         ensures { IfOk result (λ walk. MovesOn self.entry walk) }

@@ -1,7 +1,7 @@
 use Rattle.std.proofs.Common.{◌≡◌, ◌*◌, ◌-◌, arith, lit<, sym, subst, rules}
-use Rattle.fixed_interval.specs.Ends.{Ends, In, InScale}
+use Rattle.fixed_interval.specs.Ends.{Ends, In, InScale, ends_power}
 use Rattle.fixed_interval.proofs.Laws.{mul_room}
-use Rattle.availability.specs.Profile.{filled_ends, multiplied}
+use Rattle.availability.specs.Profile.{filled_ends}
 use Rattle.availability.specs.Exact.{factor_of}
 use Rattle.availability.proofs.Laws.{factor_in, filled_is, filled_most, multiplied_none, multiplied_more, product_most}
 use Rattle.availability.proofs.factor.Goals as goal
@@ -36,6 +36,6 @@ pub returns-clause-encloses : goal.returns-clause-encloses
 returns-clause-encloses g c x h =
     let all : c.loop-k._k ≡ c.args.per_system = omega (arith, c.loop-k-test.false, c.loop-k.auto._k-end, c.requires.some_units) in
     let e =
-    subst (λ k. c.loop-k.all ≡ multiplied g.row.F (filled_ends g.row.F c.args.backorders (c.args.systems * c.args.per_system)) (k - 1)) all c.loop-k.invariant.all in
+    subst (λ k. c.loop-k.all ≡ ends_power g.row.F (filled_ends g.row.F c.args.backorders (c.args.systems * c.args.per_system)) (k - 1)) all c.loop-k.invariant.all in
     subst (λ (z : Ends). In g.row.F z (factor_of x c.args.systems c.args.per_system)) (sym e)
     (factor_in g.row.F c.args.backorders x c.args.systems c.args.per_system (omega (arith, c.requires.some_systems)) (omega (arith, c.requires.some_units)) h)

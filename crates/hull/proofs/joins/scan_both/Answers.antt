@@ -5,7 +5,7 @@ use Rattle.hull.specs.Curves.{Among, StandFor, IsChain, InRange}
 use Rattle.hull.proofs.Mapped.{mapped_rise}
 use Rattle.hull.proofs.Runs.{CostsRise}
 use Rattle.hull.proofs.Stand.{among_left, among_either}
-use Rattle.hull.proofs.Steps_of.{chain_prefix, stand_trans}
+use Rattle.hull.proofs.StepsOf.{chain_prefix, stand_trans}
 use Rattle.hull.proofs.Joined.{Joined, chain_rises, chain_suffix, joined_begins, joined_order, joined_ranges, joined_range, joined_goes, rise_apart, taken_chain, taken_length, takes_mapped}
 use Rattle.hull.proofs.joins.scan_both.Goals as goal
 

@@ -4,7 +4,6 @@ use Rattle.std.proofs.lemmas.List.{append-nil, map-append}
 use Rattle.hull.specs.declared.point.Point.{Point}
 use Rattle.hull.specs.Curves.{Among, StandFor, IsChain, InRange}
 use Rattle.hull.proofs.Joined.{Joined, Follows, Takes, all_go_on, chain_rest, chain_rises, joined_begins, joined_goes, joined_order, joined_range, joined_ranges, takes_left}
-use Rattle.hull.proofs.joins.with_rest.Goals.{else-follows-via-then-follows+else-goes_on, else-follows-via-else-follows}
 use Rattle.hull.proofs.joins.with_rest.Goals as goal
 
 begins : (s l : List Point) → IsChain s → IsChain l → ((v w : Point) → Among v s → Among w l → v.cost ≤ w.cost) → ((v : Point) → Among v (s ++ l) → InRange v) → Joined (s ++ l) s l []

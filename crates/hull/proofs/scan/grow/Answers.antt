@@ -4,7 +4,7 @@ use Rattle.std.proofs.lemmas.List.{length-map, map-append, take-map}
 use Rattle.hull.specs.declared.point.Point.{Point}
 use Rattle.hull.specs.Curves.{Among, StandFor, IsChain}
 use Rattle.hull.proofs.Stand.{among_left}
-use Rattle.hull.proofs.Steps_of.{stand_self, stand_trans, chain_prefix}
+use Rattle.hull.proofs.StepsOf.{stand_self, stand_trans, chain_prefix}
 use Rattle.hull.proofs.scan.grow.Goals as goal
 
 pub pops-init : goal.pops-init
