@@ -1,5 +1,5 @@
 -- What shop units add, as a loop over the parts adds it up.
-use Rattle.std.proofs.Common.{◌≡◌, ◌≢◌, ℕ, zero, suc, ◌+◌, ◌*◌, ◌<◌, ◌≤◌, Bool, true, false, cond, List, [], ◌∷◌, ◌++◌, length, map, filter, get_or, replicate, sum_by, bytes_eq, Option, Some, None, inl, inr, refl, sym, ap, ◌∙◌, subst, arith, add-one, le_trans, mul-le-mul_right, zero-add}
+use Rattle.std.proofs.Common.{◌≡◌, ◌≢◌, ℕ, zero, suc, ◌+◌, ◌*◌, ◌<◌, ◌≤◌, Bool, true, false, cond, List, [], ◌∷◌, ◌++◌, length, map, filter, get_or, replicate, sum_by, bytes_eq, Option, Some, None, inl, inr, refl, sym, ap, ◌∙◌, subst, arith, add-one, zero-add}
 use Rattle.std.specs.List.{range_with_len}
 use Rattle.std.specs.Option.{option_map_or, option_and_then}
 use Rattle.std.proofs.Math.ListN.{set, length-set}
@@ -99,13 +99,6 @@ zero_at n q xs e l = elim (cases_lt q n) [
   | inr i ↦ get_or_past xs q 0 (omega (arith, l, i))
 ]
 
-pub waits_none : (c : CaseRows) (k n : ℕ) (xs : List ℕ) → n ≡ length c.parts → xs ≡ replicate n 0 → length xs ≡ n → AreWaitsBelow c k 0 xs
-waits_none c k n xs e all l = record {
-  count = l ∙ e;
-  each = λ q w. zero_at n q xs all l;
-  small = λ q. omega (arith, zero_at n q xs all l);
-}
-
 -- a line unit adds nothing to the waits of the parts so far
 pub waits_same : (c : CaseRows) (k p : ℕ) (xs : List ℕ) → is_line (part_at c.parts p) ≡ true → AreWaitsBelow c k p xs → AreWaitsBelow c k (p + 1) xs
 waits_same c k p xs line h = record {
@@ -155,16 +148,6 @@ pub waits_written : (c : CaseRows) (k p l w now : ℕ) (xs ys : List ℕ) → Is
 waits_written c k p l w now xs ys v e wl t most read written h =
     let at : now ≡ get_or xs l 0 = read ∙ get_or_default_zero xs l now (omega (arith, h.count, wl)) in
     subst (λ zs. AreWaitsBelow c k (p + 1) zs) (sym (written ∙ ap (λ n. set xs l (n + w)) at)) (waits_more c k p l w xs v (sym e) wl t most h)
-
-few_times : (p m : ℕ) → p ≤ 2000 → p * m ≤ 2000 * m
-few_times p m h = mul-le-mul_right m h
-
-pub waits_all : (c : CaseRows) (k p : ℕ) (xs : List ℕ) → IsCase c → p ≡ length c.parts → AreWaitsBelow c k p xs → AreWaits c k xs
-waits_all c k p xs v e h = record {
-  count = h.count;
-  each = λ q w. h.each q w ∙ ap (λ n. sum_by (wait c q k) (shops_below c q n)) e;
-  small = λ q. le_trans (h.small q) (few_times p (wait_most k) (omega (arith, e, v.frame.most_parts)));
-}
 
 -- ---- site by site
 

@@ -1,4 +1,4 @@
--- Demands at the depot, of all parts: a step of the computation, on which no promise rests.
+-- Demands at the depot, of all parts. No promise of the crate rests on these words.
 use Rattle.std.specs.Prelude.{◌≡◌, ℕ, ◌<◌, ◌≤◌, true, List, length, get_or, map}
 use Rattle.spares_input.specs.Rows.{is_line}
 use Rattle.spares_input.specs.Frames.{part_at}

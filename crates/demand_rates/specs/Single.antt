@@ -7,8 +7,8 @@ use Rattle.demand_rates.specs.declared.fault.RateFault.{RateFault}
 use Rattle.demand_rates.specs.declared.fault.RateFault.TheVariants.{PipelineTooLarge, PipelineRatio}
 
 -- so many ten-thousandths, not reduced
-abbrev pub ten_thousandths : ℕ → Ratio
-ten_thousandths n = record { num = n; den = 10000 }
+abbrev pub of_ten_thousand : ℕ → Ratio
+of_ten_thousand n = record { num = n; den = 10000 }
 
 -- a mean or a variance is at most 256
 abbrev pub limit : ℕ
@@ -16,13 +16,13 @@ limit = 256 * 10000
 
 -- the refusal of a mean or a variance above the limit
 abbrev pub limit_fault_of : ℕ → Option RateFault
-limit_fault_of n = if nat_lt limit n then Some (PipelineTooLarge Single (ten_thousandths n)) else None
+limit_fault_of n = if nat_lt limit n then Some (PipelineTooLarge Single (of_ten_thousand n)) else None
 
 -- a variance is at most 1024 times the mean
 abbrev pub ratio_fault_of : ℕ → ℕ → Option RateFault
 ratio_fault_of mean variance =
     if nat_lt (1024 * mean) variance
-    then Some (PipelineRatio Single (ten_thousandths variance) (ten_thousandths mean))
+    then Some (PipelineRatio Single (of_ten_thousand variance) (of_ten_thousand mean))
     else None
 
 -- the first rule that is broken, with the numbers that break it

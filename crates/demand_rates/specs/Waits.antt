@@ -1,5 +1,4 @@
--- What the shop units of a line unit add to its zero-stock mean at a site: a step of the computation, on which no
--- promise rests.
+-- What shop units add to their line unit's zero-stock mean at a site. No promise of the crate rests on these words.
 use Rattle.std.specs.Prelude.{◌≡◌, ℕ, zero, suc, ◌*◌, ◌<◌, ◌≤◌, List, [], length, get_or, filter, sum_by}
 use Rattle.std.specs.List.{range_with_len}
 use Rattle.spares_input.specs.Frames.{part_at, is_shop_of}

@@ -1,6 +1,6 @@
 //! The rates of a case.
 
-ghost use Rattle.std.specs.Prelude.{◌≡◌, ◌*◌, ◌≤◌, ◌<◌, length, map, IfOk};
+ghost use Rattle.std.specs.Prelude.{◌≡◌, ◌*◌, ◌<◌, map, IfOk};
 ghost use Rattle.spares_io.specs.Answers.{Gives};
 ghost use Rattle.spares_input.specs.Building.{StopsAt};
 ghost use Rattle.demand_rates.specs.Depot.{AreDepotDemands};

@@ -1,6 +1,6 @@
 //! The rates of small cases.
 
-ghost use Rattle.std.specs.Prelude.{◌≡◌, ◌<◌, ◌≤◌, ◌∷◌, [], length, vec_len, All, IfOk, IfSome};
+ghost use Rattle.std.specs.Prelude.{◌<◌, ◌≤◌, length, vec_len, All, IfOk, IfSome};
 ghost use Rattle.spares_input.specs.Rows.{IsSiteRow, IsPartRow};
 ghost use Rattle.spares_input.specs.Cases.{IsRateOf};
 ghost use Rattle.demand_rates.specs.Rates.{AreRatesOf};

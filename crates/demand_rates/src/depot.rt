@@ -1,6 +1,6 @@
 //! Demands at the depot.
 
-ghost use Rattle.std.specs.Prelude.{◌≡◌, ◌≤◌, ◌<◌, ℕ, get_or, length, sum_by, IfOk};
+ghost use Rattle.std.specs.Prelude.{◌≡◌, ◌≤◌, ◌<◌, length, sum_by, IfOk};
 ghost use Rattle.fleet_model.specs.Rows.{bases};
 ghost use Rattle.fleet_model.specs.Units.{demand_00, demand_i0, demand_units, sent_ij};
 ghost use Rattle.demand_rates.specs.Depot.{AreDepotDemands};

@@ -1,7 +1,7 @@
 //! The limits of a single pipeline.
 ghost use Rattle.std.specs.Prelude.{◌≡◌, OnOk};
 ghost use Rattle.std.specs.Result.{result_err};
-ghost use Rattle.demand_rates.specs.Single.{WithinLimits, limit_fault_of, single_fault_of, ten_thousandths};
+ghost use Rattle.demand_rates.specs.Single.{WithinLimits, limit_fault_of, single_fault_of, of_ten_thousand};
 
 use crate::{Place, RateFault};
 use exact_ratio::{Decimal, Ratio};
@@ -13,8 +13,8 @@ const LIMIT: u64 = 256 * 10_000;
 const MOST_TIMES: u64 = 1024;
 
 /// So many ten-thousandths as a ratio.
-fn ten_thousandths(units: u64) -> Ratio
-    ensures { result ≡ ten_thousandths units }
+fn of_ten_thousand(units: u64) -> Ratio
+    ensures { result ≡ of_ten_thousand units }
 {
     Ratio {
         num: units as u128,
@@ -29,7 +29,7 @@ fn check_limit(units: u64) -> Result<(), RateFault>
     if units > LIMIT {
         return Err(RateFault::PipelineTooLarge {
             place: Place::Single,
-            mean: ten_thousandths(units),
+            mean: of_ten_thousand(units),
         });
     }
     Ok(())
@@ -51,8 +51,8 @@ pub fn check_single(mean: Decimal, variance: Decimal) -> Result<(), RateFault>
     if variance.units > MOST_TIMES * mean.units {
         return Err(RateFault::PipelineRatio {
             place: Place::Single,
-            mean: ten_thousandths(variance.units),
-            direct: ten_thousandths(mean.units),
+            mean: of_ten_thousand(variance.units),
+            direct: of_ten_thousand(mean.units),
         });
     }
     Ok(())

@@ -1,7 +1,6 @@
 //! What shop units add to the zero-stock means of their line units.
 
-ghost use Rattle.std.specs.Prelude.{◌≡◌, ◌≤◌, ◌<◌, ◌+◌, ◌*◌, ℕ, get_or, length, map, IfOk};
-ghost use Rattle.spares_input.specs.Frames.{line_of};
+ghost use Rattle.std.specs.Prelude.{◌≡◌, ◌≤◌, ◌<◌, ◌+◌, ◌*◌, length, map, IfOk};
 ghost use Rattle.fleet_model.specs.Units.{zero_stock_units_ij};
 ghost use Rattle.demand_rates.specs.Limits.{IsRate};
 ghost use Rattle.demand_rates.specs.Waits.{wait, wait_most, AreWaits, AreAllWaits};

@@ -19,7 +19,7 @@ unfoldable pub added : Ends → (ℕ → Ends) → ℕ → Ends
 added first part zero = first
 added first part (suc n) = ends_add (added first part n) (part n)
 
--- the feed at a place
+-- zeros, where there is no feed
 abbrev pub no_feed : (f : ℕ) → Feed f
 no_feed f = record { share = ends_exact f 0; backorders = ends_exact f 0; spread = ends_exact f 0 }
 

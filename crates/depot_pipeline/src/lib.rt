@@ -20,7 +20,7 @@ ghost use Rattle.exact_model.specs.Fraction.{Fraction, sum_below, ◌+ℚ◌, �
 ghost use Rattle.exact_model.specs.Shares.{shared};
 ghost use Rattle.fixed_interval.specs.Ends.{In, InScale, IsWithinLimit, ends_mul};
 ghost use Rattle.depot_pipeline.specs.Profile.{mean_part, variance_part, depot_shop_ends, depot_line_ends};
-ghost use Rattle.depot_pipeline.specs.Exact.{IsAtMost, FeedIn, FeedsIn, IsSmallFeed};
+ghost use Rattle.depot_pipeline.specs.Exact.{IsAtMost, FeedsIn, IsSmallFeed};
 
 #[cfg(test)]
 mod tests;

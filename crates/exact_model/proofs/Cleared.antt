@@ -118,24 +118,30 @@ module _ (n : ℕ) (u v : Fraction) (k : Cleared (weight u (excess u v)) n) wher
   abbrev pub d : Fraction
   d = excess u v
 
+  -- the numerator of the mean times the denominator of the excess
   abbrev pub a : ℕ
   a = u.num * d.den
 
+  -- the denominator of the mean times that of the excess
   abbrev pub b : ℕ
   b = u.den * d.den
 
+  -- the sum of the whole weights up to n
   abbrev pub all : ℕ
   all = total k.c (suc n)
 
+  -- that sum is above 0
   pub all_positive : 0 < all
   all_positive = sum_positive u d n k
 
+  -- a probability is its whole weight over the sum of all
   pub chance_is : (x : ℕ) → x ≤ n → chance n u v x ≈ over (k.c x) all all_positive
   unfolding chance
   chance_is x l =
       div_same (weight_sum_positive u d n) (k.is x l) (weight_sum_is u d n k)
       ≈≈ div_over (k.c x) all k.z k.z_positive all_positive
 
+  -- the denominator of what follows is above 0
   pub b_all_positive : 0 < b * all
   b_all_positive = mul-pos (mul-pos u.positive d.positive) all_positive
 
@@ -143,6 +149,7 @@ module _ (n : ℕ) (u v : Fraction) (k : Cleared (weight u (excess u v)) n) wher
   abbrev pub short : ℕ → ℕ
   short s = total (λ x. (s - x) * k.c x) s
 
+  -- the mean over this denominator
   pub mean_is : u ≈ over (a * all) (b * all) b_all_positive
   mean_is = record { cross = omega arith }
 
@@ -160,6 +167,7 @@ module _ (n : ℕ) (u v : Fraction) (k : Cleared (weight u (excess u v)) n) wher
   unfolding whole
   whole_is s = record { cross = omega arith }
 
+  -- the expected backorders over this denominator, where the mean is above 0
   pub ebo_is : 0 < u.num → (s : ℕ) → s ≤ suc n
       → ebo n u v s ≈ over (a * all + b * short s - s * (b * all)) (b * all) b_all_positive
   unfolding ebo
@@ -168,6 +176,7 @@ module _ (n : ℕ) (u v : Fraction) (k : Cleared (weight u (excess u v)) n) wher
       ≈≈ sub_same (reach_is s l) (whole_is s)
       ≈≈ sub_over (a * all + b * short s) (s * (b * all)) (b * all) b_all_positive
 
+  -- the probability of backorders over this denominator, where the mean is above 0
   pub tail_is : 0 < u.num → (s : ℕ) → s ≤ n → tail n u v s ≈ over (b * all - b * total k.c (suc s)) (b * all) b_all_positive
   unfolding tail
   tail_is up s l =

@@ -53,7 +53,7 @@ second n u v s =
 unfoldable pub vbo : ℕ → Fraction → Fraction → ℕ → Fraction
 vbo n u v s = unless_zero u.num (second n u v s -ℚ ebo n u v s *ℚ ebo n u v s)
 
--- E2_n(s) - EBO_n(s)^2 in two parts: what is added in it, and what is taken off
+-- what is added in E2_n(s) - EBO_n(s)^2: v' + u^2 + s^2
 abbrev pub raised : Fraction → Fraction → ℕ → Fraction
 raised u v s = larger v u +ℚ u *ℚ u +ℚ whole (s * s)
 

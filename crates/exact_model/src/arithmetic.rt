@@ -1,6 +1,6 @@
 //! The laws by which a reader believes the arithmetic of fractions where it departs from plain cross products.
 
-ghost use Rattle.std.specs.Prelude.{ℕ, ◌<◌, ◌⊎◌};
+ghost use Rattle.std.specs.Prelude.{◌<◌, ◌⊎◌};
 ghost use Rattle.exact_model.specs.Fraction.{
   Fraction,
   larger,

@@ -13,7 +13,7 @@ use Rattle.exact_ratio.specs.declared.decimal.NumberFault.TheVariants.{BadByte, 
 abbrev pub point_of : List ℕ → ℕ
 point_of text = position_or_len (λ c. c == 46) text
 
--- what stands on both sides of the first point
+-- what stands before the first point, or the whole text where there is none
 abbrev pub whole_of : List ℕ → List ℕ
 whole_of text = before_first (λ c. c == 46) text
 

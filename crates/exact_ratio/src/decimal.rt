@@ -77,7 +77,7 @@ pub fn reads_one_answer()
 /// Reads digits with at most one point among them as a number of `places` decimals.
 ///
 /// There may be no digit before the point or none behind it, as in `.5` and `5.`, and zeros past the places asked for.
-/// Takes no memory.
+/// The error is the first fault in the order of [`NumberFault`]. Takes no memory.
 pub fn read_decimal(text: &[u8], places: u8) -> Result<Decimal, NumberFault>
     requires { places ≤ 4 }
     ensures value { result ≡ decimal_of text.now places }

@@ -111,6 +111,7 @@ module _ (f : ℕ) (c : CaseRows) (s : List ℕ) (least : 24 ≤ f) (sound : IsS
   can_i0 : (i : ℕ) → i < length c.parts → HasTable f (depot_shop_ends f (pipeline_of f c s i 0).direct (pipeline_of f c s i 0).cap)
   can_i0 i l = can_table f (pipeline_of f c s i 0) (pipeline_of f c s i 0).direct (pipeline_of f c s i 0).direct (pair i 0 l some_sites) (le_refl (pipeline_of f c s i 0).direct.lo)
 
+  -- the item of a shop unit at the depot is small
   pub small_i0 : (i : ℕ) → i < length c.parts → IsSmallItem f (depot_shop f c s i)
   unfolding depot_shop
   small_i0 i l = stocked_small f (pipeline_of f c s i 0) _ (can_i0 i l) (pair i 0 l some_sites).stock_most
@@ -145,6 +146,7 @@ module _ (f : ℕ) (c : CaseRows) (s : List ℕ) (least : 24 ≤ f) (sound : IsS
       can_table f (pipeline_of f c s l 0) _ _ (pair l 0 line.is_part some_sites)
       (added_least (pipeline_of f c s l 0).direct (λ k. mean_part f (feed_at (map (depot_feed f c s) (shop_units c l)) k)) (length (map (depot_feed f c s) (shop_units c l))))
 
+  -- the item of a line unit at the depot is small
   pub small_00 : (l : ℕ) → IsLine c l → IsSmallItem f (depot_line f c s l)
   unfolding depot_line
   small_00 l line = stocked_small f (pipeline_of f c s l 0) _ (can_00 l line) (pair l 0 line.is_part some_sites).stock_most
@@ -185,6 +187,7 @@ module _ (f : ℕ) (c : CaseRows) (s : List ℕ) (least : 24 ≤ f) (sound : IsS
       → HasTable f (base_shop_ends f (pipeline_of f c s i k).direct (pipeline_of f c s i k).cap (feed_of f (share_of f c i k) (depot_shop f c s i)))
   can_ij i k li lk = can_table f (pipeline_of f c s i k) _ _ (pair i k li lk) (omega arith)
 
+  -- the item of a shop unit at a base is small
   pub small_ij : (i k : ℕ) → i < length c.parts → k < length c.sites → IsSmallItem f (base_shop f c s i k)
   unfolding base_shop
   small_ij i k li lk = stocked_small f (pipeline_of f c s i k) _ (can_ij i k li lk) (pair i k li lk).stock_most
@@ -263,6 +266,7 @@ module _ (f : ℕ) (c : CaseRows) (s : List ℕ) (least : 24 ≤ f) (sound : IsS
       (added_in f _ _ (direct_0j c l (suc j) +ℚ shared (f_0j c l (suc j)) (ebo_00 c s n l) (vbo_00 c s n l)) (λ k. vbo_ij c s n l (get_or (shop_units c l) k 0) (suc j)) _ first
       (λ k h. (helds_in l j n k line lj deep h).spread))
 
+  -- the item of a line unit at a base contains the model's numbers at each depth from 1024 on
   pub in_0j : (l j n : ℕ) → IsLine c l → suc j < length c.sites → 1024 ≤ n
       → FiguresIn f (base_line f c s l (suc j)) (pipeline_0j c s n l (suc j)).mean (pipeline_0j c s n l (suc j)).variance (ebo_0j c s n l (suc j)) (vbo_0j c s n l (suc j))
   unfolding base_line ebo_0j vbo_0j
@@ -291,6 +295,7 @@ module _ (f : ℕ) (c : CaseRows) (s : List ℕ) (least : 24 ≤ f) (sound : IsS
   figures_of (Some l) p (suc j) n e lp lk deep = in_ij l p j n (record { is_part = lp; line_is = e }) lk deep
   figures_of None p (suc j) n e lp lk deep = in_0j p j n (line_at c p sound.valid lp e) lk deep
 
+  -- each pair's item encloses the model's numbers of the pair
   pub item_in : (p k : ℕ) → p < length c.parts → k < length c.sites → EnclosesItem f c s p k (item_of f c s p k)
   item_in p k lp lk = record {
     mean_in = λ n deep. (figures_of (line_of c.parts p) p k n refl lp lk deep).mean;
@@ -305,5 +310,6 @@ module _ (f : ℕ) (c : CaseRows) (s : List ℕ) (least : 24 ≤ f) (sound : IsS
   small_of (Some l) p (suc j) e lp lk = small_ij p (suc j) lp lk
   small_of None p (suc j) e lp lk = small_0j p (suc j) (line_at c p sound.valid lp e) lk
 
+  -- each pair's item is small
   pub item_small : (p k : ℕ) → p < length c.parts → k < length c.sites → IsSmallItem f (item_of f c s p k)
   item_small p k lp lk = small_of (line_of c.parts p) p k refl lp lk

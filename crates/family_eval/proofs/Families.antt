@@ -85,6 +85,7 @@ module _ (f : ℕ) (c : CaseRows) (s : StockList) (l : ℕ) (least : 24 ≤ f) (
       (added_in f (ends_exact f 0) (weighed f c s.list l) (whole 0) (λ j. whole (weight c l) *ℚ ebo_0j c s.list n l (1 + j)) (length c.sites - 1) (exact_encloses f 0)
       (λ j h. base_in n j deep h))
 
+  -- a family's result encloses the model's numbers of its pairs and of its total
   pub family_in : EnclosesFamily f c s.list l (family_of f c l s)
   family_in = record {
     items_in = λ i k h m. subst (EnclosesItem f c s.list (get_or (family c l) i 0) k) (sym (at i k h m))
@@ -92,6 +93,7 @@ module _ (f : ℕ) (c : CaseRows) (s : StockList) (l : ℕ) (least : 24 ≤ f) (
     total_in = λ n deep. total_in n deep;
   }
 
+  -- a family's result is small
   pub family_small : IsSmallFamily f c l (family_of f c l s)
   family_small = record {
     items_most = λ i k h m. subst (IsSmallItem f) (sym (at i k h m))

@@ -1,14 +1,12 @@
 //! A pair's item from what feeds its pipeline.
 
 ghost use Rattle.std.specs.Prelude.{◌≡◌, ◌*◌, ◌^◌, ◌<◌, ◌≤◌, IfOk, length, All};
-ghost use Rattle.fixed_interval.specs.Ends.{InScale};
 ghost use Rattle.moment_table.specs.Inputs.{CanTable};
 ghost use Rattle.depot_pipeline.specs.Exact.{IsSmallFeed};
 ghost use Rattle.depot_pipeline.specs.Profile.{depot_shop_ends, depot_line_ends};
 ghost use Rattle.base_pipeline.specs.Exact.{IsSmallHeld};
 ghost use Rattle.base_pipeline.specs.Profile.{base_shop_ends, base_line_ends};
 ghost use Rattle.family_eval.specs.Profile.{stocked, feed_of, held_of};
-ghost use Rattle.family_eval.specs.Encloses.{IsSmallItem};
 ghost use Rattle.family_eval.specs.Inputs.{IsPipeline};
 
 use crate::item::Item;

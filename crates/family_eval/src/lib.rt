@@ -39,13 +39,14 @@ pub mod inputs;
 mod item;
 mod levels;
 mod lines;
+mod parts;
 pub mod pipeline;
 mod shops;
 #[cfg(test)]
 mod tests;
 
 pub use item::{FamilyResult, Item};
-pub use shops::{members, shop_units};
+pub use parts::{line_units, members, shop_units};
 
 /// The item of each pair encloses the model's figures at every depth from 1024 on, and none of them is above 256.
 pub fn items_enclose()

@@ -1,9 +1,7 @@
 //! The items of shop units.
 
-ghost use Rattle.std.specs.Prelude.{◌≡◌, ◌<◌, IfOk, length, map, flat_map, All};
+ghost use Rattle.std.specs.Prelude.{◌≡◌, ◌<◌, IfOk, length, flat_map, All};
 ghost use Rattle.fixed_interval.specs.Ends.{InScale};
-ghost use Rattle.fleet_model.specs.Fleet.{family};
-ghost use Rattle.fleet_model.specs.Rows.{shop_units};
 ghost use Rattle.family_eval.specs.Profile.{base_shop, depot_shop, part_items};
 ghost use Rattle.family_eval.specs.Inputs.{IsShopUnit};
 
@@ -13,33 +11,6 @@ use crate::levels::{base_shop_item, depot_shop_item, feed_of};
 use spares_input::{Case, PartId, SiteId};
 use spares_io::NoMemory;
 use std::alloc::Global;
-
-/// The shop units of a line unit, in part order. Want of memory is the only error.
-pub fn shop_units(alloc: Global, case: &Case, line: PartId) -> Result<Vec<PartId>, NoMemory>
-    requires { line.0 < length case.now.parts }
-    ensures { IfOk result (λ v. map (λ p. p.0) v.items ≡ shop_units case.now line.0) }
-{
-    let mut shops = Vec::new(alloc);
-    for p in 0..case.part_count() {
-        let part = PartId(p);
-        if case.is_shop_of(part, line) {
-            shops.push(part)?;
-        }
-    }
-    Ok(shops)
-}
-
-/// The parts of a family: the line unit, and then its shop units in part order. Want of memory is the only error.
-pub fn members(alloc: Global, case: &Case, line: PartId) -> Result<Vec<PartId>, NoMemory>
-    requires { line.0 < length case.now.parts }
-    ensures { IfOk result (λ v. map (λ p. p.0) v.items ≡ family case.now line.0) }
-{
-    let mut shops = shop_units(alloc, case, line)?;
-    let mut members = Vec::new(alloc);
-    members.push(line)?;
-    members.append(&mut shops)?;
-    Ok(members)
-}
 
 /// A shop unit at the depot.
 fn depot_shop_at<const F: u32>(

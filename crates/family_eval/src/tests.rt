@@ -1,10 +1,9 @@
 //! A family's figures are those of a program that was written apart from this one.
 
-ghost use Rattle.std.specs.Prelude.{◌≡◌, ◌<◌, ◌≤◌, length, vec_len, All, IfSome};
+ghost use Rattle.std.specs.Prelude.{◌≡◌, ◌<◌, length, vec_len};
 ghost use Rattle.fixed_interval.specs.Ends.{InScale};
 ghost use Rattle.spares_input.specs.Rows.{IsSiteRow, IsPartRow};
-ghost use Rattle.spares_input.specs.Cases.{IsRateOf, frame_rows};
-ghost use Rattle.spares_input.specs.Stocks.{IsStockOf};
+ghost use Rattle.spares_input.specs.Cases.{IsRateOf};
 
 use crate::{FamilyResult, Item, evaluate, evaluate_all};
 use demand_rates::rates;

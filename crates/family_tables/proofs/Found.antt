@@ -2,7 +2,7 @@
 use Rattle.std.proofs.Common.{◌≡◌, ◌==◌, ◌&&◌, ℕ, ◌+◌, ◌<◌, ◌⊎◌, inl, inr, Bool, true, false, not, cond, List, [], ◌∷◌, ◌++◌, length, get_or, map, take, ◌||◌, position, nat_lt, bytes_eq, Some, None, is_some, refl, sym, ap, ap₂, ◌∙◌, subst, arith, lt-ltb, le-ltb}
 use Rattle.std.specs.List.{All, list_any, position_or_len}
 use Rattle.std.proofs.lemmas.Bool.{false≢true, cases_lt, and_parts}
-use Rattle.std.proofs.lemmas.List.{length-map, get_or_default}
+use Rattle.std.proofs.lemmas.List.{length-map}
 use Rattle.std.proofs.lemmas.List.Quantifiers.{position-Some}
 use Rattle.std.proofs.lemmas.List.Sums.{position_or_len_is, fails_before_first, passes_at_first}
 use Rattle.std.proofs.lemmas.List.Folds.{list_any-append, list_any_at, list_any_more, list_any_none}
@@ -14,13 +14,6 @@ use Rattle.family_tables.specs.Numbers.{FamilyNumbers, rows_of}
 
 split : (k n : ℕ) → k < n + 1 → (k ≡ n) ⊎ (k < n)
 split k n h = grind arith
-
-pub fails_more : {X : Type 0} (p : X → Bool) (xs : List X) (n : ℕ) (x : X) → x ≡ get_or xs n x → n < length xs → p x ≡ false
-    → ((k : ℕ) (d : X) → k < n → p (get_or xs k d) ≡ false) → (k : ℕ) (d : X) → k < n + 1 → p (get_or xs k d) ≡ false
-fails_more p xs n x r l f h k d below = elim (split k n below) [
-  | inl e ↦ ap (λ j. p (get_or xs j d)) e ∙ ap p (get_or_default xs n d x l ∙ sym r) ∙ f
-  | inr b ↦ h k d b
-]
 
 not_below : (n : ℕ) → nat_lt n n ≡ false
 not_below n = grind arith
@@ -150,6 +143,3 @@ has_more given b c n key l r has e i k s h =
                 ∙ right_true (is_among b i k s) _ (list_any_at (test i k s) (key ∷ []) 0 key (omega arith) own)
           ]
     ]
-
-pub grows_self : (given a : List Key) → Grows given a a
-grows_self given a i k s = (λ h. h, λ h. inl h)

@@ -1,39 +1,10 @@
--- The tables of keys.
-use Rattle.std.proofs.Common.{◌≡◌, ℕ, zero, suc, ◌+◌, ◌-◌, ◌<◌, ◌≤◌, List, [], ◌∷◌, ◌++◌, length, map, flat_map, sym, ap, ap₂, ◌∙◌, refl, arith, add-one, append-nil, append_assoc, subst}
+-- The keys of stocks.
+use Rattle.std.proofs.Common.{◌≡◌, ℕ, zero, suc, ◌+◌, ◌-◌, ◌<◌, ◌≤◌, List, [], ◌∷◌, ◌++◌, length, map, flat_map, sym, ap, ◌∙◌, refl, arith, add-one, append-nil, append_assoc, subst}
 use Rattle.std.specs.List.{All, range_with_len}
 use Rattle.std.proofs.lemmas.List.Elements.{All-append}
-use Rattle.depot_pipeline.specs.declared.Feed.{Feed}
-use Rattle.depot_pipeline.specs.Profile.{depot_shop_ends, depot_line_ends}
-use Rattle.base_pipeline.specs.Profile.{base_shop_ends}
-use Rattle.family_tables.specs.declared.numbers.PairNumbers.{PairNumbers}
-use Rattle.family_tables.specs.Kept.{IsKey, key_at, keys_of, moments_at}
+use Rattle.family_tables.specs.Kept.{IsKey, key_at, keys_of}
 use Rattle.family_tables.proofs.Served.{all_numbered}
-use Rattle.family_tables.specs.Numbers.{AreNumbers, FamilyNumbers, shop_numbers, nth_stock, depot_feeds, depot_shop_row, feed_from, pair_at, rows_of}
-
-module _ (f : ℕ) (x : FamilyNumbers f) where
-  pub line_made : (p k : ℕ) (s : List ℕ) (w : PairNumbers f) (feeds : List (Feed f)) → p ≡ 0 → k ≡ 0 → w ≡ pair_at x p k → feeds ≡ depot_feeds f x s
-      → rows_of f (depot_line_ends f w.direct w.cap feeds) ≡ rows_of f (moments_at f x p k s)
-  line_made zero zero s w feeds ep ek hw hf = ap₂ (λ (z : PairNumbers f) (y : List (Feed f)). rows_of f (depot_line_ends f z.direct z.cap y)) hw hf
-  line_made zero (suc k) s w feeds ep ek hw hf = absurd (omega arith)
-  line_made (suc p) k s w feeds ep ek hw hf = absurd (omega arith)
-
-  pub shop_made : (p k : ℕ) (s : List ℕ) (w : PairNumbers f) → (p ≡ 0 → ⊥) → k ≡ 0 → w ≡ pair_at x p k
-      → rows_of f (depot_shop_ends f w.direct w.cap) ≡ rows_of f (moments_at f x p k s)
-  shop_made zero k s w n e h = absurd (n refl)
-  shop_made (suc i) (suc k) s w n e h = absurd (omega arith)
-  shop_made (suc i) zero s w n e h = ap (λ (z : PairNumbers f). rows_of f (depot_shop_ends f z.direct z.cap)) (h ∙ ap (λ m. pair_at x m 0) (sym (add-one i)))
-
-  pub base_made : (p k : ℕ) (s : List ℕ) (w : PairNumbers f) (feed : Feed f) → (p ≡ 0 → ⊥) → (k ≡ 0 → ⊥) → w ≡ pair_at x p k
-      → feed ≡ feed_from f (pair_at x (p - 1 + 1) k).share (depot_shop_row f x (p - 1) (nth_stock s 0))
-      → rows_of f (base_shop_ends f w.direct w.cap feed) ≡ rows_of f (moments_at f x p k s)
-  base_made zero k s w feed n m h e = absurd (n refl)
-  base_made (suc i) zero s w feed n m h e = absurd (m refl)
-  base_made (suc i) (suc k) s w feed n m h e =
-      let less : suc i - 1 ≡ i = omega arith in
-      ap₂ (λ (z : PairNumbers f) (y : Feed f). rows_of f (base_shop_ends f z.direct z.cap y)) (h ∙ ap (λ b. pair_at x b (suc k)) (sym (add-one i)))
-      (e ∙ ap (λ b. feed_from f (pair_at x (b + 1) (suc k)).share (depot_shop_row f x b (nth_stock s 0))) less)
-
--- ---- the keys of stocks
+use Rattle.family_tables.specs.Numbers.{AreNumbers, FamilyNumbers, shop_numbers, nth_stock}
 
 flat_more : {X : Type 0} (h : ℕ → List X) (a n : ℕ) → flat_map h (range_with_len a (suc n)) ≡ flat_map h (range_with_len a n) ++ h (a + n)
 flat_more h a zero = let same : a ≡ a + 0 = omega arith in append-nil (h a) ∙ ap h same

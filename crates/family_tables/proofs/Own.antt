@@ -40,6 +40,7 @@ module _ (f : ℕ) (x : FamilyNumbers f) (are : AreNumbers f x) (k : ℕ) (insid
   line_feed_small o d few =
       feed_is_small f (pair_at x 0 k).share (depot_line_row f x d o) _ refl (are.pairs 0 k are.some inside).share_most (depot_line_small f x are d o few)
 
+  -- mean and variance of the line unit's own part at a site are at most 768 units
   pub own_small : (o : ℕ) (d : List ℕ) → o ≤ 63 → IsSmallOwn f (own_part f x k o d).moments.mean (own_part f x k o d).moments.variance
   own_small o d few =
       let direct = (are.pairs 0 k are.some inside).direct_most in

@@ -88,7 +88,7 @@ pub record AreNumbers (f : ℕ) (x : FamilyNumbers f) : Type 0 where
 abbrev pub rows_of : (f : ℕ) → Moments f → List (Row f)
 rows_of f m = table_rows f m.mean m.variance
 
--- what a pair with this row feeds to another by a share, and what it holds back there
+-- what a pair with this row feeds to another by a share
 abbrev pub feed_from : (f : ℕ) → Ends → Row f → Feed f
 feed_from f share row = record { share = share; backorders = row.ebo; spread = row.vbo }
 
@@ -96,7 +96,7 @@ feed_from f share row = record { share = share; backorders = row.ebo; spread = r
 abbrev pub held_from : (f : ℕ) → Row f → Held f
 held_from f row = record { backorders = row.ebo; spread = row.vbo }
 
--- the shop units by number, from 0 on, and the stock at a place of a list
+-- the shop units by number, from 0 on
 abbrev pub shop_numbers : {f : ℕ} → FamilyNumbers f → List ℕ
 shop_numbers x = range_with_len 0 (length x.parts - 1)
 
@@ -104,7 +104,7 @@ shop_numbers x = range_with_len 0 (length x.parts - 1)
 abbrev pub nth_stock : List ℕ → ℕ → ℕ
 nth_stock stocks i = get_or stocks i 0
 
--- the shop unit i at the depot, and its row at the stock s
+-- the pipeline of the shop unit i at the depot
 abbrev pub depot_shop_moments : (f : ℕ) → FamilyNumbers f → ℕ → Moments f
 depot_shop_moments f x i = depot_shop_ends f (pair_at x (i + 1) 0).direct (pair_at x (i + 1) 0).cap
 
@@ -112,7 +112,7 @@ depot_shop_moments f x i = depot_shop_ends f (pair_at x (i + 1) 0).direct (pair_
 abbrev pub depot_shop_row : (f : ℕ) → FamilyNumbers f → ℕ → ℕ → Row f
 depot_shop_row f x i s = at_stock (rows_of f (depot_shop_moments f x i)) s
 
--- the line unit at the depot, where the shop units have the stocks d there
+-- what each shop unit feeds to the line unit at the depot, where the shop units have the stocks d there
 abbrev pub depot_feeds : (f : ℕ) → FamilyNumbers f → List ℕ → List (Feed f)
 depot_feeds f x d = map (λ i. feed_from f (pair_at x (i + 1) 0).share (depot_shop_row f x i (nth_stock d i)))
     (shop_numbers x)
@@ -125,7 +125,7 @@ depot_line_moments f x d = depot_line_ends f (pair_at x 0 0).direct (pair_at x 0
 abbrev pub depot_line_row : (f : ℕ) → FamilyNumbers f → List ℕ → ℕ → Row f
 depot_line_row f x d s = at_stock (rows_of f (depot_line_moments f x d)) s
 
--- the shop unit i at base k, where the depot has n of it
+-- the pipeline of the shop unit i at base k, where the depot has n of it
 abbrev pub base_shop_moments : (f : ℕ) → FamilyNumbers f → ℕ → ℕ → ℕ → Moments f
 base_shop_moments f x i k n =
     base_shop_ends f (pair_at x (i + 1) k).direct (pair_at x (i + 1) k).cap
@@ -135,7 +135,7 @@ base_shop_moments f x i k n =
 abbrev pub base_shop_row : (f : ℕ) → FamilyNumbers f → ℕ → ℕ → ℕ → ℕ → Row f
 base_shop_row f x i k n s = at_stock (rows_of f (base_shop_moments f x i k n)) s
 
--- the line unit at base k, where the depot has o of it, and the shop units have the stocks d there and b at the base
+-- what each shop unit holds back of the line unit at base k, with the stocks d at the depot and b at the base
 abbrev pub base_helds : (f : ℕ) → FamilyNumbers f → ℕ → List ℕ → List ℕ → List (Held f)
 base_helds f x k d b = map (λ i. held_from f (base_shop_row f x i k (nth_stock d i) (nth_stock b i))) (shop_numbers x)
 

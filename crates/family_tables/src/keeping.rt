@@ -46,7 +46,7 @@ impl<const F: u32> Model for Evaluator<F> {
 
 impl<const F: u32> Evaluator<F> {
     /// The evaluator of a family, which keeps no table yet. The rates are those of the case, and `line` is one of its
-    /// line units.
+    /// line units. Want of memory is the only error.
     pub fn new(
         alloc: Global,
         case: &Case,
@@ -110,7 +110,7 @@ impl<const F: u32> Evaluator<F> {
         evaluate(self.alloc, case, rates, self.family.part(0), stocks)
     }
 
-    /// The tables of the shop units at the depot, in part order.
+    /// The tables of the shop units at the depot, in part order. Want of memory is the only error.
     pub fn depot_shops(&self) -> Result<Vec<Table<F>>, NoMemory>
         ensures { IfOk result (λ v. v.items ≡ map (λ i. rows_of F (depot_shop_moments F self.now.numbers i))
             (shop_numbers self.now.numbers)) }
@@ -119,6 +119,7 @@ impl<const F: u32> Evaluator<F> {
     }
 
     /// The table of the line unit at the depot, where the shop units have these stocks there; `shops` are their tables.
+    /// Want of memory is the only error.
     pub fn depot_line(&self, shops: &[Table<F>], depot: &[u8]) -> Result<Table<F>, NoMemory>
         requires shops { shops.now ≡ map (λ i. rows_of F (depot_shop_moments F self.now.numbers i))
             (shop_numbers self.now.numbers) }
@@ -130,7 +131,7 @@ impl<const F: u32> Evaluator<F> {
     }
 
     /// The tables of the shop units at a site, where they have these stocks at the depot; `shops` are their tables
-    /// there.
+    /// there. Want of memory is the only error.
     pub fn base_shops(
         &self,
         shops: &[Table<F>],

@@ -1,6 +1,6 @@
 //! The numbers of a family.
 
-ghost use Rattle.std.specs.Prelude.{◌≡◌, ◌==◌, position, ◌-◌, ◌<◌, ◌≤◌, IfOk, length, get_or, map, flat_map, All};
+ghost use Rattle.std.specs.Prelude.{◌≡◌, ◌==◌, position, ◌-◌, ◌<◌, IfOk, length, get_or, map, flat_map, All};
 ghost use Rattle.fixed_interval.specs.Ends.{InScale};
 ghost use Rattle.fleet_model.specs.Fleet.{family};
 ghost use Rattle.fleet_model.specs.Rows.{all_sites};

@@ -106,11 +106,13 @@ module _ (c : CaseRows) (s t : List ℕ) (some : 0 < length c.sites) where
   unfolding ebo_0j
   ebo_0j_same n l j lj h = ap₂ (λ (m : Moments) (z : ℕ). ebo n m.mean m.variance z) (pipeline_0j_same n l j lj h) (h.0 j lj)
 
+  -- stocks that agree on a family give it the same aim
   pub family_aim_same : (value : Value) (n l : ℕ) → AgreeOnFamily c s t l → family_aim value c s n l ≡ family_aim value c t n l
   unfolding family_aim
   family_aim_same value n l h =
       sum_each (bases c) _ _ (at_bases c _ some (λ j lj. ap (λ z. value (systems c j) (per_system c l) (weight c l) z n) (ebo_0j_same n l j lj h)))
 
+  -- stocks that agree on a family cost the same there beyond what is held
   pub family_cost_beyond_same : (held : List ℕ) (l : ℕ) → AgreeOnFamily c s t l → family_cost_beyond c held s l ≡ family_cost_beyond c held t l
   family_cost_beyond_same held l h =
       count_each (family c l) (part_cost_beyond c held s) (part_cost_beyond c held t)

@@ -38,7 +38,7 @@ abbrev pub pipeline : CaseRows → List ℕ → ℕ → ℕ → ℕ → Moments
 pipeline c s n p k = by_pair (pipeline_i0 c) (pipeline_00 c s n) (pipeline_ij c s n) (pipeline_0j c s n)
     (line_of c.parts p) p k
 
--- mean, variance, EBO and VBO at depth n
+-- the mean of the pipeline at depth n
 abbrev pub mean : CaseRows → List ℕ → ℕ → ℕ → ℕ → Fraction
 mean c s p k n = (pipeline c s n p k).mean
 

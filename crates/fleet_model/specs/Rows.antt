@@ -5,11 +5,12 @@ use Rattle.std.specs.List.{range_with_len}
 use Rattle.std.proofs.Common.{zero-lt-suc}
 use Rattle.exact_model.specs.Fraction.{Fraction, whole, ◌-ℚ◌}
 use Rattle.spares_input.specs.Rows.{is_line}
-use Rattle.spares_input.specs.Frames.{site_at, part_at, is_shop_of}
+use Rattle.spares_input.specs.Frames as frames
+use Rattle.spares_input.specs.Frames.{site_at, part_at}
 use Rattle.spares_input.specs.Pairs.{pair_place}
 use Rattle.spares_input.specs.Cases.{CaseRows, rate_at}
 
--- all sites, the bases, and all parts
+-- all sites
 abbrev pub all_sites : CaseRows → List ℕ
 all_sites c = range_with_len 0 (length c.sites)
 
@@ -21,13 +22,13 @@ bases c = range_with_len 1 (length c.sites - 1)
 abbrev pub all_parts : CaseRows → List ℕ
 all_parts c = range_with_len 0 (length c.parts)
 
--- the line units, and the shop units of the line unit l, in part order
+-- the line units, in part order
 abbrev pub line_units : CaseRows → List ℕ
 line_units c = filter (λ p. is_line (part_at c.parts p)) (all_parts c)
 
 -- the shop units of the line unit l, in part order
 abbrev pub shop_units : CaseRows → ℕ → List ℕ
-shop_units c l = filter (λ p. is_shop_of (part_at c.parts l) (part_at c.parts p)) (all_parts c)
+shop_units c l = frames.shop_units c.parts l
 
 -- n ten-thousandths
 unfoldable pub ten_thousandths : ℕ → Fraction

@@ -41,7 +41,7 @@ abbrev pub days_at : CaseRows → ℕ → ℕ → ℕ
 days_at c p j = (10000 - (rate_at c p j).repair_here) * (site_at c.sites j).ship + (rate_at c p j).repair_here
     * (rate_at c p j).repair_days
 
--- D
+-- D of a shop unit at the depot
 abbrev pub direct_units_i0 : CaseRows → ℕ → ℕ → ℕ
 direct_units_i0 c l i = demand_i0 c l i * (rate_at c i 0).repair_days
 
@@ -57,7 +57,7 @@ direct_units_ij c l i j = demand_ij c l i j * days_at c i j
 abbrev pub direct_units_0j : CaseRows → ℕ → ℕ → ℕ
 direct_units_0j c l j = (rate_at c l j).demand * days_at c l j * 100000000
 
--- M
+-- M of a line unit at the depot
 abbrev pub zero_stock_units_00 : CaseRows → ℕ → ℕ
 zero_stock_units_00 c l = direct_units_00 c l + sum_by (λ i. needed_i0 c l i * (rate_at c i 0).repair_days * 10000)
     (shop_units c l)
@@ -76,7 +76,7 @@ zero_stock_units_0j c l j =
 
 -- ---- by pair: those of part p, whose line unit is o, at site k
 
--- the demand, and how many of its units make 1
+-- the demand, in units that differ with the kind of the pair
 abbrev pub demand_of : CaseRows → Option ℕ → ℕ → ℕ → ℕ
 demand_of c o p k = by_pair (demand_i0 c) (demand_00 c) (demand_ij c) (demand_0j c) o p k
 

@@ -26,6 +26,7 @@ module _ (f : FrameRows) (rows : List RateRow) (valid : All (IsRateOf f) rows) (
       let all = or_else_none (first (missing_rate (length f.sites) rows) (pair_count f)) None missing.1 in
       at_place (rate_place (length f.sites)) (missing_rate_at (length f.sites)) (IsRateOf f) rows no_rate (pair_count f) valid all.0 i within
 
+  -- rates that break no rule, in the order of their pairs, make a valid case of a frame
   pub case_valid : (found : List RateRow) → IsFrame f → found ≡ rows_in_order (rate_place (length f.sites)) no_rate (pair_count f) rows
       → IsCase (record { sites = f.sites; parts = f.parts; rates = found })
   case_valid found frame e =

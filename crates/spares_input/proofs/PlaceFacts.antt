@@ -1,12 +1,12 @@
 -- Rows at the places of their pairs.
-use Rattle.std.proofs.Common.{◌≡◌, ◌≢◌, ◌==◌, ℕ, ◌+◌, ◌<◌, ◌≤◌, ◌∷◌, [], ◌++◌, List, take, length, get_or, set, map, replicate, count_by, Bool, true, false, Option, Some, None, slice_get, is_some, unwrap_or, Result, Ok, Err, IfOk, Vec, Global, refl, sym, ap, subst, ◌∙◌, inl, inr, arith, if◌then◌else◌, get_or-set_other, get_or-set_same, length-set}
+use Rattle.std.proofs.Common.{◌≡◌, ◌≢◌, ◌==◌, ℕ, ◌+◌, ◌<◌, ◌∷◌, [], ◌++◌, List, take, length, get_or, set, map, replicate, count_by, Bool, true, false, Option, Some, None, slice_get, is_some, unwrap_or, Result, Ok, Err, IfOk, Vec, Global, refl, sym, ap, subst, ◌∙◌, inl, inr, arith, if◌then◌else◌, get_or-set_other, get_or-set_same, length-set}
 use Rattle.std.specs.List.{All}
 use Rattle.std.specs.Option.{option_or, option_map}
 use Rattle.std.proofs.lemmas.List.{take_more, map-append, length-replicate, length-map, get_or-replicate}
 use Rattle.std.proofs.lemmas.List.Elements.{All-head, All-tail}
 use Rattle.std.proofs.lemmas.List.Folds.{find-append, sum_by-replicate}
 use Rattle.std.proofs.lemmas.List.FromFn.{fill_by_all, get_or-map-range_with_len}
-use Rattle.std.proofs.lemmas.List.Sums.{sum_by-set, count_by-le-length}
+use Rattle.std.proofs.lemmas.List.Sums.{sum_by-set}
 use Rattle.std.proofs.lemmas.Option.{get_or_from_slice_get, slice_get-get_or, slice_get-map, unwrap_or-slice_get, same_Some}
 use Rattle.std.proofs.lemmas.Bool.{cases_eq, eq-eqb, eqb-true, ne_eqb, false≢true}
 use Rattle.spares_input.specs.First.{first}
@@ -40,6 +40,7 @@ module _ {A : Type 0} (place : A → ℕ) where
       → o ≡ row_at place (take k rows) p → is_some o ≡ b → has_row place (take k rows) (place (get_or rows k none)) ≡ b
   has_before rows k none r p o b row at kept h = rw (← row, ← at, ← kept) h
 
+  -- of no rows none is kept at any place
   pub placed_none : (count : ℕ) (slots : List (Option A)) → slots ≡ replicate count None → ArePlaced place count [] slots
   unfolding row_at
   placed_none count slots e =
@@ -50,6 +51,7 @@ module _ {A : Type 0} (place : A → ℕ) where
             slice_get-get_or slots i None within ∙ (ap (λ (o : Option A). Some o) (rw e (get_or-replicate count i None None h)));
       }
 
+  -- with the next row put at its place, at which none was kept, the rows so far stand at their places
   pub placed_more : (count : ℕ) (rows : List A) (k : ℕ) (none r : A) (slots : List (Option A)) (p : ℕ) (o : Option A)
       → k < length rows → r ≡ get_or rows k none → p ≡ place r → p < count → ArePlaced place count (take k rows) slots
       → o ≡ row_at place (take k rows) p → is_some o ≡ false → ArePlaced place count (take (k + 1) rows) (set slots p (Some r))
@@ -78,10 +80,11 @@ module _ {A : Type 0} (place : A → ℕ) where
             ];
       }
 
-  -- one more place is taken, and no more than there are
+  -- where nothing is kept no place is taken
   pub taken_none : (count : ℕ) (slots : List (Option A)) → slots ≡ replicate count None → count_by is_some slots ≡ 0
   taken_none count slots e = rw e (sum_by-replicate (λ (o : Option A). if is_some o then 1 else 0) count None ∙ omega arith)
 
+  -- where a row is put at a place with nothing kept, one place more is taken
   pub taken_more : (slots : List (Option A)) (k p : ℕ) (r : A) (o : Option A) → p < length slots → o ≡ get_or slots p o → is_some o ≡ false
       → count_by is_some slots ≡ k → count_by is_some (set slots p (Some r)) ≡ k + 1
   taken_more slots k p r o within read new before =
@@ -90,9 +93,6 @@ module _ {A : Type 0} (place : A → ℕ) where
       let nothing : ℕ = 0 in
       let free : (if is_some (get_or slots p o) then one else nothing) ≡ nothing = rw (← read, new) refl in
       omega (arith, counted, free, before)
-
-  pub taken_le : (slots : List (Option A)) (k count : ℕ) → length slots ≡ count → count_by is_some slots ≡ k → k ≤ count
-  taken_le slots k count e h = omega (arith, count_by-le-length is_some slots)
 
   -- a place with nothing kept is one without a row
   pub vacant_same : {E : Type 0} (fault : ℕ → E) (count : ℕ) (rows : List A) (slots : List (Option A)) → ArePlaced place count rows slots
@@ -143,9 +143,11 @@ at_place place fault P rows none count valid all i within =
     rw read (row_at_found place P rows i row.0 valid row.1)
 
 module _ {A E : Type 0} (fault : ℕ → E) (slots : List (Option A)) (i : ℕ) where
+  -- a place at which nothing is kept has its fault
   pub vacant_here : i < length slots → get_or slots i None ≡ None → vacant fault slots i ≡ Some (fault i)
   vacant_here h e = rw (slice_get-get_or slots i None h, e) refl
 
+  -- a place at which a row is kept has no fault
   pub vacant_not : (r : A) → i < length slots → get_or slots i None ≡ Some r → vacant fault slots i ≡ None
   vacant_not r h e = rw (slice_get-get_or slots i None h, e) refl
 

@@ -113,6 +113,7 @@ module _ (f : FrameRows) (v : IsFrame f) where
   parent_at k true lt e = rw e refl
   parent_at k false lt e = rw e (no_shop_fault k (line_of f.parts k) lt refl (v.parents k lt e))
 
+  -- the sites and parts of a frame break no rule
   pub no_frame_fault : frame_fault f.sites f.parts ≡ None
   no_frame_fault =
       let a = first_none (site_fault f.sites) (length f.sites) no_site_fault in
@@ -124,6 +125,7 @@ module _ (f : FrameRows) (v : IsFrame f) where
   depot_at zero lt = v.depot
   depot_at (suc i) lt = v.bases (suc i) (omega arith) lt ∙ sym (ne_eqb (suc i) 0 (λ e. omega (arith, e)))
 
+  -- the sites and parts of a frame give that frame
   pub own_frame : frame_of f.sites f.parts ≡ Ok f
   own_frame = rw (no_frame_fault) (ap (λ (ss : List SiteRow). Ok (record { sites = ss; parts = f.parts })) (stand_in_order f.sites depot_at))
 

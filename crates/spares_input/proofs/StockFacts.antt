@@ -1,5 +1,5 @@
 -- Which rule a row of stocks breaks, and what rows that break none give.
-use Rattle.std.proofs.Common.{◌≡◌, ℕ, ◌+◌, ◌*◌, ◌/◌, ◌<◌, ◌≤◌, ◌∷◌, [], ◌++◌, List, length, get_or, map, take, Bool, true, false, nat_lt, Option, Some, None, Result, Ok, Err, IfOk, Vec, Global, slice_get, if◌then◌else◌, unwrap_or, sum, refl, sym, ap, subst, ◌∙◌, arith, mul-le-mul}
+use Rattle.std.proofs.Common.{◌≡◌, ℕ, ◌+◌, ◌*◌, ◌/◌, ◌<◌, ◌≤◌, ◌∷◌, [], ◌++◌, List, length, get_or, map, take, Bool, true, false, nat_lt, Option, Some, None, Result, Ok, Err, IfOk, Vec, Global, slice_get, if◌then◌else◌, unwrap_or, sum, refl, sym, ap, subst, ◌∙◌, arith, mul-le-mul, ◌%◌}
 use Rattle.std.specs.List.{All, range_with_len}
 use Rattle.std.specs.Option.{option_map}
 use Rattle.std.proofs.lemmas.Bool.{lt-ltb, le-ltb, ltb-false}
@@ -21,8 +21,10 @@ use Rattle.spares_input.specs.declared.rows.StockRow.{StockRow}
 use Rattle.spares_input.specs.declared.fault.StockFault.TheVariants as fault
 use Rattle.spares_input.proofs.Firsts.{first_none, or_else_none}
 use Rattle.spares_input.proofs.PlaceFacts.{at_place}
+use Rattle.std.proofs.Math.Nat.{mul-mod_left}
 
 module _ (c : CaseRows) (rows : List StockRow) (k limit : ℕ) where
+  -- a row with a stock over its limit is refused for it, by its line
   pub stock_fault_over : limit ≡ limit_at c.parts (get_or rows k no_stock).part.0 (get_or rows k no_stock).site.0
       → limit < (get_or rows k no_stock).stock → stock_fault c rows k ≡ Some (fault.OverLimit (k + 2))
   stock_fault_over e over =
@@ -30,6 +32,7 @@ module _ (c : CaseRows) (rows : List StockRow) (k limit : ℕ) where
       lt-ltb _ (get_or rows k no_stock).stock (rw e at over) in
       rw test refl
 
+  -- a row within its limit whose pair came before is refused as double, by its line
   pub stock_fault_double : (n : ℕ) → limit ≡ limit_at c.parts (get_or rows k no_stock).part.0 (get_or rows k no_stock).site.0
       → (get_or rows k no_stock).stock ≤ limit → n ≡ length c.sites → has_row (stock_place n) (take k rows) (stock_place n (get_or rows k no_stock)) ≡ true
       → stock_fault c rows k ≡ Some (fault.Double (k + 2))
@@ -38,6 +41,7 @@ module _ (c : CaseRows) (rows : List StockRow) (k limit : ℕ) where
       le-ltb _ (get_or rows k no_stock).stock (rw e at within) in
       rw (test, ← sites, before) refl
 
+  -- a row within its limit whose pair didn't come before breaks no rule
   pub stock_fault_none : (n : ℕ) → limit ≡ limit_at c.parts (get_or rows k no_stock).part.0 (get_or rows k no_stock).site.0
       → (get_or rows k no_stock).stock ≤ limit → n ≡ length c.sites → has_row (stock_place n) (take k rows) (stock_place n (get_or rows k no_stock)) ≡ false
       → stock_fault c rows k ≡ None
@@ -100,6 +104,7 @@ module _ (c : CaseRows) (rows : List StockRow) (valid : All (IsStockOf (frame_ro
       let r = get_or rows k no_stock in
       (valid k no_stock h, ltb-false (limit_at c.parts r.part.0 r.site.0) r.stock (over_none _ _ _ _ (first_none (stock_fault c rows) (length rows) k rules.0 h))))
 
+  -- the stocks that rows without a fault give are within their limits
   pub stocks_within : 2 ≤ length c.sites → (list : List ℕ) → list ≡ stocks_in_order c rows → IsWithinLimits c (record { sites = length c.sites; list = list })
   unfolding IsFine
   stocks_within some list e p k part site =
@@ -139,3 +144,7 @@ pub cost_bound : (i cost stock each : ℕ) → cost ≤ i * 25500000000 → stoc
 cost_bound i cost stock each before few cheap =
     let most : stock * each ≤ 255 * 100000000 = mul-le-mul {n₁ = stock} {m₁ = each} {n₂ = 255} {m₂ = 100000000} (omega arith) cheap in
     omega (arith, before, most)
+
+-- as many entries as whole rows of sites leave no rest when divided by the sites
+pub whole_rows : (n a b sites : ℕ) → n ≡ a * b → b ≡ sites → n % sites ≡ 0
+whole_rows n a b sites e f = ap (λ z. z % sites) (e ∙ ap (λ z. a * z) f) ∙ mul-mod_left a sites

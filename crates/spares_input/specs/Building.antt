@@ -1,4 +1,4 @@
--- What the steps of a build have shown of the rows: no promise of the crate rests on these words.
+-- What the steps of a build have shown of the rows. No promise of the crate rests on these words.
 use Rattle.std.specs.Prelude.{◌≡◌, ℕ, ◌<◌, Bool, ◌&&◌, List, length, slice_get, Option, Some, None, is_some, Result, Ok, Err, if◌then◌else◌, position, bytes_eq, get_or, ⊤}
 use Rattle.spares_io.specs.declared.stop.Stop.{Stop}
 use Rattle.spares_io.specs.declared.stop.Stop.TheVariants as stop

@@ -8,7 +8,7 @@ use Rattle.spares_input.specs.declared.rows.SiteId.{SiteId}
 abbrev pub pair_place : ℕ → ℕ → ℕ → ℕ
 pair_place n p k = p * n + k
 
--- the pair at place i
+-- the part of the pair at place i
 abbrev pub part_of_place : ℕ → ℕ → PartId
 part_of_place n i = record { 0 = i / n }
 
@@ -21,6 +21,7 @@ module _ {A : Type 0} (place : A → ℕ) where
   unfoldable pub row_at : List A → ℕ → Option A
   row_at rows i = find (λ r. place r == i) rows
 
+  -- whether a row has this place
   abbrev pub has_row : List A → ℕ → Bool
   has_row rows i = is_some (row_at rows i)
 

@@ -39,7 +39,7 @@ pub record IsRateRow (line depot : Bool) (r : RateRow) : Type 0 where
   pub share : IsField (not line) 0 10000 r.share
   pub repair_days : r.repair_days ≤ 999999
 
--- rows of empty fields, which a look-up past the last row gives
+-- what a look-up past the last site answers: nothing named, with zeros
 abbrev pub no_site : SiteRow
 no_site = record { name = []; depot = false; systems = 0; ship = 0 }
 

@@ -1,5 +1,5 @@
 -- The stocks of a case, and the first rule that rows of stocks break.
-use Rattle.std.specs.Prelude.{◌≡◌, ◌==◌, ℕ, ◌+◌, ◌*◌, ◌/◌, ◌%◌, ◌<◌, ◌≤◌, nat_lt, List, [], ◌∷◌, map, take, length, get_or, Option, Some, None, Result, if◌then◌else◌, sum}
+use Rattle.std.specs.Prelude.{◌≡◌, ◌==◌, ℕ, ◌+◌, ◌*◌, ◌/◌, ◌%◌, ◌<◌, ◌≤◌, nat_lt, List, [], ◌∷◌, map, take, length, get_or, Option, Some, None, Result, if◌then◌else◌, sum, replicate}
 use Rattle.std.specs.List.{range_with_len}
 use Rattle.spares_input.specs.First.{first, first_of, unless}
 use Rattle.spares_input.specs.Rows.{no_stock}
@@ -83,6 +83,10 @@ pub record IsFor (c : CaseRows) (s : StockList) : Type 0 where
 -- no stock is over the limit of its part at its site
 abbrev pub IsWithinLimits : CaseRows → StockList → Type 0
 IsWithinLimits c s = (p k : ℕ) → p < length c.parts → k < length c.sites → stock_at s p k ≤ limit_at c.parts p k
+
+-- no stock of any part at any site
+abbrev pub nothing_held : CaseRows → StockList
+nothing_held c = record { sites = length c.sites; list = replicate (pair_count (frame_rows c)) 0 }
 
 -- the sum over all pairs of stock times cost of the part
 abbrev pub cost_of : CaseRows → StockList → ℕ

@@ -1,13 +1,13 @@
 //! A case: a frame with the rates of each pair.
 
-ghost use Rattle.std.specs.Prelude.{◌≡◌, true, ◌==◌, ◌+◌, ◌*◌, ◌≤◌, ◌<◌, take, length, map, slice_get, replicate, All, Some, None, IfSome, IfOk, IfErr, is_none};
+ghost use Rattle.std.specs.Prelude.{◌≡◌, true, ◌==◌, ◌+◌, ◌*◌, ◌≤◌, ◌<◌, length, map, All, Some, None, IfSome, IfOk, IfErr, is_none};
 ghost use Rattle.std.specs.Option.{option_map};
 ghost use Rattle.spares_io.specs.Answers.{Gives};
 ghost use Rattle.spares_input.specs.First.{first};
 ghost use Rattle.spares_input.specs.Rows.{is_line, no_rate, IsSiteRow, IsPartRow, IsRateRow};
 ghost use Rattle.spares_input.specs.Frames.{site_at, part_at, line_of, is_shop_of};
 ghost use Rattle.spares_input.specs.Pairs.{rows_in_order};
-ghost use Rattle.spares_input.specs.Cases.{frame_rows, rate_at, rate_place, pair_count, double_rate, missing_rate, rates_fault, case_of, without_frame, IsRateOf, IsCase};
+ghost use Rattle.spares_input.specs.Cases.{frame_rows, rate_at, rate_place, double_rate, rates_fault, case_of, without_frame, IsRateOf, IsCase};
 ghost use Rattle.spares_input.specs.Edits.{with_rate};
 ghost use Rattle.spares_input.specs.Stocks.{limit_at};
 ghost use Rattle.spares_input.specs.Building.{ArePlaced, IsPairOf, StopsAt, vacant, missing_rate_at};

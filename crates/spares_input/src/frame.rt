@@ -1,6 +1,6 @@
 //! The frame of a case: its sites and its parts.
 
-ghost use Rattle.std.specs.Prelude.{◌≡◌, ◌==◌, ◌+◌, ◌≤◌, ◌<◌, ◌∷◌, [], ◌++◌, true, not, take, length, position, count_by, slice_get, All, Some, None, IfSome, IfOk, OnOk, MatchResult, is_none, vec_len};
+ghost use Rattle.std.specs.Prelude.{◌≡◌, ◌==◌, ◌+◌, ◌≤◌, ◌<◌, ◌∷◌, [], ◌++◌, true, not, length, position, count_by, All, Some, None, IfSome, IfOk, OnOk, MatchResult, is_none, vec_len};
 ghost use Rattle.std.specs.List.{list_any};
 ghost use Rattle.std.specs.Option.{option_map, option_and_then};
 ghost use Rattle.indexmap.specs.IndexSet.{index_set_len};
@@ -8,7 +8,7 @@ ghost use Rattle.indexmap.specs.IndexMap.{move_index};
 ghost use Rattle.spares_io.specs.Answers.{Gives};
 ghost use Rattle.spares_input.specs.First.{first};
 ghost use Rattle.spares_input.specs.Rows.{is_line, IsSiteRow, IsPartRow};
-ghost use Rattle.spares_input.specs.Frames.{site_at, part_at, site_names, part_names, is_among, place_of, line_of, is_shop_of, is_depot, is_base, site_fault, kinds_fault, double_part, shop_fault, parent_fault, frame_fault, frame_of, sites_in_order, IsFrame};
+ghost use Rattle.spares_input.specs.Frames.{site_at, part_at, site_names, part_names, is_among, place_of, line_of, is_shop_of, is_depot, is_base, site_fault, kinds_fault, double_part, shop_fault, parent_fault, frame_fault, frame_of, IsFrame};
 ghost use Rattle.spares_input.specs.Stocks.{limit_at};
 ghost use Rattle.spares_input.specs.Building.{AreParents, IsNumbered, StopsAt, site_rule};
 
@@ -92,6 +92,14 @@ impl Frame {
         ensures valid { IsFrame self.now }
     {
         self.parts.len() as u16
+    }
+
+    /// The rows of the parts, in file order.
+    pub fn parts(&self) -> &[PartRow]
+        ensures rows { result.now ≡ self.now.parts }
+        ensures valid { IsFrame self.now }
+    {
+        self.parts.as_slice()
     }
 
     /// The row of a site.

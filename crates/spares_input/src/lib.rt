@@ -17,7 +17,7 @@ pub use laws::cases_break_no_rule;
 pub use name::Name;
 pub use pairs::{pair_at, pair_place};
 pub use rows::{PartId, PartRow, RateRow, SiteId, SiteRow, StockRow};
-pub use stocks::{Stocks, stocks_from};
+pub use stocks::{Stocks, nothing_held, stocks_from};
 
 /// The most that a budget can be, in whole money.
 pub const MOST_BUDGET: u64 = 1_000_000_000_000_000;

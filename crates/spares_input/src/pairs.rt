@@ -5,6 +5,13 @@ ghost use Rattle.spares_input.specs.Pairs.{pair_place, part_of_place, site_of_pl
 
 use crate::rows::{PartId, SiteId};
 
+/// The place of a pair, where there are so many sites.
+pub(crate) fn place_in(sites: u8, part: PartId, site: SiteId) -> usize
+    ensures { result ≡ pair_place sites part.0 site.0 }
+{
+    part.0 as usize * sites as usize + site.0 as usize
+}
+
 /// The place of a pair.
 pub fn pair_place(part: PartId, site: SiteId, sites: usize, parts: usize) -> usize
     requires few_sites { sites ≤ 16 }
@@ -14,7 +21,7 @@ pub fn pair_place(part: PartId, site: SiteId, sites: usize, parts: usize) -> usi
     ensures place { result ≡ pair_place sites part.0 site.0 }
     ensures within { result < parts * sites }
 {
-    part.0 as usize * sites + site.0 as usize
+    place_in(sites as u8, part, site)
 }
 
 /// The pair at a place.

@@ -1,20 +1,19 @@
 //! The stocks of a case.
 
-ghost use Rattle.std.specs.Prelude.{◌≡◌, ◌+◌, ◌*◌, ◌%◌, ◌≤◌, ◌<◌, length, map, slice_set, nat_lt, All, Some, IfOk};
+ghost use Rattle.std.specs.Prelude.{◌≡◌, ◌+◌, ◌*◌, ◌%◌, ◌≤◌, ◌<◌, length, map, slice_set, All, Some, IfOk};
 ghost use Rattle.std.specs.Option.{option_map};
 ghost use Rattle.spares_io.specs.Answers.{Gives};
 ghost use Rattle.spares_input.specs.First.{first};
-ghost use Rattle.spares_input.specs.Rows.{no_stock};
-ghost use Rattle.spares_input.specs.Pairs.{pair_place, rows_in_order};
+ghost use Rattle.spares_input.specs.Pairs.{pair_place};
 ghost use Rattle.spares_input.specs.Cases.{frame_rows};
-ghost use Rattle.spares_input.specs.Stocks.{stock_at, stock_place, stock_fault, stocks_fault, stocks_in_order, stocks_of, limit_at, cost_of, HasPair, IsFor, IsStockList, IsStockOf, IsWithinLimits};
+ghost use Rattle.spares_input.specs.Stocks.{stock_at, stock_place, stock_fault, stocks_fault, stocks_in_order, stocks_of, cost_of, HasPair, IsFor, IsStockList, IsStockOf, IsWithinLimits, nothing_held};
 ghost use Rattle.spares_input.specs.Building.{ArePlaced, StopsAt, vacant, missing_stock_at};
 
 use crate::case::Case;
 use crate::fault::StockFault;
-use crate::pairs::{pair_at, pair_place};
+use crate::pairs::{pair_at, pair_place, place_in};
 use crate::rows::{PartId, SiteId, StockRow};
-use spares_io::Stop;
+use spares_io::{NoMemory, Stop};
 use std::alloc::Global;
 use std::marker::Model;
 
@@ -97,11 +96,16 @@ fn cost_of(list: &[u8], sites: usize, case: &Case) -> u64
     cost
 }
 
-/// The place of a pair, where there are so many sites.
-fn place_in(sites: u8, part: PartId, site: SiteId) -> usize
-    ensures { result ≡ pair_place sites part.0 site.0 }
+/// No stock of any part at any site. Want of memory is the only error.
+pub fn nothing_held(alloc: Global, case: &Case) -> Result<Stocks, NoMemory>
+    ensures held { IfOk result (λ held. held ≡ nothing_held case.now) }
+    ensures whole { IfOk result (IsFor case.now) }
+    ensures limits { IfOk result (IsWithinLimits case.now) }
 {
-    part.0 as usize * sites as usize + site.0 as usize
+    let sites = case.site_count();
+    let pairs = usize::from(case.part_count()) * usize::from(sites);
+    let list = vec![in alloc; 0; pairs]?;
+    Ok(Stocks::of(list, sites))
 }
 
 /// The stocks that the rows give. A fault is the first rule that the rows break: a stock over its limit or a second

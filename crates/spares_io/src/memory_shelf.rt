@@ -106,7 +106,8 @@ impl MemShelf {
         true
     }
 
-    /// A shelf that holds these files. Its calls are numbered from 1, and those in `fails` fail.
+    /// A shelf that holds these files. Its calls are numbered from 1, and those in `fails` fail. Want of memory is the
+    /// only error.
     pub fn new(
         alloc: Global,
         files: Vec<(Text, List<u8>)>,

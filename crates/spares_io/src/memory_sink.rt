@@ -36,7 +36,8 @@ impl Model for MemSink {
 }
 
 impl MemSink {
-    /// A sink with room for this many bytes. Its puts are numbered from 1, and those in `fails` fail.
+    /// A sink with room for this many bytes. Its puts are numbered from 1, and those in `fails` fail. Want of memory is
+    /// the only error.
     pub fn new(alloc: Global, room: usize, fails: Vec<u32>) -> Result<MemSink, NoMemory>
         ensures { IfOk result (λ sink. sink ≡ record {
           bytes = [];

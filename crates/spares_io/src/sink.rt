@@ -1,5 +1,5 @@
 //! A place to put bytes.
-ghost use Rattle.std.specs.Prelude.{◌≡◌, List, ℕ, Option, take, length, OnOk, OnErr};
+ghost use Rattle.std.specs.Prelude.{◌≡◌, List, ℕ, Option, OnOk, OnErr};
 ghost use Rattle.std.specs.Io.KnownBytes.{append_known};
 ghost use Rattle.spares_io.specs.Causes.{Rose, Fits64};
 ghost use Rattle.spares_io.specs.Sink.{Gains, GainsPart};

@@ -1,7 +1,6 @@
 //! Want of memory, alone and beside a fault.
 ghost use Rattle.std.specs.Prelude.{◌≡◌};
 ghost use Rattle.spares_io.specs.declared.stop.Stop.TheVariants as stop;
-ghost use Rattle.spares_io.specs.Stops.{IfFault, Retells};
 
 use std::alloc::{AllocError, AllocFailed};
 
@@ -16,19 +15,6 @@ pub enum Stop<E> {
     NoMemory,
     /// It refuses its arguments, by a fault of its own.
     Fault(E),
-}
-
-impl<E> Stop<E> {
-    /// The same, where its fault is told in other words by `change`.
-    pub fn map<F, C: FnOnce(E) -> F + Drop>(self, change: C) -> Stop<F>
-        requires { IfFault self (C.pre change) }
-        ensures { Retells (C.post change) self result }
-    {
-        match self {
-            Stop::NoMemory => Stop::NoMemory,
-            Stop::Fault(fault) => Stop::Fault(change(fault)),
-        }
-    }
 }
 
 impl From<AllocError> for NoMemory {

@@ -1,7 +1,5 @@
-ghost use Rattle.std.specs.Prelude.{◌≡◌, IfOk};
-
 use crate::{
-    FileShelf, List, MemShelf, MemSink, Shelf, ShelfError, Sink, SinkFailed, StdSink, Stop, Text,
+    FileShelf, List, MemShelf, MemSink, Shelf, ShelfError, Sink, SinkFailed, StdSink, Text,
 };
 use std::fs;
 use std::io::{self, Error, ErrorKind, Write};
@@ -202,33 +200,5 @@ fn a_put_fails_where_its_writer_does(rt: HostRuntime) -> Result<(), Fail> {
         assert_eq!(rt; sink.put(b"abcde"), answer);
         assert_eq!(rt; writer.taken.as_slice(), taken);
     }
-    Ok(())
-}
-
-/// A call whose fault is a number, and one that tells that fault in other words.
-fn refuse_odd(number: u8) -> Result<u8, Stop<u8>>
-    ensures { IfOk result (λ even. even ≡ number) }
-{
-    if number % 2 == 0 {
-        Ok(number)
-    } else {
-        Err(Stop::Fault(number))
-    }
-}
-
-fn refuse_with_bool(number: u8) -> Result<u8, Stop<bool>>
-    ensures { IfOk result (λ even. even ≡ number) }
-{
-    let even = refuse_odd(number).map_err(|stop| stop.map(|odd| odd > 4))?;
-    Ok(even)
-}
-
-#[test]
-fn a_fault_is_told_in_other_words(rt: HostRuntime) -> Result<(), Fail> {
-    assert_eq!(rt; refuse_with_bool(4), Ok(4));
-    assert_eq!(rt; refuse_with_bool(3), Err(Stop::Fault(false)));
-    assert_eq!(rt; refuse_with_bool(5), Err(Stop::Fault(true)));
-    let memory: Stop<u8> = Stop::NoMemory;
-    assert_eq!(rt; memory.map(|odd| odd > 4), Stop::NoMemory);
     Ok(())
 }

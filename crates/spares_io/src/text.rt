@@ -21,7 +21,7 @@ impl Model for Text {
 }
 
 impl Text {
-    /// A copy of a text.
+    /// A copy of a text. Want of memory is the only error.
     pub fn from_str(alloc: Global, s: &str) -> Result<Text, NoMemory>
         ensures { IfOk result (λ text. text ≡ s.now) }
     {

@@ -1,8 +1,8 @@
 use Rattle.std.proofs.Common.{◌≡◌, ◌∙◌, refl, sym}
 use Rattle.spares_input.specs.Frames.{is_shop_of, part_at}
 use Rattle.family_eval.proofs.Items.{kept_id, left_out}
-use Rattle.family_eval.proofs.shops.shop_units.Goals as goal
-use Rattle.family_eval.proofs.shops.shop_units.Goals.{else-is_shop_of, then-is_shop_of+in_ok-push}
+use Rattle.family_eval.proofs.parts.shop_units.Goals as goal
+use Rattle.family_eval.proofs.parts.shop_units.Goals.{else-is_shop_of, then-is_shop_of+in_ok-push}
 
 pub loop-p-preserved : goal.loop-p-preserved
 loop-p-preserved c =
