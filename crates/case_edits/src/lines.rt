@@ -1,7 +1,6 @@
 //! The lines of an edits file, and what they say.
 
 ghost use Rattle.std.specs.Prelude.{◌≡◌, ◌∷◌, ◌<◌, length, option_map, position, IfSome};
-ghost use Rattle.exact_ratio.specs.Decimal.{decimal_of};
 ghost use Rattle.std.specs.Str.Lines.{strip_carriage_return};
 ghost use Rattle.line_text.specs.Exact.{is_end};
 ghost use Rattle.case_edits.specs.Lines.{after, budget_in, edit_lines, edit_of, IsEditOf};

@@ -231,5 +231,6 @@ module _ (c : CaseRows) (valid : IsCase c) where
       (and_from _ _ (and_from _ _ refl (and_from _ _ refl (in_range_holds (length (numbers_from 0 count)) (length (numbers_from 0 count)) (length c.rates) (omega (arith, keys)) (omega (arith, keys)))))
       (subst (λ (n : ℕ). fits_after (λ _ i. rate_line (pair_at c.sites c.parts i)) [] (numbers_from 0 n) c.rates ≡ true) valid.rate_count (all_fit (λ i. rate_line (pair_at c.sites c.parts i)) no_rate c.rates rate_fits)))
 
+  -- a valid case fits the format in which it is written
   pub case_fits : case_format.fits c ≡ true
   case_fits = and_from _ _ refl (and_from _ _ sites_fit (and_from _ _ (parts_fit c.parts (recursion_from_All IsPartRow c.parts valid.frame.part_rows) few) rates_fit))

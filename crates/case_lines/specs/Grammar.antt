@@ -51,7 +51,8 @@ depot_fields =
 -- NAME,base,SYSTEMS,DAYS
 abbrev pub base_fields : Format SiteRow
 base_fields =
-    as_shape (and_then name_field (λ _. and_then (word (codes "base")) (λ _. and_then (one (number 1 10000)) (λ _. days_field))))
+    as_shape
+    (and_then name_field (λ _. and_then (word (codes "base")) (λ _. and_then (one (number 1 10000)) (λ _. days_field))))
     (λ x. record { name = x.0; depot = false; systems = x.1.1.0; ship = x.1.1.1 })
     (λ s. (s.name, (tt, (s.systems, s.ship))))
     (λ s. not s.depot)

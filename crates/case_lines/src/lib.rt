@@ -14,4 +14,6 @@ mod tests;
 mod whole;
 
 pub use exactness::case_lines_are_exact;
+pub use parts::are_weighted;
+pub use rates::has_demand;
 pub use whole::write_case;

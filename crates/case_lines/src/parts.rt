@@ -69,17 +69,11 @@ fn put_each_part(out: &mut Vec<u8>, weighted: bool, case: &Case) -> Result<(), N
     Ok(())
 }
 
-/// Whether some weight isn't 1.
-fn are_weighted(case: &Case) -> bool
-    ensures { result ≡ are_weighted case.now.parts }
+/// Whether some weight isn't 1: then the lines of the parts have weights.
+pub fn are_weighted(parts: &[PartRow]) -> bool
+    ensures { result ≡ are_weighted parts.now }
 {
-    let count = case.part_count();
-    for p in 0..count {
-        if case.part(PartId(p)).weight >= 2 {
-            return true;
-        }
-    }
-    false
+    parts.iter().any(|part| part.weight >= 2)
 }
 
 /// Writes parts,N,weights
@@ -107,7 +101,7 @@ fn put_parts_line(out: &mut Vec<u8>, weighted: bool, count: u128) -> Result<(), 
 pub(crate) fn put_parts(out: &mut Vec<u8>, case: &Case) -> Result<(), NoMemory>
     ensures { OnOk result (out.new.items ≡ out.old.items ++ file_text parts case.now.parts) }
 {
-    let weighted = are_weighted(case);
+    let weighted = are_weighted(case.frame().parts());
     put_parts_line(out, weighted, case.part_count() as u128)?;
     put_each_part(out, weighted, case)?;
     Ok(())

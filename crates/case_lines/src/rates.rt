@@ -1,6 +1,6 @@
 //! The lines of the rates, by part and then by site.
 
-ghost use Rattle.std.specs.Prelude.{◌≡◌, ℕ, ◌*◌, ◌≤◌, ◌<◌, ◌++◌, not, ◌&&◌, length, OnOk};
+ghost use Rattle.std.specs.Prelude.{◌≡◌, ℕ, ◌*◌, ◌<◌, ◌++◌, not, ◌&&◌, length, OnOk};
 ghost use Rattle.std.specs.List.{concat};
 ghost use Rattle.line_text.specs.Formats.{each};
 ghost use Rattle.line_text.specs.Files.{line, file_text};
@@ -14,8 +14,8 @@ use line_text::{put_count_line, put_fixed};
 use spares_input::{Case, PartId, PartRow, RateRow, SiteId, SiteRow};
 use spares_io::NoMemory;
 
-/// Whether a pair has a demand of its own.
-fn has_demand(is_line: bool, is_depot: bool) -> bool
+/// Whether a pair has a demand of its own: that of a line unit at a base.
+pub fn has_demand(is_line: bool, is_depot: bool) -> bool
     ensures { result ≡ (is_line && not is_depot) }
 {
     is_line && !is_depot

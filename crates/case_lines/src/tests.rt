@@ -1,6 +1,6 @@
 //! The lines of small cases.
 
-ghost use Rattle.std.specs.Prelude.{◌≡◌, ◌<◌, ◌≤◌, ◌∷◌, [], length, vec_len, All, IfOk};
+ghost use Rattle.std.specs.Prelude.{◌<◌, ◌≤◌, length, vec_len, All, IfOk};
 ghost use Rattle.spares_input.specs.Rows.{IsSiteRow, IsPartRow};
 ghost use Rattle.spares_input.specs.Cases.{IsRateOf};
 

@@ -23,7 +23,7 @@ fn put_case(out: &mut Vec<u8>, case: &Case) -> Result<(), NoMemory>
 
 /// The lines of a case: `sites,N` and a line for each site, the depot first, `parts,N` and a line for each part,
 /// with `,weights` and a seventh field where some weight isn't 1, and `rates,N` and a line for each pair, by part and
-/// then by site. Names stand as they are, and decimals have all their places.
+/// then by site. Names stand as they are, and decimals have all their places. Want of memory is the only error.
 pub fn write_case(alloc: Global, case: &Case) -> Result<Vec<u8>, NoMemory>
     ensures lines { IfOk result (λ bytes. bytes.items ≡ file_text case_format case.now) }
     ensures again { IfOk result (λ bytes. file_answer case_format bytes.items ≡ Ok case.now) }

@@ -53,9 +53,11 @@ module _ (c : CaseRows) (h : case_format.fits c ≡ true) where
       let rows = fits_after (λ _ k. site_line k) [] (numbers_from 0 (length c.sites)) c.sites in
       sites_at c.sites (length c.sites) (and_parts count rows (and_parts true (count && rows) (case_parts c h).0).1).1
 
+  -- each site of a case that fits the format is valid
   pub site_rows : All IsSiteRow c.sites
   site_rows = All-from_get_or IsSiteRow c.sites no_site (λ i lt. (sites_stand i lt).0)
 
+  -- each part of a case that fits the format is valid
   pub are_part_rows : All IsPartRow c.parts
   are_part_rows =
       let head = parts_line.fits (header_of c.parts) in
@@ -84,6 +86,7 @@ module _ (c : CaseRows) (h : case_format.fits c ≡ true) where
   pub are_rates : All (IsRateOf (frame_rows c)) c.rates
   are_rates = All-from_get_or (IsRateOf (frame_rows c)) c.rates no_rate rate_of
 
+  -- the case built of the frame and the rates of a case that fits the format is this case
   pub is_case : case_of (frame_rows c) c.rates ≡ Ok c
   is_case = case_of_standing c rate_count rates_stand
 
@@ -96,12 +99,15 @@ module _ (c : CaseRows) (h : case_format.fits c ≡ true) where
       frame_at (frame_fault c.sites c.parts) f (record { sites = sites_in_order c.sites; parts = c.parts }) e
       ∙ ap (λ (ss : List SiteRow). record { sites = ss; parts = c.parts }) ordered
 
+  -- each row of rates of a case that fits the format is valid in the frame of its sites and parts
   pub rates_of_frame : (f : FrameRows) → frame_of c.sites c.parts ≡ Ok f → All (IsRateOf f) c.rates
   rates_of_frame f e = subst (λ (g : FrameRows). All (IsRateOf g) c.rates) (sym (frame_is f e)) are_rates
 
+  -- the case built of that frame and these rates is this case
   pub case_of_frame : (f : FrameRows) → frame_of c.sites c.parts ≡ Ok f → case_of f c.rates ≡ Ok c
   case_of_frame f e = ap (λ (g : FrameRows). case_of g c.rates) (frame_is f e) ∙ is_case
 
+  -- where the frame stands, an error that may end the building of the case may end its framing
   pub stops_free : (f : FrameRows) (s : Stop CaseFault) → frame_of c.sites c.parts ≡ Ok f → Gives {T = CaseRows} (case_of f c.rates) (Err s) → Gives {T = CaseRows} (framed c) (Err s)
   stops_free f stop.NoMemory e g = tt
   stops_free f (stop.Fault x) e g = absurd (no_fault_there x (case_of f c.rates) (case_of_frame f e) g)

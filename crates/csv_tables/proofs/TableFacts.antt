@@ -29,20 +29,18 @@ abbrev pub prepend : {A : Type 0} → List A → Result (List A) TableFault → 
 prepend front (Ok xs) = Ok (front ++ xs)
 prepend front (Err e) = Err e
 
-pub prepend_none : {A : Type 0} (t : Result (List A) TableFault) → prepend [] t ≡ t
-prepend_none (Ok xs) = refl
-prepend_none (Err e) = refl
-
 prepend_more : {A : Type 0} (front : List A) (x : A) (t : Result (List A) TableFault)
     → prepend (front ++ x ∷ []) t ≡ prepend front (t >>= λ xs. Ok (x ∷ xs))
 prepend_more front x (Ok xs) = rw (append_assoc front (x ∷ []) xs) refl
 prepend_more front x (Err e) = refl
 
 module _ {A : Type 0} (row_of : ℕ → Record → Result A TableFault) (limit columns row : ℕ) (front : List A) (should : Result (List A) TableFault) where
+  -- where no record is left, the answer is the rows so far
   pub rows_none : (rs : List Record) → rs ≡ [] → prepend front (rows_from row_of limit columns row rs) ≡ should → should ≡ Ok front
   unfolding rows_from
   rows_none rs e h = sym h ∙ rw (e, append-nil front) refl
 
+  -- where the next record has a fault, the answer is this fault
   pub rows_fault : (rs rest : List Record) (r : Record) (f : TableFault) → rs ≡ r ∷ rest → row < limit + 2 → row_with row_of row columns r ≡ Err f
       → prepend front (rows_from row_of limit columns row rs) ≡ should → should ≡ Err f
   unfolding rows_from
@@ -50,6 +48,7 @@ module _ {A : Type 0} (row_of : ℕ → Record → Result A TableFault) (limit c
       let t : nat_le (limit + 2) row ≡ false = lt-leb (limit + 2) row lt in
       sym h ∙ rw (e, t, bad) refl
 
+  -- where a record is left past the limit, the answer is that there are too many rows
   pub rows_many : (rs rest : List Record) (r : Record) → rs ≡ r ∷ rest → limit + 2 ≤ row
       → prepend front (rows_from row_of limit columns row rs) ≡ should → should ≡ Err fault.TooManyRows
   unfolding rows_from
@@ -57,6 +56,7 @@ module _ {A : Type 0} (row_of : ℕ → Record → Result A TableFault) (limit c
       let t : nat_le (limit + 2) row ≡ true = le-leb (limit + 2) row le in
       sym h ∙ rw (e, t) refl
 
+  -- where the next record gives a row, the answer stays the same with this row put to those so far
   pub rows_row : (rs rest : List Record) (r : Record) (x : A) → rs ≡ r ∷ rest → row < limit + 2 → row_with row_of row columns r ≡ Ok x
       → prepend front (rows_from row_of limit columns row rs) ≡ should
       → prepend (front ++ x ∷ []) (rows_from row_of limit columns (row + 1) rest) ≡ should
@@ -124,6 +124,7 @@ module _ {A : Type 0} (P : A → Type 0) (row_of : ℕ → Record → Result A T
   answer_fields (Ok v) h = (table_good P row_of limit least header rs v.items each h).0
   answer_fields (Err e) h = tt
 
+  -- a table's answer has at most as many rows as its limit
   pub answer_few : (r : Result (Vec A Global) (Stop TableFault)) → Gives (table_of row_of limit least header rs) (rows_of r) → IfOk r (λ v. length v.items ≤ limit)
   answer_few (Ok v) h = (table_good P row_of limit least header rs v.items each h).1
   answer_few (Err e) h = tt

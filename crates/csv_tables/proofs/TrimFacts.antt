@@ -13,10 +13,6 @@ pub trim_start_solid : (xs : List ℕ) (i : ℕ) → i < length xs → is_blank 
 unfolding trim_start
 trim_start_solid xs i h b = rw (drop-cons xs i 0 h, b) refl
 
-and_true : (b : Bool) → (b && true) ≡ b
-and_true true = refl
-and_true false = refl
-
 trim_end_push_blank : (xs : List ℕ) (b : ℕ) → is_blank b ≡ true → trim_end (xs ++ b ∷ []) ≡ trim_end xs
 unfolding trim_end
 trim_end_push_blank [] b h = rw h refl

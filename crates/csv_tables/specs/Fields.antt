@@ -36,7 +36,7 @@ trimmed text = trim_end (trim_start text)
 abbrev pub field : Record → ℕ → List ℕ
 field r i = trimmed (unwrap_or (field_at r i) [])
 
--- a record has this number of fields
+-- the number of columns, where the record has as many fields, or `FieldCount`
 abbrev pub counted : ℕ → ℕ → Record → Result ℕ TableFault
 counted row columns r = if length r == columns then Ok columns else Err (fault.FieldCount row (length r))
 

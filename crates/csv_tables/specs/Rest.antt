@@ -39,11 +39,15 @@ is_between st.AfterQuote = false
 is_between st.InEscape = false
 is_between st.InComment = false
 
+-- most bytes of a table
+abbrev pub table_limit : ℕ
+table_limit = 4194304
+
 -- a reader of a table that has not failed
 abbrev pub IsTable : Reader (Bor (List ℕ)) → Type 0
 IsTable rdr = Ready rdr × (reader_config rdr ≡ default_config) × (reader_trim rdr ≡ trim.None)
     × (is_between (reader_state rdr) ≡ true) × (bytes : List ℕ) × (source_of slice_left rdr ≡ Some bytes)
-    × (length bytes ≤ 4194304)
+    × (length bytes ≤ table_limit)
 
 -- a read took the first of the records that were left, or there was none
 abbrev pub TakesFirst : List Record → Bool → Record → List Record → Type 0

@@ -1,9 +1,8 @@
 //! The fields of a record, and what they hold.
 
-ghost use Rattle.std.specs.Prelude.{◌≡◌, ◌≤◌, ◌<◌, ◌^◌, true, Ok, Err, IfOk, length};
+ghost use Rattle.std.specs.Prelude.{◌≡◌, ◌≤◌, ◌<◌, ◌^◌, Ok, Err, IfOk, length};
 ghost use Rattle.csv.specs.Records.{fields_of};
-ghost use Rattle.spares_input.specs.Names.{is_name};
-ghost use Rattle.csv_tables.specs.Fields.{counted, empty_in, field, is_blank, name_in, number_in, trim_end, trim_start, trimmed, used_in};
+ghost use Rattle.csv_tables.specs.Fields.{counted, field, is_blank, name_in, number_in, trim_end, trim_start, trimmed, used_in};
 
 use crate::fault::TableFault;
 use csv::ByteRecord;
@@ -57,7 +56,7 @@ fn is_blank(b: u8) -> bool
     b == b' ' || b == b'\t'
 }
 
-/// Whether a record has as many fields as there are columns.
+/// The number of columns, where the record has a field for each, or `FieldCount`.
 pub fn counted(row: u32, columns: u8, record: &ByteRecord) -> Result<u8, TableFault>
     requires { length (fields_of «record».now) < 2 ^ 32 }
     ensures { result ≡ counted row columns (fields_of «record».now) }

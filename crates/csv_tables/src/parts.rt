@@ -4,6 +4,7 @@ ghost use Rattle.std.specs.Prelude.{◌≡◌, ◌≤◌, IfOk, All, length, map
 ghost use Rattle.csv.specs.Records.{fields_of};
 ghost use Rattle.spares_io.specs.Answers.{Gives};
 ghost use Rattle.spares_input.specs.Rows.{IsPartRow};
+ghost use Rattle.csv_tables.specs.Rest.{table_limit};
 ghost use Rattle.csv_tables.specs.Tables.{rows_of};
 ghost use Rattle.csv_tables.specs.Parts.{parent_in, part_of, parts_of, parts_header, weight_in};
 
@@ -18,7 +19,7 @@ use std::alloc::Global;
 /// The rows of a table of parts, or its first fault. The last column, `weight`, may be left out: then each line unit
 /// has the weight 1.
 pub fn read_parts(alloc: Global, bytes: &[u8]) -> Result<Vec<PartRow>, Stop<TableFault>>
-    requires { length bytes.now ≤ 4194304 }
+    requires { length bytes.now ≤ table_limit }
     ensures answer { Gives (parts_of bytes.now) (rows_of result) }
     ensures few { IfOk result (λ v. length v.items ≤ 2000) }
     ensures fields { IfOk result (λ v. All IsPartRow v.items) }

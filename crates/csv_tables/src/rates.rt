@@ -5,6 +5,7 @@ ghost use Rattle.std.specs.Result.{result_map_both};
 ghost use Rattle.csv.specs.Records.{fields_of};
 ghost use Rattle.spares_io.specs.Answers.{Gives};
 ghost use Rattle.spares_input.specs.Cases.{IsRateOf};
+ghost use Rattle.csv_tables.specs.Rest.{table_limit};
 ghost use Rattle.csv_tables.specs.Tables.{rows_of};
 ghost use Rattle.csv_tables.specs.Rates.{part_in, rate_in, rate_of, rates_of, rates_header, site_in};
 
@@ -22,7 +23,7 @@ pub fn read_rates(
     bytes: &[u8],
     frame: &Frame,
 ) -> Result<Vec<RateRow>, Stop<TableFault>>
-    requires { length bytes.now ≤ 4194304 }
+    requires { length bytes.now ≤ table_limit }
     ensures answer { Gives (rates_of frame.now bytes.now) (rows_of result) }
     ensures few { IfOk result (λ v. length v.items ≤ 32000) }
     ensures fields { IfOk result (λ v. All (IsRateOf frame.now) v.items) }

@@ -4,6 +4,7 @@ ghost use Rattle.std.specs.Prelude.{◌≡◌, ◌≤◌, IfOk, All, length, map
 ghost use Rattle.csv.specs.Records.{fields_of};
 ghost use Rattle.spares_io.specs.Answers.{Gives};
 ghost use Rattle.spares_input.specs.Rows.{IsSiteRow};
+ghost use Rattle.csv_tables.specs.Rest.{table_limit};
 ghost use Rattle.csv_tables.specs.Tables.{rows_of};
 ghost use Rattle.csv_tables.specs.Sites.{depot_in, site_of, sites_of, sites_header};
 
@@ -17,7 +18,7 @@ use std::alloc::Global;
 
 /// The rows of a table of sites, or its first fault.
 pub fn read_sites(alloc: Global, bytes: &[u8]) -> Result<Vec<SiteRow>, Stop<TableFault>>
-    requires { length bytes.now ≤ 4194304 }
+    requires { length bytes.now ≤ table_limit }
     ensures answer { Gives (sites_of bytes.now) (rows_of result) }
     ensures few { IfOk result (λ v. length v.items ≤ 16) }
     ensures fields { IfOk result (λ v. All IsSiteRow v.items) }

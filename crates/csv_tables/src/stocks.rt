@@ -4,6 +4,7 @@ ghost use Rattle.std.specs.Prelude.{◌≡◌, ◌≤◌, IfOk, All, length, map
 ghost use Rattle.csv.specs.Records.{fields_of};
 ghost use Rattle.spares_io.specs.Answers.{Gives};
 ghost use Rattle.spares_input.specs.Stocks.{IsStockOf};
+ghost use Rattle.csv_tables.specs.Rest.{table_limit};
 ghost use Rattle.csv_tables.specs.Tables.{rows_of};
 ghost use Rattle.csv_tables.specs.Stocks.{stock_of, stocks_of, stocks_header};
 
@@ -22,7 +23,7 @@ pub fn read_stocks(
     bytes: &[u8],
     frame: &Frame,
 ) -> Result<Vec<StockRow>, Stop<TableFault>>
-    requires { length bytes.now ≤ 4194304 }
+    requires { length bytes.now ≤ table_limit }
     ensures answer { Gives (stocks_of frame.now bytes.now) (rows_of result) }
     ensures few { IfOk result (λ v. length v.items ≤ 32000) }
     ensures fields { IfOk result (λ v. All (IsStockOf frame.now) v.items) }

@@ -1,9 +1,9 @@
 //! A table of any kind, read record by record.
 
-ghost use Rattle.std.specs.Prelude.{◌≡◌, ◌+◌, ◌<◌, ◌≤◌, ◌^◌, ℕ, Result, IfOk, length, map};
+ghost use Rattle.std.specs.Prelude.{◌≡◌, ◌+◌, ◌<◌, ◌≤◌, ◌^◌, ℕ, Result, length, map};
 ghost use Rattle.csv.specs.Records.{fields_of};
 ghost use Rattle.spares_io.specs.Answers.{Gives};
-ghost use Rattle.csv_tables.specs.Rest.{all_records, rest_of, IsTable, Record};
+ghost use Rattle.csv_tables.specs.Rest.{all_records, rest_of, IsTable, Record, table_limit};
 ghost use Rattle.csv_tables.specs.Tables.{column_fault, header_in, row_with, rows_from, rows_of, table_of};
 ghost use Rattle.csv_tables.specs.declared.fault.TableFault.{TableFault};
 
@@ -36,7 +36,7 @@ pub fn read_table<T: Table>(
     header: &[&[u8]],
     limit: u32,
 ) -> Result<Vec<T::Row>, Stop<TableFault>>
-    requires small { length bytes.now ≤ 4194304 }
+    requires small { length bytes.now ≤ table_limit }
     requires columns { length header.now < 256 }
     requires few { limit ≤ 32000 }
     ensures { Gives (table_of (T.row_of table.now) limit least (map (λ f. f.now) header.now) (all_records bytes.now))

@@ -2,8 +2,9 @@
 
 ghost use Rattle.std.specs.Prelude.{◌≤◌, ◌↔◌, IsTrue, IfOk, length};
 ghost use Rattle.spares_input.specs.Stocks.{IsFor};
+ghost use Rattle.csv_tables.specs.Rest.{table_limit};
 
-use crate::{TableFault, read_parts, read_rates, read_sites, read_stocks};
+use crate::{TABLE_LIMIT, TableFault, read_parts, read_rates, read_sites, read_stocks};
 use exact_ratio::NumberFault;
 use spares_input::{Case, CaseFault, Frame, PartId, SiteId, StockFault, Stocks, stocks_from};
 use spares_io::{NoMemory, Stop};
@@ -58,9 +59,9 @@ fn of_stocks(stop: Stop<StockFault>) -> Refusal {
 
 /// Whether a file is no longer than a table may be.
 fn is_short(bytes: &[u8]) -> bool
-    ensures { IsTrue result ↔ length bytes.now ≤ 4194304 }
+    ensures { IsTrue result ↔ length bytes.now ≤ table_limit }
 {
-    bytes.len() <= 4_194_304
+    bytes.len() <= TABLE_LIMIT
 }
 
 fn frame_in(alloc: Global, sites: &[u8], parts: &[u8]) -> Result<Frame, Refusal> {

@@ -81,11 +81,6 @@ some_line : (b : ℕ) (bytes : List ℕ) (c : Bool) → eqb b 10 ≡ c → lines
 some_line b bytes true h e = nil_cons (10 ∷ []) (lines_of bytes) (sym (lines_cons b bytes true h) ∙ e)
 some_line b bytes false h e = onto_nil b (lines_of bytes) (sym (lines_cons b bytes false h) ∙ e)
 
-pub some_lines : (bytes : List ℕ) → lines_of bytes ≡ [] → length bytes ≡ 0
-unfolding lines_of
-some_lines [] h = refl
-some_lines (b ∷ bytes) h = absurd (some_line b bytes (eqb b 10) refl h)
-
 -- ---- fields
 
 pub field_found : (bytes : List ℕ) → position_or_len comma bytes < length bytes → slice_split comma bytes ≡ before_first comma bytes ∷ slice_split comma (after_first comma bytes)

@@ -109,12 +109,15 @@ numbered_err n k (Ok b) h = absurd cc
 numbered_err n k (Err left) h = (left, refl, cc)
 
 module _ {A : Type 0} (format : Format A) (e : IsExact IsLine format) where
+  -- the text of a value that fits is answered with that value
   pub answer_again : (a : A) → format.fits a ≡ true → file_answer format (file_text format a) ≡ Ok a
   answer_again a h = ap (numbered _) (file_again format e a h)
 
+  -- bytes that are answered with a value are its text, and it fits
   pub answer_takes : (bytes : List ℕ) (a : A) → file_answer format bytes ≡ Ok a → (format.fits a ≡ true) × (bytes ≡ file_text format a)
   answer_takes bytes a h = file_takes format e bytes a (numbered_ok (length (lines_of bytes)) (file_of format bytes) a h)
 
+  -- a number that is answered is that of the first bad line, counted from 1
   pub answer_refuses : (bytes : List ℕ) (n : ℕ) → file_answer format bytes ≡ Err n → (before : ℕ) × (n ≡ suc before) × IsFirstBad format bytes before
   answer_refuses bytes n h =
       let p = numbered_err (length (lines_of bytes)) n (file_of format bytes) h in

@@ -4,13 +4,12 @@ use Rattle.std.specs.Prelude.{nat_le, bytes_eq}
 use Rattle.std.specs.Fmt.{decimal}
 use Rattle.std.specs.Str.Parse.{digits_value, digits_value_after}
 use Rattle.std.specs.Char.{digit_value}
-use Rattle.std.proofs.Math.Nat.{div-div-eq-div-mul, pow-suc, div-le_self, pow-le-pow_right, one-le-pow}
+use Rattle.std.proofs.Math.Nat.{div-div-eq-div-mul, pow-suc, div-le_self, one-le-pow}
 use Rattle.std.proofs.lemmas.Bool.{and_parts, and_from, leb-true, le-leb}
 use Rattle.std.proofs.lemmas.Nat.{div-add-mod'}
 use Rattle.std.proofs.lemmas.Str.{digit_value_digit}
 use Rattle.std.proofs.lemmas.List.{take-append-drop, length-drop}
 use Rattle.std.proofs.lemmas.Slice.Eq.{bytes_eq-Decides}
-use Rattle.std.proofs.Math.Numerals.{add-one}
 use Rattle.fixed_interval.specs.Text.{last_digits, fixed_text}
 use Rattle.fixed_interval.proofs.Text.{length_last_digits, after_last_digits, last_digits_none}
 use Rattle.line_text.specs.Formats.{Token, Text, spelled}
@@ -131,6 +130,7 @@ module _ (text xs ys : List ℕ) (places least most : ℕ) (small : most < 2 ^ 1
   pub no_whole : None ≡ whole.read xs → None ≡ (fixed places least most).read text
   no_whole h = refused (λ n a b w l. none_some (n / 10 ^ places) (h ∙ whole_again n (10 ^ places) most xs b small w))
 
+  -- where a byte behind the point is no digit, the text is no number of the format
   pub no_digits : (AreDigits ys → ⊥) → None ≡ (fixed places least most).read text
   no_digits h = refused (λ n a b w l. h (subst (λ (t : List ℕ). AreDigits t) l (digs_at (last_digits places n) (digs_last places n))))
 
@@ -143,15 +143,19 @@ module _ (text xs ys : List ℕ) (places least most : ℕ) (small : most < 2 ^ 1
       ∙ after_last_digits (n / 10 ^ places) places n
       ∙ div-add-mod' n (10 ^ places)
 
+  -- digits that make 2^128 or more are no number of the format
   pub too_large : (m : ℕ) → Some m ≡ whole.read xs → 2 ^ 128 ≤ digits_value_after 10 m ys → None ≡ (fixed places least most).read text
   too_large m r h = refused (λ n a b w l. absurd (omega (arith, h, value_is n m b w l r, b, small)))
 
+  -- a number below the least is none of the format
   pub too_low : (m k : ℕ) → Some m ≡ whole.read xs → k ≡ digits_value_after 10 m ys → k < least → None ≡ (fixed places least most).read text
   too_low m k r v h = refused (λ n a b w l. absurd (omega (arith, h, value_is n m b w l r, a, v)))
 
+  -- a number above the most is none of the format
   pub too_high : (m k : ℕ) → Some m ≡ whole.read xs → k ≡ digits_value_after 10 m ys → most < k → None ≡ (fixed places least most).read text
   too_high m k r v h = refused (λ n a b w l. absurd (omega (arith, h, value_is n m b w l r, b, v)))
 
+  -- digits that make a number from the least to the most are read as that number
   pub read_found : (m k : ℕ) → Some m ≡ whole.read xs → AreDigits ys → k ≡ digits_value_after 10 m ys → least ≤ k → k ≤ most → Some k ≡ (fixed places least most).read text
   read_found m k r d v a b =
       let t = whole_is_exact.takes xs m (sym r) in
@@ -169,12 +173,6 @@ no_halves text places least most h =
     (λ n f e. h (decimal (n / 10 ^ places)) (last_digits places n) (length_last_digits places n) (sym e))
 
 -- ---- writing
-
-pub ten_more : (k : ℕ) → 10 ^ (k + 1) ≡ 10 ^ k * 10
-ten_more k = ap (λ (i : ℕ). 10 ^ i) (add-one k) ∙ pow-suc 10 k
-
-pub ten_small : (k places : ℕ) → k < places → places ≤ 18 → 10 ^ k ≤ 10 ^ 18
-ten_small k places h l = let le : k ≤ 18 = omega (arith, h, l) in pow-le-pow_right {n = 10} (lit< tt) {i = k} {j = 18} le
 
 -- a power of ten is at least 1
 pub ten_positive : (k : ℕ) → 1 ≤ 10 ^ k

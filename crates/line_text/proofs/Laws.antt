@@ -1,4 +1,4 @@
--- The laws of formats: what is written is read again, what is read was written so, and a refusal stands at the first bad token.
+-- The laws of formats: what is written is read again, what is read was written so, a refusal is at the first bad token.
 use Rattle.std.proofs.Common.{◌≡◌, ◌⊎◌, Bool, true, List, [], ◌∷◌, ◌++◌, length, Option, Some, None, Result, Ok, Err, refl, sym, ap, subst, ◌∙◌, append_assoc, arith, inl, inr}
 use Rattle.std.specs.List.{AllByRecursion}
 use Rattle.std.proofs.lemmas.Bool.{and_parts, and_from}
@@ -181,6 +181,7 @@ module _ {A B : Type 0} (P : Token → Type 0) (first : Format A) (after : A →
         ]
       ]
 
+  -- a format and one that follows its value are exact together where both are exact
   pub both_are_exact : IsExact P (and_then first after)
   both_are_exact = record {
     good = (e.good, (g e.good e.fits).good);

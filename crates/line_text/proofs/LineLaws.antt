@@ -109,11 +109,13 @@ all_ok (b, []) a h = (cc, refl)
 all_ok (b, t ∷ ts) a h = absurd cc
 
 module _ {A : Type 0} (P : Token → Type 0) (format : Format A) (e : IsExact P format) where
+  -- all tokens of a value that fits are read as that value
   pub all_again : (a : A) → format.fits a ≡ true → read_all format (format.print a) ≡ Ok a
   all_again a h =
       let r : format.read (format.print a) ≡ Ok (a, []) = ap format.read (sym (append-nil (format.print a))) ∙ e.again a h [] in
       rw r refl
 
+  -- where all tokens are read as a value, they are those of that value, and it fits
   pub all_takes : (ts : List Token) (a : A) → read_all format ts ≡ Ok a → (format.fits a ≡ true) × (ts ≡ format.print a)
   all_takes ts a h =
       let p = bind_ok (format.read ts) all_read a h in

@@ -5,7 +5,7 @@ use Rattle.std.proofs.lemmas.List.{append-nil}
 use Rattle.std.specs.List.{concat}
 use Rattle.std.proofs.lemmas.List.Folds.{concat-append}
 use Rattle.spares_io.specs.Steps.{◌>>=◌}
-use Rattle.line_text.specs.Formats.{Token, Text, Format, one, and_then, each_after, read_after, print_after}
+use Rattle.line_text.specs.Formats.{Token, Text, Format, one, each_after, read_after, print_after}
 use Rattle.line_text.specs.Texts.{numbers_from}
 use Rattle.line_text.specs.Reading.{Gathers}
 use Rattle.line_text.specs.declared.bad_line.BadLine.{BadLine}
@@ -76,10 +76,6 @@ print_on format before out new total k ks keys x rest xs e f n so_far =
 
 pub print_done : {K A : Type 0} (format : List A → K → Format A) (before : List A) (out total : List ℕ) (keys : List K) (xs : List A) → keys ≡ [] → out ++ concat (print_after format before keys xs) ≡ total → out ≡ total
 print_done format before out total keys xs e so_far = sym (append-nil out) ∙ ap (λ (ks : List _). out ++ concat (print_after format before ks xs)) (sym e) ∙ so_far
-
--- the text of one after the other
-pub both_text : {A B : Type 0} (first : Format A) (after : A → Format B) (a : A) (b : B) → concat ((and_then first after).print (a, b)) ≡ concat (first.print a) ++ concat ((after a).print b)
-both_text first after a b = concat-append (first.print a) ((after a).print b)
 
 -- what is left of a list from an entry on begins with that entry
 pub item_more : {X : Type 0} (xs : List X) (i : ℕ) (d : X) → i < length xs → drop i xs ≡ get_or xs i d ∷ drop (i + 1) xs

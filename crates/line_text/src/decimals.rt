@@ -1,6 +1,6 @@
 //! Numbers with fixed places as fields: whole numbers of units of the last place.
 
-ghost use Rattle.std.specs.Prelude.{◌≡◌, ℕ, List, ◌^◌, ◌≤◌, ◌++◌, ◌∷◌, length, MatchOption, OnOk};
+ghost use Rattle.std.specs.Prelude.{◌≡◌, ℕ, List, ◌^◌, ◌≤◌, ◌++◌, ◌∷◌, length, MatchOption};
 ghost use Rattle.fixed_interval.specs.Text.{fixed_text, last_digits};
 ghost use Rattle.line_text.specs.Texts.{fixed};
 ghost use Rattle.line_text.specs.Writing.{Puts};

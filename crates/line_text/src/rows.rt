@@ -29,7 +29,8 @@ fn count_all(mut fields: Fields<'_>, name: &[u8], least: u128, most: u128) -> Op
     if fields.is_empty() { Some(count) } else { None }
 }
 
-/// Reads the line of a word and a number from `least` to `most`.
+/// Reads the line of a word and a number from `least` to `most`. [`BadLine`] comes where the next line is another or
+/// none is left, and leaves it unread.
 #[tactic(auto, using(crate::proofs::Cursors::line_read, crate::proofs::Cursors::line_refused, crate::proofs::Cursors::line_missing))]
 pub fn count_line(
     lines: &mut Lines<'_>,
@@ -58,7 +59,7 @@ fn word_all(mut fields: Fields<'_>, name: &[u8]) -> Option<()>
     if fields.is_empty() { Some(()) } else { None }
 }
 
-/// Reads the line of one word.
+/// Reads the line of one word. [`BadLine`] comes where the next line is another or none is left, and leaves it unread.
 #[tactic(auto, using(crate::proofs::Cursors::line_read, crate::proofs::Cursors::line_refused, crate::proofs::Cursors::line_missing))]
 pub fn word_line(lines: &mut Lines<'_>, name: &[u8]) -> Result<(), BadLine>
     ensures { Reads (λ _. tt) result lines.new ((word_line name.now).read lines.old) }
@@ -86,7 +87,8 @@ fn number_all(mut fields: Fields<'_>, most: u128) -> Option<u128>
     }
 }
 
-/// Reads the line of one number up to `most`.
+/// Reads the line of one number up to `most`. [`BadLine`] comes where the next line is another or none is left, and
+/// leaves it unread.
 #[tactic(auto, using(crate::proofs::Cursors::line_read, crate::proofs::Cursors::line_refused, crate::proofs::Cursors::line_missing))]
 pub fn number_line(lines: &mut Lines<'_>, most: u128) -> Result<u128, BadLine>
     ensures { Reads (λ n. n) result lines.new ((number_line most).read lines.old) }

@@ -1,4 +1,4 @@
--- The pieces of a pair's line, from what is held of it. No promise rests on these words.
+-- The pieces of a pair's line, from what is held of it. No promise of the crate rests on these words.
 use Rattle.std.specs.Prelude.{ℕ, List, ◌∷◌, ◌++◌, codes}
 use Rattle.std.specs.Fmt.{decimal}
 use Rattle.case_figures.specs.declared.held.HeldItem.{HeldItem}

@@ -21,14 +21,15 @@ use Rattle.plan_report.specs.declared.summary.Summary.{Summary}
 
 -- ---- numbers
 
--- n units of 2 ^ -f in millionths, rounded down and rounded up
+-- n units of 2 ^ -f in millionths, rounded down
 abbrev pub millionths_down : ℕ → ℕ → ℕ
 millionths_down f n = n * 10 ^ 6 / 2 ^ f
 
+-- n units of 2 ^ -f in millionths, rounded up
 abbrev pub millionths_up : ℕ → ℕ → ℕ
 millionths_up f n = div_ceil (n * 10 ^ 6) (2 ^ f)
 
--- the ends of an interval, the lower one rounded down, the upper one up
+-- the lower end of an interval in millionths, rounded down
 abbrev pub lower_millionths : ℕ → Ends → ℕ
 lower_millionths f x = millionths_down f x.lo
 
@@ -45,15 +46,15 @@ abbrev pub PrintsOutward : ℕ → Ends → Type 0
 PrintsOutward f x = (q : Fraction) → In f x q
     → (text_value 6 (lower_millionths f x) ≤ℚ q) × (q ≤ℚ text_value 6 (upper_millionths f x))
 
--- n units of 2 ^ -48 with 6 decimals, rounded down and rounded up
+-- n units of 2 ^ -48 with 6 decimals, rounded down
 abbrev pub down_text : ℕ → List ℕ
 down_text n = fixed_text 6 (millionths_down 48 n)
 
--- n units of 2^-48 with 6 decimals, rounded up
+-- n units of 2 ^ -48 with 6 decimals, rounded up
 abbrev pub up_text : ℕ → List ℕ
 up_text n = fixed_text 6 (millionths_up 48 n)
 
--- n units of 2 ^ -48 as a number, and what is printed of them: no more where it is rounded down, no less where up
+-- n units of 2 ^ -48 as a number
 abbrev pub of_units : ℕ → Fraction
 of_units n = whole n /ℚ whole (2 ^ 48)
 
@@ -71,14 +72,15 @@ abbrev pub PrintsWithin : ℕ → ℕ → ℕ → Type 0
 PrintsWithin n m rounding =
     n ≤ m + rounding → millionths_down 48 n ≤ millionths_down 48 m + millionths_up 48 rounding
 
--- a price in backorders per unit of money, and in units of 10 ^ -12, rounded down
+-- a price in backorders per unit of money
 abbrev pub price_value : Price → Fraction
 price_value price = whole price.p /ℚ whole (price.q * 2 ^ 48)
 
+-- a price in units of 10 ^ -12, rounded down
 abbrev pub price_down : Price → ℕ
 price_down price = price.p * 10 ^ 12 / (price.q * 2 ^ 48)
 
--- with 12 decimals
+-- a price with 12 decimals, rounded down
 abbrev pub price_text : Price → List ℕ
 price_text price = fixed_text 12 (price_down price)
 
@@ -104,7 +106,7 @@ single_text report =
 
 -- ---- figures
 
--- the names and the stock of a pair, and its four intervals, each behind a comma
+-- the names and the stock of a pair
 abbrev pub pair_text : ItemLine → List ℕ
 pair_text item = item.part ++ (44 ∷ item.site ++ (44 ∷ decimal item.stock))
 

@@ -27,7 +27,8 @@ pub struct CheckReport {
 
 impl CheckReport {
     /// The lines `accepted,FORMAT`, `budget,BUDGET`, `cost,COST`, `upper,X` and `bound,X`, and after `cost` the line
-    /// `on-hand,COST` where stocks are on hand. The upper end is rounded up and the bound down, to 6 decimals.
+    /// `on-hand,COST` where stocks are on hand. The upper end is rounded up and the bound down, to 6 decimals. Want of
+    /// memory is the only error.
     pub fn text(&self, alloc: Global) -> Result<Vec<u8>, NoMemory>
         requires { FitsCheck self.now }
         ensures { IfOk result (λ text. text.items ≡ check_text self.now) }

@@ -19,7 +19,7 @@ pub struct EvalReport {
 impl EvalReport {
     /// The lines `eval,BITS`, `cost,COST`, `item,PART,SITE,STOCK` with four intervals for each item, `base,SITE,LO,HI`
     /// for each base, `fleet,LO,HI` and `total,LO,HI`. An interval is `LO,HI` with 6 decimals, the lower end rounded
-    /// down and the upper end up.
+    /// down and the upper end up. Want of memory is the only error.
     pub fn text(&self, alloc: Global) -> Result<Vec<u8>, NoMemory>
         requires { FitsPrint self.now.figures }
         ensures { IfOk result (λ text. text.items ≡ eval_text self.now) }

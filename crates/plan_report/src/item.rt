@@ -18,6 +18,9 @@ use itoa::Buffer;
 use line_text::ShortLine;
 use spares_input::Name;
 
+/// A pair's line while it is put together: at most 320 bytes.
+pub(crate) type ItemLine = ShortLine<320>;
+
 /// The lower end of an interval in millionths, rounded down.
 fn lower_millionths<const F: u32>(interval: &Narrow) -> u64
     requires { IsWidth F }
@@ -36,7 +39,7 @@ fn upper_millionths<const F: u32>(interval: &Narrow) -> u64
 
 /// Puts a whole number.
 #[tactic(auto, using(std::proofs::lemmas::Fmt::decimal_digit))]
-fn put_whole(line: &mut ShortLine<320>, whole: u64)
+fn put_whole(line: &mut ItemLine, whole: u64)
     requires { length line.old ≤ 300 }
     ensures text { line.new ≡ line.old ++ decimal whole }
     ensures short { length line.new ≤ length line.old + 20 }
@@ -50,7 +53,7 @@ fn put_whole(line: &mut ShortLine<320>, whole: u64)
 }
 
 /// Puts a number of millionths with 6 decimals.
-fn put_millionths(line: &mut ShortLine<320>, millionths: u64)
+fn put_millionths(line: &mut ItemLine, millionths: u64)
     requires { length line.old ≤ 293 }
     ensures text { line.new ≡ line.old ++ fixed_text 6 millionths }
     ensures short { length line.new ≤ length line.old + 27 }
@@ -60,7 +63,7 @@ fn put_millionths(line: &mut ShortLine<320>, millionths: u64)
 }
 
 /// Puts a comma and both ends of an interval with 6 decimals, the lower one rounded down, the upper one up.
-fn put_ends<const F: u32>(line: &mut ShortLine<320>, interval: &Narrow)
+fn put_ends<const F: u32>(line: &mut ItemLine, interval: &Narrow)
     requires width { IsWidth F }
     requires room { length line.old ≤ 264 }
     ensures text { line.new ≡ line.old ++ (44 ∷ interval_text F interval.now) }
@@ -73,7 +76,7 @@ fn put_ends<const F: u32>(line: &mut ShortLine<320>, interval: &Narrow)
 }
 
 /// Puts the four intervals of a pair, each behind a comma.
-fn put_intervals<const F: u32>(line: &mut ShortLine<320>, held: &HeldItem)
+fn put_intervals<const F: u32>(line: &mut ItemLine, held: &HeldItem)
     requires width { IsWidth F }
     requires room { length line.old ≤ 96 }
     ensures text { line.new ≡ line.old ++ held_text F held.now }
@@ -86,7 +89,7 @@ fn put_intervals<const F: u32>(line: &mut ShortLine<320>, held: &HeldItem)
 }
 
 /// Puts a name and the comma behind it.
-fn put_name(line: &mut ShortLine<320>, name: &Name)
+fn put_name(line: &mut ItemLine, name: &Name)
     requires { length line.old ≤ 295 }
     ensures text { line.new ≡ line.old ++ (name.now ++ 44 ∷ []) }
     ensures short { length line.new ≤ length line.old + 25 }
@@ -96,7 +99,7 @@ fn put_name(line: &mut ShortLine<320>, name: &Name)
 }
 
 /// Puts the names and the stock of a pair, in place of what the line held.
-fn put_names(line: &mut ShortLine<320>, part: &Name, site: &Name, stock: u8)
+fn put_names(line: &mut ItemLine, part: &Name, site: &Name, stock: u8)
     ensures text { line.new ≡ names_text part.now site.now stock }
     ensures short { length line.new ≤ 75 }
 {
@@ -108,7 +111,7 @@ fn put_names(line: &mut ShortLine<320>, part: &Name, site: &Name, stock: u8)
 }
 
 /// Puts the line of a pair, in place of what the line held.
-pub(crate) fn put_item(line: &mut ShortLine<320>, item: &ItemRef<'_>)
+pub(crate) fn put_item(line: &mut ItemLine, item: &ItemRef<'_>)
     requires { IsWidth item.now.bits }
     ensures { line.new
         ≡ item_text (held_line item.now.part.now item.now.site.now item.now.bits item.now.held.now) }

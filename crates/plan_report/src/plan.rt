@@ -136,7 +136,8 @@ impl PlanReport {
     /// Appends the line `plan,BUDGET`, the lines of given stocks from `cost` to `total`, and the lines `bound,X`,
     /// `gap,X`, `rounding,X`, `price,X`, `hull,COST` and `critical,PART,COST` or `critical,none`. The bound is rounded
     /// down, the gap and the rounding up, to 6 decimals; the price is rounded down to 12. Where stocks are on hand,
-    /// `on-hand,COST` stands after `cost`; where there is a loss, `loss,LO,HI` after `total`.
+    /// `on-hand,COST` stands after `cost`; where there is a loss, `loss,LO,HI` after `total`. Want of memory is the
+    /// only error, and may leave a part of it.
     pub fn put_text(&self, text: &mut Vec<u8>) -> Result<(), NoMemory>
         requires { FitsPlan self.now }
         ensures { OnOk result (text.new.items ≡ text.old.items ++ plan_text self.now) }
@@ -147,7 +148,7 @@ impl PlanReport {
         self.put_steps(text)
     }
 
-    /// The text that [`put_text`](PlanReport::put_text) appends.
+    /// The text that [`put_text`](PlanReport::put_text) appends. Want of memory is the only error.
     pub fn text(&self, alloc: Global) -> Result<Vec<u8>, NoMemory>
         requires { FitsPlan self.now }
         ensures { IfOk result (λ text. text.items ≡ plan_text self.now) }

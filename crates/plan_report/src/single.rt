@@ -17,7 +17,7 @@ pub struct SingleReport {
 
 impl SingleReport {
     /// Two lines, `backorders,LO,HI` and `variance,LO,HI`, with 6 decimals, the lower ends rounded down
-    /// and the upper ends up.
+    /// and the upper ends up. Want of memory is the only error.
     pub fn text(&self, alloc: Global) -> Result<Vec<u8>, NoMemory>
         requires backorders { self.now.backorders.hi < 2 ^ 86 }
         requires spread { self.now.spread.hi < 2 ^ 86 }

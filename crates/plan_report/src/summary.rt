@@ -54,7 +54,7 @@ impl Summary {
     }
 
     /// The lines `demo,NUMBER,LINES`, `parts,COUNT`, `budget,BUDGET`, `cost,COST`, `total,LO,HI`, `bound,X`, `gap,X`
-    /// and `accepted`, with 6 decimals: the bound is rounded down, the gap up.
+    /// and `accepted`, with 6 decimals: the bound is rounded down, the gap up. Want of memory is the only error.
     pub fn text(&self, alloc: Global) -> Result<Vec<u8>, NoMemory>
         requires { FitsSummary self.now }
         ensures { IfOk result (λ text. text.items ≡ summary_text self.now) }

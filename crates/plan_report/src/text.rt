@@ -4,7 +4,7 @@ ghost use Rattle.std.specs.List.{flat_map};
 ghost use Rattle.std.specs.Fmt.{decimal};
 ghost use Rattle.fixed_interval.specs.Ends.{Ends};
 ghost use Rattle.fixed_interval.specs.Text.{fixed_text, last_digits};
-ghost use Rattle.case_figures.specs.Fits.{BaseFits, FitsPrint, ItemFits, SpanFits};
+ghost use Rattle.case_figures.specs.Fits.{BaseFits, FitsPrint, SpanFits};
 ghost use Rattle.case_figures.specs.Spans.{ends, places};
 ghost use Rattle.hull.specs.declared.price.Price.{Price};
 ghost use Rattle.plan_report.specs.Fits.{UnitsFit};
@@ -19,23 +19,21 @@ ghost use Rattle.plan_report.specs.Texts.{
   down_text,
   figures_text,
   interval_text,
-  intervals_text,
   item_text,
   line,
   lower_millionths,
   on_hand_text,
-  pair_text,
   span_text,
   stocks_text,
   up_text,
   upper_millionths,
 };
 
-use crate::item::put_item;
+use crate::item::{ItemLine, put_item};
 use case_figures::{BaseLine, Figures, Items, Span};
 use fixed_interval::Iv;
 use itoa::Buffer;
-use line_text::{ShortLine, put_count_line, put_fixed};
+use line_text::{put_count_line, put_fixed};
 use spares_io::NoMemory;
 
 /// The two numbers that are printed of an interval enclose all that it contains. A number that is printed rounded down
@@ -103,7 +101,8 @@ fn upper_millionths<const F: u32>(interval: &Iv<F>) -> u128
     (interval.hi() * 1_000_000).div_ceil(1 << F)
 }
 
-/// Appends both ends of an interval with 6 decimals, the lower one rounded down, the upper one up.
+/// Appends both ends of an interval with 6 decimals, the lower one rounded down, the upper one up. Want of memory is
+/// the only error, and may leave a part of it.
 pub fn put_interval<const F: u32>(text: &mut Vec<u8>, interval: &Iv<F>) -> Result<(), NoMemory>
     requires { interval.now.hi < 2 ^ 86 }
     ensures { OnOk result (text.new.items ≡ text.old.items ++ interval_text F interval.now) }
@@ -137,7 +136,7 @@ pub(crate) fn put_span_line(text: &mut Vec<u8>, name: &[u8], span: &Span) -> Res
     Ok(())
 }
 
-/// Appends a line of a name and a whole number.
+/// Appends a line of a name and a whole number. Want of memory is the only error, and may leave a part of it.
 pub fn put_number_line(text: &mut Vec<u8>, name: &[u8], number: u64) -> Result<(), NoMemory>
     ensures { OnOk result (text.new.items ≡ text.old.items ++ line name.now (decimal number)) }
 {
@@ -196,7 +195,7 @@ fn put_base(text: &mut Vec<u8>, base: &BaseLine) -> Result<(), NoMemory>
 fn put_items(text: &mut Vec<u8>, items: &Items) -> Result<(), NoMemory>
     ensures { OnOk result (text.new.items ≡ text.old.items ++ flat_map item_text items.now) }
 {
-    let mut line = ShortLine::<320>::new();
+    let mut line = ItemLine::new();
     for n in 0..items.len() {
         put_item(&mut line, &items.held(n));
         text.extend_from_slice(line.as_slice())?;

@@ -3,9 +3,9 @@ use Rattle.std.proofs.Common.{◌≡◌, ℕ, ◌^◌, ◌≤◌, Bool, true, fa
 use Rattle.std.specs.Prelude.{◌==◌}
 use Rattle.std.proofs.lemmas.Bool.{eqb-true, eq-eqb}
 use Rattle.std.proofs.lemmas.List.{nil_from_length}
-use Rattle.line_text.specs.Formats.{spelled, one, and_then}
+use Rattle.line_text.specs.Formats.{one, and_then}
 use Rattle.line_text.specs.Files.{line}
-use Rattle.line_text.specs.Texts.{number, word, no_field, word_line, count_line, counted, Either, Left, Right, either}
+use Rattle.line_text.specs.Texts.{number, word, no_field, count_line, counted, Either, Left, Right, either}
 use Rattle.line_text.specs.Exact.{IsExactText, IsExact, IsField, IsLine}
 use Rattle.line_text.proofs.Laws.{one_is_exact, both_are_exact, as_shape_is_exact}
 use Rattle.line_text.proofs.LineLaws.{spelled_is_exact, line_is_exact}
@@ -18,7 +18,7 @@ use Rattle.price_certificate.specs.declared.certificate.Objective.{Objective}
 use Rattle.price_certificate.specs.declared.certificate.Objective.TheVariants as objective
 use Rattle.price_certificate.specs.declared.certificate.Node.{Node}
 use Rattle.price_certificate.specs.declared.certificate.Node.TheVariants as node
-use Rattle.price_certificate.specs.Grammar.{objective_name, objective_named, objective_fields, aims_at_backorders, objective_line, budget_line, price_fields, price_line, family_count, floors, split_fields, node_text, node_of, node_parts, node_line, cover, is_empty, covers, stock_lines, stocks, certificate_format}
+use Rattle.price_certificate.specs.Grammar.{objective_name, objective_named, objective_word, objective_fields, aims_at_backorders, objective_line, budget_line, price_fields, price_line, family_count, floors, split_fields, node_text, node_of, node_parts, node_line, cover, is_empty, stock_lines, stocks, lists, certificate_format}
 use Rattle.line_text.specs.Texts.{number_line}
 use Rattle.case_lines.proofs.Few.{few_pairs}
 use Rattle.case_lines.proofs.Exact.{number_field}
@@ -38,7 +38,7 @@ name_is_field objective.LogAvailability = a_field (codes "log-availability") ref
 
 objective_is_exact : IsExact IsField objective_fields
 objective_is_exact =
-    as_shape_is_exact IsField (and_then (word (codes "objective")) (λ _. one (spelled objective_name objective_named (λ _. true)))) (λ x. x.1) (λ o. (tt, o)) (λ _. true)
+    as_shape_is_exact IsField (and_then (word (codes "objective")) (λ _. one objective_word)) (λ x. x.1) (λ o. (tt, o)) (λ _. true)
     (both_are_exact IsField _ _ (word_is_exact (codes "objective") (a_field (codes "objective") refl))
     (λ _ _. one_is_exact IsField _ (spelled_is_exact IsField objective_name objective_named (λ _. true) objective.Backorders refl (λ o f. name_again o) (λ o f. name_is_field o))))
     (λ a f. (refl, refl)) (λ b f g. refl)
@@ -134,7 +134,7 @@ stocks_are_exact c h =
 pub certificate_is_exact : (least : ℕ) → least ≤ 2 → IsExact IsLine (certificate_format least)
 certificate_is_exact least l =
     as_shape_is_exact IsLine
-    (and_then (count_line (codes "spares-certificate") least 2) (λ format. and_then (objective_line format) (λ _. and_then case_format (λ c. and_then budget_line (λ _. and_then price_line (λ _. and_then (floors (family_count c.parts)) (λ _. and_then (covers format (family_count c.parts)) (λ _. and_then (stocks c) (λ _. and_then (count_line (codes "upper") 0 (2 ^ 85)) (λ _. and_then (count_line (codes "bound") 0 (2 ^ 85)) (λ _. word_line (codes "end"))))))))))))
+    (and_then (count_line (codes "spares-certificate") least 2) (λ format. and_then (objective_line format) (λ _. and_then case_format (λ c. and_then budget_line (λ _. and_then price_line (λ _. lists format c))))))
     (λ x. record { format = x.0; objective = x.1.0; case = x.1.1.0; budget = x.1.1.1.0; price = x.1.1.1.1.0; floors = x.1.1.1.1.1.0; covers = x.1.1.1.1.1.1.0; stocks = x.1.1.1.1.1.1.1.0; upper = x.1.1.1.1.1.1.1.1.0; bound = x.1.1.1.1.1.1.1.1.1.0 })
     (λ c. (c.format, (c.objective, (c.case, (c.budget, (c.price, (c.floors, (c.covers, (c.stocks, (c.upper, (c.bound, tt)))))))))))
     (λ _. true)

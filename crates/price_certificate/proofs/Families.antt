@@ -2,7 +2,7 @@
 use Rattle.std.proofs.Common.{◌≡◌, ℕ, zero, suc, ◌+◌, ◌*◌, ◌/◌, ◌%◌, ◌<◌, ◌≤◌, Bool, true, false, cond, List, [], ◌∷◌, ◌++◌, length, map, filter, get_or, sym, ap, ap₂, subst, ◌∙◌, arith}
 use Rattle.std.specs.List.{All, range_with_len}
 use Rattle.std.proofs.lemmas.List.{map-append, append-nil, length-map, get_or-map}
-use Rattle.std.proofs.lemmas.List.Elements.{filter-append, All-from_get_or, All-filter}
+use Rattle.std.proofs.lemmas.List.Elements.{All-from_get_or, All-filter}
 use Rattle.std.proofs.lemmas.List.FromFn.{map-range_with_len_more, get_or-range_with_len, get_or-map-range_with_len, length-range_with_len}
 use Rattle.std.proofs.lemmas.Nat.{div_below, mod_below, mul-le}
 use Rattle.spares_input.specs.Rows.{no_part}
@@ -11,24 +11,21 @@ use Rattle.spares_input.specs.Cases.{CaseRows, IsCase}
 use Rattle.price_certificate.specs.declared.place.Place.{Place}
 use Rattle.price_certificate.specs.Covers.{family, place_count, place_of, place_at, places_of, no_place, IsPlace, IsHeld}
 use Rattle.spares_input.specs.declared.rows.PartId.{PartId}
-use Rattle.spares_input.proofs.Ranges.{range_next}
-
-one_more : (t : ℕ → Bool) (n : ℕ) → filter t (range_with_len 0 (n + 1)) ≡ filter t (range_with_len 0 n) ++ cond (t n) (n ∷ []) []
-one_more t n = ap (filter t) (range_next n) ∙ filter-append t (range_with_len 0 n) (n ∷ [])
+use Rattle.spares_input.proofs.Ranges.{filter_next}
 
 -- a number that passes the test adds its part to a family's ids
 pub kept : (t : ℕ → Bool) (l n : ℕ) (xs ys : List PartId) (x : PartId) → x.0 ≡ n → t n ≡ true → ys ≡ xs ++ x ∷ []
     → map (λ (p : PartId). p.0) xs ≡ l ∷ filter t (range_with_len 0 n) → map (λ (p : PartId). p.0) ys ≡ l ∷ filter t (range_with_len 0 (n + 1))
 kept t l n xs ys x hx ht hy h =
     ap (map (λ (p : PartId). p.0)) hy ∙ map-append (λ (p : PartId). p.0) xs (x ∷ []) ∙ ap₂ (λ (a : List ℕ) (b : ℕ). a ++ b ∷ []) h hx
-    ∙ ap (λ (b : Bool). l ∷ (filter t (range_with_len 0 n) ++ cond b (n ∷ []) [])) (sym ht) ∙ ap (λ (ns : List ℕ). l ∷ ns) (sym (one_more t n))
+    ∙ ap (λ (b : Bool). l ∷ (filter t (range_with_len 0 n) ++ cond b (n ∷ []) [])) (sym ht) ∙ ap (λ (ns : List ℕ). l ∷ ns) (sym (filter_next t n))
 
 -- a number that fails the test adds none
 pub left_out : (t : ℕ → Bool) (l n : ℕ) (xs : List PartId) → t n ≡ false
     → map (λ (p : PartId). p.0) xs ≡ l ∷ filter t (range_with_len 0 n) → map (λ (p : PartId). p.0) xs ≡ l ∷ filter t (range_with_len 0 (n + 1))
 left_out t l n xs ht h =
     h ∙ ap (λ (ns : List ℕ). l ∷ ns) (sym (append-nil (filter t (range_with_len 0 n))))
-    ∙ ap (λ (b : Bool). l ∷ (filter t (range_with_len 0 n) ++ cond b (n ∷ []) [])) (sym ht) ∙ ap (λ (ns : List ℕ). l ∷ ns) (sym (one_more t n))
+    ∙ ap (λ (b : Bool). l ∷ (filter t (range_with_len 0 n) ++ cond b (n ∷ []) [])) (sym ht) ∙ ap (λ (ns : List ℕ). l ∷ ns) (sym (filter_next t n))
 
 -- ---- the places of a family
 

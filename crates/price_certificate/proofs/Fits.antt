@@ -234,12 +234,15 @@ module _ (c : Certificate) (h : (certificate_format 1).fits c ≡ true) where
       let p9 = and_parts bound true p8.1 in
       record { of_format = p0.0; of_aim = p1.0; of_case = p2.0; of_budget = p3.0; of_price = p4.0; of_floors = p5.0; of_covers = p6.0; of_stocks = p7.0; of_upper = p8.0; of_bound = p9.0 }
 
+  -- where a certificate fits its lines, so does its case
   pub fits_case : case_format.fits c.case ≡ true
   fits_case = parts.of_case
 
+  -- a certificate that fits its lines has a stock for each pair of its case, each at most 63
   pub fits_stocks : IsFor c.case c.stocks × AreUpTo 63 c.stocks.list
   fits_stocks = stocks_are c.case c.stocks parts.of_stocks
 
+  -- a certificate that fits its lines and has a valid case is well formed
   pub fits_well_formed : IsCase c.case → IsWellFormed c
   fits_well_formed valid =
       let f = count_within (codes "spares-certificate") 1 2 c.format parts.of_format in

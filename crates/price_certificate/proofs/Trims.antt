@@ -6,7 +6,6 @@ use Rattle.std.specs.Int.{div_ceil}
 use Rattle.std.proofs.lemmas.Bool.{leb-true, eqb-true, eq-eqb, ne_eqb, false≢true}
 use Rattle.std.proofs.lemmas.Grind.{div_ceil_times}
 use Rattle.std.proofs.lemmas.Nat.{mul-le}
-use Rattle.std.proofs.lemmas.List.{append-nil, drop_all}
 use Rattle.line_text.proofs.Loops.{item_more}
 use Rattle.price_certificate.specs.declared.certificate.Node.{Node}
 use Rattle.price_certificate.specs.declared.certificate.Node.TheVariants as node
@@ -218,15 +217,6 @@ cut_step p floor all at cuts n found new total lt cut so_far =
           ∙ ap (λ (t : Tree). found ++ (nodes_of t ++ replicate cuts node.Cost)) (sym tree)
           ∙ before
     ]
-
-pub cut_end : (p floor : ℕ) (all : List Place) (at cuts : ℕ) (found last new : List Node) (total : List Node) → length all ≤ at → found ++ rest_nodes p floor all at cuts ≡ total
-    → last ≡ found ++ node.Whole ∷ [] → new ≡ last ++ replicate cuts node.Cost → new ≡ total
-cut_end p floor all at cuts found last new total le so_far l e =
-    e ∙ ap (λ (ns : List Node). ns ++ replicate cuts node.Cost) l ∙ append_assoc found (node.Whole ∷ []) (replicate cuts node.Cost)
-    ∙ ap (λ (ys : List Place). found ++ (nodes_of (trimmed_from p floor at ys) ++ replicate cuts node.Cost)) (sym (drop_all at all le)) ∙ so_far
-
-pub cut_start : (p floor : ℕ) (all : List Place) → [] ++ rest_nodes p floor all 0 0 ≡ nodes_of (trimmed_from p floor 0 all)
-cut_start p floor all = append-nil (nodes_of (trimmed_from p floor 0 all))
 
 -- there are at most as many cuts as places tried
 pub cut_few : (p floor : ℕ) (all : List Place) (at cuts n : ℕ) (found new : List Node) → CutsAt p floor at (get_or all at no_place) found new n → cuts ≤ at → cuts + n ≤ at + 1

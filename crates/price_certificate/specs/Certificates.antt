@@ -14,6 +14,10 @@ use Rattle.price_certificate.specs.declared.fault.CertFault.{CertFault}
 use Rattle.price_certificate.specs.declared.fault.CertFault.TheVariants as fault
 use Rattle.price_certificate.specs.Grammar.{family_count, certificate_format}
 
+-- most bytes of a certificate
+abbrev pub certificate_limit : ℕ
+certificate_limit = 16777216
+
 -- ---- well formed
 
 -- no number is above the most

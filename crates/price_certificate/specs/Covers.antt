@@ -25,7 +25,7 @@ nodes_of Whole = node.Whole ∷ []
 nodes_of Cost = node.Cost ∷ []
 nodes_of (Cut at from first second) = node.Split at from ∷ (nodes_of first ++ nodes_of second)
 
--- a corner of a box has a stock at each place; the same with another stock at one place
+-- a corner of a box has a stock at each place
 abbrev pub Corner : Type 0
 Corner = ℕ → ℕ
 
@@ -41,7 +41,7 @@ IsLawful places (Cut at from first second) low high =
     ((at < places) × ((low at < from) × (from ≤ high at)))
     × (IsLawful places first low (put at (from - 1) high) × IsLawful places second (put at from low) high)
 
--- what is true of the boxes of all leaves of either kind
+-- what is true of the boxes of all leaves that are shown by their cost
 abbrev pub AllCostLeaves : (Corner → Corner → Type 0) → Tree → Corner → Corner → Type 0
 AllCostLeaves P Whole low high = ⊤
 AllCostLeaves P Cost low high = P low high

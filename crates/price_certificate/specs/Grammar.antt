@@ -28,10 +28,15 @@ objective_name objective.LogAvailability = codes "log-availability"
 abbrev pub objective_named : Token → Objective
 objective_named t = if bytes_eq t (codes "backorders") then objective.Backorders else objective.LogAvailability
 
+-- the word that stands for it
+abbrev pub objective_word : Text Objective
+objective_word = spelled objective_name objective_named (λ _. true)
+
 -- objective,NAME
 abbrev pub objective_fields : Format Objective
 objective_fields =
-    as_shape (and_then (word (codes "objective")) (λ _. one (spelled objective_name objective_named (λ _. true)))) (λ x. x.1) (λ o. (tt, o)) (λ _. true)
+    as_shape (and_then (word (codes "objective")) (λ _. one objective_word))
+    (λ x. x.1) (λ o. (tt, o)) (λ _. true)
 
 -- what format 1 aims at, which has no line for it
 abbrev pub aims_at_backorders : Objective → Bool
@@ -75,7 +80,9 @@ floors families = counted (codes "floors") families families (λ _. number_line 
 
 -- split,AT,FROM
 abbrev pub split_fields : Format (ℕ × ℕ)
-split_fields = as_shape (and_then (word (codes "split")) (λ _. and_then (one (number 0 143)) (λ _. one (number 1 63)))) (λ x. x.1) (λ x. (tt, x)) (λ _. true)
+split_fields =
+    as_shape (and_then (word (codes "split")) (λ _. and_then (one (number 0 143)) (λ _. one (number 1 63))))
+    (λ x. x.1) (λ x. (tt, x)) (λ _. true)
 
 -- split,AT,FROM or cost or whole
 abbrev pub node_text : Text (Either (ℕ × ℕ) (Either (Unit {0}) (Unit {0})))
@@ -107,7 +114,8 @@ is_empty covers = length covers == 0
 
 -- the cover of each family, where the format has covers
 abbrev pub covers : ℕ → ℕ → Format (List (List Node))
-covers format families = if format == 2 then counted (codes "covers") families families (λ _. cover) else no_field [] is_empty
+covers format families = if format == 2 then counted (codes "covers") families families (λ _. cover)
+    else no_field [] is_empty
 
 -- ---- stocks, by part and then by site
 
@@ -121,13 +129,26 @@ stocks c =
     as_shape (stock_lines (pair_count (frame_rows c))) (λ list. record { sites = length c.sites; list = list })
     (λ s. s.list) (λ s. s.sites == length c.sites)
 
+-- ---- what stands after the price
+
+-- upper,U, the upper end, bound,B, and then the word end
+abbrev pub ending : Format (ℕ × (ℕ × Unit {0}))
+ending = and_then (count_line (codes "upper") 0 (2 ^ 85))
+    (λ _. and_then (count_line (codes "bound") 0 (2 ^ 85)) (λ _. word_line (codes "end")))
+
+-- floors, covers, stocks, and the last three lines
+abbrev pub lists : ℕ → CaseRows → Format (List ℕ × (List (List Node) × (StockList × (ℕ × (ℕ × Unit {0})))))
+lists format c = and_then (floors (family_count c.parts))
+    (λ _. and_then (covers format (family_count c.parts)) (λ _. and_then (stocks c) (λ _. ending)))
+
 -- ---- a certificate, of this format or a later one
 
--- objective, case, budget, price, floors, covers, stocks, upper end and bound, and then the word end
+-- objective, case, budget, price, and the lists with the last three lines
 abbrev pub certificate_format : ℕ → Format Certificate
 certificate_format least =
     as_shape
-    (and_then (count_line (codes "spares-certificate") least 2) (λ format. and_then (objective_line format) (λ _. and_then case_format (λ c. and_then budget_line (λ _. and_then price_line (λ _. and_then (floors (family_count c.parts)) (λ _. and_then (covers format (family_count c.parts)) (λ _. and_then (stocks c) (λ _. and_then (count_line (codes "upper") 0 (2 ^ 85)) (λ _. and_then (count_line (codes "bound") 0 (2 ^ 85)) (λ _. word_line (codes "end"))))))))))))
+    (and_then (count_line (codes "spares-certificate") least 2) (λ format. and_then (objective_line format)
+    (λ _. and_then case_format (λ c. and_then budget_line (λ _. and_then price_line (λ _. lists format c))))))
     (λ x. record {
       format = x.0;
       objective = x.1.0;

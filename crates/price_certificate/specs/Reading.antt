@@ -1,9 +1,8 @@
 -- What is read before the case is made.
-use Rattle.std.specs.Prelude.{ℕ, ◌^◌, List, Bool, length, if◌then◌else◌}
-use Rattle.line_text.specs.Formats.{Text, Format, and_then}
+use Rattle.std.specs.Prelude.{ℕ, List, Bool, length, if◌then◌else◌}
+use Rattle.line_text.specs.Formats.{Text}
 use Rattle.line_text.specs.Files.{line}
-use Rattle.line_text.specs.Texts.{word, word_line, count_line, Either, Left, Right, either}
-use Rattle.spares_input.specs.Cases.{CaseRows}
+use Rattle.line_text.specs.Texts.{word, Either, Left, Right, either}
 use Rattle.spares_input.specs.Stocks.{StockList}
 use Rattle.case_reading.specs.Framed.{rows_of}
 use Rattle.price_certificate.specs.declared.certificate.Certificate.{Certificate}
@@ -11,7 +10,6 @@ use Rattle.price_certificate.specs.declared.certificate.Node.{Node}
 use Rattle.price_certificate.specs.declared.reading.CertificateLines.{CertificateLines}
 use Rattle.price_certificate.specs.declared.reading.Lists.{Lists}
 use Rattle.price_certificate.specs.declared.reading.Ending.{Ending}
-use Rattle.price_certificate.specs.Grammar.{family_count, floors, covers, stocks}
 use lib.Chars.{codes}
 
 -- cost or whole
@@ -21,15 +19,6 @@ leaf_text = either (line (word (codes "cost"))) (line (word (codes "whole")))
 -- the leaf that is shown whole, or the one that is shown by its cost
 abbrev pub leaf_named : Bool → Either (Unit {0}) (Unit {0})
 leaf_named is_whole = if is_whole then Right tt else Left tt
-
--- the last three lines
-abbrev pub ending : Format (ℕ × (ℕ × Unit {0}))
-ending = and_then (count_line (codes "upper") 0 (2 ^ 85)) (λ _. and_then (count_line (codes "bound") 0 (2 ^ 85)) (λ _. word_line (codes "end")))
-
--- what stands after the price
-abbrev pub lists : ℕ → CaseRows → Format (List ℕ × (List (List Node) × (StockList × (ℕ × (ℕ × Unit {0})))))
-lists format c = and_then (floors (family_count c.parts))
-    (λ _. and_then (covers format (family_count c.parts)) (λ _. and_then (stocks c) (λ _. ending)))
 
 -- the values of the last three lines
 abbrev pub ending_of : Ending → ℕ × (ℕ × Unit {0})

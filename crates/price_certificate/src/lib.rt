@@ -25,3 +25,6 @@ pub use reading::{
 };
 pub use trimming::{trim, trimmed_covers};
 pub use writing::text;
+
+/// Most bytes of a certificate.
+pub const CERTIFICATE_LIMIT: usize = 16_777_216;

@@ -1,6 +1,6 @@
 //! Reading a line with a number, and then so many lines.
 
-ghost use Rattle.std.specs.Prelude.{◌≡◌, ◌^◌, ◌≤◌};
+ghost use Rattle.std.specs.Prelude.{◌^◌};
 ghost use Rattle.line_text.specs.Formats.{each};
 ghost use Rattle.line_text.specs.Texts.{counted, numbers_from};
 ghost use Rattle.line_text.specs.Reading.{Gathers};
@@ -87,7 +87,8 @@ fn all_covers(
     lines: &mut Lines<'_>,
     families: usize,
 ) -> Result<Vec<List<Node>>, Stop<BadLine>>
-    ensures { Gathers (λ v. v.items) result lines.new ((counted (codes "covers") families families (λ _. cover)).read lines.old) }
+    ensures { Gathers (λ v. v.items) result lines.new
+        ((counted (codes "covers") families families (λ _. cover)).read lines.old) }
 {
     let count = count_line(lines, b"covers", families as u128, families as u128)?;
     let found = each_cover(alloc, lines, count as usize)?;

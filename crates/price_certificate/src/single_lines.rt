@@ -1,44 +1,29 @@
 //! Reading lines that stand alone.
 
-ghost use Rattle.std.specs.Prelude.{◌≡◌, ◌^◌, ◌<◌, true};
-ghost use Rattle.line_text.specs.Formats.{accepted, read_all, one, spelled};
+ghost use Rattle.std.specs.Prelude.{◌≡◌, ◌^◌, ◌<◌};
+ghost use Rattle.line_text.specs.Formats.{accepted, read_all, one};
 ghost use Rattle.line_text.specs.Files.{line};
 ghost use Rattle.line_text.specs.Texts.{number};
 ghost use Rattle.line_text.specs.Reading.{Reads, Takes};
 ghost use Rattle.price_certificate.specs.Reading.{leaf_text, leaf_named};
-ghost use Rattle.price_certificate.specs.Grammar.{objective_name, objective_named, objective_fields, objective_line, price_fields, price_line, split_fields, node_line};
-ghost use Rattle.line_text.specs.Texts.{number_line};
+ghost use Rattle.price_certificate.specs.Grammar.{objective_word, objective_fields, objective_line, price_fields, price_line, split_fields, node_line};
 
 use crate::certificate::{Node, Objective};
 use hull::Price;
 use line_text::{BadLine, Fields, Lines, word_line};
 
-/// The objective of this name.
-fn objective_of(name: &[u8]) -> Option<Objective>
-    ensures { result ≡ (spelled objective_name objective_named (λ _. true)).read name.now }
-{
-    if name == b"backorders".as_slice() {
-        return Some(Objective::Backorders);
-    }
-    if name == b"log-availability".as_slice() {
-        return Some(Objective::LogAvailability);
-    }
-    None
-}
-
 /// Takes the name of an objective.
 #[tactic(auto, using(line_text::proofs::Cursors::field_read, line_text::proofs::Cursors::field_refused, line_text::proofs::Cursors::none_left))]
 fn objective_in(fields: &mut Fields<'_>) -> Option<Objective>
-    ensures { Takes (λ o. o) result fields.new
-        ((one (spelled objective_name objective_named (λ _. true))).read fields.old) }
+    ensures { Takes (λ o. o) result fields.new ((one objective_word).read fields.old) }
 {
     let Some(name) = fields.next() else {
         return None;
     };
-    objective_of(name)
+    Objective::named(name)
 }
 
-/// objective,NAME
+/// Takes `objective,NAME`.
 fn aim_of(fields: &mut Fields<'_>) -> Option<Objective>
     ensures { Takes (λ o. o) result fields.new (objective_fields.read fields.old) }
 {
@@ -85,7 +70,7 @@ pub(crate) fn objective_line(lines: &mut Lines<'_>, format: u8) -> Result<Object
     }
 }
 
-/// price,P,Q
+/// Takes `price,P,Q`.
 fn price_of(fields: &mut Fields<'_>) -> Option<Price>
     ensures { Takes (λ p. p) result fields.new (price_fields.read fields.old) }
 {
@@ -119,7 +104,7 @@ pub(crate) fn price_line(lines: &mut Lines<'_>) -> Result<Price, BadLine>
     }
 }
 
-/// split,AT,FROM
+/// Takes `split,AT,FROM`.
 fn split_of(fields: &mut Fields<'_>) -> Option<(u128, u128)>
     ensures { Takes (λ s. s) result fields.new (split_fields.read fields.old) }
 {

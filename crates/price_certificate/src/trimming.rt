@@ -169,7 +169,8 @@ fn trim_family(
 
 /// The cover of a family that is shown by its cost where that is enough: at each place of its vectors in turn, where
 /// the least stock above what is held at which the place alone costs the floor may stand, a cut there, whose second
-/// part is shown by its cost. What is left is shown whole; with the price 0 that is all.
+/// part is shown by its cost. What is left is shown whole; with the price 0 that is all. Want of memory is the only
+/// error.
 pub fn trim(
     alloc: Global,
     case: &Case,

@@ -24,10 +24,9 @@ use std::alloc::Global;
 fn put_objective(out: &mut Vec<u8>, objective: &Objective) -> Result<(), NoMemory>
     ensures { OnOk result (out.new.items ≡ out.old.items ++ (line objective_fields).print objective.now) }
 {
-    match objective {
-        Objective::Backorders => out.extend_from_slice(b"objective,backorders\n")?,
-        Objective::LogAvailability => out.extend_from_slice(b"objective,log-availability\n")?,
-    }
+    out.extend_from_slice(b"objective,")?;
+    out.extend_from_slice(objective.word())?;
+    out.push(b'\n')?;
     Ok(())
 }
 
@@ -204,6 +203,7 @@ fn put_certificate(
 }
 
 /// The text of a certificate: its lines, each number without needless zeros in front, and nothing after the last line.
+/// Want of memory is the only error.
 pub fn text(alloc: Global, certificate: &Certificate) -> Result<Vec<u8>, NoMemory>
     requires { IsWellFormed certificate.now }
     ensures { IfOk result (λ bytes. bytes.items ≡ cert_text certificate.now) }

@@ -83,19 +83,23 @@ words_text (Range which) = codes "range," ++ which_text which
 -- a fault of a table: its file, and the row and the column where it has them
 abbrev pub table_text : File → TableFault → List ℕ
 table_text file table.NoHeader = codes "no-header," ++ file_text file
-table_text file (table.FieldCount row found) = codes "field-count," ++ (file_text file ++ (number_field row ++ number_field found))
+table_text file (table.FieldCount row found) =
+    codes "field-count," ++ (file_text file ++ (number_field row ++ number_field found))
 table_text file (table.Header column) = codes "header," ++ (file_text file ++ number_field column)
 table_text file table.TooManyRows = codes "too-many-rows," ++ file_text file
-table_text file (table.BadName row column) = codes "bad-name," ++ (file_text file ++ (number_field row ++ number_field column))
+table_text file (table.BadName row column) =
+    codes "bad-name," ++ (file_text file ++ (number_field row ++ number_field column))
 table_text file (table.BadKind row) = codes "bad-kind," ++ (file_text file ++ number_field row)
 table_text file (table.UnknownPart row) = codes "unknown-part," ++ (file_text file ++ number_field row)
 table_text file (table.UnknownSite row) = codes "unknown-site," ++ (file_text file ++ number_field row)
-table_text file (table.FieldEmpty row column) = codes "field-empty," ++ (file_text file ++ (number_field row ++ number_field column))
+table_text file (table.FieldEmpty row column) =
+    codes "field-empty," ++ (file_text file ++ (number_field row ++ number_field column))
 table_text file (table.FieldNotEmpty row column) =
     codes "field-not-empty," ++ (file_text file ++ (number_field row ++ number_field column))
 table_text file (table.BadNumber row column fault) =
     codes "bad-number," ++ (file_text file ++ (number_field row ++ number_field column))
-table_text file (table.OutOfRange row column) = codes "out-of-range," ++ (file_text file ++ (number_field row ++ number_field column))
+table_text file (table.OutOfRange row column) =
+    codes "out-of-range," ++ (file_text file ++ (number_field row ++ number_field column))
 
 -- a rule of a case that is broken: the row, or the pair by its names
 abbrev pub case_text : FrameRows → CaseFault → List ℕ
@@ -140,9 +144,12 @@ reject_text names (reject.OverBudget cost) = codes "rejected,over-budget" ++ num
 reject_text names (reject.FloorTooHigh family floor least) =
     codes "rejected,floor-too-high" ++ (number_field family ++ (number_field floor ++ number_field least))
 reject_text names (reject.LeafTooLow family leaf floor least) =
-    codes "rejected,leaf-too-low" ++ (number_field family ++ (number_field leaf ++ (number_field floor ++ number_field least)))
-reject_text names (reject.UpperTooLow claimed upper) = codes "rejected,upper-too-low" ++ (number_field claimed ++ number_field upper)
-reject_text names (reject.BoundTooHigh claimed largest) = codes "rejected,bound-too-high" ++ (number_field claimed ++ number_field largest)
+    codes "rejected,leaf-too-low"
+    ++ (number_field family ++ (number_field leaf ++ (number_field floor ++ number_field least)))
+reject_text names (reject.UpperTooLow claimed upper) =
+    codes "rejected,upper-too-low" ++ (number_field claimed ++ number_field upper)
+reject_text names (reject.BoundTooHigh claimed largest) =
+    codes "rejected,bound-too-high" ++ (number_field claimed ++ number_field largest)
 
 -- the refused rates of a plan of the edits are told by its line alone
 abbrev pub edit_text : EditFault → List ℕ

@@ -47,45 +47,45 @@ pub fn failure_of(stop: Stop<Failure>) -> Failure
 
 impl Line {
     /// Appends what is wrong with words.
-    pub(crate) fn push_words(&mut self, fault: WordsFault)
+    pub(crate) fn put_words(&mut self, fault: WordsFault)
         requires { length self.old ≤ 6 }
         ensures text { self.new ≡ self.old ++ words_text fault }
         ensures short { length self.new ≤ 159 }
     {
         match fault {
-            WordsFault::Shape => self.push_all(b"words"),
+            WordsFault::Shape => self.put(b"words"),
             WordsFault::Number(which, _) => {
-                self.push_all(b"number,");
-                self.push_all(which_text(which));
+                self.put(b"number,");
+                self.put(which_text(which));
             }
             WordsFault::Range(which) => {
-                self.push_all(b"range,");
-                self.push_all(which_text(which));
+                self.put(b"range,");
+                self.put(which_text(which));
             }
         }
     }
 
     /// Appends what was wrong and where.
-    pub(crate) fn push_refusal(&mut self, frame: Option<&Frame>, refusal: &Refusal)
+    pub(crate) fn put_refusal(&mut self, frame: Option<&Frame>, refusal: &Refusal)
         requires { length self.old ≤ 6 }
         ensures text { self.new ≡ self.old ++ refusal_text
             (names_of (option_map (λ f. f.now) frame.entry)) refusal.now }
         ensures short { length self.new ≤ 159 }
     {
         match refusal {
-            Refusal::Words(fault) => self.push_words(*fault),
-            Refusal::ReadFault(file) => self.push_file(b"read,", *file),
-            Refusal::TooLong(file) => self.push_file(b"too-long,", *file),
-            Refusal::Table(file, fault) => self.push_table(*file, *fault),
-            Refusal::Case(fault) => self.push_case(frame, *fault),
-            Refusal::Stock(fault) => self.push_stock(frame, *fault),
-            Refusal::Rate(fault) => self.push_rate(frame, *fault),
-            Refusal::Work(count) => self.push_count(b"work", *count),
-            Refusal::Cert(fault) => self.push_certificate(*fault),
-            Refusal::Rejected(reject) => self.push_reject(frame, *reject),
-            Refusal::Edit(fault) => self.push_edit(*fault),
-            Refusal::WriteFault => self.push_all(b"write"),
-            Refusal::NoMemory => self.push_all(b"memory"),
+            Refusal::Words(fault) => self.put_words(*fault),
+            Refusal::ReadFault(file) => self.put_file(b"read,", *file),
+            Refusal::TooLong(file) => self.put_file(b"too-long,", *file),
+            Refusal::Table(file, fault) => self.put_table(*file, *fault),
+            Refusal::Case(fault) => self.put_case(frame, *fault),
+            Refusal::Stock(fault) => self.put_stock(frame, *fault),
+            Refusal::Rate(fault) => self.put_rate(frame, *fault),
+            Refusal::Work(count) => self.put_count(b"work", *count),
+            Refusal::Cert(fault) => self.put_certificate(*fault),
+            Refusal::Rejected(reject) => self.put_reject(frame, *reject),
+            Refusal::Edit(fault) => self.put_edit(*fault),
+            Refusal::WriteFault => self.put(b"write"),
+            Refusal::NoMemory => self.put(b"memory"),
         }
     }
 }
@@ -116,8 +116,8 @@ fn refusal_line(frame: Option<&Frame>, refusal: &Refusal) -> Line
     ensures { result ≡ line_of (names_of (option_map (λ f. f.now) frame.entry)) refusal.now }
 {
     let mut line = Line::new();
-    line.push_all(b"fault,");
-    line.push_refusal(frame, refusal);
+    line.put(b"fault,");
+    line.put_refusal(frame, refusal);
     line.push(b'\n');
     line
 }

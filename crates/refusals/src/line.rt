@@ -47,7 +47,7 @@ impl Line {
     }
 
     /// Appends these bytes.
-    pub(crate) fn push_all(&mut self, piece: &[u8])
+    pub(crate) fn put(&mut self, piece: &[u8])
         requires { length self.old + length piece.now ≤ 160 }
         ensures { self.new ≡ self.old ++ piece.now }
     {
@@ -55,70 +55,70 @@ impl Line {
     }
 
     /// Appends a further field with a number, which has at most 10 digits.
-    pub(crate) fn push_number(&mut self, number: u32)
+    pub(crate) fn put_number(&mut self, number: u32)
         requires { length self.old ≤ 149 }
         ensures text { self.new ≡ self.old ++ number_field number }
         ensures short { length self.new ≤ length self.old + 11 }
     {
         let mut digits = Buffer::new();
         self.push(b',');
-        self.push_all(digits.format(number).as_bytes());
+        self.put(digits.format(number).as_bytes());
     }
 
     /// Appends a further field with a number of up to 128 bits, which has at most 39 digits.
-    pub(crate) fn push_wide(&mut self, number: u128)
+    pub(crate) fn put_wide(&mut self, number: u128)
         requires { length self.old ≤ 119 }
         ensures text { self.new ≡ self.old ++ number_field number }
         ensures short { length self.new ≤ length self.old + 41 }
     {
         let mut digits = Buffer::new();
         self.push(b',');
-        self.push_all(digits.format(number).as_bytes());
+        self.put(digits.format(number).as_bytes());
     }
 
     /// Appends what is wrong, and a number.
-    pub(crate) fn push_at_row(&mut self, head: &'static [u8], row: u32)
+    pub(crate) fn put_at_row(&mut self, head: &'static [u8], row: u32)
         requires old { length self.old ≤ 6 }
         requires head { length head.now ≤ 20 }
         ensures text { self.new ≡ self.old ++ (head.now ++ number_field row) }
         ensures short { length self.new ≤ 159 }
     {
-        self.push_all(head);
-        self.push_number(row);
+        self.put(head);
+        self.put_number(row);
     }
 
     /// Appends what is wrong, and the file.
-    pub(crate) fn push_file(&mut self, head: &'static [u8], file: File)
+    pub(crate) fn put_file(&mut self, head: &'static [u8], file: File)
         requires old { length self.old ≤ 6 }
         requires head { length head.now ≤ 16 }
         ensures text { self.new ≡ self.old ++ (head.now ++ file_text file) }
         ensures short { length self.new ≤ 33 }
     {
-        self.push_all(head);
-        self.push_all(file_text(file));
+        self.put(head);
+        self.put(file_text(file));
     }
 
     /// Appends what is wrong, the file, and a number.
-    pub(crate) fn push_in_file(&mut self, head: &'static [u8], file: File, number: u32)
+    pub(crate) fn put_in_file(&mut self, head: &'static [u8], file: File, number: u32)
         requires old { length self.old ≤ 6 }
         requires head { length head.now ≤ 16 }
         ensures text { self.new ≡ self.old ++ (head.now ++ (file_text file ++ number_field number)) }
         ensures short { length self.new ≤ 45 }
     {
-        self.push_file(head, file);
-        self.push_number(number);
+        self.put_file(head, file);
+        self.put_number(number);
     }
 
     /// Appends what is wrong, the file, and two numbers.
-    pub(crate) fn push_at_field(&mut self, head: &'static [u8], file: File, row: u32, number: u32)
+    pub(crate) fn put_at_field(&mut self, head: &'static [u8], file: File, row: u32, number: u32)
         requires old { length self.old ≤ 6 }
         requires head { length head.now ≤ 16 }
         ensures text { self.new ≡ self.old ++ (head.now
             ++ (file_text file ++ (number_field row ++ number_field number))) }
         ensures short { length self.new ≤ 159 }
     {
-        self.push_in_file(head, file, row);
-        self.push_number(number);
+        self.put_in_file(head, file, row);
+        self.put_number(number);
     }
 }
 

@@ -10,23 +10,23 @@ use spares_input::{CaseFault, Frame, PartId, SiteId, StockFault};
 
 impl Line {
     /// Appends the names of a pair, which stand in the frame, if there is one.
-    pub(crate) fn push_pair(&mut self, frame: Option<&Frame>, part: PartId, site: SiteId)
+    pub(crate) fn put_pair(&mut self, frame: Option<&Frame>, part: PartId, site: SiteId)
         requires { length self.old ≤ 34 }
         ensures text { self.new ≡ self.old ++ pair_text (names_of (option_map (λ f. f.now) frame.entry)) part site }
         ensures short { length self.new ≤ 83 }
     {
         match frame {
             Some(frame) => {
-                self.push_all(part_name(frame, part));
+                self.put(part_name(frame, part));
                 self.push(b',');
-                self.push_all(site_name(frame, site));
+                self.put(site_name(frame, site));
             }
             None => self.push(b','),
         }
     }
 
     /// Appends what is wrong, and a pair.
-    pub(crate) fn push_at_pair(
+    pub(crate) fn put_at_pair(
         &mut self,
         head: &'static [u8],
         frame: Option<&Frame>,
@@ -39,49 +39,49 @@ impl Line {
             ++ pair_text (names_of (option_map (λ f. f.now) frame.entry)) part site) }
         ensures short { length self.new ≤ 159 }
     {
-        self.push_all(head);
-        self.push_pair(frame, part, site);
+        self.put(head);
+        self.put_pair(frame, part, site);
     }
 
     /// Appends what is wrong with a case.
-    pub(crate) fn push_case(&mut self, frame: Option<&Frame>, fault: CaseFault)
+    pub(crate) fn put_case(&mut self, frame: Option<&Frame>, fault: CaseFault)
         requires { length self.old ≤ 6 }
         ensures text { self.new ≡ self.old ++ case_text (names_of (option_map (λ f. f.now) frame.entry)) fault }
         ensures short { length self.new ≤ 159 }
     {
         match fault {
-            CaseFault::DoubleSite(row) => self.push_at_row(b"double-site", row),
-            CaseFault::TwoDepots(row) => self.push_at_row(b"two-depots", row),
-            CaseFault::NoDepot => self.push_all(b"no-depot"),
-            CaseFault::NoBase => self.push_all(b"no-base"),
-            CaseFault::DoublePart(row) => self.push_at_row(b"double-part", row),
-            CaseFault::UnknownParent(row) => self.push_at_row(b"unknown-parent", row),
-            CaseFault::ParentNotLine(row) => self.push_at_row(b"parent-not-line", row),
-            CaseFault::TooManyShopUnits(row) => self.push_at_row(b"too-many-shop-units", row),
-            CaseFault::DoubleRate(row) => self.push_at_row(b"double-rate", row),
+            CaseFault::DoubleSite(row) => self.put_at_row(b"double-site", row),
+            CaseFault::TwoDepots(row) => self.put_at_row(b"two-depots", row),
+            CaseFault::NoDepot => self.put(b"no-depot"),
+            CaseFault::NoBase => self.put(b"no-base"),
+            CaseFault::DoublePart(row) => self.put_at_row(b"double-part", row),
+            CaseFault::UnknownParent(row) => self.put_at_row(b"unknown-parent", row),
+            CaseFault::ParentNotLine(row) => self.put_at_row(b"parent-not-line", row),
+            CaseFault::TooManyShopUnits(row) => self.put_at_row(b"too-many-shop-units", row),
+            CaseFault::DoubleRate(row) => self.put_at_row(b"double-rate", row),
             CaseFault::MissingRate(part, site) => {
-                self.push_at_pair(b"missing-rate,", frame, part, site)
+                self.put_at_pair(b"missing-rate,", frame, part, site)
             }
         }
     }
 
     /// Appends what is wrong with stocks.
-    pub(crate) fn push_stock(&mut self, frame: Option<&Frame>, fault: StockFault)
+    pub(crate) fn put_stock(&mut self, frame: Option<&Frame>, fault: StockFault)
         requires { length self.old ≤ 6 }
         ensures text { self.new ≡ self.old ++ stock_text (names_of (option_map (λ f. f.now) frame.entry)) fault }
         ensures short { length self.new ≤ 159 }
     {
         match fault {
-            StockFault::OverLimit(row) => self.push_at_row(b"over-limit", row),
-            StockFault::Double(row) => self.push_at_row(b"double-stock", row),
+            StockFault::OverLimit(row) => self.put_at_row(b"over-limit", row),
+            StockFault::Double(row) => self.put_at_row(b"double-stock", row),
             StockFault::Missing(part, site) => {
-                self.push_at_pair(b"missing-stock,", frame, part, site)
+                self.put_at_pair(b"missing-stock,", frame, part, site)
             }
         }
     }
 
     /// Appends what is wrong with a pipeline, and where it stands.
-    pub(crate) fn push_place(&mut self, head: &'static [u8], frame: Option<&Frame>, place: Place)
+    pub(crate) fn put_place(&mut self, head: &'static [u8], frame: Option<&Frame>, place: Place)
         requires old { length self.old ≤ 6 }
         requires head { length head.now ≤ 20 }
         ensures text { self.new ≡ self.old ++ (head.now
@@ -90,28 +90,28 @@ impl Line {
     {
         match place {
             Place::Single => {
-                self.push_all(head);
-                self.push_all(b"single");
+                self.put(head);
+                self.put(b"single");
             }
-            Place::Pair(part, site) => self.push_at_pair(head, frame, part, site),
+            Place::Pair(part, site) => self.put_at_pair(head, frame, part, site),
         }
     }
 
     /// Appends why a pipeline is refused.
-    pub(crate) fn push_rate(&mut self, frame: Option<&Frame>, fault: RateFault)
+    pub(crate) fn put_rate(&mut self, frame: Option<&Frame>, fault: RateFault)
         requires { length self.old ≤ 6 }
         ensures text { self.new ≡ self.old ++ rate_text (names_of (option_map (λ f. f.now) frame.entry)) fault }
         ensures short { length self.new ≤ 159 }
     {
         match fault {
             RateFault::ThinPipeline { place, .. } => {
-                self.push_place(b"thin-pipeline,", frame, place)
+                self.put_place(b"thin-pipeline,", frame, place)
             }
             RateFault::PipelineTooLarge { place, .. } => {
-                self.push_place(b"pipeline-too-large,", frame, place)
+                self.put_place(b"pipeline-too-large,", frame, place)
             }
             RateFault::PipelineRatio { place, .. } => {
-                self.push_place(b"pipeline-ratio,", frame, place)
+                self.put_place(b"pipeline-ratio,", frame, place)
             }
         }
     }

@@ -10,30 +10,30 @@ use spares_input::{Frame, PartId, SiteId};
 
 impl Line {
     /// Appends what is wrong, and a count.
-    pub(crate) fn push_count(&mut self, head: &'static [u8], count: u64)
+    pub(crate) fn put_count(&mut self, head: &'static [u8], count: u64)
         requires old { length self.old ≤ 6 }
         requires head { length head.now ≤ 24 }
         ensures text { self.new ≡ self.old ++ (head.now ++ number_field count) }
         ensures short { length self.new ≤ 159 }
     {
-        self.push_all(head);
-        self.push_wide(u128::from(count));
+        self.put(head);
+        self.put_wide(u128::from(count));
     }
 
     /// Appends what is wrong, and two wide numbers.
-    fn push_two(&mut self, head: &'static [u8], first: u128, second: u128)
+    fn put_two(&mut self, head: &'static [u8], first: u128, second: u128)
         requires old { length self.old ≤ 6 }
         requires head { length head.now ≤ 24 }
         ensures text { self.new ≡ self.old ++ (head.now ++ (number_field first ++ number_field second)) }
         ensures short { length self.new ≤ 159 }
     {
-        self.push_all(head);
-        self.push_wide(first);
-        self.push_wide(second);
+        self.put(head);
+        self.put_wide(first);
+        self.put_wide(second);
     }
 
     /// Appends what is wrong with a pair, and its stock.
-    fn push_stock_at(
+    fn put_stock_at(
         &mut self,
         head: &'static [u8],
         frame: Option<&Frame>,
@@ -47,85 +47,85 @@ impl Line {
             ++ (pair_text (names_of (option_map (λ f. f.now) frame.entry)) part site ++ number_field stock)) }
         ensures short { length self.new ≤ 159 }
     {
-        self.push_all(head);
-        self.push_pair(frame, part, site);
-        self.push_number(u32::from(stock));
+        self.put(head);
+        self.put_pair(frame, part, site);
+        self.put_number(u32::from(stock));
     }
 
     /// Appends why bytes are no certificate.
-    pub(crate) fn push_certificate(&mut self, fault: CertFault)
+    pub(crate) fn put_certificate(&mut self, fault: CertFault)
         requires { length self.old ≤ 6 }
         ensures text { self.new ≡ self.old ++ cert_text fault }
         ensures short { length self.new ≤ 159 }
     {
         match fault {
-            CertFault::BadLine(line) => self.push_at_row(b"bad-line", line),
-            CertFault::BadCase(_) => self.push_all(b"bad-case"),
+            CertFault::BadLine(line) => self.put_at_row(b"bad-line", line),
+            CertFault::BadCase(_) => self.put(b"bad-case"),
         }
     }
 
     /// Appends a family with a floor, and what its value is.
-    fn push_floor(&mut self, head: &'static [u8], family: u32, floor: u128, least: u128)
+    fn put_floor(&mut self, head: &'static [u8], family: u32, floor: u128, least: u128)
         requires old { length self.old ≤ 6 }
         requires head { length head.now ≤ 24 }
         ensures text { self.new ≡ self.old ++ (head.now
             ++ (number_field family ++ (number_field floor ++ number_field least))) }
         ensures short { length self.new ≤ 159 }
     {
-        self.push_all(head);
-        self.push_number(family);
-        self.push_wide(floor);
-        self.push_wide(least);
+        self.put(head);
+        self.put_number(family);
+        self.put_wide(floor);
+        self.put_wide(least);
     }
 
     /// Appends a leaf of a family with the family's floor, and what its value is.
-    fn push_leaf(&mut self, head: &'static [u8], family: u32, leaf: u32, floor: u128, least: u128)
+    fn put_leaf(&mut self, head: &'static [u8], family: u32, leaf: u32, floor: u128, least: u128)
         requires old { length self.old ≤ 6 }
         requires head { length head.now ≤ 24 }
         ensures text { self.new ≡ self.old ++ (head.now
             ++ (number_field family ++ (number_field leaf ++ (number_field floor ++ number_field least)))) }
         ensures short { length self.new ≤ 159 }
     {
-        self.push_all(head);
-        self.push_number(family);
-        self.push_number(leaf);
-        self.push_wide(floor);
-        self.push_wide(least);
+        self.put(head);
+        self.put_number(family);
+        self.put_number(leaf);
+        self.put_wide(floor);
+        self.put_wide(least);
     }
 
     /// Appends the first rule that a certificate breaks.
-    pub(crate) fn push_reject(&mut self, frame: Option<&Frame>, reject: Reject)
+    pub(crate) fn put_reject(&mut self, frame: Option<&Frame>, reject: Reject)
         requires { length self.old ≤ 6 }
         ensures text { self.new ≡ self.old ++ reject_text (names_of (option_map (λ f. f.now) frame.entry)) reject }
         ensures short { length self.new ≤ 159 }
     {
         match reject {
-            Reject::Rate(_) => self.push_all(b"rejected,rate"),
-            Reject::CoverGap { family } => self.push_at_row(b"rejected,cover-gap", family),
-            Reject::WorkTooLarge(count) => self.push_count(b"rejected,work", count),
+            Reject::Rate(_) => self.put(b"rejected,rate"),
+            Reject::CoverGap { family } => self.put_at_row(b"rejected,cover-gap", family),
+            Reject::WorkTooLarge(count) => self.put_count(b"rejected,work", count),
             Reject::StocksOverLimit { part, site, stock } => {
-                self.push_stock_at(b"rejected,stocks-over-limit,", frame, part, site, stock)
+                self.put_stock_at(b"rejected,stocks-over-limit,", frame, part, site, stock)
             }
             Reject::StocksBelowHeld { part, site, stock } => {
-                self.push_stock_at(b"rejected,stocks-below-held,", frame, part, site, stock)
+                self.put_stock_at(b"rejected,stocks-below-held,", frame, part, site, stock)
             }
-            Reject::OverBudget { cost } => self.push_count(b"rejected,over-budget", cost),
+            Reject::OverBudget { cost } => self.put_count(b"rejected,over-budget", cost),
             Reject::FloorTooHigh {
                 family,
                 floor,
                 least,
-            } => self.push_floor(b"rejected,floor-too-high", family, floor, least),
+            } => self.put_floor(b"rejected,floor-too-high", family, floor, least),
             Reject::LeafTooLow {
                 family,
                 leaf,
                 floor,
                 least,
-            } => self.push_leaf(b"rejected,leaf-too-low", family, leaf, floor, least),
+            } => self.put_leaf(b"rejected,leaf-too-low", family, leaf, floor, least),
             Reject::UpperTooLow { claimed, upper } => {
-                self.push_two(b"rejected,upper-too-low", claimed, upper)
+                self.put_two(b"rejected,upper-too-low", claimed, upper)
             }
             Reject::BoundTooHigh { claimed, largest } => {
-                self.push_two(b"rejected,bound-too-high", claimed, largest)
+                self.put_two(b"rejected,bound-too-high", claimed, largest)
             }
         }
     }

@@ -7,16 +7,16 @@ use case_edits::EditFault;
 
 impl Line {
     /// Appends why edits are refused. The refused rates of a plan are told by its line alone.
-    pub(crate) fn push_edit(&mut self, fault: EditFault)
+    pub(crate) fn put_edit(&mut self, fault: EditFault)
         requires { length self.old ≤ 6 }
         ensures text { self.new ≡ self.old ++ edit_text fault }
         ensures short { length self.new ≤ 159 }
     {
         match fault {
-            EditFault::TooManyLines => self.push_all(b"edit-lines"),
-            EditFault::BadLine(line) => self.push_at_row(b"edit", line),
-            EditFault::TooManyPlans(line) => self.push_at_row(b"edit-plans", line),
-            EditFault::Rate(line, _) => self.push_at_row(b"edit-rate", line),
+            EditFault::TooManyLines => self.put(b"edit-lines"),
+            EditFault::BadLine(line) => self.put_at_row(b"edit", line),
+            EditFault::TooManyPlans(line) => self.put_at_row(b"edit-plans", line),
+            EditFault::Rate(line, _) => self.put_at_row(b"edit-rate", line),
         }
     }
 }

@@ -1,5 +1,5 @@
 -- The order that the words of a command line give.
-use Rattle.std.specs.Prelude.{◌≡◌, ◌≤◌, ⊤, false, ℕ, List, [], ◌∷◌, Option, Some, None, IfSome, Result, Ok, Err, if◌then◌else◌, ◌&&◌, nat_le, codes, bytes_eq, unwrap_or}
+use Rattle.std.specs.Prelude.{◌≡◌, ◌≤◌, ⊤, false, ℕ, List, [], ◌∷◌, Option, Some, None, IfSome, Result, Ok, Err, if◌then◌else◌, ◌&&◌, nat_le, codes, unwrap_or}
 use Rattle.clap.specs.Words.{App, Row, Text, first_of, found_of, rows_of, matches_of, fault_of}
 use Rattle.clap.specs.Walk.{is_empty}
 use Rattle.clap.specs.declared.parser.matches.ArgMatches.{ArgMatches}
@@ -7,7 +7,7 @@ use Rattle.exact_ratio.specs.Decimal.{decimal_of}
 use Rattle.exact_ratio.specs.declared.Decimal.{Decimal}
 use Rattle.exact_ratio.specs.declared.NumberFault.{NumberFault}
 use Rattle.fixed_interval.specs.Widths.{is_width, IsWidth}
-use Rattle.price_certificate.specs.Grammar.{objective_name}
+use Rattle.price_certificate.specs.Grammar.{objective_word}
 use Rattle.price_certificate.specs.declared.certificate.Objective.{Objective}
 use Rattle.price_certificate.specs.declared.certificate.Objective.TheVariants as objective
 use Rattle.price_certificate.specs.declared.certificate.Terms.{Terms}
@@ -99,10 +99,7 @@ eval_of rows = eval_from (names_of rows) (text_of rows (codes "stocks")) (first_
 -- the objective of a text, if there is one of this name, and backorders where there is no text
 abbrev pub objective_of : Option Text → Option Objective
 objective_of None = Some objective.Backorders
-objective_of (Some name) =
-    if bytes_eq name (objective_name objective.Backorders) then Some objective.Backorders
-    else if bytes_eq name (objective_name objective.LogAvailability) then Some objective.LogAvailability
-    else None
+objective_of (Some name) = objective_word.read name
 
 -- an objective that was named must be there
 abbrev pub objective_from : Option Objective → Result Objective WordsFault
@@ -180,13 +177,17 @@ target_from names backorders_text = do
 abbrev pub target_of : List Row → Result Order WordsFault
 target_of rows = target_from (names_of rows) (text_of rows (codes "backorders"))
 
--- `session` and `compare` by the names of their files
+-- the order of `session` by the rows of its words
 abbrev pub session_of : List Row → Result Order WordsFault
-session_of rows = let names = names_of rows in Ok (Session names.sites names.parts names.rates (text_of rows (codes "edits")))
+session_of rows =
+    let names = names_of rows in
+    Ok (Session names.sites names.parts names.rates (text_of rows (codes "edits")))
 
 -- the order of `compare` by the rows of its words
 abbrev pub compare_of : List Row → Result Order WordsFault
-compare_of rows = let names = names_of rows in Ok (Compare names.sites names.parts names.rates (text_of rows (codes "stocks")))
+compare_of rows =
+    let names = names_of rows in
+    Ok (Compare names.sites names.parts names.rates (text_of rows (codes "stocks")))
 
 -- the order of a command, by what its arguments and options are given
 abbrev pub order_named : CommandName → List Row → Result Order WordsFault

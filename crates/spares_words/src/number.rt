@@ -97,11 +97,7 @@ pub(crate) fn objective_of(text: Option<&str>) -> Option<Objective>
     let Some(name) = text else {
         return Some(Objective::Backorders);
     };
-    match name {
-        "backorders" => Some(Objective::Backorders),
-        "log-availability" => Some(Objective::LogAvailability),
-        _ => None,
-    }
+    Objective::named(name.as_bytes())
 }
 
 /// The lowest format that a plan may have.

@@ -1,5 +1,5 @@
 //! What `clap` found for the arguments of a command.
-ghost use Rattle.std.specs.Prelude.{◌≡◌, codes, option_map, Ok};
+ghost use Rattle.std.specs.Prelude.{◌≡◌, option_map, Ok};
 ghost use Rattle.clap.specs.Words.{first_of, found_of, rows_of};
 ghost use Rattle.spares_io.specs.Answers.{Gives};
 ghost use Rattle.spares_words.specs.Order.{names_of, text_of};

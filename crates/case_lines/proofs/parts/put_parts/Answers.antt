@@ -1,6 +1,7 @@
 use Rattle.std.proofs.Common.{◌≡◌, ◌++◌, Bool, List, ℕ, length, ap, sym, ◌∙◌}
 use Rattle.std.specs.List.{concat}
 use Rattle.line_text.specs.Files.{file_text}
+use Rattle.spares_input.specs.Frames.{FrameRows}
 use Rattle.case_lines.specs.Grammar.{are_weighted, header, parts_line, part_lines}
 use Rattle.case_lines.proofs.Written.{back, parts_printed}
 use Rattle.case_lines.proofs.parts.put_parts.Goals as goal
@@ -10,7 +11,8 @@ returns c =
     let rows = c.args.case.now.parts in
     let out = c.args.out.now.items in
     let w = c.are_weighted-weighted.result in
-    let is : w ≡ are_weighted rows = c.are_weighted-weighted.ensures in
+    let is : w ≡ are_weighted rows =
+    c.are_weighted-weighted.ensures ∙ ap are_weighted (c.parts.ensures.rows ∙ ap (λ (f : FrameRows). f.parts) c.frame.ensures.frame) in
     let n = c.part_count.result in
     let count : n ≡ length rows = c.part_count.ensures.count in
     let lines = λ (b : Bool). concat ((part_lines b (length rows)).print rows) in
