@@ -15,7 +15,7 @@ use Rattle.step_walk.proofs.Going.{one_next}
 use Rattle.budget_sweep.specs.declared.report.SweepPoint.{SweepPoint}
 use Rattle.budget_sweep.specs.Sweep.{TellsPrice, IsStateAt, IsState, IsSweep, no_state, state_at}
 use Rattle.budget_sweep.specs.Choices.{IsPriceOf, IsChoiceAt, IsStateOf}
-use Rattle.budget_sweep.proofs.States_of.{IsPriced, end_price, at_end, at_step, room_left}
+use Rattle.budget_sweep.proofs.StatesOf.{IsPriced, end_price, at_end, at_step, room_left}
 
 -- ---- as many steps
 

@@ -1,4 +1,4 @@
-pub mod States_of
+pub mod StatesOf
 pub mod Together
 pub mod Taken
 pub mod Room

@@ -18,7 +18,7 @@ use Rattle.budget_sweep.specs.declared.report.SweepPoint.{SweepPoint}
 use Rattle.budget_sweep.specs.Sweep.{TellsPrice, IsState, IsSweep, no_state, state_at, last_state}
 use Rattle.budget_sweep.specs.Target.{cost_floor, floor_at, least_cost}
 use Rattle.budget_sweep.specs.Fits.{PointFits, PriceFits}
-use Rattle.budget_sweep.proofs.States_of.{all_below, cheaper_step}
+use Rattle.budget_sweep.proofs.StatesOf.{all_below, cheaper_step}
 use Rattle.budget_sweep.proofs.Together.{vertex_range, cost_room, hi_room}
 
 -- ---- what is small

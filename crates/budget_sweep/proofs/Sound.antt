@@ -20,7 +20,7 @@ use Rattle.budget_sweep.specs.declared.report.SweepPoint.{SweepPoint}
 use Rattle.budget_sweep.specs.Sweep.{IsState, state_at, last_state}
 use Rattle.budget_sweep.specs.Target.{units_below, units_above, least_cost}
 use Rattle.budget_sweep.specs.Cases.{IsSweepFor}
-use Rattle.budget_sweep.proofs.States_of.{none_lower, none_cheaper, none_reaches}
+use Rattle.budget_sweep.proofs.StatesOf.{none_lower, none_cheaper, none_reaches}
 
 -- ---- what costs as little as a point
 
@@ -133,6 +133,7 @@ module _ (families : List Family) (curves : List (List Point)) (points : List Sw
       limited target (lo_of (points_at families allocation)) (hi_of (points_at families allocation))
       (total_at n families allocation) (contained families n allocation e deep own) comes
 
+  -- where the last state's lower end is above the target, no allocation comes to the target
   pub none_come : units_above target < (last_state points).lo → (n : ℕ) (allocation : List (List ℕ)) → 1024 ≤ n
       → IsAllocation families allocation → total_at n families allocation ≤ℚ text_value 4 target → ⊥
   none_come over n allocation deep own comes =
@@ -141,6 +142,7 @@ module _ (families : List Family) (curves : List (List Point)) (points : List Sw
       (allocation_picks families allocation own) in
       omega (arith, least, most, over)
 
+  -- each allocation that comes to the target costs at least the least cost that the sweep tells of it
   pub all_cost : (n : ℕ) (allocation : List (List ℕ)) → 1024 ≤ n → IsAllocation families allocation
       → total_at n families allocation ≤ℚ text_value 4 target
       → least_cost (units_above target) points ≤ cost_at families allocation

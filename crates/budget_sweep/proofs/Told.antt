@@ -73,6 +73,7 @@ module _ (ends : ScoreEnds) (value : Value) (c : CaseRows) (held : List ℕ) (ac
         none_less ends value c held accepted encloses (state_at points k).cost (state_at points k).lo
         (none_fewer_at own curves points k (families_enclosed ends value c held accepted encloses) swept l)
 
+    -- each point of a case's sweep is true of the case
     pub point_true : (k : ℕ) → k < length points → IsTruePoint value c held (state_at points k)
     point_true k l = record {
       stocks = (stands k l).stocks;
@@ -118,6 +119,7 @@ module _ (ends : ScoreEnds) (value : Value) (c : CaseRows) (held : List ℕ) (ac
     told_least target None over = none_reach target over
     told_least target (Some least) is = subst (λ z. AllCost value c held target z) (sym is.1) (cost_all target)
 
+    -- what the sweep tells of a target is true of the case
     pub target_true : (report : TargetReport) → IsTold points report → IsTrueTarget value c held report
     target_true report t = record {
       reach = reached report.target.units report.reach t.reach;

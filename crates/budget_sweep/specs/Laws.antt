@@ -34,7 +34,7 @@ TargetsAreTrue =
     → IsAcceptedCase c → EnclosesValue ends value → IsCaseTarget ends c held target report
     → IsTrueTarget value c held report
 
--- a case has one sweep, and one report of a target
+-- a case has one sweep
 abbrev pub SweepsAreOne : Type 0
 SweepsAreOne =
     (ends : ScoreEnds) (c : CaseRows) (held : List ℕ) (one other : SweepReport)

@@ -6,7 +6,7 @@ use Rattle.budget_sweep.specs.declared.report.SweepPoint.{SweepPoint}
 use Rattle.budget_sweep.specs.declared.report.TargetReport.{TargetReport}
 use Rattle.budget_sweep.specs.Sweep.{state_at, last_state}
 
--- a target in units of 2^-48, rounded down and up
+-- a target in units of 2^-48, rounded down
 abbrev pub units_below : ℕ → ℕ
 units_below target = target * 2 ^ 48 / 10000
 

@@ -1,5 +1,5 @@
 //! The sweep.
-ghost use Rattle.std.specs.Prelude.{◌≡◌, ℕ, ◌≤◌, List, length, IfOk, OnOk};
+ghost use Rattle.std.specs.Prelude.{ℕ, ◌≤◌, List, length, IfOk, OnOk};
 ghost use Rattle.spares_input.specs.Cases.{CaseRows};
 ghost use Rattle.family_curve.specs.Points.{ScoreEnds};
 ghost use Rattle.step_walk.specs.Prefix.{HaveShapes};

@@ -92,7 +92,8 @@ fn put_least(text: &mut Vec<u8>, least: Option<u64>) -> Result<(), NoMemory>
 
 impl SweepReport {
     /// A line `sweep,COUNT`, and a line `point,COST,LO,HI,PRICE` for each state: both ends with 6 decimals, the lower
-    /// one rounded down, the upper one up, and the price with 12 decimals, rounded down, or `none`.
+    /// one rounded down, the upper one up, and the price with 12 decimals, rounded down, or `none`. Want of memory is
+    /// the only error.
     pub fn text(&self, alloc: Global) -> Result<Vec<u8>, NoMemory>
         requires { SweepFits self.now }
         ensures { IfOk result (λ text. text.items ≡ sweep_text self.now) }
@@ -106,7 +107,7 @@ impl SweepReport {
 
 impl TargetReport {
     /// Three lines, `target,X` with 4 decimals, `reach,COST,LO,HI` or `reach,none`, and `at-least,COST` or
-    /// `at-least,none`. The ends are printed as those of a sweep.
+    /// `at-least,none`. The ends are printed as those of a sweep. Want of memory is the only error.
     pub fn text(&self, alloc: Global) -> Result<Vec<u8>, NoMemory>
         requires { TargetFits self.now }
         ensures { IfOk result (λ text. text.items ≡ target_text self.now) }

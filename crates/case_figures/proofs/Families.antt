@@ -90,6 +90,7 @@ module _ (f : ℕ) (c : CaseRows) (t : StockList) where
       (each_in_range (λ i. IsItemOf f c (item_at_place f c t.list i)) (pair_count (frame_rows c)) 0
       (λ i a l. is_item m (i / length c.sites) (i % length c.sites) ((div-lt_iff_lt-mul some).1 (omega arith)) (omega (arith, some))))
 
+  -- each family of the case has its line unit's items first, and small numbers alone
   pub are_families : AreSmall → All (IsFamilyOf f c) (families_of f c t)
   are_families m =
       all_of (IsFamilyOf f c) (families_of f c t)
@@ -97,6 +98,7 @@ module _ (f : ℕ) (c : CaseRows) (t : StockList) where
       (each_that_passes (λ l. IsFamilyOf f c (family_of f c l t)) (λ p. is_line (part_at c.parts p)) (length c.parts) 0
       (λ l h e. is_family m l (omega arith) e)))
 
+  -- a case has at most 2000 families
   pub few_families : IsCase c → length (families_of f c t) ≤ 2000
   few_families v =
       omega (
@@ -175,6 +177,7 @@ module _ (f : ℕ) (c : CaseRows) (t : StockList) where
       → weighted ≡ map (weighted_from f c families) (bases c) → weighted ≡ map (weighted_at f c t.list) (bases c)
   weighted_made families weighted h e = e ∙ ap (λ (rs : List (FamilyResult f)). map (weighted_from f c rs) (bases c)) h ∙ weighted_are
 
+  -- figures made of the families step by step are those of the case at these stocks
   pub made : AreSmall → IsCase c → (families : List (FamilyResult f)) (held : List HeldItem) (weighted : List (Weighted f)) (fleet total : Ends) (figures : Figures)
       → AreMade families held weighted fleet total figures → figures ≡ figures_of f c t
   made m v families held weighted fleet total figures a =

@@ -4,16 +4,16 @@ use Rattle.std.specs.List.{fold, AllByRecursion}
 use Rattle.std.proofs.Math.Nat.{suc-mul}
 use Rattle.std.proofs.lemmas.Nat.{mul-le}
 use Rattle.std.proofs.lemmas.List.Sums.{sum_by-cons}
-use Rattle.fixed_interval.specs.Ends.{Ends, IsWithinLimit, ends_exact, ends_add, ends_mul, ends_times}
+use Rattle.fixed_interval.specs.Ends.{Ends, IsWithinLimit, ends_exact, ends_add, ends_mul, ends_times, ends_power}
 use Rattle.fixed_interval.proofs.Laws.{ceil_most, unit_most}
 use Rattle.availability.specs.declared.Weighted.{Weighted}
-use Rattle.availability.specs.Profile.{multiplied, filled_ends, factor_ends, base_ends, weighted_sum, all_systems, fleet_ends}
+use Rattle.availability.specs.Profile.{filled_ends, factor_ends, base_ends, weighted_sum, all_systems, fleet_ends}
 use Rattle.availability.proofs.Laws.{product_most}
 
-multiplied_most : (f : ℕ) (g : Ends) (n : ℕ) → g.hi ≤ 2 ^ f → (multiplied f g n).hi ≤ 2 ^ f
-unfolding multiplied
+multiplied_most : (f : ℕ) (g : Ends) (n : ℕ) → g.hi ≤ 2 ^ f → (ends_power f g n).hi ≤ 2 ^ f
+unfolding ends_power
 multiplied_most f g zero h = h
-multiplied_most f g (suc n) h = product_most f (multiplied f g n) g (ends_mul f (multiplied f g n) g) (multiplied_most f g n h) h refl
+multiplied_most f g (suc n) h = product_most f (ends_power f g n) g (ends_mul f (ends_power f g n) g) (multiplied_most f g n h) h refl
 
 -- the factor of a line unit is at most 1
 pub factor_most : (f : ℕ) (e : Ends) (systems per_system : ℕ) → (factor_ends f e systems per_system).hi ≤ 2 ^ f

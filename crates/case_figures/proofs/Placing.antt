@@ -47,6 +47,7 @@ module _ {A : Type 0} (place : A → ℕ) (value : ℕ → A) (count : ℕ) (d :
     keeps = λ ys i l e. k.keeps (put ys x) i (length-set ys (place x) x ∙ l) (put_keeps ys x i h l e);
   }
 
+  -- where each of two lists keeps what places hold, both together keep it
   pub keeps_both : (xs ys : List A) → Keeps xs → Keeps ys → Keeps (xs ++ ys)
   keeps_both xs ys k m = record {
     length_is = λ zs. ap length (fold-append put zs xs ys) ∙ m.length_is (fold put zs xs) ∙ k.length_is zs;
@@ -55,11 +56,13 @@ module _ {A : Type 0} (place : A → ℕ) (value : ℕ → A) (count : ℕ) (d :
         ∙ m.keeps (fold put zs xs) i (k.length_is zs ∙ l) (k.keeps zs i l e);
   }
 
+  -- a place filled by the first of two lists is filled by both together
   pub fills_first : (i : ℕ) (xs ys : List A) → Fills i xs → Keeps xs → Keeps ys → Fills i (xs ++ ys)
   fills_first i xs ys f k m = record {
     fills = λ zs l. ap (λ (v : List A). get_or v i d) (fold-append put zs xs ys) ∙ m.keeps (fold put zs xs) i (k.length_is zs ∙ l) (f.fills zs l);
   }
 
+  -- a place filled by the second of two lists is filled by both together
   pub fills_later : (i : ℕ) (xs ys : List A) → Keeps xs → Fills i ys → Fills i (xs ++ ys)
   fills_later i xs ys k f = record {
     fills = λ zs l. ap (λ (v : List A). get_or v i d) (fold-append put zs xs ys) ∙ f.fills (fold put zs xs) (k.length_is zs ∙ l);
@@ -76,11 +79,13 @@ module _ {A : Type 0} (place : A → ℕ) (value : ℕ → A) (count : ℕ) (d :
   first_or_later : (a j : ℕ) → a ≤ j → (j ≡ a) ⊎ (a + 1 ≤ j)
   first_or_later a j h = grind arith
 
+  -- a list of values, each that of its place, keeps what places hold
   pub keeps_map : (h : ℕ → A) (n a : ℕ) → ((k : ℕ) → k < a + n → IsAt (h k)) → Keeps (map h (range_with_len a n))
   keeps_map h zero a t = keeps_none
   keeps_map h (suc n) a t =
       keeps_more (h a) (map h (range_with_len (a + 1) n)) (t a (omega arith)) (keeps_map h n (a + 1) (λ k l. t k (omega arith)))
 
+  -- a list of values, each that of its place, fills the place of each
   pub fills_map : (h : ℕ → A) (n a k : ℕ) → ((j : ℕ) → j < a + n → IsAt (h j)) → a ≤ k → k < a + n
       → Fills (place (h k)) (map h (range_with_len a n))
   fills_map h zero a k t l m = absurd (omega arith)
@@ -97,6 +102,7 @@ module _ {A : Type 0} (place : A → ℕ) (value : ℕ → A) (count : ℕ) (d :
   keeps_tested f true a rest k m = keeps_both (f a) (flat_map f rest) (k refl) m
   keeps_tested f false a rest k m = m
 
+  -- lists that keep what places hold, one for each number of a range that passes a test, keep it together
   pub keeps_each : (f : ℕ → List A) (t : ℕ → Bool) (n a : ℕ) → ((l : ℕ) → l < a + n → t l ≡ true → Keeps (f l))
       → Keeps (flat_map f (filter t (range_with_len a n)))
   keeps_each f t zero a k = keeps_none
@@ -113,6 +119,7 @@ module _ {A : Type 0} (place : A → ℕ) (value : ℕ → A) (count : ℕ) (d :
   fills_tested_later i f true a rest k g = fills_later i (f a) (flat_map f rest) (k refl) g
   fills_tested_later i f false a rest k g = g
 
+  -- a place that one of these lists fills is filled by all of them together
   pub fills_each : (i : ℕ) (f : ℕ → List A) (t : ℕ → Bool) (n a l : ℕ) → ((j : ℕ) → j < a + n → t j ≡ true → Keeps (f j))
       → a ≤ l → l < a + n → t l ≡ true → Fills i (f l) → Fills i (flat_map f (filter t (range_with_len a n)))
   fills_each i f t zero a l k p q e g = absurd (omega arith)

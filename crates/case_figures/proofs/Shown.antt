@@ -128,6 +128,7 @@ module _ (f : ℕ) (c : CaseRows) (t : StockList) (has : IsWidth f) (can : CanEv
   base_at_line j b =
       get_or-map-range_with_len (base_line f c t.list) 1 (length c.sites - 1) (j - 1) j no_base_line (omega (arith, b.0, b.1)) (omega (arith, b.0))
 
+  -- the figures show the case at these stocks: its cost, and an interval around each of the model's numbers
   pub figures_shown : ShowsFigures f c t (figures_of f c t)
   figures_shown = record {
     cost_is = sym (cost_holds c t can.are_stocks);
@@ -184,6 +185,7 @@ module _ (f : ℕ) (c : CaseRows) (t : StockList) (has : IsWidth f) (can : CanEv
       (omega (arith, few, count, can.valid.frame.most_parts)) (omega arith) in
       omega (arith, sum, top)
 
+  -- every interval of the figures fits
   pub figures_fit : FitsPrint (figures_of f c t)
   figures_fit = record {
     items = all_of ItemFits (map (named f c) (all_items f c t.list))

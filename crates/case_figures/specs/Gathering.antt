@@ -1,4 +1,4 @@
--- What the steps from the families to the figures take and give. No promise rests on these words.
+-- What the steps from the families to the figures take and give. No promise of the crate rests on these words.
 use Rattle.std.specs.Prelude.{◌≡◌, true, ℕ, ◌-◌, ◌*◌, ◌^◌, ◌<◌, ◌≤◌, List, map, length, get_or, replicate, All, slice_set, flat_map}
 use Rattle.std.specs.List.{fold}
 use Rattle.fixed_interval.specs.Ends.{Ends}
@@ -33,12 +33,15 @@ pub record IsFamilyOf (f : ℕ) (c : CaseRows) (r : FamilyResult f) : Type 0 whe
 
 -- each item at the place of its pair, where later ones go over earlier ones
 module _ {f : ℕ} (c : CaseRows) where
+  -- the place of an item's pair, by part and then by site
   abbrev pub place_of : Item f → ℕ
   place_of x = pair_place (length c.sites) x.part.0 x.site.0
 
+  -- these places, with the items put to them in turn
   abbrev pub placed : List (Item f) → List (Item f) → List (Item f)
   placed places items = fold (λ places x. slice_set places (place_of x) x) places items
 
+  -- the items of all families, by pair
   abbrev pub items_by_pair : List (FamilyResult f) → List (Item f)
   items_by_pair families = placed (replicate (pair_count (frame_rows c)) (no_item f)) (flat_map (λ r. r.items) families)
 
@@ -46,6 +49,7 @@ module _ {f : ℕ} (c : CaseRows) where
   abbrev pub placed_held : List HeldItem → List (Item f) → List HeldItem
   placed_held places items = fold (λ places x. slice_set places (place_of x) (held_of x)) places items
 
+  -- the items of all families as they are held, by pair
   abbrev pub held_by_pair : List (FamilyResult f) → List HeldItem
   held_by_pair families =
       placed_held (replicate (pair_count (frame_rows c)) (held_of (no_item f))) (flat_map (λ r. r.items) families)

@@ -4,7 +4,7 @@ use Rattle.fixed_interval.specs.Ends.{Ends}
 use Rattle.case_figures.specs.declared.figures.Span.{Span}
 use Rattle.case_figures.specs.declared.figures.Span.TheVariants.{Bits32, Bits48, Bits52}
 
--- how many binary places a span has, and its ends
+-- how many binary places a span has
 abbrev pub places : Span → ℕ
 places (Bits32 x) = 32
 places (Bits48 x) = 48

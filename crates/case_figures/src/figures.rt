@@ -1,5 +1,8 @@
 //! The figures of a case at its stocks.
 
+ghost use Rattle.std.specs.Prelude.{◌≡◌};
+ghost use Rattle.case_figures.specs.Spans.{ends, places};
+
 use crate::held::Items;
 use fixed_interval::Iv;
 use spares_input::Name;
@@ -11,6 +14,19 @@ pub enum Span {
     Bits32(Iv<32>),
     Bits48(Iv<48>),
     Bits52(Iv<52>),
+}
+
+impl Span {
+    /// The interval, where it has 48 binary places.
+    pub fn interval(self) -> Iv<48>
+        requires { places self ≡ 48 }
+        ensures { result ≡ ends self }
+    {
+        match self {
+            Span::Bits48(interval) => interval,
+            _ => unreachable!(),
+        }
+    }
 }
 
 /// A pair of a part and a site with its stock: the mean and the variance of its pipeline, its expected backorders

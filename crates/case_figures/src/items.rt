@@ -1,5 +1,5 @@
 //! The items of all families, by part and then by site, and the names that they stand under.
-ghost use Rattle.std.specs.Prelude.{◌≡◌, ◌*◌, ◌<◌, ◌≤◌, All, IfOk, length, map, vec_len};
+ghost use Rattle.std.specs.Prelude.{◌≡◌, ◌*◌, ◌<◌, All, IfOk, length, vec_len};
 ghost use Rattle.fixed_interval.specs.Ends.{InScale};
 ghost use Rattle.spares_input.specs.Frames.{part_names, site_names};
 ghost use Rattle.family_eval.specs.Encloses.{no_item};

@@ -70,6 +70,7 @@ module _ (ends : ScoreEnds) (value : Value) (c : CaseRows) (s : List ℕ) (enclo
       (family_aim value c s n l) (sum_over ls (family_aim value c s n))
       (scored_encloses c s l sound (lines l (inl refl)) ends value encloses n deep) (enclosed_in ls (λ m b. lines m (inr b)) n deep))
 
+  -- the ends of what is aimed at enclose the aim of these stocks
   pub aim_enclosed : IsCase c → Encloses 48 (lo_at ends c s) (hi_at ends c s) (aim value c s)
   unfolding aim
   aim_enclosed valid n deep = enclosed_in (line_units c) (lines_are c valid) n deep

@@ -113,6 +113,7 @@ module _ (c : CaseRows) (valid : IsCase c) where
       ∙ stock_holds c new (get_or (family c p) i 0) k was
       ∙ h.own (family_apart c valid p lp) k i b m ∙ sym (part_of v (length (family c p)) k i m)))
 
+  -- with the vector of a line unit's family put to its pairs, one family more is placed
   pub family_placed : (vs : List (List ℕ)) (s new : StockList) (p f : ℕ) (v : List ℕ) → p < length c.parts → is_line_at c p ≡ true → ArePlaced c vs s p f → AllZip (HasWidth c) (line_units c) vs → get_or vs f [] ≡ v
       → IsPlacedFamily s new (family c p) v (length c.sites) → ArePlaced c vs new (p + 1) (f + 1)
   family_placed vs s new p f v h k a widths e g =
@@ -134,6 +135,7 @@ module _ (c : CaseRows) (valid : IsCase c) where
             ∙ sym (take_more vs f [] below);
       }
 
+  -- past a part that is no line unit the same families are placed as before it
   pub none_placed : (vs : List (List ℕ)) (s : StockList) (p f : ℕ) → is_line_at c p ≡ false → ArePlaced c vs s p f → ArePlaced c vs s (p + 1) f
   none_placed vs s p f k a = record {
     is_for = a.is_for;
@@ -141,6 +143,7 @@ module _ (c : CaseRows) (valid : IsCase c) where
     vectors = ap (map (λ l. vector_of c l s.list)) (left_out (is_line_at c) p k) ∙ a.vectors;
   }
 
+  -- where the families of all parts are placed, the stocks have the vector of each
   pub all_placed : (vs : List (List ℕ)) (s : StockList) (p f : ℕ) → p ≡ length c.parts → AllZip (HasWidth c) (line_units c) vs → ArePlaced c vs s p f → map (λ l. vector_of c l s.list) (line_units c) ≡ vs
   all_placed vs s p f e widths a =
       let b = subst (λ z. ArePlaced c vs s z f) e a in

@@ -32,6 +32,7 @@ module _ (c : CaseRows) (held : List ℕ) (nothing : IsNothing held) where
       map_among (λ l. point_at_vector c l ends (vector_of c l held) (vector_of c l s)) (λ l. point_at_vector c l ends (vector_of c l []) (vector_of c l s)) (line_units c)
       (λ l a. ap (λ v. point_at_vector c l ends v (vector_of c l s)) (same_vector l))
 
+  -- where what is held is nothing, a plan from what is held is a plan from no stock
   pub from_nothing : (ends : ScoreEnds) (budget : ℕ) (p : CasePlan) → IsCasePlan ends c held budget p → IsCasePlan ends c [] budget p
   from_nothing ends budget p h = record {
     count = h.count;
@@ -39,6 +40,7 @@ module _ (c : CaseRows) (held : List ℕ) (nothing : IsNothing held) where
         (subst (λ (z : List Point). IsPlan (case_points ends c held) budget z p.floors p.numbers) (same_chosen ends p.stocks) h.plan);
   }
 
+  -- where what is held is nothing, a plan from no stock is a plan from what is held
   pub to_nothing : (ends : ScoreEnds) (budget : ℕ) (p : CasePlan) → IsCasePlan ends c [] budget p → IsCasePlan ends c held budget p
   to_nothing ends budget p h = record {
     count = h.count;

@@ -47,6 +47,7 @@ module _ (families curves : List (List Point)) (budget : ℕ) (hull : Chosen) (e
   least : AllLeast hull.price.p hull.price.q families (picked curves hull.picks)
   least = (choice_least families curves budget hull.picks hull.cost hull.price areas shapes hull.critical choice).1
 
+  -- numbers computed from the hull choice and the picks that fill the budget are those of a plan
   pub planned : (floors : List ℕ) (numbers : PlanNumbers) (all width more : ℕ) → numbers.hull_cost ≡ hull.cost → numbers.price ≡ hull.price → floors ≡ map (lagrangian hull.price.p hull.price.q) (picked curves hull.picks)
       → numbers.cost ≡ cost_of (picked curves end) → numbers.upper ≡ hi_of (picked curves end) → all ≡ total (lagrangian hull.price.p hull.price.q) (picked curves hull.picks)
       → numbers.bound ≡ (all - hull.price.p * budget) / hull.price.q → width ≡ width_of (picked curves hull.picks) → more ≡ slack curves hull.critical → numbers.rounding ≡ width + more + 1

@@ -1,30 +1,25 @@
 -- A pass over the parts puts each shop unit to its family.
-use Rattle.std.proofs.Common.{◌≡◌, ◌≢◌, ◌==◌, inl, inr, ℕ, ◌+◌, ◌<◌, Bool, true, false, cond, List, [], ◌∷◌, ◌++◌, length, map, filter, get_or, set, Some, sym, ap, ap₂, ◌∙◌, subst, arith, append-nil, length-set, get_or-set_other, get_or-set_same}
-use Rattle.std.specs.List.{range_with_len}
+use Rattle.std.proofs.Common.{◌≡◌, ◌≢◌, ◌==◌, inl, inr, ℕ, ◌+◌, ◌<◌, true, false, cond, List, [], ◌∷◌, ◌++◌, length, map, get_or, set, Some, sym, ap, ap₂, ◌∙◌, subst, arith, append-nil, length-set, get_or-set_other, get_or-set_same}
 use Rattle.std.proofs.lemmas.Bool.{cases_eq}
 use Rattle.std.proofs.lemmas.List.{get_or-map, length-map, map-set, map_push}
-use Rattle.std.proofs.lemmas.List.Elements.{filter-append}
 use Rattle.spares_input.specs.Rows.{is_line}
 use Rattle.spares_input.specs.Frames.{is_shop_of, line_of, part_at}
 use Rattle.spares_input.specs.Cases.{CaseRows, IsCase}
 use Rattle.spares_input.specs.declared.rows.PartId.{PartId}
-use Rattle.spares_input.proofs.Ranges.{range_next}
+use Rattle.spares_input.proofs.Ranges.{filter_next}
 use Rattle.spares_input.proofs.Standing.{shop_of_line, no_shop}
 use Rattle.fleet_model.specs.Fleet.{family}
 use Rattle.case_plan.specs.Placing.{ids}
-use Rattle.case_plan.specs.Members.{shops_below, AreMembers, AreMembersBelow}
-
--- a number more is kept or left out by its test
-next_kept : (t : ℕ → Bool) (n : ℕ) → filter t (range_with_len 0 (n + 1)) ≡ filter t (range_with_len 0 n) ++ cond (t n) (n ∷ []) []
-next_kept t n = ap (filter t) (range_next n) ∙ filter-append t (range_with_len 0 n) (n ∷ [])
+use Rattle.case_plan.specs.Members.{AreMembers, AreMembersBelow}
+use Rattle.demand_rates.specs.Waits.{shops_below}
 
 -- the shop units below the next part, where that is one of l or isn't
 one_more : (c : CaseRows) (l p : ℕ) → is_shop_of (part_at c.parts l) (part_at c.parts p) ≡ true → shops_below c l (p + 1) ≡ shops_below c l p ++ p ∷ []
-one_more c l p h = next_kept (λ q. is_shop_of (part_at c.parts l) (part_at c.parts q)) p ∙ ap (λ b. shops_below c l p ++ cond b (p ∷ []) []) h
+one_more c l p h = filter_next (λ q. is_shop_of (part_at c.parts l) (part_at c.parts q)) p ∙ ap (λ b. shops_below c l p ++ cond b (p ∷ []) []) h
 
 none_more : (c : CaseRows) (l p : ℕ) → is_shop_of (part_at c.parts l) (part_at c.parts p) ≡ false → shops_below c l (p + 1) ≡ shops_below c l p
 none_more c l p h =
-    next_kept (λ q. is_shop_of (part_at c.parts l) (part_at c.parts q)) p ∙ ap (λ b. shops_below c l p ++ cond b (p ∷ []) []) h ∙ append-nil (shops_below c l p)
+    filter_next (λ q. is_shop_of (part_at c.parts l) (part_at c.parts q)) p ∙ ap (λ b. shops_below c l p ++ cond b (p ∷ []) []) h ∙ append-nil (shops_below c l p)
 
 -- a line unit is put to no family
 pub line_passed : (c : CaseRows) (p : ℕ) (rows : List (List ℕ)) → is_line (part_at c.parts p) ≡ true → AreMembersBelow c p rows → AreMembersBelow c (p + 1) rows

@@ -15,10 +15,10 @@ use Rattle.case_figures.specs.Figures.{figures_of}
 use Rattle.case_figures.specs.Shows.{ShowsFigures}
 use Rattle.case_figures.proofs.Shown.{evaluated_as, figures_fit, figures_shown}
 use Rattle.family_curve.specs.Vectors.{stock_list}
-use Rattle.family_curve.specs.Points.{ScoreEnds}
+use Rattle.family_curve.specs.Points.{ScoreEnds, plain_ends}
 use Rattle.fleet_model.proofs.WordLaws.{plain_words}
 use Rattle.fleet_plan.specs.Plans.{IsCasePlan, IsPlainPlan}
-use Rattle.fleet_plan.specs.Laws.{IsAcceptedCase, plain_ends}
+use Rattle.fleet_plan.specs.Laws.{IsAcceptedCase}
 use Rattle.fleet_plan.proofs.Plain.{plain_plan, upper_is_total, plain_encloses}
 use Rattle.fleet_plan.proofs.Bridge.{plan_true}
 use Rattle.fleet_plan.proofs.Ones.{one_case_plan}

@@ -24,12 +24,11 @@ use Rattle.case_figures.specs.Figures.{figures_of}
 use Rattle.fleet_model.specs.Aims.{weighted_backorders}
 use Rattle.fleet_plan.specs.Families.{family_at, families_at, vectors_at}
 use Rattle.fleet_plan.specs.Plans.{CasePlan, line_of_step}
-use Rattle.fleet_plan.specs.Laws.{plain_ends}
 use Rattle.fleet_plan.proofs.Lists.{is_among}
 use Rattle.fleet_plan.proofs.Places.{kept, zip_each}
 use Rattle.fleet_plan.proofs.Bridge.{held_of}
 use Rattle.fixed_interval.specs.Ends.{Ends}
-use Rattle.family_curve.specs.Points.{ScoreEnds}
+use Rattle.family_curve.specs.Points.{ScoreEnds, plain_ends}
 use Rattle.plan_report.specs.declared.plan.CriticalLine.{CriticalLine}
 use Rattle.case_plan.specs.declared.outcome.Outcome.{Outcome}
 use Rattle.case_plan.specs.Report.{Terms, aim_ends, if_asked, step_line, outcome_of}
@@ -70,9 +69,11 @@ module _ (c : CaseRows) (valid : IsCase c) (curves : List (List Point)) (picks :
   lows : AllZip (IsLow c) (line_units c) (stocks_of (picked curves picks))
   lows = picked_low c (line_units c) curves picks low vertices.count vertices.below
 
+  -- the stocks of each picked vertex have a number for each place of its family
   pub widths : AllZip (HasWidth c) (line_units c) (stocks_of (picked curves picks))
   widths = zip_each (IsLow c) (HasWidth c) (line_units c) (stocks_of (picked curves picks)) (λ l v a h. low_width c l v h) lows
 
+  -- stocks with the vectors of the picked vertices are within the case's limits
   pub within : (s : StockList) → IsFor c s → vectors_at c s.list ≡ stocks_of (picked curves picks) → IsWithinLimits c s
   within s is e p k lp lk =
       let a = held_of plain_ends weighted_backorders c [] valid s.list is.pairs (subst (IsAllocation (families_at plain_ends weighted_backorders c [])) (sym e) (allocated c (line_units c) (stocks_of (picked curves picks)) lows)) in

@@ -3,14 +3,14 @@ use Rattle.std.specs.Prelude.{◌≡◌, ℕ, ◌^◌, ◌≤◌, ◌↔◌, [],
 use Rattle.hull.specs.Scores.{EnclosesValue, LeavesRoom}
 use Rattle.spares_input.specs.Cases.{CaseRows, IsCase}
 use Rattle.fleet_model.specs.Rows.{line_units}
-use Rattle.family_curve.specs.Points.{ScoreEnds}
+use Rattle.family_curve.specs.Points.{ScoreEnds, plain_ends}
 use Rattle.hull.specs.declared.point.Point.{Point}
 use Rattle.step_walk.specs.Prefix.{HaveShapes}
 use Rattle.marginal_alloc.specs.Choice.{AreCurves}
 use Rattle.fleet_model.specs.Aims.{Value, IsHeldAllocation}
 use Rattle.fleet_plan.specs.Families.{case_points}
 use Rattle.fleet_plan.specs.Plans.{CasePlan, IsCasePlan}
-use Rattle.fleet_plan.specs.Laws.{IsAcceptedCase, plain_ends}
+use Rattle.fleet_plan.specs.Laws.{IsAcceptedCase}
 use Rattle.plan_report.specs.Fits.{FitsPlan}
 use Rattle.plan_report.specs.declared.plan.PlanReport.{PlanReport}
 use Rattle.on_hand.specs.Work.{IsNothing}

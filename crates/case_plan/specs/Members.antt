@@ -1,19 +1,15 @@
--- The parts of families, listed by the numbers of their line units: no promise of the crate rests on these words.
-use Rattle.std.specs.Prelude.{◌≡◌, ℕ, ◌<◌, true, List, [], ◌∷◌, length, filter, get_or}
-use Rattle.std.specs.List.{range_with_len}
+-- The parts of families, listed by the numbers of their line units. No promise of the crate rests on these words.
+use Rattle.std.specs.Prelude.{◌≡◌, ℕ, ◌<◌, true, List, [], ◌∷◌, length, get_or}
 use Rattle.spares_input.specs.Rows.{is_line}
-use Rattle.spares_input.specs.Frames.{is_shop_of, part_at}
+use Rattle.spares_input.specs.Frames.{part_at}
 use Rattle.spares_input.specs.Cases.{CaseRows}
 use Rattle.fleet_model.specs.Fleet.{family}
+use Rattle.demand_rates.specs.Waits.{shops_below}
 
 -- at the number of each line unit stand the parts of its family
 pub record AreMembers (c : CaseRows) (rows : List (List ℕ)) : Type 0 where
   pub count : length rows ≡ length c.parts
   pub each : (l : ℕ) → l < length c.parts → is_line (part_at c.parts l) ≡ true → get_or rows l [] ≡ family c l
-
--- the shop units of the line unit l among the first n parts
-abbrev pub shops_below : CaseRows → ℕ → ℕ → List ℕ
-shops_below c l n = filter (λ p. is_shop_of (part_at c.parts l) (part_at c.parts p)) (range_with_len 0 n)
 
 -- at the number of each line unit stand the parts of its family among the first n, and the line unit
 pub record AreMembersBelow (c : CaseRows) (n : ℕ) (rows : List (List ℕ)) : Type 0 where

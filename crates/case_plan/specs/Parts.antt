@@ -5,7 +5,7 @@ use Rattle.hull.specs.declared.price.Price.{Price}
 use Rattle.marginal_alloc.specs.declared.allocation.Critical.{Critical}
 use Rattle.step_walk.specs.Prefix.{curve_at, vertex_at}
 
--- the sum and the list over the picks of the first families
+-- what the first i picks have together
 abbrev pub part : (Point → ℕ) → List (List Point) → List ℕ → ℕ → ℕ
 part g curves picks zero = 0
 part g curves picks (suc i) = part g curves picks i + g (vertex_at curves i (slice_index picks i))

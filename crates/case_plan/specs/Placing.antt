@@ -1,4 +1,4 @@
--- Stocks that are put to their pairs, step by step: no promise of the crate rests on these words.
+-- Stocks that are put to their pairs, step by step. No promise of the crate rests on these words.
 use Rattle.std.specs.Prelude.{◌≡◌, ℕ, ◌+◌, ◌*◌, ◌<◌, List, length, map, filter, take, get_or}
 use Rattle.std.specs.List.{range_with_len}
 use Rattle.hull.specs.Curves.{Among}

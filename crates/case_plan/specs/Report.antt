@@ -1,5 +1,5 @@
 -- How a plan of a case is reported.
-use Rattle.std.specs.Prelude.{◌≡◌, ℕ, ◌<◌, ◌≤◌, Bool, List, Option, Some, None, length, option_map, if◌then◌else◌}
+use Rattle.std.specs.Prelude.{◌≡◌, ℕ, ◌<◌, ◌≤◌, Bool, List, Option, Some, None, length, option_map, if◌then◌else◌, false}
 use Rattle.std.specs.List.{AllZip, sum_by}
 use Rattle.fixed_interval.specs.Ends.{Ends}
 use Rattle.hull.specs.declared.point.Point.{Point}
@@ -25,7 +25,11 @@ pub record Terms : Type 0 where
   pub loss : Bool
   pub on_hand : Option ℕ
 
--- the ends of what is aimed at, at the stocks s: the sums of the ends of all scored totals
+-- a plan of weighted backorders, with no stocks on hand
+abbrev pub plain_terms : ℕ → Terms
+plain_terms budget = record { budget = budget; loss = false; on_hand = None }
+
+-- the lower end of what is aimed at, at the stocks s: the sum of the lower ends of all scored totals
 abbrev pub lo_at : ScoreEnds → CaseRows → List ℕ → ℕ
 lo_at ends c s = sum_by (λ l. (scored_total c l ends s).lo) (line_units c)
 

@@ -3,9 +3,9 @@
 ghost use Rattle.std.specs.Prelude.{◌≡◌, ℕ, ◌+◌, ◌-◌, ◌*◌, ◌/◌, ◌^◌, ◌<◌, ◌≤◌, List, length, map, slice_index, IfOk};
 ghost use Rattle.spares_input.specs.Money.{most_budget};
 ghost use Rattle.hull.specs.declared.point.Point.{Point};
-ghost use Rattle.hull.specs.Curves.{lagrangian, InRange, IsShape};
+ghost use Rattle.hull.specs.Curves.{lagrangian, InRange};
 ghost use Rattle.price_bounds.specs.Sums.{total, cost_of, hi_of, lo_of, width_of};
-ghost use Rattle.step_walk.specs.Prefix.{curve_at, vertex_at, picked, AreVertices, HaveShapes};
+ghost use Rattle.step_walk.specs.Prefix.{vertex_at, picked, AreVertices};
 ghost use Rattle.marginal_alloc.specs.Choice.{AreCurves};
 ghost use Rattle.marginal_alloc.specs.Plans.{IsPlan};
 ghost use Rattle.case_plan.specs.Parts.{slack, IsPlace, IsSmallPrice};

@@ -1,6 +1,6 @@
 //! The plan of a case from the case alone.
 
-ghost use Rattle.std.specs.Prelude.{◌≡◌, ◌≤◌, IfOk};
+ghost use Rattle.std.specs.Prelude.{◌≤◌, IfOk};
 ghost use Rattle.std.specs.Result.{IsOk};
 ghost use Rattle.spares_input.specs.Money.{most_budget};
 ghost use Rattle.spares_input.specs.Stocks.{IsFor, IsWithinLimits};

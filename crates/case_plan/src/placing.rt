@@ -1,6 +1,6 @@
 //! The stocks of a case from a vector of each family.
 
-ghost use Rattle.std.specs.Prelude.{◌≡◌, ℕ, ◌*◌, ◌<◌, IfOk, length, map, slice_index_or};
+ghost use Rattle.std.specs.Prelude.{◌≡◌, ℕ, ◌*◌, ◌<◌, IfOk, length, slice_index_or};
 ghost use Rattle.spares_input.specs.Stocks.{HasPair};
 ghost use Rattle.spares_input.specs.declared.rows.PartId.{PartId};
 ghost use Rattle.std.specs.List.{AllZip};

@@ -5,20 +5,19 @@ use Rattle.std.proofs.lemmas.Bool.{cases_lt}
 use Rattle.hull.specs.Scores.{EnclosesValue}
 use Rattle.spares_input.specs.Frames.{part_at}
 use Rattle.spares_input.specs.Cases.{CaseRows, frame_rows, pair_count}
-use Rattle.spares_input.specs.Stocks.{StockList, IsFor}
+use Rattle.spares_input.specs.Stocks.{StockList, IsFor, nothing_held}
 use Rattle.fleet_model.specs.Rows.{all_parts, all_sites, stock}
 use Rattle.fleet_model.specs.Aims.{Value, weighted_backorders, part_cost_beyond, cost_beyond}
 use Rattle.fleet_model.proofs.FamilyLaws.{sum_each}
 use Rattle.fleet_model.proofs.WordLaws.{plain_words}
-use Rattle.family_curve.specs.Points.{ScoreEnds}
+use Rattle.family_curve.specs.Points.{ScoreEnds, plain_ends}
 use Rattle.fleet_plan.specs.Plans.{AreTrueClaims, ArePlainClaims}
-use Rattle.fleet_plan.specs.Laws.{IsAcceptedCase, plain_ends}
+use Rattle.fleet_plan.specs.Laws.{IsAcceptedCase}
 use Rattle.fleet_plan.proofs.Bridge.{claims_true, from_points}
 use Rattle.fleet_plan.proofs.Plain.{plain_encloses}
 use Rattle.price_certificate.specs.declared.certificate.Certificate.{Certificate}
 use Rattle.price_certificate.specs.Certificates.{IsWellFormed}
 use Rattle.gap_checker.specs.Refusals.{reject_of}
-use Rattle.gap_checker.specs.Soundness.{nothing_held}
 use Rattle.gap_checker.proofs.Acceptable.{accepted_are_acceptable, breaks_none, map_none}
 use Rattle.certified_bounds.specs.Laws.{claims_of}
 

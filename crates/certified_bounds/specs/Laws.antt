@@ -1,15 +1,13 @@
 -- What an accepted certificate says of its case.
 use Rattle.std.specs.Prelude.{◌≡◌, None}
 use Rattle.hull.specs.Scores.{EnclosesValue}
-use Rattle.spares_input.specs.Stocks.{StockList, IsFor}
+use Rattle.spares_input.specs.Stocks.{StockList, IsFor, nothing_held}
 use Rattle.fleet_model.specs.Aims.{Value}
-use Rattle.family_curve.specs.Points.{ScoreEnds}
+use Rattle.family_curve.specs.Points.{ScoreEnds, plain_ends}
 use Rattle.fleet_plan.specs.Plans.{CaseClaims, AreTrueClaims, ArePlainClaims}
-use Rattle.fleet_plan.specs.Laws.{plain_ends}
 use Rattle.price_certificate.specs.declared.certificate.Certificate.{Certificate}
 use Rattle.price_certificate.specs.Certificates.{IsWellFormed}
 use Rattle.gap_checker.specs.Refusals.{reject_of}
-use Rattle.gap_checker.specs.Soundness.{nothing_held}
 
 -- the claims of a certificate
 abbrev pub claims_of : Certificate → CaseClaims

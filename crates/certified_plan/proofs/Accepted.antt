@@ -8,6 +8,7 @@ use Rattle.std.specs.Option.{option_map}
 use Rattle.std.proofs.lemmas.Nat.{div-add-mod'}
 use Rattle.std.proofs.lemmas.List.Sums.{sum_by-cons}
 use Rattle.std.proofs.Math.Nat.{mod-lt, div-lt_iff_lt-mul}
+use Rattle.spares_io.specs.Causes.{count64}
 use Rattle.hull.specs.declared.point.Point.{Point}
 use Rattle.hull.specs.declared.price.Price.{Price}
 use Rattle.hull.specs.Curves.{lagrangian, Among}
@@ -20,7 +21,7 @@ use Rattle.price_bounds.specs.Certificates.{AreFloors}
 use Rattle.family_eval.specs.Inputs.{IsLine}
 use Rattle.family_curve.specs.Vectors.{places, vector_of, limits, stock_list}
 use Rattle.family_curve.specs.Points.{ScoreEnds, points_within}
-use Rattle.family_curve.specs.Counts.{counted, most_tables, tables_between}
+use Rattle.family_curve.specs.Counts.{most_tables, tables_between}
 use Rattle.fleet_plan.specs.Families.{family_points}
 use Rattle.fleet_plan.specs.Plans.{CasePlan, IsTruePlan}
 use Rattle.fleet_plan.proofs.Bridge.{plan_true}
@@ -40,7 +41,7 @@ use Rattle.gap_checker.specs.Refusals.{family_count, box_from, cover_of, family_
 use Rattle.gap_checker.proofs.Costs.{added_is}
 use Rattle.gap_checker.proofs.Judging.{by_none}
 use Rattle.gap_checker.proofs.Readings.{trees_are_read}
-use Rattle.gap_checker.proofs.Stock_faults.{else_none}
+use Rattle.gap_checker.proofs.StockFaults.{else_none}
 use Rattle.price_certificate.specs.declared.certificate.Terms.{Terms}
 use Rattle.certified_plan.specs.Scores as scores
 use Rattle.certified_plan.specs.Scores.{ends_of}
@@ -87,11 +88,11 @@ few_step : (b : Bool) (n : ℕ) → nat_le n most_tables ≡ b → IsOk (if b th
 few_step true n e h = leb-true n most_tables e
 few_step false n e h = absurd (false≢true h)
 
-uncounted : (n : ℕ) → counted n ≤ most_tables → n ≤ most_tables
+uncounted : (n : ℕ) → count64 n ≤ most_tables → n ≤ most_tables
 uncounted n h = omega arith
 
 within_work : (c : CaseRows) (held : List ℕ) → IsWithinWork c held → tables_from c held ≤ most_tables
-within_work c held h = uncounted (tables_from c held) (few_step (nat_le (counted (tables_from c held)) most_tables) (counted (tables_from c held)) refl h)
+within_work c held h = uncounted (tables_from c held) (few_step (nat_le (count64 (tables_from c held)) most_tables) (count64 (tables_from c held)) refl h)
 
 -- ---- the tree of a family's nodes, in both formats
 
@@ -232,6 +233,7 @@ module _ (c : CaseRows) (held : StockList) (terms : Terms) (p : CasePlan) (on : 
       let g = true_plan.certificate.fits in
       omega (arith, e, f, g)
 
+  -- a plan's certificate is accepted, where the work is within its limit
   pub accepted : IsWithinWork c held.list → reject_of (ends_of terms.objective) (certificate_of c held terms (claims_of c p)) held ≡ None
   accepted within =
       let few = within_work c held.list within in

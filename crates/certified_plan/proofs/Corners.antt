@@ -48,9 +48,11 @@ module _ (n : ℕ) (low high : Corner) (box : Bounds) (at from : ℕ) (b : Boxed
   pub has_both : has_parts box at from ≡ true
   has_both = ap₂ (λ x y. x && y) (lt-ltb (get_or box.low at 0) from low_less) (le-leb from (get_or box.high at 0) high_more)
 
+  -- the number before the cut is at most the box's high side
   pub below_high : from - 1 ≤ get_or box.high at 0
   below_high = (let m = high_more in omega (arith, m))
 
+  -- the part of a box below a cut lies between the low corner and the high one, lowered to the number before the cut
   pub fewer_boxed : Boxed n low (put at (from - 1) high) (fewer box at from)
   fewer_boxed = record {
     low_is = b.low_is;
@@ -58,6 +60,7 @@ module _ (n : ℕ) (low high : Corner) (box : Bounds) (at from : ℕ) (b : Boxed
     order = at_most_set_high box.low box.high at (from - 1) b.order (let m = low_less in omega (arith, m));
   }
 
+  -- the part of a box from a cut on lies between the low corner, raised to the cut, and the high one
   pub as_many_boxed : Boxed n (put at from low) high (as_many box at from)
   as_many_boxed = record {
     low_is = put_lists n at from low box.low cut.there b.low_is;

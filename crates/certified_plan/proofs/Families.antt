@@ -66,17 +66,20 @@ module _ (c : CaseRows) (l : ℕ) where
         let within : j < place_count c l = (let e = length_places c l in omega (arith, h, e)) in
         get_or-map-range_with_len (place_at c l held) 0 (place_count c l) j j no_place within (omega arith)
 
+    -- what is held at each place of a family is the number listed for it
     pub held_is : (j : ℕ) → j < length (places c l) → held_at (places_of c l held) j ≡ get_or held j 0
     held_is j h = ap (λ (x : Place). x.held) (place_in j h)
 
     pub cost_is : (j : ℕ) → j < length (places c l) → (get_or (places_of c l held) j no_place).cost ≡ (part_at c.parts (get_or (places c l) j nowhere).part).cost
     cost_is j h = ap (λ (x : Place). x.cost) (place_in j h) ∙ ap (λ (x : Pair). (part_at c.parts x.part).cost) (sym (pair_at j h))
 
+    -- the most of each place of a family is its limit
     pub most_is : (j : ℕ) → j < length (places c l) → most_at (places_of c l held) j ≡ get_or (limits c l) j 0
     most_is j h =
         ap (λ (x : Place). x.most) (place_in j h) ∙ ap (λ (x : Pair). limit_at c.parts x.part x.site) (sym (pair_at j h))
         ∙ sym (get_or-map (λ (x : Pair). limit_at c.parts x.part x.site) (places c l) j nowhere 0 h)
 
+    -- a family has a place for each of its pairs
     pub count_is : length (places_of c l held) ≡ length (places c l)
     count_is =
         length-map (range_with_len 0 (place_count c l)) (place_at c l held) ∙ length-range_with_len 0 (place_count c l) ∙ sym (length_places c l)
@@ -85,9 +88,11 @@ module _ (c : CaseRows) (l : ℕ) where
     pub held_lists : length held ≡ length (places c l) → Lists (length (places c l)) (held_at (places_of c l held)) held
     held_lists e = record { long = e; same = held_is }
 
+    -- the limits list the most of each place of a family
     pub most_lists : Lists (length (places c l)) (most_at (places_of c l held)) (limits c l)
     most_lists = record { long = length-map (places c l) (λ (x : Pair). limit_at c.parts x.part x.site); same = most_is }
 
+    -- what is held within a family's limits is within the most of each place
     pub within_most : AtMost held (limits c l) → IsHeld c l held
     within_most within m b =
         let h : m < length (places c l) = (let e = length_places c l in omega (arith, b, e)) in
@@ -96,6 +101,7 @@ module _ (c : CaseRows) (l : ℕ) where
         let r = at_most_at held (limits c l) m within in
         omega (arith, p, q, r)
 
+    -- each place of a family of a valid case is valid, where what is held is within the limits
     pub valid_places : IsCase c → IsLine c l → AtMost held (limits c l) → All IsPlace (places_of c l held)
     valid_places valid line within = are_places c l held valid line.is_part (within_most within)
 

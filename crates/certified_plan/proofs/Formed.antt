@@ -57,13 +57,16 @@ module _ (c : CaseRows) (l : ℕ) (held : List ℕ) (valid : IsCase c) (line : I
         )
   ]
 
+  -- a family has at most 144 places
   pub few_of : length (places_of c l held) ≤ 144
   few_of = (let n = count_is c l held in let f = few_places c l valid line in omega (arith, n, f))
 
   module _ (within : AtMost held (limits c l)) (p floor : ℕ) where
+    -- the trimmed cover of a family is lawful, and its boxes shown by cost cost the floor
     pub trims : IsTrim p floor (places_of c l held) (trimmed p floor (places_of c l held))
     trims = trim_is p floor (places_of c l held) (valid_places c l held valid line within)
 
+    -- the trimmed cover of a family, as a certificate has it, is a cover
     pub is_cover : IsCover (nodes_of (trimmed p floor (places_of c l held)))
     is_cover = record {
       some = some_nodes (trimmed p floor (places_of c l held));
@@ -126,6 +129,7 @@ module _ (c : CaseRows) (held : StockList) (terms : Terms) (claims : PlanClaims)
     covers = subst (λ z. All IsCover z) (sym e) (covers_all c held claims.price.p claims.floors valid had);
   }
 
+  -- the certificate of terms and claims in their ranges is well formed
   pub well_formed : AreTerms terms → AreClaims c claims → IsWellFormed (certificate_of c held terms claims)
   well_formed are fits = record {
     fewest = are.fewest;

@@ -21,7 +21,7 @@ use Rattle.gap_checker.specs.Trees.{leaves_of}
 use Rattle.gap_checker.specs.Values.{least, least_within, value_of, leaf_tables, cover_tables}
 use Rattle.gap_checker.specs.Refusals.{low_leaf}
 use Rattle.gap_checker.proofs.Boxes.{at_most_self, at_most_chain, at_most_unset_high}
-use Rattle.gap_checker.proofs.Among_laws.{IsBetween, among_vectors, between}
+use Rattle.gap_checker.proofs.AmongLaws.{IsBetween, among_vectors, between}
 use Rattle.certified_plan.proofs.Corners.{Lists, Boxed, cut_of, fewer_boxed, as_many_boxed, below_high}
 use Rattle.certified_plan.proofs.Families.{added_is, held_is}
 use Rattle.certified_plan.proofs.Trees.{HasOneWhole}
@@ -79,12 +79,6 @@ module _ (score : ScoreEnds) (c : CaseRows) (l : ℕ) (price : Price) (floor : �
   abbrev ps : List Place
   ps = places_of c l held
 
-  abbrev Pays : Corner → Corner → Type 0
-  Pays low high = floor ≤ price.p * added ps low
-
-  abbrev IsPart : Corner → Corner → Type 0
-  IsPart low high = (i : ℕ) → (low i ≡ held_at ps i) × (high i ≤ most_at ps i)
-
   -- a box of the family shows no less than its floor
   whole_floor : (box : Bounds) → box.held ≡ held → box.low ≡ held → AtMost box.low box.high → AtMost box.high (limits c l) → floor ≤ least_within c l score price box
   unfolding least_within
@@ -98,9 +92,6 @@ module _ (score : ScoreEnds) (c : CaseRows) (l : ℕ) (price : Price) (floor : �
       let own : Among (point_at_vector c l score held r.from) (points_within c l score held held (limits c l)) =
       among_map (point_at_vector c l score held) (vectors held (limits c l)) r.from (among_vectors held (limits c l) r.from from (at_most_chain r.from box.high (limits c l) b.high most)) in
       subst (λ z. floor ≤ lagrangian price.p price.q z) (sym (r.is ∙ ap (λ z. point_at_vector c l score z r.from) h)) (floor_is (point_at_vector c l score held r.from) own))
-
-  abbrev limit_lists : (corner : Corner) → Type 0
-  limit_lists corner = Lists n corner (limits c l)
 
   held_corner : Lists n (held_at ps) held
   held_corner = record { long = wide; same = held_is c l held }
@@ -142,6 +133,7 @@ module _ (c : CaseRows) (l n : ℕ) where
   one_list : (ls : List Leaf) (x : Leaf) → ls ≡ x ∷ [] → cover_tables c l ls ≡ leaf_tables c l x
   one_list ls x e = ap (cover_tables c l) e ∙ one_leaf x
 
+  -- a cover with one whole leaf takes at most the tables of its whole box
   pub tables_most : (tree : Tree) (low high : Corner) (box : Bounds) → HasOneWhole tree → Boxed n low high box → cover.IsLawful n tree low high
       → cover_tables c l (leaves_of tree box) ≤ tables_between c l box.low box.high
   unfolding leaves_of leaf_tables

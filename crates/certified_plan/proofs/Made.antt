@@ -1,5 +1,5 @@
 -- How the covers are made, one after another.
-use Rattle.std.proofs.Common.{◌≡◌, ℕ, ◌+◌, ◌≤◌, List, [], ◌∷◌, ◌++◌, length, map, get_or, sym, ap, ap₂, ◌∙◌, subst, arith}
+use Rattle.std.proofs.Common.{◌≡◌, ℕ, ◌+◌, List, [], ◌∷◌, ◌++◌, length, map, get_or, sym, ap, ap₂, ◌∙◌, subst, arith}
 use Rattle.std.specs.List.{range_with_len}
 use Rattle.std.proofs.lemmas.List.FromFn.{map-range_with_len_more}
 use Rattle.spares_input.specs.declared.rows.PartId.{PartId}
@@ -12,9 +12,9 @@ use Rattle.fleet_plan.proofs.Places.{length_places, length_vector}
 use Rattle.price_certificate.specs.declared.certificate.Node.{Node}
 use Rattle.price_certificate.specs.Covers as cover
 use Rattle.price_certificate.specs.Covers.{place_count}
-use Rattle.gap_checker.proofs.Families.{line_read_at, count_lines}
+use Rattle.gap_checker.proofs.Families.{line_read_at}
 use Rattle.certified_plan.specs.Inputs.{IsHeld}
-use Rattle.certified_plan.specs.Certificates.{cover_of, cover_at, covers_of}
+use Rattle.certified_plan.specs.Certificates.{cover_of, cover_at}
 use Rattle.certified_plan.proofs.Families.{within_most}
 use Rattle.certified_plan.proofs.Formed.{held_line}
 
@@ -36,9 +36,3 @@ module _ (c : CaseRows) (held : List ℕ) (p : ℕ) (floors : List ℕ) (lines :
       ∙ ap₂ (λ (a : List (List Node)) (b : List Node). a ++ b ∷ []) h
       (own ∙ ap (λ x. cover_of c held p x (get_or lines f (record { 0 = 0 })).0) is_floor ∙ ap (λ l. cover_of c held p (get_or floors f 0) l) (line_read_at c lines f are))
       ∙ sym (map-range_with_len_more (cover_at c held p floors) 0 f f (omega arith))
-
-  pub covers_all_made : (f : ℕ) (covers : List (List Node)) → covers ≡ map (cover_at c held p floors) (range_with_len 0 f) → length lines ≤ f → f ≤ length lines → covers ≡ covers_of c held p floors
-  covers_all_made f covers h a b =
-      let n = count_lines c lines are in
-      let e : f ≡ length (line_units c) = omega (arith, a, b, n) in
-      h ∙ ap (λ k. map (cover_at c held p floors) (range_with_len 0 k)) e

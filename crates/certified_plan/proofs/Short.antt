@@ -11,14 +11,14 @@ use Rattle.family_curve.specs.Vectors.{vector_of}
 use Rattle.fleet_plan.specs.Plans.{CasePlan}
 use Rattle.price_certificate.specs.declared.certificate.Node.{Node}
 use Rattle.price_certificate.specs.Covers.{places_of}
-use Rattle.price_certificate.specs.Certificates.{IsNode, cert_text}
+use Rattle.price_certificate.specs.Certificates.{IsNode, cert_text, certificate_limit}
 use Rattle.price_certificate.specs.Grammar.{certificate_format}
 use Rattle.on_hand.specs.declared.held.HeldCertificate.{HeldCertificate}
 use Rattle.on_hand.specs.Held.{held_format, held_text}
 use Rattle.price_certificate.specs.declared.certificate.Terms.{Terms}
 use Rattle.certified_plan.specs.Certificates.{cover_at, covers_of, certificate_of, claims_of}
 use Rattle.certified_plan.specs.Inputs.{IsHeld}
-use Rattle.certified_plan.specs.Laws.{IsPlanOn, most_bytes}
+use Rattle.certified_plan.specs.Laws.{IsPlanOn}
 use Rattle.certified_plan.proofs.Formed.{few_of, is_cover, line_is, held_line, cover_is, covers_count, plan_claims, well_formed}
 use Rattle.certified_plan.proofs.Sizes.{IsShort, HasFew, certificate_most, held_most}
 use Rattle.certified_plan.proofs.Trees.{few_nodes}
@@ -57,7 +57,8 @@ module _ (c : CaseRows) (held : StockList) (terms : Terms) (p : CasePlan) (on : 
       let covers = covers_by (terms.format == 2) (covers_of c held.list p.numbers.price.p p.floors) (omega (arith, m, k)) (all_short c held p.numbers.price.p p.floors on.accepted.valid on.is_held) in
       record { formed = well_formed c held terms (claims_of c p) on.accepted.valid on.is_held on.are_terms fits; floors = omega (arith, n, m); covers = covers.0; short = covers.1 }
 
-  pub text_short : length (cert_text (certificate_of c held terms (claims_of c p))) ≤ most_bytes
+  -- the text of a plan's certificate is within the most bytes that are read
+  pub text_short : length (cert_text (certificate_of c held terms (claims_of c p))) ≤ certificate_limit
   text_short =
       let a = concat_most ((certificate_format 1).print (certificate_of c held terms (claims_of c p))) in
       let b = certificate_most (certificate_of c held terms (claims_of c p)) has_few in
@@ -75,7 +76,8 @@ module _ (c : CaseRows) (held : StockList) (terms : Terms) (p : CasePlan) (on : 
       first_row : (i n : ℕ) → 0 * n + i ≡ i
       first_row i n = omega arith
 
-  pub held_short : length (held_text (record { certificate = certificate_of c held terms (claims_of c p); held = held })) ≤ most_bytes
+  -- the text of a plan's certificate with what is held is within the most bytes that are read
+  pub held_short : length (held_text (record { certificate = certificate_of c held terms (claims_of c p); held = held })) ≤ certificate_limit
   held_short =
       let a = concat_most (held_format.print held_cert) in
       let b = held_most held_cert has_few on.is_held.is_for held_small in

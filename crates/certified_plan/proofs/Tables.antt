@@ -74,6 +74,7 @@ module _ (c : CaseRows) (l : ℕ) (low high most : List ℕ) (more : AtMost high
   shops_more : (k : ℕ) → AtMost (drop 1 (site_part c l (widths low high) k)) (drop 1 (site_part c l (widths low most) k))
   shops_more k = drop_more 1 (site_part c l (widths low high) k) (site_part c l (widths low most) k) (site_more k)
 
+  -- up to a high corner that is no lower there are no fewer tables
   pub tables_more : tables_between c l low high ≤ tables_between c l low most
   tables_more =
       let at : ℕ → List ℕ = λ k. site_part c l (widths low high) k in

@@ -1,12 +1,12 @@
 -- What holds of a plan's certificate.
-use Rattle.std.specs.Prelude.{◌≡◌, ℕ, ◌≤◌, length, None}
+use Rattle.std.specs.Prelude.{◌≡◌, ◌≤◌, length, None}
 use Rattle.hull.specs.Scores.{EnclosesValue, LeavesRoom}
 use Rattle.spares_input.specs.Cases.{CaseRows}
 use Rattle.spares_input.specs.Stocks.{StockList}
 use Rattle.fleet_plan.specs.Plans.{CasePlan, IsCasePlan}
 use Rattle.fleet_plan.specs.Laws.{IsAcceptedCase}
 use Rattle.price_certificate.specs.declared.certificate.Objective.{Objective}
-use Rattle.price_certificate.specs.Certificates.{cert_text}
+use Rattle.price_certificate.specs.Certificates.{cert_text, certificate_limit}
 use Rattle.gap_checker.specs.Refusals.{reject_of}
 use Rattle.on_hand.specs.Held.{held_text}
 use Rattle.price_certificate.specs.declared.certificate.Terms.{Terms}
@@ -42,15 +42,11 @@ PlansAreAccepted =
     → IsPlanOn c held terms p → IsWithinWork c held.list
     → reject_of (ends_of terms.objective) (certificate_of c held terms (claims_of c p)) held ≡ None
 
--- how many bytes of a certificate are read
-abbrev pub most_bytes : ℕ
-most_bytes = 16777216
-
--- Its text is within that, also with what is held.
+-- its text is within the bytes that are read of a certificate
 abbrev pub TextsAreShort : Type 0
 TextsAreShort =
     (c : CaseRows) (held : StockList) (terms : Terms) (p : CasePlan)
-    → IsPlanOn c held terms p → length (cert_text (certificate_of c held terms (claims_of c p))) ≤ most_bytes
+    → IsPlanOn c held terms p → length (cert_text (certificate_of c held terms (claims_of c p))) ≤ certificate_limit
 
 -- a plan's certificate with what is held is within the bytes that are read
 abbrev pub HeldTextsAreShort : Type 0
@@ -58,4 +54,4 @@ HeldTextsAreShort =
     (c : CaseRows) (held : StockList) (terms : Terms) (p : CasePlan)
     → IsPlanOn c held terms p
     → length (held_text (record { certificate = certificate_of c held terms (claims_of c p); held = held }))
-    ≤ most_bytes
+    ≤ certificate_limit

@@ -1,7 +1,6 @@
 //! The certificate of a plan.
 
-ghost use Rattle.std.specs.Prelude.{◌≡◌, ◌+◌, ◌^◌, ◌<◌, ◌≤◌, IfOk, length, map, get_or};
-ghost use Rattle.std.specs.List.{range_with_len};
+ghost use Rattle.std.specs.Prelude.{◌≡◌, ◌+◌, ◌^◌, ◌<◌, ◌≤◌, IfOk, length, map};
 ghost use Rattle.fleet_model.specs.Rows.{line_units};
 ghost use Rattle.family_eval.specs.Inputs.{IsLine};
 ghost use Rattle.price_certificate.specs.Certificates.{IsWellFormed};
@@ -10,25 +9,12 @@ ghost use Rattle.certified_plan.specs.Certificates.{certificate_of, cover_of, co
 
 use crate::terms::PlanClaims;
 use family_curve::vector_of;
+use family_eval::line_units;
 use hull::Price;
 use price_certificate::{Certificate, Node, Terms, trim};
 use spares_input::{Case, PartId, Stocks};
 use spares_io::{List, NoMemory};
 use std::alloc::Global;
-
-/// The line units of a case, in part order.
-fn line_units(alloc: Global, case: &Case) -> Result<Vec<PartId>, NoMemory>
-    ensures { IfOk result (λ v. map (λ p. p.0) v.items ≡ line_units case.now) }
-{
-    let mut lines = Vec::new(alloc);
-    for p in 0..case.part_count() {
-        let part = PartId(p);
-        if case.is_line(part) {
-            lines.push(part)?;
-        }
-    }
-    Ok(lines)
-}
 
 /// The cover of a family at a price and its floor, from what is held.
 fn cover_of(

@@ -3,13 +3,12 @@
 ghost use Rattle.std.specs.Prelude.{◌≡◌, ◌≤◌, IfOk};
 ghost use Rattle.price_certificate.specs.declared.certificate.Objective.TheVariants.{Backorders};
 ghost use Rattle.price_certificate.specs.Certificates.{IsWellFormed};
-ghost use Rattle.gap_checker.specs.Soundness.{nothing_held};
 ghost use Rattle.certified_plan.specs.Inputs.{IsHeld};
 
 use crate::{PlanClaims, certificate, certificate_text};
 use on_hand::HeldCertificate;
 use price_certificate::{Certificate, Objective, Terms};
-use spares_input::{Case, Stocks};
+use spares_input::{Stocks, nothing_held};
 use spares_io::NoMemory;
 use std::alloc::Global;
 use std::test::*;
@@ -73,16 +72,6 @@ fn remade(
     certificate(alloc, read.case, held, terms, claims)
 }
 
-/// No stock of any part at any site.
-fn nothing(alloc: Global, case: &Case) -> Result<Stocks, NoMemory>
-    ensures { IfOk result (λ held. held ≡ nothing_held case.now) }
-{
-    let sites = case.site_count();
-    let pairs = usize::from(case.part_count()) * usize::from(sites);
-    let list = vec![in alloc; 0; pairs]?;
-    Ok(Stocks::of(list, sites))
-}
-
 /// The text of the certificate that these bytes are, made again in a format where nothing is held.
 fn again(alloc: Global, bytes: &[u8], format: u8) -> Option<Vec<u8>> {
     if bytes.len() > 16_777_216 || format < 1 || format > 2 {
@@ -94,7 +83,7 @@ fn again(alloc: Global, bytes: &[u8], format: u8) -> Option<Vec<u8>> {
     if format == 1 && read.objective != Objective::Backorders {
         return None;
     }
-    let Ok(held) = nothing(alloc, &read.case) else {
+    let Ok(held) = nothing_held(alloc, &read.case) else {
         return None;
     };
     let Ok(certificate) = remade(alloc, read, &held, format) else {

@@ -6,13 +6,14 @@ use Rattle.std.proofs.lemmas.List.Elements.{All-head, All-tail, All-filter, filt
 use Rattle.std.proofs.lemmas.List.Sums.{length-filter}
 use Rattle.std.proofs.lemmas.List.Folds.{fold-map}
 use Rattle.std.proofs.lemmas.List.FromFn.{fill_by_all, get_or-range_with_len, length-range_with_len}
+use Rattle.spares_io.specs.Causes.{count64}
 use Rattle.spares_input.specs.Rows.{is_line, no_part}
 use Rattle.spares_input.specs.Frames.{part_at}
 use Rattle.spares_input.specs.Cases.{CaseRows, IsCase}
 use Rattle.spares_input.specs.declared.rows.PartRow.{PartRow}
 use Rattle.fleet_model.specs.Rows.{bases, line_units, shop_units, all_parts}
 use Rattle.case_maker.specs.Ranges.{IsDrawn, HasFewShopUnits, HasLineUnits}
-use Rattle.family_curve.specs.Counts.{base_width, counted, depot_width, limited, tables_by, tables_of, work_of}
+use Rattle.family_curve.specs.Counts.{base_width, depot_width, limited, tables_by, tables_of, work_of}
 use Rattle.demo_accepts.specs.Tables.{all_tables, HasFewTables}
 use Rattle.demo_accepts.proofs.Accepted.{of_shops, sum_list}
 
@@ -51,6 +52,7 @@ module _ (c : CaseRows) (v : IsCase c) (d : IsDrawn c) (few : HasFewShopUnits c)
   two_bases : bases c ≡ 1 ∷ 2 ∷ []
   two_bases = ap (λ n. range_with_len 1 (n - 1)) d.sites
 
+  -- a family of a drawn case with few shop units takes at most 142 tables
   pub family_few : HasFewTables 142 c
   family_few l h e =
       let shops = few_by (depot_width c) (base_width c) (shop_units c l) (few l h e)
@@ -75,6 +77,7 @@ module _ (c : CaseRows) (v : IsCase c) (d : IsDrawn c) (few : HasFewShopUnits c)
       length-filter (λ p. is_line (part_at c.parts p)) (range_with_len 0 (length c.parts))
       ∙ (sym (fold-map (λ (s : ℕ) (x : PartRow). s + (if is_line x then 1 else 0)) (part_at c.parts) 0 (range_with_len 0 (length c.parts))) ∙ ap (count_by is_line) (sym all))
 
+  -- all families of such a case take at most 142 tables for each line unit
   pub all_few : (lines : ℕ) → HasLineUnits lines c → all_tables c ≤ 142 * lines
   all_few lines h =
       let n : length (line_units c) ≡ lines = line_places ∙ h in
@@ -82,9 +85,9 @@ module _ (c : CaseRows) (v : IsCase c) (d : IsDrawn c) (few : HasFewShopUnits c)
       (let m = sum_list (tables_of c) 142 (line_units c) lines_few in omega (arith, m))
 
 -- so many tables are within the limit
-within_limit : (n : ℕ) → n ≤ 11360 → limited (counted n) ≡ Ok n
+within_limit : (n : ℕ) → n ≤ 11360 → limited (count64 n) ≡ Ok n
 within_limit n h =
-    let same : counted n ≡ n = omega arith in
+    let same : count64 n ≡ n = omega arith in
     let test : nat_le n 1000000 ≡ true = grind (arith, nat_tests) in
     ap limited same ∙ ap (λ b. if b then Ok n else Err n) test
 

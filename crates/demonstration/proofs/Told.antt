@@ -3,12 +3,11 @@ use Rattle.std.proofs.Common.{◌≡◌, ◌∙◌, ap, arith, refl, subst, sym,
 use Rattle.std.specs.Result.{IsOk}
 use Rattle.std.proofs.lemmas.List.{get_or-replicate, length-replicate}
 use Rattle.spares_input.specs.Cases.{CaseRows, IsCase, frame_rows, pair_count}
-use Rattle.spares_input.specs.Stocks.{StockList, IsFor, IsWithinLimits}
-use Rattle.case_figures.specs.Spans.{places}
+use Rattle.spares_input.specs.Stocks.{StockList, IsFor, IsWithinLimits, nothing_held}
 use Rattle.case_maker.specs.Demonstration.{made}
 use Rattle.case_maker.proofs.Valid.{made_few, made_lines, made_valid}
 use Rattle.case_maker.proofs.Whole.{made_drawn}
-use Rattle.case_plan.specs.Report.{IsOutcome, IsPlanned, outcome_of}
+use Rattle.case_plan.specs.Report.{IsOutcome, IsPlanned, plain_terms}
 use Rattle.case_plan.specs.declared.outcome.Outcome.{Outcome}
 use Rattle.case_plan.proofs.Truths.{report_fits}
 use Rattle.certified_plan.specs.Certificates.{certificate_of, claims_of}
@@ -20,17 +19,15 @@ use Rattle.certified_plan.proofs.Scores.{scores_enclose, scores_leave_room}
 use Rattle.certified_plan.proofs.Short.{text_short}
 use Rattle.demand_rates.specs.Limits.{rate_fault_of}
 use Rattle.demo_accepts.proofs.FewTables.{all_few, work_few}
-use Rattle.fleet_plan.specs.Laws.{plain_ends}
-use Rattle.fleet_plan.specs.Plans.{CasePlan, IsCasePlan}
 use Rattle.gap_checker.specs.Refusals.{reject_of}
-use Rattle.gap_checker.specs.Soundness.{nothing_held, plain_score}
 use Rattle.on_hand.specs.Work.{IsNothing, held_work_of}
 use Rattle.on_hand.proofs.Kept.{all_work}
 use Rattle.plan_report.specs.Fits.{FitsPlan, FitsSummary}
-use Rattle.price_certificate.specs.Certificates.{cert_text}
+use Rattle.price_certificate.specs.Certificates.{cert_text, certificate_limit}
 use Rattle.price_certificate.specs.declared.certificate.Certificate.{Certificate}
 use Rattle.price_certificate.specs.declared.certificate.Objective.TheVariants.{Backorders}
-use Rattle.demonstration.specs.Demonstrations.{IsDemonstrated, budget_of, claims_in, demo_terms, report_terms, summary_in, summary_of}
+use Rattle.demonstration.specs.Demonstrations.{budget_of, claims_in, demo_terms, summary_in}
+use Rattle.family_curve.specs.Points.{plain_ends}
 
 -- ---- the work
 
@@ -58,7 +55,7 @@ pub are_terms : (lines : ℕ) → lines ≤ 80 → AreTerms (demo_terms (budget_
 are_terms lines few = record { budget = omega (arith, few); fewest = omega arith; most = omega arith; first = λ e. refl }
 
 module _ (c : CaseRows) (held : StockList) (lines : ℕ) (few : lines ≤ 80) (valid : IsCase c) (no_fault : rate_fault_of c ≡ None) (whole : IsFor c held) (limits : IsWithinLimits c held)
-    (o : Outcome) (h : IsOutcome plain_ends c held.list (report_terms (budget_of lines)) o) where
+    (o : Outcome) (h : IsOutcome plain_ends c held.list (plain_terms (budget_of lines)) o) where
   on_plan : IsPlanOn c held (demo_terms (budget_of lines)) h.plan
   on_plan = record {
     accepted = record { valid = valid; no_fault = no_fault };
@@ -70,20 +67,19 @@ module _ (c : CaseRows) (held : StockList) (lines : ℕ) (few : lines ≤ 80) (v
   claims_are : claims_in o ≡ claims_of c h.plan
   claims_are = rw h.is refl
 
+  -- each number that the outcome's certificate claims is in its range
   pub have_claims : AreClaims c (claims_in o)
   have_claims = subst (AreClaims c) (sym claims_are) (plan_claims c held (demo_terms (budget_of lines)) h.plan on_plan)
 
-  pub has_places : places o.report.figures.total ≡ 48
-  has_places = rw h.is refl
-
-  report : IsPlanned plain_ends c held.list (report_terms (budget_of lines)) o.report
+  report : IsPlanned plain_ends c held.list (plain_terms (budget_of lines)) o.report
   report = record { plan = h.plan; is_plan = h.is_plan; is = ap (λ (z : Outcome). z.report) h.is }
 
   pub plan_prints : FitsPlan o.report
   plan_prints =
-      report_fits plain_ends _ c held.list (report_terms (budget_of lines)) o.report (record { valid = valid; no_fault = no_fault })
+      report_fits plain_ends _ c held.list (plain_terms (budget_of lines)) o.report (record { valid = valid; no_fault = no_fault })
       (scores_enclose Backorders) (scores_leave_room Backorders) report
 
+  -- the numbers of the summary fit
   pub sums_fit : (number parts : ℕ) → FitsSummary (summary_in number lines parts o)
   sums_fit number parts =
       let p = plan_prints in
@@ -97,26 +93,13 @@ module _ (c : CaseRows) (held : StockList) (lines : ℕ) (few : lines ≤ 80) (v
     pub aims : cert.objective ≡ Backorders
     aims = rw is refl
 
-    pub is_short : length (cert_text cert) ≤ 16777216
-    is_short = subst (λ (x : Certificate). length (cert_text x) ≤ 16777216) (sym cert_is) (text_short c held (demo_terms (budget_of lines)) h.plan on_plan)
+    -- the text of the demonstration's certificate is no longer than what is read
+    pub is_short : length (cert_text cert) ≤ certificate_limit
+    is_short = subst (λ (x : Certificate). length (cert_text x) ≤ certificate_limit) (sym cert_is) (text_short c held (demo_terms (budget_of lines)) h.plan on_plan)
 
-    pub is_accepted : reject_of plain_score cert (nothing_held cert.case) ≡ None
+    -- the demonstration's certificate is accepted
+    pub is_accepted : reject_of plain_ends cert (nothing_held cert.case) ≡ None
     is_accepted =
-        subst (λ (x : Certificate). reject_of plain_score x (nothing_held x.case) ≡ None) (sym cert_is)
-        (subst (λ (s : StockList). reject_of plain_score (certificate_of c held (demo_terms (budget_of lines)) (claims_of c h.plan)) s ≡ None) none
+        subst (λ (x : Certificate). reject_of plain_ends x (nothing_held x.case) ≡ None) (sym cert_is)
+        (subst (λ (s : StockList). reject_of plain_ends (certificate_of c held (demo_terms (budget_of lines)) (claims_of c h.plan)) s ≡ None) none
         (accepted c held (demo_terms (budget_of lines)) h.plan on_plan work))
-
--- ---- the summary
-
-same_summary : (number lines parts : ℕ) (c : CaseRows) (o : Outcome) (p : CasePlan) → c ≡ made number lines → parts ≡ length c.parts
-    → o ≡ outcome_of plain_ends c (report_terms (budget_of lines)) p → summary_in number lines parts o ≡ summary_of number lines p
-same_summary number lines parts c o p is count h = rw (h, count, is) refl
-
-pub demonstrated : (number lines : ℕ) (c : CaseRows) (held : StockList) (parts : ℕ) (o : Outcome) → c ≡ made number lines → held ≡ nothing_held c → parts ≡ length c.parts
-    → IsOutcome plain_ends c held.list (report_terms (budget_of lines)) o → IsDemonstrated number lines (summary_in number lines parts o)
-demonstrated number lines c held parts o is none count h = record {
-  plan = h.plan;
-  is_plan = subst (λ (d : CaseRows). IsCasePlan plain_ends d (nothing_held d).list (budget_of lines) h.plan) is
-      (subst (λ (s : StockList). IsCasePlan plain_ends c s.list (budget_of lines) h.plan) none h.is_plan);
-  is = same_summary number lines parts c o h.plan is count h.is;
-}

@@ -1,19 +1,18 @@
 -- A demonstration and its summary.
-use Rattle.std.specs.Prelude.{◌≡◌, ℕ, ◌*◌, false, length, None}
+use Rattle.std.specs.Prelude.{◌≡◌, ℕ, ◌*◌, length}
 use Rattle.case_figures.specs.Figures.{total_of}
 use Rattle.case_figures.specs.Spans.{ends}
 use Rattle.case_maker.specs.Demonstration.{made}
-use Rattle.case_plan.specs.Report as reports
 use Rattle.case_plan.specs.declared.outcome.Outcome.{Outcome}
 use Rattle.certified_plan.specs.Certificates.{certificate_of, claims_of}
 use Rattle.certified_plan.specs.declared.terms.PlanClaims.{PlanClaims}
 use Rattle.price_certificate.specs.declared.certificate.Terms.{Terms}
-use Rattle.fleet_plan.specs.Laws.{plain_ends}
 use Rattle.fleet_plan.specs.Plans.{CasePlan, IsCasePlan}
-use Rattle.gap_checker.specs.Soundness.{nothing_held}
 use Rattle.plan_report.specs.declared.summary.Summary.{Summary}
 use Rattle.price_certificate.specs.declared.certificate.Certificate.{Certificate}
 use Rattle.price_certificate.specs.declared.certificate.Objective.TheVariants.{Backorders}
+use Rattle.family_curve.specs.Points.{plain_ends}
+use Rattle.spares_input.specs.Stocks.{nothing_held}
 
 -- whole money for so many line units
 abbrev pub budget_of : ℕ → ℕ
@@ -48,7 +47,7 @@ pub record IsDemonstrated (number lines : ℕ) (summary : Summary) : Type 0 wher
   pub is_plan : IsCasePlan plain_ends (made number lines) (nothing_held (made number lines)).list (budget_of lines) plan
   pub is : summary ≡ summary_of number lines plan
 
--- ---- the same from a plan's outcome: no promise rests on these words
+-- ---- the same from a plan's outcome: no promise of the crate rests on these words
 
 -- the summary of the demonstration, from its plan's outcome
 abbrev pub summary_in : ℕ → ℕ → ℕ → Outcome → Summary
@@ -66,7 +65,3 @@ summary_in number lines parts o = record {
 -- what the outcome of a plan claims
 abbrev pub claims_in : Outcome → PlanClaims
 claims_in o = record { stocks = o.stocks; price = o.price; floors = o.floors; upper = o.upper; bound = o.report.bound }
-
--- the terms of the demonstration's report: its budget, no loss, nothing on hand
-abbrev pub report_terms : ℕ → reports.Terms
-report_terms budget = record { budget = budget; loss = false; on_hand = None }

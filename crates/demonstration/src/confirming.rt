@@ -2,9 +2,10 @@
 
 ghost use Rattle.std.specs.Prelude.{◌≡◌, ◌≤◌, None, length};
 ghost use Rattle.gap_checker.specs.Refusals.{reject_of};
-ghost use Rattle.gap_checker.specs.Soundness.{nothing_held, plain_score};
-ghost use Rattle.price_certificate.specs.Certificates.{IsWellFormed, cert_text};
+ghost use Rattle.price_certificate.specs.Certificates.{IsWellFormed, cert_text, certificate_limit};
 ghost use Rattle.price_certificate.specs.declared.certificate.Objective.TheVariants as objective;
+ghost use Rattle.family_curve.specs.Points.{plain_ends};
+ghost use Rattle.spares_input.specs.Stocks.{nothing_held};
 
 use gap_checker::check;
 use price_certificate::{Certificate, read, text};
@@ -15,8 +16,8 @@ use std::alloc::Global;
 pub(crate) fn confirm(alloc: Global, certificate: &Certificate) -> Result<(), NoMemory>
     requires formed { IsWellFormed certificate.now }
     requires objective { certificate.now.objective ≡ objective.Backorders }
-    requires short { length (cert_text certificate.now) ≤ 16777216 }
-    requires accepted { reject_of plain_score certificate.now (nothing_held certificate.now.case) ≡ None }
+    requires short { length (cert_text certificate.now) ≤ certificate_limit }
+    requires accepted { reject_of plain_ends certificate.now (nothing_held certificate.now.case) ≡ None }
 {
     let bytes = text(alloc, certificate)?;
     let certificate = match read(alloc, bytes.as_slice()) {

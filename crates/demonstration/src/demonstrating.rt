@@ -1,7 +1,7 @@
 //! A demonstration, from its number to its summary.
 
 ghost use Rattle.std.specs.Prelude.{◌≡◌, ◌≤◌, IfOk};
-ghost use Rattle.case_figures.specs.Spans.{ends, places};
+ghost use Rattle.case_figures.specs.Spans.{places};
 ghost use Rattle.certified_plan.specs.Certificates.{certificate_of};
 ghost use Rattle.certified_plan.specs.Inputs.{AreClaims, AreTerms, IsHeld};
 ghost use Rattle.demonstration.specs.Demonstrations.{IsDemonstrated, claims_in, demo_terms, summary_in};
@@ -9,32 +9,18 @@ ghost use Rattle.plan_report.specs.Fits.{FitsSummary};
 ghost use Rattle.price_certificate.specs.Certificates.{IsWellFormed};
 
 use crate::confirming::confirm;
-use case_figures::Span;
 use case_plan::{Outcome, plan_case};
 use certified_plan::{PlanClaims, certificate};
 use demo_accepts::demonstration;
-use fixed_interval::Iv;
-use gap_checker::nothing_held;
 use hull::Plain;
 use plan_report::Summary;
 use price_certificate::{Certificate, Objective, Terms};
-use spares_input::{Case, Stocks};
+use spares_input::{Case, Stocks, nothing_held};
 use spares_io::NoMemory;
 use std::alloc::Global;
 
 /// What a demonstration has for each of its line units, in whole money.
 const MONEY: u64 = 2_000;
-
-/// The interval of a span with 48 binary places.
-fn interval_of(span: &Span) -> Iv<48>
-    requires { places span.now ≡ 48 }
-    ensures { result ≡ ends span.now }
-{
-    match span {
-        Span::Bits48(interval) => *interval,
-        _ => unreachable!(),
-    }
-}
 
 /// The summary of a plan, whose case has so many parts.
 fn summary_of(number: u32, lines: u16, parts: u16, plan: &Outcome) -> Summary
@@ -48,7 +34,7 @@ fn summary_of(number: u32, lines: u16, parts: u16, plan: &Outcome) -> Summary
         parts: u32::from(parts),
         budget: report.budget,
         cost: report.figures.cost,
-        total: interval_of(&report.figures.total),
+        total: report.figures.total.interval(),
         bound: report.bound,
         gap: report.gap,
     }

@@ -71,6 +71,7 @@ families_enclosed ends value c held accepted encloses = enclosed_in ends value c
 -- ---- from allocations of the case to those of its families
 
 module _ (ends : ScoreEnds) (value : Value) (c : CaseRows) (held : List ℕ) (valid : IsCase c) where
+  -- the vector of a family at an allocation that keeps what is held lies between what is held and the limits
   pub vector_between : (s : List ℕ) (l : ℕ) → IsLine c l → IsHeldAllocation c held s → IsBetween (vector_of c l held) (limits c l) (vector_of c l s)
   vector_between s l line a = record {
     least = zip_maps (λ x y. x ≤ y) (λ (x : Pair). stock c held x.part x.site) (λ (x : Pair). stock c s x.part x.site) (places c l)
@@ -90,6 +91,7 @@ module _ (ends : ScoreEnds) (value : Value) (c : CaseRows) (held : List ℕ) (va
       ap (λ z. added_cost c l (vector_of c l held) (vector_of c l s) + z) (cost_in s ls)
       ∙ sym (sum_by-cons (λ m. added_cost c m (vector_of c m held) (vector_of c m s)) l ls)
 
+  -- the vectors of the families at stocks cost what the stocks cost beyond what is held
   pub same_cost : (s : List ℕ) → cost_at (families_at ends value c held) (vectors_at c s) ≡ cost_beyond c held s
   same_cost s = cost_in s (line_units c) ∙ families_beyond c held s valid
 
@@ -103,10 +105,12 @@ module _ (ends : ScoreEnds) (value : Value) (c : CaseRows) (held : List ℕ) (va
       ap₂ (λ a b. a +ℚ b) (family_aim_same c (stocks_with c l (vector_of c l s)) s (has_sites c valid) value n l (agree_on c l (stocks_with c l (vector_of c l s)) s (own_vector s l (lines l (inl refl)))))
       (total_in s n ls (λ m b. lines m (inr b)))
 
+  -- the vectors of the families at stocks come to the aim of the stocks
   pub same_total : (s : List ℕ) (n : ℕ) → total_at n (families_at ends value c held) (vectors_at c s) ≡ aim value c s n
   unfolding aim
   same_total s n = total_in s n (line_units c) (lines_are c valid)
 
+  -- an allocation of the case is one of its families, with the same cost and the same aim
   pub same_choice : (s : List ℕ) → IsHeldAllocation c held s → IsSameChoice ends value c held s
   same_choice s a = record { allocation = allocation_in s (line_units c) (lines_are c valid) a; cost = same_cost s; total = same_total s }
 
@@ -123,6 +127,7 @@ module _ (ends : ScoreEnds) (value : Value) (c : CaseRows) (held : List ℕ) (va
   zipped_self g (m ∷ ms) h l (inl e) = subst (λ z. IsBetween (vector_of c z held) (limits c z) (g z)) (sym e) h.0
   zipped_self g (m ∷ ms) h l (inr a) = zipped_self g ms h.1 l a
 
+  -- stocks whose vectors are an allocation of the families are an allocation that keeps what is held
   pub held_of : (s : List ℕ) → length s ≡ pair_count (frame_rows c) → IsAllocation (families_at ends value c held) (vectors_at c s) → IsHeldAllocation c held s
   held_of s e a = record { allocation = record { complete = e; within = λ p k lp lk. (at p k lp lk).1 }; keeps = λ p k lp lk. (at p k lp lk).0 }
     where
@@ -131,6 +136,7 @@ module _ (ends : ScoreEnds) (value : Value) (c : CaseRows) (held : List ℕ) (va
           let f = family_of_part c valid p lp in
           within_family c f.0 s held (vector_of c f.0 s) (zipped_self (λ l. vector_of c l s) (line_units c) (betweens (line_units c) (vectors_at c s) a) f.0 (line_among c valid f.0 f.1)) refl p k f.2 lk
 
+  -- each allocation of the families is that of an allocation of the case
   pub of_stocks : (allocation : List (List ℕ)) → IsAllocation (families_at ends value c held) allocation → IsOfStocks c held allocation
   of_stocks allocation a =
       let widths : AllZip (HasWidth c) (line_units c) allocation = zip_each (λ l v. IsBetween (vector_of c l held) (limits c l) v) (HasWidth c) (line_units c) allocation (λ l v m b. width_of c l held v b) (betweens (line_units c) allocation a) in
@@ -220,6 +226,7 @@ module _ (ends : ScoreEnds) (value : Value) (c : CaseRows) (held : List ℕ) (ac
   abbrev own : List Family
   own = families_at ends value c held
 
+  -- where no allocation of the families within the budget has less than a bound, no stocks within it have less
   pub none_less : (budget bound : ℕ) → ((n : ℕ) (allocation : List (List ℕ)) → 1024 ≤ n → IsAllocation own allocation → cost_at own allocation ≤ budget → IsAtLeast bound (total_at n own allocation))
       → NoneHasLess value c held budget bound
   none_less budget bound h n deep s a fits =
@@ -236,6 +243,7 @@ module _ (ends : ScoreEnds) (value : Value) (c : CaseRows) (held : List ℕ) (ac
   no_more : (s : List ℕ) (limit : ℕ) → ((n : ℕ) → 1024 ≤ n → IsAtMost limit (total_at n own (vectors_at c s))) → HasNoMore value c s limit
   no_more s limit h n deep = at_most limit (aim value c s n) (subst (IsAtMost limit) (same_total ends value c held accepted.valid s n) (h n deep))
 
+  -- acceptable claims are true of the case
   pub claims_true : (budget : ℕ) (x : CaseClaims) → AreAcceptable ends c held budget x → AreTrueClaims value c held budget x
   claims_true budget x h =
       true_of (certificate_sound own budget (claims_at ends c held x) (families_enclosed ends value c held accepted encloses)
@@ -249,6 +257,7 @@ module _ (ends : ScoreEnds) (value : Value) (c : CaseRows) (held : List ℕ) (ac
         none_less = none_less budget x.bound k.fewer;
       }
 
+  -- a plan is true of the case
   pub plan_true : (budget : ℕ) (p : CasePlan) → IsCasePlan ends c held budget p → IsTruePlan ends value c held budget p
   plan_true budget p h =
       true_of (plan_sound own budget (points_at ends c held p.stocks) p.floors p.numbers (families_enclosed ends value c held accepted encloses)

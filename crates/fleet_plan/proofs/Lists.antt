@@ -54,8 +54,6 @@ zipped_maps R f g [] h x a = absurd a
 zipped_maps R f g (y ∷ ys) h x (inl e) = subst (λ z. R (f z) (g z)) (sym e) h.0
 zipped_maps R f g (y ∷ ys) h x (inr a) = zipped_maps R f g ys h.1 x a
 
--- ---- ranges
-
 -- ---- boxes
 
 -- a vector that lies between two is among the vectors from the one to the other

@@ -98,20 +98,24 @@ found xs i a h = found_step (position_or_len (λ q. q == get_or xs i 0) xs) i (l
 -- ---- families
 
 module _ (c : CaseRows) (valid : IsCase c) where
+  -- what is listed as a line unit is one
   pub lines_are : (l : ℕ) → Among l (line_units c) → IsLine c l
   lines_are l a =
       let k = kept (λ p. is_line (part_at c.parts p)) (all_parts c) l a in
       record { is_part = (let r = range_has l 0 (length c.parts) k.0 in omega (arith, r.1)); no_parent = k.1 }
 
+  -- each line unit is listed
   pub line_among : (l : ℕ) → IsLine c l → Among l (line_units c)
   line_among l line = keeps (λ p. is_line (part_at c.parts p)) (all_parts c) l (in_range l 0 (length c.parts) (omega arith) (omega (arith, line.is_part))) line.no_parent
 
+  -- no line unit is listed twice
   pub lines_apart : IsApart (line_units c)
   lines_apart = kept_apart (λ p. is_line (part_at c.parts p)) 0 (length c.parts)
 
   pub shop_is : (l p : ℕ) → IsLine c l → Among p (shop_units c l) → IsShop c l p
   shop_is l p line a = among_all (IsShop c l) (shop_units c l) p (shops_all c l valid line) a
 
+  -- each part of a family is a part of the case
   pub in_case : (l p : ℕ) → IsLine c l → Among p (family c l) → p < length c.parts
   in_case l p line a = among_all (λ q. q < length c.parts) (family c l) p (members c l valid line) a
 
@@ -133,6 +137,7 @@ module _ (c : CaseRows) (valid : IsCase c) where
   one_family l m p ll lm (inr a) (inl i) = absurd (not_both m l lm (subst (IsShop c l) i (shop_is l p ll a)))
   one_family l m p ll lm (inr a) (inr b) = ap unwrapped (sym (shop_is l p ll a).line_is ∙ (shop_is m p lm b).line_is)
 
+  -- no part of a family is listed twice
   pub family_apart : (l : ℕ) → IsLine c l → IsApart (family c l)
   family_apart l line = (λ a. not_both l l line (shop_is l l line a), kept_apart (λ p. is_shop_of (part_at c.parts l) (part_at c.parts p)) 0 (length c.parts))
 
@@ -301,6 +306,7 @@ module _ (c : CaseRows) (valid : IsCase c) where
 
   -- ---- each part has a family
 
+  -- each part is of some family
   pub family_of_part : (p : ℕ) → p < length c.parts → (l : ℕ) × IsLine c l × Among p (family c l)
   family_of_part p h = by_parent (part_at c.parts p).parent refl (HasFamilies.parent_of (has_families c valid) p h)
     where

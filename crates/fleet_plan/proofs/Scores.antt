@@ -47,7 +47,7 @@ use Rattle.fleet_plan.proofs.Places.{stock_listed, length_listed, length_vector,
 
 -- ---- the family's stocks alone
 
--- at one site
+-- parts whose stocks are the same at every site have the same stocks at site k
 at_site : (c : CaseRows) (s t : List ℕ) (k : ℕ) → k < length c.sites → (ps : List ℕ) → AllByRecursion (λ p. (j : ℕ) → j < length c.sites → stock c s p j ≡ stock c t p j) ps
     → AllByRecursion (λ p. stock c s p k ≡ stock c t p k) ps
 at_site c s t k h [] a = tt
@@ -89,6 +89,7 @@ module _ (c : CaseRows) (s : List ℕ) (l : ℕ) (sound : IsSound c s) (line : I
   in_base : (n j : ℕ) → 1024 ≤ n → IsBase c j → In 48 (item_of 48 c s l j).backorders (ebo_0j c s n l j)
   in_base n j deep base = line_in 48 c s l j (omega arith) sound line base n deep
 
+  -- a family's scored total encloses its aim, where the score's intervals enclose the value
   pub scored_encloses : (ends : ScoreEnds) (value : Value) → EnclosesValue ends value
       → Encloses 48 (scored_total c l ends s).lo (scored_total c l ends s).hi (λ n. family_aim value c s n l)
   unfolding family_aim
@@ -124,6 +125,7 @@ in_or_none xs p (Some i) e =
     inl (subst (λ q. Among q xs) (eqb-true (get_or xs i 0) p f.1) (among_at xs i 0 f.0))
 
 module _ (c : CaseRows) (l : ℕ) where
+  -- a vector between what is held and the limits has a number for each place of the family
   pub width_of : (held v : List ℕ) → IsBetween (vector_of c l held) (limits c l) v → length v ≡ length (places c l)
   width_of held v b = sym (length_all_zip _ (vector_of c l held) v b.least) ∙ length_vector c l held
 
@@ -144,6 +146,7 @@ module _ (c : CaseRows) (accepted : IsAcceptedCase c) (l : ℕ) (line : IsLine c
         (sym (stock_listed c (stock_in c l (site_part c l v)) p k lp lk ∙ ap (λ o. option_map_or (λ i. get_or (site_part c l v k) i 0) o 0) e)) (omega arith)
   ]
 
+  -- with the stocks of such a vector each pair's rates and stock are within their limits
   pub with_sound : (held v : List ℕ) → IsBetween (vector_of c l held) (limits c l) v → IsSound c (stocks_with c l v)
   with_sound held v b =
       evaluable 48 c (stock_list c (stocks_with c l v)) (record {
@@ -179,6 +182,7 @@ module _ (c : CaseRows) (accepted : IsAcceptedCase c) (l : ℕ) (line : IsLine c
       let row = accepted.valid.frame.part_rows x.part no_part p in
       (row.cost.1, chosen_most (x.site == 0) (part_at c.parts x.part).max_depot (part_at c.parts x.part).max_base 63 row.max_depot row.max_base)
 
+  -- each point of a family is in range
   pub point_range : (ends : ScoreEnds) (held : List ℕ) (v : Point) → LeavesRoom ends → Among v (family_points ends c held l) → InRange v
   point_range ends held v room a =
       let m = among_mapped (point_at_vector c l ends (vector_of c l held)) (vectors (vector_of c l held) (limits c l)) v a in

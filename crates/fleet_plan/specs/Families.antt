@@ -35,7 +35,7 @@ case_points ends c held = map (family_points ends c held) (line_units c)
 abbrev pub HasWidth : CaseRows → ℕ → List ℕ → Type 0
 HasWidth c l v = length v ≡ length (places c l)
 
--- the vectors of all families at the stocks s, and their points
+-- the vectors of all families at the stocks s
 abbrev pub vectors_at : CaseRows → List ℕ → List (List ℕ)
 vectors_at c s = map (λ l. vector_of c l s) (line_units c)
 

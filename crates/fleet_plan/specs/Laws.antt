@@ -1,6 +1,6 @@
 -- What the laws of plans say.
 use Rattle.std.specs.Prelude.{◌≡◌, ℕ, ◌<◌, List, [], map, length, ◌↔◌, None, fold}
-use Rattle.fixed_interval.specs.Ends.{ends_times, ends_add, ends_exact}
+use Rattle.fixed_interval.specs.Ends.{ends_add, ends_exact}
 use Rattle.hull.specs.declared.point.Point.{Point}
 use Rattle.hull.specs.declared.price.Price.{Price}
 use Rattle.hull.specs.Curves.{Among, InRange}
@@ -11,7 +11,7 @@ use Rattle.fleet_model.specs.Rows.{line_units}
 use Rattle.family_eval.specs.Profile.{total_of}
 use Rattle.family_eval.specs.Inputs.{IsLine}
 use Rattle.family_curve.specs.Vectors.{vector_of, zeros}
-use Rattle.family_curve.specs.Points.{ScoreEnds}
+use Rattle.family_curve.specs.Points.{ScoreEnds, plain_ends}
 use Rattle.marginal_alloc.specs.Choice.{AreCurves}
 use Rattle.marginal_alloc.specs.Plans.{IsPlan}
 use Rattle.price_bounds.specs.Certificates.{AreLeastFloors, Claims, IsAcceptable}
@@ -27,10 +27,6 @@ use Rattle.fleet_plan.specs.Plans.{CasePlan, IsCasePlan, CaseClaims, AreAcceptab
 pub record IsAcceptedCase (c : CaseRows) : Type 0 where
   pub valid : IsCase c
   pub no_fault : rate_fault_of c ≡ None
-
--- the plain score: the weight times the backorders
-abbrev pub plain_ends : ScoreEnds
-plain_ends systems per_system weight backorders = ends_times backorders weight
 
 -- ---- families
 

@@ -21,7 +21,7 @@ pub record CasePlan : Type 0 where
   pub floors : List ℕ
   pub numbers : PlanNumbers
 
--- the line unit of a step, and that of the critical step, where there is one
+-- the line unit of a step
 abbrev pub line_of_step : CaseRows → Critical → ℕ
 line_of_step c step = get_or (line_units c) step.family 0
 

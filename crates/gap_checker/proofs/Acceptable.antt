@@ -2,7 +2,6 @@
 use Rattle.std.proofs.Common.{◌≡◌, ℕ, zero, suc, ◌+◌, ◌<◌, ◌≤◌, inl, inr, Bool, true, false, nat_lt, List, [], ◌∷◌, map, length, get_or, Option, Some, None, is_none, refl, ap, arith, ltb-false}
 use Rattle.std.specs.Prelude.{if◌then◌else◌, unwrap_or}
 use Rattle.std.specs.Option.{option_map}
-use Rattle.fixed_interval.specs.Ends.{Ends}
 use Rattle.hull.specs.declared.point.Point.{Point}
 use Rattle.hull.specs.declared.price.Price.{Price}
 use Rattle.hull.specs.Curves.{lagrangian, Among}
@@ -16,7 +15,7 @@ use Rattle.demand_rates.specs.Limits.{rate_fault_of}
 use Rattle.price_bounds.specs.Sums.{cost_of, Picks}
 use Rattle.price_bounds.specs.Certificates.{AreFloors, IsAcceptable}
 use Rattle.family_curve.specs.Vectors.{vector_of, limits, vectors}
-use Rattle.family_curve.specs.Points.{point_at_vector, points_within}
+use Rattle.family_curve.specs.Points.{point_at_vector, points_within, ScoreEnds}
 use Rattle.price_certificate.specs.declared.certificate.Certificate.{Certificate}
 use Rattle.price_certificate.specs.Certificates.{IsWellFormed}
 use Rattle.gap_checker.specs.declared.leaf.Leaf.{Leaf}
@@ -24,14 +23,14 @@ use Rattle.gap_checker.specs.declared.refusal.Reject.{Reject}
 use Rattle.gap_checker.specs.declared.refusal.Reject.TheVariants as reject
 use Rattle.gap_checker.specs.Refusals.{line_at, family_count, box_from, nodes_of, cover_of, family_leaves, gap_at, over_limit, below_held, cost_above, work_of, low_leaf, leaf_value, low_at, chosen_point, chosen_of, upper_of, largest_of, reject_of}
 use Rattle.gap_checker.specs.Laws.{AcceptedAreAcceptable, families_of, claims_of}
-use Rattle.gap_checker.proofs.Among_laws.{among_vectors}
-use Rattle.gap_checker.proofs.Floor_laws.{floors_hold}
+use Rattle.gap_checker.proofs.AmongLaws.{among_vectors}
+use Rattle.gap_checker.proofs.FloorLaws.{floors_hold}
 use Rattle.gap_checker.proofs.Places.{if_none, line_part, vectors_ordered, vector_limited}
 use Rattle.gap_checker.proofs.Costs.{added_is, total_map}
 use Rattle.gap_checker.proofs.Formed.{has_floors}
 
 -- each of the nine rules holds
-pub record BreaksNone (score : ℕ → ℕ → ℕ → Ends → Ends) (cert : Certificate) (held : StockList) : Type 0 where
+pub record BreaksNone (score : ScoreEnds) (cert : Certificate) (held : StockList) : Type 0 where
   pub rates : option_map reject.Rate (rate_fault_of cert.case) ≡ None
   pub gaps : first (gap_at cert held) (family_count cert.case) ≡ None
   pub work : work_of cert held ≤ 1000000
@@ -43,7 +42,7 @@ pub record BreaksNone (score : ℕ → ℕ → ℕ → Ends → Ends) (cert : Ce
   pub bound : cert.bound ≤ largest_of score cert
 
 -- a certificate for which no reject is answered breaks none of the rules
-pub breaks_none : (score : ℕ → ℕ → ℕ → Ends → Ends) (cert : Certificate) (held : StockList) → reject_of score cert held ≡ None → BreaksNone score cert held
+pub breaks_none : (score : ScoreEnds) (cert : Certificate) (held : StockList) → reject_of score cert held ≡ None → BreaksNone score cert held
 unfolding reject_of
 breaks_none score cert held h =
     let a = or_else_none _ _ h in
@@ -106,7 +105,7 @@ picks_map : (points : ℕ → List Point) (chosen : ℕ → Point) (ls : List �
 picks_map points chosen [] h = tt
 picks_map points chosen (l ∷ ls) h = (h l (inl refl), picks_map points chosen ls (λ y m. h y (inr m)))
 
-module _ (score : ℕ → ℕ → ℕ → Ends → Ends) (cert : Certificate) (held : StockList) (valid : IsCase cert.case) (formed : IsWellFormed cert) (is_for : IsFor cert.case held) (none : BreaksNone score cert held) where
+module _ (score : ScoreEnds) (cert : Certificate) (held : StockList) (valid : IsCase cert.case) (formed : IsWellFormed cert) (is_for : IsFor cert.case held) (none : BreaksNone score cert held) where
   own_point : (l : ℕ) → Among l (line_units cert.case) → Among (chosen_point score cert held l) (points_within cert.case l score (vector_of cert.case l held.list) (vector_of cert.case l held.list) (limits cert.case l))
   own_point l m =
       let b = (line_part cert.case l m).0 in

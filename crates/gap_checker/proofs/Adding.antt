@@ -60,9 +60,11 @@ few_places c l valid line =
     omega (arith, e, p)
 
 module _ (c : CaseRows) (l : ℕ) (held v : List ℕ) (order : AtMost held v) (limit : AtMost v (limits c l)) where
+  -- a vector within the limits has a stock for each place of the family
   pub length_vector : length v ≡ length (places c l)
   length_vector = at_most_length v (limits c l) limit ∙ length_limits c l
 
+  -- what is held has a stock for each place of the family
   pub length_held : length held ≡ length (places c l)
   length_held = at_most_length held v order ∙ length_vector
 
@@ -72,6 +74,7 @@ module _ (c : CaseRows) (l : ℕ) (held v : List ℕ) (order : AtMost held v) (l
       let m : added * each ≤ added * 100000000 = mul-le-mul_left added d in
       (omega (arith, e, f, g), omega (arith, a, b, m, g))
 
+  -- with what is bought at place k added, at its part's cost, the cost is that of one place more
   pub added_more : (k cost added each now : ℕ) (parts : List PartId) → Added c l held v k cost → k < length parts → map (λ (p : PartId). p.0) parts ≡ map (λ x. x.part) (places c l)
       → added ≡ get_or v k 0 - get_or held k 0 → each ≡ (part_at c.parts (get_or (map (λ (p : PartId). p.0) parts) k 0)).cost → added ≤ 255 → each ≤ 100000000 → now ≡ cost + added * each
       → Added c l held v (k + 1) now
@@ -87,6 +90,7 @@ module _ (c : CaseRows) (l : ℕ) (held v : List ℕ) (order : AtMost held v) (l
   nothing_left : (held v : List ℕ) → added_at c [] held v ≡ 0
   nothing_left held v = refl
 
+  -- behind the last place the cost is that of all that the vector adds to what is held
   pub added_all : (k cost : ℕ) (parts : List PartId) → Added c l held v k cost → length parts ≤ k → map (λ (p : PartId). p.0) parts ≡ map (λ x. x.part) (places c l) → cost ≡ added_cost c l held v
   added_all k cost parts h b same =
       let n : length parts ≡ length (places c l) = sym (length-map parts (λ (p : PartId). p.0)) ∙ ap length same ∙ length-map (places c l) (λ (x : Pair). x.part) in
@@ -94,6 +98,7 @@ module _ (c : CaseRows) (l : ℕ) (held v : List ℕ) (order : AtMost held v) (l
       let s = h.sum in
       omega (arith, e, s)
 
+  -- a list of the parts at the places has one for each place
   pub length_parts : (parts : List PartId) → map (λ (p : PartId). p.0) parts ≡ map (λ x. x.part) (places c l) → length parts ≡ length (places c l)
   length_parts parts same = sym (length-map parts (λ (p : PartId). p.0)) ∙ ap length same ∙ length-map (places c l) (λ (x : Pair). x.part)
 

@@ -3,9 +3,9 @@ use Rattle.std.proofs.Common.{◌≡◌, ℕ, zero, suc, ◌+◌, ◌<◌, ◌�
 use Rattle.std.specs.Option.{option_map}
 use Rattle.std.proofs.lemmas.List.Sums.{sum_by-cons}
 use Rattle.std.proofs.lemmas.List.{length-reverse, drop_all}
+use Rattle.spares_io.specs.Causes.{count64}
 use Rattle.spares_input.specs.Cases.{CaseRows}
 use Rattle.family_curve.specs.declared.bounds.Bounds.{Bounds}
-use Rattle.family_curve.specs.Counts.{counted}
 use Rattle.price_certificate.specs.declared.certificate.Node.{Node}
 use Rattle.price_certificate.specs.declared.certificate.Node.TheVariants.{Split}
 use Rattle.gap_checker.specs.declared.leaf.Leaf.{Leaf}
@@ -17,7 +17,7 @@ use Rattle.gap_checker.specs.Reading.{joined, Reads, AllOrdered, KeepsOrder}
 
 -- the tables counted so far and those of the leaves to come
 abbrev pub with_more : CaseRows → ℕ → ℕ → Option (List Leaf) → Option ℕ
-with_more c l n o = option_map (λ ls. counted (n + cover_tables c l ls)) o
+with_more c l n o = option_map (λ ls. count64 (n + cover_tables c l ls)) o
 
 -- what is counted when k nodes have been read
 pub record Counted (c : CaseRows) (l : ℕ) (bounds : Bounds) (nodes : List Node) (k : ℕ) (waiting : List Bounds) (tables : ℕ) : Type 0 where
@@ -47,13 +47,14 @@ module _ (c : CaseRows) (l : ℕ) where
   cap_step : (t lt s : ℕ) → min (min (t + min lt 18446744073709551615) 18446744073709551615 + s) 18446744073709551615 ≡ min (t + (lt + s)) 18446744073709551615
   cap_step t lt s = omega arith
 
-  more_leaf : (x : Leaf) (t now : ℕ) (o : Option (List Leaf)) → now ≡ min (t + counted (leaf_tables c l x)) 18446744073709551615 → with_more c l now o ≡ with_more c l t (option_map (λ ls. x ∷ ls) o)
+  more_leaf : (x : Leaf) (t now : ℕ) (o : Option (List Leaf)) → now ≡ min (t + count64 (leaf_tables c l x)) 18446744073709551615 → with_more c l now o ≡ with_more c l t (option_map (λ ls. x ∷ ls) o)
   more_leaf x t now None h = refl
   more_leaf x t now (Some ls) h =
-      ap (λ z. Some (counted (z + cover_tables c l ls))) h
+      ap (λ z. Some (count64 (z + cover_tables c l ls))) h
       ∙ ap (λ z. Some z) (cap_step t (leaf_tables c l x) (cover_tables c l ls))
-      ∙ ap (λ z. Some (counted (t + z))) (sym (sum_by-cons (leaf_tables c l) x ls))
+      ∙ ap (λ z. Some (count64 (t + z))) (sym (sum_by-cons (leaf_tables c l) x ls))
 
+  -- a node that makes no leaf leaves the count as it was
   pub counted_inner : (bounds : Bounds) (nodes : List Node) (k : ℕ) (before after : List Bounds) (r : Read) (t now : ℕ) → Counted c l bounds nodes k before t → k < length nodes
       → Reads before (get_or nodes k (Split 0 0)) r after → KeepsOrder before r after → r ≡ read.Inner → now ≡ t → Counted c l bounds nodes (k + 1) after now
   counted_inner bounds nodes k before after r t now h b reads keeps e f = record {
@@ -64,8 +65,9 @@ module _ (c : CaseRows) (l : ℕ) where
     small = (let s = h.small in omega (arith, s, f));
   }
 
+  -- a node that makes a leaf adds this leaf's tables, to at most 2^64 - 1
   pub counted_leaf : (bounds : Bounds) (nodes : List Node) (k : ℕ) (before after : List Bounds) (r : Read) (x : Leaf) (t lt sum now : ℕ) → Counted c l bounds nodes k before t → k < length nodes
-      → Reads before (get_or nodes k (Split 0 0)) r after → KeepsOrder before r after → r ≡ read.Leaf x → now ≡ sum → lt ≡ counted (leaf_tables c l x) → sum ≡ min (t + lt) 18446744073709551615
+      → Reads before (get_or nodes k (Split 0 0)) r after → KeepsOrder before r after → r ≡ read.Leaf x → now ≡ sum → lt ≡ count64 (leaf_tables c l x) → sum ≡ min (t + lt) 18446744073709551615
       → Counted c l bounds nodes (k + 1) after now
   counted_leaf bounds nodes k before after r x t lt sum now h b reads keeps e f g i = record {
     counts = more_leaf x t now (leaves (drop (k + 1) nodes) (reverse after)) (f ∙ i ∙ ap (λ z. min (t + z) 18446744073709551615) g)
@@ -75,9 +77,9 @@ module _ (c : CaseRows) (l : ℕ) where
     small = omega (arith, f, i);
   }
 
-  from_zero : (o : Option (List Leaf)) → with_more c l 0 o ≡ option_map (λ ls. counted (cover_tables c l ls)) o
+  from_zero : (o : Option (List Leaf)) → with_more c l 0 o ≡ option_map (λ ls. count64 (cover_tables c l ls)) o
   from_zero None = refl
-  from_zero (Some ls) = ap (λ z. Some (counted z)) (zero-add (cover_tables c l ls))
+  from_zero (Some ls) = ap (λ z. Some (count64 z)) (zero-add (cover_tables c l ls))
 
   at_cap : (t : ℕ) → t ≤ 18446744073709551615 → t ≡ min (t + 0) 18446744073709551615
   at_cap t h = omega arith
@@ -87,18 +89,15 @@ module _ (c : CaseRows) (l : ℕ) where
   all_read [] t e h = ap (λ z. Some z) (at_cap t h)
   all_read (x ∷ xs) t e h = absurd (let l : suc (length xs) ≡ 0 = e in omega arith)
 
+  -- where no box waits behind the last node, the tables of all leaves have been counted
   pub counted_end : (bounds : Bounds) (nodes : List Node) (k : ℕ) (waiting : List Bounds) (t : ℕ) → Counted c l bounds nodes k waiting t → length nodes ≤ k → length waiting ≡ 0
-      → Some t ≡ option_map (λ ls. counted (cover_tables c l ls)) (leaves nodes (bounds ∷ []))
+      → Some t ≡ option_map (λ ls. count64 (cover_tables c l ls)) (leaves nodes (bounds ∷ []))
   counted_end bounds nodes k waiting t h b e =
       all_read waiting t e h.small ∙ sym (ap (λ z. with_more c l t (leaves z (reverse waiting))) (drop_all k nodes b)) ∙ h.counts ∙ from_zero (leaves nodes (bounds ∷ []))
 
+  -- where a box waits behind the last node, the nodes are no tree
   pub counted_left : (bounds : Bounds) (nodes : List Node) (k : ℕ) (waiting : List Bounds) (t : ℕ) → Counted c l bounds nodes k waiting t → length nodes ≤ k → 0 < length waiting
-      → None ≡ option_map (λ ls. counted (cover_tables c l ls)) (leaves nodes (bounds ∷ []))
+      → None ≡ option_map (λ ls. count64 (cover_tables c l ls)) (leaves nodes (bounds ∷ []))
   counted_left bounds nodes k waiting t h b e =
       sym (ap (λ z. with_more c l t z) (left_over (reverse waiting) (omega (arith, length-reverse waiting, e))))
       ∙ sym (ap (λ z. with_more c l t (leaves z (reverse waiting))) (drop_all k nodes b)) ∙ h.counts ∙ from_zero (leaves nodes (bounds ∷ []))
-
-  pub counted_gap : (bounds : Bounds) (nodes : List Node) (k : ℕ) (before after : List Bounds) (r : Read) (t : ℕ) → Counted c l bounds nodes k before t → k < length nodes
-      → Reads before (get_or nodes k (Split 0 0)) r after → r ≡ read.Gap → None ≡ option_map (λ ls. counted (cover_tables c l ls)) (leaves nodes (bounds ∷ []))
-  counted_gap bounds nodes k before after r t h b reads e =
-      sym (ap (λ z. with_more c l t z) (advance nodes k before after r b reads ∙ ap (λ z. joined z (leaves (drop (k + 1) nodes) (reverse after))) e)) ∙ h.counts ∙ from_zero (leaves nodes (bounds ∷ []))

@@ -5,7 +5,7 @@ use Rattle.std.specs.List.{range_with_len}
 use Rattle.std.specs.Option.{option_map}
 use Rattle.std.proofs.lemmas.List.Sums.{sum_by-cons}
 use Rattle.std.proofs.lemmas.List.{length-map}
-use Rattle.fixed_interval.specs.Ends.{Ends}
+use Rattle.spares_io.specs.Causes.{count64}
 use Rattle.spares_input.specs.declared.rows.PartId.{PartId}
 use Rattle.spares_input.specs.First.{first}
 use Rattle.spares_input.specs.Cases.{CaseRows}
@@ -19,7 +19,6 @@ use Rattle.family_curve.specs.declared.bounds.Bounds.{Bounds}
 use Rattle.hull.proofs.Runs.{among_at}
 use Rattle.gap_checker.specs.Boxes.{AtMost, IsOrdered}
 use Rattle.family_curve.specs.Vectors.{places, vector_of, limits}
-use Rattle.family_curve.specs.Counts.{counted}
 use Rattle.price_certificate.specs.declared.certificate.Node.{Node}
 use Rattle.price_certificate.specs.declared.certificate.Certificate.{Certificate}
 use Rattle.gap_checker.specs.declared.leaf.Leaf.{Leaf}
@@ -32,6 +31,7 @@ use Rattle.gap_checker.proofs.Boxes.{at_most_self}
 use Rattle.gap_checker.proofs.Places.{IsPair, place_pair, line_part, at_most_maps}
 use Rattle.gap_checker.proofs.Adding.{part_first}
 use Rattle.gap_checker.proofs.Acceptable.{some_leaves}
+use Rattle.family_curve.specs.Points.{ScoreEnds}
 
 -- ---- line units
 
@@ -74,20 +74,24 @@ module _ (cert : Certificate) (held : StockList) (f l : ℕ) (nodes : List Node)
       ∙ ap (λ z. leaves (nodes_of cert f) (z ∷ [])) own_box
       ∙ ap (λ z. leaves (nodes_of cert f) (box_from cert.case z held.list ∷ [])) line
 
+  -- where the cover of family f is a tree, so are the nodes that are read
   pub own_tree : is_some (cover_of cert held f) ≡ true → is_some (leaves nodes (bounds ∷ [])) ≡ true
   own_tree h = ap (λ z. is_some z) cover_same ∙ h
 
+  -- where the tables of family f are within the limit, so are those of the leaves that are read
   pub own_work : family_tables cert held f ≤ 1000000 → cover_tables cert.case l (unwrap_or (leaves nodes (bounds ∷ [])) []) ≤ 1000000
   own_work h = subst (λ z. cover_tables cert.case z (unwrap_or (leaves nodes (bounds ∷ [])) []) ≤ 1000000) (sym line)
       (subst (λ z. cover_tables cert.case (line_at cert.case f) (unwrap_or z []) ≤ 1000000) (sym cover_same) h)
 
-  pub own_count : option_map (λ ls. counted (cover_tables cert.case l ls)) (leaves nodes (bounds ∷ [])) ≡ option_map (λ ls. counted (cover_tables cert.case (line_at cert.case f) ls)) (cover_of cert held f)
+  -- the tables counted of the nodes that are read are those of the cover of family f
+  pub own_count : option_map (λ ls. count64 (cover_tables cert.case l ls)) (leaves nodes (bounds ∷ [])) ≡ option_map (λ ls. count64 (cover_tables cert.case (line_at cert.case f) ls)) (cover_of cert held f)
   own_count =
-      ap (λ z. option_map (λ ls. counted (cover_tables cert.case l ls)) z) cover_same
-      ∙ ap (λ z. option_map (λ ls. counted (cover_tables cert.case z ls)) (cover_of cert held f)) line
+      ap (λ z. option_map (λ ls. count64 (cover_tables cert.case l ls)) z) cover_same
+      ∙ ap (λ z. option_map (λ ls. count64 (cover_tables cert.case z ls)) (cover_of cert held f)) line
 
-  module _ (score : ℕ → ℕ → ℕ → Ends → Ends) (floor : ℕ) (own_floor : floor ≡ get_or cert.floors f 0) (low : Option (ℕ × ℕ))
+  module _ (score : ScoreEnds) (floor : ℕ) (own_floor : floor ≡ get_or cert.floors f 0) (low : Option (ℕ × ℕ))
       (is : low ≡ low_leaf (value_of cert.case l score cert.price) floor 0 (unwrap_or (leaves nodes (bounds ∷ [])) [])) where
+    -- the reject of the low leaf that was found is that of family f
     pub own_low : option_map (λ x. too_low cert.format f x.0 floor x.1) low ≡ low_at score cert held f
     unfolding low_at
     own_low =
@@ -114,7 +118,7 @@ term_most g (suc n) a j h k = elim (here a j h) [
     here : (a j : ℕ) → a ≤ j → (a ≡ j) ⊎ (a + 1 ≤ j)
     here a j h = grind arith
 
-uncounted : (n : ℕ) → counted n ≤ 1000000 → n ≤ 1000000
+uncounted : (n : ℕ) → count64 n ≤ 1000000 → n ≤ 1000000
 uncounted n h = omega arith
 
 -- where the work of all families is within the limit, so are the tables of each
@@ -138,27 +142,28 @@ found_none at f (Some x) e h before = absurd (cc)
 
 -- ---- the count
 
-cap_sum : (a b w t : ℕ) → w ≡ counted a → t ≡ counted b → min (w + t) 18446744073709551615 ≡ counted (a + b)
+cap_sum : (a b w t : ℕ) → w ≡ count64 a → t ≡ count64 b → min (w + t) 18446744073709551615 ≡ count64 (a + b)
 cap_sum a b w t e f = omega arith
 
 module _ (cert : Certificate) (held : StockList) (f : ℕ) where
-  count_by : (o : Option (List Leaf)) (tables : ℕ) → Some tables ≡ option_map (λ ls. counted (cover_tables cert.case (line_at cert.case f) ls)) o
-      → ((if is_none o then Some (reject.CoverGap f) else None) ≡ None) × (tables ≡ counted (cover_tables cert.case (line_at cert.case f) (unwrap_or o [])))
+  count_by : (o : Option (List Leaf)) (tables : ℕ) → Some tables ≡ option_map (λ ls. count64 (cover_tables cert.case (line_at cert.case f) ls)) o
+      → ((if is_none o then Some (reject.CoverGap f) else None) ≡ None) × (tables ≡ count64 (cover_tables cert.case (line_at cert.case f) (unwrap_or o [])))
   count_by None tables h = absurd (cc)
   count_by (Some ls) tables h = (refl, (cc))
 
-  gap_by : (o : Option (List Leaf)) → None ≡ option_map (λ ls. counted (cover_tables cert.case (line_at cert.case f) ls)) o → (if is_none o then Some (reject.CoverGap f) else None) ≡ Some (reject.CoverGap f)
+  gap_by : (o : Option (List Leaf)) → None ≡ option_map (λ ls. count64 (cover_tables cert.case (line_at cert.case f) ls)) o → (if is_none o then Some (reject.CoverGap f) else None) ≡ Some (reject.CoverGap f)
   gap_by None h = refl
   gap_by (Some ls) h = absurd (cc)
 
-  pub counted_more : (work tables now : ℕ) → first (gap_at cert held) f ≡ None → work ≡ counted (tables_of_first cert held f)
-      → Some tables ≡ option_map (λ ls. counted (cover_tables cert.case (line_at cert.case f) ls)) (cover_of cert held f) → now ≡ min (work + tables) 18446744073709551615
-      → (first (gap_at cert held) (f + 1) ≡ None) × (now ≡ counted (tables_of_first cert held (f + 1)))
+  -- with the tables of family f counted there is no gap so far, and the count is that of one family more
+  pub counted_more : (work tables now : ℕ) → first (gap_at cert held) f ≡ None → work ≡ count64 (tables_of_first cert held f)
+      → Some tables ≡ option_map (λ ls. count64 (cover_tables cert.case (line_at cert.case f) ls)) (cover_of cert held f) → now ≡ min (work + tables) 18446744073709551615
+      → (first (gap_at cert held) (f + 1) ≡ None) × (now ≡ count64 (tables_of_first cert held (f + 1)))
   counted_more work tables now before w t n =
       let r = count_by (cover_of cert held f) tables t in
       let s : tables_of_first cert held (f + 1) ≡ tables_of_first cert held f + family_tables cert held f =
       ap (λ k. sum_by (family_tables cert held) (range_with_len 0 k)) (one f) ∙ sum_more (family_tables cert held) 0 f ∙ ap (λ k. tables_of_first cert held f + family_tables cert held k) (none f) in
-      (first_more (gap_at cert held) f before r.0, n ∙ cap_sum (tables_of_first cert held f) (family_tables cert held f) work tables w r.1 ∙ sym (ap counted s))
+      (first_more (gap_at cert held) f before r.0, n ∙ cap_sum (tables_of_first cert held f) (family_tables cert held f) work tables w r.1 ∙ sym (ap count64 s))
     where
       one : (f : ℕ) → f + 1 ≡ suc f
       one f = omega arith
@@ -166,6 +171,7 @@ module _ (cert : Certificate) (held : StockList) (f : ℕ) where
       none : (f : ℕ) → 0 + f ≡ f
       none f = omega arith
 
-  pub counted_gap_at : (n : ℕ) → first (gap_at cert held) f ≡ None → None ≡ option_map (λ ls. counted (cover_tables cert.case (line_at cert.case f) ls)) (cover_of cert held f) → f < n
+  -- where family f has a gap and none before it has one, the first gap of all is that of f
+  pub counted_gap_at : (n : ℕ) → first (gap_at cert held) f ≡ None → None ≡ option_map (λ ls. count64 (cover_tables cert.case (line_at cert.case f) ls)) (cover_of cert held f) → f < n
       → first (gap_at cert held) n ≡ Some (reject.CoverGap f)
   counted_gap_at n before h b = first_found (gap_at cert held) f n (reject.CoverGap f) before (gap_by (cover_of cert held f) h) b

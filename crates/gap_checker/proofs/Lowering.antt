@@ -1,20 +1,18 @@
 -- How the first low leaf is found, node by node.
-use Rattle.std.proofs.Common.{◌≡◌, ℕ, ◌+◌, ◌<◌, ◌≤◌, inl, inr, true, nat_lt, List, [], ◌∷◌, length, drop, get_or, reverse, Option, Some, None, refl, sym, ap, ◌∙◌, subst, arith, lt-ltb, le-ltb}
-use Rattle.std.specs.Prelude.{if◌then◌else◌, unwrap_or, is_some}
+use Rattle.std.proofs.Common.{◌≡◌, ℕ, ◌+◌, ◌<◌, ◌≤◌, nat_lt, List, [], ◌∷◌, length, drop, get_or, reverse, Some, None, sym, ap, ◌∙◌, arith, lt-ltb, le-ltb}
+use Rattle.std.specs.Prelude.{if◌then◌else◌, unwrap_or}
 use Rattle.std.proofs.lemmas.List.Sums.{sum_by-cons}
 use Rattle.std.proofs.lemmas.List.{drop_all}
-use Rattle.hull.specs.Curves.{Among}
 use Rattle.spares_input.specs.Cases.{CaseRows}
 use Rattle.family_curve.specs.declared.bounds.Bounds.{Bounds}
-use Rattle.gap_checker.specs.Boxes.{IsOrdered}
 use Rattle.price_certificate.specs.declared.certificate.Node.{Node}
 use Rattle.price_certificate.specs.declared.certificate.Node.TheVariants.{Split}
 use Rattle.gap_checker.specs.declared.leaf.Leaf.{Leaf}
 use Rattle.gap_checker.specs.declared.reading.Read.{Read}
 use Rattle.gap_checker.specs.declared.reading.Read.TheVariants as read
-use Rattle.gap_checker.specs.Covers.{leaves, box_of}
+use Rattle.gap_checker.specs.Covers.{leaves}
 use Rattle.gap_checker.specs.Values.{leaf_tables, cover_tables}
-use Rattle.gap_checker.specs.Reading.{joined, Reads, AllOrdered, IsOrderedRead, KeepsOrder}
+use Rattle.gap_checker.specs.Reading.{joined, Reads, AllOrdered, KeepsOrder}
 use Rattle.gap_checker.specs.Refusals.{low_leaf}
 use Rattle.gap_checker.proofs.Trees.{IsCons, cons_of}
 use Rattle.gap_checker.proofs.Counting.{advance}
@@ -32,33 +30,13 @@ pub record Lowering (c : CaseRows) (l : ℕ) (value : Leaf → ℕ) (floor : ℕ
   pub ordered : AllOrdered c l waiting
   pub few : number ≤ k
 
-some_of : {A : Type 0} (o : Option (List A)) → is_some o ≡ true → o ≡ Some (unwrap_or o [])
-some_of None h = absurd (cc)
-some_of (Some x) h = refl
-
 module _ (c : CaseRows) (l : ℕ) (value : Leaf → ℕ) (floor : ℕ) (bounds : Bounds) (nodes : List Node) where
-  pub lower_start : (waiting : List Bounds) → waiting ≡ bounds ∷ [] → is_some (leaves nodes (bounds ∷ [])) ≡ true → cover_tables c l (all_leaves nodes bounds) ≤ 1000000 → IsOrdered c l bounds
-      → Lowering c l value floor bounds nodes 0 waiting 0
-  lower_start waiting e some work o = record {
-    rest = all_leaves nodes bounds;
-    tree = ap (λ z. leaves nodes (reverse z)) e ∙ some_of (leaves nodes (bounds ∷ [])) some;
-    low = refl;
-    work = work;
-    ordered = λ box m. elim (subst (λ z. Among box z) e m) [ inl s ↦ subst (λ z. IsOrdered c l z) (sym s) o | inr n ↦ absurd n ];
-    few = omega arith;
-  }
-
   module _ (k : ℕ) (before after : List Bounds) (r : Read) (number : ℕ) (h : Lowering c l value floor bounds nodes k before number) (b : k < length nodes)
       (reads : Reads before (get_or nodes k (Split 0 0)) r after) (keeps : KeepsOrder before r after) where
     joined_is : joined r (leaves (drop (k + 1) nodes) (reverse after)) ≡ Some h.rest
     joined_is = sym (advance nodes k before after r b reads) ∙ h.tree
 
-    pub lower_gap : r ≡ read.Gap → ⊥
-    lower_gap e = absurd (no (ap (λ z. joined z (leaves (drop (k + 1) nodes) (reverse after))) (sym e) ∙ joined_is))
-      where
-        no : {A : Type 0} {x : A} → None ≡ Some x → ⊥
-        no h = (cc)
-
+    -- behind a node that makes no leaf the next leaf has the same number
     pub lower_inner : r ≡ read.Inner → Lowering c l value floor bounds nodes (k + 1) after number
     lower_inner e = record {
       rest = h.rest;
@@ -76,22 +54,22 @@ module _ (c : CaseRows) (l : ℕ) (value : Leaf → ℕ) (floor : ℕ) (bounds :
       tables_split : leaf_tables c l x + cover_tables c l own_cons.rest ≤ 1000000
       tables_split = (let w = h.work in let i = ap (cover_tables c l) own_cons.is ∙ sum_by-cons (leaf_tables c l) x own_cons.rest in omega (arith, w, i))
 
+      -- a leaf has no more tables than all work may have
       pub leaf_work : leaf_tables c l x ≤ 1000000
       leaf_work = (let t = tables_split in omega (arith, t))
-
-      pub leaf_ordered : IsOrdered c l (box_of x)
-      leaf_ordered = subst (λ z. IsOrderedRead c l z) e (keeps c l h.ordered).1
 
       own_low : (if nat_lt (value x) floor then Some (number, value x) else low_leaf value floor (number + 1) own_cons.rest) ≡ low_leaf value floor 0 (all_leaves nodes bounds)
       unfolding low_leaf
       own_low = sym (ap (low_leaf value floor number) own_cons.is) ∙ h.low
 
+      -- a leaf below the floor is the first low one of all
       pub lower_found : (worth : ℕ) → worth ≡ value x → worth < floor → Some (number, worth) ≡ low_leaf value floor 0 (all_leaves nodes bounds)
       lower_found worth w less =
           ap (λ z. Some (number, z)) w
           ∙ sym (ap (λ t. if t then Some (number, value x) else low_leaf value floor (number + 1) own_cons.rest) (lt-ltb (value x) floor (omega (arith, w, less))))
           ∙ own_low
 
+      -- behind a leaf that isn't below the floor the next leaf has the next number
       pub lower_more : (worth : ℕ) → worth ≡ value x → floor ≤ worth → Lowering c l value floor bounds nodes (k + 1) after (number + 1)
       lower_more worth w most = record {
         rest = own_cons.rest;
@@ -110,6 +88,7 @@ module _ (c : CaseRows) (l : ℕ) (value : Leaf → ℕ) (floor : ℕ) (bounds :
       some_inj h = (cc)
   none_rest (x ∷ xs) rest h = absurd (cc)
 
+  -- where no leaf was low up to the last node, none is
   pub lower_end : (k : ℕ) (waiting : List Bounds) (number : ℕ) → Lowering c l value floor bounds nodes k waiting number → length nodes ≤ k → None ≡ low_leaf value floor 0 (all_leaves nodes bounds)
   unfolding low_leaf
   lower_end k waiting number h b =

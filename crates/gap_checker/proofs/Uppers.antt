@@ -1,6 +1,5 @@
 -- The curve of one vector, and the sum of the upper ends.
 use Rattle.std.proofs.Common.{◌≡◌, ℕ, zero, suc, ◌+◌, ◌<◌, ◌≤◌, List, [], ◌∷◌, map, length, drop, get_or, refl, sym, ap, ap₂, ◌∙◌, subst, arith}
-use Rattle.fixed_interval.specs.Ends.{Ends}
 use Rattle.hull.specs.declared.point.Point.{Point}
 use Rattle.hull.specs.Curves.{Among, IsCurve, point_at}
 use Rattle.hull.proofs.Members.{Mapped, among_mapped}
@@ -9,10 +8,10 @@ use Rattle.price_bounds.specs.Sums.{hi_of}
 use Rattle.family_eval.specs.Inputs.{IsLine}
 use Rattle.gap_checker.specs.Boxes.{AtMost, IsOrdered}
 use Rattle.family_curve.specs.Vectors.{vectors, limits}
-use Rattle.family_curve.specs.Points.{point_at_vector, points_within}
+use Rattle.family_curve.specs.Points.{point_at_vector, points_within, ScoreEnds}
 use Rattle.family_curve.specs.Counts.{tables_between}
 use Rattle.family_curve.proofs.Single.{one_vector}
-use Rattle.gap_checker.proofs.Among_laws.{IsBetween, between}
+use Rattle.gap_checker.proofs.AmongLaws.{IsBetween, between}
 use Rattle.gap_checker.proofs.Leasts.{vertex_among}
 use Rattle.gap_checker.proofs.Boxes.{at_most_self}
 
@@ -25,14 +24,14 @@ at_most_same (x ∷ a) (y ∷ b) h k =
     let e : x ≡ y = omega (arith, p, q) in
     ap₂ (λ z w. z ∷ w) e (at_most_same a b h.1 k.1)
 
-only_point : (c : CaseRows) (l : ℕ) (score : ℕ → ℕ → ℕ → Ends → Ends) (held v : List ℕ) (w : Point) → Among w (points_within c l score held v v) → w ≡ point_at_vector c l score held v
+only_point : (c : CaseRows) (l : ℕ) (score : ScoreEnds) (held v : List ℕ) (w : Point) → Among w (points_within c l score held v v) → w ≡ point_at_vector c l score held v
 only_point c l score held v w m =
     let r : Mapped (point_at_vector c l score held) (vectors v v) w = among_mapped (point_at_vector c l score held) (vectors v v) w m in
     let b : IsBetween v r.from v = between v v r.from r.there in
     r.is ∙ ap (point_at_vector c l score held) (at_most_same r.from v b.high b.low)
 
 -- the first vertex of a box of one vector has that vector's upper end
-pub one_curve : (c : CaseRows) (l : ℕ) (score : ℕ → ℕ → ℕ → Ends → Ends) (held low high a v : List ℕ) (curve : List Point) (p : Point) → held ≡ a → low ≡ v → high ≡ v
+pub one_curve : (c : CaseRows) (l : ℕ) (score : ScoreEnds) (held low high a v : List ℕ) (curve : List Point) (p : Point) → held ≡ a → low ≡ v → high ≡ v
     → IsCurve (points_within c l score held low high) curve → 0 < length curve → p ≡ point_at curve 0 → p.hi ≡ (point_at_vector c l score a v).hi
 one_curve c l score held low high a v curve p h e f is some q =
     let own : IsCurve (points_within c l score a v v) curve =

@@ -8,7 +8,7 @@ use Rattle.price_certificate.specs.declared.certificate.Node.TheVariants.{Split,
 use Rattle.gap_checker.specs.declared.leaf.Leaf.{Leaf}
 use Rattle.gap_checker.specs.declared.leaf.Leaf.TheVariants as leaf
 
--- the two parts of a box: the vectors with fewer than `from` at a place, and those with as many or more
+-- the part of a box whose vectors have fewer than `from` at a place
 abbrev pub fewer : Bounds → ℕ → ℕ → Bounds
 fewer box at from = record { held = box.held; low = box.low; high = set box.high at (from - 1) }
 

@@ -1,6 +1,5 @@
 -- What a cover and an accepted certificate show.
 use Rattle.std.specs.Prelude.{◌≡◌, ℕ, ◌≤◌, List, [], ◌∷◌, map, Some, None}
-use Rattle.fixed_interval.specs.Ends.{Ends}
 use Rattle.hull.specs.declared.point.Point.{Point}
 use Rattle.hull.specs.declared.price.Price.{Price}
 use Rattle.hull.specs.Curves.{lagrangian, Among}
@@ -10,7 +9,7 @@ use Rattle.fleet_model.specs.Rows.{line_units}
 use Rattle.price_bounds.specs.Certificates.{Claims, IsAcceptable}
 use Rattle.family_curve.specs.declared.bounds.Bounds.{Bounds}
 use Rattle.family_curve.specs.Vectors.{vector_of, limits}
-use Rattle.family_curve.specs.Points.{points_within}
+use Rattle.family_curve.specs.Points.{points_within, ScoreEnds}
 use Rattle.price_certificate.specs.declared.certificate.Node.{Node}
 use Rattle.price_certificate.specs.declared.certificate.Certificate.{Certificate}
 use Rattle.price_certificate.specs.Certificates.{IsWellFormed}
@@ -43,18 +42,18 @@ LeavesAreApart = (nodes : List Node) (box : Bounds) (ls : List Leaf) → leaves 
 
 -- A floor that no leaf's value is below is at most the Lagrangian of each vector.
 abbrev pub FloorsHold : Type 0
-FloorsHold = (score : ℕ → ℕ → ℕ → Ends → Ends) (c : CaseRows) (l : ℕ) (price : Price) (nodes : List Node) (box : Bounds)
+FloorsHold = (score : ScoreEnds) (c : CaseRows) (l : ℕ) (price : Price) (nodes : List Node) (box : Bounds)
     (ls : List Leaf) (floor : ℕ)
     → leaves nodes (box ∷ []) ≡ Some ls → ((x : Leaf) → Among x ls → floor ≤ value_of c l score price x)
     → (w : Point) → Among w (points_within c l score box.held box.low box.high) → floor ≤ lagrangian price.p price.q w
 
 -- the points of all families, from what is held to the limits
-abbrev pub families_of : (ℕ → ℕ → ℕ → Ends → Ends) → CaseRows → StockList → List (List Point)
+abbrev pub families_of : ScoreEnds → CaseRows → StockList → List (List Point)
 families_of score c held = map (λ l. points_within c l score (vector_of c l held.list) (vector_of c l held.list)
     (limits c l)) (line_units c)
 
 -- what a certificate claims: its chosen points, price, floors, upper end and bound
-abbrev pub claims_of : (ℕ → ℕ → ℕ → Ends → Ends) → Certificate → StockList → Claims
+abbrev pub claims_of : ScoreEnds → Certificate → StockList → Claims
 claims_of score cert held = record {
   chosen = chosen_of score cert held;
   price = cert.price;
@@ -65,7 +64,7 @@ claims_of score cert held = record {
 
 -- A certificate that breaks no rule is acceptable over the points of the families.
 abbrev pub AcceptedAreAcceptable : Type 0
-AcceptedAreAcceptable = (score : ℕ → ℕ → ℕ → Ends → Ends) (cert : Certificate) (held : StockList) → IsCase cert.case
+AcceptedAreAcceptable = (score : ScoreEnds) (cert : Certificate) (held : StockList) → IsCase cert.case
     → IsWellFormed cert
     → IsFor cert.case held → reject_of score cert held ≡ None
     → IsAcceptable (families_of score cert.case held) cert.budget (claims_of score cert held)

@@ -2,7 +2,7 @@
 use Rattle.std.specs.Prelude.{◌==◌, ℕ, ◌+◌, ◌-◌, nat_lt, List, [], ◌∷◌, length, map, get_or, sum, sum_by, Option, Some, None, is_none, unwrap_or, Result, if◌then◌else◌}
 use Rattle.std.specs.List.{range_with_len}
 use Rattle.std.specs.Option.{option_map}
-use Rattle.fixed_interval.specs.Ends.{Ends}
+use Rattle.spares_io.specs.Causes.{count64}
 use Rattle.hull.specs.declared.point.Point.{Point}
 use Rattle.spares_input.specs.First.{first, first_of, unless}
 use Rattle.spares_input.specs.Pairs.{part_of_place, site_of_place}
@@ -13,8 +13,8 @@ use Rattle.demand_rates.specs.Limits.{rate_fault_of}
 use Rattle.price_bounds.specs.Sums.{hi_of, bound_of}
 use Rattle.family_curve.specs.declared.bounds.Bounds.{Bounds}
 use Rattle.family_curve.specs.Vectors.{vector_of, limits}
-use Rattle.family_curve.specs.Points.{point_at_vector}
-use Rattle.family_curve.specs.Counts.{counted}
+use Rattle.family_curve.specs.Points.{point_at_vector, ScoreEnds}
+use Rattle.family_curve.specs.Counts.{most_tables}
 use Rattle.price_certificate.specs.declared.certificate.Node.{Node}
 use Rattle.price_certificate.specs.declared.certificate.Node.TheVariants.{Whole}
 use Rattle.price_certificate.specs.declared.certificate.Certificate.{Certificate}
@@ -65,7 +65,7 @@ tables_of_first cert held n = sum_by (family_tables cert held) (range_with_len 0
 
 -- those of all families, as a count
 abbrev pub work_of : Certificate → StockList → ℕ
-work_of cert held = counted (tables_of_first cert held (family_count cert.case))
+work_of cert held = count64 (tables_of_first cert held (family_count cert.case))
 
 -- ---- stocks
 
@@ -102,10 +102,12 @@ unfoldable pub low_leaf : (Leaf → ℕ) → ℕ → ℕ → List Leaf → Optio
 low_leaf value floor k [] = None
 low_leaf value floor k (x ∷ xs) = if nat_lt (value x) floor then Some (k, value x) else low_leaf value floor (k + 1) xs
 
-module _ (score : ℕ → ℕ → ℕ → Ends → Ends) where
+module _ (score : ScoreEnds) where
+  -- the value of a leaf of family f at the certificate's price
   abbrev pub leaf_value : Certificate → ℕ → Leaf → ℕ
   leaf_value cert f x = value_of cert.case (line_at cert.case f) score cert.price x
 
+  -- the reject of family f, of its first leaf whose value is below the claimed floor
   unfoldable pub low_at : Certificate → StockList → ℕ → Option Reject
   low_at cert held f =
       option_map (λ low. too_low cert.format f low.0 (get_or cert.floors f 0) low.1)
@@ -116,12 +118,15 @@ module _ (score : ℕ → ℕ → ℕ → Ends → Ends) where
   chosen_point cert held l = point_at_vector cert.case l score (vector_of cert.case l held.list)
       (vector_of cert.case l cert.stocks.list)
 
+  -- the points of all families at the certificate's stocks
   abbrev pub chosen_of : Certificate → StockList → List Point
   chosen_of cert held = map (chosen_point cert held) (line_units cert.case)
 
+  -- the upper ends of these points, added up
   abbrev pub upper_of : Certificate → StockList → ℕ
   upper_of cert held = hi_of (chosen_of cert held)
 
+  -- the largest bound that the price and the floors allow under the budget
   abbrev pub largest_of : Certificate → ℕ
   largest_of cert = bound_of cert.price.p cert.price.q (sum cert.floors) cert.budget
 
@@ -130,7 +135,7 @@ module _ (score : ℕ → ℕ → ℕ → Ends → Ends) where
   reject_of cert held = first_of (
       option_map reject.Rate (rate_fault_of cert.case)
       ∷ first (gap_at cert held) (family_count cert.case)
-      ∷ (if nat_lt 1000000 (work_of cert held) then Some (reject.WorkTooLarge (work_of cert held)) else None)
+      ∷ (if nat_lt most_tables (work_of cert held) then Some (reject.WorkTooLarge (work_of cert held)) else None)
       ∷ first (over_limit cert.case cert.stocks) (pair_count (frame_rows cert.case))
       ∷ first (below_held cert.case held cert.stocks) (pair_count (frame_rows cert.case))
       ∷ (if nat_lt cert.budget (cost_above cert.case held cert.stocks)

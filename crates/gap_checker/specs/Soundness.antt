@@ -1,14 +1,13 @@
 -- What an accepted certificate promises of all allocations, at each depth of the model.
-use Rattle.std.specs.Prelude.{◌≡◌, ℕ, List, length, map, replicate, None}
+use Rattle.std.specs.Prelude.{◌≡◌, ℕ, List, map, None}
 use Rattle.exact_model.specs.Fraction.{Fraction}
-use Rattle.fixed_interval.specs.Ends.{Ends, ends_times}
-use Rattle.spares_input.specs.Cases.{CaseRows, IsCase, frame_rows, pair_count}
+use Rattle.spares_input.specs.Cases.{CaseRows, IsCase}
 use Rattle.spares_input.specs.Stocks.{StockList, IsFor}
 use Rattle.fleet_model.specs.Rows.{line_units}
 use Rattle.price_bounds.specs.Allocations.{Family, AreEnclosed}
 use Rattle.price_bounds.specs.Soundness.{IsSoundCertificate}
 use Rattle.family_curve.specs.Vectors.{vector_of, limits, vectors}
-use Rattle.family_curve.specs.Points.{point_at_vector}
+use Rattle.family_curve.specs.Points.{point_at_vector, ScoreEnds}
 use Rattle.price_certificate.specs.declared.certificate.Certificate.{Certificate}
 use Rattle.price_certificate.specs.Certificates.{IsWellFormed}
 use Rattle.gap_checker.specs.Refusals.{reject_of}
@@ -16,7 +15,7 @@ use Rattle.gap_checker.specs.Laws.{claims_of}
 
 -- The family of the line unit l from what is held on, where a score's value at each depth is given for each vector.
 -- Its cost is what is added to what is held.
-abbrev pub family_model : (ℕ → ℕ → ℕ → Ends → Ends) → (ℕ → ℕ → List ℕ → Fraction) → CaseRows → StockList → ℕ → Family
+abbrev pub family_model : ScoreEnds → (ℕ → ℕ → List ℕ → Fraction) → CaseRows → StockList → ℕ → Family
 family_model score value c held l = record {
   vectors = vectors (vector_of c l held.list) (limits c l);
   cost = λ v. (point_at_vector c l score (vector_of c l held.list) v).cost;
@@ -26,21 +25,13 @@ family_model score value c held l = record {
 }
 
 -- the families of all line units of the case, from what is held on
-abbrev pub models_of : (ℕ → ℕ → ℕ → Ends → Ends) → (ℕ → ℕ → List ℕ → Fraction) → CaseRows → StockList → List Family
+abbrev pub models_of : ScoreEnds → (ℕ → ℕ → List ℕ → Fraction) → CaseRows → StockList → List Family
 models_of score value c held = map (family_model score value c held) (line_units c)
 
 -- Where the score's intervals enclose its values, a certificate that breaks no rule is sound: its stocks fit the
 -- budget and have no more than its upper end, and no allocation within the budget has fewer than its bound.
 abbrev pub AcceptedAreSound : Type 0
-AcceptedAreSound = (score : ℕ → ℕ → ℕ → Ends → Ends) (value : ℕ → ℕ → List ℕ → Fraction) (cert : Certificate)
+AcceptedAreSound = (score : ScoreEnds) (value : ℕ → ℕ → List ℕ → Fraction) (cert : Certificate)
     (held : StockList) → IsCase cert.case → IsWellFormed cert
     → IsFor cert.case held → AreEnclosed (models_of score value cert.case held) → reject_of score cert held ≡ None
     → IsSoundCertificate (models_of score value cert.case held) cert.budget (claims_of score cert held)
-
--- nothing is held
-abbrev pub nothing_held : CaseRows → StockList
-nothing_held c = record { sites = length c.sites; list = replicate (pair_count (frame_rows c)) 0 }
-
--- the weighted backorders of a line unit
-abbrev pub plain_score : ℕ → ℕ → ℕ → Ends → Ends
-plain_score systems per_system weight backorders = ends_times backorders weight

@@ -1,12 +1,11 @@
 -- What a leaf shows of its vectors' Lagrangians, and how many tables that takes.
 use Rattle.std.specs.Prelude.{ℕ, ◌*◌, min, List, [], ◌∷◌, sum_by}
-use Rattle.fixed_interval.specs.Ends.{Ends}
 use Rattle.hull.specs.declared.point.Point.{Point}
 use Rattle.hull.specs.declared.price.Price.{Price}
 use Rattle.hull.specs.Curves.{lagrangian}
 use Rattle.spares_input.specs.Cases.{CaseRows}
 use Rattle.family_curve.specs.declared.bounds.Bounds.{Bounds}
-use Rattle.family_curve.specs.Points.{added_cost, points_within}
+use Rattle.family_curve.specs.Points.{added_cost, points_within, ScoreEnds}
 use Rattle.family_curve.specs.Counts.{tables_between}
 use Rattle.gap_checker.specs.declared.leaf.Leaf.{Leaf}
 use Rattle.gap_checker.specs.declared.leaf.Leaf.TheVariants as leaf
@@ -18,12 +17,12 @@ least f (v ∷ []) = f v
 least f (v ∷ w ∷ rest) = min (f v) (least f (w ∷ rest))
 
 -- the least Lagrangian of the vectors of a box of the family of the line unit l
-unfoldable pub least_within : CaseRows → ℕ → (ℕ → ℕ → ℕ → Ends → Ends) → Price → Bounds → ℕ
+unfoldable pub least_within : CaseRows → ℕ → ScoreEnds → Price → Bounds → ℕ
 least_within c l score price box = least (lagrangian price.p price.q)
     (points_within c l score box.held box.low box.high)
 
 -- The value of a leaf: by cost alone the price of its low corner, or else the least Lagrangian of its vectors.
-unfoldable pub value_of : CaseRows → ℕ → (ℕ → ℕ → ℕ → Ends → Ends) → Price → Leaf → ℕ
+unfoldable pub value_of : CaseRows → ℕ → ScoreEnds → Price → Leaf → ℕ
 value_of c l score price (leaf.Cost box) = price.p * added_cost c l box.held box.low
 value_of c l score price (leaf.Whole box) = least_within c l score price box
 

@@ -4,27 +4,28 @@ ghost use Rattle.std.specs.Prelude.{◌≡◌, IfOk};
 ghost use Rattle.std.specs.Option.{option_map};
 ghost use Rattle.spares_io.specs.Answers.{Gives};
 ghost use Rattle.spares_input.specs.Building.{StopsAt};
-ghost use Rattle.spares_input.specs.Stocks.{IsFor, IsWithinLimits};
+ghost use Rattle.spares_input.specs.Stocks.{IsFor, IsWithinLimits, nothing_held};
 ghost use Rattle.demand_rates.specs.Limits.{rate_fault_of};
 ghost use Rattle.demand_rates.specs.Rates.{AreRatesOf};
 ghost use Rattle.price_certificate.specs.Certificates.{IsWellFormed};
 ghost use Rattle.gap_checker.specs.declared.refusal.Reject.TheVariants as reject;
 ghost use Rattle.gap_checker.specs.Refusals.{judged};
-ghost use Rattle.gap_checker.specs.Soundness.{nothing_held, plain_score};
 ghost use Rattle.price_certificate.specs.declared.certificate.Objective.TheVariants as objective;
+ghost use Rattle.family_curve.specs.Points.{plain_ends};
 
 use crate::bound::largest_bound;
 use crate::covers::work_of;
-use crate::family::line_units;
 use crate::floors::first_low;
 use crate::refusal::{Accepted, Reject};
 use crate::stocks::{below_held, cost_above, over_limit};
 use crate::upper::upper_of;
 use demand_rates::kinds::Rates;
 use demand_rates::rates;
+use family_curve::MOST_TABLES;
+use family_eval::line_units;
 use hull::{Plain, Score};
 use price_certificate::Certificate;
-use spares_input::{Case, Stocks};
+use spares_input::{Case, Stocks, nothing_held};
 use spares_io::{NoMemory, Stop};
 use std::alloc::Global;
 
@@ -44,8 +45,8 @@ fn rates_of(alloc: Global, case: &Case) -> Result<Rates, Stop<Reject>>
 /// in the order of [`Reject`].
 ///
 /// The certificate is well formed, and what is held is a list for its case, within the limits. Costs count what the
-/// stocks add to it. Nothing is computed before the work is known to be at most 1,000,000 tables. A smaller floor, a
-/// larger upper end or a smaller bound than needed is accepted.
+/// stocks add to it. Nothing is computed before the work is known to be at most 1,000,000 tables; no clause says so.
+/// A smaller floor, a larger upper end or a smaller bound than needed is accepted.
 pub fn check_within<S: Score>(
     alloc: Global,
     cert: &Certificate,
@@ -63,7 +64,7 @@ pub fn check_within<S: Score>(
     let units = line_units(alloc, case)?;
     let lines = units.as_slice();
     let work = work_of(alloc, cert, held, lines)?;
-    if 1_000_000 < work {
+    if MOST_TABLES < work {
         return Err(Stop::Fault(Reject::WorkTooLarge(work)));
     }
     if let Some(reject) = over_limit(case, &cert.stocks) {
@@ -100,23 +101,11 @@ pub fn check_within<S: Score>(
     })
 }
 
-/// No stock of any part at any site, as a list for the case. Want of memory is the only error.
-pub fn nothing_held(alloc: Global, case: &Case) -> Result<Stocks, NoMemory>
-    ensures held { IfOk result (λ held. held ≡ nothing_held case.now) }
-    ensures whole { IfOk result (IsFor case.now) }
-    ensures limits { IfOk result (IsWithinLimits case.now) }
-{
-    let sites = case.site_count();
-    let pairs = usize::from(case.part_count()) * usize::from(sites);
-    let list = vec![in alloc; 0; pairs]?;
-    Ok(Stocks::of(list, sites))
-}
-
 /// Checks a certificate of weighted backorders where nothing is held, as [`check_within`] does.
 pub fn check(alloc: Global, cert: &Certificate) -> Result<Accepted, Stop<Reject>>
     requires formed { IsWellFormed cert.now }
     requires objective { cert.now.objective ≡ objective.Backorders }
-    ensures { Gives (judged plain_score cert.now (nothing_held cert.now.case)) result }
+    ensures { Gives (judged plain_ends cert.now (nothing_held cert.now.case)) result }
 {
     let held = nothing_held(alloc, &cert.case)?;
     check_within(alloc, cert, &held, &Plain)

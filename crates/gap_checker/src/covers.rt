@@ -2,12 +2,12 @@
 
 ghost use Rattle.std.specs.Prelude.{◌≡◌, ◌<◌, ◌≤◌, IfOk, length, map};
 ghost use Rattle.std.specs.Option.{option_map};
+ghost use Rattle.spares_io.specs.Causes.{count64};
 ghost use Rattle.spares_input.specs.First.{first};
 ghost use Rattle.spares_input.specs.Building.{StopsAt};
 ghost use Rattle.spares_input.specs.Stocks.{IsFor, IsWithinLimits};
 ghost use Rattle.fleet_model.specs.Rows.{line_units};
 ghost use Rattle.family_eval.specs.Inputs.{IsLine};
-ghost use Rattle.family_curve.specs.Counts.{counted};
 ghost use Rattle.price_certificate.specs.Certificates.{IsWellFormed};
 ghost use Rattle.gap_checker.specs.Values.{cover_tables};
 ghost use Rattle.gap_checker.specs.Refusals.{line_at, family_count, cover_of, gap_at, work_of};
@@ -35,7 +35,7 @@ fn family_work(
     requires line { line.0 ≡ line_at cert.now.case family }
     requires is_line { IsLine cert.now.case line.0 }
     ensures { IfOk result (λ work. work ≡ option_map
-        (λ ls. counted (cover_tables cert.now.case (line_at cert.now.case family) ls))
+        (λ ls. count64 (cover_tables cert.now.case (line_at cert.now.case family) ls))
         (cover_of cert.now held.now family)) }
 {
     let one = [Node::Whole];

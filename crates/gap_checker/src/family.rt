@@ -1,8 +1,7 @@
-//! The families of a certificate: their line units, their boxes and their nodes.
+//! The families of a certificate: their boxes and their nodes.
 
-ghost use Rattle.std.specs.Prelude.{◌≡◌, ◌∷◌, [], ◌<◌, IfOk, length, map};
+ghost use Rattle.std.specs.Prelude.{◌≡◌, ◌∷◌, [], ◌<◌, IfOk, length};
 ghost use Rattle.spares_input.specs.Stocks.{IsFor};
-ghost use Rattle.fleet_model.specs.Rows.{line_units};
 ghost use Rattle.family_eval.specs.Inputs.{IsLine};
 ghost use Rattle.price_certificate.specs.declared.certificate.Node.TheVariants.{Whole};
 ghost use Rattle.gap_checker.specs.Refusals.{box_from, nodes_of};
@@ -12,20 +11,6 @@ use price_certificate::{Certificate, Node};
 use spares_input::{Case, PartId, Stocks};
 use spares_io::NoMemory;
 use std::alloc::Global;
-
-/// The line units of a case, in part order.
-pub(crate) fn line_units(alloc: Global, case: &Case) -> Result<Vec<PartId>, NoMemory>
-    ensures { IfOk result (λ v. map (λ p. p.0) v.items ≡ line_units case.now) }
-{
-    let mut lines = Vec::new(alloc);
-    for p in 0..case.part_count() {
-        let part = PartId(p);
-        if case.is_line(part) {
-            lines.push(part)?;
-        }
-    }
-    Ok(lines)
-}
 
 /// All vectors of a family from what is held to the limits.
 pub(crate) fn box_from(

@@ -6,6 +6,7 @@ ghost use Rattle.spares_input.specs.Stocks.{IsFor, IsWithinLimits};
 ghost use Rattle.fleet_model.specs.Rows.{line_units};
 ghost use Rattle.demand_rates.specs.Rates.{AreRatesOf};
 ghost use Rattle.family_eval.specs.Inputs.{IsLine};
+ghost use Rattle.family_curve.specs.Counts.{most_tables};
 ghost use Rattle.price_certificate.specs.Certificates.{IsWellFormed};
 ghost use Rattle.gap_checker.specs.Refusals.{line_at, family_count, cover_of, gap_at, family_tables, work_of, too_low, low_at};
 
@@ -58,7 +59,7 @@ fn family_low<S: Score>(
     requires line { line.0 ≡ line_at cert.now.case family }
     requires is_line { IsLine cert.now.case line.0 }
     requires tree { is_some (cover_of cert.now held.now family) ≡ true }
-    requires work { family_tables cert.now held.now family ≤ 1000000 }
+    requires work { family_tables cert.now held.now family ≤ most_tables }
     ensures { IfOk result (λ low. low ≡ low_at S.ends cert.now held.now family) }
 {
     let one = [Node::Whole];
@@ -100,7 +101,7 @@ pub(crate) fn first_low<S: Score>(
     requires lines { map (λ p. p.0) lines.now ≡ line_units cert.now.case }
     requires few { length lines.now ≤ 2000 }
     requires trees { first (gap_at cert.now held.now) (family_count cert.now.case) ≡ None }
-    requires work { work_of cert.now held.now ≤ 1000000 }
+    requires work { work_of cert.now held.now ≤ most_tables }
     ensures { IfOk result (λ low. low ≡ first (low_at S.ends cert.now held.now) (family_count cert.now.case)) }
 {
     for f in 0..lines.len() {

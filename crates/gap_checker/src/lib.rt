@@ -23,7 +23,7 @@ mod upper;
 mod value;
 mod work;
 
-pub use checking::{check, check_within, nothing_held};
+pub use checking::{check, check_within};
 pub use laws::{
     accepted_are_acceptable, accepted_are_sound, floors_hold, leaves_cover, trees_are_read,
 };

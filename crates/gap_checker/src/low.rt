@@ -4,6 +4,7 @@ ghost use Rattle.std.specs.Prelude.{◌≡◌, ◌∷◌, [], ◌^◌, ◌<◌, 
 ghost use Rattle.demand_rates.specs.Rates.{AreRatesOf};
 ghost use Rattle.family_eval.specs.Inputs.{IsLine};
 ghost use Rattle.gap_checker.specs.Boxes.{IsOrdered};
+ghost use Rattle.family_curve.specs.Counts.{most_tables};
 ghost use Rattle.family_curve.specs.Vectors.{places};
 ghost use Rattle.gap_checker.specs.Covers.{leaves};
 ghost use Rattle.gap_checker.specs.Values.{cover_tables, value_of};
@@ -38,7 +39,7 @@ pub(crate) fn low_leaf<S: Score>(
     requires ordered { IsOrdered case.now line.0 bounds }
     requires few { length nodes.now ≤ 100000 }
     requires tree { is_some (leaves nodes.now (bounds ∷ [])) ≡ true }
-    requires work { cover_tables case.now line.0 (unwrap_or (leaves nodes.now (bounds ∷ [])) []) ≤ 1000000 }
+    requires work { cover_tables case.now line.0 (unwrap_or (leaves nodes.now (bounds ∷ [])) []) ≤ most_tables }
     requires money { 0 < price.q }
     requires most_money { price.q ≤ 1000000000000 }
     requires price { price.p ≤ 2 ^ 74 }

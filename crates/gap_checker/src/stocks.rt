@@ -1,8 +1,7 @@
 //! The stocks of a certificate: their limits, what is held, and what they cost above it.
 
-ghost use Rattle.std.specs.Prelude.{◌≡◌, ◌*◌, ◌<◌, ◌≤◌, length};
+ghost use Rattle.std.specs.Prelude.{◌≡◌, ◌*◌, ◌<◌};
 ghost use Rattle.spares_input.specs.First.{first};
-ghost use Rattle.spares_input.specs.Pairs.{part_of_place, site_of_place};
 ghost use Rattle.spares_input.specs.Cases.{frame_rows, pair_count};
 ghost use Rattle.spares_input.specs.Stocks.{IsFor};
 ghost use Rattle.gap_checker.specs.Refusals.{over_limit, below_held, cost_above};

@@ -3,11 +3,10 @@
 ghost use Rattle.std.specs.Prelude.{◌≡◌, ◌^◌, ◌<◌, ◌≤◌, None, IfOk, length, map};
 ghost use Rattle.spares_input.specs.First.{first};
 ghost use Rattle.spares_input.specs.Cases.{frame_rows, pair_count};
-ghost use Rattle.spares_input.specs.Stocks.{IsFor, IsWithinLimits};
+ghost use Rattle.spares_input.specs.Stocks.{IsFor};
 ghost use Rattle.fleet_model.specs.Rows.{line_units};
 ghost use Rattle.demand_rates.specs.Rates.{AreRatesOf};
 ghost use Rattle.family_eval.specs.Inputs.{IsLine};
-ghost use Rattle.price_certificate.specs.Certificates.{IsWellFormed};
 ghost use Rattle.gap_checker.specs.Refusals.{over_limit, below_held, chosen_point, upper_of};
 
 use demand_rates::kinds::Rates;

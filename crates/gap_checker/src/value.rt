@@ -4,7 +4,7 @@ ghost use Rattle.std.specs.Prelude.{◌≡◌, ◌^◌, ◌<◌, ◌≤◌, IfOk
 ghost use Rattle.demand_rates.specs.Rates.{AreRatesOf};
 ghost use Rattle.family_eval.specs.Inputs.{IsLine};
 ghost use Rattle.gap_checker.specs.Boxes.{IsOrdered};
-ghost use Rattle.family_curve.specs.Counts.{tables_between};
+ghost use Rattle.family_curve.specs.Counts.{most_tables, tables_between};
 ghost use Rattle.family_curve.specs.Vectors.{places};
 ghost use Rattle.gap_checker.specs.Covers.{box_of};
 ghost use Rattle.gap_checker.specs.Values.{least_within, leaf_tables, value_of};
@@ -31,7 +31,7 @@ fn least_within<S: Score>(
     requires rates { AreRatesOf case.now rates.now }
     requires line { IsLine case.now line.0 }
     requires ordered { IsOrdered case.now line.0 bounds.now }
-    requires work { tables_between case.now line.0 bounds.now.low bounds.now.high ≤ 1000000 }
+    requires work { tables_between case.now line.0 bounds.now.low bounds.now.high ≤ most_tables }
     requires money { 0 < price.q }
     requires most_money { price.q ≤ 1000000000000 }
     requires price { price.p ≤ 2 ^ 74 }
@@ -59,7 +59,7 @@ pub(crate) fn value_of<S: Score>(
     requires line { IsLine case.now line.0 }
     requires parts { map (λ p. p.0) parts.now ≡ map (λ x. x.part) (places case.now line.0) }
     requires ordered { IsOrdered case.now line.0 (box_of leaf.now) }
-    requires work { leaf_tables case.now line.0 leaf.now ≤ 1000000 }
+    requires work { leaf_tables case.now line.0 leaf.now ≤ most_tables }
     requires money { 0 < price.q }
     requires most_money { price.q ≤ 1000000000000 }
     requires price { price.p ≤ 2 ^ 74 }

@@ -2,9 +2,9 @@
 
 ghost use Rattle.std.specs.Prelude.{◌≡◌, ◌∷◌, [], IfOk};
 ghost use Rattle.std.specs.Option.{option_map};
+ghost use Rattle.spares_io.specs.Causes.{count64};
 ghost use Rattle.family_eval.specs.Inputs.{IsLine};
 ghost use Rattle.gap_checker.specs.Boxes.{IsOrdered};
-ghost use Rattle.family_curve.specs.Counts.{counted};
 ghost use Rattle.gap_checker.specs.Covers.{leaves, box_of};
 ghost use Rattle.gap_checker.specs.Values.{leaf_tables, cover_tables};
 
@@ -20,7 +20,7 @@ use std::alloc::Global;
 fn leaf_tables(case: &Case, line: PartId, leaf: &Leaf) -> u64
     requires line { IsLine case.now line.0 }
     requires ordered { IsOrdered case.now line.0 (box_of leaf.now) }
-    ensures { result ≡ counted (leaf_tables case.now line.0 leaf.now) }
+    ensures { result ≡ count64 (leaf_tables case.now line.0 leaf.now) }
 {
     match leaf {
         Leaf::Cost(_) => 0,
@@ -38,7 +38,7 @@ pub(crate) fn cover_tables(
 ) -> Result<Option<u64>, NoMemory>
     requires line { IsLine case.now line.0 }
     requires ordered { IsOrdered case.now line.0 bounds }
-    ensures { IfOk result (λ tables. tables ≡ option_map (λ ls. counted (cover_tables case.now line.0 ls))
+    ensures { IfOk result (λ tables. tables ≡ option_map (λ ls. count64 (cover_tables case.now line.0 ls))
         (leaves nodes.now (bounds ∷ []))) }
 {
     let mut waiting = Vec::new(alloc);

@@ -39,6 +39,7 @@ module _ (c : CaseRows) (s : List ℕ) (sound : IsSound c s) where
   small_by (Some l) p (suc j) lp lk = capped_small p (suc j) _ lp lk
   small_by None p (suc j) lp lk = capped_small p (suc j) _ lp lk
 
+  -- the Poisson backorders of a pair are at most 256
   pub pair_small : (p k : ℕ) → p < length c.parts → k < length c.sites → IsWithinLimit 48 (poisson_of 48 c s p k)
   pair_small p k lp lk = small_by (line_of c.parts p) p k lp lk
 
@@ -50,6 +51,7 @@ module _ (c : CaseRows) (s : List ℕ) (sound : IsSound c s) where
   small_of (Some l) p (suc j) lp lk = capped_small p (suc j) _ lp lk
   small_of None p (suc j) lp lk = omega arith
 
+  -- the Poisson backorders of a shop unit, and the 0 of a line unit, are at most 256
   pub shop_small : (p k : ℕ) → p < length c.parts → k < length c.sites → IsWithinLimit 48 (of_shop c s p k)
   shop_small p k lp lk = small_of (line_of c.parts p) p k lp lk
 

@@ -192,6 +192,7 @@ module _ (f : ℕ) (c : CaseRows) (s : List ℕ) (least : 24 ≤ f) (sound : IsS
   at_pair (Some l) p (suc j) n e lp lk deep = in_ij l p j n (record { is_part = lp; line_is = e }) lk deep
   at_pair None p (suc j) n e lp lk deep = in_0j p j n (line_at c p sound.valid lp e) lk deep
 
+  -- the ends of a pair's Poisson backorders enclose them
   pub pair_in : (p k : ℕ) → p < length c.parts → k < length c.sites → Encloses f (poisson_of f c s p k).lo (poisson_of f c s p k).hi (poisson c s p k)
   pair_in p k lp lk n deep = at_pair (line_of c.parts p) p k n refl lp lk deep
 
@@ -210,6 +211,7 @@ module _ (f : ℕ) (c : CaseRows) (s : List ℕ) (least : 24 ≤ f) (sound : IsS
       sum_in f (weighed f c s l) (λ j. whole (weight c l) *ℚ poisson_0j c s n l j) (bases c)
       (each_in_range _ (length c.sites - 1) 1 (λ j h k. times_encloses f (poisson_of f c s l j) (weight c l) (poisson_0j c s n l j) (line_in l j n line h (omega (arith, k)) deep)))
 
+  -- the ends of the Poisson total enclose it
   pub total_in : Encloses f (poisson_total_of f c s).lo (poisson_total_of f c s).hi (poisson_total c s)
   unfolding poisson_total
   total_in n deep =

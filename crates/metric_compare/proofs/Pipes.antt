@@ -97,9 +97,6 @@ poisson_by c s o p k = by_pair (λ l i. depot_shop 48 c s i) (depot_line 48 c s)
 abbrev shop_by : CaseRows → List ℕ → Option ℕ → ℕ → ℕ → Ends
 shop_by c s o p k = by_pair (λ l i. depot_shop 48 c s i) (λ l. ends_exact 48 0) (λ l i j. base_shop 48 c s i j) (λ l j. ends_exact 48 0) o p k
 
-pub depot_of_shop : (c : CaseRows) (s : List ℕ) (l p : ℕ) → line_of c.parts p ≡ Some l → of_shop c s p 0 ≡ depot_shop 48 c s p
-depot_of_shop c s l p e = ap (λ o. shop_by c s o p 0) e
-
 -- the number of a shop unit at a base is that of the third level
 pub base_of_shop : (c : CaseRows) (s : List ℕ) (l p k : ℕ) → line_of c.parts p ≡ Some l → 0 < k → of_shop c s p k ≡ base_shop 48 c s p k
 base_of_shop c s l p zero e h = absurd (omega arith)
@@ -123,9 +120,6 @@ pub nothing_row : (c : CaseRows) (s : List ℕ) (l n : ℕ) (x : Ends) → IsLin
     → replicate n x ≡ map (of_shop c s l) (range_with_len 0 (length c.sites))
 nothing_row c s l n x line hx hn =
     ap₂ (λ (m : ℕ) (y : Ends). replicate m y) hn hx ∙ same_all (of_shop c s l) (ends_exact 48 0) 0 (length c.sites) (λ k. line_none c s l k line)
-
-pub depot_line_at_pair : (c : CaseRows) (s : List ℕ) (l : ℕ) → IsLine c l → depot_line 48 c s l ≡ poisson_of 48 c s l 0
-depot_line_at_pair c s l line = ap (λ o. poisson_by c s o l 0) (sym (no_line_there c.parts l line.no_parent))
 
 -- the Poisson backorders of a line unit at a base are those of the fourth level
 pub base_line_at_pair : (c : CaseRows) (s : List ℕ) (l k : ℕ) → IsLine c l → 0 < k → base_line 48 c s l k ≡ poisson_of 48 c s l k

@@ -41,6 +41,7 @@ module _ (c : CaseRows) (s : StockList) (can : CanEvaluate 48 c s) where
       (pair_within c p k lp lk) (omega arith)
       ∙ ap₂ (compared c s.list) (div-mul-add p (length c.sites) k lk) (mod-mul-add p (length c.sites) k lk)
 
+  -- the comparison of a case has a line for each pair, by part and then by site, and both totals
   pub shown : ShowsComparison c s (comparison_of c s)
   shown =
       let sound = evaluable 48 c s can in
@@ -96,6 +97,7 @@ module _ (c : CaseRows) (s : StockList) (can : CanEvaluate 48 c s) where
       (λ l h e. family_most l (omega arith) e))) in
       omega (arith, sum, few, count, can.valid.frame.most_parts)
 
+  -- every interval of the comparison can be printed
   pub fits : FitsComparison (comparison_of c s)
   fits = record {
     items = all_of ComparedFits (map (compared_at c s.list) (range_with_len 0 (pair_count (frame_rows c))))

@@ -1,4 +1,4 @@
--- What the steps of the levels take and give. No promise rests on these words.
+-- What the steps of the levels take and give. No promise of the crate rests on these words.
 use Rattle.std.specs.Prelude.{ℕ, List, map, flat_map}
 use Rattle.fixed_interval.specs.Ends.{Ends, ends_exact}
 use Rattle.spares_input.specs.Cases.{CaseRows}
@@ -13,7 +13,7 @@ of_shop c s p k =
     by_pair (λ l i. depot_shop 48 c s i) (λ l. ends_exact 48 0) (λ l i j. base_shop 48 c s i j) (λ l j. ends_exact 48 0)
     (line_of c.parts p) p k
 
--- a number of each pair, by part and then by site
+-- a number for each site
 abbrev pub by_site : CaseRows → (ℕ → Ends) → List Ends
 by_site c row = map row (all_sites c)
 
@@ -21,7 +21,7 @@ by_site c row = map row (all_sites c)
 abbrev pub by_part : CaseRows → (ℕ → ℕ → Ends) → List Ends
 by_part c number = flat_map (λ p. by_site c (number p)) (all_parts c)
 
--- those of all shop units, and of all parts
+-- the Poisson backorders of the pairs of shop units, and 0 for those of line units
 abbrev pub shop_numbers : CaseRows → List ℕ → List Ends
 shop_numbers c s = by_part c (of_shop c s)
 

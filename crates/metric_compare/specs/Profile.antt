@@ -23,7 +23,7 @@ backorders_at f m v s = (at_stock (table_rows f m v) s).ebo
 abbrev pub poisson_at : (f : ℕ) → Ends → ℕ → Ends
 poisson_at f m s = backorders_at f m m s
 
--- what backorders feed to another pair, by that pair's share, and hold back at their base; no mean uses the spread
+-- what backorders feed to another pair, by that pair's share; no mean uses the spread
 abbrev pub fed : (f : ℕ) → Ends → Ends → Feed f
 fed f share x = record { share = share; backorders = x; spread = x }
 
@@ -33,41 +33,46 @@ held f x = record { backorders = x; spread = x }
 
 -- ---- the four levels, of a case c and the list s of its stocks
 
--- the shop unit i at the depot
+-- the mean of the shop unit i's pipeline at the depot
 abbrev pub depot_shop_mean : (f : ℕ) → CaseRows → List ℕ → ℕ → Ends
 depot_shop_mean f c s i = (depot_shop_ends f (pipeline_of f c s i 0).direct (pipeline_of f c s i 0).cap).mean
 
+-- the backorders of the shop unit i at the depot
 unfoldable pub depot_shop : (f : ℕ) → CaseRows → List ℕ → ℕ → Ends
 depot_shop f c s i = poisson_at f (depot_shop_mean f c s i) (stock c s i 0)
 
--- the line unit l at the depot
+-- what the shop unit i feeds to its line unit at the depot
 abbrev pub depot_feed : (f : ℕ) → CaseRows → List ℕ → ℕ → Feed f
 depot_feed f c s i = fed f (share_of f c i 0) (depot_shop f c s i)
 
+-- the mean of the line unit l's pipeline at the depot
 abbrev pub depot_line_mean : (f : ℕ) → CaseRows → List ℕ → ℕ → Ends
 depot_line_mean f c s l =
     (depot_line_ends f (pipeline_of f c s l 0).direct (pipeline_of f c s l 0).cap
     (map (depot_feed f c s) (shop_units c l))).mean
 
+-- the backorders of the line unit l at the depot
 unfoldable pub depot_line : (f : ℕ) → CaseRows → List ℕ → ℕ → Ends
 depot_line f c s l = poisson_at f (depot_line_mean f c s l) (stock c s l 0)
 
--- the shop unit i at base j
+-- the mean of the shop unit i's pipeline at base j
 abbrev pub base_shop_mean : (f : ℕ) → CaseRows → List ℕ → ℕ → ℕ → Ends
 base_shop_mean f c s i j =
     (base_shop_ends f (pipeline_of f c s i j).direct (pipeline_of f c s i j).cap
     (fed f (share_of f c i j) (depot_shop f c s i))).mean
 
+-- the backorders of the shop unit i at base j
 unfoldable pub base_shop : (f : ℕ) → CaseRows → List ℕ → ℕ → ℕ → Ends
 base_shop f c s i j = poisson_at f (base_shop_mean f c s i j) (stock c s i j)
 
--- the line unit l at base j
+-- the mean of the line unit l's pipeline at base j
 abbrev pub base_line_mean : (f : ℕ) → CaseRows → List ℕ → ℕ → ℕ → Ends
 base_line_mean f c s l j =
     (base_line_ends f (pipeline_of f c s l j).direct (pipeline_of f c s l j).cap
     (fed f (share_of f c l j) (depot_line f c s l))
     (map (λ i. held f (base_shop f c s i j)) (shop_units c l))).mean
 
+-- the backorders of the line unit l at base j
 unfoldable pub base_line : (f : ℕ) → CaseRows → List ℕ → ℕ → ℕ → Ends
 base_line f c s l j = poisson_at f (base_line_mean f c s l j) (stock c s l j)
 
@@ -79,7 +84,7 @@ poisson_of f c s p k =
     by_pair (λ l i. depot_shop f c s i) (depot_line f c s) (λ l i j. base_shop f c s i j) (base_line f c s)
     (line_of c.parts p) p k
 
--- weight times the backorders of the line unit l at base j, and the sum of these over the bases from the first on
+-- weight times the backorders of the line unit l at base j
 abbrev pub weighed : (f : ℕ) → CaseRows → List ℕ → ℕ → ℕ → Ends
 weighed f c s l j = ends_times (poisson_of f c s l j) (weight c l)
 

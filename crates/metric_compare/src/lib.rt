@@ -13,7 +13,6 @@ ghost use Rattle.spares_input.specs.Stocks.{StockList};
 ghost use Rattle.demand_rates.specs.Rates.{AreRatesOf};
 ghost use Rattle.fleet_model.specs.Poisson.{poisson, poisson_total};
 ghost use Rattle.family_eval.specs.Encloses.{CanEvaluate};
-ghost use Rattle.case_figures.specs.Spans.{ends, places};
 ghost use Rattle.metric_compare.specs.Profile.{poisson_of, poisson_total_of};
 ghost use Rattle.metric_compare.specs.Report.{comparison_of};
 ghost use Rattle.metric_compare.specs.Shows.{ShowsComparison};
@@ -22,11 +21,10 @@ ghost use Rattle.metric_compare.specs.Fits.{FitsComparison};
 use crate::rows::all_numbers;
 use crate::shops::shop_numbers;
 use crate::totals::poisson_total;
-use case_figures::{Span, figures_at};
+use case_figures::figures_at;
 use demand_rates::kinds::Rates;
 use family_eval::evaluate_all;
 use family_eval::inputs::Inputs;
-use fixed_interval::Iv;
 use spares_input::{Case, Stocks};
 use spares_io::{List, NoMemory};
 use std::alloc::Global;
@@ -58,18 +56,6 @@ pub fn comparisons_enclose()
     ensures shows { (c : CaseRows) (s : StockList) → CanEvaluate 48 c s → ShowsComparison c s (comparison_of c s) }
     ensures printed { (c : CaseRows) (s : StockList) → CanEvaluate 48 c s → FitsComparison (comparison_of c s) }
 {}
-
-/// The interval of a span with 48 binary places.
-fn interval(span: Span) -> Iv<48>
-    requires { places span ≡ 48 }
-    ensures { result ≡ ends span }
-{
-    match span {
-        Span::Bits48(interval) => interval,
-        Span::Bits32(_) => Iv::exact(0),
-        Span::Bits52(_) => Iv::exact(0),
-    }
-}
 
 /// The backorders of a case at its stocks beside those of Poisson pipelines, by part and then by site, and the two
 /// weighted totals.
@@ -103,13 +89,13 @@ pub fn compare(
             part: line.part,
             site: line.site,
             stock: line.stock,
-            backorders: interval(line.backorders),
+            backorders: line.backorders.interval(),
             poisson: poisson[i],
         })?;
     }
     Ok(CompareReport {
         items: List::of(items),
-        total: interval(figures.total),
+        total: figures.total.interval(),
         poisson_total: poisson_total(&inputs, poisson),
     })
 }

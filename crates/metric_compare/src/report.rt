@@ -35,7 +35,8 @@ pub struct CompareReport {
 
 impl CompareReport {
     /// The lines `compare,48`, `item,PART,SITE,STOCK,LO,HI,LO,HI` for each pair and `total,LO,HI,LO,HI`: the model's
-    /// ends and then those of Poisson pipelines, with 6 decimals, the lower end rounded down and the upper end up.
+    /// ends and then those of Poisson pipelines, with 6 decimals, the lower end rounded down and the upper end up. Want
+    /// of memory is the only error.
     pub fn text(&self, alloc: Global) -> Result<Vec<u8>, NoMemory>
         requires { FitsComparison self.now }
         ensures { IfOk result (λ text. text.items ≡ compare_text self.now) }

@@ -1,5 +1,5 @@
-ghost use Rattle.std.specs.Prelude.{◌≡◌, ◌≤◌, ◌<◌, ◌^◌, IfOk};
-ghost use Rattle.metric_compare.specs.Fits.{ComparedFits, FitsComparison};
+ghost use Rattle.std.specs.Prelude.{◌<◌, ◌^◌, IfOk};
+ghost use Rattle.metric_compare.specs.Fits.{FitsComparison};
 
 use crate::{CompareItem, CompareReport};
 use fixed_interval::Iv;

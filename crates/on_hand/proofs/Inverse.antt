@@ -28,7 +28,7 @@ use Rattle.price_certificate.specs.declared.fault.CertFault.{CertFault}
 use Rattle.price_certificate.specs.declared.fault.CertFault.TheVariants as fault
 use Rattle.price_certificate.specs.Grammar.{certificate_format}
 use Rattle.line_text.specs.Texts.{number_line}
-use Rattle.price_certificate.specs.Certificates.{IsWellFormed, cert_text}
+use Rattle.price_certificate.specs.Certificates.{cert_text}
 use Rattle.price_certificate.specs.Certificates as certified
 use Rattle.price_certificate.proofs.Fits.{well_formed_fits, format_fits, count_within}
 use Rattle.price_certificate.proofs.Written.{joined}
@@ -112,6 +112,7 @@ parts_of_text h =
 -- ---- what reading finds
 
 module _ (bytes : List ℕ) (c : Certificate) (middle : List Token) (first : front.read (lines_of bytes) ≡ Ok (c, middle)) where
+  -- a rule that the sites and parts in front break is the answer
   pub fault_at : (x : CaseFault) → frame_of c.case.sites c.case.parts ≡ Err x → held_of bytes ≡ Err (fault.BadCase x)
   fault_at x e = ap (λ (o : Option CaseFault). judged o (file_answer held_format bytes)) (ap case_fault first ∙ ap refusal e)
 
@@ -122,10 +123,12 @@ module _ (bytes : List ℕ) (c : Certificate) (middle : List Token) (first : fro
       by_frame (Ok f) g k = absurd cc
       by_frame (Err x) g k = let same : fault.BadCase x ≡ d = cc in fault_at x g ∙ ap (λ (z : CertFault). Err z) same
 
+  -- what refuses the certificate in front refuses the whole alike
   pub stops_at : (s : Stop CertFault) → Gives {T = Certificate} (certified.judged (Ok c)) (Err s) → Gives {T = HeldCertificate} (held_of bytes) (Err s)
   stops_at stop.NoMemory h = tt
   stops_at (stop.Fault d) h = case_at d h
 
+  -- where the certificate in front is answered, it is the one that was read, and its case has no fault
   pub free : (d : Certificate) → certified.judged (Ok c) ≡ Ok d → (c ≡ d) × (case_fault (front.read (lines_of bytes)) ≡ None)
   free d h = by_frame (frame_of c.case.sites c.case.parts) refl h
     where
@@ -133,16 +136,19 @@ module _ (bytes : List ℕ) (c : Certificate) (middle : List Token) (first : fro
       by_frame (Ok f) g k = (cc, ap case_fault first ∙ ap refusal g)
       by_frame (Err x) g k = absurd cc
 
+  -- where the case has no fault, the first bad line behind the certificate is the answer
   pub bad_rest : (left : List Token) → case_fault (front.read (lines_of bytes)) ≡ None → (rest c.case).read middle ≡ Err left → held_of bytes ≡ Err (fault.BadLine (suc (length (lines_of bytes) - length left)))
   bad_rest left none h = rw none (rw (first, h) refl)
 
   pub more_rest : (s : StockList × Unit {0}) (t : Token) (ts : List Token) → case_fault (front.read (lines_of bytes)) ≡ None → (rest c.case).read middle ≡ Ok (s, t ∷ ts) → held_of bytes ≡ Err (fault.BadLine (suc (length (lines_of bytes) - length (t ∷ ts))))
   more_rest s t ts none h = rw none (rw (first, h) refl)
 
+  -- where lines are left behind the second end, the first of these is the answer
   pub some_rest : (s : StockList × Unit {0}) (left : List Token) → (left ≡ [] → ⊥) → case_fault (front.read (lines_of bytes)) ≡ None → (rest c.case).read middle ≡ Ok (s, left) → held_of bytes ≡ Err (fault.BadLine (suc (length (lines_of bytes) - length left)))
   some_rest s [] some none h = absurd (some refl)
   some_rest s (t ∷ ts) some none h = more_rest s t ts none h
 
+  -- where nothing is left behind the second end, certificate and held stocks are the answer
   pub whole_rest : (s : StockList) → case_fault (front.read (lines_of bytes)) ≡ None → (rest c.case).read middle ≡ Ok ((s, tt), []) → held_of bytes ≡ Ok (record { certificate = c; held = s })
   whole_rest s none h = rw none (rw (first, h) refl)
 

@@ -4,6 +4,7 @@ use Rattle.std.specs.Result.{IsOk}
 use Rattle.std.proofs.lemmas.Bool.{false≢true}
 use Rattle.std.proofs.lemmas.Bool.Decides.{nat_tests}
 use Rattle.std.proofs.lemmas.List.Sums.{sum_by-cons}
+use Rattle.spares_io.specs.Causes.{count64}
 use Rattle.hull.specs.Curves.{Among, IsCurve, point_at}
 use Rattle.hull.specs.declared.point.Point.{Point}
 use Rattle.spares_input.specs.Cases.{CaseRows, IsCase}
@@ -16,13 +17,12 @@ use Rattle.fleet_model.proofs.FamilyLaws.{sum_each}
 use Rattle.family_eval.specs.Inputs.{IsLine}
 use Rattle.family_curve.specs.declared.bounds.Bounds.{Bounds}
 use Rattle.family_curve.specs.Vectors.{Pair, limits, places, vector_of, zeros, IsBetween}
-use Rattle.family_curve.specs.Points.{ScoreEnds, points_within, AreOrdered}
-use Rattle.family_curve.specs.Counts.{counted, limited, most_tables, tables_between, tables_of, work_of}
+use Rattle.family_curve.specs.Points.{ScoreEnds, points_within, AreOrdered, plain_ends}
+use Rattle.family_curve.specs.Counts.{limited, most_tables, tables_between, tables_of, work_of}
 use Rattle.family_curve.proofs.Boxes.{each_any, same_map}
 use Rattle.family_curve.proofs.Whole.{tables_whole, whole_ordered}
-pub use Rattle.family_curve.proofs.Spotted.{zip_push}
+pub use Rattle.sum_walk.proofs.Walks.{zip_push}
 use Rattle.fleet_plan.specs.Families.{case_points, family_points}
-use Rattle.fleet_plan.specs.Laws.{plain_ends}
 use Rattle.fleet_plan.proofs.Bridge.{vector_between}
 use Rattle.fleet_plan.proofs.Places.{line_among}
 use Rattle.on_hand.specs.Curves.{IsFamilyCurve}
@@ -43,9 +43,9 @@ limited_step : (b : Bool) (n : ℕ) (r : Result ℕ ℕ) → r ≡ (if b then Ok
 limited_step true n r e h = refl
 limited_step false n r e h = absurd (false≢true (subst IsOk e h))
 
-small_of : (n : ℕ) → nat_le (counted n) 1000000 ≡ true → n ≤ 1000000
+small_of : (n : ℕ) → nat_le (count64 n) 1000000 ≡ true → n ≤ 1000000
 small_of n h =
-    let k : counted n ≤ 1000000 = grind (arith, nat_tests, h) in
+    let k : count64 n ≤ 1000000 = grind (arith, nat_tests, h) in
     omega (arith, k)
 
 term_most : (f : ℕ → ℕ) (xs : List ℕ) (x : ℕ) → Among x xs → f x ≤ sum_by f xs
@@ -61,7 +61,7 @@ pub few_tables : (c : CaseRows) (held : List ℕ) (l : ℕ) → IsCase c → IsL
     → tables_between c l (vector_of c l held) (limits c l) ≤ most_tables
 few_tables c held l valid line h =
     let own = term_most (tables_at c held) (line_units c) l (line_among c valid l line) in
-    let small = small_of (tables_from c held) (limited_step (nat_le (counted (tables_from c held)) 1000000) (counted (tables_from c held)) (held_work_of c held) refl h) in
+    let small = small_of (tables_from c held) (limited_step (nat_le (count64 (tables_from c held)) 1000000) (count64 (tables_from c held)) (held_work_of c held) refl h) in
     omega (arith, own, small)
 
 -- ---- curves
@@ -108,7 +108,7 @@ all_tables c held valid h =
 
 -- with nothing held, the work is that of all vectors
 pub all_work : (c : CaseRows) (held : List ℕ) → IsCase c → IsNothing held → held_work_of c held ≡ work_of c
-all_work c held valid h = ap (λ n. limited (counted n)) (all_tables c held valid h)
+all_work c held valid h = ap (λ n. limited (count64 n)) (all_tables c held valid h)
 
 -- a list of zeros held leaves the points of the case as they are with nothing held
 pub all_points : (ends : ScoreEnds) (c : CaseRows) (held : List ℕ) → IsNothing held → case_points ends c held ≡ case_points ends c []

@@ -81,9 +81,11 @@ module _ (bytes : List ℕ) (f : CaseFault) where
   by_read (Ok (c, left)) e k = by_frame c left (frame_of c.case.sites c.case.parts) e refl k
   by_read (Err left) e k = absurd cc
 
+  -- a case fault that is answered is one that the bytes have
   pub bad_case : held_of bytes ≡ Err (fault.BadCase f) → HasCaseFault bytes f
   bad_case e = by_read (front.read (lines_of bytes)) refl (judged_case (case_fault (front.read (lines_of bytes))) (file_answer held_format bytes) f e)
 
+  -- a case fault that the bytes have is answered
   pub only_bad_case : HasCaseFault bytes f → held_of bytes ≡ Err (fault.BadCase f)
   only_bad_case h =
       let c = h.certificate in

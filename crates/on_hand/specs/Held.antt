@@ -34,7 +34,9 @@ held c = as_shape (held_lines c) (λ list. record { sites = length c.sites; list
 
 -- spares-held,1 and then a certificate of format 2 with its own end
 abbrev pub front : Format Certificate
-front = as_shape (and_then (count_line (codes "spares-held") 1 1) (λ _. certificate_format 2)) (λ x. x.1) (λ c. (1, c)) (λ _. true)
+front =
+    as_shape (and_then (count_line (codes "spares-held") 1 1) (λ _. certificate_format 2))
+    (λ x. x.1) (λ c. (1, c)) (λ _. true)
 
 -- what stands after this end
 abbrev pub rest : CaseRows → Format (StockList × Unit {0})

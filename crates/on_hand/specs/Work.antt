@@ -1,10 +1,11 @@
 -- How much work the curves of a case are that begin at what is held.
 use Rattle.std.specs.Prelude.{◌≡◌, ℕ, suc, ◌-◌, List, All, Result, sum_by}
+use Rattle.spares_io.specs.Causes.{count64}
 use Rattle.spares_input.specs.Cases.{CaseRows}
 use Rattle.spares_input.specs.Stocks.{limit_at}
 use Rattle.fleet_model.specs.Rows.{line_units, stock}
 use Rattle.family_curve.specs.Vectors.{limits, vector_of}
-use Rattle.family_curve.specs.Counts.{counted, limited, tables_between}
+use Rattle.family_curve.specs.Counts.{limited, tables_between}
 
 -- the tables of all families together, each over its vectors from what is held to the limits
 abbrev pub tables_from : CaseRows → List ℕ → ℕ
@@ -12,7 +13,7 @@ tables_from c held = sum_by (λ l. tables_between c l (vector_of c l held) (limi
 
 -- these, where they are within the limit
 abbrev pub held_work_of : CaseRows → List ℕ → Result ℕ ℕ
-held_work_of c held = limited (counted (tables_from c held))
+held_work_of c held = limited (count64 (tables_from c held))
 
 -- nothing is held of any pair
 abbrev pub IsNothing : List ℕ → Type 0

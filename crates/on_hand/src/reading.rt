@@ -1,6 +1,6 @@
 //! Reading a held certificate.
 
-ghost use Rattle.std.specs.Prelude.{◌≡◌, ◌*◌, ◌≤◌, ◌<◌, length, true, List, ℕ, Ok, IfOk};
+ghost use Rattle.std.specs.Prelude.{◌≡◌, ◌*◌, ◌≤◌, ◌<◌, length, true, Ok, IfOk};
 ghost use Rattle.line_text.specs.Formats.{each};
 ghost use Rattle.line_text.specs.Files.{lines_of};
 ghost use Rattle.line_text.specs.Texts.{numbers_from};
@@ -8,7 +8,7 @@ ghost use Rattle.line_text.specs.Reading.{Reads, Gathers};
 ghost use Rattle.spares_io.specs.Answers.{Gives};
 ghost use Rattle.price_certificate.specs.Reading.{draft_of};
 ghost use Rattle.on_hand.specs.Held.{held_line, held_lines, rest, rest_of, front, held_of, held_text, IsWellHeld};
-ghost use Rattle.price_certificate.specs.Certificates.{IsWellFormed};
+ghost use Rattle.price_certificate.specs.Certificates.{IsWellFormed, certificate_limit};
 ghost use Rattle.on_hand.specs.declared.held.HeldCertificate.{HeldCertificate};
 ghost use Rattle.price_certificate.specs.Grammar.{certificate_format};
 
@@ -87,7 +87,7 @@ fn after_front(
     lines: &mut Lines<'_>,
     found: CertificateLines,
 ) -> Result<HeldCertificate, Stop<CertFault>>
-    requires size { length bytes.now ≤ 16777216 }
+    requires size { length bytes.now ≤ certificate_limit }
     requires front { front.read (lines_of bytes.now) ≡ Ok (draft_of found, lines.old) }
     requires fits { (certificate_format 1).fits (draft_of found) ≡ true }
     ensures answer { Gives (held_of bytes.now) result }
@@ -118,7 +118,7 @@ fn after_front(
 
 /// The held certificate whose text the bytes are, or why there is none.
 fn read_text(alloc: Global, bytes: &[u8]) -> Result<HeldCertificate, Stop<CertFault>>
-    requires { length bytes.now ≤ 16777216 }
+    requires { length bytes.now ≤ certificate_limit }
     ensures answer { Gives (held_of bytes.now) result }
     ensures well_formed { IfOk result (λ h. IsWellFormed h.certificate) }
 {
@@ -135,7 +135,7 @@ fn read_text(alloc: Global, bytes: &[u8]) -> Result<HeldCertificate, Stop<CertFa
 /// The held certificate whose text the bytes are. `BadCase` comes where all lines up to the first `end` are in the
 /// grammar, so it stands before a bad line that follows this `end`; `BadLine` counts from the first line of the file.
 pub fn read(alloc: Global, bytes: &[u8]) -> Result<HeldCertificate, Stop<CertFault>>
-    requires { length bytes.now ≤ 16777216 }
+    requires { length bytes.now ≤ certificate_limit }
     ensures answer { Gives (held_of bytes.now) result }
     ensures found { IfOk result (λ h. IsWellHeld h × (bytes.now ≡ held_text h)) }
     ensures only { (h : HeldCertificate) → IsWellHeld h → bytes.now ≡ held_text h → Gives (Ok h) result }

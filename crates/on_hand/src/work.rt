@@ -1,17 +1,16 @@
 //! How much work the curves of a case are that begin at what is held.
 
-ghost use Rattle.std.specs.Prelude.{◌≡◌, ℕ, ◌≤◌, ◌<◌, length, map, sum, sum_by};
+ghost use Rattle.std.specs.Prelude.{◌≡◌, ◌≤◌, ◌<◌, length, map, sum, sum_by};
+ghost use Rattle.spares_io.specs.Causes.{count64};
 ghost use Rattle.spares_input.specs.Stocks.{IsFor, IsWithinLimits};
 ghost use Rattle.fleet_model.specs.Rows.{bases, shop_units};
 ghost use Rattle.family_eval.specs.Inputs.{IsLine};
 ghost use Rattle.family_curve.specs.Vectors.{limits, vector_of};
-ghost use Rattle.family_curve.specs.Counts.{counted, product, tables_between};
+ghost use Rattle.family_curve.specs.Counts.{product, tables_between};
 ghost use Rattle.on_hand.specs.Work.{held_work_of, room};
 
+use family_curve::MOST_TABLES;
 use spares_input::{Case, PartId, SiteId, Stocks};
-
-/// The most tables of all families together.
-const MOST_TABLES: u64 = 1_000_000;
 
 /// How many stocks a pair can have, from what is held to its limit.
 fn room(case: &Case, held: &Stocks, part: PartId, site: SiteId) -> u64
@@ -46,7 +45,7 @@ fn shop_rooms(case: &Case, held: &Stocks, line: PartId, site: SiteId) -> ShopRoo
     requires site { site.0 < length case.now.sites }
     ensures count { result.count ≡ length (shop_units case.now line.0) }
     ensures sum { result.sum ≡ sum (map (room case.now held.now.list site.0) (shop_units case.now line.0)) }
-    ensures ways { result.ways ≡ counted (product
+    ensures ways { result.ways ≡ count64 (product
         (map (room case.now held.now.list site.0) (shop_units case.now line.0))) }
     ensures few { (result.count ≤ 2000) × (result.sum ≤ 128000) }
 {
@@ -73,7 +72,7 @@ fn base_ways(case: &Case, held: &Stocks, line: PartId) -> u64
     requires held { IsFor case.now held.now }
     requires limits { IsWithinLimits case.now held.now }
     requires line { line.0 < length case.now.parts }
-    ensures { result ≡ counted (sum_by product
+    ensures { result ≡ count64 (sum_by product
         (map (λ j. map (room case.now held.now.list j) (shop_units case.now line.0)) (bases case.now))) }
 {
     let mut ways: u64 = 0;
@@ -89,7 +88,7 @@ fn held_tables(case: &Case, held: &Stocks, line: PartId) -> u64
     requires held { IsFor case.now held.now }
     requires limits { IsWithinLimits case.now held.now }
     requires line { IsLine case.now line.0 }
-    ensures { result ≡ counted (tables_between case.now line.0
+    ensures { result ≡ count64 (tables_between case.now line.0
         (vector_of case.now line.0 held.now.list) (limits case.now line.0)) }
 {
     let depot = SiteId(0);

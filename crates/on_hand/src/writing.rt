@@ -38,7 +38,7 @@ fn put_held(out: &mut Vec<u8>, case: &Case, list: &Stocks) -> Result<(), NoMemor
 }
 
 /// The text of a held certificate: `spares-held,1`, all lines of the certificate with its own `end`, what is held of
-/// each pair, and a second `end`.
+/// each pair, and a second `end`. Want of memory is the only error.
 pub fn text(alloc: Global, certificate: &HeldCertificate) -> Result<Vec<u8>, NoMemory>
     requires { IsWellHeld certificate.now }
     ensures { IfOk result (λ bytes. bytes.items ≡ held_text certificate.now) }

@@ -1,14 +1,13 @@
 -- A family's evaluation depends on its own stocks and on the rates of its own parts alone.
-use Rattle.std.proofs.Common.{◌≡◌, ℕ, zero, suc, ◌+◌, ◌-◌, ◌<◌, true, List, [], ◌∷◌, ◌++◌, length, map, Option, Some, None, is_none, refl, sym, ap, ap₂, subst, arith}
+use Rattle.std.proofs.Common.{◌≡◌, ℕ, zero, suc, ◌+◌, ◌-◌, ◌<◌, List, [], ◌∷◌, ◌++◌, length, map, Option, Some, None, refl, sym, ap, ap₂, subst, arith}
 use Rattle.std.specs.Prelude.{flat_map}
 use Rattle.std.specs.List.{range_with_len, AllByRecursion}
-use Rattle.std.specs.Option.{option_and_then}
-use Rattle.fixed_interval.specs.Ends.{Ends, ends_add, ends_exact, ends_times}
+use Rattle.fixed_interval.specs.Ends.{Ends, ends_exact, ends_times}
 use Rattle.depot_pipeline.specs.declared.Feed.{Feed}
-use Rattle.depot_pipeline.specs.Profile.{added, depot_shop_ends, depot_line_ends}
+use Rattle.depot_pipeline.specs.Profile.{depot_shop_ends, depot_line_ends}
 use Rattle.base_pipeline.specs.declared.Held.{Held}
 use Rattle.base_pipeline.specs.Profile.{base_shop_ends, base_line_ends}
-use Rattle.spares_input.specs.Frames.{line_of, part_at, part_names, place_of}
+use Rattle.spares_input.specs.Frames.{line_of}
 use Rattle.spares_input.specs.Cases.{CaseRows, IsCase}
 use Rattle.spares_input.specs.Edits.{with_rate}
 use Rattle.spares_input.specs.Stocks.{StockList}
@@ -24,6 +23,8 @@ use Rattle.family_eval.specs.declared.item.FamilyResult.{FamilyResult}
 use Rattle.family_eval.specs.Profile.{pipeline_from, share_of, stocked, feed_of, held_of, depot_shop, depot_feed, depot_line, base_shop, base_line, item_of, part_items, weighed, family_of}
 use Rattle.family_eval.specs.Inputs.{IsLine, IsShop}
 use Rattle.family_eval.proofs.Units.{shops_all}
+use Rattle.family_curve.proofs.Local.{line_owner}
+use Rattle.family_eval.proofs.Items.{added_same}
 
 -- ---- lists
 
@@ -42,11 +43,6 @@ map_sites {X} g h (suc n) a m e same = ap₂ (λ (y : X) (ys : List X). y ∷ ys
 flat_each : {X : Type 0} (g h : ℕ → List X) (xs : List ℕ) → AllByRecursion (λ i. g i ≡ h i) xs → flat_map g xs ≡ flat_map h xs
 flat_each g h [] a = refl
 flat_each {X} g h (x ∷ xs) a = ap₂ (λ (ys zs : List X). ys ++ zs) a.0 (flat_each g h xs a.1)
-
-added_same : (first : Ends) (p q : ℕ → Ends) (n : ℕ) → ((k : ℕ) → k < n → p k ≡ q k) → added first p n ≡ added first q n
-unfolding added
-added_same first p q zero h = refl
-added_same first p q (suc n) h = ap₂ ends_add (added_same first p q n (λ k l. h k (omega arith))) (h n (omega arith))
 
 -- ---- the same items make the same evaluation
 
@@ -123,14 +119,6 @@ module _ (f : ℕ) (c : CaseRows) (s t : List ℕ) (some : 0 < length c.sites) w
     λ k lk. subst (λ o. item_by s o l k ≡ item_by t o l k) (sym none) (line_item l k lk h.0 h.1),
     both (λ i. line_of c.parts i ≡ Some l) Alike _ (shop_units c l) (λ i o a k lk. subst (λ x. item_by s x i k ≡ item_by t x i k) (sym o) (shop_item l i k lk a)) owners h.1,
   )
-
-owner_none : (c : CaseRows) (o : Option (List ℕ)) → is_none o ≡ true → option_and_then (λ name. place_of name (part_names c.parts)) o ≡ None
-owner_none c None h = refl
-owner_none c (Some name) h = cc
-
--- a line unit belongs to no other part
-pub line_owner : (c : CaseRows) (l : ℕ) → IsLine c l → line_of c.parts l ≡ None
-line_owner c l line = owner_none c (part_at c.parts l).parent line.no_parent
 
 -- a family's evaluation depends on its own stocks alone
 pub stocks_alone : (f : ℕ) (c : CaseRows) (l : ℕ) (s t : StockList) → IsCase c → IsLine c l → AgreeOnFamily c s.list t.list l → family_of f c l s ≡ family_of f c l t

@@ -13,7 +13,6 @@ use Rattle.family_curve.specs.Local.{home_of, HaveOneFamily}
 use Rattle.family_curve.proofs.Local.{changed, local}
 use Rattle.hull.specs.declared.point.Point.{Point}
 use Rattle.hull.specs.Curves.{IsCurve}
-use Rattle.fleet_plan.specs.Laws.{plain_ends}
 use Rattle.fleet_plan.proofs.Places.{apart_at, at_among, lines_apart, lines_are}
 use Rattle.on_hand.specs.Curves.{IsFamilyCurve}
 use Rattle.case_plan.specs.Placing.{lines_below}
@@ -22,11 +21,13 @@ use Rattle.plan_session.specs.Sessions.{family_place, no_family, AreEvaluated, A
 use Rattle.plan_session.specs.declared.evaluated.Evaluated.{Evaluated}
 use Rattle.plan_session.proofs.Evaluations.{same_with_rate}
 use Rattle.plan_session.proofs.Marking.{on_within, still_on}
+use Rattle.family_curve.specs.Points.{plain_ends}
 
 before_or_after : (a b : ℕ) → (a ≡ b) ⊎ ((a < b) ⊎ (b < a))
 before_or_after a b = grind arith
 
 module _ (c : CaseRows) (valid : IsCase c) where
+  -- what stands at a place of the line units is a line unit of the case
   pub line_at : (k : ℕ) → k < length (line_units c) → IsLine c (get_or (line_units c) k 0)
   line_at k b = lines_are c valid (get_or (line_units c) k 0) (at_among (line_units c) k b)
 

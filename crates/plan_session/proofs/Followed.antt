@@ -13,7 +13,6 @@ use Rattle.on_hand.proofs.Kept.{zip_push}
 use Rattle.plan_report.specs.declared.plan.PlanReport.{PlanReport}
 use Rattle.case_edits.specs.declared.fault.EditFault.{EditFault}
 use Rattle.case_edits.specs.declared.fault.EditFault.TheVariants as fault
-use Rattle.case_edits.specs.declared.lines.Edit.{Edit}
 use Rattle.plan_session.specs.declared.report.SessionReport.{SessionReport}
 use Rattle.case_edits.specs.Edits.{PlanDue}
 use Rattle.plan_session.specs.Sessions.{due, started, IsLater, IsReportOf, SessionRows}
@@ -44,9 +43,11 @@ module _ (n : ℕ) (s : SessionRows) (ds : List PlanDue) (plans : List PlanRepor
       let short : length ds < most_plans = omega (arith, long, few) in
       planned_step false n (standing s ds) broken (grind (arith, nat_tests, short))
 
+  -- where the rates break a rule, the plan's line is refused by that rule
   pub plan_refused : (f : RateFault) → rate_fault_of s.case ≡ Some f → planned n (standing s ds) (rate_fault_of s.case) ≡ Err (fault.Rate n f)
   plan_refused f h = is_due (rate_fault_of s.case) ∙ ap (due_at n (standing s ds)) h
 
+  -- a plan's line leads on to the later session, with its report behind the others
   pub plan_followed : (new : SessionRows) (report : PlanReport) (all : List PlanReport) → IsReportOf (due s) report → IsLater s new → all ≡ plans ++ report ∷ []
       → HasFollowed (planned n (standing s ds) (rate_fault_of s.case)) new all
   plan_followed new report all is later e = record {
@@ -61,18 +62,9 @@ taken_step : (b d : Bool) (n : ℕ) (at : Standing) (line : List ℕ) → nat_lt
     → taken n at line ≡ (if b then Err fault.TooManyLines else if d then Ok at else edited n at (edit_of (frame_rows at.case) line))
 taken_step b d n at line h k = rw (h, k) refl
 
-pub past_lines : (n : ℕ) (at : Standing) (line : List ℕ) → most_lines < n → taken n at line ≡ Err fault.TooManyLines
-past_lines n at line h = taken_step true (length line == 0) n at line (grind (arith, nat_tests, h)) refl
-
 module _ (n : ℕ) (at : Standing) (line : List ℕ) (few : n ≤ most_lines) where
   within : nat_lt most_lines n ≡ false
   within = grind (arith, nat_tests, few)
-
-  pub empty_passed : (length line == 0) ≡ true → taken n at line ≡ Ok at
-  empty_passed k = taken_step false true n at line within k
-
-  pub line_edited : (length line == 0) ≡ false → (o : Option Edit) → o ≡ edit_of (frame_rows at.case) line → taken n at line ≡ edited n at o
-  line_edited k o e = taken_step false false n at line within k ∙ ap (edited n at) (sym e)
 
 -- ---- all lines
 
@@ -88,6 +80,7 @@ module _ (c : CaseRows) (bytes : List ℕ) (s : SessionRows) (plans : List PlanR
   at_line : session_of c bytes ≡ (taken (suc n) (standing s h.ds) text >>= session_from (suc (suc n)) (edit_lines left))
   at_line = h.is ∙ ap (λ ls. session_from (suc n) ls (standing s h.ds)) lines
 
+  -- what a line leads to is what all lines up to it lead to
   pub line_followed : (m : ℕ) (new : SessionRows) (all : List PlanReport) → m ≡ n + 1 → m ≤ most_lines → HasFollowed (taken m (standing s h.ds) text) new all → IsOnItsWay c bytes new all m left
   line_followed m new all e few f = record {
     ds = f.due;
@@ -98,6 +91,7 @@ module _ (c : CaseRows) (bytes : List ℕ) (s : SessionRows) (plans : List PlanR
     few = few;
   }
 
+  -- the fault of the line is that of the whole file
   pub line_refused : (m : ℕ) (f : EditFault) → m ≡ n + 1 → taken m (standing s h.ds) text ≡ Err f → session_of c bytes ≡ Err f
   line_refused m f e k =
       let now : taken (suc n) (standing s h.ds) text ≡ Err f = ap (λ i. taken i (standing s h.ds) text) (omega (arith, e)) ∙ k in

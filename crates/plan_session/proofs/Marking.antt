@@ -25,9 +25,6 @@ on_within marks k h = elim (in_or_past k (length marks)) [
     in_or_past : (i n : ℕ) → (i < n) ⊎ (n ≤ i)
     in_or_past i n = grind arith
 
-pub same_marks : (marks : List Bool) → AreLater marks marks
-same_marks marks = record { count = refl; stay = λ k h. h }
-
 -- what stands at a place of a list doesn't depend on what is read past its end
 pub any_default : {X : Type 0} (xs : List X) (i : ℕ) (d e : X) → i < length xs → get_or xs i d ≡ get_or xs i e
 any_default [] i d e b = absurd (omega (arith, b))
@@ -52,6 +49,7 @@ pub record AreMarkedTo {X : Type 0} (IsOf : ℕ → X → Type 0) (none : X) (c 
 
 module _ {X : Type 0} (IsOf : ℕ → X → Type 0) (none : X) (c : CaseRows) (before marks : List Bool) (values : List X) (p place : ℕ)
     (h : AreMarkedTo IsOf none c before marks values p place) where
+  -- where part p is a line unit, there is a family at the place
   pub place_within : IsLine c p → place < length (line_units c)
   place_within line = omega (arith, line_fewer c p line.is_part line.no_parent, h.place_is)
 
@@ -64,6 +62,7 @@ module _ {X : Type 0} (IsOf : ℕ → X → Type 0) (none : X) (c : CaseRows) (b
       subst (λ (v : X). IsOf p v) (any_default values place none other (omega (arith, place_within line, h.are_marked.value_count)))
       (subst (λ l. IsOf l (get_or values place none)) (at_place line) (h.are_marked.kept place on))
 
+  -- behind a part that is no line unit the place is still the next one
   pub passed : is_line_at c p ≡ false → AreMarkedTo IsOf none c before marks values (p + 1) place
   passed off = record {
     place_is = h.place_is ∙ ap length (sym (left_out (is_line_at c) p off));
@@ -106,6 +105,7 @@ module _ {X : Type 0} (IsOf : ℕ → X → Type 0) (none : X) (c : CaseRows) (b
     one_more : place + 1 ≡ length (lines_below c (p + 1))
     one_more = (let more = ap length (kept_more (is_line_at c) p line.no_parent) ∙ length-append (lines_below c p) (p ∷ []) in omega (arith, more, h.place_is))
 
+    -- with the value of line unit p kept and its mark on, the next family is at the place behind
     pub kept_next : mark ≡ true → AreMarkedTo IsOf none c before (set marks place mark) (set values place value) (p + 1) (place + 1)
     kept_next lit = record {
       place_is = one_more;
@@ -139,10 +139,6 @@ all_marked IsOf none c before marks values p place e h =
 pub each_value : {X : Type 0} (IsOf : ℕ → X → Type 0) (none : X) (c : CaseRows) (marks : List Bool) (values : List X) → AreMarked IsOf none c marks values
     → marks ≡ replicate (length (line_units c)) true → (k : ℕ) → k < length (line_units c) → IsOf (get_or (line_units c) k 0) (get_or values k none)
 each_value IsOf none c marks values h on k b = h.kept k (ap (λ m. has_mark m k) on ∙ get_or-replicate (length (line_units c)) k true false b)
-
-pub none_marked : {X : Type 0} (IsOf : ℕ → X → Type 0) (none : X) (c : CaseRows) (marks : List Bool) (values : List X) → AreMarked IsOf none c marks values
-    → AreMarkedTo IsOf none c marks marks values 0 0
-none_marked IsOf none c marks values h = record { place_is = refl; are_marked = h; later = same_marks marks; on = λ k b. absurd (omega (arith, b)) }
 
 -- nothing is kept where no mark is on
 unmarked : (n k : ℕ) → has_mark (replicate n false) k ≡ true → ⊥

@@ -2,33 +2,28 @@
 use Rattle.std.proofs.Common.{◌≡◌, ℕ, zero, suc, ◌<◌, Bool, true, false, List, [], ◌∷◌, length, get_or, replicate, All, Option, Some, None, Err, sym, ap, ◌∙◌, subst, arith}
 use Rattle.std.specs.List.{AllZip}
 use Rattle.std.proofs.lemmas.List.{get_or-replicate}
-use Rattle.spares_io.specs.declared.stop.Stop.{Stop}
-use Rattle.spares_io.specs.declared.stop.Stop.TheVariants as stop
-use Rattle.spares_io.specs.Answers.{Gives}
 use Rattle.spares_input.specs.First.{unless}
 use Rattle.spares_input.specs.Cases.{CaseRows}
 use Rattle.fleet_model.specs.Rows.{line_units}
 use Rattle.fleet_model.specs.Aims.{weighted_backorders}
-use Rattle.demand_rates.specs.Limits.{rate_fault_of}
-use Rattle.demand_rates.specs.RateLists.{RateList}
-use Rattle.demand_rates.specs.Rates.{all_rates, rates_of}
 use Rattle.demand_rates.specs.declared.fault.RateFault.{RateFault}
 use Rattle.hull.specs.declared.point.Point.{Point}
 use Rattle.marginal_alloc.specs.Choice.{AreCurves}
 use Rattle.fleet_plan.specs.Families.{case_points}
-use Rattle.fleet_plan.specs.Laws.{IsAcceptedCase, plain_ends}
+use Rattle.fleet_plan.specs.Laws.{IsAcceptedCase}
 use Rattle.fleet_plan.proofs.Plain.{plain_encloses, plain_room}
 use Rattle.on_hand.specs.Curves.{IsFamilyCurve}
 use Rattle.on_hand.proofs.Kept.{all_points}
-use Rattle.case_plan.specs.Report.{AreFamilyCurves, IsPlanOf}
+use Rattle.case_plan.specs.Report.{AreFamilyCurves, IsPlanOf, plain_terms}
 use Rattle.case_plan.specs.declared.outcome.Outcome.{Outcome}
 use Rattle.case_plan.proofs.CurveFacts.{are_curves, are_family_curves}
 use Rattle.case_plan.proofs.Truths.{report_fits}
 use Rattle.plan_report.specs.Fits.{FitsPlan}
 use Rattle.plan_report.specs.declared.plan.PlanReport.{PlanReport}
 use Rattle.case_edits.specs.Edits.{PlanDue}
-use Rattle.plan_session.specs.Sessions.{has_mark, plain_terms, AnswersPlan, AreKept, IsReportOf}
+use Rattle.plan_session.specs.Sessions.{has_mark, AreKept, IsReportOf}
 use Rattle.plan_session.proofs.Keeping.{none_held}
+use Rattle.family_curve.specs.Points.{plain_ends}
 
 zip_from : {X Y : Type 0} (R : X → Y → Type 0) (xs : List X) (ys : List Y) (d : X) (e : Y) → length ys ≡ length xs
     → ((k : ℕ) → k < length xs → R (get_or xs k d) (get_or ys k e)) → AllZip R xs ys
@@ -43,9 +38,11 @@ module _ (c : CaseRows) (marks : List Bool) (curves : List (List Point)) (kept :
       zip_from (IsFamilyCurve plain_ends c []) (line_units c) curves 0 [] kept.value_count
       (λ k b. kept.kept k (ap (λ m. has_mark m k) on ∙ get_or-replicate (length (line_units c)) k true false b))
 
+  -- the kept curves are those of the families
   pub serve : AreFamilyCurves c curves
   serve = are_family_curves plain_ends c [] curves each_kept
 
+  -- the report of a plan of these curves is that of the case under this budget
   pub reported : (budget : ℕ) (outcome : Outcome) → IsAcceptedCase c → IsPlanOf c curves (plain_terms budget) outcome
       → IsReportOf (record { case = c; budget = budget }) outcome.report
   reported budget outcome accepted h = record {
@@ -78,7 +75,3 @@ all_printed due plans a i e b = printed_at due plans a i e b
 refused : {A : Type 0} (o : Option RateFault) (x : A) (f : RateFault) → unless o x ≡ Err f → o ≡ Some f
 refused None x f h = cc
 refused (Some g) x f h = cc
-
-pub rates_refused : (d : PlanDue) (why : Stop RateFault) → Gives {T = RateList} (rates_of d.case) (Err why) → AnswersPlan d (Err why)
-rates_refused d stop.NoMemory h = tt
-rates_refused d (stop.Fault f) h = refused (rate_fault_of d.case) (record { sites = length d.case.sites; pairs = all_rates d.case }) f h

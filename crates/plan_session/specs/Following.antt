@@ -1,4 +1,4 @@
--- How a session follows the lines of an edits file: no promise of the crate rests on these words.
+-- How a session follows the lines of an edits file. No promise of the crate rests on these words.
 use Rattle.std.specs.Prelude.{◌≡◌, ⊤, List, Result, Ok, Err}
 use Rattle.std.specs.List.{AllZip}
 use Rattle.spares_io.specs.declared.stop.Stop.{Stop}

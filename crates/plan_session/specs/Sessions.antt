@@ -1,5 +1,5 @@
 -- What a session is seen as, and what its calls answer.
-use Rattle.std.specs.Prelude.{◌≡◌, ⊤, ℕ, ◌≤◌, Bool, true, false, List, [], length, filter, get_or, replicate, set, Some, None, Result, Ok, Err}
+use Rattle.std.specs.Prelude.{◌≡◌, ⊤, ℕ, ◌≤◌, Bool, true, false, List, [], length, filter, get_or, replicate, set, Some, Result, Ok, Err}
 use Rattle.std.specs.List.{range_with_len}
 use Rattle.std.specs.Result.{IsOk}
 use Rattle.spares_io.specs.declared.stop.Stop.{Stop}
@@ -21,12 +21,13 @@ use Rattle.family_eval.specs.Profile.{family_of}
 use Rattle.hull.specs.declared.point.Point.{Point}
 use Rattle.family_curve.specs.Counts.{work_of}
 use Rattle.family_curve.specs.Local.{home_of}
-use Rattle.fleet_plan.specs.Laws.{IsAcceptedCase, plain_ends}
+use Rattle.fleet_plan.specs.Laws.{IsAcceptedCase}
 use Rattle.on_hand.specs.Curves.{IsFamilyCurve}
 use Rattle.on_hand.specs.Work.{IsNothing}
-use Rattle.case_plan.specs.Report.{IsPlanned, Terms}
+use Rattle.case_plan.specs.Report.{IsPlanned, plain_terms}
 use Rattle.plan_report.specs.declared.plan.PlanReport.{PlanReport}
 use Rattle.plan_session.specs.declared.evaluated.Evaluated.{Evaluated}
+use Rattle.family_curve.specs.Points.{plain_ends}
 
 -- a case, a budget, and for each family in order whether its curve is kept
 pub record SessionRows : Type 0 where
@@ -104,10 +105,6 @@ pub record IsLater (before after : SessionRows) : Type 0 where
 -- as a session now is
 abbrev pub due : SessionRows → PlanDue
 due s = record { case = s.case; budget = s.budget }
-
--- a plan of weighted backorders, with no stocks on hand
-abbrev pub plain_terms : ℕ → Terms
-plain_terms budget = record { budget = budget; loss = false; on_hand = None }
 
 -- The case is accepted, and the report is that of its plan under this budget with nothing held, which is whatever list
 -- of zeros.

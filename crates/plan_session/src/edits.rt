@@ -1,6 +1,6 @@
 //! An edits file: changes and plans, line by line.
 
-ghost use Rattle.std.specs.Prelude.{◌≡◌, ◌≤◌, List, All, IfOk, OnOk};
+ghost use Rattle.std.specs.Prelude.{◌≤◌, List, All, IfOk, OnOk};
 ghost use Rattle.std.specs.List.{AllZip};
 ghost use Rattle.std.specs.Result.{IsOk};
 ghost use Rattle.spares_input.specs.Cases.{frame_rows};

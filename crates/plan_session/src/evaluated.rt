@@ -6,15 +6,15 @@ ghost use Rattle.fleet_model.specs.Rows.{line_units};
 ghost use Rattle.demand_rates.specs.Rates.{AreRatesOf};
 ghost use Rattle.family_eval.specs.Encloses.{CanEvaluate};
 ghost use Rattle.family_eval.specs.Inputs.{IsLine};
-ghost use Rattle.family_eval.specs.Profile.{families_of, family_of};
-ghost use Rattle.plan_session.specs.Sessions.{no_family, AreEvaluated, AreLater, AreMarked, IsEvaluation};
+ghost use Rattle.family_eval.specs.Profile.{families_of};
+ghost use Rattle.plan_session.specs.Sessions.{no_family, AreEvaluated, AreMarked, IsEvaluation};
 ghost use Rattle.plan_session.specs.Settling.{AreSettled};
 
 use crate::kept::{lines_before, place_of};
 use demand_rates::kinds::Rates;
 use family_eval::{FamilyResult, evaluate};
 use fixed_interval::Iv;
-use spares_input::{Case, PartId, SiteId, Stocks};
+use spares_input::{Case, PartId, SiteId, Stocks, nothing_held};
 use spares_io::{List, NoMemory};
 use std::alloc::Global;
 
@@ -42,23 +42,12 @@ fn placeholders(alloc: Global, count: usize) -> Result<Vec<FamilyResult<48>>, No
     Ok(families)
 }
 
-/// No stock of any pair.
-fn no_stocks(alloc: Global, case: &Case) -> Result<Stocks, NoMemory>
-    ensures { IfOk result (IsFor case.now) }
-{
-    let sites = case.site_count();
-    let parts = case.part_count();
-    let pairs = parts as usize * sites as usize;
-    let stocks = Stocks::of(vec![in alloc; 0; pairs]?, sites);
-    Ok(stocks)
-}
-
 /// Nothing is evaluated: every mark is off.
 pub(crate) fn nothing_evaluated(alloc: Global, case: &Case) -> Result<Evaluated, NoMemory>
     ensures { IfOk result (AreEvaluated case.now) }
 {
     let count = lines_before(case, case.part_count());
-    let stocks = no_stocks(alloc, case)?;
+    let stocks = nothing_held(alloc, case)?;
     let families = placeholders(alloc, count)?;
     let marks = vec![in alloc; false; count]?;
     Ok(Evaluated {
@@ -77,7 +66,7 @@ fn copied(alloc: Global, stocks: &Stocks, sites: u8) -> Result<Stocks, NoMemory>
     Ok(Stocks::of(list, sites))
 }
 
-/// Whether a part has the same stocks in both, at each of so many sites.
+/// True only where a part has the same stocks in both, at each of so many sites.
 fn is_stocked_alike(old: &Stocks, new: &Stocks, part: PartId, sites: u8) -> bool
     requires old { (k : ℕ) → k < sites → HasPair old.now part.0 k }
     requires new { (k : ℕ) → k < sites → HasPair new.now part.0 k }

@@ -36,7 +36,7 @@ fn put_plans(text: &mut Vec<u8>, plans: &[PlanReport]) -> Result<(), NoMemory>
 }
 
 impl SessionReport {
-    /// The texts of the plans one after the other.
+    /// The texts of the plans one after the other. Want of memory is the only error.
     pub fn text(&self, alloc: Global) -> Result<Vec<u8>, NoMemory>
         requires { All FitsPlan self.now.plans }
         ensures { IfOk result (λ text. text.items ≡ flat_map plan_text self.now.plans) }

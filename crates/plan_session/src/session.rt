@@ -2,13 +2,13 @@
 
 ghost use Rattle.std.specs.Prelude.{◌≡◌, ◌<◌, ◌≤◌, [], true, not, length, get_or, replicate, is_none, IfOk, IfSome};
 ghost use Rattle.std.specs.Result.{IsOk};
-ghost use Rattle.spares_input.specs.Cases.{frame_rows, IsCase, IsRateOf};
+ghost use Rattle.spares_input.specs.Cases.{frame_rows, IsRateOf};
 ghost use Rattle.fleet_model.specs.Rows.{line_units};
 ghost use Rattle.family_curve.specs.Counts.{work_of};
-ghost use Rattle.fleet_plan.specs.Laws.{plain_ends};
 ghost use Rattle.on_hand.specs.Curves.{IsFamilyCurve};
 ghost use Rattle.spares_input.specs.Money.{most_budget};
 ghost use Rattle.plan_session.specs.Sessions.{due, has_mark, started, with_budget, with_row, AnswersPlan, IsLater};
+ghost use Rattle.family_curve.specs.Points.{plain_ends};
 
 use crate::evaluated::{Evaluated, evaluate_at, nothing_evaluated};
 use crate::kept::{keep_all, nothing_kept, place_of};
@@ -60,7 +60,8 @@ fn above(price: Price) -> u128 {
 }
 
 impl Session {
-    /// A session of this case, whose work is within its limit, and this budget in whole money. No mark is on.
+    /// A session of this case, whose work is within its limit, and this budget in whole money. No mark is on. Want of
+    /// memory is the only error.
     pub fn new(alloc: Global, case: Case, budget: u64) -> Result<Session, NoMemory>
         requires work { IsOk (work_of case) }
         requires budget { budget ≤ most_budget }

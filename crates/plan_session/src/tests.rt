@@ -1,5 +1,5 @@
 //! Sessions of a case of two line units.
-ghost use Rattle.std.specs.Prelude.{◌≡◌, ◌≤◌, true, IfSome, length};
+ghost use Rattle.std.specs.Prelude.{◌≤◌, true, IfSome, length};
 ghost use Rattle.std.specs.Result.{IsOk};
 ghost use Rattle.family_curve.specs.Counts.{work_of};
 

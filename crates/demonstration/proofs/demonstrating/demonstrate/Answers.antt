@@ -1,11 +1,11 @@
 use Rattle.std.proofs.Common.{◌≡◌, ℕ, ◌*◌, subst, sym}
-use Rattle.case_plan.specs.Report.{IsOutcome}
+use Rattle.case_plan.specs.Report.{IsOutcome, plain_terms}
 use Rattle.certified_plan.specs.Certificates.{certificate_of}
-use Rattle.demonstration.specs.Demonstrations.{claims_in, demo_terms, report_terms}
+use Rattle.demonstration.specs.Demonstrations.{claims_in, demo_terms}
 use Rattle.plan_report.specs.Fits.{FitsSummary}
-use Rattle.fleet_plan.specs.Laws.{plain_ends}
 use Rattle.demonstration.proofs.Told.{demo_work, have_claims, is_accepted, is_short, sums_fit}
 use Rattle.demonstration.proofs.demonstrating.demonstrate.Goals as goal
+use Rattle.family_curve.specs.Points.{plain_ends}
 
 pub plan_case-requires-clause-work : goal.plan_case-requires-clause-work
 plan_case-requires-clause-work c =
@@ -15,13 +15,13 @@ pub certificate_in-requires-clause-claims : goal.certificate_in-requires-clause-
 certificate_in-requires-clause-claims c =
     have_claims c.in_ok-case.case c.in_ok-held.held c.args.lines c.requires.few c.part_count-parts.ensures.valid c.in_ok-case.ensures.rates.no_fault
     c.in_ok-held.ensures.whole c.in_ok-held.ensures.limits c.in_ok-plan.plan
-    (subst (λ (n : ℕ). IsOutcome plain_ends c.in_ok-case.case c.in_ok-held.held.list (report_terms (2000 * n)) c.in_ok-plan.plan) c.from-budget.ensures c.in_ok-plan.ensures)
+    (subst (λ (n : ℕ). IsOutcome plain_ends c.in_ok-case.case c.in_ok-held.held.list (plain_terms (2000 * n)) c.in_ok-plan.plan) c.from-budget.ensures c.in_ok-plan.ensures)
 
 pub confirm-requires-clause-short : goal.confirm-requires-clause-short
 confirm-requires-clause-short c =
     is_short c.in_ok-case.case c.in_ok-held.held c.args.lines c.requires.few c.part_count-parts.ensures.valid c.in_ok-case.ensures.rates.no_fault
     c.in_ok-held.ensures.whole c.in_ok-held.ensures.limits c.in_ok-plan.plan
-    (subst (λ (n : ℕ). IsOutcome plain_ends c.in_ok-case.case c.in_ok-held.held.list (report_terms (2000 * n)) c.in_ok-plan.plan) c.from-budget.ensures c.in_ok-plan.ensures)
+    (subst (λ (n : ℕ). IsOutcome plain_ends c.in_ok-case.case c.in_ok-held.held.list (plain_terms (2000 * n)) c.in_ok-plan.plan) c.from-budget.ensures c.in_ok-plan.ensures)
     c.in_ok-certificate.certificate
     (subst (λ (n : ℕ). c.in_ok-certificate.certificate ≡ certificate_of c.in_ok-case.case c.in_ok-held.held (demo_terms (2000 * n)) (claims_in c.in_ok-plan.plan))
     c.from-budget.ensures c.in_ok-certificate.ensures.certificate)
@@ -32,7 +32,7 @@ pub confirm-requires-clause-accepted : goal.confirm-requires-clause-accepted
 confirm-requires-clause-accepted c =
     is_accepted c.in_ok-case.case c.in_ok-held.held c.args.lines c.requires.few c.part_count-parts.ensures.valid c.in_ok-case.ensures.rates.no_fault
     c.in_ok-held.ensures.whole c.in_ok-held.ensures.limits c.in_ok-plan.plan
-    (subst (λ (n : ℕ). IsOutcome plain_ends c.in_ok-case.case c.in_ok-held.held.list (report_terms (2000 * n)) c.in_ok-plan.plan) c.from-budget.ensures c.in_ok-plan.ensures)
+    (subst (λ (n : ℕ). IsOutcome plain_ends c.in_ok-case.case c.in_ok-held.held.list (plain_terms (2000 * n)) c.in_ok-plan.plan) c.from-budget.ensures c.in_ok-plan.ensures)
     c.in_ok-certificate.certificate
     (subst (λ (n : ℕ). c.in_ok-certificate.certificate ≡ certificate_of c.in_ok-case.case c.in_ok-held.held (demo_terms (2000 * n)) (claims_in c.in_ok-plan.plan))
     c.from-budget.ensures c.in_ok-certificate.ensures.certificate)
@@ -44,5 +44,5 @@ returns-clause-fits c =
     subst FitsSummary (sym c.summary_of-summary.ensures)
     (sums_fit c.in_ok-case.case c.in_ok-held.held c.args.lines c.requires.few c.part_count-parts.ensures.valid c.in_ok-case.ensures.rates.no_fault
     c.in_ok-held.ensures.whole c.in_ok-held.ensures.limits c.in_ok-plan.plan
-    (subst (λ (n : ℕ). IsOutcome plain_ends c.in_ok-case.case c.in_ok-held.held.list (report_terms (2000 * n)) c.in_ok-plan.plan) c.from-budget.ensures c.in_ok-plan.ensures)
+    (subst (λ (n : ℕ). IsOutcome plain_ends c.in_ok-case.case c.in_ok-held.held.list (plain_terms (2000 * n)) c.in_ok-plan.plan) c.from-budget.ensures c.in_ok-plan.ensures)
     c.args.number c.part_count-parts.result)

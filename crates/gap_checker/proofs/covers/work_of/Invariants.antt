@@ -1,11 +1,11 @@
 use Rattle.std.proofs.Common.{◌≡◌, None}
+use Rattle.spares_io.specs.Causes.{count64}
 use Rattle.spares_input.specs.First.{first}
-use Rattle.family_curve.specs.Counts.{counted}
 use Rattle.gap_checker.specs.Refusals.{gap_at, tables_of_first}
 use Rattle.gap_checker.proofs.covers.work_of.Given as goal
 
 abbrev pub invariant-loop-f : goal.invariant-loop-f
 invariant-loop-f l = record {
   gaps : first (gap_at l.fn.cert l.fn.held) l.f ≡ None;
-  count : l.work ≡ counted (tables_of_first l.fn.cert l.fn.held l.f);
+  count : l.work ≡ count64 (tables_of_first l.fn.cert l.fn.held l.f);
 }

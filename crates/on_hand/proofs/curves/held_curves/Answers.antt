@@ -5,7 +5,7 @@ use Rattle.spares_input.specs.Rows.{is_line}
 use Rattle.spares_input.specs.Frames.{part_at}
 use Rattle.spares_input.specs.Cases.{CaseRows}
 use Rattle.family_eval.proofs.Items.{kept_more, left_out}
-use Rattle.family_curve.proofs.Spotted.{zip_push}
+use Rattle.sum_walk.proofs.Walks.{zip_push}
 use Rattle.on_hand.specs.Curves.{IsFamilyCurve}
 use Rattle.on_hand.proofs.Rooms.{lines_below}
 use Rattle.on_hand.proofs.Kept.{box_curve, box_few, box_ordered}

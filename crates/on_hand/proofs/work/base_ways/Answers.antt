@@ -1,5 +1,5 @@
 use Rattle.std.proofs.Common.{◌≡◌, length, ap, ◌∙◌, arith}
-use Rattle.family_curve.specs.Counts.{counted}
+use Rattle.spares_io.specs.Causes.{count64}
 use Rattle.on_hand.proofs.Rooms.{ways_below, ways_more}
 use Rattle.on_hand.proofs.work.base_ways.Goals as goal
 
@@ -13,4 +13,4 @@ returns c =
     let few = c.site_count-j-end.ensures.valid.frame.fewest_sites in
     let last : c.loop-j.j ≡ length c.args.case.now.sites =
     omega (arith, c.loop-j-test.false, c.loop-j.auto.j-end (omega (arith, few, c.site_count-j-end.ensures.count)), c.site_count-j-end.ensures.count) in
-    c.loop-j.invariant ∙ ap (λ n. counted (ways_below c.args.case.now c.args.held.now.list c.args.line.0 n)) last
+    c.loop-j.invariant ∙ ap (λ n. count64 (ways_below c.args.case.now c.args.held.now.list c.args.line.0 n)) last

@@ -1,5 +1,5 @@
 use Rattle.std.proofs.Common.{◌≡◌, ◌+◌, ◌-◌, ◌*◌, length, ap, ◌∙◌}
-use Rattle.family_curve.specs.Counts.{counted}
+use Rattle.spares_io.specs.Causes.{count64}
 use Rattle.on_hand.proofs.Rooms.{tables_held}
 use Rattle.on_hand.proofs.work.held_tables.Goals as goal
 
@@ -11,5 +11,5 @@ returns c =
     tables_held rows c.args.held.now.list c.args.line.0 shops.count shops.sum shops.ways c.room.result c.base_ways.result
     c.saturating_mul-lines.result c.saturating_add.result c.saturating_mul.result c.saturating_add-2.result c.site_count.ensures.valid
     c.shop_rooms-shops.ensures.count c.shop_rooms-shops.ensures.sum c.shop_rooms-shops.ensures.ways c.room.ensures.room c.base_ways.ensures
-    c.saturating_mul-lines.ensures (c.saturating_add.ensures ∙ ap (λ n. counted (shops.count + n * shops.sum + shops.ways)) bases)
+    c.saturating_mul-lines.ensures (c.saturating_add.ensures ∙ ap (λ n. count64 (shops.count + n * shops.sum + shops.ways)) bases)
     c.saturating_mul.ensures c.saturating_add-2.ensures

@@ -11,7 +11,7 @@ returns c =
     let count : c.lines_before-count.result ≡ length (line_units d) = c.lines_before-count.ensures.count ∙ ap (λ n. length (lines_below d n)) c.part_count.ensures.count in
     let off : c.in_ok-marks.marks.items ≡ replicate c.lines_before-count.result false = search rules in
     record {
-      is_for = c.in_ok-stocks.ensures;
+      is_for = c.in_ok-stocks.ensures.whole;
       are_marked = unkept (IsEvaluation d c.in_ok-stocks.stocks) no_family d c.in_ok-marks.marks.items c.in_ok-families.families.items
           (off ∙ ap (λ n. replicate n false) count) (c.in_ok-families.ensures ∙ count);
     }

@@ -1,9 +1,9 @@
 use Rattle.std.proofs.Common.{[], subst}
 use Rattle.spares_input.specs.Cases.{IsCase}
-use Rattle.fleet_plan.specs.Laws.{plain_ends}
 use Rattle.on_hand.specs.Curves.{IsFamilyCurve}
 use Rattle.plan_session.proofs.Marking.{unkept}
 use Rattle.plan_session.proofs.session.Session.new.Goals as goal
+use Rattle.family_curve.specs.Points.{plain_ends}
 
 pub invariant_of-result : goal.invariant_of-result
 invariant_of-result c = record {

@@ -1,7 +1,7 @@
 use Rattle.std.proofs.Common.{List, sym, subst, ◌∙◌, arith}
 use Rattle.hull.specs.declared.point.Point.{Point}
-use Rattle.case_plan.specs.Report.{AreFamilyCurves, IsPlanOf}
-use Rattle.plan_session.specs.Sessions.{due, plain_terms, IsReportOf, SessionRows}
+use Rattle.case_plan.specs.Report.{AreFamilyCurves, IsPlanOf, plain_terms}
+use Rattle.plan_session.specs.Sessions.{due, IsReportOf, SessionRows}
 use Rattle.plan_session.proofs.Marking.{written}
 use Rattle.plan_session.proofs.Reported.{reported, serve}
 use Rattle.plan_session.proofs.session.Session.plan.Goals as goal

@@ -1,13 +1,12 @@
 -- A floor that no leaf's value is below is at most each Lagrangian.
 use Rattle.std.proofs.Common.{◌≡◌, ℕ, ◌+◌, ◌*◌, ◌≤◌, inl, inr, List, [], ◌∷◌, map, refl, sym, ap, subst, arith, mul-le-mul_left}
-use Rattle.fixed_interval.specs.Ends.{Ends}
 use Rattle.hull.specs.declared.point.Point.{Point}
 use Rattle.hull.specs.declared.price.Price.{Price}
 use Rattle.hull.specs.Curves.{lagrangian, Among}
 use Rattle.hull.proofs.Members.{among_map, Mapped, among_mapped}
 use Rattle.spares_input.specs.Cases.{CaseRows}
 use Rattle.family_curve.specs.declared.bounds.Bounds.{Bounds}
-use Rattle.family_curve.specs.Points.{added_cost, point_at_vector}
+use Rattle.family_curve.specs.Points.{added_cost, point_at_vector, ScoreEnds}
 use Rattle.family_curve.specs.Vectors.{places, vectors}
 use Rattle.gap_checker.specs.declared.leaf.Leaf.{Leaf}
 use Rattle.gap_checker.specs.declared.leaf.Leaf.TheVariants as leaf
@@ -15,7 +14,7 @@ use Rattle.gap_checker.specs.Covers.{box_of, IsIn}
 use Rattle.gap_checker.specs.Values.{least, least_within, value_of}
 use Rattle.gap_checker.specs.Laws.{FloorsHold}
 use Rattle.gap_checker.proofs.Boxes.{added_more}
-use Rattle.gap_checker.proofs.Among_laws.{IsBetween, among_vectors, between}
+use Rattle.gap_checker.proofs.AmongLaws.{IsBetween, among_vectors, between}
 use Rattle.gap_checker.proofs.Trees.{Finds, finds}
 
 -- the least of a number over points is at most that of each point
@@ -27,7 +26,7 @@ least_most f (v ∷ u ∷ rest) w h = elim h [
   | inr m ↦ (let q = least_most f (u ∷ rest) w m in omega (arith, q))
 ]
 
-module _ (score : ℕ → ℕ → ℕ → Ends → Ends) (c : CaseRows) (l : ℕ) (price : Price) where
+module _ (score : ScoreEnds) (c : CaseRows) (l : ℕ) (price : Price) where
   by_cost : (p q lo low cost : ℕ) → low ≤ cost → p * low ≤ q * lo + p * cost
   by_cost p q lo low cost h = (let m : p * low ≤ p * cost = mul-le-mul_left p h in omega (arith, m))
 

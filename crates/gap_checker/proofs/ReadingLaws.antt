@@ -69,6 +69,7 @@ module _ (b : Bounds) (at from : ℕ) where
   }
   parts_by false o one other e h k = absurd (cc)
 
+  -- the two parts that are answered are those of a box that has such parts
   pub parts_of : (o : Option (Bounds × Bounds)) (one other : Bounds) → o ≡ parts_at b at from → o ≡ Some (one, other) → AreParts b at from one other
   parts_of o one other h k = parts_by (has_parts b at from) o one other refl h k
 
@@ -76,6 +77,7 @@ module _ (b : Bounds) (at from : ℕ) where
   none_by true o e h k = absurd (cc)
   none_by false o e h k = e
 
+  -- where no parts are answered, the box has none there
   pub no_parts : (o : Option (Bounds × Bounds)) → o ≡ parts_at b at from → o ≡ None → has_parts b at from ≡ false
   no_parts o h k = none_by (has_parts b at from) o refl h k
 

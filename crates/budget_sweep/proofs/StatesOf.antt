@@ -212,11 +212,13 @@ none_left curves picks (Some price) v e t =
 -- ---- sweeps
 
 module _ (families curves : List (List Point)) (points : List SweepPoint) (h : IsSweepFor families curves points) where
+  -- no choice that costs at most what a state costs has a lower end below the state's
   pub none_lower : (k : ℕ) → k < length points → (choice : List Point) → Picks families choice
       → cost_of choice ≤ (state_at points k).cost → (state_at points k).lo ≤ lo_of choice
   none_lower k l choice own fits = state_lower families curves h.areas h.shapes k (state_at points k) (h.sweep.each k l)
       choice own fits
 
+  -- each choice whose lower ends come to at most a limit costs at least the least cost of the limit
   pub none_cheaper : (limit : ℕ) (choice : List Point) → Picks families choice → lo_of choice ≤ limit
       → least_cost limit points ≤ cost_of choice
   none_cheaper limit choice own fits =
@@ -224,6 +226,7 @@ module _ (families curves : List (List Point)) (points : List SweepPoint) (h : I
       (λ k l. state_cheaper families curves h.areas h.shapes k limit (state_at points k) (h.sweep.each k l) choice
       own fits)
 
+  -- no choice has a lower end below that of the last state
   pub none_reaches : (choice : List Point) → Picks families choice → (last_state points).lo ≤ lo_of choice
   none_reaches choice own =
       let n = h.sweep.count in
