@@ -1,6 +1,6 @@
 //! Curves and counts of families, over tables. The numbers are those of a program that was written apart from this
 //! one; of small families it tries all vectors one by one.
-ghost use Rattle.std.specs.Prelude.{◌≡◌, ◌≤◌, true, IfSome};
+ghost use Rattle.std.specs.Prelude.{◌≡◌, ◌≤◌, true};
 ghost use Rattle.std.specs.List.{AllZip};
 ghost use Rattle.family_eval.specs.Inputs.{IsLine};
 ghost use Rattle.family_curve.specs.Points.{AreOrdered};

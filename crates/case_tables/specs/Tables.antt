@@ -17,10 +17,6 @@ use Rattle.spares_io.specs.Steps.{◌>>=◌}
 use Rattle.refusals.specs.Causes.{or_refuse}
 use Rattle.refusals.specs.Lines.{no_names}
 
--- most bytes of a table
-abbrev pub table_limit : ℕ
-table_limit = 4194304
-
 -- the frame of two tables; there are no names yet
 unfoldable pub frame_of_tables : List ℕ → List ℕ → Result FrameRows Failure
 frame_of_tables sites_bytes parts_bytes = do

@@ -6,8 +6,9 @@ ghost use Rattle.std.specs.Prelude.{◌≤◌, IfOk, length};
 ghost use Rattle.demand_rates.specs.Rates.{AreRatesOf};
 ghost use Rattle.spares_input.specs.Stocks.{IsFor, IsWithinLimits};
 ghost use Rattle.spares_io.specs.Answers.{Gives};
+ghost use Rattle.csv_tables.specs.Rest.{table_limit};
 ghost use Rattle.case_tables.specs.Answers.{Tells, TellsStocked};
-ghost use Rattle.case_tables.specs.Tables.{accepted_of, case_of_table, case_of_tables, frame_of_tables, rates_of_case, stocked_of, stocks_of_table, table_limit};
+ghost use Rattle.case_tables.specs.Tables.{accepted_of, case_of_table, case_of_tables, frame_of_tables, rates_of_case, stocked_of, stocks_of_table};
 
 use csv_tables::{read_parts, read_rates, read_sites, read_stocks};
 use demand_rates::kinds::Rates;
@@ -83,10 +84,8 @@ pub fn case_of(
     requires rates { length rates.now ≤ table_limit }
     ensures { Gives (case_of_tables sites.now parts.now rates.now) result }
 {
-    match frame_of(alloc, sites, parts) {
-        Ok(frame) => case_in(alloc, frame, rates),
-        Err(stop) => Err(stop),
-    }
+    let frame = frame_of(alloc, sites, parts)?;
+    case_in(alloc, frame, rates)
 }
 
 /// The stocks of a case by a further table, which this file is.
@@ -153,14 +152,9 @@ pub fn accepted_of(
     ensures answer { Tells (accepted_of sites.now parts.now rates.now) result }
     ensures rates { IfOk result (λ given. AreRatesOf given.case given.rates) }
 {
-    let case = match case_of(alloc, sites, parts, rates) {
-        Ok(case) => case,
-        Err(stop) => return Err(stop),
-    };
-    match rates_of(alloc, &case) {
-        Ok(rates) => Ok(Accepted { case, rates }),
-        Err(stop) => Err(stop),
-    }
+    let case = case_of(alloc, sites, parts, rates)?;
+    let rates = rates_of(alloc, &case)?;
+    Ok(Accepted { case, rates })
 }
 
 /// A case with stocks that are within its limits, and its rates, which the model takes.
@@ -192,14 +186,8 @@ pub fn stocked_of(
     ensures whole { IfOk result (λ given. IsFor given.case given.stocks) }
     ensures limits { IfOk result (λ given. IsWithinLimits given.case given.stocks) }
 {
-    let case = match case_of(alloc, sites, parts, rates) {
-        Ok(case) => case,
-        Err(stop) => return Err(stop),
-    };
-    let stocks = match stocks_in(alloc, &case, file, stocks) {
-        Ok(stocks) => stocks,
-        Err(stop) => return Err(stop),
-    };
+    let case = case_of(alloc, sites, parts, rates)?;
+    let stocks = stocks_in(alloc, &case, file, stocks)?;
     match rates_of(alloc, &case) {
         Ok(rates) => Ok(Stocked {
             case,

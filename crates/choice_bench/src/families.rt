@@ -1,7 +1,7 @@
 //! Curves that are made by numbers: as many families as are asked for, with as many vertices each.
-ghost use Rattle.std.specs.Prelude.{◌≡◌, ℕ, ◌<◌, ◌≤◌, length, IfOk};
+ghost use Rattle.std.specs.Prelude.{◌≡◌, ◌<◌, length, IfOk};
 ghost use Rattle.hull.specs.declared.point.Point.{Point};
-ghost use Rattle.hull.specs.Curves.{Among, InRange};
+ghost use Rattle.hull.specs.Curves.{InRange};
 
 use anyhow::anyhow;
 use hull::{Curve, Point};

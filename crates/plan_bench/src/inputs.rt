@@ -1,15 +1,13 @@
 //! Files, and the case that three of them give.
 
 ghost use Rattle.std.specs.Prelude.{◌<◌, ◌≤◌, ◌^◌, IfOk, length};
+ghost use Rattle.csv_tables.specs.Rest.{table_limit};
 
 use anyhow::anyhow;
-use csv_tables::{read_parts, read_rates, read_sites};
+use csv_tables::{TABLE_LIMIT, read_parts, read_rates, read_sites};
 use spares_input::{Case, Frame};
 use spares_io::{FileShelf, Shelf};
 use std::alloc::Global;
-
-/// The most bytes of a table.
-const TABLE_LIMIT: usize = 4_194_304;
 
 /// The bytes of a file, of at most `limit` bytes.
 pub fn bytes_of(rt: &HostRuntime, name: &str, limit: usize) -> anyhow::Result<Vec<u8>>
@@ -26,9 +24,9 @@ pub fn bytes_of(rt: &HostRuntime, name: &str, limit: usize) -> anyhow::Result<Ve
 
 /// The case of the bytes of three tables, where they give one.
 fn case_in(alloc: Global, sites: &[u8], parts: &[u8], rates: &[u8]) -> Option<Case>
-    requires sites { length sites.now ≤ TABLE_LIMIT }
-    requires parts { length parts.now ≤ TABLE_LIMIT }
-    requires rates { length rates.now ≤ TABLE_LIMIT }
+    requires sites { length sites.now ≤ table_limit }
+    requires parts { length parts.now ≤ table_limit }
+    requires rates { length rates.now ≤ table_limit }
 {
     let sites = read_sites(alloc, sites).ok()?;
     let parts = read_parts(alloc, parts).ok()?;

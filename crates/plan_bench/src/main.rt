@@ -8,6 +8,7 @@
 
 ghost use Rattle.std.specs.Prelude.{◌≤◌, length};
 ghost use Rattle.demand_rates.specs.Rates.{AreRatesOf};
+ghost use Rattle.price_certificate.specs.Certificates.{certificate_limit};
 
 mod inputs;
 
@@ -18,14 +19,11 @@ use family_curve::{curve, tables, work};
 use gap_checker::{Accepted, check};
 use hull::Plain;
 use inputs::{bytes_of, case_of};
-use price_certificate::{Objective, read};
+use price_certificate::{CERTIFICATE_LIMIT, Objective, read};
 use spares_input::{Case, PartId};
 use std::alloc::Global;
 use std::env;
 use std::time::Instant;
-
-/// The most bytes of a certificate.
-const CERTIFICATE_LIMIT: usize = 16_777_216;
 
 /// How many vertices the curves of all families have.
 fn vertices(alloc: Global, case: &Case, rates: &Rates) -> Option<u64>
@@ -65,14 +63,14 @@ fn report_curves(rt: &HostRuntime, case: &Case, timed: bool) -> anyhow::Result<(
 
 /// Whether the bytes are a certificate.
 fn is_read(alloc: Global, bytes: &[u8]) -> bool
-    requires { length bytes.now ≤ CERTIFICATE_LIMIT }
+    requires { length bytes.now ≤ certificate_limit }
 {
     read(alloc, bytes).is_ok()
 }
 
 /// What the checker accepts of these bytes, whose objective is that of backorders.
 fn accepted(alloc: Global, bytes: &[u8]) -> Option<Accepted>
-    requires { length bytes.now ≤ CERTIFICATE_LIMIT }
+    requires { length bytes.now ≤ certificate_limit }
 {
     let certificate = match read(alloc, bytes) {
         Ok(certificate) => certificate,

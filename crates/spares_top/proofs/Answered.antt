@@ -8,14 +8,12 @@ use Rattle.case_plan.proofs.Truths.{plain_true, planned_true}
 use Rattle.case_tables.proofs.Refuse.{Refuses, is_of_task}
 use Rattle.fleet_model.specs.Aims.{weighted_backorders}
 use Rattle.fleet_plan.proofs.Plain.{plain_encloses}
-use Rattle.fleet_plan.specs.Laws.{plain_ends}
-use Rattle.gap_checker.specs.Soundness.{nothing_held}
 use Rattle.plan_report.specs.Fits.{FitsPlan}
 use Rattle.plan_report.specs.declared.plan.PlanReport.{PlanReport}
 use Rattle.plan_session.specs.Answers.{AnswersEdits}
-use Rattle.plan_session.specs.Sessions.{IsReportOf, plain_terms}
+use Rattle.plan_session.specs.Sessions.{IsReportOf}
 use Rattle.plan_session.specs.declared.report.SessionReport.{SessionReport}
-use Rattle.refusals.specs.Causes.{or_refuse, plain_failure}
+use Rattle.refusals.specs.Causes.{or_refuse}
 use Rattle.refusals.specs.Lines.{no_names}
 use Rattle.refusals.specs.declared.failure.Failure.{Failure}
 use Rattle.refusals.specs.declared.refusal.Refusal.TheVariants as refusal
@@ -30,6 +28,9 @@ use Rattle.spares_top.specs.Making.{Is, IsMade, MakesBy}
 use Rattle.spares_top.specs.Task.{Task, plan_in_turn, printed}
 use Rattle.spares_top.specs.declared.done.Done.TheVariants.{Session}
 use Rattle.spares_top.proofs.Shown.{span_prints}
+use Rattle.family_curve.specs.Points.{plain_ends}
+use Rattle.case_plan.specs.Report.{plain_terms}
+use Rattle.spares_input.specs.Stocks.{nothing_held}
 
 -- the report of a plan is true of its case and budget
 answer_true : (d : PlanDue) (report : PlanReport) → IsReportOf d report → IsTrueAnswer d report
@@ -67,12 +68,9 @@ module _ (c : CaseRows) (edits : List ℕ) (given : Result CaseRows Failure) (is
   }
   answered_by (Err f) report e h fits = absurd h
 
+  -- a session whose reports answer its edits is what its task asks for
   pub answered : (report : SessionReport) → AnswersEdits (session_of c edits) (Ok report) → All FitsPlan report.plans → IsMade (Is (asked given edits)) (printed (Session report))
   answered report h fits = answered_by (session_of c edits) report refl h fits
-
-  -- the first fault of the edits is refused
-  pub refused_edits : (fault : EditFault) → session_of c edits ≡ Err fault → MakesBy (Is (asked given edits)) (Err (stop.Fault (plain_failure (refusal.Edit fault))))
-  refused_edits fault e = (rw (is_given, e) refl, tt)
 
 -- what isn't given isn't edited
 pub unedited : (given : Result CaseRows Failure) (edits : List ℕ) (e : Stop Failure) → Refuses given → Gives given (Err e) → MakesBy (Is (asked given edits)) (Err e)

@@ -2,7 +2,7 @@
 use Rattle.std.proofs.Common.{◌≡◌, ap, arith, refl, subst, sym, Bool, true, false, Option, Some, None, Ok, Err, ℕ, List, if◌then◌else◌}
 use Rattle.spares_input.specs.Cases.{CaseRows, frame_rows}
 use Rattle.spares_input.specs.First.{unless}
-use Rattle.spares_input.specs.Stocks.{StockList}
+use Rattle.spares_input.specs.Stocks.{StockList, nothing_held}
 use Rattle.spares_io.specs.declared.stop.Stop.{Stop}
 use Rattle.spares_io.specs.declared.stop.Stop.TheVariants as stop
 use Rattle.price_certificate.specs.declared.certificate.Objective.{Objective}
@@ -13,7 +13,6 @@ use Rattle.certified_bounds.proofs.Accepted.{accepted_true, plain_true}
 use Rattle.certified_plan.specs.Scores.{ends_of, value_of}
 use Rattle.fleet_plan.specs.Plans.{AreTrueClaims, ArePlainClaims}
 use Rattle.gap_checker.specs.Refusals.{judged, reject_of}
-use Rattle.gap_checker.specs.Soundness.{nothing_held}
 use Rattle.gap_checker.specs.declared.refusal.Accepted.{Accepted}
 use Rattle.gap_checker.specs.declared.refusal.Reject.{Reject}
 use Rattle.plan_report.specs.Fits.{FitsCheck}
@@ -88,6 +87,7 @@ module _ (x : Claim) (h : IsClaim x) (bytes : List ℕ) (form : form_of bytes �
     fits : FitsCheck (check_of (claimed_by x))
     fits = let u = h.formed.upper in let b = h.formed.bound in record { upper = omega (arith, u); bound = omega (arith, b) }
 
+    -- what is told of an accepted claim is what the task of a check asks for
     pub confirmed : MakesBy (Is (check_task bytes)) (Ok (task.printed (Checked (check_of (claimed_by x)))))
     confirmed = record {
       task = confirm (claimed_by x);
@@ -108,6 +108,7 @@ module _ (x : Claim) (h : IsClaim x) (bytes : List ℕ) (form : form_of bytes �
   unfolding claimed_of
   rejected_is reject j = rw (form, judged_is, j) refl
 
+  -- the rule that a rejected claim breaks is the refusal that a check has to make
   pub refused : (reject : Reject) → judged (ends_of aimed) x.certificate x.held ≡ Err reject
       → MakesBy (Is (check_task bytes)) (Err (stop.Fault (failure_of (frame_rows x.certificate.case) (refusal.Rejected reject))))
   refused reject j = (rw (rejected_is reject j) refl, tt)

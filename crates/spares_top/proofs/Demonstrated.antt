@@ -5,7 +5,7 @@ use Rattle.spares_input.specs.Cases.{CaseRows}
 use Rattle.case_maker.specs.Demonstration.{made}
 use Rattle.case_maker.proofs.Valid.{made_valid}
 use Rattle.case_maker.proofs.Whole.{made_drawn}
-use Rattle.case_plan.specs.Report.{report_of}
+use Rattle.case_plan.specs.Report.{report_of, plain_terms}
 use Rattle.case_plan.specs.Truth.{IsTruePlanReport}
 use Rattle.case_plan.proofs.Nothing.{from_nothing}
 use Rattle.case_plan.proofs.Truths.{plain_true}
@@ -13,19 +13,20 @@ use Rattle.certified_plan.specs.Laws.{IsPlanOn}
 use Rattle.certified_plan.proofs.Accepted.{accepted}
 use Rattle.certified_plan.proofs.Zeros.{none_is_held}
 use Rattle.demo_accepts.proofs.Accepted.{faultless}
-use Rattle.demonstration.specs.Demonstrations.{IsDemonstrated, budget_of, demo_terms, report_terms}
+use Rattle.demonstration.specs.Demonstrations.{IsDemonstrated, budget_of, demo_terms}
 use Rattle.demonstration.proofs.Told.{are_terms, demo_work, zeros_hold}
 use Rattle.fleet_model.specs.Fleet.{total}
-use Rattle.fleet_plan.specs.Laws.{IsAcceptedCase, plain_ends}
+use Rattle.fleet_plan.specs.Laws.{IsAcceptedCase}
 use Rattle.fleet_plan.specs.Plans.{CasePlan, IsPlainPlan}
 use Rattle.fleet_plan.proofs.Plain.{plain_plan}
-use Rattle.gap_checker.specs.Soundness.{nothing_held}
 use Rattle.plan_report.specs.Fits.{FitsSummary}
 use Rattle.plan_report.specs.declared.summary.Summary.{Summary}
 use Rattle.spares_top.specs.Headline.{IsTrueDemo}
 use Rattle.spares_top.specs.Making.{Is, IsMade}
 use Rattle.spares_top.specs.Task.{demonstrate, printed}
 use Rattle.spares_top.specs.declared.done.Done.TheVariants.{Demo}
+use Rattle.family_curve.specs.Points.{plain_ends}
+use Rattle.spares_input.specs.Stocks.{nothing_held}
 
 module _ (number lines : ℕ) (few : lines ≤ 80) (summary : Summary) (h : IsDemonstrated number lines summary) where
   abbrev case : CaseRows
@@ -43,9 +44,9 @@ module _ (number lines : ℕ) (few : lines ≤ 80) (summary : Summary) (h : IsDe
   says : IsPlainPlan case (budget_of lines) plan
   says = plain_plan case (budget_of lines) plan is_accepted (from_nothing case (nothing_held case).list (zeros_hold case) plain_ends (budget_of lines) plan h.is_plan)
 
-  report : IsTruePlanReport case (budget_of lines) plan.stocks (report_of plain_ends case (report_terms (budget_of lines)) plan)
+  report : IsTruePlanReport case (budget_of lines) plan.stocks (report_of plain_ends case (plain_terms (budget_of lines)) plan)
   report =
-      plain_true case (nothing_held case).list (report_terms (budget_of lines)) (report_of plain_ends case (report_terms (budget_of lines)) plan) is_accepted (zeros_hold case)
+      plain_true case (nothing_held case).list (plain_terms (budget_of lines)) (report_of plain_ends case (plain_terms (budget_of lines)) plan) is_accepted (zeros_hold case)
       (record { plan = plan; is_plan = h.is_plan; is = refl })
 
   encloses : Encloses 48 summary.total.lo summary.total.hi (total case plan.stocks)
@@ -61,6 +62,7 @@ module _ (number lines : ℕ) (few : lines ≤ 80) (summary : Summary) (h : IsDe
     acceptable = accepted case (nothing_held case) (demo_terms (budget_of lines)) plan on_plan (demo_work number lines case (nothing_held case) few refl refl);
   }
 
+  -- the summary of a demonstration is what its task asks for
   pub shown : FitsSummary summary → IsMade (Is (Ok (demonstrate number lines))) (printed (Demo summary))
   shown fits = record {
     task = demonstrate number lines;

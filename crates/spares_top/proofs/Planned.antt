@@ -1,7 +1,7 @@
 -- What a plan makes is what its task asks for, and it is true.
 use Rattle.std.proofs.Common.{◌≡◌, ◌∙◌, ap, ap₂, refl, subst, sym, Bool, true, false, Option, Some, None, Result, Ok, ℕ, ◌≤◌, List, length, if◌then◌else◌}
 use Rattle.spares_input.specs.Cases.{CaseRows, IsCase}
-use Rattle.spares_input.specs.Stocks.{StockList, IsFor, IsWithinLimits}
+use Rattle.spares_input.specs.Stocks.{StockList, IsFor, IsWithinLimits, nothing_held}
 use Rattle.case_plan.specs.Report.{IsOutcome, IsPlanned, outcome_of, report_of}
 use Rattle.case_plan.specs.Truth.{IsTruePlanReport, IsTrueReport}
 use Rattle.case_plan.specs.declared.outcome.Outcome as plans
@@ -23,7 +23,6 @@ use Rattle.certified_plan.proofs.Short.{held_short, text_short}
 use Rattle.fleet_plan.specs.Laws.{IsAcceptedCase}
 use Rattle.fleet_plan.specs.Plans.{CasePlan, IsCasePlan}
 use Rattle.gap_checker.specs.Refusals.{reject_of}
-use Rattle.gap_checker.specs.Soundness.{nothing_held}
 use Rattle.price_certificate.specs.declared.certificate.Objective.{Objective}
 use Rattle.price_certificate.specs.declared.certificate.Objective.TheVariants.{Backorders}
 use Rattle.on_hand.specs.Work.{IsNothing, held_work_of}
@@ -32,11 +31,10 @@ use Rattle.on_hand.specs.Held.{IsWellHeld, held_text}
 use Rattle.on_hand.specs.declared.held.HeldCertificate.{HeldCertificate}
 use Rattle.on_hand.proofs.Inverse as held_inverse
 use Rattle.on_hand.proofs.Refused.{held_form, plain_form}
-use Rattle.price_certificate.specs.Certificates.{IsWellFormed, cert_text}
+use Rattle.price_certificate.specs.Certificates.{IsWellFormed, cert_text, certificate_limit}
 use Rattle.price_certificate.specs.declared.certificate.Certificate.{Certificate}
 use Rattle.price_certificate.proofs.Inverse.{again}
 use Rattle.demonstration.proofs.Told.{zeros_hold}
-use Rattle.spares_top.specs.Files.{certificate_limit}
 use Rattle.spares_top.specs.Making.{Is, IsMade}
 use Rattle.spares_top.specs.Task.{make_plan}
 use Rattle.spares_top.specs.declared.done.Done.TheVariants.{Planned}
@@ -49,8 +47,6 @@ use Rattle.spares_top.specs.Plans.{Planning, certificate_text, held_of, plan_cer
 use Rattle.spares_top.specs.declared.plan.Ground.{Ground}
 use Rattle.spares_top.proofs.Shown.{span_prints}
 use Rattle.spares_top.proofs.Confirmed.{held_by, off_by}
-
--- ---- what is held
 
 -- ---- the certificate's text is read back
 
@@ -115,6 +111,7 @@ module _ (g : Ground) (h : IsGround g) (terms : AreTerms g.terms) where
     pub claims_are : claims_in ≡ claims_of g.case plan
     claims_are = same_claims (ends_of aimed) g.case (plan_terms x) o plan is.is
 
+    -- what the plan claims is in range, with a floor for each line unit and a stock for each pair
     pub have_claims : AreClaims g.case claims_in
     have_claims = subst (AreClaims g.case) (sym claims_are) (plan_claims g.case g.held g.terms plan on_plan)
 

@@ -121,6 +121,7 @@ module _ (held : Files) where
   stop_is before now (i ∷ is) failure n (inr (inl (e, long))) = rw (e, long_by i (file_of held i.name) long) refl
   stop_is before now (i ∷ is) failure n (inr (inr (bytes, (gave, more)))) = rw (gives i bytes gave, stop_is before now is failure n.1 more) refl
 
+  -- where no count of failed reads rose, what was read is what the shelf holds
   pub read_is : (before now : List ℕ → ℕ) (inputs : List Input) (read : Result (List (List ℕ)) Failure) → NoneRose before now inputs
       → Reads (Some held) before now inputs read → reads held inputs ≡ read
   read_is before now inputs (Ok files) n h = all_give inputs files h.0

@@ -7,9 +7,8 @@ use Rattle.budget_sweep.specs.declared.report.TargetReport.{TargetReport}
 use Rattle.budget_sweep.proofs.Told.{point_true, target_true}
 use Rattle.exact_ratio.specs.declared.decimal.Decimal.{Decimal}
 use Rattle.fleet_model.specs.Aims.{weighted_backorders}
-use Rattle.fleet_plan.specs.Laws.{IsAcceptedCase, plain_ends}
+use Rattle.fleet_plan.specs.Laws.{IsAcceptedCase}
 use Rattle.fleet_plan.proofs.Plain.{plain_encloses}
-use Rattle.gap_checker.specs.Soundness.{nothing_held}
 use Rattle.refusals.specs.declared.failure.Failure.{Failure}
 use Rattle.spares_input.specs.Cases.{CaseRows}
 use Rattle.spares_io.specs.Steps.{◌>>=◌}
@@ -17,6 +16,8 @@ use Rattle.spares_top.specs.Headline.{IsTruePrice, IsTrueSweep}
 use Rattle.spares_top.specs.Making.{Is, IsMade}
 use Rattle.spares_top.specs.Task.{price_target, printed, sweep_budgets}
 use Rattle.spares_top.specs.declared.done.Done.TheVariants.{Priced, Swept}
+use Rattle.family_curve.specs.Points.{plain_ends}
+use Rattle.spares_input.specs.Stocks.{nothing_held}
 
 module _ (c : CaseRows) (accepted : IsAcceptedCase c) (given : Result CaseRows Failure) (is_given : given ≡ Ok c) where
   sweep_true : (report : SweepReport) → IsCaseSweep plain_ends c (nothing_held c).list report → IsTrueSweep c report
@@ -25,6 +26,7 @@ module _ (c : CaseRows) (accepted : IsAcceptedCase c) (given : Result CaseRows F
     says = λ k l. point_true plain_ends weighted_backorders c (nothing_held c).list accepted plain_encloses h.curves report.points h.is_sweep k l;
   }
 
+  -- a sweep of the case is what its task asks for
   pub swept : (report : SweepReport) → IsCaseSweep plain_ends c (nothing_held c).list report → SweepFits report
       → IsMade (Is (given >>= λ case. Ok (sweep_budgets case))) (printed (Swept report))
   swept report h fits = record {
@@ -44,6 +46,7 @@ module _ (c : CaseRows) (accepted : IsAcceptedCase c) (given : Result CaseRows F
           (record { areas = h.areas; shapes = h.shapes; sweep = h.is_target.sweep }) report h.is_target.told;
     }
 
+    -- the price of a target in backorders is what its task asks for
     pub priced : (report : TargetReport) → IsCaseTarget plain_ends c (nothing_held c).list backorders report → TargetFits report
         → IsMade (Is (given >>= λ case. Ok (price_target case backorders))) (printed (Priced report))
     priced report h fits = record {

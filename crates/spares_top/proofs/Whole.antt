@@ -1,7 +1,7 @@
 -- What an order promises, from what is made and delivered; and what `run` promises.
 use Rattle.std.proofs.Common.{◌≡◌, ◌∙◌, [], ◌∷◌, ap, arith, inl, inr, refl, sym, subst, Option, Some, None, Result, Ok, Err, IsSomeAnd, MatchResult, List, ℕ}
 use Rattle.std.specs.Option.{option_map}
-use Rattle.std.specs.Prelude.{IfSome, ⊤, All}
+use Rattle.std.specs.Prelude.{IfSome, ⊤}
 use Rattle.demand_rates.specs.declared.fault.RateFault.{RateFault}
 use Rattle.spares_io.specs.Causes.{Rose}
 use Rattle.spares_io.specs.Shelf.{Files, KeepsOthers}
@@ -24,12 +24,11 @@ use Rattle.spares_io.specs.Steps.{◌>>=◌}
 use Rattle.refusals.specs.Causes.{Kind, of_words, of_reading, of_writing, of_memory, of_task, kind_of, or_refuse, plain_failure, stopped}
 use Rattle.refusals.specs.Lines.{no_names}
 use Rattle.spares_input.specs.Cases.{CaseRows}
-use Rattle.std.proofs.lemmas.List.Elements.{All-cons}
 use Rattle.refusals.specs.declared.refusal.File.{File}
-use Rattle.spares_top.specs.Files.{AllGave, case_in, certificate_in, if_named, table_in, Reads, StandStill, StopsAt, inputs, inputs_of, output_of, reads}
+use Rattle.spares_top.specs.Files.{AllGave, Reads, StandStill, StopsAt, inputs, inputs_of, output_of, reads}
 use Rattle.spares_top.specs.Making.{AreWithin, ComesOf, Delivers, Is, IsMade, MakesBy}
 use Rattle.spares_top.specs.Promises.{Completes, Errors, NoneFailed, Performs, PutsLine, Runs, Serves}
-use Rattle.spares_top.specs.Reading.{IsReadable, ReadsGive}
+use Rattle.spares_top.specs.Reading.{ReadsGive}
 use Rattle.spares_top.specs.State.{HasDelivered, HasFailed, HasFailedToWrite, IsUntouched, Scene, after_write}
 use Rattle.spares_top.specs.Checks.{claimed_of}
 use Rattle.spares_top.specs.Plans.{case_to_edit, case_within_work, planning_of}
@@ -168,38 +167,6 @@ within_of told [] [] h = tt
 within_of told (i ∷ is) (b ∷ bs) h = (h.0.1, within_of told is bs h.1)
 within_of told [] (b ∷ bs) h = absurd h
 within_of told (i ∷ is) [] h = absurd h
-
--- the limits of inputs are such as a shelf takes
-readable_table : (f : File) (name : List ℕ) → IsReadable (table_in f name)
-readable_table f name = omega arith
-
-none_readable : All IsReadable []
-none_readable i d b = absurd (omega (arith, b))
-
-named_readable : (f : File) (name : Option (List ℕ)) → All IsReadable (if_named f name)
-named_readable f None = none_readable
-named_readable f (Some name) = All-cons IsReadable (table_in f name) [] (readable_table f name) none_readable
-
-case_readable : (sites parts rates : List ℕ) (more : List Input) → All IsReadable more → All IsReadable (case_in sites parts rates more)
-case_readable sites parts rates more h =
-    All-cons IsReadable (table_in file.Sites sites) (table_in file.Parts parts ∷ table_in file.Rates rates ∷ more) (readable_table file.Sites sites)
-    (All-cons IsReadable (table_in file.Parts parts) (table_in file.Rates rates ∷ more) (readable_table file.Parts parts)
-    (All-cons IsReadable (table_in file.Rates rates) more (readable_table file.Rates rates) h))
-
-certificate_readable : (name : List ℕ) → IsReadable (certificate_in name)
-certificate_readable name = omega arith
-
--- the inputs of each order have limits below 2^32 bytes
-pub are_readable : (o : Order) → All IsReadable (inputs o)
-are_readable (order.Single mean variance stock) = none_readable
-are_readable (order.Eval sites parts rates stocks bits) = case_readable sites parts rates (if_named file.Stocks (Some stocks)) (named_readable file.Stocks (Some stocks))
-are_readable (order.Plan sites parts rates on_hand budget format objective certificate) = case_readable sites parts rates (if_named file.OnHand on_hand) (named_readable file.OnHand on_hand)
-are_readable (order.Check certificate) = All-cons IsReadable (certificate_in certificate) [] (certificate_readable certificate) none_readable
-are_readable (order.Demo number lines) = none_readable
-are_readable (order.Sweep sites parts rates) = case_readable sites parts rates [] none_readable
-are_readable (order.Target sites parts rates backorders) = case_readable sites parts rates [] none_readable
-are_readable (order.Session sites parts rates edits) = case_readable sites parts rates (if_named file.Edits (Some edits)) (named_readable file.Edits (Some edits))
-are_readable (order.Compare sites parts rates stocks) = case_readable sites parts rates (if_named file.Stocks (Some stocks)) (named_readable file.Stocks (Some stocks))
 
 -- ---- an order
 

@@ -1,13 +1,12 @@
--- How the calls that check answer. No promise of the top rests on these words.
+-- How the calls that check answer. No promise of the crate rests on these words.
 use Rattle.std.specs.Prelude.{◌≡◌, ⊤, false, Some, None, Result, Ok, Err, if◌then◌else◌}
-use Rattle.gap_checker.specs.Soundness.{nothing_held}
 use Rattle.price_certificate.specs.Certificates.{IsWellFormed}
 use Rattle.price_certificate.specs.declared.fault.CertFault.{CertFault}
 use Rattle.refusals.specs.Causes.{or_refuse}
 use Rattle.refusals.specs.Lines.{no_names}
 use Rattle.refusals.specs.declared.failure.Failure.{Failure}
 use Rattle.refusals.specs.declared.refusal.Refusal.TheVariants as refusal
-use Rattle.spares_input.specs.Stocks.{IsFor, IsWithinLimits}
+use Rattle.spares_input.specs.Stocks.{IsFor, IsWithinLimits, nothing_held}
 use Rattle.spares_io.specs.declared.stop.Stop.{Stop}
 use Rattle.spares_io.specs.declared.stop.Stop.TheVariants as stop
 use Rattle.spares_top.specs.declared.check.Claim.{Claim}

@@ -12,11 +12,8 @@ use Rattle.refusals.specs.declared.refusal.File.TheVariants.{Sites, Parts, Rates
 use Rattle.refusals.specs.declared.refusal.Refusal.TheVariants as refusal
 use Rattle.spares_io.specs.Steps.{◌>>=◌}
 use Rattle.refusals.specs.Causes.{plain_failure}
-use Rattle.case_tables.specs.Tables.{table_limit}
-
--- most bytes of a certificate
-abbrev pub certificate_limit : ℕ
-certificate_limit = 16777216
+use Rattle.csv_tables.specs.Rest.{table_limit}
+use Rattle.price_certificate.specs.Certificates.{certificate_limit}
 
 -- the input of a table
 abbrev pub table_in : File → List ℕ → Input

@@ -22,10 +22,9 @@ use Rattle.case_plan.specs.Truth.{IsTruePlanReport, IsTrueReport, NoneHasLessTha
 use Rattle.certified_bounds.specs.Laws.{claims_of}
 use Rattle.certified_plan.specs.Scores.{ends_of, value_of}
 use Rattle.demonstration.specs.Demonstrations.{budget_of, demo_certificate, summary_of}
-use Rattle.fleet_plan.specs.Laws.{IsAcceptedCase, plain_ends}
+use Rattle.fleet_plan.specs.Laws.{IsAcceptedCase}
 use Rattle.fleet_plan.specs.Plans.{ArePlainClaims, AreTrueClaims, CasePlan, IsPlainPlan}
 use Rattle.gap_checker.specs.Refusals.{reject_of}
-use Rattle.gap_checker.specs.Soundness.{nothing_held}
 use Rattle.metric_compare.specs.Shows.{ShowsComparison}
 use Rattle.metric_compare.specs.declared.report.CompareReport.{CompareReport}
 use Rattle.plan_report.specs.Texts.{lower_millionths, upper_millionths}
@@ -34,12 +33,11 @@ use Rattle.plan_report.specs.declared.eval.EvalReport.{EvalReport}
 use Rattle.plan_report.specs.declared.plan.PlanReport.{PlanReport}
 use Rattle.plan_report.specs.declared.single.SingleReport.{SingleReport}
 use Rattle.plan_report.specs.declared.summary.Summary.{Summary}
-use Rattle.plan_session.specs.Sessions.{plain_terms}
+use Rattle.price_certificate.specs.Certificates.{certificate_limit}
 use Rattle.price_certificate.specs.declared.certificate.Objective.TheVariants.{Backorders}
 use Rattle.spares_input.specs.Cases.{CaseRows}
-use Rattle.spares_input.specs.Stocks.{StockList}
+use Rattle.spares_input.specs.Stocks.{StockList, nothing_held}
 use Rattle.spares_top.specs.Checks.{Claimed, check_of, claimed_of}
-use Rattle.spares_top.specs.Files.{certificate_limit}
 use Rattle.spares_top.specs.Held.{held_in}
 use Rattle.spares_top.specs.Plans.{Planning, certificate_text, held_of, plan_certificate, plan_terms}
 use Rattle.spares_top.specs.Task.{Task, confirm, demonstrate, evaluate, make_plan, plan_in_turn, price_target, set_beside, show_pipeline, sweep_budgets}
@@ -47,6 +45,8 @@ use Rattle.spares_top.specs.declared.done.Done.{Done}
 use Rattle.spares_top.specs.declared.done.Done.TheVariants.{Single, Evaluated, Planned, Checked, Demo, Swept, Priced, Session, Compared}
 use Rattle.spares_top.specs.declared.done.Outcome.{Outcome}
 use Rattle.spares_top.specs.declared.done.Written.{Written}
+use Rattle.family_curve.specs.Points.{plain_ends}
+use Rattle.case_plan.specs.Report.{plain_terms}
 
 -- ---- a single pipeline
 

@@ -1,8 +1,7 @@
 -- What is held at the start of a plan.
 use Rattle.std.specs.Prelude.{Option, Some, None}
-use Rattle.gap_checker.specs.Soundness.{nothing_held}
 use Rattle.spares_input.specs.Cases.{CaseRows}
-use Rattle.spares_input.specs.Stocks.{StockList}
+use Rattle.spares_input.specs.Stocks.{StockList, nothing_held}
 
 -- the stocks on hand; no stock of anything, where nothing says them
 abbrev pub held_in : CaseRows → Option StockList → StockList

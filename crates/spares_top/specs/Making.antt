@@ -1,5 +1,4 @@
--- How the calls that carry out a command answer, before anything is written. No promise of the top rests on these
--- words.
+-- How the calls that carry out a command answer, before a write. No promise of the crate rests on these words.
 use Rattle.std.specs.Prelude.{◌≡◌, ◌⊎◌, ◌≤◌, ⊤, All, ℕ, List, [], ◌∷◌, length, Option, IsSomeAnd, Result, Ok, Err}
 use Rattle.plan_report.specs.declared.eval.EvalReport.{EvalReport}
 use Rattle.case_figures.specs.Fits.{FitsPrint}
@@ -19,7 +18,8 @@ use Rattle.spares_top.specs.Files.{Reads, inputs}
 use Rattle.spares_top.specs.declared.files.Input.{Input}
 use Rattle.spares_top.specs.Headline.{IsTrue, ShowsCase}
 use Rattle.spares_top.specs.State.{HasDelivered, HasFailed, IsUntouched, Scene}
-use Rattle.case_tables.specs.Tables.{StockedCase, table_limit}
+use Rattle.csv_tables.specs.Rest.{table_limit}
+use Rattle.case_tables.specs.Tables.{StockedCase}
 use Rattle.spares_top.specs.Task.{Fulfils, Task, eval_of, task_on}
 use Rattle.spares_top.specs.Texts.{CanPrint}
 

@@ -1,12 +1,11 @@
--- How the calls that plan answer, before anything is written. No promise of the top rests on these words.
+-- How the calls that plan answer, before anything is written. No promise of the crate rests on these words.
 use Rattle.std.specs.Prelude.{◌≡◌, ⊤, false, ℕ, Bool, List, Option, Some, None, Result, Ok, Err, if◌then◌else◌}
 use Rattle.std.specs.Result.{IsOk}
 use Rattle.demand_rates.specs.Rates.{AreRatesOf}
-use Rattle.gap_checker.specs.Soundness.{nothing_held}
 use Rattle.on_hand.specs.Work.{held_work_of}
 use Rattle.refusals.specs.declared.failure.Failure.{Failure}
 use Rattle.spares_input.specs.Cases.{IsCase}
-use Rattle.spares_input.specs.Stocks.{IsFor, IsWithinLimits}
+use Rattle.spares_input.specs.Stocks.{IsFor, IsWithinLimits, nothing_held}
 use Rattle.spares_io.specs.declared.stop.Stop.{Stop}
 use Rattle.spares_io.specs.declared.stop.Stop.TheVariants as stop
 use Rattle.spares_top.specs.declared.plan.Ground.{Ground}

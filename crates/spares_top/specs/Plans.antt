@@ -71,7 +71,7 @@ plan_certificate x p = certificate_of x.case (held_of x) x.terms (claims_of x.ca
 abbrev pub certificate_text : Planning → CasePlan → List ℕ
 certificate_text x p = text_of (plan_certificate x p) x.on_hand
 
--- what the report is asked for: the loss, where it is aimed at, and what the stocks on hand cost
+-- what is aimed at is the loss
 abbrev pub is_loss : Objective → Bool
 is_loss Backorders = false
 is_loss LogAvailability = true

@@ -1,4 +1,4 @@
--- How far the reading of inputs came, for the calls that read. No promise of the top rests on these words.
+-- How far the reading of inputs came, for the calls that read. No promise of the crate rests on these words.
 use Rattle.std.specs.Prelude.{◌⊎◌, ⊤, ◌<◌, ◌^◌, ℕ, List, Option, Result, Ok, Err}
 use Rattle.spares_io.specs.declared.stop.Stop.{Stop}
 use Rattle.spares_io.specs.declared.stop.Stop.TheVariants as stop

@@ -11,14 +11,12 @@ use Rattle.moment_table.specs.declared.kinds.Row.{Row}
 use Rattle.budget_sweep.specs.Cases.{IsCaseSweep, IsCaseTarget}
 use Rattle.case_edits.specs.Edits.{PlanDue, session_of}
 use Rattle.case_figures.specs.Figures.{figures_of}
-use Rattle.fleet_plan.specs.Laws.{plain_ends}
-use Rattle.gap_checker.specs.Soundness.{nothing_held}
 use Rattle.metric_compare.specs.Report.{comparison_of}
 use Rattle.plan_report.specs.declared.eval.EvalReport.{EvalReport}
 use Rattle.plan_report.specs.declared.single.SingleReport.{SingleReport}
 use Rattle.plan_session.specs.Sessions.{IsReportOf}
 use Rattle.spares_input.specs.Cases.{CaseRows}
-use Rattle.spares_input.specs.Stocks.{StockList}
+use Rattle.spares_input.specs.Stocks.{StockList, nothing_held}
 use Rattle.spares_io.specs.Shelf.{Files}
 use Rattle.price_certificate.specs.declared.certificate.Terms.{Terms}
 use Rattle.spares_words.specs.declared.order.Order.{Order}
@@ -38,6 +36,7 @@ use Rattle.spares_top.specs.Files.{inputs_of, reads}
 use Rattle.spares_top.specs.Plans.{Planning, IsPlanned, case_to_edit, case_within_work, planning_of}
 use Rattle.demonstration.specs.Demonstrations.{IsDemonstrated}
 use Rattle.spares_top.specs.Checks.{Claimed, claimed_of, check_of}
+use Rattle.family_curve.specs.Points.{plain_ends}
 
 -- What is to be done once it is accepted.
 pub data Task : Type 0 where

@@ -1,6 +1,6 @@
 //! The figures of a case at given stocks, beside those of Poisson pipelines.
 ghost use Rattle.std.specs.Prelude.{◌≡◌, ◌≤◌, IfOk, length};
-ghost use Rattle.case_tables.specs.Tables.{table_limit};
+ghost use Rattle.csv_tables.specs.Rest.{table_limit};
 ghost use Rattle.demand_rates.specs.Rates.{AreRatesOf};
 ghost use Rattle.metric_compare.specs.Fits.{FitsComparison};
 ghost use Rattle.metric_compare.specs.Report.{comparison_of};

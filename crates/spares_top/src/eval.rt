@@ -8,7 +8,8 @@ ghost use Rattle.case_figures.specs.Shows.{ShowsFigures};
 ghost use Rattle.case_figures.specs.Fits.{FitsPrint};
 ghost use Rattle.spares_top.specs.Headline.{ShowsCase};
 ghost use Rattle.spares_top.specs.Making.{AreTables, Evaluates, Is, MakesBy};
-ghost use Rattle.case_tables.specs.Tables.{stocked_of, table_limit};
+ghost use Rattle.csv_tables.specs.Rest.{table_limit};
+ghost use Rattle.case_tables.specs.Tables.{stocked_of};
 ghost use Rattle.refusals.specs.declared.refusal.File.TheVariants as file;
 ghost use Rattle.spares_top.specs.Task.{bytes_at, eval_of, eval_task};
 
@@ -127,8 +128,6 @@ pub(crate) fn eval(alloc: Global, files: &[List<u8>], bits: u8) -> Result<Outcom
 {
     let (sites, parts) = (files[0].as_slice(), files[1].as_slice());
     let (rates, stocks) = (files[2].as_slice(), files[3].as_slice());
-    match report_of(alloc, sites, parts, rates, stocks, bits) {
-        Ok(report) => Ok(Outcome::printed(Done::Evaluated(report))),
-        Err(stop) => Err(stop),
-    }
+    let report = report_of(alloc, sites, parts, rates, stocks, bits)?;
+    Ok(Outcome::printed(Done::Evaluated(report)))
 }

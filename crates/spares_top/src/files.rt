@@ -1,19 +1,15 @@
 //! The files that an order reads.
-ghost use Rattle.std.specs.Prelude.{◌≡◌, ◌⊎◌, ◌≤◌, ◌<◌, ◌^◌, [], All, length, IfOk, IfErr, OnOk};
+ghost use Rattle.std.specs.Prelude.{◌≡◌, ◌<◌, ◌^◌, [], All, IfOk, IfErr, OnOk};
 ghost use Rattle.std.specs.Option.{option_map};
-ghost use Rattle.spares_top.specs.Files.{Gave, IsTooLong, IsUnread, Reads, StandStill, case_in, certificate_in, inputs, if_named, table_in};
+ghost use Rattle.spares_top.specs.Files.{Gave, Reads, StandStill, case_in, certificate_in, inputs, if_named, table_in};
 ghost use Rattle.spares_top.specs.Reading.{IsReadable, ReadsGive, Unread};
 
+use csv_tables::TABLE_LIMIT;
+use price_certificate::CERTIFICATE_LIMIT;
 use refusals::{Failure, File, Refusal};
 use spares_io::{List, NoMemory, Shelf, ShelfError, Stop, Text};
 use spares_words::Order;
 use std::alloc::Global;
-
-/// Most bytes of a table.
-const TABLE_LIMIT: usize = 4_194_304;
-
-/// Most bytes of a certificate.
-const CERTIFICATE_LIMIT: usize = 16_777_216;
 
 /// A file that an order reads: which it is, its name, and the most bytes that it may have.
 #[derive(Drop)]

@@ -2,7 +2,7 @@
 ghost use Rattle.std.specs.Prelude.{◌≡◌, ◌≤◌, IfOk, Some, None, Ok, true, length, if◌then◌else◌};
 ghost use Rattle.std.specs.Result.{IsOk};
 ghost use Rattle.case_tables.specs.Answers.{Tells};
-ghost use Rattle.case_tables.specs.Tables.{table_limit};
+ghost use Rattle.csv_tables.specs.Rest.{table_limit};
 ghost use Rattle.certified_plan.specs.Inputs.{AreTerms};
 ghost use Rattle.demand_rates.specs.Rates.{AreRatesOf};
 ghost use Rattle.family_curve.specs.Counts.{work_of};
@@ -18,13 +18,12 @@ use case_tables::{Accepted, Stocked, accepted_of, stocked_of};
 use certified_plan::{PlanClaims, certificate, certificate_text};
 use demand_rates::kinds::Rates;
 use family_curve::work;
-use gap_checker::nothing_held;
 use hull::Plain;
 use log_loss::LogLoss;
 use on_hand::held_work;
 use price_certificate::{Objective, Terms};
 use refusals::{Failure, File, Refusal};
-use spares_input::{Case, Stocks};
+use spares_input::{Case, Stocks, nothing_held};
 use spares_io::{List, NoMemory, Stop, Text};
 use std::alloc::Global;
 
@@ -54,10 +53,7 @@ fn within_work(
     ensures accepted { IfOk result (λ given. IsAcceptedCase given.case) }
     ensures work { IfOk result (λ given. IsOk (work_of given.case)) }
 {
-    let given = match accepted_of(alloc, sites, parts, rates) {
-        Ok(given) => given,
-        Err(stop) => return Err(stop),
-    };
+    let given = accepted_of(alloc, sites, parts, rates)?;
     let _valid = given.case.site_count();
     match work(&given.case) {
         Ok(_) => Ok(given),
@@ -108,10 +104,7 @@ fn held_ground(alloc: Global, files: &[List<u8>], terms: Terms) -> Result<Ground
 {
     let (sites, parts) = (files[0].as_slice(), files[1].as_slice());
     let (rates, stocks) = (files[2].as_slice(), files[3].as_slice());
-    let given = match stocked_of(alloc, sites, parts, rates, File::OnHand, stocks) {
-        Ok(given) => given,
-        Err(stop) => return Err(stop),
-    };
+    let given = stocked_of(alloc, sites, parts, rates, File::OnHand, stocks)?;
     let Stocked {
         case,
         stocks,

@@ -3,7 +3,7 @@ ghost use Rattle.std.specs.Prelude.{◌≤◌, length, IfOk};
 ghost use Rattle.std.specs.Result.{IsOk};
 ghost use Rattle.spares_io.specs.Answers.{Gives};
 ghost use Rattle.family_curve.specs.Counts.{work_of};
-ghost use Rattle.case_tables.specs.Tables.{table_limit};
+ghost use Rattle.csv_tables.specs.Rest.{table_limit};
 ghost use Rattle.spares_top.specs.Making.{AreTables, Is, MakesBy};
 ghost use Rattle.spares_top.specs.Plans.{case_to_edit};
 ghost use Rattle.spares_top.specs.Task.{bytes_at, session_task};
@@ -31,10 +31,7 @@ fn case_to_edit(
     ensures answer { Gives (case_to_edit sites.now parts.now rates.now) result }
     ensures work { IfOk result (λ case. IsOk (work_of case)) }
 {
-    let case = match case_of(alloc, sites, parts, rates) {
-        Ok(case) => case,
-        Err(stop) => return Err(stop),
-    };
+    let case = case_of(alloc, sites, parts, rates)?;
     match work(&case) {
         Ok(_) => Ok(case),
         Err(count) => Err(Stop::Fault(Failure::of(Refusal::Work(count)))),

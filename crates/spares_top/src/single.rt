@@ -69,8 +69,6 @@ pub(crate) fn single(
     if let Err(fault) = check_single(mean, variance) {
         return Err(Stop::Fault(Failure::of(Refusal::Rate(fault))));
     }
-    match single_report(alloc, mean, variance, stock) {
-        Ok(report) => Ok(Outcome::printed(Done::Single(report))),
-        Err(NoMemory) => Err(Stop::NoMemory),
-    }
+    let report = single_report(alloc, mean, variance, stock)?;
+    Ok(Outcome::printed(Done::Single(report)))
 }

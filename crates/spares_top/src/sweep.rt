@@ -6,21 +6,22 @@ ghost use Rattle.budget_sweep.specs.Fits.{SweepFits, TargetFits};
 ghost use Rattle.demand_rates.specs.Rates.{AreRatesOf};
 ghost use Rattle.family_curve.specs.Counts.{work_of};
 ghost use Rattle.fleet_plan.specs.Families.{case_points};
-ghost use Rattle.fleet_plan.specs.Laws.{IsAcceptedCase, plain_ends};
-ghost use Rattle.gap_checker.specs.Soundness.{nothing_held};
+ghost use Rattle.fleet_plan.specs.Laws.{IsAcceptedCase};
 ghost use Rattle.marginal_alloc.specs.Choice.{AreCurves};
 ghost use Rattle.spares_top.specs.Making.{AreTables, Is, MakesBy};
 ghost use Rattle.spares_top.specs.Task.{bytes_at, sweep_task, target_task};
+ghost use Rattle.family_curve.specs.Points.{plain_ends};
+ghost use Rattle.spares_input.specs.Stocks.{nothing_held};
 
 use crate::done::{Done, Outcome};
 use crate::plan::case_within_work;
 use budget_sweep::{SweepReport, TargetReport};
 use case_tables::Accepted;
 use exact_ratio::Decimal;
-use gap_checker::nothing_held;
 use hull::{Curve, Plain};
 use on_hand::held_curves;
 use refusals::Failure;
+use spares_input::nothing_held;
 use spares_io::{List, NoMemory, Stop};
 use std::alloc::Global;
 

@@ -3,10 +3,11 @@
 
 ghost use Rattle.std.specs.Prelude.{◌≤◌, IfSome, length};
 ghost use Rattle.spares_input.specs.Stocks.{IsFor, IsWithinLimits};
+ghost use Rattle.csv_tables.specs.Rest.{table_limit};
 ghost use Rattle.demand_rates.specs.Rates.{AreRatesOf};
 ghost use Rattle.family_eval.specs.Inputs.{IsLine};
 
-use csv_tables::{read_parts, read_rates, read_sites, read_stocks};
+use csv_tables::{TABLE_LIMIT, read_parts, read_rates, read_sites, read_stocks};
 use demand_rates::kinds::Rates;
 use demand_rates::rates;
 use spares_input::{Case, Frame, PartId, Stocks, stocks_from};
@@ -14,10 +15,10 @@ use std::alloc::Global;
 
 /// The bytes of a table, unless there are too many.
 fn bytes_of(table: &str) -> Option<&[u8]>
-    ensures { IfSome result (λ bytes. length bytes.now ≤ 4194304) }
+    ensures { IfSome result (λ bytes. length bytes.now ≤ table_limit) }
 {
     let bytes = table.as_bytes();
-    if bytes.len() <= 4_194_304 {
+    if bytes.len() <= TABLE_LIMIT {
         Some(bytes)
     } else {
         None

@@ -3,12 +3,12 @@ use Rattle.case_plan.proofs.CurveFacts.{are_curves}
 use Rattle.fleet_model.specs.Rows.{line_units}
 use Rattle.fleet_model.proofs.FrameLaws.{few_lines}
 use Rattle.fleet_plan.specs.Families.{case_points, family_points}
-use Rattle.fleet_plan.specs.Laws.{plain_ends}
 use Rattle.marginal_alloc.specs.Choice.{AreCurves}
 use Rattle.spares_input.specs.Stocks.{StockList}
 use Rattle.std.proofs.lemmas.List.{length-map}
 use Rattle.spares_top.proofs.Planned.{plain_work}
 use Rattle.spares_top.proofs.sweep.curves_of.Goals as goal
+use Rattle.family_curve.specs.Points.{plain_ends}
 
 pub held_curves-requires-clause-work : goal.held_curves-requires-clause-work
 held_curves-requires-clause-work c = plain_work c.args.given.now.case c.in_ok-held.held c.requires.accepted.valid c.in_ok-held.ensures.held c.requires.work

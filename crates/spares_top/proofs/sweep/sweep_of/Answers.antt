@@ -1,10 +1,10 @@
 use Rattle.std.proofs.Common.{sym, subst, List}
 use Rattle.fleet_plan.specs.Families.{case_points}
-use Rattle.fleet_plan.specs.Laws.{plain_ends}
-use Rattle.gap_checker.specs.Soundness.{nothing_held}
 use Rattle.hull.specs.declared.point.Point.{Point}
 use Rattle.marginal_alloc.specs.Choice.{AreCurves}
 use Rattle.spares_top.proofs.sweep.sweep_of.Goals as goal
+use Rattle.family_curve.specs.Points.{plain_ends}
+use Rattle.spares_input.specs.Stocks.{nothing_held}
 
 pub returns-clause-sweep : goal.returns-clause-sweep
 returns-clause-sweep c =
