@@ -10,8 +10,10 @@ import sys
 
 COLUMNS = 120
 IMPORT = re.compile(r'use Rattle\.([\w.]+)\.\{([^}]*)\}')
-DECLARED = re.compile(r'(?:abbrev )?pub (?:record |data )?([^\s(:]+)')
+LISTED = re.compile(r'^ *(pub )?(ghost )?use [\w.:]+\{([^{}]*)\};?$', re.M)
+DECLARED = re.compile(r'\s*(?:abbrev |unfoldable )?pub (?:record |data )?([^\s(:]+)')
 OPERATOR = '◌'
+UNSEEN = ('vec_len', 'append_known', 'index_set_len', 'tt', '[]')
 
 
 def lines_of(path):
@@ -26,10 +28,10 @@ def opening(crates):
 
 
 def wide(crates):
-    """clauses, code and definitions have at most 120 columns; imports and texts may have more"""
+    """clauses, code and definitions have at most 120 columns; imports, tests and a line that is a text may have more"""
     for path in [*crates.glob('*/src/*.rt'), *crates.glob('*/specs/*.antt')]:
         for number, line in enumerate(lines_of(path), 1):
-            free = re.match(r'\s*(pub |ghost )*(use |inverse)|\s*#\[tactic', line) or '"' in line or path.stem == 'tests'
+            free = re.match(r'\s*((pub |ghost )*(use |inverse)|#\[tactic|b?")', line) or path.stem.endswith('tests')
             if len(line) > COLUMNS and not free:
                 yield path, number, '%d columns' % len(line)
 
@@ -79,12 +81,34 @@ def uncommented(crates):
                 users[module, name.strip().split(' as ')[0]].add(path)
     for path in written_by_hand(crates):
         module = '.'.join(path.relative_to(crates).with_suffix('').parts)
+        of_record = False
         lines = lines_of(path)
         for number, line in enumerate(lines):
-            name = DECLARED.match(line)
-            above = lines[number - 1]
-            if name and users[module, name.group(1)] and not above.startswith('--') and not above.startswith('infix'):
+            name = None if of_record else DECLARED.match(line)
+            if name and users[module, name.group(1)] and not lines[number - 1].strip().startswith(('--', 'infix')):
                 yield path, number + 1, name.group(1)
+            of_record = bool(re.match(r'\s*(pub )?(record|data) ', line)) or of_record and line.startswith(' ')
+
+
+def stands(name, text):
+    """an operator stands by its symbols, which are looked for where Rust has no such ones"""
+    if OPERATOR in name:
+        symbols = name.replace(OPERATOR, ' ').split()
+        return any(symbol.isascii() for symbol in symbols) or all(symbol in text for symbol in symbols)
+    return name in UNSEEN or re.search(r'(?<![\w-])%s(?![\w-])' % re.escape(name), text) is not None
+
+
+def unused(crates):
+    """a name in the braces of an import stands elsewhere in its file, but for `pub use` and what is used unseen"""
+    for path in [*crates.glob('*/src/**/*.rt'), *crates.glob('*/specs/**/*.antt'), *crates.glob('*/proofs/**/*.antt')]:
+        text = path.read_text()
+        rest = LISTED.sub('', text)
+        for use in LISTED.finditer(text):
+            if use.group(1) or path.suffix == '.rt' and not use.group(2) or 'out' in path.parts:
+                continue
+            for name in use.group(3).split(','):
+                if name.strip() and not stands(name.split(' as ')[-1].strip(), rest):
+                    yield path, text.count('\n', 0, use.start()) + 1, name.strip()
 
 
 def stale(crates):
@@ -101,7 +125,7 @@ def stale(crates):
 def main():
     root = pathlib.Path(sys.argv[1] if len(sys.argv) > 1 else pathlib.Path(__file__).parent.parent)
     broken = 0
-    for rule in (opening, wide, undocumented, hyphened, uncommented, stale):
+    for rule in (opening, wide, undocumented, hyphened, uncommented, unused, stale):
         for path, number, what in rule(root / 'crates'):
             print('%s:%d: %s: %s' % (path.relative_to(root), number, what, rule.__doc__))
             broken += 1

@@ -3,7 +3,8 @@
     python3 pages.py PROGRAM EXAMPLES PAGE
 
 An example is an indented line `$ ..`, continued where it ends with a backslash, and the lines up to the next
-blank one or the next command: what is put on the two outputs. A line `..` stands for any lines. The examples of a page
+blank one or the next command: what is put out. A line `fault,..` is put on the standard error, alone and with a status that
+isn't 0; all else on the standard output, with the status 0. A line `..` stands for any lines. The examples of a page
 run in their order in one folder, which has the program as `spares`, the folder `examples`, and the tables of the page:
 each indented block that begins with the header of a table is the file of that table.
 """
@@ -55,6 +56,13 @@ def is_shown(lines, printed):
     return re.fullmatch("".join(parts), printed) is not None
 
 
+def is_right(lines, ran):
+    """Whether a command that was run put out what a page shows, where it should and with the status that belongs to it."""
+    is_fault = lines[:1] != [] and lines[0].startswith("fault,")
+    shown, other = (ran.stderr, ran.stdout) if is_fault else (ran.stdout, ran.stderr)
+    return is_shown(lines, shown.decode()) and not other and (ran.returncode != 0) == is_fault
+
+
 def main():
     program, examples, page = map(os.path.abspath, sys.argv[1:4])
     with open(page) as file:
@@ -71,9 +79,9 @@ def main():
             ran = subprocess.run(["bash", "-c", command], cwd=room, stdin=subprocess.DEVNULL, capture_output=True)
             printed = (ran.stdout + ran.stderr).decode()
             count += 1
-            if not is_shown(lines, printed):
+            if not is_right(lines, ran):
                 failures += 1
-                print("$ %s\nprints\n%snot what %s shows:\n%s" % (command, printed, page, "\n".join(lines)))
+                print("$ %s\nprints\n%swith status %d, not what %s shows:\n%s" % (command, printed, ran.returncode, page, "\n".join(lines)))
     if failures or not count:
         sys.exit("%d examples, %d of them wrong" % (count, failures))
 
