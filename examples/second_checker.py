@@ -3,7 +3,7 @@
 
     python3 second_checker.py CERTIFICATE
 
-It was written from docs/CERTIFICATE.md and the definitions of docs/MODEL.md alone. Demands, shares, direct pipelines and
+All that it computes is said in docs/CERTIFICATE.md. Demands, shares, direct pipelines and
 zero-stock means are exact fractions. What comes of a series is enclosed by two whole numbers in units of 2^-96, the lower
 one rounded down and the upper one up, by the formulas of the definition. Where it accepts, it prints what `spares check`
 prints; else it says why not in one line on the standard error, and ends with the status 1. It has no limit of work: a large case
