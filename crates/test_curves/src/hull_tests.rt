@@ -99,50 +99,56 @@ fn has(rt: &impl Abort, curve: &Curve, rows: &[Row]) {
     }
 }
 
-#[test]
-fn makes_curves_of_points(rt: HostRuntime) -> Result<(), Fail> {
-    let cases: [(&[Row], &[Row]); 4] = [
-        (&LINE_UNIT, &ITS_CURVE),
-        // Of the same place the first stocks stay.
-        (
-            &[
-                (0, 9, 9, &[0, 0]),
-                (4, 5, 8, &[1, 2]),
-                (4, 5, 6, &[1, 0]),
-                (4, 5, 7, &[2, 0]),
-                (4, 6, 6, &[0, 0]),
-            ],
-            &[(0, 9, 9, &[0, 0]), (4, 5, 6, &[1, 0])],
-        ),
-        // What lies on a line between two others goes.
-        (
-            &[
-                (0, 12, 12, &[0, 0]),
-                (1, 9, 9, &[0, 1]),
-                (2, 6, 7, &[0, 2]),
-                (3, 3, 3, &[1, 0]),
-                (4, 2, 2, &[1, 1]),
-            ],
-            &[(0, 12, 12, &[0, 0]), (3, 3, 3, &[1, 0]), (4, 2, 2, &[1, 1])],
-        ),
-        // And so does what lies above.
-        (
-            &[
-                (2, 8, 8, &[0, 1]),
-                (2, 7, 9, &[1, 0]),
-                (5, 7, 7, &[1, 1]),
-                (6, 8, 8, &[2, 1]),
-                (3, 7, 7, &[0, 9]),
-                (9, 1, 4, &[2, 2]),
-            ],
-            &[(2, 7, 9, &[1, 0]), (9, 1, 4, &[2, 2])],
-        ),
-    ];
-    for (points, vertices) in cases.iter() {
-        let curve = curve_of(&rt, rt.alloc(), points)?;
-        has(&rt, &curve, vertices);
+/// Points, and the vertices of their curve.
+const CURVES: [(&[Row], &[Row]); 4] = [
+    (&LINE_UNIT, &ITS_CURVE),
+    // Of the same place the first stocks stay.
+    (
+        &[
+            (0, 9, 9, &[0, 0]),
+            (4, 5, 8, &[1, 2]),
+            (4, 5, 6, &[1, 0]),
+            (4, 5, 7, &[2, 0]),
+            (4, 6, 6, &[0, 0]),
+        ],
+        &[(0, 9, 9, &[0, 0]), (4, 5, 6, &[1, 0])],
+    ),
+    // What lies on a line between two others goes.
+    (
+        &[
+            (0, 12, 12, &[0, 0]),
+            (1, 9, 9, &[0, 1]),
+            (2, 6, 7, &[0, 2]),
+            (3, 3, 3, &[1, 0]),
+            (4, 2, 2, &[1, 1]),
+        ],
+        &[(0, 12, 12, &[0, 0]), (3, 3, 3, &[1, 0]), (4, 2, 2, &[1, 1])],
+    ),
+    // And so does what lies above.
+    (
+        &[
+            (2, 8, 8, &[0, 1]),
+            (2, 7, 9, &[1, 0]),
+            (5, 7, 7, &[1, 1]),
+            (6, 8, 8, &[2, 1]),
+            (3, 7, 7, &[0, 9]),
+            (9, 1, 4, &[2, 2]),
+        ],
+        &[(2, 7, 9, &[1, 0]), (9, 1, 4, &[2, 2])],
+    ),
+];
+
+fn have(rt: &impl Abort, alloc: Global, cases: &[(&[Row], &[Row])]) -> Result<(), Fail> {
+    for (points, vertices) in cases {
+        let curve = curve_of(rt, alloc, points)?;
+        has(rt, &curve, vertices);
     }
     Ok(())
+}
+
+#[test]
+fn makes_curves_of_points(rt: HostRuntime) -> Result<(), Fail> {
+    have(&rt, rt.alloc(), CURVES.as_slice())
 }
 
 #[test]
@@ -242,22 +248,27 @@ fn joins_and_adds_curves(rt: HostRuntime) -> Result<(), Fail> {
     Ok(())
 }
 
+/// Prices, and the vertex that is best at each: where two are least, the first.
+const PRICES: [(u128, u64, u32); 6] = [
+    (0, 1, 5),
+    (1 << 74, 1, 0),
+    (267461162801321, 100, 0),
+    (267461162801320, 100, 1),
+    (162357558481304, 100, 2),
+    (50307020506699, 100, 5),
+];
+
+fn are_best(rt: &impl Abort, curve: &Curve, rows: &[(u128, u64, u32)]) {
+    for (p, q, best) in rows {
+        assert!(rt; *p <= 1 << 74 && *q <= 100);
+        assert_eq!(rt; curve.best_at(*p, *q), *best, "at {p}/{q}");
+    }
+}
+
 #[test]
 fn answers_by_prices(rt: HostRuntime) -> Result<(), Fail> {
     let curve = curve_of(&rt, rt.alloc(), &LINE_UNIT)?;
-    // Where two vertices are least, the first is the best.
-    let cases: [(u128, u64, u32); 6] = [
-        (0, 1, 5),
-        (1 << 74, 1, 0),
-        (267461162801321, 100, 0),
-        (267461162801320, 100, 1),
-        (162357558481304, 100, 2),
-        (50307020506699, 100, 5),
-    ];
-    for (p, q, best) in cases {
-        assert!(rt; p <= 1 << 74 && q <= 100);
-        assert_eq!(rt; curve.best_at(p, q), best, "at {p}/{q}");
-    }
+    are_best(&rt, &curve, PRICES.as_slice());
     assert!(rt; curve.len() == 6);
     let step = curve.slope(2);
     assert_eq!(rt; (step.p, step.q), (162357558481304, 100));

@@ -99,117 +99,123 @@ fn tried(rt: &impl Abort, alloc: Global, case: &Case<'_>) -> Result<(), Fail> {
     Ok(())
 }
 
-#[test]
-fn chooses_and_fills(rt: HostRuntime) -> Result<(), Fail> {
-    let cases: [Case<'_>; 10] = [
-        // No step fits, some do, and all do.
-        Case {
-            rows: &LINE_UNIT,
-            apiece: &[100],
-            budget: 0,
-            picks: &[0],
-            cost: 0,
-            price: (267461162801321, 100),
-            critical: Some((0, 1)),
-            filled: &[0],
-        },
-        Case {
-            rows: &LINE_UNIT,
-            apiece: &[100],
-            budget: 250,
-            picks: &[2],
-            cost: 200,
-            price: (162357558481304, 100),
-            critical: Some((0, 3)),
-            filled: &[2],
-        },
-        Case {
-            rows: &LINE_UNIT,
-            apiece: &[100],
-            budget: 500,
-            picks: &[5],
-            cost: 500,
-            price: (0, 1),
-            critical: None,
-            filled: &[5],
-        },
-        // Of equal slopes the first family's step is taken.
-        Case {
-            rows: &LINE_UNIT,
-            apiece: &[100, 100],
-            budget: 150,
-            picks: &[1, 0],
-            cost: 100,
-            price: (267461162801321, 100),
-            critical: Some((1, 1)),
-            filled: &[1, 0],
-        },
-        Case {
-            rows: &LINE_UNIT,
-            apiece: &[100, 100, 100],
-            budget: 500,
-            picks: &[2, 2, 1],
-            cost: 500,
-            price: (225419721073314, 100),
-            critical: Some((2, 2)),
-            filled: &[2, 2, 1],
-        },
-        // What is left after the critical step fits the last vertex of the other family.
-        Case {
-            rows: &LINE_UNIT,
-            apiece: &[100, 30],
-            budget: 160,
-            picks: &[0, 4],
-            cost: 120,
-            price: (267461162801321, 100),
-            critical: Some((0, 1)),
-            filled: &[0, 5],
-        },
-        // A filling goes back where an earlier upper end is lower.
-        Case {
-            rows: &WIDE,
-            apiece: &[1],
-            budget: 4,
-            picks: &[1],
-            cost: 2,
-            price: (12, 3),
-            critical: Some((0, 2)),
-            filled: &[0],
-        },
-        Case {
-            rows: &WIDE,
-            apiece: &[1],
-            budget: 9,
-            picks: &[3],
-            cost: 9,
-            price: (0, 1),
-            critical: None,
-            filled: &[2],
-        },
-        // A curve of one vertex, and no curve at all.
-        Case {
-            rows: &[(0, 7, 9)],
-            apiece: &[1],
-            budget: 1_000_000_000_000_000,
-            picks: &[0],
-            cost: 0,
-            price: (0, 1),
-            critical: None,
-            filled: &[0],
-        },
-        Case {
-            rows: &LINE_UNIT,
-            apiece: &[],
-            budget: 0,
-            picks: &[],
-            cost: 0,
-            price: (0, 1),
-            critical: None,
-            filled: &[],
-        },
-    ];
-    for case in cases.iter() {
-        tried(&rt, rt.alloc(), case)?;
+/// Choices and their fillings.
+const CASES: [Case<'static>; 10] = [
+    // No step fits, some do, and all do.
+    Case {
+        rows: &LINE_UNIT,
+        apiece: &[100],
+        budget: 0,
+        picks: &[0],
+        cost: 0,
+        price: (267461162801321, 100),
+        critical: Some((0, 1)),
+        filled: &[0],
+    },
+    Case {
+        rows: &LINE_UNIT,
+        apiece: &[100],
+        budget: 250,
+        picks: &[2],
+        cost: 200,
+        price: (162357558481304, 100),
+        critical: Some((0, 3)),
+        filled: &[2],
+    },
+    Case {
+        rows: &LINE_UNIT,
+        apiece: &[100],
+        budget: 500,
+        picks: &[5],
+        cost: 500,
+        price: (0, 1),
+        critical: None,
+        filled: &[5],
+    },
+    // Of equal slopes the first family's step is taken.
+    Case {
+        rows: &LINE_UNIT,
+        apiece: &[100, 100],
+        budget: 150,
+        picks: &[1, 0],
+        cost: 100,
+        price: (267461162801321, 100),
+        critical: Some((1, 1)),
+        filled: &[1, 0],
+    },
+    Case {
+        rows: &LINE_UNIT,
+        apiece: &[100, 100, 100],
+        budget: 500,
+        picks: &[2, 2, 1],
+        cost: 500,
+        price: (225419721073314, 100),
+        critical: Some((2, 2)),
+        filled: &[2, 2, 1],
+    },
+    // What is left after the critical step fits the last vertex of the other family.
+    Case {
+        rows: &LINE_UNIT,
+        apiece: &[100, 30],
+        budget: 160,
+        picks: &[0, 4],
+        cost: 120,
+        price: (267461162801321, 100),
+        critical: Some((0, 1)),
+        filled: &[0, 5],
+    },
+    // A filling goes back where an earlier upper end is lower.
+    Case {
+        rows: &WIDE,
+        apiece: &[1],
+        budget: 4,
+        picks: &[1],
+        cost: 2,
+        price: (12, 3),
+        critical: Some((0, 2)),
+        filled: &[0],
+    },
+    Case {
+        rows: &WIDE,
+        apiece: &[1],
+        budget: 9,
+        picks: &[3],
+        cost: 9,
+        price: (0, 1),
+        critical: None,
+        filled: &[2],
+    },
+    // A curve of one vertex, and no curve at all.
+    Case {
+        rows: &[(0, 7, 9)],
+        apiece: &[1],
+        budget: 1_000_000_000_000_000,
+        picks: &[0],
+        cost: 0,
+        price: (0, 1),
+        critical: None,
+        filled: &[0],
+    },
+    Case {
+        rows: &LINE_UNIT,
+        apiece: &[],
+        budget: 0,
+        picks: &[],
+        cost: 0,
+        price: (0, 1),
+        critical: None,
+        filled: &[],
+    },
+];
+
+fn all_tried(rt: &impl Abort, alloc: Global, cases: &[Case<'_>]) -> Result<(), Fail> {
+    for case in cases {
+        tried(rt, alloc, case)?;
     }
     Ok(())
+}
+
+#[test]
+fn chooses_and_fills(rt: HostRuntime) -> Result<(), Fail> {
+    all_tried(&rt, rt.alloc(), CASES.as_slice())
 }

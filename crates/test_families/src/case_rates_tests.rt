@@ -199,27 +199,32 @@ fn gives(alloc: Global, case: &Case, want: Result<&[PairRates], RateFault>) -> b
     }
 }
 
-fn pair(demand: (u128, u128), share: (u128, u128), direct: u128, zero_stock: u128) -> PairRates {
-    PairRates {
-        demand: Ratio {
-            num: demand.0,
-            den: demand.1,
-        },
-        share: Ratio {
-            num: share.0,
-            den: share.1,
-        },
-        direct,
-        zero_stock,
-    }
+/// The rates of a pair: its demand, its share, its direct pipeline and its mean without stock.
+macro_rules! pair {
+    (($demand:expr, $per:expr), ($share:expr, $of:expr), $direct:expr, $zero_stock:expr $(,)?) => {
+        PairRates {
+            demand: Ratio {
+                num: $demand,
+                den: $per,
+            },
+            share: Ratio {
+                num: $share,
+                den: $of,
+            },
+            direct: $direct,
+            zero_stock: $zero_stock,
+        }
+    };
 }
 
 /// A pipeline over 365 * 10^18.
-fn in_days(num: u128) -> Ratio {
-    Ratio {
-        num,
-        den: 365_000_000_000_000_000_000,
-    }
+macro_rules! in_days {
+    ($num:expr) => {
+        Ratio {
+            num: $num,
+            den: 365_000_000_000_000_000_000,
+        }
+    };
 }
 
 /// A line unit alone, with one base: its fields at the depot and at the base, and its rates or the refusal.
@@ -231,147 +236,159 @@ struct LineRow {
     want: Result<[PairRates; 2], RateFault>,
 }
 
-#[test]
-fn rates_a_line_unit(rt: HostRuntime) {
-    let at_base = Place::Pair(PartId(0), SiteId(1));
-    let rows = [
-        LineRow {
-            ship: 1000,
-            days: 2000,
-            base: Fields(365_000, 0, 0, 0),
-            want: Ok([
-                pair(
-                    (3_650_000_000, 100_000_000),
-                    (1, 1),
-                    730_000_000_000_000_000_000,
-                    730_000_000_000_000_000_000,
-                ),
-                pair(
-                    (365_000, 10_000),
-                    (3_650_000_000, 3_650_000_000),
-                    365_000_000_000_000_000_000,
-                    1_095_000_000_000_000_000_000,
-                ),
-            ]),
-        },
-        // No time to the base, and so no direct pipeline there.
-        LineRow {
-            ship: 0,
-            days: 2000,
-            base: Fields(365_000, 0, 0, 0),
-            want: Err(RateFault::ThinPipeline {
-                place: at_base,
-                direct: in_days(0),
-            }),
-        },
-        // No demand.
-        LineRow {
-            ship: 1000,
-            days: 2000,
-            base: Fields(0, 0, 0, 0),
-            want: Ok([
-                pair((0, 100_000_000), (1, 1), 0, 0),
-                pair((0, 10_000), (0, 1), 0, 0),
-            ]),
-        },
-        // A mean of 256, and just over.
-        LineRow {
-            ship: 1000,
-            days: 933_400,
-            base: Fields(100_000, 0, 0, 0),
-            want: Ok([
-                pair(
-                    (1_000_000_000, 100_000_000),
-                    (1, 1),
-                    93_340_000_000_000_000_000_000,
-                    93_340_000_000_000_000_000_000,
-                ),
-                pair(
-                    (100_000, 10_000),
-                    (1_000_000_000, 1_000_000_000),
-                    100_000_000_000_000_000_000,
-                    93_440_000_000_000_000_000_000,
-                ),
-            ]),
-        },
-        LineRow {
-            ship: 1000,
-            days: 933_401,
-            base: Fields(100_000, 0, 0, 0),
-            want: Err(RateFault::PipelineTooLarge {
-                place: at_base,
-                mean: in_days(93_440_100_000_000_000_000_000),
-            }),
-        },
-        // A mean of 1024 times the direct pipeline, and just over.
-        LineRow {
-            ship: 100,
-            days: 102_300,
-            base: Fields(100_000, 0, 0, 0),
-            want: Ok([
-                pair(
-                    (1_000_000_000, 100_000_000),
-                    (1, 1),
-                    10_230_000_000_000_000_000_000,
-                    10_230_000_000_000_000_000_000,
-                ),
-                pair(
-                    (100_000, 10_000),
-                    (1_000_000_000, 1_000_000_000),
-                    10_000_000_000_000_000_000,
-                    10_240_000_000_000_000_000_000,
-                ),
-            ]),
-        },
-        LineRow {
-            ship: 100,
-            days: 102_301,
-            base: Fields(100_000, 0, 0, 0),
-            want: Err(RateFault::PipelineRatio {
-                place: at_base,
-                mean: in_days(10_240_100_000_000_000_000_000),
-                direct: in_days(10_000_000_000_000_000_000),
-            }),
-        },
-        // A direct pipeline of 1/10,000,000, and just under.
-        LineRow {
-            ship: 1,
-            days: 1000,
-            base: Fields(73, 5000, 0, 0),
-            want: Ok([
-                pair(
-                    (365_000, 100_000_000),
-                    (1, 1),
-                    36_500_000_000_000_000,
-                    36_500_000_000_000_000,
-                ),
-                pair(
-                    (73, 10_000),
-                    (365_000, 365_000),
-                    36_500_000_000_000,
-                    36_536_500_000_000_000,
-                ),
-            ]),
-        },
-        LineRow {
-            ship: 1,
-            days: 1000,
-            base: Fields(72, 5000, 0, 0),
-            want: Err(RateFault::ThinPipeline {
-                place: at_base,
-                direct: in_days(36_000_000_000_000),
-            }),
-        },
-    ];
+const AT_BASE: Place = Place::Pair(PartId(0), SiteId(1));
+
+const LINE_ROWS: [LineRow; 9] = [
+    LineRow {
+        ship: 1000,
+        days: 2000,
+        base: Fields(365_000, 0, 0, 0),
+        want: Ok([
+            pair!(
+                (3_650_000_000, 100_000_000),
+                (1, 1),
+                730_000_000_000_000_000_000,
+                730_000_000_000_000_000_000,
+            ),
+            pair!(
+                (365_000, 10_000),
+                (3_650_000_000, 3_650_000_000),
+                365_000_000_000_000_000_000,
+                1_095_000_000_000_000_000_000,
+            ),
+        ]),
+    },
+    // No time to the base, and so no direct pipeline there.
+    LineRow {
+        ship: 0,
+        days: 2000,
+        base: Fields(365_000, 0, 0, 0),
+        want: Err(RateFault::ThinPipeline {
+            place: AT_BASE,
+            direct: in_days!(0),
+        }),
+    },
+    // No demand.
+    LineRow {
+        ship: 1000,
+        days: 2000,
+        base: Fields(0, 0, 0, 0),
+        want: Ok([
+            pair!((0, 100_000_000), (1, 1), 0, 0),
+            pair!((0, 10_000), (0, 1), 0, 0),
+        ]),
+    },
+    // A mean of 256, and just over.
+    LineRow {
+        ship: 1000,
+        days: 933_400,
+        base: Fields(100_000, 0, 0, 0),
+        want: Ok([
+            pair!(
+                (1_000_000_000, 100_000_000),
+                (1, 1),
+                93_340_000_000_000_000_000_000,
+                93_340_000_000_000_000_000_000,
+            ),
+            pair!(
+                (100_000, 10_000),
+                (1_000_000_000, 1_000_000_000),
+                100_000_000_000_000_000_000,
+                93_440_000_000_000_000_000_000,
+            ),
+        ]),
+    },
+    LineRow {
+        ship: 1000,
+        days: 933_401,
+        base: Fields(100_000, 0, 0, 0),
+        want: Err(RateFault::PipelineTooLarge {
+            place: AT_BASE,
+            mean: in_days!(93_440_100_000_000_000_000_000),
+        }),
+    },
+    // A mean of 1024 times the direct pipeline, and just over.
+    LineRow {
+        ship: 100,
+        days: 102_300,
+        base: Fields(100_000, 0, 0, 0),
+        want: Ok([
+            pair!(
+                (1_000_000_000, 100_000_000),
+                (1, 1),
+                10_230_000_000_000_000_000_000,
+                10_230_000_000_000_000_000_000,
+            ),
+            pair!(
+                (100_000, 10_000),
+                (1_000_000_000, 1_000_000_000),
+                10_000_000_000_000_000_000,
+                10_240_000_000_000_000_000_000,
+            ),
+        ]),
+    },
+    LineRow {
+        ship: 100,
+        days: 102_301,
+        base: Fields(100_000, 0, 0, 0),
+        want: Err(RateFault::PipelineRatio {
+            place: AT_BASE,
+            mean: in_days!(10_240_100_000_000_000_000_000),
+            direct: in_days!(10_000_000_000_000_000_000),
+        }),
+    },
+    // A direct pipeline of 1/10,000,000, and just under.
+    LineRow {
+        ship: 1,
+        days: 1000,
+        base: Fields(73, 5000, 0, 0),
+        want: Ok([
+            pair!(
+                (365_000, 100_000_000),
+                (1, 1),
+                36_500_000_000_000_000,
+                36_500_000_000_000_000,
+            ),
+            pair!(
+                (73, 10_000),
+                (365_000, 365_000),
+                36_500_000_000_000,
+                36_536_500_000_000_000,
+            ),
+        ]),
+    },
+    LineRow {
+        ship: 1,
+        days: 1000,
+        base: Fields(72, 5000, 0, 0),
+        want: Err(RateFault::ThinPipeline {
+            place: AT_BASE,
+            direct: in_days!(36_000_000_000_000),
+        }),
+    },
+];
+
+/// Whether the rates of each row are as it says.
+fn all_give(alloc: Global, rows: &[LineRow]) -> bool {
     for row in rows {
         let fields = [(Fields(0, 0, 0, row.days), row.base)];
-        let case = case_of(rt.alloc(), 1, row.ship, &fields).expect(&rt, "a case");
-        let gives = match &row.want {
-            Ok(want) => gives(rt.alloc(), &case, Ok(want)),
-            Err(want) => gives(rt.alloc(), &case, Err(*want)),
+        let Some(case) = case_of(alloc, 1, row.ship, &fields) else {
+            return false;
         };
-        assert!(&rt; gives, "at {} and {} days", row.ship, row.days);
+        let gives = match &row.want {
+            Ok(want) => gives(alloc, &case, Ok(want)),
+            Err(want) => gives(alloc, &case, Err(*want)),
+        };
+        if !gives {
+            return false;
+        }
     }
+    true
+}
+
+#[test]
+fn rates_a_line_unit(rt: HostRuntime) {
+    assert!(&rt; all_give(rt.alloc(), LINE_ROWS.as_slice()));
 }
 
 #[test]
@@ -380,25 +397,25 @@ fn rates_a_shop_unit(rt: HostRuntime) {
     let fields = [line, (Fields(0, 0, 4000, 2000), Fields(0, 2500, 4000, 500))];
     let case = case_of(rt.alloc(), 1, 500, &fields).expect(&rt, "a case");
     let want = [
-        pair(
+        pair!(
             (1_825_000_000, 100_000_000),
             (1, 1),
             182_500_000_000_000_000_000,
             328_500_000_000_000_000_000,
         ),
-        pair(
+        pair!(
             (365_000, 10_000),
             (1_825_000_000, 1_825_000_000),
             182_500_000_000_000_000_000,
             657_000_000_000_000_000_000,
         ),
-        pair(
+        pair!(
             (127_750_000_000_000_000, 10_000_000_000_000_000),
             (73_000_000_000_000_000, 127_750_000_000_000_000),
             255_500_000_000_000_000_000,
             255_500_000_000_000_000_000,
         ),
-        pair(
+        pair!(
             (7_300_000_000_000, 1_000_000_000_000),
             (54_750_000_000_000_000, 127_750_000_000_000_000),
             36_500_000_000_000_000_000,
@@ -411,20 +428,20 @@ fn rates_a_shop_unit(rt: HostRuntime) {
     let fields = [line, (Fields(0, 0, 0, 2000), Fields(0, 10_000, 4000, 500))];
     let case = case_of(rt.alloc(), 1, 500, &fields).expect(&rt, "a case");
     let want = [
-        pair(
+        pair!(
             (1_825_000_000, 100_000_000),
             (1, 1),
             182_500_000_000_000_000_000,
             182_500_000_000_000_000_000,
         ),
-        pair(
+        pair!(
             (365_000, 10_000),
             (1_825_000_000, 1_825_000_000),
             182_500_000_000_000_000_000,
             401_500_000_000_000_000_000,
         ),
-        pair((0, 10_000_000_000_000_000), (0, 1), 0, 0),
-        pair(
+        pair!((0, 10_000_000_000_000_000), (0, 1), 0, 0),
+        pair!(
             (7_300_000_000_000, 1_000_000_000_000),
             (0, 1),
             36_500_000_000_000_000_000,
@@ -444,7 +461,7 @@ fn rates_a_shop_unit(rt: HostRuntime) {
     let case = case_of(rt.alloc(), 15, 999_999, &fields).expect(&rt, "a case");
     let want = RateFault::PipelineTooLarge {
         place: Place::Pair(PartId(0), SiteId(0)),
-        mean: in_days(29_999_970_000_000_000_000_000_000_000),
+        mean: in_days!(29_999_970_000_000_000_000_000_000_000),
     };
     assert!(&rt; gives(rt.alloc(), &case, Err(want)));
 }

@@ -1,39 +1,78 @@
 //! What no clause says: how each kind of text reads, in a table.
 
-use exact_ratio::{Decimal, NumberFault, read_decimal};
-use std::test::Fail;
+ghost use Rattle.std.specs.Prelude.{◌≤◌};
 
-fn number(units: u64, places: u8) -> Result<Decimal, NumberFault> {
-    Ok(Decimal { units, places })
+use exact_ratio::{Decimal, NumberFault, read_decimal};
+use std::process::Abort;
+use std::test::*;
+
+/// Texts with four places at most, and what is read.
+const FOUR: [(&[u8], Result<Decimal, NumberFault>); 11] = [
+    (
+        b"12.5",
+        Ok(Decimal {
+            units: 125000,
+            places: 4,
+        }),
+    ),
+    (
+        b".5",
+        Ok(Decimal {
+            units: 5000,
+            places: 4,
+        }),
+    ),
+    (
+        b"5.",
+        Ok(Decimal {
+            units: 50000,
+            places: 4,
+        }),
+    ),
+    (
+        b"007.250000",
+        Ok(Decimal {
+            units: 72500,
+            places: 4,
+        }),
+    ),
+    (
+        b"1844674407370955.1615",
+        Ok(Decimal {
+            units: u64::MAX,
+            places: 4,
+        }),
+    ),
+    (b"1.2.3", Err(NumberFault::BadByte(3))),
+    (b"-1", Err(NumberFault::BadByte(0))),
+    (b".", Err(NumberFault::Empty)),
+    (b"", Err(NumberFault::Empty)),
+    (b"0.00001", Err(NumberFault::TooManyPlaces)),
+    (b"1844674407370955.1616", Err(NumberFault::TooLarge)),
+];
+
+/// Whole numbers.
+const WHOLE: [(&[u8], Result<Decimal, NumberFault>); 2] = [
+    (b"0.50", Err(NumberFault::TooManyPlaces)),
+    (
+        b"18446744073709551615",
+        Ok(Decimal {
+            units: u64::MAX,
+            places: 0,
+        }),
+    ),
+];
+
+fn reads(rt: &impl Abort, places: u8, rows: &[(&[u8], Result<Decimal, NumberFault>)])
+    requires { places ≤ 4 }
+{
+    for (text, answer) in rows {
+        assert_eq!(rt; read_decimal(text, places), *answer);
+    }
 }
 
 #[test]
-fn reads_numbers_and_tells_faults(rt: HostRuntime) -> Result<(), Fail> {
-    let numbers = [
-        (b"12.5".as_slice(), number(125000, 4)),
-        (b".5".as_slice(), number(5000, 4)),
-        (b"5.".as_slice(), number(50000, 4)),
-        (b"007.250000".as_slice(), number(72500, 4)),
-        (b"1844674407370955.1615".as_slice(), number(u64::MAX, 4)),
-    ];
-    let faults = [
-        (b"1.2.3".as_slice(), NumberFault::BadByte(3)),
-        (b"-1".as_slice(), NumberFault::BadByte(0)),
-        (b".".as_slice(), NumberFault::Empty),
-        (b"".as_slice(), NumberFault::Empty),
-        (b"0.00001".as_slice(), NumberFault::TooManyPlaces),
-        (b"1844674407370955.1616".as_slice(), NumberFault::TooLarge),
-    ];
-    for (text, answer) in numbers {
-        assert_eq!(rt; read_decimal(text, 4), answer);
-    }
-    for (text, fault) in faults {
-        assert_eq!(rt; read_decimal(text, 4), Err(fault));
-    }
-    assert_eq!(rt; read_decimal(b"0.50", 0), Err(NumberFault::TooManyPlaces));
-    assert_eq!(rt;
-        read_decimal(b"18446744073709551615", 0),
-        number(u64::MAX, 0)
-    );
-    Ok(())
+fn reads_numbers_and_tells_faults(rt: HostRuntime) {
+    reads(&rt, 4, FOUR.as_slice());
+    reads(&rt, 0, WHOLE.as_slice());
 }

@@ -5,6 +5,7 @@ use price_certificate::CertFault;
 use spares_input::CaseFault;
 use spares_io::Stop;
 use std::alloc::Global;
+use std::process::Abort;
 use std::test::*;
 
 const HELD: &[u8] =
@@ -62,22 +63,28 @@ fn with_line(alloc: Global, text: &[u8], number: usize, line: &[u8]) -> Result<V
     Ok(changed)
 }
 
+/// The number of a line, what stands there instead, and the outcome.
+const CHANGED: [(usize, &[u8], Outcome); 6] = [
+    (1, b"spares-held,2", Outcome::BadLine(1)),
+    (2, b"spares-certificate,1", Outcome::BadLine(2)),
+    (28, b"2", Outcome::Read(2)),
+    (28, b"3", Outcome::BadLine(28)),
+    (29, b"3", Outcome::Read(3)),
+    (30, b"End", Outcome::BadLine(30)),
+];
+
+fn come_out(rt: &impl Abort, alloc: Global, rows: &[(usize, &[u8], Outcome)]) -> Result<(), Fail> {
+    for (number, line, due) in rows {
+        let changed = with_line(alloc, HELD, *number, line)?;
+        assert_eq!(rt; read_held(alloc, changed.as_slice()), *due);
+    }
+    Ok(())
+}
+
 #[test]
 fn reads_what_is_held_and_names_the_first_bad_line(rt: HostRuntime) -> Result<(), Fail> {
     assert_eq!(&rt; read_held(rt.alloc(), HELD), Outcome::Read(0));
-    let lines: [(usize, &[u8], Outcome); 6] = [
-        (1, b"spares-held,2", Outcome::BadLine(1)),
-        (2, b"spares-certificate,1", Outcome::BadLine(2)),
-        (28, b"2", Outcome::Read(2)),
-        (28, b"3", Outcome::BadLine(28)),
-        (29, b"3", Outcome::Read(3)),
-        (30, b"End", Outcome::BadLine(30)),
-    ];
-    for (number, line, due) in lines {
-        let changed = with_line(rt.alloc(), HELD, number, line)?;
-        assert_eq!(&rt; read_held(rt.alloc(), changed.as_slice()), due);
-    }
-    Ok(())
+    come_out(&rt, rt.alloc(), CHANGED.as_slice())
 }
 
 #[test]
@@ -108,17 +115,23 @@ fn work_read(alloc: Global, bytes: &[u8]) -> Result<u64, u64> {
     }
 }
 
-#[test]
-fn counts_one_table_for_each_stock_at_the_depot(rt: HostRuntime) -> Result<(), Fail> {
-    let lines: [(usize, &[u8], u64); 4] = [
-        (28, b"0", 4),
-        (28, b"1", 3),
-        (28, b"2", 2),
-        (29, b"3", 4),
-    ];
-    for (number, line, due) in lines {
-        let changed = with_line(rt.alloc(), HELD, number, line)?;
-        assert_eq!(&rt; work_read(rt.alloc(), changed.as_slice()), Ok(due));
+/// The number of a line, what stands there instead, and the work.
+const WORKS: [(usize, &[u8], u64); 4] = [
+    (28, b"0", 4),
+    (28, b"1", 3),
+    (28, b"2", 2),
+    (29, b"3", 4),
+];
+
+fn work_out(rt: &impl Abort, alloc: Global, rows: &[(usize, &[u8], u64)]) -> Result<(), Fail> {
+    for (number, line, due) in rows {
+        let changed = with_line(alloc, HELD, *number, line)?;
+        assert_eq!(rt; work_read(alloc, changed.as_slice()), Ok(*due));
     }
     Ok(())
+}
+
+#[test]
+fn counts_one_table_for_each_stock_at_the_depot(rt: HostRuntime) -> Result<(), Fail> {
+    work_out(&rt, rt.alloc(), WORKS.as_slice())
 }

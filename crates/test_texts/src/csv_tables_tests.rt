@@ -143,42 +143,56 @@ fn refusal_of(alloc: Global, change: &Change) -> Result<Option<Refusal>, NoMemor
     }
 }
 
-const fn table(file: File, old: &'static str, new: &'static str, fault: TableFault) -> Change {
-    Change {
-        file,
-        old,
-        new,
-        wanted: Refusal::Table(fault),
-    }
+/// A change that is refused by a table's fault.
+macro_rules! table {
+    ($file:expr, $old:expr, $new:expr, $fault:expr $(,)?) => {
+        Change {
+            file: $file,
+            old: $old,
+            new: $new,
+            wanted: Refusal::Table($fault),
+        }
+    };
 }
 
-const fn number(
-    file: File,
-    old: &'static str,
-    new: &'static str,
-    row: u32,
-    column: u8,
-    fault: NumberFault,
-) -> Change {
-    table(file, old, new, TableFault::BadNumber { row, column, fault })
+/// A change that is refused by the fault of a number in a table.
+macro_rules! number {
+    ($file:expr, $old:expr, $new:expr, $row:expr, $column:expr, $fault:expr $(,)?) => {
+        Change {
+            file: $file,
+            old: $old,
+            new: $new,
+            wanted: Refusal::Table(TableFault::BadNumber {
+                row: $row,
+                column: $column,
+                fault: $fault,
+            }),
+        }
+    };
 }
 
-const fn case(file: File, old: &'static str, new: &'static str, fault: CaseFault) -> Change {
-    Change {
-        file,
-        old,
-        new,
-        wanted: Refusal::Case(fault),
-    }
+/// A change that is refused by a case's fault.
+macro_rules! case {
+    ($file:expr, $old:expr, $new:expr, $fault:expr $(,)?) => {
+        Change {
+            file: $file,
+            old: $old,
+            new: $new,
+            wanted: Refusal::Case($fault),
+        }
+    };
 }
 
-const fn stock(old: &'static str, new: &'static str, fault: StockFault) -> Change {
-    Change {
-        file: File::Stocks,
-        old,
-        new,
-        wanted: Refusal::Stock(fault),
-    }
+/// A change of the stocks that is refused.
+macro_rules! stock {
+    ($old:expr, $new:expr, $fault:expr $(,)?) => {
+        Change {
+            file: File::Stocks,
+            old: $old,
+            new: $new,
+            wanted: Refusal::Stock($fault),
+        }
+    };
 }
 
 /// The place of the first change that isn't refused as it should be.
@@ -191,248 +205,300 @@ fn first_wrong(alloc: Global, changes: &[Change]) -> Result<Option<usize>, NoMem
     Ok(None)
 }
 
+/// Changes of the table of sites.
+const WRONG_SITES: [Change; 24] = [
+    table!(File::Sites, SITES, "", TableFault::NoHeader),
+    table!(File::Sites, SITES, "\n\n", TableFault::NoHeader),
+    table!(
+        File::Sites,
+        ",ship_days",
+        "",
+        TableFault::FieldCount { row: 1, found: 3 },
+    ),
+    table!(
+        File::Sites,
+        "kind",
+        "kinds",
+        TableFault::Header { column: 2 },
+    ),
+    table!(
+        File::Sites,
+        ",12,10",
+        ",12",
+        TableFault::FieldCount { row: 3, found: 3 },
+    ),
+    table!(
+        File::Sites,
+        "\nD",
+        "\n \nD",
+        TableFault::FieldCount { row: 2, found: 1 },
+    ),
+    table!(
+        File::Sites,
+        "D,",
+        "\"D,\",",
+        TableFault::BadName { row: 2, column: 1 },
+    ),
+    table!(
+        File::Sites,
+        "D,",
+        "123456789012345678901234x,",
+        TableFault::BadName { row: 2, column: 1 },
+    ),
+    table!(File::Sites, "base", "Base", TableFault::BadKind { row: 3 }),
+    table!(
+        File::Sites,
+        "depot,",
+        "depot,1",
+        TableFault::FieldNotEmpty { row: 2, column: 3 },
+    ),
+    table!(
+        File::Sites,
+        "12",
+        "",
+        TableFault::FieldEmpty { row: 3, column: 3 },
+    ),
+    table!(
+        File::Sites,
+        "12",
+        "0",
+        TableFault::OutOfRange { row: 3, column: 3 },
+    ),
+    table!(
+        File::Sites,
+        "12",
+        "10001",
+        TableFault::OutOfRange { row: 3, column: 3 },
+    ),
+    table!(
+        File::Sites,
+        ",10",
+        ",10000",
+        TableFault::OutOfRange { row: 3, column: 4 },
+    ),
+    number!(
+        File::Sites,
+        "12",
+        "18446744073709551616",
+        3,
+        3,
+        NumberFault::TooLarge,
+    ),
+    number!(File::Sites, "12", "1e3", 3, 3, NumberFault::BadByte(1)),
+    number!(File::Sites, "12", ".", 3, 3, NumberFault::Empty),
+    number!(File::Sites, "12", "1.5", 3, 3, NumberFault::TooManyPlaces),
+    table!(
+        File::Sites,
+        "B,base,12,10\n",
+        "a,base,,\nb,base,,\n",
+        TableFault::FieldEmpty { row: 3, column: 3 },
+    ),
+    case!(File::Sites, "B,", "D,", CaseFault::DoubleSite(3)),
+    case!(
+        File::Sites,
+        "base,12,10",
+        "depot,,",
+        CaseFault::TwoDepots(3),
+    ),
+    case!(
+        File::Sites,
+        "D,depot,,\nB,base,12,10\n",
+        "",
+        CaseFault::NoDepot,
+    ),
+    case!(File::Sites, "D,depot,,\n", "", CaseFault::NoDepot),
+    case!(File::Sites, "B,base,12,10\n", "", CaseFault::NoBase),
+];
+
 #[test]
 fn refuses_sites(rt: HostRuntime) -> Result<(), Fail> {
-    let site = File::Sites;
-    let changes = [
-        table(site, SITES, "", TableFault::NoHeader),
-        table(site, SITES, "\n\n", TableFault::NoHeader),
-        table(
-            site,
-            ",ship_days",
-            "",
-            TableFault::FieldCount { row: 1, found: 3 },
-        ),
-        table(site, "kind", "kinds", TableFault::Header { column: 2 }),
-        table(
-            site,
-            ",12,10",
-            ",12",
-            TableFault::FieldCount { row: 3, found: 3 },
-        ),
-        table(
-            site,
-            "\nD",
-            "\n \nD",
-            TableFault::FieldCount { row: 2, found: 1 },
-        ),
-        table(
-            site,
-            "D,",
-            "\"D,\",",
-            TableFault::BadName { row: 2, column: 1 },
-        ),
-        table(
-            site,
-            "D,",
-            "123456789012345678901234x,",
-            TableFault::BadName { row: 2, column: 1 },
-        ),
-        table(site, "base", "Base", TableFault::BadKind { row: 3 }),
-        table(
-            site,
-            "depot,",
-            "depot,1",
-            TableFault::FieldNotEmpty { row: 2, column: 3 },
-        ),
-        table(site, "12", "", TableFault::FieldEmpty { row: 3, column: 3 }),
-        table(
-            site,
-            "12",
-            "0",
-            TableFault::OutOfRange { row: 3, column: 3 },
-        ),
-        table(
-            site,
-            "12",
-            "10001",
-            TableFault::OutOfRange { row: 3, column: 3 },
-        ),
-        table(
-            site,
-            ",10",
-            ",10000",
-            TableFault::OutOfRange { row: 3, column: 4 },
-        ),
-        number(
-            site,
-            "12",
-            "18446744073709551616",
-            3,
-            3,
-            NumberFault::TooLarge,
-        ),
-        number(site, "12", "1e3", 3, 3, NumberFault::BadByte(1)),
-        number(site, "12", ".", 3, 3, NumberFault::Empty),
-        number(site, "12", "1.5", 3, 3, NumberFault::TooManyPlaces),
-        table(
-            site,
-            "B,base,12,10\n",
-            "a,base,,\nb,base,,\n",
-            TableFault::FieldEmpty { row: 3, column: 3 },
-        ),
-        case(site, "B,", "D,", CaseFault::DoubleSite(3)),
-        case(site, "base,12,10", "depot,,", CaseFault::TwoDepots(3)),
-        case(site, "D,depot,,\nB,base,12,10\n", "", CaseFault::NoDepot),
-        case(site, "D,depot,,\n", "", CaseFault::NoDepot),
-        case(site, "B,base,12,10\n", "", CaseFault::NoBase),
-    ];
-    assert_eq!(rt; first_wrong(rt.alloc(), changes.as_slice()), Ok(None));
+    assert_eq!(rt; first_wrong(rt.alloc(), WRONG_SITES.as_slice()), Ok(None));
     Ok(())
 }
+
+/// Changes of the table of parts.
+const WRONG_PARTS: [Change; 15] = [
+    table!(
+        File::Parts,
+        "base\n",
+        "base,weight,x\n",
+        TableFault::FieldCount { row: 1, found: 8 },
+    ),
+    table!(
+        File::Parts,
+        "base\n",
+        "base,weights\n",
+        TableFault::Header { column: 7 },
+    ),
+    table!(
+        File::Parts,
+        "base\n",
+        "base,weight\n",
+        TableFault::FieldCount { row: 2, found: 6 },
+    ),
+    table!(
+        File::Parts,
+        "base\nL,,100,1,2,3",
+        "base,weight\nL,,100,1,2,3,0",
+        TableFault::OutOfRange { row: 2, column: 7 },
+    ),
+    table!(
+        File::Parts,
+        "base\nL,,100,1,2,3",
+        "base,weight\nL,,100,1,2,3,",
+        TableFault::FieldEmpty { row: 2, column: 7 },
+    ),
+    table!(
+        File::Parts,
+        "base\nL,,100,1,2,3",
+        "base,weight\nL,,100,1,2,3,3\nS,L,1,,0,0,1",
+        TableFault::FieldNotEmpty { row: 3, column: 7 },
+    ),
+    table!(
+        File::Parts,
+        ",3\n",
+        ",64\n",
+        TableFault::OutOfRange { row: 2, column: 6 },
+    ),
+    table!(
+        File::Parts,
+        "100",
+        "0",
+        TableFault::OutOfRange { row: 2, column: 3 },
+    ),
+    table!(
+        File::Parts,
+        "100",
+        "100000001",
+        TableFault::OutOfRange { row: 2, column: 3 },
+    ),
+    table!(
+        File::Parts,
+        ",1,2",
+        ",,2",
+        TableFault::FieldEmpty { row: 2, column: 4 },
+    ),
+    table!(
+        File::Parts,
+        "3\n",
+        "3\nS,L,1,1,0,0\n",
+        TableFault::FieldNotEmpty { row: 3, column: 4 },
+    ),
+    case!(
+        File::Parts,
+        "3\n",
+        "3\nL,,100,1,2,3\n",
+        CaseFault::DoublePart(3),
+    ),
+    case!(
+        File::Parts,
+        "3\n",
+        "3\nS,X,1,,0,0\n",
+        CaseFault::UnknownParent(3),
+    ),
+    case!(
+        File::Parts,
+        "3\n",
+        "3\nS,L,1,,0,0\nT,S,1,,0,0\n",
+        CaseFault::ParentNotLine(4),
+    ),
+    case!(
+        File::Parts,
+        "3\n",
+        "3\na,L,1,,0,0\nb,L,1,,0,0\nc,L,1,,0,0\nd,L,1,,0,0\ne,L,1,,0,0\nf,L,1,,0,0\ng,L,1,,0,0\nh,L,1,,0,0\ni,L,1,,0,0\n",
+        CaseFault::TooManyShopUnits(11),
+    ),
+];
 
 #[test]
 fn refuses_parts(rt: HostRuntime) -> Result<(), Fail> {
-    let part = File::Parts;
-    let changes = [
-        table(
-            part,
-            "base\n",
-            "base,weight,x\n",
-            TableFault::FieldCount { row: 1, found: 8 },
-        ),
-        table(
-            part,
-            "base\n",
-            "base,weights\n",
-            TableFault::Header { column: 7 },
-        ),
-        table(
-            part,
-            "base\n",
-            "base,weight\n",
-            TableFault::FieldCount { row: 2, found: 6 },
-        ),
-        table(
-            part,
-            "base\nL,,100,1,2,3",
-            "base,weight\nL,,100,1,2,3,0",
-            TableFault::OutOfRange { row: 2, column: 7 },
-        ),
-        table(
-            part,
-            "base\nL,,100,1,2,3",
-            "base,weight\nL,,100,1,2,3,",
-            TableFault::FieldEmpty { row: 2, column: 7 },
-        ),
-        table(
-            part,
-            "base\nL,,100,1,2,3",
-            "base,weight\nL,,100,1,2,3,3\nS,L,1,,0,0,1",
-            TableFault::FieldNotEmpty { row: 3, column: 7 },
-        ),
-        table(
-            part,
-            ",3\n",
-            ",64\n",
-            TableFault::OutOfRange { row: 2, column: 6 },
-        ),
-        table(
-            part,
-            "100",
-            "0",
-            TableFault::OutOfRange { row: 2, column: 3 },
-        ),
-        table(
-            part,
-            "100",
-            "100000001",
-            TableFault::OutOfRange { row: 2, column: 3 },
-        ),
-        table(
-            part,
-            ",1,2",
-            ",,2",
-            TableFault::FieldEmpty { row: 2, column: 4 },
-        ),
-        table(
-            part,
-            "3\n",
-            "3\nS,L,1,1,0,0\n",
-            TableFault::FieldNotEmpty { row: 3, column: 4 },
-        ),
-        case(part, "3\n", "3\nL,,100,1,2,3\n", CaseFault::DoublePart(3)),
-        case(part, "3\n", "3\nS,X,1,,0,0\n", CaseFault::UnknownParent(3)),
-        case(
-            part,
-            "3\n",
-            "3\nS,L,1,,0,0\nT,S,1,,0,0\n",
-            CaseFault::ParentNotLine(4),
-        ),
-        case(
-            part,
-            "3\n",
-            "3\na,L,1,,0,0\nb,L,1,,0,0\nc,L,1,,0,0\nd,L,1,,0,0\ne,L,1,,0,0\nf,L,1,,0,0\ng,L,1,,0,0\nh,L,1,,0,0\ni,L,1,,0,0\n",
-            CaseFault::TooManyShopUnits(11),
-        ),
-    ];
-    assert_eq!(rt; first_wrong(rt.alloc(), changes.as_slice()), Ok(None));
+    assert_eq!(rt; first_wrong(rt.alloc(), WRONG_PARTS.as_slice()), Ok(None));
     Ok(())
 }
 
+/// Changes of the tables of rates and of stocks.
+const WRONG_RATES_AND_STOCKS: [Change; 16] = [
+    table!(
+        File::Rates,
+        "L,B",
+        "K,B",
+        TableFault::UnknownPart { row: 3 },
+    ),
+    table!(
+        File::Rates,
+        "L,B",
+        "L,C",
+        TableFault::UnknownSite { row: 3 },
+    ),
+    table!(
+        File::Rates,
+        "36.5,0,,0\n",
+        "36.",
+        TableFault::FieldCount { row: 3, found: 3 },
+    ),
+    table!(
+        File::Rates,
+        "36.5,0,,0\n",
+        "36.5,0,,",
+        TableFault::FieldEmpty { row: 3, column: 6 },
+    ),
+    table!(
+        File::Rates,
+        "36.5,0,,",
+        "36.5,0,1,",
+        TableFault::FieldNotEmpty { row: 3, column: 5 },
+    ),
+    table!(
+        File::Rates,
+        "36.5",
+        "100000.0001",
+        TableFault::OutOfRange { row: 3, column: 3 },
+    ),
+    table!(
+        File::Rates,
+        "36.5,0",
+        "36.5,1.0001",
+        TableFault::OutOfRange { row: 3, column: 4 },
+    ),
+    number!(File::Rates, "36.5", "1e3", 3, 3, NumberFault::BadByte(1)),
+    number!(
+        File::Rates,
+        "36.5",
+        "36.50001",
+        3,
+        3,
+        NumberFault::TooManyPlaces,
+    ),
+    case!(
+        File::Rates,
+        "L,B,36.5,0,,0\n",
+        "",
+        CaseFault::MissingRate(PartId(0), SiteId(1)),
+    ),
+    case!(
+        File::Rates,
+        "L,B,36.5,0,,0\n",
+        "L,B,36.5,0,,0\nL,B,36.5,0,,0\n",
+        CaseFault::DoubleRate(4),
+    ),
+    table!(
+        File::Stocks,
+        "L,D,0",
+        "L,D,64",
+        TableFault::OutOfRange { row: 2, column: 3 },
+    ),
+    stock!("L,D,0", "L,D,3", StockFault::OverLimit(2)),
+    stock!("L,B,0", "L,D,3", StockFault::OverLimit(3)),
+    stock!("L,B,0", "L,D,2", StockFault::Double(3)),
+    stock!("L,B,0\n", "", StockFault::Missing(PartId(0), SiteId(1))),
+];
+
 #[test]
 fn refuses_rates_and_stocks(rt: HostRuntime) -> Result<(), Fail> {
-    let rate = File::Rates;
-    let place = (PartId(0), SiteId(1));
-    let changes = [
-        table(rate, "L,B", "K,B", TableFault::UnknownPart { row: 3 }),
-        table(rate, "L,B", "L,C", TableFault::UnknownSite { row: 3 }),
-        table(
-            rate,
-            "36.5,0,,0\n",
-            "36.",
-            TableFault::FieldCount { row: 3, found: 3 },
-        ),
-        table(
-            rate,
-            "36.5,0,,0\n",
-            "36.5,0,,",
-            TableFault::FieldEmpty { row: 3, column: 6 },
-        ),
-        table(
-            rate,
-            "36.5,0,,",
-            "36.5,0,1,",
-            TableFault::FieldNotEmpty { row: 3, column: 5 },
-        ),
-        table(
-            rate,
-            "36.5",
-            "100000.0001",
-            TableFault::OutOfRange { row: 3, column: 3 },
-        ),
-        table(
-            rate,
-            "36.5,0",
-            "36.5,1.0001",
-            TableFault::OutOfRange { row: 3, column: 4 },
-        ),
-        number(rate, "36.5", "1e3", 3, 3, NumberFault::BadByte(1)),
-        number(rate, "36.5", "36.50001", 3, 3, NumberFault::TooManyPlaces),
-        case(
-            rate,
-            "L,B,36.5,0,,0\n",
-            "",
-            CaseFault::MissingRate(place.0, place.1),
-        ),
-        case(
-            rate,
-            "L,B,36.5,0,,0\n",
-            "L,B,36.5,0,,0\nL,B,36.5,0,,0\n",
-            CaseFault::DoubleRate(4),
-        ),
-        table(
-            File::Stocks,
-            "L,D,0",
-            "L,D,64",
-            TableFault::OutOfRange { row: 2, column: 3 },
-        ),
-        stock("L,D,0", "L,D,3", StockFault::OverLimit(2)),
-        stock("L,B,0", "L,D,3", StockFault::OverLimit(3)),
-        stock("L,B,0", "L,D,2", StockFault::Double(3)),
-        stock("L,B,0\n", "", StockFault::Missing(place.0, place.1)),
-    ];
-    assert_eq!(rt; first_wrong(rt.alloc(), changes.as_slice()), Ok(None));
+    assert_eq!(rt;
+        first_wrong(rt.alloc(), WRONG_RATES_AND_STOCKS.as_slice()),
+        Ok(None)
+    );
     Ok(())
 }
 

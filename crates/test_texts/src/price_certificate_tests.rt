@@ -4,6 +4,7 @@ use price_certificate::{CertFault, read, text};
 use spares_input::CaseFault;
 use spares_io::Stop;
 use std::alloc::Global;
+use std::process::Abort;
 use std::test::*;
 
 const FIRST: &[u8] =
@@ -84,41 +85,51 @@ fn names_the_line_that_is_missing(rt: HostRuntime) -> Result<(), Fail> {
     Ok(())
 }
 
-#[test]
-fn names_the_line_that_breaks_a_rule(rt: HostRuntime) -> Result<(), Fail> {
-    let lines: [(&[u8], usize, &[u8], Outcome); 16] = [
-        (FIRST, 1, b"spares-certificate,3", Outcome::BadLine(1)),
-        (FIRST, 1, b"spares-certificate,1\r", Outcome::BadLine(1)),
-        (FIRST, 4, b"B,base,12,0.00", Outcome::Read),
-        (FIRST, 7, b"rates,3", Outcome::BadLine(7)),
-        (FIRST, 8, b"K,D,,,,20.00", Outcome::BadLine(8)),
-        (FIRST, 8, b"L,D,1.0000,,,20.00", Outcome::BadLine(8)),
-        (FIRST, 11, b"price,1,0", Outcome::BadLine(11)),
-        (
-            FIRST,
-            13,
-            b"41538374868278621028243970633760768",
-            Outcome::Read,
-        ),
-        (
-            FIRST,
-            13,
-            b"41538374868278621028243970633760769",
-            Outcome::BadLine(13),
-        ),
-        (FIRST, 16, b"00", Outcome::BadLine(16)),
-        (SECOND, 1, b"spares-certificate,1", Outcome::BadLine(2)),
-        (SECOND, 2, b"objective,log-availability", Outcome::Read),
-        (SECOND, 2, b"objective,loss", Outcome::BadLine(2)),
-        (SECOND, 16, b"cover,2", Outcome::BadLine(19)),
-        (SECOND, 17, b"split,1,0", Outcome::BadLine(17)),
-        (SECOND, 18, b"half", Outcome::BadLine(18)),
-    ];
-    for (text, number, line, due) in lines {
-        let changed = with_line(rt.alloc(), text, number, line)?;
-        assert_eq!(&rt; read_again(rt.alloc(), changed.as_slice()), due);
+/// A text, the number of a line, what stands there instead, and the outcome.
+const CHANGED: [(&[u8], usize, &[u8], Outcome); 16] = [
+    (FIRST, 1, b"spares-certificate,3", Outcome::BadLine(1)),
+    (FIRST, 1, b"spares-certificate,1\r", Outcome::BadLine(1)),
+    (FIRST, 4, b"B,base,12,0.00", Outcome::Read),
+    (FIRST, 7, b"rates,3", Outcome::BadLine(7)),
+    (FIRST, 8, b"K,D,,,,20.00", Outcome::BadLine(8)),
+    (FIRST, 8, b"L,D,1.0000,,,20.00", Outcome::BadLine(8)),
+    (FIRST, 11, b"price,1,0", Outcome::BadLine(11)),
+    (
+        FIRST,
+        13,
+        b"41538374868278621028243970633760768",
+        Outcome::Read,
+    ),
+    (
+        FIRST,
+        13,
+        b"41538374868278621028243970633760769",
+        Outcome::BadLine(13),
+    ),
+    (FIRST, 16, b"00", Outcome::BadLine(16)),
+    (SECOND, 1, b"spares-certificate,1", Outcome::BadLine(2)),
+    (SECOND, 2, b"objective,log-availability", Outcome::Read),
+    (SECOND, 2, b"objective,loss", Outcome::BadLine(2)),
+    (SECOND, 16, b"cover,2", Outcome::BadLine(19)),
+    (SECOND, 17, b"split,1,0", Outcome::BadLine(17)),
+    (SECOND, 18, b"half", Outcome::BadLine(18)),
+];
+
+fn come_out(
+    rt: &impl Abort,
+    alloc: Global,
+    rows: &[(&[u8], usize, &[u8], Outcome)],
+) -> Result<(), Fail> {
+    for (text, number, line, due) in rows {
+        let changed = with_line(alloc, text, *number, line)?;
+        assert_eq!(rt; read_again(alloc, changed.as_slice()), *due);
     }
     Ok(())
+}
+
+#[test]
+fn names_the_line_that_breaks_a_rule(rt: HostRuntime) -> Result<(), Fail> {
+    come_out(&rt, rt.alloc(), CHANGED.as_slice())
 }
 
 #[test]

@@ -5,6 +5,7 @@ use spares_io::{
 };
 use std::fs;
 use std::io::{self, Error, ErrorKind, Write};
+use std::process::Abort;
 use std::test::Fail;
 
 #[test]
@@ -27,6 +28,58 @@ enum Call {
     Write(&'static str, &'static [u8]),
 }
 
+type Row = (Call, Result<(), ShelfError>, Option<&'static [u8]>);
+
+/// Each call with its answer, and what its name holds afterwards.
+const CALLS: [Row; 9] = [
+    (Call::Read("sites", 3), Ok(()), Some(b"abc")),
+    (
+        Call::Read("sites", 3),
+        Err(ShelfError::Failed),
+        Some(b"abc"),
+    ),
+    (Call::Read("rates", 3), Err(ShelfError::Failed), None),
+    (
+        Call::Write("sites", b"vwxyz"),
+        Err(ShelfError::Failed),
+        Some(b"vw"),
+    ),
+    (Call::Write("sites", b"vwxyz"), Ok(()), Some(b"vwxyz")),
+    (
+        Call::Read("sites", 4),
+        Err(ShelfError::TooLong),
+        Some(b"vwxyz"),
+    ),
+    (Call::Write("rates", b""), Ok(()), Some(b"")),
+    (
+        Call::Write("plan", b"x"),
+        Err(ShelfError::Failed),
+        Some(b""),
+    ),
+    (Call::Read("parts", 2), Ok(()), Some(b"de")),
+];
+
+/// What is read stands in `into`.
+fn answers(rt: &impl Abort, shelf: &mut MemShelf, into: &mut Vec<u8>, rows: &[Row]) {
+    for (call, answer, held) in rows {
+        match *call {
+            Call::Read(name, limit) => {
+                assert_eq!(rt; shelf.read(name, limit, into), *answer, "reading {name}");
+                assert_eq!(rt; shelf.file(name), *held);
+                if answer.is_ok() {
+                    assert_eq!(rt; Some(into.as_slice()), *held);
+                } else {
+                    assert!(rt; into.is_empty());
+                }
+            }
+            Call::Write(name, bytes) => {
+                assert_eq!(rt; shelf.write(name, bytes), *answer, "writing {name}");
+                assert_eq!(rt; shelf.file(name), *held);
+            }
+        }
+    }
+}
+
 #[test]
 fn a_shelf_in_memory_fails_at_the_listed_calls_alone(rt: HostRuntime) -> Result<(), Fail> {
     let alloc = rt.alloc();
@@ -41,60 +94,8 @@ fn a_shelf_in_memory_fails_at_the_listed_calls_alone(rt: HostRuntime) -> Result<
     ))?;
     assert!(rt; MemShelf::are_distinct(files.as_slice()));
     let mut shelf = MemShelf::new(alloc, files, [2, 4, 8].to_vec(alloc)?)?;
-    // Each call with its answer, and what its name holds afterwards.
-    let calls = [
-        (Call::Read("sites", 3), Ok(()), Some(b"abc".as_slice())),
-        (
-            Call::Read("sites", 3),
-            Err(ShelfError::Failed),
-            Some(b"abc".as_slice()),
-        ),
-        (Call::Read("rates", 3), Err(ShelfError::Failed), None),
-        (
-            Call::Write("sites", b"vwxyz"),
-            Err(ShelfError::Failed),
-            Some(b"vw".as_slice()),
-        ),
-        (
-            Call::Write("sites", b"vwxyz"),
-            Ok(()),
-            Some(b"vwxyz".as_slice()),
-        ),
-        (
-            Call::Read("sites", 4),
-            Err(ShelfError::TooLong),
-            Some(b"vwxyz".as_slice()),
-        ),
-        (Call::Write("rates", b""), Ok(()), Some(b"".as_slice())),
-        (
-            Call::Write("plan", b"x"),
-            Err(ShelfError::Failed),
-            Some(b"".as_slice()),
-        ),
-        (Call::Read("parts", 2), Ok(()), Some(b"de".as_slice())),
-    ];
     let mut into = b"left over".to_vec(alloc)?;
-    for (call, answer, held) in calls {
-        match call {
-            Call::Read(name, limit) => {
-                assert_eq!(rt;
-                    shelf.read(name, limit, &mut into),
-                    answer,
-                    "reading {name}"
-                );
-                assert_eq!(rt; shelf.file(name), held);
-                if answer.is_ok() {
-                    assert_eq!(rt; Some(into.as_slice()), held);
-                } else {
-                    assert!(rt; into.is_empty());
-                }
-            }
-            Call::Write(name, bytes) => {
-                assert_eq!(rt; shelf.write(name, bytes), answer, "writing {name}");
-                assert_eq!(rt; shelf.file(name), held);
-            }
-        }
-    }
+    answers(&rt, &mut shelf, &mut into, CALLS.as_slice());
     Ok(())
 }
 
@@ -110,22 +111,28 @@ fn names_that_stand_twice_are_seen(rt: HostRuntime) -> Result<(), Fail> {
     Ok(())
 }
 
+/// Each piece with its answer, and what the sink holds afterwards.
+const PUTS: [(&[u8], Result<(), SinkFailed>, &[u8]); 6] = [
+    (b"ab", Ok(()), b"ab"),
+    (b"cde", Err(SinkFailed), b"abc"),
+    (b"", Ok(()), b"abc"),
+    (b"vwxy", Err(SinkFailed), b"abcvwx"),
+    (b"yz", Err(SinkFailed), b"abcvwx"),
+    (b"", Ok(()), b"abcvwx"),
+];
+
+fn keeps(rt: &impl Abort, sink: &mut MemSink, rows: &[(&[u8], Result<(), SinkFailed>, &[u8])]) {
+    for (piece, answer, bytes) in rows {
+        assert_eq!(rt; sink.put(piece), *answer);
+        assert_eq!(rt; sink.bytes(), *bytes);
+    }
+}
+
 #[test]
 fn a_sink_in_memory_keeps_what_fits(rt: HostRuntime) -> Result<(), Fail> {
     let alloc = rt.alloc();
     let mut sink = MemSink::new(alloc, 6, [2, 5].to_vec(alloc)?)?;
-    let puts = [
-        (b"ab".as_slice(), Ok(()), b"ab".as_slice()),
-        (b"cde", Err(SinkFailed), b"abc"),
-        (b"", Ok(()), b"abc"),
-        (b"vwxy", Err(SinkFailed), b"abcvwx"),
-        (b"yz", Err(SinkFailed), b"abcvwx"),
-        (b"", Ok(()), b"abcvwx"),
-    ];
-    for (piece, answer, bytes) in puts {
-        assert_eq!(rt; sink.put(piece), answer);
-        assert_eq!(rt; sink.bytes(), bytes);
-    }
+    keeps(&rt, &mut sink, PUTS.as_slice());
     Ok(())
 }
 
