@@ -44,13 +44,15 @@ sums_next f m d sum w more x h e t k = record {
 
 -- ---- sizes, over plain variables
 
+-- an index below 1025 is at most the last one
 pub up_to_last : (x : ℕ) → x < 1025 → x ≤ 1024
 up_to_last x l = omega arith
 
--- a weight is above 8, or at most 8, where its upper end is beside the bound
+-- a weight whose upper end is above the bound, as the code has both, is above 8
 pub above_8 : (o most hi w : ℕ) → most ≡ 8 * o → hi ≡ w → most < hi → 8 * o < w
 above_8 o most hi w e h l = omega arith
 
+-- and one whose upper end isn't is at most 8
 pub upto_8 : (o most hi w : ℕ) → most ≡ 8 * o → hi ≡ w → hi ≤ most → w ≤ 8 * o
 upto_8 o most hi w e h l = omega arith
 
