@@ -48,6 +48,7 @@ line_here c p n b e is = record { is_part = subst (λ m. p < m) e b; no_parent =
 pub next_below : (place p : ℕ) → place ≤ p → place + 1 ≤ p + 1
 next_below place p h = omega (arith, h)
 
+-- and so does one that stays itself
 pub still_below : (place p : ℕ) → place ≤ p → place ≤ p + 1
 still_below place p h = omega (arith, h)
 
@@ -64,10 +65,11 @@ module _ {X : Type 0} (IsOf : ℕ → X → Type 0) (none : X) (c : CaseRows) (b
   pub place_within : IsLine c p → place < length (line_units c)
   place_within line = omega (arith, line_fewer c p line.is_part line.no_parent, h.place_is)
 
-  -- and a value and a mark stand there
+  -- and a value stands there
   pub value_within : IsLine c p → place < length values
   value_within line = subst (λ n. place < n) (sym h.are_marked.value_count) (place_within line)
 
+  -- and a mark
   pub mark_within : IsLine c p → place < length marks
   mark_within line = subst (λ n. place < n) (sym h.are_marked.mark_count) (place_within line)
 
