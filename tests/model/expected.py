@@ -1,0 +1,142 @@
+"""Says where the expected outputs of pages and examples differ from the model's, or makes them anew.
+
+    python3 tests/model/expected.py [--write]
+
+They are the examples `$ ..` of the pages and the reports beside the example cases, with their pictures. A line that a page shows is
+found again by its first field and its names; `..` stays. With `--write` what differs is written anew, and what can't be is told.
+"""
+
+import os
+import subprocess
+import sys
+
+HERE = os.path.dirname(os.path.abspath(__file__))
+TESTS = os.path.dirname(HERE)
+TOP = os.path.dirname(TESTS)
+sys.path.insert(0, TESTS)
+
+import pages
+import spares
+
+PAGES = [
+    "README.md",
+    "docs/GUIDE.md",
+    "docs/FORMATS.md",
+    "docs/CERTIFICATE.md",
+    "examples/fleet/README.md",
+    "examples/squadron/README.md",
+]
+# the reports beside the example cases, each with its command
+REPORTS = {
+    "examples/fleet/report.txt": "eval fleet --stocks examples/fleet/stocks.csv",
+    "examples/fleet/plan.txt": "plan fleet --budget 1475000",
+    "examples/fleet/sweep.txt": "sweep fleet",
+    "examples/squadron/plan.txt": "plan squadron --budget 52000000",
+    "examples/squadron/sweep.txt": "sweep squadron",
+}
+PICTURES = {"examples/fleet/sweep.svg": "examples/fleet/sweep.txt", "examples/squadron/sweep.svg": "examples/squadron/sweep.txt"}
+
+
+def read(name):
+    with open(os.path.join(TOP, name), "rb") as file:
+        return file.read()
+
+
+def write(name, data):
+    with open(os.path.join(TOP, name), "wb") as file:
+        file.write(data)
+
+
+class NoCertificate(spares.Shelf):
+    """Files that are read; no certificate is kept."""
+
+    def write(self, name, text):
+        pass
+
+
+def report_of(words):
+    """The model's report of a command over an example case."""
+    command, case, *more = words.split()
+    tables = [word for file in ("sites", "parts", "rates") for word in ("--" + file, "examples/%s/%s.csv" % (case, file))]
+    certificate = ["--certificate", "none"] if command == "plan" else []
+    left = spares.run([command, *tables, *certificate, *more], NoCertificate())
+    if left.status:
+        sys.exit("%s: %s" % (words, left.err.decode()))
+    return left.out
+
+
+def key_of(line):
+    """What a line of a report is found by: its first field, and the names of an item or a base."""
+    fields = line.split(",")
+    return fields[: {"item": 3, "base": 2}.get(fields[0], 1)]
+
+
+def renewed(shown, printed):
+    """The lines that a page shows, as they are printed now, or None if one of them is no longer printed."""
+    if ".." not in shown:
+        return printed
+    lines, at = [], 0
+    for line in shown:
+        if line != "..":
+            while at < len(printed) and key_of(printed[at]) != key_of(line):
+                at += 1
+            if at == len(printed):
+                return None
+            line = printed[at]
+            at += 1
+        lines.append(line)
+    return lines
+
+
+def check_page(page, is_written):
+    """How many examples of a page differ; with `is_written` they are written anew."""
+    lines = read(page).decode().split("\n")
+    changes, found = [], 0
+    for example, ran in pages.runs_of(os.path.join(HERE, "spares.py"), os.path.join(TOP, "examples"), os.path.join(TOP, page)):
+        if pages.is_right(example.lines, ran):
+            continue
+        found += 1
+        print(pages.difference(example, ran, page))
+        printed = (ran.stdout or ran.stderr).decode().splitlines()
+        changes.append((example, renewed(example.lines, printed)))
+    for example, renewed_lines in reversed(changes if is_written else []):
+        if renewed_lines is None:
+            print("%s:%d: this example can't be written anew" % (page, example.place))
+            continue
+        place = slice(example.place, example.place + len(example.lines))
+        lines[place] = ["    " + line for line in renewed_lines]
+    if is_written and changes:
+        write(page, "\n".join(lines).encode())
+    return found
+
+
+def check_file(name, data, is_written):
+    """Whether a file differs from these bytes; with `is_written` it is written anew."""
+    if read(name) == data:
+        return False
+    print("%s differs" % name)
+    if is_written:
+        write(name, data)
+    return True
+
+
+def picture_of(sweep):
+    """The picture of the sweep in a file."""
+    script = os.path.join(TOP, "examples", "sweep.py")
+    return subprocess.run([sys.executable, script], input=read(sweep), capture_output=True, check=True).stdout
+
+
+def main():
+    is_written = sys.argv[1:] == ["--write"]
+    if sys.argv[1:] and not is_written:
+        sys.exit(__doc__)
+    os.chdir(TOP)
+    found = sum(check_file(name, report_of(words), is_written) for name, words in REPORTS.items())
+    found += sum(check_file(name, picture_of(sweep), is_written) for name, sweep in PICTURES.items())
+    found += sum(check_page(page, is_written) for page in PAGES)
+    print("%d expected outputs differ" % found)
+    sys.exit(1 if found and not is_written else 0)
+
+
+if __name__ == "__main__":
+    main()
