@@ -1,14 +1,17 @@
-"""Says where the expected outputs of pages and examples differ from the model's, or makes them anew.
+"""Says where the expected outputs of pages, examples and tests differ from the model's, or makes them anew.
 
     python3 tests/model/expected.py [--write]
 
-They are the examples `$ ..` of the pages and the reports beside the example cases, with their pictures. A line that a page shows is
-found again by its first field and its names; `..` stays. With `--write` what differs is written anew, and what can't be is told.
+They are the examples `$ ..` of the pages, the reports beside the example cases with their pictures, and the texts in `tests/expected`. A
+line that a page shows is found again by its first field and its names; `..` stays. With `--write` what differs is written anew, and what
+can't be is told. Without it the status is 1 if something differs.
 """
 
+import difflib
 import os
 import subprocess
 import sys
+import tempfile
 
 HERE = os.path.dirname(os.path.abspath(__file__))
 TESTS = os.path.dirname(HERE)
@@ -112,9 +115,11 @@ def check_page(page, is_written):
 
 def check_file(name, data, is_written):
     """Whether a file differs from these bytes; with `is_written` it is written anew."""
-    if read(name) == data:
+    there = read(name) if os.path.exists(os.path.join(TOP, name)) else b""
+    if there == data:
         return False
-    print("%s differs" % name)
+    lines = [text.decode().splitlines() for text in (there, data)]
+    print("%s differs\n%s" % (name, "\n".join(difflib.unified_diff(*lines, "expected", "model", lineterm=""))))
     if is_written:
         write(name, data)
     return True
@@ -126,6 +131,17 @@ def picture_of(sweep):
     return subprocess.run([sys.executable, script], input=read(sweep), capture_output=True, check=True).stdout
 
 
+def check_texts(is_written):
+    """How many files of expected texts of the tests differ."""
+    with tempfile.TemporaryDirectory() as room:
+        subprocess.run(["bash", os.path.join(TESTS, "run"), "--write", room, os.path.join(HERE, "spares.py")], check=True)
+        found = 0
+        for name in sorted(os.listdir(room)):
+            with open(os.path.join(room, name), "rb") as file:
+                found += check_file("tests/expected/" + name, file.read(), is_written)
+    return found
+
+
 def main():
     is_written = sys.argv[1:] == ["--write"]
     if sys.argv[1:] and not is_written:
@@ -134,6 +150,7 @@ def main():
     found = sum(check_file(name, report_of(words), is_written) for name, words in REPORTS.items())
     found += sum(check_file(name, picture_of(sweep), is_written) for name, sweep in PICTURES.items())
     found += sum(check_page(page, is_written) for page in PAGES)
+    found += check_texts(is_written)
     print("%d expected outputs differ" % found)
     sys.exit(1 if found and not is_written else 0)
 
