@@ -13,6 +13,7 @@ import os
 import random
 import shlex
 import shutil
+import signal
 import subprocess
 import sys
 import tempfile
@@ -23,10 +24,12 @@ sys.path.insert(0, os.path.join(os.path.dirname(os.path.abspath(__file__)), "mod
 
 import spares
 from random_cases import TABLES, cost_of_all, decimal, random_case, random_edits, texts_of
-from random_damage import changed_certificate, damaged_rows, damaged_text, damaged_words
+from random_damage import changed_certificate, damaged_rows, damaged_text, damaged_words, wrong_rows
 
 TABLE_WORDS = [word for file in TABLES for word in ("--" + file, file)]
 MOST_DIFFERENCES = 10
+# seconds of the processor; a run that takes the model longer isn't compared
+LONGEST_RUN = 5
 
 
 # Runs
@@ -50,6 +53,26 @@ class FolderShelf(spares.Shelf):
         return os.path.join(self.folder, name)
 
 
+class TooLong(Exception):
+    pass
+
+
+def stop(number, frame):
+    raise TooLong
+
+
+def modelled(words, folder):
+    """What the model leaves, or None if it takes too long."""
+    signal.signal(signal.SIGVTALRM, stop)
+    signal.setitimer(signal.ITIMER_VIRTUAL, LONGEST_RUN)
+    try:
+        return spares.run(words, FolderShelf(folder))
+    except TooLong:
+        return None
+    finally:
+        signal.setitimer(signal.ITIMER_VIRTUAL, 0)
+
+
 class Trial:
     """A trial: its random numbers, its two folders, and what its runs ended with."""
 
@@ -70,10 +93,13 @@ class Trial:
                     file.write(text)
 
     def compare(self, words):
-        """Runs both with these words, and answers what the model leaves."""
-        ran = subprocess.run(self.program + words, cwd=self.folders[0], stdin=subprocess.DEVNULL, capture_output=True, timeout=600)
-        left = spares.run(words, FolderShelf(self.folders[1]))
+        """Runs both with these words, and answers the certificate that is left, or None."""
+        left = modelled(words, self.folders[1])
+        if left is None:
+            self.ends.append(("left out", "left out"))
+            return None
         self.ends.append(end_of(words, left))
+        ran = subprocess.run(self.program + words, cwd=self.folders[0], stdin=subprocess.DEVNULL, capture_output=True, timeout=600)
         both = [
             ("standard output", ran.stdout, left.out),
             ("standard error", ran.stderr, left.err),
@@ -83,7 +109,7 @@ class Trial:
         for what, found, wanted in both:
             if found != wanted:
                 self.differences.append("%r\n  %s of the program: %r\n  of the model: %r" % (words, what, found, wanted))
-        return left
+        return left.certificate
 
     def finish(self):
         if not self.differences:
@@ -155,7 +181,7 @@ def try_tables(trial):
     rng = trial.rng
     case = random_case(rng)
     trial.put({**texts_of(rng, case), "edits": random_edits(rng, case)})
-    certificate = trial.compare(plan_words(rng, cost_of_all(case))).certificate
+    certificate = trial.compare(plan_words(rng, cost_of_all(case)))
     for _ in range(2):
         trial.compare(further_words(rng))
     if certificate is not None:
@@ -166,7 +192,7 @@ def try_certificates(trial, certificate):
     """A certificate and changed ones under `check`."""
     words = ["check", "--certificate", "certificate"]
     trial.compare(words)
-    for _ in range(4):
+    for _ in range(6):
         trial.put({"certificate": changed_certificate(trial.rng, certificate)})
         trial.compare(words)
 
@@ -176,11 +202,12 @@ def try_damage(trial):
     rng = trial.rng
     case = random_case(rng)
     edits = random_edits(rng, case)
-    for _ in range(6):
+    for _ in range(8):
         texts = {**texts_of(rng, case), "edits": edits}
         file = rng.choice([*TABLES, *TABLES, "on-hand", "edits"])
-        if file != "edits" and rng.random() < 0.7:
-            texts[file] = texts_of(rng, {file: damaged_rows(rng, case[file])})[file]
+        if file != "edits" and rng.random() < 0.75:
+            rows = rng.choice([damaged_rows(rng, case[file]), wrong_rows(rng, file, case[file])])
+            texts[file] = texts_of(rng, {file: rows})[file]
         else:
             texts[file] = damaged_text(rng, texts[file])
         trial.put(texts)
@@ -226,8 +253,8 @@ def try_files(trial):
     words = plan_words(rng, cost_of_all(case))
     trial.compare(words)
     for name in ("none", "none/none", ".", ""):
-        at = rng.choice([at for at, word in enumerate(words) if word in TABLES + ["on-hand", "certificate"]])
-        trial.compare([*words[:at], name, *words[at + 1 :]])
+        for file in ("certificate", rng.choice([file for file in texts if file in words])):
+            trial.compare([name if word == file else word for word in words])
 
 
 KINDS = [try_tables] * 60 + [try_damage] * 20 + [try_words] * 10 + [try_single] * 6 + [try_demo] * 3 + [try_files]

@@ -9,7 +9,7 @@ HEADERS = {
     "rates": ["part", "site", "demand", "repair_here", "share", "repair_days"],
     "on-hand": ["part", "site", "stock"],
 }
-MOST_TABLES = 600
+MOST_TABLES = 1000
 # mostly calm demands; wild ones that may be refused; ones near the limits; and none
 STYLES = ["calm"] * 6 + ["wild", "edge", "still"]
 
@@ -28,22 +28,22 @@ def probability(rng):
 
 
 def random_sites(rng):
-    """Rows of sites: one depot anywhere among 1 to 4 bases."""
-    names = rng.sample(SITE_NAMES, rng.choice([2, 2, 3, 3, 4, 5]))
+    """Rows of sites: one depot anywhere among 1 to 5 bases."""
+    names = rng.sample(SITE_NAMES, rng.choice([2, 2, 3, 3, 4, 5, 6]))
     rows = [[name, "base", str(rng.choice([1, 2, 12, 24, 10000])), decimal(rng, 0, 15, 2)] for name in names[1:]]
     rows.insert(rng.randint(0, len(rows)), [names[0], "depot", "", ""])
     return rows
 
 
 def random_parts(rng, bases):
-    """Rows of parts with a field for the weight: up to 4 line units with up to 2 shop units each, or up to 6 alone."""
+    """Rows of parts with a field for the weight: up to 4 line units with up to 3 shop units each, or up to 6 alone."""
     names = rng.sample(PART_NAMES, len(PART_NAMES))
     is_many = rng.random() < 0.25
     rows = []
     for _ in range(rng.randint(3, 6) if is_many else rng.choice([0, 1, 1, 1, 2, 2, 3, 4])):
         line = names.pop()
         cost = rng.randint(5, 60) if is_many else rng.choice([1, 2, 100, 1000, rng.randint(1, 5000)])
-        units = 0 if is_many else rng.choice([0, 0, 1, 1, 2]) if bases < 4 else rng.choice([0, 0, 1])
+        units = 0 if is_many else rng.choice([0, 0, 1, 1, 2, 3]) if bases < 4 else rng.choice([0, 0, 1])
         limits = [rng.choice("0124"), rng.choice("0123")]
         if bases == 1 and rng.random() < 0.05:
             limits = [str(rng.randint(0, 63)), str(rng.randint(0, 63))]
@@ -174,6 +174,8 @@ def random_edits(rng, case):
             part, site = rng.choice(parts), rng.choice(sites)
             row = random_rate(rng, part, site, rng.choice(["calm"] * 8 + ["wild", "still"]))
             lines.append("rate," + ",".join(row))
+    if rng.random() < 0.02:
+        lines += rng.choice([[""] * 3998, [""] * 4000, ["plan"] * 62, ["plan"] * 65])
     if rng.random() < 0.1:
         lines.insert(rng.randint(0, len(lines)), rng.choice(["", " ", "plan,", "budget,1.5", "rate,L", "Plan", "budget,x"]))
     return (rng.choice(["\n", "\n", "\r\n"]).join(lines + ["plan"]) + rng.choice(["\n", ""])).encode()

@@ -6,7 +6,7 @@ ODD_LINES = [b"", b" ", b",", b",,", b"x", b"1,2,3", b'"', b'""', b"-1", b"00", 
 ODD_WORDS = ["", "-", "--", "---", "-1", "--x", "--help", "-h", "--sites", "--sites=", "--budget=1", "--format", "1", "2", "x", "\udcff"]
 
 
-# Rows and texts
+# Rows
 
 
 def damaged_rows(rng, rows):
@@ -29,6 +29,87 @@ def damaged_rows(rng, rows):
     else:
         rows[at][rng.randrange(len(rows[at]))] = rng.choice(ODD_FIELDS)
     return rows
+
+
+# Rows that are well formed and wrong: rows that make no case, or no stocks of it, or too much work
+
+
+def second_depot(rng, rows):
+    rng.choice(rows)[1:] = ["depot", "", ""]
+
+
+def no_depot(rng, rows):
+    for row in rows:
+        row[1:] = ["base", "3", "2"]
+
+
+def no_base(rng, rows):
+    rows[:] = [row for row in rows if row[1] == "depot"]
+
+
+def many_sites(rng, rows):
+    rows += [["more %d" % number, "base", "1", "1"] for number in range(rng.choice([15, 16, 17]) - len(rows))]
+
+
+def other_parent(rng, rows):
+    """A part that is the shop unit of itself, of any other or of none."""
+    row = rng.choice(rows)
+    row[1], row[3] = rng.choice([other[0] for other in rows] + ["none"]), ""
+    row[6:] = [""] * len(row[6:])
+
+
+def many_shop_units(rng, rows):
+    line = [row[0] for row in rows if not row[1]][0]
+    new = [["more %d" % number, line, "1", "", "0", "0"] + [""] * (len(rows[0]) - 6) for number in range(rng.choice([8, 9]))]
+    at = rng.randint(0, len(rows))
+    rows[at:at] = new
+
+
+def large_limits(rng, rows):
+    """So large that there is too much work, if a line unit has two shop units."""
+    if has_two_shop_units(rows):
+        for row in rows:
+            row[4:6] = ["63", "63"]
+
+
+def has_two_shop_units(rows):
+    parents = [row[1] for row in rows if row[1]]
+    return len(parents) > len(set(parents))
+
+
+def same_name(rng, rows):
+    rng.choice(rows)[0] = rng.choice(rows)[0]
+
+
+def large_stock(rng, rows):
+    rng.choice(rows)[2] = rng.choice(["3", "5", "63", "64"])
+
+
+def same_pair(rng, rows):
+    rows.insert(rng.randint(0, len(rows)), list(rng.choice(rows)))
+
+
+def lost_pair(rng, rows):
+    del rows[rng.randrange(len(rows))]
+
+
+WRONG = {
+    "sites": [second_depot, no_depot, no_base, many_sites, same_name],
+    "parts": [other_parent, other_parent, many_shop_units, large_limits, same_name],
+    "rates": [same_pair, lost_pair],
+    "on-hand": [large_stock, large_stock, same_pair, lost_pair],
+}
+
+
+def wrong_rows(rng, file, rows):
+    """Rows of a table, with its header, which are well formed and wrong."""
+    header, *rows = [list(row) for row in rows]
+    if rows:
+        rng.choice(WRONG[file])(rng, rows)
+    return [header, *rows]
+
+
+# Texts
 
 
 def changed_byte(rng, text):
@@ -208,7 +289,7 @@ def changed_claims(rng, text):
     if rng.random() < 0.6:
         claims.format = 2
         claims.covers = [random_cover(rng, *claims.box(number), rng.choice([0, 1, 2, 4])) for number in range(len(claims.floors))]
-    rng.choice([lower_floors, move_floor, move_price, move_stock, move_held, move_upper])(rng, claims)
+    rng.choice(MOVES)(rng, claims)
     largest = claims.largest_bound()
     claims.bound = rng.choice([largest, largest, claims.bound, largest + 1])
     return claims.text()
@@ -243,6 +324,45 @@ def move_held(rng, claims):
 
 def move_upper(rng, claims):
     claims.upper = max(0, claims.upper + rng.choice([-1, 1, -1000]))
+
+
+def move_budget(rng, claims):
+    claims.budget = max(0, claims.budget + rng.choice([-1, 1, -100, -1000, -(10**6)]))
+
+
+def move_days(rng, claims):
+    """The times of one part are others, so that its pipelines may be refused."""
+    days = rng.choice(["0.00", "0.01", "9999.99"])
+    if claims.rates:
+        part = rng.choice(claims.rates).split(",")[0]
+        claims.rates = [line.rpartition(",")[0] + "," + days if line.split(",")[0] == part else line for line in claims.rates]
+
+
+def move_limits(rng, claims):
+    """The limits of all parts are so large that there is too much work."""
+    rows = [line.split(",") for line in claims.parts]
+    large_limits(rng, rows)
+    claims.parts = [",".join(row) for row in rows]
+
+
+def move_name(rng, claims):
+    """A site or a part has the name of another."""
+    rows = rng.choice([claims.sites, claims.parts])
+    if rows:
+        first, other = (rng.choice(rows).split(",")[0] for _ in range(2))
+        column = 1 if rows is claims.sites else 0
+        claims.rates = [renamed(line, column, first, other) for line in claims.rates]
+        rows[:] = [renamed(line, 0, first, other) for line in rows]
+
+
+def renamed(line, column, name, other):
+    fields = line.split(",")
+    if fields[column] == name:
+        fields[column] = other
+    return ",".join(fields)
+
+
+MOVES = [lower_floors, move_floor, move_price, move_stock, move_held, move_upper, move_budget, move_days, move_limits, move_name]
 
 
 def changed_certificate(rng, text):
