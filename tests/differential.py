@@ -9,6 +9,7 @@ number alone, so the second form runs one of them again. Each difference is prin
 files. The status is 1 if there was one. PROGRAM is split like the words of a shell.
 """
 
+import difflib
 import os
 import random
 import shlex
@@ -23,7 +24,7 @@ from collections import Counter
 sys.path.insert(0, os.path.join(os.path.dirname(os.path.abspath(__file__)), "model"))
 
 import spares
-from random_cases import TABLES, cost_of_all, decimal, random_case, random_edits, texts_of
+from random_cases import TABLES, cost_of_all, decimal, other_form, random_case, random_edits, texts_of
 from random_damage import changed_certificate, damaged_rows, damaged_text, damaged_words, wrong_rows
 
 TABLE_WORDS = [word for file in TABLES for word in ("--" + file, file)]
@@ -108,12 +109,20 @@ class Trial:
         ]
         for what, found, wanted in both:
             if found != wanted:
-                self.differences.append("%r\n  %s of the program: %r\n  of the model: %r" % (words, what, found, wanted))
+                self.differences.append("%s: %s\n%s" % (" ".join(map(repr, words)), what, shown(found, wanted)))
         return left.certificate
 
     def finish(self):
         if not self.differences:
             shutil.rmtree(self.room)
+
+
+def shown(found, wanted):
+    """How what the program leaves differs from what the model does, line by line if they are texts."""
+    if not isinstance(found, bytes):
+        return "  program: %r\n  model: %r" % (found, wanted)
+    lines = [repr(text.decode("latin-1")).replace("\\n", "\n").split("\n") for text in (found, wanted)]
+    return "\n".join("  " + line for line in difflib.unified_diff(*lines, "program", "model", lineterm="", n=0))
 
 
 def files_in(folder):
@@ -140,7 +149,8 @@ def plan_words(rng, most):
     """The words of `plan`, with a budget that is seldom over this cost."""
     budget = rng.choice([10**15, 10**15 + 1, 0]) if rng.random() < 0.05 else rng.randint(0, most * 9 // 8)
     words = ["plan", *TABLE_WORDS, "--certificate", "certificate"]
-    words += ["--budget=%d" % budget] if rng.random() < 0.2 else ["--budget", str(budget)]
+    written = other_form(rng, str(budget))
+    words += ["--budget=" + written] if rng.random() < 0.2 else ["--budget", written]
     form = "3" if rng.random() < 0.02 else rng.choice([None, "1", "2", "2"])
     more = ["--on-hand", "on-hand"] * (rng.random() < 0.3)
     if rng.random() < 0.4:
@@ -267,7 +277,7 @@ def run_trial(program, seed, number):
     kind(trial)
     trial.finish()
     for difference in trial.differences:
-        print("trial %s, %s\n%s\n  files: %s" % (trial.name, kind.__doc__, difference, trial.room), flush=True)
+        print("trial %s: %s\n%s\n  its files: %s" % (trial.name, kind.__doc__, difference, trial.room), flush=True)
     return kind.__name__.split("_")[1], trial
 
 

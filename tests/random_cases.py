@@ -23,6 +23,14 @@ def decimal(rng, low, high, places):
     return text or "0"
 
 
+def other_form(rng, text):
+    """Now and then the same number in another form."""
+    if rng.random() > 0.03 or not text.replace(".", "").isdigit():
+        return text
+    whole, point, rest = text.partition(".")
+    return rng.choice(["00" + text, whole.lstrip("0") + "." + (rest or "0"), whole + "." + rest + "000", text if point else text + "."])
+
+
 def probability(rng):
     return rng.choice(["0", "1", "0.5", decimal(rng, 0, 1, 4), decimal(rng, 0.1, 0.9, 4), decimal(rng, 0.1, 0.9, 4)])
 
@@ -170,10 +178,12 @@ def random_edits(rng, case):
             lines.append("plan")
         elif turn < 0.6:
             lines.append("budget,%d" % rng.randint(0, cost_of_all(case)))
+        elif turn < 0.7:
+            lines.append("rate," + ",".join(rng.choice(rates)))
         else:
             part, site = rng.choice(parts), rng.choice(sites)
             row = random_rate(rng, part, site, rng.choice(["calm"] * 8 + ["wild", "still"]))
-            lines.append("rate," + ",".join(row))
+            lines.append("rate," + ",".join(row[:2] + [other_form(rng, field) for field in row[2:]]))
     if rng.random() < 0.02:
         lines += rng.choice([[""] * 3998, [""] * 4000, ["plan"] * 62, ["plan"] * 65])
     if rng.random() < 0.1:
@@ -186,6 +196,7 @@ def text_of(rng, rows):
     end = rng.choice(["\n", "\n", "\n", "\r\n", "\r"])
     blank = rng.choice(["", "", "", " ", "\t"])
     quote = '"' if rng.random() < 0.05 else ""
+    rows = [row[:2] + [other_form(rng, field) for field in row[2:]] for row in rows]
     text = end.join(",".join(quote + field + blank + quote for field in row) for row in rows)
     mark = "\ufeff" if rng.random() < 0.05 else ""
     return (mark + text + rng.choice([end, end, end + end, ""])).encode()
