@@ -11,8 +11,8 @@ SMALL_REMAINDER = 256
 
 # the weights u(0) .. u(K) and their sum with the remainder
 Weights = namedtuple("Weights", "entries sum")
-# for each stock the backorders and their variance
-Table = namedtuple("Table", "backorders variances")
+# for each stock the backorders E, their variance V and the tail G; of the last stock there is no tail
+Table = namedtuple("Table", "backorders variances tails")
 
 
 class Ratios:
@@ -68,7 +68,7 @@ def weights(bits, mean, excess):
 def table(bits, mean, variance, most=LAST_STOCK):
     """The table of a pipeline for the stocks from 0 to `most`."""
     if mean[1] == 0:
-        return Table([(0, 0)] * (most + 1), [(0, 0)] * (most + 1))
+        return Table([(0, 0)] * (most + 1), [(0, 0)] * (most + 1), [(0, 0)] * most)
     excess = less(div(bits, variance, mean), exact(bits, 1))
     known = weights(bits, mean, excess)
     if known is None:
@@ -79,16 +79,17 @@ def table(bits, mean, variance, most=LAST_STOCK):
 def wide_table(bits, mean, variance, most):
     """The table if the weights are Wide."""
     backorders = [(max(0, mean[0] - stock * one(bits)), mean[1]) for stock in range(most + 1)]
-    return Table(backorders, [(0, max_of(variance, mean)[1])] * (most + 1))
+    return Table(backorders, [(0, max_of(variance, mean)[1])] * (most + 1), [(0, one(bits))] * most)
 
 
 def known_table(bits, mean, variance, known, most):
     """The table by its two steps from one stock to the next."""
-    backorders, variances, chances = [mean], [max_of(variance, mean)], (0, 0)
+    backorders, variances, tails, chances = [mean], [max_of(variance, mean)], [], (0, 0)
     for stock in range(most):
         chances = add(chances, div(bits, known.entries[stock], known.sum))
         tail = less(exact(bits, 1), chances)
+        tails.append(tail)
         backorders.append(less(backorders[stock], tail))
         fall = mul(bits, add(times(backorders[stock + 1], 2), tail), less(exact(bits, 1), tail))
         variances.append(less(variances[stock], fall))
-    return Table(backorders, variances)
+    return Table(backorders, variances, tails)
