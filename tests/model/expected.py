@@ -1,10 +1,10 @@
 """Says where the expected outputs of pages, examples and tests differ from the model's, or makes them anew.
 
-    python3 tests/model/expected.py [--write]
+    python3 tests/model/expected.py [--write] [PAGE..]
 
-They are the examples `$ ..` of the pages, the reports beside the example cases with their pictures, and the texts in `tests/expected`. A
-line that a page shows is found again by its first field and its names; `..` stays. With `--write` what differs is written anew, and what
-can't be is told. Without it the status is 1 if something differs.
+They are the examples `$ ..` of the pages, the reports beside the example cases with their pictures, and the texts in `tests/expected`; if
+pages are named, these alone. A line that a page shows is found again by its first field and its names; `..` stays. With `--write` what
+differs is written anew, and what can't be is told. Without it the status is 1 if something differs.
 """
 
 import difflib
@@ -143,14 +143,14 @@ def check_texts(is_written):
 
 
 def main():
-    is_written = sys.argv[1:] == ["--write"]
-    if sys.argv[1:] and not is_written:
-        sys.exit(__doc__)
+    is_written = "--write" in sys.argv[1:]
+    named = [os.path.abspath(word) for word in sys.argv[1:] if word != "--write"]
     os.chdir(TOP)
-    found = sum(check_file(name, report_of(words), is_written) for name, words in REPORTS.items())
-    found += sum(check_file(name, picture_of(sweep), is_written) for name, sweep in PICTURES.items())
-    found += sum(check_page(page, is_written) for page in PAGES)
-    found += check_texts(is_written)
+    found = sum(check_page(page, is_written) for page in named or PAGES)
+    if not named:
+        found += sum(check_file(name, report_of(words), is_written) for name, words in REPORTS.items())
+        found += sum(check_file(name, picture_of(sweep), is_written) for name, sweep in PICTURES.items())
+        found += check_texts(is_written)
     print("%d expected outputs differ" % found)
     sys.exit(1 if found and not is_written else 0)
 
