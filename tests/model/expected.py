@@ -75,20 +75,22 @@ def key_of(line):
 
 
 def renewed(shown, printed):
-    """The lines that a page shows, as they are printed now, or None if one of them is no longer printed."""
-    if ".." not in shown:
-        return printed
-    lines, at = [], 0
+    """The lines that a page shows, as they are printed now, or None if one of them is no longer printed.
+
+    Between two lines that the page shows without `..` between them, all lines that are printed now are shown.
+    """
+    lines, at, is_open = [], 0, False
     for line in shown:
-        if line != "..":
-            while at < len(printed) and key_of(printed[at]) != key_of(line):
-                at += 1
-            if at == len(printed):
-                return None
-            line = printed[at]
-            at += 1
-        lines.append(line)
-    return lines
+        if line == "..":
+            is_open = True
+            lines.append(line)
+            continue
+        place = next((k for k in range(at, len(printed)) if key_of(printed[k]) == key_of(line)), None)
+        if place is None:
+            return None
+        lines += printed[place if is_open else at : place + 1]
+        at, is_open = place + 1, False
+    return lines if is_open else lines + printed[at:]
 
 
 def check_page(page, is_written):
