@@ -164,7 +164,7 @@ def further_words(rng):
     """The words of a further command over the same tables."""
     command = rng.choice(["eval", "sweep", "target", "session", "session", "compare"])
     more = {
-        "eval": ["--stocks", "on-hand", *rng.choice([[], ["--bits", rng.choice(["32", "48", "52", "40"])]])],
+        "eval": ["--stocks", "on-hand", *rng.choice([[], ["--bits", rng.choice(["32", "48", "52", "40", "48.0", "052"])]])],
         "sweep": [],
         "target": ["--backorders", rng.choice([decimal(rng, 0, 20, 4), decimal(rng, 0, 2000, 1), "0", "1000000000"])],
         "session": ["--edits", "edits"],
@@ -176,7 +176,8 @@ def further_words(rng):
 def single_words(rng):
     """The words of `single`, some of them near the limits."""
     mean = rng.choice([decimal(rng, 0, 256, 4), decimal(rng, 0, 10, 4), "0", "0.0001", "256", "256.0001", "1", "0.25"])
-    words = ["single", mean, str(rng.choice([rng.randint(0, 63), rng.randint(0, 8), 0, 63, 64]))]
+    stock = str(rng.choice([rng.randint(0, 63), rng.randint(0, 8), 0, 63, 64]))
+    words = ["single", other_form(rng, mean), other_form(rng, stock)]
     if rng.random() < 0.6:
         near = "%.4f" % (float(mean) * 1024 + rng.choice([0, 0.0001]))
         words += ["--variance", rng.choice([decimal(rng, 0, 256, 4), decimal(rng, 0, 10, 4), mean, near, "256"])]
@@ -249,7 +250,8 @@ def try_single(trial):
 
 def try_demo(trial):
     """A generated case."""
-    trial.compare(["demo", str(trial.rng.randrange(1 << 32)), str(trial.rng.randint(0, 5))])
+    rng = trial.rng
+    trial.compare(["demo", other_form(rng, str(rng.randrange(1 << 32))), other_form(rng, str(rng.randint(0, 5)))])
 
 
 def try_files(trial):

@@ -3,7 +3,7 @@
 ODD_NUMBERS = ["0", "1", "-1", "1e3", "1.5", ".5", "5.", "0.00001", "64", "101", "99999999999999999999", "100000001"]
 ODD_FIELDS = ODD_NUMBERS + ["", "x", " 1", '"1"', "1" + "0" * 25, "0.10000", "D", "depot", "base", "\u00e9", "a" * 25, 'a"b', '"a""b"c"']
 ODD_LINES = [b"", b" ", b",", b",,", b"x", b"1,2,3", b'"', b'""', b"-1", b"00", b"end", b"plan", b"cost", b"whole", b"split,0,1", b"\xff\x00"]
-ODD_WORDS = ["", "-", "--", "---", "-1", "--x", "--help", "-h", "--sites", "--sites=", "--budget=1", "--format", "1", "2", "x", "\udcff"]
+ODD_WORDS = ["", "-", "--", "---", "-1", "--x", "--help", "-h", "--sites", "--sites=", "--budget=1", "--format", "1", "2", "x", "\u00e9", "\udcff"]
 
 
 # Rows
