@@ -10,13 +10,13 @@ file follows sections of the pages, which its first line names.
 import os
 import sys
 from collections import namedtuple
+from fractions import Fraction
 
 from cases import case_of, cost_of, frame_of, stocks_of
 from certificate import certificate_text, read_certificate
 from checking import check_lines
 from demands import accepted_demands
 from demonstration import demonstration_lines
-from fractions import Fraction
 from figures import comparison_lines, figures_lines, figures_of
 from intervals import of_ratio, text_of
 from pipelines import table
@@ -80,7 +80,7 @@ def read_case_with(texts, file):
     return case, stocks_of(case, read_stocks(texts[file], file, case)) if file in texts else None
 
 
-# The commands. Each answers the lines of its report, and `plan` also its certificate.
+# The commands. Each takes its plain words, its options and what reads its files; it answers the lines of its report and a certificate or None.
 
 
 def run_single(plain, options, texts):
