@@ -24,7 +24,7 @@ from collections import Counter
 sys.path.insert(0, os.path.join(os.path.dirname(os.path.abspath(__file__)), "model"))
 
 import spares
-from random_cases import TABLES, cost_of_all, decimal, other_form, random_case, random_edits, texts_of
+from random_cases import TABLES, cost_of_all, decimal, long_edits, other_form, random_case, random_edits, texts_of
 from random_damage import changed_certificate, damaged_rows, damaged_text, damaged_words, wrong_rows
 
 TABLE_WORDS = [word for file in TABLES for word in ("--" + file, file)]
@@ -160,17 +160,28 @@ def plan_words(rng, most):
     return words + more + (["--format", form] if form else [])
 
 
-def further_words(rng):
-    """The words of a further command over the same tables."""
-    command = rng.choice(["eval", "sweep", "target", "session", "session", "compare"])
+def further_words(rng, totals=()):
+    """The words of a further command over the same tables; a target is often one of these totals, or one ten-thousandth beside it."""
+    command = rng.choice(["eval", "sweep", "target", "target", "session", "session", "compare"])
+    target = rng.choice([decimal(rng, 0, 20, 4), decimal(rng, 0, 2000, 1), "0", "1000000000"])
+    if totals and rng.random() < 0.8:
+        units = max(0, rng.choice(totals) + rng.choice([0, 0, 1, -1]))
+        target = "%d.%04d" % (units // 10**4, units % 10**4)
     more = {
         "eval": ["--stocks", "on-hand", *rng.choice([[], ["--bits", rng.choice(["32", "48", "52", "40", "48.0", "052"])]])],
         "sweep": [],
-        "target": ["--backorders", rng.choice([decimal(rng, 0, 20, 4), decimal(rng, 0, 2000, 1), "0", "1000000000"])],
+        "target": ["--backorders", target],
         "session": ["--edits", "edits"],
         "compare": ["--stocks", "on-hand"],
     }[command]
     return [command, *TABLE_WORDS, *more]
+
+
+def totals_in(folder):
+    """The totals of the sweep of a folder's tables, in whole ten-thousandths."""
+    left = modelled(["sweep", *TABLE_WORDS], folder)
+    lines = left.out.decode("latin-1").splitlines() if left else []
+    return [int(float(field) * 10**4) for line in lines[1:] for field in line.split(",")[2:4]]
 
 
 def single_words(rng):
@@ -188,13 +199,14 @@ def single_words(rng):
 
 
 def try_tables(trial):
-    """A plan of sound tables, its certificate and changed ones, and two further commands."""
+    """A plan of sound tables, its certificate and changed ones, and three further commands."""
     rng = trial.rng
     case = random_case(rng)
     trial.put({**texts_of(rng, case), "edits": random_edits(rng, case)})
     certificate = trial.compare(plan_words(rng, cost_of_all(case)))
-    for _ in range(2):
-        trial.compare(further_words(rng))
+    totals = totals_in(trial.folders[1])
+    for _ in range(3):
+        trial.compare(further_words(rng, totals))
     if certificate is not None:
         try_certificates(trial, certificate.encode("latin-1"))
 
@@ -230,6 +242,18 @@ def damage_words(rng, most):
     """The words of a command that reads stocks too, or of any other."""
     held = ["plan", *TABLE_WORDS, "--certificate", "certificate", "--budget", str(most // 2), "--on-hand", "on-hand"]
     return rng.choice([held, ["compare", *TABLE_WORDS, "--stocks", "on-hand"], further_words(rng)])
+
+
+def try_edits(trial):
+    """Long files of edits over a small case."""
+    rng = trial.rng
+    sites = [["site", "kind", "systems", "ship_days"], ["D", "depot", "", ""], ["B", "base", "12", "10"]]
+    parts = [["part", "parent", "cost", "per_system", "max_depot", "max_base"], ["L", "", "100", "1", "2", "3"]]
+    rates = [["part", "site", "demand", "repair_here", "share", "repair_days"], ["L", "D", "", "", "", "20"], ["L", "B", "36.5", "0", "", "0"]]
+    trial.put(texts_of(rng, {"sites": sites, "parts": parts, "rates": rates}))
+    for _ in range(3):
+        trial.put({"edits": long_edits(rng)})
+        trial.compare(["session", *TABLE_WORDS, "--edits", "edits"])
 
 
 def try_words(trial):
@@ -269,7 +293,7 @@ def try_files(trial):
             trial.compare([name if word == file else word for word in words])
 
 
-KINDS = [try_tables] * 60 + [try_damage] * 20 + [try_words] * 10 + [try_single] * 6 + [try_demo] * 3 + [try_files]
+KINDS = [try_tables] * 60 + [try_damage] * 20 + [try_words] * 10 + [try_single] * 4 + [try_demo] * 2 + [try_edits] * 3 + [try_files]
 
 
 def run_trial(program, seed, number):

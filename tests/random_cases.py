@@ -10,8 +10,8 @@ HEADERS = {
     "on-hand": ["part", "site", "stock"],
 }
 MOST_TABLES = 1000
-# mostly calm demands; wild ones that may be refused; ones near the limits; and none
-STYLES = ["calm"] * 6 + ["wild", "edge", "still"]
+# mostly calm demands; wild ones that may be refused; ones near the limits; ones whose pipelines are decimals; and none
+STYLES = ["calm"] * 6 + ["wild", "edge", "exact", "still"]
 
 
 def decimal(rng, low, high, places):
@@ -83,12 +83,15 @@ def random_rate(rng, part, site, style):
         "calm": decimal(rng, 0.5, 40, 4),
         "wild": rng.choice(["0", "0.0001", decimal(rng, 0, 5000, 4), decimal(rng, 0, 100, 4)]),
         "edge": rng.choice(["0.0072", "0.0073", "0.0074", "934.3999", "934.4", "934.4001"]),
+        "exact": decimal(rng, 0, 3, 4),
         "still": rng.choice(["0", "0", decimal(rng, 0, 5, 4)]),
     }[style]
     days = decimal(rng, 1, 60, 2) if style == "calm" else rng.choice(["0", "0.01", decimal(rng, 0, 200, 2)])
     here = probability(rng)
     if style == "edge":
         days, here = ("0.01", "0.5") if demand.startswith("0") else ("100", "1")
+    elif style == "exact":
+        days, here = rng.choice(["365", "365", "182.5"]), rng.choice(["1", "1", "0"])
     return [
         part[0],
         site[0],
@@ -121,6 +124,13 @@ def random_held(rng, part, site):
     return [part[0], site[0], str(rng.choice([0, 0, rng.randint(0, most)]))]
 
 
+def twins(rng):
+    """Rows of parts: a line unit with two or three shop units that are alike, and so points with equal cost and equal backorders."""
+    cost, most = str(rng.choice([1, 10, rng.randint(1, 300)])), rng.choice("12")
+    rows = [["L", "", str(rng.randint(1, 300)), "1", rng.choice("01"), rng.choice("012"), rng.choice("12")]]
+    return rows + [[name, "L", cost, "", rng.choice("01"), most, ""] for name in ["S1", "S2", "S3"][: rng.choice([2, 2, 3])]]
+
+
 def make_parts_alike(rng, parts, sites, rates):
     """Some line units, and some shop units of each, are the same but for their names: equal steps, and equal points."""
     parents = {part[1] for part in parts}
@@ -145,9 +155,10 @@ def make_bases_alike(rng, parts, sites, rates):
 def random_case(rng):
     """Tables as lists of rows, each with its header; some cases have equal parts or equal bases."""
     sites = random_sites(rng)
-    parts = random_parts(rng, len(sites) - 1)
+    has_twins = len(sites) < 4 and rng.random() < 0.15
+    parts = twins(rng) if has_twins else random_parts(rng, len(sites) - 1)
     rates = random_rates(rng, parts, sites)
-    if rng.random() < 0.3:
+    if has_twins or rng.random() < 0.35:
         make_parts_alike(rng, parts, sites, rates)
     if rng.random() < 0.3:
         make_bases_alike(rng, parts, sites, rates)
@@ -184,11 +195,18 @@ def random_edits(rng, case):
             part, site = rng.choice(parts), rng.choice(sites)
             row = random_rate(rng, part, site, rng.choice(["calm"] * 8 + ["wild", "still"]))
             lines.append("rate," + ",".join(row[:2] + [other_form(rng, field) for field in row[2:]]))
-    if rng.random() < 0.02:
-        lines += rng.choice([[""] * 3998, [""] * 4000, ["plan"] * 62, ["plan"] * 65])
     if rng.random() < 0.1:
         lines.insert(rng.randint(0, len(lines)), rng.choice(["", " ", "plan,", "budget,1.5", "rate,L", "Plan", "budget,x"]))
     return (rng.choice(["\n", "\n", "\r\n"]).join(lines + ["plan"]) + rng.choice(["\n", ""])).encode()
+
+
+def long_edits(rng):
+    """Edits of about as many lines, or as many plans, as there may be; some of the lines are refused."""
+    lines = [rng.choice(["", "", "budget,%d" % rng.randint(0, 500)]) for _ in range(rng.choice([10, 3990]))]
+    lines += rng.choice([[""] * 9, ["plan"] * rng.choice([1, 62, 63, 64]), [""] * rng.randint(8, 12)])
+    if rng.random() < 0.3:
+        lines.insert(rng.randint(0, len(lines)), rng.choice(["x", "rate,L,B", "plan"]))
+    return ("\n".join(lines) + rng.choice(["", "\n", "\nplan", "\nx", "\n\n"])).encode()
 
 
 def text_of(rng, rows):

@@ -286,7 +286,7 @@ def changed_claims(rng, text):
         claims = Claimed(text)
     except (ValueError, IndexError):
         return text
-    if rng.random() < 0.6:
+    if rng.random() < 0.4:
         claims.format = 2
         claims.covers = [random_cover(rng, *claims.box(number), rng.choice([0, 1, 2, 4])) for number in range(len(claims.floors))]
     rng.choice(MOVES)(rng, claims)
@@ -302,7 +302,7 @@ def lower_floors(rng, claims):
 def move_floor(rng, claims):
     if claims.floors:
         at = rng.randrange(len(claims.floors))
-        claims.floors[at] = max(0, claims.floors[at] + rng.choice([1, -1, 1000]))
+        claims.floors[at] = max(0, claims.floors[at] + rng.choice([1, 1, -1, 1000]))
 
 
 def move_price(rng, claims):
@@ -323,7 +323,7 @@ def move_held(rng, claims):
 
 
 def move_upper(rng, claims):
-    claims.upper = max(0, claims.upper + rng.choice([-1, 1, -1000]))
+    claims.upper = max(0, claims.upper + rng.choice([-1, -1, 1, -1000]))
 
 
 def move_budget(rng, claims):
@@ -362,7 +362,8 @@ def renamed(line, column, name, other):
     return ",".join(fields)
 
 
-MOVES = [lower_floors, move_floor, move_price, move_stock, move_held, move_upper, move_budget, move_days, move_limits, move_name]
+MOVES = [lower_floors, *[move_floor] * 3, move_price, *[move_stock] * 2, *[move_held] * 2, *[move_upper] * 3]
+MOVES += [move_budget, move_days, move_limits, move_name]
 
 
 def changed_certificate(rng, text):
