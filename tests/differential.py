@@ -165,7 +165,7 @@ def further_words(rng, totals=()):
     command = rng.choice(["eval", "sweep", "target", "target", "session", "session", "compare"])
     target = rng.choice([decimal(rng, 0, 20, 4), decimal(rng, 0, 2000, 1), "0", "1000000000"])
     if totals and rng.random() < 0.8:
-        units = max(0, rng.choice(totals) + rng.choice([0, 0, 1, -1]))
+        units = max(0, rng.choice([totals[1], *rng.sample(totals, 2)]) + rng.choice([0, 0, 0, 1, -1]))
         target = "%d.%04d" % (units // 10**4, units % 10**4)
     more = {
         "eval": ["--stocks", "on-hand", *rng.choice([[], ["--bits", rng.choice(["32", "48", "52", "40", "48.0", "052"])]])],

@@ -107,12 +107,12 @@ def random_rates(rng, parts, sites):
     style = rng.choice(STYLES)
     rates = [random_rate(rng, part, site, style) for part in parts for site in sites]
     if style == "edge":
-        ship = rng.choice(["0", "0", "5"])
+        ship = rng.choice(["0", "5"])
         for site in sites:
             site[3] = ship if site[1] == "base" else ""
         for row in rates if ship == "5" else []:
             if not row[2] and not row[4]:
-                row[5] = rng.choice(["5114.99", "5115", "5115.01"])
+                row[5] = rng.choice(["5115", "5115", "5115.01"])
             elif row[2]:
                 row[2:4] = [rng.choice(["1", "2.5"]), "0"]
     return rates
@@ -138,9 +138,21 @@ def make_parts_alike(rng, parts, sites, rates):
         group = [index for index, part in enumerate(parts) if part[1] == parent]
         first, *others = rng.sample(group, rng.randint(1, len(group)))
         for index in others:
-            parts[index][2:] = parts[first][2:]
-            for site in range(len(sites)):
-                rates[index * len(sites) + site][2:] = rates[first * len(sites) + site][2:]
+            make_alike(parts, sites, rates, first, index)
+
+
+def make_alike(parts, sites, rates, first, other):
+    """A part has the fields and the rates of another one."""
+    parts[other][2:] = parts[first][2:]
+    for site in range(len(sites)):
+        rates[other * len(sites) + site][2:] = rates[first * len(sites) + site][2:]
+
+
+def make_one_dear(rng, parts, sites, rates):
+    """One part is dear and all others are cheap and alike, so that they fill the rest of a budget by equal changes."""
+    for other in range(2, len(parts)):
+        make_alike(parts, sites, rates, 1, other)
+    parts[0][2], parts[0][6] = str(rng.randint(100, 900)), "100"
 
 
 def make_bases_alike(rng, parts, sites, rates):
@@ -158,7 +170,9 @@ def random_case(rng):
     has_twins = len(sites) < 4 and rng.random() < 0.15
     parts = twins(rng) if has_twins else random_parts(rng, len(sites) - 1)
     rates = random_rates(rng, parts, sites)
-    if has_twins or rng.random() < 0.35:
+    if len(parts) > 2 and not any(part[1] for part in parts) and rng.random() < 0.5:
+        make_one_dear(rng, parts, sites, rates)
+    elif has_twins or rng.random() < 0.35:
         make_parts_alike(rng, parts, sites, rates)
     if rng.random() < 0.3:
         make_bases_alike(rng, parts, sites, rates)
@@ -202,8 +216,10 @@ def random_edits(rng, case):
 
 def long_edits(rng):
     """Edits of about as many lines, or as many plans, as there may be; some of the lines are refused."""
-    lines = [rng.choice(["", "", "budget,%d" % rng.randint(0, 500)]) for _ in range(rng.choice([10, 3990]))]
-    lines += rng.choice([[""] * 9, ["plan"] * rng.choice([1, 62, 63, 64]), [""] * rng.randint(8, 12)])
+    if rng.random() < 0.5:
+        lines = ["plan"] * rng.choice([63, 64, 65, 66])
+    else:
+        lines = [rng.choice(["", "", "budget,%d" % rng.randint(0, 500)]) for _ in range(rng.randint(3998, 4001))]
     if rng.random() < 0.3:
         lines.insert(rng.randint(0, len(lines)), rng.choice(["x", "rate,L,B", "plan"]))
     return ("\n".join(lines) + rng.choice(["", "\n", "\nplan", "\nx", "\n\n"])).encode()
