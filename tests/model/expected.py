@@ -29,15 +29,18 @@ PAGES = [
     "examples/fleet/README.md",
     "examples/squadron/README.md",
 ]
-# the reports beside the example cases, each with its command
+# the files that hold reports, each with its command and the options beside the tables of its folder; a file `F` there is `@F`
 REPORTS = {
-    "examples/fleet/report.txt": "eval fleet --stocks examples/fleet/stocks.csv",
-    "examples/fleet/plan.txt": "plan fleet --budget 1475000",
-    "examples/fleet/sweep.txt": "sweep fleet",
-    "examples/squadron/plan.txt": "plan squadron --budget 52000000",
-    "examples/squadron/sweep.txt": "sweep squadron",
+    "examples/fleet/report.txt": "eval --stocks @stocks.csv",
+    "examples/fleet/plan.txt": "plan --budget 1475000",
+    "examples/fleet/sweep.txt": "sweep",
+    "examples/squadron/plan.txt": "plan --budget 52000000",
+    "examples/squadron/sweep.txt": "sweep",
 }
-PICTURES = {"examples/fleet/sweep.svg": "examples/fleet/sweep.txt", "examples/squadron/sweep.svg": "examples/squadron/sweep.txt"}
+PICTURES = {
+    "examples/fleet/sweep.svg": "examples/fleet/sweep.txt",
+    "examples/squadron/sweep.svg": "examples/squadron/sweep.txt",
+}
 
 
 def read(name):
@@ -57,14 +60,15 @@ class NoCertificate(spares.Shelf):
         pass
 
 
-def report_of(words):
-    """The model's report of a command over an example case."""
-    command, case, *more = words.split()
-    tables = [word for file in ("sites", "parts", "rates") for word in ("--" + file, "examples/%s/%s.csv" % (case, file))]
+def report_of(name, words):
+    """The model's report that a file holds."""
+    folder = os.path.dirname(name)
+    command, *more = words.replace("@", folder + "/").split()
+    tables = [word for file in ("sites", "parts", "rates") for word in ("--" + file, "%s/%s.csv" % (folder, file))]
     certificate = ["--certificate", "none"] if command == "plan" else []
     left = spares.run([command, *tables, *certificate, *more], NoCertificate())
     if left.status:
-        sys.exit("%s: %s" % (words, left.err.decode()))
+        sys.exit("%s: %s" % (name, left.err.decode()))
     return left.out
 
 
@@ -150,7 +154,7 @@ def main():
     os.chdir(TOP)
     found = 0
     if not named:
-        found += sum(check_file(name, report_of(words), is_written) for name, words in REPORTS.items())
+        found += sum(check_file(name, report_of(name, words), is_written) for name, words in REPORTS.items())
         found += sum(check_file(name, picture_of(sweep), is_written) for name, sweep in PICTURES.items())
         found += check_texts(is_written)
     found += sum(check_page(page, is_written) for page in named or PAGES)
