@@ -2,9 +2,9 @@
 
     python3 pages.py PROGRAM EXAMPLES PAGE
 
-An example is an indented line `$ ..`, continued where it ends with a backslash, and the lines up to the next
+An example is an indented line `$ ..`, continued if it ends with a backslash, and the lines up to the next
 blank one or the next command: what is put out. A line `fault,..` is put on the standard error, alone and with a status that
-isn't 0; all else on the standard output, with the status 0. A line `..` stands for any lines. The examples of a page
+isn't 0; all else on the standard output, with the status 0. A line `..` is any lines. The examples of a page
 run in their order in one folder, which has the program as `spares`, the folder `examples`, and the files of the page:
 each indented block that begins with the header of a table is the file of that table, and one whose lines are numbered is the file
 `certificate`.
@@ -79,13 +79,13 @@ def run(example, room):
 
 
 def is_shown(lines, printed):
-    """Whether a text is these lines, where `..` stands for any lines."""
+    """Whether a text is these lines; `..` is any lines."""
     parts = ["(?:.*\n)*" if line == ".." else re.escape(line + "\n") for line in lines]
     return re.fullmatch("".join(parts), printed) is not None
 
 
 def is_right(lines, ran):
-    """Whether a command that was run put out what a page shows, where it should and with the status that belongs to it."""
+    """Whether a run put out the shown lines on the right stream, with the right status."""
     is_fault = lines[:1] != [] and lines[0].startswith("fault,")
     shown, other = (ran.stderr, ran.stdout) if is_fault else (ran.stdout, ran.stderr)
     return is_shown(lines, shown.decode()) and not other and (ran.returncode != 0) == is_fault

@@ -9,7 +9,7 @@ from refusals import Refusal
 OBJECTIVES = ("backorders", "log-availability")
 RATE_FORMS = ((4, 10**9), (4, 10**4), (4, 10**4), (2, 999999))
 
-# stocks and what is held are by pair; `held` is None if the certificate doesn't speak of it. A node is the text of its line
+# stocks and held stocks are by pair; `held` is None if the certificate has no held stocks. A node is the text of its line
 Claims = namedtuple("Claims", "form objective case budget price floors covers stocks upper bound held")
 
 

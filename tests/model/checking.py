@@ -59,7 +59,7 @@ def check_work(families, leaves):
 
 
 def check_stocks(claims, held):
-    """The stocks are within the limits, none is below what is held, and they cost at most the budget. Answers their cost."""
+    """Checks limits, held stocks and budget. Answers the cost of the stocks above the held ones."""
     case, stocks = claims.case, claims.stocks
     for pair in pairs_of(case):
         if stocks[pair] > limit(case, pair):
@@ -92,7 +92,7 @@ def check_floors(claims, families, leaves, held):
 
 
 def check_claims(claims):
-    """What the stocks cost above what is held, or the first claim that fails."""
+    """The cost of the stocks above the held ones, or a refusal by the first claim that fails."""
     demands = demands_of(claims.case)
     if fault_of(claims.case, demands):
         raise rejected("rate")

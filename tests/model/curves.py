@@ -14,9 +14,9 @@ Point = namedtuple("Point", "cost lo stocks hi")
 def curve_of(points):
     """The curve of points: one point for each place of a vertex, by rising cost.
 
-    Of points with one cost only those with the least `lo` can be vertices, and of those at one place the one whose stocks come first
-    stands for it. A point whose `lo` is no lower than that of a cheaper point is no vertex. And no vertex lies on or above the straight
-    line between two others.
+    Of points with equal cost only the ones with the least `lo` can be vertices; if several are at one place, the curve has the one whose
+    stocks come first. A point is no vertex if a cheaper point has no larger `lo`, or if it lies on or above the straight line between two
+    others.
     """
     found = []
     for point in sorted(points):
@@ -51,11 +51,11 @@ def least_lagrangian(curve, price):
     return min(lagrangian(point, price) for point in curve)
 
 
-# The curve of a family. A box has a least and a most vector; `held` is the vector of what is held.
+# The curve of a family. A box has a least and a most vector; `held` is the vector of the held stocks.
 
 
 def cost_above(family, vector, held, places):
-    """What the stocks of a part of a vector cost above what is held; `places` is the slice of that part."""
+    """The cost of a part of a vector above the held stocks; `places` is the slice of that part."""
     costs = zip(vector, held[places], family.costs[places])
     return sum((stock - there) * cost for stock, there, cost in costs)
 
@@ -90,7 +90,7 @@ def family_curve(family, score, box, held):
 
 
 def whole_curve(family, score, held=None):
-    """The curve of a family over all vectors from what is held to the limits."""
+    """The curve of a family over all vectors from the held stocks to the limits."""
     held = held or (0,) * len(family.limits)
     return family_curve(family, score, (held, tuple(family.limits)), held)
 
@@ -99,7 +99,7 @@ def whole_curve(family, score, held=None):
 
 
 def tables_within(size, bases, box):
-    """How many tables the curve of a family with so many parts needs over a box: I + A + J (sum of a) + a0 A (sum over bases of B)."""
+    """The work of a box of a family with `size` parts: I + A + J (sum of a) + a0 A (sum over bases of B)."""
     widths = [high - low + 1 for low, high in zip(*box)]
     depot = widths[:size]
     choices = multiplied(depot[1:])
@@ -115,7 +115,7 @@ def multiplied(numbers):
 
 
 def work_of(case, lines, held=None):
-    """The tables of all families together, above what is held; past 2^64 - 1 it stays there."""
+    """The tables of all families together, above the held stocks; past 2^64 - 1 it stays there."""
     total = 0
     for line in lines:
         members = family_of(case, line)

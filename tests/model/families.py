@@ -54,9 +54,9 @@ class Family:
         return add(mul(bits, mixed, backorders), mul(bits, mul(bits, share, share), spread))
 
     def pipeline(self, place, feeds, whole):
-        """The pipeline of a place: its direct part, then the parts of the feeds, then the whole backorders that it waits for.
+        """The pipeline of a place: its direct part, then the parts of the feeds, then all of the `whole` backorders.
 
-        A feed is a share with backorders and their variance; what is whole has backorders and their variance.
+        A feed is a share with backorders and their variance; `whole` has backorders with their variance.
         """
         mean = variance = self.direct[place]
         for share, backorders, spread in feeds:

@@ -21,7 +21,7 @@ def check_work(case, held=None):
 
 
 def curves_of(case, demands, objective="backorders", held=None):
-    """The curve of each family above what is held."""
+    """The curve of each family above the held stocks."""
     families = families_of(case, demands, BITS)
     return [whole_curve(family, SCORES[objective], held and family.vector_of(held)) for family in families]
 

@@ -6,7 +6,7 @@ from choice import steps_of
 from intervals import ceil_div, decimal_text, text_of
 from planning import BITS, price_text
 
-# the state after some steps; its price is that of the next step, or None
+# the state after some steps; its price is the next step's, or None
 State = namedtuple("State", "cost lo hi price")
 
 
