@@ -36,30 +36,36 @@ def probability(rng):
 
 
 def random_sites(rng):
-    """Rows of sites: one depot anywhere among 1 to 5 bases."""
+    """Rows of sites: one depot anywhere among 1 to 5 bases, now and then up to 15."""
     names = rng.sample(SITE_NAMES, rng.choice([2, 2, 3, 3, 4, 5, 6]))
+    if rng.random() < 0.04:
+        names += ["B%d" % number for number in range(rng.randint(6, 16) - len(names))]
     rows = [[name, "base", str(rng.choice([1, 2, 12, 24, 10000])), decimal(rng, 0, 15, 2)] for name in names[1:]]
     rows.insert(rng.randint(0, len(rows)), [names[0], "depot", "", ""])
     return rows
 
 
 def random_parts(rng, bases):
-    """Rows of parts with a field for the weight: up to 4 line units with up to 3 shop units each, or up to 6 alone."""
+    """Rows of parts with a field for the weight: up to 4 line units with mostly up to 3 shop units each, or up to 6 alone."""
     names = rng.sample(PART_NAMES, len(PART_NAMES))
     is_many = rng.random() < 0.25
     rows = []
     for _ in range(rng.randint(3, 6) if is_many else rng.choice([0, 1, 1, 1, 2, 2, 3, 4])):
-        line = names.pop()
+        line = names.pop() if names else "line %d" % len(rows)
         cost = rng.randint(5, 60) if is_many else rng.choice([1, 2, 100, 1000, rng.randint(1, 5000)])
         units = 0 if is_many else rng.choice([0, 0, 1, 1, 2, 3]) if bases < 4 else rng.choice([0, 0, 1])
         limits = [rng.choice("0124"), rng.choice("0123")]
-        if bases == 1 and rng.random() < 0.05:
+        few = rng.random() < 0.05
+        if few:
+            units = rng.randint(4, 8)
+        elif bases < 4 and rng.random() < 0.05:
             limits = [str(rng.randint(0, 63)), str(rng.randint(0, 63))]
         per_system, weight = rng.choice(["1", "1", "2", "100"]), rng.choice(["1", "1", "2", "100"])
         rows.append([line, "", str(cost), per_system, *limits, weight])
         for _ in range(units):
             unit_cost = rng.choice([1, 100, rng.randint(1, 1000)])
-            rows.append([names.pop(), line, str(unit_cost), "", rng.choice("012"), rng.choice("01"), ""])
+            most = ["0", rng.choice("0001")] if few else [rng.choice("012"), rng.choice("01")]
+            rows.append([names.pop() if names else "unit %d" % len(rows), line, str(unit_cost), "", *most, ""])
     if rng.random() < 0.3:
         rng.shuffle(rows)
     return rows if tables_of(rows, bases) <= MOST_TABLES else random_parts(rng, bases)
