@@ -222,7 +222,7 @@ class Program:
 
     def __init__(self, words):
         self.path = words.program
-        self.tables = [word for table in ('sites', 'parts', 'rates') for word in ('--' + table, getattr(words, table))]
+        self.tables = [word for table in ('sites', 'parts', 'rates') for word in ('--' + table, getattr(words, table, None))]
 
     def run(self, *words):
         """Runs a command: its status, its report and the line of its refusal."""
