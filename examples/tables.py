@@ -25,7 +25,7 @@ from fleet_tables import Refused, read_file, whole
 from reports import ENDS, FORMS, RANGE, TWO, Words, must_fit, reports_of, run_script, write_file
 
 ITEM = ['part', 'site', 'stock'] + list(ENDS) + ['poisson_low', 'poisson_high']
-ITEM_KINDS = ['part_kind', 'line_unit', 'site_kind', 'unit_cost', 'limit']
+ITEM_KINDS = ['part_kind', 'line_unit', 'site_kind', 'unit_cost', 'stock_limit']
 BASE = ['site', 'availability_low', 'availability_high']
 BASE_KINDS = ['systems']
 POINT = ['cost', 'total_low', 'total_high', 'price']
@@ -70,7 +70,7 @@ def once_columns(rows):
 def item_kinds(fleet, item):
     part, site = fleet.part[item['part']], fleet.site[item['site']]
     return {'part_kind': 'shop unit' if part.parent else 'line unit', 'line_unit': part.parent or part.name,
-            'site_kind': 'depot' if site.is_depot else 'base', 'unit_cost': part.cost, 'limit': fleet.limit(part.name, site.name)}
+            'site_kind': 'depot' if site.is_depot else 'base', 'unit_cost': part.cost, 'stock_limit': fleet.limit(part.name, site.name)}
 
 
 def rows_of(reports, fleet):

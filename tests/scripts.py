@@ -163,7 +163,7 @@ def tables(trial):
     must([row["kind"] for row in found["reports"]] == ["plan", "plan", "sweep", "compare", "target", "plan", "eval"], "the kinds of reports")
     totals = [",".join(row[name] for name in row if name.startswith("total_") and row[name]) for row in found["reports"]]
     must(["total," + total for total in totals if total] == [line for line in whole.split("\n") if line.startswith("total,")], "the totals")
-    kinds = {(row["part"], row["part_kind"], row["line_unit"], row["site_kind"], row["unit_cost"], row["limit"]) for row in found["items"]}
+    kinds = {(row["part"], row["part_kind"], row["line_unit"], row["site_kind"], row["unit_cost"], row["stock_limit"]) for row in found["items"]}
     must(("governor", "shop unit", "gen-set", "base", "2500", "1") in kinds and ("winch", "line unit", "winch", "depot", "7300", "2") in kinds, "the kinds of parts")
     trial.run("tables.py", trial.file("loss.txt"), "comma", "--decimal-comma")
     for name in ("bases", "reports"):
