@@ -267,8 +267,8 @@ class Page:
             return []
         points = points_of(report_in(self.words.sweep, 'sweep'))
         spent, high = self.cost + self.worth, float(self.report.one('total')['high'])
-        if high * 10**6 + 1 < bound_at(points, spent) * 10**6:
-            raise Refused('%s: the plan lies below what this sweep allows: it is of other tables' % self.words.sweep)
+        if not self.worth and self.aim == 'total' and abs(bound_at(points, int(self.budget)) - float(self.bound)) > 3e-6 or high + 1e-6 < bound_at(points, spent):
+            raise Refused('%s: it says another bound than the report: it is of other tables' % self.words.sweep)
         budget = min(int(self.budget) + self.worth, max(points[-1][0], spent))
         window = ticks(min(max(points[-1][0], spent), budget * 8 // 5), spent * 2 // 5)
         picture = sweep_picture(points, window[0], window[-1])
@@ -318,7 +318,7 @@ def bound_at(points, cost):
     for (left, low, _), (right, high, _) in zip(points, points[1:]):
         if left <= cost <= right:
             return low + (high - low) * (cost - left) / (right - left) if right > left else high
-    return 0
+    return points[-1][1]
 
 
 def main():

@@ -3,7 +3,8 @@
 
 A hub and 8 parks with 166 turbines of one type; 25 line units, of which 15 have one or two shop units, 20 in all. Nothing in it was measured:
 the numbers are drawn from ranges that look like the field's, by a generator of its own, so that the bytes are the same at each run. The
-tables are as a maintenance system exports them: a byte order mark, CRLF, texts in quotes, rows by site, and no limits yet.
+tables are as a maintenance system exports them: a byte order mark, CRLF, texts in quotes, rows by site, and no limits yet. The stocks of
+today follow no plan.
 """
 
 import os
@@ -85,27 +86,41 @@ def unit_rates(draws, name, is_line, demands, repairs):
     return rates
 
 
+def stocks_of(draws, name, is_line, often, per_system):
+    """What is stocked today, by site: at the hub by a rule of thumb, and one at the larger parks of what fails often."""
+    at_hub = min(60, often * per_system * 166 // 12000 + draws.between(0, 1)) if is_line else draws.between(0, 2)
+    stocks = {'Hub': at_hub}
+    for park, turbines, _ in PARKS:
+        stocks[park] = draws.between(0, 1) + (turbines * often * per_system > 15000) if is_line else 0
+    return {site: row(name, site, '%d' % stock) for site, stock in stocks.items()}
+
+
 def tables():
     """The lines of each table."""
-    draws = Draws(35)
+    draws, others = Draws(35), Draws(36)
     parts = ['part,parent,cost,per_system,max_depot,max_base']
     by_site = {site: [] for site in ['Hub'] + [park for park, _, _ in PARKS]}
+    stocks_by_site = {site: [] for site in by_site}
     for line in LINE_UNITS.splitlines():
         name, per_system, cost, least, most, repairs, *units = line.split('/')
         often = draws.between(int(least), int(most))
         demands = {park: 10 * turbines * int(per_system) * (often + draws.between(-often // 5, often // 5)) for park, turbines, _ in PARKS}
         parts.append(row(name, '', cost, per_system, '0', '0'))
         found = [unit_rates(draws, name, True, demands, repairs == 'yes')]
+        stocks = [stocks_of(others, name, True, often, int(per_system))]
         for unit in units:
             parts.append(row(unit, name, '%d' % (int(cost) * draws.between(8, 30) // 100), '', '0', '0'))
             found.append(unit_rates(draws, unit, False, demands, repairs == 'yes'))
-        for rates in found:
-            for site, text in rates.items():
-                by_site[site].append(text)
+            stocks.append(stocks_of(others, unit, False, often, 1))
+        for rates, stock in zip(found, stocks):
+            for site in by_site:
+                by_site[site].append(rates[site])
+                stocks_by_site[site].append(stock[site])
     return {
         'sites': ['site,kind,systems,ship_days', row('Hub', 'depot', '', '')] + [row(park, 'base', '%d' % turbines, '%d' % days) for park, turbines, days in PARKS],
         'parts': parts,
         'rates': ['part,site,demand,repair_here,share,repair_days'] + [text for rows in by_site.values() for text in rows],
+        'stocks': ['part,site,stock'] + [text for rows in stocks_by_site.values() for text in rows],
     }
 
 
