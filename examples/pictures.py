@@ -112,16 +112,16 @@ def stairs_of(points, least, most):
     return stairs
 
 
-def sweep_picture(points, least=None, most=None, height=HEIGHT):
-    """The picture of a sweep, of all its costs or of a window of them; more may be drawn in it."""
+def sweep_picture(points, least=None, most=None, reach=0):
+    """The picture of a sweep, of all its costs or of a window of them, at least as high as a total; more may be drawn in it."""
     is_window = least is not None or most is not None
     least = 0 if least is None else least
     most = max(points[-1][0], least + 1) if most is None else most
     shown = stairs_of(points, least, most)
     limit = within([point[:2] for point in points], least, most)
     across = ticks(most, least)
-    upwards = ticks(max(high for _, high in shown), min(low for _, low in limit) if is_window else 0)
-    picture = Picture(across, upwards, ('cost', 'total backorders'), height)
+    upwards = ticks(max([high for _, high in shown] + [reach]), min(low for _, low in limit) if is_window else 0)
+    picture = Picture(across, upwards, ('cost', 'total backorders'))
     if is_window:
         ends = (least, most)
     else:

@@ -81,6 +81,7 @@ pre { margin: .5rem 0; padding: .6rem .9rem; background: var(--pale); border-rad
   .bases { grid-template-columns: 1fr 1fr; }
   .picture svg { max-width: 46rem; }
   section.whole, tr, pre { break-inside: avoid; }
+  tfoot { display: table-row-group; }
 }
 @media screen { .scroll { overflow-x: auto; } }
 '''
@@ -271,7 +272,7 @@ class Page:
             raise Refused('%s: it says another bound than the report: it is of other tables' % self.words.sweep)
         budget = min(int(self.budget) + self.worth, max(points[-1][0], spent))
         window = ticks(min(max(points[-1][0], spent), budget * 8 // 5), spent * 2 // 5)
-        picture = sweep_picture(points, window[0], window[-1])
+        picture = sweep_picture(points, window[0], window[-1], high)
         picture.upright(budget, 'this budget', MARKED)
         picture.dot(spent, high, MARKED, 5)
         note = 'The money is that of all stocks%s. The red dot is this plan. The stairs are plans without a gap, but for rounding; no stocks within the limits lie in the shaded region: that is proved.' % (
@@ -283,7 +284,8 @@ class Page:
         if not full:
             return [tag('h2', 'Stocks at their limits'), tag('p', 'None: no limit is in the way.')]
         names = [tag('li', escape('%s at %s: ' % pair), data(stock, '%d' % stock)) for pair, stock in full]
-        return [tag('h2', 'Stocks at their limits'), tag('p', '%d stocks are at the limits of the table of parts. The bound is said of stocks within these limits: larger ones may bring more.' % len(full)),
+        return [tag('h2', 'Stocks at their limits'), tag('p', '%s the table of parts. The bound is said of stocks within the limits: larger ones may bring more.' % (
+                    'One stock is at its limit in' if len(full) == 1 else '%d stocks are at their limits in' % len(full))),
                 tag('ul', *names, class_='names')]
 
     def certificate(self):

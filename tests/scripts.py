@@ -441,8 +441,31 @@ def report(trial):
     trial.refuses("report.py", *frame, "--report", trial.file("plan.txt"), "--sweep", os.path.join(trial.examples, "fleet", "sweep.txt"), *program, says="of other tables")
 
 
+def wind_farm(trial):
+    """The tables of the wind farm, its plan, sweep, pictures and page are made again."""
+    folder = os.path.join(trial.examples, "windfarm")
+    shipped = {name: open(os.path.join(folder, name), "rb").read() for name in os.listdir(folder) if not name.startswith("__")}
+    trial.run("windfarm/make.py", ".")
+    os.rename(os.path.join(trial.room, "parts.csv"), os.path.join(trial.room, "export.csv"))
+    trial.run("limits.py", "--sites", "sites.csv", "--parts", "export.csv", "--rates", "rates.csv", "--write-parts", "parts.csv")
+    tables = ["--sites", "sites.csv", "--parts", "parts.csv", "--rates", "rates.csv"]
+    held = ["--on-hand", "stocks.csv"]
+    program = ["--program", trial.program]
+    trial.put("plan.txt", trial.spares("plan", *tables, *held, "--budget", "60000", "--certificate", "wind.certificate"))
+    trial.put("sweep.txt", trial.spares("sweep", *tables))
+    trial.put("sweep.svg", trial.run("sweep.py", "--to", "1000000", into=trial.text("sweep.txt").encode()))
+    trial.put("availability.csv", trial.run("availability.py", *tables, *held, "--to", "200000", "--picture", "availability.svg", *program))
+    trial.put("report.html", trial.run("report.py", *tables[:4], *held, "--report", "plan.txt", "--sweep", "sweep.txt", "--certificate", "wind.certificate",
+                                       "--title", "Wind farm: 60,000 of spares", *program))
+    for name, data in shipped.items():
+        if name not in ("make.py", "README.md"):
+            with open(os.path.join(trial.room, "export.csv" if name == "parts.csv" else name), "rb") as file:
+                must(file.read() == data, "%s is made otherwise" % name)
+    must(len(shipped) == 12, "the files of the wind farm: %s" % sorted(shipped))
+
+
 CHECKS = {check.__name__: check for check in (limits, limits_too_wide, lint, tables, tables_refused, buy, sweep, availability, best_of,
-                                              fall_of_a_gap, sensitivity, drivers, report)}
+                                              fall_of_a_gap, sensitivity, drivers, report, wind_farm)}
 
 
 def main():
