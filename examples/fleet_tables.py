@@ -111,6 +111,10 @@ def shown(text):
     return ascii(text if len(text) <= 40 else text[:37] + '...')
 
 
+def counted(fields):
+    return '1 field' if len(fields) == 1 else '%d fields' % len(fields)
+
+
 def why_no_number(text, number):
     """What a planner may have meant by a text that is no number."""
     if re.fullmatch(r'[0-9]+,[0-9]+', text):
@@ -189,7 +193,7 @@ class Reader:
                 return
             if len(row.fields) != columns:
                 self.fault(table, row.line, 'field-count,%s,%d,%d' % (table, row.number, len(row.fields)),
-                           'the row has %d fields, the header %d: %s' % (len(row.fields), columns, self.why_count(row, columns)))
+                           'the row has %s, the header %d: %s' % (counted(row.fields), columns, self.why_count(row, columns)))
             yield row._replace(is_whole=len(row.fields) == columns)
 
     def why_count(self, row, columns):
@@ -205,7 +209,7 @@ class Reader:
         columns = 7 if table == 'parts' and len(header.fields) == 7 else 6 if table == 'parts' else len(wanted)
         faults = []
         if len(header.fields) != columns:
-            faults.append(('field-count,%s,1,%d' % (table, len(header.fields)), 'the header has %d fields, where %d are wanted' % (len(header.fields), columns)))
+            faults.append(('field-count,%s,1,%d' % (table, len(header.fields)), 'the header has %s, where %d are wanted' % (counted(header.fields), columns)))
         else:
             faults += [('header,%s,%d' % (table, column), 'the name of this column is %s, where %s is wanted' % (shown(found), name))
                        for column, (found, name) in enumerate(zip(header.fields, wanted), 1) if found != name]
@@ -215,14 +219,13 @@ class Reader:
 
     def why_header(self, rows, wanted):
         """What a header that is another may come from."""
-        below = [row for row in rows[1:20] if row.fields[:3] == wanted[:3]]
-        if below:
-            return '. The header is on line %d: delete what stands above it' % below[0].line
-        first = rows[0].fields[0]
-        for separator, name in ((';', 'semicolons'), ('\t', 'tabs')):
-            if len(rows[0].fields) == 1 and separator in first:
-                return '. The fields have %s between them: save the table with commas' % name
-        if first.startswith(MARK.decode('latin-1')):
+        for row in rows[:20]:
+            above = '. The header is on line %d: delete what is above it' % row.line if row.number > 1 else ''
+            for separator, name in ((',', ''), (';', 'semicolons'), ('\t', 'tabs')):
+                fields = row.fields if separator == ',' else row.fields[0].split(separator)
+                if [field.strip(' \t') for field in fields[:3]] == wanted[:3] and (above or name):
+                    return above + ('. The fields have %s between them: save the table with commas, and decimals with points' % name if name else '')
+        if rows[0].fields[0].startswith(MARK.decode('latin-1')):
             return '. There are two byte order marks'
         if [field.lower() for field in rows[0].fields] == wanted[:len(rows[0].fields)]:
             return '. Write it in small letters'
@@ -352,6 +355,13 @@ class Reader:
             site = None
         return part, site
 
+    def names_of(self, table, data):
+        """The header, the number of fields and the names of a table whose sites or parts aren't known."""
+        for row in self.rows_of(table, data[table]) if table in data else []:
+            if row.is_whole:
+                self.name_in(table, row, 1)
+                self.name_in(table, row, 2)
+
     def rates_of(self, rows, fleet):
         """The rates of each pair; those that were named but aren't right are None."""
         rates = {}
@@ -434,11 +444,11 @@ def load(names):
         if len(data[table]) > MOST_BYTES:
             reader.fault(table, None, 'too-long,%s' % table, 'the file has over %d bytes: are there other sheets or empty columns in it?' % MOST_BYTES)
             del data[table]
-    if 'sites' not in data or 'parts' not in data:
-        return Loaded(None, {}, reader.faults)
-    sites = reader.sites_of(reader.rows_of('sites', data['sites']))
-    parts = reader.parts_of(reader.rows_of('parts', data['parts']))
+    sites = reader.sites_of(reader.rows_of('sites', data['sites'])) if 'sites' in data else []
+    parts = reader.parts_of(reader.rows_of('parts', data['parts'])) if 'parts' in data else []
     if not {'sites', 'parts'} <= reader.readable:
+        for table in ('rates', 'stocks', 'on-hand'):
+            reader.names_of(table, data)
         return Loaded(None, {}, reader.faults)
     reader.frame_of(sites, parts)
     fleet = Fleet([site for site in sites if site.name is not None], [part for part in parts if part.name is not None], {})
