@@ -86,19 +86,43 @@ def plans_of(words, program):
     budgets = budgets_from_stocks(words, plan) if held else budgets_from_nothing(words, program)
     first = [plan(AIMS[0], budget) for budget in budgets] if held else planned(program, budgets)
     second = [plan(AIMS[1], budget) for budget in budgets]
-    return [(aim, budget, report) for aim, reports in zip(AIMS, (first, second)) for budget, report in zip(budgets, reports)]
+    return [
+        (aim, budget, report) for aim, reports in zip(AIMS, (first, second)) for budget, report in zip(budgets, reports)
+    ]
 
 
 def header_of(fleet):
-    return (['aim', 'budget', 'cost', 'fleet_low', 'fleet_high', 'total_low', 'total_high', 'loss_low', 'loss_high', 'bound', 'gap']
-            + ['%s_%s' % (site.name, end) for site in fleet.bases for end in ('low', 'high')])
+    return [
+        'aim',
+        'budget',
+        'cost',
+        'fleet_low',
+        'fleet_high',
+        'total_low',
+        'total_high',
+        'loss_low',
+        'loss_high',
+        'bound',
+        'gap',
+    ] + ['%s_%s' % (site.name, end) for site in fleet.bases for end in ('low', 'high')]
 
 
 def row_of(aim, budget, report):
     fleet, total, loss = report.one('fleet'), report.one('total'), report.one('loss') or {'low': '', 'high': ''}
     bases = [base[end] for base in report.all('base') for end in ('low', 'high')]
-    return [aim, budget, report.one('cost')['cost'], fleet['low'], fleet['high'], total['low'], total['high'], loss['low'], loss['high'],
-            report.one('bound')['value'], report.one('gap')['value']] + bases
+    return [
+        aim,
+        budget,
+        report.one('cost')['cost'],
+        fleet['low'],
+        fleet['high'],
+        total['low'],
+        total['high'],
+        loss['low'],
+        loss['high'],
+        report.one('bound')['value'],
+        report.one('gap')['value'],
+    ] + bases
 
 
 def lines_of(fleet, plans):
@@ -112,8 +136,13 @@ def picture_of(words, fleet, plans):
     lines = list(lines_of(fleet, plans))
     values = [float(value(report)) for _, _, _, value in lines for _, _, report in plans]
     budgets = [budget for _, budget, _ in plans]
-    picture = Picture(ticks(max(budgets), min(budgets)), ticks(1, min(values)), (
-        'money beyond what is on hand' if words.on_hand else 'money', 'availability'), 560, 210)
+    picture = Picture(
+        ticks(max(budgets), min(budgets)),
+        ticks(1, min(values)),
+        ('money beyond what is on hand' if words.on_hand else 'money', 'availability'),
+        560,
+        210,
+    )
     picture.frame()
     for place, (name, colour, width, value) in enumerate(lines):
         for aim, dashes in zip(AIMS, ('', ' stroke-dasharray="5 4"')):
@@ -129,9 +158,17 @@ def picture_of(words, fleet, plans):
         picture.parts.append('<path d="M706 %d h26" stroke="%s"%s/>' % (y + 20 * place, INK, dashes))
         picture.words(740, y + 20 * place + 4, 'by ' + aim)
     if words.reach is not None and picture.upwards[0] <= words.reach / 10**6 <= picture.upwards[-1]:
-        picture.path([(picture.across[0], words.reach / 10**6), (picture.across[-1], words.reach / 10**6)], 'stroke="#b03a5b" stroke-dasharray="2 3" fill="none"')
+        picture.path(
+            [(picture.across[0], words.reach / 10**6), (picture.across[-1], words.reach / 10**6)],
+            'stroke="#b03a5b" stroke-dasharray="2 3" fill="none"',
+        )
     picture.words(LEFT, 24, 'Supply availability over the money. Each dot is a plan; lines only join them.')
-    picture.words(LEFT, 40, 'Proved: the value of each plan. Not proved: that no cheaper stocks reach it.', 'font-size="12" fill="#555555"')
+    picture.words(
+        LEFT,
+        40,
+        'Proved: the value of each plan. Not proved: that no cheaper stocks reach it.',
+        'font-size="12" fill="#555555"',
+    )
     return picture.text()
 
 

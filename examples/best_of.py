@@ -33,7 +33,7 @@ from reports import NOWHERE, Program, Words, micro, must_fit, reports_of, run_sc
 from sweep import planned
 
 MOST_ROUNDS = 200
-SMALLER = 40   # budgets down to a tenth less
+SMALLER = 40  # budgets down to a tenth less
 
 
 def stocks_text(fleet, stocks):
@@ -58,7 +58,9 @@ class Fleet:
 
     def cost(self, stocks):
         """What stocks cost beyond what is on hand."""
-        return sum(self.fleet.part[part].cost * (stock - self.held[part, site]) for (part, site), stock in stocks.items())
+        return sum(
+            self.fleet.part[part].cost * (stock - self.held[part, site]) for (part, site), stock in stocks.items()
+        )
 
     def evaluated(self, stocks):
         """The report of `eval`."""
@@ -76,6 +78,7 @@ class Fleet:
 
     def changes(self, family, stocks):
         """The exchanges within a family, each as changes of stocks by pairs."""
+
         def may(part, site, change):
             return self.held[part, site] <= stocks[part, site] + change <= self.fleet.limit(part, site)
 
@@ -93,7 +96,8 @@ class Fleet:
 
     def moves(self, stocks, worths, families):
         """What the exchanges of these families cost and bring: by family, as (cost, millionths, changes), only those that no other
-        one betters. One `eval` tries an exchange of each family at once, for what a family is worth hangs on its own stocks alone."""
+        one betters. One `eval` tries an exchange of each family at once, for what a family is worth hangs on its own stocks alone.
+        """
         lists = {family[0].name: list(self.changes(family, stocks)) for family in families}
         found = {name: [] for name in lists}
         for number in range(max(map(len, lists.values()), default=0)):
@@ -106,7 +110,10 @@ class Fleet:
                 if number < len(changes):
                     cost = sum(self.fleet.part[part].cost * change for (part, _), change in changes[number].items())
                     found[name].append((cost, then[name] - worths[name], number))
-        return {name: [(cost, brings, lists[name][number]) for cost, brings, number in undominated(moves)] for name, moves in found.items()}
+        return {
+            name: [(cost, brings, lists[name][number]) for cost, brings, number in undominated(moves)]
+            for name, moves in found.items()
+        }
 
 
 def undominated(moves):
@@ -123,7 +130,7 @@ def best_pair(moves, spare):
     best = (0, 0, [])
     families = [[(0, 0, {})] + family for family in moves.values()]
     for place, first in enumerate(families):
-        for second in families[place + 1:] or [[(0, 0, {})]]:
+        for second in families[place + 1 :] or [[(0, 0, {})]]:
             for cost, brings, changes in first:
                 for more, adds, others in second:
                     found = (brings + adds, cost + more)
@@ -138,7 +145,9 @@ def improved(fleet, stocks):
     moves = {}
     changed = {family[0].name for family in fleet.fleet.families}
     for count in range(MOST_ROUNDS):
-        moves.update(fleet.moves(stocks, worths, [family for family in fleet.fleet.families if family[0].name in changed]))
+        moves.update(
+            fleet.moves(stocks, worths, [family for family in fleet.fleet.families if family[0].name in changed])
+        )
         fall, _, chosen = best_pair(moves, fleet.budget - fleet.cost(stocks))
         if not fall:
             break
@@ -157,11 +166,17 @@ def starts_of(fleet, words):
     held = ['--on-hand', words.on_hand] if words.on_hand else []
 
     def plan(aim, budget, certificate=NOWHERE):
-        return aim, budget, fleet.program.report('plan', '--budget', budget, '--objective', aim, '--certificate', certificate, *held)
+        return (
+            aim,
+            budget,
+            fleet.program.report('plan', '--budget', budget, '--objective', aim, '--certificate', certificate, *held),
+        )
 
     first = plan('backorders', words.budget, words.certificate)
     must_fit(first[2], fleet.fleet, 'spares plan')
-    budgets = [words.budget - words.budget * k // (10 * SMALLER) for k in range(1, SMALLER + 1)] + [int(first[2].one('hull')['cost'])]
+    budgets = [words.budget - words.budget * k // (10 * SMALLER) for k in range(1, SMALLER + 1)] + [
+        int(first[2].one('hull')['cost'])
+    ]
     budgets = sorted(set(budgets) - {words.budget}, reverse=True)
     plans = [first, plan('log-availability', words.budget)]
     if held:
@@ -183,7 +198,7 @@ def with_stocks(data, fleet, stocks, upper):
     lines = data.decode('latin-1').split('\n')
     pairs = fleet.pairs()
     place = lines.index('stocks,%d' % len(pairs)) + 1
-    lines[place:place + len(pairs)] = ['%d' % stocks[pair] for pair in pairs]
+    lines[place : place + len(pairs)] = ['%d' % stocks[pair] for pair in pairs]
     place += len(pairs)
     if not lines[place].startswith('upper,'):
         raise Refused('the certificate is not of the form that docs/CERTIFICATE.md has')
@@ -222,7 +237,11 @@ def main():
     print('best,%d,%s,%s' % (fleet.cost(stocks), total['low'], total['high']))
     print('bound,%s\ngap,%s' % (bound, value(upper - micro(bound))))
     print('accepted,%s' % accepted.one('accepted')['format'])
-    if [accepted.one('cost')['cost'], accepted.one('upper')['value'], accepted.one('bound')['value']] != ['%d' % fleet.cost(stocks), total['high'], bound]:
+    if [accepted.one('cost')['cost'], accepted.one('upper')['value'], accepted.one('bound')['value']] != [
+        '%d' % fleet.cost(stocks),
+        total['high'],
+        bound,
+    ]:
         raise Refused('spares check says other numbers of the certificate')
 
 

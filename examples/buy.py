@@ -39,10 +39,16 @@ def must_agree(words, report, fleet, held):
         if words.on_hand and said is None:
             raise Refused('%s: the plan begins from nothing: leave --on-hand out, or plan with it' % words.report)
         if said and int(said['cost']) != worth:
-            raise Refused('%s: the plan begins from stocks that cost %s, and these on hand cost %d' % (words.report, said['cost'], worth))
+            raise Refused(
+                '%s: the plan begins from stocks that cost %s, and these on hand cost %d'
+                % (words.report, said['cost'], worth)
+            )
         cost -= worth
     if int(report.one('cost')['cost']) != cost:
-        raise Refused('%s: it costs %s, and by these tables %d: the report is of other tables' % (words.report, report.one('cost')['cost'], cost))
+        raise Refused(
+            '%s: it costs %s, and by these tables %d: the report is of other tables'
+            % (words.report, report.one('cost')['cost'], cost)
+        )
 
 
 def bought(report, fleet, held):
@@ -51,7 +57,9 @@ def bought(report, fleet, held):
     for (part, site), stock in report.stocks().items():
         have = held[part, site]
         if stock < have:
-            raise Refused('%s at %s: %d are on hand, and the report has %d: nothing is sold or moved' % (part, site, have, stock))
+            raise Refused(
+                '%s at %s: %d are on hand, and the report has %d: nothing is sold or moved' % (part, site, have, stock)
+            )
         if stock > have:
             cost = fleet.part[part].cost
             rows.append([part, site, have, stock - have, stock, cost, cost * (stock - have)])
@@ -83,7 +91,11 @@ def main():
     if words.by_part:
         writer.writerows([['part', 'buy', 'unit_cost', 'cost']] + by_part(rows) + [['total', count, '', cost]])
     else:
-        writer.writerows([['part', 'site', 'have', 'buy', 'then', 'unit_cost', 'cost']] + rows + [['total', '', '', count, '', '', cost]])
+        writer.writerows(
+            [['part', 'site', 'have', 'buy', 'then', 'unit_cost', 'cost']]
+            + rows
+            + [['total', '', '', count, '', '', cost]]
+        )
 
 
 if __name__ == '__main__':

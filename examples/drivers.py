@@ -62,10 +62,17 @@ def main():
     sums = sums_of(report, fleet, words.by_base)
     everything = sum(row.high for row in sums.values()) or 1
     writer = csv.writer(sys.stdout, lineterminator='\n')
-    writer.writerow(['part'] + ['site'] * words.by_base + ['ebo_low', 'ebo_high', 'percent'] + ['demand', 'wait_days'] * bool(words.rates))
+    writer.writerow(
+        ['part']
+        + ['site'] * words.by_base
+        + ['ebo_low', 'ebo_high', 'percent']
+        + ['demand', 'wait_days'] * bool(words.rates)
+    )
     for key, row in sorted(sums.items(), key=lambda pair: -pair[1].high):
         more = ['%d.%04d' % divmod(row.demand, 10**4), row.wait()] if words.rates else []
-        writer.writerow([*key, value(row.low), value(row.high), '%d.%d' % divmod(1000 * row.high // everything, 10)] + more)
+        writer.writerow(
+            [*key, value(row.low), value(row.high), '%d.%d' % divmod(1000 * row.high // everything, 10)] + more
+        )
 
 
 if __name__ == '__main__':

@@ -44,11 +44,15 @@ class FamilyRates:
         found[0, 0] = Pipeline(line_sent, line_sent * self.repair[0][0], line_sent * wait)
         for unit in self.units:
             demands = {base: self.demand[base] * self.here[0][base] * self.share[unit][base] for base in self.bases}
-            at_depot = sum(self.sent(unit, base, demands[base]) for base in self.bases) + line_sent * self.share[unit][0]
+            at_depot = (
+                sum(self.sent(unit, base, demands[base]) for base in self.bases) + line_sent * self.share[unit][0]
+            )
             found[unit, 0] = Pipeline(at_depot, at_depot * self.repair[unit][0], at_depot * self.repair[unit][0])
             for base, demand in demands.items():
                 direct = self.at_base(unit, base, demand)
-                found[unit, base] = Pipeline(demand, direct, direct + self.sent(unit, base, demand) * self.repair[unit][0])
+                found[unit, base] = Pipeline(
+                    demand, direct, direct + self.sent(unit, base, demand) * self.repair[unit][0]
+                )
         for base in self.bases:
             demand = self.demand[base]
             direct = self.at_base(0, base, demand)
@@ -60,7 +64,8 @@ class FamilyRates:
 def is_known(fleet, family):
     """Whether all numbers that the pipelines of a family need are right."""
     return all(fleet.rates.get((part.name, site.name)) is not None for part in family for site in fleet.sites) and all(
-        site.ship_days is not None for site in fleet.bases)
+        site.ship_days is not None for site in fleet.bases
+    )
 
 
 def pipelines_of(fleet):
@@ -80,7 +85,11 @@ def refusal_of(pipeline):
     if pipeline.demand > 0 and pipeline.direct * 10**7 < 1:
         return 'thin-pipeline', 'there is demand, but no time passes: is ship_days or repair_days missing?'
     if pipeline.mean > 256:
-        return 'pipeline-too-large', 'without any stock %.1f units are on their way, where 256 are the most: look at demand and days' % pipeline.mean
+        return (
+            'pipeline-too-large',
+            'without any stock %.1f units are on their way, where 256 are the most: look at demand and days'
+            % pipeline.mean,
+        )
     if pipeline.mean > 1024 * pipeline.direct:
         return 'pipeline-ratio', 'nearly all of it waits elsewhere: its own ship_days and repair_days are nearly 0'
     return None

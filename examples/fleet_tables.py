@@ -68,9 +68,10 @@ def read_file(path):
 def records_of(data):
     """The rows of a table: the fields of each record without blanks round them, the header being row 1, and the line of the file
     on which it begins. A byte is a character here. One byte order mark is dropped, and lines that are empty; a line of blanks is
-    a record. No field may hold the byte 0, which some versions of Python refuse: it is read as another that no field may hold."""
+    a record. No field may hold the byte 0, which some versions of Python refuse: it is read as another that no field may hold.
+    """
     csv.field_size_limit(MOST_BYTES + 1)
-    text = data[len(MARK):] if data.startswith(MARK) else data
+    text = data[len(MARK) :] if data.startswith(MARK) else data
     lines = io.StringIO(text.replace(b'\0', b'\1').decode('latin-1'), newline='')
     reader = csv.reader(lines)
     rows = []
@@ -155,7 +156,9 @@ class Fleet:
             self.part.setdefault(part.name, part)
         for site in self.sites:
             self.site.setdefault(site.name, site)
-        self.families = [[part] + [unit for unit in parts if unit.parent == part.name] for part in parts if not part.parent]
+        self.families = [
+            [part] + [unit for unit in parts if unit.parent == part.name] for part in parts if not part.parent
+        ]
 
     def pairs(self):
         """The names of part and site, in the order of all reports."""
@@ -189,11 +192,20 @@ class Reader:
         self.readable.add(table)
         for row in rows[1:]:
             if row.number - 1 > MOST_ROWS[table]:
-                self.fault(table, row.line, 'too-many-rows,%s' % table, 'the table has over %d rows: no further one is looked at' % MOST_ROWS[table])
+                self.fault(
+                    table,
+                    row.line,
+                    'too-many-rows,%s' % table,
+                    'the table has over %d rows: no further one is looked at' % MOST_ROWS[table],
+                )
                 return
             if len(row.fields) != columns:
-                self.fault(table, row.line, 'field-count,%s,%d,%d' % (table, row.number, len(row.fields)),
-                           'the row has %s, the header %d: %s' % (counted(row.fields), columns, self.why_count(row, columns)))
+                self.fault(
+                    table,
+                    row.line,
+                    'field-count,%s,%d,%d' % (table, row.number, len(row.fields)),
+                    'the row has %s, the header %d: %s' % (counted(row.fields), columns, self.why_count(row, columns)),
+                )
             yield row._replace(is_whole=len(row.fields) == columns)
 
     def why_count(self, row, columns):
@@ -209,10 +221,21 @@ class Reader:
         columns = 7 if table == 'parts' and len(header.fields) == 7 else 6 if table == 'parts' else len(wanted)
         faults = []
         if len(header.fields) != columns:
-            faults.append(('field-count,%s,1,%d' % (table, len(header.fields)), 'the header has %s, where %d are wanted' % (counted(header.fields), columns)))
+            faults.append(
+                (
+                    'field-count,%s,1,%d' % (table, len(header.fields)),
+                    'the header has %s, where %d are wanted' % (counted(header.fields), columns),
+                )
+            )
         else:
-            faults += [('header,%s,%d' % (table, column), 'the name of this column is %s, where %s is wanted' % (shown(found), name))
-                       for column, (found, name) in enumerate(zip(header.fields, wanted), 1) if found != name]
+            faults += [
+                (
+                    'header,%s,%d' % (table, column),
+                    'the name of this column is %s, where %s is wanted' % (shown(found), name),
+                )
+                for column, (found, name) in enumerate(zip(header.fields, wanted), 1)
+                if found != name
+            ]
         for text, what in faults:
             self.fault(table, header.line, text, what + self.why_header(rows, wanted))
         return None if faults else columns
@@ -224,10 +247,14 @@ class Reader:
             for separator, name in ((',', ''), (';', 'semicolons'), ('\t', 'tabs')):
                 fields = row.fields if separator == ',' else row.fields[0].split(separator)
                 if [field.strip(' \t') for field in fields[:3]] == wanted[:3] and (above or name):
-                    return above + ('. The fields have %s between them: save the table with commas, and decimals with points' % name if name else '')
+                    return above + (
+                        '. The fields have %s between them: save the table with commas, and decimals with points' % name
+                        if name
+                        else ''
+                    )
         if rows[0].fields[0].startswith(MARK.decode('latin-1')):
             return '. There are two byte order marks'
-        if [field.lower() for field in rows[0].fields] == wanted[:len(rows[0].fields)]:
+        if [field.lower() for field in rows[0].fields] == wanted[: len(rows[0].fields)]:
             return '. Write it in small letters'
         return '. Wanted is: %s' % ','.join(wanted)
 
@@ -250,10 +277,17 @@ class Reader:
             return None
         units = units_of(text, number.places)
         if units is None:
-            self.fault(table, row.line, 'bad-number,%s' % at, '%s: %s %s' % (name, shown(text), why_no_number(text, number)))
+            self.fault(
+                table, row.line, 'bad-number,%s' % at, '%s: %s %s' % (name, shown(text), why_no_number(text, number))
+            )
         elif not number.least <= units <= number.most:
             least, most = decimal(number.least, number.places), decimal(number.most, number.places)
-            self.fault(table, row.line, 'out-of-range,%s' % at, '%s: %s is not from %s to %s' % (name, shown(text), least, most))
+            self.fault(
+                table,
+                row.line,
+                'out-of-range,%s' % at,
+                '%s: %s is not from %s to %s' % (name, shown(text), least, most),
+            )
         else:
             return units
         return None
@@ -264,8 +298,12 @@ class Reader:
             return self.number_in(table, row, column, number)
         text = row.fields[column - 1]
         if text:
-            self.fault(table, row.line, 'field-not-empty,%s,%d,%d' % (table, row.number, column),
-                       '%s: %s must be empty: %s' % (HEADERS[table][column - 1], shown(text), why))
+            self.fault(
+                table,
+                row.line,
+                'field-not-empty,%s,%d,%d' % (table, row.number, column),
+                '%s: %s must be empty: %s' % (HEADERS[table][column - 1], shown(text), why),
+            )
         return None
 
     # tables
@@ -283,7 +321,12 @@ class Reader:
                 systems = self.used_in('sites', row, 3, SYSTEMS, why)
                 ship_days = self.used_in('sites', row, 4, DAYS, why and 'nothing is shipped to the depot')
             else:
-                self.fault('sites', row.line, 'bad-kind,sites,%d' % row.number, 'kind: %s is neither depot nor base' % shown(kind))
+                self.fault(
+                    'sites',
+                    row.line,
+                    'bad-kind,sites,%d' % row.number,
+                    'kind: %s is neither depot nor base' % shown(kind),
+                )
             sites.append(Site(name, kind, systems, ship_days, row))
         return sites
 
@@ -311,9 +354,13 @@ class Reader:
         for site in sites:
             at = ',%d' % site.row.number
             if site.name in seen:
-                self.fault('sites', site.row.line, 'double-site' + at, '%s is in row %d already' % (site.name, seen[site.name]))
+                self.fault(
+                    'sites', site.row.line, 'double-site' + at, '%s is in row %d already' % (site.name, seen[site.name])
+                )
             elif site.is_depot and site is not depots[0]:
-                self.fault('sites', site.row.line, 'two-depots' + at, 'row %d has a depot already' % depots[0].row.number)
+                self.fault(
+                    'sites', site.row.line, 'two-depots' + at, 'row %d has a depot already' % depots[0].row.number
+                )
             if site.name is not None:
                 seen.setdefault(site.name, site.row.number)
         if not depots:
@@ -326,7 +373,12 @@ class Reader:
         first = {}
         for part in parts:
             if part.name in first:
-                self.fault('parts', part.row.line, 'double-part,%d' % part.row.number, '%s is in row %d already' % (part.name, first[part.name].row.number))
+                self.fault(
+                    'parts',
+                    part.row.line,
+                    'double-part,%d' % part.row.number,
+                    '%s is in row %d already' % (part.name, first[part.name].row.number),
+                )
             if part.name is not None:
                 first.setdefault(part.name, part)
         units = {}
@@ -335,23 +387,43 @@ class Reader:
             if part.parent is None or not is_name(part.parent):
                 continue
             if part.parent not in first:
-                self.fault('parts', part.row.line, 'unknown-parent' + at, 'there is no part %s: spell the parent as in its own row' % shown(part.parent))
+                self.fault(
+                    'parts',
+                    part.row.line,
+                    'unknown-parent' + at,
+                    'there is no part %s: spell the parent as in its own row' % shown(part.parent),
+                )
             elif first[part.parent].parent is not None:
                 self.fault('parts', part.row.line, 'parent-not-line' + at, '%s is a shop unit itself' % part.parent)
             else:
                 units[part.parent] = units.get(part.parent, 0) + 1
                 if units[part.parent] > MOST_SHOP_UNITS:
-                    self.fault('parts', part.row.line, 'too-many-shop-units' + at, '%s has %d shop units already' % (part.parent, MOST_SHOP_UNITS))
+                    self.fault(
+                        'parts',
+                        part.row.line,
+                        'too-many-shop-units' + at,
+                        '%s has %d shop units already' % (part.parent, MOST_SHOP_UNITS),
+                    )
 
     def pair_in(self, table, row, fleet):
         """The part and the site that a row names, each or None."""
         part = self.name_in(table, row, 1)
         if part is not None and part not in fleet.part:
-            self.fault(table, row.line, 'unknown-part,%s,%d' % (table, row.number), 'there is no part %s in the table of parts' % shown(part))
+            self.fault(
+                table,
+                row.line,
+                'unknown-part,%s,%d' % (table, row.number),
+                'there is no part %s in the table of parts' % shown(part),
+            )
             part = None
         site = self.name_in(table, row, 2)
         if site is not None and site not in fleet.site:
-            self.fault(table, row.line, 'unknown-site,%s,%d' % (table, row.number), 'there is no site %s in the table of sites' % shown(site))
+            self.fault(
+                table,
+                row.line,
+                'unknown-site,%s,%d' % (table, row.number),
+                'there is no site %s in the table of sites' % shown(site),
+            )
             site = None
         return part, site
 
@@ -374,10 +446,18 @@ class Reader:
             if part is None or site is None:
                 continue
             is_unit, is_depot = fleet.part[part].parent is not None, fleet.site[site].is_depot
-            why = 'the demand of a shop unit follows from its line unit' if is_unit else 'the depot has no demand of its own' if is_depot else None
+            why = (
+                'the demand of a shop unit follows from its line unit'
+                if is_unit
+                else 'the depot has no demand of its own'
+                if is_depot
+                else None
+            )
             before = len(self.faults)
             demand = self.used_in('rates', row, 3, DEMAND, why)
-            repair_here = self.used_in('rates', row, 4, FRACTION, 'the depot repairs what it gets' if is_depot else None)
+            repair_here = self.used_in(
+                'rates', row, 4, FRACTION, 'the depot repairs what it gets' if is_depot else None
+            )
             share = self.used_in('rates', row, 5, FRACTION, None if is_unit else 'only a shop unit has a share')
             days = self.number_in('rates', row, 6, DAYS)
             if (part, site) in rates:
@@ -393,8 +473,20 @@ class Reader:
         for part, site in fleet.pairs():
             if (part, site) not in named:
                 is_unit, is_depot = fleet.part[part].parent is not None, fleet.site[site].is_depot
-                row = [part, site, '' if is_unit or is_depot else '0', '' if is_depot else '0', '0' if is_unit else '', '0']
-                self.fault('rates', None, 'missing-rate,%s,%s' % (part, site), 'this pair has no row; where nothing happens it is %s' % ','.join(row))
+                row = [
+                    part,
+                    site,
+                    '' if is_unit or is_depot else '0',
+                    '' if is_depot else '0',
+                    '0' if is_unit else '',
+                    '0',
+                ]
+                self.fault(
+                    'rates',
+                    None,
+                    'missing-rate,%s,%s' % (part, site),
+                    'this pair has no row; where nothing happens it is %s' % ','.join(row),
+                )
 
     def stocks_of(self, table, rows, fleet):
         """The stock of each pair."""
@@ -411,8 +503,13 @@ class Reader:
         for row, part, site, stock in found:
             limit = fleet.limit(part, site)
             if stock is not None and limit is not None and stock > limit:
-                self.fault(table, row.line, 'over-limit,%d' % row.number, '%d of %s at %s, where %s is %d' % (
-                    stock, part, site, 'max_depot' if fleet.site[site].is_depot else 'max_base', limit))
+                self.fault(
+                    table,
+                    row.line,
+                    'over-limit,%d' % row.number,
+                    '%d of %s at %s, where %s is %d'
+                    % (stock, part, site, 'max_depot' if fleet.site[site].is_depot else 'max_base', limit),
+                )
             if (part, site) in stocks:
                 self.fault(table, row.line, 'double-stock,%d' % row.number, '%s at %s has a row already' % (part, site))
             else:
@@ -422,7 +519,12 @@ class Reader:
     def missing_stocks(self, table, stocks, fleet):
         for part, site in fleet.pairs():
             if (part, site) not in stocks:
-                self.fault(table, None, 'missing-stock,%s,%s' % (part, site), 'this pair has no row; where there is nothing it is %s,%s,0' % (part, site))
+                self.fault(
+                    table,
+                    None,
+                    'missing-stock,%s,%s' % (part, site),
+                    'this pair has no row; where there is nothing it is %s,%s,0' % (part, site),
+                )
 
 
 Loaded = namedtuple('Loaded', 'fleet stocks faults')
@@ -430,7 +532,8 @@ Loaded = namedtuple('Loaded', 'fleet stocks faults')
 
 def load(names):
     """All tables of these files, by the name of their option: `sites` and `parts`, and if they are named `rates`, `stocks` and
-    `on-hand`. With the faults of the files, of the tables, and of the rows together; what follows from rates isn't looked at."""
+    `on-hand`. With the faults of the files, of the tables, and of the rows together; what follows from rates isn't looked at.
+    """
     reader = Reader(names)
     data = {}
     for table in HEADERS:
@@ -442,7 +545,12 @@ def load(names):
             reader.fault(table, None, 'read,%s' % table, str(error).rpartition(': ')[2])
             continue
         if len(data[table]) > MOST_BYTES:
-            reader.fault(table, None, 'too-long,%s' % table, 'the file has over %d bytes: are there other sheets or empty columns in it?' % MOST_BYTES)
+            reader.fault(
+                table,
+                None,
+                'too-long,%s' % table,
+                'the file has over %d bytes: are there other sheets or empty columns in it?' % MOST_BYTES,
+            )
             del data[table]
     sites = reader.sites_of(reader.rows_of('sites', data['sites'])) if 'sites' in data else []
     parts = reader.parts_of(reader.rows_of('parts', data['parts'])) if 'parts' in data else []
@@ -451,7 +559,9 @@ def load(names):
             reader.names_of(table, data)
         return Loaded(None, {}, reader.faults)
     reader.frame_of(sites, parts)
-    fleet = Fleet([site for site in sites if site.name is not None], [part for part in parts if part.name is not None], {})
+    fleet = Fleet(
+        [site for site in sites if site.name is not None], [part for part in parts if part.name is not None], {}
+    )
     if 'rates' in data:
         fleet.rates = reader.rates_of(reader.rows_of('rates', data['rates']), fleet)
         if 'rates' in reader.readable:

@@ -58,8 +58,13 @@ def means_of(fleet):
         refusal = refusal_of(pipelines[pair])
         if refusal and refusal[0] == 'pipeline-too-large':
             raise Refused('fault,%s,%s,%s: %s' % (refusal[0], *pair, refusal[1]))
-    return {part.name: (pipelines[part.name, fleet.sites[0].name].mean, max(pipelines[part.name, site.name].mean for site in fleet.bases))
-            for part in fleet.parts}
+    return {
+        part.name: (
+            pipelines[part.name, fleet.sites[0].name].mean,
+            max(pipelines[part.name, site.name].mean for site in fleet.bases),
+        )
+        for part in fleet.parts
+    }
 
 
 def room_of(limit, mean):
@@ -83,7 +88,9 @@ def lowered(fleet, limits, means):
         places = [(part, column) for part in family[1:] for column in (1, 0) if limits[part.name][column] > 0]
         if not places:
             places = [(family[0], 0)]
-        part, column = max(places, key=lambda place: room_of(limits[place[0].name][place[1]], means[place[0].name][place[1]]))
+        part, column = max(
+            places, key=lambda place: room_of(limits[place[0].name][place[1]], means[place[0].name][place[1]])
+        )
         limits[part.name][column] -= 1
         total -= counts[family[0].name]
         counts[family[0].name] = tables(family)
@@ -152,7 +159,9 @@ def propose(words):
     if words.write_parts:
         write_file(words.write_parts, parts_text(fleet, first), names.values())
     if words.write_stocks:
-        write_file(words.write_stocks, csv_text([HEADERS['stocks']] + [[*pair, 0] for pair in fleet.pairs()]), names.values())
+        write_file(
+            words.write_stocks, csv_text([HEADERS['stocks']] + [[*pair, 0] for pair in fleet.pairs()]), names.values()
+        )
     print_first(fleet, means, wishes, first)
 
 
@@ -163,7 +172,10 @@ def at_limits(words):
     for (part, site), stock in report.stocks().items():
         limit = fleet.limit(part, site)
         if stock > limit:
-            raise Refused('%s: %d of %s at %s is over the limit: the report is of other tables' % (words.report, stock, part, site))
+            raise Refused(
+                '%s: %d of %s at %s is over the limit: the report is of other tables'
+                % (words.report, stock, part, site)
+            )
         if stock == limit > 0:
             print('at-limit,%s,%s,%d' % (part, site, stock))
 

@@ -32,8 +32,12 @@ def work_faults(fleet, held, name):
     work = work_of(fleet, held)
     if work > MOST_WORK:
         largest = max(fleet.families, key=lambda family: tables_of(family, len(fleet.bases), limits_of(family)))
-        yield Fault(name, 'fault,work,%d' % work, 'the limits allow too many combinations, most in the family of %s: '
-                    'limits.py says which to lower first' % largest[0].name)
+        yield Fault(
+            name,
+            'fault,work,%d' % work,
+            'the limits allow too many combinations, most in the family of %s: '
+            'limits.py says which to lower first' % largest[0].name,
+        )
 
 
 def faults_of(names):
@@ -53,7 +57,15 @@ def main():
     words = Words(__doc__)
     words.tables('sites', 'parts', 'rates', 'stocks', 'on-hand')
     words = words.parse_args()
-    faults = faults_of({'sites': words.sites, 'parts': words.parts, 'rates': words.rates, 'stocks': words.stocks, 'on-hand': words.on_hand})
+    faults = faults_of(
+        {
+            'sites': words.sites,
+            'parts': words.parts,
+            'rates': words.rates,
+            'stocks': words.stocks,
+            'on-hand': words.on_hand,
+        }
+    )
     for fault in faults:
         print('%s: %s: %s' % fault)
     print('no faults' if not faults else '1 fault' if len(faults) == 1 else '%d faults' % len(faults))

@@ -39,7 +39,11 @@ class Picture:
 
     def place(self, cost, value):
         x = LEFT + (WIDTH - LEFT - self.right) * (cost - self.across[0]) / (self.across[-1] - self.across[0])
-        y = self.height - BOTTOM - (self.height - TOP - BOTTOM) * (value - self.upwards[0]) / (self.upwards[-1] - self.upwards[0])
+        y = (
+            self.height
+            - BOTTOM
+            - (self.height - TOP - BOTTOM) * (value - self.upwards[0]) / (self.upwards[-1] - self.upwards[0])
+        )
         return '%.2f,%.2f' % (x, y)
 
     def path(self, corners, style, closed=False):
@@ -68,17 +72,29 @@ class Picture:
 
     def upright(self, cost, text, colour):
         """A line at a cost, with words beside it."""
-        self.path([(cost, self.upwards[0]), (cost, self.upwards[-1])], 'stroke="%s" stroke-dasharray="6 4" fill="none"' % colour)
+        self.path(
+            [(cost, self.upwards[0]), (cost, self.upwards[-1])],
+            'stroke="%s" stroke-dasharray="6 4" fill="none"' % colour,
+        )
         x, y = map(float, self.place(cost, self.upwards[-1]).split(','))
         is_left = x > WIDTH * 0.7
-        self.words(x - 6 if is_left else x + 6, y + 14, text, 'text-anchor="%s" fill="%s"' % ('end' if is_left else 'start', colour))
+        self.words(
+            x - 6 if is_left else x + 6,
+            y + 14,
+            text,
+            'text-anchor="%s" fill="%s"' % ('end' if is_left else 'start', colour),
+        )
 
     def text(self):
         return '\n'.join(
-            ['<svg xmlns="http://www.w3.org/2000/svg" width="%d" height="%d" viewBox="0 0 %d %d" '
-             'font-family="sans-serif" font-size="13" fill="%s">' % (WIDTH, self.height, WIDTH, self.height, INK),
-             '<rect width="100%" height="100%" fill="white"/>']
-            + self.parts + ['</svg>', ''])
+            [
+                '<svg xmlns="http://www.w3.org/2000/svg" width="%d" height="%d" viewBox="0 0 %d %d" '
+                'font-family="sans-serif" font-size="13" fill="%s">' % (WIDTH, self.height, WIDTH, self.height, INK),
+                '<rect width="100%" height="100%" fill="white"/>',
+            ]
+            + self.parts
+            + ['</svg>', '']
+        )
 
 
 # A sweep
@@ -149,14 +165,27 @@ def bars_picture(title, rows, note=''):
     span = most - least or 1
     left, wide, high = 210, 560, 22
     zero = left + wide * -least / span
-    parts = ['<text x="20" y="28" font-size="14">%s</text>' % escape(title), '<text x="20" y="46" font-size="12" fill="#555555">%s</text>' % escape(note)]
+    parts = [
+        '<text x="20" y="28" font-size="14">%s</text>' % escape(title),
+        '<text x="20" y="46" font-size="12" fill="#555555">%s</text>' % escape(note),
+    ]
     for place, (name, value, said) in enumerate(rows):
         y = 66 + high * place
         begin, end = sorted((zero, zero + wide * value / span))
         parts.append('<text x="%d" y="%d" text-anchor="end">%s</text>' % (left - 10, y + 11, escape(name)))
-        parts.append('<rect x="%.2f" y="%d" width="%.2f" height="14" fill="%s"/>' % (begin, y, end - begin, LINE if value >= 0 else COLOURS[1]))
+        parts.append(
+            '<rect x="%.2f" y="%d" width="%.2f" height="14" fill="%s"/>'
+            % (begin, y, end - begin, LINE if value >= 0 else COLOURS[1])
+        )
         parts.append('<text x="%.2f" y="%d">%s</text>' % (max(end, zero) + 8, y + 11, escape(said)))
     height = 66 + high * len(rows) + 20
     parts.append('<path d="M%.2f,58 V%d" stroke="%s" fill="none"/>' % (zero, height - 22, INK))
-    return '\n'.join(['<svg xmlns="http://www.w3.org/2000/svg" width="%d" height="%d" viewBox="0 0 %d %d" font-family="sans-serif" font-size="13" fill="%s">' % (
-        WIDTH, height, WIDTH, height, INK), '<rect width="100%" height="100%" fill="white"/>'] + parts + ['</svg>', ''])
+    return '\n'.join(
+        [
+            '<svg xmlns="http://www.w3.org/2000/svg" width="%d" height="%d" viewBox="0 0 %d %d" font-family="sans-serif" font-size="13" fill="%s">'
+            % (WIDTH, height, WIDTH, height, INK),
+            '<rect width="100%" height="100%" fill="white"/>',
+        ]
+        + parts
+        + ['</svg>', '']
+    )

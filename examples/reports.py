@@ -31,8 +31,12 @@ class Words(argparse.ArgumentParser):
     def tables(self, *names, needed=('sites', 'parts', 'rates')):
         """Options that name tables."""
         for name in names:
-            self.add_argument('--' + name, metavar='F', required=name in needed, help='the table of %s' % {
-                'on-hand': 'the stocks on hand'}.get(name, name))
+            self.add_argument(
+                '--' + name,
+                metavar='F',
+                required=name in needed,
+                help='the table of %s' % {'on-hand': 'the stocks on hand'}.get(name, name),
+            )
 
     def program(self):
         self.add_argument('--program', metavar='F', default=PROGRAM, help='the program, if it is not %(default)s')
@@ -95,16 +99,33 @@ FIGURES = [
     line('total', **RANGE),
 ]
 FORMS = {
-    'plan': [line('plan', budget=COUNT), line('cost', cost=COUNT), line('on-hand', '?', cost=COUNT)] + FIGURES + [
-        line('loss', '?', **RANGE), line('bound', value=VALUE), line('gap', value=VALUE), line('rounding', value=VALUE),
-        line('price', value=PRICE), line('hull', cost=COUNT), line('critical', part=NAME, cost=COUNT + '|')],
+    'plan': [line('plan', budget=COUNT), line('cost', cost=COUNT), line('on-hand', '?', cost=COUNT)]
+    + FIGURES
+    + [
+        line('loss', '?', **RANGE),
+        line('bound', value=VALUE),
+        line('gap', value=VALUE),
+        line('rounding', value=VALUE),
+        line('price', value=PRICE),
+        line('hull', cost=COUNT),
+        line('critical', part=NAME, cost=COUNT + '|'),
+    ],
     'eval': [line('eval', bits=COUNT), line('cost', cost=COUNT)] + FIGURES,
     'compare': [line('compare', bits=COUNT), line('item', '*', **PLACE, **TWO), line('total', **TWO)],
     'sweep': [line('sweep', points=COUNT), line('point', '*', cost=COUNT, **RANGE, price=PRICE + '|none')],
-    'target': [line('target', backorders=r'\d+\.\d{4}'), line('reach', cost=COUNT + '|none', low=VALUE + '|', high=VALUE + '|'),
-               line('at-least', cost=COUNT + '|none')],
-    'accepted': [line('accepted', format=COUNT), line('budget', budget=COUNT), line('cost', cost=COUNT), line('on-hand', '?', cost=COUNT),
-                 line('upper', value=VALUE), line('bound', value=VALUE)],
+    'target': [
+        line('target', backorders=r'\d+\.\d{4}'),
+        line('reach', cost=COUNT + '|none', low=VALUE + '|', high=VALUE + '|'),
+        line('at-least', cost=COUNT + '|none'),
+    ],
+    'accepted': [
+        line('accepted', format=COUNT),
+        line('budget', budget=COUNT),
+        line('cost', cost=COUNT),
+        line('on-hand', '?', cost=COUNT),
+        line('upper', value=VALUE),
+        line('bound', value=VALUE),
+    ],
 }
 # lines that may be shorter: the fields that are left out then
 SHORTER = {'critical,none': {'part': 'none', 'cost': ''}, 'reach,none': {'cost': 'none', 'low': '', 'high': ''}}
@@ -191,8 +212,10 @@ def report_in(path, *kinds):
     """The one report in a file, of one of these kinds."""
     reports = reports_of(read_file(path), path)
     if len(reports) != 1 or reports[0].kind not in kinds:
-        raise Refused('%s: one report of %s is wanted, and there is %s' % (
-            path, ' or '.join(kinds), ', '.join('one of ' + report.kind for report in reports[:3])))
+        raise Refused(
+            '%s: one report of %s is wanted, and there is %s'
+            % (path, ' or '.join(kinds), ', '.join('one of ' + report.kind for report in reports[:3]))
+        )
     return reports[0]
 
 
@@ -222,12 +245,16 @@ class Program:
 
     def __init__(self, words):
         self.path = words.program
-        self.tables = [word for table in ('sites', 'parts', 'rates') for word in ('--' + table, getattr(words, table, None))]
+        self.tables = [
+            word for table in ('sites', 'parts', 'rates') for word in ('--' + table, getattr(words, table, None))
+        ]
 
     def run(self, *words):
         """Runs a command: its status, its report and the line of its refusal."""
         try:
-            ran = subprocess.run([self.path] + [str(word) for word in words], capture_output=True, stdin=subprocess.DEVNULL)
+            ran = subprocess.run(
+                [self.path] + [str(word) for word in words], capture_output=True, stdin=subprocess.DEVNULL
+            )
         except OSError as error:
             raise Refused('the program %s: %s' % (self.path, error.strerror))
         return Ran(ran.returncode, ran.stdout, ran.stderr.decode('latin-1').strip())

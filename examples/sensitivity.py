@@ -37,7 +37,13 @@ def percent(text):
 def rate_line(fleet, part, site, demand):
     """The line of an edit that gives a line unit at a base this demand, in units of the 4th decimal."""
     rate = fleet.rates[part, site]
-    return 'rate,%s,%s,%s,%s,,%s\n' % (part, site, decimal(demand, 4), decimal(rate.repair_here, 4), decimal(rate.repair_days, 2))
+    return 'rate,%s,%s,%s,%s,,%s\n' % (
+        part,
+        site,
+        decimal(demand, 4),
+        decimal(rate.repair_here, 4),
+        decimal(rate.repair_days, 2),
+    )
 
 
 def edits_of(words, fleet, units):
@@ -46,7 +52,10 @@ def edits_of(words, fleet, units):
     for unit in units:
         sites = [site.name for site in fleet.bases]
         demands = [fleet.rates[unit, site].demand for site in sites]
-        lines += [rate_line(fleet, unit, site, -(-demand * (100 + words.percent) // 100)) for site, demand in zip(sites, demands)]
+        lines += [
+            rate_line(fleet, unit, site, -(-demand * (100 + words.percent) // 100))
+            for site, demand in zip(sites, demands)
+        ]
         lines.append('plan\n')
         lines += [rate_line(fleet, unit, site, demand) for site, demand in zip(sites, demands)]
     return ''.join(lines)
@@ -60,7 +69,7 @@ def planned(words, fleet):
     with tempfile.TemporaryDirectory() as room:
         edits = os.path.join(room, 'edits.txt')
         for begin in range(0, max(1, len(units)), MOST_UNITS):
-            some = units[begin:begin + MOST_UNITS]
+            some = units[begin : begin + MOST_UNITS]
             write_file(edits, edits_of(words, fleet, some))
             first, *reports = program.reports('session', '--edits', edits)
             found.update(zip(some, reports))
@@ -91,7 +100,10 @@ def main():
     if words.picture:
         bars.sort(key=lambda bar: -bar[1])
         title = 'Demand %d %% larger, one line unit at a time: how many more backorders' % words.percent
-        note = 'The same budget of %s, planned anew; then how many stocks differ from the plan as it is' % '{:,}'.format(words.budget)
+        note = (
+            'The same budget of %s, planned anew; then how many stocks differ from the plan as it is'
+            % '{:,}'.format(words.budget)
+        )
         write_file(words.picture, bars_picture(title, bars, note), names.values())
 
 

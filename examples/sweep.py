@@ -45,7 +45,7 @@ def planned(program, costs):
         with tempfile.TemporaryDirectory() as room:
             edits = os.path.join(room, 'edits.txt')
             with open(edits, 'w') as file:
-                file.writelines('budget,%d\nplan\n' % cost for cost in costs[begin:begin + MOST_PLANS])
+                file.writelines('budget,%d\nplan\n' % cost for cost in costs[begin : begin + MOST_PLANS])
             plans += program.reports('session', '--edits', edits)
     return plans
 
@@ -58,14 +58,29 @@ def steps(words, points):
         must_fit(plan, fleet, 'spares session')
         total = plan.one('total')
         if (plan.one('cost')['cost'], total['low'], total['high']) != (point['cost'], point['low'], point['high']):
-            raise Refused('the plan at the point %s costs %s and has another total: the sweep is of other tables' % (point['cost'], plan.one('cost')['cost']))
+            raise Refused(
+                'the plan at the point %s costs %s and has another total: the sweep is of other tables'
+                % (point['cost'], plan.one('cost')['cost'])
+            )
     rows = []
     for before, after, plan, then in zip(points, points[1:], plans, plans[1:]):
         stocks = then.stocks()
         for (part, site), stock in plan.stocks().items():
             if stocks[part, site] != stock:
                 money = fleet.part[part].cost * (stocks[part, site] - stock)
-                rows.append([before['cost'], after['cost'], after['low'], after['high'], part, site, stock, stocks[part, site], money])
+                rows.append(
+                    [
+                        before['cost'],
+                        after['cost'],
+                        after['low'],
+                        after['high'],
+                        part,
+                        site,
+                        stock,
+                        stocks[part, site],
+                        money,
+                    ]
+                )
     return rows
 
 
@@ -82,8 +97,11 @@ def main():
     report = read_sweep()
     if words.least is not None and words.most is not None and words.least >= words.most:
         raise Refused('--from must be below --to')
-    points = [point for point in report.all('point') if (words.least or 0) <= int(point['cost']) and (
-        words.most is None or int(point['cost']) <= words.most)]
+    points = [
+        point
+        for point in report.all('point')
+        if (words.least or 0) <= int(point['cost']) and (words.most is None or int(point['cost']) <= words.most)
+    ]
     if not points:
         raise Refused('no point of the sweep lies between these costs')
     if not words.steps:

@@ -31,8 +31,29 @@ BASE_KINDS = ['systems']
 POINT = ['cost', 'total_low', 'total_high', 'price']
 ENDS_OF = {'base': 'availability', 'point': 'total'}
 MANY = {'item': 'items.csv', 'base': 'bases.csv', 'point': 'points.csv'}
-ONCE = ['plan', 'eval', 'compare', 'sweep', 'target', 'accepted', 'budget', 'cost', 'on-hand', 'fleet', 'total', 'loss', 'bound', 'gap',
-        'rounding', 'price', 'hull', 'critical', 'reach', 'at-least', 'upper']
+ONCE = [
+    'plan',
+    'eval',
+    'compare',
+    'sweep',
+    'target',
+    'accepted',
+    'budget',
+    'cost',
+    'on-hand',
+    'fleet',
+    'total',
+    'loss',
+    'bound',
+    'gap',
+    'rounding',
+    'price',
+    'hull',
+    'critical',
+    'reach',
+    'at-least',
+    'upper',
+]
 
 
 def column_of(kind, field, is_first):
@@ -69,8 +90,13 @@ def once_columns(rows):
 
 def item_kinds(fleet, item):
     part, site = fleet.part[item['part']], fleet.site[item['site']]
-    return {'part_kind': 'shop unit' if part.parent else 'line unit', 'line_unit': part.parent or part.name,
-            'site_kind': 'depot' if site.is_depot else 'base', 'unit_cost': part.cost, 'stock_limit': fleet.limit(part.name, site.name)}
+    return {
+        'part_kind': 'shop unit' if part.parent else 'line unit',
+        'line_unit': part.parent or part.name,
+        'site_kind': 'depot' if site.is_depot else 'base',
+        'unit_cost': part.cost,
+        'stock_limit': fleet.limit(part.name, site.name),
+    }
 
 
 def rows_of(reports, fleet):
@@ -85,14 +111,26 @@ def rows_of(reports, fleet):
                     more = item_kinds(fleet, fields)
                 if fleet and kind == 'base':
                     more = {'systems': fleet.site[fields['site']].systems}
-                named = {'%s_%s' % (ENDS_OF[kind], field) if field in RANGE else field: text for field, text in fields.items()}
+                named = {
+                    '%s_%s' % (ENDS_OF[kind], field) if field in RANGE else field: text
+                    for field, text in fields.items()
+                }
                 rows[MANY[kind]].append({'report': number, **named, **more})
         once.append({'report': number, **once_of(report)})
     has_poisson = any(report.kind == 'compare' for report in reports)
     has_means = any(report.kind in ('plan', 'eval') for report in reports)
-    item = [name for name in ITEM if (has_poisson or name not in ('poisson_low', 'poisson_high')) and (has_means or name in TWO or name not in ENDS)]
-    columns = {'items.csv': item + (ITEM_KINDS if fleet else []), 'bases.csv': BASE + (BASE_KINDS if fleet else []), 'points.csv': POINT,
-               'reports.csv': once_columns(once)}
+    item = [
+        name
+        for name in ITEM
+        if (has_poisson or name not in ('poisson_low', 'poisson_high'))
+        and (has_means or name in TWO or name not in ENDS)
+    ]
+    columns = {
+        'items.csv': item + (ITEM_KINDS if fleet else []),
+        'bases.csv': BASE + (BASE_KINDS if fleet else []),
+        'points.csv': POINT,
+        'reports.csv': once_columns(once),
+    }
     rows['reports.csv'] = once
     return {name: (['report'] + columns[name], rows[name]) for name in columns}
 

@@ -109,7 +109,7 @@ class Judges:
         said = linted.stdout.decode("latin-1").split("\n")[0]
         refusal = judged.stderr.decode("latin-1").rstrip("\n")
         if stocks == "stocks" and not refusal and ": fault,work," in said:
-            return refusal   # eval needs no tables, and lint says that a plan would
+            return refusal  # eval needs no tables, and lint says that a plan would
         is_same = said == "no faults" if not refusal else ": %s: " % refusal in said
         if not is_same or linted.stderr or linted.returncode != (1 if refusal else 0):
             sys.exit("%s: the program says %r, lint %r, %r" % (what, refusal, said, linted.stderr.decode("latin-1")))

@@ -82,7 +82,9 @@ def unit_rates(draws, name, is_line, demands, repairs):
     for park, _, _ in PARKS:
         here = 100 * (draws.between(30, 60) if is_line else draws.between(0, 30)) if repairs else 0
         days = draws.between(2, 6) if repairs else 0
-        rates[park] = row(name, park, decimal(demands[park], 4) if is_line else '', decimal(here, 4), share, '%d' % days)
+        rates[park] = row(
+            name, park, decimal(demands[park], 4) if is_line else '', decimal(here, 4), share, '%d' % days
+        )
     return rates
 
 
@@ -104,7 +106,10 @@ def tables():
     for line in LINE_UNITS.splitlines():
         name, per_system, cost, least, most, repairs, *units = line.split('/')
         often = draws.between(int(least), int(most))
-        demands = {park: 10 * turbines * int(per_system) * (often + draws.between(-often // 5, often // 5)) for park, turbines, _ in PARKS}
+        demands = {
+            park: 10 * turbines * int(per_system) * (often + draws.between(-often // 5, often // 5))
+            for park, turbines, _ in PARKS
+        }
         parts.append(row(name, '', cost, per_system, '0', '0'))
         found = [unit_rates(draws, name, True, demands, repairs == 'yes')]
         stocks = [stocks_of(others, name, True, often, int(per_system))]
@@ -117,9 +122,11 @@ def tables():
                 by_site[site].append(rates[site])
                 stocks_by_site[site].append(stock[site])
     return {
-        'sites': ['site,kind,systems,ship_days', row('Hub', 'depot', '', '')] + [row(park, 'base', '%d' % turbines, '%d' % days) for park, turbines, days in PARKS],
+        'sites': ['site,kind,systems,ship_days', row('Hub', 'depot', '', '')]
+        + [row(park, 'base', '%d' % turbines, '%d' % days) for park, turbines, days in PARKS],
         'parts': parts,
-        'rates': ['part,site,demand,repair_here,share,repair_days'] + [text for rows in by_site.values() for text in rows],
+        'rates': ['part,site,demand,repair_here,share,repair_days']
+        + [text for rows in by_site.values() for text in rows],
         'stocks': ['part,site,stock'] + [text for rows in stocks_by_site.values() for text in rows],
     }
 
