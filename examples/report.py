@@ -87,6 +87,21 @@ pre { margin: .5rem 0; padding: .6rem .9rem; background: var(--pale); border-rad
 '''
 
 
+FRAME = """<!DOCTYPE html>
+<html xmlns="http://www.w3.org/1999/xhtml" lang="en">
+<head>
+<meta charset="utf-8"/>
+<meta name="viewport" content="width=device-width, initial-scale=1"/>
+<title>%s</title>
+<style>%s</style>
+</head>
+<body>
+%s
+</body>
+</html>
+"""
+
+
 def tag(name, *children, **attributes):
     """An element of the page. Children are elements already; texts go through `escape` before."""
     words = ''.join(
@@ -122,6 +137,10 @@ def percent(ends):
     return data('%s,%s' % (ends['low'], ends['high']), rounded(micro(ends['low']) // 1000, 1) + ' %')
 
 
+def checksum(text):
+    return tag('code', hashlib.sha256(text).hexdigest())
+
+
 def total_of(ends):
     return data('%s,%s' % (ends['low'], ends['high']), up(ends['high']))
 
@@ -134,6 +153,7 @@ class Page:
         self.fleet, stocks, _ = whole({'sites': words.sites, 'parts': words.parts, 'on-hand': words.on_hand})
         self.report = report_in(words.report, 'plan', 'eval')
         must_fit(self.report, self.fleet, words.report)
+        self.stocks = self.report.stocks()
         self.held = held_in(words, stocks, self.report)
         must_agree(words, self.report, self.fleet, self.held)
         self.rows = bought(self.report, self.fleet, self.held)
@@ -195,205 +215,137 @@ class Page:
         ]
         if self.aim == 'loss':
             tiles.append((total_of(self.report.one('loss')), 'loss of availability'))
-        tiles.append(
-            (
-                data(self.bound, down(self.bound)),
-                'proved bound: no plan has less' + (' loss' if self.aim == 'loss' else ''),
-            )
-        )
-        return [
-            tag('h1', escape(self.words.title)),
-            tag('p', escape(what), class_='soft'),
-            tag(
-                'div',
-                *(tag('div', tag('b', number), tag('span', escape(name)), class_='tile') for number, name in tiles),
-                class_='tiles'
-            ),
-        ]
+        no_plan = 'proved bound: no plan has less' + (' loss' if self.aim == 'loss' else '')
+        tiles.append((data(self.bound, down(self.bound)), no_plan))
+        blocks = [tag('div', tag('b', number), tag('span', name), class_='tile') for number, name in tiles]
+        title = tag('h1', escape(self.words.title))
+        return [title, tag('p', escape(what), class_='soft'), tag('div', *blocks, class_='tiles')]
 
     def gap_text(self):
-        share = 100 * micro(self.gap) / max(1, micro(self.report.one(self.aim)['high']))
-        text = [
-            'No stocks within the limits that cost at most ',
-            money(self.budget),
-            ' beyond the stocks on hand' if self.worth else '',
-            ' have ',
-            'fewer' if self.aim == 'total' else 'less',
-            ' than ',
-            data(self.bound, down(self.bound)),
-            ' ',
-            self.counted,
-            '. These stocks have at most ',
-            total_of(self.report.one(self.aim)),
-            '. ',
-        ]
+        """What the gap means, and the next step."""
+        beyond = ' beyond the stocks on hand' if self.worth else ''
+        less = 'fewer' if self.aim == 'total' else 'less'
+        text = (
+            'No stocks within the limits that cost at most %s%s have %s than %s %s. These stocks have at most %s. '
+            % (
+                money(self.budget),
+                beyond,
+                less,
+                data(self.bound, down(self.bound)),
+                self.counted,
+                total_of(self.report.one(self.aim)),
+            )
+        )
         if micro(self.gap) <= 10:
-            text += [
-                'So no stocks are better for this money, but for rounding (a gap of ',
-                data(self.gap, self.gap),
-                ').',
-            ]
+            text += 'So none are better for this money, but for rounding (a gap of %s).' % data(self.gap, self.gap)
         else:
-            text += [
-                'So other stocks for the same money could save at most ',
-                data(self.gap, up(self.gap)),
-                ' of it, %.1f in a hundred, and perhaps nothing.' % share,
-            ]
+            share = 100 * micro(self.gap) / micro(self.report.one(self.aim)['high'])
+            text += (
+                'So other stocks for the same money could save at most %s of it, %.1f in a hundred, and perhaps nothing.'
+                % (data(self.gap, up(self.gap)), share)
+            )
         step = self.report.one('critical')
         if step and step['part'] != 'none':
-            text += [
-                ' The next step is in ',
-                tag('b', escape(step['part'])),
-                ' and its shop units, for ',
-                money(step['cost']),
-                ' more than the ',
-                money(self.report.one('hull')['cost']),
-                ' of the steps before.',
-            ]
-        return [tag('h2', 'How good it is'), tag('p', *text)]
+            text += (
+                ' The next step is in <b>%s</b> and its shop units, for %s more than the %s of the steps before.'
+                % (escape(step['part']), money(step['cost']), money(self.report.one('hull')['cost']))
+            )
+        return [tag('h2', 'How good it is'), tag('p', text)]
+
+    def cell(self, pair, more):
+        """A stock, and how many are bought."""
+        stock = self.stocks[pair]
+        is_full = stock == self.fleet.limit(*pair) > 0
+        kinds = ['site'] + ['more'] * (more > 0) + ['zero'] * (stock == 0) + ['full'] * is_full
+        shown = '%d+%d' % (self.held[pair], more) if more and self.worth else '%d' % stock
+        return tag('td', data(stock, shown), class_=' '.join(kinds))
+
+    def part_row(self, part, bought_at):
+        """The stocks of a part at all sites, how many are bought, and what they cost."""
+        pairs = [(part.name, site.name) for site in self.fleet.sites]
+        count = sum(bought_at.get(pair, 0) for pair in pairs)
+        cells = [self.cell(pair, bought_at.get(pair, 0)) for pair in pairs]
+        cost = count * part.cost
+        ends = [data(count, '%d' % count if count else ''), data(cost, '{:,}'.format(cost) if count else '')]
+        first = [tag('td', escape(part.name)), tag('td', money(part.cost))]
+        return tag('tr', *first, *cells, *(tag('td', end) for end in ends), class_='unit' if part.parent else 'line')
 
     def matrix(self):
         """What is bought, and the stocks of all parts at all sites."""
-        fleet, stocks = self.fleet, self.report.stocks()
         bought_at = {(row[0], row[1]): row[3] for row in self.rows}
-        head = tag(
-            'tr',
-            tag('th', 'part'),
-            tag('th', 'unit cost'),
-            *(tag('th', tag('span', escape(site.name)), class_='site') for site in fleet.sites),
-            tag('th', 'buy'),
-            tag('th', 'cost')
-        )
-        body = []
-        for family in fleet.families:
-            for part in family:
-                cells = []
-                for site in fleet.sites:
-                    pair = (part.name, site.name)
-                    more = bought_at.get(pair, 0)
-                    kinds = (
-                        ['site']
-                        + ['more'] * (more > 0)
-                        + ['zero'] * (stocks[pair] == 0)
-                        + ['full'] * (stocks[pair] == fleet.limit(*pair) > 0)
-                    )
-                    had = ' title="%d on hand"' % self.held[pair] if self.worth else ''
-                    shown = '%d' % stocks[pair] if not more or not self.worth else '%d+%d' % (self.held[pair], more)
-                    cells.append('<td class="%s"%s>%s</td>' % (' '.join(kinds), had, data(stocks[pair], shown)))
-                count = sum(bought_at.get((part.name, site.name), 0) for site in fleet.sites)
-                body.append(
-                    tag(
-                        'tr',
-                        tag('td', escape(part.name)),
-                        tag('td', money(part.cost)),
-                        *cells,
-                        tag('td', data(count, '%d' % count if count else '')),
-                        tag('td', data(count * part.cost, '{:,}'.format(count * part.cost) if count else '')),
-                        class_='unit' if part.parent else 'line'
-                    )
-                )
+        sites = [tag('th', tag('span', escape(site.name)), class_='site') for site in self.fleet.sites]
+        head = tag('tr', tag('th', 'part'), tag('th', 'unit cost'), *sites, tag('th', 'buy'), tag('th', 'cost'))
+        body = [self.part_row(part, bought_at) for family in self.fleet.families for part in family]
         count = sum(row[3] for row in self.rows)
-        foot = tag(
-            'tr',
-            tag('td', 'all'),
-            tag('td'),
-            *(tag('td', class_='site') for _ in fleet.sites),
-            tag('td', data(count, '%d' % count)),
-            tag('td', money(self.cost))
-        )
+        nothing = [tag('td')] * (1 + len(sites))
+        foot = tag('tr', tag('td', 'all'), *nothing, tag('td', data(count, '%d' % count)), tag('td', money(self.cost)))
+        table = tag('table', tag('thead', head), tag('tbody', *body), tag('tfoot', foot), class_='matrix')
         note = (
-            'A cell has the stock in the end; blue: something is bought there%s; underlined in red: the stock is at its limit. Shop units stand below their line unit.'
+            'A cell has the stock in the end%s; blue: something is bought there; underlined in red: the stock is at its '
+            'limit. Shop units stand below their line unit.'
             % (', as what is on hand + what is bought' if self.worth else '')
         )
         return [
             tag('h2', 'What to buy, and where it lies'),
             tag('p', escape(note), class_='soft'),
-            tag(
-                'div',
-                tag('table', tag('thead', head), tag('tbody', *body), tag('tfoot', foot), class_='matrix'),
-                class_='scroll',
-            ),
+            tag('div', table, class_='scroll'),
         ]
 
-    def bar(self, name, item, most, high=None):
-        """A bar as long as a number of backorders."""
-        width = 100 * micro(high or item['ebo_high']) / max(1, most)
-        ends = '%s,%s' % (item['ebo_low'], item['ebo_high']) if item else high
-        return tag(
-            'div',
-            tag('span', escape(name), title=name),
-            tag('span', '<i style="width:%.2f%%"></i>' % width, class_='track'),
-            tag('span', data(ends, up(high or item['ebo_high']))),
-            class_='bar',
-        )
+    def bar(self, name, low, high, most):
+        """A bar as long as a number of backorders, all in millionths."""
+        width = 100 * high / max(1, most)
+        number = data('%s,%s' % (value(low), value(high)), up(value(high)))
+        fill = '<i style="width:%.2f%%"></i>' % width
+        spans = [tag('span', escape(name), title=name), tag('span', fill, class_='track'), tag('span', number)]
+        return tag('div', *spans, class_='bar')
+
+    def waiting(self):
+        """The items of line units at bases: where systems wait."""
+        for item in self.report.all('item'):
+            part = self.fleet.part[item['part']]
+            if part.parent is None and not self.fleet.site[item['site']].is_depot:
+                yield part, item['site'], micro(item['ebo_low']), micro(item['ebo_high'])
+
+    def base(self, base, most):
+        """A base: its availability, and the line units with the most backorders there."""
+        mine = sorted((item for item in self.waiting() if item[1] == base['site']), key=lambda item: -item[3])
+        bars = [self.bar(part.name, low, high, most) for part, _, low, high in mine[:MOST_DRIVERS]]
+        others = mine[MOST_DRIVERS:]
+        note = 'of %d systems miss no line unit' % self.fleet.site[base['site']].systems
+        if others:
+            rest = up(value(sum(high for _, _, _, high in others)))
+            note += '; %s %s' % ('all others' if len(others) > 1 else others[0][0].name, rest)
+        head = tag('h3', tag('span', escape(base['site'])), percent(base))
+        return tag('div', head, *bars, tag('div', escape(note), class_='soft'), class_='base')
 
     def bases(self):
-        """Each base's availability, and the line units with the most backorders there."""
-        items = [
-            item
-            for item in self.report.all('item')
-            if self.fleet.part[item['part']].parent is None and not self.fleet.site[item['site']].is_depot
-        ]
-        most = max((micro(item['ebo_high']) for item in items), default=1)
-        blocks = []
-        for base in self.report.all('base'):
-            mine = sorted(
-                (item for item in items if item['site'] == base['site']), key=lambda item: -micro(item['ebo_high'])
-            )
-            rest = sum(micro(item['ebo_high']) for item in mine[MOST_DRIVERS:])
-            bars = [self.bar(item['part'], item, most) for item in mine[:MOST_DRIVERS]]
-            systems = self.fleet.site[base['site']].systems
-            count = len(mine) - MOST_DRIVERS
-            others = (
-                '; all others %s' % up(value(rest))
-                if count > 1
-                else '; %s %s' % (mine[-1]['part'], up(value(rest)))
-                if count == 1
-                else ''
-            )
-            note = 'of %d systems miss no line unit%s' % (systems, others)
-            blocks.append(
-                tag(
-                    'div',
-                    tag('h3', tag('span', escape(base['site'])), percent(base)),
-                    *bars,
-                    tag('div', escape(note), class_='soft'),
-                    class_='base'
-                )
-            )
+        """Each base's availability, and what drives its backorders."""
+        most = max((high for _, _, _, high in self.waiting()), default=1)
+        note = (
+            'The share of systems that miss no line unit, and the line units with the most backorders at each base: how many '
+            'are missing there on average.'
+        )
+        blocks = [self.base(base, most) for base in self.report.all('base')]
         return [
             tag('h2', 'Which bases wait, and for what'),
-            tag(
-                'p',
-                'The share of systems that miss no line unit, and the line units with the most backorders at each base: how many are missing there on average.',
-                class_='soft',
-            ),
+            tag('p', note, class_='soft'),
             tag('div', *blocks, class_='bases'),
         ]
 
     def drivers(self):
         """The line units with the most backorders in all, weighted as in the total."""
         sums = {}
-        for item in self.report.all('item'):
-            part = self.fleet.part[item['part']]
-            if part.parent is None and not self.fleet.site[item['site']].is_depot:
-                low, high = sums.get(part.name, (0, 0))
-                sums[part.name] = low + part.weight * micro(item['ebo_low']), high + part.weight * micro(
-                    item['ebo_high']
-                )
+        for part, _, low, high in self.waiting():
+            before = sums.get(part.name, (0, 0))
+            sums[part.name] = before[0] + part.weight * low, before[1] + part.weight * high
         order = sorted(sums, key=lambda name: -sums[name][1])[: 2 * MOST_DRIVERS]
         most = max((sums[name][1] for name in order), default=1)
-        bars = [
-            self.bar(name, {'ebo_low': value(sums[name][0]), 'ebo_high': value(sums[name][1])}, most) for name in order
-        ]
+        bars = [self.bar(name, *sums[name], most) for name in order]
         weighted = ', each times its weight' if any(part.weight not in (1, None) for part in self.fleet.parts) else ''
+        note = 'Backorders at all bases%s: the %d line units with the most.' % (weighted, len(order))
         return [
             tag('h2', 'Which line units drive the backorders'),
-            tag(
-                'p',
-                'Backorders at all bases%s: the %d line units with the most.' % (weighted, len(order)),
-                class_='soft',
-            ),
+            tag('p', note, class_='soft'),
             tag('div', *bars, class_='all'),
         ]
 
@@ -415,7 +367,8 @@ class Page:
         picture.upright(budget, 'this budget', MARKED)
         picture.dot(spent, high, MARKED, 5)
         note = (
-            'The money is that of all stocks%s. The red dot is this plan. The stairs are plans without a gap, but for rounding; no stocks within the limits lie in the shaded region: that is proved.'
+            'The money is that of all stocks%s. The red dot is this plan. The stairs are plans without a gap, but for rounding; '
+            'no stocks within the limits lie in the shaded region: that is proved.'
             % (', also of those on hand, and the sweep begins from nothing' if self.worth else '')
         )
         return [
@@ -425,108 +378,66 @@ class Page:
         ]
 
     def limits(self):
-        full = [(pair, stock) for pair, stock in self.report.stocks().items() if stock == self.fleet.limit(*pair) > 0]
+        full = [(pair, stock) for pair, stock in self.stocks.items() if stock == self.fleet.limit(*pair) > 0]
         if not full:
             return [tag('h2', 'Stocks at their limits'), tag('p', 'None: no limit is in the way.')]
         names = [tag('li', escape('%s at %s: ' % pair), data(stock, '%d' % stock)) for pair, stock in full]
-        return [
-            tag('h2', 'Stocks at their limits'),
-            tag(
-                'p',
-                '%s the table of parts. The bound is said of stocks within the limits: larger ones may bring more.'
-                % (
-                    'One stock is at its limit in' if len(full) == 1 else '%d stocks are at their limits in' % len(full)
-                ),
-            ),
-            tag('ul', *names, class_='names'),
-        ]
+        are = 'One stock is at its limit' if len(full) == 1 else '%d stocks are at their limits' % len(full)
+        note = (
+            '%s in the table of parts. The bound is said of stocks within the limits: larger ones may bring more.' % are
+        )
+        return [tag('h2', 'Stocks at their limits'), tag('p', note), tag('ul', *names, class_='names')]
 
     def certificate(self):
         if not self.checked:
             return []
-        path = self.words.certificate
-        name = os.path.basename(path)
-        text = read_file(path)
+        name, text = os.path.basename(self.words.certificate), read_file(self.words.certificate)
+        size = ', %s bytes, SHA-256 ' % '{:,}'.format(len(text))
+        note = (
+            'It has the whole case, the budget and the stocks. Whoever has the file can confirm cost, upper end and bound '
+            'without these tables.'
+        )
         return [
             tag('h2', 'The certificate'),
-            tag(
-                'p',
-                tag('b', escape(name)),
-                ', %s bytes, SHA-256 ' % '{:,}'.format(len(text)),
-                tag('code', hashlib.sha256(text).hexdigest()),
-            ),
+            tag('p', tag('b', escape(name)), size, checksum(text)),
             tag('pre', escape('$ spares check --certificate %s\n%s' % (name, self.said.rstrip('\n')))),
-            tag(
-                'p',
-                'It has the whole case, the budget and the stocks. Whoever has the file can confirm cost, upper end and bound without these tables.',
-                class_='soft',
-            ),
+            tag('p', note, class_='soft'),
         ]
 
     def sources(self):
-        paths = [
-            ('sites', self.words.sites),
-            ('parts', self.words.parts),
-            ('stocks on hand', self.words.on_hand),
-            ('report', self.words.report),
-            ('sweep', self.words.sweep),
-        ]
+        words = self.words
+        paths = [('sites', words.sites), ('parts', words.parts), ('stocks on hand', words.on_hand)]
+        paths += [('report', words.report), ('sweep', words.sweep)]
         rows = [
-            tag(
-                'tr',
-                tag('td', name),
-                tag('td', escape(os.path.basename(path))),
-                tag('td', tag('code', hashlib.sha256(read_file(path)).hexdigest())),
-            )
+            tag('tr', tag('td', name), tag('td', escape(os.path.basename(path))), tag('td', checksum(read_file(path))))
             for name, path in paths
             if path
         ]
+        head = tag('tr', *(tag('th', name, style='text-align:left') for name in ('what', 'file', 'SHA-256')))
         proved = (
-            'Numbers are rounded to their safe side: availability and bound down, backorders and gap up. Proved are the intervals of the model for these tables, and the bound. '
-            'Not proved is that the tables describe the fleet, and that the model does: it takes demands and times as steady averages, and shops that never queue.'
+            'Numbers are rounded to their safe side: availability and bound down, backorders and gap up. Proved are the '
+            'intervals of the model for these tables, and the bound. Not proved is that the tables describe the fleet, and '
+            'that the model does: it takes demands and times as steady averages, and shops that never queue.'
         )
         return [
             tag('h2', 'What this was made from'),
-            tag(
-                'table',
-                tag(
-                    'thead',
-                    tag(
-                        'tr',
-                        tag('th', 'what'),
-                        tag('th', 'file', style='text-align:left'),
-                        tag('th', 'SHA-256', style='text-align:left'),
-                    ),
-                ),
-                tag('tbody', *rows),
-                class_='files',
-            ),
+            tag('table', tag('thead', head), tag('tbody', *rows), class_='files'),
             tag('p', proved, class_='soft'),
         ]
 
     def text(self):
-        sections = [
-            self.head(),
-            self.gap_text(),
-            self.matrix(),
-            self.bases(),
+        short = [self.head(), self.gap_text()], [
             self.drivers(),
             self.sweep(),
             self.limits(),
             self.certificate(),
             self.sources(),
         ]
-        long = (2, 3)  # may go on over several sheets
-        body = '\n'.join(
-            tag('section', '\n'.join(section), class_='long' if place in long else 'whole')
-            for place, section in enumerate(sections)
-            if section
-        )
-        return (
-            '<!DOCTYPE html>\n<html xmlns="http://www.w3.org/1999/xhtml" lang="en">\n<head>\n<meta charset="utf-8"/>\n'
-            '<meta name="viewport" content="width=device-width, initial-scale=1"/>\n<title>%s</title>\n<style>%s</style>\n</head>\n<body>\n%s\n</body>\n</html>\n'
-            % (escape(self.words.title), STYLE, body)
-        )
+        long = [self.matrix(), self.bases()]  # these may go on over several sheets
+        sections = [(section, 'whole') for section in short[0]] + [(section, 'long') for section in long]
+        sections += [(section, 'whole') for section in short[1] if section]
+        body = '\n'.join(tag('section', '\n'.join(section), class_=kind) for section, kind in sections)
+        return FRAME % (escape(self.words.title), STYLE, body)
 
 
 def bound_at(points, cost):
