@@ -152,7 +152,8 @@ def sweep_picture(points, least=None, most=None, reach=0):
     for cost, _, high in dots if len(dots) <= MOST_DOTS else []:
         picture.dot(cost, high, LINE)
     where = ' from %s to %s' % (number(least), number(most)) if is_window else ''
-    picture.words(LEFT, 28, 'What a budget%s gives: %d points. Nothing lies in the shaded region.' % (where, len(dots)))
+    points_shown = '1 point' if len(dots) == 1 else '%d points' % len(dots)
+    picture.words(LEFT, 28, 'What a budget%s gives: %s. Nothing lies in the shaded region.' % (where, points_shown))
     return picture
 
 

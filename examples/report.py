@@ -194,6 +194,10 @@ class Page:
     def counted(self):
         return 'backorders' if self.aim == 'total' else 'loss of availability'
 
+    @property
+    def weighted(self):
+        return ', each times its weight' if any(part.weight not in (1, None) for part in self.fleet.parts) else ''
+
     # the parts of the page
 
     def head(self):
@@ -211,7 +215,7 @@ class Page:
             tiles.append((money(self.worth), 'the stocks on hand cost'))
         tiles += [
             (percent(self.report.one('fleet')), 'of the systems miss no line unit'),
-            (total_of(self.report.one('total')), 'line units are missing on average'),
+            (total_of(self.report.one('total')), 'line units are missing on average' + self.weighted),
         ]
         if self.aim == 'loss':
             tiles.append((total_of(self.report.one('loss')), 'loss of availability'))
@@ -341,8 +345,7 @@ class Page:
         order = sorted(sums, key=lambda name: -sums[name][1])[: 2 * MOST_DRIVERS]
         most = max((sums[name][1] for name in order), default=1)
         bars = [self.bar(name, *sums[name], most) for name in order]
-        weighted = ', each times its weight' if any(part.weight not in (1, None) for part in self.fleet.parts) else ''
-        note = 'Backorders at all bases%s: the %d line units with the most.' % (weighted, len(order))
+        note = 'Backorders at all bases%s: the %d line units with the most.' % (self.weighted, len(order))
         return [
             tag('h2', 'Which line units drive the backorders'),
             tag('p', note, class_='soft'),
@@ -362,7 +365,8 @@ class Page:
         ):
             raise Refused('%s: it says another bound than the report: it is of other tables' % self.words.sweep)
         budget = min(int(self.budget) + self.worth, max(points[-1][0], spent))
-        window = ticks(min(max(points[-1][0], spent), budget * 8 // 5), spent * 2 // 5)
+        far = max(budget * 8 // 5, points[min(len(points) - 1, 12)][0])
+        window = ticks(max(min(far, points[-1][0]), spent), spent * 2 // 5)
         picture = sweep_picture(points, window[0], window[-1], high)
         picture.upright(budget, 'this budget', MARKED)
         picture.dot(spent, high, MARKED, 5)
