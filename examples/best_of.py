@@ -5,7 +5,7 @@
 
 The rest of a budget is spent on what fits, so more money can give a worse plan, and the plan by the other aim can have fewer backorders.
 So this script plans by backorders at the budget, by log-availability at the budget, and by backorders at 40 budgets down to a tenth
-less and at the cost of the steps (`hull`). From the best of these stocks it goes on with exchanges, as long as the total falls:
+less and at the cost of the steps (`hull`). From each of the 8 best of these stocks it goes on with exchanges, as long as the total falls:
 one unit more, one less, one moved to another site, one in place of another of the same line unit at a site, or two of these in two line
 units. `spares eval` says what each is worth. Stocks stay within their limits, the budget and what is on hand.
 
@@ -14,7 +14,7 @@ its bound holds for any stocks. Then `spares check` must accept it. What is foun
 says how much better they could be. --write-stocks writes the stocks as a table, for `spares eval` and buy.py. It prints
 
     start,AIM,BUDGET,COST,LO,HI      the plans that were made, in the order of their totals; those with the same stocks once
-    exchanges,COUNT
+    from,AIM,BUDGET,ROUNDS           the plan from which the best stocks come, after so many rounds of exchanges
     best,COST,LO,HI                  the best stocks: what they cost, beyond those on hand, and the ends of their total
     bound,X                          no stocks within the limits that cost at most the budget have a total below this
     gap,X                            HI less the bound
@@ -27,21 +27,35 @@ import csv
 import io
 import os
 import tempfile
+from bisect import bisect_right
+from collections import namedtuple
 
-from fleet_tables import HEADERS, Refused, read_file, whole
+from fleet_tables import HEADERS, Refused, decimal, read_file, whole
 from reports import NOWHERE, Program, Words, micro, must_fit, reports_of, run_script, value, whole_number, write_file
 from sweep import planned
 
 MOST_ROUNDS = 200
+MOST_STARTS = 8
 SMALLER = 40  # budgets down to a tenth less
 
 
-def stocks_text(fleet, stocks):
+def csv_text(header, rows):
     text = io.StringIO()
-    writer = csv.writer(text, lineterminator='\n')
-    writer.writerow(HEADERS['stocks'])
-    writer.writerows([*pair, stocks[pair]] for pair in fleet.pairs())
+    csv.writer(text, lineterminator='\n').writerows([header] + rows)
     return text.getvalue()
+
+
+def stocks_text(fleet, stocks):
+    return csv_text(HEADERS['stocks'], [[*pair, stocks[pair]] for pair in fleet.pairs()])
+
+
+def rate_row(part, site, rate):
+    """A row of rates: what must be empty is None."""
+    texts = [None if units is None else decimal(units, 4) for units in rate[:3]]
+    return [part, site, *texts, decimal(rate.repair_days, 2)]
+
+
+Best = namedtuple('Best', 'aim budget rounds stocks total')
 
 
 class Fleet:
@@ -53,7 +67,7 @@ class Fleet:
         self.held = stocks.get('on-hand', dict.fromkeys(self.fleet.pairs(), 0))
         self.budget = words.budget
         self.program = Program(words)
-        self.table = os.path.join(room, 'stocks.csv')
+        self.room, self.sites = room, words.sites
         self.kept = {}
 
     def cost(self, stocks):
@@ -64,16 +78,36 @@ class Fleet:
 
     def evaluated(self, stocks):
         """The report of `eval`."""
-        write_file(self.table, stocks_text(self.fleet, stocks))
-        return self.program.report('eval', '--stocks', self.table)
+        path = os.path.join(self.room, 'stocks.csv')
+        write_file(path, stocks_text(self.fleet, stocks))
+        return self.program.report('eval', '--stocks', path)
+
+    def choose(self, families):
+        """Writes tables of these families alone: a family is worth the same in them, and `eval` is faster."""
+        self.parts = [part for family in families for part in family]
+        self.pairs = [(part.name, site.name) for part in self.parts for site in self.fleet.sites]
+        width = 7 if len(self.parts[0].row.fields) == 7 else 6
+        rates = [rate_row(*pair, self.fleet.rates[pair]) for pair in self.pairs]
+        write_file(self.path('parts'), csv_text(HEADERS['parts'][:width], [part.row.fields for part in self.parts]))
+        write_file(self.path('rates'), csv_text(HEADERS['rates'], rates))
+
+    def path(self, table):
+        return os.path.join(self.room, 'some-%s.csv' % table)
 
     def worths(self, stocks):
-        """The upper end of the total of each family, in millionths, by the name of its line unit."""
-        worths = dict.fromkeys((family[0].name for family in self.fleet.families), 0)
-        for item in self.evaluated(stocks).all('item'):
-            part = self.fleet.part[item['part']]
-            if part.parent is None and not self.fleet.site[item['site']].is_depot:
-                worths[part.name] += part.weight * micro(item['ebo_high'])
+        """The upper end of the total of each family that was chosen, in millionths, by the name of its line unit."""
+        rows = ''.join('%s,%s,%d\n' % (*pair, stocks[pair]) for pair in self.pairs)
+        write_file(self.path('stocks'), 'part,site,stock\n' + rows)
+        names = [word for table in ('parts', 'rates', 'stocks') for word in ('--' + table, self.path(table))]
+        ran = self.program.run('eval', '--sites', self.sites, *names)
+        if ran.status != 0:
+            raise Refused('spares eval: %s' % ran.fault)
+        worths = {}
+        for line in ran.out.decode('ascii').split('\n'):
+            fields = line.split(',')
+            part = self.fleet.part[fields[1]] if fields[0] == 'item' else None
+            if part and part.parent is None and not self.fleet.site[fields[2]].is_depot:
+                worths[part.name] = worths.get(part.name, 0) + part.weight * micro(fields[9])
         return worths
 
     def changes(self, family, stocks):
@@ -94,71 +128,81 @@ class Fleet:
                 if is_near and may(*less, -1) and may(*more, 1):
                     yield {less: -1, more: 1}
 
-    def moves(self, stocks, worths, families):
-        """What the exchanges of these families cost and bring: by family, as (cost, millionths, changes), only those that no other
-        one betters. One `eval` tries an exchange of each family at once, for what a family is worth hangs on its own stocks alone.
-        """
-        lists = {family[0].name: list(self.changes(family, stocks)) for family in families}
-        found = {name: [] for name in lists}
-        for number in range(max(map(len, lists.values()), default=0)):
+    def key(self, family, stocks):
+        """A family with its stocks: what it is worth, and what exchanges bring, hangs on these alone."""
+        return family[0].name, tuple(stocks[part.name, site.name] for part in family for site in self.fleet.sites)
+
+    def moves(self, stocks):
+        """What exchanges cost and bring: by family, as (cost, millionths, changes), only those that no other one betters."""
+        new = [family for family in self.fleet.families if self.key(family, stocks) not in self.kept]
+        for family, moves in zip(new, self.tried(stocks, new)):
+            self.kept[self.key(family, stocks)] = undominated(moves)
+        return {family[0].name: self.kept[self.key(family, stocks)] for family in self.fleet.families}
+
+    def tried(self, stocks, families):
+        """All exchanges of these families. One `eval` tries one of each family at once."""
+        lists = [list(self.changes(family, stocks)) for family in families]
+        found = [[] for _ in families]
+        if families:
+            self.choose(families)
+            before = self.worths(stocks)
+        for number in range(max(map(len, lists), default=0)):
             tried = dict(stocks)
-            for changes in lists.values():
-                for pair, change in changes[number].items() if number < len(changes) else ():
+            some = [place for place, changes in enumerate(lists) if number < len(changes)]
+            for place in some:
+                for pair, change in lists[place][number].items():
                     tried[pair] += change
             then = self.worths(tried)
-            for name, changes in lists.items():
-                if number < len(changes):
-                    cost = sum(self.fleet.part[part].cost * change for (part, _), change in changes[number].items())
-                    found[name].append((cost, then[name] - worths[name], number))
-        return {
-            name: [(cost, brings, lists[name][number]) for cost, brings, number in undominated(moves)]
-            for name, moves in found.items()
-        }
+            for place in some:
+                name, changes = families[place][0].name, lists[place][number]
+                cost = sum(self.fleet.part[part].cost * change for (part, _), change in changes.items())
+                found[place].append((cost, then[name] - before[name], number, changes))
+        return found
 
 
 def undominated(moves):
     """The moves that bring more than each that costs no more, by cost; what brings least comes first."""
     kept = []
-    for move in sorted(moves):
-        if not kept or move[1] < kept[-1][1]:
-            kept.append(move)
+    for cost, brings, _, changes in sorted(moves, key=lambda move: move[:3]):
+        if not kept or brings < kept[-1][1]:
+            kept.append((cost, brings, changes))
     return kept
 
 
 def best_pair(moves, spare):
-    """The move, or two moves of two families, with the largest fall of the total within the money: changes and fall."""
+    """The move, or two moves of two families, with the largest fall of the total within the money: its fall and the changes."""
+    nothing = (0, 0, 0, {})
+    families = [
+        undominated([nothing] + [(cost, brings, 1, changes) for cost, brings, changes in some])
+        for some in moves.values()
+    ]
+    costs = [[move[0] for move in family] for family in families]
     best = (0, 0, [])
-    families = [[(0, 0, {})] + family for family in moves.values()]
     for place, first in enumerate(families):
-        for second in families[place + 1 :] or [[(0, 0, {})]]:
+        for other in range(place + 1, len(families)) if len(families) > 1 else [None]:
             for cost, brings, changes in first:
-                for more, adds, others in second:
-                    found = (brings + adds, cost + more)
-                    if cost + more <= spare and found < best[:2] and brings + adds < 0:
-                        best = (*found, [changes, others])
-    return best
+                # of the other family's moves the last one that the money reaches brings most
+                reached = (
+                    bisect_right(costs[other], spare - cost) - 1 if other is not None else 0 if cost <= spare else -1
+                )
+                if reached >= 0:
+                    more, adds, others = families[other][reached] if other is not None else (0, 0, {})
+                    if (brings + adds, cost + more) < best[:2] and brings + adds < 0:
+                        best = (brings + adds, cost + more, [changes, others])
+    return best[0], best[2]
 
 
 def improved(fleet, stocks):
-    """Stocks after all exchanges that lower the total, and how many there were."""
-    worths = fleet.worths(stocks)
-    moves = {}
-    changed = {family[0].name for family in fleet.fleet.families}
-    for count in range(MOST_ROUNDS):
-        moves.update(
-            fleet.moves(stocks, worths, [family for family in fleet.fleet.families if family[0].name in changed])
-        )
-        fall, _, chosen = best_pair(moves, fleet.budget - fleet.cost(stocks))
+    """Stocks after all exchanges that lower the total, and after how many rounds."""
+    for rounds in range(MOST_ROUNDS):
+        fall, chosen = best_pair(fleet.moves(stocks), fleet.budget - fleet.cost(stocks))
         if not fall:
             break
         stocks = dict(stocks)
-        changed = set()
         for changes in chosen:
-            for (part, site), change in changes.items():
-                stocks[part, site] += change
-                changed.add(fleet.fleet.part[part].parent or part)
-        worths = fleet.worths(stocks)
-    return stocks, count
+            for pair, change in changes.items():
+                stocks[pair] += change
+    return stocks, rounds
 
 
 def starts_of(fleet, words):
@@ -193,6 +237,15 @@ def starts_of(fleet, words):
     return first[2], starts
 
 
+def best_from(fleet, starts):
+    """The best stocks after exchanges from the best plans; of equal ones the cheapest."""
+    found = []
+    for _, _, aim, budget, report in starts[:MOST_STARTS]:
+        stocks, rounds = improved(fleet, report.stocks())
+        found.append(Best(aim, budget, rounds, stocks, fleet.evaluated(stocks).one('total')))
+    return min(found, key=lambda best: (micro(best.total['high']), fleet.cost(best.stocks)))
+
+
 def with_stocks(data, fleet, stocks, upper):
     """A certificate with other stocks and an upper end in millionths, in units of 2^-48."""
     lines = data.decode('latin-1').split('\n')
@@ -223,8 +276,8 @@ def main():
         plan, starts = starts_of(fleet, words)
         for _, cost, aim, budget, report in starts:
             print('start,%s,%d,%d,%s,%s' % (aim, budget, cost, *report.one('total').values()))
-        stocks, count = improved(fleet, starts[0][-1].stocks())
-        total = fleet.evaluated(stocks).one('total')
+        best = best_from(fleet, starts)
+    stocks, total = best.stocks, best.total
     upper, bound = micro(total['high']), plan.one('bound')['value']
     write_file(words.certificate, with_stocks(read_file(words.certificate), fleet.fleet, stocks, upper))
     if words.write_stocks:
@@ -233,7 +286,7 @@ def main():
     if ran.status != 0:
         raise Refused('spares check refuses the certificate: %s' % ran.fault)
     accepted = reports_of(ran.out, 'spares check')[0]
-    print('exchanges,%d' % count)
+    print('from,%s,%d,%d' % (best.aim, best.budget, best.rounds))
     print('best,%d,%s,%s' % (fleet.cost(stocks), total['low'], total['high']))
     print('bound,%s\ngap,%s' % (bound, value(upper - micro(bound))))
     print('accepted,%s' % accepted.one('accepted')['format'])

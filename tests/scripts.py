@@ -505,6 +505,9 @@ def fall_of_a_gap(trial):
         ["backorders", "1360000", "1358500", "3.897084", "3.897085"] in lines_of(found, "start"), "the plan is another"
     )
     must(lines_of(found, "bound") == [["2.837577"]] and float(lines_of(found, "gap")[0][0]) < 0.08, found)
+    second = trial.run("second_checker.py", "best.certificate")
+    must(second == trial.spares("check", "--certificate", "best.certificate"), "the second checker says %s" % second)
+    must(lines_of(second, "upper")[0][0] == lines_of(found, "best")[0][2], second)
 
 
 def sensitivity(trial):
