@@ -27,8 +27,6 @@ ghost use Rattle.availability.specs.Exact.{
   weighted_mean,
 };
 
-#[cfg(test)]
-mod tests;
 
 use fixed_interval::Iv;
 

@@ -9,8 +9,6 @@ mod fields;
 mod parts;
 mod rates;
 mod sites;
-#[cfg(test)]
-mod tests;
 mod whole;
 
 pub use exactness::case_lines_are_exact;

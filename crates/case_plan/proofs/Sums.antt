@@ -1,5 +1,5 @@
 -- Sums and lists over the picks of all families.
-use Rattle.std.proofs.Common.{◌≡◌, ℕ, zero, suc, ◌+◌, ◌*◌, ◌^◌, ◌<◌, ◌≤◌, List, [], ◌∷◌, ◌++◌, map, length, slice_index, refl, sym, ap, ◌∙◌, arith}
+use Rattle.std.proofs.Common.{◌≡◌, ℕ, zero, suc, ◌+◌, ◌-◌, ◌*◌, ◌^◌, ◌<◌, ◌≤◌, List, [], ◌∷◌, ◌++◌, map, length, slice_index, refl, sym, ap, ◌∙◌, arith}
 use Rattle.std.proofs.Math.Nat.{mul-le-mul_right}
 use Rattle.std.proofs.Math.Numerals.{add-one}
 use Rattle.hull.specs.declared.point.Point.{Point}
@@ -48,3 +48,25 @@ parts_all g (c ∷ cs) (k ∷ ks) (suc i) e n =
 
 pub parts_more : (g : Point → ℕ) (curves : List (List Point)) (picks : List ℕ) (i : ℕ) (v : Point) → v ≡ vertex_at curves i (slice_index picks i) → parts g curves picks i ++ g v ∷ [] ≡ parts g curves picks (i + 1)
 parts_more g curves picks i v e = ap (λ z. parts g curves picks i ++ g z ∷ []) e ∙ sym (ap (λ z. parts g curves picks z) (add-one i))
+
+-- ---- a step of the sums, over plain numbers
+
+-- what is at most so much stays so where at most so much is added
+pub both_more : (a b x y : ℕ) → a ≤ b → x ≤ y → a + x ≤ b + y
+both_more a b x y h k = omega (arith, h, k)
+
+-- the Lagrangians of one family more have room
+pub lagrangians_room : (x y f : ℕ) → x ≤ f * 2 ^ 115 → y < 2 ^ 115 → x + y ≤ (f + 1) * 2 ^ 115
+lagrangians_room x y f h k = omega (arith, h, k)
+
+-- so have the widths
+pub widths_room : (x y z f : ℕ) → x ≤ f * 2 ^ 74 → y < 2 ^ 74 → x + (y - z) ≤ (f + 1) * 2 ^ 74
+widths_room x y z f h k = omega (arith, h, k)
+
+-- the costs
+pub costs_room : (x y f : ℕ) → x ≤ f * 1000000000000 → y ≤ 1000000000000 → x + y ≤ (f + 1) * 1000000000000
+costs_room x y f h k = omega (arith, h, k)
+
+-- and the ends
+pub ends_room : (x y f : ℕ) → x ≤ f * 2 ^ 74 → y < 2 ^ 74 → x + y ≤ (f + 1) * 2 ^ 74
+ends_room x y f h k = omega (arith, h, k)

@@ -9,8 +9,6 @@
 mod certifying;
 mod laws;
 mod terms;
-#[cfg(test)]
-mod tests;
 mod writing;
 
 pub use certifying::certificate;

@@ -20,6 +20,3 @@ pub use stocks::read_stocks;
 
 /// Most bytes of a table.
 pub const TABLE_LIMIT: usize = 4_194_304;
-
-#[cfg(test)]
-mod tests;

@@ -11,7 +11,7 @@ use std::marker::Model;
 pub const PIPELINE_SCALE: u128 = 365_000_000_000_000_000_000;
 
 /// The rates of a pair.
-#[derive(Clone, Copy, Debug, PartialEq, Eq)]
+#[derive(Clone, Copy, PartialEq, Eq)]
 pub struct PairRates {
     /// Demands a year.
     pub demand: Ratio,

@@ -6,8 +6,6 @@
 #![tactic(auto)]
 
 mod case_rates;
-#[cfg(test)]
-mod case_tests;
 mod depot;
 mod fault;
 pub mod kinds;
@@ -15,8 +13,6 @@ mod limits;
 mod pairs;
 mod rows;
 mod single;
-#[cfg(test)]
-mod tests;
 mod waits;
 
 pub use case_rates::rates;

@@ -22,8 +22,6 @@ ghost use Rattle.fixed_interval.specs.Ends.{In, InScale, IsWithinLimit, ends_mul
 ghost use Rattle.depot_pipeline.specs.Profile.{mean_part, variance_part, depot_shop_ends, depot_line_ends};
 ghost use Rattle.depot_pipeline.specs.Exact.{IsAtMost, FeedsIn, IsSmallFeed};
 
-#[cfg(test)]
-mod tests;
 
 use fixed_interval::Iv;
 

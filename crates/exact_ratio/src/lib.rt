@@ -3,8 +3,6 @@
 
 mod decimal;
 mod ratio;
-#[cfg(test)]
-mod tests;
 
 pub use decimal::{Decimal, NumberFault, read_decimal, reads_as_defined, reads_one_answer};
 pub use ratio::Ratio;

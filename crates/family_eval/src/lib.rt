@@ -42,8 +42,6 @@ mod lines;
 mod parts;
 pub mod pipeline;
 mod shops;
-#[cfg(test)]
-mod tests;
 
 pub use item::{FamilyResult, Item};
 pub use parts::{line_units, members, shop_units};

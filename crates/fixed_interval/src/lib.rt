@@ -19,8 +19,6 @@ ghost use Rattle.fixed_interval.specs.Ends.{
 mod arithmetic;
 mod digits;
 mod rounding;
-#[cfg(test)]
-mod tests;
 mod texts;
 
 pub use digits::{Digits, ratio_down, texts_read};

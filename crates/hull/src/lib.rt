@@ -16,8 +16,6 @@ mod price;
 mod scan;
 mod score;
 mod spot;
-#[cfg(test)]
-mod tests;
 mod walk;
 
 pub use chain::Chain;

@@ -12,8 +12,6 @@ mod lines;
 mod numbers;
 mod rows;
 mod short_line;
-#[cfg(test)]
-mod tests;
 
 pub use bad_line::BadLine;
 pub use decimals::{fixed, put_fixed};

@@ -7,8 +7,6 @@ mod filling;
 pub mod laws;
 pub mod plans;
 mod start;
-#[cfg(test)]
-mod tests;
 
 pub use allocation::{Chosen, Critical, allocate, allocate_near};
 pub use filling::fill;

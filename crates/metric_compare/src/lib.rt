@@ -34,8 +34,6 @@ mod lines;
 mod report;
 mod rows;
 mod shops;
-#[cfg(test)]
-mod tests;
 mod totals;
 
 pub use report::{CompareItem, CompareReport};

@@ -106,6 +106,3 @@ pub fn row_at<const F: u32>(
         None => Ok(bare_row(mean, variance, stock)),
     }
 }
-
-#[cfg(test)]
-mod tests;

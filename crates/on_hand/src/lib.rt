@@ -10,8 +10,6 @@ mod exactness;
 mod held;
 mod laws;
 mod reading;
-#[cfg(test)]
-mod tests;
 mod work;
 mod writing;
 

@@ -9,7 +9,7 @@ use std::alloc::Global;
 
 /// What an accepted certificate shows of its case. The upper end and the bound are in units of 2^-48 of what is aimed
 /// at.
-#[derive(Clone, Copy, Debug, PartialEq, Eq)]
+#[derive(Clone, Copy, PartialEq, Eq)]
 pub struct CheckReport {
     /// 1, or 2 where covers show the floors.
     pub format: u8,

@@ -5,12 +5,8 @@ mod check;
 mod eval;
 mod item;
 mod plan;
-#[cfg(test)]
-mod plan_tests;
 mod single;
 mod summary;
-#[cfg(test)]
-mod tests;
 mod text;
 
 pub use check::CheckReport;

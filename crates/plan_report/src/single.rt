@@ -9,7 +9,7 @@ use spares_io::NoMemory;
 use std::alloc::Global;
 
 /// The expected backorders of a single pipeline and the variance of its backorders, in units.
-#[derive(Clone, Copy, Debug, PartialEq, Eq)]
+#[derive(Clone, Copy, PartialEq, Eq)]
 pub struct SingleReport {
     pub backorders: Iv<48>,
     pub spread: Iv<48>,

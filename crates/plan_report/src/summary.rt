@@ -11,7 +11,7 @@ use spares_io::NoMemory;
 use std::alloc::Global;
 
 /// The plan of a demonstration case whose certificate was accepted. Bound and gap are in units of 2^-48.
-#[derive(Clone, Copy, Debug, PartialEq, Eq)]
+#[derive(Clone, Copy, PartialEq, Eq)]
 pub struct Summary {
     /// The number that the case is made from.
     pub number: u32,

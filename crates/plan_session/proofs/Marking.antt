@@ -40,6 +40,18 @@ still_on marks place k b on = elim (here_or_not k place) [
 
 -- ---- family after family
 
+-- a part that a loop over all parts comes to is a line unit where it is found to be one
+pub line_here : (c : CaseRows) (p n : ℕ) → p < n → n ≡ length c.parts → is_line_at c p ≡ true → IsLine c p
+line_here c p n b e is = record { is_part = subst (λ m. p < m) e b; no_parent = is }
+
+-- a place that is at most the part stays so behind the part
+pub next_below : (place p : ℕ) → place ≤ p → place + 1 ≤ p + 1
+next_below place p h = omega (arith, h)
+
+-- and so does one that stays itself
+pub still_below : (place p : ℕ) → place ≤ p → place ≤ p + 1
+still_below place p h = omega (arith, h)
+
 -- The values of the families below part p are kept, the next one has this place, and no mark was turned off.
 pub record AreMarkedTo {X : Type 0} (IsOf : ℕ → X → Type 0) (none : X) (c : CaseRows) (before marks : List Bool) (values : List X) (p place : ℕ) : Type 0 where
   pub place_is : place ≡ length (lines_below c p)
@@ -53,13 +65,21 @@ module _ {X : Type 0} (IsOf : ℕ → X → Type 0) (none : X) (c : CaseRows) (b
   pub place_within : IsLine c p → place < length (line_units c)
   place_within line = omega (arith, line_fewer c p line.is_part line.no_parent, h.place_is)
 
+  -- and a value stands there
+  pub value_within : IsLine c p → place < length values
+  value_within line = subst (λ n. place < n) (sym h.are_marked.value_count) (place_within line)
+
+  -- and a mark
+  pub mark_within : IsLine c p → place < length marks
+  mark_within line = subst (λ n. place < n) (sym h.are_marked.mark_count) (place_within line)
+
   at_place : IsLine c p → get_or (line_units c) place 0 ≡ p
   at_place line = ap (λ k. get_or (line_units c) k 0) h.place_is ∙ line_place c p line.is_part line.no_parent
 
   -- the value at the place is that of the family, where its mark is on
   pub kept_before : IsLine c p → (other : X) → has_mark marks place ≡ true → IsOf p (get_or values place other)
   kept_before line other on =
-      subst (λ (v : X). IsOf p v) (any_default values place none other (omega (arith, place_within line, h.are_marked.value_count)))
+      subst (λ (v : X). IsOf p v) (any_default values place none other (value_within line))
       (subst (λ l. IsOf l (get_or values place none)) (at_place line) (h.are_marked.kept place on))
 
   -- behind a part that is no line unit the place is still the next one
@@ -73,7 +93,7 @@ module _ {X : Type 0} (IsOf : ℕ → X → Type 0) (none : X) (c : CaseRows) (b
 
   module _ (line : IsLine c p) (mark : Bool) (value : X) (is : mark ≡ true → IsOf p value) (stays : has_mark marks place ≡ true → mark ≡ true) where
     mark_here : has_mark (set marks place mark) place ≡ mark
-    mark_here = get_or-set_same marks place mark false (omega (arith, place_within line, h.are_marked.mark_count))
+    mark_here = get_or-set_same marks place mark false (mark_within line)
 
     -- the value of the family at the place is kept where its mark is on
     pub kept_one : AreMarked IsOf none c (set marks place mark) (set values place value)
@@ -83,7 +103,7 @@ module _ {X : Type 0} (IsOf : ℕ → X → Type 0) (none : X) (c : CaseRows) (b
       kept = λ k on. (elim (here_or_not k place) [
         | inl here ↦
             let lit : mark ≡ true = sym (ap (λ i. has_mark (set marks place mark) i) here ∙ mark_here) ∙ on in
-            let own : get_or (set values place value) place none ≡ value = get_or-set_same values place value none (omega (arith, place_within line, h.are_marked.value_count)) in
+            let own : get_or (set values place value) place none ≡ value = get_or-set_same values place value none (value_within line) in
             subst (λ i. IsOf (get_or (line_units c) i 0) (get_or (set values place value) i none)) (sym here)
             (subst (λ (v : X). IsOf (get_or (line_units c) place 0) v) (sym own)
             (subst (λ l. IsOf l value) (sym (at_place line)) (is lit)))

@@ -12,8 +12,6 @@ mod evaluated;
 mod kept;
 mod report;
 mod session;
-#[cfg(test)]
-mod tests;
 
 pub use case_edits::EditFault;
 pub use edits::run_edits;

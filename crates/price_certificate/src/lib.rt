@@ -11,8 +11,6 @@ mod many_lines;
 mod place;
 mod reading;
 mod single_lines;
-#[cfg(test)]
-mod tests;
 mod trimming;
 mod writing;
 

@@ -1,5 +1,5 @@
 -- The ratios in parts: their sizes, their ends, and the step to the next index.
-use Rattle.std.proofs.Common.{◌≡◌, ℕ, ◌+◌, ◌-◌, ◌*◌, ◌/◌, ◌%◌, ◌^◌, ◌<◌, ◌≤◌, refl, ap, ap₂, sym, ◌∙◌, subst, arith, pow_pos, mul-le-mul_right, mul-le-mul}
+use Rattle.std.proofs.Common.{◌≡◌, ℕ, ◌+◌, ◌-◌, ◌*◌, ◌/◌, ◌%◌, ◌^◌, ◌<◌, ◌≤◌, refl, ap, ap₂, sym, ◌∙◌, subst, arith, le_trans, pow_pos, mul-le-mul_right, mul-le-mul}
 use Rattle.std.specs.Int.{div_ceil}
 use Rattle.std.proofs.Math.Nat.{mul-pos, mul-le-mul_left, lt_of_mul-lt-mul_right, div-mul-le_self, mul-div-mul_left, mod-eq_of_lt}
 use Rattle.std.proofs.lemmas.Grind.{div_ceil_times}
@@ -101,8 +101,7 @@ share_ordered f al ah bl bh lower upper h p k e i = rw (e, i) (floor_below_ceil 
 pub shift_below : (x t p : ℕ) → x < t / p → x * p < t
 shift_below x t p l =
     let a : (x + 1) * p ≤ t / p * p = mul-le-mul_right p (omega (arith, l)) in
-    let b = div-mul-le_self t p in
-    grind (arith, a, b, l)
+    omega (arith, a, div-mul-le_self t p)
 
 -- a quotient rounded up stays the same where both numbers are shifted
 ceil_shift : (a b p : ℕ) → 0 < b → 0 < p → div_ceil (a * p) (b * p) ≡ div_ceil a b
@@ -126,3 +125,15 @@ shifted_share f p a b x upper lower l h q e u k =
 -- a number of fewer than 64 bits after the shift loses none
 pub shift_is : (y x p : ℕ) → y ≡ x → x * p < 2 ^ 63 → y * p % 2 ^ 64 ≡ x * p
 shift_is y x p e l = ap (λ z. z * p % 2 ^ 64) e ∙ mod-eq_of_lt (omega (arith, l))
+
+-- a number that is at most so many places of a larger one is at most that after the shift
+pub shift_most : (y x t p : ℕ) → y ≡ x → y ≤ t / p → x * p ≤ t
+shift_most y x t p e l = le_trans (mul-le-mul_right p (rw e at l)) (div-mul-le_self t p)
+
+-- a divisor's shift of 64 bits is in a divisor's range
+pub shift_fits : (o y x p : ℕ) → y ≡ x → o ≤ x * p → x * p < 2 ^ 63 → (o ≤ y * p % 2 ^ 64) × (y * p % 2 ^ 64 < 2 ^ 63)
+shift_fits o y x p e l h = rw (shift_is y x p e h) (l, h)
+
+-- a number above 0 is at least so much after the shift
+pub shift_least : (o y x p : ℕ) → y ≡ x → 0 < x → (0 < y → o ≤ y * p) → o ≤ x * p
+shift_least o y x p e h k = subst (λ z. o ≤ z * p) e (k (rw e h))

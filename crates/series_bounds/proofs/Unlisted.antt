@@ -1,10 +1,11 @@
 -- The walks without lists: the sum of the weights, and one weight.
-use Rattle.std.proofs.Common.{◌≡◌, ℕ, zero, suc, ◌+◌, ◌-◌, ◌*◌, ◌<◌, ◌≤◌, ◌^◌, true, false, [], ◌∷◌, ◌⊎◌, inl, inr, sym, ap, ap₂, ◌∙◌, arith, subst, le_trans}
+use Rattle.std.proofs.Common.{◌≡◌, ℕ, zero, suc, ◌+◌, ◌-◌, ◌*◌, ◌<◌, ◌≤◌, ◌^◌, true, false, [], ◌∷◌, ◌⊎◌, inl, inr, sym, ap, ap₂, ◌∙◌, arith, subst, le_trans, mul-le-mul_right}
 use Rattle.std.specs.Int.{div_ceil}
 use Rattle.std.proofs.Math.Nat.{eq-or-lt_of_le}
 use Rattle.std.proofs.lemmas.Bool.{and_right, lt-leb}
 use Rattle.std.proofs.lemmas.List.Sums.{fold-append}
 use Rattle.fixed_interval.specs.Ends.{Ends, ends_add, ends_exact, ends_mul}
+use Rattle.fixed_interval.proofs.Laws.{unit_most}
 use Rattle.series_bounds.specs.Profile.{ratio_ends, back_ends, pivot_at, weight_ends, has_remainder, ratio_bound, remainder_at, may_end, last_index, is_wide, ends_sum, ends_raised, least_end, listed, weights_of}
 use Rattle.series_bounds.specs.Walk.{AtLeastEnd, EndsAt, GoesOn, Midway, StaysFrom, SumsTo}
 use Rattle.series_bounds.specs.declared.kinds.Weights.TheVariants.{Known}
@@ -40,6 +41,34 @@ sums_next f m d sum w more x h e t k = record {
   most = (let a = ap (λ (z : Ends). z.hi) k in omega (arith, a, t, h.most));
   tops = below_more (λ y. (weight_ends f m d y).hi ≤ 8 * 2 ^ f) x h.tops (subst (λ (z : Ends). z.hi ≤ 8 * 2 ^ f) e t);
 }
+
+-- ---- sizes, over plain variables
+
+-- an index below 1025 is at most the last one
+pub up_to_last : (x : ℕ) → x < 1025 → x ≤ 1024
+up_to_last x l = omega arith
+
+-- a weight whose upper end is above the bound, as the code has both, is above 8
+pub above_8 : (o most hi w : ℕ) → most ≡ 8 * o → hi ≡ w → most < hi → 8 * o < w
+above_8 o most hi w e h l = omega arith
+
+-- and one whose upper end isn't is at most 8
+pub upto_8 : (o most hi w : ℕ) → most ≡ 8 * o → hi ≡ w → hi ≤ most → w ≤ 8 * o
+upto_8 o most hi w e h l = omega arith
+
+-- such a weight has 64 bits
+pub short_8 : (o w : ℕ) → o ≤ 2 ^ 52 → w ≤ 8 * o → w < 2 ^ 64
+short_8 o w h l = omega arith
+
+two_room : (o a b : ℕ) → o ≤ 2 ^ 52 → a ≤ 1024 * (8 * o) → b ≤ 8 * o → a + b < 2 ^ 127
+two_room o a b h k l = omega arith
+
+three_room : (o a b r hi : ℕ) → o ≤ 2 ^ 52 → a ≤ 1024 * (8 * o) → b ≤ 8 * o → r ≤ 2 ^ 115 → hi ≡ a + b → hi + r < 2 ^ 127
+three_room o a b r hi h k l q e = omega arith
+
+-- ends that are in order stay so where the upper one is raised
+pub raised_ordered : (a b lo hi rest : ℕ) → a ≡ lo → b ≡ hi → lo ≤ hi → a ≤ b + rest
+raised_ordered a b lo hi rest e h l = omega arith
 
 -- ---- upwards from the pivot
 
@@ -109,6 +138,16 @@ module _ (f : ℕ) (m d last sum v r : Ends) (x : ℕ) (h : Climb f m d last sum
       let s : more ≡ ends_sum (listed (weight_ends f m d) (suc (last_index f m d))) =
       (sums_next f m d sum v more x h.sums climb_weight t k).sum_is ∙ ap (λ z. ends_sum (listed (weight_ends f m d) z)) n in
       record { narrow = climb_narrow t l rest e; sum_is = i ∙ ap₂ ends_raised s (e.rest_is ∙ ap (remainder_at f m d) (sym c)) }
+
+  -- the sum with that weight has room
+  pub climb_room : v.hi ≤ 8 * 2 ^ f → x < 1025 → f ≤ 52 → sum.hi + v.hi < 2 ^ 127
+  climb_room t l s = two_room (2 ^ f) sum.hi v.hi (unit_most f s) (le_trans h.sums.most (mul-le-mul_right (8 * 2 ^ f) (up_to_last x l))) t
+
+  -- and so has the sum with the remainder
+  pub climb_raised : v.hi ≤ 8 * 2 ^ f → x < 1025 → f ≤ 52 → (rest : ℕ) → EndsAt f m d x rest → (more : Ends) (hi : ℕ) → more ≡ ends_add sum v → hi ≡ more.hi → hi + rest < 2 ^ 127
+  climb_raised t l s rest e more hi k i =
+      three_room (2 ^ f) sum.hi v.hi rest hi (unit_most f s) (le_trans h.sums.most (mul-le-mul_right (8 * 2 ^ f) (up_to_last x l))) t
+      (climb_rest t (up_to_last x l) rest e s) (i ∙ ap (λ (z : Ends). z.hi) k)
 
 -- a walk up past 1024 without an end makes the answer wide
 pub climb_unended : (f : ℕ) (m d last sum : Ends) (x : ℕ) → Climb f m d last sum x → pivot_at f m d ≤ 256 → 1024 < x → is_wide f m d ≡ true

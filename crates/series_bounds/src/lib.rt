@@ -163,6 +163,3 @@ pub fn weights<const F: u32>(
         sum,
     })
 }
-
-#[cfg(test)]
-mod tests;

@@ -11,8 +11,6 @@ mod shelf;
 mod sink;
 mod std_sink;
 mod stop;
-#[cfg(test)]
-mod tests;
 mod text;
 
 pub use files::FileShelf;

@@ -36,11 +36,13 @@ no_end [] p = refl
 no_end (c ∷ []) p = (one_byte c (c == 45) refl).end
 no_end (c ∷ d ∷ rest) p = rw (ne_eqb c 45 p) refl
 
+-- two plain words are the mean and the stock
 pub takes_two_words : TakesTwoWords
 unfolding order_of by_command single_app walk_fault walked defaults_fault
 takes_two_words mean stock p q =
     rw (no_end mean p, no_long mean p, no_short mean p, no_end stock q, no_long stock q, no_short stock q) refl
 
+-- any two words are, after two hyphens
 pub takes_any_words : TakesAnyWords
 unfolding order_of by_command single_app walk_fault walked defaults_fault
 takes_any_words mean stock = refl
@@ -84,6 +86,7 @@ takes_option mean stock variance p q r = record {
   ) refl;
 }
 
+-- `--variance=V` is taken before, between or after the mean and the stock
 pub takes_joined : TakesJoinedAnywhere
 unfolding order_of by_command single_app walk_fault walked defaults_fault
 takes_joined mean stock variance p q = record {
@@ -116,6 +119,7 @@ pub refuses_second : RefusesSecondOption
 unfolding order_of by_command single_app walk_fault walked defaults_fault
 refuses_second variance second rest = refl
 
+-- a plan takes its options with their values behind equals signs
 pub takes_joined_plan : TakesJoinedPlan
 unfolding order_of by_command plan_app walk_fault walked defaults_fault
 takes_joined_plan sites parts rates budget certificate = refl

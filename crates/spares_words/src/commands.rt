@@ -27,7 +27,7 @@ use clap::{Arg, Command};
 use std::alloc::{AllocError, Global};
 
 /// A command of the program.
-#[derive(Clone, Copy, Debug, PartialEq, Eq)]
+#[derive(Clone, Copy)]
 pub(crate) enum CommandName {
     Single,
     Eval,

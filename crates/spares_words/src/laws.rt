@@ -12,13 +12,11 @@ ghost use Rattle.spares_words.specs.Laws.{
 };
 
 /// Two words that begin with no hyphen are the mean and the stock.
-#[tactic(auto, using(crate::proofs::Plain::takes_two_words))]
 pub fn takes_two_words()
     ensures { TakesTwoWords }
 {}
 
 /// After two hyphens any two words are the mean and the stock.
-#[tactic(auto, using(crate::proofs::Plain::takes_any_words))]
 pub fn takes_any_words()
     ensures { TakesAnyWords }
 {}
@@ -29,7 +27,6 @@ pub fn takes_option()
 {}
 
 /// So may `--variance=V`, where V is any text.
-#[tactic(auto, using(crate::proofs::Plain::takes_joined))]
 pub fn takes_joined_option()
     ensures { TakesJoinedAnywhere }
 {}
@@ -45,7 +42,6 @@ pub fn refuses_second_option()
 {}
 
 /// `plan --sites=F --parts=F --rates=F --budget=N --certificate=F`, where F and N are any texts.
-#[tactic(auto, using(crate::proofs::Plain::takes_joined_plan))]
 pub fn takes_joined_plan()
     ensures { TakesJoinedPlan }
 {}

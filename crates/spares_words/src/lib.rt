@@ -7,8 +7,6 @@ mod number;
 mod order;
 mod orders;
 mod read;
-#[cfg(test)]
-mod tests;
 mod values;
 
 pub use laws::{

@@ -60,6 +60,3 @@ pub fn rates_of(alloc: Global, case: &Case) -> Option<Rates>
 {
     rates(alloc, case).ok()
 }
-
-#[cfg(test)]
-mod tests;

@@ -21,25 +21,25 @@ of-stocks-requires-clause-whole c =
 pub pick_of-point-requires-clause-family : goal.pick_of-point-requires-clause-family
 pick_of-point-requires-clause-family c =
     (here c.args.case.now c.site_count-sites.ensures.valid c.args.curves.now c.args.picks.now c.loop-p.stocks c.loop-p.p c.loop-p.f
-    (let t = c.loop-p-test.true in let n = c.part_count-parts.ensures.count in omega (arith, t, n)) (sym c.is_line.ensures ∙ c.if-is_line.true) c.requires.vertices.count c.requires.widths c.loop-p.invariant).curve
+    (subst (λ n. c.loop-p.p < n) c.part_count-parts.ensures.count c.loop-p-test.true) (sym c.is_line.ensures ∙ c.if-is_line.true) c.requires.vertices.count c.requires.widths c.loop-p.invariant).curve
 
 pub place_vector-requires-clause-pairs : goal.place_vector-requires-clause-pairs
 place_vector-requires-clause-pairs c i k d l b =
     unit_pair c.args.case.now c.loop-p.stocks c.as_slice-units.result.now c.loop-p.p i k d c.site_count-sites.ensures.valid c.loop-p.invariant.is_for
-    (let t = c.loop-p-test.true in let n = c.part_count-parts.ensures.count in omega (arith, t, n)) (sym c.is_line.ensures ∙ c.if-is_line.true)
-    (family_read c.args.case.now (λ v. v.items) c.in_ok-members.members.items c.index.result.now c.as_slice-units.result.now c.loop-p.p c.in_ok-members.ensures (let t = c.loop-p-test.true in let n = c.part_count-parts.ensures.count in omega (arith, t, n)) (sym c.is_line.ensures ∙ c.if-is_line.true) c.index.ensures c.as_slice-units.ensures.value) l (let n = c.site_count-sites.ensures.count in omega (arith, b, n))
+    (subst (λ n. c.loop-p.p < n) c.part_count-parts.ensures.count c.loop-p-test.true) (sym c.is_line.ensures ∙ c.if-is_line.true)
+    (family_read c.args.case.now (λ v. v.items) c.in_ok-members.members.items c.index.result.now c.as_slice-units.result.now c.loop-p.p c.in_ok-members.ensures (subst (λ n. c.loop-p.p < n) c.part_count-parts.ensures.count c.loop-p-test.true) (sym c.is_line.ensures ∙ c.if-is_line.true) c.index.ensures c.as_slice-units.ensures.value) l (subst (λ n. k < n) c.site_count-sites.ensures.count b)
 
 pub place_vector-requires-clause-count : goal.place_vector-requires-clause-count
 place_vector-requires-clause-count c =
     let h = here c.args.case.now c.site_count-sites.ensures.valid c.args.curves.now c.args.picks.now c.loop-p.stocks c.loop-p.p c.loop-p.f
-    (let t = c.loop-p-test.true in let n = c.part_count-parts.ensures.count in omega (arith, t, n)) (sym c.is_line.ensures ∙ c.if-is_line.true) c.requires.vertices.count c.requires.widths c.loop-p.invariant in
+    (subst (λ n. c.loop-p.p < n) c.part_count-parts.ensures.count c.loop-p-test.true) (sym c.is_line.ensures ∙ c.if-is_line.true) c.requires.vertices.count c.requires.widths c.loop-p.invariant in
     ap length (c.as_slice.ensures ∙ ap (λ (v : Point). v.stocks) c.pick_of-point.ensures.is) ∙ h.width
-    ∙ ap₂ (λ a b. a * b) (sym c.site_count-sites.ensures.count) (sym (ap length (family_read c.args.case.now (λ v. v.items) c.in_ok-members.members.items c.index.result.now c.as_slice-units.result.now c.loop-p.p c.in_ok-members.ensures (let t = c.loop-p-test.true in let n = c.part_count-parts.ensures.count in omega (arith, t, n)) (sym c.is_line.ensures ∙ c.if-is_line.true) c.index.ensures c.as_slice-units.ensures.value)) ∙ length-map c.as_slice-units.result.now (λ (q : PartId). q.0))
+    ∙ ap₂ (λ a b. a * b) (sym c.site_count-sites.ensures.count) (sym (ap length (family_read c.args.case.now (λ v. v.items) c.in_ok-members.members.items c.index.result.now c.as_slice-units.result.now c.loop-p.p c.in_ok-members.ensures (subst (λ n. c.loop-p.p < n) c.part_count-parts.ensures.count c.loop-p-test.true) (sym c.is_line.ensures ∙ c.if-is_line.true) c.index.ensures c.as_slice-units.ensures.value)) ∙ length-map c.as_slice-units.result.now (λ (q : PartId). q.0))
 
 pub overflow_add-f : goal.overflow_add-f
 overflow_add-f c =
     let h = here c.args.case.now c.site_count-sites.ensures.valid c.args.curves.now c.args.picks.now c.loop-p.stocks c.loop-p.p c.loop-p.f
-    (let t = c.loop-p-test.true in let n = c.part_count-parts.ensures.count in omega (arith, t, n)) (sym c.is_line.ensures ∙ c.if-is_line.true) c.requires.vertices.count c.requires.widths c.loop-p.invariant in
+    (subst (λ n. c.loop-p.p < n) c.part_count-parts.ensures.count c.loop-p-test.true) (sym c.is_line.ensures ∙ c.if-is_line.true) c.requires.vertices.count c.requires.widths c.loop-p.invariant in
     (let m = c.site_count-sites.ensures.valid.frame.most_parts in let b = h.few in omega (arith, m, b))
 
 pub loop-p-preserved : goal.loop-p-preserved
@@ -47,7 +47,7 @@ loop-p-preserved c =
     elim c.if-is_line.branch [
       | then-is_line w ↦
           let k = sym c.is_line.ensures ∙ w.if-is_line.true in
-          let lp : c.loop-p.p < length c.args.case.now.parts = (let t = c.loop-p-test.true in let n = c.part_count-parts.ensures.count in omega (arith, t, n)) in
+          let lp : c.loop-p.p < length c.args.case.now.parts = (subst (λ n. c.loop-p.p < n) c.part_count-parts.ensures.count c.loop-p-test.true) in
           let h = here c.args.case.now c.site_count-sites.ensures.valid c.args.curves.now c.args.picks.now c.loop-p.stocks c.loop-p.p c.loop-p.f lp k c.requires.vertices.count c.requires.widths c.loop-p.invariant in
           let v = w.as_slice.ensures ∙ ap (λ (v : Point). v.stocks) w.pick_of-point.ensures.is in
           rw (w.stocks-is, w.f-is)

@@ -1,7 +1,7 @@
-use Rattle.std.proofs.Common.{◌≡◌, ◌+◌, ◌≤◌, ◌*◌, ◌^◌, ◌∙◌, arith, ap, ap₂, le_trans, mul-le-mul_right, rules, lit<}
-use Rattle.fixed_interval.specs.Ends.{Ends, InScale}
-use Rattle.fixed_interval.proofs.Laws.{unit_most}
-use Rattle.series_bounds.proofs.Unlisted.{climb_start, climb_weight, climb_wide, climb_next, climb_rest, climb_done, climb_unended}
+use Rattle.std.proofs.Common.{◌+◌, ◌≤◌, ◌*◌, ◌^◌, ◌∙◌, ap, ap₂, lit<, subst, sym}
+use Rattle.std.proofs.Math.Nat.{lt_trans}
+use Rattle.fixed_interval.specs.Ends.{Ends}
+use Rattle.series_bounds.proofs.Unlisted.{above_8, climb_done, climb_next, climb_raised, climb_room, climb_start, climb_unended, climb_weight, climb_wide, raised_ordered, up_to_last, upto_8}
 use Rattle.series_bounds.proofs.plain.sum_past.Goals as goal
 
 pub loop-x-init : goal.loop-x-init
@@ -12,64 +12,61 @@ loop-x-init g c =
 pub returns-then-hi-most-clause-wide : goal.returns-then-hi-most-clause-wide
 returns-then-hi-most-clause-wide g c =
     climb_wide g.row.F c.args.mean c.args.excess c.loop-x.last c.loop-x.sum c.times-last.result c.ratio.result c.loop-x.x c.loop-x.invariant
-    c.ratio.ensures.ends c.times-last.ensures (omega (arith, c.requires.place, c.requires.depth)) (omega (arith, c.loop-x-test.true))
-    (omega (arith, c.if-hi-most.true, c.most_weight-most.ensures, c.hi.ensures.end))
+    c.ratio.ensures.ends c.times-last.ensures (subst (λ z. z ≤ 256) c.requires.place c.requires.depth) (up_to_last c.loop-x.x c.loop-x-test.true)
+    (above_8 (2 ^ g.row.F) c.most_weight-most.result c.hi.result c.times-last.result.hi c.most_weight-most.ensures c.hi.ensures.end c.if-hi-most.true)
 
 pub add-sum-requires : goal.add-sum-requires
 add-sum-requires g c =
-    let s : InScale g.row.F = search rules in
-    let t : c.times-last.result.hi ≤ 8 * 2 ^ g.row.F = omega (arith, c.if-hi-most.false, c.most_weight-most.ensures, c.hi.ensures.end) in
-    let m : c.loop-x.sum.hi ≤ 1024 * (8 * 2 ^ g.row.F) =
-    le_trans c.loop-x.invariant.sums.most (mul-le-mul_right (8 * 2 ^ g.row.F) (omega (arith, c.loop-x-test.true))) in
-    (lit< tt, omega (arith, t, m, unit_most g.row.F s.1))
+    let t = upto_8 (2 ^ g.row.F) c.most_weight-most.result c.hi.result c.times-last.result.hi c.most_weight-most.ensures c.hi.ensures.end c.if-hi-most.false in
+    (lit< tt, climb_room g.row.F c.args.mean c.args.excess c.loop-x.last c.loop-x.sum c.times-last.result c.ratio.result c.loop-x.x c.loop-x.invariant c.ratio.ensures.ends c.times-last.ensures t c.loop-x-test.true c.hi.ensures.valid.most_scale)
 
 pub rest_past-requires : goal.rest_past-requires
 rest_past-requires g c =
-    let t : c.times-last.result.hi ≤ 8 * 2 ^ g.row.F = omega (arith, c.if-hi-most.false, c.most_weight-most.ensures, c.hi.ensures.end) in
+    let t = upto_8 (2 ^ g.row.F) c.most_weight-most.result c.hi.result c.times-last.result.hi c.most_weight-most.ensures c.hi.ensures.end c.if-hi-most.false in
     let w = climb_weight g.row.F c.args.mean c.args.excess c.loop-x.last c.loop-x.sum c.times-last.result c.ratio.result c.loop-x.x c.loop-x.invariant c.ratio.ensures.ends c.times-last.ensures in (
       lit< tt,
       (
         c.requires.mean_top,
-        (c.requires.excess_top, (omega (arith, c.loop-x-test.true), (c.hi-in-loop-x.ensures.end ∙ ap (λ (z : Ends). z.hi) w, omega (arith, c.hi-in-loop-x.ensures.end, t)))),
+        (
+          c.requires.excess_top,
+          (
+            up_to_last c.loop-x.x c.loop-x-test.true,
+            (c.hi-in-loop-x.ensures.end ∙ ap (λ (z : Ends). z.hi) w, subst (λ z. z ≤ 8 * 2 ^ g.row.F) (sym c.hi-in-loop-x.ensures.end) t),
+          ),
+        ),
       ),
     )
 
 pub overflow_add-hi : goal.overflow_add-hi
 overflow_add-hi g c =
-    let s : InScale g.row.F = search rules in
-    let t : c.times-last.result.hi ≤ 8 * 2 ^ g.row.F = omega (arith, c.if-hi-most.false, c.most_weight-most.ensures, c.hi.ensures.end) in
-    let m : c.loop-x.sum.hi ≤ 1024 * (8 * 2 ^ g.row.F) =
-    le_trans c.loop-x.invariant.sums.most (mul-le-mul_right (8 * 2 ^ g.row.F) (omega (arith, c.loop-x-test.true))) in
-    let r = climb_rest g.row.F c.args.mean c.args.excess c.loop-x.last c.loop-x.sum c.times-last.result c.ratio.result c.loop-x.x c.loop-x.invariant
-    c.ratio.ensures.ends c.times-last.ensures t (omega (arith, c.loop-x-test.true)) c.in-Some.rest c.in-Some.ensures.ended s.1 in
-    let h : c.add-sum.result.hi ≡ c.loop-x.sum.hi + c.times-last.result.hi = ap (λ (z : Ends). z.hi) c.add-sum.ensures.ends in
-    record { fits = omega (arith, h, t, m, r, c.hi-in-Some.ensures.end, unit_most g.row.F s.1) }
+    let t = upto_8 (2 ^ g.row.F) c.most_weight-most.result c.hi.result c.times-last.result.hi c.most_weight-most.ensures c.hi.ensures.end c.if-hi-most.false in
+    let m =
+    climb_raised g.row.F c.args.mean c.args.excess c.loop-x.last c.loop-x.sum c.times-last.result c.ratio.result c.loop-x.x c.loop-x.invariant c.ratio.ensures.ends c.times-last.ensures t c.loop-x-test.true c.hi.ensures.valid.most_scale
+    c.in-Some.rest c.in-Some.ensures.ended c.add-sum.result c.hi-in-Some.result c.add-sum.ensures.ends c.hi-in-Some.ensures.end in
+    record { fits = lt_trans m (lit< tt) }
 
 pub of_ends-requires : goal.of_ends-requires
 of_ends-requires g c =
-    let s : InScale g.row.F = search rules in
-    let t : c.times-last.result.hi ≤ 8 * 2 ^ g.row.F = omega (arith, c.if-hi-most.false, c.most_weight-most.ensures, c.hi.ensures.end) in
-    let m : c.loop-x.sum.hi ≤ 1024 * (8 * 2 ^ g.row.F) =
-    le_trans c.loop-x.invariant.sums.most (mul-le-mul_right (8 * 2 ^ g.row.F) (omega (arith, c.loop-x-test.true))) in
-    let r = climb_rest g.row.F c.args.mean c.args.excess c.loop-x.last c.loop-x.sum c.times-last.result c.ratio.result c.loop-x.x c.loop-x.invariant
-    c.ratio.ensures.ends c.times-last.ensures t (omega (arith, c.loop-x-test.true)) c.in-Some.rest c.in-Some.ensures.ended s.1 in
-    let h : c.add-sum.result.hi ≡ c.loop-x.sum.hi + c.times-last.result.hi = ap (λ (z : Ends). z.hi) c.add-sum.ensures.ends in
-    (lit< tt, (s, (omega (arith, c.lo.ensures.end, c.hi-in-Some.ensures.end, c.lo.ensures.valid.ordered), omega (arith, h, t, m, r, c.hi-in-Some.ensures.end, unit_most g.row.F s.1))))
+    let t = upto_8 (2 ^ g.row.F) c.most_weight-most.result c.hi.result c.times-last.result.hi c.most_weight-most.ensures c.hi.ensures.end c.if-hi-most.false in
+    let m =
+    climb_raised g.row.F c.args.mean c.args.excess c.loop-x.last c.loop-x.sum c.times-last.result c.ratio.result c.loop-x.x c.loop-x.invariant c.ratio.ensures.ends c.times-last.ensures t c.loop-x-test.true c.hi.ensures.valid.most_scale
+    c.in-Some.rest c.in-Some.ensures.ended c.add-sum.result c.hi-in-Some.result c.add-sum.ensures.ends c.hi-in-Some.ensures.end in
+    let v = c.lo.ensures.valid in
+    (lit< tt, ((v.least_scale, v.most_scale), (raised_ordered c.lo.result c.hi-in-Some.result c.add-sum.result.lo c.add-sum.result.hi c.in-Some.rest c.lo.ensures.end c.hi-in-Some.ensures.end v.ordered, m)))
 
 pub returns-in-Some-clause-known : goal.returns-in-Some-clause-known
 returns-in-Some-clause-known g c =
     climb_done g.row.F c.args.mean c.args.excess c.loop-x.last c.loop-x.sum c.times-last.result c.ratio.result c.loop-x.x c.loop-x.invariant
-    c.ratio.ensures.ends c.times-last.ensures (omega (arith, c.if-hi-most.false, c.most_weight-most.ensures, c.hi.ensures.end)) (omega (arith, c.loop-x-test.true))
+    c.ratio.ensures.ends c.times-last.ensures (upto_8 (2 ^ g.row.F) c.most_weight-most.result c.hi.result c.times-last.result.hi c.most_weight-most.ensures c.hi.ensures.end c.if-hi-most.false) (up_to_last c.loop-x.x c.loop-x-test.true)
     c.in-Some.rest c.in-Some.ensures.ended c.add-sum.result c.of_ends.result c.add-sum.ensures.ends
     (c.of_ends.ensures ∙ ap₂ (λ y z. record { lo = y; hi = z + c.in-Some.rest }) c.lo.ensures.end c.hi-in-Some.ensures.end)
 
 pub loop-x-preserved : goal.loop-x-preserved
 loop-x-preserved g c =
     climb_next g.row.F c.args.mean c.args.excess c.loop-x.last c.loop-x.sum c.times-last.result c.ratio.result c.loop-x.x c.loop-x.invariant
-    c.ratio.ensures.ends c.times-last.ensures (omega (arith, c.if-hi-most.false, c.most_weight-most.ensures, c.hi.ensures.end))
+    c.ratio.ensures.ends c.times-last.ensures (upto_8 (2 ^ g.row.F) c.most_weight-most.result c.hi.result c.times-last.result.hi c.most_weight-most.ensures c.hi.ensures.end c.if-hi-most.false)
     c.add-sum.result c.add-sum.ensures.ends c.in_default.ensures.goes_on
 
 pub returns-clause-wide : goal.returns-clause-wide
 returns-clause-wide g c =
-    climb_unended g.row.F c.args.mean c.args.excess c.loop-x.last c.loop-x.sum c.loop-x.x c.loop-x.invariant
-    (omega (arith, c.requires.place, c.requires.depth)) (omega (arith, c.loop-x-test.false))
+    climb_unended g.row.F c.args.mean c.args.excess c.loop-x.last c.loop-x.sum c.loop-x.x c.loop-x.invariant (subst (λ z. z ≤ 256) c.requires.place c.requires.depth) c.loop-x-test.false

@@ -1,4 +1,4 @@
-use Rattle.std.proofs.Common.{◌+◌, ◌*◌, ◌^◌, ◌≤◌, ◌∙◌, length, sym, ap, subst, arith, lit<, rules, mul-le-mul_right}
+use Rattle.std.proofs.Common.{ℕ, ◌+◌, ◌*◌, ◌^◌, ◌<◌, ◌≤◌, ◌∙◌, length, sym, ap, subst, arith, le_trans, lit<, rules, mul-le-mul_right}
 use Rattle.std.proofs.lemmas.Option.{IfSome_then}
 use Rattle.std.proofs.lemmas.Result.{IfOk-weaker}
 use Rattle.fixed_interval.specs.Ends.{Ends, InScale}
@@ -9,11 +9,17 @@ use Rattle.series_bounds.proofs.Unlisted.{sum_least}
 use Rattle.series_bounds.proofs.Beginnings.{begins_all, low_listed, sums_low, low_long, low_tops}
 use Rattle.series_bounds.proofs.walk.weigh.Goals as goal
 
+one_more : (p : ℕ) → p ≤ 256 → p + 1 ≤ 257
+one_more p l = omega arith
+
+low_short : (o h : ℕ) → h ≤ 257 * (8 * o) → o ≤ 2 ^ 52 → h < 2 ^ 64
+low_short o h l q = omega arith
+
 pub sum_of-requires : goal.sum_of-requires
 sum_of-requires g c =
     let s : InScale g.row.F = search rules in
     let h : ToPivot g.row.F c.args.mean c.args.excess c.down.new.list.items = c.in_ok-narrow.ensures.known c.if-not-narrow.false in
-    let q : pivot_at g.row.F c.args.mean c.args.excess ≤ 256 = omega (arith, c.pivot_of-pivot.ensures.place, c.pivot_of-pivot.ensures.most) in
+    let q : pivot_at g.row.F c.args.mean c.args.excess ≤ 256 = subst (λ z. z ≤ 256) c.pivot_of-pivot.ensures.place c.pivot_of-pivot.ensures.most in
     (lit< tt, (lit< tt, (s, rw c.as_slice.ensures.value (low_long g.row.F c.args.mean c.args.excess c.down.new.list.items h q, λ k d l. low_tops g.row.F c.args.mean c.args.excess c.down.new.list.items h k d l))))
 
 pub of-low-requires : goal.of-low-requires
@@ -25,8 +31,8 @@ of-low-requires g c =
     let sums : SumsTo g.row.F c.args.mean c.args.excess c.sum_of.result (c.pivot_of-pivot.result + 1) =
     sums_low g.row.F c.args.mean c.args.excess c.sum_of.result c.pivot_of-pivot.result c.down.new.list.items c.pivot_of-pivot.ensures.place h
     (c.sum_of.ensures.ends ∙ ap ends_sum c.as_slice.ensures.value) t in
-    let most : (c.pivot_of-pivot.result + 1) * (8 * 2 ^ g.row.F) ≤ 257 * (8 * 2 ^ g.row.F) = mul-le-mul_right (8 * 2 ^ g.row.F) (omega (arith, c.pivot_of-pivot.ensures.most)) in
-    (lit< tt, omega (arith, sums.most, most, unit_most g.row.F s.1))
+    let most : (c.pivot_of-pivot.result + 1) * (8 * 2 ^ g.row.F) ≤ 257 * (8 * 2 ^ g.row.F) = mul-le-mul_right (8 * 2 ^ g.row.F) (one_more c.pivot_of-pivot.result c.pivot_of-pivot.ensures.most) in
+    (lit< tt, (lit< tt, low_short (2 ^ g.row.F) c.sum_of.result.hi (le_trans sums.most most) (unit_most g.row.F s.1)))
 
 pub risen-requires : goal.risen-requires
 risen-requires g c =
@@ -56,7 +62,7 @@ risen_plain-requires g c =
 pub returns-then-is_near-clause-least : goal.returns-then-is_near-clause-least
 returns-then-is_near-clause-least g c =
     IfOk-weaker c.risen.result _ _ (λ found h. IfSome_then found h
-    (λ sum k. sum_least g.row.F c.args.mean c.args.excess sum (omega (arith, c.pivot_of-pivot.ensures.place, c.pivot_of-pivot.ensures.most)) k.sum_is)) c.risen.ensures.known
+    (λ sum k. sum_least g.row.F c.args.mean c.args.excess sum (subst (λ z. z ≤ 256) c.pivot_of-pivot.ensures.place c.pivot_of-pivot.ensures.most) k.sum_is)) c.risen.ensures.known
 
 pub returns-else-is_near-clause-known : goal.returns-else-is_near-clause-known
 returns-else-is_near-clause-known g c =
@@ -65,4 +71,4 @@ returns-else-is_near-clause-known g c =
 pub returns-else-is_near-clause-least : goal.returns-else-is_near-clause-least
 returns-else-is_near-clause-least g c =
     IfOk-weaker c.risen_plain.result _ _ (λ found h. IfSome_then found h
-    (λ sum k. sum_least g.row.F c.args.mean c.args.excess sum (omega (arith, c.pivot_of-pivot.ensures.place, c.pivot_of-pivot.ensures.most)) (k 0).sum_is)) c.risen_plain.ensures.known
+    (λ sum k. sum_least g.row.F c.args.mean c.args.excess sum (subst (λ z. z ≤ 256) c.pivot_of-pivot.ensures.place c.pivot_of-pivot.ensures.most) (k 0).sum_is)) c.risen_plain.ensures.known

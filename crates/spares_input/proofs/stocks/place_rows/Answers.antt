@@ -1,4 +1,4 @@
-use Rattle.std.proofs.Common.{◌≡◌, ◌*◌, refl, sym, get_or, length, take, None, replicate, rules}
+use Rattle.std.proofs.Common.{◌≡◌, ◌≤◌, ◌*◌, arith, mul-le-mul, refl, sym, get_or, length, take, None, replicate, rules}
 use Rattle.spares_input.specs.First.{first}
 use Rattle.spares_input.specs.Rows.{no_stock}
 use Rattle.spares_input.specs.Stocks.{stock_fault, stock_place}
@@ -6,6 +6,14 @@ use Rattle.spares_input.proofs.Firsts.{first_more, first_found}
 use Rattle.spares_input.proofs.PlaceFacts.{kept_at, has_before, placed_none, placed_more, taken_none, taken_more}
 use Rattle.spares_input.proofs.StockFacts.{stock_fault_over, stock_fault_double, stock_fault_none}
 use Rattle.spares_input.proofs.stocks.place_rows.Goals as goal
+
+pub overflow_mul-parts : goal.overflow_mul-parts
+overflow_mul-parts c =
+    let few_parts : c.part_count-parts.result ≤ 2000 = rw c.part_count-parts.ensures.count c.part_count-parts.ensures.valid.frame.most_parts in
+    let few_sites : c.site_count-sites.result ≤ 16 = rw c.site_count-sites.ensures.count c.site_count-sites.ensures.valid.frame.most_sites in
+    let pairs : c.part_count-parts.result * c.site_count-sites.result ≤ 2000 * 16 =
+    mul-le-mul {n₁ = c.part_count-parts.result} {m₁ = c.site_count-sites.result} {n₂ = 2000} {m₂ = 16} few_parts few_sites in
+    omega (arith, pairs)
 
 pub loop-k-init : goal.loop-k-init
 unfolding first
@@ -16,6 +24,24 @@ loop-k-init c =
       placed = placed_none (stock_place c.site_count-sites.result) _ c.in_ok-places.places.items empty;
       taken = taken_none (stock_place c.site_count-sites.result) _ c.in_ok-places.places.items empty;
     }
+
+pub limit-requires-clause-part : goal.limit-requires-clause-part
+limit-requires-clause-part c = (c.requires c.loop-k.k no_stock c.loop-k-test.true).part
+
+pub limit-requires-clause-site : goal.limit-requires-clause-site
+limit-requires-clause-site c = (c.requires c.loop-k.k no_stock c.loop-k-test.true).site
+
+pub pair_place-place-requires-clause-few_sites : goal.pair_place-place-requires-clause-few_sites
+pair_place-place-requires-clause-few_sites c = rw c.site_count-sites.ensures.count c.site_count-sites.ensures.valid.frame.most_sites
+
+pub pair_place-place-requires-clause-few_parts : goal.pair_place-place-requires-clause-few_parts
+pair_place-place-requires-clause-few_parts c = rw c.part_count-parts.ensures.count c.part_count-parts.ensures.valid.frame.most_parts
+
+pub pair_place-place-requires-clause-part : goal.pair_place-place-requires-clause-part
+pair_place-place-requires-clause-part c = rw c.part_count-parts.ensures.count (c.requires c.loop-k.k no_stock c.loop-k-test.true).part
+
+pub pair_place-place-requires-clause-site : goal.pair_place-place-requires-clause-site
+pair_place-place-requires-clause-site c = rw c.site_count-sites.ensures.count (c.requires c.loop-k.k no_stock c.loop-k-test.true).site
 
 pub returns-then-row-limit-clause-fault : goal.returns-then-row-limit-clause-fault
 returns-then-row-limit-clause-fault c =

@@ -1,4 +1,4 @@
-use Rattle.std.proofs.Common.{List, sym, subst, ◌∙◌, arith}
+use Rattle.std.proofs.Common.{List, sym, subst, ◌∙◌}
 use Rattle.hull.specs.declared.point.Point.{Point}
 use Rattle.case_plan.specs.Report.{AreFamilyCurves, IsPlanOf, plain_terms}
 use Rattle.plan_session.specs.Sessions.{due, IsReportOf, SessionRows}
@@ -9,7 +9,7 @@ use Rattle.plan_session.proofs.session.Session.plan.Goals as goal
 pub choose_stocks-requires-clause-curves : goal.choose_stocks-requires-clause-curves
 choose_stocks-requires-clause-curves c =
     let all = written c.self.inside.curves.len c.keep_all.new.curves c.self.inside.curves.items
-    (let n = c.keep_all.ensures.kept.value_count in let m = c.self.invariant.are_kept.value_count in let k = c.self.inside.curves.ok.0 in omega (arith, n, m, k))
+    (c.keep_all.ensures.kept.value_count ∙ sym c.self.invariant.are_kept.value_count ∙ sym c.self.inside.curves.ok.0)
     (sym c.self.inside.curves.ok.0) in
     subst (λ (z : List (List Point)). AreFamilyCurves c.self.inside.case z) (sym (c.as_slice-curves.ensures.value ∙ all))
     (serve c.self.inside.case c.keep_all.new.marks c.keep_all.new.curves c.keep_all.ensures.kept c.in_ok-keep_all.ensures.on)
@@ -17,10 +17,10 @@ choose_stocks-requires-clause-curves c =
 pub invariant_of-self-2 : goal.invariant_of-self-2
 invariant_of-self-2 c =
     let all = written c.self.inside.curves.len c.keep_all.new.curves c.self.inside.curves.items
-    (let n = c.keep_all.ensures.kept.value_count in let m = c.self.invariant.are_kept.value_count in let k = c.self.inside.curves.ok.0 in omega (arith, n, m, k))
+    (c.keep_all.ensures.kept.value_count ∙ sym c.self.invariant.are_kept.value_count ∙ sym c.self.inside.curves.ok.0)
     (sym c.self.inside.curves.ok.0) in
     let marks = written c.self.inside.marks.len c.keep_all.new.marks c.self.inside.marks.items
-    (let n = c.keep_all.ensures.kept.mark_count in let m = c.self.invariant.are_kept.mark_count in let k = c.self.inside.marks.ok.0 in omega (arith, n, m, k))
+    (c.keep_all.ensures.kept.mark_count ∙ sym c.self.invariant.are_kept.mark_count ∙ sym c.self.inside.marks.ok.0)
     (sym c.self.inside.marks.ok.0) in
     rw (all, marks) (record {
       valid = c.self.invariant.valid;
@@ -33,7 +33,7 @@ invariant_of-self-2 c =
 pub returns-clause-answer : goal.returns-clause-answer
 returns-clause-answer c =
     let all = written c.self.inside.curves.len c.keep_all.new.curves c.self.inside.curves.items
-    (let n = c.keep_all.ensures.kept.value_count in let m = c.self.invariant.are_kept.value_count in let k = c.self.inside.curves.ok.0 in omega (arith, n, m, k))
+    (c.keep_all.ensures.kept.value_count ∙ sym c.self.invariant.are_kept.value_count ∙ sym c.self.inside.curves.ok.0)
     (sym c.self.inside.curves.ok.0) in
     subst (λ (s : SessionRows). IsReportOf (due s) c.in_ok-outcome.outcome.report) c.self.view_is
     (reported c.self.inside.case c.keep_all.new.marks c.keep_all.new.curves c.keep_all.ensures.kept c.in_ok-keep_all.ensures.on c.self.inside.budget c.in_ok-outcome.outcome

@@ -1,0 +1,124 @@
+//! Certificates made again from what they claim, against those of another program.
+
+ghost use Rattle.std.specs.Prelude.{◌≡◌, ◌≤◌, IfOk};
+ghost use Rattle.price_certificate.specs.declared.certificate.Objective.TheVariants.{Backorders};
+ghost use Rattle.price_certificate.specs.Certificates.{IsWellFormed};
+ghost use Rattle.certified_plan.specs.Inputs.{IsHeld};
+
+use certified_plan::{PlanClaims, certificate, certificate_text};
+use on_hand::HeldCertificate;
+use price_certificate::{Certificate, Objective, Terms};
+use spares_input::{Stocks, nothing_held};
+use spares_io::NoMemory;
+use std::alloc::Global;
+use std::test::*;
+
+/// A line unit at the depot and a base that may hold 9, under a budget of 250.
+const FIRST: &[u8] =
+    b"spares-certificate,1\nsites,2\nD,depot,,\nB,base,12,10.00\nparts,1\nL,,100,1,2,9\n\
+rates,2\nL,D,,,,20.00\nL,B,36.5000,0.0000,,0.00\nbudget,250\nprice,162357558481304,100\nfloors,1\n\
+67625916321994100\nstocks,2\n0\n2\nupper,351544046257340\nbound,270365267016681\nend\n";
+
+/// The same with a cover: five at the base cost more than the floor.
+const SECOND: &[u8] =
+    b"spares-certificate,2\nobjective,backorders\nsites,2\nD,depot,,\nB,base,12,10.00\nparts,1\n\
+L,,100,1,2,9\nrates,2\nL,D,,,,20.00\nL,B,36.5000,0.0000,,0.00\nbudget,250\nprice,162357558481304,100\nfloors,1\n\
+67625916321994100\ncovers,1\ncover,3\nsplit,1,5\nwhole\ncost\nstocks,2\n0\n2\nupper,351544046257340\n\
+bound,270365267016681\nend\n";
+
+/// Its loss of availability.
+const LOSS: &[u8] =
+    b"spares-certificate,2\nobjective,log-availability\nsites,2\nD,depot,,\nB,base,12,10.00\n\
+parts,1\nL,,100,1,2,9\nrates,2\nL,D,,,,20.00\nL,B,36.5000,0.0000,,0.00\nbudget,250\nprice,176524252841808,100\n\
+floors,1\n72426399475250400\ncovers,1\ncover,3\nsplit,1,5\nwhole\ncost\nstocks,2\n0\n2\nupper,371215489071972\n\
+bound,282953362647984\nend\n";
+
+/// Where one is held at the base.
+const HELD: &[u8] =
+    b"spares-held,1\nspares-certificate,2\nobjective,backorders\nsites,2\nD,depot,,\n\
+B,base,12,10.00\nparts,1\nL,,100,1,2,9\nrates,2\nL,D,,,,20.00\nL,B,36.5000,0.0000,,0.00\nbudget,250\n\
+price,99295395889294,100\nfloors,1\n38777727955461700\ncovers,1\ncover,3\nsplit,1,5\nwhole\ncost\nstocks,2\n0\n3\n\
+upper,189186487776046\nbound,139538789831382\nend\nheld,2\n0\n1\nend\n";
+
+/// The certificate of the same claims on the same terms, in this format.
+fn remade(
+    alloc: Global,
+    read: Certificate,
+    held: &Stocks,
+    format: u8,
+) -> Result<Certificate, NoMemory>
+    requires formed { IsWellFormed read }
+    requires held { IsHeld read.case held.now }
+    requires fewest { 1 ≤ format }
+    requires most { format ≤ 2 }
+    requires first { format ≡ 1 → read.objective ≡ Backorders }
+    ensures formed { IfOk result IsWellFormed }
+    ensures case { IfOk result (λ cert. cert.case ≡ read.case) }
+    ensures format { IfOk result (λ cert. cert.format ≡ format) }
+{
+    let _valid = read.case.site_count();
+    let terms = Terms {
+        budget: read.budget,
+        format,
+        objective: read.objective,
+    };
+    let claims = PlanClaims {
+        stocks: read.stocks,
+        price: read.price,
+        floors: read.floors,
+        upper: read.upper,
+        bound: read.bound,
+    };
+    certificate(alloc, read.case, held, terms, claims)
+}
+
+/// The text of the certificate that these bytes are, made again in a format where nothing is held.
+fn again(alloc: Global, bytes: &[u8], format: u8) -> Option<Vec<u8>> {
+    if bytes.len() > 16_777_216 || format < 1 || format > 2 {
+        return None;
+    }
+    let Ok(read) = price_certificate::read(alloc, bytes) else {
+        return None;
+    };
+    if format == 1 && read.objective != Objective::Backorders {
+        return None;
+    }
+    let Ok(held) = nothing_held(alloc, &read.case) else {
+        return None;
+    };
+    let Ok(certificate) = remade(alloc, read, &held, format) else {
+        return None;
+    };
+    certificate_text(alloc, certificate, None).ok()
+}
+
+/// The text of the held certificate that these bytes are, made again.
+fn held_again(alloc: Global, bytes: &[u8]) -> Option<Vec<u8>> {
+    if bytes.len() > 16_777_216 {
+        return None;
+    }
+    let Ok(read) = on_hand::read(alloc, bytes) else {
+        return None;
+    };
+    let HeldCertificate { certificate, held } = read;
+    let Ok(certificate) = remade(alloc, certificate, &held, 2) else {
+        return None;
+    };
+    certificate_text(alloc, certificate, Some(held)).ok()
+}
+
+fn is_text(made: Option<Vec<u8>>, text: &[u8]) -> bool {
+    match made {
+        Some(made) => made.as_slice() == text,
+        None => false,
+    }
+}
+
+#[test]
+fn makes_the_certificates_of_another_program(rt: HostRuntime) -> Result<(), Fail> {
+    assert_eq!(&rt; is_text(again(rt.alloc(), FIRST, 1), FIRST), true);
+    assert_eq!(&rt; is_text(again(rt.alloc(), FIRST, 2), SECOND), true);
+    assert_eq!(&rt; is_text(again(rt.alloc(), LOSS, 2), LOSS), true);
+    assert_eq!(&rt; is_text(held_again(rt.alloc(), HELD), HELD), true);
+    Ok(())
+}

@@ -1,0 +1,15 @@
+//! Worked rows of reports, sessions and certificates of plans. They are run by the tests of this crate.
+#![tactic(auto)]
+
+#[cfg(test)]
+mod certified_plan_tests;
+#[cfg(test)]
+mod eval_report_tests;
+#[cfg(test)]
+mod metric_compare_tests;
+#[cfg(test)]
+mod on_hand_tests;
+#[cfg(test)]
+mod plan_report_tests;
+#[cfg(test)]
+mod plan_session_tests;

@@ -1,0 +1,15 @@
+//! Worked rows of the crates that read and write bytes. They are run by the tests of this crate.
+#![tactic(auto)]
+
+#[cfg(test)]
+mod case_lines_tests;
+#[cfg(test)]
+mod case_maker_tests;
+#[cfg(test)]
+mod csv_tables_tests;
+#[cfg(test)]
+mod line_text_tests;
+#[cfg(test)]
+mod price_certificate_tests;
+#[cfg(test)]
+mod spares_io_tests;

@@ -1,0 +1,5 @@
+//! Worked rows of the command line. They are run by the tests of this crate.
+#![tactic(auto)]
+
+#[cfg(test)]
+mod spares_words_tests;

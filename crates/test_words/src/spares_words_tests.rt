@@ -1,0 +1,582 @@
+//! Command lines, with the orders that they give and the faults that they have.
+
+use exact_ratio::Decimal;
+use exact_ratio::NumberFault::{BadByte, Empty, TooLarge, TooManyPlaces};
+use price_certificate::Objective;
+use price_certificate::Objective::{Backorders, LogAvailability};
+use spares_io::{NoMemory, Stop, Text};
+use spares_words::Which::{Bits, Budget, Format, Lines, Mean, Stock, Target, Variance};
+use spares_words::WordsFault::{Number, Range, Shape};
+use spares_words::{Order, Which, WordsFault, read_words};
+use std::alloc::Global;
+use std::process::Abort;
+use std::test::Fail;
+
+/// The order of words that are parted by single spaces. Between two spaces stands an empty word.
+fn order_of_line(alloc: Global, line: &str) -> Result<Order, Stop<WordsFault>> {
+    let mut words = Vec::new(alloc);
+    for word in line.split(' ') {
+        words.push(Text::from_str(alloc, word)?)?;
+    }
+    read_words(alloc, words.as_slice())
+}
+
+/// The words give this order.
+fn gives(rt: &impl Abort, alloc: Global, line: &str, want: Order) {
+    assert_eq!(rt; order_of_line(alloc, line), Ok(want), "at {line}");
+}
+
+/// The words are refused with this fault.
+fn refuses(rt: &impl Abort, alloc: Global, line: &str, want: WordsFault) {
+    assert_eq!(rt;
+        order_of_line(alloc, line),
+        Err(Stop::Fault(want)),
+        "at {line}"
+    );
+}
+
+fn ten_thousandths(units: u64) -> Decimal {
+    Decimal { units, places: 4 }
+}
+
+/// Lines of `single`, with the mean, the stock and the variance that they give.
+const SINGLES: [(&str, u64, u8, Option<u64>); 11] = [
+    ("single 1 1", 10_000, 1, None),
+    ("single .0001 63.0", 1, 63, None),
+    ("single 1 1 --variance 2", 10_000, 1, Some(20_000)),
+    ("single 1 --variance 2 1", 10_000, 1, Some(20_000)),
+    ("single --variance 2 1 1", 10_000, 1, Some(20_000)),
+    ("single --variance=2 1 1", 10_000, 1, Some(20_000)),
+    ("single 1 1 --variance=2.", 10_000, 1, Some(20_000)),
+    // Two hyphens end the options, also where no word follows.
+    ("single -- 1 1", 10_000, 1, None),
+    ("single 1 -- 1", 10_000, 1, None),
+    ("single 1 1 --", 10_000, 1, None),
+    ("single --variance 2 -- 1 1", 10_000, 1, Some(20_000)),
+];
+
+fn gives_singles(
+    rt: &impl Abort,
+    alloc: Global,
+    cases: &[(&str, u64, u8, Option<u64>)],
+) -> Result<(), Fail> {
+    for (line, mean, stock, variance) in cases {
+        let want = Order::Single {
+            mean: ten_thousandths(*mean),
+            variance: variance.map(ten_thousandths),
+            stock: *stock,
+        };
+        gives(rt, alloc, line, want);
+    }
+    Ok(())
+}
+
+#[test]
+fn takes_single_with_its_option_anywhere(rt: HostRuntime) -> Result<(), Fail> {
+    gives_singles(&rt, rt.alloc(), &SINGLES)
+}
+
+/// The order of `eval` with these names of files, parted by single spaces, and bits.
+fn eval_order(alloc: Global, names: [&str; 4], bits: u8) -> Result<Order, NoMemory> {
+    let [sites, parts, rates, stocks] = names;
+    Ok(Order::Eval {
+        sites: Text::from_str(alloc, sites)?,
+        parts: Text::from_str(alloc, parts)?,
+        rates: Text::from_str(alloc, rates)?,
+        stocks: Text::from_str(alloc, stocks)?,
+        bits,
+    })
+}
+
+/// Lines of `eval`, with the names of files and the bits that they give.
+const EVALS: [(&str, [&str; 4], u8); 4] = [
+    (
+        "eval --sites a --parts b --rates c --stocks d",
+        ["a", "b", "c", "d"],
+        48,
+    ),
+    (
+        "eval --bits 32 --stocks d --rates c --parts b --sites a",
+        ["a", "b", "c", "d"],
+        32,
+    ),
+    (
+        "eval --sites=a --parts=-b --rates= --stocks d --bits=52.0",
+        ["a", "-b", "", "d"],
+        52,
+    ),
+    (
+        "eval --sites a --parts a --rates a --stocks a --bits 048 --",
+        ["a", "a", "a", "a"],
+        48,
+    ),
+];
+
+fn gives_evals(
+    rt: &impl Abort,
+    alloc: Global,
+    cases: &[(&str, [&str; 4], u8)],
+) -> Result<(), Fail> {
+    for (line, names, bits) in cases {
+        let want = eval_order(alloc, *names, *bits)?;
+        gives(rt, alloc, line, want);
+    }
+    Ok(())
+}
+
+#[test]
+fn takes_eval_with_its_options_in_any_order(rt: HostRuntime) -> Result<(), Fail> {
+    gives_evals(&rt, rt.alloc(), &EVALS)
+}
+
+/// The order of `plan` with these names of its tables and certificate, parted by single spaces, and the rest.
+fn plan_order(
+    alloc: Global,
+    names: [&str; 4],
+    on_hand: Option<&str>,
+    budget: u64,
+    format: u8,
+    objective: Objective,
+) -> Result<Order, NoMemory> {
+    let [sites, parts, rates, certificate] = names;
+    let on_hand = match on_hand {
+        Some(name) => Some(Text::from_str(alloc, name)?),
+        None => None,
+    };
+    Ok(Order::Plan {
+        sites: Text::from_str(alloc, sites)?,
+        parts: Text::from_str(alloc, parts)?,
+        rates: Text::from_str(alloc, rates)?,
+        on_hand,
+        budget,
+        format,
+        objective,
+        certificate: Text::from_str(alloc, certificate)?,
+    })
+}
+
+/// Lines of `plan`, with the names of files, the budget and the format that they give.
+const PLANS: [(&str, [&str; 4], u64, u8); 3] = [
+    (
+        "plan --sites a --parts b --rates c --budget 250 --certificate d",
+        ["a", "b", "c", "d"],
+        250,
+        1,
+    ),
+    (
+        "plan --format 2 --certificate d --budget=0 --rates c --parts b --sites a",
+        ["a", "b", "c", "d"],
+        0,
+        2,
+    ),
+    (
+        "plan --sites a --parts a --rates a --certificate= --format=1. --budget 1000000000000000",
+        ["a", "a", "a", ""],
+        1_000_000_000_000_000,
+        1,
+    ),
+];
+
+fn gives_plans(
+    rt: &impl Abort,
+    alloc: Global,
+    cases: &[(&str, [&str; 4], u64, u8)],
+) -> Result<(), Fail> {
+    for (line, names, budget, format) in cases {
+        let want = plan_order(alloc, *names, None, *budget, *format, Backorders)?;
+        gives(rt, alloc, line, want);
+    }
+    Ok(())
+}
+
+#[test]
+fn takes_plan(rt: HostRuntime) -> Result<(), Fail> {
+    gives_plans(&rt, rt.alloc(), &PLANS)
+}
+
+/// Lines of `plan` with stocks on hand or an objective: each with the stocks, the format and the objective that it
+/// gives.
+const AIMS: [(&str, Option<&str>, u8, Objective); 4] = [
+    (
+        "plan --sites a --parts b --rates c --budget 1 --certificate d --objective backorders",
+        None,
+        1,
+        Backorders,
+    ),
+    (
+        "plan --sites a --parts b --rates c --budget 1 --certificate d --objective log-availability",
+        None,
+        2,
+        LogAvailability,
+    ),
+    (
+        "plan --sites a --parts b --rates c --budget 1 --certificate d --on-hand e",
+        Some("e"),
+        2,
+        Backorders,
+    ),
+    (
+        "plan --sites a --parts b --rates c --budget 1 --certificate d --on-hand= --objective=log-availability --format 2",
+        Some(""),
+        2,
+        LogAvailability,
+    ),
+];
+
+fn gives_aims(
+    rt: &impl Abort,
+    alloc: Global,
+    cases: &[(&str, Option<&str>, u8, Objective)],
+) -> Result<(), Fail> {
+    for (line, on_hand, format, objective) in cases {
+        let want = plan_order(
+            alloc,
+            ["a", "b", "c", "d"],
+            *on_hand,
+            1,
+            *format,
+            *objective,
+        )?;
+        gives(rt, alloc, line, want);
+    }
+    Ok(())
+}
+
+#[test]
+fn takes_stocks_on_hand_and_objectives(rt: HostRuntime) -> Result<(), Fail> {
+    gives_aims(&rt, rt.alloc(), &AIMS)
+}
+
+#[test]
+fn takes_check(rt: HostRuntime) -> Result<(), Fail> {
+    let alloc = rt.alloc();
+    let certificate = Text::from_str(alloc, "c")?;
+    gives(
+        &rt,
+        alloc,
+        "check --certificate c",
+        Order::Check { certificate },
+    );
+    Ok(())
+}
+
+/// Lines of `demo`, with the number and the lines that they give.
+const DEMOS: [(&str, u32, u16); 2] = [
+    ("demo 4294967295 80", 4_294_967_295, 80),
+    ("demo 0. 01", 0, 1),
+];
+
+fn gives_demos(rt: &impl Abort, alloc: Global, cases: &[(&str, u32, u16)]) {
+    for (line, number, lines) in cases {
+        let want = Order::Demo {
+            number: *number,
+            lines: *lines,
+        };
+        gives(rt, alloc, line, want);
+    }
+}
+
+#[test]
+fn takes_demo(rt: HostRuntime) -> Result<(), Fail> {
+    gives_demos(&rt, rt.alloc(), &DEMOS);
+    Ok(())
+}
+
+/// Lines that give no order, each with its fault.
+const REFUSED: [(&str, WordsFault); 62] = [
+    ("", Shape),
+    ("help", Shape),
+    ("--help", Shape),
+    ("plan", Shape),
+    ("Single 1 1", Shape),
+    ("sing 1 1", Shape),
+    ("single", Shape),
+    ("single 1", Shape),
+    ("single 1 1 1", Shape),
+    ("single --variance 2", Shape),
+    ("single help", Shape),
+    ("single 1 1 --help", Shape),
+    ("single 1 1 -h", Shape),
+    ("single 1 1 --version", Shape),
+    ("single 1 1 -V", Shape),
+    ("single -1 1", Shape),
+    ("single 1 -1", Shape),
+    // An option needs a value, is there at most once, and isn't abbreviated.
+    ("single 1 1 --variance", Shape),
+    ("single 1 1 --variance -1", Shape),
+    ("single 1 1 --variance --", Shape),
+    ("single 1 1 --variance -- 2", Shape),
+    ("single 1 1 --variance 2 --variance 2", Shape),
+    ("single --variance=2 1 1 --variance=2", Shape),
+    ("single 1 1 --var 2", Shape),
+    ("single 1 1 -v 2", Shape),
+    ("single 1 1 --stock 2", Shape),
+    // After two hyphens each word stands by itself.
+    ("single -- 1 1 --variance 2", Shape),
+    ("single -- -1 1", Number(Mean, BadByte(0))),
+    ("single 1 1 --variance=-1", Number(Variance, BadByte(0))),
+    ("single 1 1 --variance -", Number(Variance, BadByte(0))),
+    ("single 1 1 --variance=", Number(Variance, Empty)),
+    ("single 1 1 --variance ", Number(Variance, Empty)),
+    ("single  1", Number(Mean, Empty)),
+    ("single - 1", Number(Mean, BadByte(0))),
+    ("single 1 - ", Shape),
+    ("single 1 -", Number(Stock, BadByte(0))),
+    ("single x 1", Number(Mean, BadByte(0))),
+    ("single 1.00001 1", Number(Mean, TooManyPlaces)),
+    ("single 1844674407370955.1616 1", Number(Mean, TooLarge)),
+    ("single 1 0.5", Number(Stock, TooManyPlaces)),
+    ("single 1 18446744073709551616", Number(Stock, TooLarge)),
+    ("single 1 64", Range(Stock)),
+    ("eval", Shape),
+    ("eval --sites a --parts b --rates c", Shape),
+    ("eval --sites a --parts b --stocks d", Shape),
+    ("eval --sites a --parts b --rates c --stocks", Shape),
+    ("eval --sites a --parts b --rates c --stocks d e", Shape),
+    (
+        "eval --sites a --parts b --rates c --stocks d --sites a",
+        Shape,
+    ),
+    ("eval --sites -a --parts b --rates c --stocks d", Shape),
+    (
+        "eval --sites a --parts b --rates c --stocks d --budget 1",
+        Shape,
+    ),
+    (
+        "eval --sites a --parts b --rates c --stocks d --bits",
+        Shape,
+    ),
+    (
+        "eval --sites a --parts b --rates c --stocks d --bits 40",
+        Range(Bits),
+    ),
+    (
+        "eval --sites a --parts b --rates c --stocks d --bits 33",
+        Range(Bits),
+    ),
+    (
+        "eval --sites a --parts b --rates c --stocks d --bits 0",
+        Range(Bits),
+    ),
+    (
+        "eval --sites a --parts b --rates c --stocks d --bits 304",
+        Range(Bits),
+    ),
+    (
+        "eval --sites a --parts b --rates c --stocks d --bits=",
+        Number(Bits, Empty),
+    ),
+    (
+        "eval --sites a --parts b --rates c --stocks d --bits x",
+        Number(Bits, BadByte(0)),
+    ),
+    (
+        "eval --sites a --parts b --rates c --stocks d --bits 48.5",
+        Number(Bits, TooManyPlaces),
+    ),
+    // The mean is read first, then the variance, then the stock.
+    ("single x y --variance z", Number(Mean, BadByte(0))),
+    ("single 1 y --variance z", Number(Variance, BadByte(0))),
+    ("single 1 64 --variance z", Number(Variance, BadByte(0))),
+    ("single 1 y --variance 2", Number(Stock, BadByte(0))),
+];
+
+/// Each line is refused with its fault.
+fn refuses_each(rt: &impl Abort, alloc: Global, cases: &[(&str, WordsFault)]) {
+    for (line, want) in cases {
+        refuses(rt, alloc, line, *want);
+    }
+}
+
+#[test]
+fn refuses_words_and_numbers(rt: HostRuntime) -> Result<(), Fail> {
+    refuses_each(&rt, rt.alloc(), &REFUSED);
+    Ok(())
+}
+
+#[test]
+fn refuses_no_words(rt: HostRuntime) -> Result<(), Fail> {
+    let none: [Text; 0] = [];
+    let answer = read_words(rt.alloc(), none.as_slice());
+    assert_eq!(rt; answer, Err(Stop::Fault(Shape)));
+    Ok(())
+}
+
+/// A line that begins so and ends with each of these is refused with its fault.
+fn refuses_after(
+    rt: &impl Abort,
+    alloc: Global,
+    start: &str,
+    cases: &[(&str, WordsFault)],
+) -> Result<(), Fail> {
+    for (end, want) in cases {
+        let line = format!(in alloc; "{start} {end}")?;
+        refuses(rt, alloc, line.as_str(), *want);
+    }
+    Ok(())
+}
+
+/// What may not follow the names of the tables in `plan`, with its fault.
+const REFUSED_PLANS: [(&str, WordsFault); 11] = [
+    ("--certificate d", Shape),
+    ("--budget 1", Shape),
+    ("--budget 1 --certificate d --stocks e", Shape),
+    ("--budget 1 --certificate d --format 1 --format 1", Shape),
+    ("--budget 1000000000000001 --certificate d", Range(Budget)),
+    ("--budget=-1 --certificate d", Number(Budget, BadByte(0))),
+    ("--budget 1 --certificate d --format 3", Range(Format)),
+    ("--budget 1 --certificate d --format 0", Range(Format)),
+    (
+        "--budget 1 --certificate d --format 1.5",
+        Number(Format, TooManyPlaces),
+    ),
+    // The budget is read first, then the format.
+    (
+        "--budget x --certificate d --format 3",
+        Number(Budget, BadByte(0)),
+    ),
+    (
+        "--budget 1000000000000001 --certificate d --format x",
+        Range(Budget),
+    ),
+];
+
+#[test]
+fn refuses_plans(rt: HostRuntime) -> Result<(), Fail> {
+    refuses_after(
+        &rt,
+        rt.alloc(),
+        "plan --sites a --parts b --rates c",
+        &REFUSED_PLANS,
+    )
+}
+
+/// What may not follow them with stocks on hand or an objective, with its fault.
+const REFUSED_AIMS: [(&str, WordsFault); 8] = [
+    ("--objective availability", Range(Which::Objective)),
+    ("--objective=", Range(Which::Objective)),
+    ("--objective", Shape),
+    ("--on-hand e --format 1", Range(Format)),
+    ("--objective log-availability --format 1", Range(Format)),
+    // The format is read before the objective.
+    ("--objective x --format 3", Range(Format)),
+    ("--objective x --on-hand e --format 1", Range(Format)),
+    ("--objective x --format 1", Range(Which::Objective)),
+];
+
+#[test]
+fn refuses_stocks_on_hand_and_objectives(rt: HostRuntime) -> Result<(), Fail> {
+    refuses_after(
+        &rt,
+        rt.alloc(),
+        "plan --sites a --parts b --rates c --budget 1 --certificate d",
+        &REFUSED_AIMS,
+    )
+}
+
+/// Lines of `check` and `demo` that give no order, each with its fault.
+const REFUSED_REST: [(&str, WordsFault); 9] = [
+    ("check", Shape),
+    ("check c", Shape),
+    ("check --certificate c --certificate c", Shape),
+    ("demo 7", Shape),
+    ("demo 7 0", Range(Lines)),
+    ("demo 7 81", Range(Lines)),
+    ("demo 7 1.5", Number(Lines, TooManyPlaces)),
+    ("demo x 0", Number(Which::Number, BadByte(0))),
+    ("demo 4294967296 x", Range(Which::Number)),
+];
+
+#[test]
+fn refuses_check_and_demo(rt: HostRuntime) -> Result<(), Fail> {
+    refuses_each(&rt, rt.alloc(), &REFUSED_REST);
+    Ok(())
+}
+
+/// Lines of the commands that take tables alone, which give no order, each with its fault.
+const REFUSED_TABLES: [(&str, WordsFault); 8] = [
+    ("sweep --sites a --parts b", Shape),
+    ("sweep --sites a --parts b --rates c --budget 1", Shape),
+    ("target --sites a --parts b --rates c", Shape),
+    (
+        "target --sites a --parts b --rates c --backorders 0.00001",
+        Number(Target, TooManyPlaces),
+    ),
+    (
+        "target --sites a --parts b --rates c --backorders 1000000000.0001",
+        Range(Target),
+    ),
+    ("session --sites a --parts b --rates c", Shape),
+    (
+        "session --sites a --parts b --rates c --edits d --budget 1",
+        Shape,
+    ),
+    (
+        "compare --sites a --parts b --rates c --stocks d --bits 32",
+        Shape,
+    ),
+];
+
+#[test]
+fn refuses_commands_over_tables(rt: HostRuntime) -> Result<(), Fail> {
+    refuses_each(&rt, rt.alloc(), &REFUSED_TABLES);
+    Ok(())
+}
+
+/// An order over the tables `a`, `b` and `c`, and the file `d` where it takes one.
+fn table_order(alloc: Global, command: &str) -> Result<Order, NoMemory> {
+    let (sites, parts) = (Text::from_str(alloc, "a")?, Text::from_str(alloc, "b")?);
+    let (rates, more) = (Text::from_str(alloc, "c")?, Text::from_str(alloc, "d")?);
+    Ok(match command {
+        "session" => Order::Session {
+            sites,
+            parts,
+            rates,
+            edits: more,
+        },
+        "compare" => Order::Compare {
+            sites,
+            parts,
+            rates,
+            stocks: more,
+        },
+        "target" => Order::Target {
+            sites,
+            parts,
+            rates,
+            backorders: ten_thousandths(25_000),
+        },
+        _ => Order::Sweep {
+            sites,
+            parts,
+            rates,
+        },
+    })
+}
+
+/// Lines of these commands, with their names.
+const TABLES: [(&str, &str); 4] = [
+    ("sweep --parts b --sites a --rates=c", "sweep"),
+    (
+        "target --sites a --parts b --rates c --backorders 2.5",
+        "target",
+    ),
+    ("session --edits d --rates c --parts b --sites a", "session"),
+    (
+        "compare --sites a --parts b --rates c --stocks d",
+        "compare",
+    ),
+];
+
+fn gives_orders(rt: &impl Abort, alloc: Global, cases: &[(&str, &str)]) -> Result<(), Fail> {
+    for (line, command) in cases {
+        let want = table_order(alloc, command)?;
+        gives(rt, alloc, line, want);
+    }
+    Ok(())
+}
+
+#[test]
+fn takes_commands_over_tables(rt: HostRuntime) -> Result<(), Fail> {
+    gives_orders(&rt, rt.alloc(), &TABLES)
+}

@@ -1,0 +1,69 @@
+# The script `spares`: what it says where nothing can be built, and how far it is while a kit builds. The kit is a stand-in
+# that says what the gate says, and proves nothing.
+
+first=$room/first
+mkdir -p "$first/tools" "$first/bin" "$first/crates/low/src" "$first/crates/low/must-fail" "$first/crates/spares/src"
+cp "$here/../spares" "$first/spares"
+cp "$here/../tools/build.py" "$first/tools/"
+printf 'Handles allowed: none.\n' >"$first/HANDLES"
+printf '# low\nlow:\nother: low\nspares: low std # the program\n' >"$first/crates.txt"
+printf 'pub fn one() {}\n' >"$first/crates/low/src/lib.rt"
+printf 'fn main() {}\n' >"$first/crates/spares/src/main.rt"
+printf 'file: src/lib.rt\n' >"$first/crates/low/must-fail/wrong.edit"
+for word in bash dirname find; do ln -s "$(command -v "$word")" "$first/bin/$word"; done
+python=$(python3 -c 'import sys; print(sys.executable)' 2>/dev/null)
+if [ -n "$python" ]; then ln -s "$python" "$first/bin/python3"; fi
+
+# runs_first NAME STATUS OUT ERR WORDS..: the script ends so, with the words of its folder's bin/ alone on the path
+runs_first() {
+  local name=$1 status=$2 out=$3 err=$4
+  shift 4
+  PATH=$first/bin "$first/spares" "$@" >"$room/out" 2>"$room/err.raw" </dev/null
+  local found=$?
+  sed "s|$first|TOP|g; s|after [0-9.]* minutes|after some minutes|" "$room/err.raw" >"$room/err"
+  compare "$name" "$status" "$found" "$out" "$err"
+}
+
+runs_first 'no program and no kit' 1 '' \
+  'spares: TOP/crates/spares/out/spares is not there, and no rt is on the path to prove and build it\n' single 1 1
+
+mkdir "$first/crates/spares/out"
+printf '#!%s\necho old "$@"\n' "$(command -v bash)" >"$first/crates/spares/out/spares"
+chmod +x "$first/crates/spares/out/spares"
+touch -d '2020-01-01' "$first/crates/spares/out/spares"
+find "$first/crates.txt" "$first/crates" -name out -prune -o -type f -exec touch -d '2019-01-01' {} +
+touch "$first/crates/low/must-fail/wrong.edit"
+runs_first 'a program that is newer than its sources' 0 'old plan\n' '' plan
+touch "$first/crates/low/src/lib.rt"
+runs_first 'an old program and no kit' 1 '' \
+  'spares: TOP/crates/spares/out/spares is older than TOP/crates/low/src/lib.rt, and no rt is on the path to prove and build it\n' plan
+
+cat >"$first/bin/rt" <<SCRIPT
+#!$python
+import os, sys
+names = [line.split(":")[0] for line in open("crates.txt")]
+if sys.argv[1:] != ["ci"] or os.path.exists("crates/low/must-fail") or names != ["low", "spares"]:
+    sys.exit("this is not what the gate is asked for")
+print("rt: low is kept: an earlier run on this machine proved the same files over the same libraries", flush=True)
+if os.path.exists("$first/fails"):
+    print("src/main.rt:1:1: error: a goal is open\nrt: spares NOT PROVED\n1 passed, 1 failed", flush=True)
+    sys.exit(1)
+os.makedirs("crates/spares/out")
+with open("crates/spares/out/spares", "w") as program:
+    program.write("#!$(command -v bash)\necho new \"\$@\"\n")
+print("rt: spares proved\n2 passed, 0 failed", flush=True)
+SCRIPT
+chmod +x "$first/bin/rt"
+if [ -n "$python" ]; then
+  proving='spares: proving 2 crates, once; docs/CONTRIBUTING.md says how long this takes\n'
+  proving+='spares: 1 of 2 crates proved after some minutes: low (kept from an earlier run)\n'
+  : >"$first/fails"
+  runs_first 'a proof that fails' 1 '' \
+    "${proving}spares: spares NOT PROVED\nrt: low is kept: an earlier run on this machine proved the same files over the same libraries
+src/main.rt:1:1: error: a goal is open\nrt: spares NOT PROVED\n1 passed, 1 failed
+spares: the program is not built: the lines above say why\n" plan
+  rm "$first/fails"
+  runs_first 'a first run' 0 'new plan --budget 5\n' \
+    "${proving}spares: 2 of 2 crates proved after some minutes: spares\n" plan --budget 5
+  runs_first 'the run after it' 0 'new single 1 1\n' '' single 1 1
+fi
