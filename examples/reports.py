@@ -8,6 +8,7 @@ import os
 import re
 import subprocess
 import sys
+import tempfile
 from collections import namedtuple
 
 from fleet_tables import Refused, read_file
@@ -240,6 +241,11 @@ def value(millionths):
 Ran = namedtuple('Ran', 'status out fault')
 
 
+def show_progress(line):
+    sys.stderr.write(line.decode('latin-1'))
+    sys.stderr.flush()
+
+
 class Program:
     """The program, and the tables that it is given."""
 
@@ -250,14 +256,27 @@ class Program:
         ]
 
     def run(self, *words):
-        """Runs a command: its status, its report and the line of its refusal."""
-        try:
-            ran = subprocess.run(
-                [self.path] + [str(word) for word in words], capture_output=True, stdin=subprocess.DEVNULL
-            )
-        except OSError as error:
-            raise Refused('the program %s: %s' % (self.path, error.strerror))
-        return Ran(ran.returncode, ran.stdout, ran.stderr.decode('latin-1').strip())
+        """Runs a command: its status, its report and the line of its refusal. If the program is built first, what is said of that
+        goes to the standard error."""
+        with tempfile.TemporaryFile() as out:
+            try:
+                ran = subprocess.Popen(
+                    [self.path] + [str(word) for word in words],
+                    stdin=subprocess.DEVNULL,
+                    stdout=out,
+                    stderr=subprocess.PIPE,
+                )
+            except OSError as error:
+                raise Refused('the program %s: %s' % (self.path, error.strerror))
+            last = b''
+            for line in ran.stderr:
+                show_progress(last)
+                last = line
+            ran.stderr.close()
+            if ran.wait() == 0:
+                show_progress(last)
+            out.seek(0)
+            return Ran(ran.returncode, out.read(), last.decode('latin-1').strip())
 
     def reports(self, command, *words):
         """The reports of a command that is given the tables, or Refused with its fault."""
