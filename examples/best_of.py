@@ -31,7 +31,8 @@ from bisect import bisect_right
 from collections import namedtuple
 
 from fleet_tables import HEADERS, Refused, decimal, read_file, whole
-from reports import NOWHERE, Program, Words, micro, must_fit, reports_of, run_script, value, whole_number, write_file
+from reports import NOWHERE, Program, Words, micro, must_be_apart, must_fit, reports_of, run_script, value
+from reports import whole_number, write_file
 from sweep import planned
 
 MOST_ROUNDS = 200
@@ -250,6 +251,8 @@ def with_stocks(data, fleet, stocks, upper):
     """A certificate with other stocks and an upper end in millionths, in units of 2^-48."""
     lines = data.decode('latin-1').split('\n')
     pairs = fleet.pairs()
+    if 'stocks,%d' % len(pairs) not in lines:
+        raise Refused('the certificate that was written cannot be read again: give it a name of its own')
     place = lines.index('stocks,%d' % len(pairs)) + 1
     lines[place : place + len(pairs)] = ['%d' % stocks[pair] for pair in pairs]
     place += len(pairs)
@@ -257,6 +260,18 @@ def with_stocks(data, fleet, stocks, upper):
         raise Refused('the certificate is not of the form that docs/CERTIFICATE.md has')
     lines[place] = 'upper,%d' % (upper * 2**48 // 10**6)
     return '\n'.join(lines)
+
+
+def certified(program, path, cost, total, bound):
+    """What `check` says of the certificate, which must have these numbers."""
+    ran = program.run('check', '--certificate', path)
+    if ran.status != 0:
+        raise Refused('spares check refuses the certificate: %s' % ran.fault)
+    accepted = reports_of(ran.out, 'spares check')[0]
+    said = [accepted.one(kind)[field] for kind, field in (('cost', 'cost'), ('upper', 'value'), ('bound', 'value'))]
+    if said != ['%d' % cost, total['high'], bound]:
+        raise Refused('spares check says other numbers of the certificate')
+    return accepted.one('accepted')['format']
 
 
 def main():
@@ -268,34 +283,26 @@ def main():
     words.program()
     words = words.parse_args()
     inputs = (words.sites, words.parts, words.rates, words.on_hand)
-    for path in (words.certificate, words.write_stocks):
-        if path and any(name and os.path.exists(path) and os.path.samefile(path, name) for name in inputs):
-            raise Refused('%s is one of the inputs' % path)
+    for path in filter(None, (words.certificate, words.write_stocks)):
+        must_be_apart(path, inputs)
+    if words.certificate == words.write_stocks:
+        raise Refused('the certificate and the stocks need two files')
     with tempfile.TemporaryDirectory() as room:
         fleet = Fleet(words, room)
         plan, starts = starts_of(fleet, words)
-        for _, cost, aim, budget, report in starts:
-            print('start,%s,%d,%d,%s,%s' % (aim, budget, cost, *report.one('total').values()))
         best = best_from(fleet, starts)
-    stocks, total = best.stocks, best.total
-    upper, bound = micro(total['high']), plan.one('bound')['value']
-    write_file(words.certificate, with_stocks(read_file(words.certificate), fleet.fleet, stocks, upper))
+    cost, total, bound = fleet.cost(best.stocks), best.total, plan.one('bound')['value']
+    upper = micro(total['high'])
+    write_file(words.certificate, with_stocks(read_file(words.certificate), fleet.fleet, best.stocks, upper))
     if words.write_stocks:
-        write_file(words.write_stocks, stocks_text(fleet.fleet, stocks), inputs)
-    ran = fleet.program.run('check', '--certificate', words.certificate)
-    if ran.status != 0:
-        raise Refused('spares check refuses the certificate: %s' % ran.fault)
-    accepted = reports_of(ran.out, 'spares check')[0]
+        write_file(words.write_stocks, stocks_text(fleet.fleet, best.stocks), inputs)
+    accepted = certified(fleet.program, words.certificate, cost, total, bound)
+    for _, spent, aim, budget, report in starts:
+        print('start,%s,%d,%d,%s,%s' % (aim, budget, spent, *report.one('total').values()))
     print('from,%s,%d,%d' % (best.aim, best.budget, best.rounds))
-    print('best,%d,%s,%s' % (fleet.cost(stocks), total['low'], total['high']))
+    print('best,%d,%s,%s' % (cost, total['low'], total['high']))
     print('bound,%s\ngap,%s' % (bound, value(upper - micro(bound))))
-    print('accepted,%s' % accepted.one('accepted')['format'])
-    if [accepted.one('cost')['cost'], accepted.one('upper')['value'], accepted.one('bound')['value']] != [
-        '%d' % fleet.cost(stocks),
-        total['high'],
-        bound,
-    ]:
-        raise Refused('spares check says other numbers of the certificate')
+    print('accepted,%s' % accepted)
 
 
 if __name__ == '__main__':

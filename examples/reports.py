@@ -53,7 +53,7 @@ def whole_number(text):
 def run_script(main):
     """Runs a script: what is wrong with its input is one line on the standard error, with the status 2."""
     try:
-        sys.stdout.reconfigure(encoding='utf-8', newline='\n')
+        sys.stdout.reconfigure(encoding='utf-8', errors='surrogateescape', newline='\n')
         status = main()
         sys.stdout.flush()
     except Refused as fault:
@@ -65,15 +65,20 @@ def run_script(main):
     sys.exit(status)
 
 
+def must_be_apart(path, inputs):
+    """Refused where a file that is written is one of the inputs."""
+    if any(name and os.path.exists(path) and os.path.exists(name) and os.path.samefile(path, name) for name in inputs):
+        raise Refused('%s is one of the inputs' % path)
+
+
 def write_file(path, text, inputs=()):
     """Writes a text to a file that isn't one of the inputs."""
-    if any(os.path.exists(path) and os.path.exists(name) and os.path.samefile(path, name) for name in inputs if name):
-        raise Refused('%s is one of the inputs' % path)
+    must_be_apart(path, inputs)
     try:
         with open(path, 'w', encoding='utf-8', newline='') as file:
             file.write(text)
-    except OSError as error:
-        raise Refused('%s: %s' % (path, error.strerror))
+    except (OSError, ValueError) as error:
+        raise Refused('%s: %s' % (path, getattr(error, 'strerror', None) or 'no file has this name'))
 
 
 # Reports

@@ -107,9 +107,10 @@ def main():
     if not words.steps:
         sys.stdout.write(sweep_picture(points_of(report), words.least, words.most).text())
         return
+    rows = steps(words, points)
     writer = csv.writer(sys.stdout, lineterminator='\n')
     writer.writerow(['from_cost', 'to_cost', 'total_low', 'total_high', 'part', 'site', 'before', 'after', 'money'])
-    writer.writerows(steps(words, points))
+    writer.writerows(rows)
 
 
 if __name__ == '__main__':
