@@ -11,8 +11,8 @@ plan`. The table has one row for each aim and budget:
 
     aim,budget,cost,fleet_low,fleet_high,total_low,total_high,loss_low,loss_high,bound,gap, and BASE_low,BASE_high for each base
 
-With --reach it prints only the row of the plan that costs least among those whose fleet_low is at least this share, as 0.95; if there is
-none, it says so on the standard error, with the status 1. --picture writes an SVG picture of all rows.
+With --reach it prints only the row of the plan that costs least among those whose fleet_low is at least this share, as 0.95: of these
+budgets, and of 15 between the cheapest of them and the one before; if there is none, it says so on the standard error, with the status 1. --picture writes an SVG picture of all rows.
 
 Proved is of each row: the intervals enclose the model's values for the stocks of that plan, and no stocks within the limits that cost
 at most the budget have less than `bound` backorders, or loss if that is the aim. Not proved is that no cheaper stocks reach as large
@@ -32,6 +32,7 @@ from sweep import planned
 
 AIMS = ('backorders', 'log-availability')
 MOST_BUDGET = 10**15
+CLOSER = 17  # budgets of a closer look, with both ends
 
 
 def share(text):
@@ -69,26 +70,55 @@ def budgets_from_nothing(words, program):
     return thinned(inside, words.points)
 
 
-def budgets_from_stocks(words, plan):
-    most = words.most
-    if most is None:
-        most = max(words.least + 1, int(plan('backorders', MOST_BUDGET).one('hull')['cost']))
-    return sorted({words.least + (most - words.least) * k // (words.points - 1) for k in range(words.points)})
+class Planner:
+    """Plans by both aims, from nothing or from stocks on hand."""
+
+    def __init__(self, words):
+        self.program = Program(words)
+        self.held = ['--on-hand', words.on_hand] if words.on_hand else []
+
+    def plan(self, aim, budget):
+        words = ['--budget', budget, '--objective', aim, '--certificate', NOWHERE]
+        return self.program.report('plan', *words, *self.held)
+
+    def plans(self, budgets):
+        """The plans as triples of aim, budget and report."""
+        if self.held:
+            first = [self.plan(AIMS[0], budget) for budget in budgets]
+        else:
+            first = planned(self.program, budgets)
+        second = [self.plan(AIMS[1], budget) for budget in budgets]
+        return [(aim, *pair) for aim, reports in zip(AIMS, (first, second)) for pair in zip(budgets, reports)]
+
+    def budgets(self, words):
+        """The budgets that are asked for."""
+        if not self.held:
+            return budgets_from_nothing(words, self.program)
+        most = words.most
+        if most is None:
+            most = max(words.least + 1, int(self.plan(AIMS[0], MOST_BUDGET).one('hull')['cost']))
+        return evenly(words.least, most, words.points)
 
 
-def plans_of(words, program):
-    """The plans as triples of aim, budget and report."""
-    held = ['--on-hand', words.on_hand] if words.on_hand else []
+def evenly(least, most, count):
+    """So many budgets with equal steps between them, or fewer if the steps would be below 1."""
+    return sorted({least + (most - least) * k // (count - 1) for k in range(count)})
 
-    def plan(aim, budget):
-        return program.report('plan', '--budget', budget, '--objective', aim, '--certificate', NOWHERE, *held)
 
-    budgets = budgets_from_stocks(words, plan) if held else budgets_from_nothing(words, program)
-    first = [plan(AIMS[0], budget) for budget in budgets] if held else planned(program, budgets)
-    second = [plan(AIMS[1], budget) for budget in budgets]
-    return [
-        (aim, budget, report) for aim, reports in zip(AIMS, (first, second)) for budget, report in zip(budgets, reports)
-    ]
+def cheapest(plans, share):
+    """The plan that costs least among those with at least this availability, or None."""
+    reaching = [plan for plan in plans if micro(plan[2].one('fleet')['low']) >= share]
+    return min(reaching, key=lambda plan: int(plan[2].one('cost')['cost'])) if reaching else None
+
+
+def reaching(planner, plans, share):
+    """The cheapest plan that reaches a share, also among budgets between the cheapest of these and the budget before it."""
+    found = cheapest(plans, share)
+    if found is None:
+        return []
+    below = max((budget for _, budget, _ in plans if budget < found[1]), default=found[1])
+    closer = planner.plans(evenly(below, found[1], CLOSER)[1:-1])
+    return [cheapest([found] + closer, share)]
 
 
 def header_of(fleet):
@@ -186,13 +216,11 @@ def main():
         raise Refused('--from must be below --to')
     names = {'sites': words.sites, 'parts': words.parts, 'rates': words.rates, 'on-hand': words.on_hand}
     fleet = whole(names).fleet
-    plans = plans_of(words, Program(words))
+    planner = Planner(words)
+    plans = planner.plans(planner.budgets(words))
     if words.picture:
         write_file(words.picture, picture_of(words, fleet, plans), names.values())
-    shown = plans
-    if words.reach is not None:
-        reaching = [plan for plan in plans if micro(plan[2].one('fleet')['low']) >= words.reach]
-        shown = [min(reaching, key=lambda plan: int(plan[2].one('cost')['cost']))] if reaching else []
+    shown = plans if words.reach is None else reaching(planner, plans, words.reach)
     writer = csv.writer(sys.stdout, lineterminator='\n')
     writer.writerow(header_of(fleet))
     writer.writerows(row_of(*plan) for plan in shown)

@@ -387,11 +387,11 @@ def availability(trial):
     )
     held = ["--on-hand", trial.file("stocks.csv")]
     trial.wants("availability_more.csv", trial.run("availability.py", *words, *held, "--to", "60000", "--points", "4"))
-    found = rows_of(trial.run("availability.py", *words, "--from", "50000", "--to", "160000", "--reach", "0.97"))
-    must(
-        [(row["aim"], row["budget"], row["fleet_low"]) for row in found] == [("backorders", "108000", "0.970865")],
-        found,
-    )
+    for share, budget, cost, low in ("0.97", "108000", "108000", "0.970865"), ("0.975", "130500", "129900", "0.975050"):
+        found = rows_of(trial.run("availability.py", *words, "--from", "50000", "--to", "160000", "--reach", share))
+        must(len(found) == 1, found)
+        row = found[0]
+        must((row["aim"], row["budget"], row["cost"], row["fleet_low"]) == ("backorders", budget, cost, low), row)
     thin = rows_of(trial.run("availability.py", *words, "--points", "5"))
     must(
         [row["aim"] for row in thin] == ["backorders"] * 5 + ["log-availability"] * 5
