@@ -121,38 +121,28 @@ def reaching(planner, plans, share):
     return [cheapest([found] + closer, share)]
 
 
+COLUMNS = 'aim budget cost fleet_low fleet_high total_low total_high loss_low loss_high bound gap'.split()
+
+
 def header_of(fleet):
-    return [
-        'aim',
-        'budget',
-        'cost',
-        'fleet_low',
-        'fleet_high',
-        'total_low',
-        'total_high',
-        'loss_low',
-        'loss_high',
-        'bound',
-        'gap',
-    ] + ['%s_%s' % (site.name, end) for site in fleet.bases for end in ('low', 'high')]
+    """The columns of the table; a base with the name of another column gets the word `base` before it."""
+    names = [site.name if site.name + '_low' not in COLUMNS else 'base ' + site.name for site in fleet.bases]
+    return COLUMNS + ['%s_%s' % (name, end) for name in names for end in ('low', 'high')]
 
 
 def row_of(aim, budget, report):
-    fleet, total, loss = report.one('fleet'), report.one('total'), report.one('loss') or {'low': '', 'high': ''}
+    ranges = [report.one('fleet'), report.one('total'), report.one('loss') or {'low': '', 'high': ''}]
+    ends = [fields[end] for fields in ranges for end in ('low', 'high')]
     bases = [base[end] for base in report.all('base') for end in ('low', 'high')]
     return [
         aim,
         budget,
         report.one('cost')['cost'],
-        fleet['low'],
-        fleet['high'],
-        total['low'],
-        total['high'],
-        loss['low'],
-        loss['high'],
+        *ends,
         report.one('bound')['value'],
         report.one('gap')['value'],
-    ] + bases
+        *bases,
+    ]
 
 
 def lines_of(fleet, plans):
