@@ -12,7 +12,8 @@ plan`. The table has one row for each aim and budget:
     aim,budget,cost,fleet_low,fleet_high,total_low,total_high,loss_low,loss_high,bound,gap, and BASE_low,BASE_high for each base
 
 With --reach it prints only the row of the plan that costs least among those whose fleet_low is at least this share, as 0.95: of these
-budgets, and of 15 between the cheapest of them and the one before; if there is none, it says so on the standard error, with the status 1. --picture writes an SVG picture of all rows.
+budgets, and of 15 between the cheapest of them and the one before. If there is none, it says so on the standard error, with the
+status 1. --picture writes an SVG picture of all rows.
 
 Proved is of each row: the intervals enclose the model's values for the stocks of that plan, and no stocks within the limits that cost
 at most the budget have less than `bound` backorders, or loss if that is the aim. Not proved is that no cheaper stocks reach as large
