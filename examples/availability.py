@@ -4,21 +4,21 @@
     python3 examples/availability.py --sites F --parts F --rates F [--on-hand F] [--from COST] [--to COST] [--points N]
         [--reach SHARE] [--picture F] [--program F] > availability.csv
 
-From nothing it asks `spares sweep` for its points: budgets at which a plan by backorders ends without a gap, but for rounding. If over
-N of them are in the window (24 if --points is left out), it takes one in each of N equal parts of it. From stocks on hand it takes N
-equally spaced budgets, up to what all steps from there cost. At each budget it plans by both aims, with `spares session` and `spares
-plan`. The table has one row for each aim and budget:
+From nothing it asks `spares sweep` for its points: budgets at which a plan by backorders ends without a gap, but for
+rounding. If over N of them are in the window (24 if --points is left out), it takes one in each of N equal parts of it.
+From stocks on hand it takes N equally spaced budgets, up to what all steps from there cost. At each budget it plans by
+both aims, with `spares session` and `spares plan`. The table has one row for each aim and budget:
 
     aim,budget,cost,fleet_low,fleet_high,total_low,total_high,loss_low,loss_high,bound,gap, and BASE_low,BASE_high for each base
 
-With --reach it prints only the row of the plan that costs least among those whose fleet_low is at least this share, as 0.95: of these
-budgets, and of 15 between the cheapest of them and the one before. If there is none, it says so on the standard error, with the
-status 1. --picture writes an SVG picture of all rows.
+With --reach it prints only the row of the plan that costs least among those whose fleet_low is at least this share, as
+0.95: of these budgets, and of 15 between the cheapest of them and the one before. If there is none, it says so on the
+standard error, with the status 1. --picture writes an SVG picture of all rows.
 
-Proved is of each row: the intervals enclose the model's values for the stocks of that plan, and no stocks within the limits that cost
-at most the budget have less than `bound` backorders, or loss if that is the aim. Not proved is that no cheaper stocks reach as large
-an availability: a plan makes backorders or the loss small, not the availability large. Wrong words or tables are one line on the
-standard error, with the status 2.
+Proved is of each row: the intervals enclose the model's values for the stocks of that plan, and no stocks within the
+limits that cost at most the budget have less than `bound` backorders, or loss if that is the aim. Not proved is that no
+cheaper stocks reach as large an availability: a plan makes backorders or the loss small, not the availability large.
+Wrong words or tables are one line on the standard error, with the status 2.
 """
 
 import argparse

@@ -3,15 +3,17 @@
 
     python3 examples/best_of.py --sites F --parts F --rates F --budget N --certificate F [--on-hand F] [--write-stocks F] [--program F]
 
-The rest of a budget is spent on what fits, so more money can give a worse plan, and the plan by the other aim can have fewer backorders.
-So this script plans by backorders at the budget, by log-availability at the budget, and by backorders at 40 budgets down to a tenth
-less and at the cost of the steps (`hull`). From each of the 8 best of these stocks it goes on with exchanges, as long as the total falls:
-one unit more, one less, one moved to another site, one in place of another of the same line unit at a site, or two of these in two line
-units. `spares eval` says what each is worth. Stocks stay within their limits, the budget and what is on hand.
+The rest of a budget is spent on what fits, so more money can give a worse plan, and the plan by the other aim can have
+fewer backorders. So this script plans by backorders at the budget, by log-availability at the budget, and by backorders
+at 40 budgets down to a tenth less and at the cost of the steps (`hull`). From each of the 8 best of these stocks it
+goes on with exchanges, as long as the total falls: one unit more, one less, one moved to another site, one in place of
+another of the same line unit at a site, or two of these in two line units. `spares eval` says what each is worth.
+Stocks stay within their limits, the budget and what is on hand.
 
-The certificate of the plan by backorders is written to the file of --certificate. The best stocks and their upper end are put into it:
-its bound holds for any stocks. Then `spares check` must accept it. What is found is no proof that there are no better ones: the gap
-says how much better they could be. --write-stocks writes the stocks as a table, for `spares eval` and buy.py. It prints
+The certificate of the plan by backorders is written to the file of --certificate. The best stocks and their upper end
+are put into it: its bound holds for any stocks. Then `spares check` must accept it. What is found is no proof that
+there are no better ones: the gap says how much better they could be. --write-stocks writes the stocks as a table, for
+`spares eval` and buy.py. It prints
 
     start,AIM,BUDGET,COST,LO,HI      the plans that were made, in the order of their totals; those with the same stocks once
     from,AIM,BUDGET,ROUNDS           the plan from which the best stocks come, after so many rounds of exchanges

@@ -3,15 +3,15 @@
 
     python3 examples/buy.py REPORT --sites F --parts F [--on-hand F] [--by-part]
 
-REPORT is what `plan` printed, or `eval` of the stocks that are wanted. --on-hand names the stocks that are there already, in the form
-of a table of stocks; a report of `plan --on-hand` needs that same table. The list is a table:
+REPORT is what `plan` printed, or `eval` of the stocks that are wanted. --on-hand names the stocks that are there
+already, in the form of a table of stocks; a report of `plan --on-hand` needs that same table. The list is a table:
 
     part,site,have,buy,then,unit_cost,cost
 
-with one row for each part and site where something is bought, in the order of the report, and a last row `total`. With --by-part it has one
-row for each part: part,buy,unit_cost,cost. The sum is compared with the cost that the report says. Stocks that are there and not in
-a report of `eval` are not sold: such a report is refused, and so is a report of other tables. What is wrong is one line on the
-standard error, with the status 2.
+with one row for each part and site where something is bought, in the order of the report, and a last row `total`. With
+--by-part it has one row for each part: part,buy,unit_cost,cost. The sum is compared with the cost that the report says.
+Stocks that are there and not in a report of `eval` are not sold: such a report is refused, and so is a report of other
+tables. What is wrong is one line on the standard error, with the status 2.
 """
 
 import csv

@@ -9,9 +9,9 @@ REPORT is what `plan` or `eval` printed. It prints a table, the line unit with t
     part,site,ebo_low,ebo_high,percent              with --by-base: at each base
     .. ,demand,wait_days                            with --rates: the demand per year, and the mean days that a request waits
 
-`percent` is the share in the sum of all rows, rounded down to a tenth; `wait_days` is 365 times the upper end of the backorders, without
-weight, over the demand, rounded up to a tenth, and empty if there is no demand. What is wrong is one line on the standard error, with the
-status 2.
+`percent` is the share in the sum of all rows, rounded down to a tenth; `wait_days` is 365 times the upper end of the
+backorders, without weight, over the demand, rounded up to a tenth, and empty if there is no demand. What is wrong is
+one line on the standard error, with the status 2.
 """
 
 import csv

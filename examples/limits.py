@@ -4,10 +4,11 @@
     python3 examples/limits.py --sites F --parts F --rates F [--write-parts F] [--write-stocks F]
     python3 examples/limits.py --sites F --parts F --report F
 
-The limits that the parts have are not used for the first limits: 0 will do. The rule: a limit is the mean of the pipeline without any
-stock and 3 more, or 3 square roots of it if that is more, rounded up, at most 63, and 0 if nothing is ever there; at the bases the largest of them.
-Then, as long as a plan would need over 1,000,000 tables of backorders, one limit of a shop unit is lowered by 1: of the family that
-needs most tables, the limit that has most room over its mean, counted in square roots of that mean and 1. It prints
+The limits that the parts have are not used for the first limits: 0 will do. The rule: a limit is the mean of the
+pipeline without any stock and 3 more, or 3 square roots of it if that is more, rounded up, at most 63, and 0 if nothing
+is ever there; at the bases the largest of them. Then, as long as a plan would need over 1,000,000 tables of backorders,
+one limit of a shop unit is lowered by 1: of the family that needs most tables, the limit that has most room over its
+mean, counted in square roots of that mean and 1. It prints
 
     first,PART,MAX_DEPOT,MAX_BASE,MEAN AT THE DEPOT,LARGEST MEAN AT A BASE
     family,LINE UNIT,TABLES NOW,TABLES WITH THE FIRST LIMITS
@@ -16,8 +17,8 @@ needs most tables, the limit that has most room over its mean, counted in square
     lowered,TABLES                                      and how many are needed then
     below,PART,max_depot or max_base,BY THE RULE,FIRST  the rule asks for more than the first limit
 
---write-parts writes the table of parts with the first limits, --write-stocks a table of stocks that are all 0. Neither may be one of
-the tables that are read. Means are rounded up, to 4 decimals.
+--write-parts writes the table of parts with the first limits, --write-stocks a table of stocks that are all 0. Neither
+may be one of the tables that are read. Means are rounded up, to 4 decimals.
 
 With --report, of `plan` or `eval`, it prints the stocks that are at a limit over 0:
 

@@ -3,12 +3,13 @@
 
     python3 examples/lint.py --sites F --parts F --rates F [--stocks F] [--on-hand F]
 
-Each fault is one line: the file and, if the fault is in a line, its number as an editor counts it; the program's line, whose rows
-count records (the header is row 1, empty lines are not counted); and what is wrong. What comes first is what the program would say: `plan`
-of the sites, parts, rates and stocks on hand, `eval` if --stocks names a table. Then `N faults`, with the status 1. Without a fault
-it prints `no faults`, with the status 0: then the program takes the tables. A table without its right header, and a row without the
-right number of fields, are not looked at further; without sites and parts the other tables are only asked for their names. Whether
-the program takes the rates is asked if all numbers of a line unit and its shop units are right. Wrong words are one line on the standard error, with the status 2.
+Each fault is one line: the file and, if the fault is in a line, its number as an editor counts it; the program's line,
+whose rows count records (the header is row 1, empty lines are not counted); and what is wrong. What comes first is what
+the program would say: `plan` of the sites, parts, rates and stocks on hand, `eval` if --stocks names a table. Then `N
+faults`, with the status 1. Without a fault it prints `no faults`, with the status 0: then the program takes the tables.
+A table without its right header, and a row without the right number of fields, are not looked at further; without sites
+and parts the other tables are only asked for their names. Whether the program takes the rates is asked if all numbers
+of a line unit and its shop units are right. Wrong words are one line on the standard error, with the status 2.
 """
 
 import sys

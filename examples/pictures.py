@@ -11,7 +11,9 @@ LEFT, RIGHT, TOP, BOTTOM = 90, 50, 50, 70
 MOST_DOTS = 200
 INK, SHADE, LINE = '#222222', '#e3d9d9', '#1f5f99'
 # colours that are told apart in print and by the colour blind
-COLOURS = ['#1f5f99', '#c2571a', '#3f7d3b', '#7b4fa0', '#8a6d1f', '#b03a5b', '#3a8f8f', '#6b6b6b']
+COLOURS = (
+    '#1f5f99 #c2571a #3f7d3b #7b4fa0 #8a6d1f #b03a5b #3a8f8f #6b6b6b #d9a441 #2f4b7c #e07b91 #7f9f3f #a0522d #5aa0d8 #4d4d9e'
+).split()
 
 
 def ticks(most, least=0):

@@ -4,14 +4,15 @@
     python3 examples/report.py --sites F --parts F --report F [--on-hand F] [--sweep F] [--certificate F] [--title TEXT] [--program F]
         > report.html
 
---report is what `plan` printed, or `eval` of stocks that a certificate is about, as best_of.py finds them: then the budget and the bound
-come from the certificate. --on-hand names the stocks that a plan began from, --sweep what `sweep` printed of these tables, and
---certificate the certificate of these stocks, of which `spares check` is asked. What these say must fit together.
+--report is what `plan` printed, or `eval` of stocks that a certificate is about, as best_of.py finds them: then the
+budget and the bound come from the certificate. --on-hand names the stocks that a plan began from, --sweep what `sweep`
+printed of these tables, and --certificate the certificate of these stocks, of which `spares check` is asked. What these
+say must fit together.
 
-The page has what to buy and where it lies, with costs; the availability of each base, and the line units that drive its backorders, as bars;
-the sweep with the plan in it; the stocks at their limits; the gap in a sentence; the certificate's name, checksum and what `check` said.
-A number is rounded to its safe side; the `data` element round it has the numbers of the report. The same input gives the same bytes. What is
-wrong is one line on the standard error, with the status 2.
+The page has what to buy and where it lies, with costs; the availability of each base, and the line units that drive its
+backorders, as bars; the sweep with the plan in it; the stocks at their limits; the gap in a sentence; the certificate's
+name, checksum and what `check` said. A number is rounded to its safe side; the `data` element round it has the numbers
+of the report. The same input gives the same bytes. What is wrong is one line on the standard error, with the status 2.
 """
 
 import hashlib
@@ -57,8 +58,8 @@ tfoot td { border-bottom: 0; font-weight: 600; }
 .bases { display: grid; grid-template-columns: repeat(auto-fill, minmax(21rem, 1fr)); gap: 1.2rem 2rem; }
 .base { break-inside: avoid; }
 .base h3 { display: flex; justify-content: space-between; }
-.bar { display: grid; grid-template-columns: 8.5rem 1fr 4rem; gap: .5rem; align-items: center; font-size: .85rem; line-height: 1.55; }
-.bar span:first-child { overflow: hidden; text-overflow: ellipsis; white-space: nowrap; }
+.bar { display: grid; grid-template-columns: 11.5rem 1fr 3.4rem; gap: .5rem; align-items: center; font-size: .85rem; line-height: 1.45; }
+.bar span:first-child { overflow-wrap: anywhere; }
 .bar span:last-child { text-align: right; font-variant-numeric: tabular-nums; }
 .track { display: block; height: .7rem; background: var(--pale); border-radius: 2px; }
 .track i { display: block; height: 100%; background: var(--blue); border-radius: 2px; }
@@ -250,10 +251,10 @@ class Page:
             )
         step = self.report.one('critical')
         if step and step['part'] != 'none':
-            text += (
-                ' The next step is in <b>%s</b> and its shop units, for %s more than the %s of the steps before.'
-                % (escape(step['part']), money(step['cost']), money(self.report.one('hull')['cost']))
-            )
+            has_units = any(part.parent == step['part'] for part in self.fleet.parts)
+            where = '<b>%s</b>%s' % (escape(step['part']), ' and its shop units' if has_units else '')
+            costs = money(step['cost']), money(self.report.one('hull')['cost'])
+            text += ' The next step is in %s, for %s more than the %s of the steps before.' % (where, *costs)
         return [tag('h2', 'How good it is'), tag('p', text)]
 
     def cell(self, pair, more):
@@ -300,7 +301,7 @@ class Page:
         width = 100 * high / max(1, most)
         number = data('%s,%s' % (value(low), value(high)), up(value(high)))
         fill = '<i style="width:%.2f%%"></i>' % width
-        spans = [tag('span', escape(name), title=name), tag('span', fill, class_='track'), tag('span', number)]
+        spans = [tag('span', escape(name)), tag('span', fill, class_='track'), tag('span', number)]
         return tag('div', *spans, class_='bar')
 
     def waiting(self):

@@ -1,6 +1,7 @@
 """What the scripts of this folder share beside tables: their words, the program, and the reports that it prints.
 
-This module is no script. A number of a report stays a text until somebody computes with it: then `micro` makes it a whole number.
+This module is no script. A number of a report stays a text until somebody computes with it: then `micro` makes it a
+whole number.
 """
 
 import argparse

@@ -3,15 +3,15 @@
 
     python3 examples/sensitivity.py --sites F --parts F --rates F --budget N [--percent N] [--picture F] [--program F]
 
-One file of edits (or some, for more than 63 line units) is given to `spares session`: for each line unit the demand at all bases is raised
-by 20 percent, or --percent, rounded up in the 4th decimal; then comes a plan by backorders for the same budget, and the demand goes
-back. The first row is the plan as it is:
+One file of edits (or some, for more than 63 line units) is given to `spares session`: for each line unit the demand at
+all bases is raised by 20 percent, or --percent, rounded up in the 4th decimal; then comes a plan by backorders for the
+same budget, and the demand goes back. The first row is the plan as it is:
 
     line_unit,total_low,total_high,more,stocks
 
-`more` is by how much the upper end of the total grows, `stocks` how many pairs of part and site have another stock than in the first
-plan. Where both are small, the demand is known well enough to buy by. --picture writes bars of `more`, the largest first. What is wrong is one line
-on the standard error, with the status 2.
+`more` is by how much the upper end of the total grows, `stocks` how many pairs of part and site have another stock than
+in the first plan. Where both are small, the demand is known well enough to buy by. --picture writes bars of `more`, the
+largest first. What is wrong is one line on the standard error, with the status 2.
 """
 
 import argparse

@@ -5,17 +5,19 @@
     spares sweep --sites F --parts F --rates F | python3 examples/sweep.py --steps --sites F --parts F --rates F \\
         [--from COST] [--to COST] [--program F] > steps.csv
 
-Across is the cost, upwards the total backorders. Each point of the sweep is an allocation. The staircase is what the points
-give for a budget: at most so many backorders. Nothing lies in the shaded region: its limit joins the lower ends of the points.
---from and --to show a window of the costs.
+Across is the cost, upwards the total backorders. Each point of the sweep is an allocation. The staircase is what the
+points give for a budget: at most so many backorders. Nothing lies in the shaded region: its limit joins the lower ends
+of the points. --from and --to show a window of the costs.
 
-With --steps it prints a table: the step from each point in the window to the next, with one row for each part and site whose stock changes.
-A step may also drop units, or move them. The stocks come from `spares session`, which plans at the costs of the points, 64 in one run.
+With --steps it prints a table: the step from each point in the window to the next, with one row for each part and site
+whose stock changes. A step may also drop units, or move them. The stocks come from `spares session`, which plans at the
+costs of the points, 64 in one run.
 
     from_cost,to_cost,total_low,total_high,part,site,before,after,money
 
-`total_low` and `total_high` are the ends of the total after the step, `money` is what the change costs. Input that is no sweep, a window
-without a point, and tables that are not the sweep's are one line on the standard error, with the status 2.
+`total_low` and `total_high` are the ends of the total after the step, `money` is what the change costs. Input that is
+no sweep, a window without a point, and tables that are not the sweep's are one line on the standard error, with the
+status 2.
 """
 
 import csv

@@ -3,18 +3,19 @@
 
     python3 examples/tables.py REPORT FOLDER [--sites F --parts F] [--decimal-comma]
 
-REPORT is a file with reports of `plan`, `eval`, `compare`, `sweep`, `target` or `check`, or of `session`, which has many. FOLDER is made if
-it isn't there, and four tables are written into it; files of these names are replaced. A table may have a header alone:
+REPORT is a file with reports of `plan`, `eval`, `compare`, `sweep`, `target` or `check`, or of `session`, which has
+many. FOLDER is made if it isn't there, and four tables are written into it; files of these names are replaced. A table
+may have a header alone:
 
     items.csv      one row for each part and site: stock, means, variances, backorders (of `compare`: the Poisson backorders)
     bases.csv      one row for each base: its availability
     points.csv     one row for each point of a sweep
     reports.csv    one row for each report: its kind, and what it says once, as cost, total and bound
 
-The first column is the number of the report in the file, from 1. With the tables of sites and parts, items and bases also have the
-kind of part and of site, the line unit, the cost of a unit, the limit, and the systems. A field that a report doesn't have is empty.
-With --decimal-comma decimals have a comma, and fields have semicolons between them. What is wrong is one line on the standard error,
-with the status 2.
+The first column is the number of the report in the file, from 1. With the tables of sites and parts, items and bases
+also have the kind of part and of site, the line unit, the cost of a unit, the limit, and the systems. A field that a
+report doesn't have is empty. With --decimal-comma decimals have a comma, and fields have semicolons between them. What
+is wrong is one line on the standard error, with the status 2.
 """
 
 import csv

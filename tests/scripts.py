@@ -3,8 +3,9 @@
     python3 scripts.py PROGRAM EXAMPLES FLEET CHECK
     python3 scripts.py --list
 
-FLEET is a folder with tables that have a byte order mark, CRLF, quotes and a depot of another name, with reports of them that another
-program made, and with what the scripts must write of these in the folder `wanted`, made by hand. `--list` names the checks.
+FLEET is a folder with tables that have a byte order mark, CRLF, quotes and a depot of another name, with reports of
+them that another program made, and with what the scripts must write of these in the folder `wanted`, made by hand.
+`--list` names the checks.
 """
 
 import csv

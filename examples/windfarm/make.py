@@ -1,10 +1,10 @@
 #!/usr/bin/env python3
 """Writes the tables of a made-up wind farm: python3 examples/windfarm/make.py FOLDER
 
-A hub and 8 parks with 166 turbines of one type; 25 line units, of which 15 have one or two shop units, 20 in all. Nothing in it was measured:
-the numbers are drawn from ranges that look like the field's, by a generator of its own, so that the bytes are the same at each run. The
-tables are as a maintenance system exports them: a byte order mark, CRLF, texts in quotes, rows by site, and no limits yet. The stocks of
-today follow no plan.
+A hub and 8 parks with 166 turbines of one type; 25 line units, of which 15 have one or two shop units, 20 in all.
+Nothing in it was measured: the numbers are drawn from ranges that look like the field's, by a generator of its own, so
+that the bytes are the same at each run. The tables are as a maintenance system exports them: a byte order mark, CRLF,
+texts in quotes, rows by site, and no limits yet. The stocks of today follow no plan.
 """
 
 import os
