@@ -10,7 +10,6 @@ Money and stocks are whole numbers; a rate is a whole number in units of its las
 
 import csv
 import io
-import os
 import re
 from collections import namedtuple
 

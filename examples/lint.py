@@ -12,7 +12,6 @@ and parts the other tables are only asked for their names. Whether the program t
 of a line unit and its shop units are right. Wrong words are one line on the standard error, with the status 2.
 """
 
-import sys
 
 from fleet_means import MOST_WORK, pipelines_of, refusal_of, tables_of, limits_of, work_of
 from fleet_tables import Fault, load

@@ -27,7 +27,6 @@ ghost use Rattle.availability.specs.Exact.{
   weighted_mean,
 };
 
-
 use fixed_interval::Iv;
 
 /// A base's availability, from 0 to 1, and its weight in the fleet: how many systems are there, 1 to 10,000.

@@ -25,7 +25,6 @@ ghost use Rattle.depot_pipeline.specs.Exact.{IsAtMost, FeedIn, IsSmallFeed};
 ghost use Rattle.base_pipeline.specs.Profile.{base_shop_ends, base_own_ends, base_line_ends};
 ghost use Rattle.base_pipeline.specs.Exact.{AllHeldIn, IsSmallHeld};
 
-
 use depot_pipeline::{Feed, Moments, mean_of, variance_of};
 use fixed_interval::Iv;
 

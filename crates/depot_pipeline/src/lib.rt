@@ -22,7 +22,6 @@ ghost use Rattle.fixed_interval.specs.Ends.{In, InScale, IsWithinLimit, ends_mul
 ghost use Rattle.depot_pipeline.specs.Profile.{mean_part, variance_part, depot_shop_ends, depot_line_ends};
 ghost use Rattle.depot_pipeline.specs.Exact.{IsAtMost, FeedsIn, IsSmallFeed};
 
-
 use fixed_interval::Iv;
 
 /// A pipeline's mean and variance, in units.

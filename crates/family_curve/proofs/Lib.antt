@@ -2,6 +2,7 @@ pub mod Depend
 pub mod Boxes
 pub mod Sites
 pub mod Separate
+pub mod Mapped
 pub mod Numbers
 pub mod Bounded
 pub mod Scores

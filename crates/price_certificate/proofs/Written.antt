@@ -1,5 +1,5 @@
 -- What is written is the text of the format.
-use Rattle.std.proofs.Common.{◌≡◌, ℕ, ◌^◌, List, ◌++◌, length, refl, sym, ap, ◌∙◌}
+use Rattle.std.proofs.Common.{◌≡◌, ℕ, ◌^◌, List, ◌++◌, length, append_assoc, refl, sym, ap, ◌∙◌}
 use Rattle.std.specs.List.{concat}
 use Rattle.std.proofs.lemmas.List.Folds.{concat-append}
 use Rattle.line_text.specs.Formats.{Token, Format, each}
@@ -21,6 +21,10 @@ counted_written w least most format xs out o new n e h g =
     back new o out (file_text head n) (concat lines) h g
     ∙ ap (λ (m : ℕ). out ++ (file_text head m ++ concat lines)) e
     ∙ ap (λ (z : List ℕ). out ++ z) (sym (concat-append (head.print (length xs)) lines))
+
+-- three texts, each written after the one before
+pub three_written : (out a b new x y z : List ℕ) → a ≡ out ++ x → b ≡ a ++ y → new ≡ b ++ z → new ≡ out ++ (x ++ (y ++ z))
+three_written out a b new x y z h g k = rw (k, g, h) (simp append_assoc)
 
 -- the text of some lines and then others
 pub joined : (a b : List Token) (z : List ℕ) → concat b ≡ z → concat (a ++ b) ≡ concat a ++ z

@@ -3,6 +3,7 @@ use Rattle.std.proofs.Common.{◌≡◌, ℕ, zero, suc, ◌<◌, ◌≤◌, ◌
 use Rattle.std.specs.List.{All, IsDistinct, remove}
 use Rattle.std.proofs.lemmas.List.Elements.{filter_passes, All-append, All-filter}
 use Rattle.std.proofs.lemmas.List.Quantifiers.{position-Some}
+use Rattle.std.proofs.lemmas.List.{length-map}
 use Rattle.std.proofs.lemmas.Option.{slice_get-get_or, slice_get-map, slice_get_within}
 use Rattle.std.proofs.lemmas.Bool.{not-true}
 use Rattle.indexmap.specs.IndexMap.{move_index}
@@ -51,6 +52,19 @@ later_base : (r : SiteRow) (bases : List SiteRow) (k : ℕ) → All (λ x. is_ba
     → (site_at (r ∷ bases) k).depot ≡ false
 later_base r bases zero h some within = absurd (omega arith)
 later_base r bases (suc j) h some within = not-true (get_or bases j no_site).depot (h j no_site (omega arith))
+
+above_none : (d n : ℕ) → d < n → 0 < n
+above_none d n h = omega arith
+
+-- the depot has a place among the rows of sites and among their names
+pub depot_within : (sites : List SiteRow) (parts : List PartRow) (names part_numbers : List (List ℕ)) (d : ℕ) → IsNumbered sites parts names part_numbers d
+    → (d < length sites) × (d < length names) × (0 < length names)
+depot_within sites parts names part_numbers d n =
+    let found = position-Some is_depot sites d no_site n.depot_place in
+    let named : length names ≡ length sites = rw (n.sites_named, length-map) refl in
+    let row : d < length sites = found.0 in
+    let name : d < length names = rw named row in
+    (row, name, above_none d (length names) name)
 
 -- rows that break no rule are a frame once the depot is moved to the front,
 -- and the names are numbered as it has them

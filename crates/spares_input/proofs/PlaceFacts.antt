@@ -1,14 +1,16 @@
 -- Rows at the places of their pairs.
-use Rattle.std.proofs.Common.{◌≡◌, ◌≢◌, ◌==◌, ℕ, ◌+◌, ◌<◌, ◌∷◌, [], ◌++◌, List, take, length, get_or, set, map, replicate, count_by, Bool, true, false, Option, Some, None, slice_get, is_some, unwrap_or, Result, Ok, Err, IfOk, Vec, Global, refl, sym, ap, subst, ◌∙◌, inl, inr, arith, if◌then◌else◌, get_or-set_other, get_or-set_same, length-set}
+use Rattle.std.proofs.Common.{◌≡◌, ◌≢◌, ◌==◌, ℕ, ◌+◌, ◌*◌, ◌<◌, ◌≤◌, mul-le-mul, ◌∷◌, [], ◌++◌, List, take, length, get_or, set, map, replicate, count_by, Bool, true, false, Option, Some, None, slice_get, is_some, unwrap_or, Result, Ok, Err, IfOk, Vec, Global, refl, sym, ap, subst, ◌∙◌, inl, inr, arith, if◌then◌else◌, get_or-set_other, get_or-set_same, length-set}
 use Rattle.std.specs.List.{All}
 use Rattle.std.specs.Option.{option_or, option_map}
 use Rattle.std.proofs.lemmas.List.{take_more, map-append, length-replicate, length-map, get_or-replicate}
 use Rattle.std.proofs.lemmas.List.Elements.{All-head, All-tail}
 use Rattle.std.proofs.lemmas.List.Folds.{find-append, sum_by-replicate}
 use Rattle.std.proofs.lemmas.List.FromFn.{fill_by_all, get_or-map-range_with_len}
-use Rattle.std.proofs.lemmas.List.Sums.{sum_by-set}
+use Rattle.std.proofs.lemmas.List.Sums.{sum_by-set, count_by-le-length}
 use Rattle.std.proofs.lemmas.Option.{get_or_from_slice_get, slice_get-get_or, slice_get-map, unwrap_or-slice_get, same_Some}
 use Rattle.std.proofs.lemmas.Bool.{cases_eq, eq-eqb, eqb-true, ne_eqb, false≢true}
+use mir.Val.{Fits}
+use mir.Syntax.{w32}
 use Rattle.spares_input.specs.First.{first}
 use Rattle.spares_input.specs.Pairs.{row_at, has_row, rows_in_order}
 use Rattle.spares_input.specs.Building.{ArePlaced, vacant}
@@ -93,6 +95,14 @@ module _ {A : Type 0} (place : A → ℕ) where
       let nothing : ℕ = 0 in
       let free : (if is_some (get_or slots p o) then one else nothing) ≡ nothing = rw (← read, new) refl in
       omega (arith, counted, free, before)
+
+  -- the places of a case are so few that their count, and the number of the row of its last one, fit 32 bits
+  pub few_taken : (slots : List (Option A)) (k parts sites : ℕ) → count_by is_some slots ≡ k → length slots ≡ parts * sites
+      → parts ≤ 2000 → sites ≤ 16 → Fits w32 k × Fits w32 (k + 2)
+  few_taken slots k parts sites taken whole few_parts few_sites =
+      let pairs : parts * sites ≤ 2000 * 16 = mul-le-mul {n₁ = parts} {m₁ = sites} {n₂ = 2000} {m₂ = 16} few_parts few_sites in
+      let fewer = count_by-le-length is_some slots in
+      (omega (arith, pairs, fewer, taken, whole), omega (arith, pairs, fewer, taken, whole))
 
   -- a place with nothing kept is one without a row
   pub vacant_same : {E : Type 0} (fault : ℕ → E) (count : ℕ) (rows : List A) (slots : List (Option A)) → ArePlaced place count rows slots

@@ -26,6 +26,7 @@ each_simple Target = refl
 each_simple Session = refl
 each_simple Compare = refl
 
+-- where `clap` takes the words, the order is what the command makes of their values
 pub taken : (name : CommandName) (made : App) → made ≡ app_named name → (words : List Text) (m : ArgMatches)
     → Parses made words (Ok m) → by_command name words ≡ order_named name (rows_of (found_of m))
 unfolding by_command

@@ -3,6 +3,7 @@ use Rattle.std.proofs.lemmas.List.Elements.{All-push}
 use Rattle.price_certificate.specs.declared.place.Place.{Place}
 use Rattle.price_certificate.specs.Covers.{IsPlace, place_count}
 use Rattle.price_certificate.proofs.Families.{place_is, site_below, places_more}
+use Rattle.price_certificate.proofs.Refused.{if_err}
 use Rattle.price_certificate.proofs.trimming.places.Goals as goal
 
 pub overflow_cast-site : goal.overflow_cast-site
@@ -25,3 +26,9 @@ loop-m-preserved c =
       places_more rows c.args.line.0 c.args.held.now c.loop-m.m c.loop-m.found.items c.push.new.self.items c.place_of.result c.loop-m.invariant.0 (c.place_of.ensures.place ∙ same) c.in_ok-push.ensures.items,
       rw c.in_ok-push.ensures.items (All-push IsPlace c.loop-m.found.items c.place_of.result c.loop-m.invariant.1 c.place_of.ensures.valid),
     )
+
+pub returns-in_err-push-clause-places : goal.returns-in_err-push-clause-places
+returns-in_err-push-clause-places c = if_err c.from_residual.result _ c.from_residual.ensures.0
+
+pub returns-in_err-push-clause-valid : goal.returns-in_err-push-clause-valid
+returns-in_err-push-clause-valid c = if_err c.from_residual.result _ c.from_residual.ensures.0

@@ -1,10 +1,32 @@
-use Rattle.std.proofs.Common.{◌≡◌, ◌*◌, refl, sym, get_or, length, take, None, replicate, rules}
+use Rattle.std.proofs.Common.{◌≡◌, ◌≤◌, ◌*◌, arith, mul-le-mul, refl, sym, get_or, length, take, None, replicate, rules}
 use Rattle.spares_input.specs.First.{first}
 use Rattle.spares_input.specs.Rows.{no_rate}
 use Rattle.spares_input.specs.Cases.{double_rate, rate_place}
 use Rattle.spares_input.proofs.Firsts.{first_more, first_found}
-use Rattle.spares_input.proofs.PlaceFacts.{kept_at, has_before, placed_none, placed_more, taken_none, taken_more}
+use Rattle.spares_input.proofs.PlaceFacts.{kept_at, has_before, few_taken, placed_none, placed_more, taken_none, taken_more}
 use Rattle.spares_input.proofs.case.place_rows.Goals as goal
+
+pub overflow_mul-parts : goal.overflow_mul-parts
+overflow_mul-parts c =
+    let pairs : c.args.parts * c.args.sites ≤ 2000 * 16 =
+    mul-le-mul {n₁ = c.args.parts} {m₁ = c.args.sites} {n₂ = 2000} {m₂ = 16} c.requires.few_parts c.requires.few_sites in
+    omega (arith, pairs)
+
+pub pair_place-place-requires-clause-part : goal.pair_place-place-requires-clause-part
+pair_place-place-requires-clause-part c = (c.requires.pairs c.loop-k.k no_rate c.loop-k-test.true).0
+
+pub pair_place-place-requires-clause-site : goal.pair_place-place-requires-clause-site
+pair_place-place-requires-clause-site c = (c.requires.pairs c.loop-k.k no_rate c.loop-k-test.true).1
+
+pub overflow_cast-result : goal.overflow_cast-result
+overflow_cast-result c =
+    let few = few_taken (rate_place c.args.sites) c.loop-k.places.items c.loop-k.k c.args.parts c.args.sites c.loop-k.invariant.taken c.loop-k.invariant.placed.whole c.requires.few_parts c.requires.few_sites in
+    few.0
+
+pub overflow_add-result : goal.overflow_add-result
+overflow_add-result c =
+    let few = few_taken (rate_place c.args.sites) c.loop-k.places.items c.loop-k.k c.args.parts c.args.sites c.loop-k.invariant.taken c.loop-k.invariant.placed.whole c.requires.few_parts c.requires.few_sites in
+    few.1
 
 pub loop-k-init : goal.loop-k-init
 unfolding first

@@ -1,9 +1,15 @@
-use Rattle.std.proofs.Common.{◌≡◌, refl, get_or, length, None, Some}
+use Rattle.std.proofs.Common.{◌≡◌, ℕ, ◌<◌, ◌≤◌, arith, refl, get_or, length, None, Some}
 use Rattle.spares_input.specs.First.{first}
 use Rattle.spares_input.specs.Building.{vacant, missing_rate_at}
 use Rattle.spares_input.proofs.Firsts.{first_more, first_found}
 use Rattle.spares_input.proofs.PlaceFacts.{vacant_here, vacant_not, found_more}
 use Rattle.spares_input.proofs.case.rows_of_places.Goals as goal
+
+within : (i n most : ℕ) → i < n → n ≤ most → i < most
+within i n most below few = omega arith
+
+pub pair_at-requires-clause-within : goal.pair_at-requires-clause-within
+pair_at-requires-clause-within c = within c.loop-i.i _ _ c.loop-i-test.true c.requires.few
 
 pub loop-i-init : goal.loop-i-init
 unfolding first

@@ -3,7 +3,7 @@ use Rattle.spares_input.specs.First.{first}
 use Rattle.spares_input.specs.Rows.{no_stock}
 use Rattle.spares_input.specs.Stocks.{stock_fault, stock_place}
 use Rattle.spares_input.proofs.Firsts.{first_more, first_found}
-use Rattle.spares_input.proofs.PlaceFacts.{kept_at, has_before, placed_none, placed_more, taken_none, taken_more}
+use Rattle.spares_input.proofs.PlaceFacts.{kept_at, has_before, few_taken, placed_none, placed_more, taken_none, taken_more}
 use Rattle.spares_input.proofs.StockFacts.{stock_fault_over, stock_fault_double, stock_fault_none}
 use Rattle.spares_input.proofs.stocks.place_rows.Goals as goal
 
@@ -14,6 +14,38 @@ overflow_mul-parts c =
     let pairs : c.part_count-parts.result * c.site_count-sites.result ≤ 2000 * 16 =
     mul-le-mul {n₁ = c.part_count-parts.result} {m₁ = c.site_count-sites.result} {n₂ = 2000} {m₂ = 16} few_parts few_sites in
     omega (arith, pairs)
+
+pub overflow_cast-result : goal.overflow_cast-result
+overflow_cast-result c =
+    let few_parts : c.part_count-parts.result ≤ 2000 = rw c.part_count-parts.ensures.count c.part_count-parts.ensures.valid.frame.most_parts in
+    let few_sites : c.site_count-sites.result ≤ 16 = rw c.site_count-sites.ensures.count c.site_count-sites.ensures.valid.frame.most_sites in
+    let inv = c.loop-k.invariant in
+    let few = few_taken (stock_place c.site_count-sites.result) c.loop-k.places.items c.loop-k.k _ _ inv.taken inv.placed.whole few_parts few_sites in
+    few.0
+
+pub overflow_cast-result-then-is_some : goal.overflow_cast-result-then-is_some
+overflow_cast-result-then-is_some c =
+    let few_parts : c.part_count-parts.result ≤ 2000 = rw c.part_count-parts.ensures.count c.part_count-parts.ensures.valid.frame.most_parts in
+    let few_sites : c.site_count-sites.result ≤ 16 = rw c.site_count-sites.ensures.count c.site_count-sites.ensures.valid.frame.most_sites in
+    let inv = c.loop-k.invariant in
+    let few = few_taken (stock_place c.site_count-sites.result) c.loop-k.places.items c.loop-k.k _ _ inv.taken inv.placed.whole few_parts few_sites in
+    few.0
+
+pub overflow_add-result : goal.overflow_add-result
+overflow_add-result c =
+    let few_parts : c.part_count-parts.result ≤ 2000 = rw c.part_count-parts.ensures.count c.part_count-parts.ensures.valid.frame.most_parts in
+    let few_sites : c.site_count-sites.result ≤ 16 = rw c.site_count-sites.ensures.count c.site_count-sites.ensures.valid.frame.most_sites in
+    let inv = c.loop-k.invariant in
+    let few = few_taken (stock_place c.site_count-sites.result) c.loop-k.places.items c.loop-k.k _ _ inv.taken inv.placed.whole few_parts few_sites in
+    few.1
+
+pub overflow_add-result-then-is_some : goal.overflow_add-result-then-is_some
+overflow_add-result-then-is_some c =
+    let few_parts : c.part_count-parts.result ≤ 2000 = rw c.part_count-parts.ensures.count c.part_count-parts.ensures.valid.frame.most_parts in
+    let few_sites : c.site_count-sites.result ≤ 16 = rw c.site_count-sites.ensures.count c.site_count-sites.ensures.valid.frame.most_sites in
+    let inv = c.loop-k.invariant in
+    let few = few_taken (stock_place c.site_count-sites.result) c.loop-k.places.items c.loop-k.k _ _ inv.taken inv.placed.whole few_parts few_sites in
+    few.1
 
 pub loop-k-init : goal.loop-k-init
 unfolding first

@@ -1,4 +1,4 @@
-use Rattle.spares_input.proofs.FrameFacts.{frame_numbered, frame_answer}
+use Rattle.spares_input.proofs.FrameFacts.{depot_within, frame_numbered, frame_answer}
 use Rattle.spares_input.proofs.frame.Frame.build.Goals as goal
 
 pub invariant_of-result : goal.invariant_of-result
@@ -12,3 +12,23 @@ pub returns : goal.returns
 returns c =
     let n = rw (c.as_slice.ensures.value, c.as_slice-2.ensures.value) at c.in_ok-site_index.ensures.numbered in
     frame_answer _ _ _ _ _ _ n c.in-Ok.ensures
+
+pub put_first-requires : goal.put_first-requires
+put_first-requires c =
+    let n = rw (c.as_slice.ensures.value, c.as_slice-2.ensures.value) at c.in_ok-site_index.ensures.numbered in
+    rw (← c.as_slice.ensures.len, c.as_slice.ensures.value) (depot_within _ _ _ _ _ n).0
+
+pub move_index-requires-clause-from_in_bounds : goal.move_index-requires-clause-from_in_bounds
+move_index-requires-clause-from_in_bounds c =
+    let n = rw (c.as_slice.ensures.value, c.as_slice-2.ensures.value) at c.in_ok-site_index.ensures.numbered in
+    (depot_within _ _ _ _ _ n).1
+
+pub move_index-requires-clause-to_in_bounds : goal.move_index-requires-clause-to_in_bounds
+move_index-requires-clause-to_in_bounds c =
+    let n = rw (c.as_slice.ensures.value, c.as_slice-2.ensures.value) at c.in_ok-site_index.ensures.numbered in
+    (depot_within _ _ _ _ _ n).2
+
+pub parents_of-requires-clause-numbered : goal.parents_of-requires-clause-numbered
+parents_of-requires-clause-numbered c =
+    let n = rw (c.as_slice.ensures.value, c.as_slice-2.ensures.value) at c.in_ok-site_index.ensures.numbered in
+    rw c.as_slice-3.ensures.value n.parts_named
