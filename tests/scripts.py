@@ -799,6 +799,23 @@ def wind_farm(trial):
     must(len(shipped) == 12, "the files of the wind farm: %s" % sorted(shipped))
 
 
+def at_least(trial):
+    """For a unit of money less than `at-least` of a target says, the bound of the plan reaches the target."""
+    tried = 0
+    for folder in trial.fleet, os.path.join(trial.examples, "fleet"), os.path.join(trial.examples, "squadron"):
+        tables = [
+            word for name in ("sites", "parts", "rates") for word in ("--" + name, os.path.join(folder, name + ".csv"))
+        ]
+        for target in "0.05", "0.3", "1", "2.5", "7", "20":
+            least = lines_of(trial.spares("target", *tables, "--backorders", target), "at-least")[0][0]
+            if least not in ("none", "0"):
+                less = "%d" % (int(least) - 1)
+                plan = trial.spares("plan", *tables, "--budget", less, "--certificate", os.devnull)
+                must(float(lines_of(plan, "bound")[0][0]) >= float(target), "the bound for %s of %s" % (less, folder))
+                tried += 1
+    must(tried >= 9, "only %d targets were tried" % tried)
+
+
 CHECKS = {
     check.__name__: check
     for check in (
@@ -816,6 +833,7 @@ CHECKS = {
         drivers,
         report,
         wind_farm,
+        at_least,
     )
 }
 
