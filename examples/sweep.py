@@ -1,117 +1,119 @@
 #!/usr/bin/env python3
-"""Draws the output of `spares sweep` as an SVG picture.
+"""Draws the output of `spares sweep` as an SVG picture, or says what each of its steps buys.
 
-    spares sweep --sites sites.csv --parts parts.csv --rates rates.csv | python3 sweep.py > sweep.svg
+    spares sweep --sites F --parts F --rates F | python3 examples/sweep.py [--from COST] [--to COST] > sweep.svg
+    spares sweep --sites F --parts F --rates F | python3 examples/sweep.py --steps --sites F --parts F --rates F \\
+        [--from COST] [--to COST] [--program F] > steps.csv
 
-Across is the cost, upwards the total backorders. Each point of the sweep is an allocation. The staircase is what the points
-give for a budget: at most so many backorders. Nothing lies in the shaded region: its limit joins the lower ends of the points.
+Across is the cost, upwards the total backorders. Each point of the sweep is an allocation. The staircase is what the
+points give for a budget: at most so many backorders. Nothing lies in the shaded region: its limit joins the lower ends
+of the points. --from and --to show a window of the costs.
+
+With --steps it prints a table: the step from each point in the window to the next, with one row for each part and site
+whose stock changes. A step may also drop units, or move them. The stocks come from `spares session`, which plans at the
+costs of the points, 64 in one run.
+
+    from_cost,to_cost,total_low,total_high,part,site,before,after,money
+
+`total_low` and `total_high` are the ends of the total after the step, `money` is what the change costs. Input that is
+no sweep, a window without a point, and tables that are not the sweep's are one line on the standard error, with the
+status 2.
 """
 
+import csv
+import os
 import sys
-from math import ceil, floor, log10
+import tempfile
 
-WIDTH, HEIGHT = 900, 540
-LEFT, RIGHT, TOP, BOTTOM = 90, 50, 50, 70
-MOST_DOTS = 200
-INK, SHADE, LINE = '#222222', '#e3d9d9', '#1f5f99'
+from fleet_tables import Refused, whole
+from pictures import points_of, sweep_picture
+from reports import Program, Words, must_fit, reports_of, run_script, whole_number
 
-
-def points_of(lines):
-    """The cost and both ends of each point."""
-    if not lines or not lines[0].startswith('sweep,'):
-        raise ValueError('line 1 is not the first line of a sweep')
-    points = []
-    for number, line in enumerate(lines[1:], 2):
-        fields = line.split(',')
-        if len(fields) != 5 or fields[0] != 'point':
-            raise ValueError('line %d is not that of a point' % number)
-        points.append((int(fields[1]), float(fields[2]), float(fields[3])))
-    if len(points) != int(lines[0].split(',')[1]):
-        raise ValueError('there are not as many points as line 1 says')
-    return points
+MOST_PLANS = 64
 
 
-def ticks(most):
-    """Round numbers from 0 to at least this one, with at most eight steps between them."""
-    if most <= 0:
-        most = 1
-    step = 10 ** floor(log10(most / 8))
-    step = next(step * k for k in (1, 2, 5, 10) if most <= 8 * step * k)
-    return [step * k for k in range(ceil(most / step - 1e-9) + 1)]
+def read_sweep():
+    """The report on the standard input."""
+    reports = reports_of(sys.stdin.buffer.read(), 'the standard input')
+    if len(reports) != 1 or reports[0].kind != 'sweep':
+        raise Refused('the standard input: one report of sweep is wanted')
+    return reports[0]
 
 
-def number(x):
-    """A tick's label."""
-    return '{:,.0f}'.format(x) if x == int(x) else '%g' % x
+def planned(program, costs):
+    """The plans by `session` at these budgets."""
+    plans = []
+    for begin in range(0, len(costs), MOST_PLANS):
+        with tempfile.TemporaryDirectory() as room:
+            edits = os.path.join(room, 'edits.txt')
+            with open(edits, 'w') as file:
+                file.writelines('budget,%d\nplan\n' % cost for cost in costs[begin : begin + MOST_PLANS])
+            plans += program.reports('session', '--edits', edits)
+    return plans
 
 
-class Picture:
-    """The plane of costs and totals, and what is drawn in it."""
-
-    def __init__(self, points):
-        self.across = ticks(points[-1][0])
-        self.upwards = ticks(points[0][2])
-        self.parts = []
-
-    def place(self, cost, total):
-        x = LEFT + (WIDTH - LEFT - RIGHT) * cost / self.across[-1]
-        y = HEIGHT - BOTTOM - (HEIGHT - TOP - BOTTOM) * total / self.upwards[-1]
-        return '%.2f,%.2f' % (x, y)
-
-    def path(self, corners, style, closed=False):
-        steps = ' L'.join(self.place(*corner) for corner in corners)
-        self.parts.append('<path d="M%s%s" %s/>' % (steps, ' Z' if closed else '', style))
-
-    def words(self, x, y, text, style=''):
-        self.parts.append('<text x="%.2f" y="%.2f" %s>%s</text>' % (x, y, style, text))
-
-    def frame(self):
-        for cost in self.across:
-            self.path([(cost, 0), (cost, self.upwards[-1])], 'stroke="#dddddd" fill="none"')
-            x, y = map(float, self.place(cost, 0).split(','))
-            self.words(x, y + 20, number(cost), 'text-anchor="middle"')
-        for total in self.upwards:
-            self.path([(0, total), (self.across[-1], total)], 'stroke="#dddddd" fill="none"')
-            x, y = map(float, self.place(0, total).split(','))
-            self.words(x - 8, y + 4, number(total), 'text-anchor="end"')
-        self.words((LEFT + WIDTH - RIGHT) / 2, HEIGHT - 20, 'cost', 'text-anchor="middle"')
-        middle = (TOP + HEIGHT - BOTTOM) / 2
-        self.words(24, middle, 'total backorders', 'text-anchor="middle" transform="rotate(-90 24 %.2f)"' % middle)
-
-    def text(self):
-        return '\n'.join(
-            ['<svg xmlns="http://www.w3.org/2000/svg" width="%d" height="%d" viewBox="0 0 %d %d" '
-             'font-family="sans-serif" font-size="13" fill="%s">' % (WIDTH, HEIGHT, WIDTH, HEIGHT, INK),
-             '<rect width="100%" height="100%" fill="white"/>']
-            + self.parts + ['</svg>', ''])
-
-
-def drawn(points):
-    """The picture of a sweep."""
-    picture = Picture(points)
-    far = picture.across[-1]
-    limit = [(cost, lo) for cost, lo, _ in points] + [(far, points[-1][1])]
-    picture.path([(0, 0)] + limit + [(far, 0)], 'fill="%s"' % SHADE, closed=True)
-    picture.frame()
-    picture.path(limit, 'stroke="%s" stroke-dasharray="4 3" fill="none"' % INK)
-    stairs = []
-    for (cost, _, hi), (after, _, _) in zip(points, points[1:] + [(far, 0, 0)]):
-        stairs += [(cost, hi), (after, hi)]
-    picture.path(stairs, 'stroke="%s" stroke-width="1.5" fill="none"' % LINE)
-    for cost, _, hi in points if len(points) <= MOST_DOTS else []:
-        x, y = picture.place(cost, hi).split(',')
-        picture.parts.append('<circle cx="%s" cy="%s" r="3" fill="%s"/>' % (x, y, LINE))
-    picture.words(LEFT, 28, 'What a budget gives: %d points. Nothing lies in the shaded region.' % len(points))
-    return picture.text()
+def steps(words, points):
+    """The rows of the table of steps."""
+    fleet = whole({'sites': words.sites, 'parts': words.parts}).fleet
+    plans = planned(Program(words), [int(point['cost']) for point in points])
+    for point, plan in zip(points, plans):
+        must_fit(plan, fleet, 'spares session')
+        total = plan.one('total')
+        if (plan.one('cost')['cost'], total['low'], total['high']) != (point['cost'], point['low'], point['high']):
+            raise Refused(
+                'the plan at the point %s costs %s and has another total: the sweep is of other tables'
+                % (point['cost'], plan.one('cost')['cost'])
+            )
+    rows = []
+    for before, after, plan, then in zip(points, points[1:], plans, plans[1:]):
+        stocks = then.stocks()
+        for (part, site), stock in plan.stocks().items():
+            if stocks[part, site] != stock:
+                money = fleet.part[part].cost * (stocks[part, site] - stock)
+                rows.append(
+                    [
+                        before['cost'],
+                        after['cost'],
+                        after['low'],
+                        after['high'],
+                        part,
+                        site,
+                        stock,
+                        stocks[part, site],
+                        money,
+                    ]
+                )
+    return rows
 
 
 def main():
-    try:
-        points = points_of(sys.stdin.read().splitlines())
-    except ValueError as fault:
-        sys.exit('sweep.py: %s' % fault)
-    sys.stdout.write(drawn(points))
+    words = Words(__doc__)
+    words.add_argument('--from', dest='least', metavar='COST', type=whole_number)
+    words.add_argument('--to', dest='most', metavar='COST', type=whole_number)
+    words.add_argument('--steps', action='store_true')
+    words.tables('sites', 'parts', 'rates', needed=())
+    words.program()
+    words = words.parse_args()
+    if words.steps != bool(words.sites and words.parts and words.rates):
+        raise Refused('--steps goes with --sites, --parts and --rates')
+    report = read_sweep()
+    if words.least is not None and words.most is not None and words.least >= words.most:
+        raise Refused('--from must be below --to')
+    points = [
+        point
+        for point in report.all('point')
+        if (words.least or 0) <= int(point['cost']) and (words.most is None or int(point['cost']) <= words.most)
+    ]
+    if not points:
+        raise Refused('no point of the sweep lies between these costs')
+    if not words.steps:
+        sys.stdout.write(sweep_picture(points_of(report), words.least, words.most).text())
+        return
+    rows = steps(words, points)
+    writer = csv.writer(sys.stdout, lineterminator='\n')
+    writer.writerow(['from_cost', 'to_cost', 'total_low', 'total_high', 'part', 'site', 'before', 'after', 'money'])
+    writer.writerows(rows)
 
 
 if __name__ == '__main__':
-    main()
+    run_script(main)
