@@ -1,10 +1,11 @@
 """Says where the expected outputs of pages, examples and tests differ from the model's, or makes them anew.
 
-    python3 tests/model/expected.py [--write] [PAGE..]
+    python3 tests/model/expected.py [--write] [--all | PAGE..]
 
-They are the examples `$ ..` of the pages, the reports beside the example cases with their pictures, and the texts in `tests/expected`; if
-pages are named, these alone. A line that a page shows is found again by its first field and its names; `..` stays. With `--write` what
-differs is written anew, and what can't be is told. Without it the status is 1 if something differs.
+They are the examples `$ ..` of the pages, the reports beside the cases with the pictures of sweeps, and the texts in `tests/expected`; with
+`--all` those of the wind farm too, which take minutes. If pages are named, these alone are looked at. A line that a page shows is found
+again by its first field and its names; `..` stays. With `--write` what differs is written anew, and what can't be is told. Without it the
+status is 1 if something differs.
 """
 
 import difflib
@@ -29,17 +30,34 @@ PAGES = [
     "examples/fleet/README.md",
     "examples/squadron/README.md",
 ]
-# the files that hold reports, each with its command and the options beside the tables of its folder; a file `F` there is `@F`
+# their scripts make many plans
+SLOW_PAGES = ["examples/windfarm/README.md"]
+# the files that hold reports, each with its command and the options beside the tables of its folder; a file `F` there is `@F`. With LIMITS
+# the table of parts has the limits that examples/limits.py proposes
 REPORTS = {
     "examples/fleet/report.txt": "eval --stocks @stocks.csv",
     "examples/fleet/plan.txt": "plan --budget 1475000",
     "examples/fleet/sweep.txt": "sweep",
     "examples/squadron/plan.txt": "plan --budget 52000000",
     "examples/squadron/sweep.txt": "sweep",
+    "tests/harbour/compare.txt": "compare --stocks @stocks.csv",
+    "tests/harbour/loss.txt": "plan --budget 150000 --objective log-availability",
+    "tests/harbour/more.txt": "plan --budget 60000 --on-hand @stocks.csv",
+    "tests/harbour/plan.txt": "plan --budget 150000",
+    "tests/harbour/session.txt": "session --edits @edits.txt",
+    "tests/harbour/sweep.txt": "sweep",
+    "tests/harbour/target.txt": "target --backorders 1.5",
+    "tests/harbour/worth.txt": "eval --stocks @stocks.csv",
 }
+SLOW_REPORTS = {
+    "examples/windfarm/plan.txt": "plan LIMITS --on-hand @stocks.csv --budget 60000",
+    "examples/windfarm/sweep.txt": "sweep LIMITS",
+}
+# the pictures of sweeps, each with the options of examples/sweep.py
 PICTURES = {
-    "examples/fleet/sweep.svg": "examples/fleet/sweep.txt",
-    "examples/squadron/sweep.svg": "examples/squadron/sweep.txt",
+    "examples/fleet/sweep.svg": [],
+    "examples/squadron/sweep.svg": [],
+    "examples/windfarm/sweep.svg": ["--to", "1000000"],
 }
 
 
@@ -63,13 +81,26 @@ class NoCertificate(spares.Shelf):
 def report_of(name, words):
     """The model's report that a file holds."""
     folder = os.path.dirname(name)
+    tables = {file: "%s/%s.csv" % (folder, file) for file in ("sites", "parts", "rates")}
     command, *more = words.replace("@", folder + "/").split()
-    tables = [word for file in ("sites", "parts", "rates") for word in ("--" + file, "%s/%s.csv" % (folder, file))]
-    certificate = ["--certificate", "none"] if command == "plan" else []
-    left = spares.run([command, *tables, *certificate, *more], NoCertificate())
+    with tempfile.TemporaryDirectory() as room:
+        if "LIMITS" in more:
+            more.remove("LIMITS")
+            tables["parts"] = limited_parts(tables, room)
+        more += [word for file, place in tables.items() for word in ("--" + file, place)]
+        left = spares.run([command, *more, *(["--certificate", "none"] if command == "plan" else [])], NoCertificate())
     if left.status:
         sys.exit("%s: %s" % (name, left.err.decode()))
     return left.out
+
+
+def limited_parts(tables, room):
+    """A table of parts with the limits that examples/limits.py proposes."""
+    place = os.path.join(room, "parts.csv")
+    words = [word for file, table in tables.items() for word in ("--" + file, table)]
+    script = os.path.join(TOP, "examples", "limits.py")
+    subprocess.run([sys.executable, script, *words, "--write-parts", place], stdout=subprocess.DEVNULL, check=True)
+    return place
 
 
 def key_of(line):
@@ -131,10 +162,11 @@ def check_file(name, data, is_written):
     return True
 
 
-def picture_of(sweep):
-    """The picture of the sweep in a file."""
+def picture_of(name, options):
+    """The picture of the sweep beside it."""
     script = os.path.join(TOP, "examples", "sweep.py")
-    return subprocess.run([sys.executable, script], input=read(sweep), capture_output=True, check=True).stdout
+    sweep = read(name.replace(".svg", ".txt"))
+    return subprocess.run([sys.executable, script, *options], input=sweep, capture_output=True, check=True).stdout
 
 
 def check_texts(is_written):
@@ -149,15 +181,16 @@ def check_texts(is_written):
 
 
 def main():
-    is_written = "--write" in sys.argv[1:]
-    named = [os.path.abspath(word) for word in sys.argv[1:] if word != "--write"]
+    is_written, is_all = "--write" in sys.argv[1:], "--all" in sys.argv[1:]
+    named = [os.path.abspath(word) for word in sys.argv[1:] if not word.startswith("--")]
     os.chdir(TOP)
     found = 0
     if not named:
-        found += sum(check_file(name, report_of(name, words), is_written) for name, words in REPORTS.items())
-        found += sum(check_file(name, picture_of(sweep), is_written) for name, sweep in PICTURES.items())
+        reports = {**REPORTS, **(SLOW_REPORTS if is_all else {})}
+        found += sum(check_file(name, report_of(name, words), is_written) for name, words in reports.items())
+        found += sum(check_file(name, picture_of(name, options), is_written) for name, options in PICTURES.items())
         found += check_texts(is_written)
-    found += sum(check_page(page, is_written) for page in named or PAGES)
+    found += sum(check_page(page, is_written) for page in named or PAGES + SLOW_PAGES * is_all)
     print("%d expected outputs differ" % found)
     sys.exit(1 if found and not is_written else 0)
 
