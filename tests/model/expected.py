@@ -3,9 +3,9 @@
     python3 tests/model/expected.py [--write] [--all | PAGE..]
 
 They are the examples `$ ..` of the pages, the reports beside the cases with the pictures of sweeps, and the texts in `tests/expected`; with
-`--all` those of the wind farm too, which take minutes. If pages are named, these alone are looked at. A line that a page shows is found
-again by its first field and its names; `..` stays. With `--write` what differs is written anew, and what can't be is told. Without it the
-status is 1 if something differs.
+`--all` also the wind farm's and the examples whose scripts make many plans, which take minutes. If pages are named, these alone are looked
+at, with all their examples. A line that a page shows is found again by its first field and its names; `..` stays. With `--write` what
+differs is written anew, and what can't be is told. Without it the status is 1 if something differs.
 """
 
 import difflib
@@ -30,8 +30,9 @@ PAGES = [
     "examples/fleet/README.md",
     "examples/squadron/README.md",
 ]
-# their scripts make many plans
+# what makes many plans
 SLOW_PAGES = ["examples/windfarm/README.md"]
+SLOW_SCRIPTS = ["examples/availability.py", "examples/best_of.py", "examples/sensitivity.py"]
 # the files that hold reports, each with its command and the options beside the tables of its folder; a file `F` there is `@F`. With LIMITS
 # the table of parts has the limits that examples/limits.py proposes
 REPORTS = {
@@ -128,11 +129,12 @@ def renewed(shown, printed):
     return lines if is_open else lines + printed[at:]
 
 
-def check_page(page, is_written):
+def check_page(page, is_written, left_out=()):
     """How many examples of a page differ; with `is_written` they are written anew."""
     lines = read(page).decode().split("\n")
     changes, found = [], 0
-    for example, ran in pages.runs_of(os.path.join(HERE, "spares.py"), os.path.join(TOP, "examples"), os.path.join(TOP, page)):
+    places = [os.path.join(*names) for names in ((HERE, "spares.py"), (TOP, "examples"), (TOP, page))]
+    for example, ran in pages.runs_of(*places, left_out):
         if pages.is_right(example.lines, ran):
             continue
         found += 1
@@ -190,7 +192,8 @@ def main():
         found += sum(check_file(name, report_of(name, words), is_written) for name, words in reports.items())
         found += sum(check_file(name, picture_of(name, options), is_written) for name, options in PICTURES.items())
         found += check_texts(is_written)
-    found += sum(check_page(page, is_written) for page in named or PAGES + SLOW_PAGES * is_all)
+    left_out = [] if named or is_all else SLOW_SCRIPTS
+    found += sum(check_page(page, is_written, left_out) for page in named or PAGES + SLOW_PAGES * is_all)
     print("%d expected outputs differ" % found)
     sys.exit(1 if found and not is_written else 0)
 
