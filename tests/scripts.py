@@ -168,6 +168,12 @@ def lint(trial):
         trial.run("lint.py", *trial.tables("sites", "parts", "rates", "stocks")) == "no faults\n",
         "sound tables have faults",
     )
+    trial.put("titled.csv", b"Sites;;;\r\n\"Site\";\"Kind\";\"Systems\";\"Ship days\"\r\n")
+    said = trial.run("lint.py", "--sites", "titled.csv", *trial.tables("parts", "rates"), status=1)
+    must(
+        all(words in said for words in ("The header is on line 2", "semicolons", "Wanted is: site,kind,")),
+        "a title above a header of another spelling: %s" % said,
+    )
     said = trial.run("lint.py", *trial.tables("sites", "parts"), "--rates", "nowhere.csv", status=1)
     must(said.startswith("nowhere.csv: fault,read,rates: "), said)
     trial.refuses("lint.py", *trial.tables("sites", "parts"), says="--rates")
