@@ -7,8 +7,9 @@
 From nothing it asks `spares sweep` for its points: budgets at which a plan by backorders ends without a gap, but for
 rounding. If over N of them are in the window (24 if --points is left out), it takes one in each of N equal parts of it.
 From stocks on hand it takes N equally spaced budgets. Without --to the window ends at what all steps cost, or at a half
-of it, a quarter and so on, as long as a plan by backorders there has an availability of 0.99, or that of --reach. At
-each budget it plans by both aims, with `spares session` and `spares plan`. The table has one row for each aim and budget:
+of it, a quarter and so on, as long as a plan by backorders there has an availability of 0.99, or that of --reach, and
+the least budget hasn't. At each budget it plans by both aims, with `spares session` and `spares plan`. The table has one
+row for each aim and budget:
 
     aim,budget,cost,fleet_low,fleet_high,total_low,total_high,loss_low,loss_high,bound,gap, and BASE_low,BASE_high for each base
 
