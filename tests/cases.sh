@@ -1,6 +1,38 @@
 # What the checks share: how a run is judged, and small cases.
+#
+# An expected output is a text, or has lines `@NAME` in place of the text of that name in `expected/`; `@` alone is the text of the check's
+# own name. By `tests/run --write` the runs with such a text are made alone, and what they put out is written to a folder.
 
 certificate=$room/certificate
+
+# is_left_out OUT: this check isn't made now
+is_left_out() { [ -n "$written" ] && [[ $1 != @* ]]; }
+
+# named NAME OUT: the expected output, where `@` alone stands for the text of the check's own name
+named() { if [ "$2" = @ ]; then printf '@%s\\n' "$1"; else printf '%s' "$2"; fi; }
+
+# resolved OUT: the expected output as a text
+resolved() {
+  printf '%b' "$1" | awk -v texts="$here/expected/$command.txt" '
+    !/^@/ { print; next }
+    {
+      is_in = 0
+      while ((getline line <texts) > 0) {
+        if (line ~ /^= /) is_in = line == "= " substr($0, 2)
+        else if (is_in && line != "") print line
+      }
+      close(texts)
+    }'
+}
+
+# write OUT FILE: writes what was found as the text of that name
+write() {
+  local name=${1#@}
+  name=${name%\\n}
+  if [[ $name != *\\n* ]] && ! grep -qsxF "= $name" "$written/$command.txt"; then
+    { printf '= %s\n' "$name"; cat "$2"; printf '\n'; } >>"$written/$command.txt"
+  fi
+}
 
 # passes, fails NAME: counts a check
 passes() { passed=$((passed + 1)); }
@@ -13,13 +45,21 @@ fails() {
 check() {
   local name=$1 status=$2 out=$3 err=$4
   shift 4
+  if is_left_out "$out"; then return; fi
   "$program" "$@" >"$room/out" 2>"$room/err" </dev/null
   compare "$name" "$status" $? "$out" "$err"
 }
 
 # compare NAME STATUS FOUND OUT ERR: the same, of a run that has been made
 compare() {
-  printf '%b' "$4" >"$room/out.wanted"
+  local out
+  out=$(named "$1" "$4")
+  if is_left_out "$out"; then return; fi
+  if [ -n "$written" ]; then
+    write "$out" "$room/out"
+    return
+  fi
+  resolved "$out" >"$room/out.wanted"
   printf '%b' "$5" >"$room/err.wanted"
   if [ "$2" -eq "$3" ] && cmp -s "$room/out" "$room/out.wanted" && cmp -s "$room/err" "$room/err.wanted"; then
     passes
@@ -32,6 +72,7 @@ compare() {
 
 # on_full_device NAME WORDS..: the report finds no room
 on_full_device() {
+  if is_left_out ''; then return; fi
   "$program" "${@:2}" >/dev/full 2>"$room/err" </dev/null
   local status=$?
   : >"$room/out"
@@ -40,7 +81,14 @@ on_full_device() {
 
 # holds NAME FILE TEXT: that file holds exactly this
 holds() {
-  printf '%b' "$3" >"$room/text.wanted"
+  local text
+  text=$(named "$1" "$3")
+  if is_left_out "$text"; then return; fi
+  if [ -n "$written" ]; then
+    write "$text" "$2"
+    return
+  fi
+  resolved "$text" >"$room/text.wanted"
   if cmp -s "$2" "$room/text.wanted"; then passes; else
     fails "$1"
     diff "$room/text.wanted" "$2"
@@ -61,6 +109,7 @@ evaluates() {
 
 # plans NAME STATUS OUT ERR FOLDER MORE..: the same of `plan`, which writes a certificate exactly where it isn't refused
 plans() {
+  if is_left_out "$3"; then return; fi
   rm -f "$certificate"
   tables_of "$5"
   check "$1" "$2" "$3" "$4" plan "${tables[@]}" --certificate "$certificate" "${@:6}"
@@ -70,7 +119,7 @@ plans() {
 # accepts NAME FORMAT REPORT: `check` takes the certificate that was written with this report of a plan, and says its numbers
 accepts() {
   local lines
-  lines=$(printf '%b' "$3" | awk -F, -v format="$2" '
+  lines=$(resolved "$3" | awk -F, -v format="$2" '
     $1 == "plan" { budget = $2 }
     $1 == "cost" { cost = $2 }
     $1 == "on-hand" { cost = cost "\n" $0 }
@@ -82,28 +131,32 @@ accepts() {
 
 # planned NAME REPORT FOLDER MORE..: the plan prints this report, and its certificate is accepted in both formats
 planned() {
-  plans "$1" 0 "$2" '' "${@:3}"
-  accepts "$1" 1 "$2"
-  plans "$1, format 2" 0 "$2" '' "${@:3}" --format 2
-  accepts "$1, format 2" 2 "$2"
+  local report
+  report=$(named "$1" "$2")
+  plans "$1" 0 "$report" '' "${@:3}"
+  accepts "$1" 1 "$report"
+  plans "$1, format 2" 0 "$report" '' "${@:3}" --format 2
+  accepts "$1, format 2" 2 "$report"
 }
 
 # planned_in_2 NAME REPORT FOLDER MORE..: the same by options that go with format 2 alone
 planned_in_2() {
-  plans "$1" 0 "$2" '' "${@:3}"
-  accepts "$1" 2 "$2"
+  local report
+  report=$(named "$1" "$2")
+  plans "$1" 0 "$report" '' "${@:3}"
+  accepts "$1" 2 "$report"
 }
 
-# last_lines NAME FOLDER LINES MORE..: the plan prints these lines but for those of items, bases and fleet, and its certificate is
-# accepted; for options that go with format 2 alone
+# last_lines NAME TEXT FORMAT FOLDER MORE..: the plan prints the expected text of that name but for the lines of items, bases and fleet, and
+# its certificate is accepted
 last_lines() {
-  tables_of "$2"
+  tables_of "$4"
   rm -f "$certificate"
-  "$program" plan "${tables[@]}" --certificate "$certificate" "${@:4}" >"$room/report" 2>"$room/err"
+  "$program" plan "${tables[@]}" --certificate "$certificate" "${@:5}" >"$room/report" 2>"$room/err"
   local status=$?
   grep -v -e '^item,' -e '^base,' -e '^fleet,' "$room/report" >"$room/out"
-  compare "$1" 0 "$status" "$3" ''
-  accepts "$1" 2 "$(cat "$room/report")"
+  compare "$1" 0 "$status" "@$2\n" ''
+  accepts "$1" "$3" "$(cat "$room/report")"
 }
 
 # changed FOLDER FILE SCRIPT: a copy of that case, with one file changed by sed and without its last line feed
@@ -116,6 +169,7 @@ changed() {
 # tries_files RUN REPORT FILE..: a file of the case `one` isn't there, is a folder, has as many bytes as it may, and one more
 tries_files() {
   local run=$1 report=$2 file
+  if is_left_out ''; then return; fi
   for file in "${@:3}"; do
     rm -rf "$room/changed"
     cp -r "$one" "$room/changed"
@@ -135,6 +189,7 @@ tries_files() {
 # tries_tables RUN: one file of a case is changed, and refused. From standard input: case|file|script of sed|line of the refusal
 tries_tables() {
   local folder file script line
+  if is_left_out ''; then return; fi
   while IFS='|' read -r folder file script line; do
     changed "$room/$folder" "$file" "$script"
     "$1" "$1: $folder, $file: $script" 3 '' "$line\n" "$room/changed"
@@ -174,15 +229,16 @@ one|rates|3s/L/K/|fault,unknown-part,rates,3
 ROWS
 }
 
-# four ENDS: an item's mean, variance, backorders and their variance, which all have these ends
-four() { printf '%s,%s,%s,%s' "$1" "$1" "$1" "$1"; }
-
-# with_python NAME SCRIPT WORDS..: a script of Python is a check by its status; it is left out where there is no Python
+# with_python NAME SCRIPT WORDS..: a script of Python is a check by its status; it is left out where there is no Python. If `says` is set,
+# what the script says is printed
 with_python() {
-  if ! command -v python3 >/dev/null; then
+  if is_left_out ''; then
+    return
+  elif ! command -v python3 >/dev/null; then
     printf 'left out, for there is no python3: %s\n' "$1"
   elif python3 "${@:2}" >"$room/said" 2>&1; then
     passes
+    if [ -n "${says:-}" ]; then cat "$room/said"; fi
   else
     fails "$1"
     cat "$room/said"

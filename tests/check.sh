@@ -25,45 +25,39 @@ bound,844424930131968
 end
 END
 
-# check_report FORMAT BUDGET COST UPPER BOUND
-check_report() { printf 'accepted,%s\\nbudget,%s\\ncost,%s\\nupper,%s\\nbound,%s\\n' "$@"; }
-
 # checks NAME STATUS OUT ERR FILE: `check` of that certificate ends with this status, having written exactly this
 checks() { check "$1" "$2" "$3" "$4" check --certificate "$5"; }
 
-# changes FILE: each line of standard input has a script of sed, which changes that certificate, and the line of the refusal, or the
-# upper end and the bound of what is accepted, and then what is on hand, if that is printed
+# changes FILE: each line of standard input has a script of sed, which changes that certificate, and the line of the refusal, or `accepted`
+# where the expected report has the name of the file and the script
 changes() {
-  local script line
+  local script line name
   while IFS='|' read -r script line; do
     LC_ALL=C sed "$script" "$1" >"$room/hostile"
+    name="$(basename "$1"): ${script//\\n/ }"
     case $line in
-    fault*) checks "a certificate: $script" 4 '' "$line\n" "$room/hostile" ;;
-    *)
-      IFS=' ' read -r format upper bound on_hand <<<"$line"
-      checks "a certificate: $script" 0 "$(check_report "$format" 0 "0${on_hand:+\\non-hand,$on_hand}" "$upper" "$bound")" '' \
-        "$room/hostile"
-      ;;
+    accepted) checks "$name" 0 @ '' "$room/hostile" ;;
+    *) checks "$name" 4 '' "$line\n" "$room/hostile" ;;
     esac
   done
 }
 
-checks 'a certificate' 0 "$(check_report 1 0 0 3.000000 3.000000)" '' "$plain"
+checks 'a certificate' 0 @ '' "$plain"
 changes "$plain" <<'ROWS'
 13s/0$/1/|fault,rejected,floor-too-high,0,84442493013196801,84442493013196800
 13s/.*/0/|fault,rejected,bound-too-high,844424930131968,0
-13s/.*/0/;18s/,.*/,0/|1 3.000000 0.000000
+13s/.*/0/;18s/,.*/,0/|accepted
 17s/8$/7/|fault,rejected,upper-too-low,844424930131967,844424930131968
-17s/8$/9/|1 3.000001 3.000000
+17s/8$/9/|accepted
 18s/8$/9/|fault,rejected,bound-too-high,844424930131969,844424930131968
-18s/,.*/,0/|1 3.000000 0.000000
+18s/,.*/,0/|accepted
 16s/0/1/|fault,rejected,over-budget,100
 15s/0/1/|fault,rejected,over-budget,100
 15s/0/3/|fault,rejected,stocks-over-limit,L,D,3
 16s/0/4/|fault,rejected,stocks-over-limit,L,B,4
 10s/0/1/|fault,rejected,bound-too-high,844424930131968,841610180364861
-11s/,.*/,0,1/;13s/.*/0/;18s/,.*/,0/|1 3.000000 0.000000
-11s/,100$/,1/;13s/.*/844424930131968/|1 3.000000 3.000000
+11s/,.*/,0,1/;13s/.*/0/;18s/,.*/,0/|accepted
+11s/,100$/,1/;13s/.*/844424930131968/|accepted
 4s/10.00/0.00/|fault,rejected,rate
 4s/B,/D,/;9s/B,/D,/|fault,bad-case
 6s/L,,/L,M,/|fault,bad-line,6
@@ -115,7 +109,7 @@ checks 'a last line without its line feed' 4 '' 'fault,bad-line,19\n' "$room/hos
 # covers
 covered=$room/covered
 sed '1s/.*/spares-certificate,2\nobjective,backorders/;13s/$/\ncovers,1\ncover,3\nsplit,1,3\nwhole\ncost/' "$plain" >"$covered"
-checks 'a cover' 0 "$(check_report 2 0 0 3.000000 3.000000)" '' "$covered"
+checks 'a cover' 0 @ '' "$covered"
 changes "$covered" <<'ROWS'
 17s/3/2/|fault,rejected,leaf-too-low,0,1,84442493013196800,56294995342131200
 17s/3/1/|fault,rejected,leaf-too-low,0,1,84442493013196800,28147497671065600
@@ -123,10 +117,10 @@ changes "$covered" <<'ROWS'
 17s/1/2/|fault,rejected,cover-gap,0
 16s/3/2/;19d|fault,rejected,cover-gap,0
 16s/3/4/;19s/$/\ncost/|fault,rejected,cover-gap,0
-16,18d;19s/.*/cover,1\nwhole/|2 3.000000 3.000000
+16,18d;19s/.*/cover,1\nwhole/|accepted
 16,18d;19s/.*/cover,1\ncost/|fault,rejected,leaf-too-low,0,0,84442493013196800,0
 18s/whole/cost/|fault,rejected,leaf-too-low,0,0,84442493013196800,0
-19s/cost/whole/|2 3.000000 3.000000
+19s/cost/whole/|accepted
 2d|fault,bad-line,2
 2s/backorders/nothing/|fault,bad-line,2
 1s/2$/1/|fault,bad-line,2
@@ -156,7 +150,7 @@ large=$room/large
 } >"$large"
 checks 'too many tables' 4 '' 'fault,rejected,work,1152762\n' "$large"
 sed '1s/.*/spares-certificate,2\nobjective,backorders/;27s/$/\ncovers,1\ncover,1\ncost/' "$large" >"$room/hostile"
-checks 'no table' 0 "$(check_report 2 0 0 137438953472.000000 0.000000)" '' "$room/hostile"
+checks 'no table' 0 @ '' "$room/hostile"
 sed '1s/.*/spares-certificate,2\nobjective,backorders/;27s/$/\ncovers,1\ncover,1\nwhole/' "$large" >"$room/hostile"
 checks 'too many tables under a cover' 4 '' 'fault,rejected,work,1152762\n' "$room/hostile"
 
@@ -164,19 +158,19 @@ checks 'too many tables under a cover' 4 '' 'fault,rejected,work,1152762\n' "$ro
 lost=$room/lost
 sed '1s/.*/spares-certificate,2\nobjective,log-availability/;11s/,.*/,339017605730256,100/
 13s/.*/97170365572114800\ncovers,1\ncover,1\nwhole/;17s/,.*/,971703655724172/;18s/,.*/,971703655721148/' "$plain" >"$lost"
-checks 'a certificate of the loss' 0 "$(check_report 2 0 0 3.452185 3.452184)" '' "$lost"
+checks 'a certificate of the loss' 0 @ '' "$lost"
 changes "$lost" <<'ROWS'
 2s/log-availability/backorders/|fault,rejected,leaf-too-low,0,0,97170365572114800,84442493013196800
 2s/,.*/,log-loss/|fault,bad-line,2
 1s/2$/1/|fault,bad-line,2
 5s/12/2/|fault,rejected,upper-too-low,971703655724172,1170621519031300
-6s/$/,weights/;7s/$/,2/|2 3.452185 3.452184
+6s/$/,weights/;7s/$/,2/|accepted
 14s/0$/1/|fault,rejected,leaf-too-low,0,0,97170365572114801,97170365572114800
-16s/1/3/;17s/.*/split,1,3\nwhole\ncost/|2 3.452185 3.452184
+16s/1/3/;17s/.*/split,1,3\nwhole\ncost/|accepted
 16s/1/3/;17s/.*/split,1,2\nwhole\ncost/|fault,rejected,leaf-too-low,0,1,97170365572114800,67803521146051200
 21s/2$/1/|fault,rejected,upper-too-low,971703655724171,971703655724172
 22s/8$/9/|fault,rejected,bound-too-high,971703655721149,971703655721148
-22s/,.*/,0/|2 3.452185 0.000000
+22s/,.*/,0/|accepted
 ROWS
 
 # what is on hand
@@ -184,7 +178,7 @@ held=$room/held
 sed '1s/.*/spares-held,1\nspares-certificate,2\nobjective,backorders/;11s/,.*/,225419721073314,100/
 13s/.*/57696376733064700\ncovers,1\ncover,1\nwhole/;16s/0/1/;17s/,.*/,576963767330649/;18s/,.*/,576963767330647/
 19s/$/\nheld,2\n0\n1\nend/' "$plain" >"$held"
-checks 'a held certificate' 0 "$(check_report 2 0 '0\non-hand,100' 2.049788 2.049787)" '' "$held"
+checks 'a held certificate' 0 @ '' "$held"
 changes "$held" <<'ROWS'
 21s/1/0/|fault,rejected,stocks-below-held,L,B,0
 26s/0/1/|fault,rejected,stocks-below-held,L,D,0
@@ -197,11 +191,11 @@ changes "$held" <<'ROWS'
 15s/0$/1/|fault,rejected,leaf-too-low,0,0,57696376733064701,57696376733064700
 15s/0$/1/;21s/1/0/|fault,rejected,stocks-below-held,L,B,0
 18s/whole/cost/|fault,rejected,leaf-too-low,0,0,57696376733064700,0
-17s/1/3/;18s/whole/split,1,2\nwhole\nwhole/|2 2.049788 2.049787 100
+17s/1/3/;18s/whole/split,1,2\nwhole\nwhole/|accepted
 17s/1/3/;18s/whole/split,1,1\nwhole\nwhole/|fault,rejected,cover-gap,0
 22s/9$/8/|fault,rejected,upper-too-low,576963767330648,576963767330649
 23s/7$/8/|fault,rejected,bound-too-high,576963767330648,576963767330647
-23s/,.*/,0/|2 2.049788 0.000000 100
+23s/,.*/,0/|accepted
 3s/backorders/log-availability/|fault,rejected,upper-too-low,576963767330649,632686049993988
 6s/B,/D,/;11s/B,/D,/|fault,bad-case
 6s/B,/D,/;11s/B,/D,/;26s/0/x/|fault,bad-case
@@ -247,12 +241,13 @@ certificate|fault,words
 --certificate a --certificate=a|fault,words
 --certificate a --budget 1|fault,words
 ROWS
-check 'a name after a sign' 0 "$(check_report 1 0 0 3.000000 3.000000)" '' check "--certificate=$plain" --
+check 'a name after a sign' 0 '@a certificate\n' '' check "--certificate=$plain" --
 on_full_device 'check: a report to a full device' check --certificate "$plain"
 
 # bytes changed one by one, in a certificate of each kind
 tables_of "$fleet"
 while read -r words; do
+  if is_left_out ''; then continue; fi
   # shellcheck disable=SC2086
   "$program" plan "${tables[@]}" --budget 500000 $words --certificate "$certificate" >"$room/report" 2>"$room/err"
   with_python "changed bytes, $words" "$here/changed_bytes.py" "$program" "$certificate" 100

@@ -1,7 +1,7 @@
 # The examples of the pages: each prints what its page shows. What scripts write into pages is what they write now. The
 # sources keep the habits that a script can see.
 
-for page in README.md docs/GUIDE.md docs/FORMATS.md examples/fleet/README.md examples/squadron/README.md \
+for page in README.md docs/GUIDE.md docs/FORMATS.md docs/CERTIFICATE.md examples/fleet/README.md examples/squadron/README.md \
   examples/windfarm/README.md; do
   with_python "the examples of $page" "$here/pages.py" "$program" "$here/../examples" "$here/../$page"
 done

@@ -14,20 +14,12 @@ edits() {
   sessions "$1" "$2" "$3" "$4" "$room/edited"
 }
 
-item_of_depot='item,L,D,0,2.000000,2.000000,2.000000,2.000000,2.000000,2.000000,2.000000,2.000000'
-under_250="plan,250\ncost,200\n$item_of_depot
-item,L,B,2,3.000000,3.000000,3.000000,3.000000,1.248935,1.248936,2.091651,2.091652
-base,B,0.895922,0.895923\nfleet,0.895922,0.895923\ntotal,1.248935,1.248936
-bound,0.960530\ngap,0.288405\nrounding,0.000001\nprice,0.005768099188\nhull,200\ncritical,L,100\n"
-of_nothing="plan,0\ncost,0\n$item_of_depot
-item,L,B,0,3.000000,3.000000,3.000000,3.000000,3.000000,3.000000,3.000000,3.000000
-base,B,0.750000,0.750000\nfleet,0.750000,0.750000\ntotal,3.000000,3.000000
-bound,3.000000\ngap,0.000000\nrounding,0.000001\nprice,0.009502129316\nhull,0\ncritical,L,100\n"
-zeros=0.000000,0.000000,0.000000,0.000000,0.000000,0.000000,0.000000,0.000000
-without_demand="plan,0\ncost,0\nitem,L,D,0,$zeros\nitem,L,B,0,$zeros
-base,B,1.000000,1.000000\nfleet,1.000000,1.000000\ntotal,0.000000,0.000000
-bound,0.000000\ngap,0.000000\nrounding,0.000001\nprice,0.000000000000\nhull,0\ncritical,none\n"
-
+under_250='@under 250\n'
+of_nothing='@of nothing\n'
+without_demand='@without demand\n'
+edits 'under 250' 0 @ '' 'budget,250\nplan\n'
+edits 'of nothing' 0 @ '' 'plan\n'
+edits 'without demand' 0 @ '' 'rate,L,B,0,0,,0\nplan\n'
 edits 'a plan before and after the same rate' 0 "$under_250$under_250" '' 'budget,250\nplan\nrate,L,B,36.5,0,,0\nplan\n'
 edits 'CRLF, empty lines and no last line feed' 0 "$of_nothing$without_demand" '' 'plan\r\n\r\nrate,L,B,0,0,,0\r\n\nplan'
 edits 'the last budget and the last rate count' 0 "$under_250" '' 'budget,1\nbudget,250\nrate,L,B,0,0,,0\nrate, L,B\t,36.5,0,,0\nplan\nbudget,7\n'

@@ -1,21 +1,19 @@
 # The command `single`: the worked examples, the faults of its words and a full device.
 
-report() { printf 'backorders,%s\\nvariance,%s\\n' "$1" "$2"; }
-
-while IFS='|' read -r words backorders variance; do
+while read -r words; do
   # shellcheck disable=SC2086
-  check "single $words" 0 "$(report "$backorders" "$variance")" '' single $words
+  check "single $words" 0 @ '' single $words
 done <<'ROWS'
-1 1|0.367879,0.367880|0.496785,0.496786
-1 0|1.000000,1.000000|1.000000,1.000000
-1 1 --variance 2|0.499999,0.500001|1.249999,1.250001
---variance=2 1 1|0.499999,0.500001|1.249999,1.250001
-0 0|0.000000,0.000000|0.000000,0.000000
-0 5|0.000000,0.000000|0.000000,0.000000
-256 0|256.000000,256.000000|256.000000,256.000000
-2 1 --variance 1.5|1.135335,1.135336|1.575678,1.575679
-2 1|1.135335,1.135336|1.575678,1.575679
-0.5 1 --variance 40|0.472646,0.472647|39.053958,39.053959
+1 1
+1 0
+1 1 --variance 2
+--variance=2 1 1
+0 0
+0 5
+256 0
+2 1 --variance 1.5
+2 1
+0.5 1 --variance 40
 ROWS
 
 while IFS='|' read -r words line status; do
