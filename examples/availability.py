@@ -6,8 +6,10 @@
 
 From nothing it asks `spares sweep` for its points: budgets at which a plan by backorders ends without a gap, but for
 rounding. If over N of them are in the window (24 if --points is left out), it takes one in each of N equal parts of it.
-From stocks on hand it takes N equally spaced budgets, up to what all steps from there cost. At each budget it plans by
-both aims, with `spares session` and `spares plan`. The table has one row for each aim and budget:
+From stocks on hand it takes N equally spaced budgets. Without --to the window ends at what all steps cost, or at a half
+of it, a quarter and so on, as long as a plan by backorders there has an availability of 0.99, or that of --reach, and
+the least budget hasn't. At each budget it plans by both aims, with `spares session` and `spares plan`. The table has one
+row for each aim and budget:
 
     aim,budget,cost,fleet_low,fleet_high,total_low,total_high,loss_low,loss_high,bound,gap, and BASE_low,BASE_high for each base
 
@@ -34,6 +36,7 @@ from sweep import planned
 AIMS = ('backorders', 'log-availability')
 MOST_BUDGET = 10**15
 CLOSER = 17  # budgets of a closer look, with both ends
+READY = 990000  # the availability, in millionths, with which a window ends if none is asked for
 
 
 def share(text):
@@ -62,15 +65,6 @@ def thinned(costs, most):
     return list(kept.values()) + [costs[-1]]
 
 
-def budgets_from_nothing(words, program):
-    costs = [int(point['cost']) for point in program.report('sweep').all('point')]
-    most = costs[-1] if words.most is None else words.most
-    inside = [cost for cost in costs if words.least <= cost <= most]
-    if not inside:
-        raise Refused('no point of the sweep lies between %d and %d' % (words.least, most))
-    return thinned(inside, words.points)
-
-
 class Planner:
     """Plans by both aims, from nothing or from stocks on hand."""
 
@@ -91,14 +85,34 @@ class Planner:
         second = [self.plan(AIMS[1], budget) for budget in budgets]
         return [(aim, *pair) for aim, reports in zip(AIMS, (first, second)) for pair in zip(budgets, reports)]
 
+    def fleet_low(self, budget):
+        return micro(self.plan(AIMS[0], budget).one('fleet')['low'])
+
+    def far_enough(self, least, most, share):
+        """The end of a window that begins at the least: the most, or a half of the way, a quarter and so on, as long as a plan there
+        has this availability. Where the least has it, it is the most.
+        """
+        if self.fleet_low(least) >= share:
+            return most
+        while self.fleet_low((least + most) // 2) >= share:
+            most = (least + most) // 2
+        return most
+
     def budgets(self, words):
         """The budgets that are asked for."""
+        costs = []
         if not self.held:
-            return budgets_from_nothing(words, self.program)
+            costs = [int(point['cost']) for point in self.program.report('sweep').all('point')]
         most = words.most
         if most is None:
-            most = max(words.least + 1, int(self.plan(AIMS[0], MOST_BUDGET).one('hull')['cost']))
-        return evenly(words.least, most, words.points)
+            whole = costs[-1] if costs else int(self.plan(AIMS[0], MOST_BUDGET).one('hull')['cost'])
+            most = self.far_enough(words.least, max(words.least + 1, whole), words.reach or READY)
+        if self.held:
+            return evenly(words.least, most, words.points)
+        inside = [cost for cost in costs if words.least <= cost <= most]
+        if not inside:
+            raise Refused('no point of the sweep lies between %d and %d' % (words.least, most))
+        return thinned(inside, words.points)
 
 
 def evenly(least, most, count):

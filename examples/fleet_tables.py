@@ -102,6 +102,11 @@ def is_name(text):
     return re.fullmatch(r'(?! )[ !#-+\--~]{1,24}(?<! )', text) is not None
 
 
+def as_header(text):
+    """A name of a column as a header spells it: in small letters, without blanks."""
+    return text.lower().replace(' ', '_')
+
+
 def shown(text):
     """A field as it is read by people: what isn't ASCII is spelt out."""
     try:
@@ -245,12 +250,11 @@ class Reader:
             above = '. The header is on line %d: delete what is above it' % row.line if row.number > 1 else ''
             for separator, name in ((',', ''), (';', 'semicolons'), ('\t', 'tabs')):
                 fields = row.fields if separator == ',' else row.fields[0].split(separator)
-                if [field.strip(' \t') for field in fields[:3]] == wanted[:3] and (above or name):
-                    return above + (
-                        '. The fields have %s between them: save the table with commas, and decimals with points' % name
-                        if name
-                        else ''
-                    )
+                fields = [field.strip(' \t"') for field in fields]
+                if [as_header(field) for field in fields[:3]] == wanted[:3] and (above or name):
+                    between = '. The fields have %s between them: save the table with commas, and decimals with points'
+                    respelt = '' if fields == wanted[: len(fields)] else '. Wanted is: %s' % ','.join(wanted)
+                    return above + (between % name if name else '') + respelt
         if rows[0].fields[0].startswith(MARK.decode('latin-1')):
             return '. There are two byte order marks'
         if [field.lower() for field in rows[0].fields] == wanted[: len(rows[0].fields)]:

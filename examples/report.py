@@ -57,7 +57,7 @@ tfoot td { border-bottom: 0; font-weight: 600; }
 .matrix td.full { box-shadow: inset 0 -2px 0 var(--red); }
 .bases { display: grid; grid-template-columns: repeat(auto-fill, minmax(21rem, 1fr)); gap: 1.2rem 2rem; }
 .base { break-inside: avoid; }
-.base h3 { display: flex; justify-content: space-between; }
+.base h3, .rest { display: flex; justify-content: space-between; }
 .bar { display: grid; grid-template-columns: 11.5rem 1fr 3.4rem; gap: .5rem; align-items: center; font-size: .85rem; line-height: 1.45; }
 .bar span:first-child { overflow-wrap: anywhere; }
 .bar span:last-child { text-align: right; font-variant-numeric: tabular-nums; }
@@ -316,12 +316,14 @@ class Page:
         mine = sorted((item for item in self.waiting() if item[1] == base['site']), key=lambda item: -item[3])
         bars = [self.bar(part.name, low, high, most) for part, _, low, high in mine[:MOST_DRIVERS]]
         others = mine[MOST_DRIVERS:]
-        note = 'of %d systems miss no line unit' % self.fleet.site[base['site']].systems
+        count = self.fleet.site[base['site']].systems
+        ready = tag('span', percent(base), ' of ', '%d system%s' % (count, '' if count == 1 else 's'))
+        lines = [tag('h3', tag('span', escape(base['site'])), ready), *bars]
         if others:
+            name = 'the %d other line units' % len(others) if len(others) > 1 else escape(others[0][0].name)
             rest = up(value(sum(high for _, _, _, high in others)))
-            note += '; %s %s' % ('all others' if len(others) > 1 else others[0][0].name, rest)
-        head = tag('h3', tag('span', escape(base['site'])), percent(base))
-        return tag('div', head, *bars, tag('div', escape(note), class_='soft'), class_='base')
+            lines.append(tag('div', tag('span', name), tag('span', rest), class_='soft rest'))
+        return tag('div', *lines, class_='base')
 
     def bases(self):
         """Each base's availability, and what drives its backorders."""

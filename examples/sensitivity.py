@@ -10,8 +10,9 @@ same budget, and the demand goes back. The first row is the plan as it is:
     line_unit,total_low,total_high,more,stocks
 
 `more` is by how much the upper end of the total grows, `stocks` how many pairs of part and site have another stock than
-in the first plan. Where both are small, the demand is known well enough to buy by. --picture writes bars of `more`, the
-largest first. What is wrong is one line on the standard error, with the status 2.
+in the first plan. Where both are small, the demand is known well enough to buy by. `more` can be below 0, and says nothing
+where it is smaller than the gap of the plans: the rest of a budget then fits better or worse. --picture writes bars of
+`more`, the largest first. What is wrong is one line on the standard error, with the status 2.
 """
 
 import argparse
@@ -96,7 +97,7 @@ def main():
         more = micro(report.one('total')['high']) - high
         others = sum(stock != stocks[pair] for pair, stock in report.stocks().items())
         writer.writerow([unit, *report.one('total').values(), value(more), others])
-        bars.append((unit, more / 10**6, '%+.3f, %d stocks' % (more / 10**6, others)))
+        bars.append((unit, more / 10**6, '%+.3f, %s' % (more / 10**6, '1 stock' if others == 1 else '%d stocks' % others)))
     if words.picture:
         bars.sort(key=lambda bar: -bar[1])
         title = 'Demand %d %% larger, one line unit at a time: how many more backorders' % words.percent

@@ -168,6 +168,12 @@ def lint(trial):
         trial.run("lint.py", *trial.tables("sites", "parts", "rates", "stocks")) == "no faults\n",
         "sound tables have faults",
     )
+    trial.put("titled.csv", b"Sites;;;\r\n\"Site\";\"Kind\";\"Systems\";\"Ship days\"\r\n")
+    said = trial.run("lint.py", "--sites", "titled.csv", *trial.tables("parts", "rates"), status=1)
+    must(
+        all(words in said for words in ("The header is on line 2", "semicolons", "Wanted is: site,kind,")),
+        "a title above a header of another spelling: %s" % said,
+    )
     said = trial.run("lint.py", *trial.tables("sites", "parts"), "--rates", "nowhere.csv", status=1)
     must(said.startswith("nowhere.csv: fault,read,rates: "), said)
     trial.refuses("lint.py", *trial.tables("sites", "parts"), says="--rates")
@@ -393,15 +399,22 @@ def availability(trial):
         must(len(found) == 1, found)
         row = found[0]
         must((row["aim"], row["budget"], row["cost"], row["fleet_low"]) == ("backorders", budget, cost, low), row)
-    thin = rows_of(trial.run("availability.py", *words, "--points", "5"))
+    thin = rows_of(trial.run("availability.py", *words, "--points", "5", "--to", "341900"))
     must(
         [row["aim"] for row in thin] == ["backorders"] * 5 + ["log-availability"] * 5
         and thin[0]["budget"] == "0"
         and thin[4]["budget"] == "341900",
         "five points",
     )
-    whole = rows_of(trial.run("availability.py", *words, *held, "--points", "2"))
-    must(whole[1]["gap"] == "0.000001" and whole[0]["budget"] == "0", "from stocks on hand to all steps")
+    far = rows_of(trial.run("availability.py", *words, *held, "--points", "2"))
+    half = "%d" % (int(far[1]["budget"]) // 2)
+    near = rows_of(trial.run("availability.py", *words, *held, "--points", "2", "--to", half))
+    must(
+        far[0]["budget"] == "0" and near[1]["fleet_low"] < "0.99" <= far[1]["fleet_low"],
+        "from stocks on hand the window ends where 0.99 is reached, or not twice as far",
+    )
+    shown = rows_of(trial.run("availability.py", *words, "--points", "8"))
+    must(shown[5]["fleet_low"] >= "0.99" and int(shown[5]["budget"]) < 341900, "from nothing the window ends sooner")
     ran = subprocess.run(
         [
             sys.executable,
