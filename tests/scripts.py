@@ -233,7 +233,8 @@ def lint_base(trial):
         rates=closed,
         stocks=[(b"Pier East", b"Pier West;2")],
     )
-    must(found.count("rates.csv: fault,missing-rate,") == 3 and found.count("'Pier East' in 3 further rows") == 1, found)
+    must(found.count("rates.csv: fault,missing-rate,") == 3, found)
+    must("rates.csv:6: fault,unknown-site,rates,6: 'Pier East' in 3 further rows" in found, found)
     must(found.count("stocks.csv:") == 4 and found.count("double-stock") == 4, found)
     found = linted(trial, sites=[(b"Dock 1", b"Dock One")])
     hint = "Dock One has no row at all, so 3 further pairs have none too: is it spelt otherwise here?\n"
