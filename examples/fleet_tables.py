@@ -34,6 +34,7 @@ HEADERS = {
     'rates': ['part', 'site', 'demand', 'repair_here', 'share', 'repair_days'],
     'stocks': ['part', 'site', 'stock'],
 }
+KINDS = ('depot', 'base')
 HEADERS['on-hand'] = HEADERS['stocks']
 MOST_ROWS = {'sites': 16, 'parts': 2000, 'rates': 32000, 'stocks': 32000, 'on-hand': 32000}
 
@@ -44,7 +45,7 @@ Fault = namedtuple('Fault', 'place text what')
 
 
 class Site(namedtuple('Site', 'name kind systems ship_days row')):
-    """A row of the table of sites; a number that isn't right or must be empty is None, as in the other tables."""
+    """A row of the table of sites; a kind or a number that isn't right or must be empty is None, as in the other tables."""
 
     @property
     def is_depot(self):
@@ -120,6 +121,56 @@ def counted(fields):
     return '1 field' if len(fields) == 1 else '%d fields' % len(fields)
 
 
+def pair_of(row):
+    """The part and the site of a row as they are written; of a row of one field the site is empty."""
+    return row.fields[0], row.fields[1] if len(row.fields) > 1 else ''
+
+
+def spelt(name):
+    """A name as it stands, or as it is read by people where it is none."""
+    return name if is_name(name) else shown(name)
+
+
+def in_rows(name, lines):
+    """What is said of further rows that have the same wrong name; of one alone, nothing."""
+    if len(lines) == 1:
+        return None
+    place = len(lines), lines[0], lines[-1]
+    return (shown(name) if name else 'no name') + ' in %d further rows too, from line %d to line %d' % place
+
+
+def no_rows(table, name, frame):
+    """What is said of the further pairs of a base, the depot or a part that has no row at all."""
+    nothing = 'demand' if table == 'rates' else 'stock'
+    needs = '; one without %s needs rows with %s 0' % (nothing, nothing)
+    why = {
+        'base': ' A closed base leaves the table of sites' + needs,
+        'depot': '',
+        'part': ' A part out of use leaves the table of parts' + needs,
+    }
+    asked = '%s has no row at all, so %d further %s none too: is it spelt otherwise here?%s'
+    return lambda lines: asked % (name, len(lines), 'pair has' if len(lines) == 1 else 'pairs have', why[frame])
+
+
+def rows_elsewhere(site, other, lines):
+    """What is said of the further pairs of a site that have no row, while their parts have one at a site that isn't known."""
+    if len(lines) == 1:
+        return None
+    return '%d further parts have no row at %s, but one at %s' % (len(lines), site, shown(other))
+
+
+def is_header(fields, table):
+    """Whether the columns of a header are known although some are spelt otherwise: as many as there must be, at least half of them
+    in their places, and none in the place of another.
+    """
+    wanted = HEADERS[table]
+    if len(fields) != len(wanted) and (table, len(fields)) != ('parts', 6):
+        return False
+    pairs = [(as_header(field), name) for field, name in zip(fields, wanted)]
+    placed = sum(found == name for found, name in pairs)
+    return 2 * placed >= len(fields) and not any(found in wanted and found != name for found, name in pairs)
+
+
 def why_no_number(text, number):
     """What a planner may have meant by a text that is no number."""
     if re.fullmatch(r'[0-9]+,[0-9]+', text):
@@ -169,7 +220,64 @@ class Fleet:
         return [(part.name, site.name) for part in self.parts for site in self.sites]
 
     def limit(self, part, site):
+        """The limit of a part at a site, or None where one of them or the kind of the site isn't known."""
+        if part not in self.part or site not in self.site or self.site[site].kind is None:
+            return None
         return self.part[part].max_depot if self.site[site].is_depot else self.part[part].max_base
+
+    def kinds(self, row):
+        """Whether the part of a row of rates is a shop unit, and whether its site is the depot. What isn't known is taken from
+        the fields: a share without a demand is that of a shop unit, and what has neither demand nor repair_here is at the depot.
+        """
+        part, site, demand, repair_here, share, _ = row.fields
+        is_unit = self.part[part].parent is not None if part in self.part else share != '' and demand == ''
+        is_depot = demand == '' and repair_here == ''
+        if site in self.site and self.site[site].kind is not None:
+            is_depot = self.site[site].is_depot
+        return is_unit, is_depot
+
+
+class Lack:
+    """What pairs without a row may have in common: a site or a part that no row names, or a site that is spelt otherwise in some."""
+
+    def __init__(self, table, named, fleet, known):
+        self.table, self.fleet = table, fleet
+        self.parts_at = {}
+        # the unknown sites of each part
+        self.unknown = {part: [] for part, _ in named}
+        for part, site in named:
+            self.parts_at.setdefault(site, set()).add(part)
+            if site not in known:
+                self.unknown[part].append(site)
+
+    def same(self, part, site):
+        """What such a pair shares with others, and what is said of these; twice None if nothing."""
+        if site not in self.parts_at:
+            frame = 'depot' if self.fleet.site[site].is_depot else 'base'
+            return (self.table, 'site', site), no_rows(self.table, site, frame)
+        if part not in self.unknown:
+            return (self.table, 'part', part), no_rows(self.table, part, 'part')
+        for other in self.unknown[part]:
+            if self.parts_at[other].isdisjoint(self.parts_at[site]):
+                return (self.table, 'elsewhere', other, site), lambda lines: rows_elsewhere(site, other, lines)
+        return None, None
+
+
+class Alike:
+    """A fault, and further ones that are the same: these are one fault, if there is something to say of their lines."""
+
+    def __init__(self, say):
+        self.faults = []
+        self.lines = []
+        self.say = say
+
+    def add(self, line, fault):
+        self.faults.append(fault)
+        self.lines.append(line)
+
+    def shown(self):
+        what = self.say(self.lines[1:]) if self.faults[1:] else None
+        return self.faults[:1] + [self.faults[1]._replace(what=what)] if what else self.faults
 
 
 class Reader:
@@ -177,24 +285,40 @@ class Reader:
 
     def __init__(self, names):
         self.names = names
-        self.faults = []
+        self.found = []
+        self.same = {}
         self.readable = set()
+        # the names in rows of sites and parts that have a wrong number of fields
+        self.cut = {'sites': set(), 'parts': set()}
 
-    def fault(self, table, line, text, what):
+    def fault(self, table, line, text, what, same=None, say=None):
+        """Keeps a fault, together with those before that are the same; `say` tells of the lines of all but the first."""
         place = self.names[table] if line is None else '%s:%d' % (self.names[table], line)
-        self.faults.append(Fault(place, 'fault,%s' % text, what))
+        alike = self.same.get(same)
+        if alike is None:
+            alike = Alike(say)
+            self.found.append(alike)
+            if same is not None:
+                self.same[same] = alike
+        alike.add(line, Fault(place, 'fault,%s' % text, what))
+
+    def faults(self):
+        return [fault for alike in self.found for fault in alike.shown()]
 
     def rows_of(self, table, data):
-        """The rows below a header that is as it must be, each after what is wrong with those before it; none below another header."""
+        """The rows below the header, each after what is wrong with those before it; none if the columns aren't known. A row without
+        any field that holds something has no name, and that is all that is said of it.
+        """
         rows = records_of(data)
         if not rows:
             self.fault(table, None, 'no-header,%s' % table, 'the table is empty')
             return
-        columns = self.columns_of(table, rows)
-        if columns is None:
+        header = self.header_of(table, rows)
+        if header is None:
             return
+        columns = len(header.fields)
         self.readable.add(table)
-        for row in rows[1:]:
+        for row in rows[header.number :]:
             if row.number - 1 > MOST_ROWS[table]:
                 self.fault(
                     table,
@@ -210,6 +334,11 @@ class Reader:
                     'field-count,%s,%d,%d' % (table, row.number, len(row.fields)),
                     'the row has %s, the header %d: %s' % (counted(row.fields), columns, self.why_count(row, columns)),
                 )
+                if table in self.cut and row.fields[0]:
+                    self.cut[table].add(row.fields[0])
+            elif not any(row.fields):
+                self.name_in(table, row, 1)
+                continue
             yield row._replace(is_whole=len(row.fields) == columns)
 
     def why_count(self, row, columns):
@@ -219,8 +348,8 @@ class Reader:
             return 'is there a comma in a name or a number?'
         return 'is a column missing, or a quote not closed?'
 
-    def columns_of(self, table, rows):
-        """The number of columns, or None where the header is another."""
+    def header_of(self, table, rows):
+        """The row of the header, whose columns are known, or None. It is the first row, or below a title."""
         header, wanted = rows[0], HEADERS[table]
         columns = 7 if table == 'parts' and len(header.fields) == 7 else 6 if table == 'parts' else len(wanted)
         faults = []
@@ -242,7 +371,7 @@ class Reader:
             ]
         for text, what in faults:
             self.fault(table, header.line, text, what + self.why_header(rows, wanted))
-        return None if faults else columns
+        return next((row for row in rows[: 20 if faults else 1] if is_header(row.fields, table)), None)
 
     def why_header(self, rows, wanted):
         """What a header that is another may come from."""
@@ -267,8 +396,13 @@ class Reader:
         text = row.fields[column - 1]
         if is_name(text):
             return text
-        self.fault(table, row.line, 'bad-name,%s,%d,%d' % (table, row.number, column), why_no_name(text))
+        self.name_fault(table, row, column, 'bad-name,%s,%d,%d' % (table, row.number, column), why_no_name(text))
         return None
+
+    def name_fault(self, table, row, column, text, what):
+        """What is wrong with a name; the rows of a table that have it too are one fault."""
+        name = row.fields[column - 1]
+        self.fault(table, row.line, text, what, (table, column, name), lambda lines: in_rows(name, lines))
 
     def number_in(self, table, row, column, number):
         """A number in units of its last decimal, or None."""
@@ -309,6 +443,16 @@ class Reader:
             )
         return None
 
+    def kind_in(self, row):
+        """The kind of a site, also where it has other letters than it must; or None."""
+        text = row.fields[1]
+        kind = as_header(text)
+        if text not in KINDS:
+            self.fault(
+                'sites', row.line, 'bad-kind,sites,%d' % row.number, 'kind: %s is neither depot nor base' % shown(text)
+            )
+        return kind if kind in KINDS else None
+
     # tables
 
     def sites_of(self, rows):
@@ -317,19 +461,12 @@ class Reader:
             if not row.is_whole:
                 continue
             name = self.name_in('sites', row, 1)
-            kind = row.fields[1]
+            kind = self.kind_in(row)
             systems = ship_days = None
-            if kind in ('depot', 'base'):
+            if kind is not None:
                 why = 'the depot has no systems' if kind == 'depot' else None
                 systems = self.used_in('sites', row, 3, SYSTEMS, why)
                 ship_days = self.used_in('sites', row, 4, DAYS, why and 'nothing is shipped to the depot')
-            else:
-                self.fault(
-                    'sites',
-                    row.line,
-                    'bad-kind,sites,%d' % row.number,
-                    'kind: %s is neither depot nor base' % shown(kind),
-                )
             sites.append(Site(name, kind, systems, ship_days, row))
         return sites
 
@@ -350,8 +487,8 @@ class Reader:
             parts.append(Part(name, parent or row.fields[1] or None, cost, per_system, *limits, weight, row))
         return parts
 
-    def frame_of(self, sites, parts):
-        """What is wrong with the sites and the parts together: the rows are taken one by one."""
+    def frame_of(self, sites):
+        """What is wrong with the sites together: the rows are taken one by one."""
         seen = {}
         depots = [site for site in sites if site.is_depot]
         for site in sites:
@@ -366,13 +503,13 @@ class Reader:
                 )
             if site.name is not None:
                 seen.setdefault(site.name, site.row.number)
-        if not depots:
+        if not depots and not self.cut['sites']:
             self.fault('sites', None, 'no-depot', 'no site is the depot')
-        if not any(site.kind == 'base' for site in sites):
+        if not any(site.kind == 'base' for site in sites) and not self.cut['sites']:
             self.fault('sites', None, 'no-base', 'no site is a base')
-        self.parents_of(parts)
 
     def parents_of(self, parts):
+        """What is wrong with the parts together."""
         first = {}
         for part in parts:
             if part.name in first:
@@ -387,7 +524,7 @@ class Reader:
         units = {}
         for part in parts:
             at = ',%d' % part.row.number
-            if part.parent is None or not is_name(part.parent):
+            if part.parent is None or not is_name(part.parent) or part.parent in self.cut['parts']:
                 continue
             if part.parent not in first:
                 self.fault(
@@ -409,87 +546,72 @@ class Reader:
                     )
 
     def pair_in(self, table, row, fleet):
-        """The part and the site that a row names, each or None."""
-        part = self.name_in(table, row, 1)
-        if part is not None and part not in fleet.part:
-            self.fault(
-                table,
-                row.line,
-                'unknown-part,%s,%d' % (table, row.number),
-                'there is no part %s in the table of parts' % shown(part),
-            )
-            part = None
-        site = self.name_in(table, row, 2)
-        if site is not None and site not in fleet.site:
-            self.fault(
-                table,
-                row.line,
-                'unknown-site,%s,%d' % (table, row.number),
-                'there is no site %s in the table of sites' % shown(site),
-            )
-            site = None
-        return part, site
+        """Names the part and the site of a row that aren't known; where a table of them can't be read, all its names are taken."""
+        for column, kind, known in (1, 'part', fleet.part), (2, 'site', fleet.site):
+            name = self.name_in(table, row, column)
+            frame = kind + 's'
+            if name is not None and frame in self.readable and name not in known and name not in self.cut[frame]:
+                self.name_fault(
+                    table,
+                    row,
+                    column,
+                    'unknown-%s,%s,%d' % (kind, table, row.number),
+                    'there is no %s %s in the table of %s' % (kind, shown(name), frame),
+                )
 
-    def names_of(self, table, data):
-        """The header, the number of fields and the names of a table whose sites or parts aren't known."""
-        for row in self.rows_of(table, data[table]) if table in data else []:
-            if row.is_whole:
-                self.name_in(table, row, 1)
-                self.name_in(table, row, 2)
+    def double(self, fault, table, row):
+        """A pair that has a row already, by the names as they are written."""
+        part, site = map(spelt, pair_of(row))
+        self.fault(table, row.line, '%s,%d' % (fault, row.number), '%s at %s has a row already' % (part, site))
 
     def rates_of(self, rows, fleet):
         """The rates of each pair; those that were named but aren't right are None."""
         rates = {}
         doubles = []
         for row in rows:
+            pair = pair_of(row)
             if not row.is_whole:
-                rates.setdefault(tuple(row.fields[:2]), None)
+                rates.setdefault(pair, None)
                 continue
-            part, site = self.pair_in('rates', row, fleet)
-            if part is None or site is None:
-                continue
-            is_unit, is_depot = fleet.part[part].parent is not None, fleet.site[site].is_depot
-            why = (
-                'the demand of a shop unit follows from its line unit'
-                if is_unit
-                else 'the depot has no demand of its own'
-                if is_depot
-                else None
-            )
-            before = len(self.faults)
-            demand = self.used_in('rates', row, 3, DEMAND, why)
-            repair_here = self.used_in(
-                'rates', row, 4, FRACTION, 'the depot repairs what it gets' if is_depot else None
-            )
-            share = self.used_in('rates', row, 5, FRACTION, None if is_unit else 'only a shop unit has a share')
-            days = self.number_in('rates', row, 6, DAYS)
-            if (part, site) in rates:
-                doubles.append((row, part, site))
-            else:
-                rates[part, site] = Rate(demand, repair_here, share, days) if len(self.faults) == before else None
-        for row, part, site in doubles:
-            self.fault('rates', row.line, 'double-rate,%d' % row.number, '%s at %s has a row already' % (part, site))
+            self.pair_in('rates', row, fleet)
+            rate = self.rate_in(row, fleet)
+            if pair in rates and all(pair):
+                doubles.append(row)
+            rates.setdefault(pair, rate)
+        for row in doubles:
+            self.double('double-rate', 'rates', row)
         return rates
 
-    def missing_rates(self, rates, fleet):
-        named = set(rates)
+    def rate_in(self, row, fleet):
+        """The numbers of a row of rates, or None where one isn't right."""
+        is_unit, is_depot = fleet.kinds(row)
+        no_demand = 'the depot has no demand of its own' if is_depot else None
+        if is_unit:
+            no_demand = 'the demand of a shop unit follows from its line unit'
+        before = len(self.found)
+        demand = self.used_in('rates', row, 3, DEMAND, no_demand)
+        repair_here = self.used_in('rates', row, 4, FRACTION, 'the depot repairs what it gets' if is_depot else None)
+        share = self.used_in('rates', row, 5, FRACTION, None if is_unit else 'only a shop unit has a share')
+        days = self.number_in('rates', row, 6, DAYS)
+        return Rate(demand, repair_here, share, days) if len(self.found) == before else None
+
+    def missing(self, table, named, fleet):
+        """The pairs that have no row: those of a site or a part without any row are one fault beside the first."""
+        lack = Lack(table, named, fleet, self.cut['sites'].union(fleet.site))
+        fault = 'missing-rate' if table == 'rates' else 'missing-stock'
         for part, site in fleet.pairs():
             if (part, site) not in named:
-                is_unit, is_depot = fleet.part[part].parent is not None, fleet.site[site].is_depot
-                row = [
-                    part,
-                    site,
-                    '' if is_unit or is_depot else '0',
-                    '' if is_depot else '0',
-                    '0' if is_unit else '',
-                    '0',
-                ]
-                self.fault(
-                    'rates',
-                    None,
-                    'missing-rate,%s,%s' % (part, site),
-                    'this pair has no row; where nothing happens it is %s' % ','.join(row),
-                )
+                text = '%s,%s,%s' % (fault, part, site)
+                what = 'this pair has no row; where %s' % self.row_of_nothing(table, fleet, part, site)
+                self.fault(table, None, text, what, *lack.same(part, site))
+
+    def row_of_nothing(self, table, fleet, part, site):
+        """The row of a pair where nothing happens, or there is nothing."""
+        if table != 'rates':
+            return 'there is nothing it is %s,%s,0' % (part, site)
+        is_unit, is_depot = fleet.part[part].parent is not None, fleet.site[site].is_depot
+        demand, repair_here = '' if is_unit or is_depot else '0', '' if is_depot else '0'
+        return 'nothing happens it is ' + ','.join([part, site, demand, repair_here, '0' if is_unit else '', '0'])
 
     def stocks_of(self, table, rows, fleet):
         """The stock of each pair."""
@@ -497,37 +619,25 @@ class Reader:
         found = []
         for row in rows:
             if not row.is_whole:
-                stocks.setdefault(tuple(row.fields[:2]), None)
+                stocks.setdefault(pair_of(row), None)
                 continue
-            part, site = self.pair_in(table, row, fleet)
-            stock = self.number_in(table, row, 3, STOCK)
-            if part is not None and site is not None:
-                found.append((row, part, site, stock))
-        for row, part, site, stock in found:
+            self.pair_in(table, row, fleet)
+            found.append((row, self.number_in(table, row, 3, STOCK)))
+        for row, stock in found:
+            part, site = pair = pair_of(row)
             limit = fleet.limit(part, site)
             if stock is not None and limit is not None and stock > limit:
+                column = 'max_depot' if fleet.site[site].is_depot else 'max_base'
                 self.fault(
                     table,
                     row.line,
                     'over-limit,%d' % row.number,
-                    '%d of %s at %s, where %s is %d'
-                    % (stock, part, site, 'max_depot' if fleet.site[site].is_depot else 'max_base', limit),
+                    '%d of %s at %s, where %s is %d' % (stock, part, site, column, limit),
                 )
-            if (part, site) in stocks:
-                self.fault(table, row.line, 'double-stock,%d' % row.number, '%s at %s has a row already' % (part, site))
-            else:
-                stocks[part, site] = stock
+            if pair in stocks and all(pair):
+                self.double('double-stock', table, row)
+            stocks.setdefault(pair, stock)
         return stocks
-
-    def missing_stocks(self, table, stocks, fleet):
-        for part, site in fleet.pairs():
-            if (part, site) not in stocks:
-                self.fault(
-                    table,
-                    None,
-                    'missing-stock,%s,%s' % (part, site),
-                    'this pair has no row; where there is nothing it is %s,%s,0' % (part, site),
-                )
 
 
 Loaded = namedtuple('Loaded', 'fleet stocks faults')
@@ -557,25 +667,27 @@ def load(names):
             del data[table]
     sites = reader.sites_of(reader.rows_of('sites', data['sites'])) if 'sites' in data else []
     parts = reader.parts_of(reader.rows_of('parts', data['parts'])) if 'parts' in data else []
-    if not {'sites', 'parts'} <= reader.readable:
-        for table in ('rates', 'stocks', 'on-hand'):
-            reader.names_of(table, data)
-        return Loaded(None, {}, reader.faults)
-    reader.frame_of(sites, parts)
+    has_frame = {'sites', 'parts'} <= reader.readable
+    if 'sites' in reader.readable:
+        reader.frame_of(sites)
+    if 'parts' in reader.readable:
+        reader.parents_of(parts)
     fleet = Fleet(
         [site for site in sites if site.name is not None], [part for part in parts if part.name is not None], {}
     )
-    if 'rates' in data:
-        fleet.rates = reader.rates_of(reader.rows_of('rates', data['rates']), fleet)
-        if 'rates' in reader.readable:
-            reader.missing_rates(fleet.rates, fleet)
     stocks = {}
-    for table in ('stocks', 'on-hand'):
-        if table in data:
-            stocks[table] = reader.stocks_of(table, reader.rows_of(table, data[table]), fleet)
-            if table in reader.readable:
-                reader.missing_stocks(table, stocks[table], fleet)
-    return Loaded(fleet, stocks, reader.faults)
+    for table in ('rates', 'stocks', 'on-hand'):
+        if table not in data:
+            continue
+        rows = reader.rows_of(table, data[table])
+        named = reader.rates_of(rows, fleet) if table == 'rates' else reader.stocks_of(table, rows, fleet)
+        if table == 'rates':
+            fleet.rates = named
+        else:
+            stocks[table] = named
+        if has_frame and table in reader.readable:
+            reader.missing(table, named, fleet)
+    return Loaded(fleet if has_frame else None, stocks, reader.faults())
 
 
 def whole(names):

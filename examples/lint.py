@@ -6,10 +6,14 @@
 Each fault is one line: the file and, if the fault is in a line, its number as an editor counts it; the program's line,
 whose rows count records (the header is row 1, empty lines are not counted); and what is wrong. What comes first is what
 the program would say: `plan` of the sites, parts, rates and stocks on hand, `eval` if --stocks names a table. Then `N
-faults`, with the status 1. Without a fault it prints `no faults`, with the status 0: then the program takes the tables.
-A table without its right header, and a row without the right number of fields, are not looked at further; without sites
-and parts the other tables are only asked for their names. Whether the program takes the rates is asked if all numbers
-of a line unit and its shop units are right. Wrong words are one line on the standard error, with the status 2.
+faults`, which counts the lines, with the status 1. Without a fault it prints `no faults`, with the status 0: then the
+program takes the tables. Where several rows have the same wrong name, the first is a line and all further ones are
+another, with their count, the first and the last; so are the pairs of a site or a part that has no row at all.
+What can be judged is judged: the numbers of a row whose part or site isn't known, by what its other fields say of these
+two, and whether it is there twice; the rows below a header of which some names are spelt otherwise, or which is below a
+title. A row without the right number of fields, and a table whose columns aren't known, hide nothing elsewhere. Whether
+the program takes the rates is asked if all numbers of a line unit and its shop units are right. Wrong words are one line
+on the standard error, with the status 2.
 """
 
 

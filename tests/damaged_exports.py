@@ -76,6 +76,30 @@ DAMAGES = [
 ]
 
 
+# whole sites and parts, only among several damages
+WIDE = [
+    ("rates", rb"Pier East", rb"Pier Est"),
+    ("rates", rb"gen-set", rb"genset"),
+    ("sites", rb"Pier East", rb"Pier Est"),
+    ("sites", rb"Pier East", b"Pi\xe9r East"),
+    ("sites", rb",3.5", rb""),
+    ("sites", rb"site,kind", rb"Site,type"),
+    ("sites", rb",", rb";"),
+    ("parts", rb"winch", rb"winches"),
+    ("parts", rb",40000", rb""),
+    ("parts", rb"part,parent", rb"part,line unit"),
+    ("rates", rb"(?m)^[^,]*,Pier East.*\r\n", rb""),
+    ("rates", rb"(?m)^winch.*\r\n", rb""),
+    ("rates", rb"0\.2,0\.6", rb"20 %,0.6"),
+    ("rates", rb"\Z", rb"winch,Pier Est,4.5,0.25,,6\r\n" * 2),
+    ("rates", rb"\Z", rb",,,,,\r\n" * 3),
+    ("stocks", rb"Pier East", rb"Pier Est"),
+    ("stocks", rb"(?m)^[^,]*,Pier East.*\r\n", rb""),
+    ("on-hand", rb"(?m)^winch.*\r\n", rb""),
+    ("on-hand", rb"\Z", rb",,\r\n" * 3),
+]
+
+
 def damaged(data, pattern, text):
     found, count = re.subn(pattern, text, data)
     if not count or found == data:
@@ -134,7 +158,7 @@ def main():
             refused += judges.compare("damage %d" % number, data, table if table in TABLES[3:] else None) != ""
         for number in range(1, 51):
             data = dict(sound)
-            for table, pattern, text in draws.sample(DAMAGES, draws.choice([2, 2, 3, 5])):
+            for table, pattern, text in draws.sample(DAMAGES + WIDE, draws.choice([2, 2, 3, 5])):
                 if re.search(pattern, data[table]):
                     data[table] = re.sub(pattern, text, data[table])
             judges.compare("mixture %d" % number, data, draws.choice(TABLES[3:]))

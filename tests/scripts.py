@@ -180,6 +180,92 @@ def lint(trial):
     trial.refuses("lint.py", *trial.tables(), "--stoks", "x", says="--stoks")
 
 
+def linted(trial, **changes):
+    """What lint says of changed tables with stocks, whose first fault is what the program says. A change is a list of texts and
+    what stands in their place, or a text that is added."""
+    words = []
+    for table in ("sites", "parts", "rates", "stocks"):
+        with open(trial.file(table + ".csv"), "rb") as file:
+            data = file.read()
+        for old, new in changes.get(table, []):
+            must(old in data, "%s hasn't %r" % (table, old))
+            data = data.replace(old, new) if old else data + new
+        words += ["--" + table, os.path.basename(trial.put(table + ".csv", data))]
+    found = trial.run("lint.py", *words, status=1)
+    refusal = trial.spares("eval", *words)
+    must(": %s: " % refusal.rstrip() in found.split("\n")[0], "the program says %s of\n%s" % (refusal, found))
+    return found
+
+
+def lint_names(trial):
+    """Rows with an unknown name are two lines, and are judged in their other fields and as doubles."""
+    found = linted(
+        trial,
+        rates=[
+            (b"Pier East", b"Pier Est"),
+            (b"gen-set,Pier Est,6,", b"gen-set,Pier Est,,"),
+            (b"injector,Pier Est,,0.2", b"injector,Pier Est,,20 %"),
+            (b"", b"winch,Pier Est,4.5,0.25,,6\r\n"),
+        ],
+        stocks=[(b"winch", b"wench"), (b"wench,Pier East,0", b"wench,Pier East,64")],
+    )
+    trial.wants("lint_names.txt", found)
+    # a share without a demand is that of a shop unit; a name that is none is as an unknown one
+    found = linted(trial, rates=[(b"injector", b"inj\xc3\xa9ctor"), (b"0.7,21", b"7,21"), (b"gen-set", b"genset")])
+    faults = [",".join(line.split(": ")[1:2]) for line in found.split("\n") if ": fault,missing" not in line]
+    wanted = "unknown-part,rates,5 unknown-part,rates,6 bad-name,rates,8,1 bad-name,rates,9,1 out-of-range,rates,8,5"
+    must(faults == ["fault," + fault for fault in wanted.split()] + ["", ""], found)
+
+
+def lint_base(trial):
+    """The pairs of a base without any row are two lines, and so are those whose rows name an unknown site."""
+    found = linted(trial, sites=[(b"", b"Quay 7,base,4,2\r\n")], rates=[(b",Pier West;2", b",Pier West 2")])
+    trial.wants("lint_base.txt", found)
+    # rows of a base that was closed hide no pairs of another
+    closed = [
+        (b'gen-set,Pier West;2,3.6,"0.5",,9\r\n', b""),
+        (b"injector,Pier West;2,,0,0.6,0\r\n", b""),
+        (b"governor,Pier West;2,,0,0.2000,0\r\n", b""),
+    ]
+    found = linted(
+        trial,
+        sites=[(b'"Pier East",base,5,3.5\r\n', b"")],
+        rates=closed,
+        stocks=[(b"Pier East", b"Pier West;2")],
+    )
+    must(found.count("rates.csv: fault,missing-rate,") == 3, found)
+    must("rates.csv:6: fault,unknown-site,rates,6: 'Pier East' in 3 further rows" in found, found)
+    must(found.count("stocks.csv:") == 4 and found.count("double-stock") == 4, found)
+    found = linted(trial, sites=[(b"Dock 1", b"Dock One")])
+    hint = "Dock One has no row at all, so 3 further pairs have none too: is it spelt otherwise here?\n"
+    must(found.count(hint) == 2 and found.endswith("\n8 faults\n"), found)
+
+
+def lint_headers(trial):
+    """A header that is another, and a row of another number of fields, hide no faults of other rows and tables."""
+    found = linted(
+        trial,
+        sites=[(b"kind", b"Type"), (b",3.5", b""), (b",12", b",")],
+        parts=[(b",", b";")],
+        rates=[
+            (b"part,site", b"Rates\r\npart,site"),
+            (b'"Pier West;2"', b"Pier"),
+            (b"injector,Pier East,,0.2", b"injector,Pier East,,20 %"),
+            (b"", b",,,,,\r\n" * 3),
+        ],
+        stocks=[(b'"winch",Pier West;2,0', b"winch,Pier West;2,0.5"), (b"", b"winch,Dock 1,1\r\n")],
+    )
+    trial.wants("lint_headers.txt", found)
+    alone = {
+        "sites": [(b",3.5", b""), (b"depot,,", b"depot,"), (b"depot", b"Depot"), (b"systems", b"Systems")],
+        "parts": [(b",40000", b""), (b",2500,,", b",2500,"), (b",parent", b",unit of")],
+    }
+    for table, changes in alone.items():
+        for change in changes:
+            found = linted(trial, **{table: [change]})
+            must(found.endswith("\n1 fault\n"), "%s: %s" % (change, found))
+
+
 def tables(trial):
     """The tables of reports, turned back into lines, are the reports."""
     names = ["session.txt", "sweep.txt", "compare.txt", "target.txt", "loss.txt", "worth.txt"]
@@ -835,6 +921,9 @@ CHECKS = {
         limits,
         limits_too_wide,
         lint,
+        lint_names,
+        lint_base,
+        lint_headers,
         tables,
         tables_refused,
         buy,
