@@ -3,8 +3,8 @@
     python3 tests/model/expected.py [--write] [--all | PAGE..]
 
 They are the examples `$ ..` of the pages, the reports beside the cases with the pictures of sweeps, and the texts in `tests/expected`; with
-`--all` also the wind farm's and the examples whose scripts make many plans, which take minutes. If pages are named, these alone are looked
-at, with all their examples. A line that a page shows is found again by its first field and its names; `..` stays. With `--write` what
+`--all` also the pages of the larger cases and the scripts that make many plans, which take minutes. If pages are named, these alone are
+looked at, with all their examples. A line that a page shows is found again by its first field and its names; `..` stays. With `--write` what
 differs is written anew, and what can't be is told. Without it the status is 1 if something differs.
 """
 
@@ -28,10 +28,9 @@ PAGES = [
     "docs/FORMATS.md",
     "docs/CERTIFICATE.md",
     "examples/fleet/README.md",
-    "examples/squadron/README.md",
 ]
-# what makes many plans
-SLOW_PAGES = ["examples/windfarm/README.md"]
+# what makes large plans, or many
+SLOW_PAGES = ["examples/squadron/README.md", "examples/windfarm/README.md"]
 SLOW_SCRIPTS = ["examples/availability.py", "examples/best_of.py", "examples/sensitivity.py"]
 # the files that hold reports, each with its command and the options beside the tables of its folder; a file `F` there is `@F`. With LIMITS
 # the table of parts has the limits that examples/limits.py proposes

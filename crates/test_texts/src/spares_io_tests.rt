@@ -59,22 +59,34 @@ const CALLS: [Row; 9] = [
     (Call::Read("parts", 2), Ok(()), Some(b"de")),
 ];
 
-/// What is read stands in `into`.
+/// A name holds this, or nothing.
+fn holds(rt: &impl Abort, shelf: &MemShelf, name: &str, held: Option<&[u8]>) {
+    match (shelf.file(name), held) {
+        (Some(found), Some(bytes)) => assert_eq!(rt; found, bytes),
+        (found, none) => assert!(rt; found.is_none() && none.is_none()),
+    }
+}
+
+/// A read that succeeds gives the bytes of the name; any other gives none.
+fn gives(rt: &impl Abort, into: &[u8], is_ok: bool, held: Option<&[u8]>) {
+    match held {
+        Some(bytes) if is_ok => assert_eq!(rt; into, bytes),
+        _ => assert!(rt; !is_ok && into.is_empty()),
+    }
+}
+
+/// The shelf answers each call as its row says. The bytes of a read come into `into`.
 fn answers(rt: &impl Abort, shelf: &mut MemShelf, into: &mut Vec<u8>, rows: &[Row]) {
     for (call, answer, held) in rows {
         match *call {
             Call::Read(name, limit) => {
                 assert_eq!(rt; shelf.read(name, limit, into), *answer, "reading {name}");
-                assert_eq!(rt; shelf.file(name), *held);
-                if answer.is_ok() {
-                    assert_eq!(rt; Some(into.as_slice()), *held);
-                } else {
-                    assert!(rt; into.is_empty());
-                }
+                holds(rt, shelf, name, *held);
+                gives(rt, into.as_slice(), answer.is_ok(), *held);
             }
             Call::Write(name, bytes) => {
                 assert_eq!(rt; shelf.write(name, bytes), *answer, "writing {name}");
-                assert_eq!(rt; shelf.file(name), *held);
+                holds(rt, shelf, name, *held);
             }
         }
     }
