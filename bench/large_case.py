@@ -131,7 +131,7 @@ def case_for_eval():
 
 
 def tables_of(bases, limits):
-    """How many tables the curve of a family takes, by the formula of docs/FORMATS.md."""
+    """How many tables the curve of a family takes, by the formula of docs/MODEL.md."""
     at_depot, at_base, widths = 1, 1, 0
     for depot, base in limits[1:]:
         at_depot *= depot + 1

@@ -8,7 +8,7 @@
 # peer's report or certificate isn't ours.
 #
 # What counts is the user time of the whole run, with the reading of the tables and the writing of the certificate in
-# it. The tables are counted by the formula of docs/FORMATS.md. A score is what the backorders of a line unit at one
+# it. The tables are counted by the formula of docs/MODEL.md. A score is what the backorders of a line unit at one
 # base count for, at one choice of stocks for the depot and that base; those are counted from the limits as well.
 set -eu
 bench=$(cd "$(dirname "$0")" && pwd)

@@ -135,7 +135,7 @@ RATE_PLACES = (4, 4, 4, 2)
 
 
 def case_text(case):
-    """The lines of a case (FORMATS, The lines of a case)."""
+    """The lines of a case (CERTIFICATE, The text)."""
     lines = ["sites,%d" % len(case.sites)]
     lines += [site_line(site) for site in case.sites]
     is_weighted = any(part.parent == "" and part.weight != 1 for part in case.parts)

@@ -1,4 +1,4 @@
-"""The text of a certificate, written and read (CERTIFICATE, The text, Covers, What is held)."""
+"""The text of a certificate, written and read (CERTIFICATE, The text, Covers, Held stocks)."""
 
 from collections import namedtuple
 
