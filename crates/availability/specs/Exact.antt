@@ -1,4 +1,4 @@
--- The exact availability, and what it is for intervals to hold the numbers that it is made of.
+-- The exact availability, and when intervals contain the numbers that it is made of.
 use Rattle.std.specs.Prelude.{◌≡◌, ℕ, ◌*◌, ◌^◌, ◌<◌, ◌≤◌, List, length, get_or}
 use Rattle.exact_model.specs.Fraction.{Fraction, whole, sum_below, ◌-ℚ◌, ◌*ℚ◌, ◌/ℚ◌}
 use Rattle.exact_model.specs.Sums.{power}
@@ -13,7 +13,7 @@ factor_of e systems per_system = power (whole 1 -ℚ e /ℚ whole (systems * per
 abbrev pub weighted_mean : (ℕ → ℕ) → (ℕ → Fraction) → ℕ → Fraction
 weighted_mean n q m = sum_below (λ k. whole (n k) *ℚ q k) m /ℚ sum_below (λ k. whole (n k)) m
 
--- each factor holds the fraction at its place
+-- each factor contains the fraction at its place
 abbrev pub AllIn : (bits : ℕ) → List Ends → (ℕ → Fraction) → Type 0
 AllIn bits factors q = (k : ℕ) → k < length factors → In bits (get_or factors k (ends_exact bits 1)) (q k)
 
@@ -21,12 +21,12 @@ AllIn bits factors q = (k : ℕ) → k < length factors → In bits (get_or fact
 abbrev pub base_at : {bits : ℕ} → List (Weighted bits) → ℕ → Weighted bits
 base_at {bits} bases k = get_or bases k (record { systems = 0; value = ends_exact bits 0 })
 
--- a base has n systems, and its value holds q
+-- a base has n systems, and its value contains q
 pub record BaseIn (bits : ℕ) (base : Weighted bits) (n : ℕ) (q : Fraction) : Type 0 where
   pub systems : base.systems ≡ n
   pub value : In bits base.value q
 
--- each base has what is at its place
+-- each base has the systems at its place, and contains the value there
 abbrev pub BasesIn : (bits : ℕ) → List (Weighted bits) → (ℕ → ℕ) → (ℕ → Fraction) → Type 0
 BasesIn bits bases n q = (k : ℕ) → k < length bases → BaseIn bits (base_at bases k) (n k) (q k)
 

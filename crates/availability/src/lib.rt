@@ -1,8 +1,8 @@
-//! Availability: the expected share of systems that miss none of their line units, at a base and in the whole fleet.
+//! Availability: the expected share of systems with none of their line units missing, at a base and in the whole fleet.
 //!
-//! Base j has N systems, each with Z places for a line unit. Of these N Z places the line unit's expected backorders
-//! E at the base leave E empty, so one is filled with the chance max(0, 1 - E / (N Z)), and all Z of a system with
-//! its power Z. Then
+//! Base j has N systems, each with Z places for a line unit. Of these N Z places the line unit's expected backorders E
+//! at the base leave E empty, so one is filled with the probability max(0, 1 - E / (N Z)), and all Z of a system with
+//! its Zth power. Then
 //!
 //! ```text
 //! availability of a base  = product over all line units of max(0, 1 - E / (N Z))^Z
@@ -10,7 +10,7 @@
 //! ```
 //!
 //! These are the formulas of C. C. Sherbrooke, *Optimal Inventory Modeling of Systems*, 2nd edition. All numbers are
-//! intervals. No call refuses, and none takes memory.
+//! intervals. No call refuses, and none allocates memory.
 #![tactic(auto)]
 
 ghost use Rattle.std.specs.Prelude.{◌≡◌, ℕ, ◌*◌, ◌^◌, ◌≤◌, length};
@@ -29,17 +29,17 @@ ghost use Rattle.availability.specs.Exact.{
 
 use fixed_interval::Iv;
 
-/// A base's availability, from 0 to 1, and its weight in the fleet: how many systems are there, 1 to 10,000.
+/// A base's availability, from 0 to 1, and its weight in the fleet: the number of its systems, 1 to 10,000.
 #[derive(Clone, Copy, Drop)]
 pub struct Weighted<const F: u32> {
     pub systems: u32,
     pub value: Iv<F>,
 }
 
-/// What a line unit leaves of a base's availability: `max(0, 1 - E / (N Z))^Z`, from 0 to 1.
+/// The factor of a line unit in a base's availability: `max(0, 1 - E / (N Z))^Z`, from 0 to 1.
 ///
-/// `backorders` is E, the line unit's expected backorders at the base; `systems` is N, how many systems are there, 1 to
-/// 10,000; and `per_system` is Z, how many of the line unit a system has, 1 to 100.
+/// `backorders` is E, the line unit's expected backorders at the base; `systems` is N, the number of systems there, 1
+/// to 10,000; and `per_system` is Z, the number of the line unit in a system, 1 to 100.
 pub fn factor<const F: u32>(backorders: Iv<F>, systems: u32, per_system: u32) -> Iv<F>
     requires some_systems { 1 ≤ systems }
     requires few_systems { systems ≤ 10000 }
@@ -57,7 +57,7 @@ pub fn factor<const F: u32>(backorders: Iv<F>, systems: u32, per_system: u32) ->
     all
 }
 
-/// A base's availability, from 0 to 1: the product of what each line unit leaves of it, each at most 1, in this order.
+/// A base's availability, from 0 to 1: the product of the factors of its line units, each at most 1, in this order.
 pub fn base_availability<const F: u32>(factors: &[Iv<F>]) -> Iv<F>
     requires scale { InScale F }
     requires shares { All (λ x. x.hi ≤ 2 ^ F) factors.now }
@@ -72,7 +72,7 @@ pub fn base_availability<const F: u32>(factors: &[Iv<F>]) -> Iv<F>
     product
 }
 
-/// The availability of a fleet, from 0 to 1: the mean of those of its 1 to 15 bases, each as often as it has systems.
+/// The availability of a fleet, from 0 to 1: the mean over its 1 to 15 bases, weighted by their systems.
 pub fn fleet<const F: u32>(bases: &[Weighted<F>]) -> Iv<F>
     requires scale { InScale F }
     requires some { 1 ≤ length bases.now }

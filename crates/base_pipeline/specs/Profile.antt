@@ -10,19 +10,19 @@ use Rattle.base_pipeline.specs.declared.Held.{Held}
 abbrev pub held_at : {f : ℕ} → List (Held f) → ℕ → Held f
 held_at {f} shops k = get_or shops k (record { backorders = ends_exact f 0; spread = ends_exact f 0 })
 
--- the shop unit at a base: the direct part, and what its depot adds
+-- the shop unit at a base: the direct part, and the depot's addition
 abbrev pub base_shop_ends : (f : ℕ) → Ends → ℕ → Feed f → Moments f
 base_shop_ends f direct cap depot = capped_at f cap (ends_add direct (mean_part f depot))
     (ends_add direct (variance_part f depot))
 
--- what the line unit at a base holds without its shop units there: the direct part, and what its depot adds
+-- the own part of the line unit at a base, without its shop units there: the direct part, and the depot's addition
 abbrev pub base_own_ends : (f : ℕ) → Ends → Feed f → Moments f
 base_own_ends f direct depot = record {
   mean = ends_add direct (mean_part f depot);
   variance = ends_add direct (variance_part f depot);
 }
 
--- the line unit at a base: the direct part, what its depot adds, and the backorders of each shop unit there
+-- the line unit at a base: the direct part, the depot's addition, and the backorders of each shop unit there
 abbrev pub base_line_ends : (f : ℕ) → Ends → ℕ → Feed f → List (Held f) → Moments f
 base_line_ends f direct cap depot shops =
     capped_at f cap (added (ends_add direct (mean_part f depot)) (λ k. (held_at shops k).backorders) (length shops))

@@ -1,9 +1,9 @@
-//! The mean and the variance of what a base's pipelines hold, for a shop unit and for a line unit.
+//! The mean and the variance of a base's pipelines, for a shop unit and for a line unit.
 //!
-//! A base's pipeline holds the units that are in repair there or on their way from the depot. Its direct part D is
-//! what it would hold if the depot were never short. Of the depot's backorders, which are E on average and have the
-//! variance V, the share f is this base's; and a line unit's repair at the base waits for each shop unit i that the
-//! base is short of:
+//! A base's pipeline contains the units that are in repair there or on their way from the depot. Its direct part D is
+//! the pipeline as if the depot were never short. The depot's backorders have the mean E and the variance V, and the
+//! share f of them is this base's; a line unit's repair at the base also waits for each shop unit i of which the base
+//! is short:
 //!
 //! ```text
 //! a shop unit   mean     = D + f E
@@ -13,7 +13,7 @@
 //! ```
 //!
 //! These are the formulas of VARI-METRIC: C. C. Sherbrooke, *Optimal Inventory Modeling of Systems*, 2nd edition, and
-//! *Operations Research* 34 (1986). All numbers are intervals. No call refuses, and none takes memory.
+//! *Operations Research* 34 (1986). All numbers are intervals. No call refuses, and none allocates memory.
 #![tactic(auto)]
 
 ghost use Rattle.std.specs.Prelude.{◌≡◌, ℕ, ◌+◌, ◌*◌, ◌^◌, ◌<◌, ◌≤◌, length};
@@ -28,7 +28,7 @@ ghost use Rattle.base_pipeline.specs.Exact.{AllHeldIn, IsSmallHeld};
 use depot_pipeline::{Feed, Moments, mean_of, variance_of};
 use fixed_interval::Iv;
 
-/// The backorders of a shop unit at the same base, which hold a line unit's repair there: their mean and their
+/// The backorders of a shop unit at the same base, which delay a line unit's repair there: their mean and their
 /// variance.
 #[derive(Clone, Copy, Drop)]
 pub struct Held<const F: u32> {
@@ -36,10 +36,10 @@ pub struct Held<const F: u32> {
     pub spread: Iv<F>,
 }
 
-/// The pipeline of a shop unit at a base: its direct part, at most 256 units, and what the depot feeds into it.
+/// The pipeline of a shop unit at a base: its direct part, at most 256 units, and the depot's feed.
 ///
-/// `cap` is what the caller knows the mean and the variance to be at most, in units of `2^-F`: each is capped there,
-/// and encloses the exact value where that is at most the cap.
+/// `cap` is the caller's upper bound of the mean and the variance, in units of `2^-F`: each is capped there, and
+/// encloses the exact value if that is at most the cap.
 pub fn base_shop<const F: u32>(direct: Iv<F>, cap: u128, depot: Feed<F>) -> Moments<F>
     requires direct { IsWithinLimit F direct }
     requires small { IsSmallFeed F depot }
@@ -55,8 +55,8 @@ pub fn base_shop<const F: u32>(direct: Iv<F>, cap: u128, depot: Feed<F>) -> Mome
     }
 }
 
-/// What the pipeline of a line unit at a base has without its shop units there: its direct part, at most 256 units,
-/// and what the depot feeds into it. With the backorders of the shop units added, and capped, it is [`base_line`].
+/// The own part of a line unit's pipeline at a base, without its shop units there: its direct part, at most 256 units,
+/// and the depot's feed. With the backorders of the shop units added, and capped, it is [`base_line`].
 pub fn base_own<const F: u32>(direct: Iv<F>, depot: &Feed<F>) -> Moments<F>
     requires direct { IsWithinLimit F direct }
     requires small { IsSmallFeed F depot.now }
@@ -70,8 +70,8 @@ pub fn base_own<const F: u32>(direct: Iv<F>, depot: &Feed<F>) -> Moments<F>
     }
 }
 
-/// The pipeline of a line unit at a base: its direct part, at most 256 units, what the depot feeds into it, and the
-/// backorders of its shop units at this base, at most 8 of them.
+/// The pipeline of a line unit at a base: its direct part, at most 256 units, the depot's feed, and the backorders of
+/// its shop units at this base, at most 8 of them.
 ///
 /// `cap` is as in [`base_shop`].
 pub fn base_line<const F: u32>(

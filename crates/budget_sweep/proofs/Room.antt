@@ -1,7 +1,7 @@
 -- The numbers of a sweep are small, and what a target costs at least fits.
-use Rattle.std.proofs.Common.{◌≡◌, ℕ, zero, suc, ◌+◌, ◌-◌, ◌*◌, ◌^◌, ◌<◌, ◌≤◌, List, [], ◌∷◌, Option, Some, None, length, slice_index, refl, sym, subst, arith}
+use Rattle.std.proofs.Common.{◌≡◌, ℕ, zero, suc, ◌+◌, ◌-◌, ◌*◌, ◌^◌, ◌<◌, ◌≤◌, List, [], ◌∷◌, Option, Some, None, IfSome, length, slice_index, refl, sym, subst, arith}
 use Rattle.std.specs.List.{All}
-use Rattle.std.proofs.lemmas.List.Elements.{All-from_get_or}
+use Rattle.std.proofs.lemmas.List.Elements.{All-from_get_or, All-weaker}
 use Rattle.hull.specs.declared.point.Point.{Point}
 use Rattle.hull.specs.declared.price.Price.{Price}
 use Rattle.hull.specs.Curves.{Steps, InRange, nowhere, point_at}
@@ -14,10 +14,11 @@ use Rattle.marginal_alloc.proofs.Least.{critical_stops}
 use Rattle.marginal_alloc.proofs.Bounds.{all_least, all_picked}
 use Rattle.price_bounds.proofs.Duality.{lagrangian_of_all, least_together}
 use Rattle.fixed_interval.proofs.Laws.{ceil_most}
+use Rattle.plan_report.specs.Fits.{PriceFits}
 use Rattle.budget_sweep.specs.declared.report.SweepPoint.{SweepPoint}
 use Rattle.budget_sweep.specs.Sweep.{TellsPrice, IsState, IsSweep, no_state, state_at, last_state}
 use Rattle.budget_sweep.specs.Target.{cost_floor, floor_at, least_cost}
-use Rattle.budget_sweep.specs.Fits.{PointFits, PriceFits}
+use Rattle.budget_sweep.specs.Fits.{IsSmallPoint, IsStepPrice, PointFits}
 use Rattle.budget_sweep.proofs.StatesOf.{all_below, cheaper_step}
 use Rattle.budget_sweep.proofs.Together.{vertex_range, cost_room, hi_room}
 
@@ -35,7 +36,7 @@ ends_together (c ∷ curves) (k ∷ picks) n h =
     omega (arith, a, b)
 
 small_price : (curves : List (List Point)) (picks : List ℕ) (price : Option Price) → HaveShapes curves
-    → IsPrefix curves picks → TellsPrice curves picks price → PriceFits price
+    → IsPrefix curves picks → TellsPrice curves picks price → IfSome price IsStepPrice
 small_price curves picks None shapes pre t = tt
 small_price curves picks (Some price) shapes pre t =
     let f = t.0 in
@@ -53,10 +54,15 @@ small_price curves picks (Some price) shapes pre t =
     let c = there.cost in
     let p = t.2 in
     let q = t.3 in
-    (omega (arith, sl, p), omega (arith, p, h, e), omega (arith, sc, q), omega (arith, q, c))
+    record {
+      fall = omega (arith, sl, p);
+      most_fall = omega (arith, p, h, e);
+      rise = omega (arith, sc, q);
+      most_rise = omega (arith, q, c);
+    }
 
 pub state_small : (curves : List (List Point)) (k : ℕ) (point : SweepPoint) → length curves ≤ 2000 → HaveShapes curves
-    → IsState curves k point → PointFits point
+    → IsState curves k point → IsSmallPoint point
 state_small curves k point few shapes s =
     let v = s.taken.prefix.vertices in
     let c = s.state.cost in
@@ -77,9 +83,31 @@ state_small curves k point few shapes s =
 
 -- the sums and prices of a sweep of at most 2,000 curves are in their ranges
 pub all_small : (curves : List (List Point)) (points : List SweepPoint) → length curves ≤ 2000 → HaveShapes curves
-    → IsSweep curves points → All PointFits points
+    → IsSweep curves points → All IsSmallPoint points
 all_small curves points few shapes h =
-    All-from_get_or PointFits points no_state (λ k l. state_small curves k (state_at points k) few shapes (h.each k l))
+    All-from_get_or IsSmallPoint points no_state (λ k l. state_small curves k (state_at points k) few shapes (h.each k l))
+
+-- ---- what is small can be printed
+
+price_fits : (price : Option Price) → IfSome price IsStepPrice → IfSome price PriceFits
+price_fits None s = tt
+price_fits (Some price) s =
+    let p = s.most_fall in
+    record { p = omega (arith, p); money = s.rise; most_money = s.most_rise }
+
+pub point_fits : (point : SweepPoint) → IsSmallPoint point → PointFits point
+point_fits point s =
+    let h = s.hi in
+    record { ends = s.ends; hi = omega (arith, h); price = price_fits point.price s.price }
+
+-- all points of a small sweep can be printed
+pub all_fit : (points : List SweepPoint) → All IsSmallPoint points → All PointFits points
+all_fit points s = All-weaker IsSmallPoint PointFits point_fits points s
+
+-- and a small point, if there is one
+pub reach_fits : (reach : Option SweepPoint) → IfSome reach IsSmallPoint → IfSome reach PointFits
+reach_fits None s = tt
+reach_fits (Some point) s = point_fits point s
 
 -- ---- what a target costs at least is at most what all steps cost
 
@@ -113,7 +141,7 @@ floor_most curves picks last (Some price) limit shapes pre t v most =
     let b = lagrangian_of_all price.p price.q (picked curves last) in
     let small = small_price curves picks (Some price) shapes pre t in
     ceil_most (price.q * lo_of (picked curves picks) + price.p * cost_of (picked curves picks) - price.q * limit)
-    price.p (cost_of (picked curves last)) small.0
+    price.p (cost_of (picked curves last)) small.fall
     (cheaper_step price.p price.q (lo_of (picked curves picks)) (cost_of (picked curves picks))
     (lo_of (picked curves last)) (cost_of (picked curves last)) limit (omega (arith, together, a, b)) most)
 

@@ -1,4 +1,4 @@
--- The sweep of a case, and what it tells of a target: those of the curves of all families' points from what is held to
+-- The sweep of a case and its report of a target, from the curves of all families' points between the held stocks and
 -- the limits.
 use Rattle.std.specs.Prelude.{◌≡◌, ℕ, List}
 use Rattle.hull.specs.declared.point.Point.{Point}
@@ -14,13 +14,13 @@ use Rattle.budget_sweep.specs.declared.report.TargetReport.{TargetReport}
 use Rattle.budget_sweep.specs.Sweep.{IsSweep}
 use Rattle.budget_sweep.specs.Target.{IsTold}
 
--- the curves are those of the families' points, and these are the states of their sweep
+-- these are the curves of the families' points, and the states of their sweep
 pub record IsSweepFor (families curves : List (List Point)) (points : List SweepPoint) : Type 0 where
   pub areas : AreCurves families curves
   pub shapes : HaveShapes curves
   pub sweep : IsSweep curves points
 
--- what the sweep of curves tells of a target with 4 decimals
+-- the report of a target with 4 decimals from the sweep of curves
 pub record IsTargetOf (curves : List (List Point)) (target : Decimal) (report : TargetReport) : Type 0 where
   pub points : List SweepPoint
   pub sweep : IsSweep curves points
@@ -30,12 +30,12 @@ pub record IsTargetOf (curves : List (List Point)) (target : Decimal) (report : 
 
 -- ---- of a case
 
--- the report is the sweep of the case from what is held: the states of its families' curves
+-- the report is the sweep of the case from the held stocks: the states of its families' curves
 pub record IsCaseSweep (ends : ScoreEnds) (c : CaseRows) (held : List ℕ) (report : SweepReport) : Type 0 where
   pub curves : List (List Point)
   pub is_sweep : IsSweepFor (case_points ends c held) curves report.points
 
--- the report is what this sweep tells of the target
+-- the report of the target is read off this sweep
 pub record IsCaseTarget (ends : ScoreEnds) (c : CaseRows) (held : List ℕ) (target : Decimal) (report : TargetReport)
     : Type 0 where
   pub curves : List (List Point)

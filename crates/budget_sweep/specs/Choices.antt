@@ -9,7 +9,7 @@ use Rattle.marginal_alloc.specs.Choice.{IsHullChoice}
 use Rattle.budget_sweep.specs.declared.report.SweepPoint.{SweepPoint}
 use Rattle.budget_sweep.specs.Sweep.{state_at}
 
--- the price of a hull choice that goes with that of a state: where no step is left it is 0/1
+-- the price of a hull choice matches the state's; after the last step it is 0/1
 abbrev pub IsPriceOf : Option Price → Price → Type 0
 IsPriceOf None price = (price.p ≡ 0) × (price.q ≡ 1)
 IsPriceOf (Some own) price = price ≡ own
@@ -23,7 +23,7 @@ pub record IsChoiceAt (curves : List (List Point)) (state : SweepPoint) : Type 0
   pub hi : hi_of (picked curves chosen.picks) ≡ state.hi
   pub price : IsPriceOf state.price chosen.price
 
--- a hull choice stands among the states
+-- a hull choice is one of the states
 pub record IsStateOf (curves : List (List Point)) (points : List SweepPoint) (chosen : Chosen) : Type 0 where
   pub place : ℕ
   pub below : place < length points

@@ -1,26 +1,47 @@
--- How large the numbers of reports are, so that they can be printed and computed with.
-use Rattle.std.specs.Prelude.{◌^◌, ◌<◌, ◌≤◌, Option, Some, None, All, IfSome}
+-- The ranges of the numbers of reports: the numbers that a text can show, and the numbers of a sweep.
+use Rattle.std.specs.Prelude.{◌^◌, ◌<◌, ◌≤◌, All, IfSome}
 use Rattle.hull.specs.declared.price.Price.{Price}
+use Rattle.plan_report.specs.Fits.{PriceFits, UnitsFit}
 use Rattle.budget_sweep.specs.declared.report.SweepPoint.{SweepPoint}
 use Rattle.budget_sweep.specs.declared.report.SweepReport.{SweepReport}
 use Rattle.budget_sweep.specs.declared.report.TargetReport.{TargetReport}
 
--- a price is that of a step
-abbrev pub PriceFits : Option Price → Type 0
-PriceFits None = Unit {0}
-PriceFits (Some price) = (0 < price.p) × (price.p < 2 ^ 74) × (0 < price.q) × (price.q ≤ 1000000000000)
+-- ---- texts
 
--- the sums are those of at most 2,000 curves
+-- the ends of a point are in order, and they and its price are small enough to be printed
 pub record PointFits (point : SweepPoint) : Type 0 where
-  pub cost : point.cost ≤ 2000000000000000
   pub ends : point.lo ≤ point.hi
-  pub hi : point.hi ≤ 2 ^ 85
-  pub price : PriceFits point.price
+  pub hi : UnitsFit point.hi
+  pub price : IfSome point.price PriceFits
 
--- all points of a sweep's report are in range
+-- all points of a sweep's report can be printed
 abbrev pub SweepFits : SweepReport → Type 0
 SweepFits report = All PointFits report.points
 
--- so is the point of a target's report, where there is one
+-- the point of a target's report can be printed, if there is one
 abbrev pub TargetFits : TargetReport → Type 0
 TargetFits report = IfSome report.reach PointFits
+
+-- ---- sweeps of at most 2,000 curves
+
+-- the price is the price of a step
+pub record IsStepPrice (price : Price) : Type 0 where
+  pub fall : 0 < price.p
+  pub most_fall : price.p < 2 ^ 74
+  pub rise : 0 < price.q
+  pub most_rise : price.q ≤ 1000000000000
+
+-- the sums are sums over at most 2,000 curves
+pub record IsSmallPoint (point : SweepPoint) : Type 0 where
+  pub cost : point.cost ≤ 2000000000000000
+  pub ends : point.lo ≤ point.hi
+  pub hi : point.hi ≤ 2 ^ 85
+  pub price : IfSome point.price IsStepPrice
+
+-- all points of a sweep's report are such sums
+abbrev pub IsSmallSweep : SweepReport → Type 0
+IsSmallSweep report = All IsSmallPoint report.points
+
+-- the point of a target's report is such a sum, if there is one
+abbrev pub IsSmallTarget : TargetReport → Type 0
+IsSmallTarget report = IfSome report.reach IsSmallPoint

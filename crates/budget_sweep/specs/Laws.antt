@@ -1,4 +1,4 @@
--- What the laws of sweeps and targets say.
+-- The statements of the laws of sweeps and targets.
 use Rattle.std.specs.Prelude.{◌≡◌, ℕ, ◌<◌, List, length}
 use Rattle.hull.specs.declared.point.Point.{Point}
 use Rattle.hull.specs.Scores.{EnclosesValue}
@@ -18,29 +18,30 @@ use Rattle.budget_sweep.specs.Choices.{IsChoiceAt, IsStateOf}
 use Rattle.budget_sweep.specs.Cases.{IsCaseSweep, IsCaseTarget}
 use Rattle.budget_sweep.specs.Truth.{IsTruePoint, IsTrueTarget}
 
--- ---- cases, for every score whose intervals enclose its value, and for stocks that are held
+-- ---- cases, for every score whose intervals enclose its value, and for held stocks
 
--- each point of a case's sweep is true: some stocks stand behind it, and none as cheap have less
+-- each point of a case's sweep is true: some stocks have its cost and an aim between its ends, and none as cheap have
+-- less
 abbrev pub SweepsAreTrue : Type 0
 SweepsAreTrue =
     (ends : ScoreEnds) (value : Value) (c : CaseRows) (held : List ℕ) (report : SweepReport) (k : ℕ)
     → IsAcceptedCase c → EnclosesValue ends value → IsCaseSweep ends c held report → k < length report.points
     → IsTruePoint value c held (state_at report.points k)
 
--- what a report says of its target is true of the case
+-- the report of a target is true of the case
 abbrev pub TargetsAreTrue : Type 0
 TargetsAreTrue =
     (ends : ScoreEnds) (value : Value) (c : CaseRows) (held : List ℕ) (target : Decimal) (report : TargetReport)
     → IsAcceptedCase c → EnclosesValue ends value → IsCaseTarget ends c held target report
     → IsTrueTarget value c held report
 
--- a case has one sweep
+-- a case has exactly one sweep
 abbrev pub SweepsAreOne : Type 0
 SweepsAreOne =
     (ends : ScoreEnds) (c : CaseRows) (held : List ℕ) (one other : SweepReport)
     → IsCaseSweep ends c held one → IsCaseSweep ends c held other → one ≡ other
 
--- a case has one report of a target
+-- a case has exactly one report of a target
 abbrev pub TargetsAreOne : Type 0
 TargetsAreOne =
     (ends : ScoreEnds) (c : CaseRows) (held : List ℕ) (target : Decimal) (one other : TargetReport)

@@ -6,7 +6,7 @@ use Rattle.price_bounds.specs.Sums.{cost_of, lo_of, hi_of}
 use Rattle.step_walk.specs.Prefix.{fall, rise, picked, IsPrefix, IsNext, AllTaken}
 use Rattle.budget_sweep.specs.declared.report.SweepPoint.{SweepPoint}
 
--- how many steps the curves have
+-- the count of steps of the curves
 abbrev pub all_steps : List (List Point) → ℕ
 all_steps [] = 0
 all_steps (curve ∷ curves) = (length curve - 1) + all_steps curves
@@ -16,7 +16,7 @@ pub record HasTaken (curves : List (List Point)) (k : ℕ) (picks : List ℕ) : 
   pub prefix : IsPrefix curves picks
   pub count : sum picks ≡ k
 
--- the price of the first step that isn't taken, and none where no step is left
+-- the price of the first step that isn't taken, and none if no step is left
 abbrev pub TellsPrice : List (List Point) → List ℕ → Option Price → Type 0
 TellsPrice curves picks None = AllTaken curves picks
 TellsPrice curves picks (Some price) =
@@ -40,7 +40,7 @@ pub record IsState (curves : List (List Point)) (k : ℕ) (point : SweepPoint) :
 abbrev pub no_state : SweepPoint
 no_state = record { cost = 0; lo = 0; hi = 0; price = None }
 
--- the state at a place of a list
+-- the state at index k of a list
 abbrev pub state_at : List SweepPoint → ℕ → SweepPoint
 state_at points k = slice_index_or points k no_state
 

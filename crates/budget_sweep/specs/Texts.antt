@@ -1,4 +1,4 @@
--- The texts of sweeps and targets. Fields are parted by commas (44), and each line ends with a line feed (10).
+-- The texts of sweeps and targets. Commas (44) separate fields, and each line ends with a line feed (10).
 use Rattle.std.specs.Prelude.{ℕ, Option, Some, None, List, ◌∷◌, ◌++◌, length, codes}
 use Rattle.std.specs.List.{flat_map}
 use Rattle.std.specs.Fmt.{decimal}
@@ -10,11 +10,11 @@ use Rattle.budget_sweep.specs.declared.report.SweepReport.{SweepReport}
 use Rattle.budget_sweep.specs.declared.report.TargetReport.{TargetReport}
 use Rattle.budget_sweep.specs.Truth.{ends_of}
 
--- the cost of a point, and both its ends with 6 decimals, the lower one rounded down, the upper one up
+-- the cost of a point, and both its ends with 6 decimals, the lower one rounded down and the upper one up
 abbrev pub state_text : SweepPoint → List ℕ
 state_text point = decimal point.cost ++ (44 ∷ interval_text 48 (ends_of point))
 
--- a price, where there is one
+-- a price, or `none`
 abbrev pub next_price_text : Option Price → List ℕ
 next_price_text None = codes "none"
 next_price_text (Some price) = price_text price
@@ -27,12 +27,12 @@ point_text point = line (codes "point") (state_text point ++ (44 ∷ next_price_
 abbrev pub sweep_text : SweepReport → List ℕ
 sweep_text report = line (codes "sweep") (decimal (length report.points)) ++ flat_map point_text report.points
 
--- the line of the point that reaches the target, or of none
+-- the line of the point that reaches the target, or of `none`
 abbrev pub reach_text : Option SweepPoint → List ℕ
 reach_text None = line (codes "reach") (codes "none")
 reach_text (Some point) = line (codes "reach") (state_text point)
 
--- the line of the least cost of the target, or of none
+-- the line of the least cost of the target, or of `none`
 abbrev pub least_text : Option ℕ → List ℕ
 least_text None = line (codes "at-least") (codes "none")
 least_text (Some cost) = line (codes "at-least") (decimal cost)

@@ -1,5 +1,5 @@
--- What a sweep and a target say of a case, in the words of its model. Costs are in whole money and count what is bought
--- beyond the stocks held; what is said of an aim is said at every depth from 1024 on.
+-- The truth of a sweep and a target for a case, in the words of its model. Costs are in whole money and count the
+-- stocks above the held ones. Each statement about an aim holds at every depth from 1024 on.
 use Rattle.std.specs.Prelude.{◌≡◌, ℕ, ◌≤◌, List, IfSome, MatchOption}
 use Rattle.exact_model.specs.Fraction.{Fraction, ◌≤ℚ◌, Encloses}
 use Rattle.fixed_interval.specs.Ends.{Ends}
@@ -15,24 +15,24 @@ use Rattle.budget_sweep.specs.declared.report.TargetReport.{TargetReport}
 abbrev pub ends_of : SweepPoint → Ends
 ends_of point = record { lo = point.lo; hi = point.hi }
 
--- the number that is printed of its lower end
+-- the printed number of its lower end
 abbrev pub printed_lo : SweepPoint → Fraction
 printed_lo point = text_value 6 (lower_millionths 48 (ends_of point))
 
--- the number that is printed of its upper end
+-- the printed number of its upper end
 abbrev pub printed_hi : SweepPoint → Fraction
 printed_hi point = text_value 6 (upper_millionths 48 (ends_of point))
 
 -- ---- points
 
--- stocks that cost what the point costs, and whose aim lies between its ends, and between the printed ones
+-- stocks with the cost of the point, and with an aim between its ends and between the printed ends
 pub record StandBehind (value : Value) (c : CaseRows) (held : List ℕ) (point : SweepPoint) (s : List ℕ) : Type 0 where
   pub allocation : IsHeldAllocation c held s
   pub cost_is : cost_beyond c held s ≡ point.cost
   pub within : Encloses 48 point.lo point.hi (aim value c s)
   pub printed : (n : ℕ) → 1024 ≤ n → (printed_lo point ≤ℚ aim value c s n) × (aim value c s n ≤ℚ printed_hi point)
 
--- there are such stocks, and none that cost as little have less than the lower end, or than what is printed of it
+-- there are such stocks, and none that cost at most as much have an aim below the lower end or the printed lower end
 pub record IsTruePoint (value : Value) (c : CaseRows) (held : List ℕ) (point : SweepPoint) : Type 0 where
   pub stocks : List ℕ
   pub stand_behind : StandBehind value c held point stocks
@@ -42,28 +42,28 @@ pub record IsTruePoint (value : Value) (c : CaseRows) (held : List ℕ) (point :
 
 -- ---- targets
 
--- the target as it is printed, which is the target itself
+-- the printed target, which is the target itself
 abbrev pub target_value : ℕ → Fraction
 target_value target = text_value 4 target
 
--- stocks that stand behind the point and come to the target
+-- such stocks for the point, with an aim of at most the target
 pub record Reaches (value : Value) (c : CaseRows) (held : List ℕ) (target : ℕ) (point : SweepPoint) : Type 0 where
   pub stocks : List ℕ
   pub stand_behind : StandBehind value c held point stocks
   pub reach : (n : ℕ) → 1024 ≤ n → aim value c stocks n ≤ℚ target_value target
 
--- all stocks that come to the target at some depth cost at least this
+-- all stocks that reach the target at some depth cost at least this
 abbrev pub AllCost : Value → CaseRows → List ℕ → ℕ → ℕ → Type 0
 AllCost value c held target least =
     (n : ℕ) → 1024 ≤ n → (s : List ℕ) → IsHeldAllocation c held s → aim value c s n ≤ℚ target_value target
     → least ≤ cost_beyond c held s
 
--- there are none
+-- no stocks reach the target at any depth
 abbrev pub NoneReaches : Value → CaseRows → List ℕ → ℕ → Type 0
 NoneReaches value c held target =
     (n : ℕ) → 1024 ≤ n → (s : List ℕ) → IsHeldAllocation c held s → aim value c s n ≤ℚ target_value target → ⊥
 
--- What a report says of its target.
+-- The report of a target is true of the case.
 pub record IsTrueTarget (value : Value) (c : CaseRows) (held : List ℕ) (report : TargetReport) : Type 0 where
   pub reach : IfSome report.reach (Reaches value c held report.target.units)
   pub at_least : MatchOption report.at_least

@@ -1,4 +1,4 @@
-//! What a sweep and a target promise: laws that stand as contracts of functions that do nothing.
+//! The promises of a sweep and a target, as contracts of functions with empty bodies.
 ghost use Rattle.budget_sweep.specs.Laws.{
   ChoicesAreStates,
   StatesAreChoices,
@@ -15,20 +15,20 @@ pub fn states_are_choices()
     ensures choices { ChoicesAreStates }
 {}
 
-/// What the sweep of an accepted case says of it: no stocks that cost as little as a point have less than its lower
-/// end, and some cost just as much and have no more than its upper end, at every depth from 1024 on.
+/// Each point of the sweep of an accepted case is true of it, at every depth from 1024 on. No stocks that cost at most
+/// the point's cost have an aim below its lower end. Some stocks have exactly its cost and at most its upper end.
 pub fn case_sweeps_are_true()
     ensures { SweepsAreTrue }
 {}
 
-/// What is told of a target is true of an accepted case: the stocks behind the point that reaches it do so at every
-/// depth from 1024 on, and all stocks that come to it at one of these depths cost at least what is told; where nothing
-/// is told, there are none.
+/// The report of a target is true of an accepted case. At every depth from 1024 on, some stocks have the cost of the
+/// reported point and reach the target. All stocks that reach the target at one of these depths cost at least the
+/// reported cost; if none is reported, there are no such stocks.
 pub fn case_targets_are_true()
     ensures { TargetsAreTrue }
 {}
 
-/// A case has one sweep, and one report of a target, so that both are functions of the case.
+/// A case has exactly one sweep, and one report of a target, so both are functions of the case.
 pub fn sweeps_are_one()
     ensures sweeps { SweepsAreOne }
     ensures targets { TargetsAreOne }

@@ -1,8 +1,8 @@
-//! What can be had for every budget, and for how much a target can be had.
+//! The best choices for every budget, and the cost of a target.
 //!
-//! The steps of all families' curves are taken by falling slope. The state after each number of steps is a point of the
-//! sweep: no choice that costs as little as a point has a lower sum than it. For a target of the sum, a point that
-//! reaches it and a cost below which none does are read off the sweep.
+//! The sweep takes the steps of all families' curves by falling slope. The state after each number of steps is a point
+//! of the sweep: no choice that costs at most a point's cost has a lower sum. For a target of the sum, the sweep shows
+//! a point that reaches it and a cost below which no choice does.
 #![tactic(auto)]
 
 pub mod laws;

@@ -1,4 +1,4 @@
-//! What a sweep tells of a target.
+//! The report of a target, read off a sweep.
 ghost use Rattle.std.specs.Prelude.{◌≡◌, ℕ, ◌+◌, ◌^◌, ◌<◌, ◌≤◌, List, length, All, IfOk, IfSome};
 ghost use Rattle.spares_input.specs.Cases.{CaseRows};
 ghost use Rattle.family_curve.specs.Points.{ScoreEnds};
@@ -7,7 +7,7 @@ ghost use Rattle.fleet_plan.specs.Families.{case_points};
 ghost use Rattle.budget_sweep.specs.Sweep.{last_state};
 ghost use Rattle.budget_sweep.specs.Target.{IsReach, IsLeastCost, floor_at, least_cost};
 ghost use Rattle.budget_sweep.specs.Cases.{IsTargetOf, IsCaseTarget};
-ghost use Rattle.budget_sweep.specs.Fits.{PointFits, TargetFits};
+ghost use Rattle.budget_sweep.specs.Fits.{IsSmallPoint, IsSmallTarget, TargetFits};
 
 use crate::report::{SweepPoint, TargetReport};
 use crate::states::sweep;
@@ -16,14 +16,14 @@ use hull::Curve;
 use spares_io::NoMemory;
 use std::alloc::Global;
 
-/// How many units a target counts for 1.
+/// Target units per backorder (10,000).
 const PER_ONE: u128 = 10_000;
 
-/// The first state whose upper end is at most so many units of 2^-48.
+/// The first state with an upper end of at most `most`, in units of 2^-48.
 fn first_within(points: &[SweepPoint], most: u128) -> Option<SweepPoint>
-    requires { All PointFits points.now }
+    requires { All IsSmallPoint points.now }
     ensures first { IsReach points.now most result }
-    ensures fits { IfSome result PointFits }
+    ensures small { IfSome result IsSmallPoint }
 {
     for point in points {
         if point.hi <= most {
@@ -33,9 +33,9 @@ fn first_within(points: &[SweepPoint], most: u128) -> Option<SweepPoint>
     None
 }
 
-/// What it costs at least to come to the limit, by the price of a state.
+/// A lower bound of the cost to reach the limit, by the price of a state.
 fn floor_of(point: &SweepPoint, limit: u128) -> u128
-    requires fits { PointFits point.now }
+    requires small { IsSmallPoint point.now }
     requires limit { limit ≤ 2 ^ 78 }
     ensures { result ≡ floor_at limit point.now }
 {
@@ -47,9 +47,9 @@ fn floor_of(point: &SweepPoint, limit: u128) -> u128
         .div_ceil(price.p)
 }
 
-/// The largest of these over all states.
+/// The largest such bound over all states.
 fn largest_floor(points: &[SweepPoint], limit: u128) -> u128
-    requires fit { All PointFits points.now }
+    requires small { All IsSmallPoint points.now }
     requires limit { limit ≤ 2 ^ 78 }
     ensures { result ≡ least_cost limit points.now }
 {
@@ -60,10 +60,10 @@ fn largest_floor(points: &[SweepPoint], limit: u128) -> u128
     largest
 }
 
-/// What it costs at least to come to the limit, and None where no choice does.
+/// A lower bound of the cost to reach the limit; None if no choice does.
 fn least_of(points: &[SweepPoint], limit: u128) -> Option<u64>
     requires some { 0 < length points.now }
-    requires fit { All PointFits points.now }
+    requires small { All IsSmallPoint points.now }
     requires limit { limit ≤ 2 ^ 78 }
     requires room { (last_state points.now).lo ≤ limit → least_cost limit points.now < 2 ^ 64 }
     ensures { IsLeastCost points.now limit result }
@@ -74,10 +74,10 @@ fn least_of(points: &[SweepPoint], limit: u128) -> Option<u64>
     Some(largest_floor(points, limit) as u64)
 }
 
-/// What at most 2,000 curves tell of a target, which has 4 decimals and is at most 10^9.
+/// The report of a target, which has 4 decimals and is at most 10^9, from at most 2,000 curves.
 ///
-/// Where the curves are those of all families of a case, one for each line unit in order, it is what the sweep of that
-/// case tells. Want of memory is the only error.
+/// If these are the curves of all families of a case, one for each line unit in order, it is the report of this case.
+/// Want of memory is the only error.
 pub fn target(alloc: Global, curves: &[Curve], target: Decimal) -> Result<TargetReport, NoMemory>
     requires few { length curves.now ≤ 2000 }
     requires places { target.places ≡ 4 }
@@ -85,6 +85,7 @@ pub fn target(alloc: Global, curves: &[Curve], target: Decimal) -> Result<Target
     ensures told { IfOk result (IsTargetOf curves.now target) }
     ensures case { (ends : ScoreEnds) (c : CaseRows) (held : List ℕ) → AreCurves (case_points ends c held) curves.now
         → IfOk result (IsCaseTarget ends c held target) }
+    ensures small { IfOk result IsSmallTarget }
     ensures fits { IfOk result TargetFits }
 {
     let swept = sweep(alloc, curves)?;

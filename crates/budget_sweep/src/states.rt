@@ -7,7 +7,7 @@ ghost use Rattle.marginal_alloc.specs.Choice.{AreCurves};
 ghost use Rattle.fleet_plan.specs.Families.{case_points};
 ghost use Rattle.budget_sweep.specs.Sweep.{IsSweep};
 ghost use Rattle.budget_sweep.specs.Cases.{IsCaseSweep};
-ghost use Rattle.budget_sweep.specs.Fits.{SweepFits};
+ghost use Rattle.budget_sweep.specs.Fits.{IsSmallSweep, SweepFits};
 
 use crate::report::SweepReport;
 use crate::sums::{sums_after, sums_at};
@@ -18,13 +18,14 @@ use step_walk::Walk;
 
 /// The states of at most 2,000 curves after each number of steps, from none to all of them.
 ///
-/// Where the curves are those of all families of a case, one for each line unit in order, it is the sweep of that case.
+/// If these are the curves of all families of a case, one for each line unit in order, it is the sweep of this case.
 /// Want of memory is the only error.
 pub fn sweep(alloc: Global, curves: &[Curve]) -> Result<SweepReport, NoMemory>
     requires { length curves.now ≤ 2000 }
     ensures states { IfOk result (λ report. IsSweep curves.now report.points) }
     ensures case { (ends : ScoreEnds) (c : CaseRows) (held : List ℕ) → AreCurves (case_points ends c held) curves.now
         → IfOk result (IsCaseSweep ends c held) }
+    ensures small { IfOk result IsSmallSweep }
     ensures fits { IfOk result SweepFits }
     ensures shapes { OnOk result (HaveShapes curves.now) }
 {

@@ -1,4 +1,4 @@
-//! What the vertices of all families come to together.
+//! The sums over the vertices of all families.
 ghost use Rattle.std.specs.Prelude.{◌≡◌, ◌≤◌, length, set};
 ghost use Rattle.step_walk.specs.Prefix.{AreVertices};
 ghost use Rattle.step_walk.specs.Walks.{TellsFirst};
@@ -8,7 +8,7 @@ use crate::report::SweepPoint;
 use hull::{Curve, Price};
 use step_walk::{Next, Walk};
 
-/// What the vertices of all families cost together, and the ends of their sum.
+/// The cost of the vertices of all families together, and the ends of their sum.
 #[derive(Clone, Copy, Drop)]
 pub(crate) struct Sums {
     pub cost: u64,

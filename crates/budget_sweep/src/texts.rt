@@ -1,7 +1,8 @@
 //! The texts of sweeps and targets.
 ghost use Rattle.std.specs.Prelude.{◌≡◌, ◌++◌, All, IfOk, IfSome, OnOk};
 ghost use Rattle.std.specs.List.{flat_map};
-ghost use Rattle.budget_sweep.specs.Fits.{PointFits, PriceFits, SweepFits, TargetFits};
+ghost use Rattle.plan_report.specs.Fits.{PriceFits};
+ghost use Rattle.budget_sweep.specs.Fits.{PointFits, SweepFits, TargetFits};
 ghost use Rattle.budget_sweep.specs.Texts.{
   least_text,
   point_text,
@@ -32,7 +33,7 @@ fn put_state(text: &mut Vec<u8>, point: &SweepPoint) -> Result<(), NoMemory>
 
 /// Appends a price with 12 decimals, rounded down, or `none`.
 fn put_price(text: &mut Vec<u8>, price: Option<Price>) -> Result<(), NoMemory>
-    requires { PriceFits price }
+    requires { IfSome price PriceFits }
     ensures { OnOk result (text.new.items ≡ text.old.items ++ next_price_text price) }
 {
     match price {
@@ -80,7 +81,7 @@ fn put_reach(text: &mut Vec<u8>, reach: &Option<SweepPoint>) -> Result<(), NoMem
     Ok(text.push(b'\n')?)
 }
 
-/// Appends the line of what a target costs at least.
+/// Appends the line of the least cost of a target.
 fn put_least(text: &mut Vec<u8>, least: Option<u64>) -> Result<(), NoMemory>
     ensures { OnOk result (text.new.items ≡ text.old.items ++ least_text least) }
 {
@@ -92,8 +93,8 @@ fn put_least(text: &mut Vec<u8>, least: Option<u64>) -> Result<(), NoMemory>
 
 impl SweepReport {
     /// A line `sweep,COUNT`, and a line `point,COST,LO,HI,PRICE` for each state: both ends with 6 decimals, the lower
-    /// one rounded down, the upper one up, and the price with 12 decimals, rounded down, or `none`. Want of memory is
-    /// the only error.
+    /// one rounded down and the upper one up, and the price with 12 decimals, rounded down, or `none`. Want of memory
+    /// is the only error.
     pub fn text(&self, alloc: Global) -> Result<Vec<u8>, NoMemory>
         requires { SweepFits self.now }
         ensures { IfOk result (λ text. text.items ≡ sweep_text self.now) }
@@ -106,8 +107,8 @@ impl SweepReport {
 }
 
 impl TargetReport {
-    /// Three lines, `target,X` with 4 decimals, `reach,COST,LO,HI` or `reach,none`, and `at-least,COST` or
-    /// `at-least,none`. The ends are printed as those of a sweep. Want of memory is the only error.
+    /// Three lines: `target,X` with 4 decimals, `reach,COST,LO,HI` or `reach,none`, and `at-least,COST` or
+    /// `at-least,none`. The ends are rounded as in a sweep. Want of memory is the only error.
     pub fn text(&self, alloc: Global) -> Result<Vec<u8>, NoMemory>
         requires { TargetFits self.now }
         ensures { IfOk result (λ text. text.items ≡ target_text self.now) }

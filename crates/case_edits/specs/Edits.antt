@@ -1,4 +1,4 @@
--- What follows of the lines of an edits file: a case and a budget for each plan, or the first fault.
+-- The plans that the lines of an edits file ask for: a case and a budget for each, or the first fault.
 use Rattle.std.specs.Prelude.{◌==◌, ℕ, suc, nat_le, nat_lt, List, [], ◌∷◌, ◌++◌, length, Option, Some, None, Result, Ok, Err, if◌then◌else◌}
 use Rattle.spares_io.specs.Steps.{◌>>=◌}
 use Rattle.spares_input.specs.Cases.{CaseRows, frame_rows}
@@ -11,12 +11,12 @@ use Rattle.case_edits.specs.declared.lines.Edit.{Edit}
 use Rattle.case_edits.specs.declared.lines.Edit.TheVariants as edit
 use Rattle.case_edits.specs.Lines.{edit_lines, edit_of}
 
--- what is to be planned: a case under a budget
+-- a plan that is due: a case under a budget
 pub record PlanDue : Type 0 where
   pub case : CaseRows
   pub budget : ℕ
 
--- as far as the lines have come: the case and the budget as they are, and what was to be planned so far
+-- the state after some lines: the current case and budget, and the plans due so far
 pub record Standing : Type 0 where
   pub case : CaseRows
   pub budget : ℕ
@@ -30,39 +30,39 @@ most_lines = 4000
 abbrev pub most_plans : ℕ
 most_plans = 64
 
--- a plan at line n, where the rates of the case as it is break this rule or none
+-- the state after a plan at line n, whose rates break this rule or none
 abbrev pub due_at : ℕ → Standing → Option RateFault → Result Standing EditFault
 due_at n at (Some f) = Err (fault.Rate n f)
 due_at n at None = Ok (record at { due = at.due ++ record { case = at.case; budget = at.budget } ∷ [] })
 
--- a plan at line n, which is refused where as many are due as may be
+-- the state after a plan at line n, which is refused if the plans due are already the most
 abbrev pub planned : ℕ → Standing → Option RateFault → Result Standing EditFault
 planned n at broken = if nat_le most_plans (length at.due) then Err (fault.TooManyPlans n) else due_at n at broken
 
--- what an edit at line n makes of where the lines stand
+-- the state after an edit at line n
 abbrev pub carried : ℕ → Standing → Edit → Result Standing EditFault
 carried n at (edit.Budget budget) = Ok (record at { budget = budget })
 carried n at (edit.Rate row) = Ok (record at { case = with_rate at.case row })
 carried n at edit.Plan = planned n at (rate_fault_of at.case)
 
--- what line n makes of it: an edit, or a line that says none
+-- the state after line n with this edit, or with none of the three forms
 abbrev pub edited : ℕ → Standing → Option Edit → Result Standing EditFault
 edited n at (Some said) = carried n at said
 edited n at None = Err (fault.BadLine n)
 
--- and line n, empty or not
+-- the state after line n, empty or not
 abbrev pub taken : ℕ → Standing → List ℕ → Result Standing EditFault
 taken n at line =
     if nat_lt most_lines n then Err fault.TooManyLines
     else if length line == 0 then Ok at
     else edited n at (edit_of (frame_rows at.case) line)
 
--- the lines from line n on
+-- the plans due after the lines from line n on
 abbrev pub session_from : ℕ → List (List ℕ) → Standing → Result (List PlanDue) EditFault
 session_from n [] at = Ok at.due
 session_from n (line ∷ lines) at = taken n at line >>= session_from (suc n) lines
 
--- The plans that an edits file asks for, each of the case and the budget as they then are, or its first fault. The
+-- The plans that an edits file asks for, each of the case and the budget at its line, or the file's first fault. The
 -- budget starts at 0.
 abbrev pub session_of : CaseRows → List ℕ → Result (List PlanDue) EditFault
 session_of c bytes = session_from 1 (edit_lines bytes) (record { case = c; budget = 0; due = [] })

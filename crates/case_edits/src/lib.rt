@@ -1,7 +1,7 @@
-//! The lines of an edits file, by which a case is planned again and again: what each says, and what follows of them.
+//! The lines of an edits file, which plans a case again and again: their grammar, and the plans that follow.
 //!
-//! A line is `budget,N`, `plan`, or `rate,` with the fields of a row of rates. They are taken in order, each on the
-//! case and the budget as the lines before left them.
+//! A line is `budget,N`, `plan`, or `rate,` with the fields of a row of rates. The lines are taken in order, and each
+//! applies to the case and the budget after the lines before it.
 #![tactic(auto)]
 
 mod fault;

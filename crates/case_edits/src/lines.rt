@@ -1,4 +1,4 @@
-//! The lines of an edits file, and what they say.
+//! The lines of an edits file and their parser.
 
 ghost use Rattle.std.specs.Prelude.{◌≡◌, ◌∷◌, ◌<◌, length, option_map, position, IfSome};
 ghost use Rattle.std.specs.Str.Lines.{strip_carriage_return};
@@ -9,25 +9,25 @@ use csv_tables::rate_line;
 use exact_ratio::read_decimal;
 use spares_input::{Frame, MOST_BUDGET, RateRow};
 
-/// What a line says.
+/// The edit of a line.
 #[derive(Clone, Copy)]
 pub enum Edit {
     /// A budget in whole money.
     Budget(u64),
-    /// A plan of the case and the budget as they are.
+    /// A plan of the current case under the current budget.
     Plan,
-    /// A row in the place of its pair's.
+    /// A row that replaces the row of its pair.
     Rate(RateRow),
 }
 
-/// Where the first line feed stands.
+/// The index of the first line feed.
 fn line_feed(bytes: &[u8]) -> Option<usize>
     ensures { result ≡ position is_end bytes.now }
 {
     bytes.iter().position(|b| *b == b'\n')
 }
 
-/// The first line without its line end, and what stands after it.
+/// The first line without its line end, and the bytes after it.
 pub fn first_line(bytes: &[u8]) -> (&[u8], &[u8])
     requires { 0 < length bytes.now }
     ensures lines { edit_lines bytes.now ≡ result.0.now ∷ edit_lines result.1.now }
@@ -52,14 +52,14 @@ fn without_return(text: &[u8]) -> &[u8]
     }
 }
 
-/// What stands after a word at the start of a line.
+/// The rest of a line after a word at its start.
 fn after<'a>(word: &[u8], line: &'a [u8]) -> Option<&'a [u8]>
     ensures { option_map (λ t. t.now) result ≡ after word.now line.now }
 {
     line.strip_prefix(word)
 }
 
-/// The number of a budget.
+/// The budget that a text spells, if it spells one.
 fn budget_in(text: &[u8]) -> Option<u64>
     ensures { result ≡ budget_in text.now }
 {
@@ -69,7 +69,7 @@ fn budget_in(text: &[u8]) -> Option<u64>
     }
 }
 
-/// What a line that isn't empty says for this frame. None exactly where it says nothing.
+/// Parses a non-empty edit line for this frame. None exactly if it has none of the three forms.
 pub fn edit_in(frame: &Frame, line: &[u8]) -> Option<Edit>
     ensures edit { result ≡ edit_of frame.now line.now }
     ensures fields { IfSome result (IsEditOf frame.now) }

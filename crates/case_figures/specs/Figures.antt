@@ -17,7 +17,7 @@ use Rattle.case_figures.specs.declared.figures.ItemLine.{ItemLine}
 use Rattle.case_figures.specs.declared.figures.BaseLine.{BaseLine}
 use Rattle.case_figures.specs.declared.figures.Figures.{Figures}
 
--- an item under the names of its part and its site
+-- an item with the names of its part and its site
 abbrev pub named : (f : ℕ) → CaseRows → Item f → ItemLine
 named f c x = record {
   part = (part_at c.parts x.part.0).name;
@@ -33,31 +33,31 @@ named f c x = record {
 abbrev pub item_at_place : (f : ℕ) → CaseRows → List ℕ → ℕ → Item f
 item_at_place f c s i = item_of f c s (part_of_place (length c.sites) i).0 (site_of_place (length c.sites) i).0
 
--- those of all pairs
+-- the items of all pairs
 abbrev pub all_items : (f : ℕ) → CaseRows → List ℕ → List (Item f)
 all_items f c s = map (item_at_place f c s) (range_with_len 0 (pair_count (frame_rows c)))
 
--- what the line unit l leaves of the availability of base j
+-- the availability factor of the line unit l at base j
 abbrev pub factor_at : ℕ → CaseRows → List ℕ → ℕ → ℕ → Ends
 factor_at f c s j l = factor_ends f (item_of f c s l j).backorders (systems c j) (per_system c l)
 
--- the availability of base j, by all line units in their order
+-- the availability of base j, from all line units in order
 abbrev pub availability_at : ℕ → CaseRows → List ℕ → ℕ → Ends
 availability_at f c s j = base_ends f (map (factor_at f c s j) (line_units c))
 
--- the availability of base j under its name
+-- the availability of base j with the base's name
 abbrev pub base_line : ℕ → CaseRows → List ℕ → ℕ → BaseLine
 base_line f c s j = record { site = (site_at c.sites j).name; availability = span_of f (availability_at f c s j) }
 
--- that of the fleet, by the systems of each base
+-- the availability of base j with its count of systems
 abbrev pub weighted_at : (f : ℕ) → CaseRows → List ℕ → ℕ → Weighted f
 weighted_at f c s j = record { systems = systems c j; value = availability_at f c s j }
 
--- the mean availability, each base counted by its systems
+-- the mean availability, weighted by the systems of each base
 abbrev pub fleet_of : ℕ → CaseRows → List ℕ → Ends
 fleet_of f c s = fleet_ends f (map (weighted_at f c s) (bases c))
 
--- the sum of the families' totals in their order
+-- the sum of the families' totals, in order
 abbrev pub total_of : ℕ → CaseRows → List ℕ → Ends
 total_of f c s = fold ends_add (ends_exact f 0) (map (family.total_of f c s) (line_units c))
 

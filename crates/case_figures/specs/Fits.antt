@@ -1,4 +1,4 @@
--- What figures a text can show: those whose upper ends are below 2 ^ 86 units.
+-- The figures that a text can show: their upper ends are below 2^86 units.
 use Rattle.std.specs.Prelude.{◌^◌, ◌<◌, All}
 use Rattle.case_figures.specs.Spans.{ends}
 use Rattle.case_figures.specs.declared.figures.BaseLine.{BaseLine}

@@ -1,4 +1,4 @@
--- What the steps from the families to the figures take and give. No promise of the crate rests on these words.
+-- The steps from the families to the figures. No promise of the crate rests on these words.
 use Rattle.std.specs.Prelude.{◌≡◌, true, ℕ, ◌-◌, ◌*◌, ◌^◌, ◌<◌, ◌≤◌, List, map, length, get_or, replicate, All, slice_set, flat_map}
 use Rattle.std.specs.List.{fold}
 use Rattle.fixed_interval.specs.Ends.{Ends}
@@ -18,7 +18,7 @@ use Rattle.case_figures.specs.declared.held.HeldItem.{HeldItem}
 use Rattle.case_figures.specs.Held.{held_of}
 use Rattle.case_figures.specs.Spans.{span_of}
 
--- an item is of a pair of the case, and none of its ends is above 256
+-- the item's pair is in the case, and none of its ends is above 256
 pub record IsItemOf (f : ℕ) (c : CaseRows) (x : Item f) : Type 0 where
   pub part : x.part.0 < length c.parts
   pub site : x.site.0 < length c.sites
@@ -31,13 +31,13 @@ pub record IsFamilyOf (f : ℕ) (c : CaseRows) (r : FamilyResult f) : Type 0 whe
   pub lines : (k : ℕ) → k < length c.sites → is_line (part_at c.parts (get_or r.items k (no_item f)).part.0) ≡ true
   pub total_most : r.total.hi ≤ 384000 * 2 ^ f
 
--- each item at the place of its pair, where later ones go over earlier ones
+-- each item at the place of its pair; a later item of the same pair replaces an earlier one
 module _ {f : ℕ} (c : CaseRows) where
   -- the place of an item's pair, by part and then by site
   abbrev pub place_of : Item f → ℕ
   place_of x = pair_place (length c.sites) x.part.0 x.site.0
 
-  -- these places, with the items put to them in turn
+  -- the places after the items are written to them in turn
   abbrev pub placed : List (Item f) → List (Item f) → List (Item f)
   placed places items = fold (λ places x. slice_set places (place_of x) x) places items
 
@@ -45,26 +45,26 @@ module _ {f : ℕ} (c : CaseRows) where
   abbrev pub items_by_pair : List (FamilyResult f) → List (Item f)
   items_by_pair families = placed (replicate (pair_count (frame_rows c)) (no_item f)) (flat_map (λ r. r.items) families)
 
-  -- the same of items as they are held
+  -- the same for compact items
   abbrev pub placed_held : List HeldItem → List (Item f) → List HeldItem
   placed_held places items = fold (λ places x. slice_set places (place_of x) (held_of x)) places items
 
-  -- the items of all families as they are held, by pair
+  -- the compact items of all families, by pair
   abbrev pub held_by_pair : List (FamilyResult f) → List HeldItem
   held_by_pair families =
       placed_held (replicate (pair_count (frame_rows c)) (held_of (no_item f))) (flat_map (λ r. r.items) families)
 
--- what a family's line unit leaves of the availability of base j
+-- the availability factor of a family's line unit at base j
 abbrev pub factor_from : (f : ℕ) → CaseRows → ℕ → FamilyResult f → Ends
 factor_from f c j r =
     let x = get_or r.items j (no_item f) in
     factor_ends f x.backorders (systems c j) (per_system c x.part.0)
 
--- the base with the availability that all families leave
+-- base j with the availability from all families
 abbrev pub weighted_from : (f : ℕ) → CaseRows → List (FamilyResult f) → ℕ → Weighted f
 weighted_from f c families j = record { systems = systems c j; value = base_ends f (map (factor_from f c j) families) }
 
--- the line of base j, where the bases are listed from 1 on
+-- the line of base j; the bases are listed from 1 on
 abbrev pub base_line_from : (f : ℕ) → CaseRows → List (Weighted f) → ℕ → BaseLine
 base_line_from f c weighted j = record {
   site = (site_at c.sites j).name;

@@ -1,4 +1,4 @@
--- Items as a report holds them, and the lines that they stand for.
+-- The compact items of a report, and their lines.
 use Rattle.std.specs.Prelude.{ℕ, ◌<◌, List, [], length, get_or, All}
 use Rattle.fixed_interval.specs.Widths.{IsWidth}
 use Rattle.family_eval.specs.declared.item.Item.{Item}
@@ -6,7 +6,7 @@ use Rattle.case_figures.specs.Spans.{span_of}
 use Rattle.case_figures.specs.declared.held.HeldItem.{HeldItem}
 use Rattle.case_figures.specs.declared.figures.ItemLine.{ItemLine}
 
--- an item as it is held
+-- the compact form of an item
 abbrev pub held_of : {f : ℕ} → Item f → HeldItem
 held_of x = record {
   part = x.part;
@@ -18,7 +18,7 @@ held_of x = record {
   spread = x.spread;
 }
 
--- the line of an item under the names of its part and its site, with f binary places
+-- the line of an item with these names of its part and its site, and f binary places
 abbrev pub held_line : List ℕ → List ℕ → ℕ → HeldItem → ItemLine
 held_line part site f x = record {
   part = part;
@@ -30,16 +30,16 @@ held_line part site f x = record {
   spread = span_of f x.spread;
 }
 
--- the same, where all parts and all sites have these names
+-- the line of an item with its names from these lists of all parts and sites
 abbrev pub line_under : List (List ℕ) → List (List ℕ) → ℕ → HeldItem → ItemLine
 line_under parts sites f x = held_line (get_or parts x.part.0 []) (get_or sites x.site.0 []) f x
 
--- an item is of a part and a site that have names
+-- the item's part and site have names
 pub record IsHeldPair (parts sites : List (List ℕ)) (x : HeldItem) : Type 0 where
   pub part : x.part.0 < length parts
   pub site : x.site.0 < length sites
 
--- items with so many binary places, each with its names
+-- items with f binary places, whose parts and sites have names
 pub record AreHeld (f : ℕ) (parts sites : List (List ℕ)) (xs : List HeldItem) : Type 0 where
   pub width : IsWidth f
   pub pairs : All (IsHeldPair parts sites) xs

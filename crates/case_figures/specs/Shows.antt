@@ -1,4 +1,4 @@
--- What figures show of the model, at every depth from 1024 on.
+-- The figures enclose the model's values at every depth from 1024 on.
 use Rattle.std.specs.Prelude.{◌≡◌, ℕ, ◌-◌, ◌<◌, List, [], length, get_or}
 use Rattle.exact_model.specs.Fraction.{Fraction, Encloses}
 use Rattle.fixed_interval.specs.Ends.{ends_exact}
@@ -17,7 +17,7 @@ use Rattle.case_figures.specs.declared.figures.ItemLine.{ItemLine}
 use Rattle.case_figures.specs.declared.figures.BaseLine.{BaseLine}
 use Rattle.case_figures.specs.declared.figures.Figures.{Figures}
 
--- the span has f places, and encloses what q is at each depth
+-- the span has f places, and encloses q at each depth
 pub record ShowsSpan (f : ℕ) (q : ℕ → Fraction) (x : Span) : Type 0 where
   pub places_are : places x ≡ f
   pub encloses : Encloses f (ends x).lo (ends x).hi q
@@ -37,7 +37,7 @@ pub record ShowsBase (f : ℕ) (c : CaseRows) (s : List ℕ) (j : ℕ) (base : B
   pub site_is : base.site ≡ (site_at c.sites j).name
   pub availability_in : ShowsSpan f (λ n. availability c s n j) base.availability
 
--- lines of nothing, which a look-up past the last line gives
+-- an empty line, the result of a look-up past the last line
 abbrev pub no_item_line : ItemLine
 no_item_line =
     let nothing = Bits48 (ends_exact 48 0) in
@@ -51,7 +51,7 @@ no_item_line =
       spread = nothing;
     }
 
--- what a look-up past the last base gives: no name, and nothing available
+-- an empty base, the result of a look-up past the last base: no name, and availability 0
 abbrev pub no_base_line : BaseLine
 no_base_line = record { site = []; availability = Bits48 (ends_exact 48 0) }
 

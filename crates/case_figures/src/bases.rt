@@ -16,7 +16,7 @@ use spares_input::{Case, SiteId};
 use spares_io::NoMemory;
 use std::alloc::Global;
 
-/// What a family's line unit leaves of the availability of a base.
+/// The availability factor of a family's line unit at a base.
 fn factor_from<const F: u32>(case: &Case, family: &FamilyResult<F>, base: SiteId) -> Iv<F>
     requires family { IsFamilyOf F case.now family.now }
     requires base { IsBase case.now base.0 }
@@ -29,7 +29,7 @@ fn factor_from<const F: u32>(case: &Case, family: &FamilyResult<F>, base: SiteId
     factor(item.backorders, systems, per_system)
 }
 
-/// What each family's line unit leaves of the availability of a base.
+/// The availability factor of each family's line unit at a base.
 fn base_factors<const F: u32>(
     alloc: Global,
     case: &Case,
@@ -48,7 +48,7 @@ fn base_factors<const F: u32>(
     Ok(factors)
 }
 
-/// The bases in their order, each with its availability.
+/// The bases in order, each with its availability.
 pub(crate) fn weighted_bases<const F: u32>(
     alloc: Global,
     case: &Case,

@@ -8,7 +8,7 @@ use fixed_interval::Iv;
 use spares_input::Name;
 use spares_io::List;
 
-/// An interval with one of the three counts of binary places that can be asked for.
+/// An interval with 32, 48 or 52 binary places.
 #[derive(Clone, Copy, Debug, PartialEq, Eq)]
 pub enum Span {
     Bits32(Iv<32>),
@@ -17,7 +17,7 @@ pub enum Span {
 }
 
 impl Span {
-    /// The interval, where it has 48 binary places.
+    /// The interval, if it has 48 binary places.
     pub fn interval(self) -> Iv<48>
         requires { places self ≡ 48 }
         ensures { result ≡ ends self }
@@ -43,24 +43,24 @@ pub struct ItemLine {
     pub spread: Span,
 }
 
-/// A base with the part of its systems that no line unit keeps down, 0 to 1.
+/// A base with its availability: the expected share of its systems that miss no line unit, 0 to 1.
 #[derive(Clone, Copy, PartialEq, Eq)]
 pub struct BaseLine {
     pub site: Name,
     pub availability: Span,
 }
 
-/// What stocks cost and what they give.
+/// The cost and the figures of stocks.
 #[derive(Drop, PartialEq, Eq)]
 pub struct Figures {
-    /// Stock times cost of the part, over all pairs, in whole money.
+    /// The sum of stock times cost of the part over all pairs, in whole money.
     pub cost: u64,
     /// By part and then by site.
     pub items: Items,
-    /// In their order.
+    /// In site order.
     pub bases: List<BaseLine>,
-    /// The mean of the bases' availabilities by their systems.
+    /// The mean of the bases' availabilities, weighted by their systems.
     pub fleet: Span,
-    /// The expected backorders of the line units at the bases.
+    /// The weighted expected backorders of the line units at the bases.
     pub total: Span,
 }

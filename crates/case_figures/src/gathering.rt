@@ -30,7 +30,7 @@ pub fn figures_enclose()
         → FitsPrint (figures_of f c s) }
 {}
 
-/// The sum of the families' totals in their order.
+/// The sum of the families' totals, in order.
 fn total_of<const F: u32>(families: &[FamilyResult<F>]) -> Iv<F>
     requires scale { InScale F }
     requires totals { All (λ r. r.total.hi ≤ 384000 * 2 ^ F) families.now }
@@ -44,10 +44,10 @@ fn total_of<const F: u32>(families: &[FamilyResult<F>]) -> Iv<F>
     total
 }
 
-/// The figures of a case at stocks of it, from the evaluation of its families at them, with 32, 48 or 52 binary places.
+/// The figures of a case at its stocks, from its families' evaluation at these stocks, with 32, 48 or 52 binary places.
 ///
-/// The items stand by part in file order and then by site, in whatever order the families have them. Want of memory
-/// is the only error.
+/// The items are sorted by part in file order and then by site, in whatever order the families have them. Want of
+/// memory is the only error.
 pub fn figures_at<const F: u32>(
     alloc: Global,
     case: &Case,

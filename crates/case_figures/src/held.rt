@@ -1,4 +1,4 @@
-//! The items of a report, held in few bytes.
+//! The items of a report, stored in few bytes.
 ghost use Rattle.std.specs.Prelude.{◌≡◌, ◌<◌, All, get_or, length, map};
 ghost use Rattle.fixed_interval.specs.Ends.{InScale};
 ghost use Rattle.fixed_interval.specs.Widths.{IsWidth};
@@ -12,7 +12,7 @@ use family_eval::Item;
 use spares_input::{Name, PartId, SiteId};
 use std::marker::Model;
 
-/// A pair of a part and a site, each by its number, with its stock and the four intervals of its line.
+/// A pair of a part and a site, each by its number, with its stock and its four intervals.
 #[derive(Clone, Copy, Drop)]
 pub struct HeldItem {
     pub part: PartId,
@@ -26,7 +26,7 @@ pub struct HeldItem {
 }
 
 impl HeldItem {
-    /// The same item, none of whose ends is above 256.
+    /// The compact form of an item with no end above 256.
     pub fn of<const F: u32>(item: &Item<F>) -> HeldItem
         requires scale { InScale F }
         requires most { IsSmallItem F item.now }
@@ -44,7 +44,7 @@ impl HeldItem {
     }
 }
 
-/// An item where it is held, under its names.
+/// A borrowed item with the names of its part and site.
 #[derive(Clone, Copy)]
 pub struct ItemRef<'a> {
     pub part: &'a Name,
@@ -54,8 +54,8 @@ pub struct ItemRef<'a> {
     pub held: &'a HeldItem,
 }
 
-/// The lines of items, seen as their list. All intervals have as many binary places. A line is made when it is asked
-/// for: held are its numbers, and each name once.
+/// The lines of items, modelled as their list. All intervals have the same count of binary places. It stores the
+/// numbers of each item and each name once, and builds a line on demand.
 #[derive(Drop)]
 pub struct Items {
     bits: u32,
@@ -77,7 +77,7 @@ impl Model for Items {
 }
 
 impl Items {
-    /// The lines of held items, each under the names that its numbers have here, with `F` binary places.
+    /// The lines of these items, with the names of their parts and sites from these lists, and `F` binary places.
     pub fn of<const F: u32>(parts: Vec<Name>, sites: Vec<Name>, held: Vec<HeldItem>) -> Items
         requires width { IsWidth F }
         requires pairs { All (IsHeldPair parts.items sites.items) held.items }
@@ -91,14 +91,14 @@ impl Items {
         }
     }
 
-    /// How many lines there are.
+    /// The count of lines.
     pub fn len(&self) -> usize
         ensures { result ≡ length self.now }
     {
         self.held.len()
     }
 
-    /// The item of a line, where it is held.
+    /// The item of line `n`, borrowed.
     pub fn held(&self, n: usize) -> ItemRef<'_>
         requires { n < length self.now }
         ensures line { held_line result.part.now result.site.now result.bits result.held.now
@@ -114,7 +114,7 @@ impl Items {
         }
     }
 
-    /// A line.
+    /// Line `n`.
     pub fn get(&self, n: usize) -> ItemLine
         requires { n < length self.now }
         ensures { result ≡ get_or self.now n no_item_line }

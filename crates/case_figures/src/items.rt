@@ -1,4 +1,4 @@
-//! The items of all families, by part and then by site, and the names that they stand under.
+//! The items of all families, by part and then by site, and the names of parts and sites.
 ghost use Rattle.std.specs.Prelude.{◌≡◌, ◌*◌, ◌<◌, All, IfOk, length, vec_len};
 ghost use Rattle.fixed_interval.specs.Ends.{InScale};
 ghost use Rattle.spares_input.specs.Frames.{part_names, site_names};
@@ -16,7 +16,7 @@ use spares_input::{Case, Name, PartId, SiteId, pair_place};
 use spares_io::NoMemory;
 use std::alloc::Global;
 
-/// An interval as one of the three kinds that are printed.
+/// An interval as one of the three kinds of [`Span`].
 pub(crate) fn span_of<const F: u32>(interval: Iv<F>) -> Span
     requires { IsWidth F }
     ensures { result ≡ span_of F interval.entry }
@@ -31,7 +31,7 @@ pub(crate) fn span_of<const F: u32>(interval: Iv<F>) -> Span
     }
 }
 
-/// What a place holds before its item.
+/// A placeholder item.
 fn no_item<const F: u32>() -> HeldItem
     requires { InScale F }
     ensures { result ≡ held_of (no_item F) }
@@ -47,7 +47,7 @@ fn no_item<const F: u32>() -> HeldItem
     })
 }
 
-/// Puts each item at the place of its pair, where there are so many sites.
+/// Writes each item to the place of its pair.
 fn place_items<const F: u32>(places: &mut [HeldItem], case: &Case, items: &[Item<F>])
     requires scale { InScale F }
     requires pairs { All (IsItemOf F case.now) items.now }
@@ -78,7 +78,7 @@ pub(crate) fn held_by_pair<const F: u32>(
     Ok(places)
 }
 
-/// The names of the parts, in their order.
+/// The names of the parts, in order.
 pub(crate) fn part_names(alloc: Global, case: &Case) -> Result<Vec<Name>, NoMemory>
     ensures { IfOk result (λ v. v.items ≡ part_names case.now.parts) }
 {
@@ -89,7 +89,7 @@ pub(crate) fn part_names(alloc: Global, case: &Case) -> Result<Vec<Name>, NoMemo
     Ok(names)
 }
 
-/// The names of the sites, in their order.
+/// The names of the sites, in order.
 pub(crate) fn site_names(alloc: Global, case: &Case) -> Result<Vec<Name>, NoMemory>
     ensures { IfOk result (λ v. v.items ≡ site_names case.now.sites) }
 {

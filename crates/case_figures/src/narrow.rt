@@ -8,9 +8,9 @@ use crate::figures::Span;
 use fixed_interval::Iv;
 use std::marker::Model;
 
-/// The numbers from a lower to an upper end, as an [`Iv`], in half its room: the ends have 64 bits.
+/// An interval like [`Iv`] in half the room: its ends have 64 bits.
 ///
-/// Their unit is that of the item which holds the interval.
+/// Their unit is the unit of the item with the interval.
 #[derive(Clone, Copy, Drop)]
 pub struct Narrow {
     lo: u64,
@@ -31,7 +31,7 @@ impl Model for Narrow {
 }
 
 impl Narrow {
-    /// The same interval, whose upper end has 64 bits.
+    /// The same interval; its upper end has 64 bits.
     pub fn of<const F: u32>(interval: Iv<F>) -> Narrow
         requires { interval.hi < 2 ^ 64 }
         ensures { result ≡ interval.entry }
@@ -58,7 +58,7 @@ impl Narrow {
         self.hi
     }
 
-    /// The interval with so many binary places.
+    /// The interval with `bits` binary places.
     pub fn span(&self, bits: u32) -> Span
         requires { IsWidth bits }
         ensures { result ≡ span_of bits self.now }

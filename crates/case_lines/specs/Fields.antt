@@ -9,7 +9,7 @@ use Rattle.spares_input.specs.declared.rows.RateRow.{RateRow}
 abbrev pub number_text : Bool → ℕ → List ℕ
 number_text has n = if has then decimal n else []
 
--- a number with so many decimals, or an empty field
+-- a number with this count of decimals, or an empty field
 abbrev pub fixed_text_if : Bool → ℕ → ℕ → List ℕ
 fixed_text_if has places n = if has then fixed_text places n else []
 
@@ -28,7 +28,7 @@ part_text line weighted r =
     r.name ++ 44 ∷ (parent_text r.parent ++ 44 ∷ (decimal r.cost ++ 44 ∷ (number_text line r.per_system
     ++ 44 ∷ (decimal r.max_depot ++ 44 ∷ (decimal r.max_base ++ (weight_text weighted line r.weight ++ 10 ∷ []))))))
 
--- the line of a pair's rates, by the names of its part and its site; which fields it has goes by the pair
+-- the line of a pair's rates, by the names of its part and its site; the pair determines which fields it has
 abbrev pub rate_text : Bool → Bool → List ℕ → List ℕ → RateRow → List ℕ
 rate_text line depot part site r =
     part ++ 44 ∷ (site ++ 44 ∷ (fixed_text_if (line && not depot) 4 r.demand

@@ -14,7 +14,7 @@ use lib.Chars.{codes}
 
 -- ---- fields
 
--- the number is 0, as an empty field tells
+-- the number is 0, the value of an empty field
 abbrev pub is_zero : ℕ → Bool
 is_zero n = n == 0
 
@@ -22,11 +22,11 @@ is_zero n = n == 0
 abbrev pub name_field : Format (List ℕ)
 name_field = one (plain is_name)
 
--- a whole number, or an empty field that stands for 0
+-- a whole number, or an empty field for 0
 abbrev pub number_if : Bool → ℕ → ℕ → Format ℕ
 number_if has least most = if has then one (number least most) else empty_field 0 is_zero
 
--- the same of units of the last of these places
+-- the same for units of the last of these places
 abbrev pub fixed_if : Bool → ℕ → ℕ → Format ℕ
 fixed_if has places most = if has then one (fixed places 0 most) else empty_field 0 is_zero
 
@@ -61,7 +61,7 @@ base_fields =
 abbrev pub site_line : ℕ → Format SiteRow
 site_line k = if k == 0 then one (line depot_fields) else one (line base_fields)
 
--- how many sites there are, and then a line for each
+-- the number of sites, and then a line for each
 abbrev pub sites : Format (List SiteRow)
 sites = counted (codes "sites") 2 16 site_line
 
@@ -71,19 +71,19 @@ sites = counted (codes "sites") 2 16 site_line
 abbrev pub parent_field : Format (Option (List ℕ))
 parent_field = one (if_any (plain is_name))
 
--- the most that a site may hold of a part
+-- the largest stock of a part at a site
 abbrev pub limit_field : Format ℕ
 limit_field = one (number 0 63)
 
--- the weight that a part has where no weights are written
+-- the weight of a part if no weights are written
 abbrev pub usual : Bool → ℕ
 usual line = if line then 1 else 0
 
--- the weight of a part where weights are written, else no field and the usual weight
+-- the weight of a part if weights are written, otherwise no field and the usual weight
 abbrev pub weight_field : Bool → Bool → Format ℕ
 weight_field weighted line = if weighted then number_if line 1 100 else no_field (usual line) (λ n. n == usual line)
 
--- NAME,PARENT,COST,PER_SYSTEM,MAX_DEPOT,MAX_BASE, and ,WEIGHT where weights are written
+-- NAME,PARENT,COST,PER_SYSTEM,MAX_DEPOT,MAX_BASE, and ,WEIGHT if weights are written
 abbrev pub part_fields : Bool → Format PartRow
 part_fields weighted =
     as_shape
@@ -103,7 +103,7 @@ part_fields weighted =
     (λ r. (r.name, (r.parent, (r.cost, (r.per_system, (r.max_depot, (r.max_base, r.weight)))))))
     (λ _. true)
 
--- a weight other than 1, and than the 0 of a shop unit
+-- a weight other than 1, and other than the 0 of a shop unit
 abbrev pub weighs_more : PartRow → Bool
 weighs_more r = nat_le 2 r.weight
 
@@ -111,15 +111,15 @@ weighs_more r = nat_le 2 r.weight
 abbrev pub are_weighted : List PartRow → Bool
 are_weighted rows = list_any weighs_more rows
 
--- row k is the last of n, and no weight but 1 stands before it
+-- row k is the last of n, and all weights before it are usual, so its weight must be another
 abbrev pub is_owed : ℕ → List PartRow → ℕ → Bool
 is_owed n before k = (suc k == n) && not (are_weighted before)
 
--- where another weight is owed, the row has one
+-- the row has another weight if it must
 abbrev pub may_stand : Bool → PartRow → Bool
 may_stand owed r = if owed then weighs_more r else true
 
--- the line of row k of n parts; the last one has a weight that was to come
+-- the line of row k of n parts; the last one must have another weight if no earlier one has and weights are written
 abbrev pub part_line : Bool → ℕ → List PartRow → ℕ → Format PartRow
 part_line weighted n before k = one (only (may_stand (weighted && is_owed n before k)) (line (part_fields weighted)))
 
@@ -140,21 +140,21 @@ weights_fields =
 abbrev pub parts_line : Format (Either ℕ ℕ)
 parts_line = one (either (line (count_fields (codes "parts") 0 2000)) (line weights_fields))
 
--- how many parts the first line says there are
+-- the number of parts by the first line
 abbrev pub count_in : Either ℕ ℕ → ℕ
 count_in (Left n) = n
 count_in (Right n) = n
 
--- whether it says that weights are written
+-- whether weights are written by the first line
 abbrev pub weights_in : Either ℕ ℕ → Bool
 weights_in (Left n) = false
 weights_in (Right n) = true
 
--- the first line of so many parts, with weights or without
+-- the first line of n parts, with weights or without
 abbrev pub header : Bool → ℕ → Either ℕ ℕ
 header weighted n = if weighted then Right n else Left n
 
--- weights are written exactly where some weight isn't 1
+-- weights are written exactly if some weight isn't 1
 abbrev pub header_of : List PartRow → Either ℕ ℕ
 header_of rows = header (are_weighted rows) (length rows)
 
@@ -189,7 +189,7 @@ pair_of p part k site = record {
 abbrev pub pair_at : List SiteRow → List PartRow → ℕ → Pair
 pair_at ss ps i = pair_of (i / length ss) (part_at ps (i / length ss)) (i % length ss) (site_at ss (i % length ss))
 
--- PART,SITE,DEMAND,REPAIR_HERE,SHARE,DAYS, of which a pair has some
+-- PART,SITE,DEMAND,REPAIR_HERE,SHARE,DAYS; a field that the pair lacks is empty
 abbrev pub rate_fields : Pair → Format RateRow
 rate_fields pair =
     as_shape
@@ -211,7 +211,7 @@ rate_fields pair =
 abbrev pub rate_line : Pair → Format RateRow
 rate_line pair = one (line (rate_fields pair))
 
--- the count of the pairs, and then a line for each
+-- the number of pairs, and then a line for each
 abbrev pub rates : List SiteRow → List PartRow → Format (List RateRow)
 rates ss ps = one_for_each (codes "rates") (numbers_from 0 (length ps * length ss)) (λ i. rate_line (pair_at ss ps i))
 

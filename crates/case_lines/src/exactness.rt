@@ -6,7 +6,7 @@ ghost use Rattle.line_text.specs.Exact.{IsExact, IsLine};
 ghost use Rattle.spares_input.specs.Cases.{CaseRows, IsCase};
 ghost use Rattle.case_lines.specs.Grammar.{case_format};
 
-/// The lines of a case are read as that case, what is read as a case are its lines, and a refusal names the first bad
+/// The lines of a case read as that case, lines that read as a case are its lines, and a refusal names the first bad
 /// line. Every case has lines.
 pub fn case_lines_are_exact()
     ensures exact { IsExact IsLine case_format }

@@ -6,14 +6,14 @@ ghost use Rattle.case_lines.specs.Fields.{number_text, fixed_text_if};
 use line_text::{put_fixed, put_number};
 use spares_io::NoMemory;
 
-/// Writes a whole number where there is one.
+/// Writes a whole number, or an empty field.
 pub(crate) fn put_number_if(out: &mut Vec<u8>, has: bool, number: u128) -> Result<(), NoMemory>
     ensures { OnOk result (out.new.items ≡ out.old.items ++ number_text has number) }
 {
     if has { put_number(out, number) } else { Ok(()) }
 }
 
-/// Writes units of the last of so many places where there are any.
+/// Writes units of the last of `places` decimals, or an empty field.
 pub(crate) fn put_fixed_if(
     out: &mut Vec<u8>,
     has: bool,

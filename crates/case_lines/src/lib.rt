@@ -1,7 +1,7 @@
-//! The lines of a case: sites, parts and rates as text that says each field exactly once, as a certificate has them.
+//! The lines of a case: sites, parts and rates as text with each field exactly once, as in a certificate.
 //!
-//! One grammar says how the lines are written and how they are read; `write_case` writes them, and the laws say that
-//! no other text is read as the same case.
+//! One grammar defines both the writing and the reading of the lines; `write_case` writes them, and the laws prove that
+//! no other text reads as the same case.
 #![tactic(auto)]
 
 mod exactness;

@@ -25,7 +25,7 @@ fn put_parent(out: &mut Vec<u8>, parent: &Option<Name>) -> Result<(), NoMemory>
     }
 }
 
-/// Writes the last field with the comma before it, where weights are written.
+/// Writes the last field with the comma before it, if weights are written.
 fn put_weight(out: &mut Vec<u8>, weighted: bool, is_line: bool, weight: u8) -> Result<(), NoMemory>
     ensures { OnOk result (out.new.items ≡ out.old.items ++ weight_text weighted is_line weight) }
 {
@@ -36,7 +36,7 @@ fn put_weight(out: &mut Vec<u8>, weighted: bool, is_line: bool, weight: u8) -> R
     put_number_if(out, is_line, weight as u128)
 }
 
-/// Writes NAME,PARENT,COST,PER_SYSTEM,MAX_DEPOT,MAX_BASE, and ,WEIGHT where weights are written.
+/// Writes NAME,PARENT,COST,PER_SYSTEM,MAX_DEPOT,MAX_BASE, and ,WEIGHT if weights are written.
 fn put_part(out: &mut Vec<u8>, weighted: bool, part: &PartRow) -> Result<(), NoMemory>
     ensures { OnOk result (out.new.items ≡ out.old.items ++ (line (part_fields weighted)).print part.now) }
 {

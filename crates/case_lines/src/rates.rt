@@ -14,14 +14,14 @@ use line_text::{put_count_line, put_fixed};
 use spares_input::{Case, PartId, PartRow, RateRow, SiteId, SiteRow};
 use spares_io::NoMemory;
 
-/// Whether a pair has a demand of its own: that of a line unit at a base.
+/// Whether a pair has a demand field: only a line unit at a base has one.
 pub fn has_demand(is_line: bool, is_depot: bool) -> bool
     ensures { result ≡ (is_line && not is_depot) }
 {
     is_line && !is_depot
 }
 
-/// Writes PART,SITE,DEMAND,REPAIR_HERE,SHARE,DAYS, each where the pair has it.
+/// Writes PART,SITE,DEMAND,REPAIR_HERE,SHARE,DAYS, with each field that the pair lacks empty.
 fn put_rate(
     out: &mut Vec<u8>,
     part: &PartRow,

@@ -21,14 +21,14 @@ fn put_case(out: &mut Vec<u8>, case: &Case) -> Result<(), NoMemory>
     Ok(())
 }
 
-/// The lines of a case: `sites,N` and a line for each site, the depot first, `parts,N` and a line for each part,
-/// with `,weights` and a seventh field where some weight isn't 1, and `rates,N` and a line for each pair, by part and
-/// then by site. Names stand as they are, and decimals have all their places. Want of memory is the only error.
+/// The lines of a case: `sites,N` and a line for each site, the depot first; `parts,N` and a line for each part, with
+/// `,weights` and a seventh field if some weight isn't 1; and `rates,N` and a line for each pair, by part and then by
+/// site. Names are unchanged, and decimals have all their places. Want of memory is the only error.
 pub fn write_case(alloc: Global, case: &Case) -> Result<Vec<u8>, NoMemory>
     ensures lines { IfOk result (λ bytes. bytes.items ≡ file_text case_format case.now) }
     ensures again { IfOk result (λ bytes. file_answer case_format bytes.items ≡ Ok case.now) }
 {
-    // Most lines are those of the pairs, with 20 to 60 bytes each.
+    // Most lines belong to pairs, with 20 to 60 bytes each.
     let pairs = case.part_count() as usize * case.site_count() as usize;
     let mut out = Vec::with_capacity(alloc, 40 * pairs)?;
     put_case(&mut out, case)?;

@@ -22,7 +22,7 @@ use Rattle.price_bounds.specs.Soundness.{stocks_of}
 use Rattle.case_figures.specs.declared.figures.Figures.{Figures}
 use Rattle.case_figures.specs.Figures.{figures_of}
 use Rattle.fleet_model.specs.Aims.{weighted_backorders}
-use Rattle.fleet_plan.specs.Families.{family_at, families_at, vectors_at}
+use Rattle.fleet_plan.specs.Families.{case_points, family_at, families_at, vectors_at}
 use Rattle.fleet_plan.specs.Plans.{CasePlan, line_of_step}
 use Rattle.fleet_plan.proofs.Lists.{is_among}
 use Rattle.fleet_plan.proofs.Places.{kept, zip_each}
@@ -31,9 +31,14 @@ use Rattle.fixed_interval.specs.Ends.{Ends}
 use Rattle.family_curve.specs.Points.{ScoreEnds, plain_ends}
 use Rattle.plan_report.specs.declared.plan.CriticalLine.{CriticalLine}
 use Rattle.case_plan.specs.declared.outcome.Outcome.{Outcome}
-use Rattle.case_plan.specs.Report.{Terms, aim_ends, if_asked, step_line, outcome_of}
+use Rattle.case_plan.specs.Report.{Terms, aim_ends, if_asked, step_line, outcome_of, IsPlanOf}
 use Rattle.fleet_plan.specs.Families.{HasWidth}
 use Rattle.case_plan.specs.Parts.{IsPlace}
+use Rattle.case_plan.specs.Chosen.{FitsCase, IsChosen}
+use Rattle.case_plan.specs.Outcomes.{chosen_outcome}
+use Rattle.case_plan.specs.declared.chosen.ChosenStocks.{ChosenStocks}
+use Rattle.case_plan.proofs.Aimed.{aimed}
+use Rattle.fleet_plan.proofs.Ones.{chosen_of_stocks}
 
 abbrev IsLow : CaseRows → ℕ → List ℕ → Type 0
 IsLow c l v = AllZip (λ x y. x ≤ y) v (limits c l)
@@ -109,15 +114,38 @@ outcome terms s floors f figures aim line = record {
   upper = f.upper;
 }
 
--- made of the case's own figures, aim and critical line it is the answer to the plan
-pub same_outcome : (ends : ScoreEnds) (c : CaseRows) (terms : Terms) (s : StockList) (floors : List ℕ) (f : PlanNumbers) (figures : Figures) (aim : Option Ends) (line : Option CriticalLine) → s.sites ≡ length c.sites
-    → figures ≡ figures_of 48 c s → aim ≡ if_asked terms.loss (aim_ends ends c s.list) → line ≡ option_map (step_line c f.price.q) (option_map (line_of_step c) f.critical)
-    → outcome terms s floors f figures aim line ≡ outcome_of ends c terms (plan_with s floors f)
-same_outcome ends c terms s floors f figures aim line e g a l =
-    let same : s ≡ stock_list c s.list = ap (λ n. let t : StockList = record { sites = n; list = s.list } in t) e in
-    ap₂ (λ (x : Figures) (y : Option CriticalLine). outcome terms s floors f x aim y) g l
-    ∙ ap (λ (y : Option Ends). outcome terms s floors f (figures_of 48 c s) y (option_map (step_line c f.price.q) (option_map (line_of_step c) f.critical))) a
-    ∙ ap (λ (t : StockList). outcome terms t floors f (figures_of 48 c t) (if_asked terms.loss (aim_ends ends c s.list)) (option_map (step_line c f.price.q) (option_map (line_of_step c) f.critical))) same
+-- made of the figures, the aim and the critical line of chosen stocks it is their outcome
+pub made : (c : CaseRows) (terms : Terms) (x : ChosenStocks) (floors : List ℕ) (figures : Figures) (aim : Option Ends) (line : Option CriticalLine) → floors ≡ x.floors.items
+    → figures ≡ figures_of 48 c x.stocks → aim ≡ if_asked terms.loss (record { lo = x.lower; hi = x.numbers.upper })
+    → line ≡ option_map (step_line c x.numbers.price.q) (option_map (line_of_step c) x.numbers.critical)
+    → outcome terms x.stocks floors x.numbers figures aim line ≡ chosen_outcome c terms x
+made c terms x floors figures aim line f g a l =
+    ap (λ (z : List ℕ). outcome terms x.stocks z x.numbers figures aim line) f
+    ∙ ap₂ (λ (y : Figures) (z : Option CriticalLine). outcome terms x.stocks x.floors.items x.numbers y aim z) g l
+    ∙ ap (λ (y : Option Ends). outcome terms x.stocks x.floors.items x.numbers (figures_of 48 c x.stocks) y (option_map (step_line c x.numbers.price.q) (option_map (line_of_step c) x.numbers.critical))) a
+
+-- with the case's own aim the outcome of chosen stocks is the outcome of the plan
+same_outcome : (ends : ScoreEnds) (c : CaseRows) (terms : Terms) (x : ChosenStocks) → x.stocks.sites ≡ length c.sites
+    → (let y : Ends = record { lo = x.lower; hi = x.numbers.upper } in y ≡ aim_ends ends c x.stocks.list)
+    → chosen_outcome c terms x ≡ outcome_of ends c terms (plan_with x.stocks x.floors.items x.numbers)
+same_outcome ends c terms x e a =
+    let line = option_map (step_line c x.numbers.price.q) (option_map (line_of_step c) x.numbers.critical) in
+    let same : x.stocks ≡ stock_list c x.stocks.list = ap (λ n. let t : StockList = record { sites = n; list = x.stocks.list } in t) e in
+    ap (λ (y : Ends). outcome terms x.stocks x.floors.items x.numbers (figures_of 48 c x.stocks) (if_asked terms.loss y) line) a
+    ∙ ap (λ (t : StockList). outcome terms t x.floors.items x.numbers (figures_of 48 c t) (if_asked terms.loss (aim_ends ends c x.stocks.list)) line) same
+
+-- the outcome of stocks chosen from the curves of a case's points is the outcome of the case's plan
+pub case_outcome : (c : CaseRows) (curves : List (List Point)) (terms : Terms) (x : ChosenStocks) (o : Outcome) → IsCase c → FitsCase c x → IsChosen c curves terms.budget x
+    → o ≡ chosen_outcome c terms x → IsPlanOf c curves terms o
+case_outcome c curves terms x o valid fits is e ends held areas =
+    let chosen = is.is_plan (case_points ends c held) areas in
+    let p = plan_with x.stocks x.floors.items x.numbers in
+    let vectors = sym is.stocks_are in
+    record {
+      plan = p;
+      is_plan = chosen_of_stocks ends c held terms.budget is.vertices p chosen vectors fits.is_for.pairs;
+      is = e ∙ same_outcome ends c terms x fits.is_for.sites (aimed ends c held terms.budget is.vertices p x.lower valid chosen vectors is.lower_is);
+    }
 
 -- the line unit at place f is a part of the case
 pub line_in : (c : CaseRows) (f : ℕ) → f < length (line_units c) → get_or (line_units c) f 0 < length c.parts

@@ -1,4 +1,4 @@
--- What is chosen for a case, before it is evaluated.
+-- The stocks chosen for a case, before their evaluation.
 use Rattle.std.specs.Prelude.{◌≡◌, ◌^◌, ◌<◌, ◌≤◌, ℕ, List, IfSome, length}
 use Rattle.hull.specs.declared.point.Point.{Point}
 use Rattle.spares_input.specs.Cases.{CaseRows}
@@ -11,7 +11,7 @@ use Rattle.marginal_alloc.specs.Plans.{IsPlan}
 use Rattle.fleet_plan.specs.Families.{vectors_at}
 use Rattle.case_plan.specs.declared.chosen.ChosenStocks.{ChosenStocks}
 
--- The stocks are of the case and within its limits, and the numbers have room in a report.
+-- The stocks are for the case and within its limits, and the numbers fit into a report.
 pub record FitsCase (c : CaseRows) (x : ChosenStocks) : Type 0 where
   pub is_for : IsFor c x.stocks
   pub limits : IsWithinLimits c x.stocks
@@ -19,8 +19,8 @@ pub record FitsCase (c : CaseRows) (x : ChosenStocks) : Type 0 where
   pub room : x.numbers.upper < 2 ^ 86
   pub critical : IfSome x.numbers.critical (λ step. step.family < length (line_units c))
 
--- There is a vertex of each curve, and the stocks are theirs. Of whatever points these are the curves, the plan of
--- these points under this budget has these vertices.
+-- There is a vertex of each curve, and the stocks are the stocks of these vertices. They are the plan, under this
+-- budget, of any points with these curves.
 pub record IsChosen (c : CaseRows) (curves : List (List Point)) (budget : ℕ) (x : ChosenStocks) : Type 0 where
   pub vertices : List Point
   pub is_plan : (families : List (List Point)) → AreCurves families curves

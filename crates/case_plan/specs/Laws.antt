@@ -17,33 +17,33 @@ use Rattle.on_hand.specs.Work.{IsNothing}
 use Rattle.case_plan.specs.Report.{AreFamilyCurves, IsPlanned, Terms}
 use Rattle.case_plan.specs.Truth.{IsTruePlanReport, IsTrueReport}
 
--- for any score whose intervals enclose its value, and whatever is held
+-- for any score whose intervals enclose its value, and any held stocks
 abbrev pub PlannedReportsAreTrue : Type 0
 PlannedReportsAreTrue =
     (ends : ScoreEnds) (value : Value) (c : CaseRows) (held : List ℕ) (terms : Terms) (report : PlanReport)
     → IsAcceptedCase c → EnclosesValue ends value → (planned : IsPlanned ends c held terms report)
     → IsTrueReport ends value c held terms planned.plan report
 
--- of weighted backorders, where nothing is held
+-- for weighted backorders, if nothing is held
 abbrev pub PlainReportsAreTrue : Type 0
 PlainReportsAreTrue =
     (c : CaseRows) (held : List ℕ) (terms : Terms) (report : PlanReport)
     → IsAcceptedCase c → IsNothing held → (planned : IsPlanned plain_ends c held terms report)
     → IsTruePlanReport c terms.budget planned.plan.stocks report
 
--- and there is one
+-- and a case has only one
 abbrev pub PlannedReportsAreOne : Type 0
 PlannedReportsAreOne =
     (ends : ScoreEnds) (c : CaseRows) (held : List ℕ) (terms : Terms) (one other : PlanReport)
     → IsCase c → IsPlanned ends c held terms one → IsPlanned ends c held terms other → one ≡ other
 
--- a list of zeros holds as little as the empty one: the same plans
+-- plans from a list of zeros are plans from the empty list
 abbrev pub PlansFromNothing : Type 0
 PlansFromNothing =
     (ends : ScoreEnds) (c : CaseRows) (held : List ℕ) (budget : ℕ) (p : CasePlan)
     → IsNothing held → IsCasePlan ends c held budget p ↔ IsCasePlan ends c [] budget p
 
--- the numbers of a plan have room in a certificate
+-- the numbers of a plan fit into a certificate
 pub record FitsItsPlace (c : CaseRows) (p : CasePlan) : Type 0 where
   pub price : p.numbers.price.p ≤ 2 ^ 74
   pub money : 1 ≤ p.numbers.price.q
@@ -56,20 +56,20 @@ pub record FitsItsPlace (c : CaseRows) (p : CasePlan) : Type 0 where
   pub gap : p.numbers.gap ≤ 2 ^ 85
   pub rounding : p.numbers.rounding ≤ 2 ^ 85
 
--- the numbers of each plan of an accepted case have room in a certificate
+-- the numbers of each plan of an accepted case fit into a certificate
 abbrev pub PlansFit : Type 0
 PlansFit =
     (ends : ScoreEnds) (value : Value) (c : CaseRows) (held : List ℕ) (budget : ℕ) (p : CasePlan)
     → IsAcceptedCase c → EnclosesValue ends value → LeavesRoom ends → IsCasePlan ends c held budget p → FitsItsPlace c p
 
--- and in a report
+-- and into a report
 abbrev pub ReportsFit : Type 0
 ReportsFit =
     (ends : ScoreEnds) (value : Value) (c : CaseRows) (held : List ℕ) (terms : Terms) (report : PlanReport)
     → IsAcceptedCase c → EnclosesValue ends value → LeavesRoom ends → IsPlanned ends c held terms report
     → FitsPlan report
 
--- curves of a case's points, from what is held within the limits, are such as a plan takes
+-- curves of a case's points, from held stocks within the limits, meet the requirements of a plan
 abbrev pub CurvesServe : Type 0
 CurvesServe =
     (ends : ScoreEnds) (c : CaseRows) (held : List ℕ) (curves : List (List Point))

@@ -6,12 +6,12 @@ use Rattle.spares_input.specs.Cases.{CaseRows}
 use Rattle.fleet_model.specs.Fleet.{family}
 use Rattle.demand_rates.specs.Waits.{shops_below}
 
--- at the number of each line unit stand the parts of its family
+-- entry l is the family of line unit l; entries at shop units are free
 pub record AreMembers (c : CaseRows) (rows : List (List ℕ)) : Type 0 where
   pub count : length rows ≡ length c.parts
   pub each : (l : ℕ) → l < length c.parts → is_line (part_at c.parts l) ≡ true → get_or rows l [] ≡ family c l
 
--- at the number of each line unit stand the parts of its family among the first n, and the line unit
+-- entry l has the line unit l and the parts of its family among the first n
 pub record AreMembersBelow (c : CaseRows) (n : ℕ) (rows : List (List ℕ)) : Type 0 where
   pub count : length rows ≡ length c.parts
   pub each : (l : ℕ) → l < length c.parts → is_line (part_at c.parts l) ≡ true

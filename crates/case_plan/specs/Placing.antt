@@ -1,4 +1,4 @@
--- Stocks that are put to their pairs, step by step. No promise of the crate rests on these words.
+-- Stocks written to their pairs, step by step. No promise of the crate rests on these words.
 use Rattle.std.specs.Prelude.{◌≡◌, ℕ, ◌+◌, ◌*◌, ◌<◌, List, length, map, filter, take, get_or}
 use Rattle.std.specs.List.{range_with_len}
 use Rattle.hull.specs.Curves.{Among}
@@ -33,7 +33,7 @@ pub record IsPlacedFamily (old new : StockList) (ps vector : List ℕ) (m : ℕ)
 abbrev pub lines_below : CaseRows → ℕ → List ℕ
 lines_below c p = filter (λ q. is_line (part_at c.parts q)) (range_with_len 0 p)
 
--- the families of the first f line units, all those below part p, have their vectors
+-- the first f line units are all those below part p, and their families have their vectors
 pub record ArePlaced (c : CaseRows) (vs : List (List ℕ)) (s : StockList) (p f : ℕ) : Type 0 where
   pub is_for : IsFor c s
   pub count : f ≡ length (lines_below c p)

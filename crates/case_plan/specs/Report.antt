@@ -18,8 +18,8 @@ use Rattle.plan_report.specs.declared.plan.CriticalLine.{CriticalLine}
 use Rattle.plan_report.specs.declared.plan.PlanReport.{PlanReport}
 use Rattle.case_plan.specs.declared.outcome.Outcome.{Outcome}
 
--- What is asked for: a plan under a budget in whole money; whether what is aimed at is a loss, which is reported
--- beside the total of backorders; and what the stocks on hand cost, where some may be held already, which is printed.
+-- The request: a plan under a budget in whole money; whether the aim is a loss, which is reported beside the total of
+-- backorders; and the cost of the stocks on hand, printed if some may be held.
 pub record Terms : Type 0 where
   pub budget : ℕ
   pub loss : Bool
@@ -29,23 +29,23 @@ pub record Terms : Type 0 where
 abbrev pub plain_terms : ℕ → Terms
 plain_terms budget = record { budget = budget; loss = false; on_hand = None }
 
--- the lower end of what is aimed at, at the stocks s: the sum of the lower ends of all scored totals
+-- the lower end of the aim at the stocks s: the sum of the lower ends of all scored totals
 abbrev pub lo_at : ScoreEnds → CaseRows → List ℕ → ℕ
 lo_at ends c s = sum_by (λ l. (scored_total c l ends s).lo) (line_units c)
 
--- the lower and the upper end of what is aimed at, at the stocks s
+-- the lower and the upper end of the aim at the stocks s
 abbrev pub aim_ends : ScoreEnds → CaseRows → List ℕ → Ends
 aim_ends ends c s = record { lo = lo_at ends c s; hi = hi_at ends c s }
 
--- these ends, where they are asked for
+-- these ends, if they are asked for
 abbrev pub if_asked : Bool → Ends → Option Ends
 if_asked asked x = if asked then Some x else None
 
--- the line of a step that raises the cost by so much, of this line unit
+-- the report line of a step of line unit l that costs `rise`
 abbrev pub step_line : CaseRows → ℕ → ℕ → CriticalLine
 step_line c rise l = record { part = (part_at c.parts l).name; cost = rise }
 
--- The report of a plan. Its cost is that of the plan: where stocks are held, what is added to them.
+-- The report of a plan. Its cost is the plan's cost: if stocks are held, the cost of the stocks added to them.
 abbrev pub report_of : ScoreEnds → CaseRows → Terms → CasePlan → PlanReport
 report_of ends c terms p = record {
   budget = terms.budget;
@@ -60,7 +60,7 @@ report_of ends c terms p = record {
   critical = option_map (step_line c p.numbers.price.q) (critical_line c p);
 }
 
--- The answer: the report with the stocks, and what the certificate claims.
+-- The outcome: the report with the stocks, and the claims of the certificate.
 abbrev pub outcome_of : ScoreEnds → CaseRows → Terms → CasePlan → Outcome
 outcome_of ends c terms p = record {
   report = report_of ends c terms p;
@@ -70,28 +70,28 @@ outcome_of ends c terms p = record {
   upper = p.numbers.upper;
 }
 
--- It is that of the plan of the case, from what is held on.
+-- The outcome is the outcome of the case's plan from the held stocks.
 pub record IsOutcome (ends : ScoreEnds) (c : CaseRows) (held : List ℕ) (terms : Terms) (outcome : Outcome)
     : Type 0 where
   pub plan : CasePlan
   pub is_plan : IsCasePlan ends c held terms.budget plan
   pub is : outcome ≡ outcome_of ends c terms plan
 
--- The report is that of the plan of the case, from what is held on.
+-- The report is the report of the case's plan from the held stocks.
 pub record IsPlanned (ends : ScoreEnds) (c : CaseRows) (held : List ℕ) (terms : Terms) (report : PlanReport)
     : Type 0 where
   pub plan : CasePlan
   pub is_plan : IsCasePlan ends c held terms.budget plan
   pub is : report ≡ report_of ends c terms plan
 
--- there is a curve for each line unit, which begins at cost 0, with vectors of the family within the limits
+-- there is a curve for each line unit, which begins at cost 0 and has vectors of the family within the limits
 pub record AreFamilyCurves (c : CaseRows) (curves : List (List Point)) : Type 0 where
   pub count : length curves ≡ length (line_units c)
   pub free : (f : ℕ) → f < length curves → (vertex_at curves f 0).cost ≡ 0
   pub vectors : AllZip (λ l curve. (v : Point) → Among v curve → AllZip (λ x y. x ≤ y) v.stocks (limits c l))
       (line_units c) curves
 
--- the outcome is that of the plan of all points, from whatever is held, of which these are the curves
+-- the outcome is the outcome of the plan of all points with these curves, for any held stocks
 abbrev pub IsPlanOf : CaseRows → List (List Point) → Terms → Outcome → Type 0
 IsPlanOf c curves terms outcome =
     (ends : ScoreEnds) (held : List ℕ) → AreCurves (case_points ends c held) curves

@@ -1,5 +1,4 @@
--- What a plan's report says of the case, in the words of the model. What is said at a depth is said at every depth from
--- 1024 on.
+-- The truth of a plan's report, in the words of the model. A statement at a depth holds at every depth from 1024 on.
 use Rattle.std.specs.Prelude.{◌≡◌, ℕ, ◌+◌, ◌-◌, ◌*◌, ◌≤◌, List, option_map}
 use Rattle.exact_model.specs.Fraction.{Encloses, ◌≤ℚ◌}
 use Rattle.fixed_interval.specs.Text.{text_value}
@@ -18,58 +17,58 @@ use Rattle.plan_report.specs.Texts.{millionths_down}
 use Rattle.plan_report.specs.declared.plan.PlanReport.{PlanReport}
 use Rattle.case_plan.specs.Report.{Terms, lo_at, aim_ends, if_asked, step_line}
 
--- no allocation within the budget has less than what is printed of a bound
+-- no allocation within the budget has an aim below the printed bound
 abbrev pub NoneHasLessThanPrinted : Value → CaseRows → List ℕ → ℕ → ℕ → Type 0
 NoneHasLessThanPrinted value c held budget bound =
     (n : ℕ) → 1024 ≤ n → (s : List ℕ) → IsHeldAllocation c held s → cost_beyond c held s ≤ budget
     → text_value 6 (millionths_down 48 bound) ≤ℚ aim value c s n
 
--- Of what stocks are held, for any score and the value that it encloses. The stocks are those of the plan.
+-- For any held stocks, any score and the value that it encloses. The stocks are the plan's.
 pub record IsTrueReport (ends : ScoreEnds) (value : Value) (c : CaseRows) (held : List ℕ) (terms : Terms)
     (plan : CasePlan) (report : PlanReport) : Type 0 where
   pub budget_is : report.budget ≡ terms.budget
   pub on_hand_is : report.on_hand ≡ terms.on_hand
-  -- the stocks have what is held, and are within the limits; what they add to it costs what is printed, at most the
-  -- budget
+  -- the stocks include the held stocks and are within the limits; the added stocks cost the printed cost, which is at
+  -- most the budget
   pub allocation : IsHeldAllocation c held plan.stocks
   pub cost_is : report.figures.cost ≡ cost_beyond c held plan.stocks
   pub fits : report.figures.cost ≤ terms.budget
-  -- each mean, variance, backorder and availability is enclosed at these stocks; with what all of them cost in the
-  -- place of what is added, the figures are theirs
+  -- each mean, variance, backorder and availability is enclosed at these stocks; the figures are theirs, with the cost
+  -- of all stocks in place of the cost of the added ones
   pub shows : ShowsFigures 48 c (stock_list c plan.stocks) (record report.figures { cost = cost c plan.stocks })
-  -- no allocation within the budget has less than the bound, nor than what is printed of it
+  -- no allocation within the budget has an aim below the bound or below the printed bound
   pub none_less : NoneHasLess value c held terms.budget report.bound
   pub printed : NoneHasLessThanPrinted value c held terms.budget report.bound
-  -- no price gives a bound higher by more than the rounding
+  -- no price shows a bound higher by more than the rounding
   pub no_price : NoPriceShowsMore value c held terms.budget (report.bound + report.rounding)
-  -- nor do acceptable claims of a certificate have one
+  -- nor do acceptable claims have one
   pub no_claims : (x : CaseClaims) → AreAcceptable ends c held terms.budget x → x.bound ≤ report.bound + report.rounding
-  -- the bound and the gap are the upper end of what is aimed at, and the stocks have no more
+  -- the bound plus the gap is the upper end of the aim, and the stocks have no more
   pub upper : report.bound + report.gap ≡ hi_at ends c plan.stocks
   pub no_more : HasNoMore value c plan.stocks (report.bound + report.gap)
-  -- the loss is reported where it is asked for, and encloses what is aimed at
+  -- the loss is reported if it is asked for, and encloses the aim
   pub loss_is : report.loss ≡ if_asked terms.loss (aim_ends ends c plan.stocks)
   pub encloses : Encloses 48 (lo_at ends c plan.stocks) (hi_at ends c plan.stocks) (aim value c plan.stocks)
-  -- price, hull choice and critical step are those of the plan, and show how small the gap is
+  -- price, hull cost and critical step are the plan's, and show how small the gap is
   pub price_is : report.price ≡ plan.numbers.price
   pub hull_is : report.hull ≡ plan.numbers.hull_cost
   pub critical_is : report.critical ≡ option_map (step_line c report.price.q) (critical_line c plan)
   pub small_gap : report.price.q * report.gap
       ≤ report.price.p * (terms.budget - report.hull) + report.price.q * report.rounding
 
--- The same of weighted backorders where nothing is held, in the words of the model alone.
+-- The same for weighted backorders if nothing is held, in the words of the model alone.
 pub record IsTruePlanReport (c : CaseRows) (budget : ℕ) (stocks : List ℕ) (report : PlanReport) : Type 0 where
   pub budget_is : report.budget ≡ budget
   -- the stocks are within the limits, and cost at most the budget
   pub allocation : IsAllocation c stocks
   pub fits : cost c stocks ≤ budget
-  -- each mean, variance, backorder and availability is enclosed at these stocks, and the cost is theirs
+  -- each mean, variance, backorder and availability is enclosed at these stocks, and the cost is their cost
   pub shows : ShowsFigures 48 c (stock_list c stocks) report.figures
-  -- no allocation within the budget has fewer backorders than the bound, nor than what is printed of it
+  -- no allocation within the budget has fewer backorders than the bound or than the printed bound
   pub fewer : NoAllocationHasFewer c budget report.bound
   pub printed : (n : ℕ) → 1024 ≤ n → (s : List ℕ) → IsAllocation c s → cost c s ≤ budget
       → text_value 6 (millionths_down 48 report.bound) ≤ℚ total c s n
-  -- no price gives a bound higher by more than the rounding
+  -- no price has a bound higher by more than the rounding
   pub no_price : NoPriceIsHigher c budget (report.bound + report.rounding)
-  -- and the total's upper end is the bound and the gap
+  -- and the bound plus the gap is the total's upper end
   pub gap : report.bound + report.gap ≡ (ends report.figures.total).hi

@@ -16,7 +16,7 @@ use marginal_alloc::{Critical, allocate_near, fill};
 use spares_io::NoMemory;
 use std::alloc::Global;
 
-/// The sums over some picks.
+/// Sums over all picks.
 #[derive(Clone, Copy, Drop)]
 struct Totals {
     lagrangian: u128,
@@ -85,7 +85,7 @@ fn totals_of(curves: &[Curve], picks: &[u32], price: Price) -> Totals
     }
 }
 
-/// The Lagrangians of the picks, one by one.
+/// The Lagrangian of each pick.
 fn floors_at(
     alloc: Global,
     curves: &[Curve],
@@ -104,7 +104,7 @@ fn floors_at(
     Ok(floors)
 }
 
-/// The width of the critical vertex, where there is one.
+/// The width of the critical vertex, or 0 if there is none.
 fn slack_of(curves: &[Curve], critical: Option<Critical>) -> u128
     requires { IsPlace curves.now critical }
     ensures slack { result ≡ slack curves.now critical }
@@ -121,7 +121,7 @@ fn slack_of(curves: &[Curve], critical: Option<Critical>) -> u128
     point.hi - point.lo
 }
 
-/// The filled choice of curves: a vertex of each, a floor of each at the price, the sum of the vertices' lower ends,
+/// The filled choice of curves: a vertex and a floor at the price for each curve, the sum of the vertices' lower ends,
 /// and the numbers of the plan.
 #[derive(Drop)]
 pub(crate) struct Choice {
@@ -131,8 +131,8 @@ pub(crate) struct Choice {
     pub numbers: PlanNumbers,
 }
 
-/// The plan of curves that each begin at cost 0, under a budget: it is that of all points of which these are the
-/// curves. The price is guessed to be near, which changes no answer.
+/// The plan of these curves under a budget; it equals the plan of all the points that they summarise. Each curve begins
+/// at cost 0. `near` is a guess of the price and changes no answer.
 pub(crate) fn choose(
     alloc: Global,
     curves: &[Curve],

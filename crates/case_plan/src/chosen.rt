@@ -1,15 +1,16 @@
-//! What is chosen for a case.
+//! The stocks chosen for a case.
 
 use marginal_alloc::plans::PlanNumbers;
 use spares_input::Stocks;
 
-/// Stocks of a case that a budget pays, and what was found with them.
+/// Stocks of a case within a budget, with a floor for each family, the lower end of the aim and the numbers of the
+/// plan.
 #[derive(Drop)]
 pub struct ChosenStocks {
     pub stocks: Stocks,
-    /// For each line unit in order, what no vector of its family is below at the price.
+    /// For each line unit in order, a lower bound of the Lagrangian at the price over all vectors of its family.
     pub floors: Vec<u128>,
-    /// The sum of the lower ends of what the curves aim at.
+    /// The lower end of the aim at these stocks.
     pub lower: u128,
     pub numbers: PlanNumbers,
 }

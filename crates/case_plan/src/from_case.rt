@@ -1,4 +1,4 @@
-//! The plan of a case from the case alone.
+//! The plan of a case, with no curves passed in.
 
 ghost use Rattle.std.specs.Prelude.{◌≤◌, IfOk};
 ghost use Rattle.std.specs.Result.{IsOk};
@@ -17,11 +17,11 @@ use spares_input::{Case, Stocks};
 use spares_io::NoMemory;
 use std::alloc::Global;
 
-/// The plan of a case under a budget in whole money, from what is held on: a list for the case, within the limits.
-/// Where nothing is held, that is a list of zeros.
+/// The plan of a case under a budget in whole money, from held stocks: a list for the case, within the limits. If
+/// nothing is held, the list is zeros.
 ///
-/// It is the one plan of all vectors of the families from what is held to the limits, reported as [`plan`] does.
-/// The work from it is within its limit. Want of memory is the only error.
+/// It is the one plan of all vectors of the families from the held stocks to the limits, reported as [`plan`] does. The
+/// work from the held stocks is within its limit. Want of memory is the only error.
 pub fn plan_case<S: Score>(
     alloc: Global,
     case: &Case,

@@ -1,4 +1,4 @@
-//! The parts of all families, by one pass over the parts of a case.
+//! The parts of all families, found in one pass over the parts of a case.
 
 ghost use Rattle.std.specs.Prelude.{◌≡◌, ◌<◌, true, [], ◌∷◌, IfOk, length, map};
 ghost use Rattle.spares_input.specs.Rows.{is_line};
@@ -10,7 +10,7 @@ use spares_input::{Case, PartId};
 use spares_io::NoMemory;
 use std::alloc::Global;
 
-/// A line unit alone, and nothing of a shop unit.
+/// A list of this line unit alone; empty for a shop unit.
 fn alone(alloc: Global, case: &Case, part: PartId) -> Result<Vec<PartId>, NoMemory>
     requires { part.0 < length case.now.parts }
     ensures { is_line (part_at case.now.parts part.0) ≡ true → IfOk result (λ v. ids v.items ≡ part.0 ∷ []) }
@@ -34,8 +34,8 @@ fn lines_alone(alloc: Global, case: &Case) -> Result<Vec<Vec<PartId>>, NoMemory>
     Ok(rows)
 }
 
-/// The parts of the family of each line unit, by the line unit's number: the line unit, and then its shop units in
-/// part order. At the number of a shop unit stands a list of no meaning. Want of memory is the only error.
+/// The parts of the family of each line unit, by the line unit's number: the line unit, then its shop units in part
+/// order. Entries at shop units are unused. Want of memory is the only error.
 pub(crate) fn all_members(alloc: Global, case: &Case) -> Result<Vec<Vec<PartId>>, NoMemory>
     ensures { IfOk result (λ rows. AreMembers case.now (map (λ v. ids v.items) rows.items)) }
 {

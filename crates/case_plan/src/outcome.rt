@@ -1,17 +1,17 @@
-//! What a plan answers.
+//! The outcome of a plan.
 
 use hull::Price;
 use plan_report::PlanReport;
 use spares_input::Stocks;
 use spares_io::List;
 
-/// A report, and what its certificate claims.
+/// A report with the claims of its certificate.
 #[derive(Drop)]
 pub struct Outcome {
     pub report: PlanReport,
     pub stocks: Stocks,
     pub price: Price,
-    /// For each line unit in order, what no vector of its family is below at the price.
+    /// For each line unit in order, a lower bound of the Lagrangian at the price over all vectors of its family.
     pub floors: List<u128>,
     pub upper: u128,
 }

@@ -18,7 +18,7 @@ use spares_input::{Case, PartId, SiteId, Stocks};
 use spares_io::NoMemory;
 use std::alloc::Global;
 
-/// Puts the stocks of some parts at one site to their pairs.
+/// Writes the stocks of some parts at one site to their pairs.
 fn place_site(stocks: &mut Stocks, units: &[PartId], site: SiteId, part: &[u8])
     requires pairs { (i : ℕ) (d : PartId)
         → i < length units.now → HasPair stocks.old (slice_index_or units.now i d).0 site.0 }
@@ -30,7 +30,7 @@ fn place_site(stocks: &mut Stocks, units: &[PartId], site: SiteId, part: &[u8])
     }
 }
 
-/// Puts the stocks of some parts at all sites, site by site, to their pairs.
+/// Writes the stocks of some parts at all sites, site by site, to their pairs.
 fn place_vector(stocks: &mut Stocks, units: &[PartId], sites: u8, vector: &[u8])
     requires sites { stocks.old.sites ≡ sites }
     requires pairs { (i k : ℕ) (d : PartId)
@@ -45,7 +45,7 @@ fn place_vector(stocks: &mut Stocks, units: &[PartId], sites: u8, vector: &[u8])
     }
 }
 
-/// The stocks that have the vector of each family's picked vertex.
+/// Stocks with the vector of each family's picked vertex.
 pub(crate) fn stocks_of(
     alloc: Global,
     case: &Case,

@@ -9,6 +9,7 @@ ghost use Rattle.hull.specs.declared.point.Point.{Point};
 ghost use Rattle.fleet_model.specs.Rows.{line_units};
 ghost use Rattle.fleet_plan.specs.Plans.{line_of_step};
 ghost use Rattle.case_plan.specs.Chosen.{FitsCase, IsChosen};
+ghost use Rattle.case_plan.specs.Outcomes.{chosen_outcome, IsOutcomeOf};
 ghost use Rattle.case_plan.specs.Report.{if_asked, step_line, AreFamilyCurves, IsPlanOf};
 
 use crate::choose::choose;
@@ -26,7 +27,7 @@ use spares_input::{Case, PartId};
 use spares_io::{List, NoMemory};
 use std::alloc::Global;
 
-/// The line unit at a place among the line units.
+/// The line unit with this index among the line units.
 fn line_at(case: &Case, place: u32) -> PartId
     requires { place < length (line_units case.now) }
     ensures { result.0 ≡ get_or (line_units case.now) place 0 }
@@ -44,7 +45,7 @@ fn line_at(case: &Case, place: u32) -> PartId
     PartId(0)
 }
 
-/// The line of a critical step, where there is one.
+/// The report line of a critical step, if there is one.
 fn line_of(case: &Case, critical: Option<Critical>, price: Price) -> Option<CriticalLine>
     requires { IfSome critical (λ step. step.family < length (line_units case.now)) }
     ensures { result ≡ option_map (step_line case.now price.q) (option_map (line_of_step case.now) critical) }
@@ -59,7 +60,7 @@ fn line_of(case: &Case, critical: Option<Critical>, price: Price) -> Option<Crit
     })
 }
 
-/// The ends of what is aimed at, where they are asked for.
+/// The ends of the aim, if the report asks for them.
 fn aim_of(asked: bool, lower: u128, upper: u128) -> Option<Iv<48>>
     requires ordered { lower ≤ upper }
     requires room { upper < 2 ^ 86 }
@@ -72,12 +73,12 @@ fn aim_of(asked: bool, lower: u128, upper: u128) -> Option<Iv<48>>
     }
 }
 
-/// What is chosen for a case under a budget in whole money, from a curve for each line unit in order.
+/// Stocks for a case under a budget in whole money, from a curve for each line unit in order.
 ///
-/// Each curve begins at cost 0, and the stocks of its points are vectors of its family within the limits. Of whatever
-/// points these are the curves, what is chosen is the one plan of these points. A guess of the plan's price, `near` in
-/// units of 2^-48 for whole money, changes nothing of it: one that is little above the price makes it come sooner. Want
-/// of memory is the only error.
+/// Each curve begins at cost 0, and the stocks of its points are vectors of its family within the limits. The choice is
+/// the one plan of all the points that these curves summarise. `near` guesses the plan's price, in units of 2^-48 for
+/// whole money; it changes no answer, and a guess slightly above the price saves time. Want of memory is the only
+/// error.
 pub fn choose_stocks(
     alloc: Global,
     case: &Case,
@@ -101,11 +102,8 @@ pub fn choose_stocks(
     })
 }
 
-/// The answer of what is chosen for a case, from the families' evaluation at its stocks.
-///
-/// Of whatever curves it was chosen, the answer is that of their plan, as [`plan`] gives it with these terms. Want of
-/// memory is the only error.
-pub fn outcome_at(
+/// The outcome of chosen stocks, from the families' evaluation at these stocks, whatever curves they were chosen from.
+fn outcome_from(
     alloc: Global,
     case: &Case,
     chosen: ChosenStocks,
@@ -117,8 +115,8 @@ pub fn outcome_at(
     requires rates { rate_fault_of case.now ≡ None }
     requires fits { FitsCase case.now chosen }
     requires families { families.now ≡ families_of 48 case.now chosen.stocks }
-    ensures { IfOk result (λ outcome. (curves : List (List Point)) → IsChosen case.now curves budget chosen
-        → IsPlanOf case.now curves (record { budget = budget; loss = loss; on_hand = on_hand }) outcome) }
+    ensures { IfOk result (λ outcome. outcome ≡ chosen_outcome case.now
+        (record { budget = budget; loss = loss; on_hand = on_hand }) chosen) }
 {
     let _sites = case.site_count();
     let numbers = chosen.numbers;
@@ -145,12 +143,35 @@ pub fn outcome_at(
     })
 }
 
+/// The outcome of chosen stocks, from the families' evaluation at these stocks.
+///
+/// If the stocks were chosen from curves, the outcome is their plan's, as [`plan`] returns it with these terms. Want of
+/// memory is the only error.
+pub fn outcome_at(
+    alloc: Global,
+    case: &Case,
+    chosen: ChosenStocks,
+    families: &[FamilyResult<48>],
+    budget: u64,
+    loss: bool,
+    on_hand: Option<u64>,
+) -> Result<Outcome, NoMemory>
+    requires rates { rate_fault_of case.now ≡ None }
+    requires fits { FitsCase case.now chosen }
+    requires families { families.now ≡ families_of 48 case.now chosen.stocks }
+    ensures { IfOk result (λ outcome. (curves : List (List Point)) → IsChosen case.now curves budget chosen
+        → IsPlanOf case.now curves (record { budget = budget; loss = loss; on_hand = on_hand }) outcome) }
+{
+    let _sites = case.site_count();
+    outcome_from(alloc, case, chosen, families, budget, loss, on_hand)
+}
+
 /// The plan of a case under a budget in whole money, from a curve for each line unit in order.
 ///
-/// Each curve begins at cost 0, and the stocks of its points are vectors of its family within the limits. Of whatever
-/// points, from whatever stocks held, these are the curves, the answer is that of the one plan of these points. Where
-/// `loss` is set, the report has the ends of what the curves aim at as a loss; `on_hand` is put into the report. Want
-/// of memory is the only error.
+/// Each curve begins at cost 0, and the stocks of its points are vectors of its family within the limits. The outcome
+/// is the one plan of all the points that these curves summarise, whatever the points. If they are the points of the
+/// case's families from held stocks, it is the case's plan from these stocks. If `loss` is set, the report has the ends
+/// of the curves' aim as a loss. `on_hand` is copied into the report. Want of memory is the only error.
 pub fn plan(
     alloc: Global,
     case: &Case,
@@ -163,12 +184,15 @@ pub fn plan(
     requires rates { AreRatesOf case.now rates.now }
     requires budget { budget ≤ most_budget }
     requires curves { AreFamilyCurves case.now curves.now }
-    ensures { IfOk result (IsPlanOf case.now curves.now (record { budget = budget; loss = loss; on_hand = on_hand })) }
+    ensures curves { IfOk result (IsOutcomeOf case.now curves.now
+        (record { budget = budget; loss = loss; on_hand = on_hand })) }
+    ensures case { IfOk result (IsPlanOf case.now curves.now
+        (record { budget = budget; loss = loss; on_hand = on_hand })) }
 {
     let _sites = case.site_count();
     let chosen = choose_stocks(alloc, case, curves, budget, 0)?;
     let families = evaluate_all::<48>(alloc, case, rates, &chosen.stocks)?;
-    outcome_at(
+    outcome_from(
         alloc,
         case,
         chosen,

@@ -1,8 +1,8 @@
-//! Certificates as texts, and what their checker answers.
+//! Certificates as texts, and the answers of their checker.
 
 use demand_rates::{Place, RateFault};
 use gap_checker::{Accepted, Reject, check};
-use price_certificate::{CertFault, Objective, read};
+use price_certificate::{CertFault, read};
 use spares_input::{CaseFault, PartId, SiteId};
 use spares_io::{NoMemory, Stop};
 use std::alloc::Global;
@@ -19,7 +19,7 @@ const PLAIN: &str = "spares-certificate,1\n\
     stocks,2\n0\n0\n\
     upper,844424930131968\nbound,844424930131968\nend\n";
 
-/// The same, where the line unit weighs three times as much.
+/// The same with a weight of three.
 const WEIGHTED: &str = "spares-certificate,1\n\
     sites,2\nD,depot,,\nB,base,12,10.00\n\
     parts,1,weights\nL,,100,1,2,3,3\n\
@@ -29,7 +29,7 @@ const WEIGHTED: &str = "spares-certificate,1\n\
     stocks,2\n0\n0\n\
     upper,2533274790395904\nbound,2533274790395904\nend\n";
 
-/// A line unit with two shop units, of which there are more tables than are made.
+/// A line unit with two shop units and more tables than the limit.
 const LARGE: &str = "spares-certificate,1\n\
     sites,4\nD,depot,,\nB1,base,12,10.00\nB2,base,12,10.00\nB3,base,12,10.00\n\
     parts,3\nL,,100,1,9,0\nS0,L,10,,13,13\nS1,L,10,,13,13\n\
@@ -41,27 +41,30 @@ const LARGE: &str = "spares-certificate,1\n\
     stocks,12\n0\n0\n0\n0\n0\n0\n0\n0\n0\n0\n0\n0\n\
     upper,38685626227668133590597632\nbound,0\nend\n";
 
-/// The first line where covers show the floors.
+/// The first line if covers show the floors.
 const SECOND: (usize, &str) = (1, "spares-certificate,2\nobjective,backorders");
+
+/// The same by the loss.
+const LOSS: (usize, &str) = (1, "spares-certificate,2\nobjective,log-availability");
 
 /// No change.
 const SAME: (usize, &str) = (0, "");
 
-/// What is answered for a certificate's bytes.
+/// The answer for a certificate's bytes.
 #[derive(Clone, Copy, Debug, PartialEq, Eq)]
 enum Answer {
     /// The bytes are no certificate.
     Unread(CertFault),
     /// The checker refuses.
     Refused(Reject),
-    /// The direct part of a pipeline is nothing.
+    /// A pipeline has no direct part.
     Thin(Place),
     Takes(Accepted),
-    /// No memory, too many bytes, or another objective.
+    /// No memory, or too many bytes.
     Else,
 }
 
-/// Nothing is bought, and nothing less can be.
+/// Nothing is bought, and no stocks have less.
 const THREE: Answer = Answer::Takes(Accepted {
     bound: 844_424_930_131_968,
     upper: 844_424_930_131_968,
@@ -75,21 +78,21 @@ const NINE: Answer = Answer::Takes(Accepted {
     cost: 0,
 });
 
-/// The same with a bound that says nothing.
+/// The same with a bound of 0.
 const NO_BOUND: Answer = Answer::Takes(Accepted {
     bound: 0,
     upper: 844_424_930_131_968,
     cost: 0,
 });
 
-/// The largest upper end, and a bound that says nothing.
+/// The largest upper end, and a bound of 0.
 const ANYTHING: Answer = Answer::Takes(Accepted {
     bound: 0,
     upper: 1 << 85,
     cost: 0,
 });
 
-/// Certificates of which some lines are changed, counted from 1, and what is answered.
+/// Certificates with some changed lines, counted from 1, and their answers.
 const FIRST_FORMAT: [(&str, [(usize, &str); 3], Answer); 13] = [
     (PLAIN, [SAME, SAME, SAME], THREE),
     (WEIGHTED, [SAME, SAME, SAME], NINE),
@@ -168,8 +171,8 @@ const FIRST_FORMAT: [(&str, [(usize, &str); 3], Answer); 13] = [
     ),
 ];
 
-/// The same, where covers show the floors.
-const SECOND_FORMAT: [(&str, [(usize, &str); 3], Answer); 5] = [
+/// The same if covers show the floors. The large case split at 1 needs 115,530 tables.
+const SECOND_FORMAT: [(&str, [(usize, &str); 3], Answer); 8] = [
     (
         PLAIN,
         [
@@ -225,9 +228,39 @@ const SECOND_FORMAT: [(&str, [(usize, &str); 3], Answer); 5] = [
         [SECOND, (27, "0\ncovers,1\ncover,1\ncost"), SAME],
         ANYTHING,
     ),
+    (
+        LARGE,
+        [
+            SECOND,
+            (27, "0\ncovers,1\ncover,3\nsplit,0,1\nwhole\ncost"),
+            SAME,
+        ],
+        ANYTHING,
+    ),
+    (
+        LARGE,
+        [
+            SECOND,
+            (27, "0\ncovers,1\ncover,3\nsplit,0,9\nwhole\ncost"),
+            SAME,
+        ],
+        Answer::Refused(Reject::WorkTooLarge(1_037_514)),
+    ),
+    (
+        PLAIN,
+        [
+            LOSS,
+            (13, "84442493013196800\ncovers,1\ncover,1\nwhole"),
+            SAME,
+        ],
+        Answer::Refused(Reject::UpperTooLow {
+            claimed: 844_424_930_131_968,
+            upper: 971_703_655_724_172,
+        }),
+    ),
 ];
 
-/// The line of that number after the changes.
+/// The line of this number after the changes.
 fn changed<'a>(number: usize, line: &'a str, changes: &[(usize, &'a str)]) -> &'a str {
     let mut now = line;
     for (at, new) in changes {
@@ -256,7 +289,7 @@ fn bytes_of<'a>(
     Ok(bytes)
 }
 
-/// What is answered for these bytes.
+/// The answer for these bytes.
 fn answer_of(alloc: Global, bytes: &[u8]) -> Answer {
     if bytes.len() > 16_777_216 {
         return Answer::Else;
@@ -265,9 +298,6 @@ fn answer_of(alloc: Global, bytes: &[u8]) -> Answer {
         Ok(certificate) => certificate,
         Err(Stop::NoMemory) => return Answer::Else,
         Err(Stop::Fault(fault)) => return Answer::Unread(fault),
-    };
-    let Objective::Backorders = certificate.objective else {
-        return Answer::Else;
     };
     match check(alloc, &certificate) {
         Ok(accepted) => Answer::Takes(accepted),

@@ -1,5 +1,5 @@
-//! Curves and counts of families, over tables. The numbers are those of a program that was written apart from this
-//! one; of small families it tries all vectors one by one.
+//! Curves and counts of families, over tables. The numbers come from a program written apart from this one, which tries
+//! each vector of a small family.
 ghost use Rattle.std.specs.Prelude.{◌≡◌, ◌≤◌, true};
 ghost use Rattle.std.specs.List.{AllZip};
 ghost use Rattle.family_eval.specs.Inputs.{IsLine};
@@ -31,13 +31,13 @@ const LARGE: [&str; 3] = [
     "part,parent,cost,per_system,max_depot,max_base\nL,,100,1,63,63\n",
     "part,site,demand,repair_here,share,repair_days\nL,D,,,,20\nL,B1,3.65,0,,0\nL,B2,3.65,0,,0\nL,B3,3.65,0,,0\nL,B4,3.65,0,,0\nL,B5,3.65,0,,0\nL,B6,3.65,0,,0\nL,B7,3.65,0,,0\nL,B8,3.65,0,,0\nL,B9,3.65,0,,0\nL,B10,3.65,0,,0\nL,B11,3.65,0,,0\nL,B12,3.65,0,,0\nL,B13,3.65,0,,0\nL,B14,3.65,0,,0\nL,B15,3.65,0,,0\n",
 ];
-/// A line unit with two shop units, of which the depot may have 9 each.
+/// A line unit with two shop units; the depot may have 9 of each.
 const SHOPS: [&str; 3] = [
     "site,kind,systems,ship_days\nD,depot,,\na,base,10,5\nb,base,10,5\nc,base,10,5\n",
     "part,parent,cost,per_system,max_depot,max_base,weight\nL,,1,1,9,3,1\nS,L,1,,9,9,\nR,L,1,,9,9,\n",
     "part,site,demand,repair_here,share,repair_days\nL,D,,,,10\nL,a,36.5,0.5,,5\nL,b,18.25,0.5,,5\nL,c,7.3,0.5,,5\nS,D,,,0.4,20\nS,a,,0.25,0.4,5\nS,b,,0.25,0.4,5\nS,c,,0.25,0.4,5\nR,D,,,0.4,20\nR,a,,0.25,0.4,5\nR,b,,0.25,0.4,5\nR,c,,0.25,0.4,5\n",
 ];
-/// The same with 63 each.
+/// The same with 63 of each.
 const HUGE: [&str; 3] = [
     "site,kind,systems,ship_days\nD,depot,,\na,base,10,5\nb,base,10,5\nc,base,10,5\n",
     "part,parent,cost,per_system,max_depot,max_base,weight\nL,,1,1,63,3,1\nS,L,1,,63,63,\nR,L,1,,63,63,\n",
@@ -98,7 +98,7 @@ fn with_point(digest: u128, point: &Point) -> u128 {
     digest
 }
 
-/// How many vertices there are, and a digest of their costs, ends and stocks, one after another.
+/// The count of vertices, and a digest of their costs, ends and stocks in order.
 fn digest(curve: &Curve) -> (u32, u128) {
     let mut digest = 0;
     for k in 0..curve.len() {
@@ -132,7 +132,7 @@ fn gives_curves_of_families(rt: HostRuntime) {
     }
 }
 
-/// Whether the lists are of one length, and at each place the first has no more than the second.
+/// Whether the lists have the same length, and at each place the first has no more than the second.
 fn is_at_most(low: &[u8], high: &[u8]) -> bool
     ensures { result ≡ true → AllZip (λ x y. x ≤ y) low.now high.now }
 {

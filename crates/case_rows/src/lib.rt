@@ -1,5 +1,5 @@
-//! Worked rows of the library crates: cases as tables and certificates as texts, and what the crates answer for them.
-//! They are run by the tests of this crate.
+//! Worked rows of the library crates: cases as tables and certificates as texts, with the crates' answers. The tests of
+//! this crate run them.
 #![tactic(auto)]
 
 #[cfg(test)]

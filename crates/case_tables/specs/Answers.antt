@@ -1,4 +1,4 @@
--- What the calls answer: a value, the refusal of its definition, or want of memory.
+-- The answers of the calls: a value, the refusal of its definition, or want of memory.
 use Rattle.std.specs.Prelude.{◌≡◌, ⊤, Result, Ok, Err}
 use Rattle.spares_input.specs.Cases.{CaseRows}
 use Rattle.spares_io.specs.declared.stop.Stop.{Stop}
@@ -8,13 +8,13 @@ use Rattle.case_tables.specs.declared.Accepted.{Accepted}
 use Rattle.case_tables.specs.declared.Stocked.{Stocked}
 use Rattle.case_tables.specs.Tables.{StockedCase}
 
--- a case, as the definition gives it
+-- a case with rates, by its definition
 abbrev pub Tells : Result CaseRows Failure → Result Accepted (Stop Failure) → Type 0
 Tells given (Ok accepted) = given ≡ Ok accepted.case
 Tells given (Err stop.NoMemory) = ⊤
 Tells given (Err (stop.Fault failure)) = given ≡ Err failure
 
--- a case with stocks
+-- a case with stocks, by its definition
 abbrev pub TellsStocked : Result StockedCase Failure → Result Stocked (Stop Failure) → Type 0
 TellsStocked given (Ok stocked) = given ≡ Ok (record { case = stocked.case; stocks = stocked.stocks })
 TellsStocked given (Err stop.NoMemory) = ⊤

@@ -1,4 +1,4 @@
--- From the bytes of tables to a case and its stocks, or to the first refusal, with its line.
+-- The reading of tables: their bytes become a case and its stocks, or the first refusal, with its line.
 use Rattle.std.specs.Prelude.{ℕ, List, Result, Ok}
 use Rattle.csv_tables.specs.Parts.{parts_of}
 use Rattle.csv_tables.specs.Rates.{rates_of}
@@ -17,14 +17,14 @@ use Rattle.spares_io.specs.Steps.{◌>>=◌}
 use Rattle.refusals.specs.Causes.{or_refuse}
 use Rattle.refusals.specs.Lines.{no_names}
 
--- the frame of two tables; there are no names yet
+-- the frame of two tables, or a refusal without names
 unfoldable pub frame_of_tables : List ℕ → List ℕ → Result FrameRows Failure
 frame_of_tables sites_bytes parts_bytes = do
   sites ← or_refuse no_names (refusal.Table Sites) (sites_of sites_bytes)
   parts ← or_refuse no_names (refusal.Table Parts) (parts_of parts_bytes)
   or_refuse no_names refusal.Case (frame_of sites parts)
 
--- the rates of a frame by the third table
+-- the case of a frame and the third table
 unfoldable pub case_of_table : FrameRows → List ℕ → Result CaseRows Failure
 case_of_table frame rates_bytes = do
   rates ← or_refuse frame (refusal.Table Rates) (rates_of frame rates_bytes)
@@ -36,17 +36,17 @@ case_of_tables sites_bytes parts_bytes rates_bytes = do
   frame ← frame_of_tables sites_bytes parts_bytes
   case_of_table frame rates_bytes
 
--- the stocks of a case by a further table, which this file is
+-- the stocks of a case from one more table, which is this file
 unfoldable pub stocks_of_table : File → CaseRows → List ℕ → Result StockList Failure
 stocks_of_table file case stocks_bytes = do
   rows ← or_refuse (frame_rows case) (refusal.Table file) (stocks_table.stocks_of (frame_rows case) stocks_bytes)
   or_refuse (frame_rows case) refusal.Stock (stocks_of case rows)
 
--- the rates of a case, where the model takes all of its pipelines
+-- the rates of a case, if all are within the limits of the model
 unfoldable pub rates_of_case : CaseRows → Result RateList Failure
 rates_of_case case = or_refuse (frame_rows case) refusal.Rate (model.rates_of case)
 
--- the case of three tables, where the model takes all of its pipelines
+-- the case of three tables, if all its pipelines are within the limits of the model
 unfoldable pub accepted_of : List ℕ → List ℕ → List ℕ → Result CaseRows Failure
 accepted_of sites_bytes parts_bytes rates_bytes = do
   case ← case_of_tables sites_bytes parts_bytes rates_bytes
@@ -58,8 +58,8 @@ pub record StockedCase : Type 0 where
   pub case : CaseRows
   pub stocks : StockList
 
--- the case and the stocks of four tables, the fourth of which this file is, where the model takes all pipelines of
--- the case
+-- the case and the stocks of four tables, of which the fourth is this file, if all pipelines are within the limits of
+-- the model
 unfoldable pub stocked_of : File → List ℕ → List ℕ → List ℕ → List ℕ → Result StockedCase Failure
 stocked_of file sites_bytes parts_bytes rates_bytes stocks_bytes = do
   case ← case_of_tables sites_bytes parts_bytes rates_bytes

@@ -1,5 +1,5 @@
-//! From the bytes of tables to a case, its stocks and its rates, or to the first refusal, with the names of the case
-//! at hand.
+//! The reading of tables: their bytes become a case, its stocks and its rates, or the first refusal, with the names of
+//! the case.
 #![tactic(auto)]
 
 ghost use Rattle.std.specs.Prelude.{◌≤◌, IfOk, length};
@@ -69,9 +69,9 @@ fn case_in(alloc: Global, frame: Frame, bytes: &[u8]) -> Result<Case, Stop<Failu
     }
 }
 
-/// The case of three tables: sites, parts and rates. Whether the model takes its rates isn't looked at.
+/// The case of three tables: sites, parts and rates. Its rates may be beyond the limits of the model.
 ///
-/// The answer is the first refusal: `Table` of the sites, `Table` of the parts, `Case` of the two, `Table` of the
+/// A refusal is the first in this order: `Table` of the sites, `Table` of the parts, `Case` of the two, `Table` of the
 /// rates, or `Case` of the three.
 pub fn case_of(
     alloc: Global,
@@ -88,7 +88,7 @@ pub fn case_of(
     case_in(alloc, frame, rates)
 }
 
-/// The stocks of a case by a further table, which this file is.
+/// The stocks of a case from one more table, which is this file.
 #[tactic(auto, unfolding(crate::specs::Tables::stocks_of_table))]
 fn stocks_in(alloc: Global, case: &Case, file: File, bytes: &[u8]) -> Result<Stocks, Stop<Failure>>
     requires { length bytes.now ≤ table_limit }
@@ -113,7 +113,7 @@ fn stocks_in(alloc: Global, case: &Case, file: File, bytes: &[u8]) -> Result<Sto
     }
 }
 
-/// The rates of a case that the model takes.
+/// The rates of a case, if all are within the limits of the model.
 #[tactic(auto, unfolding(crate::specs::Tables::rates_of_case))]
 fn rates_of(alloc: Global, case: &Case) -> Result<Rates, Stop<Failure>>
     ensures answer { Gives (rates_of_case case.now) result }
@@ -128,7 +128,7 @@ fn rates_of(alloc: Global, case: &Case) -> Result<Rates, Stop<Failure>>
     }
 }
 
-/// A case, and its rates, which the model takes.
+/// A case with its rates, which are within the limits of the model.
 #[derive(Drop)]
 pub struct Accepted {
     pub case: Case,
@@ -137,8 +137,8 @@ pub struct Accepted {
 
 /// The case of three tables: sites, parts and rates, with its rates.
 ///
-/// The answer is the first refusal: `Table` of the sites, `Table` of the parts, `Case` of the two, `Table` of the
-/// rates, `Case` of the three, or `Rate` where a pipeline is beyond the model's limits.
+/// A refusal is the first in this order: `Table` of the sites, `Table` of the parts, `Case` of the two, `Table` of the
+/// rates, `Case` of the three, or `Rate` if a pipeline is beyond the limits of the model.
 #[tactic(auto, unfolding(crate::specs::Tables::accepted_of))]
 pub fn accepted_of(
     alloc: Global,
@@ -157,7 +157,7 @@ pub fn accepted_of(
     Ok(Accepted { case, rates })
 }
 
-/// A case with stocks that are within its limits, and its rates, which the model takes.
+/// A case with its rates, which are within the limits of the model, and stocks, which are within the case's limits.
 #[derive(Drop)]
 pub struct Stocked {
     pub case: Case,
@@ -165,9 +165,9 @@ pub struct Stocked {
     pub rates: Rates,
 }
 
-/// The case of three tables with the stocks of a fourth, which this file is.
+/// The case of three tables with the stocks of a fourth, which is this file.
 ///
-/// The answer is the first refusal: those of a case, then `Table` of that file or `Stock`, and then `Rate`.
+/// A refusal is the first in this order: the refusals of a case, then `Table` of this file or `Stock`, then `Rate`.
 #[tactic(auto, unfolding(crate::specs::Tables::stocked_of))]
 pub fn stocked_of(
     alloc: Global,

@@ -1,4 +1,4 @@
--- What an accepted certificate says of its case.
+-- The statements of an accepted certificate about its case.
 use Rattle.std.specs.Prelude.{◌≡◌, None}
 use Rattle.hull.specs.Scores.{EnclosesValue}
 use Rattle.spares_input.specs.Stocks.{StockList, IsFor, nothing_held}
@@ -19,14 +19,14 @@ claims_of cert = record {
   bound = cert.bound;
 }
 
--- for every score whose intervals enclose its value, and for stocks that are held
+-- for every score whose intervals enclose its value, and for held stocks
 abbrev pub AcceptedAreTrue : Type 0
 AcceptedAreTrue =
     (ends : ScoreEnds) (value : Value) (cert : Certificate) (held : StockList)
     → EnclosesValue ends value → IsWellFormed cert → IsFor cert.case held → reject_of ends cert held ≡ None
     → AreTrueClaims value cert.case held.list cert.budget (claims_of cert)
 
--- of weighted backorders, where nothing is held
+-- for weighted backorders, if nothing is held
 abbrev pub PlainAcceptedAreTrue : Type 0
 PlainAcceptedAreTrue =
     (cert : Certificate) → IsWellFormed cert → reject_of plain_ends cert (nothing_held cert.case) ≡ None

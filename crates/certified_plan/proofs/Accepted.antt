@@ -43,8 +43,8 @@ use Rattle.gap_checker.proofs.Judging.{by_none}
 use Rattle.gap_checker.proofs.Readings.{trees_are_read}
 use Rattle.gap_checker.proofs.StockFaults.{else_none}
 use Rattle.price_certificate.specs.declared.certificate.Terms.{Terms}
-use Rattle.certified_plan.specs.Scores as scores
-use Rattle.certified_plan.specs.Scores.{ends_of}
+use Rattle.gap_checker.specs.Scores as scores
+use Rattle.gap_checker.specs.Scores.{ends_of}
 use Rattle.certified_plan.specs.Certificates.{covers_of, certificate_of, claims_of}
 use Rattle.on_hand.specs.Work.{tables_from}
 use Rattle.certified_plan.specs.Inputs.{IsWithinWork}

@@ -27,7 +27,7 @@ use Rattle.gap_checker.proofs.Places.{place_pair}
 use Rattle.hull.specs.Curves.{Among}
 use Rattle.hull.proofs.Runs.{among_at}
 use Rattle.price_certificate.specs.declared.certificate.Terms.{Terms}
-use Rattle.certified_plan.specs.Scores.{ends_of, value_of}
+use Rattle.gap_checker.specs.Scores.{ends_of, value_of}
 use Rattle.certified_plan.specs.Certificates.{cover_at, covers_of, certificate_of, claims_of}
 use Rattle.certified_plan.specs.declared.terms.PlanClaims.{PlanClaims}
 use Rattle.certified_plan.specs.Inputs.{AreTerms, IsHeld, AreClaims}

@@ -18,7 +18,8 @@ use Rattle.price_certificate.specs.Covers.{Tree, Corner, put, held_at, most_at, 
 use Rattle.gap_checker.specs.Boxes.{AtMost}
 use Rattle.gap_checker.specs.Covers.{box_of, fewer, as_many}
 use Rattle.gap_checker.specs.Trees.{leaves_of}
-use Rattle.gap_checker.specs.Values.{least, least_within, value_of, leaf_tables, cover_tables}
+use Rattle.family_curve.specs.Least.{least}
+use Rattle.gap_checker.specs.Values.{least_within, value_of, leaf_tables, cover_tables}
 use Rattle.gap_checker.specs.Refusals.{low_leaf}
 use Rattle.gap_checker.proofs.Boxes.{at_most_self, at_most_chain, at_most_unset_high}
 use Rattle.gap_checker.proofs.AmongLaws.{IsBetween, among_vectors, between}

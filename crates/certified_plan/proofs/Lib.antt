@@ -7,6 +7,7 @@ pub mod Leaves
 pub mod Formed
 pub mod Made
 pub mod Accepted
+pub mod Nearest
 pub mod Zeros
 pub mod Widths
 pub mod Sizes

@@ -14,8 +14,8 @@ use Rattle.on_hand.specs.Held.{held_text}
 use Rattle.price_certificate.specs.declared.certificate.Terms.{Terms}
 use Rattle.certified_plan.specs.declared.terms.PlanClaims.{PlanClaims}
 
--- the cover of the family of the line unit l at a price and a floor: over the vectors from what is held to the
--- limits, what cost alone shows is left to it
+-- the trimmed cover of the family of the line unit l at a price and a floor, over its vectors from the held stocks to
+-- the limits
 abbrev pub cover_of : CaseRows → List ℕ → ℕ → ℕ → ℕ → List Node
 cover_of c held p floor l = nodes_of (trimmed p floor (places_of c l (vector_of c l held)))
 
@@ -27,7 +27,7 @@ cover_at c held p floors f = cover_of c held p (get_or floors f 0) (get_or (line
 abbrev pub covers_of : CaseRows → List ℕ → ℕ → List ℕ → List (List Node)
 covers_of c held p floors = map (cover_at c held p floors) (range_with_len 0 (length (line_units c)))
 
--- format 1 has none
+-- format 1 has no covers
 abbrev pub covers_in : CaseRows → List ℕ → ℕ → ℕ → List ℕ → List (List Node)
 covers_in c held format p floors = if format == 2 then covers_of c held p floors else []
 
@@ -46,7 +46,7 @@ certificate_of c held terms claims = record {
   bound = claims.bound;
 }
 
--- what a plan claims
+-- the claims of a plan
 abbrev pub claims_of : CaseRows → CasePlan → PlanClaims
 claims_of c p = record {
   stocks = stock_list c p.stocks;
@@ -56,7 +56,7 @@ claims_of c p = record {
   bound = p.numbers.bound;
 }
 
--- its text, with what is held where there is a list of that
+-- the text of a certificate, with the held stocks if there are any
 abbrev pub text_of : Certificate → Option StockList → List ℕ
 text_of cert None = cert_text cert
 text_of cert (Some held) = held_text (record { certificate = cert; held = held })

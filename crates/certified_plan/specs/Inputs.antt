@@ -1,4 +1,4 @@
--- What a plan's certificate is made of.
+-- The inputs of a plan's certificate.
 use Rattle.std.specs.Prelude.{◌≡◌, ℕ, ◌^◌, ◌≤◌, List, length, All}
 use Rattle.std.specs.Result.{IsOk}
 use Rattle.spares_input.specs.Cases.{CaseRows}
@@ -10,7 +10,7 @@ use Rattle.price_certificate.specs.declared.certificate.Objective.TheVariants.{B
 use Rattle.price_certificate.specs.declared.certificate.Terms.{Terms}
 use Rattle.certified_plan.specs.declared.terms.PlanClaims.{PlanClaims}
 
--- the budget is in its range, and the format is 1 or 2; format 1 has backorders alone
+-- the budget is in its range, and the format is 1 or 2; format 1 has only backorders
 pub record AreTerms (terms : Terms) : Type 0 where
   pub budget : terms.budget ≤ most_budget
   pub fewest : 1 ≤ terms.format
@@ -34,6 +34,6 @@ pub record AreClaims (c : CaseRows) (claims : PlanClaims) : Type 0 where
   pub upper : claims.upper ≤ 2 ^ 85
   pub bound : claims.bound ≤ 2 ^ 85
 
--- the work of the curves from what is held is within its limit
+-- the work of the curves from the held stocks is within its limit
 abbrev pub IsWithinWork : CaseRows → List ℕ → Type 0
 IsWithinWork c held = IsOk (held_work_of c held)

@@ -1,16 +1,17 @@
--- What holds of a plan's certificate.
-use Rattle.std.specs.Prelude.{◌≡◌, ◌≤◌, length, None}
+-- The laws of a plan's certificate.
+use Rattle.std.specs.Prelude.{◌≡◌, ℕ, ◌+◌, ◌≤◌, length, None}
 use Rattle.hull.specs.Scores.{EnclosesValue, LeavesRoom}
 use Rattle.spares_input.specs.Cases.{CaseRows}
 use Rattle.spares_input.specs.Stocks.{StockList}
 use Rattle.fleet_plan.specs.Plans.{CasePlan, IsCasePlan}
 use Rattle.fleet_plan.specs.Laws.{IsAcceptedCase}
 use Rattle.price_certificate.specs.declared.certificate.Objective.{Objective}
-use Rattle.price_certificate.specs.Certificates.{cert_text, certificate_limit}
+use Rattle.price_certificate.specs.declared.certificate.Certificate.{Certificate}
+use Rattle.price_certificate.specs.Certificates.{IsWellFormed, cert_text, certificate_limit}
 use Rattle.gap_checker.specs.Refusals.{reject_of}
 use Rattle.on_hand.specs.Held.{held_text}
 use Rattle.price_certificate.specs.declared.certificate.Terms.{Terms}
-use Rattle.certified_plan.specs.Scores.{ends_of, value_of}
+use Rattle.gap_checker.specs.Scores.{ends_of, value_of}
 use Rattle.certified_plan.specs.Inputs.{AreTerms, IsHeld, AreClaims, IsWithinWork}
 use Rattle.certified_plan.specs.Certificates.{certificate_of, claims_of}
 
@@ -22,33 +23,52 @@ ScoresEnclose = (o : Objective) → EnclosesValue (ends_of o) (value_of o)
 abbrev pub ScoresLeaveRoom : Type 0
 ScoresLeaveRoom = (o : Objective) → LeavesRoom (ends_of o)
 
--- the plan of an accepted case, from what is held, on these terms
+-- the plan of an accepted case, from the held stocks, on these terms
 pub record IsPlanOn (c : CaseRows) (held : StockList) (terms : Terms) (p : CasePlan) : Type 0 where
   pub accepted : IsAcceptedCase c
   pub are_terms : AreTerms terms
   pub is_held : IsHeld c held
   pub plan : IsCasePlan (ends_of terms.objective) c held.list terms.budget p
 
--- what it claims is in its range,
+-- its claims are in their ranges,
 abbrev pub PlansClaim : Type 0
 PlansClaim =
     (c : CaseRows) (held : StockList) (terms : Terms) (p : CasePlan)
     → IsPlanOn c held terms p → AreClaims c (claims_of c p)
 
--- and the checker accepts it, where the work is within the limit.
+-- and the checker accepts it, if the work is within the limit.
 abbrev pub PlansAreAccepted : Type 0
 PlansAreAccepted =
     (c : CaseRows) (held : StockList) (terms : Terms) (p : CasePlan)
     → IsPlanOn c held terms p → IsWithinWork c held.list
     → reject_of (ends_of terms.objective) (certificate_of c held terms (claims_of c p)) held ≡ None
 
--- its text is within the bytes that are read of a certificate
+-- a certificate of this case, budget and objective that breaks no rule of the checker over these held stocks, whoever
+-- made it
+pub record IsAcceptedFor (c : CaseRows) (held : StockList) (terms : Terms) (cert : Certificate) : Type 0 where
+  pub formed : IsWellFormed cert
+  pub case_is : cert.case ≡ c
+  pub budget_is : cert.budget ≡ terms.budget
+  pub objective_is : cert.objective ≡ terms.objective
+  pub breaks_none : reject_of (ends_of terms.objective) cert held ≡ None
+
+-- no such certificate has a bound above this one
+abbrev pub NoCertificateShowsMore : CaseRows → StockList → Terms → ℕ → Type 0
+NoCertificateShowsMore c held terms most = (cert : Certificate) → IsAcceptedFor c held terms cert → cert.bound ≤ most
+
+-- No certificate that the checker accepts has a bound above the plan's bound plus its rounding.
+abbrev pub PlansComeNearest : Type 0
+PlansComeNearest =
+    (c : CaseRows) (held : StockList) (terms : Terms) (p : CasePlan)
+    → IsPlanOn c held terms p → NoCertificateShowsMore c held terms (p.numbers.bound + p.numbers.rounding)
+
+-- the text of a plan's certificate is short enough to be read
 abbrev pub TextsAreShort : Type 0
 TextsAreShort =
     (c : CaseRows) (held : StockList) (terms : Terms) (p : CasePlan)
     → IsPlanOn c held terms p → length (cert_text (certificate_of c held terms (claims_of c p))) ≤ certificate_limit
 
--- a plan's certificate with what is held is within the bytes that are read
+-- so is the text of a plan's certificate with held stocks
 abbrev pub HeldTextsAreShort : Type 0
 HeldTextsAreShort =
     (c : CaseRows) (held : StockList) (terms : Terms) (p : CasePlan)

@@ -1,4 +1,3 @@
-pub mod Scores
 pub mod Inputs
 pub mod Certificates
 pub mod Laws

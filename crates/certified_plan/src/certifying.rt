@@ -16,7 +16,7 @@ use spares_input::{Case, PartId, Stocks};
 use spares_io::{List, NoMemory};
 use std::alloc::Global;
 
-/// The cover of a family at a price and its floor, from what is held.
+/// The cover of a family at a price and its floor, from the held stocks.
 fn cover_of(
     alloc: Global,
     case: &Case,
@@ -36,7 +36,7 @@ fn cover_of(
     Ok(List::of(nodes))
 }
 
-/// The covers of all families, in the order of their line units, which are these.
+/// The covers of all families, in the order of `lines`, the case's line units.
 fn covers_along(
     alloc: Global,
     case: &Case,
@@ -75,7 +75,7 @@ fn covers_of(
     covers_along(alloc, case, held, price, floors, lines.as_slice())
 }
 
-/// The covers, which stand in format 2 alone.
+/// The covers, which only format 2 has.
 fn covers_in(
     alloc: Global,
     case: &Case,
@@ -96,11 +96,11 @@ fn covers_in(
     }
 }
 
-/// The certificate of a plan's claims on its terms, over what is held. In format 2 the covers leave to cost what
-/// these floors allow.
+/// The certificate of a plan's claims on these terms, with these stocks held. In format 2 each cover is trimmed: it
+/// leaves to cost the boxes whose cost alone shows the floor.
 ///
-/// The terms and the claims are in their ranges, and what is held is a list for the case, within its limits. Want of
-/// memory is the only error.
+/// The terms and the claims are in their ranges, and `held` is a list for the case, within its limits. Want of memory
+/// is the only error.
 pub fn certificate(
     alloc: Global,
     case: Case,

@@ -1,6 +1,6 @@
-//! What holds of a plan's certificate, as contracts of functions that do nothing.
+//! The laws of a plan's certificate, as contracts of functions with empty bodies.
 
-ghost use Rattle.certified_plan.specs.Laws.{HeldTextsAreShort, PlansAreAccepted, PlansClaim, ScoresEnclose, ScoresLeaveRoom, TextsAreShort};
+ghost use Rattle.certified_plan.specs.Laws.{HeldTextsAreShort, PlansAreAccepted, PlansClaim, PlansComeNearest, ScoresEnclose, ScoresLeaveRoom, TextsAreShort};
 
 /// The intervals of each objective enclose its values, and leave room to add up.
 pub fn scores_are_sound()
@@ -8,17 +8,23 @@ pub fn scores_are_sound()
     ensures room { ScoresLeaveRoom }
 {}
 
-/// What a plan claims is in its range, so that a certificate is made of it.
+/// The claims of a plan are in their ranges, so a certificate can carry them.
 pub fn plans_claim()
     ensures { PlansClaim }
 {}
 
-/// The checker accepts the certificate of a plan, in both formats, for each objective and from whatever is held.
+/// The checker accepts the certificate of a plan, in both formats, for each objective and with any held stocks.
 pub fn plans_are_accepted()
     ensures { PlansAreAccepted }
 {}
 
-/// The text of a plan's certificate is within what is read, also with what is held.
+/// No certificate of the same case, held stocks, budget and objective that the checker accepts has a bound above the
+/// plan's bound plus its rounding.
+pub fn plans_come_nearest()
+    ensures { PlansComeNearest }
+{}
+
+/// The text of a plan's certificate is short enough to be read, with and without held stocks.
 pub fn texts_are_short()
     ensures certificate { TextsAreShort }
     ensures held { HeldTextsAreShort }

@@ -1,9 +1,9 @@
 //! The certificate of a plan, which the checker accepts.
 //!
-//! A plan's certificate carries the case, the budget, the price of the hull choice with the exact floor of each
-//! family at it, the stocks, and their upper end and bound. In format 2 each family has a cover, which leaves to cost
-//! what cost alone shows. The laws say that it is well formed, that no rule of the checker refuses it, and that its
-//! text is within what is read: for both objectives, and for plans that begin with stocks on hand.
+//! A plan's certificate carries the case, the budget, the price of the hull choice with each family's exact floor at
+//! this price, the stocks, their upper end and the bound. In format 2 each family has a trimmed cover. The laws say
+//! that the certificate is well formed, that no rule of the checker refuses it, and that its text is short enough to be
+//! read: for both objectives, and for plans that begin with stocks on hand.
 #![tactic(auto)]
 
 mod certifying;
@@ -12,6 +12,8 @@ mod terms;
 mod writing;
 
 pub use certifying::certificate;
-pub use laws::{plans_are_accepted, plans_claim, scores_are_sound, texts_are_short};
+pub use laws::{
+    plans_are_accepted, plans_claim, plans_come_nearest, scores_are_sound, texts_are_short,
+};
 pub use terms::PlanClaims;
 pub use writing::certificate_text;

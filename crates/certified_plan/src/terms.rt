@@ -1,10 +1,10 @@
-//! What the certificate of a plan claims.
+//! The claims of a plan's certificate.
 
 use hull::Price;
 use spares_input::Stocks;
 use spares_io::List;
 
-/// What a plan claims of its case.
+/// The claims of a plan about its case.
 #[derive(Drop)]
 pub struct PlanClaims {
     /// A stock for each pair.
@@ -14,6 +14,6 @@ pub struct PlanClaims {
     pub floors: List<u128>,
     /// The upper end of the objective at the stocks, in units of 2^-48.
     pub upper: u128,
-    /// The bound that the floors give, in units of 2^-48.
+    /// The bound that the floors show, in units of 2^-48.
     pub bound: u128,
 }

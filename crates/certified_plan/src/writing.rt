@@ -11,7 +11,7 @@ use spares_input::Stocks;
 use spares_io::NoMemory;
 use std::alloc::Global;
 
-/// The text of a certificate, with what is held where there is a list of that. Want of memory is the only error.
+/// The text of a certificate, with the held stocks if there are any. Want of memory is the only error.
 pub fn certificate_text(
     alloc: Global,
     certificate: Certificate,

@@ -1,4 +1,4 @@
-//! Curves that are made by numbers: as many families as are asked for, with as many vertices each.
+//! Curves made by numbers: a count of families with a count of vertices each.
 ghost use Rattle.std.specs.Prelude.{◌≡◌, ◌<◌, length, IfOk};
 ghost use Rattle.hull.specs.declared.point.Point.{Point};
 ghost use Rattle.hull.specs.Curves.{InRange};
@@ -8,8 +8,8 @@ use hull::{Curve, Point};
 use spares_io::List;
 use std::alloc::Global;
 
-/// Families of a number of vertices, whose intervals have widths below a number of units. The first family is `dear`
-/// times as dear as the others, and falls as much more.
+/// Families with a count of vertices each, whose intervals have widths below a number of units. The first family is
+/// `dear` times as dear as the others, and falls that much more.
 #[derive(Clone, Copy, Drop)]
 pub struct Families {
     pub count: u32,
@@ -18,7 +18,7 @@ pub struct Families {
     pub dear: u32,
 }
 
-/// A point without stocks, where its numbers are in a curve's ranges.
+/// A point without stocks, if its numbers are in a curve's ranges.
 fn point(alloc: Global, cost: u64, lo: u128, hi: u128) -> anyhow::Result<Point>
     ensures { IfOk result (λ v. InRange v × (length v.stocks ≡ 0)) }
 {
@@ -35,7 +35,8 @@ fn point(alloc: Global, cost: u64, lo: u128, hi: u128) -> anyhow::Result<Point>
 }
 
 impl Families {
-    /// The vertex of a family at a place. Its lower end is a square of how many are left, so it falls ever less.
+    /// The vertex of a family at a place. Its lower end is the square of the count of vertices left, so it falls less
+    /// and less.
     fn vertex(self, alloc: Global, family: u32, place: u32) -> anyhow::Result<Point>
         ensures { IfOk result (λ v. InRange v × (length v.stocks ≡ 0)) }
     {

@@ -1,9 +1,9 @@
 //! Times the hull choice of many curves and its filling, and prints both.
 //!
-//! With the words `FAMILIES VERTICES WIDTHS DEAR BUDGET` it makes FAMILIES curves of VERTICES vertices, whose
-//! intervals are less than WIDTHS units wide and of which the first is DEAR times as dear as the others, and prints
-//! their hull choice under BUDGET and its filling. With a sixth word `timed` it prints the nanoseconds of both too.
-//! With no words it does so for five cases.
+//! With the words `FAMILIES VERTICES WIDTHS DEAR BUDGET` it makes FAMILIES curves of VERTICES vertices, whose intervals
+//! are less than WIDTHS units wide; the first curve is DEAR times as dear as the others. It prints their hull choice
+//! under BUDGET and its filling, and with a sixth word `timed` also the nanoseconds of both. With no words it does so
+//! for five cases.
 #![tactic(auto)]
 
 ghost use Rattle.std.specs.Prelude.{◌≡◌, ℕ, ◌<◌, length, IsTrue};

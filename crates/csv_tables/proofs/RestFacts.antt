@@ -182,8 +182,8 @@ pub read_takes : (old new : Reader (Bor (List ℕ))) (found : Bool) (fields : Re
 unfolding Small
 read_takes old new found fields t r =
     let now : source_of slice_left new ≡ pending_of (slice_left new.rdr) new = rw r.1 refl in
-    let k = takes (reader_state old) (reader_state new) t.4 (pending_of (slice_left new.rdr) new) found fields t.3 (rw (t.1, t.5) at r.0) in
-    (rw (t.5, now) k.0, k.1, now ∙ k.2, λ h. let m = k.3 h in (m.0, omega (arith, m.1.0, t.6), omega (arith, m.1.1, t.6)))
+    let k = takes (reader_state old) (reader_state new) t.5 (pending_of (slice_left new.rdr) new) found fields t.4 (rw (t.1, t.6) at r.0) in
+    (rw (t.6, now) k.0, k.1, now ∙ k.2, λ h. let m = k.3 h in (m.0, omega (arith, m.1.0, t.7), omega (arith, m.1.1, t.7)))
 
 -- a byte order mark only takes bytes away
 pub length_strip_bom : (xs : List ℕ) → length (strip_bom xs) ≤ length xs

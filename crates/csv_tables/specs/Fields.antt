@@ -1,4 +1,4 @@
--- The fields of a record, and what they hold.
+-- The fields of a record, and their contents.
 use Rattle.std.specs.Prelude.{ℕ, Bool, ◌&&◌, ◌||◌, ◌==◌, true, false, nat_le, List, [], ◌∷◌, length, Result, Ok, Err, if◌then◌else◌, unwrap_or}
 use Rattle.csv.specs.Records.{field_at}
 use Rattle.exact_ratio.specs.Decimal.{decimal_of}
@@ -36,7 +36,7 @@ trimmed text = trim_end (trim_start text)
 abbrev pub field : Record → ℕ → List ℕ
 field r i = trimmed (unwrap_or (field_at r i) [])
 
--- the number of columns, where the record has as many fields, or `FieldCount`
+-- the number of columns if the record has as many fields, otherwise `FieldCount`
 abbrev pub counted : ℕ → ℕ → Record → Result ℕ TableFault
 counted row columns r = if length r == columns then Ok columns else Err (fault.FieldCount row (length r))
 
@@ -54,12 +54,12 @@ within row column least most (Err f) = Err (fault.BadNumber row column f)
 within row column least most (Ok d) =
     if nat_le least d.units && nat_le d.units most then Ok d.units else Err (fault.OutOfRange row column)
 
--- a field that holds a number with so many decimals
+-- a field that holds a number with this count of decimals
 abbrev pub number_in : ℕ → ℕ → ℕ → ℕ → ℕ → List ℕ → Result ℕ TableFault
 number_in row column places least most text =
     if has_none text then Err (fault.FieldEmpty row column) else within row column least most (decimal_of text places)
 
--- a field that holds a number where it is used, and else must be empty
+-- a field that holds a number if it is used, and otherwise must be empty
 abbrev pub used_in : Bool → ℕ → ℕ → ℕ → ℕ → ℕ → List ℕ → Result ℕ TableFault
 used_in used row column places least most text =
     if used then number_in row column places least most text else empty_in row column text

@@ -1,4 +1,4 @@
--- What the table of parts says.
+-- The rows of the table of parts.
 use Rattle.std.specs.Prelude.{ℕ, Bool, ◌==◌, List, [], ◌∷◌, length, Option, Some, None, is_none, Result, Ok, if◌then◌else◌, codes}
 use Rattle.spares_input.specs.declared.rows.PartRow.{PartRow}
 use Rattle.csv_tables.specs.Rest.{Record, all_records}
@@ -11,7 +11,7 @@ use Rattle.csv_tables.specs.declared.fault.TableFault.{TableFault}
 abbrev pub parent_in : ℕ → ℕ → List ℕ → Result (Option (List ℕ)) TableFault
 parent_in row column text = if has_none text then Ok None else name_in row column text >>= λ name. Ok (Some name)
 
--- the weight of a line unit: 1 where the table has no such column
+-- the weight of a line unit: 1 if the table has no such column
 abbrev pub weight_in : Bool → ℕ → Record → Result ℕ TableFault
 weight_in line row r =
     if length r == 7 then used_in line row 7 0 1 100 (field r 6) else Ok (if line then 1 else 0)
@@ -36,7 +36,7 @@ part_of row r = do
     weight = weight;
   })
 
--- the columns of the table of parts, of which the last may be missing
+-- the columns of the table of parts; the last may be missing
 abbrev pub parts_header : List (List ℕ)
 parts_header =
     codes "part" ∷ codes "parent" ∷ codes "cost" ∷ codes "per_system" ∷ codes "max_depot" ∷ codes "max_base"

@@ -1,4 +1,4 @@
--- What the table of rates says, and how rows name the pairs of a frame.
+-- The rows of the table of rates, and how rows name the pairs of a frame.
 use Rattle.std.specs.Prelude.{ℕ, ◌==◌, ◌&&◌, not, List, [], ◌∷◌, length, Option, Some, None, Result, Ok, Err, codes, if◌then◌else◌}
 use Rattle.std.specs.List.{slice_split}
 use Rattle.line_text.specs.Files.{comma}
@@ -12,7 +12,7 @@ use Rattle.csv_tables.specs.Tables.{table_of}
 use Rattle.csv_tables.specs.declared.fault.TableFault.{TableFault}
 use Rattle.csv_tables.specs.declared.fault.TableFault.TheVariants as fault
 
--- a place that is found, or else a fault
+-- a place that is found, otherwise a fault
 abbrev pub found_or : {A : Type 0} → TableFault → Option A → Result A TableFault
 found_or fault None = Err fault
 found_or fault (Some x) = Ok x
@@ -27,7 +27,7 @@ abbrev pub site_in : FrameRows → ℕ → ℕ → List ℕ → Result ℕ Table
 site_in f row column text = name_in row column text
     >>= λ name. found_or (fault.UnknownSite row) (place_of name (site_names f.sites))
 
--- the rates of the fields at these places, with 4 decimals, and 2 for days: which fields are used goes by the pair;
+-- the rates of the fields at these places, with 4 decimals, and 2 for days. The pair determines which fields are used;
 -- site 0 is the depot
 unfoldable pub rate_in : FrameRows → ℕ → (ℕ → List ℕ) → Result RateRow TableFault
 rate_in f row at = do
@@ -59,17 +59,17 @@ rates_header =
 abbrev pub rates_of : FrameRows → List ℕ → Result (List RateRow) TableFault
 rates_of f bytes = table_of (rate_of f) 32000 6 rates_header (all_records bytes)
 
--- ---- a line of its own
+-- ---- a single line
 
 -- the fields of a line: its bytes, cut at commas
 abbrev pub line_fields : List ℕ → Record
 line_fields line = slice_split comma line
 
--- the row that is told, if it is
+-- the row, if there is no fault
 abbrev pub told : {A : Type 0} → Result A TableFault → Option A
 told (Ok x) = Some x
 told (Err fault) = None
 
--- the row that a line says for this frame, where it has six fields that obey the rules of a row of rates
+-- the row of a line for this frame, if it has six fields that obey the rules of a row of rates
 abbrev pub rate_line : FrameRows → List ℕ → Option RateRow
 rate_line f line = if length (line_fields line) == 6 then told (rate_of f 0 (line_fields line)) else None

@@ -1,7 +1,7 @@
 -- The records that a reader of a table has left.
 use Rattle.std.specs.Prelude.{◌≡◌, ◌+◌, ◌≤◌, ℕ, Bool, true, false, List, [], ◌∷◌, length, Option, Some, None}
 use Rattle.std.specs.Borrow.{Bor}
-use Rattle.csv.specs.Reading.{default_config, reader_config, reader_state, reader_trim, records, records_from, source_of, strip_bom, Ready}
+use Rattle.csv.specs.Reading.{default_config, is_flexible, reader_config, reader_state, reader_trim, records, records_from, source_of, strip_bom, Ready}
 use Rattle.csv.specs.declared.parser.State.{State}
 use Rattle.csv.specs.declared.parser.State.TheVariants as st
 use Rattle.csv.specs.declared.reader.Reader.{Reader}
@@ -11,16 +11,16 @@ use Rattle.csv.specs.declared.reader.Trim.TheVariants as trim
 abbrev pub Record : Type 0
 Record = List (List ℕ)
 
--- every record of a table's bytes: a byte order mark at the start is no part of them
+-- every record of a table's bytes; a byte order mark at the start is not part of them
 abbrev pub all_records : List ℕ → List Record
 all_records bytes = records default_config (strip_bom bytes)
 
--- the records of what a reader has left, in this state
+-- the records in the rest of a reader, in this state
 abbrev pub records_left : State → Option (List ℕ) → List Record
 records_left s None = []
 records_left s (Some bytes) = records_from default_config (length bytes + 1) s bytes
 
--- what slices have left
+-- the bytes left in a slice
 abbrev pub slice_left : Bor (List ℕ) → Option (List ℕ)
 slice_left s = Some s.now
 
@@ -39,17 +39,17 @@ is_between st.AfterQuote = false
 is_between st.InEscape = false
 is_between st.InComment = false
 
--- most bytes of a table
+-- the largest table, in bytes
 abbrev pub table_limit : ℕ
 table_limit = 4194304
 
--- a reader of a table that has not failed
+-- a reader of a table that has not failed; it takes records of any length
 abbrev pub IsTable : Reader (Bor (List ℕ)) → Type 0
 IsTable rdr = Ready rdr × (reader_config rdr ≡ default_config) × (reader_trim rdr ≡ trim.None)
-    × (is_between (reader_state rdr) ≡ true) × (bytes : List ℕ) × (source_of slice_left rdr ≡ Some bytes)
-    × (length bytes ≤ table_limit)
+    × (is_flexible rdr ≡ true) × (is_between (reader_state rdr) ≡ true)
+    × (bytes : List ℕ) × (source_of slice_left rdr ≡ Some bytes) × (length bytes ≤ table_limit)
 
--- a read took the first of the records that were left, or there was none
+-- a read took the first of the records left, or there was none
 abbrev pub TakesFirst : List Record → Bool → Record → List Record → Type 0
 TakesFirst [] found fields rest = found ≡ false
 TakesFirst (r ∷ rs) found fields rest = (found ≡ true) × (fields ≡ r) × (rest ≡ rs)

@@ -1,4 +1,4 @@
--- What the table of sites says.
+-- The rows of the table of sites.
 use Rattle.std.specs.Prelude.{ℕ, Bool, true, false, not, List, [], ◌∷◌, Result, Ok, Err, if◌then◌else◌, bytes_eq, codes}
 use Rattle.spares_input.specs.declared.rows.SiteRow.{SiteRow}
 use Rattle.csv_tables.specs.Rest.{Record, all_records}

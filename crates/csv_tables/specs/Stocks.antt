@@ -1,4 +1,4 @@
--- What the table of stocks says.
+-- The rows of the table of stocks.
 use Rattle.std.specs.Prelude.{ℕ, List, [], ◌∷◌, Result, Ok, codes}
 use Rattle.spares_input.specs.Frames.{FrameRows}
 use Rattle.spares_input.specs.declared.rows.StockRow.{StockRow}

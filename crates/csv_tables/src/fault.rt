@@ -1,4 +1,4 @@
-//! What may be wrong with a table.
+//! The faults of a table.
 
 use exact_ratio::NumberFault;
 
@@ -46,7 +46,7 @@ pub enum TableFault {
         row: u32,
         column: u8,
     },
-    /// The field is no number with so many decimals.
+    /// The field is no number with the table's count of decimals.
     BadNumber {
         row: u32,
         column: u8,

@@ -1,4 +1,4 @@
-//! The fields of a record, and what they hold.
+//! The fields of a record, and their contents.
 
 ghost use Rattle.std.specs.Prelude.{◌≡◌, ◌≤◌, ◌<◌, ◌^◌, Ok, Err, IfOk, length};
 ghost use Rattle.csv.specs.Records.{fields_of};
@@ -9,7 +9,7 @@ use csv::ByteRecord;
 use exact_ratio::read_decimal;
 use spares_input::Name;
 
-/// The field at a place, counted from 0, without the blanks at its ends. A field that isn't there is empty.
+/// The field at a place, counted from 0, without the blanks at its ends. A missing field is empty.
 pub fn field(record: &ByteRecord, i: usize) -> &[u8]
     ensures { result.now ≡ field (fields_of «record».now) i }
 {
@@ -56,7 +56,7 @@ fn is_blank(b: u8) -> bool
     b == b' ' || b == b'\t'
 }
 
-/// The number of columns, where the record has a field for each, or `FieldCount`.
+/// The number of columns if the record has a field for each, otherwise `FieldCount`.
 pub fn counted(row: u32, columns: u8, record: &ByteRecord) -> Result<u8, TableFault>
     requires { length (fields_of «record».now) < 2 ^ 32 }
     ensures { result ≡ counted row columns (fields_of «record».now) }
@@ -109,7 +109,7 @@ pub fn number_in(
     }
 }
 
-/// The number in a field that is used, or the 0 of one that must be empty.
+/// The number in a field that is used, or 0 for one that must be empty.
 pub fn used_in(
     used: bool,
     row: u32,

@@ -18,5 +18,5 @@ pub use rates::read_rates;
 pub use sites::read_sites;
 pub use stocks::read_stocks;
 
-/// Most bytes of a table.
+/// The largest table, in bytes.
 pub const TABLE_LIMIT: usize = 4_194_304;

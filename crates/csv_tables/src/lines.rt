@@ -9,8 +9,8 @@ use crate::rates::rate_in;
 use line_text::Fields;
 use spares_input::{Frame, RateRow};
 
-/// The row of rates that a line says for this frame: six fields with commas between them, with blanks round each or
-/// none. `None` exactly where the line says none. It takes no memory.
+/// Parses a row of rates for this frame: six fields with commas between them, each with or without blanks at its ends.
+/// `None` exactly if the line isn't one. Allocates no memory.
 pub fn rate_line(line: &[u8], frame: &Frame) -> Option<RateRow>
     ensures row { result ≡ rate_line frame.now line.now }
     ensures fields { IfSome result (IsRateOf frame.now) }

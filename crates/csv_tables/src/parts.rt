@@ -16,8 +16,8 @@ use spares_input::{Name, PartRow};
 use spares_io::Stop;
 use std::alloc::Global;
 
-/// The rows of a table of parts, or its first fault. The last column, `weight`, may be left out: then each line unit
-/// has the weight 1.
+/// The rows of a table of parts, or its first fault. The last column, `weight`, may be missing: then each line unit has
+/// the weight 1.
 pub fn read_parts(alloc: Global, bytes: &[u8]) -> Result<Vec<PartRow>, Stop<TableFault>>
     requires { length bytes.now ≤ table_limit }
     ensures answer { Gives (parts_of bytes.now) (rows_of result) }
@@ -90,7 +90,7 @@ fn parent_in(row: u32, column: u8, text: &[u8]) -> Result<Option<Name>, TableFau
     Ok(Some(name))
 }
 
-/// The weight of a part, whose table may have no such column.
+/// The weight of a part, whose table may lack the column.
 fn weight_in(line: bool, row: u32, record: &ByteRecord) -> Result<u32, TableFault>
     ensures weight { result ≡ weight_in line row (fields_of «record».now) }
     ensures range { IfOk result (λ n. n ≤ 100) }

@@ -83,7 +83,7 @@ fn rate_of(frame: &Frame, row: u32, record: &ByteRecord) -> Result<RateRow, Tabl
     rate_in(frame, row, &fields)
 }
 
-/// The rates of six fields that have no blanks at their ends.
+/// The rates of six fields without blanks at their ends.
 #[tactic(auto, unfolding(crate::specs::Rates::rate_in))]
 pub fn rate_in(frame: &Frame, row: u32, fields: &[&[u8]; 6]) -> Result<RateRow, TableFault>
     ensures { result ≡ rate_in frame.now row (λ i. get_or (map (λ f. f.now) fields.now) i []) }

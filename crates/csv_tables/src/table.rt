@@ -14,20 +14,20 @@ use csv::{ByteRecord, Reader};
 use spares_io::Stop;
 use std::alloc::Global;
 
-/// A kind of table: what one of its records says.
+/// A kind of table, which parses its records.
 pub trait Table {
     /// A row of this table.
     type Row: Drop;
 
-    /// What the record of a row of the file says.
+    /// The row of a record, by the number of its row in the file, or its first fault.
     ghost row_of: { Self → ℕ → Record → Result Self.Row TableFault };
 
-    /// The row that a record says, or its first fault.
+    /// The row of a record, or its first fault.
     fn row(&self, row: u32, record: &ByteRecord) -> Result<Self::Row, TableFault>
         ensures { result ≡ row_of self.now row (fields_of «record».now) };
 }
 
-/// The rows of a table of these columns, of which the last may be left out down to `least`, or its first fault.
+/// The rows of a table with these columns, or its first fault. The last columns may be missing, down to `least`.
 pub fn read_table<T: Table>(
     alloc: Global,
     bytes: &[u8],
@@ -53,7 +53,7 @@ pub fn read_table<T: Table>(
     }
 }
 
-/// How many columns a header has, or its first fault.
+/// The number of columns of a header, or its first fault.
 fn header_in(least: u8, header: &[&[u8]], record: &ByteRecord) -> Result<u8, TableFault>
     requires columns { length header.now < 256 }
     requires fields { length (fields_of «record».now) < 2 ^ 32 }
@@ -90,7 +90,7 @@ fn column_fault(header: &[&[u8]], record: &ByteRecord, k: usize) -> Option<Table
     }
 }
 
-/// The rows that the records left say, of which the first is row 2 of the file.
+/// The rows of the records left, the first of which is row 2 of the file.
 fn read_rows<T: Table>(
     alloc: Global,
     rdr: &mut Reader<&[u8]>,
@@ -119,7 +119,7 @@ fn read_rows<T: Table>(
     Ok(rows)
 }
 
-/// The row that a record with so many fields says.
+/// The row of a record with this number of fields, or its first fault.
 fn row_in<T: Table>(
     table: &T,
     row: u32,

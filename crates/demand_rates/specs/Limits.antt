@@ -1,4 +1,4 @@
--- What is within its limit in a valid case, and which rule a pair breaks.
+-- The limits of a valid case's numbers, and the rules that a pair may break.
 use Rattle.std.specs.Prelude.{ℕ, ◌*◌, ◌<◌, ◌≤◌, ◌&&◌, nat_lt, length, Option, Some, None, if◌then◌else◌}
 use Rattle.exact_ratio.specs.declared.ratio.Ratio.{Ratio}
 use Rattle.spares_input.specs.First.{first}
@@ -20,7 +20,7 @@ pub record IsRate (r : RateRow) : Type 0 where
   pub share : r.share ≤ 10000
   pub days : r.repair_days ≤ 999999
 
--- a pipeline by its numerator over 365 * 10^18
+-- a pipeline as a ratio, from its numerator over 365 * 10^18
 abbrev pub in_days : ℕ → Ratio
 in_days n = record { num = n; den = pipeline_scale }
 
@@ -47,7 +47,7 @@ place_fault c i = pair_fault c (part_of_place (length c.sites) i) (site_of_place
 abbrev pub rate_fault_of : CaseRows → Option RateFault
 rate_fault_of c = first (place_fault c) (pair_count (frame_rows c))
 
--- demand, D and M of a pair that breaks no rule
+-- the ranges of demand, D and M of a pair that breaks no rule
 pub record IsAccepted (demand direct mean : ℕ) : Type 0 where
   pub thick : 0 < demand → pipeline_scale ≤ direct * 10000000
   pub small : mean ≤ 256 * pipeline_scale

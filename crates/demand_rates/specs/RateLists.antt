@@ -3,12 +3,12 @@ use Rattle.std.specs.Prelude.{ℕ, ◌<◌, List, length, get_or}
 use Rattle.spares_input.specs.Pairs.{pair_place}
 use Rattle.demand_rates.specs.declared.kinds.PairRates.{PairRates}
 
--- what a contract sees of rates: how many sites there are, and the rates of each pair, by part and then by site
+-- rates as contracts see them: the number of sites, and the rates of each pair, by part and then by site
 pub record RateList : Type 0 where
   pub sites : ℕ
   pub pairs : List PairRates
 
--- what a look-up past the last pair answers: zeros
+-- the value of a look-up past the last pair: zeros
 abbrev pub no_rates : PairRates
 no_rates = record {
   demand = record { num = 0; den = 1 };

@@ -14,12 +14,12 @@ use Rattle.demand_rates.specs.declared.fault.RateFault.{RateFault}
 use Rattle.demand_rates.specs.declared.kinds.PairRates.{PairRates}
 use Rattle.demand_rates.specs.RateLists.{RateList, rates_at, HasRates}
 
--- top / bottom, and 0/1 where bottom is 0
+-- top / bottom, 0/1 if bottom is 0
 abbrev pub share_ratio : ℕ → ℕ → Ratio
 share_ratio top zero = record { num = 0; den = 1 }
 share_ratio top (suc n) = record { num = top; den = suc n }
 
--- those of part p, whose line unit is o, at site k
+-- the rates of part p, whose line unit is o, at site k
 abbrev pub rates_of_pair : CaseRows → Option ℕ → ℕ → ℕ → PairRates
 rates_of_pair c o p k = record {
   demand = record { num = demand_of c o p k; den = scale_of o p k };
@@ -28,15 +28,15 @@ rates_of_pair c o p k = record {
   zero_stock = zero_stock_of c o p k;
 }
 
--- those of part p at site k
+-- the rates of part p at site k
 abbrev pub pair_rates : CaseRows → ℕ → ℕ → PairRates
 pair_rates c p k = rates_of_pair c (line_of c.parts p) p k
 
--- those of the pair at place i
+-- the rates of the pair at place i
 abbrev pub place_rates : CaseRows → ℕ → PairRates
 place_rates c i = pair_rates c (part_of_place (length c.sites) i).0 (site_of_place (length c.sites) i).0
 
--- those of all pairs, by part and then by site
+-- the rates of all pairs, by part and then by site
 abbrev pub all_rates : CaseRows → List PairRates
 all_rates c = map (place_rates c) (range_with_len 0 (pair_count (frame_rows c)))
 

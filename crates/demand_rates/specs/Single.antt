@@ -1,4 +1,4 @@
--- When a single pipeline is refused. Its mean and its variance are numbers of ten-thousandths.
+-- The refusal of a single pipeline. Its mean and its variance are numbers of ten-thousandths.
 use Rattle.std.specs.Prelude.{◌≤◌, ◌*◌, ℕ, Option, Some, None, if◌then◌else◌, nat_lt}
 use Rattle.std.specs.Option.{option_or}
 use Rattle.exact_ratio.specs.declared.ratio.Ratio.{Ratio}
@@ -6,7 +6,7 @@ use Rattle.demand_rates.specs.declared.fault.Place.TheVariants.{Single}
 use Rattle.demand_rates.specs.declared.fault.RateFault.{RateFault}
 use Rattle.demand_rates.specs.declared.fault.RateFault.TheVariants.{PipelineTooLarge, PipelineRatio}
 
--- so many ten-thousandths, not reduced
+-- n ten-thousandths, not reduced
 abbrev pub of_ten_thousand : ℕ → Ratio
 of_ten_thousand n = record { num = n; den = 10000 }
 

@@ -1,4 +1,5 @@
--- What shop units add to their line unit's zero-stock mean at a site. No promise of the crate rests on these words.
+-- The waits for shop units in their line unit's zero-stock mean at a site. No promise of the crate rests on these
+-- definitions.
 use Rattle.std.specs.Prelude.{◌≡◌, ℕ, zero, suc, ◌*◌, ◌<◌, ◌≤◌, List, [], length, get_or, filter, sum_by}
 use Rattle.std.specs.List.{range_with_len}
 use Rattle.spares_input.specs.Frames.{part_at, is_shop_of}
@@ -19,12 +20,12 @@ wait_sum c l k = sum_by (wait c l k) (shop_units c l)
 abbrev pub shops_below : CaseRows → ℕ → ℕ → List ℕ
 shops_below c l n = filter (λ p. is_shop_of (part_at c.parts l) (part_at c.parts p)) (range_with_len 0 n)
 
--- the most that one shop unit adds
+-- the largest wait for one shop unit
 abbrev pub wait_most : ℕ → ℕ
 wait_most zero = 10000000000
 wait_most (suc j) = 3000000000000000000000000000
 
--- the sums of all parts at site k, within what 2,000 parts can add
+-- the sums of all parts at site k, within the largest sum of 2,000 parts
 pub record AreWaits (c : CaseRows) (k : ℕ) (sums : List ℕ) : Type 0 where
   pub count : length sums ≡ length c.parts
   pub each : (l : ℕ) → l < length c.parts → get_or sums l 0 ≡ wait_sum c l k

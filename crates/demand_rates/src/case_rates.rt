@@ -44,12 +44,12 @@ fn all_pairs(
     Ok(pairs)
 }
 
-/// The rates of a case, or the first pipeline that the model can't take: by part and then by site, at each pair in this
-/// order.
+/// The rates of a case, or the first pipeline outside the model's limits: by part and then by site, at each pair in
+/// this order.
 ///
-/// - `ThinPipeline` where the demand is above 0 and the direct pipeline is below 1/10,000,000.
-/// - `PipelineTooLarge` where the mean without any stock is above 256.
-/// - `PipelineRatio` where that mean is above 1024 times the direct pipeline.
+/// - `ThinPipeline` if the demand is above 0 and the direct pipeline is below 1/10,000,000.
+/// - `PipelineTooLarge` if the mean without any stock is above 256.
+/// - `PipelineRatio` if that mean is above 1024 times the direct pipeline.
 pub fn rates(alloc: Global, case: &Case) -> Result<Rates, Stop<RateFault>>
     ensures answer { Gives (rates_of case.now) result }
     // No pair is refused: each number is the model's fraction, and within its limits.

@@ -24,7 +24,7 @@ fn line_demand(case: &Case, line: PartId) -> u128
     sum
 }
 
-/// What the bases send of a shop unit, in 10^-16 a year.
+/// The demand for a shop unit that the bases send on, in 10^-16 a year.
 fn bases_sent(case: &Case, line: PartId, shop: PartId) -> u128
     requires line { line.0 < length case.now.parts }
     requires shop { shop.0 < length case.now.parts }

@@ -4,32 +4,32 @@ use exact_ratio::Ratio;
 use spares_input::{PartId, SiteId};
 use thiserror::Error;
 
-/// Where a refused pipeline stands.
+/// The place of a refused pipeline.
 #[derive(Clone, Copy, Debug, PartialEq, Eq)]
 pub enum Place {
-    /// The one pipeline that the command line gives.
+    /// The single pipeline of the command line.
     Single,
     /// The pipeline of a part at a site.
     Pair(PartId, SiteId),
 }
 
-/// Why a pipeline is refused. No ratio is reduced: those of a pair are over 365 * 10^18, and those of a single pipeline
-/// over 10,000.
+/// Why a pipeline is refused. No ratio is reduced: for a pair the denominator is 365 * 10^18, for a single pipeline
+/// 10,000.
 #[derive(Clone, Copy, Debug, PartialEq, Eq, Error)]
 pub enum RateFault {
-    /// There is demand, and the direct pipeline is below 1/10,000,000. It comes for a pair alone.
+    /// There is demand, and the direct pipeline is below 1/10,000,000. Only for a pair.
     #[error("the pipeline is too thin for its demand")]
     ThinPipeline {
         place: Place,
         direct: Ratio,
     },
-    /// The mean is over 256: of a pair the mean without any stock, of a single pipeline its mean or its variance.
+    /// The mean is above 256: for a pair the mean without any stock, for a single pipeline its mean or its variance.
     #[error("the pipeline is too large")]
     PipelineTooLarge {
         place: Place,
         mean: Ratio,
     },
-    /// `mean` is over 1024 times `direct`: of a pair the mean without any stock and the direct pipeline, of a single
+    /// `mean` is above 1024 times `direct`: for a pair the mean without any stock and the direct pipeline, for a single
     /// pipeline its variance and its mean.
     #[error("the pipeline is too large for its direct part")]
     PipelineRatio {

@@ -1,4 +1,4 @@
-//! What `rates` answers.
+//! The results of `rates`.
 
 ghost use Rattle.std.specs.Prelude.{◌≡◌};
 ghost use Rattle.demand_rates.specs.RateLists.{rates_at, HasRates};
@@ -7,7 +7,7 @@ use exact_ratio::Ratio;
 use spares_input::{PartId, SiteId};
 use std::marker::Model;
 
-/// Pipelines are numerators over this: 365 days, in units of 10^-18.
+/// The denominator of pipelines: 365 days, in units of 10^-18.
 pub const PIPELINE_SCALE: u128 = 365_000_000_000_000_000_000;
 
 /// The rates of a pair.
@@ -23,7 +23,7 @@ pub struct PairRates {
     pub zero_stock: u128,
 }
 
-/// The rates of a case: those of each pair, by part and then by site.
+/// The rates of each pair of a case, by part and then by site.
 #[derive(Drop)]
 pub struct Rates {
     sites: u8,
@@ -54,7 +54,7 @@ impl Rates {
         &self.pairs[part.0 as usize * self.sites as usize + site.0 as usize]
     }
 
-    /// The demand of a pair, in demands a year. Its denominator is that of its level: 10^4 for a line unit at a base,
+    /// The demand of a pair, in demands a year. Its denominator depends on the level: 10^4 for a line unit at a base,
     /// 10^8 for a line unit at the depot, 10^12 for a shop unit at a base, 10^16 for a shop unit at the depot.
     pub fn demand(&self, part: PartId, site: SiteId) -> Ratio
         requires { HasRates self.now part.0 site.0 }
@@ -63,9 +63,9 @@ impl Rates {
         self.at(part, site).demand
     }
 
-    /// The share of a pair in the demand at the depot: of a shop unit at the depot, what the depot's own repairs of
-    /// its line unit need; of a part at a base, what the base sends. It isn't reduced, and is 0/1 where its
-    /// denominator is 0. A line unit at the depot has no share, and 1/1 stands for it.
+    /// The share of a pair in the demand at the depot: for a shop unit at the depot, the demand by the depot's own
+    /// repairs of its line unit; for a part at a base, the demand that the base sends on. It isn't reduced, and is 0/1
+    /// if its denominator is 0. A line unit at the depot has no share: the result is 1/1.
     pub fn share(&self, part: PartId, site: SiteId) -> Ratio
         requires { HasRates self.now part.0 site.0 }
         ensures { result ≡ (rates_at self.now part.0 site.0).share }

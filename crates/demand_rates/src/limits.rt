@@ -7,7 +7,7 @@ use crate::fault::{Place, RateFault};
 use crate::kinds::{PIPELINE_SCALE, PairRates};
 use exact_ratio::Ratio;
 
-/// A pipeline by its numerator.
+/// A pipeline as a ratio, from its numerator.
 fn in_days(num: u128) -> Ratio
     ensures { result ≡ in_days num }
 {
@@ -17,7 +17,7 @@ fn in_days(num: u128) -> Ratio
     }
 }
 
-/// The rule that a pair's pipeline breaks first.
+/// The first rule that a pair's pipeline breaks.
 pub(crate) fn pipeline_fault(place: Place, rates: &PairRates) -> Option<RateFault>
     requires { rates.now.direct ≤ 30000000000000000000000000000 }
     ensures { result ≡ pipeline_rule place rates.now.demand.num rates.now.direct rates.now.zero_stock }

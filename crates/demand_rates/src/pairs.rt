@@ -17,7 +17,7 @@ use crate::waits::shop_mean;
 use exact_ratio::Ratio;
 use spares_input::{Case, PartId, SiteId};
 
-/// `top / bottom`, and 0/1 where `bottom` is 0.
+/// `top / bottom`, 0/1 if `bottom` is 0.
 fn share_of(top: u128, bottom: u128) -> Ratio
     ensures { result ≡ share_ratio top bottom }
 {
@@ -30,7 +30,7 @@ fn share_of(top: u128, bottom: u128) -> Ratio
     }
 }
 
-/// A line unit at the depot, given its demand there and what its shop units add.
+/// A line unit at the depot, from its demand there and the wait for its shop units.
 fn depot_line(case: &Case, line: PartId, demand: u128, wait: u128) -> PairRates
     requires line { line.0 < length case.now.parts }
     requires demand { demand ≡ demand_00 case.now line.0 }
@@ -52,7 +52,7 @@ fn depot_line(case: &Case, line: PartId, demand: u128, wait: u128) -> PairRates
     }
 }
 
-/// What a base's repairs of a line unit wait for at the depot, in 10^-18 / 365, given what its shop units add there.
+/// The part of a line unit's zero-stock mean at a base that waits for the depot's repairs, in 10^-18 / 365.
 fn base_line_wait(sent: u128, days: u32, wait: u128) -> u128
     requires sent { sent ≤ 10000000000000 }
     requires days { days ≤ 999999 }
@@ -63,7 +63,7 @@ fn base_line_wait(sent: u128, days: u32, wait: u128) -> u128
     sent * (u128::from(days) * 10_000 + wait) * 10_000
 }
 
-/// A line unit at a base, given its demand at the depot and what its shop units add at the depot and at the base.
+/// A line unit at a base, from its demand at the depot and the waits for its shop units at the depot and at the base.
 fn base_line(
     case: &Case,
     line: PartId,
@@ -98,7 +98,7 @@ fn base_line(
     }
 }
 
-/// A shop unit at the depot, given the demands there for its line unit and for itself.
+/// A shop unit at the depot, from the demands there for its line unit and for itself.
 fn depot_shop(case: &Case, shop: PartId, line: PartId, line_depot: u128, depot: u128) -> PairRates
     requires shop { shop.0 < length case.now.parts }
     requires line_depot { line_depot ≡ demand_00 case.now line.0 }
@@ -121,7 +121,7 @@ fn depot_shop(case: &Case, shop: PartId, line: PartId, line_depot: u128, depot: 
     }
 }
 
-/// A shop unit at a base, given the demand for it at the depot.
+/// A shop unit at a base, from the demand for it at the depot.
 fn base_shop(case: &Case, shop: PartId, line: PartId, base: SiteId, depot: u128) -> PairRates
     requires shop { shop.0 < length case.now.parts }
     requires line { line.0 < length case.now.parts }
@@ -145,7 +145,7 @@ fn base_shop(case: &Case, shop: PartId, line: PartId, base: SiteId, depot: u128)
     }
 }
 
-/// A shop unit at a site, given the demands at the depot.
+/// A shop unit at a site, from the demands at the depot.
 fn shop_rates(case: &Case, shop: PartId, line: PartId, site: SiteId, demands: &[u128]) -> PairRates
     requires shop { shop.0 < length case.now.parts }
     requires line { line.0 < length case.now.parts }
@@ -164,7 +164,7 @@ fn shop_rates(case: &Case, shop: PartId, line: PartId, site: SiteId, demands: &[
     }
 }
 
-/// What the shop units of a part add at a site.
+/// The wait for the shop units of a part at a site.
 fn wait_at(waits: &[Vec<u128>], part: PartId, site: SiteId) -> u128
     requires site { site.0 < length waits.now }
     requires part { part.0 < length (get_or (map (λ w. w.items) waits.now) site.0 []) }
@@ -173,7 +173,7 @@ fn wait_at(waits: &[Vec<u128>], part: PartId, site: SiteId) -> u128
     waits[site.0 as usize][part.0 as usize]
 }
 
-/// A line unit at a site, given the demands at the depot and what shop units add.
+/// A line unit at a site, from the demands at the depot and the waits for shop units.
 fn line_rates(
     case: &Case,
     line: PartId,
@@ -205,7 +205,7 @@ fn line_rates(
     }
 }
 
-/// The rates of a pair, given the demands at the depot and what shop units add.
+/// The rates of a pair, from the demands at the depot and the waits for shop units.
 pub(crate) fn pair_rates(
     case: &Case,
     part: PartId,

@@ -1,4 +1,4 @@
-//! Numbers of one row of rates, or of a line unit's and its shop unit's, in whole units.
+//! Numbers of one row of rates, or of a line unit's and its shop unit's rows, in whole units.
 
 ghost use Rattle.std.specs.Prelude.{◌≡◌, ◌+◌, ◌-◌, ◌*◌, ◌≤◌, ◌<◌, length};
 ghost use Rattle.spares_input.specs.Frames.{site_at};
@@ -27,7 +27,7 @@ pub(crate) fn depot_row(case: &Case, part: PartId) -> RateRow
     rate_row(case, part, SiteId(0))
 }
 
-/// The time of order and shipment to a site, in hundredths of days, and 0 at the depot.
+/// The time of order and shipment to a site, in hundredths of days, 0 at the depot.
 pub(crate) fn ship_days(case: &Case, site: SiteId) -> u32
     requires { site.0 < length case.now.sites }
     ensures row { result ≡ (site_at case.now.sites site.0).ship }
@@ -47,7 +47,7 @@ pub(crate) fn days_at(row: RateRow, ship: u32) -> u128
     sent + u128::from(row.repair_here) * u128::from(row.repair_days)
 }
 
-/// m_0j (1 - r_0j), in 10^-8 a year: what a base sends of a line unit.
+/// m_0j (1 - r_0j), in 10^-8 a year: the demand for a line unit that a base sends on.
 pub(crate) fn line_sent(row: RateRow) -> u128
     requires { IsRate row }
     ensures value { result ≡ row.demand * (10000 - row.repair_here) }
@@ -66,7 +66,7 @@ pub(crate) fn shop_demand(line: RateRow, shop: RateRow) -> u128
     u128::from(line.demand) * u128::from(line.repair_here) * u128::from(shop.share)
 }
 
-/// m_ij (1 - r_ij), in 10^-16 a year: what a base sends of a shop unit.
+/// m_ij (1 - r_ij), in 10^-16 a year: the demand for a shop unit that a base sends on.
 pub(crate) fn shop_sent(line: RateRow, shop: RateRow) -> u128
     requires line { IsRate line }
     requires shop { IsRate shop }
@@ -76,7 +76,7 @@ pub(crate) fn shop_sent(line: RateRow, shop: RateRow) -> u128
     shop_demand(line, shop) * u128::from(10_000 - shop.repair_here)
 }
 
-/// m_00 q_i0, in 10^-12 a year: what the depot's repairs of a line unit need of a shop unit.
+/// m_00 q_i0, in 10^-12 a year: the demand for a shop unit by the depot's repairs of its line unit.
 pub(crate) fn shop_needed(line_demand: u128, shop: RateRow) -> u128
     requires line { line_demand ≤ 150000000000000 }
     requires shop { IsRate shop }

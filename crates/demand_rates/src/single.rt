@@ -6,13 +6,13 @@ ghost use Rattle.demand_rates.specs.Single.{WithinLimits, limit_fault_of, single
 use crate::{Place, RateFault};
 use exact_ratio::{Decimal, Ratio};
 
-/// The most that a mean or a variance may be: 256 units, in ten-thousandths.
+/// The largest mean or variance: 256 units, in ten-thousandths.
 const LIMIT: u64 = 256 * 10_000;
 
-/// How many times its mean a variance may be.
+/// The largest ratio of the variance to the mean.
 const MOST_TIMES: u64 = 1024;
 
-/// So many ten-thousandths as a ratio.
+/// `units` ten-thousandths as a ratio.
 fn of_ten_thousand(units: u64) -> Ratio
     ensures { result ≡ of_ten_thousand units }
 {
@@ -22,7 +22,7 @@ fn of_ten_thousand(units: u64) -> Ratio
     }
 }
 
-/// Refuses a mean or a variance over the limit.
+/// Refuses a mean or a variance above the limit.
 fn check_limit(units: u64) -> Result<(), RateFault>
     ensures { result_err result ≡ limit_fault_of units }
 {
@@ -35,11 +35,10 @@ fn check_limit(units: u64) -> Result<(), RateFault>
     Ok(())
 }
 
-/// Refuses a single pipeline that the model can't take. Both numbers are units with 4 places.
+/// Refuses a single pipeline outside the model's limits. Both numbers are units with 4 places.
 ///
-/// The answer is the first of these that holds: `PipelineTooLarge` with the mean where that is over
-/// 256; `PipelineTooLarge` with the variance where that is over 256; `PipelineRatio` where the variance
-/// is over 1024 times the mean.
+/// The first of these that holds: `PipelineTooLarge` with the mean if it is above 256; `PipelineTooLarge` with the
+/// variance if it is above 256; `PipelineRatio` if the variance is above 1024 times the mean.
 pub fn check_single(mean: Decimal, variance: Decimal) -> Result<(), RateFault>
     requires mean_places { mean.places ≡ 4 }
     requires variance_places { variance.places ≡ 4 }

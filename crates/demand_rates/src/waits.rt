@@ -1,4 +1,4 @@
-//! What shop units add to the zero-stock means of their line units.
+//! The waits for shop units that add to the zero-stock means of their line units.
 
 ghost use Rattle.std.specs.Prelude.{◌≡◌, ◌≤◌, ◌<◌, ◌+◌, ◌*◌, length, map, IfOk};
 ghost use Rattle.fleet_model.specs.Units.{zero_stock_units_ij};
@@ -33,7 +33,7 @@ pub(crate) fn shop_mean(case: &Case, line: PartId, shop: PartId, base: SiteId) -
     direct + in_repair(shop_sent(line_row, row), depot_row(case, shop))
 }
 
-/// What a shop unit adds at a site.
+/// The wait for a shop unit at a site.
 fn wait_of(case: &Case, line: PartId, shop: PartId, site: SiteId) -> u128
     requires line { line.0 < length case.now.parts }
     requires shop { shop.0 < length case.now.parts }
@@ -48,7 +48,7 @@ fn wait_of(case: &Case, line: PartId, shop: PartId, site: SiteId) -> u128
     }
 }
 
-/// What the shop units of each part add at a site.
+/// The sum of the waits for the shop units of each part at a site.
 fn waits_at(alloc: Global, case: &Case, site: SiteId) -> Result<Vec<u128>, NoMemory>
     requires { site.0 < length case.now.sites }
     ensures { IfOk result (λ v. AreWaits case.now site.0 v.items) }
@@ -65,7 +65,7 @@ fn waits_at(alloc: Global, case: &Case, site: SiteId) -> Result<Vec<u128>, NoMem
     Ok(waits)
 }
 
-/// What the shop units of each part add, by site.
+/// The sum of the waits for the shop units of each part, by site.
 pub(crate) fn all_waits(alloc: Global, case: &Case) -> Result<Vec<Vec<u128>>, NoMemory>
     ensures { IfOk result (λ v. AreAllWaits case.now (map (λ w. w.items) v.items)) }
 {

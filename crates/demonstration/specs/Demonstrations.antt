@@ -14,7 +14,7 @@ use Rattle.price_certificate.specs.declared.certificate.Objective.TheVariants.{B
 use Rattle.family_curve.specs.Points.{plain_ends}
 use Rattle.spares_input.specs.Stocks.{nothing_held}
 
--- whole money for so many line units
+-- the budget for this count of line units, in whole money
 abbrev pub budget_of : ℕ → ℕ
 budget_of lines = 2000 * lines
 
@@ -41,13 +41,13 @@ demo_certificate number lines p =
     certificate_of (made number lines) (nothing_held (made number lines)) (demo_terms (budget_of lines))
     (claims_of (made number lines) p)
 
--- The summary is that of the plan of the demonstration case, from no stock of anything; there is one.
+-- The summary is the summary of the demonstration case's plan with nothing held; there is exactly one.
 pub record IsDemonstrated (number lines : ℕ) (summary : Summary) : Type 0 where
   pub plan : CasePlan
   pub is_plan : IsCasePlan plain_ends (made number lines) (nothing_held (made number lines)).list (budget_of lines) plan
   pub is : summary ≡ summary_of number lines plan
 
--- ---- the same from a plan's outcome: no promise of the crate rests on these words
+-- ---- the same from a plan's outcome. No promise of the crate rests on these words
 
 -- the summary of the demonstration, from its plan's outcome
 abbrev pub summary_in : ℕ → ℕ → ℕ → Outcome → Summary
@@ -62,6 +62,6 @@ summary_in number lines parts o = record {
   gap = o.report.gap;
 }
 
--- what the outcome of a plan claims
+-- the claims of a plan's outcome
 abbrev pub claims_in : Outcome → PlanClaims
 claims_in o = record { stocks = o.stocks; price = o.price; floors = o.floors; upper = o.upper; bound = o.report.bound }

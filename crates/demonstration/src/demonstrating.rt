@@ -19,10 +19,10 @@ use spares_input::{Case, Stocks, nothing_held};
 use spares_io::NoMemory;
 use std::alloc::Global;
 
-/// What a demonstration has for each of its line units, in whole money.
+/// The budget for each line unit of a demonstration, in whole money.
 const MONEY: u64 = 2_000;
 
-/// The summary of a plan, whose case has so many parts.
+/// The summary of a plan; its case has `parts` parts.
 fn summary_of(number: u32, lines: u16, parts: u16, plan: &Outcome) -> Summary
     requires { places plan.now.report.figures.total ≡ 48 }
     ensures { result ≡ summary_in number lines parts plan.now }
@@ -40,7 +40,7 @@ fn summary_of(number: u32, lines: u16, parts: u16, plan: &Outcome) -> Summary
     }
 }
 
-/// The certificate of a plan under a budget, where nothing is held.
+/// The certificate of a plan under a budget with nothing held.
 fn certificate_in(
     alloc: Global,
     case: Case,
@@ -70,9 +70,9 @@ fn certificate_in(
     certificate(alloc, case, held, terms, claims)
 }
 
-/// Plans the demonstration case of a number with 1 to 80 line units, with 2,000 of money for each of them, writes the
-/// certificate of the plan, reads it back and checks it, all in memory (no clause says so). It gives the summary of
-/// the plan. Want of memory is the only error.
+/// The summary of a demonstration. It plans the case of a number with 1 to 80 line units under 2,000 of money for each
+/// of them, writes the plan's certificate, reads it back and checks it, all in memory (no clause says so). Want of
+/// memory is the only error.
 pub fn demonstrate(alloc: Global, number: u32, lines: u16) -> Result<Summary, NoMemory>
     requires some { 1 ≤ lines }
     requires few { lines ≤ 80 }

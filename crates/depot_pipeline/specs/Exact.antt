@@ -1,4 +1,4 @@
--- What it is for feeds to hold exact shares and backorders, and for a value to be within a cap.
+-- When feeds contain exact shares and backorders, and when a value is within a cap.
 use Rattle.std.specs.Prelude.{ℕ, ◌*◌, ◌^◌, ◌<◌, ◌≤◌, List, length}
 use Rattle.exact_model.specs.Fraction.{Fraction}
 use Rattle.fixed_interval.specs.Ends.{In, IsWithinLimit}
@@ -15,7 +15,7 @@ pub record FeedIn (bits : ℕ) (feed : Feed bits) (f e v : Fraction) : Type 0 wh
   pub backorders : In bits feed.backorders e
   pub spread : In bits feed.spread v
 
--- each feed contains those at its place
+-- each feed contains the values at its place
 abbrev pub FeedsIn : (bits : ℕ) → List (Feed bits) → (ℕ → Fraction) → (ℕ → Fraction) → (ℕ → Fraction) → Type 0
 FeedsIn bits feeds f e v = (k : ℕ) → k < length feeds → FeedIn bits (feed_at feeds k) (f k) (e k) (v k)
 

@@ -4,11 +4,11 @@ use Rattle.fixed_interval.specs.Ends.{Ends, ends_exact, ends_add, ends_less, end
 use Rattle.depot_pipeline.specs.declared.Moments.{Moments}
 use Rattle.depot_pipeline.specs.declared.Feed.{Feed}
 
--- what a share of backorders adds to a mean: f E
+-- the addition of a share of backorders to a mean: f E
 unfoldable pub mean_part : (f : ℕ) → Feed f → Ends
 mean_part f feed = ends_mul f feed.share feed.backorders
 
--- what it adds to a variance: f (1 - f) E + f f V
+-- its addition to a variance: f (1 - f) E + f f V
 unfoldable pub variance_part : (f : ℕ) → Feed f → Ends
 variance_part f feed =
     ends_add (ends_mul f (ends_mul f feed.share (ends_less (ends_exact f 1) feed.share)) feed.backorders)
@@ -19,11 +19,11 @@ unfoldable pub added : Ends → (ℕ → Ends) → ℕ → Ends
 added first part zero = first
 added first part (suc n) = ends_add (added first part n) (part n)
 
--- zeros, where there is no feed
+-- zeros, for a place without a feed
 abbrev pub no_feed : (f : ℕ) → Feed f
 no_feed f = record { share = ends_exact f 0; backorders = ends_exact f 0; spread = ends_exact f 0 }
 
--- the feed at the place k, and zeros where there is none
+-- the feed at the place k, zeros if there is none
 abbrev pub feed_at : {f : ℕ} → List (Feed f) → ℕ → Feed f
 feed_at {f} feeds k = get_or feeds k (no_feed f)
 
@@ -35,7 +35,7 @@ capped_at f cap m v = record { mean = ends_capped m cap; variance = ends_capped 
 abbrev pub depot_shop_ends : (f : ℕ) → Ends → ℕ → Moments f
 depot_shop_ends f direct cap = capped_at f cap direct direct
 
--- the line unit at the depot: the direct part, and what each shop unit adds
+-- the line unit at the depot: the direct part, and the additions of its shop units
 abbrev pub depot_line_ends : (f : ℕ) → Ends → ℕ → List (Feed f) → Moments f
 depot_line_ends f direct cap feeds =
     capped_at f cap (added direct (λ k. mean_part f (feed_at feeds k)) (length feeds))

@@ -1,9 +1,8 @@
-//! The mean and the variance of what a depot's pipelines hold, for a shop unit and for a line unit.
+//! The mean and the variance of a depot's pipelines, for a shop unit and for a line unit.
 //!
-//! A pipeline holds the units that are in repair or on their way. Its direct part D is what the depot's own work
-//! holds, a number that is both its mean and its variance. A line unit's repair also waits for shop units that the
-//! depot is short of: with a share f of a shop unit's backorders at the depot, which are E on average and have the
-//! variance V,
+//! A pipeline contains the units that are in repair or on their way. Its direct part D comes from the depot's own work,
+//! and is both its mean and its variance. A line unit's repair also waits for shop units of which the depot is short:
+//! with a share f of a shop unit's backorders at the depot, which have the mean E and the variance V,
 //!
 //! ```text
 //! mean     = D + sum of f E
@@ -11,7 +10,7 @@
 //! ```
 //!
 //! These are the formulas of VARI-METRIC: C. C. Sherbrooke, *Optimal Inventory Modeling of Systems*, 2nd edition, and
-//! *Operations Research* 34 (1986). All numbers are intervals. No call refuses, and none takes memory.
+//! *Operations Research* 34 (1986). All numbers are intervals. No call refuses, and none allocates memory.
 #![tactic(auto)]
 
 ghost use Rattle.std.specs.Prelude.{◌≡◌, ℕ, ◌+◌, ◌*◌, ◌^◌, ◌<◌, ◌≤◌, length};
@@ -31,7 +30,7 @@ pub struct Moments<const F: u32> {
     pub variance: Iv<F>,
 }
 
-/// What one pipeline feeds into another: a share, from 0 to 1, of its backorders, their mean, and their variance.
+/// The feed of one pipeline into another: a share, from 0 to 1, of its backorders, their mean, and their variance.
 #[derive(Clone, Copy, Drop)]
 pub struct Feed<const F: u32> {
     pub share: Iv<F>,
@@ -39,7 +38,7 @@ pub struct Feed<const F: u32> {
     pub spread: Iv<F>,
 }
 
-/// This share, at most 1, of a number that is at most 256.
+/// The share, at most 1, of a number that is at most 256.
 fn part_of<const F: u32>(share: Iv<F>, number: Iv<F>) -> Iv<F>
     requires share { share.hi ≤ 2 ^ F }
     requires small { IsWithinLimit F number }
@@ -49,7 +48,7 @@ fn part_of<const F: u32>(share: Iv<F>, number: Iv<F>) -> Iv<F>
     share.mul(number)
 }
 
-/// What a feed adds to a mean: `f E`.
+/// The addition of a feed to a mean: `f E`.
 pub fn mean_of<const F: u32>(feed: &Feed<F>) -> Iv<F>
     requires scale { InScale F }
     requires small { IsSmallFeed F feed.now }
@@ -59,7 +58,7 @@ pub fn mean_of<const F: u32>(feed: &Feed<F>) -> Iv<F>
     part_of(feed.share, feed.backorders)
 }
 
-/// What a feed adds to a variance: `f (1 - f) E + f^2 V`.
+/// The addition of a feed to a variance: `f (1 - f) E + f^2 V`.
 pub fn variance_of<const F: u32>(feed: &Feed<F>) -> Iv<F>
     requires scale { InScale F }
     requires small { IsSmallFeed F feed.now }
@@ -73,10 +72,10 @@ pub fn variance_of<const F: u32>(feed: &Feed<F>) -> Iv<F>
     once.add(twice)
 }
 
-/// The pipeline of a shop unit at the depot: its direct part, at most 256 units, and nothing more.
+/// The pipeline of a shop unit at the depot: only its direct part, at most 256 units.
 ///
-/// `cap` is what the caller knows the mean and the variance to be at most, in units of `2^-F`: each is capped there,
-/// and encloses the exact value where that is at most the cap.
+/// `cap` is the caller's upper bound of the mean and the variance, in units of `2^-F`: each is capped there, and
+/// encloses the exact value if that is at most the cap.
 pub fn depot_shop<const F: u32>(direct: Iv<F>, cap: u128) -> Moments<F>
     requires direct { IsWithinLimit F direct }
     ensures ends { result ≡ depot_shop_ends F direct.entry cap }
@@ -89,8 +88,8 @@ pub fn depot_shop<const F: u32>(direct: Iv<F>, cap: u128) -> Moments<F>
     }
 }
 
-/// The pipeline of a line unit at the depot: its direct part, at most 256 units, and what its shop units there feed
-/// into it, at most 8 of them.
+/// The pipeline of a line unit at the depot: its direct part, at most 256 units, and the feeds of its shop units there,
+/// at most 8 of them.
 ///
 /// `cap` is as in [`depot_shop`].
 pub fn depot_line<const F: u32>(direct: Iv<F>, cap: u128, feeds: &[Feed<F>]) -> Moments<F>

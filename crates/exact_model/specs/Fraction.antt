@@ -39,18 +39,18 @@ infixl 7 ◌*ℚ◌
 unfoldable pub ◌*ℚ◌ : Fraction → Fraction → Fraction
 q *ℚ r = record { num = q.num * r.num; den = q.den * r.den; positive = mul-pos q.positive r.positive }
 
--- q times top, over bottom, and 0 where bottom is 0
+-- q times top over bottom, 0 if bottom is 0
 unfoldable pub scaled : Fraction → ℕ → ℕ → Fraction
 unfolding whole
 scaled q top zero = whole 0
 scaled q top (suc n) = record { num = q.num * top; den = q.den * suc n; positive = mul-pos q.positive (zero-lt-suc n) }
 
--- the quotient, and 0 where the divisor is 0
+-- the quotient, 0 if the divisor is 0
 infixl 7 ◌/ℚ◌
 unfoldable pub ◌/ℚ◌ : Fraction → Fraction → Fraction
 q /ℚ r = scaled q r.den r.num
 
--- the larger of two: r, and what q has above it
+-- the larger of two: r plus the excess of q over r
 unfoldable pub larger : Fraction → Fraction → Fraction
 larger q r = r +ℚ (q -ℚ r)
 
@@ -64,6 +64,6 @@ pub record Contains (bits lo hi : ℕ) (q : Fraction) : Type 0 where
   pub low : lo * q.den ≤ q.num * 2 ^ bits
   pub high : q.num * 2 ^ bits ≤ hi * q.den
 
--- it contains what q is at each depth n from 1024 on
+-- the interval contains the value of q at each depth n from 1024 on
 abbrev pub Encloses : ℕ → ℕ → ℕ → (ℕ → Fraction) → Type 0
 Encloses bits lo hi q = (n : ℕ) → 1024 ≤ n → Contains bits lo hi (q n)

@@ -1,10 +1,10 @@
--- The backorders of one pipeline, as VARI-METRIC has them: C. C. Sherbrooke, Optimal Inventory Modeling of Systems,
--- 2nd edition, and VARI-METRIC, Operations Research 34 (1986).
+-- The backorders of one pipeline, by VARI-METRIC: C. C. Sherbrooke, Optimal Inventory Modeling of Systems, 2nd edition,
+-- and VARI-METRIC, Operations Research 34 (1986).
 --
--- A pipeline holds the units that are in repair or on their way. It has a mean u and a variance v, and stands for a
--- Poisson distribution, or for the negative binomial one of that mean and variance where v is above u. A stock of s
--- units is short of what the pipeline holds above s: these are the backorders. The series of probabilities is cut
--- after a depth n, and its weights are divided by their sum up to n. All numbers are exact.
+-- A pipeline contains the units that are in repair or on their way. It has a mean u and a variance v, and is modelled
+-- by a Poisson distribution, or by the negative binomial one of that mean and variance if v is above u. The backorders
+-- at a stock of s units are the units in the pipeline above s. The series of probabilities is cut after a depth n, and
+-- its weights are divided by their sum up to n. All numbers are exact.
 use Rattle.std.specs.Prelude.{ℕ, zero, suc, ◌-◌, ◌*◌}
 use Rattle.exact_model.specs.Fraction.{Fraction, whole, ◌+ℚ◌, ◌-ℚ◌, ◌*ℚ◌, ◌/ℚ◌, sum_below, larger}
 
@@ -23,13 +23,13 @@ weight u d (suc x) = weight u d x *ℚ (u +ℚ whole x *ℚ d) /ℚ (whole (suc 
 unfoldable pub weight_sum : Fraction → Fraction → ℕ → Fraction
 weight_sum u d n = sum_below (weight u d) (suc n)
 
--- p_n(x) = w(x) / W_n, the probability that the pipeline holds x units
+-- p_n(x) = w(x) / W_n, the probability that the pipeline has x units
 unfoldable pub chance : ℕ → Fraction → Fraction → ℕ → Fraction
 chance n u v x = weight u (excess u v) x /ℚ weight_sum u (excess u v) n
 
 -- ---- backorders
 
--- q, and 0 where the mean is 0: an empty pipeline has no backorders
+-- q, or 0 if the mean is 0: an empty pipeline has no backorders
 unfoldable pub unless_zero : ℕ → Fraction → Fraction
 unless_zero zero q = whole 0
 unless_zero (suc m) q = q
@@ -53,11 +53,11 @@ second n u v s =
 unfoldable pub vbo : ℕ → Fraction → Fraction → ℕ → Fraction
 vbo n u v s = unless_zero u.num (second n u v s -ℚ ebo n u v s *ℚ ebo n u v s)
 
--- what is added in E2_n(s) - EBO_n(s)^2: v' + u^2 + s^2
+-- the terms added in E2_n(s) - EBO_n(s)^2: v' + u^2 + s^2
 abbrev pub raised : Fraction → Fraction → ℕ → Fraction
 raised u v s = larger v u +ℚ u *ℚ u +ℚ whole (s * s)
 
--- what is taken off in it: 2 s u, the sum over x < s, and the square of the backorders
+-- the terms subtracted in it: 2 s u, the sum over x < s, and the square of the backorders
 abbrev pub lowered : ℕ → Fraction → Fraction → ℕ → Fraction
 lowered n u v s =
     whole (2 * s) *ℚ u +ℚ sum_below (λ x. whole ((s - x) * (s - x)) *ℚ chance n u v x) s +ℚ ebo n u v s *ℚ ebo n u v s
@@ -72,7 +72,7 @@ ratio u d k = (u +ℚ whole k *ℚ d) /ℚ (whole (suc k) *ℚ (whole 1 +ℚ d))
 unfoldable pub back : Fraction → Fraction → ℕ → Fraction
 back u d k = (whole (suc k) *ℚ (whole 1 +ℚ d)) /ℚ (u +ℚ whole k *ℚ d)
 
--- w(x) / w(c): a weight in units of the pivot's, that at c
+-- w(x) / w(c): a weight relative to the weight at the pivot c
 unfoldable pub relative : Fraction → Fraction → ℕ → ℕ → Fraction
 relative u d c x = weight u d x /ℚ weight u d c
 

@@ -22,17 +22,17 @@ ghost use Rattle.exact_model.specs.Series.{
   lowered,
 };
 
-/// The cuts at 0 in the definitions lose nothing.
+/// The cuts at 0 in the definitions change nothing.
 pub fn cuts_lose_nothing()
-    // The mean with what the chances below s are short of s is at least s, so `EBO(s) >= 0` without its cut.
+    // The mean plus the expected shortfall below s is at least s, so `EBO(s) >= 0` without its cut.
     ensures backorders { (n : ℕ) (u v : Fraction) (s : ℕ)
         → s ≤ suc n → whole s ≤ℚ u +ℚ sum_below (λ x. whole (s - x) *ℚ chance n u v x) s }
 
-    // The chances of 0 to s units come to at most 1.
+    // The probabilities of 0 to s units sum to at most 1.
     ensures tail { (n : ℕ) (u v : Fraction) (s : ℕ)
         → s ≤ n → sum_below (chance n u v) (suc s) ≤ℚ whole 1 }
 
-    // The variance is `max(0, E2 - EBO^2)` with that one cut: those inside E2 change nothing.
+    // The variance is `max(0, E2 - EBO^2)` with that one cut: the cuts inside E2 change nothing.
     ensures variance { (n : ℕ) (u v : Fraction) (s : ℕ)
         → vbo n u v s ≈ unless_zero u.num (raised u v s -ℚ lowered n u v s) }
 {}
@@ -46,7 +46,7 @@ pub fn backorders_fall()
 /// Before its cut at 0, the variance of backorders falls by `(2 EBO(s + 1) + G(s)) (1 - G(s))` from each stock to the
 /// next.
 pub fn variance_falls()
-    // With no difference that is cut: what is added at s, less what is taken off there, is that at s + 1 and the fall.
+    // Without any cut difference: the terms added at s, less those subtracted there, are those at s + 1 and the fall.
     ensures uncut { (n : ℕ) (u v : Fraction) (s : ℕ)
         → 0 < u.num → s ≤ n
         → raised u v s +ℚ lowered n u v (suc s)
@@ -65,7 +65,7 @@ pub fn within_caps()
     ensures variance { (n : ℕ) (u v : Fraction) (s : ℕ) → s ≤ suc n → vbo n u v s ≤ℚ larger v u }
 {}
 
-/// EBO, the tail and VBO depend on the values of the mean and the variance alone, and not on how these are written.
+/// EBO, the tail and VBO depend only on the values of the mean and the variance, not on how these are written.
 pub fn values_alone()
     ensures backorders { (n : ℕ) (u v u' v' : Fraction) (s : ℕ)
         → u ≈ u' → v ≈ v' → ebo n u v s ≈ ebo n u' v' s }

@@ -1,6 +1,6 @@
 //! The model of a pipeline's expected backorders and of their variance, in exact fractions, and its laws.
 //!
-//! The definitions stand in `specs/`, and no code computes with them: the crates above print intervals that hold their
+//! The definitions are in `specs/`, and no code computes with them: the crates above print intervals that enclose their
 //! values. Each law is the contract of a public function with an empty body, for every depth `n` of the cut series.
 #![tactic(auto)]
 

@@ -1,4 +1,4 @@
-//! The laws of the weights `w(0), w(1), ..` of a pipeline with mean `u` and excess `d`, and of their chances.
+//! The laws of the weights `w(0), w(1), ..` of a pipeline with mean `u` and excess `d`, and of their probabilities.
 
 ghost use Rattle.std.specs.Prelude.{ℕ, ◌≤◌, ◌<◌, suc};
 ghost use Rattle.exact_model.specs.Fraction.{
@@ -15,7 +15,7 @@ ghost use Rattle.exact_model.specs.Fraction.{
 };
 ghost use Rattle.exact_model.specs.Series.{chance, ratio, weight, weight_sum};
 
-/// Each weight is the one before it times their ratio: `w(k + 1) = w(k) (u + k d) / ((k + 1) (1 + d))`.
+/// Each weight is the previous one times their ratio: `w(k + 1) = w(k) (u + k d) / ((k + 1) (1 + d))`.
 pub fn weights_by_ratios()
     ensures { (u d : Fraction) (k : ℕ) → weight u d (suc k) ≈ weight u d k *ℚ ratio u d k }
 {}
@@ -32,15 +32,15 @@ pub fn ratios_bounded()
         → K ≤ k → ratio u d k ≤ℚ larger (ratio u d K) (d /ℚ (whole 1 +ℚ d)) }
 {}
 
-/// At every depth the weights past an index K come to at most a geometric remainder. Where `r < 1` is at least the
-/// ratio at K and `d / (1 + d)`, then `W_n <= W_K + w(K) r / (1 - r)` for every `n >= K`.
+/// At every depth the weights past an index K sum to at most a geometric remainder. If `r < 1` is at least the ratio at
+/// K and `d / (1 + d)`, then `W_n <= W_K + w(K) r / (1 - r)` for every `n >= K`.
 pub fn remainder_bounded()
     ensures { (u d r : Fraction) (K n : ℕ)
         → K ≤ n → r.num < r.den → ratio u d K ≤ℚ r → d /ℚ (whole 1 +ℚ d) ≤ℚ r
         → weight_sum u d n ≤ℚ weight_sum u d K +ℚ weight u d K *ℚ r /ℚ (whole 1 -ℚ r) }
 {}
 
-/// The chances of 0 to n units add up to 1.
+/// The probabilities of 0 to n units sum to 1.
 pub fn chances_add_up()
     ensures { (n : ℕ) (u v : Fraction) → sum_below (chance n u v) (suc n) ≈ whole 1 }
 {}

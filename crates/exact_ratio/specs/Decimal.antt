@@ -1,4 +1,4 @@
--- What a decimal number's text means: digits with at most one point among them. 46 is '.', 48 is '0' and 57 is '9'.
+-- The meaning of a decimal number's text: digits with at most one point among them. 46 is '.', 48 is '0' and 57 is '9'.
 use Rattle.std.specs.Prelude.{◌≡◌, ◌≢◌, ◌⊎◌, ◌==◌, ℕ, ◌-◌, ◌*◌, ◌/◌, ◌^◌, ◌≤◌, ◌<◌, ◌++◌, List, length, slice_index, slice_set, drop, min, nat_le, nat_lt, Bool, not, if◌then◌else◌, Result, Ok, Err}
 use Rattle.std.specs.List.{position_or_len, before_first, after_first, list_any}
 use Rattle.std.specs.Char.{is_ascii_digit}
@@ -9,15 +9,15 @@ use Rattle.exact_ratio.specs.declared.decimal.NumberFault.TheVariants.{BadByte, 
 
 -- ---- the parts of a text
 
--- where the first point stands, or the length where there is none
+-- the index of the first point, or the length if there is none
 abbrev pub point_of : List ℕ → ℕ
 point_of text = position_or_len (λ c. c == 46) text
 
--- what stands before the first point, or the whole text where there is none
+-- the bytes before the first point, or the whole text if there is none
 abbrev pub whole_of : List ℕ → List ℕ
 whole_of text = before_first (λ c. c == 46) text
 
--- what stands after the first point, or nothing
+-- the bytes after the first point, or none
 abbrev pub fraction_of : List ℕ → List ℕ
 fraction_of text = after_first (λ c. c == 46) text
 
@@ -25,9 +25,9 @@ fraction_of text = after_first (λ c. c == 46) text
 abbrev pub digits_of : List ℕ → List ℕ
 digits_of text = whole_of text ++ fraction_of text
 
--- ---- what reading a text answers, as a function of the text
+-- ---- the result of reading a text, as a function of the text
 
--- the first byte that is no digit, where a digit stands in for the first point; or the length where there is none
+-- the index of the first byte that is no digit, with the first point counted as one, or the length if there is none
 abbrev pub bad_place : List ℕ → ℕ
 bad_place text = position_or_len (λ c. not (is_ascii_digit c)) (slice_set text (point_of text) 48)
 
@@ -35,7 +35,7 @@ bad_place text = position_or_len (λ c. not (is_ascii_digit c)) (slice_set text 
 abbrev pub is_longer_than : List ℕ → ℕ → Bool
 is_longer_than text places = list_any (λ c. not (c == 48)) (drop places (fraction_of text))
 
--- the text's value times `10 ^ places`. The quotient is exact where no digit past these places differs from 0
+-- the text's value times `10 ^ places`. The quotient is exact if all digits past these places are 0
 abbrev pub units_of : List ℕ → ℕ → ℕ
 units_of text places = digits_value 10 (digits_of text) * 10 ^ places / 10 ^ length (fraction_of text)
 
@@ -83,9 +83,8 @@ pub record IsNumber (text : List ℕ) (places : ℕ) : Type 0 where
   pub has_digit : 0 < length (digits_of text)
   pub no_late_digit : HasNoLateDigit (fraction_of text) places
 
--- The text's value is the number that all its digits write, over `10 ^ length (fraction_of text)`.
--- So `units` is the value times `10 ^ places` where the first of these holds, and that is over `2 ^ 64 - 1` where the
--- second does.
+-- The text's value is the number that all its digits write, over `10 ^ length (fraction_of text)`. `units` is the value
+-- times `10 ^ places` if IsValue holds; that product is above `2 ^ 64 - 1` if IsOver holds.
 abbrev pub IsValue : List ℕ → ℕ → ℕ → Type 0
 IsValue text places units = units * 10 ^ length (fraction_of text) ≡ digits_value 10 (digits_of text) * 10 ^ places
 
@@ -93,7 +92,7 @@ IsValue text places units = units * 10 ^ length (fraction_of text) ≡ digits_va
 abbrev pub IsOver : List ℕ → ℕ → Type 0
 IsOver text places = 2 ^ 64 * 10 ^ length (fraction_of text) ≤ digits_value 10 (digits_of text) * 10 ^ places
 
--- what reading a text with these places answers
+-- the result of reading a text with these places
 abbrev pub ReadsDecimal : List ℕ → ℕ → Result Decimal NumberFault → Type 0
 ReadsDecimal text places (Err (BadByte at)) = (k : ℕ) × FirstBad text k × (at ≡ min k (2 ^ 32 - 1))
 ReadsDecimal text places (Err Empty) = IsClean text × (length (digits_of text) ≡ 0)

@@ -41,15 +41,15 @@ use thiserror::Error;
 pub struct Decimal {
     /// The number in units of its last place.
     pub units: u64,
-    /// How many decimals the units count.
+    /// The number of decimals.
     pub places: u8,
 }
 
-/// Why a text is no decimal number. Of several faults the first in this order is told.
+/// Why a text is no decimal number. Of several faults the first in this order is reported.
 #[derive(Clone, Copy, Debug, Drop, PartialEq, Eq, Error)]
 pub enum NumberFault {
-    /// The first byte, counted from 0, that is neither a digit nor the first point.
-    /// A place past `2^32 - 1` is told as `2^32 - 1`.
+    /// The first byte, counted from 0, that is neither a digit nor the first point. A place past `2^32 - 1` is reported
+    /// as `2^32 - 1`.
     #[error("the byte at {0} is neither a digit nor the first point")]
     BadByte(u32),
     /// The text holds no digit.
@@ -58,17 +58,17 @@ pub enum NumberFault {
     /// A digit past the places asked for isn't 0.
     #[error("there are too many decimals")]
     TooManyPlaces,
-    /// The number of units is over `2^64 - 1`.
+    /// The number of units is above `2^64 - 1`.
     #[error("the number is too large")]
     TooLarge,
 }
 
-/// The definition of what a text reads as agrees, for every text, with what a reader sees in its digits.
+/// The definition of reading agrees, for every text, with a description by its digits, place by place.
 pub fn reads_as_defined()
     ensures { (text : List ℕ) (places : ℕ) → ReadsDecimal text places (decimal_of text places) }
 {}
 
-/// A text reads as one answer only.
+/// A text has only one reading.
 pub fn reads_one_answer()
     ensures { (text : List ℕ) (places : ℕ) (answer : Result Decimal NumberFault)
         → ReadsDecimal text places answer → answer ≡ decimal_of text places }
@@ -76,8 +76,8 @@ pub fn reads_one_answer()
 
 /// Reads digits with at most one point among them as a number of `places` decimals.
 ///
-/// There may be no digit before the point or none behind it, as in `.5` and `5.`, and zeros past the places asked for.
-/// The error is the first fault in the order of [`NumberFault`]. Takes no memory.
+/// The digits before or after the point may be missing, as in `.5` and `5.`, and zeros past the places asked for are
+/// allowed. The error is the first fault in the order of [`NumberFault`]. Allocates no memory.
 pub fn read_decimal(text: &[u8], places: u8) -> Result<Decimal, NumberFault>
     requires { places ≤ 4 }
     ensures value { result ≡ decimal_of text.now places }
@@ -102,7 +102,7 @@ pub fn read_decimal(text: &[u8], places: u8) -> Result<Decimal, NumberFault>
     }
 }
 
-/// Where the first point stands, or the length.
+/// The index of the first point, or the length.
 fn find_point(text: &[u8]) -> usize
     ensures place { result ≡ point_of text.now }
     ensures within { result ≤ length text.now }
@@ -115,7 +115,7 @@ fn find_point(text: &[u8]) -> usize
     text.len()
 }
 
-/// What stands behind the place `point`.
+/// The bytes after the index `point`.
 fn after(text: &[u8], point: usize) -> &[u8]
     requires { point ≤ length text.now }
     ensures { result.now ≡ drop (point + 1) text.now }
@@ -127,7 +127,7 @@ fn after(text: &[u8], point: usize) -> &[u8]
     }
 }
 
-/// The first byte that is neither a digit nor at the place `point`.
+/// The first byte that is neither a digit nor at the index `point`.
 fn find_bad(text: &[u8], point: usize) -> Option<usize>
     requires { point ≡ point_of text.now }
     ensures { MatchOption result (IsClean text.now) (λ k. FirstBad text.now k) }
@@ -153,7 +153,7 @@ fn has_late_digit(fraction: &[u8], places: u8) -> bool
     false
 }
 
-/// The number that the digits write when they follow those of `start`, if it fits.
+/// The number that the digits write after the digits of `start`, if it fits.
 fn read_on(start: u64, digits: &[u8]) -> Option<u64>
     requires { (k : ℕ) → k < length digits.now → IsDigit (slice_index digits.now k) }
     ensures { MatchOption result (2 ^ 64 ≤ digits_value_after 10 start digits.now)
@@ -186,7 +186,7 @@ fn power_of_ten(places: u8) -> u64
     }
 }
 
-/// The number of all these digits and as many zeros behind them as are `missing`, if it fits.
+/// The number written by these digits and `missing` zeros after them, if it fits.
 fn units_of(whole: &[u8], kept: &[u8], missing: u8) -> Option<u64>
     requires whole_digits { (k : ℕ) → k < length whole.now → IsDigit (slice_index whole.now k) }
     requires kept_digits { (k : ℕ) → k < length kept.now → IsDigit (slice_index kept.now k) }
@@ -203,7 +203,7 @@ fn units_of(whole: &[u8], kept: &[u8], missing: u8) -> Option<u64>
     number.checked_mul(power_of_ten(missing))
 }
 
-/// A place as a fault gives it.
+/// A place in the form of a fault.
 fn place(at: usize) -> u32
     ensures { result ≡ min at (2 ^ 32 - 1) }
 {

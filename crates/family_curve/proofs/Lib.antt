@@ -24,3 +24,7 @@ pub mod Bases
 pub mod Stands
 pub mod Grown
 pub mod Rows
+pub mod Leasts
+pub mod LeastPoints
+pub mod Uppers
+pub mod LowPoints

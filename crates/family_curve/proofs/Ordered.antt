@@ -109,7 +109,7 @@ module _ (x : FamilyBox) (j : ℕ) (order : List Choice) (is : IsOrder x j order
       (λ shops _. map-map (base_point x.case x.line ends x.held d j) (λ s. s ∷ shops) (line_stocks x j)) (each_any (shop_vectors x j))
 
   -- they are the points of the base
-  points_permuted : IsPermutation turned (map (choice_point x ends d j) order)
+  pub points_permuted : IsPermutation turned (map (choice_point x ends d j) order)
   points_permuted =
       subst (λ (l : List Point). IsPermutation l (map (choice_point x ends d j) order)) turned_is
       (subst (IsPermutation (map (base_point x.case x.line ends x.held d j) (turned_stocks x j))) (map-map (base_point x.case x.line ends x.held d j) (choice_stocks x j) order)

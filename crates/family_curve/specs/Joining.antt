@@ -7,12 +7,12 @@ use Rattle.family_curve.specs.Inputs.{FamilyBox}
 use Rattle.family_curve.specs.Spots.{AreBases}
 use Rattle.family_curve.specs.Tabled.{numbers}
 
--- the evaluator and the bases are those of the family
+-- the evaluator and the bases belong to the family
 pub record AreSources (s : Sources) : Type 0 where
   pub evaluator : s.evaluator.numbers ≡ numbers s.family.now
   pub bases : AreBases s.family.now s.bases.items
 
--- its vertices, where there is one
+-- the vertices of a curve, if there is one
 abbrev pub vertices_of : Option (List Point) → List Point
 vertices_of None = []
 vertices_of (Some curve) = curve
@@ -21,10 +21,10 @@ vertices_of (Some curve) = curve
 abbrev pub HaveWidthOf : FamilyBox → List Point → Type 0
 HaveWidthOf x points = (v : Point) → Among v points → length v.stocks ≡ length x.low
 
--- the stock in the middle of those from low to high
+-- the stock in the middle between low and high
 abbrev pub middle : ℕ → ℕ → ℕ
 middle low high = low + (high - low) / 2
 
--- where n stocks begin that go from the middle one up to high, and then down from it
+-- the least of the first n stocks, in the order from the middle one up to high and then from the middle down
 abbrev pub run_start : ℕ → ℕ → ℕ → ℕ
 run_start low high n = min (middle low high) (high + 1 - n)

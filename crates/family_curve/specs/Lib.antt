@@ -10,3 +10,4 @@ pub mod Turned
 pub mod Local
 pub mod Tabled
 pub mod Joining
+pub mod Least

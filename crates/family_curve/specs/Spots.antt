@@ -1,4 +1,4 @@
--- What is the same at a base whatever the depot has, and its points. No promise of the crate rests on these words.
+-- The choices at a base, and their points. No promise of the crate rests on these words.
 use Rattle.std.specs.Prelude.{◌≡◌, ℕ, ◌<◌, ◌≤◌, List, [], ◌∷◌, flat_map, get_or, length, map, All}
 use Rattle.std.specs.List.{AllZip}
 use Rattle.std.specs.List.Sorted.{IsNonDecreasingBy, IsPermutation}
@@ -22,12 +22,12 @@ use Rattle.family_curve.specs.Inputs.{AreShopsAt, FamilyBox, IsAt, IsFamilyBox, 
 abbrev pub spot_point : BaseSpot → Point
 spot_point v = record { cost = v.cost; lo = v.lo; hi = v.hi; stocks = v.line ∷ v.shops.now }
 
--- stocks of the shop units at base j, with the cost of these and the line unit's least
+-- stocks of the shop units at base j, with their cost together with the line unit's least stock
 pub record IsShopVector (x : FamilyBox) (j : ℕ) (v : ShopVector) : Type 0 where
   pub within : AreShopsAt x j v.stocks
   pub cost : v.cost ≡ cost_above x.case (family x.case x.line) (held_at x j) (line_low x j ∷ v.stocks)
 
--- all stocks of base j: those of the line unit for each of its shop units'
+-- all stocks of base j: each stock of the line unit, for each vector of its shop units
 abbrev pub turned_stocks : FamilyBox → ℕ → List (List ℕ)
 turned_stocks x j = flat_map (λ shops. map (λ s. s ∷ shops) (line_stocks x j)) (shop_vectors x j)
 
@@ -35,7 +35,7 @@ turned_stocks x j = flat_map (λ shops. map (λ s. s ∷ shops) (line_stocks x j
 abbrev pub choice_stocks : FamilyBox → ℕ → Choice → List ℕ
 choice_stocks x j v = v.line ∷ get_or (shop_vectors x j) v.shops []
 
--- their point, where the depot has the stocks d
+-- the point of a choice, if the depot has the stocks d
 abbrev pub choice_point : FamilyBox → ScoreEnds → List ℕ → ℕ → Choice → Point
 choice_point x ends d j v = base_point x.case x.line ends x.held d j (choice_stocks x j v)
 
@@ -52,17 +52,17 @@ pub record IsOrder (x : FamilyBox) (j : ℕ) (order : List Choice) : Type 0 wher
   pub choices : All (IsChoice x j) order
   pub rises : IsNonDecreasingBy (λ (v : Choice). v.cost) order
 
--- what is kept of base j: the shop units' stocks with their costs, and the order of all choices
+-- the data of base j: the shop units' vectors with their costs, and the order of all choices
 pub record IsBaseOf (x : FamilyBox) (j : ℕ) (b : Base) : Type 0 where
   pub stocks : map (λ (v : ShopVector). v.stocks) b.shops.items ≡ shop_vectors x j
   pub are_vectors : All (IsShopVector x j) b.shops.items
   pub order : IsOrder x j b.order.items
 
--- and so for each base of the case in turn
+-- the data of each base of the case in turn
 abbrev pub AreBases : FamilyBox → List Base → Type 0
 AreBases x bs = AllZip (IsBaseOf x) (bases x.case) bs
 
--- a base of a family, where the depot has stocks within their bounds, with its numbers
+-- a base of a family and its numbers, at stocks of the depot within their bounds
 pub record IsBaseAt (b : BaseAt) : Type 0 where
   pub valid : IsFamilyBox b.family.now
   pub depot : IsAt b.family.now 0 b.depot.now
@@ -72,14 +72,13 @@ pub record IsBaseAt (b : BaseAt) : Type 0 where
   pub per_system : b.per_system ≡ per_system b.family.now.case b.family.now.line
   pub weight : b.weight ≡ weight b.family.now.case b.family.now.line
 
--- the line unit's backorders at base j, by its stock there, where the depot has the stocks d and the base has these of
--- its shop units
+-- the line unit's backorders at base j by its stock there, with the stocks d at the depot and `shops` at the base
 pub record IsRow (x : FamilyBox) (d : List ℕ) (j : ℕ) (shops : List ℕ) (row : List Ends) : Type 0 where
   pub long : line_high x j < length row
   pub small : All (IsWithinLimit 48) row
   pub ends : (s : ℕ) → IsAt x j (s ∷ shops)
       → at_place row s ≡ (item_of 48 x.case (base_stocks x.case x.line d j (s ∷ shops)) x.line j).backorders
 
--- and so for each of the shop units' stocks at a base
+-- one such row for each vector of the shop units' stocks at a base
 abbrev pub AreRows : BaseAt → List (List Ends) → Type 0
 AreRows b rows = AllZip (IsRow b.family.now b.depot.now b.site.0) (shop_vectors b.family.now b.site.0) rows

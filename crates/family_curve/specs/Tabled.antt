@@ -20,15 +20,15 @@ pub record AreShopStocks (n : FamilyNumbers 48) (v : List ℕ) : Type 0 where
 abbrev pub depot_shops : FamilyNumbers 48 → List (List (Row 48))
 depot_shops n = map (λ i. rows_of 48 (depot_shop_moments 48 n i)) (shop_numbers n)
 
--- those at base j, where the shop units have the stocks d at the depot
+-- the tables of the shop units at base j, if these have the stocks d at the depot
 abbrev pub base_shops : FamilyNumbers 48 → List ℕ → ℕ → List (List (Row 48))
 base_shops n d j = map (λ i. rows_of 48 (base_shop_moments 48 n i j (nth_stock d i))) (shop_numbers n)
 
--- the tables that serve all vectors with these stocks of the shop units at the depot
+-- the tables shared by all vectors with these stocks of the shop units at the depot
 pub record AreTables (n : FamilyNumbers 48) (d : List ℕ) (t : DepotTables) : Type 0 where
   pub line : t.line ≡ rows_of 48 (depot_line_moments 48 n d)
   pub bases : t.bases.items ≡ map (base_shops n d) (range_with_len 1 (n.sites - 1))
 
--- what the line unit at base j has without its shop units there, where the depot has the stocks d
+-- the own part of the line unit's pipeline at base j, if the depot has the stocks d
 abbrev pub own_at : FamilyNumbers 48 → List ℕ → ℕ → OwnPart 48
 own_at n d j = own_part 48 n j (nth_stock d 0) (drop 1 d)

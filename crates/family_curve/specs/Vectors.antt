@@ -1,5 +1,5 @@
--- The vectors of a family, and the stocks of a case that a vector stands for. A vector lists the stocks of a family
--- site by site, the depot first; at each site stands the line unit and then its shop units in part order.
+-- The vectors of a family, and the stocks of a case made of a vector. A vector lists the stocks of a family site by
+-- site, the depot first, and at each site the line unit and then its shop units in part order.
 use Rattle.std.specs.Prelude.{◌==◌, ℕ, suc, ◌-◌, ◌*◌, ◌≤◌, List, [], ◌∷◌, map, flat_map, length, take, drop, get_or, position}
 use Rattle.std.specs.List.{range_with_len, AllZip}
 use Rattle.std.specs.Option.{option_map_or}
@@ -25,7 +25,7 @@ places c l = flat_map (places_at c l) (all_sites c)
 abbrev pub vector_of : CaseRows → ℕ → List ℕ → List ℕ
 vector_of c l s = map (λ (x : Pair). stock c s x.part x.site) (places c l)
 
--- the most that each place may hold
+-- the largest stock of each place
 abbrev pub limits : CaseRows → ℕ → List ℕ
 limits c l = map (λ (x : Pair). limit_at c.parts x.part x.site) (places c l)
 
@@ -35,11 +35,11 @@ zeros c l = map (λ (x : Pair). 0) (places c l)
 
 -- ---- stocks that are made of vectors
 
--- what stands in a vector for site k
+-- the part of a vector that belongs to site k
 abbrev pub site_part : CaseRows → ℕ → List ℕ → ℕ → List ℕ
 site_part c l v k = take (length (family c l)) (drop (k * length (family c l)) v)
 
--- the stock of part p at site k, where the family has the stocks `own k` at each site k, and no other part has any
+-- the stock of part p at site k, if the family has the stocks `own k` at each site k and no other part has any
 abbrev pub stock_in : CaseRows → ℕ → (ℕ → List ℕ) → ℕ → ℕ → ℕ
 stock_in c l own p k = option_map_or (λ i. get_or (own k) i 0) (position (λ q. q == p) (family c l)) 0
 
@@ -61,7 +61,7 @@ stock_list c s = record { sites = length c.sites; list = s }
 abbrev pub between : ℕ → ℕ → List ℕ
 between a b = range_with_len a (suc b - a)
 
--- all lists from low to high, place by place, in the order of a dictionary; there are none where the lengths differ
+-- all lists from low to high, place by place, in dictionary order; none if the lengths differ
 abbrev pub vectors : List ℕ → List ℕ → List (List ℕ)
 vectors [] [] = [] ∷ []
 vectors [] (b ∷ high) = []

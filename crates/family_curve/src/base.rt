@@ -1,4 +1,4 @@
-//! The curve of each base with given stocks at the depot.
+//! The curve of each base at given stocks of the depot.
 
 ghost use Rattle.std.specs.Prelude.{◌≡◌, ◌+◌, ◌^◌, ◌<◌, ◌≤◌, ◌++◌, ◌∷◌, [], IfOk, drop, length, map, take, vec_len};
 ghost use Rattle.fixed_interval.specs.Ends.{IsWithinLimit};
@@ -25,10 +25,10 @@ use std::alloc::Global;
 pub(crate) struct BaseSpot<'a> {
     lo: u128,
     hi: u128,
-    /// The shop units' stocks, in part order.
+    /// The stocks of the shop units, in part order.
     shops: &'a [u8],
     cost: u64,
-    /// The line unit's stock.
+    /// The stock of the line unit.
     line: u8,
 }
 
@@ -67,7 +67,7 @@ impl<'a> Spot for BaseSpot<'a> {
     }
 }
 
-/// A chain for each base, of a point that costs and scores nothing and has no stocks.
+/// A placeholder chain for each base: one point of cost and score 0, without stocks.
 pub(crate) fn chains_of<'a>(
     alloc: Global,
     bases: &'a [Base],
@@ -90,7 +90,7 @@ pub(crate) fn chains_of<'a>(
     Ok(chains)
 }
 
-/// Makes so many rows or more.
+/// Makes sure that there are at least `count` rows.
 fn make_rows(rows: &mut Vec<Vec<Iv64<48>>>, count: usize) -> Result<(), NoMemory>
     ensures { IfOk result (λ _. count ≤ vec_len rows.new) }
 {
@@ -101,9 +101,9 @@ fn make_rows(rows: &mut Vec<Vec<Iv64<48>>>, count: usize) -> Result<(), NoMemory
     Ok(())
 }
 
-/// Puts the backorders at a base into rows: the first has those for the first of the shop units' stocks, and so on; a
-/// row lists those of the line unit by its stock.
-fn put_rows(
+/// Sets `rows` to the line unit's backorders at a base: one row for each choice of the shop units' stocks, listed by
+/// the line unit's stock.
+pub(crate) fn put_rows(
     rows: &mut Vec<Vec<Iv64<48>>>,
     here: &BaseAt<'_, '_>,
     evaluator: &Evaluator<48>,
@@ -127,7 +127,7 @@ fn put_rows(
     Ok(())
 }
 
-/// The line unit's backorders at a choice at a base that has these rows.
+/// The line unit's backorders for a choice, read from the base's rows.
 fn backorders_of(here: &BaseAt<'_, '_>, rows: &[Vec<Iv64<48>>], choice: &Choice) -> Iv<48>
     requires here { IsBaseAt here.now }
     requires rows { AreRows here.now (map (λ r. r.items) rows.now) }
@@ -142,8 +142,8 @@ fn backorders_of(here: &BaseAt<'_, '_>, rows: &[Vec<Iv64<48>>], choice: &Choice)
     row[usize::from(choice.line)].open()
 }
 
-/// What stands for the point of a choice at a base that has these rows.
-fn spot_at<'b, S: Score>(
+/// The point of a choice, scored by the base's rows.
+pub(crate) fn spot_at<'b, S: Score>(
     here: &BaseAt<'_, 'b>,
     score: &S,
     rows: &[Vec<Iv64<48>>],
@@ -166,7 +166,7 @@ fn spot_at<'b, S: Score>(
     }
 }
 
-/// Makes a chain take the point of a choice at a base that has these rows.
+/// Adds the point of a choice to a chain.
 fn take_choice<'b, S: Score>(
     chain: &mut Chain<BaseSpot<'b>>,
     here: &BaseAt<'_, 'b>,
@@ -189,7 +189,7 @@ fn take_choice<'b, S: Score>(
     chain.take(spot)
 }
 
-/// Makes a chain that of the points of a base that has these rows.
+/// Sets `chain` to the chain of all points of a base.
 fn put_points<'b, S: Score>(
     chain: &mut Chain<BaseSpot<'b>>,
     here: &BaseAt<'_, 'b>,
@@ -214,7 +214,7 @@ fn put_points<'b, S: Score>(
     Ok(())
 }
 
-/// Makes a chain the curve of a base, and puts the backorders there into rows.
+/// Sets `chain` to the curve of a base, and `rows` to the backorders there.
 pub(crate) fn put_curve<'b, S: Score>(
     chain: &mut Chain<BaseSpot<'b>>,
     rows: &mut Vec<Vec<Iv64<48>>>,

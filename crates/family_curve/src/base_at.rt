@@ -1,7 +1,7 @@
-//! A base, where the depot has given stocks.
+//! A base at given stocks of the depot.
 
-ghost use Rattle.std.specs.Prelude.{◌≡◌, ◌^◌, ◌<◌};
-ghost use Rattle.fixed_interval.specs.Ends.{IsWithinLimit};
+ghost use Rattle.std.specs.Prelude.{◌≡◌, ◌^◌, ◌<◌, ◌≤◌};
+ghost use Rattle.fixed_interval.specs.Ends.{Ends, IsWithinLimit};
 ghost use Rattle.fleet_model.specs.Laws.{IsBase};
 ghost use Rattle.fleet_model.specs.Rows.{systems, per_system, weight};
 ghost use Rattle.family_curve.specs.Inputs.{IsAt};
@@ -13,22 +13,22 @@ use fixed_interval::Iv;
 use hull::Score;
 use spares_input::SiteId;
 
-/// A base of a family, where the depot has given stocks.
+/// A base of a family at given stocks of the depot.
 #[derive(Drop)]
 pub(crate) struct BaseAt<'f, 'b> {
     /// The family.
     pub(crate) family: &'f Family<'f>,
-    /// The stocks at the depot, that of the line unit first.
+    /// The stocks at the depot, the line unit's first.
     pub(crate) depot: &'f [u8],
     /// The base.
     pub(crate) site: SiteId,
-    /// What is the same there whatever the depot has.
+    /// The choices at the base, which don't depend on the depot's stocks.
     pub(crate) base: &'b Base,
     /// The base's systems, from 1 to 10,000.
     systems: u32,
-    /// How many line units a system has, from 1 to 100.
+    /// The number of this line unit in a system, from 1 to 100.
     per_system: u32,
-    /// What a backorder of the line unit counts for, from 1 to 100.
+    /// The weight of a backorder of the line unit, from 1 to 100.
     weight: u8,
 }
 
@@ -61,7 +61,7 @@ impl<'f, 'b> BaseAt<'f, 'b> {
         }
     }
 
-    /// What backorders of the line unit there, of at most 256, score.
+    /// The score of the line unit's backorders at the base, which are at most 256.
     pub(crate) fn score<S: Score>(&self, score: &S, backorders: Iv<48>) -> Iv<48>
         requires is { IsBaseAt self.now }
         requires small { IsWithinLimit 48 backorders }
@@ -70,5 +70,16 @@ impl<'f, 'b> BaseAt<'f, 'b> {
             (weight self.now.family.now.case self.now.family.now.line) backorders }
     {
         score.of(self.systems, self.per_system, self.weight, backorders)
+    }
+
+    /// A lower bound on the score of the line unit's backorders there, if these are `low` or more.
+    pub(crate) fn low<S: Score>(&self, score: &S, low: u64) -> u128
+        requires is { IsBaseAt self.now }
+        ensures { (backorders : Ends) → IsWithinLimit 48 backorders → low ≤ backorders.lo
+            → result ≤ (S.ends (systems self.now.family.now.case self.now.site.0)
+            (per_system self.now.family.now.case self.now.family.now.line)
+            (weight self.now.family.now.case self.now.family.now.line) backorders).lo }
+    {
+        score.low(self.systems, self.per_system, self.weight, low)
     }
 }

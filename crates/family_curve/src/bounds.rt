@@ -9,12 +9,12 @@ use spares_input::{Case, PartId};
 use spares_io::{List, NoMemory};
 use std::alloc::Global;
 
-/// Which vectors of a family a curve is made of, and from which stocks on their cost counts. The lists are in the
-/// order of a vector: site by site, the depot first, and at each site the line unit and then its shop units in part
-/// order.
+/// The vectors of a family that a curve considers, and the stocks that are held already and cost nothing. The lists are
+/// in the order of a vector: site by site, the depot first, and at each site the line unit and then its shop units in
+/// part order.
 #[derive(Debug, Drop)]
 pub struct Bounds {
-    /// What is held already.
+    /// The stocks held already.
     pub held: List<u8>,
     /// The least stock of each place.
     pub low: List<u8>,

@@ -1,4 +1,4 @@
-//! How much work a family's curve is.
+//! The work that a family's curve takes, counted in tables.
 
 ghost use Rattle.std.specs.Prelude.{◌≡◌, ◌+◌, ◌-◌, ◌*◌, ◌^◌, ◌<◌, ◌≤◌, length, get_or, map, sum, drop};
 ghost use Rattle.spares_io.specs.Causes.{count64};
@@ -18,20 +18,20 @@ use spares_input::{Case, PartId, SiteId};
 /// The most tables of all families together.
 pub const MOST_TABLES: u64 = 1_000_000;
 
-/// What the shop units of a line unit have together.
+/// Counts over the shop units of a line unit.
 #[derive(Clone, Copy)]
 struct ShopCounts {
-    /// How many there are.
+    /// The number of shop units.
     count: u64,
-    /// The sum of how many stocks each can have at the depot.
+    /// The sum over them of the number of stocks at the depot.
     sum: u64,
-    /// In how many ways they can be stocked at the depot, or the largest count.
+    /// The number of their vectors of stocks at the depot, or the largest count.
     depot: u64,
-    /// And at a base.
+    /// The number of their vectors of stocks at a base, or the largest count.
     base: u64,
 }
 
-/// Those of the shop units of a line unit.
+/// The counts over the shop units of a line unit.
 fn shops(case: &Case, line: PartId) -> ShopCounts
     requires { line.0 < length case.now.parts }
     ensures count { result.count ≡ length (shop_units case.now line.0) }
@@ -58,7 +58,7 @@ fn shops(case: &Case, line: PartId) -> ShopCounts
     shops
 }
 
-/// How many vectors the family of a line unit has, or 2^64 - 1 where it has more.
+/// The number of vectors of a line unit's family, or 2^64 - 1 if there are more.
 pub fn choices(case: &Case, line: PartId) -> u64
     requires { IsLine case.now line.0 }
     ensures { result ≡ count64 (choices_of case.now line.0) }
@@ -74,7 +74,7 @@ pub fn choices(case: &Case, line: PartId) -> u64
     choices
 }
 
-/// How many tables the curve of a family takes over all its vectors, or 2^64 - 1 where it takes more.
+/// The number of tables that a family's curve over all its vectors takes, or 2^64 - 1 if it takes more.
 pub fn tables(case: &Case, line: PartId) -> u64
     requires { IsLine case.now line.0 }
     ensures { result ≡ count64 (tables_of case.now line.0) }
@@ -89,8 +89,8 @@ pub fn tables(case: &Case, line: PartId) -> u64
         .saturating_add(depot.saturating_mul(bases.saturating_mul(shops.base)))
 }
 
-/// The tables of all families together, where they are at most 1,000,000; and else this count is the refusal, or
-/// 2^64 - 1 where it is larger.
+/// The number of tables of all families together. `Err` if it is above 1,000,000, with the number or, if it is larger,
+/// with 2^64 - 1.
 pub fn work(case: &Case) -> Result<u64, u64>
     ensures { result ≡ work_of case.now }
 {
@@ -108,10 +108,10 @@ pub fn work(case: &Case) -> Result<u64, u64>
     }
 }
 
-/// In how many ways the places of a site can be stocked.
+/// The numbers of stocks at the places of a site.
 #[derive(Clone, Copy)]
 struct SiteWays {
-    /// The line unit's.
+    /// The line unit's number.
     line: u64,
     /// The sum over its shop units.
     sum: u64,
@@ -119,7 +119,7 @@ struct SiteWays {
     shops: u64,
 }
 
-/// Those of a site, from its least stocks to its most.
+/// The numbers of a site, from its least stocks to its most.
 fn ways(low: &[u8], high: &[u8]) -> SiteWays
     requires some { 0 < length low.now }
     requires bounds { IsBox low.now high.now }
@@ -140,7 +140,7 @@ fn ways(low: &[u8], high: &[u8]) -> SiteWays
     }
 }
 
-/// Those of a site in the bounds of a family of so many parts.
+/// The numbers of a site, in the bounds of a family with `size` parts.
 fn site_ways(case: &Case, line: PartId, bounds: &Bounds, size: usize, site: SiteId) -> SiteWays
     requires line { IsLine case.now line.0 }
     requires ordered { AreOrdered case.now line.0 bounds.now.held bounds.now.low bounds.now.high }
@@ -158,8 +158,7 @@ fn site_ways(case: &Case, line: PartId, bounds: &Bounds, size: usize, site: Site
     ways(low, high)
 }
 
-/// How many tables the curve of a family takes over the vectors from the least to the most, or 2^64 - 1 where it
-/// takes more.
+/// The number of tables that a family's curve takes within the bounds, or 2^64 - 1 if it takes more.
 pub fn tables_within(case: &Case, line: PartId, bounds: &Bounds) -> u64
     requires line { IsLine case.now line.0 }
     requires ordered { AreOrdered case.now line.0 bounds.now.held bounds.now.low bounds.now.high }

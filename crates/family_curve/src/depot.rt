@@ -1,4 +1,4 @@
-//! The tables from which the points of a family are made, and the backorders that they give.
+//! The tables from which the points of a family are made, and the backorders computed by them.
 
 ghost use Rattle.std.specs.Prelude.{◌≡◌, ◌-◌, IfOk, drop, map};
 ghost use Rattle.std.specs.List.{range_with_len};
@@ -15,16 +15,16 @@ use spares_input::SiteId;
 use spares_io::{List, NoMemory};
 use std::alloc::Global;
 
-/// The tables that serve all vectors with the same stocks of the shop units at the depot.
+/// The tables shared by all vectors with the same stocks of the shop units at the depot.
 #[derive(Drop)]
 pub(crate) struct DepotTables {
-    /// That of the line unit at the depot.
+    /// The line unit's table at the depot.
     pub(crate) line: Table<48>,
-    /// Those of the shop units at each base, the first base first.
+    /// The shop units' tables at each base, the first base first.
     pub(crate) bases: Vec<List<Table<48>>>,
 }
 
-/// The tables of the shop units at each base, where they have these stocks at the depot.
+/// The shop units' tables at each base, if they have the stocks `depot` at the depot.
 fn base_tables(
     alloc: Global,
     family: &Family<'_>,
@@ -47,7 +47,7 @@ fn base_tables(
     Ok(tables)
 }
 
-/// The tables for these stocks of the shop units at the depot; `shops` are their tables there.
+/// The tables for the shop units' stocks `depot` at the depot; `shops` are their tables there.
 pub(crate) fn depot_tables(
     alloc: Global,
     family: &Family<'_>,
@@ -66,7 +66,7 @@ pub(crate) fn depot_tables(
     Ok(DepotTables { line, bases })
 }
 
-/// What the line unit at a base has without its shop units there: it serves all stocks of the shop units at the base.
+/// The own part of the line unit's pipeline at a base, shared by all stocks of the shop units there.
 pub(crate) fn own_at(
     here: &BaseAt<'_, '_>,
     evaluator: &Evaluator<48>,
@@ -81,8 +81,8 @@ pub(crate) fn own_at(
     evaluator.own_part(&tables.line, depot[0], shops_of(depot), here.site)
 }
 
-/// Puts the backorders of the line unit at a base, at each of its stocks there, in the place of what `found` holds. The
-/// shop units have these stocks at the base, and `own` is what the line unit has there without them.
+/// Overwrites `found` with the line unit's backorders at a base by its stock there. The shop units have the stocks
+/// `shops` at the base, and `own` is the line unit's own part.
 pub(crate) fn put_backorders(
     found: &mut Vec<Iv64<48>>,
     here: &BaseAt<'_, '_>,

@@ -22,7 +22,7 @@ use spares_io::NoMemory;
 use std::alloc::Global;
 use std::marker::Model;
 
-/// A family of a case, with the stocks that are held and the bounds of its vectors.
+/// A family of a case, with the stocks held and the bounds of its vectors.
 #[derive(Drop)]
 pub(crate) struct Family<'a> {
     case: &'a Case,
@@ -59,7 +59,7 @@ impl<'a> Model for Family<'a> {
         × (map (λ p. p.0) x.members.items ≡ family x.case.now x.line.0) };
 }
 
-/// What stands in a vector for a site, where a family has so many parts.
+/// The part of a vector that belongs to a site; `size` is the number of parts of the family.
 pub(crate) fn part_of(vector: &[u8], site: SiteId, size: usize) -> &[u8]
     requires few { size ≤ 9 }
     requires within { site.0 * size + size ≤ length vector.now }
@@ -69,7 +69,7 @@ pub(crate) fn part_of(vector: &[u8], site: SiteId, size: usize) -> &[u8]
     &vector[from..from + size]
 }
 
-/// What stands for the shop units in the stocks of a site.
+/// The stocks of the shop units, among the stocks of a site.
 pub(crate) fn shops_of(stocks: &[u8]) -> &[u8]
     requires { 0 < length stocks.now }
     ensures { result.now ≡ drop 1 stocks.now }
@@ -77,7 +77,7 @@ pub(crate) fn shops_of(stocks: &[u8]) -> &[u8]
     &stocks[1..]
 }
 
-/// The stocks of a site: that of the line unit and then those of its shop units.
+/// The stocks of a site: the line unit's, then the shop units'.
 pub(crate) fn joined(alloc: Global, line: u8, shops: &[u8]) -> Result<Vec<u8>, NoMemory>
     ensures { IfOk result (λ v. v.items ≡ line ∷ shops.now) }
 {
@@ -119,7 +119,7 @@ impl<'a> Family<'a> {
         })
     }
 
-    /// How many parts there are, at most 9.
+    /// The number of parts, at most 9.
     pub(crate) fn size(&self) -> usize
         ensures size { result ≡ length (family self.now.case self.now.line) }
         ensures few { result ≤ 9 }
@@ -128,7 +128,7 @@ impl<'a> Family<'a> {
         self.members.len()
     }
 
-    /// How many sites there are.
+    /// The number of sites.
     pub(crate) fn sites(&self) -> u8
         ensures sites { result ≡ length self.now.case.sites }
         ensures fewest { 2 ≤ result }
@@ -138,7 +138,7 @@ impl<'a> Family<'a> {
     }
 
     /// The least stocks of a site.
-    fn low(&self, site: SiteId) -> &[u8]
+    pub(crate) fn low(&self, site: SiteId) -> &[u8]
         requires { site.0 < length self.now.case.sites }
         ensures { result.now ≡ low_at self.now site.0 }
     {
@@ -176,7 +176,7 @@ impl<'a> Family<'a> {
         self.high(site)[0]
     }
 
-    /// How many vectors of stocks the shop units can have at a site.
+    /// The number of vectors of the shop units' stocks at a site.
     pub(crate) fn shop_count(&self, site: SiteId) -> u64
         requires { site.0 < length self.now.case.sites }
         ensures count { result ≡ length (shop_vectors self.now site.0) }
@@ -188,7 +188,7 @@ impl<'a> Family<'a> {
         count(low, high)
     }
 
-    /// The vector of the shop units at a site of this number, in the order of a dictionary.
+    /// The shop units' `n`-th vector at a site, in dictionary order.
     pub(crate) fn shop_vector(
         &self,
         alloc: Global,
@@ -207,7 +207,7 @@ impl<'a> Family<'a> {
         Ok(vector)
     }
 
-    /// The evaluator of the family, which makes its tables.
+    /// The evaluator that makes the family's tables.
     pub(crate) fn evaluator(&self, alloc: Global) -> Result<Evaluator<48>, NoMemory>
         ensures { IfOk result (λ e. e.numbers ≡ numbers self.now) }
     {
@@ -216,7 +216,7 @@ impl<'a> Family<'a> {
         Ok(evaluator)
     }
 
-    /// What stocks at a site cost, as far as they are above those held.
+    /// The cost of stocks at a site, as far as they exceed those held.
     pub(crate) fn cost(&self, site: SiteId, stocks: &[u8]) -> u64
         requires site { site.0 < length self.now.case.sites }
         requires stocks { IsAt self.now site.0 stocks.now }
@@ -242,14 +242,14 @@ impl<'a> Family<'a> {
         self.case.part(self.line)
     }
 
-    /// What one line unit costs.
+    /// The unit cost of the line unit.
     pub(crate) fn line_cost(&self) -> u64
         ensures { result ≡ (part_at self.now.case.parts self.now.line).cost }
     {
         u64::from(self.line_row().cost)
     }
 
-    /// How many systems a base has.
+    /// The number of systems at a base.
     pub(crate) fn systems(&self, site: SiteId) -> u32
         requires { IsBase self.now.case site.0 }
         ensures { result ≡ systems self.now.case site.0 }

@@ -23,20 +23,20 @@ use spares_io::{List, NoMemory};
 use std::alloc::Global;
 use sum_walk::walk::{Runner, Stocks, Turn, walk};
 
-/// What the curve of a family is made from, whatever the depot has.
+/// The data of a family that doesn't depend on the depot's stocks.
 #[derive(Drop)]
-struct Sources<'f> {
+pub(crate) struct Sources<'f> {
     /// The family.
-    family: &'f Family<'f>,
-    /// What makes its tables.
-    evaluator: Evaluator<48>,
-    /// What is the same at each base, the first base first.
-    bases: Vec<Base>,
+    pub(crate) family: &'f Family<'f>,
+    /// The evaluator of its tables.
+    pub(crate) evaluator: Evaluator<48>,
+    /// The choices at each base, the first base first.
+    pub(crate) bases: Vec<Base>,
 }
 
 impl<'f> Sources<'f> {
     /// The sources of a family.
-    fn of(alloc: Global, family: &'f Family<'f>) -> Result<Sources<'f>, NoMemory>
+    pub(crate) fn of(alloc: Global, family: &'f Family<'f>) -> Result<Sources<'f>, NoMemory>
         ensures are { IfOk result AreSources }
         ensures family { IfOk result (λ s. s.family.now ≡ family.now) }
     {
@@ -50,19 +50,18 @@ impl<'f> Sources<'f> {
     }
 }
 
-/// Lists that are filled anew for each of the depot's vectors. What they hold matters to none but the one that fills
-/// them.
+/// Scratch lists; contents are not kept between calls.
 #[derive(Drop)]
 struct Work<'b> {
     /// The curves of the bases, the first base first.
     chains: Vec<Chain<BaseSpot<'b>>>,
     /// The backorders at a base.
     rows: Vec<Vec<Iv64<48>>>,
-    /// Where a walk stands on each curve.
+    /// A walk's place on each curve.
     runners: Vec<Runner>,
-    /// The order of its steps.
+    /// The order of the walk's steps.
     order: Vec<Turn>,
-    /// The stocks of the sum that it has reached.
+    /// The stocks of the sum that the walk has reached.
     stocks: Stocks,
 }
 
@@ -83,8 +82,8 @@ fn depot_point(alloc: Global, family: &Family<'_>, stocks: &[u8]) -> Result<Poin
     })
 }
 
-/// The points of the vectors that have these stocks at the depot, but for those that are no vertices beside the
-/// points below.
+/// The points of the vectors with these stocks at the depot, without those that are no vertices beside the points of
+/// `below`.
 fn depot_path<'b, S: Score>(
     alloc: Global,
     work: &mut Work<'b>,
@@ -135,7 +134,7 @@ fn depot_path<'b, S: Score>(
     Ok(path)
 }
 
-/// The curve of the points so far and of all vectors that have these stocks at the depot.
+/// The curve of the points so far and of all vectors with these stocks at the depot.
 fn with_depot<'b, S: Score>(
     alloc: Global,
     so_far: Option<Curve>,
@@ -174,7 +173,7 @@ fn with_depot<'b, S: Score>(
     Ok(curve)
 }
 
-/// The stock in the middle of those from a least to a most.
+/// The stock in the middle between `low` and `high`.
 fn middle(low: u8, high: u8) -> u8
     requires { low ≤ high }
     ensures { result ≡ middle low high }
@@ -182,7 +181,7 @@ fn middle(low: u8, high: u8) -> u8
     low + (high - low) / 2
 }
 
-/// The stock that comes `n` behind the middle one, where they go up to the most, and then down from the middle.
+/// The `n`-th stock after the middle one, in the order from the middle up to `high` and then from the middle down.
 fn behind_middle(low: u8, high: u8, n: u8) -> u8
     requires order { low ≤ high }
     requires within { n ≤ high - low }
@@ -199,9 +198,8 @@ fn behind_middle(low: u8, high: u8, n: u8) -> u8
     }
 }
 
-/// The curve of the points so far and of all vectors whose shop units have these stocks at the depot; `shops` are
-/// their tables there. The line unit's middle stock comes first: its points pass most of the others, of more stock and
-/// of less.
+/// The curve of the points so far and of all vectors with the shop units' stocks `depot` at the depot; `shops` are
+/// their tables there. The line unit's middle stock comes first, because its points pass most of the others.
 fn with_shops<'b, S: Score>(
     alloc: Global,
     so_far: Option<Curve>,
@@ -241,8 +239,8 @@ fn with_shops<'b, S: Score>(
     Ok(curve)
 }
 
-/// The curve of all vectors of the family within its bounds. The stocks of its shop units at the depot are taken in
-/// falling order, the first shop unit's first.
+/// The curve of all vectors of the family within its bounds. The shop units' stocks at the depot are taken in falling
+/// dictionary order.
 fn whole_curve<'b, S: Score>(
     alloc: Global,
     work: &mut Work<'b>,

@@ -1,10 +1,10 @@
-//! The curve of a family, a line unit with its shop units: which stocks of it are worth their money, at each price.
+//! The curve of a family, a line unit with its shop units: the stocks of it that are worth their money, at each price.
 //!
-//! A vector lists the stocks of a family, site by site. Each has a cost and the ends of its scored backorders, and
-//! the curve has the strict lower vertices of these points. A family may have 2^96 vectors and more, and the curve is
-//! made without trying them all: with given stocks at the depot, cost and score are sums over the bases, each part of
-//! which depends on the stocks of that base alone. So each base has a curve, the curves of the bases are added, and
-//! what the depot's choices give is joined.
+//! A vector lists the stocks of a family, site by site. Each has a cost and the ends of its scored backorders, and the
+//! curve has the strict lower vertices of these points. A family may have 2^96 vectors and more, and the curve is made
+//! without trying them all: at given stocks of the depot, cost and score are sums over the bases, and each term depends
+//! only on the stocks of its base. So each base has a curve, the curves of the bases are added, and the sums for all
+//! choices of the depot's stocks are joined.
 #![tactic(auto)]
 
 ghost use Rattle.std.specs.Prelude.{◌≡◌, ◌≤◌, IfOk};
@@ -34,36 +34,41 @@ mod depot;
 mod family;
 mod joining;
 mod laws;
+mod least;
+mod lows;
 mod order;
 mod places;
+mod upper;
 mod vectors;
 
 pub use bounds::Bounds;
 pub use counts::{MOST_TABLES, choices, tables, tables_within, work};
 pub use laws::{vectors_are_counted, vectors_stand};
+pub use least::{is_at_least, least_separates};
 pub use places::{limits_of, place_parts, vector_of};
+pub use upper::upper_within;
 
-/// The points of a family are those that its bases give together, with each choice of stocks at the depot.
+/// The points of a family are the sums of the depot's point and a point of each base, for each choice of stocks at the
+/// depot.
 pub fn points_separate()
     ensures { Separates }
 {}
 
-/// A family's rates, items and points depend on the sites and parts of the case and on the rates of its own parts
-/// alone.
+/// A family's rates, items and points depend only on the sites and parts of the case and on the rates of its own parts.
 pub fn families_are_local()
     ensures { FamiliesAreLocal }
 {}
 
-/// A row of rates in the place of its pair's leaves every family but that of its part as it was.
+/// Replacing a pair's row of rates changes no family but the family of its part.
 pub fn changes_are_local()
     ensures { ChangesAreLocal }
 {}
 
-/// The curve of the family of a line unit over the vectors from `low` to `high`, with the cost of what is above `held`.
+/// The curve of a line unit's family over the vectors from `low` to `high`. The cost counts stocks above `held`.
 ///
-/// The rates are those of the case, and the bounds are in order: what is held is at most the least, and the most is
-/// within the limits. Of vectors with the same cost and the same lower end it keeps the first in the order of a
-/// dictionary. It begins at cost 0 where nothing but what is held is asked for. Want of memory is the only error.
+/// The rates are those of the case, and the bounds are in order: held at most least, least at most most, and most
+/// within the limits. Of vectors with the same cost and the same lower end, the first in dictionary order is kept. The
+/// curve begins at cost 0 if `low` equals `held`. Want of memory is the only error.
 pub fn curve_within<S: Score>(
     alloc: Global,
     case: &Case,
@@ -90,7 +95,7 @@ pub fn curve_within<S: Score>(
     Ok(curve)
 }
 
-/// The curve of the family of a line unit over all its vectors: [`curve_within`] with nothing held and the limits.
+/// The curve of a line unit's family over all its vectors: [`curve_within`] with nothing held and the limits.
 pub fn curve<S: Score>(
     alloc: Global,
     case: &Case,

@@ -1,4 +1,4 @@
-//! The choices of stocks at each base in order of cost, which is the same whatever the depot has.
+//! The choices of stocks at each base in order of cost, which doesn't depend on the depot's stocks.
 
 ghost use Rattle.std.specs.Prelude.{◌≡◌, ◌<◌, ◌++◌, ◌∷◌, IfOk, All, get_or, [], length, map};
 ghost use Rattle.std.specs.List.Sorted.{IsNonDecreasingBy, IsPermutation};
@@ -15,8 +15,8 @@ use std::alloc::Global;
 /// Stocks of the shop units at a base.
 #[derive(Drop)]
 pub(crate) struct ShopVector {
-    /// What they cost together with the line unit's least stock there, as far as they are above those held.
-    cost: u64,
+    /// Their cost together with the line unit's least stock there, as far as the stocks exceed those held.
+    pub(crate) cost: u64,
     /// The stocks, in part order.
     pub(crate) stocks: List<u8>,
 }
@@ -24,24 +24,24 @@ pub(crate) struct ShopVector {
 /// A choice of stocks at a base.
 #[derive(Drop)]
 pub(crate) struct Choice {
-    /// What they cost, as far as they are above those held.
+    /// Its cost, as far as its stocks exceed those held.
     pub(crate) cost: u64,
-    /// The place of the shop units' stocks among all of them.
+    /// The number of the shop units' vector of stocks.
     pub(crate) shops: usize,
-    /// The line unit's stock.
+    /// The stock of the line unit.
     pub(crate) line: u8,
 }
 
-/// What is the same at a base whatever the depot has.
+/// The choices at a base, which don't depend on the depot's stocks.
 #[derive(Drop)]
 pub(crate) struct Base {
-    /// All stocks of the shop units, in the order of a dictionary.
+    /// All vectors of the shop units' stocks, in dictionary order.
     pub(crate) shops: Vec<ShopVector>,
     /// All choices by rising cost.
     pub(crate) order: Vec<Choice>,
 }
 
-/// All stocks of the shop units at a base.
+/// All vectors of the shop units' stocks at a base.
 fn shops_of_base(
     alloc: Global,
     family: &Family<'_>,
@@ -67,7 +67,7 @@ fn shops_of_base(
     Ok(shops)
 }
 
-/// Puts the choices that have the shop units' stocks at a place behind others, one for each stock of the line unit.
+/// Appends the choices with the shop units' vector `shops`, one for each stock of the line unit.
 fn put_choices(
     choices: &mut Vec<Choice>,
     family: &Family<'_>,
@@ -100,7 +100,7 @@ fn put_choices(
     Ok(())
 }
 
-/// All choices at a base, by the stocks of its shop units.
+/// All choices at a base, by the shop units' vector.
 fn choices_of(
     alloc: Global,
     family: &Family<'_>,
@@ -121,7 +121,7 @@ fn choices_of(
     Ok(choices)
 }
 
-/// Choices in order of cost.
+/// Sorts choices by cost.
 fn in_order(mut choices: Vec<Choice>) -> Vec<Choice>
     ensures permutation { IsPermutation choices.items result.items }
     ensures sorted { IsNonDecreasingBy (λ v. v.cost) result.items }
@@ -130,7 +130,7 @@ fn in_order(mut choices: Vec<Choice>) -> Vec<Choice>
     choices
 }
 
-/// What is the same at a base.
+/// The choices at a base.
 fn base_of(alloc: Global, family: &Family<'_>, site: SiteId) -> Result<Base, NoMemory>
     requires { IsBase family.now.case site.0 }
     ensures { IfOk result (IsBaseOf family.now site.0) }
@@ -141,7 +141,7 @@ fn base_of(alloc: Global, family: &Family<'_>, site: SiteId) -> Result<Base, NoM
     Ok(Base { shops, order })
 }
 
-/// What is the same at each base, the first base first.
+/// The choices at each base, the first base first.
 pub(crate) fn bases_of(alloc: Global, family: &Family<'_>) -> Result<Vec<Base>, NoMemory>
     ensures { IfOk result (λ v. AreBases family.now v.items) }
 {

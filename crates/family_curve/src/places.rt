@@ -11,7 +11,7 @@ use spares_input::{Case, PartId, SiteId, Stocks};
 use spares_io::{List, NoMemory};
 use std::alloc::Global;
 
-/// The part of each place of a family's vectors. Want of memory is the only error.
+/// The part at each place of a family's vectors. Want of memory is the only error.
 pub fn place_parts(alloc: Global, case: &Case, line: PartId) -> Result<Vec<PartId>, NoMemory>
     requires { IsLine case.now line.0 }
     ensures { IfOk result (λ v. map (λ p. p.0) v.items ≡ map (λ x. x.part) (places case.now line.0)) }
@@ -24,7 +24,7 @@ pub fn place_parts(alloc: Global, case: &Case, line: PartId) -> Result<Vec<PartI
     Ok(parts)
 }
 
-/// Puts the limits of a family's parts at a site behind others.
+/// Appends the limits of a family's parts at a site.
 fn put_limits(
     list: &mut Vec<u8>,
     case: &Case,
@@ -42,7 +42,7 @@ fn put_limits(
     Ok(())
 }
 
-/// The most that each place of a family's vectors may hold. Want of memory is the only error.
+/// The largest stock of each place of a family's vectors. Want of memory is the only error.
 pub fn limits_of(alloc: Global, case: &Case, line: PartId) -> Result<List<u8>, NoMemory>
     requires { IsLine case.now line.0 }
     ensures { IfOk result (λ v. v ≡ limits case.now line.0) }
@@ -55,7 +55,7 @@ pub fn limits_of(alloc: Global, case: &Case, line: PartId) -> Result<List<u8>, N
     Ok(List::of(list))
 }
 
-/// Puts the stocks of a family's parts at a site behind others.
+/// Appends the stocks of a family's parts at a site.
 fn put_stocks(
     list: &mut Vec<u8>,
     stocks: &Stocks,
@@ -72,8 +72,7 @@ fn put_stocks(
     Ok(())
 }
 
-/// The vector of a family in the stocks of a case: what they have at each of its places. Want of memory is the only
-/// error.
+/// The vector of a family in the stocks of a case: the stock at each of its places. Want of memory is the only error.
 pub fn vector_of(
     alloc: Global,
     case: &Case,

@@ -86,6 +86,7 @@ same_maps P g h (x ∷ xs) a e = ap₂ (λ y ys. y ∷ ys) (e x a.0) (same_maps 
 abbrev item_by : (f : ℕ) → CaseRows → List ℕ → Option ℕ → ℕ → ℕ → Item f
 item_by f c s o p k = by_pair (λ l i. depot_shop f c s i) (depot_line f c s) (λ l i j. base_shop f c s i j) (base_line f c s) o p k
 
+-- the item of a shop unit at the depot is that of the first level
 pub depot_shop_item : (f : ℕ) (c : CaseRows) (s : List ℕ) (l p : ℕ) → line_of c.parts p ≡ Some l → depot_shop f c s p ≡ item_of f c s p 0
 depot_shop_item f c s l p e = ap (λ o. item_by f c s o p 0) (sym e)
 
@@ -94,6 +95,7 @@ pub base_shop_item : (f : ℕ) (c : CaseRows) (s : List ℕ) (l p k : ℕ) → l
 base_shop_item f c s l p zero e h = absurd (omega arith)
 base_shop_item f c s l p (suc j) e h = ap (λ o. item_by f c s o p (suc j)) (sym e)
 
+-- the item of a line unit at the depot is that of the second level
 pub depot_line_item : (f : ℕ) (c : CaseRows) (s : List ℕ) (l : ℕ) → IsLine c l → depot_line f c s l ≡ item_of f c s l 0
 depot_line_item f c s l line = ap (λ o. item_by f c s o l 0) (sym (no_line_there c.parts l line.no_parent))
 

@@ -1,4 +1,4 @@
--- What items and families enclose of the model, and how large they are.
+-- The model's figures that items and families enclose, and the sizes of their ends.
 use Rattle.std.specs.Prelude.{◌≡◌, ℕ, ◌*◌, ◌^◌, ◌<◌, ◌≤◌, List, length, get_or, None}
 use Rattle.exact_model.specs.Fraction.{Encloses}
 use Rattle.fixed_interval.specs.Ends.{InScale, IsWithinLimit, ends_exact}
@@ -11,7 +11,7 @@ use Rattle.demand_rates.specs.Limits.{rate_fault_of}
 use Rattle.family_eval.specs.declared.item.Item.{Item}
 use Rattle.family_eval.specs.declared.item.FamilyResult.{FamilyResult}
 
--- what an evaluation takes: a width, a case whose rates break no rule, and stocks of it within its limits
+-- the arguments of an evaluation: a width, a case whose rates break no rule, and stocks of it within its limits
 pub record CanEvaluate (f : ℕ) (c : CaseRows) (s : StockList) : Type 0 where
   pub scale : InScale f
   pub valid : IsCase c
@@ -33,7 +33,7 @@ pub record IsSmallItem (f : ℕ) (x : Item f) : Type 0 where
   pub backorders_most : IsWithinLimit f x.backorders
   pub spread_most : IsWithinLimit f x.spread
 
--- what a look-up past the end answers
+-- the value of a look-up past the end
 abbrev pub no_item : (f : ℕ) → Item f
 no_item f = record {
   part = record { 0 = 0 };
@@ -45,7 +45,7 @@ no_item f = record {
   spread = ends_exact f 0;
 }
 
--- the item at place i of the family and site k, where there are so many sites
+-- the item at place i of the family and site k, if there are `sites` sites
 abbrev pub item_at : {f : ℕ} → ℕ → FamilyResult f → ℕ → ℕ → Item f
 item_at {f} sites r i k = get_or r.items (pair_place sites i k) (no_item f)
 
@@ -55,7 +55,7 @@ pub record EnclosesFamily (f : ℕ) (c : CaseRows) (s : List ℕ) (l : ℕ) (r :
       → EnclosesItem f c s (get_or (family c l) i 0) k (item_at (length c.sites) r i k)
   pub total_in : Encloses f r.total.lo r.total.hi (λ n. family_total c s n l)
 
--- the items are at most 256, and the total is at most that at each of 15 bases with a weight of 100
+-- the items are at most 256, and the total is at most 256 at each of 15 bases with a weight of 100
 pub record IsSmallFamily (f : ℕ) (c : CaseRows) (l : ℕ) (r : FamilyResult f) : Type 0 where
   pub items_most : (i k : ℕ) → i < length (family c l) → k < length c.sites
       → IsSmallItem f (item_at (length c.sites) r i k)

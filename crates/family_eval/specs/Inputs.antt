@@ -1,4 +1,4 @@
--- What the calls take, and what the steps between them need.
+-- The arguments of the calls, and the conditions of the steps between them.
 use Rattle.std.specs.Prelude.{◌≡◌, true, ℕ, ◌*◌, ◌^◌, ◌<◌, ◌≤◌, ◌⊎◌, List, length, Some}
 use Rattle.fixed_interval.specs.Ends.{IsWithinLimit}
 use Rattle.moment_table.specs.Inputs.{CanTable}
@@ -25,7 +25,7 @@ pub record AreInputs (x : InputRows) : Type 0 where
   pub are_stocks : IsFor x.case x.stocks
   pub limits : IsWithinLimits x.case x.stocks
 
--- what rests on them: the rates of each pair are within their limits, and so is each stock
+-- then the rates of each pair are within their limits, and so is each stock
 pub record IsSound (c : CaseRows) (s : List ℕ) : Type 0 where
   pub valid : IsCase c
   pub pairs : (p k : ℕ) → p < length c.parts → k < length c.sites → ArePairRates c p k (pair_rates c p k)
@@ -41,19 +41,19 @@ pub record IsShop (c : CaseRows) (l i : ℕ) : Type 0 where
   pub is_part : i < length c.parts
   pub line_is : line_of c.parts i ≡ Some l
 
--- the same of some line unit
+-- part i of the case is a shop unit of some line unit
 pub record IsShopUnit (c : CaseRows) (i : ℕ) : Type 0 where
   pub line : ℕ
   pub is_shop : IsShop c line i
 
--- what the checks of the rates leave of a direct part of d units and a zero-stock mean of z units
+-- the ranges of a direct part of d units and a zero-stock mean of z units, by the checks of the rates
 pub record IsRated (d z : ℕ) : Type 0 where
   pub some : (z ≡ 0) ⊎ (365000000000000000000 ≤ d * 10000000)
   pub order : d ≤ z
   pub most : z ≤ 256 * 365000000000000000000
   pub ratio : z ≤ 1024 * d
 
--- the same of the ends: the cap is 0, or the direct part is above 0, and neither is the cap far from it
+-- the same of the ends: the cap is 0, or the direct part is above 0 and the cap not far from it
 pub record IsPipeline (f : ℕ) (x : Pipeline f) : Type 0 where
   pub some : (x.cap ≡ 0) ⊎ ((0 < x.direct.lo) × (x.cap ≤ 2048 * x.direct.lo))
   pub order : x.direct.lo ≤ x.cap
@@ -61,6 +61,6 @@ pub record IsPipeline (f : ℕ) (x : Pipeline f) : Type 0 where
   pub cap_most : x.cap ≤ 256 * 2 ^ f
   pub stock_most : x.stock ≤ 63
 
--- what a table asks of a pipeline
+-- the pipeline has a table
 abbrev pub HasTable : (f : ℕ) → Moments f → Type 0
 HasTable f m = CanTable f m.mean m.variance

@@ -23,7 +23,7 @@ use Rattle.family_eval.specs.declared.item.FamilyResult.{FamilyResult}
 
 -- ---- a pair by itself
 
--- the direct part D of a pair, the cap that its zero-stock mean M sets, and its stock
+-- the direct part D of a pair, the cap by its zero-stock mean M, and its stock
 abbrev pub pipeline_from : (f p k : ℕ) → PairRates → ℕ → Pipeline f
 pipeline_from f p k r s = record {
   part = record { 0 = p };
@@ -33,7 +33,7 @@ pipeline_from f p k r s = record {
   cap = (ends_ratio f r.zero_stock pipeline_scale).hi;
 }
 
--- those of part p at site k, of the case's own rates and at its stock
+-- the same for part p at site k, by the case's own rates and its stock
 abbrev pub pipeline_of : (f : ℕ) → CaseRows → List ℕ → ℕ → ℕ → Pipeline f
 pipeline_of f c s p k = pipeline_from f p k (pair_rates c p k) (stock c s p k)
 
@@ -41,7 +41,7 @@ pipeline_of f c s p k = pipeline_from f p k (pair_rates c p k) (stock c s p k)
 abbrev pub share_from : ℕ → PairRates → Ends
 share_from f r = ends_ratio f r.share.num r.share.den
 
--- that of part p at site k, of the case's own rates
+-- the share of part p at site k, by the case's own rates
 abbrev pub share_of : ℕ → CaseRows → ℕ → ℕ → Ends
 share_of f c p k = share_from f (pair_rates c p k)
 
@@ -57,11 +57,11 @@ stocked f x m = record {
   spread = (at_stock (table_rows f m.mean m.variance) x.stock).vbo;
 }
 
--- what an item feeds to another pair, by that pair's share
+-- the feed of an item to another pair, by that pair's share
 abbrev pub feed_of : (f : ℕ) → Ends → Item f → Feed f
 feed_of f share x = record { share = share; backorders = x.backorders; spread = x.spread }
 
--- what a shop unit at a base holds back of its line unit there
+-- the backorders of a shop unit at a base, for which its line unit's repairs there wait
 abbrev pub held_of : (f : ℕ) → Item f → Held f
 held_of f x = record { backorders = x.backorders; spread = x.spread }
 
@@ -72,7 +72,7 @@ unfoldable pub depot_shop : (f : ℕ) → CaseRows → List ℕ → ℕ → Item
 depot_shop f c s i = stocked f (pipeline_of f c s i 0)
     (depot_shop_ends f (pipeline_of f c s i 0).direct (pipeline_of f c s i 0).cap)
 
--- what it feeds to its line unit there
+-- its feed to its line unit there
 abbrev pub depot_feed : (f : ℕ) → CaseRows → List ℕ → ℕ → Feed f
 depot_feed f c s i = feed_of f (share_of f c i 0) (depot_shop f c s i)
 

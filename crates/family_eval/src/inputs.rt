@@ -55,7 +55,7 @@ impl<'a> Inputs<'a> {
         self.case
     }
 
-    /// How many sites there are.
+    /// The number of sites.
     pub fn sites(&self) -> u8
         ensures count { result ≡ length self.now.case.sites }
         ensures valid { IsSound self.now.case self.now.stocks.list }
@@ -63,7 +63,7 @@ impl<'a> Inputs<'a> {
         self.case.site_count()
     }
 
-    /// How much a backorder of a line unit counts, 1 to 100.
+    /// The weight of a backorder of a line unit, 1 to 100.
     pub fn weight(&self, line: PartId) -> u32
         requires { line.0 < length self.now.case.parts }
         ensures weight { result ≡ weight self.now.case line.0 }
@@ -72,7 +72,7 @@ impl<'a> Inputs<'a> {
         u32::from(self.case.part(line).weight)
     }
 
-    /// The pipeline of a pair by itself.
+    /// A pair's own numbers of its pipeline.
     pub fn pipeline<const F: u32>(&self, part: PartId, site: SiteId) -> Pipeline<F>
         requires scale { InScale F }
         requires part { part.0 < length self.now.case.parts }

@@ -1,4 +1,4 @@
-//! What an evaluation answers.
+//! The results of an evaluation.
 
 use fixed_interval::Iv;
 use spares_input::{PartId, SiteId};

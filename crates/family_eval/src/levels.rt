@@ -1,4 +1,4 @@
-//! A pair's item from what feeds its pipeline.
+//! A pair's item, from the pairs that feed its pipeline.
 
 ghost use Rattle.std.specs.Prelude.{◌≡◌, ◌*◌, ◌^◌, ◌<◌, ◌≤◌, IfOk, length, All};
 ghost use Rattle.moment_table.specs.Inputs.{CanTable};
@@ -40,7 +40,7 @@ fn stocked<const F: u32>(
     })
 }
 
-/// What an item feeds to another pair, by that pair's share.
+/// The feed of an item to another pair, by that pair's share.
 pub(crate) fn feed_of<const F: u32>(share: Iv<F>, item: &Item<F>) -> Feed<F>
     ensures { result ≡ feed_of F share.entry item.now }
 {
@@ -51,7 +51,7 @@ pub(crate) fn feed_of<const F: u32>(share: Iv<F>, item: &Item<F>) -> Feed<F>
     }
 }
 
-/// What a shop unit at a base holds back of its line unit there.
+/// The backorders of a shop unit at a base, for which its line unit's repairs there wait.
 pub(crate) fn held_of<const F: u32>(item: &Item<F>) -> Held<F>
     ensures { result ≡ held_of F item.now }
 {
@@ -72,7 +72,7 @@ pub(crate) fn depot_shop_item<const F: u32>(
     stocked(alloc, pair, depot_shop(pair.direct, pair.cap))
 }
 
-/// A line unit at the depot, which its shop units there feed.
+/// A line unit at the depot, fed by its shop units there.
 pub(crate) fn depot_line_item<const F: u32>(
     alloc: Global,
     pair: Pipeline<F>,
@@ -87,7 +87,7 @@ pub(crate) fn depot_line_item<const F: u32>(
     stocked(alloc, pair, depot_line(pair.direct, pair.cap, feeds))
 }
 
-/// A shop unit at a base, which the depot feeds.
+/// A shop unit at a base, fed by the depot.
 pub(crate) fn base_shop_item<const F: u32>(
     alloc: Global,
     pair: Pipeline<F>,
@@ -101,7 +101,7 @@ pub(crate) fn base_shop_item<const F: u32>(
     stocked(alloc, pair, base_shop(pair.direct, pair.cap, depot))
 }
 
-/// A line unit at a base, which the depot and the shop units at that base feed.
+/// A line unit at a base, fed by the depot and the shop units at that base.
 pub(crate) fn base_line_item<const F: u32>(
     alloc: Global,
     pair: Pipeline<F>,

@@ -1,16 +1,16 @@
 //! The pipelines of a family, a line unit with its shop units, and its backorders at given stocks.
 //!
-//! A pipeline waits for what another is short of, and so the levels are computed in this order: each shop unit at the
-//! depot; the line unit there, whose repairs need the shop units; each shop unit at a base, which the depot sends;
-//! and the line unit at a base, which waits for the depot and for the base's own shop units. At each level the mean
-//! and the variance of the pipeline give the backorders at the stock and their variance, by the table of
-//! `moment_table`. This is VARI-METRIC: C. C. Sherbrooke, *Optimal Inventory Modeling of Systems*, 2nd edition, and
+//! A pipeline waits for units of which another pair is short, so the levels are computed in this order: each shop unit
+//! at the depot; the line unit there, whose repairs need the shop units; each shop unit at a base, which the depot
+//! sends; and the line unit at a base, which waits for the depot and for the base's own shop units. At each level the
+//! table of `moment_table` turns the mean and the variance of the pipeline into the backorders at the stock and their
+//! variance. This is VARI-METRIC: C. C. Sherbrooke, *Optimal Inventory Modeling of Systems*, 2nd edition, and
 //! *Operations Research* 34 (1986).
 //!
-//! Mean and variance of a pipeline are capped at its mean where there is no stock anywhere: with stock they are never
-//! above it. All figures are intervals in units of `2^-F`, with F from 24 to 52. Their ends are pinned by the
-//! definitions in `specs/Profile.antt`, and that they hold the model's values is a law of these definitions
-//! ([`items_enclose`], [`families_enclose`]).
+//! Mean and variance of a pipeline are capped at its mean without any stock anywhere: with stock they are never above
+//! it. All figures are intervals in units of `2^-F`, with F from 24 to 52. The definitions in `specs/Profile.antt` fix
+//! their ends, and laws of these definitions say that they enclose the model's values ([`items_enclose`],
+//! [`families_enclose`]).
 #![tactic(auto)]
 
 ghost use Rattle.std.specs.Prelude.{◌≡◌, ℕ, ◌<◌, IfOk, length};
@@ -51,7 +51,7 @@ pub fn items_enclose()
     ensures encloses { (f : ℕ) (c : CaseRows) (s : StockList) (p k : ℕ) → CanEvaluate f c s → p < length c.parts
         → k < length c.sites
         → EnclosesItem f c s.list p k (item_of f c s.list p k) }
-    // The backorders of a line unit at a base, of which availability and the total are made.
+    // The backorders of a line unit at a base, which make up availability and the total.
     ensures line { (f : ℕ) (c : CaseRows) (s : StockList) (l j : ℕ) → CanEvaluate f c s → IsLine c l → IsBase c j
         → Encloses f (item_of f c s.list l j).backorders.lo (item_of f c s.list l j).backorders.hi
         (λ n. ebo_0j c s.list n l j) }
@@ -94,8 +94,8 @@ fn evaluate_family<const F: u32>(
 /// The items of a line unit and of its shop units at these stocks, and the family's total, in units of `2^-F`.
 ///
 /// The rates are those of the case, `line` is one of its line units, and the stocks are of this case and within its
-/// limits. Each end is exactly that of the definitions, which round once at each step. Each item encloses the model's
-/// figures at every depth from 1024 on, and the total encloses the family's. Want of memory is the only error.
+/// limits. Each end is exactly the end of the definitions, which round once at each step. Each item encloses the
+/// model's figures at every depth from 1024 on, and the total encloses the family's. Want of memory is the only error.
 pub fn evaluate<const F: u32>(
     alloc: Global,
     case: &Case,
@@ -114,7 +114,7 @@ pub fn evaluate<const F: u32>(
     evaluate_family(alloc, &inputs, line)
 }
 
-/// The families of all line units in part order, each as [`evaluate`] gives it. Want of memory is the only error.
+/// The result of [`evaluate`] for each line unit, in part order. Want of memory is the only error.
 pub fn evaluate_all<const F: u32>(
     alloc: Global,
     case: &Case,

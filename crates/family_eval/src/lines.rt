@@ -1,4 +1,4 @@
-//! The items of a line unit, from those of its shop units, and its total.
+//! The items of a line unit, computed from its shop units' items, and its total.
 
 ghost use Rattle.std.specs.Prelude.{◌≡◌, ◌+◌, ◌-◌, ◌<◌, ◌≤◌, IfOk, length, map, flat_map, get_or, All};
 ghost use Rattle.fixed_interval.specs.Ends.{InScale, ends_exact, ends_times};
@@ -18,7 +18,7 @@ use spares_input::{PartId, SiteId};
 use spares_io::NoMemory;
 use std::alloc::Global;
 
-/// What shop units feed to their line unit at the depot. Their items are by unit and then by site.
+/// The feeds of shop units to their line unit at the depot. Their items are by unit and then by site.
 fn depot_feeds<const F: u32>(
     alloc: Global,
     inputs: &Inputs<'_>,
@@ -42,7 +42,7 @@ fn depot_feeds<const F: u32>(
     Ok(feeds)
 }
 
-/// What shop units hold back of their line unit at a base. Their items are by unit and then by site.
+/// The backorders of shop units at a base. Their items are by unit and then by site.
 fn held_at<const F: u32>(
     alloc: Global,
     inputs: &Inputs<'_>,
@@ -109,7 +109,7 @@ fn base_line_at<const F: u32>(
     base_line_item(alloc, inputs.pipeline(line, site), feed, held.as_slice())
 }
 
-/// The items of a line unit, by site, from those of its shop units.
+/// The items of a line unit, by site, from its shop units' items.
 pub(crate) fn line_items<const F: u32>(
     alloc: Global,
     inputs: &Inputs<'_>,

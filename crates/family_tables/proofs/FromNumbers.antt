@@ -15,7 +15,8 @@ use Rattle.fleet_model.specs.Fleet.{family}
 use Rattle.family_eval.specs.declared.item.Item.{Item}
 use Rattle.family_tables.specs.declared.numbers.PairNumbers.{PairNumbers}
 use Rattle.family_eval.specs.Inputs.{HasTable, IsLine}
-use Rattle.family_tables.specs.Numbers.{ArePairNumbers, nth_stock, base_backorders, base_helds, base_shop_row, depot_feeds, depot_line_row, depot_shop_row, family_stocks, feed_from, held_from, numbers_of, no_numbers, pair_at, pair_numbers, rows_of}
+use Rattle.family_tables.specs.Numbers.{ArePairNumbers, nth_stock, base_backorders, base_helds, base_shop_moments, base_shop_row, depot_feeds, depot_line_moments, depot_line_row, depot_shop_moments, depot_shop_row, family_stocks, feed_from, held_from, numbers_of, no_numbers, pair_at, pair_numbers, rows_of}
+use Rattle.family_tables.specs.Kept.{moments_of}
 use Rattle.family_eval.specs.Profile.{base_line, base_shop, depot_feed, depot_line, depot_shop, feed_of, held_of, item_of, share_of, stocked}
 use Rattle.family_eval.proofs.Items.{base_line_item, flat_at}
 use Rattle.family_eval.proofs.Ranges.{can_capped}
@@ -73,6 +74,22 @@ module _ (f : ℕ) (c : CaseRows) (l : ℕ) where
         ap₂ (feed_from f) (ap (λ (w : PairNumbers f). w.share) (line_pair k m))
         (ap₂ (λ (y : Moments f) (n : ℕ). at_stock (rows_of f y) n)
         (ap₂ (λ (w : PairNumbers f) (z : List (Feed f)). depot_line_ends f w.direct w.cap z) (line_pair 0 some) feeds) depot_own)
+
+    -- the pipeline of a shop unit at the depot is that of its item
+    pub depot_shop_made : (i : ℕ) → i < length (shop_units c l) → depot_shop_moments f (numbers_of f c l) i ≡ moments_of (depot_shop f c s (get_or (shop_units c l) i 0))
+    unfolding depot_shop stocked
+    depot_shop_made i h = ap (λ (w : PairNumbers f). depot_shop_ends f w.direct w.cap) (shop_pair i 0 h some)
+
+    -- and so is the line unit's there
+    pub depot_line_made : depot_line_moments f (numbers_of f c l) d ≡ moments_of (depot_line f c s l)
+    unfolding depot_line stocked
+    depot_line_made = ap₂ (λ (w : PairNumbers f) (z : List (Feed f)). depot_line_ends f w.direct w.cap z) (line_pair 0 some) feeds
+
+    -- and a shop unit's at a base
+    pub base_shop_made : (i k : ℕ) → i < length (shop_units c l) → k < length c.sites
+        → base_shop_moments f (numbers_of f c l) i k (nth_stock d i) ≡ moments_of (base_shop f c s (get_or (shop_units c l) i 0) k)
+    unfolding base_shop stocked
+    base_shop_made i k h m = ap₂ (λ (w : PairNumbers f) (z : Feed f). base_shop_ends f w.direct w.cap z) (shop_pair i k h m) (fed i k h m)
 
     module _ (k : ℕ) (inside : k < length c.sites) (b : List ℕ) (own : ℕ) (at : family_stocks c l s k ≡ own ∷ b) where
       base_own : own ≡ stock c s l k

@@ -5,3 +5,4 @@ pub mod Served
 pub mod Found
 pub mod Keyed
 pub mod Own
+mod KeptItems

@@ -1,41 +1,41 @@
--- Which tables an evaluator keeps, and what each is the table of.
+-- The tables that an evaluator keeps, and their keys.
 use Rattle.std.specs.Prelude.{◌≡◌, ◌==◌, ◌&&◌, ◌+◌, ◌-◌, ◌<◌, ◌≤◌, ◌⊎◌, ℕ, zero, suc, Bool, true, false, bytes_eq, List, [], ◌∷◌, ◌++◌, length, get_or, map, flat_map, position, unwrap_or}
 use Rattle.std.specs.List.{All, list_any, range_with_len}
 use Rattle.std.specs.Option.{option_map_or}
 use Rattle.moment_table.specs.declared.kinds.Row.{Row}
 use Rattle.depot_pipeline.specs.declared.Moments.{Moments}
 use Rattle.spares_input.specs.Stocks.{StockList, stock_at}
+use Rattle.family_eval.specs.declared.item.Item.{Item}
 use Rattle.family_tables.specs.declared.keys.Key.{Key}
 use Rattle.family_tables.specs.declared.keys.Kept.{Kept}
 use Rattle.family_tables.specs.Numbers.{FamilyNumbers, nth_stock, base_shop_moments, depot_line_moments, depot_shop_moments, rows_of, shop_numbers}
 
--- what a contract sees of an evaluator: the numbers of its family, and the keys of the tables that are kept. A key is
--- a place in the family, a site and the stocks on which the pair's pipeline depends: none for a shop unit at the
--- depot, those of the depot's shop units for the line unit there, and the unit's own at the depot for a shop unit at
--- a base.
+-- an evaluator as contracts see it: the numbers of its family, and the keys of the kept tables. A key is a place in the
+-- family, a site and the stocks on which the pair's pipeline depends: none for a shop unit at the depot, the shop
+-- units' stocks there for the line unit at the depot, and its own stock at the depot for a shop unit at a base.
 pub record Evaluation (f : ℕ) : Type 0 where
   pub numbers : FamilyNumbers f
   pub keys : List Key
 
--- the pipeline of a place and a site at such stocks
+-- the pipeline at a place and a site, at the stocks of a key
 abbrev pub moments_at : (f : ℕ) → FamilyNumbers f → ℕ → ℕ → List ℕ → Moments f
 moments_at f x zero k s = depot_line_moments f x s
 moments_at f x (suc i) zero s = depot_shop_moments f x i
 moments_at f x (suc i) (suc k) s = base_shop_moments f x i (suc k) (nth_stock s 0)
 
--- the pipeline that a key stands for
+-- the pipeline of a key
 abbrev pub key_moments : (f : ℕ) → FamilyNumbers f → Key → Moments f
 key_moments f x key = moments_at f x key.place key.site.0 key.stocks
 
--- the table is that of its key's pipeline
+-- the table is the table of its key's pipeline
 abbrev pub IsKept : (f : ℕ) → FamilyNumbers f → Kept f → Type 0
 IsKept f x y = y.table ≡ rows_of f (key_moments f x y.key)
 
--- whether a key is that of this place, this site and these stocks
+-- whether a key has this place, this site and these stocks
 abbrev pub is_key : Key → ℕ → ℕ → List ℕ → Bool
 is_key key i k s = (key.place == i) && (key.site.0 == k) && bytes_eq key.stocks s
 
--- whether one of the keys is that of this place, this site and these stocks
+-- whether one of the keys has this place, this site and these stocks
 abbrev pub is_among : List Key → ℕ → ℕ → List ℕ → Bool
 is_among keys i k s = list_any (λ key. is_key key i k s) keys
 
@@ -43,9 +43,19 @@ is_among keys i k s = list_any (λ key. is_key key i k s) keys
 abbrev pub is_kept : {f : ℕ} → Evaluation f → ℕ → ℕ → List ℕ → Bool
 is_kept e p k s = option_map_or (λ i. is_among e.keys i k s) (position (λ q. q == p) e.numbers.parts) false
 
--- and its rows
+-- the rows of that table
 abbrev pub rows_kept : (f : ℕ) → Evaluation f → ℕ → ℕ → List ℕ → List (Row f)
 rows_kept f e p k s = rows_of f (moments_at f e.numbers (unwrap_or (position (λ q. q == p) e.numbers.parts) 0) k s)
+
+-- the stocks on which the pipeline of place i at site k depends, where the depot has the stocks d of the shop units
+abbrev pub key_stocks : ℕ → ℕ → List ℕ → List ℕ
+key_stocks zero k d = d
+key_stocks (suc i) zero d = []
+key_stocks (suc i) (suc k) d = nth_stock d i ∷ []
+
+-- the mean and the variance of an item's pipeline
+abbrev pub moments_of : {f : ℕ} → Item f → Moments f
+moments_of x = record { mean = x.mean; variance = x.variance }
 
 -- ---- which keys come
 
@@ -74,13 +84,13 @@ keys_of x d =
 abbrev pub depot_stocks : {f : ℕ} → FamilyNumbers f → StockList → List ℕ
 depot_stocks x s = map (λ i. stock_at s (get_or x.parts (i + 1) 0) 0) (shop_numbers x)
 
--- no key goes, and only given ones come
+-- no key is removed, and only given ones are added
 abbrev pub Grows : List Key → List Key → List Key → Type 0
 Grows given old new =
     (i k : ℕ) (s : List ℕ)
     → (is_among old i k s ≡ true → is_among new i k s ≡ true)
     × (is_among new i k s ≡ true → (is_among old i k s ≡ true) ⊎ (is_among given i k s ≡ true))
 
--- all given keys are there
+-- all given keys are present
 abbrev pub Has : List Key → List Key → Type 0
 Has given new = (i k : ℕ) (s : List ℕ) → is_among given i k s ≡ true → is_among new i k s ≡ true

@@ -1,11 +1,12 @@
--- The numbers of a family, and its levels from them alone. A place is that of a part in the family: 0 for the line
--- unit, and i + 1 for its shop unit i, in part order.
+-- The numbers of a family, and its levels computed from them alone. A place is the number of a part in the family: 0
+-- for the line unit, and i + 1 for its shop unit i, in part order.
 use Rattle.std.specs.Prelude.{◌≡◌, ℕ, ◌+◌, ◌-◌, ◌*◌, ◌^◌, ◌<◌, ◌≤◌, ◌⊎◌, List, length, map, flat_map, get_or}
 use Rattle.std.specs.List.{range_with_len}
 use Rattle.fixed_interval.specs.Ends.{Ends, IsWithinLimit, ends_exact, ends_ratio}
 use Rattle.moment_table.specs.declared.kinds.Row.{Row}
 use Rattle.moment_table.specs.Profile.{table_rows}
 use Rattle.moment_table.specs.Rows.{at_stock, AreBackorders}
+use Rattle.backorder_bounds.specs.Lows.{AreLows}
 use Rattle.depot_pipeline.specs.declared.Moments.{Moments}
 use Rattle.depot_pipeline.specs.declared.Feed.{Feed}
 use Rattle.depot_pipeline.specs.Profile.{depot_shop_ends, depot_line_ends}
@@ -22,8 +23,8 @@ use Rattle.family_tables.specs.declared.numbers.PairNumbers.{PairNumbers}
 use Rattle.family_tables.specs.declared.own_part.OwnPart.{OwnPart}
 use Rattle.family_eval.specs.Profile.{share_from}
 
--- what a family is computed from: its parts, the line unit first; how many sites there are; what each pair has of its
--- own, by part and then by site; and how much a backorder of the line unit counts
+-- the numbers from which a family is computed: its parts, the line unit first; the number of sites; the numbers of each
+-- pair, by part and then by site; and the weight of the line unit
 pub record FamilyNumbers (f : ℕ) : Type 0 where
   pub parts : List ℕ
   pub sites : ℕ
@@ -40,7 +41,7 @@ numbers_from f r limit = record {
   limit = limit;
 }
 
--- what part p at site k has of its own
+-- the numbers of part p at site k
 abbrev pub pair_numbers : (f : ℕ) → CaseRows → ℕ → ℕ → PairNumbers f
 pair_numbers f c p k = numbers_from f (pair_rates c p k) (limit_at c.parts p k)
 
@@ -53,9 +54,9 @@ numbers_of f c l = record {
   weight = weight c l;
 }
 
--- ---- what a family's numbers are
+-- ---- the ranges of a family's numbers
 
--- what a look-up past the last pair answers: zeros
+-- the value of a look-up past the last pair: zeros
 abbrev pub no_numbers : (f : ℕ) → PairNumbers f
 no_numbers f = record { direct = ends_exact f 0; cap = 0; share = ends_exact f 0; limit = 0 }
 
@@ -63,7 +64,7 @@ no_numbers f = record { direct = ends_exact f 0; cap = 0; share = ends_exact f 0
 abbrev pub pair_at : {f : ℕ} → FamilyNumbers f → ℕ → ℕ → PairNumbers f
 pair_at {f} x i k = get_or x.pairs (i * x.sites + k) (no_numbers f)
 
--- the cap is 0, or the direct part is above 0, and neither is the cap far from it; the share is at most 1
+-- the cap is 0, or the direct part is above 0 and the cap not far from it; the share is at most 1
 pub record ArePairNumbers (f : ℕ) (x : PairNumbers f) : Type 0 where
   pub some : (x.cap ≡ 0) ⊎ ((0 < x.direct.lo) × (x.cap ≤ 2048 * x.direct.lo))
   pub order : x.direct.lo ≤ x.cap
@@ -72,7 +73,7 @@ pub record ArePairNumbers (f : ℕ) (x : PairNumbers f) : Type 0 where
   pub share_most : x.share.hi ≤ 2 ^ f
   pub limit_most : x.limit ≤ 63
 
--- 1 to 9 parts, 2 to 16 sites, each pair with numbers that are in order, and a weight of at most 100
+-- 1 to 9 parts, 2 to 16 sites, the numbers of each pair in order, and a weight of at most 100
 pub record AreNumbers (f : ℕ) (x : FamilyNumbers f) : Type 0 where
   pub some : 0 < length x.parts
   pub few : length x.parts ≤ 9
@@ -88,11 +89,11 @@ pub record AreNumbers (f : ℕ) (x : FamilyNumbers f) : Type 0 where
 abbrev pub rows_of : (f : ℕ) → Moments f → List (Row f)
 rows_of f m = table_rows f m.mean m.variance
 
--- what a pair with this row feeds to another by a share
+-- the feed of a pair with this row to another, by a share
 abbrev pub feed_from : (f : ℕ) → Ends → Row f → Feed f
 feed_from f share row = record { share = share; backorders = row.ebo; spread = row.vbo }
 
--- what a pair with this row holds back of its line unit
+-- the backorders of a pair with this row, as its line unit's repairs wait for them
 abbrev pub held_from : (f : ℕ) → Row f → Held f
 held_from f row = record { backorders = row.ebo; spread = row.vbo }
 
@@ -108,11 +109,11 @@ nth_stock stocks i = get_or stocks i 0
 abbrev pub depot_shop_moments : (f : ℕ) → FamilyNumbers f → ℕ → Moments f
 depot_shop_moments f x i = depot_shop_ends f (pair_at x (i + 1) 0).direct (pair_at x (i + 1) 0).cap
 
--- its row where the depot has s of it
+-- its row at the stock s
 abbrev pub depot_shop_row : (f : ℕ) → FamilyNumbers f → ℕ → ℕ → Row f
 depot_shop_row f x i s = at_stock (rows_of f (depot_shop_moments f x i)) s
 
--- what each shop unit feeds to the line unit at the depot, where the shop units have the stocks d there
+-- the feed of each shop unit to the line unit at the depot, at their stocks d there
 abbrev pub depot_feeds : (f : ℕ) → FamilyNumbers f → List ℕ → List (Feed f)
 depot_feeds f x d = map (λ i. feed_from f (pair_at x (i + 1) 0).share (depot_shop_row f x i (nth_stock d i)))
     (shop_numbers x)
@@ -121,21 +122,21 @@ depot_feeds f x d = map (λ i. feed_from f (pair_at x (i + 1) 0).share (depot_sh
 abbrev pub depot_line_moments : (f : ℕ) → FamilyNumbers f → List ℕ → Moments f
 depot_line_moments f x d = depot_line_ends f (pair_at x 0 0).direct (pair_at x 0 0).cap (depot_feeds f x d)
 
--- its row where the depot has s of it
+-- its row at the stock s
 abbrev pub depot_line_row : (f : ℕ) → FamilyNumbers f → List ℕ → ℕ → Row f
 depot_line_row f x d s = at_stock (rows_of f (depot_line_moments f x d)) s
 
--- the pipeline of the shop unit i at base k, where the depot has n of it
+-- the pipeline of the shop unit i at base k, if the depot has n of it
 abbrev pub base_shop_moments : (f : ℕ) → FamilyNumbers f → ℕ → ℕ → ℕ → Moments f
 base_shop_moments f x i k n =
     base_shop_ends f (pair_at x (i + 1) k).direct (pair_at x (i + 1) k).cap
     (feed_from f (pair_at x (i + 1) k).share (depot_shop_row f x i n))
 
--- its row where the base has s of it
+-- its row at the stock s
 abbrev pub base_shop_row : (f : ℕ) → FamilyNumbers f → ℕ → ℕ → ℕ → ℕ → Row f
 base_shop_row f x i k n s = at_stock (rows_of f (base_shop_moments f x i k n)) s
 
--- what each shop unit holds back of the line unit at base k, with the stocks d at the depot and b at the base
+-- the backorders of each shop unit at base k, with the stocks d at the depot and b at the base
 abbrev pub base_helds : (f : ℕ) → FamilyNumbers f → ℕ → List ℕ → List ℕ → List (Held f)
 base_helds f x k d b = map (λ i. held_from f (base_shop_row f x i k (nth_stock d i) (nth_stock b i))) (shop_numbers x)
 
@@ -145,7 +146,7 @@ base_line_moments f x k o d b =
     base_line_ends f (pair_at x 0 k).direct (pair_at x 0 k).cap
     (feed_from f (pair_at x 0 k).share (depot_line_row f x d o)) (base_helds f x k d b)
 
--- what the line unit at base k has without its shop units there, whatever they have at the base
+-- the own part of the line unit's pipeline at base k, which doesn't depend on the shop units' stocks there
 abbrev pub own_part : (f : ℕ) → FamilyNumbers f → ℕ → ℕ → List ℕ → OwnPart f
 own_part f x k o d = record {
   moments = base_own_ends f (pair_at x 0 k).direct (feed_from f (pair_at x 0 k).share (depot_line_row f x d o));
@@ -153,15 +154,20 @@ own_part f x k o d = record {
   limit = (pair_at x 0 k).limit;
 }
 
--- its backorders where the base has s of it, on which its pipeline there doesn't depend
+-- its backorders at the stock s, on which its pipeline there doesn't depend
 abbrev pub base_backorders : (f : ℕ) → FamilyNumbers f → ℕ → ℕ → List ℕ → List ℕ → ℕ → Ends
 base_backorders f x k o d b s = (at_stock (rows_of f (base_line_moments f x k o d b)) s).ebo
 
--- the list has these at the stocks 0 to its limit there
+-- the list has these backorders at the stocks 0 to its limit there
 abbrev pub AreBaseBackorders : (f : ℕ) → FamilyNumbers f → ℕ → ℕ → List ℕ → List ℕ → List Ends → Type 0
 AreBaseBackorders f x k o d b list =
     AreBackorders f (base_line_moments f x k o d b).mean (base_line_moments f x k o d b).variance
     (pair_at x 0 k).limit list
+
+-- lower bounds on these backorders, by the line unit's stock at base k
+abbrev pub AreBaseLows : (f : ℕ) → FamilyNumbers f → ℕ → ℕ → List ℕ → List ℕ → List ℕ → Type 0
+AreBaseLows f x k o d b lows =
+    AreLows f (base_line_moments f x k o d b).mean (base_line_moments f x k o d b).variance lows
 
 -- ---- the stocks of a case
 

@@ -28,7 +28,7 @@ pub(crate) fn depot_shop_tables<const F: u32>(
     Ok(tables)
 }
 
-/// What the shop units feed to their line unit at the depot, at these stocks there.
+/// The feeds of the shop units to their line unit at the depot, at their stocks there.
 fn feeds_at<const F: u32>(
     alloc: Global,
     numbers: &Numbers<F>,
@@ -50,7 +50,7 @@ fn feeds_at<const F: u32>(
     Ok(feeds)
 }
 
-/// The table of the line unit at the depot, where the shop units have these stocks there.
+/// The table of the line unit at the depot, at the shop units' stocks `depot` there.
 pub(crate) fn depot_line<const F: u32>(
     alloc: Global,
     numbers: &Numbers<F>,
@@ -68,7 +68,7 @@ pub(crate) fn depot_line<const F: u32>(
     depot_line_table(alloc, numbers.pair(0, 0), feeds.as_slice())
 }
 
-/// The tables of the shop units at a base, where they have these stocks at the depot.
+/// The tables of the shop units at a base, at their stocks at the depot.
 pub(crate) fn base_shop_tables<const F: u32>(
     alloc: Global,
     numbers: &Numbers<F>,

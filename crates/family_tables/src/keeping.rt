@@ -7,13 +7,13 @@ ghost use Rattle.family_eval.specs.Inputs.{IsLine};
 ghost use Rattle.family_eval.specs.Profile.{family_of};
 ghost use Rattle.family_eval.specs.Encloses.{CanEvaluate, EnclosesFamily, IsSmallFamily};
 ghost use Rattle.family_tables.specs.Kept.{Grows, Has, depot_stocks, is_kept, keys_of, rows_kept};
-ghost use Rattle.family_tables.specs.Numbers.{AreBaseBackorders, base_shop_moments, depot_line_moments, depot_shop_moments, nth_stock, numbers_of, own_part, rows_of, shop_numbers};
+ghost use Rattle.family_tables.specs.Numbers.{AreBaseBackorders, AreBaseLows, base_shop_moments, depot_line_moments, depot_shop_moments, nth_stock, numbers_of, own_part, rows_of, shop_numbers};
 
 use crate::by_numbers;
 use crate::keys::{Kept, table_at};
 use crate::making::{depot_stocks, keep_each, keys_of};
 use crate::numbers::Numbers;
-use crate::own_part::{OwnPart, own_part, put_line_backorders};
+use crate::own_part::{OwnPart, own_part, put_line_backorders, put_line_lows};
 use demand_rates::kinds::Rates;
 use family_eval::{FamilyResult, evaluate};
 use moment_table::kinds::Table;
@@ -23,7 +23,7 @@ use spares_io::NoMemory;
 use std::alloc::Global;
 use std::marker::Model;
 
-/// The numbers of a family, with tables that were made of them. Contracts see its numbers and the keys of the kept
+/// The numbers of a family, and the tables made of them so far. Contracts see the numbers and the keys of the kept
 /// tables.
 #[derive(Drop)]
 pub struct Evaluator<const F: u32> {
@@ -45,8 +45,8 @@ impl<const F: u32> Model for Evaluator<F> {
 }
 
 impl<const F: u32> Evaluator<F> {
-    /// The evaluator of a family, which keeps no table yet. The rates are those of the case, and `line` is one of its
-    /// line units. Want of memory is the only error.
+    /// The evaluator of a family, without any table yet. The rates are those of the case, and `line` is one of its line
+    /// units. Want of memory is the only error.
     pub fn new(
         alloc: Global,
         case: &Case,
@@ -66,9 +66,9 @@ impl<const F: u32> Evaluator<F> {
         })
     }
 
-    /// The table of a part of the family at a site, where the stocks on which its pipeline depends are these: none
-    /// for a shop unit at the depot, those of the depot's shop units for the line unit there, and its own at the
-    /// depot for a shop unit at a base. None where it isn't kept.
+    /// The kept table of a part of the family at a site, or None. `key` has the stocks on which the pair's pipeline
+    /// depends: empty for a shop unit at the depot, the shop units' stocks there for the line unit at the depot, and
+    /// its own stock at the depot for a shop unit at a base.
     pub fn kept(&self, part: PartId, site: SiteId, key: &[u8]) -> Option<&Table<F>>
         ensures kept { is_some result ≡ is_kept self.now part.0 site.0 key.now }
         ensures rows { IfSome result (λ t. t.now ≡ rows_kept F self.now part.0 site.0 key.now) }
@@ -79,11 +79,10 @@ impl<const F: u32> Evaluator<F> {
         }
     }
 
-    /// The family at these stocks, as [`family_eval::evaluate`] gives it. Then the tables that belong to the stocks
-    /// are kept.
+    /// The same result as [`family_eval::evaluate`] at these stocks. Afterwards the tables of the stocks are kept.
     ///
-    /// The case and the rates are those of which the evaluator was made. No kept table goes, and after `NoMemory`
-    /// only tables that belong to the stocks may have come.
+    /// The case and the rates are the evaluator's own. No kept table is removed, and after `NoMemory` only tables of
+    /// these stocks may have been added.
     pub fn evaluate(
         &mut self,
         case: &Case,
@@ -118,8 +117,8 @@ impl<const F: u32> Evaluator<F> {
         by_numbers::depot_shop_tables(self.alloc, &self.family)
     }
 
-    /// The table of the line unit at the depot, where the shop units have these stocks there; `shops` are their tables.
-    /// Want of memory is the only error.
+    /// The table of the line unit at the depot, at the shop units' stocks `depot` there; `shops` are their tables. Want
+    /// of memory is the only error.
     pub fn depot_line(&self, shops: &[Table<F>], depot: &[u8]) -> Result<Table<F>, NoMemory>
         requires shops { shops.now ≡ map (λ i. rows_of F (depot_shop_moments F self.now.numbers i))
             (shop_numbers self.now.numbers) }
@@ -130,8 +129,8 @@ impl<const F: u32> Evaluator<F> {
         by_numbers::depot_line(self.alloc, &self.family, shops, depot)
     }
 
-    /// The tables of the shop units at a site, where they have these stocks at the depot; `shops` are their tables
-    /// there. Want of memory is the only error.
+    /// The tables of the shop units at a site, at their stocks `depot` at the depot; `shops` are their tables there.
+    /// Want of memory is the only error.
     pub fn base_shops(
         &self,
         shops: &[Table<F>],
@@ -150,9 +149,9 @@ impl<const F: u32> Evaluator<F> {
         by_numbers::base_shop_tables(self.alloc, &self.family, shops, depot, site)
     }
 
-    /// What the line unit at a base has without its shop units there, where the depot has `own` of it, with the table
-    /// `line`, and the stocks `depot` of the shop units: [`Evaluator::put_backorders`] begins with it, whatever the
-    /// shop units have at the base.
+    /// The own part of the line unit's pipeline at a base, which doesn't depend on the shop units' stocks there. The
+    /// depot has `own` of the line unit, with the table `line`, and the stocks `depot` of the shop units.
+    /// [`Evaluator::put_backorders`] starts from it.
     pub fn own_part(&self, line: &Table<F>, own: u8, depot: &[u8], site: SiteId) -> OwnPart<F>
         requires line { line.now ≡ rows_of F (depot_line_moments F self.now.numbers depot.now) }
         requires own { own ≤ 63 }
@@ -162,10 +161,10 @@ impl<const F: u32> Evaluator<F> {
         own_part(&self.family, line, own, depot, site)
     }
 
-    /// Puts the backorders of the line unit at a base, at each of its stocks there up to its limit, in the place of
-    /// what `found` holds, whose room serves again. Its own part there is `part`, where the depot has `own` of it and
-    /// the stocks `depot` of the shop units; these have the stocks `base` at the base, with the tables `shops` there.
-    /// `NoMemory` leaves anything in `found`.
+    /// Overwrites `found` with the line unit's backorders at a base, at each of its stocks there up to its limit, and
+    /// reuses its allocation. `part` is the line unit's own part there; the depot has `own` of it and the stocks
+    /// `depot` of the shop units, and the base has their stocks `base`, with the tables `shops`. After `NoMemory` the
+    /// contents of `found` are unspecified.
     pub fn put_backorders(
         &self,
         found: &mut Vec<Iv64<F>>,
@@ -188,5 +187,31 @@ impl<const F: u32> Evaluator<F> {
         ensures most { OnOk result (All (IsWithinLimit F) found.new.items) }
     {
         put_line_backorders(found, &self.family, part, own, depot, site, shops, base)
+    }
+
+    /// Sets `lows`, up to 64 numbers, to lower bounds on the line unit's backorders at a base, by its stock there. This
+    /// is less work than [`Evaluator::put_backorders`].
+    pub fn put_lows(
+        &self,
+        lows: &mut [u64],
+        part: &OwnPart<F>,
+        own: u8,
+        depot: &[u8],
+        site: SiteId,
+        shops: &[Table<F>],
+        base: &[u8],
+    )
+        requires few { length lows.old ≤ 64 }
+        requires part { part.now ≡ own_part F self.now.numbers site.0 own depot.now }
+        requires own { own ≤ 63 }
+        requires site { site.0 < self.now.numbers.sites }
+        requires shops { shops.now ≡ map (λ i. rows_of F
+            (base_shop_moments F self.now.numbers i site.0 (nth_stock depot.now i))) (shop_numbers self.now.numbers) }
+        requires count { length base.now ≡ length self.now.numbers.parts - 1 }
+        requires stocks { All (λ n. n ≤ 63) base.now }
+        ensures count { length lows.new ≡ length lows.old }
+        ensures lows { AreBaseLows F self.now.numbers site.0 own depot.now base.now lows.new }
+    {
+        put_line_lows(lows, &self.family, part, own, depot, site, shops, base);
     }
 }

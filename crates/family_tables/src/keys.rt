@@ -10,7 +10,7 @@ use moment_table::kinds::Table;
 use spares_input::SiteId;
 use spares_io::List;
 
-/// What a table is the table of: a place in the family, a site, and the stocks on which the pair's pipeline depends.
+/// The key of a table: a place in the family, a site, and the stocks on which the pair's pipeline depends.
 #[derive(Drop)]
 pub(crate) struct Key {
     pub(crate) place: usize,
@@ -25,14 +25,14 @@ pub(crate) struct Kept<const F: u32> {
     pub(crate) table: Table<F>,
 }
 
-/// Whether a key is that of this place, this site and these stocks.
+/// Whether a key has this place, this site and these stocks.
 fn is_key(key: &Key, place: usize, site: SiteId, stocks: &[u8]) -> bool
     ensures { result ≡ is_key key.now place site.0 stocks.now }
 {
     key.place == place && key.site.0 == site.0 && key.stocks.as_slice() == stocks
 }
 
-/// Where the table of this key stands.
+/// The index of the table with this key.
 fn place_of<const F: u32>(
     kept: &[Kept<F>],
     place: usize,
@@ -49,7 +49,7 @@ fn place_of<const F: u32>(
     None
 }
 
-/// The table of this key, where it is kept.
+/// The table with this key, if it is kept.
 pub(crate) fn table_at<'a, const F: u32>(
     numbers: &Numbers<F>,
     kept: &'a [Kept<F>],

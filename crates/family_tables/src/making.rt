@@ -1,4 +1,4 @@
-//! Tables that are made where they aren't kept.
+//! Making the tables that aren't kept yet.
 
 ghost use Rattle.std.specs.Prelude.{◌≡◌, ◌+◌, ◌-◌, ◌<◌, ◌≤◌, ◌⊎◌, ◌∷◌, [], ◌++◌, true, IfOk, OnOk, OnErr, length, map, flat_map, get_or, ℕ};
 ghost use Rattle.std.specs.List.{All, range_with_len};
@@ -15,7 +15,7 @@ use spares_input::{SiteId, Stocks};
 use spares_io::{List, NoMemory};
 use std::alloc::Global;
 
-/// What a shop unit feeds to a site at its stock at the depot, by its kept table where there is one.
+/// The feed of a shop unit to a site at its stock at the depot, by its kept table if there is one.
 fn feed_at<const F: u32>(
     alloc: Global,
     numbers: &Numbers<F>,
@@ -42,7 +42,7 @@ fn feed_at<const F: u32>(
     }
 }
 
-/// What the shop units feed to their line unit at the depot, at these stocks there.
+/// The feeds of the shop units to their line unit at the depot, at their stocks there.
 fn feeds_at<const F: u32>(
     alloc: Global,
     numbers: &Numbers<F>,
@@ -88,7 +88,7 @@ fn made<const F: u32>(
     }
 }
 
-/// Keeps the table of a key, if it isn't kept yet. After `NoMemory` the kept tables are as before.
+/// Makes and keeps the table of a key, if it isn't kept yet. After `NoMemory` the kept tables are as before.
 pub(crate) fn keep<const F: u32>(
     alloc: Global,
     numbers: &Numbers<F>,
@@ -119,7 +119,7 @@ pub(crate) fn keep<const F: u32>(
     Ok(())
 }
 
-/// The same key.
+/// A copy of a key.
 fn copied(alloc: Global, key: &Key) -> Result<Key, NoMemory>
     ensures { IfOk result (λ copy. copy ≡ key.now) }
 {
@@ -132,7 +132,7 @@ fn copied(alloc: Global, key: &Key) -> Result<Key, NoMemory>
     })
 }
 
-/// Keeps the tables of these keys. After `NoMemory` some of them may be kept, and no others have come or gone.
+/// Keeps the tables of these keys. After `NoMemory` only some of them may have been added, and none is removed.
 pub(crate) fn keep_each<const F: u32>(
     alloc: Global,
     numbers: &Numbers<F>,
@@ -152,7 +152,7 @@ pub(crate) fn keep_each<const F: u32>(
     Ok(())
 }
 
-/// The stocks of the shop units at the depot.
+/// The stocks of the shop units at the depot, among the stocks of a case.
 pub(crate) fn depot_stocks<const F: u32>(
     alloc: Global,
     numbers: &Numbers<F>,

@@ -16,20 +16,20 @@ use spares_io::NoMemory;
 use std::alloc::Global;
 use std::marker::Model;
 
-/// What a pair has of its own, in units of `2^-F`.
+/// The numbers of a pair, in units of `2^-F`.
 #[derive(Clone, Copy, Drop)]
 pub(crate) struct PairNumbers<const F: u32> {
     /// The direct part of its pipeline.
     pub(crate) direct: Iv<F>,
-    /// The most that the mean and the variance of its pipeline can be.
+    /// The largest possible mean and variance of its pipeline.
     pub(crate) cap: u128,
     /// Its share in the depot's backorders.
     pub(crate) share: Iv<F>,
-    /// The most that may be in stock.
+    /// The largest stock.
     pub(crate) limit: u8,
 }
 
-/// The numbers of a family: its parts, the line unit first, and each pair's own, by part and then by site.
+/// The numbers of a family: its parts, the line unit first, and the numbers of each pair, by part and then by site.
 #[derive(Drop)]
 pub(crate) struct Numbers<const F: u32> {
     members: Vec<PartId>,
@@ -59,14 +59,14 @@ impl<const F: u32> Model for Numbers<F> {
     }) };
 }
 
-/// The place of a part among these.
+/// The index of a part among `members`.
 fn place_in(members: &[PartId], part: PartId) -> Option<usize>
     ensures { result ≡ position (λ q. q.0 == part.0) members.now }
 {
     members.iter().position(|q| q.0 == part.0)
 }
 
-/// What a pair of a case has of its own.
+/// The numbers of a pair of a case.
 fn pair_numbers<const F: u32>(
     case: &Case,
     rates: &Rates,
@@ -88,7 +88,7 @@ fn pair_numbers<const F: u32>(
     }
 }
 
-/// What a part has of its own at each site.
+/// The numbers of a part at each site.
 fn part_numbers<const F: u32>(
     alloc: Global,
     case: &Case,
@@ -107,7 +107,7 @@ fn part_numbers<const F: u32>(
     Ok(numbers)
 }
 
-/// What these parts have of their own, by part and then by site.
+/// The numbers of these parts, by part and then by site.
 fn all_numbers<const F: u32>(
     alloc: Global,
     case: &Case,
@@ -152,7 +152,7 @@ impl<const F: u32> Numbers<F> {
         })
     }
 
-    /// How many parts there are.
+    /// The number of parts.
     pub(crate) fn size(&self) -> usize
         ensures size { result ≡ length self.now.parts }
         ensures valid { AreNumbers F self.now }
@@ -175,7 +175,7 @@ impl<const F: u32> Numbers<F> {
         place_in(self.members.as_slice(), part)
     }
 
-    /// How many shop units there are.
+    /// The number of shop units.
     pub(crate) fn shops(&self) -> usize
         ensures shops { result ≡ length self.now.parts - 1 }
         ensures valid { AreNumbers F self.now }
@@ -183,7 +183,7 @@ impl<const F: u32> Numbers<F> {
         self.members.len() - 1
     }
 
-    /// How many sites there are.
+    /// The number of sites.
     pub(crate) fn sites(&self) -> u8
         ensures sites { result ≡ self.now.sites }
         ensures valid { AreNumbers F self.now }
@@ -191,7 +191,7 @@ impl<const F: u32> Numbers<F> {
         self.site_count
     }
 
-    /// What the part at a place has of its own at a site.
+    /// The numbers of the part at a place, at a site.
     pub(crate) fn pair(&self, place: usize, site: u8) -> PairNumbers<F>
         requires place { place < length self.now.parts }
         requires site { site < self.now.sites }

@@ -1,11 +1,13 @@
-//! A line unit at a base: what it has without its shop units there, which serves all their stocks, and its backorders.
+//! A line unit at a base: the own part of its pipeline, which serves all stocks of its shop units there, and its
+//! backorders.
 
 ghost use Rattle.std.specs.Prelude.{◌≡◌, ◌-◌, ◌*◌, ◌^◌, ◌<◌, ◌≤◌, OnOk, length, map, All};
 ghost use Rattle.fixed_interval.specs.Ends.{IsWithinLimit};
-ghost use Rattle.family_tables.specs.Numbers.{AreBaseBackorders, base_line_moments, base_shop_moments, depot_line_moments, nth_stock, own_part, rows_of, shop_numbers};
+ghost use Rattle.family_tables.specs.Numbers.{AreBaseBackorders, AreBaseLows, base_line_moments, base_shop_moments, depot_line_moments, nth_stock, own_part, rows_of, shop_numbers};
 
 use crate::numbers::Numbers;
 use crate::pair_tables::feed_from;
+use backorder_bounds::put_lows;
 use base_pipeline::base_own;
 use depot_pipeline::Moments;
 use moment_table::kinds::Table;
@@ -14,19 +16,19 @@ use series_bounds::short::Iv64;
 use spares_input::SiteId;
 use spares_io::NoMemory;
 
-/// What a line unit at a base has without its shop units there: it is the same whatever stocks they have at the base.
+/// The own part of a line unit's pipeline at a base, which doesn't depend on the shop units' stocks there.
 #[derive(Clone, Copy, Drop)]
 pub struct OwnPart<const F: u32> {
-    /// The mean and the variance of its direct part with what the depot feeds into it.
+    /// The mean and the variance of its direct part with the depot's feed.
     pub(crate) moments: Moments<F>,
-    /// The most that the mean and the variance of its pipeline can be, in units of `2^-F`.
+    /// The largest possible mean and variance of its pipeline, in units of `2^-F`.
     pub(crate) cap: u128,
-    /// The most of it that may be in stock.
+    /// The largest stock of the line unit there.
     pub(crate) limit: u8,
 }
 
-/// What the line unit at a base has without its shop units there. The depot has `own` of it with the table `line`, and
-/// the shop units have the stocks `depot` there.
+/// The own part of the line unit's pipeline at a base. The depot has `own` of it with the table `line`, and the shop
+/// units' stocks `depot`.
 pub(crate) fn own_part<const F: u32>(
     numbers: &Numbers<F>,
     line: &Table<F>,
@@ -49,7 +51,7 @@ pub(crate) fn own_part<const F: u32>(
     }
 }
 
-/// The pipeline of the line unit at a base, where its shop units have the stocks `base` there, with these tables.
+/// The pipeline of the line unit at a base, at the shop units' stocks `base` there, with these tables.
 fn line_moments<const F: u32>(
     numbers: &Numbers<F>,
     part: &OwnPart<F>,
@@ -83,9 +85,9 @@ fn line_moments<const F: u32>(
     }
 }
 
-/// Puts the backorders of the line unit at a base, at each of its stocks there up to its limit, in the place of what
-/// `found` holds. Its own part there is `part`, where the depot has `own` of it and the stocks `depot` of the shop
-/// units; these have the stocks `base` at the base, with these tables.
+/// Overwrites `found` with the line unit's backorders at a base, at each of its stocks there up to its limit. `part` is
+/// its own part there; the depot has `own` of it and the stocks `depot` of the shop units, and the base has their
+/// stocks `base`, with these tables.
 pub(crate) fn put_line_backorders<const F: u32>(
     found: &mut Vec<Iv64<F>>,
     numbers: &Numbers<F>,
@@ -109,4 +111,32 @@ pub(crate) fn put_line_backorders<const F: u32>(
     let _valid = numbers.sites();
     let moments = line_moments(numbers, part, own, depot, site, tables, base);
     put_backorders(found, moments.mean, moments.variance, part.limit)
+}
+
+/// Sets `lows`, up to 64 numbers, to lower bounds on the line unit's backorders at a base, by its stock there; the
+/// other arguments are as in [`put_line_backorders`].
+pub(crate) fn put_line_lows<const F: u32>(
+    lows: &mut [u64],
+    numbers: &Numbers<F>,
+    part: &OwnPart<F>,
+    own: u8,
+    depot: &[u8],
+    site: SiteId,
+    tables: &[Table<F>],
+    base: &[u8],
+)
+    requires few { length lows.old ≤ 64 }
+    requires part { part.now ≡ own_part F numbers.now site.0 own depot.now }
+    requires own { own ≤ 63 }
+    requires site { site.0 < numbers.now.sites }
+    requires tables { tables.now ≡ map (λ i. rows_of F
+        (base_shop_moments F numbers.now i site.0 (nth_stock depot.now i))) (shop_numbers numbers.now) }
+    requires count { length base.now ≡ length numbers.now.parts - 1 }
+    requires stocks { All (λ n. n ≤ 63) base.now }
+    ensures count { length lows.new ≡ length lows.old }
+    ensures lows { AreBaseLows F numbers.now site.0 own depot.now base.now lows.new }
+{
+    let _valid = numbers.sites();
+    let moments = line_moments(numbers, part, own, depot, site, tables, base);
+    put_lows(lows, moments.mean, moments.variance);
 }

@@ -16,7 +16,7 @@ use moment_table::table_to;
 use spares_io::NoMemory;
 use std::alloc::Global;
 
-/// What a pair with this table feeds to another at its stock, by a share.
+/// The feed of a pair with this table to another pair at its stock, by a share.
 pub(crate) fn feed_from<const F: u32>(share: Iv<F>, table: &Table<F>, stock: u8) -> Feed<F>
     requires { stock ≤ 63 }
     ensures { result ≡ feed_from F share.entry (at_stock table.now stock) }
@@ -40,7 +40,7 @@ pub(crate) fn depot_shop_table<const F: u32>(
     table_to(alloc, moments.mean, moments.variance, pair.limit)
 }
 
-/// The table of a line unit at the depot, which its shop units there feed, with the rows up to its limit there.
+/// The table of a line unit at the depot, fed by its shop units there, with the rows up to its limit there.
 pub(crate) fn depot_line_table<const F: u32>(
     alloc: Global,
     pair: PairNumbers<F>,
@@ -55,7 +55,7 @@ pub(crate) fn depot_line_table<const F: u32>(
     table_to(alloc, moments.mean, moments.variance, pair.limit)
 }
 
-/// The table of a shop unit at a base, which the depot feeds, with the rows up to its limit there.
+/// The table of a shop unit at a base, fed by the depot, with the rows up to its limit there.
 pub(crate) fn base_shop_table<const F: u32>(
     alloc: Global,
     pair: PairNumbers<F>,

@@ -8,11 +8,11 @@ pub record Ends : Type 0 where
   pub lo : ℕ
   pub hi : ℕ
 
--- how many binary places the ends may have
+-- the range of the number of binary places
 abbrev pub InScale : ℕ → Type 0
 InScale f = (24 ≤ f) × (f ≤ 52)
 
--- what is true of every interval with f places
+-- the invariant of every interval with f places
 pub record IsInterval (f : ℕ) (x : Ends) : Type 0 where
   pub least_scale : 24 ≤ f
   pub most_scale : f ≤ 52
@@ -41,7 +41,7 @@ ends_ratio f num den = record { lo = num * 2 ^ f / den; hi = div_ceil (num * 2 ^
 abbrev pub ends_add : Ends → Ends → Ends
 ends_add a b = record { lo = a.lo + b.lo; hi = a.hi + b.hi }
 
--- a difference below 0 is cut at 0, as `-` is
+-- a - b, cut at 0 as `-` is
 abbrev pub ends_less : Ends → Ends → Ends
 ends_less a b = record { lo = a.lo - b.hi; hi = a.hi - b.lo }
 

@@ -17,8 +17,8 @@ fixed_text places n = decimal (n / 10 ^ places) ++ (46 ∷ last_digits places n)
 abbrev pub text_value : ℕ → ℕ → Fraction
 text_value places n = whole n /ℚ whole (10 ^ places)
 
--- the same text in terms of what a reader sees: digits on both sides of one point, as many as there are places
--- behind it, no needless 0 in front, and the digits of both sides together write n
+-- the same text as a reader sees it: digits on both sides of one point, as many after it as there are places, no
+-- needless 0 in front, and the digits of both sides together write n
 pub record IsFixedText (places n : ℕ) (text : List ℕ) : Type 0 where
   pub whole : List ℕ
   pub fraction : List ℕ

@@ -1,7 +1,7 @@
--- The counts of binary places that can be asked for.
+-- The numbers of binary places that a caller may choose.
 use Rattle.std.specs.Prelude.{◌≡◌, ℕ, Bool, true, ◌==◌, ◌||◌}
 
--- so many binary places may be asked for: 32, 48 or 52
+-- a number of binary places that may be chosen: 32, 48 or 52
 abbrev pub is_width : ℕ → Bool
 is_width f = (f == 32) || (f == 48) || (f == 52)
 

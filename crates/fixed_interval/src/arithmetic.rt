@@ -38,7 +38,7 @@ impl<const F: u32> Iv<F> {
         }
     }
 
-    /// The difference, exactly, where it is above 0; what is below 0 is cut at 0.
+    /// The difference, exactly if it is above 0, otherwise 0.
     pub fn less(self, b: Iv<F>) -> Iv<F>
         ensures ends { result ≡ ends_less self.entry b.entry }
         ensures encloses { (x y : Fraction) → In F self.entry x → In F b.entry y → In F result (x -ℚ y) }

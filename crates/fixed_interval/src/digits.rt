@@ -6,9 +6,9 @@ ghost use Rattle.fixed_interval.specs.Text.{fixed_text, IsFixedText, text_value}
 
 use std::marker::Model;
 
-/// A text of at most 48 bytes, held without an allocation: a number in decimals.
+/// A text of at most 48 bytes without an allocation: a number in decimals.
 ///
-/// It is seen as the list of its bytes. They stand at the end of the array, since digits come from the last one on.
+/// Contracts see the list of its bytes. They are at the end of the array, since digits are made from the last one on.
 #[derive(Drop)]
 pub struct Digits {
     bytes: [u8; 48],
@@ -55,8 +55,7 @@ impl Digits {
 }
 
 /// A text of decimals reads as the number that it was made of, and has one spelling: digits on both sides of a point,
-/// as many as there are places behind it, and no needless 0 in front. It holds where the whole part has at most 64
-/// digits.
+/// as many after it as there are places, and no needless 0 in front. The whole part may have up to 64 digits.
 pub fn texts_read()
     ensures { (places n : ℕ) → n / 10 ^ places < 10 ^ 64 → IsFixedText places n (fixed_text places n) }
 {}
@@ -84,7 +83,7 @@ pub(crate) fn text_of(n: u128, places: u8) -> Digits
     text
 }
 
-/// How many units of the last place make a whole, for 6 or 12 places.
+/// The number of units of the last place in a whole, for 6 or 12 places.
 pub(crate) fn units(places: u8) -> u128
     requires { (places ≡ 6) ⊎ (places ≡ 12) }
     ensures { result ≡ 10 ^ places }

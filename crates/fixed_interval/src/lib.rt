@@ -1,8 +1,8 @@
 //! Intervals of fixed-point numbers, rounded outwards, and their printing in decimals.
 //!
-//! An [`Iv<F>`] stands for a number that is known to lie between two ends, both whole numbers in units of `2^-F`. Each
-//! operation answers an interval that holds its exact result for all numbers in its arguments: a lower end is rounded
-//! down and an upper end up, and a difference is cut at 0. No call refuses, and none takes memory.
+//! An [`Iv<F>`] is a range for a number: a lower and an upper end, both whole numbers in units of `2^-F`. Each
+//! operation returns an interval that contains its exact result for all numbers in its arguments: a lower end is
+//! rounded down and an upper end up, and a difference is cut at 0. No call refuses, and none allocates memory.
 #![tactic(auto)]
 
 ghost use Rattle.std.specs.Prelude.{◌≡◌, ℕ, ◌+◌, ◌-◌, ◌*◌, ◌^◌, ◌≤◌, ◌<◌};
@@ -27,7 +27,7 @@ use std::marker::Model;
 
 /// The numbers from a lower to an upper end, both in units of `2^-F`.
 ///
-/// `F` is from 24 to 52, the lower end is at most the upper one, and that is below `2^127`.
+/// `F` is from 24 to 52, and the lower end is at most the upper end, which is below `2^127`.
 #[derive(Clone, Copy, Debug, Drop, PartialEq, Eq)]
 pub struct Iv<const F: u32> {
     lo: u128,
@@ -47,7 +47,7 @@ impl<const F: u32> Model for Iv<F> {
     ghost inverse = { λ d. record { lo = d.lo; hi = d.hi } };
 }
 
-/// Ends hold each fraction between them.
+/// An interval contains each fraction between its ends.
 pub fn holds_between_ends()
     ensures { (f : ℕ) (ends : Ends) (x : Fraction)
         → ends.lo * x.den ≤ x.num * 2 ^ f → x.num * 2 ^ f ≤ ends.hi * x.den → In f ends x }
@@ -64,7 +64,7 @@ impl<const F: u32> Iv<F> {
         Iv { lo: end, hi: end }
     }
 
-    /// The numbers from `lo` to `hi`, both in units of `2^-F`. It holds each fraction between them, by
+    /// The numbers from `lo` to `hi`, both in units of `2^-F`. It contains each fraction between them, by
     /// [`holds_between_ends`].
     pub fn of_ends(lo: u128, hi: u128) -> Iv<F>
         requires scale { InScale F }
@@ -85,7 +85,7 @@ impl<const F: u32> Iv<F> {
         ensures encloses { (positive : 0 < den)
             → In F result (record { num = num; den = den; positive = positive }) }
     {
-        // The product `num * 2^F` may pass 128 bits, so the whole part goes first.
+        // The product `num * 2^F` may exceed 128 bits, so the whole part goes first.
         let whole = scaled(num / den, F);
         let rest = scaled(num % den, F);
         let below = rest / den;
@@ -112,7 +112,7 @@ impl<const F: u32> Iv<F> {
         self.hi
     }
 
-    /// How far apart the ends are, in units of `2^-F`.
+    /// The upper end less the lower, in units of `2^-F`.
     pub fn width(&self) -> u128
         ensures width { result ≡ self.now.hi - self.now.lo }
         ensures valid { IsInterval F self.now }

@@ -12,7 +12,7 @@ pub(crate) fn scaled(x: u128, f: u32) -> u128
     x << f
 }
 
-/// How many whole units `x` units of `2^-f` make, rounded up.
+/// `x` units of `2^-f` in whole units, rounded up.
 pub(crate) fn rounded_up(x: u128, f: u32) -> u128
     requires places { f ≤ 52 }
     requires room { x < 2 ^ 127 }
@@ -21,7 +21,7 @@ pub(crate) fn rounded_up(x: u128, f: u32) -> u128
     (x + (scaled(1, f) - 1)) >> f
 }
 
-/// `num / den` rounded up, by the division of what `start` leaves, which is short where `start` is near.
+/// `num / den` rounded up, by dividing the rest after `start`, which is fast if `start` is near.
 pub(crate) fn quotient_up(num: u128, den: u128, start: u128) -> u128
     requires divisor { 0 < den }
     requires start { start * den ≤ num }

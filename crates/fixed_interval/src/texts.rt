@@ -11,7 +11,7 @@ use crate::digits::{Digits, text_of, units};
 use crate::rounding::rounded_up;
 
 impl<const F: u32> Iv<F> {
-    /// The lower end in decimals, rounded down: a number that every number of the interval is at least.
+    /// The lower end in decimals, rounded down: no number of the interval is below it.
     pub fn down_text(&self, places: u8) -> Digits
         requires places { (places ≡ 6) ⊎ (places ≡ 12) }
         requires room { self.now.hi < 2 ^ 86 }
@@ -23,7 +23,7 @@ impl<const F: u32> Iv<F> {
         text_of((self.lo * units(places)) >> F, places)
     }
 
-    /// The upper end in decimals, rounded up: a number that every number of the interval is at most.
+    /// The upper end in decimals, rounded up: no number of the interval is above it.
     pub fn up_text(&self, places: u8) -> Digits
         requires places { (places ≡ 6) ⊎ (places ≡ 12) }
         requires room { self.now.hi < 2 ^ 86 }

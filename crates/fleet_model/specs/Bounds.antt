@@ -1,6 +1,5 @@
--- Bounds on the aim of allocations under a budget, and what a price shows of them. A budget is in whole money and
--- pays for what is bought beyond the stocks held. Bounds and floors are in units of 2^-48, and what is said of them
--- is said at every depth from 1024 on.
+-- Bounds on the aim of allocations under a budget, and the bounds that a price shows. A budget is in whole money and
+-- pays for the stocks beyond those held. Bounds and floors are in units of 2^-48, and hold at every depth from 1024 on.
 use Rattle.std.specs.Prelude.{◌≡◌, ℕ, ◌+◌, ◌*◌, ◌<◌, ◌≤◌, ◌^◌, true, List, length}
 use Rattle.exact_model.specs.Fraction.{Fraction, whole, ◌≤ℚ◌, ◌+ℚ◌, ◌*ℚ◌}
 use Rattle.spares_input.specs.Rows.{is_line}
@@ -15,7 +14,7 @@ NoneHasLess value c held budget bound =
     → whole bound ≤ℚ aim value c s n *ℚ whole (2 ^ 48)
 
 -- x is a bound that a price shows at depth n: for every allocation, x is at most aim + price (cost - budget). It is
--- written with no difference: x + price budget is at most aim + price cost
+-- written without a difference: x + price budget is at most aim + price cost
 abbrev pub PriceShows : Value → CaseRows → List ℕ → ℕ → ℕ → Fraction → Fraction → Type 0
 PriceShows value c held budget n price x =
     (s : List ℕ) → IsHeldAllocation c held s
@@ -32,7 +31,7 @@ abbrev pub HasNoMore : Value → CaseRows → List ℕ → ℕ → Type 0
 HasNoMore value c s most = (n : ℕ) → 1024 ≤ n → aim value c s n *ℚ whole (2 ^ 48) ≤ℚ whole most
 
 -- at the price of `money` of the aim for `units` of money, floor(l) is at most units * 2^48 * aim + money * cost of the
--- family of each line unit l, at every allocation
+-- family of each line unit l, for every allocation
 abbrev pub AreFloors : Value → CaseRows → List ℕ → ℕ → ℕ → (ℕ → ℕ) → Type 0
 AreFloors value c held units money floor =
     (n : ℕ) → 1024 ≤ n → (s : List ℕ) → IsHeldAllocation c held s
@@ -40,7 +39,7 @@ AreFloors value c held units money floor =
     → whole (floor l)
     ≤ℚ whole units *ℚ (family_aim value c s n l *ℚ whole (2 ^ 48)) +ℚ whole (money * family_cost_beyond c held s l)
 
--- two allocations, the first with `left` of the budget left and the second `over` over it
+-- two allocations, the first `left` within the budget and the second `over` above it
 pub record AreAround (c : CaseRows) (held : List ℕ) (budget : ℕ) (s t : List ℕ) (left over : ℕ) : Type 0 where
   pub first : IsHeldAllocation c held s
   pub second : IsHeldAllocation c held t

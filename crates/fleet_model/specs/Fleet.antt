@@ -8,7 +8,7 @@ use Rattle.exact_model.specs.Sums.{sum_over, product_over, power}
 use Rattle.fleet_model.specs.Rows.{all_sites, bases, all_parts, line_units, shop_units, systems, per_system, weight, stock}
 use Rattle.fleet_model.specs.Pipelines.{ebo_0j}
 
--- max(0, 1 - EBO(s_0j) / (N_j Z))^Z, what the line unit l leaves of the availability of base j
+-- max(0, 1 - EBO(s_0j) / (N_j Z))^Z, the factor of the line unit l in the availability of base j
 unfoldable pub factor : CaseRows → List ℕ → ℕ → ℕ → ℕ → Fraction
 factor c s n l j = power (whole 1 -ℚ ebo_0j c s n l j /ℚ whole (systems c j * per_system c l)) (per_system c l)
 
@@ -35,7 +35,7 @@ pub record IsAllocation (c : CaseRows) (s : List ℕ) : Type 0 where
   pub complete : length s ≡ pair_count (frame_rows c)
   pub within : (p k : ℕ) → p < length c.parts → k < length c.sites → stock c s p k ≤ limit_at c.parts p k
 
--- what the stocks of part p cost
+-- the cost of the stocks of part p
 abbrev pub part_cost : CaseRows → List ℕ → ℕ → ℕ
 part_cost c s p = sum_by (λ k. stock c s p k * (part_at c.parts p).cost) (all_sites c)
 
@@ -47,6 +47,6 @@ cost c s = sum_by (part_cost c s) (all_parts c)
 abbrev pub family : CaseRows → ℕ → List ℕ
 family c l = l ∷ shop_units c l
 
--- what the stocks of the family of the line unit l cost
+-- the cost of the stocks of the family of the line unit l
 abbrev pub family_cost : CaseRows → List ℕ → ℕ → ℕ
 family_cost c s l = sum_by (part_cost c s) (family c l)

@@ -1,6 +1,6 @@
--- What a plan promises of weighted backorders where nothing is held: the words of Bounds in the plain case. There the
--- aim is the total, what is paid beyond the stocks held is the cost, and every allocation keeps what is held: the law
--- `words_agree`.
+-- The promises of a plan about weighted backorders if nothing is held: the definitions of Bounds in the plain case.
+-- There the aim is the total, the cost beyond the stocks held is the cost, and every allocation keeps the stocks held:
+-- the law `words_agree`.
 use Rattle.std.specs.Prelude.{ℕ, List, []}
 use Rattle.spares_input.specs.Cases.{CaseRows}
 use Rattle.fleet_model.specs.Aims.{weighted_backorders}

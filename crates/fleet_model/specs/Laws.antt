@@ -1,4 +1,4 @@
--- What the laws say of pipelines, of their zero-stock means and of families.
+-- The laws of pipelines, of their zero-stock means and of families.
 use Rattle.std.specs.Prelude.{◌≡◌, ◌↔◌, ℕ, suc, ◌<◌, ◌≤◌, List, [], length}
 use Rattle.std.specs.List.{AllByRecursion}
 use Rattle.exact_model.specs.Fraction.{Fraction, ◌≤ℚ◌}
@@ -30,7 +30,7 @@ pub record IsCapped (most mean variance backorders spread : Fraction) : Type 0 w
 abbrev pub AgreeOnFamily : CaseRows → List ℕ → List ℕ → ℕ → Type 0
 AgreeOnFamily c s t l = AllByRecursion (λ p. (k : ℕ) → k < length c.sites → stock c s p k ≡ stock c t p k) (family c l)
 
--- where nothing is held, the allocations, their cost and the aim by weighted backorders are the plain ones
+-- if nothing is held, the allocations, their cost and the aim by weighted backorders are the plain ones
 pub record ArePlainWords (c : CaseRows) (s : List ℕ) : Type 0 where
   pub allocation : IsHeldAllocation c [] s ↔ IsAllocation c s
   pub cost_is : cost_beyond c [] s ≡ cost c s

@@ -1,4 +1,4 @@
--- What the pair of part p and site k has: that of one of the four pipelines.
+-- The numbers of the pair of part p and site k, each from one of the four pipelines.
 use Rattle.std.specs.Prelude.{ℕ, zero, suc, List, Option, Some, None}
 use Rattle.exact_model.specs.Fraction.{Fraction, whole}
 use Rattle.exact_model.specs.Series.{ebo, vbo}
@@ -9,7 +9,7 @@ use Rattle.fleet_model.specs.Demand.{m_0j, m_00, m_ij, m_i0, f_i0, f_ij, f_0j}
 use Rattle.fleet_model.specs.ZeroStock.{direct_i0, direct_00, direct_ij, direct_0j, zero_stock_i0, zero_stock_00, zero_stock_ij, zero_stock_0j}
 use Rattle.fleet_model.specs.Pipelines.{Moments, pipeline_i0, pipeline_00, pipeline_ij, pipeline_0j}
 
--- a shop unit of this line unit, or a line unit, at the depot or at a base
+-- the case of a shop unit of this line unit, or of a line unit, at the depot or at a base
 abbrev pub by_pair : {A : Type 0} → (ℕ → ℕ → A) → (ℕ → A) → (ℕ → ℕ → ℕ → A) → (ℕ → ℕ → A) → Option ℕ → ℕ → ℕ → A
 by_pair depot_shop depot_line base_shop base_line (Some l) p zero = depot_shop l p
 by_pair depot_shop depot_line base_shop base_line None p zero = depot_line p
@@ -20,15 +20,15 @@ by_pair depot_shop depot_line base_shop base_line None p (suc j) = base_line p (
 abbrev pub demand : CaseRows → ℕ → ℕ → Fraction
 demand c p k = by_pair (m_i0 c) (m_00 c) (m_ij c) (m_0j c) (line_of c.parts p) p k
 
--- a line unit at the depot has no share, and 1 stands for it
+-- the share of part p at site k; a line unit at the depot has no share, and the value is 1
 abbrev pub share : CaseRows → ℕ → ℕ → Fraction
 share c p k = by_pair (f_i0 c) (λ l. whole 1) (f_ij c) (f_0j c) (line_of c.parts p) p k
 
--- D, the mean of the pipeline where nothing below it is backordered
+-- D, the mean of the pipeline if nothing below it is backordered
 abbrev pub direct : CaseRows → ℕ → ℕ → Fraction
 direct c p k = by_pair (direct_i0 c) (direct_00 c) (direct_ij c) (direct_0j c) (line_of c.parts p) p k
 
--- M, the mean of the pipeline where nothing is in stock
+-- M, the mean of the pipeline if nothing is in stock
 abbrev pub zero_stock : CaseRows → ℕ → ℕ → Fraction
 zero_stock c p k = by_pair (zero_stock_i0 c) (zero_stock_00 c) (zero_stock_ij c) (zero_stock_0j c)
     (line_of c.parts p) p k

@@ -1,5 +1,5 @@
--- The four pipelines of a family where each is Poisson: each has its mean as its variance, at every level. The means
--- are those of the model, from these pipelines' own backorders.
+-- The four pipelines of a family if each is Poisson: the variance of each is its mean, at every level. The means follow
+-- the model, with these pipelines' own backorders.
 use Rattle.std.specs.Prelude.{ℕ, List}
 use Rattle.exact_model.specs.Fraction.{Fraction, whole, ◌+ℚ◌, ◌*ℚ◌}
 use Rattle.exact_model.specs.Series.{ebo}
@@ -15,7 +15,7 @@ use Rattle.fleet_model.specs.Pairs.{by_pair}
 unfoldable pub mean_i0 : CaseRows → ℕ → ℕ → Fraction
 mean_i0 c l i = direct_i0 c l i
 
--- its expected backorders at its stock, at depth n, where the variance is the mean
+-- its expected backorders at its stock, at depth n, if the variance is the mean
 unfoldable pub poisson_i0 : CaseRows → List ℕ → ℕ → ℕ → ℕ → Fraction
 poisson_i0 c s n l i = ebo n (mean_i0 c l i) (mean_i0 c l i) (stock c s i 0)
 
@@ -23,7 +23,7 @@ poisson_i0 c s n l i = ebo n (mean_i0 c l i) (mean_i0 c l i) (stock c s i 0)
 unfoldable pub mean_00 : CaseRows → List ℕ → ℕ → ℕ → Fraction
 mean_00 c s n l = direct_00 c l +ℚ sum_over (shop_units c l) (λ i. f_i0 c l i *ℚ poisson_i0 c s n l i)
 
--- its expected backorders at its stock, at depth n, where the variance is the mean
+-- its expected backorders at its stock, at depth n, if the variance is the mean
 unfoldable pub poisson_00 : CaseRows → List ℕ → ℕ → ℕ → Fraction
 poisson_00 c s n l = ebo n (mean_00 c s n l) (mean_00 c s n l) (stock c s l 0)
 
@@ -31,7 +31,7 @@ poisson_00 c s n l = ebo n (mean_00 c s n l) (mean_00 c s n l) (stock c s l 0)
 unfoldable pub mean_ij : CaseRows → List ℕ → ℕ → ℕ → ℕ → ℕ → Fraction
 mean_ij c s n l i j = direct_ij c l i j +ℚ f_ij c l i j *ℚ poisson_i0 c s n l i
 
--- its expected backorders at its stock, at depth n, where the variance is the mean
+-- its expected backorders at its stock, at depth n, if the variance is the mean
 unfoldable pub poisson_ij : CaseRows → List ℕ → ℕ → ℕ → ℕ → ℕ → Fraction
 poisson_ij c s n l i j = ebo n (mean_ij c s n l i j) (mean_ij c s n l i j) (stock c s i j)
 
@@ -40,7 +40,7 @@ unfoldable pub mean_0j : CaseRows → List ℕ → ℕ → ℕ → ℕ → Fract
 mean_0j c s n l j = direct_0j c l j +ℚ f_0j c l j *ℚ poisson_00 c s n l +ℚ sum_over (shop_units c l)
     (λ i. poisson_ij c s n l i j)
 
--- its expected backorders at its stock, at depth n, where the variance is the mean
+-- its expected backorders at its stock, at depth n, if the variance is the mean
 unfoldable pub poisson_0j : CaseRows → List ℕ → ℕ → ℕ → ℕ → Fraction
 poisson_0j c s n l j = ebo n (mean_0j c s n l j) (mean_0j c s n l j) (stock c s l j)
 

@@ -1,5 +1,5 @@
--- The inputs of a case by part p and site k. Site 0 is the depot, and sites 1 to J are the bases. A place that the case
--- doesn't have holds zeros.
+-- The inputs of a case by part p and site k. Site 0 is the depot, and sites 1 to J are the bases. A look-up past the
+-- case's rows finds zeros.
 use Rattle.std.specs.Prelude.{ℕ, ◌-◌, List, length, get_or, filter}
 use Rattle.std.specs.List.{range_with_len}
 use Rattle.std.proofs.Common.{zero-lt-suc}
@@ -62,14 +62,14 @@ ship c j = years (site_at c.sites j).ship
 abbrev pub systems : CaseRows → ℕ → ℕ
 systems c j = (site_at c.sites j).systems
 
--- Z, how many of the line unit l a system has
+-- Z, the number of the line unit l in a system
 abbrev pub per_system : CaseRows → ℕ → ℕ
 per_system c l = (part_at c.parts l).per_system
 
--- how much a backorder of the line unit l counts
+-- the weight of a backorder of the line unit l
 abbrev pub weight : CaseRows → ℕ → ℕ
 weight c l = (part_at c.parts l).weight
 
--- the stock of part p at site k, where stocks are listed by part and then by site
+-- the stock of part p at site k, in a list by part and then by site
 abbrev pub stock : CaseRows → List ℕ → ℕ → ℕ → ℕ
 stock c s p k = get_or s (pair_place (length c.sites) p k) 0

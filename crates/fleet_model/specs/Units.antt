@@ -74,21 +74,21 @@ zero_stock_units_0j c l j =
     (λ i. (rate_at c i 0).share * (rate_at c i 0).repair_days) (shop_units c l)) * 10000
     + sum_by (λ i. zero_stock_units_ij c l i j) (shop_units c l)
 
--- ---- by pair: those of part p, whose line unit is o, at site k
+-- ---- by pair: the numbers of part p, whose line unit is o, at site k
 
--- the demand, in units that differ with the kind of the pair
+-- the demand, in a unit that depends on the kind of the pair
 abbrev pub demand_of : CaseRows → Option ℕ → ℕ → ℕ → ℕ
 demand_of c o p k = by_pair (demand_i0 c) (demand_00 c) (demand_ij c) (demand_0j c) o p k
 
--- how many of the demand's units make 1
+-- the number of the demand's units in 1
 abbrev pub scale_of : Option ℕ → ℕ → ℕ → ℕ
 scale_of o p k = by_pair (λ l i. 10 ^ 16) (λ l. 10 ^ 8) (λ l i j. 10 ^ 12) (λ l j. 10 ^ 4) o p k
 
--- a share is its top over its bottom, and 0 where the bottom is 0
+-- a share is its top over its bottom, 0 if the bottom is 0
 abbrev pub top_of : CaseRows → Option ℕ → ℕ → ℕ → ℕ
 top_of c o p k = by_pair (λ l i. needed_i0 c l i * 10000) (λ l. 1) (sent_ij c) (sent_0j c) o p k
 
--- the demand at the depot that a share is of
+-- the demand at the depot of which the share is taken
 abbrev pub bottom_of : CaseRows → Option ℕ → ℕ → ℕ → ℕ
 bottom_of c o p k = by_pair (demand_i0 c) (λ l. 1) (λ l i j. demand_i0 c l i) (λ l j. demand_00 c l) o p k
 
@@ -105,7 +105,7 @@ zero_stock_of c o p k = by_pair (direct_units_i0 c) (zero_stock_units_00 c) (zer
 abbrev pub demand_units : CaseRows → ℕ → ℕ → ℕ
 demand_units c p k = demand_of c (line_of c.parts p) p k
 
--- how many units of that demand make 1
+-- the number of units of that demand in 1
 abbrev pub demand_scale : CaseRows → ℕ → ℕ → ℕ
 demand_scale c p k = scale_of (line_of c.parts p) p k
 
@@ -125,7 +125,7 @@ direct_units c p k = direct_of c (line_of c.parts p) p k
 abbrev pub zero_stock_units : CaseRows → ℕ → ℕ → ℕ
 zero_stock_units c p k = zero_stock_of c (line_of c.parts p) p k
 
--- how many of the pipelines' units make 1
+-- the number of the pipelines' units in 1
 abbrev pub pipeline_scale : ℕ
 pipeline_scale = 365000000000000000000
 

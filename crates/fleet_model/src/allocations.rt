@@ -8,23 +8,23 @@ ghost use Rattle.fleet_model.specs.Fleet.{cost, IsAllocation};
 ghost use Rattle.fleet_model.specs.Aims.{Value, family_aim, IsHeldAllocation, family_cost_beyond, cost_beyond};
 ghost use Rattle.fleet_model.specs.Laws.{AgreeOnFamily, ArePlainWords};
 
-/// The stocks of a case that are within its limits are an allocation.
+/// The stocks of a case are an allocation if they are within its limits.
 pub fn stocks_allocate()
     ensures stocks { (c : CaseRows) (s : StockList) → IsFor c s → IsWithinLimits c s → IsAllocation c s.list }
     ensures stock { (c : CaseRows) (s : StockList) (p k : ℕ) → IsFor c s → stock c s.list p k ≡ stock_at s p k }
     ensures cost { (c : CaseRows) (s : StockList) → IsFor c s → cost c s.list ≡ cost_of c s }
 {}
 
-/// Where nothing is held and backorders count by their weight, the words of held stocks and of an aim are the plain
-/// ones: each allocation, its cost and its total.
+/// With nothing held and backorders weighted, the definitions for held stocks and an aim agree with the plain ones:
+/// each allocation, its cost and its total.
 pub fn words_agree()
     ensures plain { (c : CaseRows) (s : List ℕ) → ArePlainWords c s }
-    // What is held and what is bought beyond it cost together what the stocks cost.
+    // The cost of the stocks held and the cost beyond them sum to the cost of the stocks.
     ensures held { (c : CaseRows) (held s : List ℕ)
         → IsHeldAllocation c held s → cost_beyond c held s + cost c held ≡ cost c s }
 {}
 
-/// The families make up the parts, and what a family counts for and costs depends on its own stocks alone.
+/// The families' costs sum to the whole cost, and a family's value and cost depend only on its own stocks.
 pub fn families()
     ensures cost { (c : CaseRows) (held s : List ℕ)
         → IsCase c → sum_by (family_cost_beyond c held s) (line_units c) ≡ cost_beyond c held s }

@@ -1,7 +1,7 @@
-//! The model of a case: its demands, pipelines and backorders, its availability, and its allocations with their cost
-//! and their total, or another aim, in exact fractions; and the laws of these.
+//! The model of a case in exact fractions: its demands, pipelines and backorders, its availability, and its allocations
+//! with their cost and their total, or another aim; and the laws of these.
 //!
-//! The definitions stand in `specs/`, and no code computes with them: the crates above print intervals that hold their
+//! The definitions are in `specs/`, and no code computes with them: the crates above print intervals that enclose their
 //! values. Each law is the contract of a public function with an empty body. `p` is a part, `l` a line unit, `i` a shop
 //! unit of it, `k` a site and `j` a base, all by number; `s` lists the stocks of a case by part and then by site, and
 //! `n` is the depth at which the series of backorders are cut.

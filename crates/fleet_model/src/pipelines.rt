@@ -14,7 +14,7 @@ ghost use Rattle.fleet_model.specs.Fleet.{IsAllocation};
 ghost use Rattle.fleet_model.specs.Units.{demand_units, demand_scale, share_top, share_bottom, direct_units, zero_stock_units, in_pipeline};
 ghost use Rattle.fleet_model.specs.Laws.{IsBase, Reaches, IsCapped, HasNoStock};
 
-/// In a valid case the differences `1 - r` and `1 - f` lose nothing by their cut at 0.
+/// In a valid case the cuts at 0 of the differences `1 - r` and `1 - f` change nothing.
 pub fn nothing_cut()
     ensures sent { (c : CaseRows) (p k : ℕ) → IsCase c → sent c p k +ℚ here c p k ≈ whole 1 }
     ensures share { (c : CaseRows) (p k : ℕ) → k < length c.sites → share c p k ≤ℚ whole 1 }
@@ -22,8 +22,8 @@ pub fn nothing_cut()
         → (whole 1 -ℚ share c p k) +ℚ share c p k ≈ whole 1 }
 {}
 
-/// In a valid case no divisor of the availabilities is 0. The one divisor of the model that may be 0 is a share's: a
-/// part that no repair needs and no base sends on has the share 0.
+/// In a valid case no divisor of the availabilities is 0. Only a share's divisor may be 0 in the model: a part that no
+/// repair needs and no base sends on has the share 0.
 pub fn divisors_positive()
     ensures systems { (c : CaseRows) (j : ℕ) → IsCase c → IsBase c j → 0 < systems c j }
     ensures per_system { (c : CaseRows) (l : ℕ) → IsCase c → l < length c.parts → is_line (part_at c.parts l) ≡ true
@@ -31,8 +31,8 @@ pub fn divisors_positive()
     ensures all_systems { (c : CaseRows) → IsCase c → 0 < (sum_over (bases c) (λ j. whole (systems c j))).num }
 {}
 
-/// The zero-stock mean is the pipeline's mean where each backorder below it is its own zero-stock mean,
-/// and where there is no stock.
+/// The zero-stock mean is the pipeline's mean with each backorder below it at its own zero-stock mean, and the
+/// pipeline's mean without any stock.
 pub fn zero_stock_means()
     ensures depot_line { (c : CaseRows) (l : ℕ)
         → zero_stock_00 c l ≈ direct_00 c l +ℚ sum_over (shop_units c l) (λ i. f_i0 c l i *ℚ zero_stock_i0 c l i) }
@@ -49,11 +49,11 @@ pub fn zero_stock_means()
 pub fn within_zero_stock_means()
     ensures capped { (c : CaseRows) (s : List ℕ) (n p k : ℕ) → Reaches c s n → k < length c.sites
         → IsCapped (zero_stock c p k) (mean c s p k n) (variance c s p k n) (backorders c s p k n) (spread c s p k n) }
-    // No stock of an allocation is above 63, so that each depth from 62 on reaches it.
+    // No stock of an allocation is above 63, so each depth from 62 on reaches it.
     ensures reached { (c : CaseRows) (s : List ℕ) (n : ℕ) → IsCase c → IsAllocation c s → 62 ≤ n → Reaches c s n }
 {}
 
-/// Demands, shares, direct pipelines and zero-stock means by whole numbers.
+/// Demands, shares, direct pipelines and zero-stock means as whole numbers of units.
 pub fn whole_units()
     ensures demand { (c : CaseRows) (p k : ℕ)
         → demand c p k ≈ whole (demand_units c p k) /ℚ whole (demand_scale c p k) }

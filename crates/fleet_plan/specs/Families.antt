@@ -1,5 +1,5 @@
--- The families of a case as a choice of points sees them: each has the vectors from what is held to the limits, with
--- the cost beyond what is held, the ends of the scored total, and the aim that the model has.
+-- The families of a case as a choice of points sees them: each has the vectors from the held stocks to the limits, with
+-- the cost of the stocks above the held ones, the ends of the scored total, and the aim of the model.
 use Rattle.std.specs.Prelude.{◌≡◌, ℕ, List, length, map, sum_by}
 use Rattle.hull.specs.declared.point.Point.{Point}
 use Rattle.spares_input.specs.Cases.{CaseRows}
@@ -9,7 +9,7 @@ use Rattle.family_curve.specs.Points.{ScoreEnds, scored_total, added_cost, point
 use Rattle.price_bounds.specs.Allocations.{Family}
 use Rattle.fleet_model.specs.Aims.{Value, family_aim}
 
--- the family of the line unit l: its vectors with their costs, the ends of their totals, and their aims
+-- the family of line unit l: its vectors with their costs, the ends of their totals, and their aims
 abbrev pub family_at : ScoreEnds → Value → CaseRows → List ℕ → ℕ → Family
 family_at ends value c held l = record {
   vectors = vectors (vector_of c l held) (limits c l);
@@ -23,7 +23,7 @@ family_at ends value c held l = record {
 abbrev pub families_at : ScoreEnds → Value → CaseRows → List ℕ → List Family
 families_at ends value c held = map (family_at ends value c held) (line_units c)
 
--- the points of these families, which no value enters
+-- the points of these families, which depend on no value
 abbrev pub family_points : ScoreEnds → CaseRows → List ℕ → ℕ → List Point
 family_points ends c held l = points_within c l ends (vector_of c l held) (vector_of c l held) (limits c l)
 

@@ -1,4 +1,4 @@
--- What the laws of plans say.
+-- The statements of the laws of plans.
 use Rattle.std.specs.Prelude.{◌≡◌, ℕ, ◌<◌, List, [], map, length, ◌↔◌, None, fold}
 use Rattle.fixed_interval.specs.Ends.{ends_add, ends_exact}
 use Rattle.hull.specs.declared.point.Point.{Point}
@@ -36,43 +36,43 @@ FamiliesAreEnclosed =
     (ends : ScoreEnds) (value : Value) (c : CaseRows) (held : List ℕ)
     → IsAcceptedCase c → EnclosesValue ends value → AreEnclosed (families_at ends value c held)
 
--- the points are those of the families, whatever the value
+-- the points are the families' points, whatever the value
 abbrev pub PointsAreTheFamilies : Type 0
 PointsAreTheFamilies =
     (ends : ScoreEnds) (value : Value) (c : CaseRows) (held : List ℕ)
     → map points_of (families_at ends value c held) ≡ case_points ends c held
 
--- and a curve may take them
+-- and they meet the requirements of a curve
 abbrev pub PointsAreInRange : Type 0
 PointsAreInRange =
     (ends : ScoreEnds) (c : CaseRows) (held : List ℕ) (l : ℕ) (v : Point)
     → IsAcceptedCase c → IsLine c l → LeavesRoom ends → Among v (family_points ends c held l) → InRange v
 
--- the stocks of a family's points tell them apart
+-- no two points of a family have the same stocks
 abbrev pub StocksTell : Type 0
 StocksTell = (ends : ScoreEnds) (c : CaseRows) (held : List ℕ) → StocksTellAll (case_points ends c held)
 
 -- ---- allocations
 
--- an allocation of the case is one of its families, with the same cost and the same aim
+-- an allocation of the case is an allocation of its families, with the same cost and the same aim
 pub record IsSameChoice (ends : ScoreEnds) (value : Value) (c : CaseRows) (held s : List ℕ) : Type 0 where
   pub allocation : families.IsAllocation (families_at ends value c held) (vectors_at c s)
   pub cost : cost_at (families_at ends value c held) (vectors_at c s) ≡ cost_beyond c held s
   pub total : (n : ℕ) → total_at n (families_at ends value c held) (vectors_at c s) ≡ aim value c s n
 
--- each allocation of the case is a choice of a vector from each family, at the same cost and aim
+-- each allocation of the case is a choice of a vector from each family, with the same cost and aim
 abbrev pub AllocationsAreChoices : Type 0
 AllocationsAreChoices =
     (ends : ScoreEnds) (value : Value) (c : CaseRows) (held s : List ℕ)
     → IsCase c → IsHeldAllocation c held s → IsSameChoice ends value c held s
 
--- and each one of its families is that of an allocation
+-- and each choice of vectors is the choice of an allocation
 pub record IsOfStocks (c : CaseRows) (held : List ℕ) (allocation : List (List ℕ)) : Type 0 where
   pub stocks : List ℕ
   pub is_allocation : IsHeldAllocation c held stocks
   pub vectors : vectors_at c stocks ≡ allocation
 
--- each choice of a vector from each family is that of an allocation of the case
+-- each choice of a vector from each family is the choice of an allocation of the case
 abbrev pub ChoicesAreAllocations : Type 0
 ChoicesAreAllocations =
     (ends : ScoreEnds) (value : Value) (c : CaseRows) (held : List ℕ) (allocation : List (List ℕ))
@@ -94,19 +94,19 @@ ClaimsAreTrue =
     → IsAcceptedCase c → EnclosesValue ends value
     → AreAcceptable ends c held budget x → AreTrueClaims value c held budget x
 
--- the same of weighted backorders where nothing is held, in the model's plain words
+-- the same for weighted backorders if nothing is held, in the model's plain words
 abbrev pub PlainPlansAreTrue : Type 0
 PlainPlansAreTrue =
     (c : CaseRows) (budget : ℕ) (p : CasePlan)
     → IsAcceptedCase c → IsCasePlan plain_ends c [] budget p → IsPlainPlan c budget p
 
--- acceptable claims of weighted backorders with nothing held are true in the model's plain words
+-- acceptable claims for weighted backorders with nothing held are true in the model's plain words
 abbrev pub PlainClaimsAreTrue : Type 0
 PlainClaimsAreTrue =
     (c : CaseRows) (budget : ℕ) (x : CaseClaims)
     → IsAcceptedCase c → AreAcceptable plain_ends c [] budget x → ArePlainClaims c budget x
 
--- the claims over the families' points
+-- the claims of the certificate over the families' points
 abbrev pub claims_at : ScoreEnds → CaseRows → List ℕ → CaseClaims → Claims
 claims_at ends c held x = record {
   chosen = points_at ends c held x.stocks;
@@ -116,7 +116,7 @@ claims_at ends c held x = record {
   bound = x.bound;
 }
 
--- they are acceptable for the case exactly where they are so over the points
+-- they are acceptable for the case exactly if they are acceptable over the points
 abbrev pub ClaimsAreOverPoints : Type 0
 ClaimsAreOverPoints =
     (ends : ScoreEnds) (c : CaseRows) (held : List ℕ) (budget : ℕ) (x : CaseClaims)
@@ -131,25 +131,25 @@ CasePlansAreOne =
 
 -- ---- how a plan is made
 
--- chosen points are those of the stocks that have their vectors
+-- chosen points are the points of the stocks that have their vectors
 abbrev pub ChosenAreOfStocks : Type 0
 ChosenAreOfStocks =
     (ends : ScoreEnds) (c : CaseRows) (held : List ℕ) (budget : ℕ) (chosen : List Point) (p : CasePlan)
     → IsPlan (case_points ends c held) budget chosen p.floors p.numbers → stocks_of chosen ≡ vectors_at c p.stocks
     → length p.stocks ≡ pair_count (frame_rows c) → IsCasePlan ends c held budget p
 
--- the least over the vertices of curves are the least over all points
+-- the least Lagrangians over the vertices of curves are the least over all points
 abbrev pub CurvesShowFloors : Type 0
 CurvesShowFloors =
     (families curves : List (List Point)) (price : Price) (floors : List ℕ)
     → 0 < price.q → AreCurves families curves → AreLeastFloors price curves floors
     → AreLeastFloors price families floors
 
--- nothing held is a vector of zeros
+-- if nothing is held, each vector of held stocks is zeros
 abbrev pub NothingHeld : Type 0
 NothingHeld = (c : CaseRows) (l : ℕ) → vector_of c l [] ≡ zeros c l
 
--- the plain scored totals are the families' totals, and their upper ends add up to that of the sum
+-- the plain scored totals are the families' totals, and their upper ends add up to the upper end of the sum
 abbrev pub UpperIsTotal : Type 0
 UpperIsTotal =
     (c : CaseRows) (s : List ℕ)

@@ -1,4 +1,4 @@
--- The plan of a case under a budget, and what plans and certificates say of the case.
+-- The plan of a case under a budget, and the statements that plans and certificates make about the case.
 use Rattle.std.specs.Prelude.{◌≡◌, ℕ, ◌+◌, ◌-◌, ◌*◌, ◌<◌, ◌≤◌, List, length, get_or, sum, Option, option_map}
 use Rattle.hull.specs.declared.price.Price.{Price}
 use Rattle.spares_input.specs.Cases.{CaseRows, frame_rows, pair_count}
@@ -15,7 +15,7 @@ use Rattle.fleet_model.specs.Aims.{Value, IsHeldAllocation, cost_beyond}
 use Rattle.fleet_model.specs.Bounds.{NoneHasLess, NoPriceShowsMore, HasNoMore}
 use Rattle.fleet_plan.specs.Families.{case_points, points_at, hi_at}
 
--- What a plan says: stocks by part and then by site, a floor for each family, and its numbers.
+-- The contents of a plan: stocks by part and then by site, a floor for each family, and its numbers.
 pub record CasePlan : Type 0 where
   pub stocks : List ℕ
   pub floors : List ℕ
@@ -25,16 +25,16 @@ pub record CasePlan : Type 0 where
 abbrev pub line_of_step : CaseRows → Critical → ℕ
 line_of_step c step = get_or (line_units c) step.family 0
 
--- the line unit of a plan's critical step, where there is one
+-- the line unit of a plan's critical step, if there is one
 abbrev pub critical_line : CaseRows → CasePlan → Option ℕ
 critical_line c p = option_map (line_of_step c) p.numbers.critical
 
--- It is the plan of all families' points from what is held to the limits.
+-- The plan is the plan of all families' points from the held stocks to the limits.
 pub record IsCasePlan (ends : ScoreEnds) (c : CaseRows) (held : List ℕ) (budget : ℕ) (p : CasePlan) : Type 0 where
   pub count : length p.stocks ≡ pair_count (frame_rows c)
   pub plan : IsPlan (case_points ends c held) budget (points_at ends c held p.stocks) p.floors p.numbers
 
--- What a certificate claims: stocks, a price with a floor for each family, an upper end and a bound.
+-- The claims of a certificate: stocks, a price with a floor for each family, an upper end and a bound.
 pub record CaseClaims : Type 0 where
   pub stocks : List ℕ
   pub price : Price
@@ -52,7 +52,7 @@ claims_of p = record {
   bound = p.numbers.bound;
 }
 
--- The claims follow: from the stocks, from floors that no point of a family is below at the price, and from one
+-- The claims follow from the stocks, from floors that lie under each point of their families at the price, and from one
 -- another.
 pub record AreAcceptable (ends : ScoreEnds) (c : CaseRows) (held : List ℕ) (budget : ℕ) (x : CaseClaims) : Type 0 where
   pub money : 0 < x.price.q
@@ -62,15 +62,15 @@ pub record AreAcceptable (ends : ScoreEnds) (c : CaseRows) (held : List ℕ) (bu
   pub upper_is : hi_at ends c x.stocks ≤ x.upper
   pub bound_is : x.bound ≤ bound_of x.price.p x.price.q (sum x.floors) budget
 
--- What acceptable claims say of the case: the stocks keep what is held and fit the budget, and their aim is at most the
--- upper end; no stocks within the budget have less than the bound.
+-- Acceptable claims say of the case: the stocks include the held ones and fit the budget, their aim is at most the
+-- upper end, and no stocks within the budget have an aim below the bound.
 pub record AreTrueClaims (value : Value) (c : CaseRows) (held : List ℕ) (budget : ℕ) (x : CaseClaims) : Type 0 where
   pub allocation : IsHeldAllocation c held x.stocks
   pub fits : cost_beyond c held x.stocks ≤ budget
   pub no_more : HasNoMore value c x.stocks x.upper
   pub none_less : NoneHasLess value c held budget x.bound
 
--- What a plan says of the case.
+-- The statements of a plan about the case.
 pub record IsTruePlan (ends : ScoreEnds) (value : Value) (c : CaseRows) (held : List ℕ) (budget : ℕ) (p : CasePlan)
     : Type 0 where
   pub allocation : IsHeldAllocation c held p.stocks
@@ -85,11 +85,11 @@ pub record IsTruePlan (ends : ScoreEnds) (value : Value) (c : CaseRows) (held : 
       ≤ p.numbers.price.p * (budget - p.numbers.hull_cost) + p.numbers.price.q * p.numbers.rounding
   -- the claims of its certificate are acceptable
   pub certificate : AreAcceptable ends c held budget (claims_of p)
-  -- and no acceptable claims of this case and this budget have a bound above its own by more than the rounding
+  -- and no acceptable claims for this case and this budget have a bound more than the rounding above its own
   pub no_claims : (x : CaseClaims) → AreAcceptable ends c held budget x
       → x.bound ≤ p.numbers.bound + p.numbers.rounding
 
--- The same of weighted backorders where nothing is held, in the words of the model alone.
+-- The same for weighted backorders if nothing is held, in the words of the model alone.
 pub record IsPlainPlan (c : CaseRows) (budget : ℕ) (p : CasePlan) : Type 0 where
   pub allocation : IsAllocation c p.stocks
   pub cost_is : p.numbers.cost ≡ cost c p.stocks
@@ -99,8 +99,8 @@ pub record IsPlainPlan (c : CaseRows) (budget : ℕ) (p : CasePlan) : Type 0 whe
   pub gap : p.numbers.bound + p.numbers.gap ≡ p.numbers.upper
   pub no_more : HasAtMost c p.stocks p.numbers.upper
 
--- what such claims say: an allocation within the budget, with backorders up to the upper end,
--- and none within the budget has fewer than the bound
+-- Such claims say: an allocation within the budget has at most the backorders of the upper end, and no allocation
+-- within the budget has fewer than the bound.
 pub record ArePlainClaims (c : CaseRows) (budget : ℕ) (x : CaseClaims) : Type 0 where
   pub allocation : IsAllocation c x.stocks
   pub fits : cost c x.stocks ≤ budget

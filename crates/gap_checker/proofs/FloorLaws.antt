@@ -11,7 +11,8 @@ use Rattle.family_curve.specs.Vectors.{places, vectors}
 use Rattle.gap_checker.specs.declared.leaf.Leaf.{Leaf}
 use Rattle.gap_checker.specs.declared.leaf.Leaf.TheVariants as leaf
 use Rattle.gap_checker.specs.Covers.{box_of, IsIn}
-use Rattle.gap_checker.specs.Values.{least, least_within, value_of}
+use Rattle.family_curve.specs.Least.{least}
+use Rattle.gap_checker.specs.Values.{least_within, value_of}
 use Rattle.gap_checker.specs.Laws.{FloorsHold}
 use Rattle.gap_checker.proofs.Boxes.{added_more}
 use Rattle.gap_checker.proofs.AmongLaws.{IsBetween, among_vectors, between}

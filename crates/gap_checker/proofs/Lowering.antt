@@ -1,6 +1,7 @@
 -- How the first low leaf is found, node by node.
-use Rattle.std.proofs.Common.{◌≡◌, ℕ, ◌+◌, ◌<◌, ◌≤◌, nat_lt, List, [], ◌∷◌, length, drop, get_or, reverse, Some, None, sym, ap, ◌∙◌, arith, lt-ltb, le-ltb}
+use Rattle.std.proofs.Common.{◌≡◌, ℕ, ◌+◌, ◌<◌, ◌≤◌, nat_lt, inl, inr, List, [], ◌∷◌, length, drop, get_or, reverse, Some, None, refl, sym, ap, ◌∙◌, arith, lt-ltb, le-ltb}
 use Rattle.std.specs.Prelude.{if◌then◌else◌, unwrap_or}
+use Rattle.std.proofs.lemmas.Bool.{cases_lt}
 use Rattle.std.proofs.lemmas.List.Sums.{sum_by-cons}
 use Rattle.std.proofs.lemmas.List.{drop_all}
 use Rattle.spares_input.specs.Cases.{CaseRows}
@@ -11,7 +12,7 @@ use Rattle.gap_checker.specs.declared.leaf.Leaf.{Leaf}
 use Rattle.gap_checker.specs.declared.reading.Read.{Read}
 use Rattle.gap_checker.specs.declared.reading.Read.TheVariants as read
 use Rattle.gap_checker.specs.Covers.{leaves}
-use Rattle.gap_checker.specs.Values.{leaf_tables, cover_tables}
+use Rattle.gap_checker.specs.Values.{below, leaf_tables, cover_tables}
 use Rattle.gap_checker.specs.Reading.{joined, Reads, AllOrdered, KeepsOrder}
 use Rattle.gap_checker.specs.Refusals.{low_leaf}
 use Rattle.gap_checker.proofs.Trees.{IsCons, cons_of}
@@ -29,6 +30,38 @@ pub record Lowering (c : CaseRows) (l : ℕ) (value : Leaf → ℕ) (floor : ℕ
   pub work : cover_tables c l rest ≤ 1000000
   pub ordered : AllOrdered c l waiting
   pub few : number ≤ k
+
+-- a value that is told to be below the floor is the value, and is
+pub below_some : (floor value worth : ℕ) → Some worth ≡ below floor value → (worth ≡ value) × (worth < floor)
+below_some floor value worth e = elim (cases_lt value floor) [
+  | inl l ↦ (let s : Some worth ≡ Some value = e ∙ ap (λ t. if t then Some value else None) (lt-ltb value floor l) in
+      let w : worth ≡ value = same s in (w, omega (arith, w, l)))
+  | inr l ↦ absurd (let s : Some worth ≡ None = e ∙ ap (λ t. if t then Some value else None) (le-ltb value floor l) in none s)
+]
+  where
+    same : {a b : ℕ} → Some a ≡ Some b → a ≡ b
+    same h = (cc)
+
+    none : {a : ℕ} → Some a ≡ None → ⊥
+    none h = (cc)
+
+-- where none is told it isn't
+pub below_none : (floor value : ℕ) → None ≡ below floor value → floor ≤ value
+below_none floor value e = elim (cases_lt value floor) [
+  | inl l ↦ absurd (let s : None ≡ Some value = e ∙ ap (λ t. if t then Some value else None) (lt-ltb value floor l) in none s)
+  | inr l ↦ l
+]
+  where
+    none : {a : ℕ} → None ≡ Some a → ⊥
+    none h = (cc)
+
+-- what is told of a value
+pub below_is : (floor value : ℕ) → value < floor → Some value ≡ below floor value
+below_is floor value l = sym (ap (λ t. if t then Some value else None) (lt-ltb value floor l))
+
+-- a value of at least the floor is not below it
+pub below_isnt : (floor value : ℕ) → floor ≤ value → None ≡ below floor value
+below_isnt floor value l = sym (ap (λ t. if t then Some value else None) (le-ltb value floor l))
 
 module _ (c : CaseRows) (l : ℕ) (value : Leaf → ℕ) (floor : ℕ) (bounds : Bounds) (nodes : List Node) where
   module _ (k : ℕ) (before after : List Bounds) (r : Read) (number : ℕ) (h : Lowering c l value floor bounds nodes k before number) (b : k < length nodes)
@@ -69,6 +102,10 @@ module _ (c : CaseRows) (l : ℕ) (value : Leaf → ℕ) (floor : ℕ) (bounds :
           ∙ sym (ap (λ t. if t then Some (number, value x) else low_leaf value floor (number + 1) own_cons.rest) (lt-ltb (value x) floor (omega (arith, w, less))))
           ∙ own_low
 
+      -- a value that is told is that of a leaf below the floor
+      pub lower_told : (worth : ℕ) → Some worth ≡ below floor (value x) → Some (number, worth) ≡ low_leaf value floor 0 (all_leaves nodes bounds)
+      lower_told worth w = let r = below_some floor (value x) worth w in lower_found worth r.0 r.1
+
       -- behind a leaf that isn't below the floor the next leaf has the next number
       pub lower_more : (worth : ℕ) → worth ≡ value x → floor ≤ worth → Lowering c l value floor bounds nodes (k + 1) after (number + 1)
       lower_more worth w most = record {
@@ -79,6 +116,10 @@ module _ (c : CaseRows) (l : ℕ) (value : Leaf → ℕ) (floor : ℕ) (bounds :
         ordered = (keeps c l h.ordered).0;
         few = (let f = h.few in omega (arith, f));
       }
+
+      -- behind a leaf of which nothing is told the next leaf has the next number
+      pub lower_untold : None ≡ below floor (value x) → Lowering c l value floor bounds nodes (k + 1) after (number + 1)
+      lower_untold e = lower_more (value x) refl (below_none floor (value x) e)
 
   none_rest : (waiting : List Bounds) (rest : List Leaf) → leaves [] waiting ≡ Some rest → [] ≡ rest
   unfolding leaves

@@ -1,18 +1,14 @@
--- The curve of one vector, and the sum of the upper ends.
-use Rattle.std.proofs.Common.{◌≡◌, ℕ, zero, suc, ◌+◌, ◌<◌, ◌≤◌, List, [], ◌∷◌, map, length, drop, get_or, refl, sym, ap, ap₂, ◌∙◌, subst, arith}
+-- The point of a box of one vector, and the sum of the upper ends.
+use Rattle.std.proofs.Common.{◌≡◌, ℕ, zero, suc, ◌+◌, ◌<◌, List, [], ◌∷◌, map, length, drop, get_or, refl, sym, ap, ap₂, ◌∙◌, subst, arith}
 use Rattle.hull.specs.declared.point.Point.{Point}
-use Rattle.hull.specs.Curves.{Among, IsCurve, point_at}
+use Rattle.hull.specs.Curves.{Among}
 use Rattle.hull.proofs.Members.{Mapped, among_mapped}
-use Rattle.spares_input.specs.Cases.{CaseRows, IsCase}
+use Rattle.spares_input.specs.Cases.{CaseRows}
 use Rattle.price_bounds.specs.Sums.{hi_of}
-use Rattle.family_eval.specs.Inputs.{IsLine}
 use Rattle.gap_checker.specs.Boxes.{AtMost, IsOrdered}
 use Rattle.family_curve.specs.Vectors.{vectors, limits}
-use Rattle.family_curve.specs.Points.{point_at_vector, points_within, ScoreEnds}
-use Rattle.family_curve.specs.Counts.{tables_between}
-use Rattle.family_curve.proofs.Single.{one_vector}
+use Rattle.family_curve.specs.Points.{HasUpper, point_at_vector, points_within, ScoreEnds}
 use Rattle.gap_checker.proofs.AmongLaws.{IsBetween, between}
-use Rattle.gap_checker.proofs.Leasts.{vertex_among}
 use Rattle.gap_checker.proofs.Boxes.{at_most_self}
 
 at_most_same : (a b : List ℕ) → AtMost a b → AtMost b a → a ≡ b
@@ -30,13 +26,14 @@ only_point c l score held v w m =
     let b : IsBetween v r.from v = between v v r.from r.there in
     r.is ∙ ap (point_at_vector c l score held) (at_most_same r.from v b.high b.low)
 
--- the first vertex of a box of one vector has that vector's upper end
-pub one_curve : (c : CaseRows) (l : ℕ) (score : ScoreEnds) (held low high a v : List ℕ) (curve : List Point) (p : Point) → held ≡ a → low ≡ v → high ≡ v
-    → IsCurve (points_within c l score held low high) curve → 0 < length curve → p ≡ point_at curve 0 → p.hi ≡ (point_at_vector c l score a v).hi
-one_curve c l score held low high a v curve p h e f is some q =
-    let own : IsCurve (points_within c l score a v v) curve =
-    subst (λ x. IsCurve (points_within c l score x v v) curve) h (subst (λ x. IsCurve (points_within c l score held x v) curve) e (subst (λ x. IsCurve (points_within c l score held low x) curve) f is)) in
-    ap (λ (z : Point). z.hi) (only_point c l score a v p (own.among p (vertex_among curve 0 p q some)))
+-- the upper end of a point of a box of one vector is the vector's
+pub one_upper : (c : CaseRows) (l : ℕ) (score : ScoreEnds) (held low high a v : List ℕ) (hi : ℕ) → held ≡ a → low ≡ v → high ≡ v
+    → HasUpper (points_within c l score held low high) hi → hi ≡ (point_at_vector c l score a v).hi
+one_upper c l score held low high a v hi h e f is =
+    let own : HasUpper (points_within c l score a v v) hi =
+    subst (λ x. HasUpper (points_within c l score x v v) hi) h (subst (λ x. HasUpper (points_within c l score held x v) hi) e
+    (subst (λ x. HasUpper (points_within c l score held low x) hi) f is)) in
+    sym own.2 ∙ ap (λ (z : Point). z.hi) (only_point c l score a v own.0 own.1)
 
 -- a box of one vector is in order where the vector lies between what is held and the limits
 pub one_ordered : (c : CaseRows) (l : ℕ) (held low high a v : List ℕ) → held ≡ a → low ≡ v → high ≡ v → AtMost a v → AtMost v (limits c l) → IsOrdered c l (record { held = held; low = low; high = high })
@@ -45,10 +42,6 @@ one_ordered c l held low high a v h e f order limit = record {
   low_least = subst (λ x. AtMost x high) (sym e) (subst (λ x. AtMost v x) (sym f) (at_most_self v));
   within = subst (λ x. AtMost x (limits c l)) (sym f) limit;
 }
-
--- a box of one vector takes few enough tables
-pub one_work : (c : CaseRows) (l : ℕ) (low high v : List ℕ) → low ≡ v → high ≡ v → IsCase c → IsLine c l → tables_between c l low high ≤ 1000000
-one_work c l low high v e f valid line = subst (λ x. tables_between c l x high ≤ 1000000) (sym e) (subst (λ x. tables_between c l v x ≤ 1000000) (sym f) (let t = one_vector c l v valid line in omega (arith, t)))
 
 -- the upper ends from family f on are that of f and those behind it
 pub hi_next : (g : ℕ → Point) (ls : List ℕ) (f : ℕ) → f < length ls → hi_of (map g (drop f ls)) ≡ (g (get_or ls f 0)).hi + hi_of (map g (drop (f + 1) ls))

@@ -5,10 +5,10 @@ use Rattle.spares_input.specs.Cases.{CaseRows}
 use Rattle.family_curve.specs.declared.bounds.Bounds.{Bounds}
 use Rattle.family_curve.specs.Points.{AreOrdered}
 
--- the vectors are of one length, and at each place the first has no more than the second
+-- the vectors have the same length, and at each place the first has no more than the second
 abbrev pub AtMost : List ℕ → List ℕ → Type 0
 AtMost xs ys = AllZip (λ x y. x ≤ y) xs ys
 
--- what is held is at most the low corner of a box, that at most the high one, and that is within the limits
+-- the held stocks are at most the low corner of a box, the low corner at most the high one, and this within the limits
 abbrev pub IsOrdered : CaseRows → ℕ → Bounds → Type 0
 IsOrdered c l box = AreOrdered c l box.held box.low box.high

@@ -8,11 +8,11 @@ use Rattle.price_certificate.specs.declared.certificate.Node.TheVariants.{Split,
 use Rattle.gap_checker.specs.declared.leaf.Leaf.{Leaf}
 use Rattle.gap_checker.specs.declared.leaf.Leaf.TheVariants as leaf
 
--- the part of a box whose vectors have fewer than `from` at a place
+-- the part of a box whose vectors have fewer than `from` at this place
 abbrev pub fewer : Bounds → ℕ → ℕ → Bounds
 fewer box at from = record { held = box.held; low = box.low; high = set box.high at (from - 1) }
 
--- the part of a box whose vectors have `from` or more at a place
+-- the part of a box whose vectors have `from` or more at this place
 abbrev pub as_many : Bounds → ℕ → ℕ → Bounds
 as_many box at from = record { held = box.held; low = set box.low at from; high = box.high }
 
@@ -20,8 +20,8 @@ as_many box at from = record { held = box.held; low = set box.low at from; high 
 abbrev pub has_parts : Bounds → ℕ → ℕ → Bool
 has_parts box at from = nat_lt (get_or box.low at 0) from && nat_le from (get_or box.high at 0)
 
--- The leaves of nodes that are read in preorder, while these boxes wait for theirs, the next one first. None where a
--- split has no parts, where a node has no box, and where a box has no node.
+-- The leaves of nodes in preorder, for these waiting boxes, the next one first. None if a split has no parts, if a node
+-- has no box, or if a box has no node.
 unfoldable pub leaves : List Node → List Bounds → Option (List Leaf)
 leaves [] [] = Some []
 leaves [] (box ∷ boxes) = None

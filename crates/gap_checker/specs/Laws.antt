@@ -1,4 +1,4 @@
--- What a cover and an accepted certificate show.
+-- The laws of covers and accepted certificates.
 use Rattle.std.specs.Prelude.{◌≡◌, ℕ, ◌≤◌, List, [], ◌∷◌, map, Some, None}
 use Rattle.hull.specs.declared.point.Point.{Point}
 use Rattle.hull.specs.declared.price.Price.{Price}
@@ -18,13 +18,13 @@ use Rattle.gap_checker.specs.Covers.{leaves, box_of, IsIn}
 use Rattle.gap_checker.specs.Values.{value_of}
 use Rattle.gap_checker.specs.Refusals.{reject_of, chosen_of}
 
--- a leaf that has the vector
+-- a leaf with the vector
 pub record HasLeaf (ls : List Leaf) (v : List ℕ) : Type 0 where
   pub leaf : Leaf
   pub among : Among leaf ls
   pub inside : IsIn v (box_of leaf)
 
--- Each vector of a box lies in a leaf of each tree of it.
+-- Each vector of a box lies in a leaf of each tree of the box.
 abbrev pub LeavesCover : Type 0
 LeavesCover = (nodes : List Node) (box : Bounds) (ls : List Leaf) (v : List ℕ) → leaves nodes (box ∷ []) ≡ Some ls
     → IsIn v box → HasLeaf ls v
@@ -40,19 +40,19 @@ abbrev pub LeavesAreApart : Type 0
 LeavesAreApart = (nodes : List Node) (box : Bounds) (ls : List Leaf) → leaves nodes (box ∷ []) ≡ Some ls
     → AreApart (map box_of ls)
 
--- A floor that no leaf's value is below is at most the Lagrangian of each vector.
+-- If a floor is at most each leaf's value, it is at most the Lagrangian of each vector.
 abbrev pub FloorsHold : Type 0
 FloorsHold = (score : ScoreEnds) (c : CaseRows) (l : ℕ) (price : Price) (nodes : List Node) (box : Bounds)
     (ls : List Leaf) (floor : ℕ)
     → leaves nodes (box ∷ []) ≡ Some ls → ((x : Leaf) → Among x ls → floor ≤ value_of c l score price x)
     → (w : Point) → Among w (points_within c l score box.held box.low box.high) → floor ≤ lagrangian price.p price.q w
 
--- the points of all families, from what is held to the limits
+-- the points of all families, from the held stocks to the limits
 abbrev pub families_of : ScoreEnds → CaseRows → StockList → List (List Point)
 families_of score c held = map (λ l. points_within c l score (vector_of c l held.list) (vector_of c l held.list)
     (limits c l)) (line_units c)
 
--- what a certificate claims: its chosen points, price, floors, upper end and bound
+-- the claims of a certificate: its chosen points, price, floors, upper end and bound
 abbrev pub claims_of : ScoreEnds → Certificate → StockList → Claims
 claims_of score cert held = record {
   chosen = chosen_of score cert held;

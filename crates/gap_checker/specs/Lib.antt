@@ -6,3 +6,4 @@ pub mod Laws
 pub mod Reading
 pub mod Trees
 pub mod Soundness
+pub mod Scores

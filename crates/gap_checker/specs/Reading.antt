@@ -1,4 +1,4 @@
--- What reading a node makes of the boxes that wait, of which the last is the next.
+-- The waiting boxes before and after each node; the last box is the next.
 use Rattle.std.specs.Prelude.{◌≡◌, ℕ, List, ◌∷◌, reverse, Option, Some, None, if◌then◌else◌}
 use Rattle.std.specs.Option.{option_map}
 use Rattle.hull.specs.Curves.{Among}
@@ -11,32 +11,32 @@ use Rattle.gap_checker.specs.declared.reading.Read.{Read}
 use Rattle.gap_checker.specs.declared.reading.Read.TheVariants as read
 use Rattle.gap_checker.specs.Covers.{leaves, box_of, fewer, as_many, has_parts}
 
--- the two parts of a box, where both have vectors
+-- the two parts of a box, if both have vectors
 abbrev pub parts_at : Bounds → ℕ → ℕ → Option (Bounds × Bounds)
 parts_at box at from = if has_parts box at from then Some (fewer box at from, as_many box at from) else None
 
--- the leaves of a node and those after it, from the leaves after it
+-- the leaves of a node and of the nodes after it, from the latter
 abbrev pub joined : Read → Option (List Leaf) → Option (List Leaf)
 joined read.Gap rest = None
 joined read.Inner rest = rest
 joined (read.Leaf x) rest = option_map (λ ls. x ∷ ls) rest
 
--- reading the node turns the boxes that wait into those after it, and gives this leaf, a gap or none
+-- reading the node changes the waiting boxes from `before` to `after`, and its kind is a leaf, a gap or a split
 abbrev pub Reads : List Bounds → Node → Read → List Bounds → Type 0
 Reads before node read after = (nodes : List Node)
     → leaves (node ∷ nodes) (reverse before) ≡ joined read (leaves nodes (reverse after))
 
--- all boxes are within the limits and what is held
+-- all boxes are ordered: from the held stocks on and within the limits
 abbrev pub AllOrdered : CaseRows → ℕ → List Bounds → Type 0
 AllOrdered c l boxes = (box : Bounds) → Among box boxes → IsOrdered c l box
 
--- so is the box of a leaf that was read
+-- the box of a leaf is ordered
 abbrev pub IsOrderedRead : CaseRows → ℕ → Read → Type 0
 IsOrderedRead c l (read.Leaf x) = IsOrdered c l (box_of x)
 IsOrderedRead c l read.Inner = Unit {0}
 IsOrderedRead c l read.Gap = Unit {0}
 
--- where the boxes that wait are in order, so are those after it, and the leaf that was read
+-- if the waiting boxes are ordered before a node, so are the boxes after it and the box of its leaf
 abbrev pub KeepsOrder : List Bounds → Read → List Bounds → Type 0
 KeepsOrder before read after = (c : CaseRows) (l : ℕ) → AllOrdered c l before → AllOrdered c l after
     × IsOrderedRead c l read

@@ -1,4 +1,5 @@
--- The first rule that a certificate breaks. What is held is a number for each pair; costs count what is added to it.
+-- The first rule that a certificate breaks. The held stocks have a number for each pair; costs count the stocks above
+-- them.
 use Rattle.std.specs.Prelude.{◌==◌, ℕ, ◌+◌, ◌-◌, nat_lt, List, [], ◌∷◌, length, map, get_or, sum, sum_by, Option, Some, None, is_none, unwrap_or, Result, if◌then◌else◌}
 use Rattle.std.specs.List.{range_with_len}
 use Rattle.std.specs.Option.{option_map}
@@ -27,7 +28,7 @@ use Rattle.gap_checker.specs.Values.{value_of, cover_tables}
 
 -- ---- covers
 
--- how many families a case has
+-- the count of families of a case
 abbrev pub family_count : CaseRows → ℕ
 family_count c = length (line_units c)
 
@@ -35,23 +36,23 @@ family_count c = length (line_units c)
 abbrev pub line_at : CaseRows → ℕ → ℕ
 line_at c f = get_or (line_units c) f 0
 
--- all vectors of a family from what is held to the limits
+-- all vectors of a family from the held stocks to the limits
 abbrev pub box_from : CaseRows → ℕ → List ℕ → Bounds
 box_from c l held = record { held = vector_of c l held; low = vector_of c l held; high = limits c l }
 
--- the nodes of a family's cover; format 1 has none, and there each family is one whole leaf
+-- the nodes of a family's cover; format 1 has none, and each family is one whole leaf
 abbrev pub nodes_of : Certificate → ℕ → List Node
 nodes_of cert f = if cert.format == 2 then get_or cert.covers f [] else Whole ∷ []
 
--- the leaves of family f, where its nodes are a tree
+-- the leaves of family f, if its nodes are a tree
 unfoldable pub cover_of : Certificate → StockList → ℕ → Option (List Leaf)
 cover_of cert held f = leaves (nodes_of cert f) (box_from cert.case (line_at cert.case f) held.list ∷ [])
 
--- the leaves of family f, none where its nodes are no tree
+-- the leaves of family f, or none if its nodes aren't a tree
 abbrev pub family_leaves : Certificate → StockList → ℕ → List Leaf
 family_leaves cert held f = unwrap_or (cover_of cert held f) []
 
--- the reject of family f where its nodes are no tree of its box
+-- the reject of family f if its nodes aren't a tree of its box
 abbrev pub gap_at : Certificate → StockList → ℕ → Option Reject
 gap_at cert held f = if is_none (cover_of cert held f) then Some (reject.CoverGap f) else None
 
@@ -63,13 +64,13 @@ family_tables cert held f = cover_tables cert.case (line_at cert.case f) (family
 abbrev pub tables_of_first : Certificate → StockList → ℕ → ℕ
 tables_of_first cert held n = sum_by (family_tables cert held) (range_with_len 0 n)
 
--- those of all families, as a count
+-- the tables of the whole leaves of all families, as a count
 abbrev pub work_of : Certificate → StockList → ℕ
 work_of cert held = count64 (tables_of_first cert held (family_count cert.case))
 
 -- ---- stocks
 
--- the reject of the pair at place i where its stock is over its limit
+-- the reject of pair i if its stock is over its limit
 abbrev pub over_limit : CaseRows → StockList → ℕ → Option Reject
 over_limit c s i =
     if nat_lt (limit_at c.parts (part_of_place (length c.sites) i).0 (site_of_place (length c.sites) i).0)
@@ -78,7 +79,7 @@ over_limit c s i =
     (get_or s.list i 0))
     else None
 
--- the reject of the pair at place i where its stock is below what is held there
+-- the reject of pair i if its stock is below its held stock
 abbrev pub below_held : CaseRows → StockList → StockList → ℕ → Option Reject
 below_held c held s i =
     if nat_lt (get_or s.list i 0) (get_or held.list i 0)
@@ -86,18 +87,18 @@ below_held c held s i =
     (get_or s.list i 0))
     else None
 
--- what stocks cost above the cost of what is held
+-- the cost of stocks above the cost of the held ones
 abbrev pub cost_above : CaseRows → StockList → StockList → ℕ
 cost_above c held s = cost_of c s - cost_of c held
 
 -- ---- floors, upper end and bound
 
--- a leaf of family f whose value is below the claimed floor; in format 1 it is the family itself
+-- the reject of a leaf of family f whose value is below the claimed floor; in format 1 it names the family
 abbrev pub too_low : ℕ → ℕ → ℕ → ℕ → ℕ → Reject
 too_low format f k floor value = if format == 2 then reject.LeafTooLow f k floor value
     else reject.FloorTooHigh f floor value
 
--- of leaves that are numbered from k on, the first whose value is below the floor
+-- the first leaf whose value is below the floor, with its value; the leaves are numbered from k on
 unfoldable pub low_leaf : (Leaf → ℕ) → ℕ → ℕ → List Leaf → Option (ℕ × ℕ)
 low_leaf value floor k [] = None
 low_leaf value floor k (x ∷ xs) = if nat_lt (value x) floor then Some (k, value x) else low_leaf value floor (k + 1) xs
@@ -146,7 +147,7 @@ module _ (score : ScoreEnds) where
       ∷ (if nat_lt (largest_of cert) cert.bound then Some (reject.BoundTooHigh cert.bound (largest_of cert)) else None)
       ∷ [])
 
-  -- what is answered
+  -- the answer of a check
   abbrev pub judged : Certificate → StockList → Result Accepted Reject
   judged cert held = unless (reject_of cert held)
       (record { bound = cert.bound; upper = cert.upper; cost = cost_above cert.case held cert.stocks })

@@ -1,4 +1,4 @@
--- What an accepted certificate promises of all allocations, at each depth of the model.
+-- The promises of an accepted certificate about all allocations, at each depth of the model.
 use Rattle.std.specs.Prelude.{◌≡◌, ℕ, List, map, None}
 use Rattle.exact_model.specs.Fraction.{Fraction}
 use Rattle.spares_input.specs.Cases.{CaseRows, IsCase}
@@ -13,8 +13,8 @@ use Rattle.price_certificate.specs.Certificates.{IsWellFormed}
 use Rattle.gap_checker.specs.Refusals.{reject_of}
 use Rattle.gap_checker.specs.Laws.{claims_of}
 
--- The family of the line unit l from what is held on, where a score's value at each depth is given for each vector.
--- Its cost is what is added to what is held.
+-- The family of the line unit l from the held stocks on, with a score's value for each depth and each vector. Its costs
+-- count the stocks above the held ones.
 abbrev pub family_model : ScoreEnds → (ℕ → ℕ → List ℕ → Fraction) → CaseRows → StockList → ℕ → Family
 family_model score value c held l = record {
   vectors = vectors (vector_of c l held.list) (limits c l);
@@ -24,12 +24,12 @@ family_model score value c held l = record {
   backorders = value l;
 }
 
--- the families of all line units of the case, from what is held on
+-- the families of all line units of the case, from the held stocks on
 abbrev pub models_of : ScoreEnds → (ℕ → ℕ → List ℕ → Fraction) → CaseRows → StockList → List Family
 models_of score value c held = map (family_model score value c held) (line_units c)
 
--- Where the score's intervals enclose its values, a certificate that breaks no rule is sound: its stocks fit the
--- budget and have no more than its upper end, and no allocation within the budget has fewer than its bound.
+-- If the score's intervals enclose its values, a certificate that breaks no rule is sound: its stocks fit the budget
+-- and have at most its upper end, and no allocation within the budget has less than its bound.
 abbrev pub AcceptedAreSound : Type 0
 AcceptedAreSound = (score : ScoreEnds) (value : ℕ → ℕ → List ℕ → Fraction) (cert : Certificate)
     (held : StockList) → IsCase cert.case → IsWellFormed cert

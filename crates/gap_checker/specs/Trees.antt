@@ -1,4 +1,4 @@
--- Trees of boxes, as an auditor draws them, and what is read from their nodes in preorder.
+-- Trees of boxes, as an auditor draws them, and the reading of their nodes in preorder.
 use Rattle.std.specs.Prelude.{◌≡◌, true, List, [], ◌∷◌, ◌++◌, Some}
 use Rattle.family_curve.specs.declared.bounds.Bounds.{Bounds}
 use Rattle.price_certificate.specs.declared.certificate.Node.{Node}
@@ -8,7 +8,7 @@ use Rattle.gap_checker.specs.declared.leaf.Leaf.{Leaf}
 use Rattle.gap_checker.specs.declared.leaf.Leaf.TheVariants as leaf
 use Rattle.gap_checker.specs.Covers.{leaves, fewer, as_many, has_parts}
 
--- each split has both its parts
+-- each split has both of its parts
 unfoldable pub IsLawful : Tree → Bounds → Type 0
 IsLawful cover.Cost box = Unit {0}
 IsLawful cover.Whole box = Unit {0}
@@ -21,7 +21,7 @@ leaves_of cover.Cost box = leaf.Cost box ∷ []
 leaves_of cover.Whole box = leaf.Whole box ∷ []
 leaves_of (cover.Cut at from one other) box = leaves_of one (fewer box at from) ++ leaves_of other (as_many box at from)
 
--- nodes are those of a lawful tree of the box, with these leaves
+-- the nodes are the preorder of a lawful tree of the box, with these leaves
 pub record IsTreeOf (nodes : List Node) (box : Bounds) (ls : List Leaf) : Type 0 where
   pub tree : Tree
   pub lawful : IsLawful tree box
@@ -33,7 +33,7 @@ abbrev pub TreesAreRead : Type 0
 TreesAreRead = (tree : Tree) (box : Bounds) → IsLawful tree box
     → leaves (nodes_of tree) (box ∷ []) ≡ Some (leaves_of tree box)
 
--- and nothing else is read.
+-- and no other nodes are read.
 abbrev pub OnlyTreesAreRead : Type 0
 OnlyTreesAreRead = (nodes : List Node) (box : Bounds) (ls : List Leaf) → leaves nodes (box ∷ []) ≡ Some ls
     → IsTreeOf nodes box ls

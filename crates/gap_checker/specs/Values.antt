@@ -1,20 +1,14 @@
 -- What a leaf shows of its vectors' Lagrangians, and how many tables that takes.
-use Rattle.std.specs.Prelude.{ℕ, ◌*◌, min, List, [], ◌∷◌, sum_by}
-use Rattle.hull.specs.declared.point.Point.{Point}
+use Rattle.std.specs.Prelude.{ℕ, ◌*◌, nat_lt, List, sum_by, Option, Some, None, if◌then◌else◌}
 use Rattle.hull.specs.declared.price.Price.{Price}
 use Rattle.hull.specs.Curves.{lagrangian}
 use Rattle.spares_input.specs.Cases.{CaseRows}
 use Rattle.family_curve.specs.declared.bounds.Bounds.{Bounds}
 use Rattle.family_curve.specs.Points.{added_cost, points_within, ScoreEnds}
+use Rattle.family_curve.specs.Least.{least}
 use Rattle.family_curve.specs.Counts.{tables_between}
 use Rattle.gap_checker.specs.declared.leaf.Leaf.{Leaf}
 use Rattle.gap_checker.specs.declared.leaf.Leaf.TheVariants as leaf
-
--- the least of a number of each point
-abbrev pub least : (Point → ℕ) → List Point → ℕ
-least f [] = 0
-least f (v ∷ []) = f v
-least f (v ∷ w ∷ rest) = min (f v) (least f (w ∷ rest))
 
 -- the least Lagrangian of the vectors of a box of the family of the line unit l
 unfoldable pub least_within : CaseRows → ℕ → ScoreEnds → Price → Bounds → ℕ
@@ -25,6 +19,10 @@ least_within c l score price box = least (lagrangian price.p price.q)
 unfoldable pub value_of : CaseRows → ℕ → ScoreEnds → Price → Leaf → ℕ
 value_of c l score price (leaf.Cost box) = price.p * added_cost c l box.held box.low
 value_of c l score price (leaf.Whole box) = least_within c l score price box
+
+-- a value, where it is below the floor
+abbrev pub below : ℕ → ℕ → Option ℕ
+below floor value = if nat_lt value floor then Some value else None
 
 -- the tables that it takes
 unfoldable pub leaf_tables : CaseRows → ℕ → Leaf → ℕ

@@ -1,4 +1,4 @@
-//! The bound that claimed floors give.
+//! The largest bound that claimed floors show.
 
 ghost use Rattle.std.specs.Prelude.{◌≡◌, ◌^◌, ◌<◌, ◌≤◌, All, length, sum};
 ghost use Rattle.spares_input.specs.Money.{most_budget};

@@ -1,6 +1,6 @@
 //! The check of a certificate.
 
-ghost use Rattle.std.specs.Prelude.{◌≡◌, IfOk};
+ghost use Rattle.std.specs.Prelude.{IfOk};
 ghost use Rattle.std.specs.Option.{option_map};
 ghost use Rattle.spares_io.specs.Answers.{Gives};
 ghost use Rattle.spares_input.specs.Building.{StopsAt};
@@ -10,8 +10,7 @@ ghost use Rattle.demand_rates.specs.Rates.{AreRatesOf};
 ghost use Rattle.price_certificate.specs.Certificates.{IsWellFormed};
 ghost use Rattle.gap_checker.specs.declared.refusal.Reject.TheVariants as reject;
 ghost use Rattle.gap_checker.specs.Refusals.{judged};
-ghost use Rattle.price_certificate.specs.declared.certificate.Objective.TheVariants as objective;
-ghost use Rattle.family_curve.specs.Points.{plain_ends};
+ghost use Rattle.gap_checker.specs.Scores.{ends_of};
 
 use crate::bound::largest_bound;
 use crate::covers::work_of;
@@ -24,7 +23,8 @@ use demand_rates::rates;
 use family_curve::MOST_TABLES;
 use family_eval::line_units;
 use hull::{Plain, Score};
-use price_certificate::Certificate;
+use log_loss::LogLoss;
+use price_certificate::{Certificate, Objective};
 use spares_input::{Case, Stocks, nothing_held};
 use spares_io::{NoMemory, Stop};
 use std::alloc::Global;
@@ -101,12 +101,14 @@ pub fn check_within<S: Score>(
     })
 }
 
-/// Checks a certificate of weighted backorders where nothing is held, as [`check_within`] does.
+/// Checks a certificate that has no stocks on hand, by the score of its objective, as [`check_within`] does.
 pub fn check(alloc: Global, cert: &Certificate) -> Result<Accepted, Stop<Reject>>
-    requires formed { IsWellFormed cert.now }
-    requires objective { cert.now.objective ≡ objective.Backorders }
-    ensures { Gives (judged plain_ends cert.now (nothing_held cert.now.case)) result }
+    requires { IsWellFormed cert.now }
+    ensures { Gives (judged (ends_of cert.now.objective) cert.now (nothing_held cert.now.case)) result }
 {
     let held = nothing_held(alloc, &cert.case)?;
-    check_within(alloc, cert, &held, &Plain)
+    match cert.objective {
+        Objective::Backorders => check_within(alloc, cert, &held, &Plain),
+        Objective::LogAvailability => check_within(alloc, cert, &held, &LogLoss),
+    }
 }

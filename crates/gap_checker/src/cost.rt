@@ -1,4 +1,4 @@
-//! What a vector costs above what is held.
+//! The cost of a vector above the held stocks.
 
 ghost use Rattle.std.specs.Prelude.{◌≡◌, ◌≤◌, map};
 ghost use Rattle.family_eval.specs.Inputs.{IsLine};
@@ -8,7 +8,7 @@ ghost use Rattle.family_curve.specs.Vectors.{limits, places};
 
 use spares_input::{Case, PartId};
 
-/// What a vector of a family costs above what is held. The parts are those of the family's places.
+/// The cost of a vector of a family above the held stocks. The parts are the parts of the family's places.
 pub(crate) fn added_cost(
     case: &Case,
     line: PartId,

@@ -1,4 +1,4 @@
-//! The covers of all families: whether each is a tree, and how many tables their whole leaves take.
+//! The covers of all families: whether each is a tree, and the count of tables for their whole leaves.
 
 ghost use Rattle.std.specs.Prelude.{◌≡◌, ◌<◌, ◌≤◌, IfOk, length, map};
 ghost use Rattle.std.specs.Option.{option_map};
@@ -20,7 +20,7 @@ use spares_input::{PartId, Stocks};
 use spares_io::{NoMemory, Stop};
 use std::alloc::Global;
 
-/// The tables of a family's whole leaves, or None where its nodes aren't a tree.
+/// The tables of a family's whole leaves, or None if its nodes aren't a tree.
 fn family_work(
     alloc: Global,
     cert: &Certificate,

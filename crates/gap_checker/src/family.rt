@@ -12,7 +12,7 @@ use spares_input::{Case, PartId, Stocks};
 use spares_io::NoMemory;
 use std::alloc::Global;
 
-/// All vectors of a family from what is held to the limits.
+/// All vectors of a family from the held stocks to the limits.
 pub(crate) fn box_from(
     alloc: Global,
     case: &Case,
@@ -30,7 +30,7 @@ pub(crate) fn box_from(
     })
 }
 
-/// The nodes of a family's cover. Format 1 has none, and there the family is one whole leaf, which the caller lends.
+/// The nodes of a family's cover. Format 1 has none: the family is one whole leaf, which the caller lends.
 pub(crate) fn nodes_of<'a>(cert: &'a Certificate, family: usize, one: &'a [Node]) -> &'a [Node]
     requires one { one.now ≡ Whole ∷ [] }
     requires covers { cert.now.format ≡ 2 → family < length cert.now.covers }

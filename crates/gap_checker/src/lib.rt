@@ -1,10 +1,9 @@
-//! The checker of certificates, which believes nothing of them: it computes each floor anew, or shows it by boxes of
-//! stocks whose cheapest corner is dear enough, and says which claim is the first that is false, and what would be
-//! true.
+//! The checker of certificates, which trusts none of their claims. It computes each floor anew, or shows it by boxes of
+//! stocks whose cheapest corner is dear enough; it names the first false claim with the value that would be true.
 //!
-//! A certificate has a case, a budget, a price, a floor for each family, stocks, an upper end and a bound. Where the
-//! checker accepts it, no allocation that the budget allows has less than the bound at any depth of the model from
-//! 1024 on, and its own stocks have no more than the upper end.
+//! A certificate has a case, a budget, a price, a floor for each family, stocks, an upper end and a bound. If the
+//! checker accepts it, no allocation within the budget has less than the bound at any depth of the model from 1024 on,
+//! and its own stocks have at most the upper end.
 #![tactic(auto)]
 
 mod bound;

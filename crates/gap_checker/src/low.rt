@@ -11,7 +11,7 @@ ghost use Rattle.gap_checker.specs.Values.{cover_tables, value_of};
 ghost use Rattle.gap_checker.specs.Refusals.{low_leaf};
 
 use crate::reading::{Read, read_node};
-use crate::value::value_of;
+use crate::value::low_value;
 use demand_rates::kinds::Rates;
 use family_curve::Bounds;
 use hull::{Price, Score};
@@ -54,11 +54,10 @@ pub(crate) fn low_leaf<S: Score>(
             Read::Gap => return Ok(None),
             Read::Inner => {}
             Read::Leaf(leaf) => {
-                let value = value_of(alloc, case, rates, line, parts, price, &leaf, score)?;
-                if value < floor {
-                    return Ok(Some((number, value)));
+                match low_value(alloc, case, rates, line, parts, price, &leaf, floor, score)? {
+                    Some(value) => return Ok(Some((number, value))),
+                    None => number += 1,
                 }
-                number += 1;
             }
         }
     }

@@ -1,4 +1,4 @@
-//! The stocks of a certificate: their limits, what is held, and what they cost above it.
+//! The stocks of a certificate: their limits, the held stocks, and the cost above them.
 
 ghost use Rattle.std.specs.Prelude.{◌≡◌, ◌*◌, ◌<◌};
 ghost use Rattle.spares_input.specs.First.{first};
@@ -26,7 +26,7 @@ pub(crate) fn over_limit(case: &Case, stocks: &Stocks) -> Option<Reject>
     None
 }
 
-/// The first stock below what is held, by part and then by site.
+/// The first stock below the held one, by part and then by site.
 pub(crate) fn below_held(case: &Case, held: &Stocks, stocks: &Stocks) -> Option<Reject>
     requires held { IsFor case.now held.now }
     requires stocks { IsFor case.now stocks.now }
@@ -44,7 +44,7 @@ pub(crate) fn below_held(case: &Case, held: &Stocks, stocks: &Stocks) -> Option<
     None
 }
 
-/// What the stocks cost above those that are held.
+/// The cost of the stocks above the held ones.
 pub(crate) fn cost_above(case: &Case, held: &Stocks, stocks: &Stocks) -> u64
     requires held { IsFor case.now held.now }
     requires stocks { IsFor case.now stocks.now }

@@ -1,4 +1,4 @@
-//! The sum of the upper ends at the stocks.
+//! The sum of the families' upper ends at the certificate's stocks.
 
 ghost use Rattle.std.specs.Prelude.{◌≡◌, ◌^◌, ◌<◌, ◌≤◌, None, IfOk, length, map};
 ghost use Rattle.spares_input.specs.First.{first};
@@ -10,14 +10,14 @@ ghost use Rattle.family_eval.specs.Inputs.{IsLine};
 ghost use Rattle.gap_checker.specs.Refusals.{over_limit, below_held, chosen_point, upper_of};
 
 use demand_rates::kinds::Rates;
-use family_curve::{Bounds, curve_within, vector_of};
+use family_curve::{Bounds, upper_within, vector_of};
 use hull::Score;
 use price_certificate::Certificate;
 use spares_input::{PartId, Stocks};
 use spares_io::NoMemory;
 use std::alloc::Global;
 
-/// The upper end of a family at the stocks: that of the curve of their vector alone.
+/// The upper end of a family at the stocks, from the curve of their vector alone.
 fn family_upper<S: Score>(
     alloc: Global,
     cert: &Certificate,
@@ -34,17 +34,15 @@ fn family_upper<S: Score>(
     requires kept { first (below_held cert.now.case held.now cert.now.stocks) (pair_count (frame_rows cert.now.case))
         ≡ None }
     ensures upper { IfOk result (λ hi. hi ≡ (chosen_point S.ends cert.now held.now line.0).hi) }
-    ensures most { IfOk result (λ hi. hi ≤ 2 ^ 74) }
+    ensures most { IfOk result (λ hi. hi ≤ 2 ^ 78) }
 {
-    let _valid = cert.case.site_count();
     let bounds = Bounds {
         held: vector_of(alloc, &cert.case, line, held)?,
         low: vector_of(alloc, &cert.case, line, &cert.stocks)?,
         high: vector_of(alloc, &cert.case, line, &cert.stocks)?,
     };
-    let curve = curve_within(alloc, &cert.case, rates, line, &bounds, score)?;
-    let _shape = curve.len();
-    Ok(curve.point(0).hi)
+    let upper = upper_within(alloc, &cert.case, rates, line, &bounds, score)?;
+    Ok(upper)
 }
 
 /// The sum of the families' upper ends at the stocks.

@@ -7,12 +7,12 @@ ghost use Rattle.gap_checker.specs.Boxes.{IsOrdered};
 ghost use Rattle.family_curve.specs.Counts.{most_tables, tables_between};
 ghost use Rattle.family_curve.specs.Vectors.{places};
 ghost use Rattle.gap_checker.specs.Covers.{box_of};
-ghost use Rattle.gap_checker.specs.Values.{least_within, leaf_tables, value_of};
+ghost use Rattle.gap_checker.specs.Values.{below, least_within, leaf_tables, value_of};
 
 use crate::cost::added_cost;
 use crate::leaf::Leaf;
 use demand_rates::kinds::Rates;
-use family_curve::{Bounds, curve_within};
+use family_curve::{Bounds, curve_within, is_at_least};
 use hull::{Price, Score};
 use spares_input::{Case, PartId};
 use spares_io::NoMemory;
@@ -43,9 +43,43 @@ fn least_within<S: Score>(
     Ok(u128::from(price.q) * vertex.lo + price.p * u128::from(vertex.cost))
 }
 
-/// The value of a leaf at a price: by cost alone the price of its low corner, or else the least Lagrangian of its
-/// vectors.
-pub(crate) fn value_of<S: Score>(
+/// The least Lagrangian of the vectors of a box at a price, where it is below the floor. Whether it is takes no curve.
+fn low_within<S: Score>(
+    alloc: Global,
+    case: &Case,
+    rates: &Rates,
+    line: PartId,
+    price: Price,
+    bounds: &Bounds,
+    floor: u128,
+    score: &S,
+) -> Result<Option<u128>, NoMemory>
+    requires rates { AreRatesOf case.now rates.now }
+    requires line { IsLine case.now line.0 }
+    requires ordered { IsOrdered case.now line.0 bounds.now }
+    requires work { tables_between case.now line.0 bounds.now.low bounds.now.high ≤ most_tables }
+    requires money { 0 < price.q }
+    requires most_money { price.q ≤ 1000000000000 }
+    requires price { price.p ≤ 2 ^ 74 }
+    ensures { IfOk result (λ low. low ≡ below floor (least_within case.now line.0 S.ends price bounds.now)) }
+{
+    if is_at_least(alloc, case, rates, line, bounds, price, floor, score)? {
+        return Ok(None);
+    }
+    let least = least_within(alloc, case, rates, line, price, bounds, score)?;
+    Ok(Some(least))
+}
+
+/// A value, where it is below the floor.
+fn below(floor: u128, value: u128) -> Option<u128>
+    ensures { result ≡ below floor value }
+{
+    if value < floor { Some(value) } else { None }
+}
+
+/// The value of a leaf at a price, where it is below the floor. By cost alone the value is the price of the low corner,
+/// or else the least Lagrangian of the vectors.
+pub(crate) fn low_value<S: Score>(
     alloc: Global,
     case: &Case,
     rates: &Rates,
@@ -53,8 +87,9 @@ pub(crate) fn value_of<S: Score>(
     parts: &[PartId],
     price: Price,
     leaf: &Leaf,
+    floor: u128,
     score: &S,
-) -> Result<u128, NoMemory>
+) -> Result<Option<u128>, NoMemory>
     requires rates { AreRatesOf case.now rates.now }
     requires line { IsLine case.now line.0 }
     requires parts { map (λ p. p.0) parts.now ≡ map (λ x. x.part) (places case.now line.0) }
@@ -63,7 +98,7 @@ pub(crate) fn value_of<S: Score>(
     requires money { 0 < price.q }
     requires most_money { price.q ≤ 1000000000000 }
     requires price { price.p ≤ 2 ^ 74 }
-    ensures { IfOk result (λ value. value ≡ value_of case.now line.0 S.ends price leaf.now) }
+    ensures { IfOk result (λ low. low ≡ below floor (value_of case.now line.0 S.ends price leaf.now)) }
 {
     match leaf {
         Leaf::Cost(bounds) => {
@@ -74,8 +109,8 @@ pub(crate) fn value_of<S: Score>(
                 bounds.held.as_slice(),
                 bounds.low.as_slice(),
             );
-            Ok(price.p * u128::from(cost))
+            Ok(below(floor, price.p * u128::from(cost)))
         }
-        Leaf::Whole(bounds) => least_within(alloc, case, rates, line, price, bounds, score),
+        Leaf::Whole(bounds) => low_within(alloc, case, rates, line, price, bounds, floor, score),
     }
 }

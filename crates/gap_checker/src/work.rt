@@ -1,4 +1,4 @@
-//! The work of a cover: whether its nodes are a tree, and how many tables its whole leaves take.
+//! The work of a cover: whether its nodes are a tree, and the count of tables for its whole leaves.
 
 ghost use Rattle.std.specs.Prelude.{◌≡◌, ◌∷◌, [], IfOk};
 ghost use Rattle.std.specs.Option.{option_map};
@@ -16,7 +16,7 @@ use spares_input::{Case, PartId};
 use spares_io::NoMemory;
 use std::alloc::Global;
 
-/// The tables of a leaf, or 2^64 - 1 where it takes more.
+/// The tables of a leaf, or 2^64 - 1 if it takes more.
 fn leaf_tables(case: &Case, line: PartId, leaf: &Leaf) -> u64
     requires line { IsLine case.now line.0 }
     requires ordered { IsOrdered case.now line.0 (box_of leaf.now) }
@@ -28,7 +28,7 @@ fn leaf_tables(case: &Case, line: PartId, leaf: &Leaf) -> u64
     }
 }
 
-/// The tables of all leaves of a box's nodes, or None where the nodes aren't a tree.
+/// The tables of all leaves of a box's nodes, or None if the nodes aren't a tree.
 pub(crate) fn cover_tables(
     alloc: Global,
     case: &Case,

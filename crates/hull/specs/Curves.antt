@@ -1,4 +1,4 @@
--- What a list of points has as its curve.
+-- The curve of a list of points.
 use Rattle.std.specs.Prelude.{◌≡◌, ℕ, zero, suc, ◌+◌, ◌-◌, ◌*◌, ◌^◌, ◌<◌, ◌≤◌, ◌⊎◌, List, [], ◌∷◌, ◌++◌, length, slice_index_or}
 use Rattle.hull.specs.declared.point.Point.{Point}
 
@@ -11,24 +11,24 @@ pub record SamePlace (v w : Point) : Type 0 where
   pub cost : v.cost ≡ w.cost
   pub lo : v.lo ≡ w.lo
 
--- x stands in a list
+-- x is an element of the list
 abbrev pub Among : {X : Type 0} → X → List X → Type 0
 Among x [] = ⊥
 Among x (y ∷ ys) = (x ≡ y) ⊎ Among x ys
 
--- at the price p/q every other place of the points has a larger Lagrangian
+-- at the price p/q, v has the least Lagrangian, and every point of another place a larger one
 pub record IsVertexAt (p q : ℕ) (points : List Point) (v : Point) : Type 0 where
   pub p_positive : 0 < p
   pub q_positive : 0 < q
   pub alone : (w : Point) → Among w points → SamePlace w v ⊎ (lagrangian p q v < lagrangian p q w)
 
--- there is a price at which it is so
+-- v is a vertex at some price
 pub record IsVertex (points : List Point) (v : Point) : Type 0 where
   pub p : ℕ
   pub q : ℕ
   pub at : IsVertexAt p q points v
 
--- xs is the same as ys or before it in the order of a dictionary
+-- xs equals ys or comes before it in dictionary order
 abbrev pub IsFirstOf : List ℕ → List ℕ → Type 0
 IsFirstOf [] ys = Unit {0}
 IsFirstOf (x ∷ xs) [] = ⊥
@@ -48,7 +48,7 @@ pub record IsCurve (points curve : List Point) : Type 0 where
   pub firsts : (v w : Point) → Among v curve → Among w points → SamePlace w v → IsFirstOf v.stocks w.stocks
   pub complete : (w : Point) → Among w points → IsVertex points w → (v : Point) × Among v curve × SamePlace v w
 
--- some points stand for all: each vertex of all has its place among them, with its first stocks
+-- `kept` suffices for the curve: it has each vertex of all points, with the first stocks of its place
 pub record StandFor (points kept : List Point) : Type 0 where
   pub among : (v : Point) → Among v kept → Among v points
   pub covers : (w : Point) → Among w points → IsVertex points w → (v : Point) × Among v kept × SamePlace v w
@@ -59,11 +59,11 @@ pub record Steps (v w : Point) : Type 0 where
   pub cost : v.cost < w.cost
   pub lo : w.lo < v.lo
 
--- the step from v to w falls less per money than the one from u to v
+-- the step from v to w falls less per money than the step from u to v
 abbrev pub Turns : Point → Point → Point → Type 0
 Turns u v w = (v.lo - w.lo) * (v.cost - u.cost) < (u.lo - v.lo) * (w.cost - v.cost)
 
--- a step from u to v turns into the step to the first of the rest
+-- the step from u to v turns into the step from v to the first of the rest
 abbrev pub TurnsInto : Point → Point → List Point → Type 0
 TurnsInto u v [] = Unit {0}
 TurnsInto u v (w ∷ rest) = Turns u v w
@@ -84,7 +84,7 @@ pub record InRange (v : Point) : Type 0 where
 abbrev pub HaveOneWidth : List Point → Type 0
 HaveOneWidth points = (v w : Point) → Among v points → Among w points → length v.stocks ≡ length w.stocks
 
--- what is true of the vertices of each curve
+-- the shape of the vertices of each curve
 pub record IsShape (vertices : List Point) : Type 0 where
   pub some : 0 < length vertices
   pub few : length vertices ≤ 2 ^ 31
@@ -96,7 +96,7 @@ pub record IsShape (vertices : List Point) : Type 0 where
 abbrev pub IsLeastAt : ℕ → ℕ → List Point → Point → Type 0
 IsLeastAt p q points v = (w : Point) → Among w points → lagrangian p q v ≤ lagrangian p q w
 
--- no point
+-- a placeholder point
 abbrev pub nowhere : Point
 nowhere = record { cost = 0; lo = 0; hi = 0; stocks = [] }
 
@@ -110,8 +110,8 @@ pub record IsBestAt (p q : ℕ) (points : List Point) (at : ℕ) : Type 0 where
   pub before : (k : ℕ) → k < at → lagrangian p q (point_at points at) < lagrangian p q (point_at points k)
   pub least : (k : ℕ) → k < length points → lagrangian p q (point_at points at) ≤ lagrangian p q (point_at points k)
 
--- the price p/q stops a chain at a place: each step up to it falls as much per money or more, and the next as much or
--- less
+-- the price p/q stops a chain at a place: each step up to it falls at least as much per money, and the next at most as
+-- much
 abbrev pub StopsAt : ℕ → ℕ → List Point → ℕ → Type 0
 StopsAt p q [] m = ⊥
 StopsAt p q (v ∷ []) zero = Unit {0}
@@ -119,16 +119,16 @@ StopsAt p q (v ∷ []) (suc m) = ⊥
 StopsAt p q (v ∷ w ∷ rest) zero = (v.lo - w.lo) * q ≤ p * (w.cost - v.cost)
 StopsAt p q (v ∷ w ∷ rest) (suc m) = (p * (w.cost - v.cost) ≤ (v.lo - w.lo) * q) × StopsAt p q (w ∷ rest) m
 
--- two points together: the stocks of the first stand before those of the second
+-- the sum of two points: the stocks of the first, then of the second
 abbrev pub plus : Point → Point → Point
 plus v w = record { cost = v.cost + w.cost; lo = v.lo + w.lo; hi = v.hi + w.hi; stocks = v.stocks ++ w.stocks }
 
--- a point with each of a list
+-- the sums of a point with each of a list
 abbrev pub plus_each : Point → List Point → List Point
 plus_each v [] = []
 plus_each v (w ∷ ws) = plus v w ∷ plus_each v ws
 
--- all sums of a point of the one list and a point of the other
+-- all sums of a point of the first list and a point of the second
 abbrev pub sums : List Point → List Point → List Point
 sums [] ws = []
 sums (v ∷ vs) ws = plus_each v ws ++ sums vs ws

@@ -3,20 +3,20 @@ use Rattle.std.specs.Prelude.{◌≡◌, ℕ, ◌<◌, ◌≤◌, ◌↔◌, Lis
 use Rattle.hull.specs.declared.point.Point.{Point}
 use Rattle.hull.specs.Curves.{Among, IsChain, IsCurve, IsLeastAt, HaveOneWidth, sums}
 
--- a chain is its own curve, as a single point is
+-- a chain is its own curve; so is a single point
 abbrev pub ChainIsOwnCurve : Type 0
 ChainIsOwnCurve = (points : List Point) → IsChain points → IsCurve points points
 
--- the curve of what two curves have together is the curve of all their points
+-- the curve of two curves' vertices together is the curve of all their points
 abbrev pub JoinsCurves : Type 0
 JoinsCurves = (ps qs c d e : List Point) → IsCurve ps c → IsCurve qs d → IsCurve (c ++ d) e → IsCurve (ps ++ qs) e
 
--- and so it is with all sums of two points, where the stocks of the first have one length
+-- the same for all sums of two points, if the stocks of the first points have one length
 abbrev pub AddsCurves : Type 0
 AddsCurves = (ps qs c d e : List Point) → IsCurve ps c → IsCurve qs d → HaveOneWidth ps → IsCurve (sums c d) e
     → IsCurve (sums ps qs) e
 
--- a curve is the same however often and in whatever order its points are listed
+-- a curve depends only on the set of its points, not on their order or number of occurrences
 abbrev pub IsOfMembers : Type 0
 IsOfMembers = (points other curve : List Point) → ((v : Point) → Among v points ↔ Among v other) → IsCurve points curve
     → IsCurve other curve
@@ -25,12 +25,12 @@ IsOfMembers = (points other curve : List Point) → ((v : Point) → Among v poi
 abbrev pub StocksTell : List Point → Type 0
 StocksTell points = (v w : Point) → Among v points → Among w points → v.stocks ≡ w.stocks → v ≡ w
 
--- such points have one curve
+-- points have only one curve, if those with the same stocks are equal
 abbrev pub HasOneCurve : Type 0
 HasOneCurve = (points curve other : List Point) → StocksTell points → IsCurve points curve → IsCurve points other
     → curve ≡ other
 
--- what has the least Lagrangian on a curve has the least of all points
+-- a vertex with the least Lagrangian on a curve has the least of all points
 abbrev pub ReachesLeast : Type 0
 ReachesLeast = (points curve : List Point) (p q : ℕ) → 0 < q → IsCurve points curve → (v : Point)
     → IsLeastAt p q curve v → IsLeastAt p q points v

@@ -1,4 +1,4 @@
-//! Chains: curves of points that come by rising cost, and needn't hold their stocks.
+//! Chains: curves whose points arrive by rising cost, and need not store their stocks.
 
 ghost use Rattle.std.specs.Prelude.{◌≡◌, ◌+◌, ◌^◌, ◌<◌, ◌≤◌, [], ◌∷◌, ◌++◌, List, length, map, IfOk, OnOk, OnErr};
 ghost use Rattle.hull.specs.declared.point.Point.{Point};
@@ -10,10 +10,10 @@ use spares_io::NoMemory;
 use std::alloc::Global;
 use std::marker::Model;
 
-/// The strict lower vertices of the points that came so far, at least one, where none costs less than those before it;
-/// seen as the list of the vertices' points by rising cost.
+/// The strict lower vertices of the points so far, at least one point, each of which costs no less than those before
+/// it. The vertices are listed by rising cost.
 ///
-/// What is true of each [`Curve`](crate::Curve) is true of it.
+/// A chain has the shape of a [`Curve`](crate::Curve).
 #[derive(Drop)]
 pub struct Chain<T: Spot> {
     vertices: Vec<T>,
@@ -31,7 +31,7 @@ impl<T: Spot> Model for Chain<T> {
     ghost invariant = { λ c. IsShape (map T.point c.vertices.items) };
 }
 
-/// The step from the vertex at the place `k` to the next: the fall of the lower end and the rise of the cost.
+/// The step from the vertex at `k` to the next: the fall of the lower end and the rise of the cost.
 pub(crate) fn slope_of<T: Spot>(vertices: &[T], k: u32) -> Price
     requires shape { IsShape (map T.point vertices.now) }
     requires within { k + 1 < length (map T.point vertices.now) }
@@ -51,7 +51,7 @@ pub(crate) fn slope_of<T: Spot>(vertices: &[T], k: u32) -> Price
 }
 
 impl<T: Spot> Chain<T> {
-    /// The chain of one point, with room for so many. Want of memory is the only error.
+    /// The chain of one point, with capacity for `room` points. Want of memory is the only error.
     pub fn one(alloc: Global, room: usize, point: T) -> Result<Chain<T>, NoMemory>
         requires { InRange (T.point point) }
         ensures { IfOk result (λ chain. chain ≡ T.point point ∷ []) }
@@ -61,7 +61,7 @@ impl<T: Spot> Chain<T> {
         Ok(Chain { vertices })
     }
 
-    /// Makes this the chain of one point, with the room that it has.
+    /// Makes this the chain of one point, and keeps its capacity.
     pub fn begin_with(&mut self, point: T)
         requires { InRange (T.point point) }
         ensures { self.new ≡ T.point point ∷ [] }
@@ -70,8 +70,8 @@ impl<T: Spot> Chain<T> {
         self.vertices[0] = point;
     }
 
-    /// Takes a point that costs no less than the vertices so far, and whose stocks have their length. Of points with
-    /// the same cost and the same lower end it keeps the one whose stocks are first in the order of a dictionary.
+    /// Adds a point that costs no less than the vertices so far, and whose stocks have their length. Of points with the
+    /// same cost and the same lower end, the one whose stocks come first in dictionary order is kept.
     ///
     /// After `NoMemory` the chain is as before.
     pub fn take(&mut self, point: T) -> Result<(), NoMemory>
@@ -88,7 +88,7 @@ impl<T: Spot> Chain<T> {
         Ok(())
     }
 
-    /// How many vertices there are. What is true of each chain is told with it.
+    /// The number of vertices. The clauses also state the shape of a chain.
     pub fn len(&self) -> u32
         ensures len { result ≡ length self.now }
         ensures shape { IsShape self.now }
@@ -96,7 +96,7 @@ impl<T: Spot> Chain<T> {
         self.vertices.len() as u32
     }
 
-    /// What stands for the vertex at the place `k`, below the number of vertices.
+    /// The vertex at the place `k`, below the number of vertices.
     pub fn at(&self, k: u32) -> &T
         requires { k < length self.now }
         ensures { T.point result.now ≡ point_at self.now k }
@@ -104,8 +104,8 @@ impl<T: Spot> Chain<T> {
         &self.vertices[k as usize]
     }
 
-    /// The step from the vertex at `k` to the next, `k + 1` being below the number of vertices: the fall of the lower
-    /// end and the rise of the cost. Both are above 0.
+    /// The step from the vertex at `k` to the next: the fall of the lower end and the rise of the cost, both above 0.
+    /// `k + 1` is below the number of vertices.
     pub fn slope(&self, k: u32) -> Price
         requires { k + 1 < length self.now }
         ensures fall { result.p + (point_at self.now (k + 1)).lo ≡ (point_at self.now k).lo }

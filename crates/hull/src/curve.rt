@@ -14,10 +14,10 @@ use std::alloc::Global;
 use std::marker::Model;
 use std::mem;
 
-/// The strict lower vertices of points, seen as their list by rising cost.
+/// The strict lower vertices of a set of points, listed by rising cost.
 ///
-/// There is at least one, at most 2^31, and all have stocks of one length. Costs rise, lower ends fall, and each fall
-/// per money is smaller than the one before.
+/// It has 1 to 2^31 vertices, and their stocks have one length. Costs rise, lower ends fall, and each step falls less
+/// per money than the one before.
 #[derive(Debug, Drop)]
 pub struct Curve {
     vertices: Vec<Point>,
@@ -35,7 +35,7 @@ impl Model for Curve {
     ghost invariant = { λ c. IsShape c.vertices.items };
 }
 
-/// How many of the vertices, from the first on, cost less.
+/// The number of vertices that cost less, counted from the first.
 fn cheaper(vertices: &[Point], cost: u64) -> usize
     requires chain { IsChain vertices.now }
     requires few { length vertices.now ≤ 2 ^ 31 }
@@ -63,8 +63,8 @@ impl Curve {
         Ok(Curve { vertices })
     }
 
-    /// The curve of one point or more, whose stocks have one length. Of points with the same cost and the same lower
-    /// end it keeps the one whose stocks are first in the order of a dictionary. Want of memory is the only error.
+    /// The curve of one or more points, whose stocks have one length. Of points with the same cost and the same lower
+    /// end, the one whose stocks come first in dictionary order is kept. Want of memory is the only error.
     pub fn of(alloc: Global, points: Vec<Point>) -> Result<Curve, NoMemory>
         requires some { 0 < length points.items }
         requires few { length points.items ≤ 2 ^ 31 }
@@ -79,8 +79,8 @@ impl Curve {
         Ok(Curve { vertices })
     }
 
-    /// Makes this the curve of its points and one more, whose stocks have the curve's length. Of points with the same
-    /// cost and the same lower end it keeps the one whose stocks are first in the order of a dictionary.
+    /// Adds a point, whose stocks have the curve's length. Of points with the same cost and the same lower end, the one
+    /// whose stocks come first in dictionary order is kept.
     ///
     /// After `NoMemory` the curve is as before.
     pub fn add_point(&mut self, point: Point) -> Result<(), NoMemory>
@@ -97,8 +97,7 @@ impl Curve {
         self.add_points(points)
     }
 
-    /// Makes this the curve of its points and further ones, whose stocks have the curve's length. Ties are broken as in
-    /// [`Curve::add_point`].
+    /// Adds points, whose stocks have the curve's length. Ties are broken as in [`Curve::add_point`].
     ///
     /// After `NoMemory` the curve is as before.
     pub fn add_points(&mut self, points: Vec<Point>) -> Result<(), NoMemory>
@@ -122,8 +121,7 @@ impl Curve {
         Ok(())
     }
 
-    /// Makes this the curve of the points of both, whose stocks have one length. Ties are broken as in
-    /// [`Curve::add_point`].
+    /// Joins the points of both curves, whose stocks have one length. Ties are broken as in [`Curve::add_point`].
     ///
     /// After `NoMemory` the curve is as before.
     pub fn merge(&mut self, other: Curve) -> Result<(), NoMemory>
@@ -136,8 +134,8 @@ impl Curve {
         self.add_points(other.vertices)
     }
 
-    /// The curve of all sums of a point of the one and a point of the other. In a sum the stocks of `a` stand before
-    /// those of `b`. Ties are broken as in [`Curve::add_point`]. Want of memory is the only error.
+    /// The curve of all sums of a point of `a` and a point of `b`. The stocks of a sum are those of `a`, then of `b`.
+    /// Ties are broken as in [`Curve::add_point`]. Want of memory is the only error.
     pub fn sum(alloc: Global, a: &Curve, b: &Curve) -> Result<Curve, NoMemory>
         requires few { length a.now + length b.now ≤ 2 ^ 31 }
         requires ranges { (v w : Point) → Among v a.now → Among w b.now → InRange (plus v w) }
@@ -148,7 +146,7 @@ impl Curve {
         Curve::of(alloc, points)
     }
 
-    /// How many vertices there are. What is true of each curve is told with it.
+    /// The number of vertices. The clauses also state the shape of a curve.
     pub fn len(&self) -> u32
         ensures len { result ≡ length self.now }
         ensures shape { IsShape self.now }
@@ -156,7 +154,7 @@ impl Curve {
         self.vertices.len() as u32
     }
 
-    /// The vertices by rising cost. What is true of each curve is told with them.
+    /// The vertices by rising cost. The clauses also state their shape.
     pub fn vertices(&self) -> &[Point]
         ensures vertices { result.now ≡ self.now }
         ensures shape { IsShape self.now }
@@ -172,8 +170,8 @@ impl Curve {
         &self.vertices[k as usize]
     }
 
-    /// The place of the first vertex whose Lagrangian `q * lo + p * cost` is least, `p` being at most 2^74 and `q` at
-    /// most 10^12. Where `q` is above 0, no point of which this is the curve has a smaller one.
+    /// The place of the first vertex with the least Lagrangian `q * lo + p * cost`, with `p` at most 2^74 and `q` at
+    /// most 10^12. If `q` is above 0, no point of the curve's set has a smaller one.
     pub fn best_at(&self, p: u128, q: u64) -> u32
         requires p_range { p ≤ 2 ^ 74 }
         requires q_range { q ≤ 1000000000000 }
@@ -193,8 +191,8 @@ impl Curve {
         best as u32
     }
 
-    /// The step from the vertex at `k` to the next, `k + 1` being below the number of vertices: the fall of the lower
-    /// end and the rise of the cost. Both are above 0.
+    /// The step from the vertex at `k` to the next: the fall of the lower end and the rise of the cost, both above 0.
+    /// `k + 1` is below the number of vertices.
     pub fn slope(&self, k: u32) -> Price
         requires { k + 1 < length self.now }
         ensures fall { result.p + (point_at self.now (k + 1)).lo ≡ (point_at self.now k).lo }

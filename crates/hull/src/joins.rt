@@ -1,4 +1,4 @@
-//! The chain of a curve and further points.
+//! The chain of a curve joined with further points.
 
 ghost use Rattle.std.specs.Prelude.{◌≡◌, ◌+◌, ◌<◌, ◌≤◌, [], ◌++◌, map, MatchOption, vec_len, vec_capacity};
 ghost use Rattle.std.specs.List.Sorted.{IsNonDecreasingBy};
@@ -11,7 +11,7 @@ use crate::scan::{goes_on, grow, scan};
 use crate::{Point, Spot};
 use std::collections::VecDeque;
 
-/// Takes the first of two lists that costs less than the other's, or as much, as long as the right one has any.
+/// Takes the cheaper of the two first points, as long as `right` has any.
 fn take_cheaper<T: Spot>(left: &mut VecDeque<T>, right: &mut VecDeque<T>) -> Option<T>
     ensures { MatchOption result ((left.new.items ≡ left.old.items) × (right.old.items ≡ []))
         (λ v. TakesCheaper (λ x. (T.point x).cost) v left.old.items right.old.items left.new.items right.new.items) }
@@ -29,8 +29,8 @@ fn take_cheaper<T: Spot>(left: &mut VecDeque<T>, right: &mut VecDeque<T>) -> Opt
     }
 }
 
-/// The chain of a chain and of another whose points cost no less. Where two of these that follow one another go on, so
-/// do all that come after them.
+/// Appends the points of the chain `left` to the chain `stack`. As soon as two in turn can be appended, so can all
+/// after them.
 fn with_rest<T: Spot>(mut stack: Vec<T>, mut left: VecDeque<T>) -> Vec<T>
     requires some { 0 < vec_len stack }
     requires chain { IsChain (map T.point stack.items) }
@@ -57,7 +57,8 @@ fn with_rest<T: Spot>(mut stack: Vec<T>, mut left: VecDeque<T>) -> Vec<T>
     stack
 }
 
-/// The chain of a chain, whose front is the stack, and of points in order of cost that cost no less than that front.
+/// The chain of two sorts of points: those of a chain, given as `stack` and `left`, and the points `right` in order of
+/// cost, none cheaper than `stack`.
 fn scan_both<T: Spot>(mut stack: Vec<T>, left: Vec<T>, right: Vec<T>) -> Vec<T>
     requires some { 0 < vec_len right }
     requires chain { IsChain (map T.point stack.items ++ map T.point left.items) }
@@ -81,7 +82,7 @@ fn scan_both<T: Spot>(mut stack: Vec<T>, left: Vec<T>, right: Vec<T>) -> Vec<T>
     with_rest(stack, left)
 }
 
-/// The chain of points in order of cost, made in the room of an empty list.
+/// The chain of points in order of cost, built in the allocation of the empty list `room`.
 pub(crate) fn chain_of(points: Vec<Point>, room: Vec<Point>) -> Vec<Point>
     requires some { 0 < vec_len points }
     requires sorted { IsNonDecreasingBy (λ v. v.cost) points.items }
@@ -96,8 +97,8 @@ pub(crate) fn chain_of(points: Vec<Point>, room: Vec<Point>) -> Vec<Point>
     scan(points, room)
 }
 
-/// The chain of a chain in two parts, front and rest, and of points in order of cost that cost no less than the front.
-/// It is made in the room of the front.
+/// The chain of two sorts of points: those of a chain, given as `front` and `rest`, and `points` in order of cost, none
+/// cheaper than `front`. It is built in the allocation of `front`.
 pub(crate) fn chain_of_both(front: Vec<Point>, rest: Vec<Point>, points: Vec<Point>) -> Vec<Point>
     requires some { 0 < vec_len points }
     requires chain { IsChain (front.items ++ rest.items) }

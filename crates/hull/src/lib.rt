@@ -1,10 +1,9 @@
 //! Curves: the strict lower vertices of points, each with a cost and a lower end of backorders, and the score of a line
 //! unit's backorders that is added up over the bases.
 //!
-//! A point is a vertex where at some price it alone has the least Lagrangian, which is a multiple of its lower end
-//! and a multiple of its cost together. At every price the least over all points is reached at a vertex, so a curve
-//! is all that is needed of its points. Marginal analysis walks such curves (C. C. Sherbrooke, *Optimal Inventory
-//! Modeling of Systems*, 2nd ed.).
+//! A point is a vertex if at some price it alone has the least Lagrangian, a weighted sum of its lower end and its
+//! cost. At every price some vertex has the least Lagrangian of all points, so a curve can replace its points. Marginal
+//! analysis walks such curves (C. C. Sherbrooke, *Optimal Inventory Modeling of Systems*, 2nd ed.).
 #![tactic(auto)]
 
 mod chain;

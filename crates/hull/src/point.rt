@@ -1,4 +1,4 @@
-//! Points: stocks with what they cost and the ends of their backorders.
+//! Points: stocks with their cost and the ends of their backorders.
 
 ghost use Rattle.std.specs.Prelude.{◌≡◌, ◌^◌, ◌≤◌, ◌++◌, IfOk};
 ghost use Rattle.hull.specs.Curves.{lagrangian, InRange, plus};
@@ -6,11 +6,11 @@ ghost use Rattle.hull.specs.Curves.{lagrangian, InRange, plus};
 use spares_io::{List, NoMemory};
 use std::alloc::Global;
 
-/// Stocks, with their cost and the ends of their score. Curves take points with a cost of at most 10^12, a lower end
-/// that is at most the upper one, and both below 2^74.
+/// Stocks with their cost and the ends of their score. In a curve the cost is at most 10^12, and the lower end is at
+/// most the upper end, which is below 2^74.
 #[derive(Debug, Drop, PartialEq, Eq)]
 pub struct Point {
-    /// What the stocks cost, in whole money.
+    /// The cost of the stocks, in whole money.
     pub cost: u64,
     /// The lower end of the score, in units of 2^-48.
     pub lo: u128,
@@ -20,7 +20,7 @@ pub struct Point {
     pub stocks: List<u8>,
 }
 
-/// The elements of the one list and then those of the other.
+/// The elements of `a`, then of `b`.
 fn joined(alloc: Global, a: &[u8], b: &[u8]) -> Result<List<u8>, NoMemory>
     ensures { IfOk result (λ both. both ≡ a.now ++ b.now) }
 {
@@ -31,7 +31,7 @@ fn joined(alloc: Global, a: &[u8], b: &[u8]) -> Result<List<u8>, NoMemory>
 }
 
 impl Point {
-    /// The two points together: the stocks of the first stand before those of the second.
+    /// The sum of two points: costs and ends are added, and the stocks are those of `a`, then of `b`.
     pub(crate) fn plus(alloc: Global, a: &Point, b: &Point) -> Result<Point, NoMemory>
         requires { InRange (plus a.now b.now) }
         ensures { IfOk result (λ sum. sum ≡ plus a.now b.now) }

@@ -8,7 +8,7 @@ ghost use Rattle.hull.specs.Verdicts.{IsLastOf, Tells};
 
 use crate::Spot;
 
-/// Whether the step from `v` to `w` falls less per money than the one from `u` to `v`.
+/// Whether the step from `v` to `w` falls less per money than the step from `u` to `v`.
 fn turns<T: Spot>(u: &T, v: &T, w: &T) -> bool
     requires first { Steps (T.point u.now) (T.point v.now) }
     requires second { Steps (T.point v.now) (T.point w.now) }
@@ -20,17 +20,17 @@ fn turns<T: Spot>(u: &T, v: &T, w: &T) -> bool
     (lo - w.lo()) * u128::from(cost - u.cost()) < (u.lo() - lo) * u128::from(w.cost() - cost)
 }
 
-/// What becomes of the last of some points where a further point comes.
+/// The verdict on the last of a chain's points when a new point comes.
 enum Verdict {
-    /// The new point goes on after it.
+    /// It stays, and the new point follows it.
     Keep,
-    /// It goes.
+    /// It is dropped.
     Drop,
     /// The new point is no vertex.
     Refuse,
 }
 
-/// Judges the last point of a chain, where a point comes that costs no less.
+/// Judges the last point of a chain against a new point that costs no less.
 fn judge<T: Spot>(stack: &[T], point: &T) -> Verdict
     requires chain { IsChain (map T.point stack.now) }
     requires order { (v : Point) → Among v (map T.point stack.now) → v.cost ≤ (T.point point.now).cost }
@@ -65,7 +65,7 @@ fn judge<T: Spot>(stack: &[T], point: &T) -> Verdict
     }
 }
 
-/// Whether a point that costs no less goes on after the last of a chain.
+/// Whether `point`, which costs no less, can be appended and the chain stays convex.
 pub(crate) fn goes_on<T: Spot>(stack: &[T], point: &T) -> bool
     requires chain { IsChain (map T.point stack.now) }
     requires order { (v : Point) → Among v (map T.point stack.now) → v.cost ≤ (T.point point.now).cost }
@@ -79,7 +79,7 @@ pub(crate) fn goes_on<T: Spot>(stack: &[T], point: &T) -> bool
     }
 }
 
-/// Takes a point that costs no less than the last of a chain. Answers whether it is the last one now.
+/// Adds a point that costs no less than the last of a chain. Returns whether it is the last one now.
 pub(crate) fn grow<T: Spot>(stack: &mut Vec<T>, point: T) -> bool
     requires room { vec_len stack.old < vec_capacity stack.old }
     requires chain { IsChain (map T.point stack.old.items) }
@@ -107,7 +107,7 @@ pub(crate) fn grow<T: Spot>(stack: &mut Vec<T>, point: T) -> bool
     }
 }
 
-/// The chain of points in order of cost, made in the room of an empty list.
+/// The chain of points in order of cost, built in the allocation of the empty list `stack`.
 pub(crate) fn scan<T: Spot>(points: Vec<T>, mut stack: Vec<T>) -> Vec<T>
     requires some { 0 < vec_len points }
     requires sorted { IsNonDecreasingBy (λ v. (T.point v).cost) points.items }
@@ -125,7 +125,7 @@ pub(crate) fn scan<T: Spot>(points: Vec<T>, mut stack: Vec<T>) -> Vec<T>
     stack
 }
 
-/// Points in order of cost.
+/// Sorts points by cost.
 pub(crate) fn in_order<T: Spot>(mut points: Vec<T>) -> Vec<T>
     ensures permutation { IsPermutation points.items result.items }
     ensures sorted { IsNonDecreasingBy (λ v. (T.point v).cost) result.items }

@@ -1,4 +1,4 @@
-//! What a curve needs of a point, whatever it is made of.
+//! The interface of a point, by which curves use it however it is stored.
 
 ghost use Rattle.std.specs.Prelude.{◌≡◌, ◌++◌, ◌↔◌, IsTrue, OnOk, length};
 ghost use Rattle.hull.specs.declared.point.Point.{Point};
@@ -7,9 +7,9 @@ ghost use Rattle.hull.specs.Curves.{IsFirstOf};
 use crate::Point;
 use spares_io::NoMemory;
 
-/// Something that stands for a point, and needn't hold its stocks as a list.
+/// A point, which need not store its stocks as a list.
 pub trait Spot: Drop {
-    /// The point that it stands for.
+    /// The point it represents.
     ghost point: { Self → Point };
 
     /// The point's cost.
@@ -24,21 +24,21 @@ pub trait Spot: Drop {
     fn hi(&self) -> u128
         ensures { result ≡ (point self.now).hi };
 
-    /// Whether the point's stocks are the same as the other's, or before them in the order of a dictionary.
+    /// Whether the point's stocks equal the other's, or come before them in dictionary order.
     fn is_first(&self, other: &Self) -> bool
         ensures { IsTrue result ↔ IsFirstOf (point self.now).stocks (point other.now).stocks };
 
-    /// Puts the point's stocks behind others. After `NoMemory` some of them may be there.
+    /// Appends the point's stocks to `to`. After `NoMemory` only some of them may be appended.
     fn put_stocks(&self, to: &mut Vec<u8>) -> Result<(), NoMemory>
         ensures { OnOk result (to.new.items ≡ to.old.items ++ (point self.now).stocks) };
 
-    /// Writes the point's stocks over others, as many as they are.
+    /// Overwrites `to`, a list of the same length, with the point's stocks.
     fn write_stocks(&self, to: &mut [u8])
         requires { length to.old ≡ length (point self.now).stocks }
         ensures { to.new ≡ (point self.now).stocks };
 }
 
-/// Whether the one list is the same as the other or before it in the order of a dictionary.
+/// Whether `a` equals `b` or comes before it in dictionary order.
 pub fn is_first(a: &[u8], b: &[u8]) -> bool
     ensures { IsTrue result ↔ IsFirstOf a.now b.now }
 {

@@ -8,14 +8,14 @@ use crate::Point;
 use spares_io::NoMemory;
 use std::alloc::Global;
 
-/// Which of two chains a walk through their sums steps on.
+/// The chain on which a walk through the sums of two chains steps next.
 enum Turn {
     Left,
     Right,
     End,
 }
 
-/// Whether the step from `v` to `x` falls as much per money as the one from `u` to `y`, or more.
+/// Whether the step from `v` to `x` falls at least as much per money as the step from `u` to `y`.
 fn is_steeper(v: &Point, x: &Point, u: &Point, y: &Point) -> bool
     requires first { Steps v.now x.now }
     requires second { Steps u.now y.now }
@@ -29,7 +29,7 @@ fn is_steeper(v: &Point, x: &Point, u: &Point, y: &Point) -> bool
     (u.lo - y.lo) * u128::from(x.cost - v.cost) <= (v.lo - x.lo) * u128::from(y.cost - u.cost)
 }
 
-/// Chooses the chain to step on, the steeper step first.
+/// Chooses the chain with the steeper next step.
 fn next_turn(left: &[Point], right: &[Point]) -> Turn
     requires left_chain { IsChain left.now }
     requires right_chain { IsChain right.now }

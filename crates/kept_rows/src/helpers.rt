@@ -1,4 +1,4 @@
-//! What the rows share: a family's evaluator, and its figures at the stocks of a table.
+//! Helpers of the rows: a family's evaluator, and its figures at the stocks of a table.
 ghost use Rattle.std.specs.Prelude.{◌≡◌, [], IfSome};
 ghost use Rattle.spares_input.specs.Stocks.{IsFor, IsWithinLimits};
 ghost use Rattle.demand_rates.specs.Rates.{AreRatesOf};
@@ -39,7 +39,7 @@ fn at_stocks(
     evaluator.evaluate(case, rates, stocks).ok()
 }
 
-/// The first family at the stocks of a table, or nothing where it gives none.
+/// The first family at the stocks of a table, or None if it has no such stocks.
 pub(crate) fn evaluated(
     alloc: Global,
     evaluator: &mut Evaluator<48>,

@@ -1,5 +1,4 @@
-//! Worked rows of the tables that an evaluator keeps, over a case that stands as texts. They are run by the tests of
-//! this crate.
+//! Worked rows of the tables that an evaluator keeps, over a case written as texts. The tests of this crate run them.
 #![tactic(auto)]
 
 #[cfg(test)]

@@ -1,5 +1,4 @@
-//! Which tables an evaluator keeps, and what they say. The ends are those of a program that was written apart from
-//! this one.
+//! The tables that an evaluator keeps, and their ends, against a program written apart from this one.
 ghost use Rattle.demand_rates.specs.Rates.{AreRatesOf};
 ghost use Rattle.family_eval.specs.Inputs.{IsLine};
 
@@ -32,18 +31,18 @@ const ONE: &str = "part,site,stock\nL,D,0\nL,B,1\nS,D,1\nS,B,0\n";
 
 const NONE: &str = "part,site,stock\nL,D,1\nL,B,0\nS,D,0\nS,B,1\n";
 
-/// The ends of the backorders without stock by a table, where it is kept.
+/// The ends of the backorders without stock in a table, if it is kept.
 type Kept = Option<(u128, u128)>;
 
-/// What is kept of a part at a site where the depot has so many S.
+/// The kept ends of a part at a site, if the depot has `shops` S.
 fn kept(evaluator: &Evaluator<48>, part: PartId, site: SiteId, shops: u8) -> Kept {
     let table = evaluator.kept(part, site, &[shops])?;
     let backorders = table.ebo(0);
     Some((backorders.lo(), backorders.hi()))
 }
 
-/// What is kept of L at the depot before an evaluation with one S there, and after it of L there, of S at the base,
-/// and of L at the depot without S.
+/// The kept ends of L at the depot before an evaluation with one S there, and after it the kept ends of L there, of S
+/// at the base, and of L at the depot without S.
 fn kept_by_one(alloc: Global, case: &Case, rates: &Rates) -> Option<[Kept; 4]>
     requires rates { AreRatesOf case.now rates.now }
     requires line { IsLine case.now 0 }
@@ -83,7 +82,7 @@ fn are_same(family: &FamilyResult<48>, other: &FamilyResult<48>) -> bool {
     true
 }
 
-/// Whether stocks give other items than other stocks do, and the same when the same evaluator sees them again.
+/// Whether two stocks have different items, and the same evaluator finds the first items again.
 fn gives_them_again(alloc: Global, case: &Case, rates: &Rates) -> Option<bool>
     requires rates { AreRatesOf case.now rates.now }
     requires line { IsLine case.now 0 }

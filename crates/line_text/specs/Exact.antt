@@ -1,10 +1,10 @@
--- A format is exact where writing and reading are inverse and a refusal stands at the first bad token.
+-- A format is exact if writing and reading are inverse and a refusal is at the first bad token.
 use Rattle.std.specs.Prelude.{◌≡◌, ℕ, Bool, true, false, ◌==◌, List, [], ◌∷◌, ◌++◌, Some, Ok, Err}
 use Rattle.std.specs.List.{AllByRecursion}
 use Rattle.line_text.specs.Formats.{Token, Text, Format}
 use Rattle.line_text.specs.Files.{comma}
 
--- ---- what may stand as a token
+-- ---- the bytes of tokens
 
 -- a line feed
 abbrev pub is_end : ℕ → Bool
@@ -24,24 +24,24 @@ pub record IsLine (l : Token) : Type 0 where
   pub parts : l ≡ body ++ 10 ∷ []
   pub inside : AllByRecursion (λ b. is_end b ≡ false) body
 
--- where tokens stand: those in a line are fields, those in a file are lines
+-- the place of tokens: the tokens of a line are fields, and those of a file are lines
 pub data Level : Type 0 where
   in_line : Level
   in_file : Level
 
--- what a token may be, by where it stands
+-- the rules of a token, by its place
 abbrev pub IsToken : Level → Token → Type 0
 IsToken in_line = IsField
 IsToken in_file = IsLine
 
 -- ---- exactness
 
--- the first token, where there is one, and then others
+-- the first token, if there is one, and then the rest
 abbrev pub next : List Token → List Token → List Token
 next [] rest = []
 next (t ∷ ts) rest = t ∷ rest
 
--- left begins at the first bad token: a value's tokens begin as those before it do, and none has this one there as well
+-- left begins at the first bad token: some value begins with the tokens before it, and none also has this one next
 pub record Refused {A : Type 0} (format : Format A) (ts left : List Token) : Type 0 where
   pub front : List Token
   pub parts : ts ≡ front ++ left
@@ -52,7 +52,7 @@ pub record Refused {A : Type 0} (format : Format A) (ts left : List Token) : Typ
   pub no_other : (a : A) → format.fits a ≡ true → (more rest : List Token) → format.print a ++ more ≡ front
       ++ next left rest → ⊥
 
--- a value is there, each is read again as it was written, what is read was written so, and writing gives such tokens
+-- there is a value, each value reads as it was written, each token that reads was written so, and tokens obey P
 pub record IsExactText {A : Type 0} (P : Token → Type 0) (text : Text A) : Type 0 where
   pub good : A
   pub fits : text.fits good ≡ true
@@ -60,7 +60,7 @@ pub record IsExactText {A : Type 0} (P : Token → Type 0) (text : Text A) : Typ
   pub takes : (t : Token) (a : A) → text.read t ≡ Some a → (text.fits a ≡ true) × (t ≡ text.print a)
   pub plain : (a : A) → text.fits a ≡ true → P (text.print a)
 
--- the same of several tokens, whatever stands after them; and a refusal stands at the first bad one
+-- the same for several tokens, with any tokens after them; and a refusal is at the first bad one
 pub record IsExact {A : Type 0} (P : Token → Type 0) (format : Format A) : Type 0 where
   pub good : A
   pub fits : format.fits good ≡ true

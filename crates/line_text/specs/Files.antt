@@ -9,13 +9,13 @@ use Rattle.line_text.specs.Formats.{Token, Text, Format, ◌>>-◌, accepted, re
 abbrev pub comma : ℕ → Bool
 comma b = b == 44
 
--- what stands before the line feed at the end
+-- the bytes before the line feed at the end
 abbrev pub unended : Token → Option Token
 unended [] = None
 unended (b ∷ []) = if b == 10 then Some [] else None
 unended (b ∷ c ∷ rest) = option_map (λ t. b ∷ t) (unended (c ∷ rest))
 
--- the fields of a format as one line, read back only with its line feed and where no field is left over
+-- the fields of a format as one line, which reads only with its line feed and with no field left over
 abbrev pub line : {A : Type 0} → Format A → Text A
 line fields = record {
   print = λ a. join_with_byte 44 (fields.print a) ++ 10 ∷ [];
@@ -25,7 +25,7 @@ line fields = record {
 
 -- ---- a file is lines
 
--- a byte in front of the first line, which it begins where there is none
+-- b as the first byte of the first line, or as a new line if there is none
 abbrev pub onto_line : ℕ → List Token → List Token
 onto_line b [] = (b ∷ []) ∷ []
 onto_line b (l ∷ ls) = (b ∷ l) ∷ ls
@@ -43,7 +43,7 @@ file_text format a = concat (format.print a)
 abbrev pub file_of : {A : Type 0} → Format A → List ℕ → Result A (List Token)
 file_of format bytes = read_all format (lines_of bytes)
 
--- the number of the line at which left begins, where there are so many lines
+-- the number of the line at which left begins, of this number of lines
 abbrev pub numbered : {A : Type 0} → ℕ → Result A (List Token) → Result A ℕ
 numbered lines (Ok a) = Ok a
 numbered lines (Err left) = Err (suc (lines - length left))
@@ -52,8 +52,8 @@ numbered lines (Err left) = Err (suc (lines - length left))
 abbrev pub file_answer : {A : Type 0} → Format A → List ℕ → Result A ℕ
 file_answer format bytes = numbered (length (lines_of bytes)) (file_of format bytes)
 
--- The line after this many is the first bad one: some file of the format has the same lines up to there,
--- and none has that line as well.
+-- The line after the first `before` lines is the first bad one: some file of the format has the same lines up to there,
+-- and none also has that line.
 pub record IsFirstBad {A : Type 0} (format : Format A) (bytes : List ℕ) (before : ℕ) : Type 0 where
   pub good : A
   pub fits : format.fits good ≡ true

@@ -1,5 +1,5 @@
--- A format says at once how values are written and how they are read.
--- A file is a list of lines, each with its line feed, and a line is a list of fields: both are lists of tokens.
+-- A format is one term for both writing and reading values. A file is a list of lines, each with its line feed, and a
+-- line is a list of fields: both are lists of tokens.
 use Rattle.std.specs.Prelude.{ℕ, Bool, true, false, ◌&&◌, List, [], ◌∷◌, ◌++◌, Option, Some, None, Result, Ok, Err, if◌then◌else◌, bytes_eq}
 use Rattle.spares_io.specs.Steps.{◌>>=◌}
 
@@ -7,27 +7,27 @@ use Rattle.spares_io.specs.Steps.{◌>>=◌}
 abbrev pub Token : Type 0
 Token = List ℕ
 
--- how one token is written and read, and of which values
+-- the writing and the reading of one token, and the values that have one
 pub record Text (A : Type 0) : Type 0 where
   pub print : A → Token
   pub read : Token → Option A
   pub fits : A → Bool
 
--- the same of several tokens; reading answers the value and the tokens after it, or else the tokens from the first
--- bad one on
+-- the same for several tokens; reading returns the value and the tokens after it, or the tokens from the first bad one
+-- on
 pub record Format (A : Type 0) : Type 0 where
   pub print : A → List Token
   pub read : List Token → Result (A × List Token) (List Token)
   pub fits : A → Bool
 
 infixl 10 ◌>>-◌
--- what follows of a value, where there is one
+-- the next step for a value, if there is one
 abbrev pub ◌>>-◌ : {A B : Type 0} → Option A → (A → Option B) → Option B
 None >>- f = None
 (Some x) >>- f = f x
 
--- A text with one spelling for each value: what is read is the one value that could be meant,
--- where the text has it and its spelling is this token.
+-- A text with one spelling for each value: a token reads as its one possible value, if the text has that value and
+-- spells it so.
 abbrev pub spelled : {A : Type 0} → (A → Token) → (Token → A) → (A → Bool) → Text A
 spelled print meant fits = record {
   print = print;
@@ -62,7 +62,7 @@ nothing a = record {
   fits = λ _. true;
 }
 
--- a value, and then one whose format the first one tells
+-- a value, and then another, whose format depends on the first
 abbrev pub and_then : {A B : Type 0} → Format A → (A → Format B) → Format (A × B)
 and_then first next = record {
   print = λ x. first.print x.0 ++ (next x.0).print x.1;
@@ -70,7 +70,7 @@ and_then first next = record {
   fits = λ x. first.fits x.0 && (next x.0).fits x.1;
 }
 
--- the same values in another shape, of which some have no such value
+-- the same values in another shape; those that fail the test have none
 abbrev pub as_shape : {A B : Type 0} → Format A → (A → B) → (B → A) → (B → Bool) → Format B
 as_shape format to from has = record {
   print = λ b. format.print (from b);
@@ -93,14 +93,14 @@ read_after format before [] ts = Ok ([], ts)
 read_after format before (k ∷ ks) ts = (format before k).read ts >>= λ x. read_after format (before ++ x.0 ∷ []) ks x.1
     >>= λ xs. Ok (x.0 ∷ xs.0, xs.1)
 
--- there is a value for each key, and each is one of its format
+-- there is a value for each key, and each fits its format
 abbrev pub fits_after : {K A : Type 0} → (List A → K → Format A) → List A → List K → List A → Bool
 fits_after format before [] [] = true
 fits_after format before [] (x ∷ xs) = false
 fits_after format before (k ∷ ks) [] = false
 fits_after format before (k ∷ ks) (x ∷ xs) = (format before k).fits x && fits_after format (before ++ x ∷ []) ks xs
 
--- each in the format that its key and the values before it tell
+-- each in the format of its key and the values before it
 abbrev pub each_after : {K A : Type 0} → List A → List K → (List A → K → Format A) → Format (List A)
 each_after before keys format = record {
   print = print_after format before keys;
@@ -112,9 +112,9 @@ each_after before keys format = record {
 abbrev pub each : {K A : Type 0} → List K → (K → Format A) → Format (List A)
 each keys format = each_after [] keys (λ _ k. format k)
 
--- ---- tokens that are all of a format
+-- ---- tokens that all belong to a format
 
--- a value after which no token is left, or else the tokens left
+-- a value after which no token is left, or the tokens left
 abbrev pub all_read : {A : Type 0} → A × List Token → Result A (List Token)
 all_read (a, []) = Ok a
 all_read (a, t ∷ ts) = Err (t ∷ ts)
@@ -123,7 +123,7 @@ all_read (a, t ∷ ts) = Err (t ∷ ts)
 abbrev pub read_all : {A : Type 0} → Format A → List Token → Result A (List Token)
 read_all format ts = format.read ts >>= all_read
 
--- the value, whatever a refusal would say
+-- the value, without the details of a refusal
 abbrev pub accepted : {A E : Type 0} → Result A E → Option A
 accepted (Ok a) = Some a
 accepted (Err e) = None

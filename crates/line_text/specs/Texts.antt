@@ -34,7 +34,7 @@ fixed places least most = spelled (fixed_text places) (λ t. digits_value 10 (wi
 
 -- ---- words, and values with no text of their own
 
--- a text as it stands, where it passes a test
+-- a text unchanged, if it passes a test
 abbrev pub plain : (Token → Bool) → Text Token
 plain test = spelled (λ t. t) (λ t. t) test
 
@@ -42,7 +42,7 @@ plain test = spelled (λ t. t) (λ t. t) test
 abbrev pub word : Token → Format (Unit {0})
 word w = one (spelled (λ _. w) (λ _. tt) (λ _. true))
 
--- a value with no field, which passes this test alone
+-- a value without a field, which must pass the test
 abbrev pub no_field : {A : Type 0} → A → (A → Bool) → Format A
 no_field a has = as_shape {A = Unit {0}} (nothing tt) (λ _. a) (λ _. tt) has
 
@@ -69,18 +69,18 @@ count_line w least most = one (line (count_fields w least most))
 abbrev pub number_line : ℕ → Format ℕ
 number_line most = one (line (one (number 0 most)))
 
--- so many numbers, from one on
+-- n numbers, from `first` on
 abbrev pub numbers_from : ℕ → ℕ → List ℕ
 numbers_from first zero = []
 numbers_from first (suc n) = first ∷ numbers_from (suc first) n
 
--- a line with a word and how many values there are, and then each in the format of its place
+-- a line with a word and the count of the values, and then each value in the format of its place
 abbrev pub counted : {A : Type 0} → Token → ℕ → ℕ → (ℕ → Format A) → Format (List A)
 counted w least most format =
     as_shape (and_then (count_line w least most) (λ n. each (numbers_from 0 n) format)) (λ x. x.1)
     (λ xs. (length xs, xs)) (λ _. true)
 
--- the same where what stands before tells how many there are, and a key for each
+-- the same if the count is known and each value has a key
 abbrev pub one_for_each : {K A : Type 0} → Token → List K → (K → Format A) → Format (List A)
 one_for_each w keys format =
     as_shape (and_then (count_line w (length keys) (length keys)) (λ _. each keys format)) (λ x. x.1)
@@ -88,7 +88,7 @@ one_for_each w keys format =
 
 -- ---- choices
 
--- either of two texts, the first where both could be
+-- a value of one of two texts
 pub data Either (A B : Type 0) : Type 0 where
   Left : A → Either A B
   Right : B → Either A B
@@ -101,7 +101,7 @@ abbrev pub fits_either : {A B : Type 0} → Text A → Text B → Either A B →
 fits_either first second (Left a) = first.fits a
 fits_either first second (Right b) = second.fits b
 
--- the first text's value where there is one, else the second's
+-- the first text's value if there is one, otherwise the second's
 abbrev pub left_or : {A B : Type 0} → Option B → Option A → Option (Either A B)
 left_or other (Some a) = Some (Left a)
 left_or other None = option_map (λ b. Right b) other
@@ -123,7 +123,7 @@ abbrev pub fits_any : {A : Type 0} → Text A → Option A → Bool
 fits_any text None = true
 fits_any text (Some a) = text.fits a
 
--- an empty token is no value, and any other the text's
+-- an empty token has no value, and any other the text's
 abbrev pub read_any : {A : Type 0} → Text A → Token → Option (Option A)
 read_any text [] = Some None
 read_any text (b ∷ t) = option_map (λ a. Some a) (text.read (b ∷ t))
@@ -136,12 +136,12 @@ if_any text = record {
   fits = fits_any text;
 }
 
--- the values of a text that pass a test
+-- the value, if there is one and it passes a test
 abbrev pub kept_by : {A : Type 0} → (A → Bool) → Option A → Option A
 kept_by test None = None
 kept_by test (Some a) = if test a then Some a else None
 
--- a text of those values alone that pass the test
+-- a text of only those values that pass the test
 abbrev pub only : {A : Type 0} → (A → Bool) → Text A → Text A
 only test text = record {
   print = text.print;

@@ -5,7 +5,7 @@ ghost use Rattle.spares_io.specs.declared.stop.Stop.TheVariants as stop;
 
 use spares_io::Stop;
 
-/// The next line isn't one of the format. The cursor stays before it.
+/// The next line doesn't belong to the format. The cursor stays before it.
 #[derive(Clone, Copy, Debug, PartialEq, Eq)]
 pub struct BadLine;
 

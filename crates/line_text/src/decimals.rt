@@ -8,7 +8,7 @@ ghost use Rattle.line_text.specs.Writing.{Puts};
 use crate::numbers::{are_digits, number, put_number, value_after};
 use spares_io::NoMemory;
 
-/// What stands before the point and after it, where the point stands before so many places.
+/// The bytes before and after the point, if the point is before the last `places` bytes.
 #[tactic(auto, using(crate::proofs::FixedLaws::too_short, crate::proofs::FixedLaws::no_point, crate::proofs::FixedLaws::point_found))]
 fn halves(text: &[u8], places: usize) -> Option<(&[u8], &[u8])>
     ensures { MatchOption result ((xs ys : List ℕ) → length ys ≡ places → text.now ≡ xs ++ (46 ∷ ys) → ⊥)
@@ -26,8 +26,7 @@ fn halves(text: &[u8], places: usize) -> Option<(&[u8], &[u8])>
     }
 }
 
-/// The number of units from `least` to `most` that this is the text of: the last of exactly so many `places` is one
-/// unit.
+/// Parses a number with exactly `places` decimals. The result is in units of the last place, from `least` to `most`.
 #[tactic(auto, using(crate::proofs::FixedLaws::no_halves, crate::proofs::FixedLaws::no_whole))]
 pub fn fixed(text: &[u8], places: usize, least: u128, most: u128) -> Option<u128>
     ensures { result ≡ (fixed places least most).read text.now }
@@ -53,7 +52,7 @@ pub fn fixed(text: &[u8], places: usize, least: u128, most: u128) -> Option<u128
     Some(n)
 }
 
-/// The units of one whole.
+/// The number of units in one whole.
 fn power_of_ten(places: usize) -> u128
     requires { places ≤ 18 }
     ensures { result ≡ 10 ^ places }
@@ -79,8 +78,8 @@ fn put_last_digits(
     Ok(())
 }
 
-/// Writes a number of units of the last of so many `places`, with all of them. Want of memory leaves a
-/// part of it.
+/// Writes a number of units of the last of `places` decimals, with all of them. After want of memory a part of it may
+/// be written.
 pub fn put_fixed(out: &mut Vec<u8>, places: usize, number: u128) -> Result<(), NoMemory>
     requires { places ≤ 18 }
     ensures { Puts result out.old.items out.new.items (fixed_text places number) }

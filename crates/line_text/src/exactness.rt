@@ -1,4 +1,4 @@
-//! The laws of formats: each part keeps a format exact, and a file of an exact format is read as it was written.
+//! The laws of formats: each part keeps a format exact, and a file of an exact format reads as it was written.
 
 ghost use Rattle.std.specs.Prelude.{◌≡◌, ◌≢◌, ℕ, suc, ◌^◌, ◌<◌, ◌≤◌, Bool, true, List, [], Ok, Err, length};
 ghost use Rattle.std.specs.List.{AllByRecursion};
@@ -7,8 +7,8 @@ ghost use Rattle.line_text.specs.Texts.{number, fixed, plain, word, no_field, em
 ghost use Rattle.line_text.specs.Files.{line, file_text, file_answer, IsFirstBad};
 ghost use Rattle.line_text.specs.Exact.{Level, IsToken, IsField, IsLine, IsExactText, IsExact};
 
-/// Formats are exact that are made of exact ones: of one token or of none, one after the other, in another shape,
-/// and for each of some keys.
+/// Formats built of exact ones are exact: of one token or none, one after the other, in another shape, and for each of
+/// a list of keys.
 pub fn formats_are_exact<K, A, B>()
     ensures spelled { (level : Level) (print : A → Token) (meant : Token → A) (fits : A → Bool) (good : A)
         → fits good ≡ true
@@ -36,8 +36,8 @@ pub fn formats_are_exact<K, A, B>()
         → IsExact (IsToken level) (each keys format) }
 {}
 
-/// Choices are exact: one of two texts that no token has both, the values that pass a test, and a field that may be
-/// empty.
+/// Choices are exact: one of two texts that have no token in common, the values that pass a test, and a field that may
+/// be empty.
 pub fn choices_are_exact<A, B>()
     ensures either { (level : Level) (first : Text A) (second : Text B)
         → IsExactText (IsToken level) first
@@ -55,8 +55,8 @@ pub fn choices_are_exact<A, B>()
         → IsExactText IsField (if_any text) }
 {}
 
-/// Fields are exact: numbers of at most 64 digits, texts and words with no comma and no line feed, and
-/// the one value of a field that is empty or isn't there.
+/// Fields are exact: numbers of at most 64 digits, texts and words without comma and line feed, and the one value of a
+/// field that is empty or missing.
 pub fn fields_are_exact<A>()
     ensures number { (least most : ℕ) → least ≤ most → most < 10 ^ 64 → IsExactText IsField (number least most) }
     ensures fixed { (places least most : ℕ)
@@ -78,8 +78,8 @@ pub fn fields_are_exact<A>()
         → IsExact IsField (empty_field x has) }
 {}
 
-/// Lines are exact: of any exact fields of which there are some, of a word, of a number, of a word and a number, and
-/// of a word and a number with so many lines after it.
+/// Lines are exact: of exact fields, at least one, of a word, of a number, of a word and a number, and of a word and a
+/// count with that number of lines after it.
 pub fn lines_are_exact<K, A>()
     ensures line { (fields : Format A)
         → IsExact IsField fields
@@ -105,8 +105,8 @@ pub fn lines_are_exact<K, A>()
         → IsExact IsLine (one_for_each w keys format) }
 {}
 
-/// A file of an exact format is read as the value that it was written of, is read as no other, and is
-/// refused at its first bad line.
+/// A file of an exact format reads as exactly the value of which it was written, and any other file is refused at its
+/// first bad line.
 pub fn files_are_exact<A>()
     ensures again { (format : Format A)
         → IsExact IsLine format

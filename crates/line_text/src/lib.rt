@@ -1,8 +1,8 @@
 //! Formats of lines and fields: a file is a list of lines, and a line is a list of fields with commas between them.
 //!
-//! A format is one term that says both how values are written and how they are read. It is built of a few parts,
-//! and the laws of this crate say of each part that it keeps a format exact: what is written is read again, what is
-//! read was written so, and a refusal stands at the first bad line. Cursors read by such a format, line after line.
+//! A format is one term for both writing and reading values. It is built of a few parts, and the laws of this crate
+//! prove for each part that it keeps a format exact: each value reads as it was written, each text that reads was
+//! written so, and a refusal names the first bad line. Cursors read by such a format, line after line.
 #![tactic(auto)]
 
 mod bad_line;

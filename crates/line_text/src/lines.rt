@@ -43,7 +43,7 @@ impl<'a> Model for Lines<'a> {
     ghost view = { λ l. lines_of l.rest.now };
 }
 
-/// Where a line feed stands, or the length.
+/// The index of the first line feed, or the length.
 fn line_end(bytes: &[u8]) -> usize
     ensures place { result ≡ position_or_len is_end bytes.now }
     ensures within { result ≤ length bytes.now }
@@ -56,7 +56,7 @@ fn line_end(bytes: &[u8]) -> usize
     bytes.len()
 }
 
-/// Where a comma stands, or the length.
+/// The index of the first comma, or the length.
 fn field_end(bytes: &[u8]) -> usize
     ensures place { result ≡ position_or_len comma bytes.now }
     ensures within { result ≤ length bytes.now }
@@ -69,7 +69,7 @@ fn field_end(bytes: &[u8]) -> usize
     bytes.len()
 }
 
-/// The first line without its line feed, where it has one.
+/// The first line without its line feed, if it has one.
 #[tactic(auto, using(crate::proofs::Cursors::fields_found, crate::proofs::Cursors::fields_missing))]
 fn first_line(bytes: &[u8]) -> Option<&[u8]>
     ensures { MatchOption result (first_fields (lines_of bytes.now) ≡ None)
@@ -83,7 +83,7 @@ fn first_line(bytes: &[u8]) -> Option<&[u8]>
     }
 }
 
-/// What stands after the first line.
+/// The bytes after the first line.
 #[tactic(auto, using(crate::proofs::Cursors::passed, crate::proofs::Cursors::passed_last, crate::proofs::Cursors::empty_lines))]
 fn after_line(bytes: &[u8]) -> &[u8]
     ensures { lines_of result.now ≡ later (lines_of bytes.now) }
@@ -97,7 +97,7 @@ fn after_line(bytes: &[u8]) -> &[u8]
     }
 }
 
-/// The first field, and what stands after its comma, where it has one.
+/// The first field, and the bytes after its comma, if it has one.
 #[tactic(auto, using(crate::proofs::Cursors::field_found, crate::proofs::Cursors::last_field))]
 fn first_field(bytes: &[u8]) -> (&[u8], Option<&[u8]>)
     ensures { slice_split comma bytes.now ≡ result.0.now ∷ fields_left result.1 }
@@ -112,21 +112,21 @@ fn first_field(bytes: &[u8]) -> (&[u8], Option<&[u8]>)
 }
 
 impl<'a> Lines<'a> {
-    /// The lines of these bytes, of which the last may have no line feed.
+    /// The lines of these bytes; the last may have no line feed.
     pub fn of(bytes: &'a [u8]) -> Lines<'a>
         ensures { result ≡ lines_of bytes.now }
     {
         Lines { rest: bytes }
     }
 
-    /// Whether there is no line left.
+    /// Whether no line is left.
     pub fn is_empty(&self) -> bool
         ensures { IsTrue result ↔ (self.now ≡ []) }
     {
         self.rest.is_empty()
     }
 
-    /// The fields of the next line, which stays the next one. `BadLine` where there is none, or none with a line feed.
+    /// The fields of the next line, which isn't passed. `BadLine` if no line is left or it has no line feed.
     pub fn fields(&self) -> Result<Fields<'a>, BadLine>
         ensures { MatchResult result (λ f. first_fields self.now ≡ Some f) (λ _. first_fields self.now ≡ None) }
     {
@@ -136,7 +136,7 @@ impl<'a> Lines<'a> {
         }
     }
 
-    /// How many lines are left.
+    /// The number of lines left.
     pub fn count(&self) -> usize
         ensures { result ≡ length self.now }
     {
@@ -152,7 +152,7 @@ impl<'a> Lines<'a> {
 }
 
 impl<'a> Fields<'a> {
-    /// The fields of these bytes: of a line that has no line feed.
+    /// The fields of a line without its line feed.
     pub fn of(bytes: &'a [u8]) -> Fields<'a>
         ensures { result ≡ slice_split comma bytes.now }
     {
@@ -184,7 +184,7 @@ impl<'a> Fields<'a> {
         }
     }
 
-    /// Takes a field with these bytes.
+    /// Takes a field if it has exactly these bytes.
     #[tactic(auto, using(crate::proofs::Cursors::word_found, crate::proofs::Cursors::word_differs, crate::proofs::Cursors::none_left))]
     pub fn word(&mut self, wanted: &[u8]) -> Option<()>
         ensures { Takes (λ _. tt) result self.new ((word wanted.now).read self.old) }
@@ -218,7 +218,7 @@ impl<'a> Fields<'a> {
     }
 }
 
-/// How many lines there are.
+/// The number of lines.
 fn count_lines(bytes: &[u8]) -> usize
     ensures { result ≡ length (lines_of bytes.now) }
 {

@@ -21,7 +21,7 @@ pub(crate) fn are_digits(text: &[u8]) -> bool
     true
 }
 
-/// The number that a number and the digits after it write, if it fits.
+/// The number that the digits write after the number `front`, if it fits.
 pub(crate) fn value_after(front: u128, digits: &[u8]) -> Option<u128>
     requires { AreDigits digits.now }
     ensures { MatchOption result (2 ^ 128 ≤ digits_value_after 10 front digits.now)
@@ -40,14 +40,14 @@ pub(crate) fn value_after(front: u128, digits: &[u8]) -> Option<u128>
     Some(number)
 }
 
-/// Whether no needless 0 stands in front.
+/// Whether there is no needless 0 in front.
 fn is_short(text: &[u8]) -> bool
     ensures { IsTrue result ↔ IsShort text.now }
 {
     text.len() == 1 || (!text.is_empty() && text[0] != b'0')
 }
 
-/// The whole number from `least` to `most` that this is the text of, with no needless 0 in front.
+/// Parses a whole number from `least` to `most`, with no needless 0 in front.
 #[tactic(auto, using(crate::proofs::Numerals::read_found, crate::proofs::Numerals::not_short, crate::proofs::Numerals::not_digits, crate::proofs::Numerals::too_large, crate::proofs::Numerals::too_low, crate::proofs::Numerals::too_high))]
 pub fn number(text: &[u8], least: u128, most: u128) -> Option<u128>
     ensures { result ≡ (number least most).read text.now }
@@ -70,7 +70,7 @@ pub fn number(text: &[u8], least: u128, most: u128) -> Option<u128>
     Some(n)
 }
 
-/// Writes a whole number. Want of memory leaves a part of it.
+/// Writes a whole number. After want of memory a part of it may be written.
 #[tactic(auto, using(crate::proofs::Parts::none_put))]
 pub fn put_number(out: &mut Vec<u8>, number: u128) -> Result<(), NoMemory>
     ensures { Puts result out.old.items out.new.items (decimal number) }

@@ -1,4 +1,4 @@
-//! Lines of a word, and of a word and a number.
+//! Lines of a word, of a number, and of a word and a number.
 
 ghost use Rattle.std.specs.Prelude.{◌≡◌, ℕ};
 ghost use Rattle.line_text.specs.Formats.{accepted, one, read_all};
@@ -20,7 +20,7 @@ fn count_of(fields: &mut Fields<'_>, name: &[u8], least: u128, most: u128) -> Op
     fields.number(least, most)
 }
 
-/// The number of a line whose fields are a word and a number.
+/// The number of a line whose only fields are a word and a number.
 #[tactic(auto, using(crate::proofs::Cursors::whole_read, crate::proofs::Cursors::whole_left, crate::proofs::Cursors::whole_refused))]
 fn count_all(mut fields: Fields<'_>, name: &[u8], least: u128, most: u128) -> Option<u128>
     ensures { result ≡ accepted (read_all (count_fields name.now least most) fields.entry) }
@@ -29,8 +29,8 @@ fn count_all(mut fields: Fields<'_>, name: &[u8], least: u128, most: u128) -> Op
     if fields.is_empty() { Some(count) } else { None }
 }
 
-/// Reads the line of a word and a number from `least` to `most`. [`BadLine`] comes where the next line is another or
-/// none is left, and leaves it unread.
+/// Reads the line of a word and a number from `least` to `most`. [`BadLine`] comes if the next line is another or none
+/// is left, and leaves it unread.
 #[tactic(auto, using(crate::proofs::Cursors::line_read, crate::proofs::Cursors::line_refused, crate::proofs::Cursors::line_missing))]
 pub fn count_line(
     lines: &mut Lines<'_>,
@@ -59,7 +59,7 @@ fn word_all(mut fields: Fields<'_>, name: &[u8]) -> Option<()>
     if fields.is_empty() { Some(()) } else { None }
 }
 
-/// Reads the line of one word. [`BadLine`] comes where the next line is another or none is left, and leaves it unread.
+/// Reads the line of one word. [`BadLine`] comes if the next line is another or none is left, and leaves it unread.
 #[tactic(auto, using(crate::proofs::Cursors::line_read, crate::proofs::Cursors::line_refused, crate::proofs::Cursors::line_missing))]
 pub fn word_line(lines: &mut Lines<'_>, name: &[u8]) -> Result<(), BadLine>
     ensures { Reads (λ _. tt) result lines.new ((word_line name.now).read lines.old) }
@@ -87,8 +87,8 @@ fn number_all(mut fields: Fields<'_>, most: u128) -> Option<u128>
     }
 }
 
-/// Reads the line of one number up to `most`. [`BadLine`] comes where the next line is another or none is left, and
-/// leaves it unread.
+/// Reads the line of one number up to `most`. [`BadLine`] comes if the next line is another or none is left, and leaves
+/// it unread.
 #[tactic(auto, using(crate::proofs::Cursors::line_read, crate::proofs::Cursors::line_refused, crate::proofs::Cursors::line_missing))]
 pub fn number_line(lines: &mut Lines<'_>, most: u128) -> Result<u128, BadLine>
     ensures { Reads (λ n. n) result lines.new ((number_line most).read lines.old) }
@@ -103,7 +103,7 @@ pub fn number_line(lines: &mut Lines<'_>, most: u128) -> Result<u128, BadLine>
     }
 }
 
-/// Writes the line of one number. Want of memory leaves a part of it.
+/// Writes the line of one number. After want of memory a part of it may be written.
 #[tactic(auto, using(crate::proofs::Loops::one_text))]
 pub fn put_number_line(out: &mut Vec<u8>, number: u128) -> Result<(), NoMemory>
     ensures { (most : ℕ) → Puts result out.old.items out.new.items (file_text (number_line most) number) }
@@ -113,7 +113,7 @@ pub fn put_number_line(out: &mut Vec<u8>, number: u128) -> Result<(), NoMemory>
     Ok(())
 }
 
-/// Writes the line of a word and a number. Want of memory leaves a part of it.
+/// Writes the line of a word and a number. After want of memory a part of it may be written.
 pub fn put_count_line(out: &mut Vec<u8>, name: &[u8], number: u128) -> Result<(), NoMemory>
     ensures { (least most : ℕ)
         → Puts result out.old.items out.new.items (file_text (count_line name.now least most) number) }

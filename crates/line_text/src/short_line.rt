@@ -1,9 +1,9 @@
-//! A line that is put together in place, before it is appended to a text.
+//! A line that is built in place, before it is appended to a text.
 ghost use Rattle.std.specs.Prelude.{◌≡◌, ◌+◌, ◌<◌, ◌≤◌, ◌++◌, ◌∷◌, [], length};
 
 use std::marker::Model;
 
-/// A line of at most `MOST` bytes, seen as their list. It takes no memory but its own.
+/// A line of at most `MOST` bytes. Contracts see the list of its bytes. It allocates no memory.
 #[derive(Drop)]
 pub struct ShortLine<const MOST: usize> {
     bytes: [u8; MOST],
@@ -21,7 +21,7 @@ impl<const MOST: usize> Model for ShortLine<MOST> {
 }
 
 impl<const MOST: usize> ShortLine<MOST> {
-    /// The line with no bytes.
+    /// The empty line.
     #[inline(always)]
     pub fn new() -> ShortLine<MOST>
         ensures { result ≡ [] }
@@ -32,7 +32,7 @@ impl<const MOST: usize> ShortLine<MOST> {
         }
     }
 
-    /// Takes all bytes away.
+    /// Removes all bytes.
     #[inline(always)]
     pub fn clear(&mut self)
         ensures { self.new ≡ [] }
@@ -40,7 +40,7 @@ impl<const MOST: usize> ShortLine<MOST> {
         self.len = 0;
     }
 
-    /// Appends a byte, of which there are fewer than `MOST`.
+    /// Appends a byte. There must be fewer than `MOST` before.
     #[inline(always)]
     pub fn push(&mut self, byte: u8)
         requires { length self.old < MOST }
@@ -50,7 +50,7 @@ impl<const MOST: usize> ShortLine<MOST> {
         self.len += 1;
     }
 
-    /// Appends bytes, with which there are at most `MOST`.
+    /// Appends bytes. There must be at most `MOST` in all.
     #[inline(always)]
     pub fn put(&mut self, piece: &[u8])
         requires { length self.old + length piece.now ≤ MOST }

@@ -1,4 +1,4 @@
--- Laws of the ends, here because `Score for LogLoss` cites them: they enclose the series and the loss.
+-- Laws of the ends, placed here because `Score for LogLoss` cites them: they enclose the series and the loss.
 use Rattle.std.proofs.Common.{ℕ, zero, suc, ◌+◌, ◌-◌, ◌*◌, ◌^◌, ◌<◌, ◌≤◌, ◌≡◌, ◌∙◌, ◌⊎◌, inl, inr, arith, refl, ap, subst, zero-lt-suc, min, mul-le-mul}
 use Rattle.std.proofs.Math.Nat.{mul-pos, mul-le-mul_left, mul-le-mul_right, le_of_mul-le-mul_right, mul-sub, lt_of_mul-lt-mul_right, le_refl}
 use Rattle.exact_model.specs.Fraction.{Fraction, whole, sum_below, scaled, Contains, Encloses, ◌≈◌, ◌≤ℚ◌, ◌+ℚ◌, ◌-ℚ◌, ◌*ℚ◌, ◌/ℚ◌}
@@ -58,7 +58,7 @@ pub record IsBelowOne (q : Fraction) (g : ℕ) : Type 0 where
 abbrev tail_of : (p : Fraction) (b g c : ℕ) → 0 < b → 0 < g → 0 < c → Fraction
 tail_of p b g c s t u = over (p.num * b) (p.den * (c * g)) (mul-pos p.positive (mul-pos u t))
 
--- 1 / m + q / (c (1 - q)) <= 1 / (c (1 - q)) where c <= m
+-- 1 / m + q / (c (1 - q)) <= 1 / (c (1 - q)) if c <= m
 tail_step : (P D a b g c m : ℕ) → a + g ≡ b → c ≤ m
     → (P * 1 * (D * b * (c * g)) + P * a * b * (D * m)) * (D * (c * g)) ≤ P * b * (D * m * (D * b * (c * g)))
 tail_step P D a b g c m e h =
@@ -89,7 +89,7 @@ power_is : (q : Fraction) (n : ℕ) → power q n *ℚ q ≡ power q (suc n)
 unfolding power
 power_is q n = refl
 
--- what the terms past the mth come to at most, by the place n
+-- an upper bound of the terms after the mth, by the place n
 abbrev tail_at : (q : Fraction) (g n m : ℕ) → IsBelowOne q g → Fraction
 tail_at q g n m h = tail_of (power q (suc m)) q.den g (suc n) q.positive h.positive (zero-lt-suc n)
 
@@ -109,7 +109,7 @@ tails_step q g n m h l =
     (same (loss m q +ℚ tail_at q g n m h))
     (add_left (loss m q) (term_and_tail q g n m h l))
 
--- the first terms and what comes past them at most are at least any further terms and what comes past those
+-- the first terms with the bound of the rest are at least any more terms with the bound of their rest
 tails : (q : Fraction) (g n j : ℕ) (h : IsBelowOne q g)
     → loss (j + n) q +ℚ tail_at q g n (j + n) h ≤ℚ loss n q +ℚ tail_at q g n n h
 tails q g n zero h =
@@ -182,7 +182,7 @@ series_in f y q n j s i =
           all.high;
     }
 
--- the interval of n terms, with what comes past them, contains the series of a share at each depth from 1024 on
+-- the interval of n terms with the bound of the rest contains the series of a share at each depth from 1024 on
 pub series_encloses : (f : ℕ) (y : Ends) (q : Fraction) (n : ℕ) → IsShare f y → In f y q → n ≤ 1024
     → Encloses f (series_past f y n).lo (series_past f y n).hi (λ m. loss m q)
 series_encloses f y q n s i l m d =
@@ -228,7 +228,7 @@ cap_low lo c d n e = omega (arith, min_steps lo c d, e)
 cap_high : (hi c d n : ℕ) → c * d ≡ n → n ≤ hi * d → n ≤ min hi c * d
 cap_high hi c d n e h = omega (arith, min_steps hi c d, e, h)
 
--- what is capped at r exactly contains the smaller of its fraction and r
+-- the ends capped at exactly r contain the smaller of their fraction and r
 smaller_in : (f : ℕ) (a : Ends) (c : ℕ) (q r : Fraction) → c * r.den ≡ r.num * 2 ^ f → In f a q
     → In f (ends_capped a c) (smaller q r)
 smaller_in f a c q r e h = elim (le_or_le q r) [
@@ -286,7 +286,7 @@ room_step s z n h k l =
     let y : s * z * n ≤ 4 * 2 ^ 48 * 100 * 10000 = mul-le-mul x l in
     omega (arith, y)
 
--- the interval of the score is in order and leaves room to add up
+-- the interval of the score is in order and leaves room for sums
 pub loss_has_room : LeavesRoom (λ systems per_system _ backorders. loss_ends systems per_system backorders)
 loss_has_room systems per_system weight backorders limits ordered =
     let y = share_ends systems per_system backorders in

@@ -9,13 +9,13 @@ use Rattle.marginal_alloc.specs.Filling.{HasChange, gain}
 abbrev pub hi_at : List Point → ℕ → ℕ
 hi_at curve k = (point_at curve k).hi
 
--- vertex k costs no more than the room, and its upper end is below that at the pick
+-- vertex k costs no more than the room, and its upper end is below the upper end at the pick
 pub record IsLower (curve : List Point) (pick room k : ℕ) : Type 0 where
   pub vertex : k < length curve
   pub fits : (point_at curve k).cost ≤ room
   pub lower : hi_at curve k < hi_at curve pick
 
--- of those among the first n vertices, v is the first that is lowest; where there is none, v is the pick
+-- v is the first lowest vertex of those among the first n, or the pick if there is none
 pub record IsLowest (curve : List Point) (pick room n v : ℕ) : Type 0 where
   pub vertex : v < length curve
   pub own : (v ≡ pick) ⊎ (IsLower curve pick room v × (v < n))
@@ -30,7 +30,7 @@ pub record IsBestAmong (curves : List (List Point)) (budget : ℕ) (picks : List
   pub best : (g j : ℕ) → g < n → HasChange curves budget picks g j → (gain curves picks g j < c.gain)
       ⊎ ((gain curves picks g j ≡ c.gain) × ((c.family < g) ⊎ ((c.family ≡ g) × (c.vertex ≤ j))))
 
--- the best change among those of the first n families, or none where these have no change
+-- the best change of the first n families, or none if they have no change
 abbrev pub IsBestBefore : List (List Point) → ℕ → List ℕ → ℕ → Option Change → Type 0
 IsBestBefore curves budget picks n None = (g j : ℕ) → g < n → HasChange curves budget picks g j → ⊥
 IsBestBefore curves budget picks n (Some c) = IsBestAmong curves budget picks n c

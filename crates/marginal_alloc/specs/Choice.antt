@@ -1,4 +1,4 @@
--- The hull choice: the steps of all curves by falling slope, as far as the budget goes.
+-- The hull choice: the steps of all curves by falling slope, within the budget.
 use Rattle.std.specs.Prelude.{◌≡◌, ℕ, ◌+◌, ◌-◌, ◌<◌, ◌≤◌, Option, Some, None, List, length, slice_index}
 use Rattle.hull.specs.declared.point.Point.{Point}
 use Rattle.hull.specs.declared.price.Price.{Price}
@@ -8,7 +8,7 @@ use Rattle.marginal_alloc.specs.declared.allocation.Critical.{Critical}
 use Rattle.marginal_alloc.specs.declared.allocation.Chosen.{Chosen}
 use Rattle.price_bounds.specs.Sums.{cost_of, width_of}
 
--- where the choice stops: at a critical step that passes the budget, or where no step is left
+-- the choice stops at a critical step that exceeds the budget, or when no step is left
 abbrev pub StopsWith : List (List Point) → ℕ → List ℕ → ℕ → Price → Option Critical → Type 0
 StopsWith curves budget picks cost price None = AllTaken curves picks × (price.p ≡ 0) × (price.q ≡ 1)
 StopsWith curves budget picks cost price (Some c) =
@@ -24,22 +24,22 @@ pub record IsHullChoice (curves : List (List Point)) (budget : ℕ) (chosen : Ch
   pub fits : chosen.cost ≤ budget
   pub stops : StopsWith curves budget chosen.picks chosen.cost chosen.price chosen.critical
 
--- each curve is that of its family's points
+-- each curve is the curve of its family's points
 pub record AreCurves (families curves : List (List Point)) : Type 0 where
   pub count : length families ≡ length curves
   pub each : (f : ℕ) → f < length curves → IsCurve (curve_at families f) (curve_at curves f)
 
--- the widths at the picks, that at the critical vertex where there is one, and a unit
+-- the widths at the picks, the width at the critical vertex if there is one, and one unit
 abbrev pub rounding_at : List (List Point) → List ℕ → Option Critical → ℕ
 rounding_at curves picks None = width_of (picked curves picks) + 1
 rounding_at curves picks (Some c) = width_of (picked curves picks)
     + ((vertex_at curves c.family c.vertex).hi - (vertex_at curves c.family c.vertex).lo) + 1
 
--- how far the bound may be from that of another price
+-- the most by which the bound can differ from another price's bound
 abbrev pub rounding_of : List (List Point) → Chosen → ℕ
 rounding_of curves chosen = rounding_at curves chosen.picks chosen.critical
 
--- The curves are those of the families' points, and this is their hull choice.
+-- The curves are the curves of the families' points, and this is their hull choice.
 pub record IsChoiceFor (families curves : List (List Point)) (budget : ℕ) (chosen : Chosen) : Type 0 where
   pub areas : AreCurves families curves
   pub shapes : HaveShapes curves

@@ -1,11 +1,11 @@
--- What a filling keeps and where it ends.
+-- The laws of a filling: what it keeps, and when it ends.
 use Rattle.std.specs.Prelude.{◌≡◌, ℕ, ◌≤◌, List, length, slice_index}
 use Rattle.hull.specs.declared.point.Point.{Point}
 use Rattle.price_bounds.specs.Sums.{cost_of}
 use Rattle.step_walk.specs.Prefix.{vertex_at, AreVertices, picked}
 use Rattle.marginal_alloc.specs.Filling.{IsFull, Fills}
 
--- It ends where no change is left.
+-- It ends when no change is left.
 abbrev pub FillingIsFull : Type 0
 FillingIsFull = (curves : List (List Point)) (budget : ℕ) (picks end : List ℕ) → Fills curves budget picks end
     → IsFull curves budget end
@@ -15,7 +15,7 @@ abbrev pub FillingFits : Type 0
 FillingFits = (curves : List (List Point)) (budget : ℕ) (picks end : List ℕ) → Fills curves budget picks end
     → cost_of (picked curves picks) ≤ budget → cost_of (picked curves end) ≤ budget
 
--- The picks stay one vertex of each curve.
+-- The picks remain one vertex of each curve.
 abbrev pub FillingPicksVertices : Type 0
 FillingPicksVertices = (curves : List (List Point)) (budget : ℕ) (picks end : List ℕ) → Fills curves budget picks end
     → AreVertices curves picks → AreVertices curves end
@@ -26,7 +26,7 @@ FillingNeverRaises = (curves : List (List Point)) (budget : ℕ) (picks end : Li
     → length picks ≡ length curves
     → (f : ℕ) → (vertex_at curves f (slice_index end f)).hi ≤ (vertex_at curves f (slice_index picks f)).hi
 
--- Picks have one filling under a budget.
+-- Picks have only one filling under a budget.
 abbrev pub FillingsAreOne : Type 0
 FillingsAreOne = (curves : List (List Point)) (budget : ℕ) (picks one other : List ℕ) → Fills curves budget picks one
     → Fills curves budget picks other → one ≡ other

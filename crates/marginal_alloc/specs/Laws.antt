@@ -1,4 +1,4 @@
--- What a hull choice is.
+-- The laws of a hull choice.
 use Rattle.std.specs.Prelude.{◌≡◌, ℕ, List, Some}
 use Rattle.hull.specs.declared.point.Point.{Point}
 use Rattle.hull.specs.Curves.{IsLeastAt}
@@ -14,13 +14,13 @@ PicksAreLeast = (families curves : List (List Point)) (budget : ℕ) (chosen : C
     → IsChoiceFor families curves budget chosen
     → AllLeast chosen.price.p chosen.price.q families (picked curves chosen.picks)
 
--- The vertex that the critical step would reach is least too.
+-- The vertex that the critical step would reach also is least.
 abbrev pub CriticalIsLeast : Type 0
 CriticalIsLeast = (families curves : List (List Point)) (budget : ℕ) (chosen : Chosen) (c : Critical)
     → IsChoiceFor families curves budget chosen → chosen.critical ≡ Some c
     → IsLeastAt chosen.price.p chosen.price.q (curve_at families c.family) (vertex_at curves c.family c.vertex)
 
--- Curves have one hull choice under a budget.
+-- Curves have only one hull choice under a budget.
 abbrev pub ChoicesAreOne : Type 0
 ChoicesAreOne = (curves : List (List Point)) (budget : ℕ) (one other : Chosen) → HaveShapes curves
     → IsHullChoice curves budget one → IsHullChoice curves budget other → one ≡ other

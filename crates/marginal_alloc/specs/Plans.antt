@@ -1,4 +1,4 @@
--- The plan of some families' points under a budget.
+-- The plan of the points of families under a budget.
 use Rattle.std.specs.Prelude.{◌≡◌, ℕ, ◌-◌, List, sum}
 use Rattle.hull.specs.declared.point.Point.{Point}
 use Rattle.marginal_alloc.specs.declared.allocation.Chosen.{Chosen}
@@ -9,8 +9,8 @@ use Rattle.marginal_alloc.specs.Choice.{IsChoiceFor, rounding_of}
 use Rattle.marginal_alloc.specs.Filling.{Fills}
 use Rattle.price_bounds.specs.Certificates.{AreLeastFloors}
 
--- The hull choice of the families' curves is filled, and the numbers are those of the two, with the critical
--- step of the hull choice. The floors are the least of all points at the price.
+-- The filling of the families' hull choice, and the numbers of both. The floors are the least Lagrangians of all points
+-- at the price.
 pub record IsPlan (families : List (List Point)) (budget : ℕ) (chosen : List Point) (floors : List ℕ)
     (numbers : PlanNumbers) : Type 0 where
   pub curves : List (List Point)

@@ -1,4 +1,4 @@
--- What a plan promises of the model's values, and which plans are the same.
+-- The promises of a plan about the model's values, and when plans are the same.
 use Rattle.std.specs.Prelude.{◌≡◌, ℕ, ◌+◌, ◌-◌, ◌*◌, ◌<◌, ◌≤◌, List, length}
 use Rattle.exact_model.specs.Fraction.{Fraction, whole, ◌+ℚ◌, ◌*ℚ◌, ◌≤ℚ◌}
 use Rattle.hull.specs.declared.point.Point.{Point}
@@ -17,11 +17,11 @@ NoAllocationHasFewer families budget bound = (points : List Point) (values : Lis
     → cost_of points ≤ budget
     → AllContain points values → IsAtLeast bound (sum_of values)
 
--- The values of all choices: those of each choice are within its points' ends.
+-- The values of each choice are within its points' ends.
 abbrev pub AreValues : List (List Point) → (List Point → List Fraction) → Type 0
 AreValues families values = (points : List Point) → Picks families points → AllContain points (values points)
 
--- At this price, backorders and money together are nowhere below the bound and the budget.
+-- At this price, backorders and money together are never below the bound and the budget.
 abbrev pub IsBoundAt : List (List Point) → (List Point → List Fraction) → ℕ → Fraction → Fraction → Type 0
 IsBoundAt families values budget price bound = (points : List Point) → Picks families points
     → bound +ℚ price *ℚ whole budget ≤ℚ sum_of (values points) +ℚ price *ℚ whole (cost_of points)
@@ -30,7 +30,7 @@ IsBoundAt families values budget price bound = (points : List Point) → Picks f
 abbrev pub AreIntervals : List (List Point) → Type 0
 AreIntervals families = (f : ℕ) (v : Point) → Among v (curve_at families f) → v.lo ≤ v.hi
 
--- No price gives a bound above the limit.
+-- No price has a bound above the limit.
 abbrev pub NoPriceBoundIsHigher : List (List Point) → ℕ → ℕ → Type 0
 NoPriceBoundIsHigher families budget limit = (values : List Point → List Fraction) (price bound : Fraction)
     → AreValues families values
@@ -41,7 +41,7 @@ abbrev pub NoCertificateIsHigher : List (List Point) → ℕ → ℕ → Type 0
 NoCertificateIsHigher families budget limit = (claims : Claims) → IsAcceptable families budget claims
     → claims.bound ≤ limit
 
--- What holds of each plan.
+-- The promises of each plan.
 pub record PlanPromises (families : List (List Point)) (budget : ℕ) (chosen : List Point) (numbers : PlanNumbers) :
     Type 0 where
   pub within : Picks families chosen
@@ -54,7 +54,7 @@ pub record PlanPromises (families : List (List Point)) (budget : ℕ) (chosen : 
   pub small : numbers.price.q * numbers.gap ≤ numbers.price.p * (budget - numbers.hull_cost) + numbers.price.q
       * numbers.rounding
 
--- each plan over intervals in order keeps the promises of a plan
+-- each plan keeps these promises, if the families' points are intervals in order
 abbrev pub PlansKeepTheirPromises : Type 0
 PlansKeepTheirPromises = (families : List (List Point)) (budget : ℕ) (chosen : List Point) (floors : List ℕ)
     (numbers : PlanNumbers)
@@ -73,18 +73,18 @@ PlansAreAcceptable = (families : List (List Point)) (budget : ℕ) (chosen : Lis
       bound = numbers.bound;
     })
 
--- In each family points with the same stocks are the same.
+-- In each family, points with the same stocks are equal.
 abbrev pub StocksTellAll : List (List Point) → Type 0
 StocksTellAll families = (f : ℕ) → f < length families → StocksTell (curve_at families f)
 
--- two plans agree in all they say
+-- two plans are equal in all their numbers
 pub record IsSamePlan (one other : List Point) (one_floors other_floors : List ℕ)
     (one_numbers other_numbers : PlanNumbers) : Type 0 where
   pub chosen : one ≡ other
   pub floors : one_floors ≡ other_floors
   pub numbers : one_numbers ≡ other_numbers
 
--- Such families have one plan under a budget.
+-- Such families have only one plan under a budget.
 abbrev pub PlansAreOne : Type 0
 PlansAreOne = (families : List (List Point)) (budget : ℕ) (chosen other : List Point) (floors other_floors : List ℕ)
     (numbers other_numbers : PlanNumbers) → StocksTellAll families

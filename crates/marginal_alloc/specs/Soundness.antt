@@ -1,4 +1,4 @@
--- What a plan promises of all allocations, at each depth.
+-- The promises of a plan about all allocations, at each depth.
 use Rattle.std.specs.Prelude.{◌≡◌, ℕ, ◌+◌, ◌-◌, ◌*◌, ◌≤◌, List, map}
 use Rattle.hull.specs.declared.point.Point.{Point}
 use Rattle.marginal_alloc.specs.declared.plans.PlanNumbers.{PlanNumbers}
@@ -21,7 +21,7 @@ pub record IsSoundPlan (families : List Family) (budget : ℕ) (stocks : List (L
   pub small_gap : numbers.price.q * numbers.gap ≤ numbers.price.p * (budget - numbers.hull_cost) + numbers.price.q
       * numbers.rounding
 
--- each plan over families whose intervals enclose their backorders is sound
+-- each plan is sound, if the families' intervals enclose their backorders
 abbrev pub PlansAreSound : Type 0
 PlansAreSound = (families : List Family) (budget : ℕ) (chosen : List Point) (floors : List ℕ) (numbers : PlanNumbers)
     → AreEnclosed families

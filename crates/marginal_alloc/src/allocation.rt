@@ -1,4 +1,4 @@
-//! The hull choice: the steps of all curves by falling slope, as far as the budget goes.
+//! The hull choice: the steps of all curves by falling slope, within the budget.
 ghost use Rattle.std.specs.Prelude.{◌≡◌, ℕ, ◌^◌, ◌<◌, ◌≤◌, length, IfOk, OnOk};
 ghost use Rattle.step_walk.specs.Prefix.{vertex_at, HaveShapes};
 ghost use Rattle.marginal_alloc.specs.Choice.{IsHullChoice};
@@ -15,10 +15,10 @@ pub struct Critical {
     pub vertex: u32,
 }
 
-/// A hull choice: a vertex of each curve, their whole cost, and the price at which each of them is least.
+/// A hull choice: a vertex of each curve, their total cost, and the price at which each of them is least.
 ///
-/// The price is that of the critical step: its fall of the lower end in units of 2^-48, for its rise of cost in whole
-/// money. Where every step was taken, there is no critical step, and the price is 0/1.
+/// The price is the slope of the critical step: its fall of the lower end in units of 2^-48, for its rise of cost in
+/// whole money. If every step was taken, there is no critical step, and the price is 0/1.
 #[derive(Drop)]
 pub struct Chosen {
     pub picks: List<u32>,
@@ -30,7 +30,7 @@ pub struct Chosen {
 /// The hull choice of the curves under a budget in whole money.
 ///
 /// The steps of all curves are taken by falling slope, of equal slopes by family and then by place, until one would
-/// pass the budget. There are at most 2,000 curves, and each begins at cost 0. Want of memory is the only error.
+/// exceed the budget. There are at most 2,000 curves, and each begins at cost 0. Want of memory is the only error.
 pub fn allocate(alloc: Global, curves: &[Curve], budget: u64) -> Result<Chosen, NoMemory>
     requires few { length curves.now ≤ 2000 }
     requires free { (f : ℕ) → f < length curves.now → (vertex_at curves.now f 0).cost ≡ 0 }
@@ -42,10 +42,9 @@ pub fn allocate(alloc: Global, curves: &[Curve], budget: u64) -> Result<Chosen, 
     allocate_near(alloc, curves, budget, 0)
 }
 
-/// The hull choice as [`allocate`] gives it, with a guess of its price in units of 2^-48 for whole money.
+/// The same hull choice as [`allocate`], found with a guess of its price in units of 2^-48 for whole money.
 ///
-/// The guess changes no answer. One that is little above the price makes it come sooner. Want of memory is the only
-/// error.
+/// The guess changes no result. A guess slightly above the price is the fastest. Want of memory is the only error.
 pub fn allocate_near(
     alloc: Global,
     curves: &[Curve],

@@ -8,7 +8,7 @@ ghost use Rattle.marginal_alloc.specs.Changes.{hi_at, IsLowest, IsBestBefore};
 
 use hull::Curve;
 
-/// A change of one family to another vertex of its curve, and by how much it lowers the upper end.
+/// A change of one family to another vertex of its curve, and its gain: the fall of the upper end.
 #[derive(Clone, Copy, Drop)]
 pub(crate) struct Change {
     pub family: u32,
@@ -16,7 +16,7 @@ pub(crate) struct Change {
     pub gain: u128,
 }
 
-/// The place from which on an upper end can be below that at the pick: before it no lower end is.
+/// The first place at which an upper end can be below the upper end at the pick: all lower ends before it are too high.
 fn first_below(curve: &Curve, pick: u32) -> u32
     requires shape { IsShape curve.now }
     requires pick { pick < length curve.now }
@@ -33,7 +33,7 @@ fn first_below(curve: &Curve, pick: u32) -> u32
     0
 }
 
-/// The first of the lowest upper ends among the vertices that fit the room, and the pick where none is below its own.
+/// The first vertex with the lowest upper end among those that cost at most `room`, or the pick if none is lower.
 fn lowest_vertex(curve: &Curve, pick: u32, room: u64) -> u32
     requires shape { IsShape curve.now }
     requires pick { pick < length curve.now }
@@ -52,14 +52,14 @@ fn lowest_vertex(curve: &Curve, pick: u32, room: u64) -> u32
     lowest
 }
 
-/// By how much the change lowers the upper end, and 0 where there is none.
+/// The gain of the change, 0 if there is none.
 fn gain_of(change: Option<Change>) -> u128
     ensures { MatchOption change (result ≡ 0) (λ c. result ≡ c.gain) }
 {
     change.map_or(0, |c| c.gain)
 }
 
-/// The better of a change and the best one of one family more, where some money is left.
+/// The better of `best` and the best change of one more family, with `left` money to spend.
 fn better_of(
     curves: &[Curve],
     picks: &[u32],
@@ -95,7 +95,7 @@ fn better_of(
     })
 }
 
-/// The best change of the picks where some money is left, if there is one.
+/// The best change of the picks with `left` money to spend, if there is one.
 pub(crate) fn best_change(curves: &[Curve], picks: &[u32], left: u64) -> Option<Change>
     requires few { length curves.now ≤ 2000 }
     requires vertices { AreVertices curves.now picks.now }

@@ -1,4 +1,4 @@
-//! The filling: the best change of one family at a time, until there is none.
+//! The filling: the best change of one family at a time, until no change is left.
 ghost use Rattle.std.specs.Prelude.{◌≡◌, ◌<◌, ◌≤◌, length};
 ghost use Rattle.price_bounds.specs.Sums.{cost_of};
 ghost use Rattle.step_walk.specs.Prefix.{AreVertices, picked};
@@ -7,7 +7,7 @@ ghost use Rattle.marginal_alloc.specs.Filling.{Fills};
 use crate::change::best_change;
 use hull::Curve;
 
-/// What the picks cost together.
+/// The total cost of the picks.
 pub(crate) fn cost_at(curves: &[Curve], picks: &[u32]) -> u64
     requires few { length curves.now ≤ 2000 }
     requires vertices { AreVertices curves.now picks.now }
@@ -24,12 +24,12 @@ pub(crate) fn cost_at(curves: &[Curve], picks: &[u32]) -> u64
     cost
 }
 
-/// Fills the picks: takes the best change until there is none.
+/// Fills the picks: takes the best change until no change is left.
 ///
 /// A change moves one family to another vertex of its curve, fits the budget in whole money, and lowers that family's
-/// upper end. The best one lowers it most, of equal ones it is the first by family and then by vertex. It takes no
-/// memory. There are at most 2,000 curves, with one pick for each, below its curve's `len`, and together the picks
-/// fit the budget.
+/// upper end. The best change lowers it most; of equal ones it is the first by family and then by vertex. There are at
+/// most 2,000 curves, with one pick for each, below its curve's `len`, and together the picks fit the budget. Allocates
+/// no memory.
 pub fn fill(curves: &[Curve], picks: &mut Vec<u32>, budget: u64)
     requires few { length curves.now ≤ 2000 }
     requires vertices { AreVertices curves.now picks.old.items }

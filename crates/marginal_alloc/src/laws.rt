@@ -1,4 +1,4 @@
-//! What a hull choice and a filling are good for: laws that stand as contracts of functions that do nothing.
+//! Laws of hull choices and fillings, each the contract of a function that does nothing.
 ghost use Rattle.marginal_alloc.specs.Laws.{PicksAreLeast, CriticalIsLeast, ChoicesAreOne};
 ghost use Rattle.marginal_alloc.specs.Fillings.{FillingIsFull, FillingFits, FillingPicksVertices, FillingNeverRaises, FillingsAreOne};
 
@@ -8,18 +8,17 @@ pub fn picks_are_least()
     ensures { PicksAreLeast }
 {}
 
-/// The vertex that the critical step would reach is least at the price too.
+/// The vertex that the critical step would reach also is least at the price.
 pub fn critical_is_least()
     ensures { CriticalIsLeast }
 {}
 
-/// Curves have one hull choice under a budget, so it is a function of both.
+/// Curves have only one hull choice under a budget, so it is a function of both.
 pub fn choices_are_one()
     ensures { ChoicesAreOne }
 {}
 
-/// A filling ends where no change of one family to another vertex of its curve fits the budget and lowers its upper
-/// end.
+/// A filling ends when no change of one family to another vertex of its curve fits the budget and lowers its upper end.
 pub fn filling_is_full()
     ensures { FillingIsFull }
 {}
@@ -29,7 +28,7 @@ pub fn filling_fits()
     ensures { FillingFits }
 {}
 
-/// The picks of a filling stay one vertex of each curve.
+/// The picks of a filling remain one vertex of each curve.
 pub fn filling_picks_vertices()
     ensures { FillingPicksVertices }
 {}
@@ -39,7 +38,7 @@ pub fn filling_never_raises()
     ensures { FillingNeverRaises }
 {}
 
-/// Picks have one filling under a budget, so it is a function of the curves, the budget and the picks.
+/// Picks have only one filling under a budget, so it is a function of the curves, the budget and the picks.
 pub fn fillings_are_one()
     ensures { FillingsAreOne }
 {}

@@ -1,4 +1,4 @@
-//! Where the walk of a hull choice begins: after all steps above a price, of which many fit the budget at once.
+//! The start of the walk of a hull choice: after all steps above a price, many of which fit the budget at once.
 ghost use Rattle.std.specs.Prelude.{◌≡◌, ℕ, ◌^◌, ◌<◌, ◌≤◌, length, IfOk};
 ghost use Rattle.price_bounds.specs.Sums.{cost_of};
 ghost use Rattle.step_walk.specs.Prefix.{vertex_at, picked};
@@ -12,7 +12,7 @@ use step_walk::{Walk, all_after_steep};
 /// A price that no step is above, in units of 2^-48 for whole money.
 const MOST: u128 = 1 << 74;
 
-/// What it costs to take the steps above a price. No clause says so.
+/// The cost after the steps above a price. No clause says so.
 fn cost_after(alloc: Global, curves: &[Curve], price: u128) -> Result<u64, NoMemory>
     requires few { length curves.now ≤ 2000 }
     requires price { price ≤ 2 ^ 74 }
@@ -21,7 +21,7 @@ fn cost_after(alloc: Global, curves: &[Curve], price: u128) -> Result<u64, NoMem
     Ok(cost_at(curves, picks.as_slice()))
 }
 
-/// The lower price if the steps above it fit the budget, and else the other.
+/// The lower price if the steps above it fit the budget, otherwise the other.
 fn lower_within(
     alloc: Global,
     curves: &[Curve],
@@ -40,7 +40,7 @@ fn lower_within(
     Ok(price)
 }
 
-/// A price above which steps fit the budget, at most a fifth or so above the price where they don't.
+/// A price such that the steps above it fit the budget, and at most about a fifth above a price for which they don't.
 fn price_found(alloc: Global, curves: &[Curve], budget: u64) -> Result<u128, NoMemory>
     requires few { length curves.now ≤ 2000 }
     ensures { IfOk result (λ p. p ≤ 2 ^ 74) }
@@ -56,7 +56,7 @@ fn price_found(alloc: Global, curves: &[Curve], budget: u64) -> Result<u128, NoM
     lower_within(alloc, curves, budget, price, price - price / 11)
 }
 
-/// The guessed price if the steps above it fit the budget, and else one that is found.
+/// The guessed price if the steps above it fit the budget, otherwise one that is searched.
 fn price_within(alloc: Global, curves: &[Curve], budget: u64, near: u128) -> Result<u128, NoMemory>
     requires few { length curves.now ≤ 2000 }
     ensures { IfOk result (λ p. p ≤ 2 ^ 74) }
@@ -67,7 +67,7 @@ fn price_within(alloc: Global, curves: &[Curve], budget: u64, near: u128) -> Res
     price_found(alloc, curves, budget)
 }
 
-/// A walk under the budget, and what its picks cost. The price is guessed to be near, which changes no answer.
+/// A walk within the budget, and the cost of its picks. `near` is a guess of the price; it changes no result.
 pub(crate) fn start<'a>(
     alloc: Global,
     curves: &'a [Curve],

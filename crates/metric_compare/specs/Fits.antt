@@ -1,4 +1,4 @@
--- What comparisons a text can show: those whose numbers are below 2 ^ 86 units of 2 ^ -48.
+-- The comparisons that a text can show: their numbers are below 2^86 units of 2^-48.
 use Rattle.std.specs.Prelude.{All}
 use Rattle.plan_report.specs.Fits.{IntervalFits}
 use Rattle.metric_compare.specs.declared.report.CompareItem.{CompareItem}

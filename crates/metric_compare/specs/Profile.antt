@@ -1,5 +1,5 @@
--- The ends of the backorders of Poisson pipelines, level by level: each table is that of the capped mean, with itself
--- as the variance.
+-- The ends of the backorders of Poisson pipelines, level by level: each table has the capped mean as its mean and as
+-- its variance.
 use Rattle.std.specs.Prelude.{ℕ, List, map}
 use Rattle.std.specs.List.{fold}
 use Rattle.fixed_interval.specs.Ends.{Ends, ends_add, ends_exact, ends_times}
@@ -19,15 +19,15 @@ use Rattle.family_eval.specs.Profile.{pipeline_of, share_of}
 unfoldable pub backorders_at : (f : ℕ) → Ends → Ends → ℕ → Ends
 backorders_at f m v s = (at_stock (table_rows f m v) s).ebo
 
--- those of a Poisson pipeline, whose variance is its mean
+-- the backorders of a Poisson pipeline, whose variance is its mean
 abbrev pub poisson_at : (f : ℕ) → Ends → ℕ → Ends
 poisson_at f m s = backorders_at f m m s
 
--- what backorders feed to another pair, by that pair's share; no mean uses the spread
+-- the feed of backorders to another pair, by that pair's share; no mean uses the spread
 abbrev pub fed : (f : ℕ) → Ends → Ends → Feed f
 fed f share x = record { share = share; backorders = x; spread = x }
 
--- what backorders of a shop unit hold back of its line unit
+-- a shop unit's backorders as they hold back its line unit
 abbrev pub held : (f : ℕ) → Ends → Held f
 held f x = record { backorders = x; spread = x }
 
@@ -41,7 +41,7 @@ depot_shop_mean f c s i = (depot_shop_ends f (pipeline_of f c s i 0).direct (pip
 unfoldable pub depot_shop : (f : ℕ) → CaseRows → List ℕ → ℕ → Ends
 depot_shop f c s i = poisson_at f (depot_shop_mean f c s i) (stock c s i 0)
 
--- what the shop unit i feeds to its line unit at the depot
+-- the feed of the shop unit i to its line unit at the depot
 abbrev pub depot_feed : (f : ℕ) → CaseRows → List ℕ → ℕ → Feed f
 depot_feed f c s i = fed f (share_of f c i 0) (depot_shop f c s i)
 
@@ -92,6 +92,6 @@ weighed f c s l j = ends_times (poisson_of f c s l j) (weight c l)
 abbrev pub poisson_family_total_of : (f : ℕ) → CaseRows → List ℕ → ℕ → Ends
 poisson_family_total_of f c s l = fold ends_add (ends_exact f 0) (map (weighed f c s l) (bases c))
 
--- the sum of the families' totals in their order
+-- the sum of the families' totals, in order
 abbrev pub poisson_total_of : (f : ℕ) → CaseRows → List ℕ → Ends
 poisson_total_of f c s = fold ends_add (ends_exact f 0) (map (poisson_family_total_of f c s) (line_units c))

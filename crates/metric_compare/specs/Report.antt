@@ -12,7 +12,7 @@ use Rattle.metric_compare.specs.Profile.{poisson_of, poisson_total_of}
 use Rattle.metric_compare.specs.declared.report.CompareItem.{CompareItem}
 use Rattle.metric_compare.specs.declared.report.CompareReport.{CompareReport}
 
--- part p at site k, where s lists the stocks
+-- the line of part p at site k; s lists the stocks
 abbrev pub compared : CaseRows → List ℕ → ℕ → ℕ → CompareItem
 compared c s p k = record {
   part = (part_at c.parts p).name;
@@ -22,7 +22,7 @@ compared c s p k = record {
   poisson = poisson_of 48 c s p k;
 }
 
--- the pair at a place
+-- the line of pair i
 abbrev pub compared_at : CaseRows → List ℕ → ℕ → CompareItem
 compared_at c s i = compared c s (part_of_place (length c.sites) i).0 (site_of_place (length c.sites) i).0
 

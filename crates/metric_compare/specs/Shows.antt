@@ -1,4 +1,4 @@
--- What a comparison shows of the model and of Poisson pipelines, at every depth from 1024 on.
+-- A comparison encloses the model's and the Poisson values at every depth from 1024 on.
 use Rattle.std.specs.Prelude.{◌≡◌, ℕ, ◌<◌, List, [], length, get_or}
 use Rattle.exact_model.specs.Fraction.{Encloses}
 use Rattle.fixed_interval.specs.Ends.{ends_exact}
@@ -13,7 +13,7 @@ use Rattle.fleet_model.specs.Fleet.{total}
 use Rattle.metric_compare.specs.declared.report.CompareItem.{CompareItem}
 use Rattle.metric_compare.specs.declared.report.CompareReport.{CompareReport}
 
--- the line of part p at site k encloses the model's backorders and those of Poisson pipelines, at the list s of stocks
+-- the line of part p at site k encloses the model's and the Poisson backorders, at the list s of stocks
 pub record ShowsCompared (c : CaseRows) (s : List ℕ) (p k : ℕ) (item : CompareItem) : Type 0 where
   pub part_is : item.part ≡ (part_at c.parts p).name
   pub site_is : item.site ≡ (site_at c.sites k).name
@@ -21,7 +21,7 @@ pub record ShowsCompared (c : CaseRows) (s : List ℕ) (p k : ℕ) (item : Compa
   pub backorders_in : Encloses 48 item.backorders.lo item.backorders.hi (backorders c s p k)
   pub poisson_in : Encloses 48 item.poisson.lo item.poisson.hi (poisson c s p k)
 
--- a line of nothing, which a look-up past the last line gives
+-- an empty line, the result of a look-up past the last line
 abbrev pub no_compared : CompareItem
 no_compared = record { part = []; site = []; stock = 0; backorders = ends_exact 48 0; poisson = ends_exact 48 0 }
 

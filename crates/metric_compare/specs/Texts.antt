@@ -1,4 +1,4 @@
--- The text of a comparison. Fields are parted by commas (44), and each line ends with a line feed (10).
+-- The text of a comparison. Commas (44) separate fields, and each line ends with a line feed (10).
 use Rattle.std.specs.Prelude.{ℕ, List, ◌∷◌, ◌++◌, codes}
 use Rattle.std.specs.List.{flat_map}
 use Rattle.std.specs.Fmt.{decimal}
@@ -7,7 +7,7 @@ use Rattle.plan_report.specs.Texts.{interval_text, line}
 use Rattle.metric_compare.specs.declared.report.CompareItem.{CompareItem}
 use Rattle.metric_compare.specs.declared.report.CompareReport.{CompareReport}
 
--- the two columns: the model's ends, and those of Poisson pipelines
+-- the two columns: the model's ends, and the Poisson ends
 abbrev pub columns_text : Ends → Ends → List ℕ
 columns_text model poisson = interval_text 48 model ++ (44 ∷ interval_text 48 poisson)
 

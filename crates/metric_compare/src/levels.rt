@@ -1,4 +1,4 @@
-//! The backorders of a pipeline, and what they feed to another.
+//! The backorders of a pipeline, and their feed to another pipeline.
 
 ghost use Rattle.std.specs.Prelude.{◌≡◌, ◌≤◌, IfOk};
 ghost use Rattle.fixed_interval.specs.Ends.{IsWithinLimit};
@@ -27,7 +27,7 @@ pub(crate) fn backorders_at(
     Ok(row.ebo)
 }
 
-/// What these backorders feed to another pair, by that pair's share.
+/// The feed of these backorders to another pair, by that pair's share.
 pub(crate) fn fed(share: Iv<48>, backorders: Iv<48>) -> Feed<48>
     ensures { result ≡ fed 48 share backorders }
 {

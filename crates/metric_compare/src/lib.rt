@@ -1,9 +1,9 @@
-//! The backorders of a case at its stocks beside those of Poisson pipelines.
+//! The backorders of a case at its stocks beside the backorders of Poisson pipelines.
 //!
 //! In VARI-METRIC a pipeline's variance grows with the backorders that feed it. METRIC before it (C. C. Sherbrooke,
-//! *Operations Research* 16, 1968) took each pipeline as Poisson, so that its variance is its mean. Here the model's
-//! own means are taken, with that rule at every level, depot and bases, line units and shop units: what is left out is
-//! seen at each pair.
+//! *Operations Research* 16, 1968) took each pipeline as Poisson, so its variance is its mean. Here the model's own
+//! means are taken with that rule at every level: depot and bases, line units and shop units. So each pair shows what
+//! METRIC leaves out.
 #![tactic(auto)]
 
 ghost use Rattle.std.specs.Prelude.{◌≡◌, ℕ, ◌<◌, IfOk, length};
@@ -38,8 +38,8 @@ mod totals;
 
 pub use report::{CompareItem, CompareReport};
 
-/// The backorders of each pair of Poisson pipelines are enclosed at every depth from 1024 on, and so is their weighted
-/// total.
+/// The Poisson ends enclose, at every depth from 1024 on, each pair's backorders with Poisson pipelines and their
+/// weighted total.
 pub fn poisson_encloses()
     ensures pairs { (f : ℕ) (c : CaseRows) (s : StockList) (p k : ℕ)
         → CanEvaluate f c s → p < length c.parts → k < length c.sites
@@ -48,19 +48,18 @@ pub fn poisson_encloses()
         → Encloses f (poisson_total_of f c s.list).lo (poisson_total_of f c s.list).hi (poisson_total c s.list) }
 {}
 
-/// A comparison encloses the model's backorders and those of Poisson pipelines, pair by pair and in total, and can be
+/// A comparison encloses the model's backorders and the Poisson backorders, pair by pair and in total, and can be
 /// printed.
 pub fn comparisons_enclose()
     ensures shows { (c : CaseRows) (s : StockList) → CanEvaluate 48 c s → ShowsComparison c s (comparison_of c s) }
     ensures printed { (c : CaseRows) (s : StockList) → CanEvaluate 48 c s → FitsComparison (comparison_of c s) }
 {}
 
-/// The backorders of a case at its stocks beside those of Poisson pipelines, by part and then by site, and the two
+/// The backorders of a case at its stocks beside those with Poisson pipelines, by part and then by site, and the two
 /// weighted totals.
 ///
-/// The rates are those of the case and break no rule, and the stocks are of this case and within its limits. Each end
-/// is exactly that of the definitions, and encloses its value at every depth from 1024 on. Want of memory is the only
-/// error.
+/// The rates are the rates of the case and break no rule, and the stocks are for this case and within its limits. Each
+/// end equals its definition, and encloses its value at every depth from 1024 on. Want of memory is the only error.
 pub fn compare(
     alloc: Global,
     case: &Case,

@@ -1,4 +1,4 @@
-//! The backorders of line units, from those of their shop units.
+//! The backorders of line units, from the backorders of their shop units.
 
 ghost use Rattle.std.specs.Prelude.{◌≡◌, ◌<◌, ◌≤◌, IfOk, length, map, All};
 ghost use Rattle.fixed_interval.specs.Ends.{IsWithinLimit};
@@ -21,7 +21,7 @@ use spares_input::{PartId, SiteId};
 use spares_io::NoMemory;
 use std::alloc::Global;
 
-/// What shop units feed to their line unit at the depot.
+/// The feeds of shop units to their line unit at the depot.
 fn depot_feeds(
     alloc: Global,
     inputs: &Inputs<'_>,
@@ -43,7 +43,7 @@ fn depot_feeds(
     Ok(feeds)
 }
 
-/// What shop units hold back of their line unit at a base.
+/// The backorders of shop units that hold back their line unit at a base.
 fn held_at(
     alloc: Global,
     inputs: &Inputs<'_>,
@@ -69,7 +69,7 @@ fn held_at(
     Ok(all)
 }
 
-/// A line unit at the depot, from what its shop units feed.
+/// The backorders of a line unit at the depot, from its shop units' feeds.
 fn depot_line_at(
     alloc: Global,
     inputs: &Inputs<'_>,
@@ -90,7 +90,8 @@ fn depot_line_at(
     backorders_at(alloc, depot.mean, depot.mean, pipe.stock)
 }
 
-/// A line unit at a base, from its backorders at the depot and what its shop units at the base hold back.
+/// The backorders of a line unit at a base, from its backorders at the depot and its shop units' backorders at the
+/// base.
 fn base_line_at(
     alloc: Global,
     inputs: &Inputs<'_>,
@@ -117,7 +118,7 @@ fn base_line_at(
     backorders_at(alloc, base.mean, base.mean, pipe.stock)
 }
 
-/// A line unit, by site, from the backorders of all shop units.
+/// The backorders of a line unit by site, from the backorders of all shop units.
 pub(crate) fn line_row(
     alloc: Global,
     inputs: &Inputs<'_>,

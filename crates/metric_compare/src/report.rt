@@ -1,4 +1,4 @@
-//! What a comparison answers, and its text.
+//! The report of a comparison, and its text.
 
 ghost use Rattle.std.specs.Prelude.{◌≡◌, ◌++◌, All, IfOk, OnOk};
 ghost use Rattle.std.specs.List.{flat_map};
@@ -13,8 +13,8 @@ use spares_input::Name;
 use spares_io::{List, NoMemory};
 use std::alloc::Global;
 
-/// A pair of a part and a site with its stock: its expected backorders, and what they are where each pipeline is
-/// Poisson.
+/// A pair of a part and a site with its stock, its expected backorders, and its expected backorders with Poisson
+/// pipelines.
 #[derive(Clone, Copy, PartialEq, Eq)]
 pub struct CompareItem {
     pub part: Name,
@@ -35,8 +35,8 @@ pub struct CompareReport {
 
 impl CompareReport {
     /// The lines `compare,48`, `item,PART,SITE,STOCK,LO,HI,LO,HI` for each pair and `total,LO,HI,LO,HI`: the model's
-    /// ends and then those of Poisson pipelines, with 6 decimals, the lower end rounded down and the upper end up. Want
-    /// of memory is the only error.
+    /// ends and then the Poisson ends, with 6 decimals, the lower end rounded down and the upper end up. Want of memory
+    /// is the only error.
     pub fn text(&self, alloc: Global) -> Result<Vec<u8>, NoMemory>
         requires { FitsComparison self.now }
         ensures { IfOk result (λ text. text.items ≡ compare_text self.now) }

@@ -11,7 +11,7 @@ use spares_input::PartId;
 use spares_io::NoMemory;
 use std::alloc::Global;
 
-/// All pairs, by part and then by site, from the backorders of all shop units.
+/// The backorders of all pairs, by part and then by site, from the backorders of all shop units.
 pub(crate) fn all_numbers(
     alloc: Global,
     inputs: &Inputs<'_>,

@@ -16,7 +16,7 @@ use spares_input::{PartId, SiteId, pair_place};
 use spares_io::NoMemory;
 use std::alloc::Global;
 
-/// A shop unit at the depot. As at every level, the variance is the mean.
+/// The backorders of a shop unit at the depot. As at every level, the variance is the mean.
 fn depot_shop_at(alloc: Global, inputs: &Inputs<'_>, part: PartId) -> Result<Iv<48>, NoMemory>
     requires part { part.0 < length inputs.now.case.parts }
     ensures ends { IfOk result (λ x. x ≡ depot_shop 48 inputs.now.case inputs.now.stocks.list part.0) }
@@ -28,7 +28,7 @@ fn depot_shop_at(alloc: Global, inputs: &Inputs<'_>, part: PartId) -> Result<Iv<
     backorders_at(alloc, depot.mean, depot.mean, pipe.stock)
 }
 
-/// A shop unit at a base, from its backorders at the depot.
+/// The backorders of a shop unit at a base, from its backorders at the depot.
 fn base_shop_at(
     alloc: Global,
     inputs: &Inputs<'_>,
@@ -49,7 +49,7 @@ fn base_shop_at(
     backorders_at(alloc, base.mean, base.mean, pipe.stock)
 }
 
-/// A shop unit, by site.
+/// The backorders of a shop unit, by site.
 fn shop_row(alloc: Global, inputs: &Inputs<'_>, part: PartId) -> Result<Vec<Iv<48>>, NoMemory>
     requires { IsShopUnit inputs.now.case part.0 }
     ensures { IfOk result (λ v. v.items
@@ -65,7 +65,7 @@ fn shop_row(alloc: Global, inputs: &Inputs<'_>, part: PartId) -> Result<Vec<Iv<4
     Ok(row)
 }
 
-/// What stands for a line unit among the shop units: 0 at each site.
+/// The entries of a line unit among the shop units: 0 at each site.
 fn nothing_row(alloc: Global, inputs: &Inputs<'_>, line: PartId) -> Result<Vec<Iv<48>>, NoMemory>
     requires { IsLine inputs.now.case line.0 }
     ensures { IfOk result (λ v. v.items
@@ -75,7 +75,7 @@ fn nothing_row(alloc: Global, inputs: &Inputs<'_>, line: PartId) -> Result<Vec<I
     Ok(row)
 }
 
-/// All shop units, by part and then by site, with zeros at the places of the line units.
+/// The backorders of all shop units, by part and then by site, with zeros at line units.
 pub(crate) fn shop_numbers(alloc: Global, inputs: &Inputs<'_>) -> Result<Vec<Iv<48>>, NoMemory>
     ensures { IfOk result (λ v. v.items ≡ shop_numbers inputs.now.case inputs.now.stocks.list) }
 {
@@ -93,7 +93,7 @@ pub(crate) fn shop_numbers(alloc: Global, inputs: &Inputs<'_>) -> Result<Vec<Iv<
     Ok(all)
 }
 
-/// The backorders of a part at a site, from those of all shop units.
+/// The backorders of a part at a site, looked up in the numbers of all shop units.
 fn number_at(inputs: &Inputs<'_>, shops: &[Iv<48>], part: PartId, site: SiteId) -> Iv<48>
     requires part { part.0 < length inputs.now.case.parts }
     requires site { site.0 < length inputs.now.case.sites }
@@ -106,7 +106,7 @@ fn number_at(inputs: &Inputs<'_>, shops: &[Iv<48>], part: PartId, site: SiteId) 
     shops[pair_place(part, site, sites, parts)]
 }
 
-/// A shop unit at the depot, from the backorders of all shop units.
+/// The backorders of a shop unit at the depot, looked up in the numbers of all shop units.
 pub(crate) fn at_depot(inputs: &Inputs<'_>, shops: &[Iv<48>], unit: PartId) -> Iv<48>
     requires unit { IsShopUnit inputs.now.case unit.0 }
     requires shops { shops.now ≡ shop_numbers inputs.now.case inputs.now.stocks.list }
@@ -117,7 +117,7 @@ pub(crate) fn at_depot(inputs: &Inputs<'_>, shops: &[Iv<48>], unit: PartId) -> I
     number_at(inputs, shops, unit, SiteId(0))
 }
 
-/// A shop unit at a base, from the backorders of all shop units.
+/// The backorders of a shop unit at a base, looked up in the numbers of all shop units.
 pub(crate) fn at_base(inputs: &Inputs<'_>, shops: &[Iv<48>], unit: PartId, base: SiteId) -> Iv<48>
     requires unit { IsShopUnit inputs.now.case unit.0 }
     requires base { IsBase inputs.now.case base.0 }
@@ -128,7 +128,7 @@ pub(crate) fn at_base(inputs: &Inputs<'_>, shops: &[Iv<48>], unit: PartId, base:
     number_at(inputs, shops, unit, base)
 }
 
-/// A shop unit, by site, from the backorders of all shop units.
+/// The backorders of a shop unit by site, looked up in the numbers of all shop units.
 pub(crate) fn row_of(
     alloc: Global,
     inputs: &Inputs<'_>,

@@ -10,7 +10,7 @@ use family_eval::inputs::Inputs;
 use fixed_interval::Iv;
 use spares_input::{PartId, SiteId, pair_place};
 
-/// The backorders of a part at a site, from those of all pairs.
+/// The backorders of a part at a site, looked up in the numbers of all pairs.
 fn number_at(inputs: &Inputs<'_>, all: &[Iv<48>], part: PartId, site: SiteId) -> Iv<48>
     requires part { part.0 < length inputs.now.case.parts }
     requires site { site.0 < length inputs.now.case.sites }

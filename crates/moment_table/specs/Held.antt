@@ -1,4 +1,4 @@
--- The rows that a table holds. No promise of the crate rests on these words.
+-- The stored rows of a table. No promise of the crate rests on these words.
 use Rattle.std.specs.Prelude.{ℕ, ◌≡◌, ◌<◌, ◌≤◌, ◌^◌, ◌==◌, if◌then◌else◌, min, List, length, get_or}
 use Rattle.fixed_interval.specs.Ends.{Ends}
 use Rattle.series_bounds.specs.Profile.{listed}
@@ -10,21 +10,21 @@ use Rattle.moment_table.specs.Inputs.{CanTable}
 use Rattle.moment_table.specs.Profile.{empty_row, wide_row, table_rows}
 use Rattle.moment_table.specs.Rows.{at_stock}
 
--- what is held of a row, beside its tail
+-- the stored form of a row, without its tail
 abbrev pub held_row : {f : ℕ} → Row f → Held f
 held_row {f} row = record { ebo = row.ebo; vbo = row.vbo }
 
--- what is held at the stock s
+-- the stored row at the stock s
 abbrev pub held_at : {f : ℕ} → List (Held f) → ℕ → Held f
 held_at {f} held s = get_or held s (held_row (empty_row f))
 
--- the held rows are a beginning of the table of this mean and variance
+-- the stored rows are the first rows of the table of this mean and variance
 pub record IsHeld (f : ℕ) (m v : Ends) (rows : Rows f) : Type 0 where
   pub can : CanTable f m v
   pub held : (s : ℕ) → s < length rows.held.items → held_at rows.held.items s ≡ held_row (at_stock (table_rows f m v) s)
   pub tails : (s : ℕ) → s < length rows.tails.items → at_place rows.tails.items s ≡ (at_stock (table_rows f m v) s).tail
 
--- the rows u(0) .. u(s - 1), with the tails of so many first ones
+-- the rows u(0) .. u(s - 1), with the tails of the first ones
 pub record HasRows (f : ℕ) (u : ℕ → Row f) (s first : ℕ) (rows : Rows f) : Type 0 where
   pub held : rows.held.items ≡ listed (λ k. held_row (u k)) s
   pub tails : rows.tails.items ≡ listed (λ k. (u k).tail) (min s first)
@@ -35,7 +35,7 @@ pub record IsShort (f : ℕ) (row : Row f) : Type 0 where
   pub vbo : row.vbo.hi < 2 ^ 64
   pub tail : row.tail.hi < 2 ^ 64
 
--- the row at the stock s of a pipeline that is always empty, or whose weights aren't known
+-- the row at the stock s of a pipeline that is always empty or whose weights are unknown
 abbrev pub bare_row : (f : ℕ) → Ends → Ends → ℕ → Row f
 bare_row f m v s = if m.hi == 0 then empty_row f else wide_row f m v s
 
@@ -43,6 +43,6 @@ bare_row f m v s = if m.hi == 0 then empty_row f else wide_row f m v s
 abbrev pub AreRowsTo : (f : ℕ) → Ends → Ends → ℕ → (ℕ → Row f) → Type 0
 AreRowsTo f m v n u = (s : ℕ) → s < n → u s ≡ at_stock (table_rows f m v) s
 
--- what is held of u(0), .., u(n) is that of the first rows of the table
+-- the stored forms of u(0), .., u(n) are those of the first rows of the table
 abbrev pub AreHeldTo : (f : ℕ) → Ends → Ends → ℕ → (ℕ → Row f) → Type 0
 AreHeldTo f m v n u = (s : ℕ) → s ≤ n → held_row (u s) ≡ held_row (at_stock (table_rows f m v) s)

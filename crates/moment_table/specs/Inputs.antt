@@ -1,8 +1,8 @@
--- Of which pipelines there is a table.
+-- The pipelines that have a table.
 use Rattle.std.specs.Prelude.{ℕ, ◌≡◌, ◌*◌, ◌<◌, ◌≤◌, ◌⊎◌}
 use Rattle.fixed_interval.specs.Ends.{Ends, IsWithinLimit}
 
--- Either all ends are 0, as of a pipeline that is always empty, or the mean is above 0, and no upper end is more than
+-- Either all ends are 0, for a pipeline that is always empty, or the mean is above 0, and no upper end is more than
 -- 2048 times the lower end of the mean.
 pub record CanTable (f : ℕ) (mean variance : Ends) : Type 0 where
   pub mean_top : IsWithinLimit f mean

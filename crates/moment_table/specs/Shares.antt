@@ -1,4 +1,4 @@
--- What shares of a sum are taken by. No promise of the crate rests on these words.
+-- The divisors by which shares of a sum are taken. No promise of the crate rests on these words.
 use Rattle.std.specs.Prelude.{ℕ, ◌≡◌, ◌≤◌}
 use Rattle.fixed_interval.specs.Ends.{Ends}
 use Rattle.moment_table.specs.declared.shares.Divisors.{Divisors}

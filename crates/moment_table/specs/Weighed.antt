@@ -1,4 +1,4 @@
--- What the weights of a table are found to be. No promise of the crate rests on these words.
+-- The weights of a table as found. No promise of the crate rests on these words.
 use Rattle.std.specs.Prelude.{ℕ, ◌^◌, ◌≤◌}
 use Rattle.fixed_interval.specs.Ends.{Ends}
 use Rattle.moment_table.specs.declared.weighed.Weighed.{Weighed}
@@ -6,7 +6,7 @@ use Rattle.moment_table.specs.Held.{AreRowsTo}
 use Rattle.moment_table.specs.Profile.{known_row}
 use Rattle.moment_table.specs.Running.{AreFirst}
 
--- so many first weights or more, from which with the sum of all the first rows of the table follow
+-- at least n first weights, which with the sum of all determine the first n rows of the table
 pub record IsWeighed (f : ℕ) (m v : Ends) (n : ℕ) (weighed : Weighed f) : Type 0 where
   pub rows : AreRowsTo f m v n (known_row f m v weighed.list.items weighed.sum)
   pub first : AreFirst f n weighed.list.items

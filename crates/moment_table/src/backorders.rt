@@ -16,7 +16,7 @@ use fixed_interval::Iv;
 use series_bounds::short::Iv64;
 use spares_io::NoMemory;
 
-/// Puts the backorders at the stocks 0 to `last` over the first weights, from which they follow with the sum of all.
+/// Overwrites the first weights with the backorders at the stocks 0 to `last`, computed from them and the sum of all.
 fn known<const F: u32>(
     found: &mut Vec<Iv64<F>>,
     mean: Iv<F>,
@@ -40,8 +40,7 @@ fn known<const F: u32>(
     Ok(())
 }
 
-/// Puts the backorders of a pipeline that is always empty, or whose weights aren't known, in the place of what `found`
-/// holds.
+/// Overwrites `found` with the backorders of a pipeline that is always empty or whose weights are unknown.
 fn bare<const F: u32>(
     found: &mut Vec<Iv64<F>>,
     mean: Iv<F>,
@@ -60,12 +59,11 @@ fn bare<const F: u32>(
     Ok(())
 }
 
-/// Puts the expected backorders of the table at the stocks 0 to `limit`, at most 63, in the place of what `found`
-/// holds, for a mean and a variance as `table` takes them. Nothing else of the table is made, and the room of `found`
-/// serves again.
+/// Overwrites `found` with the expected backorders of the table at the stocks 0 to `limit`, at most 63, for a mean and
+/// a variance within the ranges of `table`. Computes nothing else of the table, and reuses the allocation of `found`.
 ///
 /// They enclose the model's, at each depth from 1024 on, for every mean and every variance in the two intervals. Want
-/// of memory is the only error, and leaves anything in `found`.
+/// of memory is the only error, after which the contents of `found` are unspecified.
 pub fn put_backorders<const F: u32>(
     found: &mut Vec<Iv64<F>>,
     mean: Iv<F>,

@@ -1,4 +1,4 @@
-//! What a table holds of its rows: ends of 64 bits, which have room for all that is at most 256.
+//! The stored rows of a table: ends of 64 bits, enough for all figures of at most 256.
 
 ghost use Rattle.std.specs.Prelude.{◌≡◌, ◌<◌, ◌^◌, ◌++◌, ◌∷◌, [], nat_lt, if◌then◌else◌, OnOk, IfOk};
 ghost use Rattle.moment_table.specs.Held.{IsShort, held_row};
@@ -8,7 +8,7 @@ use series_bounds::short::Iv64;
 use spares_io::NoMemory;
 use std::alloc::Global;
 
-/// What is held of a row, beside its tail.
+/// A stored row, without its tail.
 #[derive(Clone, Copy, Drop)]
 pub(crate) struct Held<const F: u32> {
     /// The expected backorders.
@@ -18,7 +18,7 @@ pub(crate) struct Held<const F: u32> {
 }
 
 impl<const F: u32> Held<F> {
-    /// What is held of a row.
+    /// The stored form of a row.
     #[inline(always)]
     pub(crate) fn of(row: Row<F>) -> Held<F>
         requires { IsShort F row }
@@ -39,7 +39,7 @@ pub(crate) struct Rows<const F: u32> {
 }
 
 impl<const F: u32> Rows<F> {
-    /// No rows, with room for so many rows and tails.
+    /// No rows, with capacity for `stocks` rows and `tails` tails.
     pub(crate) fn with_room(alloc: Global, stocks: u32, tails: u32) -> Result<Rows<F>, NoMemory>
         ensures held { IfOk result (λ rows. rows.held.items ≡ []) }
         ensures tails { IfOk result (λ rows. rows.tails.items ≡ []) }
@@ -50,7 +50,7 @@ impl<const F: u32> Rows<F> {
         })
     }
 
-    /// Adds the row at the stock `s`, with its tail where `s` is below `tails`.
+    /// Adds the row at the stock `s`, with its tail if `s` is below `tails`.
     #[inline(always)]
     pub(crate) fn push(
         &mut self,

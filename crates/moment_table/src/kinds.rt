@@ -18,14 +18,14 @@ pub struct Row<const F: u32> {
     pub ebo: Iv<F>,
     /// The variance of the backorders.
     pub vbo: Iv<F>,
-    /// The chance of more in the pipeline than the stock.
+    /// The probability of more units in the pipeline than the stock.
     pub tail: Iv<F>,
 }
 
 /// The figures of a pipeline at the stocks 0 to 63.
 ///
-/// It is seen as the list of its rows. It holds the first of them, and its mean and variance, from which the others
-/// follow.
+/// Contracts see it as the list of its rows. It stores the first rows, and its mean and variance, from which the others
+/// are computed.
 #[derive(Drop)]
 pub struct Table<const F: u32> {
     mean: Iv64<F>,
@@ -43,12 +43,12 @@ impl<const F: u32> Model for Table<F> {
 
     ghost view = { λ t. table_rows F t.mean t.variance };
 
-    // the held rows are a beginning of it
+    // the stored rows are the first of the table
     ghost invariant = { λ t. IsHeld F t.mean t.variance t.rows };
 }
 
 impl<const F: u32> Table<F> {
-    /// The table of this mean and variance that holds these rows of it.
+    /// The table of this mean and variance, with these rows stored.
     pub(crate) fn of(mean: Iv<F>, variance: Iv<F>, rows: Rows<F>) -> Self
         requires { IsHeld F mean variance rows }
         ensures { result ≡ table_rows F mean.entry variance.entry }
@@ -60,7 +60,7 @@ impl<const F: u32> Table<F> {
         }
     }
 
-    /// The row at the stock `s`, which isn't held.
+    /// Computes the row at the stock `s`, which isn't stored.
     fn row(&self, s: u8) -> Row<F>
         requires { s ≤ 63 }
         ensures { result ≡ at_stock self.now s }
@@ -92,7 +92,7 @@ impl<const F: u32> Table<F> {
         }
     }
 
-    /// The chance of more than `s` in the pipeline, `s` being at most 62.
+    /// The probability of more than `s` units in the pipeline, with `s` at most 62.
     pub fn tail(&self, s: u8) -> Iv<F>
         requires { s ≤ 62 }
         ensures { result ≡ (at_stock self.now s).tail }

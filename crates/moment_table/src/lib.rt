@@ -1,10 +1,10 @@
 //! Expected backorders, their variance and the tail of a pipeline, at each stock from 0 to 63.
 //!
-//! With `u` units in the pipeline on average and a stock of `s`, the expected backorders EBO are those of Sherbrooke
-//! (*Optimal Inventory Modeling of Systems*, 2nd ed.): `EBO(0) = u`, and one more in stock takes the chance of a
-//! backorder off, `EBO(s + 1) = EBO(s) - tail(s)`, where `tail(s)` is the chance of more than `s` in the pipeline.
-//! Their variance VBO starts at the larger of the pipeline's variance and its mean, and falls by `(2 EBO(s + 1) +
-//! tail(s)) (1 - tail(s))`.
+//! With `u` units in the pipeline on average and a stock of `s`, the expected backorders EBO follow Sherbrooke
+//! (*Optimal Inventory Modeling of Systems*, 2nd ed.): `EBO(0) = u`, and each further unit in stock subtracts the
+//! probability of a backorder, `EBO(s + 1) = EBO(s) - tail(s)`, with `tail(s)` the probability of more than `s` units
+//! in the pipeline. Their variance VBO starts at the larger of the pipeline's variance and its mean, and falls by
+//! `(2 EBO(s + 1) + tail(s)) (1 - tail(s))`.
 #![tactic(auto)]
 
 ghost use Rattle.std.specs.Prelude.{◌≡◌, ℕ, ◌+◌, ◌-◌, ◌*◌, ◌^◌, ◌<◌, ◌≤◌, IfOk, length};
@@ -39,12 +39,12 @@ pub fn tables_enclose()
     ensures { (f : ℕ) (m v : Ends) → CanTable f m v → EncloseRows f m v (table_rows f m v) }
 {}
 
-/// The table of a pipeline with this mean and variance, both in units of `2^-F` and at most 256. Either all ends are
-/// 0, as of a pipeline that is always empty, or the mean is above 0, and no upper end is more than 2048 times the
-/// lower end of the mean.
+/// The table of a pipeline with this mean and variance, both in units of `2^-F` and at most 256. Either all ends are 0,
+/// for a pipeline that is always empty, or the mean is above 0, and no upper end is more than 2048 times the lower end
+/// of the mean.
 ///
-/// Each figure encloses the model's at each depth from 1024 on, for every mean and every variance in the two
-/// intervals. Want of memory is the only error.
+/// Each figure encloses the model's at each depth from 1024 on, for every mean and every variance in the two intervals.
+/// Want of memory is the only error.
 pub fn table<const F: u32>(
     alloc: Global,
     mean: Iv<F>,
@@ -60,9 +60,8 @@ pub fn table<const F: u32>(
     Ok(Table::of(mean, variance, rows))
 }
 
-/// The same table, of which the backorders and their variance are held at the stocks 0 to `limit` alone, at most 63,
-/// in 32 bytes for each. What isn't held is walked to again where it is asked for, which is slow. Want of memory is the
-/// only error.
+/// The same table, with backorders and variance stored at the stocks 0 to `limit` alone, at most 63, in 32 bytes for
+/// each. Other stocks are computed anew when they are asked for, which is slow. Want of memory is the only error.
 pub fn table_to<const F: u32>(
     alloc: Global,
     mean: Iv<F>,
@@ -80,8 +79,8 @@ pub fn table_to<const F: u32>(
     Ok(Table::of(mean, variance, rows))
 }
 
-/// The row of the table at one stock, at most 63, for a mean and a variance as `table` takes them. The rows at the
-/// stocks above it aren't made, and no list of rows is.
+/// The row of the table at one stock, at most 63, for a mean and a variance within the ranges of `table`. No row above
+/// that stock and no list of rows is made.
 ///
 /// The figures enclose the model's at this stock, at each depth from 1024 on. Want of memory is the only error.
 pub fn row_at<const F: u32>(

@@ -1,4 +1,4 @@
-//! The row at one stock, without memory: what `row_at` finds, in its plain form and slowly.
+//! The row at one stock without memory: the plain, slow form of `row_at`.
 
 ghost use Rattle.std.specs.Prelude.{◌≡◌, ◌*◌, ◌^◌, ◌<◌, ◌≤◌, true, IfSome, IfNone};
 ghost use Rattle.series_bounds.specs.Profile.{is_wide};
@@ -14,7 +14,7 @@ use fixed_interval::Iv;
 use series_bounds::plain::{sum_of_weights, weight_at};
 use series_bounds::short::Iv64;
 
-/// The row at a stock where the weights are known, each weight walked to for itself, and None where they aren't.
+/// The row at a stock, with each weight computed anew from the pivot, or None if the weights are unknown.
 fn known<const F: u32>(mean: Iv<F>, variance: Iv<F>, stock: u8) -> Option<Row<F>>
     requires table { CanTable F mean variance }
     requires mean_least { 0 < mean.lo }

@@ -39,7 +39,7 @@ pub(crate) fn known_row<const F: u32>(
     running.row(list[stock as usize], stock)
 }
 
-/// The row at a stock where the weights aren't known: what holds of any distribution with this mean and variance.
+/// The row at a stock if the weights are unknown: bounds for any distribution with this mean and variance.
 fn wide_row<const F: u32>(mean: Iv<F>, variance: Iv<F>, stock: u32) -> Row<F>
     ensures { result ≡ wide_row F mean.entry variance.entry stock }
 {
@@ -65,7 +65,7 @@ fn empty_row<const F: u32>() -> Row<F>
     }
 }
 
-/// The row at a stock of a pipeline that is always empty, or whose weights aren't known.
+/// The row at a stock of a pipeline that is always empty or whose weights are unknown.
 pub(crate) fn bare_row<const F: u32>(mean: Iv<F>, variance: Iv<F>, stock: u32) -> Row<F>
     ensures { result ≡ bare_row F mean.entry variance.entry stock }
 {
@@ -76,7 +76,7 @@ pub(crate) fn bare_row<const F: u32>(mean: Iv<F>, variance: Iv<F>, stock: u32) -
     }
 }
 
-/// The rows at the stocks 0 to `last` from known weights, each from the one before, with the first of their tails.
+/// The rows at the stocks 0 to `last` from known weights, each from the one before, with the first tails.
 fn known_to<const F: u32>(
     alloc: Global,
     mean: Iv<F>,
@@ -105,7 +105,7 @@ fn known_to<const F: u32>(
     Ok(rows)
 }
 
-/// The rows of a pipeline that is always empty, or whose weights aren't known.
+/// The rows of a pipeline that is always empty or whose weights are unknown.
 fn bare_to<const F: u32>(
     alloc: Global,
     mean: Iv<F>,
@@ -126,7 +126,7 @@ fn bare_to<const F: u32>(
     Ok(rows)
 }
 
-/// The rows of the table of a pipeline at the stocks 0 to `last`, and the tails of the first of them.
+/// The rows of a pipeline's table at the stocks 0 to `last`, with the first tails.
 pub(crate) fn rows_of<const F: u32>(
     alloc: Global,
     mean: Iv<F>,

@@ -1,4 +1,4 @@
-//! The figures of a pipeline at one stock after the other, from known weights.
+//! The figures of a pipeline at one stock after another, from known weights.
 
 ghost use Rattle.std.specs.Prelude.{◌≡◌, ℕ, ◌+◌, ◌*◌, ◌^◌, ◌<◌, ◌≤◌, List};
 ghost use Rattle.fixed_interval.specs.Ends.{Ends, IsWithinLimit};
@@ -13,19 +13,19 @@ use crate::shares::Shares;
 use fixed_interval::Iv;
 use series_bounds::short::Iv64;
 
-/// The expected backorders at a stock before its tail is known, and what the tail is made of.
+/// The expected backorders at a stock before its tail is known, and the sums that its tail needs.
 #[derive(Drop)]
 pub(crate) struct Falling<const F: u32> {
     /// The expected backorders.
     expected: Iv64<F>,
-    /// The chance of less than the stock in the pipeline.
+    /// The probability of fewer units in the pipeline than the stock.
     below: Iv64<F>,
     /// The shares of the sum of all weights.
     shares: Shares<F>,
 }
 
 impl<const F: u32> Falling<F> {
-    /// At the stock 0.
+    /// The start, at the stock 0.
     #[inline(always)]
     pub(crate) fn first(mean: Iv<F>, sum: Iv<F>) -> Falling<F>
         requires mean_top { IsWithinLimit F mean }
@@ -40,7 +40,7 @@ impl<const F: u32> Falling<F> {
         }
     }
 
-    /// The expected backorders at the stock, which its weight doesn't change.
+    /// The expected backorders at the stock, which don't depend on its weight.
     #[inline(always)]
     pub(crate) fn expected(&self) -> Iv64<F>
         ensures { result ≡ self.now.expected }
@@ -48,7 +48,7 @@ impl<const F: u32> Falling<F> {
         self.expected
     }
 
-    /// The tail at the stock `s`, from the weight there. It goes on to the next stock.
+    /// The tail at the stock `s`, from the weight there. Moves on to the next stock.
     #[inline(always)]
     pub(crate) fn step(&mut self, weight: Iv64<F>, s: u32) -> Iv64<F>
         requires stock { s < 64 }
@@ -77,7 +77,7 @@ pub(crate) struct Running<const F: u32> {
 }
 
 impl<const F: u32> Running<F> {
-    /// At the stock 0.
+    /// The start, at the stock 0.
     #[inline(always)]
     pub(crate) fn first(mean: Iv<F>, variance: Iv<F>, sum: Iv<F>) -> Running<F>
         requires mean_top { IsWithinLimit F mean }
@@ -92,7 +92,7 @@ impl<const F: u32> Running<F> {
         }
     }
 
-    /// What a table holds of the row at the stock, which its weight doesn't change.
+    /// The stored row at the stock, which doesn't depend on its weight.
     #[inline(always)]
     pub(crate) fn held(&self) -> Held<F>
         ensures { (m v sum : Ends) (list : List Ends) (s : ℕ) → IsRunning F m v list sum s self.now
@@ -104,7 +104,7 @@ impl<const F: u32> Running<F> {
         }
     }
 
-    /// The tail at the stock `s`, from the weight there. It goes on to the next stock.
+    /// The tail at the stock `s`, from the weight there. Moves on to the next stock.
     #[inline(always)]
     pub(crate) fn step(&mut self, weight: Iv64<F>, s: u32) -> Iv64<F>
         requires stock { s < 64 }
@@ -123,7 +123,7 @@ impl<const F: u32> Running<F> {
         tail
     }
 
-    /// The row at the stock `s`, from the weight there. It goes on to the next stock.
+    /// The row at the stock `s`, from the weight there. Moves on to the next stock.
     pub(crate) fn row(&mut self, weight: Iv64<F>, s: u32) -> Row<F>
         requires stock { s < 64 }
         requires top { weight.hi ≤ 8 * 2 ^ F }

@@ -1,4 +1,4 @@
-//! Shares of a sum, for many weights, mostly without a division.
+//! Shares of a sum for many weights, mostly without a division.
 
 ghost use Rattle.std.specs.Prelude.{◌≡◌, ◌*◌, ◌^◌, ◌<◌, ◌≤◌};
 ghost use Rattle.fixed_interval.specs.Ends.{ends_div};
@@ -30,7 +30,7 @@ impl<const F: u32> Divisors<F> {
     }
 }
 
-/// A sum of which shares are taken, with its ends as divisors where they have at most 63 bits. It is seen as the sum.
+/// A sum as the divisor of many shares, with its ends as divisors if they have at most 63 bits. Contracts see the sum.
 #[derive(Drop)]
 pub(crate) struct Shares<const F: u32> {
     sum: Iv<F>,

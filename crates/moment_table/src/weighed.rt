@@ -1,4 +1,4 @@
-//! The weights behind a table.
+//! The weights of a table.
 
 ghost use Rattle.std.specs.Prelude.{◌≡◌, ◌*◌, ◌^◌, ◌<◌, ◌≤◌, IfOk, IfSome, IfNone};
 ghost use Rattle.fixed_interval.specs.Ends.{IsWithinLimit};
@@ -36,7 +36,7 @@ pub(crate) fn excess_of<const F: u32>(mean: Iv<F>, variance: Iv<F>) -> Iv<F>
     quotient(variance, mean).less(Iv::exact(1))
 }
 
-/// All weights of a pipeline with this mean and variance, and None where it is always empty, or they aren't known.
+/// All weights of a pipeline with this mean and variance, or None if it is always empty or its weights are unknown.
 fn weigh_all<const F: u32>(
     alloc: Global,
     mean: Iv<F>,
@@ -64,9 +64,8 @@ fn weigh_all<const F: u32>(
     }
 }
 
-/// Puts the first weights of a pipeline with this mean and variance in the place of what the list holds, `wanted` of
-/// them or more, at most 63 being wanted, and answers the sum of all. None where it is always empty, or its weights
-/// aren't known.
+/// Overwrites `list` with the first weights of a pipeline with this mean and variance, at least `wanted` of them, with
+/// `wanted` at most 63, and returns the sum of all. None if the pipeline is always empty or its weights are unknown.
 pub(crate) fn weigh_to<const F: u32>(
     list: &mut Vec<Iv64<F>>,
     mean: Iv<F>,
@@ -91,8 +90,8 @@ pub(crate) fn weigh_to<const F: u32>(
     first_weights(list, mean, excess, wanted as usize)
 }
 
-/// The first weights of a pipeline with this mean and variance, `wanted` of them or more, at most 64 being wanted, and
-/// the sum of all. None where it is always empty, or its weights aren't known.
+/// The first weights of a pipeline with this mean and variance, at least `wanted` of them, with `wanted` at most 64,
+/// and the sum of all. None if the pipeline is always empty or its weights are unknown.
 pub(crate) fn weigh<const F: u32>(
     alloc: Global,
     mean: Iv<F>,

@@ -1,4 +1,4 @@
--- Held certificates: their lines, their text, and what bytes tell.
+-- Held certificates: their lines, their text, and their reading.
 use Rattle.std.specs.Prelude.{◌≡◌, ℕ, ◌/◌, ◌%◌, Bool, true, ◌==◌, List, ◌++◌, length, take, Option, Some, None, Result, Ok, Err, bytes_eq}
 use Rattle.std.proofs.Common.{Vec, Global}
 use Rattle.line_text.specs.Formats.{Token, Format, and_then, as_shape}
@@ -19,7 +19,7 @@ use lib.Chars.{codes}
 
 -- ---- lines
 
--- a number up to the limit of the pair at place i
+-- a number up to the limit of pair i
 abbrev pub held_line : CaseRows → ℕ → Format ℕ
 held_line c i = number_line (limit_at c.parts (i / length c.sites) (i % length c.sites))
 
@@ -38,15 +38,15 @@ front =
     as_shape (and_then (count_line (codes "spares-held") 1 1) (λ _. certificate_format 2))
     (λ x. x.1) (λ c. (1, c)) (λ _. true)
 
--- what stands after this end
+-- the lines after this `end`
 abbrev pub rest : CaseRows → Format (StockList × Unit {0})
 rest c = and_then (held c) (λ _. word_line (codes "end"))
 
--- the held stocks read from a list of numbers, and the end behind them
+-- the held stocks from a list of numbers, and the `end` after them
 abbrev pub rest_of : ℕ → Vec ℕ Global → StockList × Unit {0}
 rest_of sites v = (record { sites = sites; list = v.items }, tt)
 
--- the lines of a held certificate: the certificate, then what is held, then a second end
+-- the lines of a held certificate: the certificate, the held stocks, and a second `end`
 abbrev pub held_format : Format HeldCertificate
 held_format =
     as_shape (and_then front (λ c. rest c.case))
@@ -67,39 +67,38 @@ pub record IsWellHeld (h : HeldCertificate) : Type 0 where
 abbrev pub held_text : HeldCertificate → List ℕ
 held_text h = file_text held_format h
 
--- the rule that sites and parts break, where they break one
+-- the rule that sites and parts break, if they break one
 abbrev pub refusal : Result FrameRows CaseFault → Option CaseFault
 refusal (Ok frame) = None
 refusal (Err f) = Some f
 
--- the rule that sites and parts break, where the lines up to the first `end` are in the grammar
+-- the rule that sites and parts break, if the lines up to the first `end` are in the grammar
 abbrev pub case_fault : Result (Certificate × List Token) (List Token) → Option CaseFault
 case_fault (Ok x) = refusal (frame_of x.0.case.sites x.0.case.parts)
 case_fault (Err left) = None
 
--- that fault, or else what the lines tell
+-- this fault if there is one, or else the reading of the lines
 abbrev pub judged : Option CaseFault → Result HeldCertificate ℕ → Result HeldCertificate CertFault
 judged (Some f) answer = Err (fault.BadCase f)
 judged None (Ok h) = Ok h
 judged None (Err n) = Err (fault.BadLine n)
 
--- The held certificate whose text the bytes are, or the case fault of the lines up to the first `end`, or the first bad
--- line: the case fault stands before a bad line that follows this `end`.
+-- The held certificate with this text, or the case fault of the lines up to the first `end`, or the first bad line. The
+-- case fault comes before a bad line after this `end`.
 abbrev pub held_of : List ℕ → Result HeldCertificate CertFault
 held_of bytes = judged (case_fault (front.read (lines_of bytes))) (file_answer held_format bytes)
 
--- ---- what bytes begin with
+-- ---- first lines
 
 -- the first line of a held certificate, with its line feed
 abbrev pub first_line : List ℕ
 first_line = codes "spares-held,1\n"
 
--- the bytes begin with it
+-- the bytes begin with this line
 abbrev pub is_held_form : List ℕ → Bool
 is_held_form bytes = bytes_eq first_line (take (length first_line) bytes)
 
--- All lines up to the first `end` are in the grammar, and the sites and parts that they say break this rule. Anything
--- may follow.
+-- All lines up to the first `end` are in the grammar, and their sites and parts break this rule. Anything may follow.
 pub record HasCaseFault (bytes : List ℕ) (f : CaseFault) : Type 0 where
   pub certificate : Certificate
   pub fits : (certificate_format 2).fits certificate ≡ true

@@ -1,4 +1,4 @@
--- How much work the curves of a case are that begin at what is held.
+-- The work of the curves of a case that begin at the held stocks.
 use Rattle.std.specs.Prelude.{◌≡◌, ℕ, suc, ◌-◌, List, All, Result, sum_by}
 use Rattle.spares_io.specs.Causes.{count64}
 use Rattle.spares_input.specs.Cases.{CaseRows}
@@ -7,11 +7,11 @@ use Rattle.fleet_model.specs.Rows.{line_units, stock}
 use Rattle.family_curve.specs.Vectors.{limits, vector_of}
 use Rattle.family_curve.specs.Counts.{limited, tables_between}
 
--- the tables of all families together, each over its vectors from what is held to the limits
+-- the count of tables of all families, each over its vectors from the held stocks to the limits
 abbrev pub tables_from : CaseRows → List ℕ → ℕ
 tables_from c held = sum_by (λ l. tables_between c l (vector_of c l held) (limits c l)) (line_units c)
 
--- these, where they are within the limit
+-- this count, if it is within the limit
 abbrev pub held_work_of : CaseRows → List ℕ → Result ℕ ℕ
 held_work_of c held = limited (count64 (tables_from c held))
 
@@ -21,6 +21,6 @@ IsNothing held = All (λ n. n ≡ 0) held
 
 -- ---- by pairs
 
--- how many stocks part p can have at site k, from what is held to its limit
+-- the count of stocks that part p can have at site k, from its held stock to its limit
 abbrev pub room : CaseRows → List ℕ → ℕ → ℕ → ℕ
 room c held k p = suc (limit_at c.parts p k) - stock c held p k

@@ -1,4 +1,4 @@
-//! The curves of a case that begin at what is held.
+//! The curves of a case that begin at the held stocks.
 
 ghost use Rattle.std.specs.Prelude.{◌≡◌, IfOk};
 ghost use Rattle.std.specs.List.{AllZip};
@@ -18,7 +18,7 @@ use spares_input::{Case, PartId, Stocks};
 use spares_io::NoMemory;
 use std::alloc::Global;
 
-/// The vectors of a family from what is held to the limits, with the cost of what is above that.
+/// The vectors of a family from the held stocks to the limits, with the cost of the stocks above the held ones.
 fn bounds_from(alloc: Global, case: &Case, line: PartId, held: &Stocks) -> Result<Bounds, NoMemory>
     requires line { IsLine case.now line.0 }
     requires held { IsFor case.now held.now }
@@ -34,9 +34,9 @@ fn bounds_from(alloc: Global, case: &Case, line: PartId, held: &Stocks) -> Resul
     Ok(Bounds { held, low, high })
 }
 
-/// The curve of each line unit's family in order, over its vectors from what is held to the limits, with the cost of
-/// what is above that. The stocks that are held have a number for each pair of the case, at most its limit, and the
-/// work from them is within the limit. Want of memory is the only error.
+/// The curve of each line unit's family in order, over its vectors from the held stocks to the limits, with the cost of
+/// the stocks above the held ones. `held` has a number for each pair of the case, at most its limit, and the work from
+/// it is within the limit. Want of memory is the only error.
 pub fn held_curves<S: Score>(
     alloc: Global,
     case: &Case,

@@ -1,4 +1,4 @@
-//! The laws of work and curves where nothing is held.
+//! Laws of work and curves if nothing is held.
 
 ghost use Rattle.std.specs.Prelude.{◌≡◌, ℕ, List, [], sum_by};
 ghost use Rattle.spares_input.specs.Cases.{CaseRows, IsCase};
@@ -8,7 +8,7 @@ ghost use Rattle.family_curve.specs.Points.{ScoreEnds};
 ghost use Rattle.fleet_plan.specs.Families.{case_points};
 ghost use Rattle.on_hand.specs.Work.{held_work_of, tables_from, IsNothing};
 
-/// Where nothing is held, the tables, the work and the points are those of all vectors.
+/// If nothing is held, the tables, the work and the points are those of all vectors.
 pub fn nothing_held_is_all()
     ensures tables { (c : CaseRows) (held : List ℕ) → IsCase c → IsNothing held
         → tables_from c held ≡ sum_by (tables_of c) (line_units c) }

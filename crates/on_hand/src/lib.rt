@@ -1,8 +1,8 @@
-//! Plans that begin with stocks on hand: the work and the curves from what is held to the limits, and their
+//! Plans that begin with stocks on hand: the work and the curves from the held stocks to the limits, and their
 //! certificates.
 //!
-//! Such a certificate embeds all lines of a certificate of format 2, its own `end` included, and then says what is
-//! held.
+//! Such a certificate embeds all lines of a certificate of format 2, its own `end` included. Its further lines are the
+//! held stocks.
 #![tactic(auto)]
 
 mod curves;

@@ -21,7 +21,7 @@ use spares_input::{Case, Stocks, pair_at};
 use spares_io::Stop;
 use std::alloc::Global;
 
-/// Reads the lines up to the first end.
+/// Reads the lines up to the first `end`.
 fn front_lines(alloc: Global, lines: &mut Lines<'_>) -> Result<CertificateLines, Stop<BadLine>>
     ensures { Gathers draft_of result lines.new (front.read lines.old) }
 {
@@ -30,7 +30,7 @@ fn front_lines(alloc: Global, lines: &mut Lines<'_>) -> Result<CertificateLines,
     Ok(found)
 }
 
-/// Reads what is held of the pair at a place.
+/// Reads the held stock of pair `i`.
 fn held_line(lines: &mut Lines<'_>, case: &Case, i: usize) -> Result<u8, BadLine>
     requires { i < length case.now.parts * length case.now.sites }
     ensures { Reads (λ n. n) result lines.new ((held_line case.now i).read lines.old) }
@@ -42,7 +42,7 @@ fn held_line(lines: &mut Lines<'_>, case: &Case, i: usize) -> Result<u8, BadLine
     Ok(stock as u8)
 }
 
-/// Reads what is held of so many pairs.
+/// Reads the held stocks of `count` pairs.
 fn each_held(
     alloc: Global,
     lines: &mut Lines<'_>,
@@ -61,7 +61,7 @@ fn each_held(
     Ok(found)
 }
 
-/// Reads a line with a number, and then what is held of each pair.
+/// Reads the line that counts the pairs, then the held stock of each pair.
 fn held_stocks(alloc: Global, lines: &mut Lines<'_>, case: &Case) -> Result<Vec<u8>, Stop<BadLine>>
     ensures { Gathers (λ v. v.items) result lines.new ((held_lines case.now).read lines.old) }
 {
@@ -71,7 +71,7 @@ fn held_stocks(alloc: Global, lines: &mut Lines<'_>, case: &Case) -> Result<Vec<
     Ok(found)
 }
 
-/// Reads the lines after the first end.
+/// Reads the lines after the first `end`.
 fn rest_lines(alloc: Global, lines: &mut Lines<'_>, case: &Case) -> Result<Vec<u8>, Stop<BadLine>>
     ensures { Gathers (rest_of (length case.now.sites)) result lines.new ((rest case.now).read lines.old) }
 {
@@ -80,7 +80,7 @@ fn rest_lines(alloc: Global, lines: &mut Lines<'_>, case: &Case) -> Result<Vec<u
     Ok(found)
 }
 
-/// The held certificate, where the lines up to the first end are those of its certificate.
+/// The held certificate, if the lines up to the first `end` are its certificate.
 fn after_front(
     alloc: Global,
     bytes: &[u8],
@@ -116,7 +116,7 @@ fn after_front(
     }
 }
 
-/// The held certificate whose text the bytes are, or why there is none.
+/// The held certificate with this text, or the reason why there is none.
 fn read_text(alloc: Global, bytes: &[u8]) -> Result<HeldCertificate, Stop<CertFault>>
     requires { length bytes.now ≤ certificate_limit }
     ensures answer { Gives (held_of bytes.now) result }
@@ -132,8 +132,8 @@ fn read_text(alloc: Global, bytes: &[u8]) -> Result<HeldCertificate, Stop<CertFa
     }
 }
 
-/// The held certificate whose text the bytes are. `BadCase` comes where all lines up to the first `end` are in the
-/// grammar, so it stands before a bad line that follows this `end`; `BadLine` counts from the first line of the file.
+/// The held certificate with this text. `BadCase` comes if all lines up to the first `end` are in the grammar, before a
+/// bad line after this `end`; `BadLine` counts from the first line of the file.
 pub fn read(alloc: Global, bytes: &[u8]) -> Result<HeldCertificate, Stop<CertFault>>
     requires { length bytes.now ≤ certificate_limit }
     ensures answer { Gives (held_of bytes.now) result }

@@ -1,4 +1,4 @@
-//! How much work the curves of a case are that begin at what is held.
+//! The work of the curves of a case that begin at the held stocks.
 
 ghost use Rattle.std.specs.Prelude.{◌≡◌, ◌≤◌, ◌<◌, length, map, sum, sum_by};
 ghost use Rattle.spares_io.specs.Causes.{count64};
@@ -12,7 +12,7 @@ ghost use Rattle.on_hand.specs.Work.{held_work_of, room};
 use family_curve::MOST_TABLES;
 use spares_input::{Case, PartId, SiteId, Stocks};
 
-/// How many stocks a pair can have, from what is held to its limit.
+/// The count of stocks that a pair can have, from its held stock to its limit.
 fn room(case: &Case, held: &Stocks, part: PartId, site: SiteId) -> u64
     requires held { IsFor case.now held.now }
     requires limits { IsWithinLimits case.now held.now }
@@ -26,18 +26,18 @@ fn room(case: &Case, held: &Stocks, part: PartId, site: SiteId) -> u64
     u64::from(limit - held.get(part, site)) + 1
 }
 
-/// What the shop units of a line unit have together at a site.
+/// The shop units of a line unit at a site.
 #[derive(Clone, Copy)]
 struct ShopRooms {
-    /// How many there are.
+    /// The count of shop units.
     count: u64,
-    /// The sum of how many stocks each can have.
+    /// The sum over the shop units of the count of stocks that each can have.
     sum: u64,
-    /// In how many ways they can be stocked, or the largest count.
+    /// The count of ways to stock them, or 2^64 - 1 if it is larger.
     ways: u64,
 }
 
-/// Those of the shop units of a line unit, from what is held to their limits.
+/// The rooms of the shop units of a line unit, from their held stocks to their limits.
 fn shop_rooms(case: &Case, held: &Stocks, line: PartId, site: SiteId) -> ShopRooms
     requires held { IsFor case.now held.now }
     requires limits { IsWithinLimits case.now held.now }
@@ -66,8 +66,8 @@ fn shop_rooms(case: &Case, held: &Stocks, line: PartId, site: SiteId) -> ShopRoo
     shops
 }
 
-/// In how many ways the shop units of a line unit can be stocked at each base, from what is held to their limits: the
-/// sum over the bases, or 2^64 - 1 where it is larger.
+/// The count of ways to stock the shop units of a line unit at a base, from their held stocks to their limits: summed
+/// over the bases, or 2^64 - 1 if the sum is larger.
 fn base_ways(case: &Case, held: &Stocks, line: PartId) -> u64
     requires held { IsFor case.now held.now }
     requires limits { IsWithinLimits case.now held.now }
@@ -82,8 +82,8 @@ fn base_ways(case: &Case, held: &Stocks, line: PartId) -> u64
     ways
 }
 
-/// How many tables the curve of a family takes over its vectors from what is held to the limits, or 2^64 - 1 where it
-/// takes more.
+/// The count of tables for the curve of a family over its vectors from the held stocks to the limits, or 2^64 - 1 if it
+/// is larger.
 fn held_tables(case: &Case, held: &Stocks, line: PartId) -> u64
     requires held { IsFor case.now held.now }
     requires limits { IsWithinLimits case.now held.now }
@@ -100,9 +100,9 @@ fn held_tables(case: &Case, held: &Stocks, line: PartId) -> u64
         .saturating_add(lines.saturating_mul(base_ways(case, held, line)))
 }
 
-/// The tables of all families together over their vectors from what is held to the limits, where they are at most
-/// 1,000,000; and else this count is the refusal, or 2^64 - 1 where it is larger. The stocks that are held have a
-/// number for each pair of the case, at most its limit. It takes no memory.
+/// The count of tables of all families over their vectors from the held stocks to the limits, if it is at most
+/// 1,000,000. A larger count is the refusal, capped at 2^64 - 1. `held` has a number for each pair of the case, at most
+/// its limit. It takes no memory.
 pub fn held_work(case: &Case, held: &Stocks) -> Result<u64, u64>
     requires held { IsFor case.now held.now }
     requires limits { IsWithinLimits case.now held.now }

@@ -26,7 +26,7 @@ fn put_each_held(out: &mut Vec<u8>, list: &[u8]) -> Result<(), NoMemory>
     Ok(())
 }
 
-/// Writes the lines of what is held.
+/// Writes the lines of the held stocks.
 fn put_held(out: &mut Vec<u8>, case: &Case, list: &Stocks) -> Result<(), NoMemory>
     requires { IsFor case.now list.now }
     ensures { OnOk result (out.new.items ≡ out.old.items ++ concat ((held case.now).print list.now)) }
@@ -37,7 +37,7 @@ fn put_held(out: &mut Vec<u8>, case: &Case, list: &Stocks) -> Result<(), NoMemor
     Ok(())
 }
 
-/// The text of a held certificate: `spares-held,1`, all lines of the certificate with its own `end`, what is held of
+/// The text of a held certificate: `spares-held,1`, all lines of the certificate with its own `end`, the held stock of
 /// each pair, and a second `end`. Want of memory is the only error.
 pub fn text(alloc: Global, certificate: &HeldCertificate) -> Result<Vec<u8>, NoMemory>
     requires { IsWellHeld certificate.now }

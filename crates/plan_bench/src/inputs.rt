@@ -1,4 +1,4 @@
-//! Files, and the case that three of them give.
+//! Files, and the case of three of them.
 
 ghost use Rattle.std.specs.Prelude.{◌<◌, ◌≤◌, ◌^◌, IfOk, length};
 ghost use Rattle.csv_tables.specs.Rest.{table_limit};
@@ -22,7 +22,7 @@ pub fn bytes_of(rt: &HostRuntime, name: &str, limit: usize) -> anyhow::Result<Ve
     }
 }
 
-/// The case of the bytes of three tables, where they give one.
+/// The case of the bytes of three tables, if they are one.
 fn case_in(alloc: Global, sites: &[u8], parts: &[u8], rates: &[u8]) -> Option<Case>
     requires sites { length sites.now ≤ table_limit }
     requires parts { length parts.now ≤ table_limit }

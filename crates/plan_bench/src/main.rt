@@ -1,9 +1,9 @@
 //! Times the curves of a case's families, and the reading and the check of a certificate.
 //!
-//! With the words `SITES PARTS RATES CERTIFICATE` it reads the three tables of a case and prints how many tables of
-//! pipelines the curves of its families take and how many vertices they have; then it reads a certificate, which may
-//! be of another case, checks it, and prints what was accepted. With a fifth word `timed` it prints the nanoseconds
-//! too: of all curves, made one after another; of the reading; and of reading and check together.
+//! With the words `SITES PARTS RATES CERTIFICATE` it reads the three tables of a case and prints the counts of tables
+//! of pipelines and of vertices for the curves of its families. Then it reads a certificate, which may be of another
+//! case, checks it, and prints the accepted claims. With a fifth word `timed` it also prints nanoseconds: of all
+//! curves, made in turn; of the reading; and of reading and check together.
 #![tactic(auto)]
 
 ghost use Rattle.std.specs.Prelude.{◌≤◌, length};
@@ -25,7 +25,7 @@ use std::alloc::Global;
 use std::env;
 use std::time::Instant;
 
-/// How many vertices the curves of all families have.
+/// The count of vertices of the curves of all families.
 fn vertices(alloc: Global, case: &Case, rates: &Rates) -> Option<u64>
     requires { AreRatesOf case.now rates.now }
 {
@@ -40,7 +40,7 @@ fn vertices(alloc: Global, case: &Case, rates: &Rates) -> Option<u64>
     Some(count)
 }
 
-/// Makes the curve of each family, and prints how many tables and vertices these have.
+/// Makes the curve of each family, and prints the counts of their tables and vertices.
 fn report_curves(rt: &HostRuntime, case: &Case, timed: bool) -> anyhow::Result<()> {
     let Ok(count) = work(case) else {
         return Err(anyhow!("the case has too many tables"));
@@ -68,7 +68,7 @@ fn is_read(alloc: Global, bytes: &[u8]) -> bool
     read(alloc, bytes).is_ok()
 }
 
-/// What the checker accepts of these bytes, whose objective is that of backorders.
+/// The accepted claims of these bytes, if their objective is backorders.
 fn accepted(alloc: Global, bytes: &[u8]) -> Option<Accepted>
     requires { length bytes.now ≤ certificate_limit }
 {
@@ -82,7 +82,7 @@ fn accepted(alloc: Global, bytes: &[u8]) -> Option<Accepted>
     check(alloc, &certificate).ok()
 }
 
-/// Reads and checks a certificate, and prints what was accepted.
+/// Reads and checks a certificate, and prints its accepted claims.
 fn report_certificate(rt: &HostRuntime, name: &str, timed: bool) -> anyhow::Result<()> {
     let bytes = bytes_of(rt, name, CERTIFICATE_LIMIT)?;
     let start = Instant::now(rt)?;

@@ -1,4 +1,4 @@
--- What reports a text can show: those whose numbers with decimals are below 2 ^ 86 units of 2 ^ -48.
+-- The reports that a text can show: their numbers with decimals are below 2^86 units of 2^-48.
 use Rattle.std.specs.Prelude.{ℕ, ◌^◌, ◌<◌, ◌≤◌, IfSome}
 use Rattle.fixed_interval.specs.Ends.{Ends}
 use Rattle.hull.specs.declared.price.Price.{Price}
@@ -11,7 +11,7 @@ use Rattle.plan_report.specs.declared.summary.Summary.{Summary}
 abbrev pub UnitsFit : ℕ → Type 0
 UnitsFit n = n < 2 ^ 86
 
--- so is the upper end of an interval
+-- the upper end of an interval is small enough to be printed
 abbrev pub IntervalFits : Ends → Type 0
 IntervalFits x = UnitsFit x.hi
 
@@ -30,12 +30,12 @@ pub record FitsPlan (report : PlanReport) : Type 0 where
   pub rounding : UnitsFit report.rounding
   pub price : PriceFits report.price
 
--- so can those of a check's report
+-- the numbers of a check's report can be printed
 pub record FitsCheck (report : CheckReport) : Type 0 where
   pub upper : UnitsFit report.upper
   pub bound : UnitsFit report.bound
 
--- so can those of the demonstration's summary
+-- the numbers of the demonstration's summary can be printed
 pub record FitsSummary (summary : Summary) : Type 0 where
   pub total : IntervalFits summary.total
   pub bound : UnitsFit summary.bound

@@ -1,14 +1,14 @@
--- The pieces of a pair's line, from what is held of it. No promise of the crate rests on these words.
+-- The pieces of a pair's line, from its compact item. No promise of the crate rests on these words.
 use Rattle.std.specs.Prelude.{ℕ, List, ◌∷◌, ◌++◌, codes}
 use Rattle.std.specs.Fmt.{decimal}
 use Rattle.case_figures.specs.declared.held.HeldItem.{HeldItem}
 use Rattle.plan_report.specs.Texts.{interval_text}
 
--- the names and the stock of a pair, from the beginning of its line on
+-- the start of a pair's line: its names and its stock
 abbrev pub names_text : List ℕ → List ℕ → ℕ → List ℕ
 names_text part site stock = codes "item," ++ (part ++ (44 ∷ site ++ (44 ∷ decimal stock)))
 
--- the four intervals of a pair with f binary places, each behind a comma
+-- the four intervals of a pair with f binary places, each after a comma
 abbrev pub held_text : ℕ → HeldItem → List ℕ
 held_text f x =
     (44 ∷ interval_text f x.mean)

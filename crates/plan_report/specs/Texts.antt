@@ -1,4 +1,4 @@
--- The texts of the reports. Fields are parted by commas (44), and each line ends with a line feed (10).
+-- The texts of the reports. Commas (44) separate fields, and each line ends with a line feed (10).
 use Rattle.std.specs.Prelude.{ℕ, ◌+◌, ◌*◌, ◌/◌, ◌^◌, ◌<◌, ◌≤◌, List, [], ◌∷◌, ◌++◌, Option, Some, None, codes}
 use Rattle.std.specs.Int.{div_ceil}
 use Rattle.std.specs.List.{flat_map}
@@ -41,7 +41,7 @@ upper_millionths f x = millionths_up f x.hi
 abbrev pub interval_text : ℕ → Ends → List ℕ
 interval_text f x = fixed_text 6 (lower_millionths f x) ++ (44 ∷ fixed_text 6 (upper_millionths f x))
 
--- each number in the interval lies between the two that are printed
+-- each number in the interval lies between the two printed numbers
 abbrev pub PrintsOutward : ℕ → Ends → Type 0
 PrintsOutward f x = (q : Fraction) → In f x q
     → (text_value 6 (lower_millionths f x) ≤ℚ q) × (q ≤ℚ text_value 6 (upper_millionths f x))
@@ -58,16 +58,16 @@ up_text n = fixed_text 6 (millionths_up 48 n)
 abbrev pub of_units : ℕ → Fraction
 of_units n = whole n /ℚ whole (2 ^ 48)
 
--- what is printed rounded down is no more than the number
+-- the number printed rounded down is at most the number
 abbrev pub PrintsBelow : ℕ → Type 0
 PrintsBelow n = text_value 6 (millionths_down 48 n) ≤ℚ of_units n
 
--- what is printed rounded up is no less than the number
+-- the number printed rounded up is at least the number
 abbrev pub PrintsAbove : ℕ → Type 0
 PrintsAbove n = of_units n ≤ℚ text_value 6 (millionths_up 48 n)
 
--- a number that is above another by no more than a rounding is printed, rounded down, above it by no more than the
--- printed rounding
+-- if n is at most m plus the rounding, then n printed rounded down is at most m printed rounded down plus the rounding
+-- printed rounded up
 abbrev pub PrintsWithin : ℕ → ℕ → ℕ → Type 0
 PrintsWithin n m rounding =
     n ≤ m + rounding → millionths_down 48 n ≤ millionths_down 48 m + millionths_up 48 rounding
@@ -84,13 +84,13 @@ price_down price = price.p * 10 ^ 12 / (price.q * 2 ^ 48)
 abbrev pub price_text : Price → List ℕ
 price_text price = fixed_text 12 (price_down price)
 
--- what is printed of a price is no more than the price
+-- the printed price is at most the price
 abbrev pub PrintsPriceBelow : Price → Type 0
 PrintsPriceBelow price = 0 < price.q → text_value 12 (price_down price) ≤ℚ price_value price
 
 -- ---- lines
 
--- a line with its name in front
+-- a line: a name, a comma and fields
 abbrev pub line : List ℕ → List ℕ → List ℕ
 line name fields = name ++ (44 ∷ fields ++ (10 ∷ []))
 
@@ -110,7 +110,7 @@ single_text report =
 abbrev pub pair_text : ItemLine → List ℕ
 pair_text item = item.part ++ (44 ∷ item.site ++ (44 ∷ decimal item.stock))
 
--- the four intervals of a pair, each behind a comma
+-- the four intervals of a pair, each after a comma
 abbrev pub intervals_text : ItemLine → List ℕ
 intervals_text item =
     44 ∷ span_text item.mean
@@ -147,17 +147,17 @@ eval_text report = line (codes "eval") (decimal report.bits) ++ figures_text rep
 
 -- ---- plans
 
--- what the stocks on hand cost, where there are such
+-- the cost of the stocks on hand, if there are any
 abbrev pub on_hand_text : Option ℕ → List ℕ
 on_hand_text None = []
 on_hand_text (Some cost) = line (codes "on-hand") (decimal cost)
 
--- the loss, where it is what is aimed at
+-- the loss, if it is the aim
 abbrev pub loss_text : Option Ends → List ℕ
 loss_text None = []
 loss_text (Some loss) = line (codes "loss") (interval_text 48 loss)
 
--- the line unit and the rise of the cost of the critical step, where there is one
+-- the line unit and the cost of the critical step, or `none`
 abbrev pub critical_text : Option CriticalLine → List ℕ
 critical_text None = line (codes "critical") (codes "none")
 critical_text (Some step) = line (codes "critical") (step.part ++ (44 ∷ decimal step.cost))
@@ -168,14 +168,14 @@ gains_text report =
     cost_text report.figures
     ++ (on_hand_text report.on_hand ++ (stocks_text report.figures ++ loss_text report.loss))
 
--- how far the stocks can be from the best
+-- the distance of the stocks from the best
 abbrev pub bounds_text : PlanReport → List ℕ
 bounds_text report =
     line (codes "bound") (down_text report.bound)
     ++ (line (codes "gap") (up_text report.gap)
     ++ (line (codes "rounding") (up_text report.rounding)))
 
--- the price of the bound, and the step that set it
+-- the price of the bound, the hull cost and the critical step
 abbrev pub steps_text : PlanReport → List ℕ
 steps_text report =
     line (codes "price") (price_text report.price)
@@ -199,13 +199,13 @@ check_text report =
 
 -- ---- demonstrations
 
--- the lines of the case, and those of its plan
+-- the lines of the case
 abbrev pub case_text : Summary → List ℕ
 case_text summary =
     line (codes "demo") (decimal summary.number ++ (44 ∷ decimal summary.lines))
     ++ line (codes "parts") (decimal summary.parts)
 
--- the lines of a summary that its plan gives: budget, cost, total, bound and gap
+-- the lines of its plan: budget, cost, total, bound and gap
 abbrev pub planned_text : Summary → List ℕ
 planned_text summary =
     line (codes "budget") (decimal summary.budget)

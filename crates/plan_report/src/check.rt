@@ -1,4 +1,4 @@
-//! What is printed of an accepted certificate.
+//! The report of an accepted certificate.
 ghost use Rattle.std.specs.Prelude.{◌≡◌, IfOk};
 ghost use Rattle.plan_report.specs.Fits.{FitsCheck};
 ghost use Rattle.plan_report.specs.Texts.{check_text};
@@ -7,27 +7,27 @@ use crate::text::{put_down_line, put_number_line, put_on_hand, put_up_line};
 use spares_io::NoMemory;
 use std::alloc::Global;
 
-/// What an accepted certificate shows of its case. The upper end and the bound are in units of 2^-48 of what is aimed
-/// at.
+/// The claims of an accepted certificate, and the cost of its stocks. The upper end and the bound are in units of 2^-48
+/// of the aim.
 #[derive(Clone, Copy, PartialEq, Eq)]
 pub struct CheckReport {
-    /// 1, or 2 where covers show the floors.
+    /// 1, or 2 if covers show the floors.
     pub format: u8,
     /// In whole money.
     pub budget: u64,
-    /// What the budget pays: the certificate's stocks, or what they add to those on hand.
+    /// The cost charged to the budget: of all stocks of the certificate, or of the stocks added to those on hand.
     pub cost: u64,
-    /// What the stocks on hand cost, where some may be held already.
+    /// The cost of the stocks on hand, if some may be held already.
     pub on_hand: Option<u64>,
-    /// The certificate's stocks have at most so much.
+    /// The aim at the certificate's stocks is at most this.
     pub upper: u128,
-    /// No stocks within the budget have less.
+    /// No stocks within the budget have an aim below this.
     pub bound: u128,
 }
 
 impl CheckReport {
-    /// The lines `accepted,FORMAT`, `budget,BUDGET`, `cost,COST`, `upper,X` and `bound,X`, and after `cost` the line
-    /// `on-hand,COST` where stocks are on hand. The upper end is rounded up and the bound down, to 6 decimals. Want of
+    /// The lines `accepted,FORMAT`, `budget,BUDGET`, `cost,COST`, `upper,X` and `bound,X`. If stocks are on hand, the
+    /// line `on-hand,COST` follows `cost`. The upper end is rounded up and the bound down, to 6 decimals. Want of
     /// memory is the only error.
     pub fn text(&self, alloc: Global) -> Result<Vec<u8>, NoMemory>
         requires { FitsCheck self.now }

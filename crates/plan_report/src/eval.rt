@@ -1,4 +1,4 @@
-//! What is printed of given stocks.
+//! The report of given stocks.
 ghost use Rattle.std.specs.Prelude.{◌≡◌, IfOk};
 ghost use Rattle.case_figures.specs.Fits.{FitsPrint};
 ghost use Rattle.plan_report.specs.Texts.{eval_text};

@@ -18,7 +18,7 @@ use itoa::Buffer;
 use line_text::ShortLine;
 use spares_input::Name;
 
-/// A pair's line while it is put together: at most 320 bytes.
+/// The line of a pair while it is built: at most 320 bytes.
 pub(crate) type ItemLine = ShortLine<320>;
 
 /// The lower end of an interval in millionths, rounded down.
@@ -62,7 +62,7 @@ fn put_millionths(line: &mut ItemLine, millionths: u64)
     line.put(&decimals(millionths));
 }
 
-/// Puts a comma and both ends of an interval with 6 decimals, the lower one rounded down, the upper one up.
+/// Puts a comma and both ends of an interval with 6 decimals, the lower one rounded down and the upper one up.
 fn put_ends<const F: u32>(line: &mut ItemLine, interval: &Narrow)
     requires width { IsWidth F }
     requires room { length line.old ≤ 264 }
@@ -75,7 +75,7 @@ fn put_ends<const F: u32>(line: &mut ItemLine, interval: &Narrow)
     put_millionths(line, upper_millionths::<F>(interval));
 }
 
-/// Puts the four intervals of a pair, each behind a comma.
+/// Puts the four intervals of a pair, each after a comma.
 fn put_intervals<const F: u32>(line: &mut ItemLine, held: &HeldItem)
     requires width { IsWidth F }
     requires room { length line.old ≤ 96 }
@@ -88,7 +88,7 @@ fn put_intervals<const F: u32>(line: &mut ItemLine, held: &HeldItem)
     put_ends::<F>(line, &held.spread);
 }
 
-/// Puts a name and the comma behind it.
+/// Puts a name and a comma.
 fn put_name(line: &mut ItemLine, name: &Name)
     requires { length line.old ≤ 295 }
     ensures text { line.new ≡ line.old ++ (name.now ++ 44 ∷ []) }
@@ -98,7 +98,7 @@ fn put_name(line: &mut ItemLine, name: &Name)
     line.push(b',');
 }
 
-/// Puts the names and the stock of a pair, in place of what the line held.
+/// Overwrites the line with the names and the stock of a pair.
 fn put_names(line: &mut ItemLine, part: &Name, site: &Name, stock: u8)
     ensures text { line.new ≡ names_text part.now site.now stock }
     ensures short { length line.new ≤ 75 }
@@ -110,7 +110,7 @@ fn put_names(line: &mut ItemLine, part: &Name, site: &Name, stock: u8)
     put_whole(line, u64::from(stock));
 }
 
-/// Puts the line of a pair, in place of what the line held.
+/// Overwrites the line with the line of a pair.
 pub(crate) fn put_item(line: &mut ItemLine, item: &ItemRef<'_>)
     requires { IsWidth item.now.bits }
     ensures { line.new

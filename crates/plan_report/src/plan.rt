@@ -1,4 +1,4 @@
-//! What is printed of the plan of a case.
+//! The report of the plan of a case.
 ghost use Rattle.std.specs.Prelude.{◌≡◌, ◌++◌, IfOk, IfSome, OnOk, codes};
 ghost use Rattle.case_figures.specs.Fits.{FitsPrint};
 ghost use Rattle.plan_report.specs.Fits.{FitsPlan, IntervalFits, PriceFits};
@@ -25,40 +25,40 @@ use spares_input::Name;
 use spares_io::NoMemory;
 use std::alloc::Global;
 
-/// The line unit of the step that doesn't fit the budget, and by how much the step raises the cost, in whole money.
+/// The line unit of the step that doesn't fit the budget, and the cost of the step, in whole money.
 #[derive(Clone, Copy, PartialEq, Eq)]
 pub struct CriticalLine {
     pub part: Name,
     pub cost: u64,
 }
 
-/// The figures of a plan's stocks, and how far these can be from the best. Bound, gap and rounding are in units of
-/// 2^-48 of what is aimed at: the total of backorders, or the loss where there is one.
+/// The figures of a plan's stocks, and their distance from the best. Bound, gap and rounding are in units of 2^-48 of
+/// the aim: the total of backorders, or the loss if there is one.
 #[derive(Drop, PartialEq, Eq)]
 pub struct PlanReport {
     /// In whole money.
     pub budget: u64,
-    /// Their cost is what the budget pays: all stocks, or what is added to those on hand.
+    /// Their cost is the cost charged to the budget: of all stocks, or of the stocks added to those on hand.
     pub figures: Figures,
-    /// What the stocks on hand cost, where some may be held already.
+    /// The cost of the stocks on hand, if some may be held already.
     pub on_hand: Option<u64>,
-    /// What is aimed at, at these stocks, where it isn't their total of backorders.
+    /// The aim at these stocks, if it isn't the total of backorders.
     pub loss: Option<Iv<48>>,
-    /// No stocks within the budget have less.
+    /// No stocks within the budget have an aim below this.
     pub bound: u128,
-    /// How far the upper end of what is aimed at is above the bound.
+    /// The upper end of the aim minus the bound.
     pub gap: u128,
-    /// By how much the bound of another price can at most be higher.
+    /// No other price has a bound that is higher by more than this.
     pub rounding: u128,
     /// The price that shows the bound.
     pub price: Price,
-    /// What the hull choice costs.
+    /// The cost of the hull choice.
     pub hull: u64,
-    /// None where every step fits the budget.
+    /// None if every step fits the budget.
     pub critical: Option<CriticalLine>,
 }
 
-/// Appends the line of a loss, where there is one.
+/// Appends the line of a loss, if there is one.
 fn put_loss(text: &mut Vec<u8>, loss: Option<Iv<48>>) -> Result<(), NoMemory>
     requires { IfSome loss IntervalFits }
     ensures { OnOk result (text.new.items ≡ text.old.items ++ loss_text loss) }
@@ -78,7 +78,7 @@ fn put_price(text: &mut Vec<u8>, price: Price) -> Result<(), NoMemory>
     put_line(text, b"price", ratio_down(price.p, units, 12).as_slice())
 }
 
-/// Appends the line of the critical step, or that there is none.
+/// Appends the line of the critical step, or `critical,none`.
 fn put_critical(text: &mut Vec<u8>, critical: Option<CriticalLine>) -> Result<(), NoMemory>
     ensures { OnOk result (text.new.items ≡ text.old.items ++ critical_text critical) }
 {
@@ -126,8 +126,8 @@ impl PlanReport {
         put_critical(text, self.critical)
     }
 
-    /// How many bytes to make room for before the text is put: most lines of items have fewer than 112, and all other
-    /// lines together fewer than 4,096.
+    /// The bytes to reserve before the text is put: most lines of items have fewer than 112, and all other lines
+    /// together fewer than 4,096.
     pub fn room(&self) -> usize {
         let lines = self.figures.items.len();
         lines.saturating_mul(112).saturating_add(4_096)
@@ -135,9 +135,9 @@ impl PlanReport {
 
     /// Appends the line `plan,BUDGET`, the lines of given stocks from `cost` to `total`, and the lines `bound,X`,
     /// `gap,X`, `rounding,X`, `price,X`, `hull,COST` and `critical,PART,COST` or `critical,none`. The bound is rounded
-    /// down, the gap and the rounding up, to 6 decimals; the price is rounded down to 12. Where stocks are on hand,
-    /// `on-hand,COST` stands after `cost`; where there is a loss, `loss,LO,HI` after `total`. Want of memory is the
-    /// only error, and may leave a part of it.
+    /// down, the gap and the rounding up, to 6 decimals; the price is rounded down to 12. If stocks are on hand,
+    /// `on-hand,COST` follows `cost`; if there is a loss, `loss,LO,HI` follows `total`. Want of memory is the only
+    /// error, and may leave a part of the text.
     pub fn put_text(&self, text: &mut Vec<u8>) -> Result<(), NoMemory>
         requires { FitsPlan self.now }
         ensures { OnOk result (text.new.items ≡ text.old.items ++ plan_text self.now) }

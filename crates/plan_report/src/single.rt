@@ -1,4 +1,4 @@
-//! What is printed of a single pipeline.
+//! The report of a single pipeline.
 ghost use Rattle.std.specs.Prelude.{◌≡◌, ◌<◌, ◌^◌, IfOk};
 ghost use Rattle.plan_report.specs.Texts.{single_text};
 
@@ -16,8 +16,8 @@ pub struct SingleReport {
 }
 
 impl SingleReport {
-    /// Two lines, `backorders,LO,HI` and `variance,LO,HI`, with 6 decimals, the lower ends rounded down
-    /// and the upper ends up. Want of memory is the only error.
+    /// Two lines, `backorders,LO,HI` and `variance,LO,HI`, with 6 decimals, the lower ends rounded down and the upper
+    /// ends up. Want of memory is the only error.
     pub fn text(&self, alloc: Global) -> Result<Vec<u8>, NoMemory>
         requires backorders { self.now.backorders.hi < 2 ^ 86 }
         requires spread { self.now.spread.hi < 2 ^ 86 }

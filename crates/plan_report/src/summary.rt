@@ -1,4 +1,4 @@
-//! What is printed of a demonstration case.
+//! The report of a demonstration case.
 ghost use Rattle.std.specs.Prelude.{◌≡◌, ◌++◌, IfOk, OnOk};
 ghost use Rattle.plan_report.specs.Fits.{FitsSummary};
 ghost use Rattle.plan_report.specs.Texts.{case_text, planned_text, summary_text};
@@ -13,16 +13,16 @@ use std::alloc::Global;
 /// The plan of a demonstration case whose certificate was accepted. Bound and gap are in units of 2^-48.
 #[derive(Clone, Copy, PartialEq, Eq)]
 pub struct Summary {
-    /// The number that the case is made from.
+    /// The number from which the case is made.
     pub number: u32,
-    /// How many line units it has.
+    /// The count of line units.
     pub lines: u16,
-    /// How many parts it has.
+    /// The count of parts.
     pub parts: u32,
     /// In whole money.
     pub budget: u64,
     pub cost: u64,
-    /// The expected backorders of the line units at the bases.
+    /// The weighted expected backorders of the line units at the bases.
     pub total: Iv<48>,
     pub bound: u128,
     pub gap: u128,

@@ -1,4 +1,4 @@
-//! Pieces that reports are printed from.
+//! The pieces of reports' texts.
 ghost use Rattle.std.specs.Prelude.{◌≡◌, ◌++◌, ◌∷◌, ◌<◌, ◌^◌, ℕ, All, OnOk};
 ghost use Rattle.std.specs.List.{flat_map};
 ghost use Rattle.std.specs.Fmt.{decimal};
@@ -36,9 +36,8 @@ use itoa::Buffer;
 use line_text::{put_count_line, put_fixed};
 use spares_io::NoMemory;
 
-/// The two numbers that are printed of an interval enclose all that it contains. A number that is printed rounded down
-/// is printed as no more than it is, and one that is rounded up as no less. A bound within a rounding of another is
-/// printed within the printed rounding of it.
+/// The two printed numbers of an interval enclose the interval. A number printed rounded down is at most itself, and
+/// one rounded up is at least itself. If a bound is within a rounding of another, so are their printed forms.
 pub fn prints_outward()
     ensures intervals { (f : ℕ) (x : Ends) → PrintsOutward f x }
     ensures spans { (x : Span) → PrintsOutward (places x) (ends x) }
@@ -64,7 +63,7 @@ pub(crate) fn decimals(number: u64) -> [u8; 7]
     ]
 }
 
-/// Appends a number of millionths that has 64 bits with 6 decimals.
+/// Appends a 64-bit number of millionths with 6 decimals.
 fn put_small_millionths(text: &mut Vec<u8>, millionths: u64) -> Result<(), NoMemory>
     ensures { OnOk result (text.new.items ≡ text.old.items ++ fixed_text 6 millionths) }
 {
@@ -101,8 +100,8 @@ fn upper_millionths<const F: u32>(interval: &Iv<F>) -> u128
     (interval.hi() * 1_000_000).div_ceil(1 << F)
 }
 
-/// Appends both ends of an interval with 6 decimals, the lower one rounded down, the upper one up. Want of memory is
-/// the only error, and may leave a part of it.
+/// Appends both ends of an interval with 6 decimals, the lower one rounded down and the upper one up. Want of memory is
+/// the only error, and may leave a part of the text.
 pub fn put_interval<const F: u32>(text: &mut Vec<u8>, interval: &Iv<F>) -> Result<(), NoMemory>
     requires { interval.now.hi < 2 ^ 86 }
     ensures { OnOk result (text.new.items ≡ text.old.items ++ interval_text F interval.now) }
@@ -136,7 +135,7 @@ pub(crate) fn put_span_line(text: &mut Vec<u8>, name: &[u8], span: &Span) -> Res
     Ok(())
 }
 
-/// Appends a line of a name and a whole number. Want of memory is the only error, and may leave a part of it.
+/// Appends a line of a name and a whole number. Want of memory is the only error, and may leave a part of the line.
 pub fn put_number_line(text: &mut Vec<u8>, name: &[u8], number: u64) -> Result<(), NoMemory>
     ensures { OnOk result (text.new.items ≡ text.old.items ++ line name.now (decimal number)) }
 {
@@ -172,7 +171,7 @@ pub(crate) fn put_up_line(text: &mut Vec<u8>, name: &[u8], units: u128) -> Resul
     put_line(text, name, number.up_text(6).as_slice())
 }
 
-/// Appends the line of what the stocks on hand cost, where there are such.
+/// Appends the line of the cost of the stocks on hand, if there are any.
 pub(crate) fn put_on_hand(text: &mut Vec<u8>, on_hand: Option<u64>) -> Result<(), NoMemory>
     ensures { OnOk result (text.new.items ≡ text.old.items ++ on_hand_text on_hand) }
 {

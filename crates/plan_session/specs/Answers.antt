@@ -1,4 +1,4 @@
--- What the edits of a case answer.
+-- The answers to the edits of a case.
 use Rattle.std.specs.Prelude.{◌≡◌, ⊤, List, Result, Ok, Err}
 use Rattle.std.specs.List.{AllZip}
 use Rattle.spares_io.specs.declared.stop.Stop.{Stop}
@@ -8,7 +8,7 @@ use Rattle.case_edits.specs.declared.fault.EditFault.{EditFault}
 use Rattle.plan_session.specs.declared.report.SessionReport.{SessionReport}
 use Rattle.plan_session.specs.Sessions.{IsReportOf}
 
--- a report for each plan that is due, or the fault that is due
+-- a report for each plan that is due, or else the fault
 abbrev pub AnswersEdits : Result (List PlanDue) EditFault → Result SessionReport (Stop EditFault) → Type 0
 AnswersEdits (Ok due) (Ok report) = AllZip IsReportOf due report.plans
 AnswersEdits (Err f) (Ok report) = ⊥

@@ -9,17 +9,17 @@ use Rattle.case_edits.specs.Edits.{PlanDue}
 use Rattle.plan_session.specs.Sessions.{SessionRows, IsReportOf}
 use Rattle.case_edits.specs.Edits.{Standing}
 
--- where the lines stand that led to this session, if so much was to be planned
+-- the state that the lines have reached with this session and these plans due
 abbrev pub standing : SessionRows → List PlanDue → Standing
 standing s due = record { case = s.case; budget = s.budget; due = due }
 
--- session and plans are where the lines stand
+-- session and plans match the state that the lines have reached
 pub record HasFollowed (at : Result Standing EditFault) (s : SessionRows) (plans : List PlanReport) : Type 0 where
   pub due : List PlanDue
   pub is : at ≡ Ok (standing s due)
   pub told : AllZip IsReportOf due plans
 
--- the session has followed the lines, or the fault is theirs; want of memory is free
+-- the session has followed the lines, or the fault is theirs; want of memory may always come
 abbrev pub Follows : {U : Type 0} → Result Standing EditFault → SessionRows → List PlanReport
     → Result U (Stop EditFault) → Type 0
 Follows at s plans (Ok u) = HasFollowed at s plans

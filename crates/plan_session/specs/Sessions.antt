@@ -1,4 +1,4 @@
--- What a session is seen as, and what its calls answer.
+-- The model of a session, and the answers of its calls.
 use Rattle.std.specs.Prelude.{◌≡◌, ⊤, ℕ, ◌≤◌, Bool, true, false, List, [], length, filter, get_or, replicate, set, Some, Result, Ok, Err}
 use Rattle.std.specs.List.{range_with_len}
 use Rattle.std.specs.Result.{IsOk}
@@ -35,7 +35,7 @@ pub record SessionRows : Type 0 where
   pub budget : ℕ
   pub marks : List Bool
 
--- the place among the families of that to which part p belongs: so many line units stand before its own
+-- the index of the family of part p: the count of line units before the family's line unit
 abbrev pub family_place : CaseRows → ℕ → ℕ
 family_place c p = length (filter (λ q. is_line (part_at c.parts q)) (range_with_len 0 (home_of c p)))
 
@@ -43,31 +43,31 @@ family_place c p = length (filter (λ q. is_line (part_at c.parts q)) (range_wit
 abbrev pub has_mark : List Bool → ℕ → Bool
 has_mark marks k = get_or marks k false
 
--- There is a mark and a value for each family, and where the mark is on, the value is the family's.
+-- There is a mark and a value for each family, and if the mark is on, the value is the family's.
 pub record AreMarked {X : Type 0} (IsOf : ℕ → X → Type 0) (none : X) (c : CaseRows) (marks : List Bool)
     (values : List X) : Type 0 where
   pub mark_count : length marks ≡ length (line_units c)
   pub value_count : length values ≡ length (line_units c)
   pub kept : (k : ℕ) → has_mark marks k ≡ true → IsOf (get_or (line_units c) k 0) (get_or values k none)
 
--- where the mark is on, the curve is that of the family in this case: of its weighted backorders, over all its vectors
+-- if the mark is on, the curve is the family's in this case, of its weighted backorders over all its vectors
 abbrev pub AreKept : CaseRows → List Bool → List (List Point) → Type 0
 AreKept c marks curves = AreMarked (IsFamilyCurve plain_ends c []) [] c marks curves
 
--- the evaluation of the family of line unit l at these stocks, and what stands in the place of none
+-- the evaluation of the family of line unit l at these stocks
 abbrev pub IsEvaluation : CaseRows → StockList → ℕ → FamilyResult 48 → Type 0
 IsEvaluation c s l family = family ≡ family_of 48 c l s
 
--- what stands for an evaluation that isn't made
+-- a placeholder evaluation
 abbrev pub no_family : FamilyResult 48
 no_family = record { items = []; total = ends_exact 48 0 }
 
--- The stocks are of the case, and where the mark is on, the evaluation is that of the family in this case at them.
+-- The stocks are for the case, and if a mark is on, the evaluation is the family's at these stocks.
 pub record AreEvaluated (c : CaseRows) (x : Evaluated) : Type 0 where
   pub is_for : IsFor c x.stocks
   pub are_marked : AreMarked (IsEvaluation c x.stocks) no_family c x.marks.items x.families.items
 
--- what is true of every session with these curves and these evaluations
+-- the invariant of every session with these curves and these evaluations
 pub record IsSession (s : SessionRows) (curves : List (List Point)) (evaluated : Evaluated) : Type 0 where
   pub valid : IsCase s.case
   pub work : IsOk (work_of s.case)
@@ -75,9 +75,9 @@ pub record IsSession (s : SessionRows) (curves : List (List Point)) (evaluated :
   pub are_kept : AreKept s.case s.marks curves
   pub are_evaluated : AreEvaluated s.case evaluated
 
--- ---- what the calls make of a session
+-- ---- sessions after each call
 
--- a session at its start: the case and the budget, and no curve kept
+-- a session at its start: the case, the budget, and no curve kept
 abbrev pub started : CaseRows → ℕ → SessionRows
 started c budget = record { case = c; budget = budget; marks = replicate (length (line_units c)) false }
 
@@ -85,34 +85,34 @@ started c budget = record { case = c; budget = budget; marks = replicate (length
 abbrev pub with_budget : SessionRows → ℕ → SessionRows
 with_budget s budget = record s { budget = budget }
 
--- the row in the place of its pair's, and the mark of its part's family off
+-- the session after the row replaces its pair's row: the mark of its part's family is off
 abbrev pub with_row : SessionRows → RateRow → SessionRows
 with_row s r = record s { case = with_rate s.case r; marks = set s.marks (family_place s.case r.part.0) false }
 
--- there are as many marks as before, and each that was on is on
+-- there is the same count of marks, and each mark that was on is on
 pub record AreLater (before after : List Bool) : Type 0 where
   pub count : length after ≡ length before
   pub stay : (k : ℕ) → has_mark before k ≡ true → has_mark after k ≡ true
 
--- case and budget are as before too
+-- and case and budget are the same
 pub record IsLater (before after : SessionRows) : Type 0 where
   pub case_is : after.case ≡ before.case
   pub budget_is : after.budget ≡ before.budget
   pub marks : AreLater before.marks after.marks
 
--- ---- what a plan answers
+-- ---- the answers of a plan
 
--- as a session now is
+-- a plan of the session as it is
 abbrev pub due : SessionRows → PlanDue
 due s = record { case = s.case; budget = s.budget }
 
--- The case is accepted, and the report is that of its plan under this budget with nothing held, which is whatever list
--- of zeros.
+-- The case is accepted, and the report is the report of its plan under this budget with nothing held, for any list of
+-- zeros.
 pub record IsReportOf (d : PlanDue) (report : PlanReport) : Type 0 where
   pub accepted : IsAcceptedCase d.case
   pub is_planned : (held : List ℕ) → IsNothing held → IsPlanned plain_ends d.case held (plain_terms d.budget) report
 
--- it comes where the rates break no rule, and a fault is the first rule that they break
+-- a report comes if the rates break no rule, and a fault is the first rule that they break
 abbrev pub AnswersPlan : PlanDue → Result PlanReport (Stop RateFault) → Type 0
 AnswersPlan d (Ok report) = IsReportOf d report
 AnswersPlan d (Err stop.NoMemory) = ⊤

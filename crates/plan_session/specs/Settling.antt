@@ -1,4 +1,4 @@
--- How marks are turned off where stocks have changed. No promise of the crate rests on these words.
+-- Turning marks off if stocks have changed. No promise of the crate rests on these words.
 use Rattle.std.specs.Prelude.{◌≡◌, ℕ, ◌<◌, Bool, true, List, length}
 use Rattle.spares_input.specs.Cases.{CaseRows}
 use Rattle.spares_input.specs.Stocks.{StockList, stock_at}

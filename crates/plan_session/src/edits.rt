@@ -22,18 +22,18 @@ use spares_input::Case;
 use spares_io::{List, Stop};
 use std::alloc::Global;
 
-/// The most lines of an edits file.
+/// The largest count of lines in an edits file.
 const MOST_LINES: u32 = 4000;
 
-/// The most plans of an edits file.
+/// The largest count of plans in an edits file.
 const MOST_PLANS: usize = 64;
 
-/// The plans that an edits file asks for, of this case and with a budget that begins at 0, or the file's first fault.
+/// The plans that an edits file asks for, or the file's first fault. The session begins with this case and a budget of
+/// 0.
 ///
-/// Its lines are `budget,N`, `plan`, and `rate,` with the fields of a row of rates. They are taken in order, and each
-/// plan is that of the case and the budget as they then are. At each line these are tried in this order: line 4,001;
-/// a line that is none of these; the 65th plan; a plan whose rates are refused. The work of the case is within its
-/// limit.
+/// The lines are `budget,N`, `plan`, and `rate,` with the fields of a row of rates. They are taken in order, and each
+/// plan is the plan of the case and the budget at that line. At each line the faults come in this order: line 4,001; a
+/// line of no such form; the 65th plan; a plan with refused rates. The work of the case is within its limit.
 pub fn run_edits(alloc: Global, case: Case, bytes: &[u8]) -> Result<SessionReport, Stop<EditFault>>
     requires work { IsOk (work_of case) }
     ensures answer { AnswersEdits (session_of case bytes.now) result }
@@ -56,7 +56,7 @@ pub fn run_edits(alloc: Global, case: Case, bytes: &[u8]) -> Result<SessionRepor
     })
 }
 
-/// Takes a line, empty or not.
+/// Takes one line, empty or not.
 fn take(
     session: &mut Session,
     plans: &mut Vec<PlanReport>,
@@ -79,7 +79,7 @@ fn take(
     }
 }
 
-/// Carries out what a line says.
+/// Carries out the edit of a line.
 fn carry_out(
     session: &mut Session,
     plans: &mut Vec<PlanReport>,
@@ -98,7 +98,7 @@ fn carry_out(
     Ok(())
 }
 
-/// Plans, at this line.
+/// Plans at this line.
 fn put_plan(
     session: &mut Session,
     plans: &mut Vec<PlanReport>,

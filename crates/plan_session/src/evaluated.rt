@@ -18,9 +18,9 @@ use spares_input::{Case, PartId, SiteId, Stocks, nothing_held};
 use spares_io::{List, NoMemory};
 use std::alloc::Global;
 
-/// Stocks of a case, those of its last plan, and for each family its evaluation at them and a mark.
+/// The stocks of a session's last plan, with an evaluation and a mark for each family.
 ///
-/// Where a mark is off, what stands in the evaluation's place is an evaluation of no meaning.
+/// If a mark is on, the evaluation is the family's at these stocks. If it is off, the evaluation is a placeholder.
 #[derive(Drop)]
 pub(crate) struct Evaluated {
     pub stocks: Stocks,
@@ -28,7 +28,7 @@ pub(crate) struct Evaluated {
     pub marks: Vec<bool>,
 }
 
-/// So many evaluations of no meaning.
+/// `count` placeholder evaluations.
 fn placeholders(alloc: Global, count: usize) -> Result<Vec<FamilyResult<48>>, NoMemory>
     ensures { IfOk result (λ families. length families.items ≡ count) }
 {
@@ -42,7 +42,7 @@ fn placeholders(alloc: Global, count: usize) -> Result<Vec<FamilyResult<48>>, No
     Ok(families)
 }
 
-/// Nothing is evaluated: every mark is off.
+/// No family is evaluated: every mark is off.
 pub(crate) fn nothing_evaluated(alloc: Global, case: &Case) -> Result<Evaluated, NoMemory>
     ensures { IfOk result (AreEvaluated case.now) }
 {
@@ -57,7 +57,7 @@ pub(crate) fn nothing_evaluated(alloc: Global, case: &Case) -> Result<Evaluated,
     })
 }
 
-/// The same stocks once more.
+/// A copy of stocks.
 fn copied(alloc: Global, stocks: &Stocks, sites: u8) -> Result<Stocks, NoMemory>
     requires { stocks.now.sites ≡ sites }
     ensures { IfOk result (λ copy. copy ≡ stocks.now) }
@@ -66,7 +66,7 @@ fn copied(alloc: Global, stocks: &Stocks, sites: u8) -> Result<Stocks, NoMemory>
     Ok(Stocks::of(list, sites))
 }
 
-/// True only where a part has the same stocks in both, at each of so many sites.
+/// True only if a part has the same stocks in both at each of the `sites` sites.
 fn is_stocked_alike(old: &Stocks, new: &Stocks, part: PartId, sites: u8) -> bool
     requires old { (k : ℕ) → k < sites → HasPair old.now part.0 k }
     requires new { (k : ℕ) → k < sites → HasPair new.now part.0 k }
@@ -81,7 +81,7 @@ fn is_stocked_alike(old: &Stocks, new: &Stocks, part: PartId, sites: u8) -> bool
     true
 }
 
-/// Turns off the mark of each family that has a part of other stocks.
+/// Turns off the mark of each family with a part whose stocks differ.
 fn settle(case: &Case, old: &Stocks, new: &Stocks, marks: &mut [bool])
     requires count { length marks.old ≡ length (line_units case.now) }
     requires old { IsFor case.now old.now }
@@ -123,7 +123,7 @@ fn renew(
     Ok(())
 }
 
-/// Evaluates each family without its mark at these stocks, in order.
+/// Evaluates each unmarked family at these stocks, in order.
 fn renew_all(
     alloc: Global,
     case: &Case,
@@ -157,7 +157,7 @@ fn renew_all(
     Ok(())
 }
 
-/// Evaluates the case at these stocks: each family whose mark is off, or that had other stocks.
+/// Evaluates the case at these stocks: each family whose mark is off or whose stocks have changed.
 pub(crate) fn evaluate_at(
     alloc: Global,
     case: &Case,

@@ -19,7 +19,7 @@ use spares_input::{Case, PartId};
 use spares_io::{List, NoMemory};
 use std::alloc::Global;
 
-/// A curve of no meaning.
+/// A placeholder curve.
 fn placeholder(alloc: Global) -> Result<Curve, NoMemory> {
     let point = Point {
         cost: 0,
@@ -30,7 +30,7 @@ fn placeholder(alloc: Global) -> Result<Curve, NoMemory> {
     Curve::one(alloc, point)
 }
 
-/// So many curves of no meaning.
+/// `count` placeholder curves.
 fn placeholders(alloc: Global, count: usize) -> Result<Vec<Curve>, NoMemory>
     ensures { IfOk result (λ curves. length curves.items ≡ count) }
 {
@@ -42,7 +42,7 @@ fn placeholders(alloc: Global, count: usize) -> Result<Vec<Curve>, NoMemory>
     Ok(curves)
 }
 
-/// How many line units stand before a part.
+/// The count of line units before a part.
 pub(crate) fn lines_before(case: &Case, part: u16) -> usize
     requires { part ≤ length case.now.parts }
     ensures count { result ≡ length (lines_below case.now part) }
@@ -57,7 +57,7 @@ pub(crate) fn lines_before(case: &Case, part: u16) -> usize
     count
 }
 
-/// A curve of no meaning for each family, and its mark, which is off.
+/// A placeholder curve for each family, with its mark off.
 pub(crate) fn nothing_kept(alloc: Global, case: &Case) -> Result<(Vec<Curve>, Vec<bool>), NoMemory>
     ensures marks { IfOk result (λ kept. kept.1.items ≡ replicate (length (line_units case.now)) false) }
     ensures curves { IfOk result (λ kept. length kept.0.items ≡ length (line_units case.now)) }
@@ -68,7 +68,7 @@ pub(crate) fn nothing_kept(alloc: Global, case: &Case) -> Result<(Vec<Curve>, Ve
     Ok((curves, marks))
 }
 
-/// The line unit of the family to which a part belongs.
+/// The line unit of the family of a part.
 fn home_of(case: &Case, part: PartId) -> PartId
     requires { part.0 < length case.now.parts }
     ensures home { result.0 ≡ home_of case.now part.0 }
@@ -80,7 +80,7 @@ fn home_of(case: &Case, part: PartId) -> PartId
     }
 }
 
-/// The place among the families of that to which a part belongs.
+/// The index of the family of a part.
 pub(crate) fn place_of(case: &Case, part: PartId) -> usize
     requires { part.0 < length case.now.parts }
     ensures place { result ≡ family_place case.now part.0 }
@@ -89,7 +89,7 @@ pub(crate) fn place_of(case: &Case, part: PartId) -> usize
     lines_before(case, home_of(case, part).0)
 }
 
-/// Keeps the curve of a family, if it isn't kept.
+/// Computes and keeps the curve of a family, unless it is kept.
 fn keep(
     alloc: Global,
     case: &Case,
@@ -115,7 +115,7 @@ fn keep(
     Ok(())
 }
 
-/// Computes the curve of each family without its mark, in order.
+/// Computes the curve of each unmarked family, in order.
 pub(crate) fn keep_all(
     alloc: Global,
     case: &Case,

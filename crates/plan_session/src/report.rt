@@ -9,13 +9,13 @@ use plan_report::PlanReport;
 use spares_io::{List, NoMemory};
 use std::alloc::Global;
 
-/// The plans of a session in their order.
+/// The plans of a session, in order.
 #[derive(Drop, PartialEq, Eq)]
 pub struct SessionReport {
     pub plans: List<PlanReport>,
 }
 
-/// How many bytes to make room for before the texts of plans are put.
+/// The bytes to reserve for the texts of plans.
 fn room_of(plans: &[PlanReport]) -> usize {
     let mut room: usize = 0;
     for plan in plans {
@@ -36,7 +36,7 @@ fn put_plans(text: &mut Vec<u8>, plans: &[PlanReport]) -> Result<(), NoMemory>
 }
 
 impl SessionReport {
-    /// The texts of the plans one after the other. Want of memory is the only error.
+    /// The texts of the plans in order. Want of memory is the only error.
     pub fn text(&self, alloc: Global) -> Result<Vec<u8>, NoMemory>
         requires { All FitsPlan self.now.plans }
         ensures { IfOk result (λ text. text.items ≡ flat_map plan_text self.now.plans) }

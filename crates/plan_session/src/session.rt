@@ -1,4 +1,4 @@
-//! The case and the budget of a session, with the curves and the evaluations that are kept.
+//! The case and the budget of a session, with the kept curves and evaluations.
 
 ghost use Rattle.std.specs.Prelude.{◌≡◌, ◌<◌, ◌≤◌, [], true, not, length, get_or, replicate, is_none, IfOk, IfSome};
 ghost use Rattle.std.specs.Result.{IsOk};
@@ -21,11 +21,11 @@ use spares_io::{NoMemory, Stop};
 use std::alloc::Global;
 use std::marker::Model;
 
-/// A case and a budget, with the curves of the families that are marked, and with what was evaluated for the last plan.
-/// The price of that plan is where that of the next one is looked for first.
+/// A case and a budget, with the curves of the marked families and the evaluations of the last plan. The search for the
+/// next price begins at the price of the last plan.
 ///
-/// It is seen as its case, its budget and one mark for each family, which is on where the family's curve is kept.
-/// Where a mark is off, what stands in the curve's place is a curve of no meaning.
+/// Its model is the case, the budget and one mark for each family. The mark is on if the family's curve is kept. If it
+/// is off, the curve is a placeholder.
 #[derive(Drop)]
 pub struct Session {
     case: Case,
@@ -60,7 +60,7 @@ fn above(price: Price) -> u128 {
 }
 
 impl Session {
-    /// A session of this case, whose work is within its limit, and this budget in whole money. No mark is on. Want of
+    /// A session with this case, whose work is within its limit, and this budget in whole money. No mark is on. Want of
     /// memory is the only error.
     pub fn new(alloc: Global, case: Case, budget: u64) -> Result<Session, NoMemory>
         requires work { IsOk (work_of case) }
@@ -79,7 +79,7 @@ impl Session {
         })
     }
 
-    /// Changes the budget alone.
+    /// Changes only the budget.
     pub fn set_budget(&mut self, budget: u64)
         requires { budget ≤ most_budget }
         ensures { self.new ≡ with_budget self.old budget }
@@ -87,8 +87,8 @@ impl Session {
         self.budget = budget;
     }
 
-    /// Puts a row in the place of its pair's row, and turns off the mark of the family of its part. All else stays.
-    /// What was evaluated for this family is forgotten.
+    /// Replaces the row of this row's pair, and turns off the mark of its part's family. All else stays. The family's
+    /// evaluation is forgotten.
     pub fn set_rate(&mut self, row: RateRow)
         requires { IsRateOf (frame_rows self.old.case) row }
         ensures { self.new ≡ with_row self.old row }
@@ -99,10 +99,10 @@ impl Session {
         self.evaluated.marks[place] = false;
     }
 
-    /// The plan of the case as it is under the budget as it is, or the first rule that its rates break.
+    /// The plan of the current case under the current budget, or the first rule that the rates break.
     ///
-    /// An answer turns every mark on, and no call turns one off. Case and budget stay, so that a later call may answer
-    /// where memory was short.
+    /// A report turns every mark on, and this call never turns a mark off. Case and budget stay, so a later call may
+    /// succeed after a want of memory.
     pub fn plan(&mut self) -> Result<PlanReport, Stop<RateFault>>
         ensures answer { AnswersPlan (due self.old) result }
         ensures later { IsLater self.old self.new }
@@ -130,15 +130,15 @@ impl Session {
         Ok(outcome.report)
     }
 
-    /// How many families the case has.
+    /// The count of families.
     pub fn family_count(&self) -> usize
         ensures { result ≡ length (line_units self.now.case) }
     {
         self.marks.len()
     }
 
-    /// The curve of a family, by its place among the families: of its weighted backorders, over all its vectors, in the
-    /// case as it is. None exactly where its mark is off.
+    /// The curve of a family, by its index among the families: the curve of its weighted backorders, over all its
+    /// vectors, in the current case. None exactly if its mark is off.
     pub fn curve(&self, family: u32) -> Option<&Curve>
         requires { family < length (line_units self.now.case) }
         ensures mark { is_none result ≡ not (has_mark self.now.marks family) }

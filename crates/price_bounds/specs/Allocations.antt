@@ -4,8 +4,8 @@ use Rattle.exact_model.specs.Fraction.{Fraction, whole, ◌+ℚ◌, ◌*ℚ◌, 
 use Rattle.hull.specs.declared.point.Point.{Point}
 use Rattle.hull.specs.Curves.{Among}
 
--- A family: its vectors within the limits, and of each vector the cost, the ends of its interval and
--- the backorders that the model has at each depth.
+-- A family: its vectors within the limits, and for each vector the cost, the ends of its interval and the model's
+-- backorders at each depth.
 pub record Family : Type 0 where
   pub vectors : List (List ℕ)
   pub cost : List ℕ → ℕ
@@ -40,19 +40,19 @@ IsAllocation [] (stocks ∷ rest) = ⊥
 IsAllocation (family ∷ families) [] = ⊥
 IsAllocation (family ∷ families) (stocks ∷ rest) = Among stocks family.vectors × IsAllocation families rest
 
--- what an allocation costs
+-- the cost of an allocation
 abbrev pub cost_at : List Family → List (List ℕ) → ℕ
 cost_at [] allocation = 0
 cost_at (family ∷ families) [] = 0
 cost_at (family ∷ families) (stocks ∷ rest) = family.cost stocks + cost_at families rest
 
--- its backorders at a depth
+-- the backorders of an allocation at a depth
 unfoldable pub total_at : ℕ → List Family → List (List ℕ) → Fraction
 total_at n [] allocation = whole 0
 total_at n (family ∷ families) [] = whole 0
 total_at n (family ∷ families) (stocks ∷ rest) = family.backorders n stocks +ℚ total_at n families rest
 
--- At every allocation the backorders and the price of the money above the budget are together at least this.
+-- For every allocation, the backorders and the price of the money above the budget sum to at least this.
 abbrev pub IsBoundAtPrice : List Family → ℕ → ℕ → Fraction → Fraction → Type 0
 IsBoundAtPrice families budget n price bound = (allocation : List (List ℕ)) → IsAllocation families allocation
     → bound +ℚ price *ℚ whole budget ≤ℚ total_at n families allocation +ℚ price *ℚ whole (cost_at families allocation)

@@ -1,4 +1,4 @@
--- Certificates: what they claim, and which are acceptable.
+-- Certificates: their contents, and which are acceptable.
 use Rattle.std.specs.Prelude.{◌≡◌, ℕ, ◌<◌, ◌≤◌, List, [], ◌∷◌, sum}
 use Rattle.hull.specs.declared.point.Point.{Point}
 use Rattle.hull.specs.declared.price.Price.{Price}

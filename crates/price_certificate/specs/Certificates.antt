@@ -1,4 +1,4 @@
--- Which certificates are well formed, their text, and what bytes tell.
+-- Well formed certificates, their text, and their reading.
 use Rattle.std.specs.Prelude.{◌≡◌, ⊤, ℕ, ◌^◌, ◌≤◌, List, [], length, All, Result, Ok, Err}
 use Rattle.line_text.specs.Files.{file_text, file_answer}
 use Rattle.spares_input.specs.Frames.{FrameRows, frame_of}
@@ -14,17 +14,17 @@ use Rattle.price_certificate.specs.declared.fault.CertFault.{CertFault}
 use Rattle.price_certificate.specs.declared.fault.CertFault.TheVariants as fault
 use Rattle.price_certificate.specs.Grammar.{family_count, certificate_format}
 
--- most bytes of a certificate
+-- the most bytes of a certificate
 abbrev pub certificate_limit : ℕ
 certificate_limit = 16777216
 
 -- ---- well formed
 
--- no number is above the most
+-- no number is above `most`
 abbrev pub AreUpTo : ℕ → List ℕ → Type 0
 AreUpTo most numbers = All (λ n. n ≤ most) numbers
 
--- a cut is at one of 144 places and from 1 to 63 units; the leaves may be any
+-- a cut is at one of 144 places and from 1 to 63 units; any leaf is a node
 abbrev pub IsNode : Node → Type 0
 IsNode (node.Split at from) = (at ≤ 143) × ((1 ≤ from) × (from ≤ 63))
 IsNode node.Cost = ⊤
@@ -36,7 +36,7 @@ pub record IsCover (cover : List Node) : Type 0 where
   pub few : length cover ≤ 100000
   pub nodes : All IsNode cover
 
--- format 1 has no covers, and aims at backorders
+-- format 1 has no covers, and its objective is backorders
 pub record IsFirst (c : Certificate) : Type 0 where
   pub objective : c.objective ≡ objective.Backorders
   pub covers : c.covers ≡ []
@@ -69,16 +69,16 @@ pub record IsWellFormed (c : Certificate) : Type 0 where
 abbrev pub cert_text : Certificate → List ℕ
 cert_text c = file_text (certificate_format 1) c
 
--- the certificate of these lines, where their sites and parts are a frame's
+-- the certificate, if its sites and parts form a frame
 abbrev pub with_frame : Certificate → Result FrameRows CaseFault → Result Certificate CertFault
 with_frame c (Ok frame) = Ok c
 with_frame c (Err f) = Err (fault.BadCase f)
 
--- the certificate that was read, or its bad line; its sites and parts must be a frame's
+-- the certificate that was read, if its sites and parts form a frame, or its bad line
 abbrev pub judged : Result Certificate ℕ → Result Certificate CertFault
 judged (Ok c) = with_frame c (frame_of c.case.sites c.case.parts)
 judged (Err n) = Err (fault.BadLine n)
 
--- the certificate whose text the bytes are, or the first bad line, or the case fault where every line is in the grammar
+-- the certificate with this text, or the first bad line, or the case fault if every line is in the grammar
 abbrev pub cert_of : List ℕ → Result Certificate CertFault
 cert_of bytes = judged (file_answer (certificate_format 1) bytes)

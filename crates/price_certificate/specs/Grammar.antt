@@ -17,18 +17,18 @@ use Rattle.price_certificate.specs.declared.certificate.Node.{Node}
 use Rattle.price_certificate.specs.declared.certificate.Node.TheVariants as node
 use lib.Chars.{codes}
 
--- ---- what is aimed at
+-- ---- the objective
 
--- the word for what is aimed at
+-- the word of an objective
 abbrev pub objective_name : Objective → Token
 objective_name objective.Backorders = codes "backorders"
 objective_name objective.LogAvailability = codes "log-availability"
 
--- what is aimed at by this word
+-- the objective of a word
 abbrev pub objective_named : Token → Objective
 objective_named t = if bytes_eq t (codes "backorders") then objective.Backorders else objective.LogAvailability
 
--- the word that stands for it
+-- the text of an objective: its word
 abbrev pub objective_word : Text Objective
 objective_word = spelled objective_name objective_named (λ _. true)
 
@@ -38,12 +38,12 @@ objective_fields =
     as_shape (and_then (word (codes "objective")) (λ _. one objective_word))
     (λ x. x.1) (λ o. (tt, o)) (λ _. true)
 
--- what format 1 aims at, which has no line for it
+-- the objective is backorders, as in format 1, which has no line for it
 abbrev pub aims_at_backorders : Objective → Bool
 aims_at_backorders objective.Backorders = true
 aims_at_backorders objective.LogAvailability = false
 
--- what is aimed at stands in format 2 alone
+-- only format 2 has a line for the objective
 abbrev pub objective_line : ℕ → Format Objective
 objective_line format = if format == 2 then one (line objective_fields)
     else no_field objective.Backorders aims_at_backorders
@@ -68,15 +68,15 @@ price_line = one (line price_fields)
 
 -- ---- floors, one for each line unit
 
--- how many line units there are, and so how many families
+-- the count of line units, which is the count of families
 abbrev pub family_count : List PartRow → ℕ
 family_count parts = count_by is_line parts
 
--- their count, and then the floor of each family
+-- the count of families, and then the floor of each
 abbrev pub floors : ℕ → Format (List ℕ)
 floors families = counted (codes "floors") families families (λ _. number_line (2 ^ 115))
 
--- ---- covers, one for each line unit, in format 2 alone
+-- ---- covers, one for each line unit, only in format 2
 
 -- split,AT,FROM
 abbrev pub split_fields : Format (ℕ × ℕ)
@@ -88,13 +88,13 @@ split_fields =
 abbrev pub node_text : Text (Either (ℕ × ℕ) (Either (Unit {0}) (Unit {0})))
 node_text = either (line split_fields) (either (line (word (codes "cost"))) (line (word (codes "whole"))))
 
--- the node that a line tells
+-- the node of a line
 abbrev pub node_of : Either (ℕ × ℕ) (Either (Unit {0}) (Unit {0})) → Node
 node_of (Left x) = node.Split x.0 x.1
 node_of (Right (Left _)) = node.Cost
 node_of (Right (Right _)) = node.Whole
 
--- the line that tells a node
+-- the line of a node, by its fields
 abbrev pub node_parts : Node → Either (ℕ × ℕ) (Either (Unit {0}) (Unit {0}))
 node_parts (node.Split at from) = Left (at, from)
 node_parts node.Cost = Right (Left tt)
@@ -104,7 +104,7 @@ node_parts node.Whole = Right (Right tt)
 abbrev pub node_line : Format Node
 node_line = as_shape (one node_text) node_of node_parts (λ _. true)
 
--- how many nodes there are, and then each in preorder
+-- the count of nodes, and then each in preorder
 abbrev pub cover : Format (List Node)
 cover = counted (codes "cover") 1 100000 (λ _. node_line)
 
@@ -112,24 +112,24 @@ cover = counted (codes "cover") 1 100000 (λ _. node_line)
 abbrev pub is_empty : List (List Node) → Bool
 is_empty covers = length covers == 0
 
--- the cover of each family, where the format has covers
+-- the cover of each family, if the format has covers
 abbrev pub covers : ℕ → ℕ → Format (List (List Node))
 covers format families = if format == 2 then counted (codes "covers") families families (λ _. cover)
     else no_field [] is_empty
 
 -- ---- stocks, by part and then by site
 
--- the count of the pairs, and then a stock for each
+-- the count of pairs, and then a stock for each
 abbrev pub stock_lines : ℕ → Format (List ℕ)
 stock_lines pairs = counted (codes "stocks") pairs pairs (λ _. number_line 63)
 
--- the stocks of a case by these lines: the number of sites is the case's own
+-- the stocks of a case from these lines: the number of sites is the case's own
 abbrev pub stocks : CaseRows → Format StockList
 stocks c =
     as_shape (stock_lines (pair_count (frame_rows c))) (λ list. record { sites = length c.sites; list = list })
     (λ s. s.list) (λ s. s.sites == length c.sites)
 
--- ---- what stands after the price
+-- ---- the lines after the price
 
 -- upper,U, the upper end, bound,B, and then the word end
 abbrev pub ending : Format (ℕ × (ℕ × Unit {0}))

@@ -1,4 +1,4 @@
--- What is read before the case is made.
+-- The contents of lines before the case is built from them.
 use Rattle.std.specs.Prelude.{ℕ, List, Bool, length, if◌then◌else◌}
 use Rattle.line_text.specs.Formats.{Text}
 use Rattle.line_text.specs.Files.{line}
@@ -16,7 +16,7 @@ use lib.Chars.{codes}
 abbrev pub leaf_text : Text (Either (Unit {0}) (Unit {0}))
 leaf_text = either (line (word (codes "cost"))) (line (word (codes "whole")))
 
--- the leaf that is shown whole, or the one that is shown by its cost
+-- the leaf that is shown whole, or else the leaf that is shown by its cost
 abbrev pub leaf_named : Bool → Either (Unit {0}) (Unit {0})
 leaf_named is_whole = if is_whole then Right tt else Left tt
 
@@ -24,11 +24,11 @@ leaf_named is_whole = if is_whole then Right tt else Left tt
 abbrev pub ending_of : Ending → ℕ × (ℕ × Unit {0})
 ending_of e = (e.upper, (e.bound, tt))
 
--- the values of the lines after the price, where there are so many sites
+-- the values of the lines after the price, for this number of sites
 abbrev pub lists_of : ℕ → Lists → List ℕ × (List (List Node) × (StockList × (ℕ × (ℕ × Unit {0}))))
 lists_of sites l = (l.floors, (l.covers, (record { sites = sites; list = l.stocks }, ending_of l.ending)))
 
--- the certificate that lines tell, whose case needn't be valid
+-- the certificate of these lines; its case may be invalid
 abbrev pub draft_of : CertificateLines → Certificate
 draft_of d = record {
   format = d.format;

@@ -1,7 +1,7 @@
-//! Certificates: what shows how good the stocks of a plan are, as text that says each number exactly once.
+//! Certificates: text that shows how good the stocks of a plan are, with each number exactly once.
 //!
-//! One grammar says how the lines are written and how they are read. Reading gives the certificate whose text the
-//! bytes are, or the first bad line, or the rule that the sites and parts break.
+//! One grammar defines how the lines are written and read. Reading returns the certificate with this text, or the first
+//! bad line, or the rule that the sites and parts break.
 #![tactic(auto)]
 
 mod certificate;
@@ -24,5 +24,5 @@ pub use reading::{
 pub use trimming::{trim, trimmed_covers};
 pub use writing::text;
 
-/// Most bytes of a certificate.
+/// The most bytes of a certificate.
 pub const CERTIFICATE_LIMIT: usize = 16_777_216;

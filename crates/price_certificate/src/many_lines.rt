@@ -1,4 +1,4 @@
-//! Reading a line with a number, and then so many lines.
+//! Reading a line with a count, and then this count of lines.
 
 ghost use Rattle.std.specs.Prelude.{◌^◌};
 ghost use Rattle.line_text.specs.Formats.{each};
@@ -14,7 +14,7 @@ use line_text::{BadLine, Lines, count_line, number_line};
 use spares_io::{List, Stop};
 use std::alloc::Global;
 
-/// Reads so many floors.
+/// Reads `count` floors.
 fn each_floor(
     alloc: Global,
     lines: &mut Lines<'_>,
@@ -31,7 +31,7 @@ fn each_floor(
     Ok(found)
 }
 
-/// Reads the lines of the floors, of which there is one for each family.
+/// Reads the lines of the floors, one for each family.
 pub(crate) fn floors(
     alloc: Global,
     lines: &mut Lines<'_>,
@@ -44,7 +44,7 @@ pub(crate) fn floors(
     Ok(found)
 }
 
-/// Reads so many nodes.
+/// Reads `count` nodes.
 fn each_node(alloc: Global, lines: &mut Lines<'_>, count: usize) -> Result<Vec<Node>, Stop<BadLine>>
     ensures { Gathers (λ v. v.items) result lines.new ((each (numbers_from 0 count) (λ _. node_line)).read lines.old) }
 {
@@ -65,7 +65,7 @@ fn cover(alloc: Global, lines: &mut Lines<'_>) -> Result<List<Node>, Stop<BadLin
     Ok(List::of(found))
 }
 
-/// Reads so many covers.
+/// Reads `count` covers.
 fn each_cover(
     alloc: Global,
     lines: &mut Lines<'_>,
@@ -81,7 +81,7 @@ fn each_cover(
     Ok(found)
 }
 
-/// Reads the lines of the covers, of which there is one for each family.
+/// Reads the lines of the covers, one for each family.
 fn all_covers(
     alloc: Global,
     lines: &mut Lines<'_>,
@@ -95,7 +95,7 @@ fn all_covers(
     Ok(found)
 }
 
-/// Reads the covers, which stand in format 2 alone.
+/// Reads the covers, which only format 2 has.
 pub(crate) fn covers(
     alloc: Global,
     lines: &mut Lines<'_>,
@@ -111,7 +111,7 @@ pub(crate) fn covers(
     }
 }
 
-/// Reads so many stocks.
+/// Reads `count` stocks.
 fn each_stock(alloc: Global, lines: &mut Lines<'_>, count: usize) -> Result<Vec<u8>, Stop<BadLine>>
     ensures { Gathers (λ v. v.items) result lines.new
         ((each (numbers_from 0 count) (λ _. number_line 63)).read lines.old) }
@@ -124,7 +124,7 @@ fn each_stock(alloc: Global, lines: &mut Lines<'_>, count: usize) -> Result<Vec<
     Ok(found)
 }
 
-/// Reads the lines of the stocks, of which there is one for each pair.
+/// Reads the lines of the stocks, one for each pair.
 pub(crate) fn stocks(
     alloc: Global,
     lines: &mut Lines<'_>,

@@ -1,4 +1,4 @@
-//! Reading lines that stand alone.
+//! Reading single lines.
 
 ghost use Rattle.std.specs.Prelude.{◌≡◌, ◌^◌, ◌<◌};
 ghost use Rattle.line_text.specs.Formats.{accepted, read_all, one};
@@ -59,7 +59,7 @@ fn aim_line(lines: &mut Lines<'_>) -> Result<Objective, BadLine>
     }
 }
 
-/// Reads what is aimed at, which stands in format 2 alone.
+/// Reads the line of the objective, which only format 2 has.
 pub(crate) fn objective_line(lines: &mut Lines<'_>, format: u8) -> Result<Objective, BadLine>
     ensures { Reads (λ o. o) result lines.new ((objective_line format).read lines.old) }
 {
@@ -138,7 +138,7 @@ fn split_line(lines: &mut Lines<'_>) -> Result<(u128, u128), BadLine>
     }
 }
 
-/// Whether a leaf is to be shown by all of its vectors.
+/// Reads the line of a leaf: true for `whole`, false for `cost`.
 fn leaf_line(lines: &mut Lines<'_>) -> Result<bool, BadLine>
     ensures { Reads leaf_named result lines.new ((one leaf_text).read lines.old) }
 {

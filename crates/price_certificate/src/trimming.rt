@@ -1,4 +1,4 @@
-//! The cover of a family that is made of cost alone where that is enough.
+//! The trimmed cover of a family: boxes whose cost alone shows the floor, and one whole box.
 
 ghost use Rattle.std.specs.Prelude.{◌≡◌, ◌+◌, ◌^◌, ◌≤◌, ◌<◌, All, List, ℕ, length, map, true, false, nat_le, replicate, MatchOption, IfOk, OnOk, ◌++◌};
 ghost use Rattle.spares_input.specs.Rows.{is_line};
@@ -15,7 +15,8 @@ use spares_input::{Case, PartId, PartRow, SiteId};
 use spares_io::NoMemory;
 use std::alloc::Global;
 
-/// The least stock above what is held at which a place alone costs the floor, where it may stand there.
+/// The least stock above the held one whose cost at this place alone reaches the floor; None if the place may not have
+/// it.
 fn reach(p: u128, floor: u128, place: &Place) -> Option<u8>
     requires some { 1 ≤ p }
     requires most { p ≤ 2 ^ 74 }
@@ -33,7 +34,7 @@ fn reach(p: u128, floor: u128, place: &Place) -> Option<u8>
     }
 }
 
-/// Writes the cut at a place, where there is one, and answers how many there are.
+/// Writes the cut at a place if there is one, and returns the count of cuts written.
 fn push_cut(
     nodes: &mut Vec<Node>,
     p: u128,
@@ -59,7 +60,7 @@ fn push_cut(
     }
 }
 
-/// Writes so many leaves that are shown by their cost.
+/// Writes `count` leaves that are shown by their cost.
 fn push_costs(nodes: &mut Vec<Node>, count: usize) -> Result<(), NoMemory>
     ensures { OnOk result (nodes.new.items ≡ nodes.old.items ++ replicate count node.Cost) }
 {
@@ -69,7 +70,7 @@ fn push_costs(nodes: &mut Vec<Node>, count: usize) -> Result<(), NoMemory>
     Ok(())
 }
 
-/// The nodes of the cover at a price above 0.
+/// The nodes of the trimmed cover at a price above 0.
 fn trim_places(alloc: Global, places: &[Place], p: u128, floor: u128) -> Result<Vec<Node>, NoMemory>
     requires some { 1 ≤ p }
     requires most { p ≤ 2 ^ 74 }
@@ -102,7 +103,7 @@ fn family(alloc: Global, case: &Case, line: PartId) -> Result<Vec<PartId>, NoMem
     Ok(parts)
 }
 
-/// A part at a site, of which so many are held.
+/// A part at a site with this held stock.
 fn place_of(case: &Case, part: PartId, site: SiteId, held: u8) -> Place
     requires part { part.0 < length case.now.parts }
     requires site { site.0 < length case.now.sites }
@@ -117,7 +118,7 @@ fn place_of(case: &Case, part: PartId, site: SiteId, held: u8) -> Place
     }
 }
 
-/// The places of a family, of which these are its parts.
+/// The places of a family with these parts.
 fn places(
     alloc: Global,
     case: &Case,
@@ -144,7 +145,7 @@ fn places(
     Ok(found)
 }
 
-/// The cover at a price above 0.
+/// The trimmed cover of a family at a price above 0.
 fn trim_family(
     alloc: Global,
     case: &Case,
@@ -167,10 +168,9 @@ fn trim_family(
     trim_places(alloc, places.as_slice(), p, floor)
 }
 
-/// The cover of a family that is shown by its cost where that is enough: at each place of its vectors in turn, where
-/// the least stock above what is held at which the place alone costs the floor may stand, a cut there, whose second
-/// part is shown by its cost. What is left is shown whole; with the price 0 that is all. Want of memory is the only
-/// error.
+/// The trimmed cover of a family. For each place in turn, take the least stock above the held one whose cost at this
+/// place alone reaches the floor. If the place may have this stock, the cover has a cut there, and the second part is
+/// shown by its cost. The rest is shown whole; at the price 0 there are no cuts. Want of memory is the only error.
 pub fn trim(
     alloc: Global,
     case: &Case,
@@ -197,8 +197,8 @@ pub fn trim(
     trim_family(alloc, case, line, held, price.p, floor)
 }
 
-/// The trimmed cover is lawful, each box that it leaves to its cost costs the floor, and the box that is left begins at
-/// what is held.
+/// The trimmed cover is lawful, each box shown by its cost costs at least the floor, and the whole box begins at the
+/// held stocks.
 pub fn trimmed_covers()
     ensures { (p floor : ℕ) (places : List Place) → All IsPlace places
         → IsTrim p floor places (trimmed p floor places) }

@@ -20,7 +20,7 @@ use spares_input::{Case, Stocks};
 use spares_io::{List, NoMemory};
 use std::alloc::Global;
 
-/// Writes objective,NAME
+/// Writes `objective,NAME`.
 fn put_objective(out: &mut Vec<u8>, objective: &Objective) -> Result<(), NoMemory>
     ensures { OnOk result (out.new.items ≡ out.old.items ++ (line objective_fields).print objective.now) }
 {
@@ -30,7 +30,7 @@ fn put_objective(out: &mut Vec<u8>, objective: &Objective) -> Result<(), NoMemor
     Ok(())
 }
 
-/// Writes what is aimed at, which stands in format 2 alone.
+/// Writes the line of the objective, which only format 2 has.
 #[tactic(auto, using(line_text::proofs::Loops::one_text, case_lines::proofs::Written::nothing_more))]
 fn put_objective_of(out: &mut Vec<u8>, format: u8, objective: &Objective) -> Result<(), NoMemory>
     ensures { OnOk result (out.new.items ≡ out.old.items ++ concat ((objective_line format).print objective.now)) }
@@ -51,7 +51,7 @@ fn put_case(alloc: Global, out: &mut Vec<u8>, case: &Case) -> Result<(), NoMemor
     Ok(())
 }
 
-/// Writes price,P,Q
+/// Writes `price,P,Q`.
 fn put_price(out: &mut Vec<u8>, price: &Price) -> Result<(), NoMemory>
     ensures { OnOk result (out.new.items ≡ out.old.items ++ (line price_fields).print price.now) }
 {
@@ -84,7 +84,7 @@ fn put_floors(out: &mut Vec<u8>, list: &[u128]) -> Result<(), NoMemory>
     Ok(())
 }
 
-/// Writes split,AT,FROM or cost or whole
+/// Writes `split,AT,FROM`, `cost` or `whole`.
 fn put_node(out: &mut Vec<u8>, node: &Node) -> Result<(), NoMemory>
     ensures { OnOk result (out.new.items ≡ out.old.items ++ concat (node_line.print node.now)) }
 {
@@ -144,7 +144,7 @@ fn put_covers(out: &mut Vec<u8>, list: &[List<Node>]) -> Result<(), NoMemory>
     Ok(())
 }
 
-/// Writes the covers, which stand in format 2 alone.
+/// Writes the covers, which only format 2 has.
 #[tactic(auto, using(case_lines::proofs::Written::nothing_more))]
 fn put_covers_of(out: &mut Vec<u8>, format: u8, list: &[List<Node>]) -> Result<(), NoMemory>
     ensures { OnOk result ((families : ℕ) → out.new.items ≡ out.old.items
@@ -202,8 +202,8 @@ fn put_certificate(
     Ok(())
 }
 
-/// The text of a certificate: its lines, each number without needless zeros in front, and nothing after the last line.
-/// Want of memory is the only error.
+/// The text of a certificate: its lines, with no needless leading zeros and nothing after the last line. Want of memory
+/// is the only error.
 pub fn text(alloc: Global, certificate: &Certificate) -> Result<Vec<u8>, NoMemory>
     requires { IsWellFormed certificate.now }
     ensures { IfOk result (λ bytes. bytes.items ≡ cert_text certificate.now) }

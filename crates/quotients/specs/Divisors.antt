@@ -1,4 +1,4 @@
--- What a divisor holds beside its number.
+-- A divisor and its inverse.
 use Rattle.std.specs.Prelude.{ℕ, ◌≡◌, ◌+◌, ◌/◌, ◌^◌, ◌<◌, ◌≤◌}
 
 -- a divisor of at least 1 in units of 2^-f, and its inverse in units of 2^-62, rounded down

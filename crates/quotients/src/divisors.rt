@@ -1,4 +1,4 @@
-//! Divisors by which quotients are found without a division and without a trial.
+//! Divisors: quotients found without a division and without a trial.
 
 ghost use Rattle.std.specs.Prelude.{◌≡◌, ◌+◌, ◌*◌, ◌/◌, ◌^◌, ◌<◌, ◌≤◌};
 ghost use Rattle.std.specs.Int.{div_ceil};
@@ -28,7 +28,7 @@ impl<const F: u32> Model for Divisor<F> {
     ghost inverse = { λ n. record { den = n; inverse = 2 ^ (F + 62) / n } };
 }
 
-/// A quotient rounded down or one less, and what it leaves.
+/// A quotient rounded down or one less, and the remainder.
 #[derive(Clone, Copy, Drop)]
 struct Rough {
     whole: u64,
@@ -36,7 +36,7 @@ struct Rough {
 }
 
 impl<const F: u32> Divisor<F> {
-    /// The divisor of so many units.
+    /// The divisor `den`, in units.
     pub fn of(den: u64) -> Divisor<F>
         requires scale { F ≤ 52 }
         requires least { 2 ^ F ≤ den }
@@ -57,7 +57,7 @@ impl<const F: u32> Divisor<F> {
         }
     }
 
-    /// The number.
+    /// The number, in units.
     #[inline(always)]
     pub fn number(self) -> u64
         ensures number { result ≡ self.entry }
@@ -66,7 +66,7 @@ impl<const F: u32> Divisor<F> {
         self.den
     }
 
-    /// Another divisor. Where it is this one or little less, it takes two products and a trial.
+    /// Another divisor. If it is equal or slightly less, this takes two products and a trial.
     pub fn beside(self, den: u64) -> Divisor<F>
         requires scale { F ≤ 52 }
         requires least { 2 ^ F ≤ den }
@@ -76,8 +76,8 @@ impl<const F: u32> Divisor<F> {
         Divisor::by_guess(den, inverse_near::<F>(self.inverse, self.den, den))
     }
 
-    /// The divisor of so many units, with what its inverse is taken for. Where that is the inverse, or one less, no
-    /// division is made.
+    /// The divisor `den`, in units, with a guess of its inverse. If the guess is the inverse or one less, no division
+    /// is made.
     fn by_guess(den: u64, guess: u64) -> Divisor<F>
         requires scale { F ≤ 52 }
         requires least { 2 ^ F ≤ den }
@@ -88,7 +88,7 @@ impl<const F: u32> Divisor<F> {
         Divisor { den, inverse }
     }
 
-    /// What the inverse makes of so many whole ones, given in units.
+    /// The rough quotient of `num` whole ones, given in units.
     #[inline(always)]
     fn rough(self, num: u64) -> Rough
         requires { num ≤ 2 ^ 62 }
@@ -102,7 +102,7 @@ impl<const F: u32> Divisor<F> {
         Rough { whole, left }
     }
 
-    /// So many whole ones, given in units, over the divisor: in units, rounded down.
+    /// `num` over the divisor, both in units: in units, rounded down.
     #[inline(always)]
     pub fn floor(self, num: u64) -> u64
         requires { num ≤ 2 ^ 62 }
@@ -116,7 +116,7 @@ impl<const F: u32> Divisor<F> {
         }
     }
 
-    /// The same rounded up.
+    /// `num` over the divisor, both in units: in units, rounded up.
     #[inline(always)]
     pub fn ceil(self, num: u64) -> u64
         requires { num ≤ 2 ^ 62 }
@@ -128,7 +128,7 @@ impl<const F: u32> Divisor<F> {
         rough.whole + more + second
     }
 
-    /// So many whole ones, given in units, in parts by the divisor.
+    /// `num`, in units, in parts by the divisor.
     #[inline(always)]
     pub fn parts(self, num: u64) -> Parts
         requires { num ≤ 2 ^ 62 }

@@ -1,12 +1,12 @@
 //! Quotients of whole numbers, mostly found without a division.
 //!
-//! A [`Divisor`] holds its inverse, and a quotient by it is two products and a comparison. The inverse of a small
-//! divisor stands in a table, and a quotient by it is one product where the number has at most 55 bits. The inverse
-//! that a [`Divisor`] holds is guessed: what makes the guess has no clauses, since it is tried, and where it fails a
-//! division is made.
+//! A [`Divisor`] holds its inverse, and a quotient by it takes two products and a comparison. A table has the inverses
+//! of small divisors, and a quotient by one takes one product if the number has at most 55 bits. The inverse of a
+//! [`Divisor`] is guessed. The code of the guess has no clauses, since each guess is checked, with a plain division as
+//! fallback.
 #![tactic(auto)]
 
-ghost use Rattle.std.specs.Prelude.{◌≡◌, ◌+◌, ◌*◌, ◌/◌, ◌^◌, ◌<◌, ◌≤◌, IsTrue};
+ghost use Rattle.std.specs.Prelude.{◌≡◌, ◌+◌, ◌-◌, ◌*◌, ◌/◌, ◌^◌, ◌<◌, ◌≤◌, IsTrue};
 ghost use Rattle.quotients.specs.Inverses.{are_inverses};
 
 mod divisors;
@@ -17,7 +17,7 @@ pub use divisors::Divisor;
 use inverses::INVERSES;
 pub use parts::Parts;
 
-/// `num / den`, rounded down. Where `guess` is that, or one less, no division is made; with any other guess it is.
+/// `num / den`, rounded down. If `guess` is that or one less, no division is made; otherwise one is.
 #[inline(always)]
 fn quotient_near(num: u128, den: u64, guess: u64) -> u128
     requires { 0 < den }
@@ -76,7 +76,7 @@ fn short_inverse(x: u8) -> u64
     entry(&INVERSES, x)
 }
 
-/// `num / den`, rounded down, where the number has at most 55 bits: by one product.
+/// `num / den`, rounded down, for a number of at most 55 bits: by one product.
 #[inline(always)]
 pub fn few_quotient(num: u64, den: u8) -> u64
     requires divisor { 0 < den }
@@ -95,7 +95,7 @@ fn product_with(num: u64, inverse: u64) -> u64
     ((u128::from(num) * u128::from(inverse)) >> 63) as u64
 }
 
-/// `num / den`, rounded down: by one product where the number has at most 55 bits.
+/// `num / den`, rounded down: by one product if the number has at most 55 bits.
 #[inline(always)]
 pub fn short_quotient(num: u64, den: u8) -> u64
     requires { 0 < den }
@@ -108,8 +108,8 @@ pub fn short_quotient(num: u64, den: u8) -> u64
     }
 }
 
-/// A guess at `2^126 / den`, for a `den` of `2^63` or more: from the inverse of its first eight bits, rounded, by three
-/// of Newton's steps. It is that rounded down, or one less.
+/// `2^126 / den`, rounded down or one less, for a `den` of `2^63` or more: from the inverse of its first eight bits,
+/// rounded, by three of Newton's steps. No clause says so: it is a guess.
 #[inline(always)]
 fn full_inverse(den: u64) -> u64 {
     let first = ((den >> 55) + 1) >> 1;
@@ -125,7 +125,7 @@ fn nearer(inverse: u64, den: u64) -> u64 {
     high_half(inverse, twice).wrapping_shl(2)
 }
 
-/// The same where the inverse is too small by less than one part in `2^31`, and as exactly as it goes.
+/// Newton's last step, for an inverse too small by less than one part in `2^31`, as exact as possible.
 #[inline(always)]
 fn last_step(inverse: u64, den: u64) -> u64 {
     let missing = (1u128 << 126).wrapping_sub(u128::from(inverse) * u128::from(den));
@@ -156,11 +156,12 @@ fn inverse_of<const F: u32>(den: u64) -> u64
     full_inverse(den.wrapping_shl(zeros)).wrapping_shr((64 - F).wrapping_sub(zeros))
 }
 
-/// By how many places a number that isn't 0 is shifted so that it has `F + 1` bits or more.
+/// The fewest places by which a number that isn't 0 is shifted so that it has `F + 1` bits or more.
 #[inline(always)]
 pub fn places_to<const F: u32>(den: u64) -> u32
     requires { F ≤ 52 }
     ensures least { 0 < den → 2 ^ F ≤ den * 2 ^ result }
+    ensures fewest { 0 < result → den * 2 ^ (result - 1) < 2 ^ F }
     ensures few { result ≤ 53 }
 {
     den.leading_zeros().saturating_sub(63 - F)

@@ -1,14 +1,14 @@
-//! Numbers in parts: how often a divisor goes into them, and what is left.
+//! Numbers in parts: the quotient by a divisor, and the remainder.
 
 ghost use Rattle.std.specs.Prelude.{ℕ, ◌+◌, ◌-◌, ◌*◌, ◌^◌, ◌<◌};
 ghost use Rattle.quotients.specs.Parts.{AreParts};
 
-/// How often a divisor goes into a number, and what is left.
+/// A quotient and its remainder.
 #[derive(Clone, Copy, Drop)]
 pub struct Parts {
-    /// How often the divisor goes into the number.
+    /// The quotient, rounded down.
     pub whole: u64,
-    /// What is left, which is less than the divisor.
+    /// The remainder, which is less than the divisor.
     pub rest: u64,
 }
 
@@ -27,7 +27,7 @@ impl Parts {
         }
     }
 
-    /// The parts of a sum, from those of its terms.
+    /// The parts of a sum, from the parts of its terms.
     #[inline(always)]
     pub fn plus(self, step: Parts, den: u64) -> Parts
         requires whole_room { self.whole < 2 ^ 63 }
@@ -61,7 +61,7 @@ impl Parts {
         }
     }
 
-    /// The parts of the number with the divisor added so many times, less 1. Over so many divisors that is the number
+    /// The parts of the number with the divisor added `times` times, less 1. Divided by `times`, that is the number
     /// rounded up.
     #[inline(always)]
     pub fn raised(self, times: u32, den: u64) -> Parts

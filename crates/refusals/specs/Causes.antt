@@ -10,7 +10,7 @@ use Rattle.refusals.specs.declared.refusal.Refusal.{Refusal}
 use Rattle.refusals.specs.declared.refusal.Refusal.TheVariants as refusal
 use Rattle.refusals.specs.Lines.{line_of, no_names}
 
--- What a refusal is of: the words, the reading of a file, the writing of an answer, memory, or the task itself.
+-- The cause of a refusal: the words, the reading of a file, the writing of an answer, memory, or the task itself.
 pub data Kind : Type 0 where
   of_words : WordsFault → Kind
   of_reading : File → Kind
@@ -18,7 +18,7 @@ pub data Kind : Type 0 where
   of_memory : Kind
   of_task : Kind
 
--- what a refusal is of
+-- the cause of a refusal
 abbrev pub kind_of : Refusal → Kind
 kind_of (refusal.Words fault) = of_words fault
 kind_of (refusal.ReadFault file) = of_reading file
@@ -34,20 +34,20 @@ kind_of (refusal.Edit fault) = of_task
 kind_of refusal.WriteFault = of_writing
 kind_of refusal.NoMemory = of_memory
 
--- a refusal with its line, with the names of the frame at hand
+-- a refusal with its line, with the names of this frame
 abbrev pub failure_of : FrameRows → Refusal → Failure
 failure_of names refusal = record { refusal = refusal; line = line_of names refusal }
 
--- a refusal that stands at no pair of a case
+-- a refusal that names no pair of a case
 abbrev pub plain_failure : Refusal → Failure
 plain_failure refusal = failure_of no_names refusal
 
--- why something stopped: want of memory is a refusal too
+-- the reason of a stop, as a refusal: want of memory is one too
 abbrev pub stopped : Stop Failure → Failure
 stopped stop.NoMemory = plain_failure refusal.NoMemory
 stopped (stop.Fault failure) = failure
 
--- the value, or its fault as a refusal of that kind
+-- the value, or its fault as a refusal of this kind
 abbrev pub or_refuse : {A E : Type 0} → FrameRows → (E → Refusal) → Result A E → Result A Failure
 or_refuse names kind (Ok value) = Ok value
 or_refuse names kind (Err fault) = Err (failure_of names (kind fault))

@@ -1,4 +1,4 @@
--- The line of a refusal. Fields are parted by commas (44), and the line ends with a line feed (10).
+-- The line of a refusal. Commas (44) separate fields, and the line ends with a line feed (10).
 use Rattle.std.specs.Prelude.{◌≡◌, ℕ, List, [], ◌∷◌, ◌++◌, codes, Option, Some, None}
 use Rattle.std.specs.Fmt.{decimal}
 use Rattle.case_edits.specs.declared.fault.EditFault.{EditFault}
@@ -29,16 +29,16 @@ use Rattle.refusals.specs.declared.refusal.File.TheVariants as file
 use Rattle.refusals.specs.declared.refusal.Refusal.{Refusal}
 use Rattle.refusals.specs.declared.refusal.Refusal.TheVariants as refusal
 
--- no names: a refusal that stands at no pair has none in its line
+-- a frame without names, for a refusal that names no pair
 abbrev pub no_names : FrameRows
 no_names = record { sites = []; parts = [] }
 
--- the names of a frame, where there is one
+-- the names of a frame, if there is one
 abbrev pub names_of : Option FrameRows → FrameRows
 names_of None = no_names
 names_of (Some frame) = frame
 
--- the word for a number that the words give
+-- the word for a number of the command line
 abbrev pub which_text : Which → List ℕ
 which_text which.Mean = codes "mean"
 which_text which.Stock = codes "stock"
@@ -61,7 +61,7 @@ file_text file.OnHand = codes "on-hand"
 file_text file.Certificate = codes "certificate"
 file_text file.Edits = codes "edits"
 
--- a further field with a number
+-- one more field with a number
 abbrev pub number_field : ℕ → List ℕ
 number_field n = 44 ∷ decimal n
 
@@ -69,7 +69,7 @@ number_field n = 44 ∷ decimal n
 abbrev pub pair_text : FrameRows → PartId → SiteId → List ℕ
 pair_text names part site = (part_at names.parts part.0).name ++ (44 ∷ (site_at names.sites site.0).name)
 
--- where a refused pipeline stands
+-- the place of a refused pipeline
 abbrev pub place_text : FrameRows → Place → List ℕ
 place_text names Single = codes "single"
 place_text names (Pair part site) = pair_text names part site
@@ -80,7 +80,7 @@ words_text Shape = codes "words"
 words_text (Number which fault) = codes "number," ++ which_text which
 words_text (Range which) = codes "range," ++ which_text which
 
--- a fault of a table: its file, and the row and the column where it has them
+-- a fault of a table: its file, and its row and column if it has them
 abbrev pub table_text : File → TableFault → List ℕ
 table_text file table.NoHeader = codes "no-header," ++ file_text file
 table_text file (table.FieldCount row found) =
@@ -101,7 +101,7 @@ table_text file (table.BadNumber row column fault) =
 table_text file (table.OutOfRange row column) =
     codes "out-of-range," ++ (file_text file ++ (number_field row ++ number_field column))
 
--- a rule of a case that is broken: the row, or the pair by its names
+-- a broken rule of a case: the row, or the names of the pair
 abbrev pub case_text : FrameRows → CaseFault → List ℕ
 case_text names (case.DoubleSite row) = codes "double-site" ++ number_field row
 case_text names (case.TwoDepots row) = codes "two-depots" ++ number_field row
@@ -114,13 +114,13 @@ case_text names (case.TooManyShopUnits row) = codes "too-many-shop-units" ++ num
 case_text names (case.DoubleRate row) = codes "double-rate" ++ number_field row
 case_text names (case.MissingRate part site) = codes "missing-rate," ++ pair_text names part site
 
--- a rule of stocks that is broken: the row, or the pair by its names
+-- a broken rule of stocks: the row, or the names of the pair
 abbrev pub stock_text : FrameRows → StockFault → List ℕ
 stock_text names (stock.OverLimit row) = codes "over-limit" ++ number_field row
 stock_text names (stock.Double row) = codes "double-stock" ++ number_field row
 stock_text names (stock.Missing part site) = codes "missing-stock," ++ pair_text names part site
 
--- a pipeline that the model can't take, by the names of its pair
+-- a pipeline beyond the limits of the model, with the names of its pair
 abbrev pub rate_text : FrameRows → RateFault → List ℕ
 rate_text names (ThinPipeline place direct) = codes "thin-pipeline," ++ place_text names place
 rate_text names (PipelineTooLarge place mean) = codes "pipeline-too-large," ++ place_text names place
@@ -131,7 +131,7 @@ abbrev pub cert_text : CertFault → List ℕ
 cert_text (cert.BadLine line) = codes "bad-line" ++ number_field line
 cert_text (cert.BadCase fault) = codes "bad-case"
 
--- why a certificate is rejected, with the numbers that show it
+-- the reason why a certificate is rejected, with the numbers that show it
 abbrev pub reject_text : FrameRows → Reject → List ℕ
 reject_text names (reject.Rate fault) = codes "rejected,rate"
 reject_text names (reject.CoverGap family) = codes "rejected,cover-gap" ++ number_field family
@@ -151,7 +151,7 @@ reject_text names (reject.UpperTooLow claimed upper) =
 reject_text names (reject.BoundTooHigh claimed largest) =
     codes "rejected,bound-too-high" ++ (number_field claimed ++ number_field largest)
 
--- the refused rates of a plan of the edits are told by its line alone
+-- the reason why edits are refused; for refused rates of a plan it is the plan's line
 abbrev pub edit_text : EditFault → List ℕ
 edit_text edit.TooManyLines = codes "edit-lines"
 edit_text (edit.BadLine line) = codes "edit" ++ number_field line
@@ -174,10 +174,10 @@ refusal_text names (refusal.Edit fault) = edit_text fault
 refusal_text names refusal.WriteFault = codes "write"
 refusal_text names refusal.NoMemory = codes "memory"
 
--- a refusal that stands at no pair of a case: its text is the same whatever the names
+-- a refusal that names no pair of a case: its text is the same for all names
 abbrev pub NamesNoPair : Refusal → Type 0
 NamesNoPair refusal = (names : FrameRows) → refusal_text names refusal ≡ refusal_text no_names refusal
 
--- the line of a refusal, with the names of the frame at hand
+-- the line of a refusal, with these names
 unfoldable pub line_of : FrameRows → Refusal → List ℕ
 line_of names refusal = codes "fault," ++ (refusal_text names refusal ++ 10 ∷ [])

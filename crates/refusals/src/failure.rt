@@ -1,4 +1,4 @@
-//! A refusal on its way to the line that tells it.
+//! A refusal on its way to its line.
 ghost use Rattle.std.specs.Prelude.{◌≡◌, ◌≤◌, ◌++◌, Some, None, length};
 ghost use Rattle.std.specs.Option.{option_map};
 ghost use Rattle.refusals.specs.Lines.{line_of, names_of, no_names, refusal_text, which_text, words_text};
@@ -10,7 +10,7 @@ use spares_input::Frame;
 use spares_io::Stop;
 use spares_words::{Which, WordsFault};
 
-/// A refusal with its line. The line is made where the names of the case at hand are known.
+/// A refusal with its line. The line is made while the names of the case are known.
 #[derive(Drop)]
 pub struct Failure {
     pub refusal: Refusal,
@@ -18,7 +18,7 @@ pub struct Failure {
 }
 
 impl Failure {
-    /// A refusal that stands at no pair of a case.
+    /// A refusal that names no pair of a case.
     pub fn of(refusal: Refusal) -> Failure
         ensures { result ≡ failure_of no_names refusal }
     {
@@ -26,7 +26,7 @@ impl Failure {
         Failure { refusal, line }
     }
 
-    /// A refusal of a frame's rows, whose pair has the frame's names.
+    /// A refusal whose pair has its names in this frame.
     pub fn at(frame: &Frame, refusal: Refusal) -> Failure
         ensures { result ≡ failure_of frame.now refusal }
     {
@@ -35,7 +35,7 @@ impl Failure {
     }
 }
 
-/// Why the reading of tables stopped, as a refusal with its line.
+/// The reason why the reading of tables stopped, as a refusal with its line.
 pub fn failure_of(stop: Stop<Failure>) -> Failure
     ensures { result ≡ stopped stop }
 {
@@ -46,7 +46,7 @@ pub fn failure_of(stop: Stop<Failure>) -> Failure
 }
 
 impl Line {
-    /// Appends what is wrong with words.
+    /// Appends the fault of words.
     pub(crate) fn put_words(&mut self, fault: WordsFault)
         requires { length self.old ≤ 6 }
         ensures text { self.new ≡ self.old ++ words_text fault }
@@ -65,7 +65,7 @@ impl Line {
         }
     }
 
-    /// Appends what was wrong and where.
+    /// Appends the fields of a refusal.
     pub(crate) fn put_refusal(&mut self, frame: Option<&Frame>, refusal: &Refusal)
         requires { length self.old ≤ 6 }
         ensures text { self.new ≡ self.old ++ refusal_text
@@ -109,8 +109,8 @@ fn which_text(which: Which) -> &'static [u8]
     }
 }
 
-/// The line of a refusal: `fault`, what was wrong and where, between commas, and a line feed. A pair is named by the
-/// frame.
+/// The line of a refusal: `fault`, the fault and its place, separated by commas, and a line feed. The frame has the
+/// names of a pair.
 #[tactic(auto, unfolding(crate::specs::Lines::line_of))]
 fn refusal_line(frame: Option<&Frame>, refusal: &Refusal) -> Line
     ensures { result ≡ line_of (names_of (option_map (λ f. f.now) frame.entry)) refusal.now }

@@ -1,4 +1,4 @@
-//! Why a command was refused, and the line that says so.
+//! The refusals of commands, and their lines.
 #![tactic(auto)]
 
 mod failure;

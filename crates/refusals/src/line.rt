@@ -54,7 +54,7 @@ impl Line {
         self.text.put(piece);
     }
 
-    /// Appends a further field with a number, which has at most 10 digits.
+    /// Appends one more field with a number, which has at most 10 digits.
     pub(crate) fn put_number(&mut self, number: u32)
         requires { length self.old ≤ 149 }
         ensures text { self.new ≡ self.old ++ number_field number }
@@ -65,7 +65,7 @@ impl Line {
         self.put(digits.format(number).as_bytes());
     }
 
-    /// Appends a further field with a number of up to 128 bits, which has at most 39 digits.
+    /// Appends one more field with a number of up to 128 bits, which has at most 39 digits.
     pub(crate) fn put_wide(&mut self, number: u128)
         requires { length self.old ≤ 119 }
         ensures text { self.new ≡ self.old ++ number_field number }
@@ -76,7 +76,7 @@ impl Line {
         self.put(digits.format(number).as_bytes());
     }
 
-    /// Appends what is wrong, and a number.
+    /// Appends the kind of a fault, and a number.
     pub(crate) fn put_at_row(&mut self, head: &'static [u8], row: u32)
         requires old { length self.old ≤ 6 }
         requires head { length head.now ≤ 20 }
@@ -87,7 +87,7 @@ impl Line {
         self.put_number(row);
     }
 
-    /// Appends what is wrong, and the file.
+    /// Appends the kind of a fault, and the file.
     pub(crate) fn put_file(&mut self, head: &'static [u8], file: File)
         requires old { length self.old ≤ 6 }
         requires head { length head.now ≤ 16 }
@@ -98,7 +98,7 @@ impl Line {
         self.put(file_text(file));
     }
 
-    /// Appends what is wrong, the file, and a number.
+    /// Appends the kind of a fault, the file, and a number.
     pub(crate) fn put_in_file(&mut self, head: &'static [u8], file: File, number: u32)
         requires old { length self.old ≤ 6 }
         requires head { length head.now ≤ 16 }
@@ -109,7 +109,7 @@ impl Line {
         self.put_number(number);
     }
 
-    /// Appends what is wrong, the file, and two numbers.
+    /// Appends the kind of a fault, the file, and two numbers.
     pub(crate) fn put_at_field(&mut self, head: &'static [u8], file: File, row: u32, number: u32)
         requires old { length self.old ≤ 6 }
         requires head { length head.now ≤ 16 }

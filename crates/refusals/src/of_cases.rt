@@ -9,7 +9,7 @@ use demand_rates::{Place, RateFault};
 use spares_input::{CaseFault, Frame, PartId, SiteId, StockFault};
 
 impl Line {
-    /// Appends the names of a pair, which stand in the frame, if there is one.
+    /// Appends the names of a pair, which are empty if there is no frame.
     pub(crate) fn put_pair(&mut self, frame: Option<&Frame>, part: PartId, site: SiteId)
         requires { length self.old ≤ 34 }
         ensures text { self.new ≡ self.old ++ pair_text (names_of (option_map (λ f. f.now) frame.entry)) part site }
@@ -25,7 +25,7 @@ impl Line {
         }
     }
 
-    /// Appends what is wrong, and a pair.
+    /// Appends the kind of a fault, and a pair.
     pub(crate) fn put_at_pair(
         &mut self,
         head: &'static [u8],
@@ -43,7 +43,7 @@ impl Line {
         self.put_pair(frame, part, site);
     }
 
-    /// Appends what is wrong with a case.
+    /// Appends the fault of a case.
     pub(crate) fn put_case(&mut self, frame: Option<&Frame>, fault: CaseFault)
         requires { length self.old ≤ 6 }
         ensures text { self.new ≡ self.old ++ case_text (names_of (option_map (λ f. f.now) frame.entry)) fault }
@@ -65,7 +65,7 @@ impl Line {
         }
     }
 
-    /// Appends what is wrong with stocks.
+    /// Appends the fault of stocks.
     pub(crate) fn put_stock(&mut self, frame: Option<&Frame>, fault: StockFault)
         requires { length self.old ≤ 6 }
         ensures text { self.new ≡ self.old ++ stock_text (names_of (option_map (λ f. f.now) frame.entry)) fault }
@@ -80,7 +80,7 @@ impl Line {
         }
     }
 
-    /// Appends what is wrong with a pipeline, and where it stands.
+    /// Appends the kind of a fault of a pipeline, and its place.
     pub(crate) fn put_place(&mut self, head: &'static [u8], frame: Option<&Frame>, place: Place)
         requires old { length self.old ≤ 6 }
         requires head { length head.now ≤ 20 }
@@ -97,7 +97,7 @@ impl Line {
         }
     }
 
-    /// Appends why a pipeline is refused.
+    /// Appends the reason why a pipeline is refused.
     pub(crate) fn put_rate(&mut self, frame: Option<&Frame>, fault: RateFault)
         requires { length self.old ≤ 6 }
         ensures text { self.new ≡ self.old ++ rate_text (names_of (option_map (λ f. f.now) frame.entry)) fault }
@@ -117,7 +117,7 @@ impl Line {
     }
 }
 
-/// The name of a part, or nothing where the frame has no such part.
+/// The name of a part, or an empty name if the frame has no such part.
 fn part_name(frame: &Frame, part: PartId) -> &[u8]
     ensures text { result.now ≡ (part_at frame.now.parts part.0).name }
     ensures short { length result.now ≤ 24 }
@@ -129,7 +129,7 @@ fn part_name(frame: &Frame, part: PartId) -> &[u8]
     }
 }
 
-/// The name of a site, or nothing where the frame has no such site.
+/// The name of a site, or an empty name if the frame has no such site.
 fn site_name(frame: &Frame, site: SiteId) -> &[u8]
     ensures text { result.now ≡ (site_at frame.now.sites site.0).name }
     ensures short { length result.now ≤ 24 }

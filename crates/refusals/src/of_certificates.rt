@@ -9,7 +9,7 @@ use price_certificate::CertFault;
 use spares_input::{Frame, PartId, SiteId};
 
 impl Line {
-    /// Appends what is wrong, and a count.
+    /// Appends the kind of a fault, and a count.
     pub(crate) fn put_count(&mut self, head: &'static [u8], count: u64)
         requires old { length self.old ≤ 6 }
         requires head { length head.now ≤ 24 }
@@ -20,7 +20,7 @@ impl Line {
         self.put_wide(u128::from(count));
     }
 
-    /// Appends what is wrong, and two wide numbers.
+    /// Appends the kind of a fault, and two wide numbers.
     fn put_two(&mut self, head: &'static [u8], first: u128, second: u128)
         requires old { length self.old ≤ 6 }
         requires head { length head.now ≤ 24 }
@@ -32,7 +32,7 @@ impl Line {
         self.put_wide(second);
     }
 
-    /// Appends what is wrong with a pair, and its stock.
+    /// Appends the kind of a fault at a pair, and the pair's stock.
     fn put_stock_at(
         &mut self,
         head: &'static [u8],
@@ -52,7 +52,7 @@ impl Line {
         self.put_number(u32::from(stock));
     }
 
-    /// Appends why bytes are no certificate.
+    /// Appends the reason why bytes are no certificate.
     pub(crate) fn put_certificate(&mut self, fault: CertFault)
         requires { length self.old ≤ 6 }
         ensures text { self.new ≡ self.old ++ cert_text fault }
@@ -64,7 +64,7 @@ impl Line {
         }
     }
 
-    /// Appends a family with a floor, and what its value is.
+    /// Appends a family with its claimed floor, and its value.
     fn put_floor(&mut self, head: &'static [u8], family: u32, floor: u128, least: u128)
         requires old { length self.old ≤ 6 }
         requires head { length head.now ≤ 24 }
@@ -78,7 +78,7 @@ impl Line {
         self.put_wide(least);
     }
 
-    /// Appends a leaf of a family with the family's floor, and what its value is.
+    /// Appends a leaf of a family with the family's claimed floor, and the leaf's value.
     fn put_leaf(&mut self, head: &'static [u8], family: u32, leaf: u32, floor: u128, least: u128)
         requires old { length self.old ≤ 6 }
         requires head { length head.now ≤ 24 }

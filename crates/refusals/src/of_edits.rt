@@ -6,7 +6,8 @@ use crate::line::Line;
 use case_edits::EditFault;
 
 impl Line {
-    /// Appends why edits are refused. The refused rates of a plan are told by its line alone.
+    /// Appends the reason why edits are refused. If the rates of a plan are refused, it names only the line of the
+    /// plan.
     pub(crate) fn put_edit(&mut self, fault: EditFault)
         requires { length self.old ≤ 6 }
         ensures text { self.new ≡ self.old ++ edit_text fault }

@@ -7,7 +7,7 @@ use crate::refusal::File;
 use csv_tables::TableFault;
 
 impl Line {
-    /// Appends what is wrong with a table.
+    /// Appends the fault of a table.
     pub(crate) fn put_table(&mut self, file: File, fault: TableFault)
         requires { length self.old ≤ 6 }
         ensures text { self.new ≡ self.old ++ table_text file fault }

@@ -19,7 +19,7 @@ pub enum File {
     Rates,
     /// The table of stocks.
     Stocks,
-    /// The table of stocks that are on hand.
+    /// The table of stocks on hand.
     OnHand,
     /// The certificate of a plan.
     Certificate,
@@ -27,24 +27,24 @@ pub enum File {
     Edits,
 }
 
-/// Why a command was refused.
+/// The reason why a command was refused.
 #[derive(Clone, Copy, Debug, PartialEq, Eq)]
 pub enum Refusal {
     /// The words aren't a command, or a number among them is bad.
     Words(WordsFault),
-    /// A file wasn't read: the shelf failed, or doesn't hold its name.
+    /// A file wasn't read: the shelf failed, or has no file of this name.
     ReadFault(File),
-    /// A file has more bytes than it may have: a table or edits 4,194,304, a certificate 16,777,216.
+    /// A file has too many bytes: a table or edits more than 4,194,304, a certificate more than 16,777,216.
     TooLong(File),
-    /// A table isn't as its format asks.
+    /// A table breaks its format.
     Table(File, TableFault),
-    /// The sites, parts and rates aren't a case.
+    /// The sites, parts and rates break a rule of a case.
     Case(CaseFault),
-    /// The stocks aren't those of the case.
+    /// The stocks break a rule of the case.
     Stock(StockFault),
-    /// A pipeline is beyond what the model takes.
+    /// A pipeline is beyond the limits of the model.
     Rate(RateFault),
-    /// The curves of the case take so many tables, which are more than 1,000,000.
+    /// The count of tables for the curves of the case, which is more than 1,000,000.
     Work(u64),
     /// The bytes are no certificate.
     Cert(CertFault),
@@ -52,7 +52,7 @@ pub enum Refusal {
     Rejected(Reject),
     /// The first fault of the edits.
     Edit(EditFault),
-    /// The certificate wasn't written, or the output took a part of the report at most.
+    /// The certificate wasn't written, or at most a part of the report was put out.
     WriteFault,
     /// There was no memory.
     NoMemory,

@@ -64,7 +64,7 @@ weight_stays f m d w x p q l h k =
     i ∙ sym (small_stays f (ratio_ends f m d x) least top) ∙ ap (λ (z : Ends). ends_mul f z (ratio_ends f m d x)) (sym i)
 
 -- ratios of at most 1 stay so where the numerator gains no more than the denominator
-falls_on : (m e q x y : ℕ) → 0 < x → x ≤ y → m + e * (x - 1) ≤ q * x → e ≤ q → m + e * (y - 1) ≤ q * y
+pub falls_on : (m e q x y : ℕ) → 0 < x → x ≤ y → m + e * (x - 1) ≤ q * x → e ≤ q → m + e * (y - 1) ≤ q * y
 falls_on m e q x y p h l s =
     let i : y - 1 ≡ (x - 1) + (y - x) = omega arith in
     let j : y ≡ x + (y - x) = omega arith in

@@ -6,11 +6,11 @@ use Rattle.series_bounds.specs.declared.kinds.Weights.{Weights}
 use Rattle.series_bounds.specs.declared.kinds.Weights.TheVariants.{Known, Wide}
 use Rattle.fixed_interval.specs.Ends.{Ends, ends_exact, ends_add, ends_times, ends_mul, ends_div}
 
--- the ratio of the weight at x to the one at x - 1: (m + d (x - 1)) / ((1 + d) x)
+-- the ratio of the weight at x to the weight at x - 1: (m + d (x - 1)) / ((1 + d) x)
 unfoldable pub ratio_ends : ℕ → Ends → Ends → ℕ → Ends
 ratio_ends f m d x = ends_div f (ends_add m (ends_times d (x - 1))) (ends_times (ends_add (ends_exact f 1) d) x)
 
--- the ratio of the weight at x - 1 to the one at x
+-- the ratio of the weight at x - 1 to the weight at x
 unfoldable pub back_ends : ℕ → Ends → Ends → ℕ → Ends
 back_ends f m d x = ends_div f (ends_times (ends_add (ends_exact f 1) d) x) (ends_add m (ends_times d (x - 1)))
 
@@ -18,12 +18,12 @@ back_ends f m d x = ends_div f (ends_times (ends_add (ends_exact f 1) d) x) (end
 unfoldable pub pivot_at : ℕ → Ends → Ends → ℕ
 pivot_at f m d = (m.lo - d.hi) / 2 ^ f
 
--- the weight at c - k, going down from the pivot c, where it is 1
+-- the weight at c - k, going down from 1 at the pivot c
 unfoldable pub weight_before : ℕ → Ends → Ends → ℕ → ℕ → Ends
 weight_before f m d c zero = ends_exact f 1
 weight_before f m d c (suc k) = ends_mul f (weight_before f m d c k) (back_ends f m d (c - k))
 
--- the weight at c + k, going up from the pivot c, where it is 1
+-- the weight at c + k, going up from 1 at the pivot c
 unfoldable pub weight_past : ℕ → Ends → Ends → ℕ → ℕ → Ends
 weight_past f m d c zero = ends_exact f 1
 weight_past f m d c (suc k) = ends_mul f (weight_past f m d c k) (ratio_ends f m d (c + suc k))
@@ -34,19 +34,19 @@ weight_ends f m d x =
     if nat_lt x (pivot_at f m d) then weight_before f m d (pivot_at f m d) (pivot_at f m d - x)
     else weight_past f m d (pivot_at f m d) (x - pivot_at f m d)
 
--- what the ratios tend to: d / (1 + d), rounded up
+-- the limit of the ratios: d / (1 + d), rounded up
 abbrev pub far_ratio : ℕ → Ends → ℕ
 far_ratio f d = div_ceil (d.hi * 2 ^ f) (2 ^ f + d.hi)
 
--- what bounds the ratios of all weights past K: the ratio at K + 1 and the one that they tend to, whichever is larger
+-- the bound of the ratios of all weights past K: the ratio at K + 1 or the limit, whichever is larger
 unfoldable pub ratio_bound : ℕ → Ends → Ends → ℕ → ℕ
 ratio_bound f m d K = max (ratio_ends f m d (K + 1)).hi (far_ratio f d)
 
--- the weights past K have a remainder where that is below 1
+-- the weights past K have a remainder if that is below 1
 unfoldable pub has_remainder : ℕ → Ends → Ends → ℕ → Bool
 has_remainder f m d K = nat_lt (ratio_bound f m d K) (2 ^ f)
 
--- the remainder at K where the upper end of the weight at K is top
+-- the remainder at K, if the upper end of the weight at K is top
 unfoldable pub remainder_from : ℕ → Ends → Ends → ℕ → ℕ → ℕ
 remainder_from f m d top K = div_ceil (top * ratio_bound f m d K) (2 ^ f - ratio_bound f m d K)
 
@@ -58,7 +58,7 @@ remainder_at f m d K = remainder_from f m d (weight_ends f m d K).hi K
 unfoldable pub may_end : ℕ → Ends → Ends → ℕ → Bool
 may_end f m d K = has_remainder f m d K && nat_le (remainder_at f m d K) 256
 
--- the first of x, .., x + n - 1 that passes, and x + n where none does
+-- the first of x, .., x + n - 1 that passes, or x + n if none does
 unfoldable pub first_from : (ℕ → Bool) → ℕ → ℕ → ℕ
 first_from p x zero = x
 first_from p x (suc n) = if p x then x else first_from p (suc x) n
@@ -67,7 +67,7 @@ first_from p x (suc n) = if p x then x else first_from p (suc x) n
 unfoldable pub least_end : ℕ → Ends → Ends → ℕ
 least_end f m d = max (pivot_at f m d + 1) 63
 
--- the last index: the first from there to 1024 that may be it, and 1024 where none may
+-- the last index: the first from there to 1024 at which the list may end, or 1024 if there is none
 unfoldable pub last_index : ℕ → Ends → Ends → ℕ
 last_index f m d = first_from (may_end f m d) (least_end f m d) (1024 - least_end f m d)
 
@@ -76,7 +76,7 @@ unfoldable pub any_below : (ℕ → Bool) → ℕ → Bool
 any_below p zero = false
 any_below p (suc n) = any_below p n || p n
 
--- a weight from 0 to the last index passes 8, or the last index has no remainder
+-- a weight from 0 to the last index exceeds 8, or the last index has no remainder
 unfoldable pub is_wide : ℕ → Ends → Ends → Bool
 is_wide f m d =
     any_below (λ x. nat_lt (8 * 2 ^ f) (weight_ends f m d x).hi) (suc (last_index f m d))
@@ -91,7 +91,7 @@ listed u (suc n) = listed u n ++ u n ∷ []
 abbrev pub ends_sum : List Ends → Ends
 ends_sum xs = fold ends_add (record { lo = 0; hi = 0 }) xs
 
--- with rem more on the upper side
+-- with rem added to the upper end
 abbrev pub ends_raised : Ends → ℕ → Ends
 ends_raised x rem = record { lo = x.lo; hi = x.hi + rem }
 

@@ -9,8 +9,8 @@ pub record IsNear (f : ℕ) (d : Ends) : Type 0 where
   pub close : d.hi ≤ 2 ^ f + d.lo
   pub short : d.hi < 2 ^ 62
 
--- the ends of the ratio at x but for their division by x, and what the next index adds: the upper one is raised by x
--- times its divisor, less 1, so that both are rounded down
+-- the ends of the ratio at x before their division by x, and the increments to the next index: the upper one is raised
+-- by x times its divisor, less 1, so that both are rounded down
 pub record AreRatios (f : ℕ) (m d : Ends) (x : ℕ) (ratios : Ratios f) : Type 0 where
   pub low : AreParts ((m.lo + d.lo * (x - 1)) * 2 ^ f) (1 * 2 ^ f + d.hi) ratios.low
   pub high : AreParts ((m.hi + d.hi * (x - 1)) * 2 ^ f + x * (1 * 2 ^ f + d.lo) - 1) (1 * 2 ^ f + d.lo) ratios.high

@@ -1,4 +1,4 @@
-//! The first weights and the sum of all, of which a table of up to 63 stocks is made.
+//! The first weights and the sum of all, from which a table of up to 63 stocks is made.
 
 ghost use Rattle.std.specs.Prelude.{◌≡◌, ◌*◌, ◌^◌, ◌<◌, ◌≤◌, true, IfOk, IfSome, IfNone};
 ghost use Rattle.fixed_interval.specs.Ends.{IsWithinLimit};
@@ -10,11 +10,12 @@ use crate::walk::weigh;
 use fixed_interval::Iv;
 use spares_io::NoMemory;
 
-/// Puts the first weights in the place of what the list holds, `wanted` of them or more, at most 63 being wanted, and
-/// answers the sum of all, whose upper end also covers all weights past the last index. The mean and the excess are as
-/// [`crate::weights`] takes them.
+/// Overwrites the list with the first weights, at least `wanted` of them, with `wanted` at most 63, and returns the sum
+/// of all, whose upper end also covers all weights past the last index. The mean and the excess are as for
+/// [`crate::weights`].
 ///
-/// None where its answer is `Wide`. Want of memory is the only error. Both leave anything in the list.
+/// None if the result of `weights` is `Wide`. Want of memory is the only error. After both, the contents of the list
+/// are unspecified.
 pub fn first_weights<const F: u32>(
     list: &mut Vec<Iv64<F>>,
     mean: Iv<F>,

@@ -1,15 +1,14 @@
-//! The weights of a pipeline's distribution, relative to the one at the pivot, near the mode.
+//! The weights of a pipeline's distribution, relative to the weight at the pivot, near the mode.
 //!
-//! The number of units in a pipeline is Poisson where its variance is its mean, and negative binomial where the
-//! variance is larger (Sherbrooke, *Optimal Inventory Modeling of Systems*, 2nd ed., the chapters on METRIC and
-//! VARI-METRIC). With the mean `m` and the excess `d`, the variance over the mean less 1, the weights have `w(0) = 1`
-//! and `w(x) = w(x - 1) (m + (x - 1) d) / (x (1 + d))`; a chance is a weight over the sum of all.
+//! The number of units in a pipeline is Poisson if its variance is its mean, and negative binomial if the variance is
+//! larger (Sherbrooke, *Optimal Inventory Modeling of Systems*, 2nd ed., the chapters on METRIC and VARI-METRIC). With
+//! the mean `m` and the excess `d`, the variance over the mean less 1, the weights have `w(0) = 1` and
+//! `w(x) = w(x - 1) (m + (x - 1) d) / (x (1 + d))`; a probability is a weight over the sum of all.
 //!
-//! The list of weights ends at the first index from 63 on, past the pivot, at which all later weights together come
-//! to at most 256 units of `2^-F`, and at 1024 where there is none. What they come to is bounded by a geometric
-//! series: a later ratio is never above the larger of the next one and `d / (1 + d)`. Where that isn't below 1 at the
-//! last index, or where a weight passes 8, as may be with wide intervals, nothing is said of them, and the answer is
-//! `Wide`.
+//! The list of weights ends at the first index from 63 on, past the pivot, at which all later weights together are at
+//! most 256 units of `2^-F`, or at 1024 if there is none. A geometric series bounds the later weights: a later ratio is
+//! never above the larger of the next one and `d / (1 + d)`. If that isn't below 1 at the last index, or if a weight
+//! exceeds 8, as may happen with wide intervals, the result is `Wide`, without any weights.
 #![tactic(auto)]
 
 ghost use Rattle.std.specs.Prelude.{◌≡◌, ◌+◌, ◌-◌, ◌*◌, ◌^◌, ◌<◌, ◌≤◌, true, false, max, ℕ, ◌⊎◌, IfOk, IfSome, IfNone};
@@ -40,7 +39,7 @@ pub mod shares;
 pub mod short;
 mod walk;
 
-/// What the weights' definition says by the index: 1 at the pivot, and from there down and up by the ratios.
+/// The definition of the weights by index: 1 at the pivot, and from there down and up by the ratios.
 pub fn weights_by_index()
     ensures pivot { (f : ℕ) (m d : Ends) → weight_ends f m d (pivot_at f m d) ≡ ends_exact f 1 }
     ensures downwards { (f : ℕ) (m d : Ends) (x : ℕ) → 0 < x → x ≤ pivot_at f m d
@@ -49,8 +48,8 @@ pub fn weights_by_index()
         → weight_ends f m d x ≡ ends_mul f (weight_ends f m d (x - 1)) (ratio_ends f m d x) }
 {}
 
-/// The last index is the first from the pivot's next one or 63 on, whichever is larger, at which the list may end,
-/// and 1024 where none is.
+/// The last index is the first at which the list may end, from 63 or the index after the pivot on, whichever is larger,
+/// or 1024 if there is none.
 pub fn last_index_is_first()
     ensures from { (f : ℕ) (m d : Ends) → max (pivot_at f m d + 1) 63 ≤ last_index f m d }
     ensures to { (f : ℕ) (m d : Ends) → pivot_at f m d ≤ 256 → last_index f m d ≤ 1024 }
@@ -60,16 +59,16 @@ pub fn last_index_is_first()
         ⊎ (last_index f m d ≡ 1024) }
 {}
 
-/// The first index at which a list may end, where the pivot is below it.
+/// The first index at which a list may end, if the pivot is below it.
 const FIRST_END: u32 = 63;
 
 /// The last index of the longest list.
 const LAST_END: u32 = 1024;
 
-/// The most units of `2^-F` that the remainder comes to where a list ends before that.
+/// The largest remainder with which a list may end before that, in units of `2^-F`.
 const MOST_REMAINDER: u128 = 256;
 
-/// A weight above this makes the answer wide.
+/// A weight above this makes the result wide.
 const MOST_WEIGHT: u32 = 8;
 
 /// A weight of 1.
@@ -80,7 +79,7 @@ fn unit<const F: u32>() -> u128
     Iv::<F>::exact(1).hi()
 }
 
-/// The most that a weight may be.
+/// The largest weight.
 fn most_weight<const F: u32>() -> u128
     requires { InScale F }
     ensures { result ≡ 8 * 2 ^ F }
@@ -88,7 +87,7 @@ fn most_weight<const F: u32>() -> u128
     Iv::<F>::exact(MOST_WEIGHT).hi()
 }
 
-/// `num / den`, rounded up, without a division where that is at most 1.
+/// `num / den`, rounded up, without a division if that is at most 1.
 fn quotient_few(num: u128, den: u128) -> u128
     requires { 0 < den }
     ensures { result ≡ div_ceil num den }
@@ -102,8 +101,8 @@ fn quotient_few(num: u128, den: u128) -> u128
     }
 }
 
-/// What the weights past `x` come to at most, where the list ends there: `top` is the weight at `x`, and `bound`
-/// bounds the ratios past it.
+/// An upper bound of the weights past `x`, if the list ends there: `top` is the weight at `x`, and `bound` bounds the
+/// ratios past it.
 fn rest_at<const F: u32>(top: u128, bound: u128, x: u32) -> Option<u128>
     requires scale { InScale F }
     requires top { top ≤ 8 * 2 ^ F }
@@ -138,7 +137,7 @@ fn pivot_of<const F: u32>(mean: Iv<F>, excess: Iv<F>) -> u16
 /// The weights of a pipeline's distribution with this mean and excess (the variance over the mean, less 1), both in
 /// units of `2^-F`: the mean is above 0 and at most 256, the excess at most 2048.
 ///
-/// Each weight encloses the model's, and the sum encloses that of the weights from 0 to `n` at each depth `n` from
+/// Each weight encloses the model's, and the sum encloses the sum of the weights from 0 to `n` at each depth `n` from
 /// 1024 on, for every mean and every excess in the two intervals. Want of memory is the only error.
 pub fn weights<const F: u32>(
     alloc: Global,

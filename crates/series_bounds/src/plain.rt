@@ -1,7 +1,7 @@
-//! What the walk finds, by the divisions that the definitions name; the sum and each weight alone, without memory.
+//! The walk by the divisions of the definitions; the sum and each weight alone, without memory.
 //!
-//! A weight alone is walked to from the pivot anew, so this is slow. It serves the few who can't wait for memory, and
-//! an excess whose ends are far apart, and it is the plain form beside which the fast one can be read and tried.
+//! A single weight is computed anew from the pivot, so this is slow. It serves callers without memory and excesses
+//! whose ends are far apart, and it is the plain form against which the fast one can be read and tested.
 
 ghost use Rattle.std.specs.Prelude.{ℕ, ◌≡◌, ◌+◌, ◌-◌, ◌*◌, ◌^◌, ◌<◌, ◌≤◌, true, IfOk, IfSome, IfNone};
 ghost use Rattle.fixed_interval.specs.Ends.{IsWithinLimit, ends_mul};
@@ -24,7 +24,7 @@ fn times<const F: u32>(weight: Iv<F>, ratio: Iv<F>) -> Iv<F>
     weight.mul(ratio)
 }
 
-/// The ratio of the weight at `x` to the one before it.
+/// The ratio of the weight at `x` to the weight before it.
 fn ratio<const F: u32>(mean: Iv<F>, excess: Iv<F>, x: u32) -> Iv<F>
     requires mean_top { IsWithinLimit F mean }
     requires excess_top { excess.hi ≤ 2048 * 2 ^ F }
@@ -38,7 +38,7 @@ fn ratio<const F: u32>(mean: Iv<F>, excess: Iv<F>, x: u32) -> Iv<F>
     above.div(below)
 }
 
-/// The ratio of the weight before `x` to the one at `x`, where the mean is at least 1 above the excess.
+/// The ratio of the weight before `x` to the weight at `x`, if the mean is at least 1 above the excess.
 fn back<const F: u32>(mean: Iv<F>, excess: Iv<F>, x: u32) -> Iv<F>
     requires mean_top { IsWithinLimit F mean }
     requires above { 2 ^ F + excess.hi ≤ mean.lo }
@@ -52,7 +52,7 @@ fn back<const F: u32>(mean: Iv<F>, excess: Iv<F>, x: u32) -> Iv<F>
     above.div(below)
 }
 
-/// What bounds all ratios far out: the excess over 1 more than it.
+/// The bound of all ratios far out: the excess over 1 more than it.
 fn far<const F: u32>(excess: Iv<F>) -> u128
     requires excess_top { excess.hi ≤ 2048 * 2 ^ F }
     ensures { result ≡ far_ratio F excess.entry }
@@ -62,7 +62,7 @@ fn far<const F: u32>(excess: Iv<F>) -> u128
     (spread * unit).div_ceil(unit + spread)
 }
 
-/// The weight so many places below the pivot, and None where one on the way passes 8.
+/// The weight `places` below the pivot, or None if one on the way exceeds 8.
 fn weight_below<const F: u32>(mean: Iv<F>, excess: Iv<F>, pivot: u16, places: u32) -> Option<Iv<F>>
     requires mean_top { IsWithinLimit F mean }
     requires depth { pivot ≤ 256 }
@@ -84,7 +84,7 @@ fn weight_below<const F: u32>(mean: Iv<F>, excess: Iv<F>, pivot: u16, places: u3
     Some(term)
 }
 
-/// The weight at `x`, which is above the pivot and at most 63, and None where one on the way passes 8.
+/// The weight at `x`, which is above the pivot and at most 63, or None if one on the way exceeds 8.
 fn weight_above<const F: u32>(mean: Iv<F>, excess: Iv<F>, pivot: u16, x: u32) -> Option<Iv<F>>
     requires mean_top { IsWithinLimit F mean }
     requires excess_top { excess.hi ≤ 2048 * 2 ^ F }
@@ -106,7 +106,7 @@ fn weight_above<const F: u32>(mean: Iv<F>, excess: Iv<F>, pivot: u16, x: u32) ->
     Some(term)
 }
 
-/// The sum of the weights from 0 to the pivot, and None where one passes 8.
+/// The sum of the weights from 0 to the pivot, or None if one exceeds 8.
 fn sum_to_pivot<const F: u32>(mean: Iv<F>, excess: Iv<F>, pivot: u16) -> Option<Iv<F>>
     requires mean_top { IsWithinLimit F mean }
     requires depth { pivot ≤ 256 }
@@ -122,8 +122,7 @@ fn sum_to_pivot<const F: u32>(mean: Iv<F>, excess: Iv<F>, pivot: u16) -> Option<
     Some(sum)
 }
 
-/// What the weights past `x` come to at most, where the list ends there, and None where it goes on: `top` is the
-/// weight at `x`.
+/// An upper bound of the weights past `x` if the list ends there, or None if it goes on; `top` is the weight at `x`.
 fn rest_past<const F: u32>(mean: Iv<F>, excess: Iv<F>, top: u128, x: u32) -> Option<u128>
     requires mean_top { IsWithinLimit F mean }
     requires excess_top { excess.hi ≤ 2048 * 2 ^ F }
@@ -141,8 +140,8 @@ fn rest_past<const F: u32>(mean: Iv<F>, excess: Iv<F>, top: u128, x: u32) -> Opt
     Some(rest)
 }
 
-/// The sum of all weights with what the ones past the list come to at most, from the sum up to the pivot, and None
-/// where the answer is wide.
+/// The sum of all weights with the bound of those past the list, from the sum `low` up to the pivot, or None if the
+/// result is wide.
 fn sum_past<const F: u32>(mean: Iv<F>, excess: Iv<F>, pivot: u16, low: Iv<F>) -> Option<Iv<F>>
     requires mean_top { IsWithinLimit F mean }
     requires excess_top { excess.hi ≤ 2048 * 2 ^ F }
@@ -168,9 +167,9 @@ fn sum_past<const F: u32>(mean: Iv<F>, excess: Iv<F>, pivot: u16, low: Iv<F>) ->
     None
 }
 
-/// Puts all weights past the pivot to those from 0 to it, and answers the sum of all with what the ones past the list
-/// come to at most, by the definitions' divisions, for an excess whose ends are far apart. `low` is the sum up to the
-/// pivot. None where a weight passes 8 or the rest needn't fall.
+/// Appends all weights past the pivot, and returns the sum of all with the bound of those past the list. It uses the
+/// divisions of the definitions, for an excess whose ends are far apart. `low` is the sum up to the pivot. None if a
+/// weight exceeds 8 or the rest need not fall.
 pub(crate) fn risen_plain<const F: u32>(
     list: &mut Vec<Iv64<F>>,
     mean: Iv<F>,
@@ -205,7 +204,7 @@ pub(crate) fn risen_plain<const F: u32>(
     Ok(None)
 }
 
-/// The sum that `weights` answers with these arguments, without memory, and None where its answer is `Wide`.
+/// The sum in the result of `weights`, without memory, or None if that is `Wide`.
 pub fn sum_of_weights<const F: u32>(mean: Iv<F>, excess: Iv<F>) -> Option<Iv<F>>
     requires positive { 0 < mean.lo }
     requires mean_top { IsWithinLimit F mean }
@@ -220,7 +219,7 @@ pub fn sum_of_weights<const F: u32>(mean: Iv<F>, excess: Iv<F>) -> Option<Iv<F>>
     Some(sum)
 }
 
-/// The weight at `x`, at most 63, without memory. None only where the answer of `weights` is `Wide`.
+/// The weight at `x`, at most 63, without memory. None only if the result of `weights` is `Wide`.
 pub fn weight_at<const F: u32>(mean: Iv<F>, excess: Iv<F>, x: u32) -> Option<Iv<F>>
     requires mean_top { IsWithinLimit F mean }
     requires excess_top { excess.hi ≤ 2048 * 2 ^ F }

@@ -1,4 +1,4 @@
-//! The ratios of the weights from index to index, each from the one before it by additions.
+//! The ratios of the weights from index to index, each computed from the previous one by additions.
 
 ghost use Rattle.std.specs.Prelude.{◌≡◌, ◌+◌, ◌*◌, ◌/◌, ◌^◌, ◌<◌, ◌≤◌};
 ghost use Rattle.series_bounds.specs.Profile.{ratio_ends, far_ratio};
@@ -11,21 +11,21 @@ use crate::unit;
 use fixed_interval::Iv;
 use quotients::{Divisor, Parts, few_quotient, short_quotient};
 
-/// A ratio of weights but for its division by the index, and what the next index adds to it. The parts have 64 bits
-/// where the ends of the excess are at most 1 apart. The upper end is raised so that it is rounded down as the lower.
+/// A ratio of weights before its division by the index, and the increments to the next index. The parts have 64 bits if
+/// the ends of the excess are at most 1 apart. The upper end is raised so that rounding it down suffices.
 #[derive(Drop)]
 pub(crate) struct Ratios<const F: u32> {
     low: Parts,
     high: Parts,
     low_step: Parts,
     high_step: Parts,
-    /// What the lower ends are divided by, beside the index.
+    /// The divisor of the lower ends, beside the index.
     by_low: Divisor<F>,
-    /// The same of the upper ends.
+    /// The divisor of the upper ends, beside the index.
     by_high: Divisor<F>,
 }
 
-/// The parts of so many whole ones, given in units of `2^-F`, by a divisor.
+/// The parts of `num` units of `2^-F`, by a divisor.
 #[inline(always)]
 fn parts_of<const F: u32>(num: u128, by: Divisor<F>) -> Parts
     requires scale { InScale F }
@@ -79,7 +79,7 @@ fn long_over(num: u64, x: u32) -> u64
 }
 
 impl<const F: u32> Ratios<F> {
-    /// At the index `x`.
+    /// The ratios at the index `x`.
     #[inline(always)]
     pub(crate) fn at(mean: Iv<F>, excess: Iv<F>, x: u32) -> Ratios<F>
         requires mean_top { IsWithinLimit F mean }
@@ -94,7 +94,7 @@ impl<const F: u32> Ratios<F> {
         Ratios::with_divisors(mean, excess, x, by_low, by_high)
     }
 
-    /// At the index `x`, with 1 more than the excess.
+    /// The ratios at the index `x`, by 1 more than the excess.
     #[inline(always)]
     fn with_divisors(
         mean: Iv<F>,
@@ -123,7 +123,7 @@ impl<const F: u32> Ratios<F> {
         }
     }
 
-    /// What bounds all ratios far out: the excess over 1 more than it.
+    /// The bound of all ratios far out: the excess over 1 more than it.
     pub(crate) fn far(&self, excess: Iv<F>) -> u128
         requires near { IsNear F excess }
         requires by_low { self.now.by_low ≡ 1 * 2 ^ F + excess.hi }
@@ -132,7 +132,7 @@ impl<const F: u32> Ratios<F> {
         u128::from(self.by_low.ceil(excess.hi() as u64))
     }
 
-    /// The ratio of the weight at `x`, at which they are, to the one before it. They go on to the next index.
+    /// The ratio of the weight at `x`, the current index, to the weight before it. Moves on to the next index.
     #[inline(always)]
     pub(crate) fn take(&mut self, mean: Iv<F>, excess: Iv<F>, x: u32) -> Iv64<F>
         requires mean_top { IsWithinLimit F mean }

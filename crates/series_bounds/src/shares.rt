@@ -8,7 +8,7 @@ use crate::unit;
 use fixed_interval::Iv;
 use quotients::{Divisor, places_to};
 
-/// `a / b`, mostly without a division. `near` is a divisor near the upper end of `b`, and becomes that.
+/// `a / b`, mostly without a division. `near` is a divisor near the upper end of `b`, and is set to it.
 #[inline(always)]
 pub(crate) fn div_near<const F: u32>(a: Iv<F>, b: Iv<F>, near: &mut Divisor<F>) -> Iv<F>
     requires room { a.hi ≤ 65536 * 2 ^ F }

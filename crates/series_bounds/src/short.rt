@@ -19,8 +19,8 @@ use fixed_interval::Iv;
 use quotients::Divisor;
 use std::marker::Model;
 
-/// The numbers from a lower to an upper end, both in units of `2^-F` and of 64 bits. It is seen as an [`Iv`] is, and
-/// takes half the room.
+/// The numbers from a lower to an upper end, both in units of `2^-F` and of 64 bits. Contracts see it like an [`Iv`],
+/// and it takes half the memory.
 #[derive(Clone, Copy, Drop)]
 pub struct Iv64<const F: u32> {
     lo: u64,
@@ -97,7 +97,7 @@ impl<const F: u32> Iv64<F> {
         u128::from(self.hi)
     }
 
-    /// Whether the upper end passes 8.
+    /// Whether the upper end exceeds 8.
     #[inline(always)]
     pub(crate) fn passes_8(self) -> bool
         ensures passes { result ≡ true → 8 * 2 ^ F < self.entry.hi }
@@ -118,7 +118,7 @@ impl<const F: u32> Iv64<F> {
         }
     }
 
-    /// The difference, exactly, where it is above 0; what is below 0 is cut at 0.
+    /// The difference, exactly if it is above 0, otherwise 0.
     #[inline(always)]
     pub fn less(self, b: Iv64<F>) -> Iv64<F>
         ensures { result ≡ ends_less self.entry b.entry }
@@ -142,7 +142,7 @@ impl<const F: u32> Iv64<F> {
         }
     }
 
-    /// What a number of at most 1 leaves of 1, exactly.
+    /// 1 less the number, which is at most 1, exactly.
     #[inline(always)]
     pub fn left_of_one(self) -> Iv64<F>
         requires { self.hi ≤ 2 ^ F }
@@ -167,7 +167,7 @@ impl<const F: u32> Iv64<F> {
         }
     }
 
-    /// The quotient by the numbers from one divisor to another: the lower end rounded down, the upper end up.
+    /// The quotient by an interval between two divisors: the lower end rounded down, the upper end up.
     #[inline(always)]
     pub fn over(self, lower: Divisor<F>, upper: Divisor<F>) -> Iv64<F>
         requires short { self.hi ≤ 2 ^ 62 }
@@ -223,7 +223,7 @@ fn product_down<const F: u32>(a: u64, b: u64) -> u64
     ((u128::from(a) * u128::from(b)) >> F) as u64
 }
 
-/// The same rounded up.
+/// The product of two numbers in units of `2^-F`, rounded up.
 #[inline(always)]
 fn product_up<const F: u32>(a: u64, b: u64) -> u64
     requires scale { InScale F }

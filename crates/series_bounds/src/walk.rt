@@ -17,22 +17,22 @@ use fixed_interval::Iv;
 use quotients::Divisor;
 use spares_io::NoMemory;
 
-/// Weights of fewer units are looked at for whether they stay the same.
+/// Weights of fewer units are checked for staying the same.
 const FEW: u64 = 3;
 
-/// What the walk up has found below an index.
+/// The state of the walk up, below an index.
 #[derive(Drop)]
 struct Walked<const F: u32> {
     /// The sum of all weights below the index.
     sum: Iv64<F>,
-    /// The last of them.
+    /// The last weight below it.
     last: Iv64<F>,
     /// The index.
     next: u32,
 }
 
-/// The ratio of the weight before `x` to the one at `x`, where the mean is at least 1 above the excess. `near` is a
-/// divisor near the upper end of what it is divided by, and becomes that.
+/// The ratio of the weight before `x` to the weight at `x`, if the mean is at least 1 above the excess. `near` is a
+/// divisor near the upper end of the ratio's divisor, and is set to it.
 fn back_at<const F: u32>(mean: Iv<F>, excess: Iv<F>, x: u32, near: &mut Divisor<F>) -> Iv<F>
     requires mean_top { IsWithinLimit F mean }
     requires above { 2 ^ F + excess.hi ≤ mean.lo }
@@ -46,7 +46,7 @@ fn back_at<const F: u32>(mean: Iv<F>, excess: Iv<F>, x: u32, near: &mut Divisor<
     div_near(above, below, near)
 }
 
-/// Puts the weights from 0 to the pivot into an empty list, and answers whether none passes 8.
+/// Appends the weights from 0 to the pivot to an empty list, and returns whether none exceeds 8.
 fn down<const F: u32>(
     list: &mut Vec<Iv64<F>>,
     mean: Iv<F>,
@@ -134,7 +134,7 @@ fn settles<const F: u32>(mean: &Iv<F>, excess: &Iv<F>, before: Iv64<F>, x: u32) 
     above.hi() <= below.lo() && excess.hi() <= step.lo()
 }
 
-/// Adds a weight where fewer are held than are wanted.
+/// Appends a weight if the list has fewer than wanted.
 #[inline(always)]
 fn hold<const F: u32>(
     list: &mut Vec<Iv64<F>>,
@@ -150,8 +150,8 @@ fn hold<const F: u32>(
     Ok(())
 }
 
-/// The first weights and the sum, from the pivot on to the first index at which the list may end, or to where the
-/// weights stay the same, and None where one passes 8. `list` has those to the pivot, and `low` is their sum.
+/// The first weights and the sum, from the pivot up to the first index at which the list may end, or until the weights
+/// stay the same; None if one exceeds 8. `list` has the weights to the pivot, and `low` is their sum.
 #[inline(never)]
 fn rise<const F: u32>(
     list: &mut Vec<Iv64<F>>,
@@ -198,7 +198,7 @@ fn rise<const F: u32>(
     Ok(Some(Walked { sum, last, next }))
 }
 
-/// Adds the weights that are wanted below the first index at which the list may end, from where they stay the same.
+/// Appends the wanted weights below the first index at which the list may end, from the index where they stay the same.
 fn fill<const F: u32>(
     list: &mut Vec<Iv64<F>>,
     mean: Iv<F>,
@@ -220,7 +220,7 @@ fn fill<const F: u32>(
     Ok(())
 }
 
-/// The sum of the weights below the first index at which the list may end, from where they stay the same.
+/// The sum of the weights below the first index at which the list may end, from the index where they stay the same.
 fn level_sum<const F: u32>(
     mean: Iv<F>,
     excess: Iv<F>,
@@ -240,9 +240,9 @@ fn level_sum<const F: u32>(
     sum.open().add(last.open().times(start - next))
 }
 
-/// The first weights and the sum of all with what the ones past the list come to at most, from those below the first
-/// index at which the list may end: `low` is their sum, and `before` the last of them. None where a weight passes 8 or
-/// the rest needn't fall. Each ratio is used twice: in the remainder before its index, and in the weight there.
+/// The first weights and the sum of all with the bound of those past the list, continued from the first index at which
+/// the list may end: `low` is the sum of the weights below it, and `before` the last of them. None if a weight exceeds
+/// 8 or the rest need not fall. Each ratio is used twice: in the remainder before its index, and in the weight there.
 fn close<const F: u32>(
     list: &mut Vec<Iv64<F>>,
     mean: Iv<F>,
@@ -285,9 +285,8 @@ fn close<const F: u32>(
     Ok(None)
 }
 
-/// The sum of all weights where the list ends at the first index at which it may, with a weight of 1 unit at most and
-/// a rest of 1, as it mostly does: no ratio is needed for that. None where this isn't seen. The rest is as for
-/// [`close`].
+/// The sum of all weights if the list ends at the first possible index, with a weight of at most 1 unit and a rest of
+/// 1. This is the usual case, and needs no ratio. None if it isn't recognised. The arguments are as for [`close`].
 fn closed_at_once<const F: u32>(
     mean: Iv<F>,
     excess: Iv<F>,
@@ -315,8 +314,8 @@ fn closed_at_once<const F: u32>(
     Some(Iv::of_ends(low.lo(), low.hi() + 2))
 }
 
-/// The first weights and the sum of all, from those to the pivot on, and None where a weight passes 8 or the rest
-/// needn't fall. `list` has those to the pivot, and `low` is their sum.
+/// The first weights and the sum of all, continued from the pivot; None if a weight exceeds 8 or the rest need not
+/// fall. `list` has the weights to the pivot, and `low` is their sum.
 fn risen<const F: u32>(
     list: &mut Vec<Iv64<F>>,
     mean: Iv<F>,
@@ -351,7 +350,7 @@ fn risen<const F: u32>(
     close(list, mean, excess, start, low, last, wanted)
 }
 
-/// Whether the ends of the excess are at most 1 apart, as they are but for very wide intervals, and have 62 bits.
+/// Whether the ends of the excess are at most 1 apart, as in all but very wide intervals, and have 62 bits.
 #[inline(always)]
 fn is_near<const F: u32>(excess: Iv<F>) -> bool
     ensures { result ≡ true → IsNear F excess.entry }
@@ -359,9 +358,8 @@ fn is_near<const F: u32>(excess: Iv<F>) -> bool
     excess.hi() < 1 << 62 && excess.width() <= unit::<F>()
 }
 
-/// Puts the first weights into an empty list, `wanted` of them or more, or all where there are fewer, and answers the
-/// sum of all with what the ones past the last index come to at most. None where a weight passes 8 or the rest needn't
-/// fall.
+/// Appends the first weights to an empty list, at least `wanted` of them or all if there are fewer, and returns the sum
+/// of all with the bound of those past the last index. None if a weight exceeds 8 or the rest need not fall.
 pub(crate) fn weigh<const F: u32>(
     list: &mut Vec<Iv64<F>>,
     mean: Iv<F>,

@@ -12,7 +12,7 @@ use std::io::ErrorKind;
 use std::process::ExitCode;
 use std::{env, io};
 
-/// The words that follow the program's name.
+/// The words after the program's name.
 fn words_of(alloc: Global, args: &[String]) -> Result<Vec<Text>, NoMemory> {
     let mut words = Vec::new(alloc);
     for arg in args.iter().skip(1) {
@@ -21,7 +21,7 @@ fn words_of(alloc: Global, args: &[String]) -> Result<Vec<Text>, NoMemory> {
     Ok(words)
 }
 
-/// Why there are no arguments: no memory for them, or one of them isn't text.
+/// The reason why there are no arguments: no memory for them, or one of them isn't text.
 fn refusal_of(error: &io::Error) -> Refusal
     ensures { NamesNoPair result }
 {

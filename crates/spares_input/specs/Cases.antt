@@ -11,7 +11,7 @@ use Rattle.spares_input.specs.declared.rows.RateRow.{RateRow}
 use Rattle.spares_input.specs.declared.fault.CaseFault.{CaseFault}
 use Rattle.spares_input.specs.declared.fault.CaseFault.TheVariants as fault
 
--- what a contract sees of a case: the rows of its frame, and the rows of rates by part and then by site
+-- a case as contracts see it: the rows of its frame, and the rows of rates by part and then by site
 pub record CaseRows : Type 0 where
   pub sites : List SiteRow
   pub parts : List PartRow
@@ -25,11 +25,11 @@ frame_rows c = record { sites = c.sites; parts = c.parts }
 abbrev pub rate_at : CaseRows → ℕ → ℕ → RateRow
 rate_at c p k = get_or c.rates (pair_place (length c.sites) p k) no_rate
 
--- the place of a row's pair, where there are n sites
+-- the place of a row's pair, with n sites
 abbrev pub rate_place : ℕ → RateRow → ℕ
 rate_place n r = pair_place n r.part.0 r.site.0
 
--- how many pairs a frame has
+-- the number of a frame's pairs
 abbrev pub pair_count : FrameRows → ℕ
 pair_count f = length f.parts * length f.sites
 
@@ -46,7 +46,7 @@ missing_rate n rates i =
     if has_row (rate_place n) rates i then None
     else Some (fault.MissingRate (part_of_place n i) (site_of_place n i))
 
--- the first rule that rows of rates break, where there are n sites and so many pairs
+-- the first rule that rows of rates break, with these numbers of sites and pairs
 abbrev pub rates_fault : ℕ → ℕ → List RateRow → Option CaseFault
 rates_fault n count rates = first_of (
     first (double_rate n rates) (length rates)
@@ -67,7 +67,7 @@ pub record IsRateOf (f : FrameRows) (r : RateRow) : Type 0 where
   pub site : r.site.0 < length f.sites
   pub fields : IsRateRow (is_line (part_at f.parts r.part.0)) (r.site.0 == 0) r
 
--- what is true of every case
+-- the invariant of every case
 pub record IsCase (c : CaseRows) : Type 0 where
   pub frame : IsFrame (frame_rows c)
   pub rate_count : length c.rates ≡ pair_count (frame_rows c)
@@ -75,7 +75,7 @@ pub record IsCase (c : CaseRows) : Type 0 where
       × ((rate_at c p k).site.0 ≡ k)
   pub rate_rows : All (IsRateOf (frame_rows c)) c.rates
 
--- an answer without the frame that a refusal hands back
+-- the same result without the frame that a refusal returns
 abbrev pub without_frame : {C F E : Type 0} → Result C (F × Stop E) → Result C (Stop E)
 without_frame (Ok c) = Ok c
 without_frame (Err refusal) = Err refusal.1

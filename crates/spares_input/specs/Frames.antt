@@ -1,4 +1,4 @@
--- The sites and parts of a case: what its rows are to be, and the first rule that they break.
+-- The sites and parts of a case: their rules, and the first rule that rows break.
 use Rattle.std.specs.Prelude.{◌≡◌, ℕ, ◌+◌, ◌<◌, ◌≤◌, Bool, true, false, not, ◌&&◌, nat_le, get_or, List, [], ◌∷◌, ◌++◌, map, filter, take, length, All, Option, Some, None, Result, if◌then◌else◌, bytes_eq, position, count_by}
 use Rattle.std.specs.List.{list_any, range_with_len, IsDistinct}
 use Rattle.std.specs.Option.{option_map_or, option_and_then}
@@ -9,7 +9,7 @@ use Rattle.spares_input.specs.declared.rows.PartRow.{PartRow}
 use Rattle.spares_input.specs.declared.fault.CaseFault.{CaseFault}
 use Rattle.spares_input.specs.declared.fault.CaseFault.TheVariants as fault
 
--- what a contract sees of a frame: the depot and then the bases in file order, and the parts in file order
+-- a frame as contracts see it: the depot and then the bases in file order, and the parts in file order
 pub record FrameRows : Type 0 where
   pub sites : List SiteRow
   pub parts : List PartRow
@@ -73,7 +73,7 @@ abbrev pub double_part : List PartRow → ℕ → Option CaseFault
 double_part parts k =
     if is_among (part_at parts k).name (part_names (take k parts)) then Some (fault.DoublePart (k + 2)) else None
 
--- the rule that row k of the parts breaks as a shop unit, whose parent has this place or is none of the parts
+-- the rule that row k of the parts breaks as a shop unit, given its parent's place or that no part has that name
 abbrev pub shop_fault : List PartRow → ℕ → Option ℕ → Option CaseFault
 shop_fault parts k None = Some (fault.UnknownParent (k + 2))
 shop_fault parts k (Some l) =
@@ -110,7 +110,7 @@ has_line parts p = option_map_or (λ l. is_line (part_at parts l)) (line_of part
 abbrev pub shop_units : List PartRow → ℕ → List ℕ
 shop_units parts l = filter (λ p. is_shop_of (part_at parts l) (part_at parts p)) (range_with_len 0 (length parts))
 
--- what is true of every frame
+-- the invariant of every frame
 pub record IsFrame (f : FrameRows) : Type 0 where
   pub fewest_sites : 2 ≤ length f.sites
   pub most_sites : length f.sites ≤ 16

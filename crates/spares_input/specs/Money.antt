@@ -1,6 +1,6 @@
 -- Sums of money.
 use Rattle.std.specs.Prelude.{ℕ}
 
--- the most that a budget can be, in whole money
+-- the largest budget, in whole money
 abbrev pub most_budget : ℕ
 most_budget = 1000000000000000

@@ -1,4 +1,4 @@
--- What a name is.
+-- The rules of a name.
 use Rattle.std.specs.Prelude.{◌≡◌, ℕ, ◌-◌, ◌≤◌, Bool, true, not, ◌&&◌, ◌==◌, nat_le, List, ◌++◌, length, take, get_or, replicate}
 use Rattle.std.proofs.Common.{arith, sym, length-take-le}
 use Rattle.std.specs.List.{list_all}
@@ -24,18 +24,18 @@ is_name bytes = has_length bytes && is_trimmed bytes && list_all name_byte bytes
 abbrev pub bytes_of : Inside → List ℕ
 bytes_of n = take n.len n.bytes
 
--- how a name is kept: its bytes, and then zeros up to 24
+-- the stored form of a name: its bytes, and then zeros up to 24
 pub record IsKept (n : Inside) : Type 0 where
   pub name : is_name (take n.len n.bytes) ≡ true
   pub few : n.len ≤ 24
   pub room : length n.bytes ≡ 24
   pub padded : n.bytes ≡ take n.len n.bytes ++ replicate (24 - n.len) 0
 
--- how these bytes are kept: with zeros up to 24
+-- the stored form of these bytes: with zeros up to 24
 abbrev pub kept : List ℕ → Inside
 kept bytes = record { bytes = bytes ++ replicate (24 - length bytes) 0; len = length bytes }
 
--- the bytes of a name tell how it is kept
+-- the bytes of a name determine its stored form
 pub kept_bytes_of : (a : Inside) → IsKept a → kept (bytes_of a) ≡ a
 kept_bytes_of a h =
     let len : length (take a.len a.bytes) ≡ a.len = length-take-le a.len a.bytes (omega (arith, h.few, h.room)) in

@@ -1,10 +1,10 @@
--- Rows of which each speaks of one pair of a part and a site. A pair has a place: by part and then by site.
+-- Rows that each belong to one pair of a part and a site. A pair has a place: by part and then by site.
 use Rattle.std.specs.Prelude.{◌==◌, ℕ, ◌+◌, ◌*◌, ◌/◌, ◌%◌, Bool, List, map, find, Option, is_some, unwrap_or}
 use Rattle.std.specs.List.{range_with_len}
 use Rattle.spares_input.specs.declared.rows.PartId.{PartId}
 use Rattle.spares_input.specs.declared.rows.SiteId.{SiteId}
 
--- the place of part p at site k, where there are n sites
+-- the place of part p at site k, with n sites
 abbrev pub pair_place : ℕ → ℕ → ℕ → ℕ
 pair_place n p k = p * n + k
 

@@ -10,12 +10,12 @@ use Rattle.spares_input.specs.declared.rows.StockRow.{StockRow}
 abbrev pub is_line : PartRow → Bool
 is_line r = is_none r.parent
 
--- a field that is used holds a number from least to most, and one that must be empty holds 0
+-- a field that is used has a number from least to most, and one that must be empty has 0
 pub record IsField (used : Bool) (least most n : ℕ) : Type 0 where
   pub within : used ≡ true → (least ≤ n) × (n ≤ most)
   pub empty : used ≡ false → n ≡ 0
 
--- a row of sites: the fields of a base, in systems and in hundredths of days; those of the depot are empty
+-- a row of sites: the fields of a base, in systems and in hundredths of days; the depot's fields are empty
 pub record IsSiteRow (r : SiteRow) : Type 0 where
   pub name : is_name r.name ≡ true
   pub systems : IsField (not r.depot) 1 10000 r.systems
@@ -39,15 +39,15 @@ pub record IsRateRow (line depot : Bool) (r : RateRow) : Type 0 where
   pub share : IsField (not line) 0 10000 r.share
   pub repair_days : r.repair_days ≤ 999999
 
--- what a look-up past the last site answers: nothing named, with zeros
+-- the value of a look-up past the last site: an empty name and zeros
 abbrev pub no_site : SiteRow
 no_site = record { name = []; depot = false; systems = 0; ship = 0 }
 
--- what a look-up past the last part answers: nothing named, with zeros
+-- the value of a look-up past the last part: an empty name and zeros
 abbrev pub no_part : PartRow
 no_part = record { name = []; parent = None; cost = 0; per_system = 0; max_depot = 0; max_base = 0; weight = 0 }
 
--- what a look-up past the last row of rates answers: zeros
+-- the value of a look-up past the last row of rates: zeros
 abbrev pub no_rate : RateRow
 no_rate = record {
   part = record { 0 = 0 };
@@ -58,6 +58,6 @@ no_rate = record {
   repair_days = 0;
 }
 
--- what a look-up past the last row of stocks answers: zeros
+-- the value of a look-up past the last row of stocks: zeros
 abbrev pub no_stock : StockRow
 no_stock = record { part = record { 0 = 0 }; site = record { 0 = 0 }; stock = 0 }

@@ -11,7 +11,7 @@ use Rattle.spares_input.specs.declared.rows.StockRow.{StockRow}
 use Rattle.spares_input.specs.declared.fault.StockFault.{StockFault}
 use Rattle.spares_input.specs.declared.fault.StockFault.TheVariants as fault
 
--- what a contract sees of stocks: how many sites there are, and a number for each pair, by part and then by site
+-- stocks as contracts see them: the number of sites, and a number for each pair, by part and then by site
 pub record StockList : Type 0 where
   pub sites : ℕ
   pub list : List ℕ
@@ -20,11 +20,11 @@ pub record StockList : Type 0 where
 abbrev pub stock_at : StockList → ℕ → ℕ → ℕ
 stock_at s p k = get_or s.list (pair_place s.sites p k) 0
 
--- the most of part p that site k may hold; site 0 is the depot
+-- the largest stock of part p at site k; site 0 is the depot
 abbrev pub limit_at : List PartRow → ℕ → ℕ → ℕ
 limit_at parts p k = if k == 0 then (part_at parts p).max_depot else (part_at parts p).max_base
 
--- the place of the pair of a row of stocks, where there are n sites
+-- the place of the pair of a row of stocks, with n sites
 abbrev pub stock_place : ℕ → StockRow → ℕ
 stock_place n r = pair_place n r.part.0 r.site.0
 
@@ -55,7 +55,7 @@ abbrev pub stocks_in_order : CaseRows → List StockRow → List ℕ
 stocks_in_order c rows =
     map (λ r. r.stock) (rows_in_order (stock_place (length c.sites)) no_stock (pair_count (frame_rows c)) rows)
 
--- the stocks that the rows give, or the first rule that they break
+-- the stocks of the rows, or the first rule that they break
 abbrev pub stocks_of : CaseRows → List StockRow → Result StockList StockFault
 stocks_of c rows = unless (stocks_fault c rows) (record { sites = length c.sites; list = stocks_in_order c rows })
 
@@ -64,7 +64,7 @@ pub record IsStockOf (f : FrameRows) (r : StockRow) : Type 0 where
   pub part : r.part.0 < length f.parts
   pub site : r.site.0 < length f.sites
 
--- what is true of all stocks
+-- the invariant of all stocks
 pub record IsStockList (s : StockList) : Type 0 where
   pub fewest_sites : 2 ≤ s.sites
   pub most_sites : s.sites ≤ 16

@@ -38,9 +38,9 @@ impl Model for Case {
 }
 
 impl Case {
-    /// The case of a frame and these rows of rates. A fault is the first rule that they break: a second row of a pair,
-    /// row by row, and then the first pair without a row, by part and then by site. A refusal hands the frame back as
-    /// it was.
+    /// The case of a frame and rows of rates. A fault is the first rule that the rows break: a second row of a pair,
+    /// row by row, and then the first pair without a row, by part and then by site. A refusal returns the frame
+    /// unchanged.
     pub fn build(
         alloc: Global,
         frame: Frame,
@@ -66,7 +66,7 @@ impl Case {
         &self.frame
     }
 
-    /// How many sites there are.
+    /// The number of sites.
     pub fn site_count(&self) -> u8
         ensures count { result ≡ length self.now.sites }
         ensures valid { IsCase self.now }
@@ -74,7 +74,7 @@ impl Case {
         self.frame.site_count()
     }
 
-    /// How many parts there are.
+    /// The number of parts.
     pub fn part_count(&self) -> u16
         ensures count { result ≡ length self.now.parts }
         ensures valid { IsCase self.now }
@@ -101,7 +101,7 @@ impl Case {
         self.frame.part(part)
     }
 
-    /// The line unit of a shop unit. None exactly at a line unit.
+    /// The line unit of a shop unit; None exactly for a line unit.
     pub fn parent(&self, part: PartId) -> Option<PartId>
         requires { part.0 < length self.now.parts }
         ensures line { option_map (λ p. p.0) result ≡ line_of self.now.parts part.0 }
@@ -129,7 +129,7 @@ impl Case {
         self.frame.is_line(part)
     }
 
-    /// The most of a part that a site may hold, 0 to 63.
+    /// The largest stock of a part at a site, 0 to 63.
     pub fn limit(&self, part: PartId, site: SiteId) -> u8
         requires part { part.0 < length self.now.parts }
         requires site { site.0 < length self.now.sites }
@@ -152,7 +152,7 @@ impl Case {
         &self.rates[pair_place(part, site, sites, parts)]
     }
 
-    /// Puts a row in the place of its pair's row. All else stays.
+    /// Replaces the row of a pair, and nothing else.
     pub fn set_rate(&mut self, row: RateRow)
         requires { IsRateOf (frame_rows self.old) row }
         ensures { self.new ≡ with_rate self.old row }
@@ -163,7 +163,7 @@ impl Case {
     }
 }
 
-/// The row of each pair in the order of pairs, where the rows break no rule.
+/// The row of each pair in the order of pairs, if the rows break no rule.
 fn rates_by_pair(
     alloc: Global,
     rows: &[RateRow],
@@ -181,7 +181,7 @@ fn rates_by_pair(
     rows_of_places(alloc, places.as_slice(), sites)
 }
 
-/// The row of each pair at its place, where no two rows have one pair.
+/// The row of each pair at its place, if no two rows have one pair.
 fn place_rows(
     alloc: Global,
     rows: &[RateRow],

@@ -1,9 +1,9 @@
-//! What may be wrong with the rows of a case or of its stocks.
+//! The faults of a case's rows and of its stocks.
 
 use crate::rows::{PartId, SiteId};
 use thiserror::Error;
 
-/// The rule that the rows of a case break first. A number is a row of its file, whose header is row 1.
+/// The first rule that the rows of a case break. A number is a row of its file, whose header is row 1.
 #[derive(Clone, Copy, Debug, Drop, PartialEq, Eq, Error)]
 pub enum CaseFault {
     /// The row of a second site of one name.
@@ -38,7 +38,7 @@ pub enum CaseFault {
     MissingRate(PartId, SiteId),
 }
 
-/// The rule that rows of stocks break first. A number is a row of the file, whose header is row 1.
+/// The first rule that rows of stocks break. A number is a row of the file, whose header is row 1.
 #[derive(Clone, Copy, Debug, Drop, PartialEq, Eq, Error)]
 pub enum StockFault {
     /// The row of a stock above the limit of its part at its site.

@@ -45,8 +45,8 @@ impl Model for Frame {
 }
 
 impl Frame {
-    /// The frame of these rows. A fault is the first rule that they break: the sites row by row, the sites as a whole,
-    /// the names of the parts row by row, and then the parents row by row.
+    /// The frame of rows of sites and parts. A fault is the first rule that they break: the sites row by row, the sites
+    /// as a whole, the names of the parts row by row, and then the parents row by row.
     pub fn build(
         alloc: Global,
         sites: Vec<SiteRow>,
@@ -78,7 +78,7 @@ impl Frame {
         })
     }
 
-    /// How many sites there are.
+    /// The number of sites.
     pub fn site_count(&self) -> u8
         ensures count { result ≡ length self.now.sites }
         ensures valid { IsFrame self.now }
@@ -86,7 +86,7 @@ impl Frame {
         self.sites.len() as u8
     }
 
-    /// How many parts there are.
+    /// The number of parts.
     pub fn part_count(&self) -> u16
         ensures count { result ≡ length self.now.parts }
         ensures valid { IsFrame self.now }
@@ -121,7 +121,7 @@ impl Frame {
         &self.parts[part.0 as usize]
     }
 
-    /// The line unit of a shop unit. None exactly at a line unit.
+    /// The line unit of a shop unit; None exactly for a line unit.
     pub fn parent(&self, part: PartId) -> Option<PartId>
         requires { part.0 < length self.now.parts }
         ensures line { option_map (λ p. p.0) result ≡ line_of self.now.parts part.0 }
@@ -153,7 +153,7 @@ impl Frame {
         self.parts[part.0 as usize].parent.is_none()
     }
 
-    /// The most of a part that a site may hold, 0 to 63.
+    /// The largest stock of a part at a site, 0 to 63.
     pub fn limit(&self, part: PartId, site: SiteId) -> u8
         requires part { part.0 < length self.now.parts }
         requires site { site.0 < length self.now.sites }
@@ -168,7 +168,7 @@ impl Frame {
         }
     }
 
-    /// The part of this name. None exactly where no row has it.
+    /// The part of this name; None exactly if no row has it.
     pub fn find_part(&self, name: &Name) -> Option<PartId>
         ensures place { option_map (λ p. p.0) result ≡ place_of name.now (part_names self.now.parts) }
         ensures row { IfSome result (λ p. (p.0 < length self.now.parts)
@@ -180,7 +180,7 @@ impl Frame {
         }
     }
 
-    /// The site of this name. None exactly where no row has it.
+    /// The site of this name; None exactly if no row has it.
     pub fn find_site(&self, name: &Name) -> Option<SiteId>
         ensures place { option_map (λ s. s.0) result ≡ place_of name.now (site_names self.now.sites) }
         ensures row { IfSome result (λ s. (s.0 < length self.now.sites)
@@ -193,7 +193,7 @@ impl Frame {
     }
 }
 
-/// The names of sites and of parts, each at its row's place, and the depot's place, where no rule is broken.
+/// The names of sites and of parts, each at its row's place, and the depot's place, if no rule is broken.
 fn number_rows(
     alloc: Global,
     sites: &[SiteRow],
@@ -217,7 +217,7 @@ fn number_rows(
     Ok((site_names, part_names, depot))
 }
 
-/// The names of the sites, each at its row's place, where no row repeats a name or is a second depot.
+/// The names of the sites, each at its row's place, if no row repeats a name or is a second depot.
 fn number_sites(alloc: Global, sites: &[SiteRow]) -> Result<IndexSet<Name>, Stop<CaseFault>>
     requires { length sites.now ≤ 16 }
     ensures fault { StopsAt (first (site_fault sites.now) (length sites.now)) result }
@@ -236,7 +236,7 @@ fn number_sites(alloc: Global, sites: &[SiteRow]) -> Result<IndexSet<Name>, Stop
     Ok(names)
 }
 
-/// Adds a name, and says whether it is a new one.
+/// Adds a name, and returns whether it is new.
 fn add_name(names: &mut IndexSet<Name>, name: Name) -> Result<bool, NoMemory>
     ensures fresh { IfOk result (λ fresh. fresh ≡ not (is_among name names.old.keys)) }
     ensures added { IfOk result (λ fresh. fresh ≡ true → names.new.keys ≡ names.old.keys ++ name ∷ []) }
@@ -260,7 +260,7 @@ fn site_fault(site: &SiteRow, is_known: bool, has_depot: bool, row: u32) -> Opti
     None
 }
 
-/// The place of the depot, where there are a depot and a base.
+/// The place of the depot, if there are a depot and a base.
 fn depot_place(sites: &[SiteRow]) -> Result<usize, CaseFault>
     ensures { MatchResult result
         (λ d. (kinds_fault sites.now ≡ None) × (position is_depot sites.now ≡ Some d))
@@ -289,7 +289,7 @@ fn has_base(sites: &[SiteRow]) -> bool
     sites.iter().any(|site| !site.depot)
 }
 
-/// Puts one row before all others.
+/// Moves one row before all others.
 fn put_first(sites: &mut Vec<SiteRow>, place: usize) -> Result<(), NoMemory>
     requires { place < vec_len sites.old }
     ensures { OnOk result (sites.new.items ≡ move_index sites.old.items place 0) }
@@ -299,7 +299,7 @@ fn put_first(sites: &mut Vec<SiteRow>, place: usize) -> Result<(), NoMemory>
     Ok(())
 }
 
-/// The names of the parts, each at its row's place, where no row repeats one.
+/// The names of the parts, each at its row's place, if no row repeats one.
 fn number_parts(alloc: Global, parts: &[PartRow]) -> Result<IndexSet<Name>, Stop<CaseFault>>
     requires { length parts.now ≤ 2000 }
     ensures fault { StopsAt (first (double_part parts.now) (length parts.now)) result }
@@ -333,7 +333,7 @@ fn parents_of(
     Ok(parents)
 }
 
-/// The place of the part whose name is the parent of this one.
+/// The place of the part named as the parent of this one.
 fn parent_of(names: &IndexSet<Name>, part: &PartRow) -> Option<PartId>
     requires { length names.now.keys ≤ 2000 }
     ensures { option_map (λ line. line.0) result ≡ option_and_then
@@ -371,7 +371,7 @@ fn parent_fault(names: &IndexSet<Name>, parts: &[PartRow], k: usize) -> Option<C
     }
 }
 
-/// The rule that row k breaks as a shop unit, whose parent has this place or is none of the parts.
+/// The rule that row k breaks as a shop unit; `line` is its parent's place, or None if no part has that name.
 fn shop_fault(parts: &[PartRow], k: usize, line: Option<usize>) -> Option<CaseFault>
     requires few { length parts.now ≤ 2000 }
     requires within { k < length parts.now }
@@ -392,7 +392,7 @@ fn shop_fault(parts: &[PartRow], k: usize, line: Option<usize>) -> Option<CaseFa
     None
 }
 
-/// How many of these rows are shop units of this line unit.
+/// The number of these rows that are shop units of this line unit.
 fn count_shop_units(line: &PartRow, parts: &[PartRow]) -> usize
     ensures { result ≡ count_by (is_shop_of line.now) parts.now }
 {

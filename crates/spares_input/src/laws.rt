@@ -4,7 +4,7 @@ ghost use Rattle.std.specs.Prelude.{◌≡◌, None, Ok};
 ghost use Rattle.spares_input.specs.Frames.{FrameRows, IsFrame, frame_fault, frame_of};
 ghost use Rattle.spares_input.specs.Cases.{CaseRows, IsCase, case_of, frame_rows};
 
-/// The rows of a frame break no rule, and are those of that very frame; so it is with the rates of a case.
+/// The rows of a frame break no rule, and make that same frame again; the same for the rates of a case.
 pub fn cases_break_no_rule()
     ensures no_fault { (f : FrameRows) → IsFrame f → frame_fault f.sites f.parts ≡ None }
     ensures frame { (f : FrameRows) → IsFrame f → frame_of f.sites f.parts ≡ Ok f }

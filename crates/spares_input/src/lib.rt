@@ -19,5 +19,5 @@ pub use pairs::{pair_at, pair_place};
 pub use rows::{PartId, PartRow, RateRow, SiteId, SiteRow, StockRow};
 pub use stocks::{Stocks, nothing_held, stocks_from};
 
-/// The most that a budget can be, in whole money.
+/// The largest budget, in whole money.
 pub const MOST_BUDGET: u64 = 1_000_000_000_000_000;

@@ -37,7 +37,7 @@ impl Model for Name {
 }
 
 impl Name {
-    /// The name with these bytes. None exactly where they aren't a name.
+    /// The name with these bytes; None exactly if they aren't a name.
     pub fn of(bytes: &[u8]) -> Option<Name>
         ensures { result ≡ (if is_name bytes.now then Some bytes.now else None) }
     {
@@ -59,7 +59,7 @@ impl Name {
     }
 }
 
-/// At most 24 bytes, and then zeros.
+/// At most 24 bytes, followed by zeros.
 fn padded(bytes: &[u8]) -> [u8; 24]
     requires { length bytes.now ≤ 24 }
     ensures { result ≡ bytes.now ++ replicate (24 - length bytes.now) 0 }
@@ -69,7 +69,7 @@ fn padded(bytes: &[u8]) -> [u8; 24]
     padded
 }
 
-/// The room of a name, empty.
+/// The bytes of an empty name.
 fn zeros() -> [u8; 24]
     ensures { result ≡ replicate 24 0 }
 {

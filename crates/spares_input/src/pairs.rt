@@ -5,7 +5,7 @@ ghost use Rattle.spares_input.specs.Pairs.{pair_place, part_of_place, site_of_pl
 
 use crate::rows::{PartId, SiteId};
 
-/// The place of a pair, where there are so many sites.
+/// The place of a pair, with this number of sites.
 pub(crate) fn place_in(sites: u8, part: PartId, site: SiteId) -> usize
     ensures { result ≡ pair_place sites part.0 site.0 }
 {

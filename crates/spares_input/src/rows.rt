@@ -2,7 +2,7 @@
 
 use crate::name::Name;
 
-/// A site by its number: 0 is the depot, and then come the bases in file order.
+/// A site by its number: 0 is the depot, and the bases follow in file order.
 #[derive(Clone, Copy, Debug, PartialEq, Eq)]
 pub struct SiteId(pub u8);
 
@@ -14,7 +14,7 @@ pub struct PartId(pub u16);
 #[derive(Clone, Copy)]
 pub struct SiteRow {
     pub name: Name,
-    /// Whether this is the depot, or else a base.
+    /// Whether this is the depot; otherwise it is a base.
     pub depot: bool,
     /// Systems at a base, 1 to 10,000.
     pub systems: u32,
@@ -28,19 +28,19 @@ pub struct PartRow {
     pub name: Name,
     /// The line unit of a shop unit.
     pub parent: Option<Name>,
-    /// Cost of one, 1 to 100,000,000.
+    /// Unit cost, 1 to 100,000,000.
     pub cost: u32,
     /// Line units of this kind in a system, 1 to 100.
     pub per_system: u32,
-    /// The most that the depot may hold, 0 to 63.
+    /// The largest stock at the depot, 0 to 63.
     pub max_depot: u8,
-    /// The most that a base may hold, 0 to 63.
+    /// The largest stock at a base, 0 to 63.
     pub max_base: u8,
-    /// What a backorder of a line unit counts for, 1 to 100.
+    /// The weight of a backorder of a line unit, 1 to 100.
     pub weight: u8,
 }
 
-/// What is known of a part at a site.
+/// The demand and repair of a part at a site.
 #[derive(Clone, Copy)]
 pub struct RateRow {
     pub part: PartId,

@@ -35,7 +35,7 @@ impl Model for Stocks {
 }
 
 impl Stocks {
-    /// Stocks of these numbers, where there are so many sites.
+    /// Stocks of these numbers, with this number of sites.
     pub fn of(list: Vec<u8>, sites: u8) -> Stocks
         requires fewest_sites { 2 ≤ sites }
         requires most_sites { sites ≤ 16 }
@@ -96,7 +96,7 @@ fn cost_of(list: &[u8], sites: usize, case: &Case) -> u64
     cost
 }
 
-/// No stock of any part at any site. Want of memory is the only error.
+/// The stocks with no unit of any part at any site. Want of memory is the only error.
 pub fn nothing_held(alloc: Global, case: &Case) -> Result<Stocks, NoMemory>
     ensures held { IfOk result (λ held. held ≡ nothing_held case.now) }
     ensures whole { IfOk result (IsFor case.now) }
@@ -108,8 +108,8 @@ pub fn nothing_held(alloc: Global, case: &Case) -> Result<Stocks, NoMemory>
     Ok(Stocks::of(list, sites))
 }
 
-/// The stocks that the rows give. A fault is the first rule that the rows break: a stock over its limit or a second
-/// row of a pair, row by row, and then the first pair without a row, by part and then by site.
+/// The stocks of these rows. A fault is the first rule that the rows break: a stock above its limit or a second row of
+/// a pair, row by row, and then the first pair without a row, by part and then by site.
 pub fn stocks_from(
     alloc: Global,
     case: &Case,
@@ -127,7 +127,7 @@ pub fn stocks_from(
     }
 }
 
-/// The stock of each pair in the order of pairs, where the rows break no rule.
+/// The stock of each pair in the order of pairs, if the rows break no rule.
 fn stocks_by_pair(
     alloc: Global,
     case: &Case,
@@ -142,7 +142,7 @@ fn stocks_by_pair(
     stocks_of_places(alloc, places.as_slice(), sites)
 }
 
-/// The row of each pair at its place, where no row is over its limit and no two have one pair.
+/// The row of each pair at its place, if no row is above its limit and no two have one pair.
 fn place_rows(
     alloc: Global,
     case: &Case,

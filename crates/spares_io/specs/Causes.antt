@@ -1,11 +1,11 @@
 -- When a count of faults shows a fault.
 use Rattle.std.specs.Prelude.{◌≤◌, ◌+◌, ◌-◌, ◌^◌, ℕ, min}
 
--- a count after one more fault, which stands still at its end
+-- a count after one more fault; it stops at 2 ^ 64 - 1
 abbrev pub next_count : ℕ → ℕ
 next_count count = min (count + 1) (2 ^ 64 - 1)
 
--- the count rose in the call, or it stands at its end
+-- the count rose in the call, or is at its end
 abbrev pub Rose : ℕ → ℕ → Type 0
 Rose before now = next_count before ≤ now
 

@@ -1,4 +1,4 @@
--- What a call does to the file that it opened, where the file tells its bytes.
+-- The effect of a call on the file that it opened, if contracts know the file's bytes.
 use Rattle.std.specs.Prelude.{◌≡◌, ◌<◌, ℕ, List, Option, IfSome, length}
 use Rattle.std.specs.Io.KnownBytes.{Appends}
 

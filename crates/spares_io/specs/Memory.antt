@@ -12,20 +12,21 @@ use Rattle.spares_io.specs.Shelf.{Files, file_of, with_file}
 abbrev pub is_listed : List ℕ → ℕ → Bool
 is_listed fails number = list_any (λ listed. listed == number) fails
 
--- the map of a list of files, each a name with what it holds
+-- the map of a list of files, each a name with its bytes
 abbrev pub files_of : List (List ℕ × List ℕ) → Files
 files_of files = map.from_entries files
 
--- no name stands twice
+-- the names are distinct
 abbrev pub are_distinct : List (List ℕ × List ℕ) → Bool
 are_distinct [] = true
 are_distinct (file ∷ files) = is_none (position (λ later. bytes_eq file.0 later.0) files) && are_distinct files
 
--- the first half of some bytes, rounded down
+-- the first half of a list of bytes, rounded down
 abbrev pub first_half : List ℕ → List ℕ
 first_half bytes = take (length bytes / 2) bytes
 
--- the files of a shelf, which of its calls are to fail, and how many calls, failed reads and failed writes it had
+-- the files of a shelf, the numbers of its calls that are to fail, and the counts of its calls, failed reads and failed
+-- writes
 pub record ShelfMemory : Type 0 where
   pub files : Files
   pub fails : List ℕ
@@ -33,7 +34,7 @@ pub record ShelfMemory : Type 0 where
   pub failed_reads : ℕ
   pub failed_writes : ℕ
 
--- how a shelf is told by lists and numbers alone
+-- a shelf coded by lists and numbers alone
 abbrev pub shelf_code : Coded ShelfMemory
 shelf_code = code_by (Files × (List ℕ × (ℕ × (ℕ × ℕ))))
     (coded× (map.code (coded_list coded_ℕ) (coded_list coded_ℕ))
@@ -50,21 +51,21 @@ shelf_fails shelf = is_listed shelf.fails (next_count shelf.calls)
 abbrev pub counted : ShelfMemory → ShelfMemory
 counted shelf = record shelf { calls = next_count shelf.calls }
 
--- what a name gives to a read
+-- the result of reading a name
 abbrev pub within : ℕ → Option (List ℕ) → Result (List ℕ) ShelfError
 within limit None = Err Failed
 within limit (Some bytes) = if nat_le (length bytes) limit then Ok bytes else Err TooLong
 
--- what a read gives
+-- the result of a read
 abbrev pub read_of : ShelfMemory → List ℕ → ℕ → Result (List ℕ) ShelfError
 read_of shelf name limit = if shelf_fails shelf then Err Failed else within limit (file_of shelf.files name)
 
--- a read answers exactly this, but where it would give bytes it may want memory
+-- a read returns exactly this, but instead of bytes it may return `NoMemory`
 abbrev pub Reads : Result (List ℕ) ShelfError → Result Unit ShelfError → List ℕ → Type 0
 Reads (Ok bytes) result into = IsOkUnless result NoMemory × OnOk result (into ≡ bytes)
 Reads (Err error) result into = result ≡ Err error
 
--- the shelf after a read: a listed one counts as failed
+-- the shelf after a read; a listed read counts as failed
 abbrev pub after_read : ShelfMemory → ShelfMemory
 after_read shelf =
     if shelf_fails shelf then record shelf {
@@ -72,8 +73,8 @@ after_read shelf =
       failed_reads = next_count shelf.failed_reads;
     } else counted shelf
 
--- a write fails exactly where it is listed: then the name holds the first half of the bytes, and the
--- write counts as failed; without memory it is only numbered
+-- a write fails exactly if it is listed: then the name has the first half of the bytes, and the write counts as failed;
+-- without memory it is only numbered
 abbrev pub Writes : ShelfMemory → List ℕ → List ℕ → Result Unit ShelfError → ShelfMemory → Type 0
 Writes old name bytes (Ok _) new =
     (shelf_fails old ≡ false) × (new ≡ record (counted old) { files = with_file old.files name bytes })
@@ -85,7 +86,8 @@ Writes old name bytes (Err Failed) new =
 Writes old name bytes (Err NoMemory) new = new ≡ counted old
 Writes old name bytes (Err TooLong) new = ⊥
 
--- what a sink holds and has room for, which of its calls are to fail, and how many calls and faults it had
+-- the bytes and the capacity of a sink, the numbers of its calls that are to fail, and the counts of its calls and
+-- faults
 pub record SinkMemory : Type 0 where
   pub bytes : List ℕ
   pub room : ℕ
@@ -97,15 +99,15 @@ pub record SinkMemory : Type 0 where
 abbrev pub sink_fails : SinkMemory → Bool
 sink_fails sink = is_listed sink.fails (next_count sink.calls)
 
--- how many bytes still fit
+-- the number of bytes that still fit
 abbrev pub room_left : SinkMemory → ℕ
 room_left sink = sink.room - length sink.bytes
 
--- a put succeeds where it isn't listed and all of its bytes fit
+-- a put succeeds if it isn't listed and all of its bytes fit
 abbrev pub can_put : SinkMemory → List ℕ → Bool
 can_put sink piece = not (sink_fails sink) && nat_le (length piece) (room_left sink)
 
--- what a put keeps of its bytes: what fits, and of a listed put at most the first half
+-- the bytes that a put keeps: those that fit, and for a listed put at most the first half
 abbrev pub kept_of : SinkMemory → List ℕ → List ℕ
 kept_of sink piece = take (room_left sink) (if sink_fails sink then first_half piece else piece)
 

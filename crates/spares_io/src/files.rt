@@ -1,5 +1,6 @@
 //! A shelf over the files of a folder.
-ghost use Rattle.std.specs.Prelude.{◌≡◌, ◌≢◌, ◌⊎◌, ◌≤◌, ℕ, List, ◌<◌, ◌^◌, [], length, if◌then◌else◌, IsErrOf, IsOkUnless, OnOk, OnErr, IfSome};
+ghost use Rattle.std.specs.Prelude.{◌≡◌, ◌≢◌, ◌↔◌, ◌⊎◌, ◌≤◌, ℕ, List, ◌<◌, ◌^◌, [], length, if◌then◌else◌, IsErrOf, IsOkUnless, OnOk, OnErr, IfSome};
+ghost use Rattle.std.specs.IoError.{error_kind};
 ghost use Rattle.std.specs.Option.{option_map};
 ghost use Rattle.std.proofs.Common.{arith};
 ghost use Rattle.spares_io.specs.Causes.{Rose, count64, next_count};
@@ -11,9 +12,8 @@ use crate::{Folder, Shelf, ShelfError};
 use std::io;
 use std::io::{ErrorKind, Read};
 
-/// The files of a folder under their names, as those of a runtime under their paths. It doesn't tell
-/// what they hold. It keeps one count of reads that failed and one of writes, each of them that of
-/// every name.
+/// The files of a folder under their names, like a runtime's files under their paths. Their contents are unknown to
+/// contracts. It keeps one count of failed reads and one of failed writes, for all names together.
 #[derive(Drop)]
 pub struct FileShelf<F: Folder + Drop> {
     folder: F,
@@ -22,7 +22,7 @@ pub struct FileShelf<F: Folder + Drop> {
 }
 
 impl<F: Folder + Drop> FileShelf<F> {
-    /// The files of a folder, none of whose reads and writes has failed yet.
+    /// The files of a folder, before any failed read or write.
     pub fn new(folder: F) -> FileShelf<F>
         ensures folder { result.folder ≡ folder }
         ensures reads { (n : List ℕ) → ⟦<FileShelf<F> as Shelf>⟧.read_faults result n ≡ 0 }
@@ -36,9 +36,10 @@ impl<F: Folder + Drop> FileShelf<F> {
     }
 }
 
-/// Want of memory while a file is read is told apart from a read that failed.
+/// Want of memory while a file is read, and only that, is told apart from a read that failed.
 fn read_error(error: &io::Error) -> ShelfError
-    ensures { result ≢ ShelfError.TooLong }
+    ensures memory { (result ≡ ShelfError.NoMemory) ↔ (error_kind error.now ≡ ErrorKind.OutOfMemory) }
+    ensures not_too_long { result ≢ ShelfError.TooLong }
 {
     if error.kind() == ErrorKind::OutOfMemory {
         ShelfError::NoMemory
@@ -47,7 +48,7 @@ fn read_error(error: &io::Error) -> ShelfError
     }
 }
 
-/// Reads what a file has left, and of a file that is longer than the limit one byte more than that.
+/// Reads the rest of a file. If that is longer than the limit, it reads one byte more than the limit.
 fn read_rest<F: Read + Drop>(file: F, limit: usize, into: &mut Vec<u8>) -> Result<(), ShelfError>
     requires empty { into.old.items ≡ [] }
     requires limit { limit < 2 ^ 32 }
@@ -88,7 +89,7 @@ fn read_named<F: Folder>(
     answer
 }
 
-/// Writes these bytes alone into the file of that name.
+/// Writes exactly these bytes into the file of that name.
 fn write_named<F: Folder>(folder: &F, name: &str, bytes: &[u8]) -> Result<(), ShelfError>
     ensures answer { IsOkUnless result ShelfError.Failed }
     ensures content { OnOk result (WritesAll (F.creates folder.now name.now) F.Output.contents bytes.now) }
@@ -97,7 +98,7 @@ fn write_named<F: Folder>(folder: &F, name: &str, bytes: &[u8]) -> Result<(), Sh
     write_and_flush(&mut file, bytes).map_err(|_| ShelfError::Failed)
 }
 
-/// Counts an answer that is a failure, and no other.
+/// Counts a result if it is a failure.
 fn count_failure(faults: &mut u64, answer: Result<(), ShelfError>) -> Result<(), ShelfError>
     ensures answer { result ≡ answer }
     ensures faults { faults.new ≡ (if is_failed answer then next_count faults.old else faults.old) }
@@ -119,7 +120,7 @@ impl<F: Folder + Drop> Shelf for FileShelf<F> {
 
     ghost write_end = { λ s _. Prim.omega arith };
 
-    /// Reads the file. Of one that is longer than `limit` it reads one byte more than that.
+    /// Reads the file. If it is longer than `limit`, reads one byte more than that.
     fn read(&mut self, name: &str, limit: usize, into: &mut Vec<u8>) -> Result<(), ShelfError>
         requires { limit < 2 ^ 32 }
         ensures held { untold ≡ untold }
@@ -142,8 +143,8 @@ impl<F: Folder + Drop> Shelf for FileShelf<F> {
         count_failure(&mut self.read_faults, answer)
     }
 
-    /// Creates the file, or empties the one that is there, and writes these bytes. It answers Ok only
-    /// once they are written and flushed, and else `Failed`.
+    /// Creates or empties the file, and writes these bytes. Returns Ok only once they are written and flushed,
+    /// otherwise `Failed`.
     fn write(&mut self, name: &str, bytes: &[u8]) -> Result<(), ShelfError>
         ensures content { OnOk result (untold ≡ option_map (λ files. with_file files name.now bytes.now) untold) }
         ensures unchanged { IsErrOf result ShelfError.NoMemory → untold ≡ untold }

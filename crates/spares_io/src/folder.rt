@@ -7,12 +7,12 @@ use std::{fs, io};
 
 /// Files under their names, as a runtime opens them.
 pub trait Folder {
-    /// A file that is read.
+    /// A file opened for reading.
     type Input: Read + Drop;
-    /// A file that is written.
+    /// A file opened for writing.
     type Output: Write + Drop;
 
-    /// This is the file of that name, opened to be read from its beginning.
+    /// This is the file of that name, opened for reading from its beginning.
     ghost opens: { Self → List ℕ → Self.Input → Type 0 };
 
     /// This is the file of that name, created or emptied.
@@ -22,12 +22,12 @@ pub trait Folder {
     fn open(&self, name: &str) -> io::Result<Self::Input>
         ensures { IfOk result (opens self.now name.now) };
 
-    /// Creates the file of that name, or empties the one that is there.
+    /// Creates the file of that name, or empties an existing one.
     fn create(&self, name: &str) -> io::Result<Self::Output>
         ensures { IfOk result (creates self.now name.now) };
 }
 
-/// The files of a runtime. What it opens under a name isn't told.
+/// The files of a runtime. Contracts don't know which file it opens under a name.
 impl<'a, R: Files> Folder for &'a R {
     type Input = R::File;
 

@@ -1,4 +1,4 @@
-//! The edge of the planner: names that hold bytes, and a place to put bytes.
+//! The edge of the planner: names that have bytes, and a place to put bytes.
 #![tactic(auto)]
 
 mod files;

@@ -3,8 +3,8 @@ ghost use Rattle.std.specs.Prelude.{◌≡◌};
 
 use std::marker::Model;
 
-/// A vector as its list of elements, for the fields of public types. Making one, and taking its
-/// vector back, needs no memory.
+/// A vector as its list of elements, for the fields of public types. Making one and taking its vector back allocates no
+/// memory.
 #[derive(Debug, Drop)]
 pub struct List<T> {
     items: Vec<T>,

@@ -11,8 +11,8 @@ use crate::{List, NoMemory, Shelf, ShelfError, Text};
 use std::alloc::Global;
 use std::marker::Model;
 
-/// Names that hold bytes in memory. The calls of a list fail. It keeps one count of reads that failed
-/// and one of writes, each of them that of every name; they rise at the listed calls alone.
+/// Named byte strings in memory. Listed calls fail. It keeps one count of failed reads and one of failed writes, for
+/// all names together; they rise only at listed calls.
 #[derive(Drop)]
 pub struct MemShelf {
     alloc: Global,
@@ -38,14 +38,14 @@ impl Model for MemShelf {
     } };
 }
 
-/// Where a name stands in a list of files.
+/// The index of a name in a list of files.
 fn find_place(files: &[(Text, List<u8>)], name: &str) -> Option<usize>
     ensures { result ≡ position (λ file. bytes_eq name.now file.0) files.now }
 {
     files.iter().position(|(key, _)| name == key.as_str())
 }
 
-/// What a name holds in a list of files.
+/// The bytes of a name in a list of files.
 fn find_file<'a>(files: &'a [(Text, List<u8>)], name: &str) -> Option<&'a [u8]>
     ensures { option_map (λ s. s.now) result ≡ file_of (files_of files.now) name.now }
 {
@@ -53,7 +53,7 @@ fn find_file<'a>(files: &'a [(Text, List<u8>)], name: &str) -> Option<&'a [u8]>
     Some(files[place].1.as_slice())
 }
 
-/// Copies what a name holds in a list of files, if it is no longer than the limit.
+/// Copies the bytes of a name in a list of files, if they are no more than the limit.
 fn read_file(
     files: &[(Text, List<u8>)],
     name: &str,
@@ -74,7 +74,7 @@ fn read_file(
     Ok(())
 }
 
-/// Lets a name hold these bytes in a list of files.
+/// Sets the bytes of a name in a list of files.
 fn write_file(
     alloc: Global,
     files: &mut Vec<(Text, List<u8>)>,
@@ -94,7 +94,7 @@ fn write_file(
 }
 
 impl MemShelf {
-    /// Whether no name stands twice among these files, which `new` needs.
+    /// Whether these files have distinct names, which `new` needs.
     pub fn are_distinct(files: &[(Text, List<u8>)]) -> bool
         ensures { result ≡ are_distinct files.now }
     {
@@ -106,8 +106,8 @@ impl MemShelf {
         true
     }
 
-    /// A shelf that holds these files. Its calls are numbered from 1, and those in `fails` fail. Want of memory is the
-    /// only error.
+    /// A shelf with these files. Its calls are numbered from 1, and those in `fails` fail. Want of memory is the only
+    /// error.
     pub fn new(
         alloc: Global,
         files: Vec<(Text, List<u8>)>,
@@ -131,7 +131,7 @@ impl MemShelf {
         })
     }
 
-    /// What a name holds; `None` exactly where it isn't held.
+    /// The bytes of a name; `None` exactly if there is no such name.
     pub fn file(&self, name: &str) -> Option<&[u8]>
         ensures { option_map (λ s. s.now) result ≡ file_of self.now.files name.now }
     {
@@ -154,13 +154,12 @@ impl Shelf for MemShelf {
 
     ghost write_end = { λ s _. Prim.omega arith };
 
-    /// Reads what a name holds.
+    /// Reads the bytes of a name.
     ///
     /// # Errors
     ///
-    /// A listed call answers `Failed` and is counted. Of the others `Failed` comes exactly where the
-    /// name isn't held, `TooLong` exactly where it holds more than `limit` bytes, and `NoMemory` only
-    /// where it holds no more.
+    /// A listed call returns `Failed` and is counted. For other calls, `Failed` comes exactly if there is no such name,
+    /// `TooLong` exactly if it has more than `limit` bytes, and `NoMemory` only otherwise.
     fn read(&mut self, name: &str, limit: usize, into: &mut Vec<u8>) -> Result<(), ShelfError>
         ensures held { Some self.new.files ≡ Some self.old.files }
         ensures content { OnOk result (Holds (Some self.old.files) name.now into.new.items) }
@@ -185,13 +184,12 @@ impl Shelf for MemShelf {
         read_file(self.files.as_slice(), name, limit, into)
     }
 
-    /// Lets a name hold these bytes alone.
+    /// Replaces the bytes of a name.
     ///
     /// # Errors
     ///
-    /// A listed call answers `Failed`, leaves the first half of the bytes, rounded down, under the
-    /// name, and is counted. `NoMemory`, at a listed call too, leaves the names and counts as they
-    /// were.
+    /// A listed call returns `Failed`, leaves the first half of the bytes, rounded down, under the name, and is
+    /// counted. `NoMemory`, also at a listed call, leaves the names and counts unchanged.
     fn write(&mut self, name: &str, bytes: &[u8]) -> Result<(), ShelfError>
         ensures content { OnOk result
             (Some self.new.files ≡ option_map (λ files. with_file files name.now bytes.now) (Some self.old.files)) }

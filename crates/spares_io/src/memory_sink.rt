@@ -9,7 +9,7 @@ use crate::{NoMemory, Sink, SinkFailed};
 use std::alloc::Global;
 use std::marker::Model;
 
-/// Bytes in memory, up to a room that is made at construction. The puts of a list fail.
+/// Bytes in memory, up to a capacity that is set at construction. Listed puts fail.
 #[derive(Drop)]
 pub struct MemSink {
     bytes: Vec<u8>,
@@ -36,8 +36,8 @@ impl Model for MemSink {
 }
 
 impl MemSink {
-    /// A sink with room for this many bytes. Its puts are numbered from 1, and those in `fails` fail. Want of memory is
-    /// the only error.
+    /// A sink with capacity for `room` bytes. Its puts are numbered from 1, and those in `fails` fail. Want of memory
+    /// is the only error.
     pub fn new(alloc: Global, room: usize, fails: Vec<u32>) -> Result<MemSink, NoMemory>
         ensures { IfOk result (λ sink. sink ≡ record {
           bytes = [];
@@ -64,7 +64,7 @@ impl MemSink {
     }
 }
 
-/// How many bytes of a piece a put keeps if they fit: of one that is to fail the first half.
+/// The number of bytes of a piece that a put keeps if they fit: all, or the first half if the put is to fail.
 fn kept_len(is_listed: bool, len: usize) -> usize
     ensures { result ≡ (if is_listed then len / 2 else len) }
 {
@@ -81,12 +81,12 @@ impl Sink for MemSink {
 
     ghost end = { λ s. Prim.omega arith };
 
-    /// Puts these bytes. A put that doesn't fit the room keeps what fits, and a listed one at most
-    /// the first half of its bytes, rounded down.
+    /// Puts these bytes. A put that doesn't fit keeps the bytes that do, and a listed put at most the first half of its
+    /// bytes, rounded down.
     ///
     /// # Errors
     ///
-    /// `SinkFailed` exactly where the put is listed or doesn't fit. The count rises at these alone.
+    /// `SinkFailed` exactly if the put is listed or doesn't fit. The count rises only then.
     fn put(&mut self, piece: &[u8]) -> Result<(), SinkFailed>
         ensures whole { OnOk result (Gains (Some self.old.bytes) (Some self.new.bytes) piece.now) }
         ensures part { OnErr result (GainsPart (Some self.old.bytes) (Some self.new.bytes) piece.now) }

@@ -1,9 +1,9 @@
-//! Which calls of a shelf or a sink in memory are to fail.
+//! The calls of a shelf or a sink in memory that are to fail.
 ghost use Rattle.std.specs.Prelude.{◌≡◌};
 ghost use Rattle.spares_io.specs.Causes.{next_count};
 ghost use Rattle.spares_io.specs.Memory.{is_listed};
 
-/// The numbers of the calls that are to fail, and how many calls there were.
+/// The numbers of the calls that are to fail, and the number of calls so far.
 #[derive(Drop)]
 pub(crate) struct Schedule {
     fails: Vec<u32>,
@@ -11,7 +11,7 @@ pub(crate) struct Schedule {
 }
 
 impl Schedule {
-    /// The calls of these numbers are to fail, and none has come yet.
+    /// A schedule by which the calls of these numbers fail, before the first call.
     pub(crate) fn new(fails: Vec<u32>) -> Schedule
         ensures fails { result.fails.items ≡ fails.items }
         ensures calls { result.calls ≡ 0 }
@@ -19,8 +19,8 @@ impl Schedule {
         Schedule { fails, calls: 0 }
     }
 
-    /// Numbers the next call, and says whether it is to fail. The number stands still at
-    /// `u64::MAX`, past all that can be listed.
+    /// Numbers the next call, and returns whether it is to fail. The number stops at `u64::MAX`, after all that can be
+    /// listed.
     pub(crate) fn begin_call(&mut self) -> bool
         ensures fails { self.new.fails.items ≡ self.old.fails.items }
         ensures calls { self.new.calls ≡ next_count self.old.calls }

@@ -1,4 +1,4 @@
-//! Names that hold bytes.
+//! Names that have bytes.
 ghost use Rattle.std.specs.Prelude.{◌≡◌, ◌⊎◌, ◌<◌, ◌≤◌, ◌^◌, List, [], ℕ, Option, length, OnOk, OnErr, IsErrOf};
 ghost use Rattle.std.specs.Option.{option_map};
 ghost use Rattle.spares_io.specs.Causes.{Rose, Fits64};
@@ -13,9 +13,9 @@ use std::alloc::{AllocError, AllocFailed};
 pub enum ShelfError {
     /// It found no memory.
     NoMemory,
-    /// The outside failed, or a name that is read isn't held.
+    /// The outside failed, or there is no such name to read.
     Failed,
-    /// The name holds more bytes than the limit.
+    /// The name has more bytes than the limit.
     TooLong,
 }
 
@@ -43,26 +43,25 @@ impl<T: Drop> From<AllocFailed<T>> for ShelfError {
     }
 }
 
-/// Names that hold bytes, as a folder's files do. A shelf that tells what it holds goes on telling
-/// it. Each name has a count of reads that failed and one of writes, which never fall, and stand
-/// still at a call that answers Ok.
+/// Names that have bytes, like the files of a folder. Contracts may know the contents of a shelf; if they do, they know
+/// them after each call. Each name has a count of failed reads and one of failed writes, which never fall, and don't
+/// change at a call that returns Ok.
 pub trait Shelf {
-    /// What the names hold, where the shelf tells it.
+    /// The bytes of the names, if contracts know them.
     ghost held: { Self → Option Files };
 
-    /// How many reads of a name have failed, up to `u64::MAX`.
+    /// The number of failed reads of a name, up to `u64::MAX`.
     ghost read_faults: { Self → List ℕ → ℕ };
 
-    /// How many writes of a name have failed, up to `u64::MAX`.
+    /// The number of failed writes of a name, up to `u64::MAX`.
     ghost write_faults: { Self → List ℕ → ℕ };
 
-    /// Puts into `into` what a name holds, if it is at most `limit` bytes. What `into` held before
-    /// is gone, and after an error it is empty.
+    /// Overwrites `into` with the bytes of a name, if they are at most `limit`. After an error `into` is empty.
     ///
     /// # Errors
     ///
-    /// `TooLong` where the name holds more bytes than that; `Failed` where the outside fails, which
-    /// is counted, or where the shelf tells that it hasn't the name; `NoMemory`.
+    /// `TooLong` if the name has more bytes than that; `Failed` if the outside fails, which is counted, or if the shelf
+    /// is known not to have the name; `NoMemory`.
     fn read(&mut self, name: &str, limit: usize, into: &mut Vec<u8>) -> Result<(), ShelfError>
         requires { limit < 2 ^ 32 }
         ensures held { held self.new ≡ held self.old }
@@ -76,12 +75,12 @@ pub trait Shelf {
         ensures still { OnOk result ((n : List ℕ) → read_faults self.new n ≡ read_faults self.old n) }
         ensures writes { (n : List ℕ) → write_faults self.new n ≡ write_faults self.old n };
 
-    /// Lets a name hold these bytes alone. All other names stay as they are.
+    /// Replaces the bytes of a name. All other names stay unchanged.
     ///
     /// # Errors
     ///
-    /// `Failed` where the outside fails, which is counted: that name may then hold anything.
-    /// `NoMemory`, which leaves all names as they are. It never answers `TooLong`.
+    /// `Failed` if the outside fails, which is counted: that name may then have any bytes. `NoMemory` leaves all names
+    /// unchanged. Never returns `TooLong`.
     fn write(&mut self, name: &str, bytes: &[u8]) -> Result<(), ShelfError>
         ensures content { OnOk result
             (held self.new ≡ option_map (λ files. with_file files name.now bytes.now) (held self.old)) }

@@ -4,24 +4,24 @@ ghost use Rattle.std.specs.Io.KnownBytes.{append_known};
 ghost use Rattle.spares_io.specs.Causes.{Rose, Fits64};
 ghost use Rattle.spares_io.specs.Sink.{Gains, GainsPart};
 
-/// A put failed. What it put is a prefix.
+/// A put failed. A prefix of its bytes was put.
 #[derive(Clone, Copy, Debug, PartialEq, Eq)]
 pub struct SinkFailed;
 
-/// A place to put bytes, as a report. A sink that tells its bytes goes on telling them. Its count of
-/// puts that failed rises at those alone.
+/// A place to put bytes, such as a report. Contracts may know its bytes; if they do, they know them after each call.
+/// Its count of failed puts rises only at those.
 pub trait Sink {
-    /// All bytes that were put, where the sink tells them.
+    /// All bytes that were put, if contracts know them.
     ghost bytes: { Self → Option (List ℕ) };
 
-    /// How many puts have failed, up to `u64::MAX`.
+    /// The number of failed puts, up to `u64::MAX`.
     ghost faults: { Self → ℕ };
 
-    /// Puts these bytes behind those that are there. It takes no memory that could be refused.
+    /// Appends these bytes. Needs no memory that could be refused.
     ///
     /// # Errors
     ///
-    /// `SinkFailed` where the outside fails, which is counted: a prefix of the bytes may be there.
+    /// `SinkFailed` if the outside fails, which is counted: a prefix of the bytes may be there.
     fn put(&mut self, piece: &[u8]) -> Result<(), SinkFailed>
         ensures whole { OnOk result (Gains (bytes self.old) (bytes self.new) piece.now) }
         ensures part { OnErr result (GainsPart (bytes self.old) (bytes self.new) piece.now) }

@@ -9,7 +9,7 @@ use crate::{Sink, SinkFailed};
 use std::io;
 use std::io::Write;
 
-/// A writer, as the standard output. It doesn't tell what it holds.
+/// A writer, such as the standard output. Its bytes are unknown to contracts.
 #[derive(Drop)]
 pub struct StdSink<W: Write + Drop> {
     writer: W,
@@ -17,7 +17,7 @@ pub struct StdSink<W: Write + Drop> {
 }
 
 impl<W: Write + Drop> StdSink<W> {
-    /// A sink over this writer, none of whose puts has failed yet.
+    /// A sink over this writer, before any failed put.
     pub fn new(writer: W) -> StdSink<W>
         ensures faults { ⟦<StdSink<W> as Sink>⟧.faults result ≡ 0 }
         ensures writer { result.writer ≡ writer }
@@ -26,7 +26,7 @@ impl<W: Write + Drop> StdSink<W> {
     }
 }
 
-/// Writes these bytes, all of them, and flushes the writer.
+/// Writes all these bytes, and flushes the writer.
 pub(crate) fn write_and_flush<W: Write>(writer: &mut W, bytes: &[u8]) -> io::Result<()>
     ensures { OnOk result (Appends (W.contents writer.old) (W.contents writer.new) bytes.now) }
 {
@@ -41,11 +41,11 @@ impl<W: Write + Drop> Sink for StdSink<W> {
 
     ghost end = { λ s. Prim.omega arith };
 
-    /// Writes these bytes, and flushes the writer before it answers Ok.
+    /// Writes these bytes, and flushes the writer before it returns Ok.
     ///
     /// # Errors
     ///
-    /// `SinkFailed` where the writer or its flush fails, which is counted.
+    /// `SinkFailed` if the writer or its flush fails, which is counted.
     fn put(&mut self, piece: &[u8]) -> Result<(), SinkFailed>
         ensures whole { OnOk result (Gains None None piece.now) }
         ensures part { OnErr result (GainsPart None None piece.now) }

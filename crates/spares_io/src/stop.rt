@@ -4,16 +4,16 @@ ghost use Rattle.spares_io.specs.declared.stop.Stop.TheVariants as stop;
 
 use std::alloc::{AllocError, AllocFailed};
 
-/// A call found no memory. It is merged with no other answer.
+/// A call found no memory. No other result is merged with it.
 #[derive(Clone, Copy, Debug, PartialEq, Eq)]
 pub struct NoMemory;
 
-/// Why a call that takes memory gave no value.
+/// Why a call that needs memory returned no value.
 #[derive(Clone, Copy, Debug, PartialEq, Eq, Drop)]
 pub enum Stop<E> {
     /// It found no memory.
     NoMemory,
-    /// It refuses its arguments, by a fault of its own.
+    /// It refuses its arguments, by a fault.
     Fault(E),
 }
 

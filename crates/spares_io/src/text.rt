@@ -6,7 +6,7 @@ use std::alloc::Global;
 use std::convert::AsStr;
 use std::marker::Model;
 
-/// A text of its own, as a word of the command line or the name of a file.
+/// An owned text, such as a word of the command line or the name of a file.
 #[derive(Debug, Drop)]
 pub struct Text {
     chars: String,
@@ -29,7 +29,7 @@ impl Text {
         Ok(Text { chars })
     }
 
-    /// The text as it stands.
+    /// The text.
     pub fn as_str(&self) -> &str
         ensures { result.now ≡ self.now }
     {

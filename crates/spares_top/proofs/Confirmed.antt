@@ -1,8 +1,12 @@
 -- What a check confirms.
-use Rattle.std.proofs.Common.{◌≡◌, ap, arith, refl, subst, sym, Bool, true, false, Option, Some, None, Ok, Err, ℕ, List, if◌then◌else◌}
+use Rattle.std.proofs.Common.{◌≡◌, ◌∙◌, ◌^◌, ◌≤◌, ap, arith, refl, subst, sym, Bool, true, false, Option, Some, None, Ok, Err, ℕ, List, if◌then◌else◌}
+use Rattle.std.specs.Option.{option_map}
+use Rattle.exact_model.specs.Fraction.{Contains, Fraction, whole, ◌*ℚ◌, ◌≤ℚ◌}
+use Rattle.fixed_interval.specs.Text.{text_value}
+use Rattle.fixed_interval.proofs.Laws.{up_above}
 use Rattle.spares_input.specs.Cases.{CaseRows, frame_rows}
 use Rattle.spares_input.specs.First.{unless}
-use Rattle.spares_input.specs.Stocks.{StockList, nothing_held}
+use Rattle.spares_input.specs.Stocks.{StockList, IsFor, cost_of, nothing_held}
 use Rattle.spares_io.specs.declared.stop.Stop.{Stop}
 use Rattle.spares_io.specs.declared.stop.Stop.TheVariants as stop
 use Rattle.price_certificate.specs.declared.certificate.Objective.{Objective}
@@ -10,17 +14,23 @@ use Rattle.price_certificate.specs.declared.certificate.Objective.TheVariants.{B
 use Rattle.case_plan.specs.Truth.{NoneHasLessThanPrinted}
 use Rattle.certified_bounds.specs.Laws.{claims_of}
 use Rattle.certified_bounds.proofs.Accepted.{accepted_true, plain_true}
-use Rattle.certified_plan.specs.Scores.{ends_of, value_of}
+use Rattle.gap_checker.specs.Scores.{ends_of, value_of}
 use Rattle.fleet_plan.specs.Plans.{AreTrueClaims, ArePlainClaims}
-use Rattle.gap_checker.specs.Refusals.{judged, reject_of}
+use Rattle.gap_checker.specs.Refusals.{cost_above, judged, reject_of}
+use Rattle.gap_checker.proofs.Acceptable.{breaks_none}
+use Rattle.gap_checker.proofs.Costs.{added_is}
 use Rattle.gap_checker.specs.declared.refusal.Accepted.{Accepted}
 use Rattle.gap_checker.specs.declared.refusal.Reject.{Reject}
 use Rattle.plan_report.specs.Fits.{FitsCheck}
+use Rattle.plan_report.specs.Texts.{millionths_up}
 use Rattle.refusals.specs.Causes.{or_refuse}
 use Rattle.refusals.specs.Lines.{no_names}
 use Rattle.refusals.specs.declared.failure.Failure.{Failure}
 use Rattle.refusals.specs.declared.refusal.Refusal.TheVariants as refusal
-use Rattle.fleet_model.specs.Aims.{aim}
+use Rattle.fleet_model.specs.Aims.{aim, cost_beyond}
+use Rattle.fleet_model.specs.Fleet.{cost}
+use Rattle.fleet_model.proofs.AllocationLaws.{cost_holds}
+use Rattle.fleet_plan.proofs.Costs.{families_beyond}
 use Rattle.case_plan.proofs.Truths.{below_printed}
 use Rattle.case_tables.proofs.Refuse.{is_of_task}
 use Rattle.certified_plan.proofs.Scores.{scores_enclose}
@@ -32,6 +42,7 @@ use Rattle.spares_top.specs.declared.done.Done.TheVariants.{Checked}
 use Rattle.spares_top.proofs.Stops.{claimed_refuses}
 use Rattle.spares_top.specs.Checking.{IsClaim, TellsClaim, claimed_by}
 use Rattle.spares_top.specs.Checks.{check_of, claimed_of, form_of, judged_of}
+use Rattle.spares_top.specs.Headline.{HasNoMoreThanPrinted}
 use Rattle.spares_top.specs.Held.{held_in}
 use Rattle.spares_top.specs.declared.check.Claim.{Claim}
 
@@ -52,6 +63,20 @@ none_by (Some reject) a b e = grind (arith, e)
 pub off_by : (held : StockList) (on_hand : Bool) → (if on_hand then Some held else None) ≡ None → on_hand ≡ false
 off_by held false e = refl
 off_by held true e = grind (arith, e)
+
+-- a value that is at most an upper end in units of 2^-48 is at most the end's printed number
+upper_contains : (upper : ℕ) (q : Fraction) → q *ℚ whole (2 ^ 48) ≤ℚ whole upper → Contains 48 0 upper q
+unfolding whole ◌*ℚ◌
+upper_contains upper q h = record { low = omega arith; high = (let c = h.cross in omega (arith, c)) }
+
+above_printed : (upper : ℕ) (q : Fraction) → q *ℚ whole (2 ^ 48) ≤ℚ whole upper → q ≤ℚ text_value 6 (millionths_up 48 upper)
+above_printed upper q h = up_above 48 6 (record { lo = 0; hi = upper }) q (upper_contains upper q h)
+
+-- the cost of stocks on hand, in the words of the model
+on_hand_cost : (c : CaseRows) (held : StockList) (on_hand : Bool) → IsFor c held
+    → option_map (cost_of c) (if on_hand then Some held else None) ≡ option_map (λ (s : StockList). cost c s.list) (if on_hand then Some held else None)
+on_hand_cost c held true h = ap Some (sym (cost_holds c held h))
+on_hand_cost c held false h = refl
 
 module _ (x : Claim) (h : IsClaim x) (bytes : List ℕ) (form : form_of bytes ≡ Ok (claimed_by x)) where
   abbrev aimed : Objective
@@ -78,6 +103,18 @@ module _ (x : Claim) (h : IsClaim x) (bytes : List ℕ) (form : form_of bytes �
     printed : NoneHasLessThanPrinted (value_of aimed) x.certificate.case (held_in x.certificate.case (claimed_by x).on_hand).list x.certificate.budget x.certificate.bound
     printed n deep s a f = below_printed x.certificate.bound (aim (value_of aimed) x.certificate.case s n) (says.none_less n deep s a f)
 
+    printed_upper : HasNoMoreThanPrinted (value_of aimed) x.certificate.case x.certificate.stocks.list x.certificate.upper
+    printed_upper n deep = above_printed x.certificate.upper (aim (value_of aimed) x.certificate.case x.certificate.stocks.list n) (says.no_more n deep)
+
+    own_cost : cost_above x.certificate.case x.held x.certificate.stocks ≡ cost_beyond x.certificate.case x.held.list x.certificate.stocks.list
+    own_cost =
+        sym (added_is x.certificate.case x.held x.certificate.stocks h.formed.case h.whole h.formed.stocks (breaks_none (ends_of aimed) x.certificate x.held none).kept)
+        ∙ families_beyond x.certificate.case x.held.list x.certificate.stocks.list h.formed.case
+
+    cost_is : cost_above x.certificate.case (held_in x.certificate.case (claimed_by x).on_hand) x.certificate.stocks
+        ≡ cost_beyond x.certificate.case (held_in x.certificate.case (claimed_by x).on_hand).list x.certificate.stocks.list
+    cost_is = subst (λ (held : StockList). cost_above x.certificate.case held x.certificate.stocks ≡ cost_beyond x.certificate.case held.list x.certificate.stocks.list) (sym (held_is x h)) own_cost
+
     plainly : aimed ≡ Backorders → (claimed_by x).on_hand ≡ None → ArePlainClaims x.certificate.case x.certificate.budget (claims_of x.certificate)
     plainly o off =
         plain_true x.certificate h.formed
@@ -96,7 +133,15 @@ module _ (x : Claim) (h : IsClaim x) (bytes : List ℕ) (form : form_of bytes �
       is_true = record {
         report = check_of (claimed_by x);
         is = refl;
-        holds = record { report_is = refl; says = says; printed = printed; plainly = plainly };
+        holds = record {
+          report_is = refl;
+          says = says;
+          printed = printed;
+          printed_upper = printed_upper;
+          cost_is = cost_is;
+          on_hand_is = on_hand_cost x.certificate.case x.held x.on_hand h.whole;
+          plainly = plainly;
+        };
       };
       prints = fits;
     }

@@ -1,6 +1,7 @@
 -- What a demonstration shows.
-use Rattle.std.proofs.Common.{refl, subst, sym, ℕ, ◌≤◌, Ok}
-use Rattle.exact_model.specs.Fraction.{Encloses}
+use Rattle.std.proofs.Common.{◌≡◌, refl, subst, sym, ℕ, ◌+◌, ◌≤◌, List, Ok}
+use Rattle.exact_model.specs.Fraction.{Encloses, ◌≤ℚ◌}
+use Rattle.fixed_interval.specs.Text.{text_value}
 use Rattle.spares_input.specs.Cases.{CaseRows}
 use Rattle.case_maker.specs.Demonstration.{made}
 use Rattle.case_maker.proofs.Valid.{made_valid}
@@ -15,16 +16,18 @@ use Rattle.certified_plan.proofs.Zeros.{none_is_held}
 use Rattle.demo_accepts.proofs.Accepted.{faultless}
 use Rattle.demonstration.specs.Demonstrations.{IsDemonstrated, budget_of, demo_terms}
 use Rattle.demonstration.proofs.Told.{are_terms, demo_work, zeros_hold}
-use Rattle.fleet_model.specs.Fleet.{total}
+use Rattle.fleet_model.specs.Fleet.{IsAllocation, cost, total}
 use Rattle.fleet_plan.specs.Laws.{IsAcceptedCase}
 use Rattle.fleet_plan.specs.Plans.{CasePlan, IsPlainPlan}
 use Rattle.fleet_plan.proofs.Plain.{plain_plan}
 use Rattle.plan_report.specs.Fits.{FitsSummary}
+use Rattle.plan_report.specs.Texts.{millionths_down}
 use Rattle.plan_report.specs.declared.summary.Summary.{Summary}
 use Rattle.spares_top.specs.Headline.{IsTrueDemo}
 use Rattle.spares_top.specs.Making.{Is, IsMade}
 use Rattle.spares_top.specs.Task.{demonstrate, printed}
 use Rattle.spares_top.specs.declared.done.Done.TheVariants.{Demo}
+use Rattle.spares_top.proofs.Shown.{shown}
 use Rattle.family_curve.specs.Points.{plain_ends}
 use Rattle.spares_input.specs.Stocks.{nothing_held}
 
@@ -52,19 +55,28 @@ module _ (number lines : ℕ) (few : lines ≤ 80) (summary : Summary) (h : IsDe
   encloses : Encloses 48 summary.total.lo summary.total.hi (total case plan.stocks)
   encloses = subst (λ (z : Summary). Encloses 48 z.total.lo z.total.hi (total case plan.stocks)) (sym h.is) report.shows.total_in.encloses
 
+  printed_bound : (n : ℕ) → 1024 ≤ n → (s : List ℕ) → IsAllocation case s → cost case s ≤ budget_of lines
+      → text_value 6 (millionths_down 48 summary.bound) ≤ℚ total case s n
+  printed_bound n deep s a f = subst (λ (z : Summary). text_value 6 (millionths_down 48 z.bound) ≤ℚ total case s n) (sym h.is) (report.printed n deep s a f)
+
+  gap : summary.bound + summary.gap ≡ summary.total.hi
+  gap = subst (λ (z : Summary). z.bound + z.gap ≡ z.total.hi) (sym h.is) report.gap
+
   is_true : IsTrueDemo number lines summary
   is_true = record {
     plan = plan;
     accepted = is_accepted;
     is = h.is;
     says = says;
-    encloses = encloses;
+    shows = shown summary.total (total case plan.stocks) encloses;
+    printed = printed_bound;
+    gap = gap;
     acceptable = accepted case (nothing_held case) (demo_terms (budget_of lines)) plan on_plan (demo_work number lines case (nothing_held case) few refl refl);
   }
 
   -- the summary of a demonstration is what its task asks for
-  pub shown : FitsSummary summary → IsMade (Is (Ok (demonstrate number lines))) (printed (Demo summary))
-  shown fits = record {
+  pub demonstrated : FitsSummary summary → IsMade (Is (Ok (demonstrate number lines))) (printed (Demo summary))
+  demonstrated fits = record {
     task = demonstrate number lines;
     is_due = refl;
     fulfils = record { report = summary; is = refl; holds = h };

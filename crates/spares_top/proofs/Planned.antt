@@ -1,5 +1,5 @@
 -- What a plan makes is what its task asks for, and it is true.
-use Rattle.std.proofs.Common.{◌≡◌, ◌∙◌, ap, ap₂, refl, subst, sym, Bool, true, false, Option, Some, None, Result, Ok, ℕ, ◌≤◌, List, length, if◌then◌else◌}
+use Rattle.std.proofs.Common.{◌≡◌, ◌∙◌, ap, ap₂, refl, subst, sym, Bool, true, false, Option, Some, None, Result, Ok, ℕ, ◌+◌, ◌≤◌, List, length, if◌then◌else◌}
 use Rattle.spares_input.specs.Cases.{CaseRows, IsCase}
 use Rattle.spares_input.specs.Stocks.{StockList, IsFor, IsWithinLimits, nothing_held}
 use Rattle.case_plan.specs.Report.{IsOutcome, IsPlanned, outcome_of, report_of}
@@ -15,9 +15,10 @@ use Rattle.case_plan.specs.Report as reports
 use Rattle.family_curve.specs.Counts.{work_of}
 use Rattle.on_hand.proofs.Kept.{all_work}
 use Rattle.std.specs.Result.{IsOk}
-use Rattle.certified_plan.specs.Laws.{IsPlanOn}
-use Rattle.certified_plan.specs.Scores.{ends_of, value_of}
+use Rattle.certified_plan.specs.Laws.{IsPlanOn, NoCertificateShowsMore}
+use Rattle.gap_checker.specs.Scores.{ends_of, value_of}
 use Rattle.certified_plan.proofs.Accepted.{accepted}
+use Rattle.certified_plan.proofs.Nearest.{nearest}
 use Rattle.certified_plan.proofs.Scores.{scores_enclose, scores_leave_room}
 use Rattle.certified_plan.proofs.Short.{held_short, text_short}
 use Rattle.fleet_plan.specs.Laws.{IsAcceptedCase}
@@ -35,6 +36,7 @@ use Rattle.price_certificate.specs.Certificates.{IsWellFormed, cert_text, certif
 use Rattle.price_certificate.specs.declared.certificate.Certificate.{Certificate}
 use Rattle.price_certificate.proofs.Inverse.{again}
 use Rattle.demonstration.proofs.Told.{zeros_hold}
+use Rattle.plan_report.specs.declared.plan.PlanReport.{PlanReport}
 use Rattle.spares_top.specs.Making.{Is, IsMade}
 use Rattle.spares_top.specs.Task.{make_plan}
 use Rattle.spares_top.specs.declared.done.Done.TheVariants.{Planned}
@@ -136,6 +138,12 @@ module _ (g : Ground) (h : IsGround g) (terms : AreTerms g.terms) where
         nothing : IsNothing g.held.list
         nothing = subst (λ (held : StockList). IsNothing held.list) (sym (h.nothing (off_by g.held g.on_hand off))) (zeros_hold g.case)
 
+    -- no accepted certificate shows more than the report's bound and rounding
+    no_certificate : NoCertificateShowsMore g.case (held_of x) g.terms (o.report.bound + o.report.rounding)
+    no_certificate =
+        subst (λ (held : StockList). NoCertificateShowsMore g.case held g.terms (o.report.bound + o.report.rounding)) (sym held_is)
+        (subst (λ (r : PlanReport). NoCertificateShowsMore g.case g.held g.terms (r.bound + r.rounding)) (sym report.is) (nearest g.case g.held g.terms plan on_plan))
+
     acceptable : reject_of (ends_of aimed) (plan_certificate x plan) (held_of x) ≡ None
     acceptable =
         subst (λ (held : StockList). reject_of (ends_of aimed) (certificate_of g.case held g.terms (claims_of g.case plan)) held ≡ None) (sym held_is)
@@ -192,6 +200,7 @@ module _ (g : Ground) (h : IsGround g) (terms : AreTerms g.terms) where
           accepted = valid;
           says = says;
           plainly = plainly;
+          no_certificate = no_certificate;
           prints = span_prints 48;
           written = rw text_is refl;
           acceptable = acceptable;

@@ -16,6 +16,7 @@ use Rattle.metric_compare.specs.Shows.{ShowsComparison}
 use Rattle.metric_compare.specs.declared.report.CompareReport.{CompareReport}
 use Rattle.spares_top.specs.Headline.{IsTrueComparison, PrintsAround, Shows, ShowsCase, ShowsModel}
 
+-- the two printed numbers of an interval enclose what the interval does
 pub shown : (x : Ends) (value : ℕ → Fraction) → Encloses 48 x.lo x.hi value → Shows x value
 shown x value h = record {
   encloses = h;

@@ -268,6 +268,7 @@ module _ (outcome : Outcome) (old mid new : Scene) (b : IsBefore old mid new) wh
       is_due = due_still;
       outcome = outcome;
       fulfils = made.fulfils;
+      is_true = made.is_true;
       failed = failed_from h;
     })
 

@@ -1,4 +1,4 @@
--- The answer to an order: a report or a refusal, with its cause, and what it leaves.
+-- The answer to an order: a report or a refusal, with its cause, and the state after it.
 use Rattle.std.specs.Prelude.{◌≡◌, ℕ, List, IsOk, Result, Ok, Err}
 use Rattle.spares_words.specs.declared.order.Order.{Order}
 use Rattle.spares_words.specs.declared.order.WordsFault.{WordsFault}
@@ -12,12 +12,12 @@ use Rattle.spares_top.specs.Headline.{IsTrue}
 use Rattle.spares_top.specs.State.{HasDelivered, HasFailed, IsUntouched, Scene}
 use Rattle.spares_top.specs.Task.{Fulfils, Task, task_on_words}
 
--- The bytes that the inputs of an order gave. Where the shelf tells what it holds, these are the bytes that it holds;
--- where it doesn't, they are some bytes, and all that is said of one answer is said of the same ones.
+-- The bytes of an order's inputs. If the contents of the shelf are known, these are the bytes that it holds. If they
+-- aren't, these are some bytes, and every statement about one answer is about the same bytes.
 pub record HaveGiven (order : Result Order WordsFault) (old new : Scene) (bytes : List (List ℕ)) : Type 0 where
   pub reads : Reads old.held old.read_faults new.read_faults (inputs_of order) (Ok bytes)
 
--- this task is due, on the bytes that the inputs gave
+-- this task is due, on the bytes of the inputs
 pub record IsDue (order : Result Order WordsFault) (old new : Scene) (task : Task) : Type 0 where
   pub bytes : List (List ℕ)
   pub given : HaveGiven order old new bytes
@@ -33,19 +33,19 @@ pub record IsDone (order : Result Order WordsFault) (old new : Scene) (done : Do
   pub is_true : IsTrue task outcome
   pub delivered : HasDelivered outcome old new
 
--- the words give no order
+-- the words are no order
 pub record IsWordless (order : Result Order WordsFault) (fault : WordsFault) (old new : Scene) (failure : Failure) :
     Type 0 where
   pub order_is : order ≡ Err fault
   pub failure_is : failure ≡ plain_failure (refusal.Words fault)
   pub untouched : IsUntouched old new
 
--- an input wasn't read, after those before it gave their bytes
+-- an input wasn't read, after all inputs before it were
 pub record IsUnreadable (order : Result Order WordsFault) (old new : Scene) (failure : Failure) : Type 0 where
   pub stops : StopsAt old.held old.read_faults new.read_faults (inputs_of order) failure
   pub untouched : IsUntouched old new
 
--- the task is refused, on the bytes that the inputs gave
+-- the task is refused, on the bytes of the inputs
 pub record IsRefused (order : Result Order WordsFault) (old new : Scene) (failure : Failure) : Type 0 where
   pub bytes : List (List ℕ)
   pub given : HaveGiven order old new bytes
@@ -53,13 +53,15 @@ pub record IsRefused (order : Result Order WordsFault) (old new : Scene) (failur
   pub has_order : IsOk order
   pub untouched : IsUntouched old new
 
--- the outcome of a task that is due could not be delivered
+-- The outcome of a due task could not be delivered. It fulfils the task and is true of it, so if the put failed, the
+-- written certificate is true of its case.
 pub record IsUndelivered (order : Result Order WordsFault) (old new : Scene) (failure : Failure) : Type 0 where
   pub failure_is : failure ≡ plain_failure refusal.WriteFault
   pub task : Task
   pub is_due : IsDue order old new task
   pub outcome : Outcome
   pub fulfils : Fulfils task outcome
+  pub is_true : IsTrue task outcome
   pub failed : HasFailed outcome old new
 
 -- there was no memory
@@ -67,7 +69,7 @@ pub record IsWant (old new : Scene) (failure : Failure) : Type 0 where
   pub failure_is : failure ≡ plain_failure refusal.NoMemory
   pub untouched : IsUntouched old new
 
--- A refusal answers the order by its kind.
+-- A refusal answers the order, by the kind of its cause.
 abbrev pub RefusesBy : Result Order WordsFault → Scene → Scene → Failure → Kind → Type 0
 RefusesBy order old new failure (of_words fault) = IsWordless order fault old new failure
 RefusesBy order old new failure (of_reading file) = IsUnreadable order old new failure
@@ -75,7 +77,7 @@ RefusesBy order old new failure of_task = IsRefused order old new failure
 RefusesBy order old new failure of_writing = IsUndelivered order old new failure
 RefusesBy order old new failure of_memory = IsWant old new failure
 
--- A report, or a refusal by its kind.
+-- A report, or a refusal by the kind of its cause.
 abbrev pub Answers : Result Order WordsFault → Scene → Scene → Result Done Failure → Type 0
 Answers order old new (Ok done) = IsDone order old new done
 Answers order old new (Err failure) = RefusesBy order old new failure (kind_of failure.refusal)

@@ -1,4 +1,4 @@
--- How the calls that check answer. No promise of the crate rests on these words.
+-- The answers of the calls that check. No promise of the crate rests on these words.
 use Rattle.std.specs.Prelude.{◌≡◌, ⊤, false, Some, None, Result, Ok, Err, if◌then◌else◌}
 use Rattle.price_certificate.specs.Certificates.{IsWellFormed}
 use Rattle.price_certificate.specs.declared.fault.CertFault.{CertFault}
@@ -12,18 +12,18 @@ use Rattle.spares_io.specs.declared.stop.Stop.TheVariants as stop
 use Rattle.spares_top.specs.declared.check.Claim.{Claim}
 use Rattle.spares_top.specs.Checks.{Claimed}
 
--- what a claim claims
+-- the contents of a claim
 abbrev pub claimed_by : Claim → Claimed
 claimed_by x = record { certificate = x.certificate; on_hand = if x.on_hand then Some x.held else None }
 
--- the certificate is well formed, and what is held is within the limits of its case, and nothing where none is on hand
+-- the certificate is well formed, and the held stocks are within the limits of its case, and zeros if none are on hand
 pub record IsClaim (x : Claim) : Type 0 where
   pub formed : IsWellFormed x.certificate
   pub whole : IsFor x.certificate.case x.held
   pub limits : IsWithinLimits x.certificate.case x.held
   pub nothing : x.on_hand ≡ false → x.held ≡ nothing_held x.certificate.case
 
--- the claim of bytes, or why there is none, as a refusal
+-- the claim of bytes, or the reason why there is none, as a refusal
 abbrev pub TellsClaim : Result Claimed CertFault → Result Claim (Stop Failure) → Type 0
 TellsClaim given (Ok x) = given ≡ Ok (claimed_by x)
 TellsClaim given (Err stop.NoMemory) = ⊤

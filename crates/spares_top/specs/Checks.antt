@@ -1,7 +1,7 @@
--- Checks: what the bytes of a certificate claim, and the report of its check.
+-- Checks: the claims of a certificate's bytes, and the report of its check.
 use Rattle.std.specs.Prelude.{ℕ, List, Option, Some, None, Result, Ok, Err, if◌then◌else◌}
 use Rattle.std.specs.Option.{option_map}
-use Rattle.certified_plan.specs.Scores.{ends_of}
+use Rattle.gap_checker.specs.Scores.{ends_of}
 use Rattle.gap_checker.specs.Refusals.{cost_above, judged}
 use Rattle.gap_checker.specs.declared.refusal.Accepted.{Accepted}
 use Rattle.gap_checker.specs.declared.refusal.Reject.{Reject}
@@ -20,32 +20,32 @@ use Rattle.spares_input.specs.Stocks.{StockList, cost_of}
 use Rattle.spares_io.specs.Steps.{◌>>=◌}
 use Rattle.spares_top.specs.Held.{held_in}
 
--- What a certificate claims, and the stocks on hand where it begins with them.
+-- The contents of a certificate, with the stocks on hand if it begins with them.
 pub record Claimed : Type 0 where
   pub certificate : Certificate
   pub on_hand : Option StockList
 
--- ---- what bytes claim
+-- ---- the claims of bytes
 
--- a held certificate as what is claimed, with the stocks on hand that it begins with
+-- the contents of a held certificate, with its stocks on hand
 abbrev pub with_held : Result HeldCertificate CertFault → Result Claimed CertFault
 with_held (Ok h) = Ok (record { certificate = h.certificate; on_hand = Some h.held })
 with_held (Err fault) = Err fault
 
--- a certificate as what is claimed, with no stocks on hand
+-- the contents of a certificate, with no stocks on hand
 abbrev pub with_nothing : Result Certificate CertFault → Result Claimed CertFault
 with_nothing (Ok cert) = Ok (record { certificate = cert; on_hand = None })
 with_nothing (Err fault) = Err fault
 
--- the certificate of one of the two forms
+-- the contents of a certificate of one of the two forms
 abbrev pub form_of : List ℕ → Result Claimed CertFault
 form_of bytes = if is_held_form bytes then with_held (held_of bytes) else with_nothing (cert_of bytes)
 
--- it breaks no rule
+-- the first rule that a certificate breaks, or else its acceptance
 abbrev pub judged_of : Claimed → Result Accepted Reject
 judged_of x = judged (ends_of x.certificate.objective) x.certificate (held_in x.certificate.case x.on_hand)
 
--- what the bytes of a certificate claim, or the first rule that they break
+-- the contents of a certificate's bytes, or the first rule that they break
 unfoldable pub claimed_of : List ℕ → Result Claimed Failure
 claimed_of bytes = do
   claimed ← or_refuse no_names refusal.Cert (form_of bytes)
@@ -54,7 +54,7 @@ claimed_of bytes = do
 
 -- ---- the report
 
--- the report of a check: format, budget, cost, upper end and bound as they are claimed
+-- the report of a check: the claimed format, budget, upper end and bound, and the cost
 abbrev pub check_of : Claimed → CheckReport
 check_of x = record {
   format = x.certificate.format;

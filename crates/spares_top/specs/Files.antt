@@ -1,4 +1,4 @@
--- The files that an order reads, and what reading them gives.
+-- The files that an order reads, and the results of reading them.
 use Rattle.std.specs.Prelude.{◌≡◌, ◌⊎◌, ◌≤◌, ⊤, ℕ, List, [], ◌∷◌, length, Option, Some, None, Result, Ok, Err, if◌then◌else◌, nat_le}
 use Rattle.spares_io.specs.Causes.{Rose}
 use Rattle.spares_io.specs.Shelf.{Files, Holds, HoldsMore, Lacks, file_of}
@@ -23,16 +23,16 @@ table_in file name = record { file = file; name = name; limit = table_limit }
 abbrev pub certificate_in : List ℕ → Input
 certificate_in name = record { file = Certificate; name = name; limit = certificate_limit }
 
--- the tables of a case, and then these inputs
+-- the tables of a case, then these inputs
 abbrev pub case_in : List ℕ → List ℕ → List ℕ → List Input → List Input
 case_in sites parts rates more = table_in Sites sites ∷ table_in Parts parts ∷ table_in Rates rates ∷ more
 
--- one file more, where one is named: a table of stocks, or edits
+-- one more file, if one is named: a table of stocks, or edits
 abbrev pub if_named : File → Option (List ℕ) → List Input
 if_named file None = []
 if_named file (Some name) = table_in file name ∷ []
 
--- the inputs of an order, in the order in which they are read
+-- the inputs of an order, in the order of reading
 abbrev pub inputs : Order → List Input
 inputs (order.Single mean variance stock) = []
 inputs (order.Eval sites parts rates stocks bits) = case_in sites parts rates (if_named Stocks (Some stocks))
@@ -45,7 +45,7 @@ inputs (order.Target sites parts rates backorders) = case_in sites parts rates [
 inputs (order.Session sites parts rates edits) = case_in sites parts rates (if_named Edits (Some edits))
 inputs (order.Compare sites parts rates stocks) = case_in sites parts rates (if_named Stocks (Some stocks))
 
--- the inputs of the words' order; words with a fault read none
+-- the inputs of the order of words; words with a fault read none
 abbrev pub inputs_of : Result Order WordsFault → List Input
 inputs_of (Ok o) = inputs o
 inputs_of (Err fault) = []
@@ -63,15 +63,15 @@ output_of (Ok (order.Session sites parts rates edits)) = None
 output_of (Ok (order.Compare sites parts rates stocks)) = None
 output_of (Err fault) = None
 
--- ---- over the files that are held
+-- ---- over known files
 
--- what an input holds, or why it is refused
+-- the content of an input, or the reason why it is refused
 abbrev pub content_of : Input → Option (List ℕ) → Result (List ℕ) Failure
 content_of input None = Err (plain_failure (refusal.ReadFault input.file))
 content_of input (Some bytes) =
     if nat_le (length bytes) input.limit then Ok bytes else Err (plain_failure (refusal.TooLong input.file))
 
--- what all of the inputs hold, or the first refusal
+-- the contents of all inputs, or the first refusal
 abbrev pub reads : Files → List Input → Result (List (List ℕ)) Failure
 reads held [] = Ok []
 reads held (input ∷ rest) = do
@@ -85,44 +85,44 @@ reads held (input ∷ rest) = do
 abbrev pub StandStill : (List ℕ → ℕ) → (List ℕ → ℕ) → Type 0
 StandStill before now = (name : List ℕ) → now name ≡ before name
 
--- these bytes are what an input gave: they are within its limit and, where the shelf tells what it holds, they are
--- what its name holds
+-- These are the bytes of an input: they are within its limit, and if the contents of the shelf are known, they are the
+-- content of the input's name.
 abbrev pub Gave : Option Files → Input → List ℕ → Type 0
 Gave told input bytes = Holds told input.name bytes × (length bytes ≤ input.limit)
 
--- the bytes of all inputs in turn are what these gave
+-- these are the bytes of all inputs, in order
 abbrev pub AllGave : Option Files → List Input → List (List ℕ) → Type 0
 AllGave told [] [] = ⊤
 AllGave told (input ∷ rest) (bytes ∷ more) = Gave told input bytes × AllGave told rest more
 AllGave told [] (bytes ∷ more) = ⊥
 AllGave told (input ∷ rest) [] = ⊥
 
--- why an input wasn't read: the count of its name's failed reads rose, or the shelf tells that it hasn't the name
+-- an input wasn't read: the count of its name's failed reads rose, or the shelf is known to lack the name
 abbrev pub IsUnread : Option Files → (List ℕ → ℕ) → (List ℕ → ℕ) → Input → Failure → Type 0
 IsUnread told before now input failure =
     (failure ≡ plain_failure (refusal.ReadFault input.file))
     × (Rose (before input.name) (now input.name) ⊎ Lacks told input.name)
 
--- an input is too long, where the shelf tells it. A shelf that tells nothing shows no bytes of a file that is too
--- long, so over it this says no more than which input was refused.
+-- The input is too long. If the contents of the shelf aren't known, no bytes show it, and this says only which input is
+-- refused.
 abbrev pub IsTooLong : Option Files → Input → Failure → Type 0
 IsTooLong told input failure = (failure ≡ plain_failure (refusal.TooLong input.file))
     × HoldsMore told input.name input.limit
 
--- the first input that isn't read is refused, after those before it gave their bytes
+-- the first unreadable input is refused, after all inputs before it were read
 abbrev pub StopsAt : Option Files → (List ℕ → ℕ) → (List ℕ → ℕ) → List Input → Failure → Type 0
 StopsAt told before now [] failure = ⊥
 StopsAt told before now (input ∷ rest) failure =
     IsUnread told before now input failure ⊎ (IsTooLong told input failure
     ⊎ ((bytes : List ℕ) × (Gave told input bytes × StopsAt told before now rest failure)))
 
--- no count of failed reads of an input's name rose
+-- no count of failed reads rose, for any input's name
 abbrev pub NoneRose : (List ℕ → ℕ) → (List ℕ → ℕ) → List Input → Type 0
 NoneRose before now [] = ⊤
 NoneRose before now (input ∷ rest) = ¬ Rose (before input.name) (now input.name) × NoneRose before now rest
 
--- What reading the inputs in turn gave: the bytes of all, with no failed read, or the first refusal. The counts are
--- those of failed reads before and now.
+-- The result of reading the inputs in order: the bytes of all, with no failed read, or the first refusal. The counts
+-- are the failed reads before and now.
 abbrev pub Reads : Option Files → (List ℕ → ℕ) → (List ℕ → ℕ) → List Input → Result (List (List ℕ)) Failure → Type 0
 Reads told before now inputs (Ok bytes) = AllGave told inputs bytes × StandStill before now
 Reads told before now inputs (Err failure) = StopsAt told before now inputs failure

@@ -1,4 +1,4 @@
--- How the calls that carry out a command answer, before a write. No promise of the crate rests on these words.
+-- The answers of the calls that carry out a command, before a write. No promise of the crate rests on these words.
 use Rattle.std.specs.Prelude.{◌≡◌, ◌⊎◌, ◌≤◌, ⊤, All, ℕ, List, [], ◌∷◌, length, Option, IsSomeAnd, Result, Ok, Err}
 use Rattle.plan_report.specs.declared.eval.EvalReport.{EvalReport}
 use Rattle.case_figures.specs.Fits.{FitsPrint}
@@ -23,18 +23,18 @@ use Rattle.case_tables.specs.Tables.{StockedCase}
 use Rattle.spares_top.specs.Task.{Fulfils, Task, eval_of, task_on}
 use Rattle.spares_top.specs.Texts.{CanPrint}
 
--- it is that task, or that refusal
+-- this task, or this refusal
 abbrev pub Is : Result Task Failure → Result Task Failure → Type 0
 Is task t = t ≡ task
 
--- the task of an order, or why it is refused, from what its reading gave
+-- the task of an order, or the reason why it is refused, from the result of reading
 pub record ComesOf (order : Order) (told : Option Files) (before now : List ℕ → ℕ) (task : Result Task Failure) :
     Type 0 where
   pub read : Result (List (List ℕ)) Failure
   pub reads : Reads told before now (inputs order) read
   pub task_is : task ≡ (read >>= task_on order)
 
--- an outcome of a task that is due; it is true and can be printed
+-- an outcome of a due task; it is true and can be printed
 pub record IsMade (IsDue : Result Task Failure → Type 0) (outcome : Outcome) : Type 0 where
   pub task : Task
   pub is_due : IsDue (Ok task)
@@ -42,7 +42,7 @@ pub record IsMade (IsDue : Result Task Failure → Type 0) (outcome : Outcome) :
   pub is_true : IsTrue task outcome
   pub prints : CanPrint outcome.done
 
--- the refusal is of a reading or of the task
+-- the cause of the refusal is a reading or the task
 abbrev pub IsOfWork : Kind → Type 0
 IsOfWork (of_reading file) = ⊤
 IsOfWork of_task = ⊤
@@ -50,13 +50,13 @@ IsOfWork (of_words fault) = ⊥
 IsOfWork of_writing = ⊥
 IsOfWork of_memory = ⊥
 
--- what is made of a task that is due, but for want of memory
+-- the outcome of a due task, or its refusal; want of memory may always come
 abbrev pub MakesBy : (Result Task Failure → Type 0) → Result Outcome (Stop Failure) → Type 0
 MakesBy IsDue (Ok outcome) = IsMade IsDue outcome
 MakesBy IsDue (Err stop.NoMemory) = ⊤
 MakesBy IsDue (Err (stop.Fault failure)) = IsDue (Err failure) × IsOfWork (kind_of failure.refusal)
 
--- the bytes of so many tables, none of them too long
+-- the bytes of `count` tables, none of them too long
 pub record AreTables (count : ℕ) (files : List (List ℕ)) : Type 0 where
   pub count_is : length files ≡ count
   pub within : All (λ bytes. length bytes ≤ table_limit) files
@@ -76,20 +76,20 @@ pub record IsEvaluated (stocked : Result StockedCase Failure) (bits : ℕ) (repo
   pub shows : ShowsCase bits given.case given.stocks report
   pub prints : FitsPrint report.figures
 
--- the answer is the report of the case at its stocks, or the refusal of its tables; want of memory is free
+-- the answer is the report of the case at its stocks, or the refusal of its tables; want of memory may always come
 abbrev pub Evaluates : Result StockedCase Failure → ℕ → Result EvalReport (Stop Failure) → Type 0
 Evaluates stocked bits (Ok report) = IsEvaluated stocked bits report
 Evaluates stocked bits (Err stop.NoMemory) = ⊤
 Evaluates stocked bits (Err (stop.Fault failure)) = stocked ≡ Err failure
 
--- why a write was refused, and what it left: from held before to now, and the counts of failed writes
+-- the reason why a write was refused, and the state after it: the files, and the counts of failed writes
 abbrev pub WriteRefused : Option Written → Option Files → Option Files → (List ℕ → ℕ) → (List ℕ → ℕ) → Failure → Type 0
 WriteRefused writes old new before now failure =
     ((failure ≡ plain_failure refusal.NoMemory) × (new ≡ old))
     ⊎ ((failure ≡ plain_failure refusal.WriteFault)
     × IsSomeAnd writes (λ w. KeepsOthers w.name old new × Rose (before w.name) (now w.name)))
 
--- what the delivery of an outcome leaves
+-- the state after the delivery of an outcome
 abbrev pub Delivers : Outcome → Scene → Scene → Result Done Failure → Type 0
 Delivers outcome old new (Ok done) = (outcome.done ≡ done) × HasDelivered outcome old new
 Delivers outcome old new (Err failure) =

@@ -1,4 +1,4 @@
--- How the calls that plan answer, before anything is written. No promise of the crate rests on these words.
+-- The answers of the calls that plan, before any write. No promise of the crate rests on these words.
 use Rattle.std.specs.Prelude.{◌≡◌, ⊤, false, ℕ, Bool, List, Option, Some, None, Result, Ok, Err, if◌then◌else◌}
 use Rattle.std.specs.Result.{IsOk}
 use Rattle.demand_rates.specs.Rates.{AreRatesOf}
@@ -11,16 +11,16 @@ use Rattle.spares_io.specs.declared.stop.Stop.TheVariants as stop
 use Rattle.spares_top.specs.declared.plan.Ground.{Ground}
 use Rattle.case_plan.specs.Report.{IsOutcome}
 use Rattle.case_plan.specs.declared.outcome.Outcome as plans
-use Rattle.certified_plan.specs.Scores.{ends_of}
+use Rattle.gap_checker.specs.Scores.{ends_of}
 use Rattle.spares_top.specs.Plans.{Planning, plan_terms}
 use Rattle.spares_top.specs.Task.{bytes_at}
 
--- what is planned of a ground
+-- the planning of a ground
 abbrev pub planning_on : Ground → Planning
 planning_on g = record { case = g.case; on_hand = if g.on_hand then Some g.held else None; terms = g.terms }
 
--- the case is valid, its rates are those of the case, what is held is within its limits, and nothing where none is on
--- hand, and the work is within the limit
+-- the case is valid, its rates are its own, the held stocks are within its limits, and zeros if none are on hand, and
+-- the work is within the limit
 pub record IsGround (g : Ground) : Type 0 where
   pub valid : IsCase g.case
   pub rates : AreRatesOf g.case g.rates
@@ -29,16 +29,16 @@ pub record IsGround (g : Ground) : Type 0 where
   pub nothing : g.on_hand ≡ false → g.held ≡ nothing_held g.case
   pub work : IsOk (held_work_of g.case g.held.list)
 
--- the outcome is that of the plan of what is planned
+-- the outcome is the outcome of the ground's plan
 abbrev pub IsPlanFor : Ground → plans.Outcome → Type 0
 IsPlanFor g o = IsOutcome (ends_of g.terms.objective) g.case g.held.list (plan_terms (planning_on g)) o
 
--- the answer is a ground of what is planned, or its refusal; want of memory is free
+-- the answer is a ground of this planning, or its refusal; want of memory may always come
 abbrev pub TellsGround : Result Planning Failure → Result Ground (Stop Failure) → Type 0
 TellsGround given (Ok g) = given ≡ Ok (planning_on g)
 TellsGround given (Err stop.NoMemory) = ⊤
 TellsGround given (Err (stop.Fault failure)) = given ≡ Err failure
 
--- the bytes of the fourth table, where stocks are on hand
+-- the bytes of the fourth table, if stocks are on hand
 abbrev pub fourth : Bool → List (List ℕ) → Option (List ℕ)
 fourth on_hand files = if on_hand then Some (bytes_at files 3) else None

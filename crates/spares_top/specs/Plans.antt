@@ -1,11 +1,11 @@
--- Plans: what is planned of the bytes of tables, and the report and the certificate that a plan gives.
+-- Plans: the planning that the bytes of tables ask for, and the report and the certificate of its plan.
 use Rattle.std.specs.Prelude.{◌≡◌, ℕ, Bool, true, false, List, Option, Some, None, Result, Ok}
 use Rattle.std.specs.Option.{option_map}
 use Rattle.case_plan.specs.Report.{report_of}
 use Rattle.case_plan.specs.Report as reports
 use Rattle.case_tables.specs.Tables.{accepted_of, case_of_tables, stocked_of}
 use Rattle.certified_plan.specs.Certificates.{certificate_of, claims_of, text_of}
-use Rattle.certified_plan.specs.Scores.{ends_of}
+use Rattle.gap_checker.specs.Scores.{ends_of}
 use Rattle.price_certificate.specs.declared.certificate.Terms.{Terms}
 use Rattle.family_curve.specs.Counts.{work_of}
 use Rattle.fleet_plan.specs.Plans.{CasePlan, IsCasePlan}
@@ -25,29 +25,29 @@ use Rattle.spares_top.specs.Held.{held_in}
 use Rattle.spares_top.specs.declared.done.Done.TheVariants.{Planned}
 use Rattle.spares_top.specs.declared.done.Outcome.{Outcome}
 
--- What is planned: a case, the stocks on hand where a table says them, and the terms.
+-- The inputs of a plan: a case, the stocks on hand if there is a table of them, and the terms.
 pub record Planning : Type 0 where
   pub case : CaseRows
   pub on_hand : Option StockList
   pub terms : Terms
 
--- ---- what is planned of tables: the case that they give, if its curves don't take too many tables
+-- ---- the planning of tables, if the curves of their case take few enough tables
 
--- the case of tables with accepted rates, refused where its curves take too many tables
+-- the case of tables with accepted rates, refused if its curves take too many tables
 abbrev pub case_within_work : List ℕ → List ℕ → List ℕ → Result CaseRows Failure
 case_within_work sites parts rates = do
   case ← accepted_of sites parts rates
   work ← or_refuse no_names refusal.Work (work_of case)
   Ok case
 
--- the case of tables, if its curves don't take too many tables, whether or not the model takes its rates
+-- the case of tables, refused if its curves take too many tables; its rates may be beyond the limits of the model
 abbrev pub case_to_edit : List ℕ → List ℕ → List ℕ → Result CaseRows Failure
 case_to_edit sites parts rates = do
   case ← case_of_tables sites parts rates
   work ← or_refuse no_names refusal.Work (work_of case)
   Ok case
 
--- what is planned of tables, from stocks on hand where a table says them, or the first refusal
+-- the planning of tables, from stocks on hand if there is a table of them, or the first refusal
 abbrev pub planning_of : List ℕ → List ℕ → List ℕ → Option (List ℕ) → Terms → Result Planning Failure
 planning_of sites parts rates None terms = do
   case ← case_within_work sites parts rates
@@ -59,24 +59,24 @@ planning_of sites parts rates (Some stocks) terms = do
 
 -- ---- the plan
 
--- what is held: the stocks on hand, or nothing
+-- the held stocks: the stocks on hand, or zeros
 abbrev pub held_of : Planning → StockList
 held_of x = held_in x.case x.on_hand
 
--- its certificate
+-- the certificate of a plan
 abbrev pub plan_certificate : Planning → CasePlan → Certificate
 plan_certificate x p = certificate_of x.case (held_of x) x.terms (claims_of x.case p)
 
--- the text of its certificate
+-- the text of a plan's certificate
 abbrev pub certificate_text : Planning → CasePlan → List ℕ
 certificate_text x p = text_of (plan_certificate x p) x.on_hand
 
--- what is aimed at is the loss
+-- the objective is the loss
 abbrev pub is_loss : Objective → Bool
 is_loss Backorders = false
 is_loss LogAvailability = true
 
--- the terms of the plan's report: budget, whether the loss is aimed at, the cost of the stocks on hand
+-- the terms of the plan's report: the budget, whether the objective is the loss, and the cost of the stocks on hand
 abbrev pub plan_terms : Planning → reports.Terms
 plan_terms x = record {
   budget = x.terms.budget;
@@ -84,14 +84,14 @@ plan_terms x = record {
   on_hand = option_map (cost_of x.case) x.on_hand;
 }
 
--- its report, and the text of its certificate under this name
+-- the report of a plan, and the text of its certificate under this name
 abbrev pub planned : Planning → List ℕ → CasePlan → Outcome
 planned x name p = record {
   done = Planned (report_of (ends_of x.terms.objective) x.case (plan_terms x) p);
   writes = Some (record { name = name; bytes = certificate_text x p });
 }
 
--- the outcome is that of the plan of the case on these terms; there is one
+-- the outcome is the outcome of the case's plan on these terms; there is exactly one
 pub record IsPlanned (x : Planning) (name : List ℕ) (outcome : Outcome) : Type 0 where
   pub plan : CasePlan
   pub is_plan : IsCasePlan (ends_of x.terms.objective) x.case (held_of x).list x.terms.budget plan

@@ -1,4 +1,4 @@
--- What `run` promises.
+-- The promises of `run`.
 use Rattle.std.specs.Prelude.{◌≡◌, ◌⊎◌, [], ℕ, List, Option, Some, None, IsErrOf, IsOkAnd, IfSome, MatchResult, Result, Ok, Err}
 use Rattle.spares_io.specs.Causes.{Rose}
 use Rattle.spares_io.specs.Shelf.{Files}
@@ -19,13 +19,13 @@ use Rattle.spares_top.specs.Task.{Fulfils, Task, task_of}
 
 -- The promises of an order's answer.
 pub record Performs (order : Result Order WordsFault) (old new : Scene) (result : Result Done Failure) : Type 0 where
-  -- the answer, its cause, what it leaves, and the headline
+  -- the answer, its cause, the state after it, and the headline
   pub answers : Answers order old new result
-  -- no read is counted where no file is used, and no write where none is written
+  -- no read is counted if no file is used, and no write if none is written
   pub reads : inputs_of order ≡ [] → StandStill old.read_faults new.read_faults
   pub writes : output_of order ≡ None → StandStill old.write_faults new.write_faults
 
--- these are the files that the shelf tells, or none is used
+-- these files are the known contents of the shelf, or the order uses no file
 abbrev pub Serves : Result Order WordsFault → Option Files → Files → Type 0
 Serves order told held = (told ≡ Some held) ⊎ (inputs_of order ≡ [])
 
@@ -39,7 +39,7 @@ pub record NoneFailed (order : Result Order WordsFault) (old new : Scene) : Type
 abbrev pub IsReportOf : Result Done Failure → Task → Type 0
 IsReportOf result task = IsOkAnd result (λ done. (outcome : Outcome) × (Fulfils task outcome × (outcome.done ≡ done)))
 
--- the answer is the task's, but for want of memory
+-- the answer is the task's, or want of memory
 abbrev pub Completes : Result Task Failure → Result Done Failure → Type 0
 Completes task result = IsErrOf result (plain_failure refusal.NoMemory)
     ⊎ MatchResult task (IsReportOf result) (IsErrOf result)
@@ -49,7 +49,7 @@ abbrev pub with_line : List ℕ → Result Done Refusal → Result Done Failure
 with_line line (Ok done) = Ok done
 with_line line (Err refusal) = Err (record { refusal = refusal; line = line })
 
--- A sink with these bytes and this count of faults gained a line, or a prefix of it where the count rose.
+-- A sink with these bytes and this count of faults gained a line, or a prefix of it if the count rose.
 abbrev pub PutsLine : List ℕ → Option (List ℕ) → ℕ → Option (List ℕ) → ℕ → Type 0
 PutsLine line old old_faults new new_faults = Gains old new line ⊎ (GainsPart old new line × Rose old_faults new_faults)
 
@@ -58,25 +58,25 @@ abbrev pub PutsLineOf : List ℕ → Result Done Refusal → Option (List ℕ) �
 PutsLineOf line (Ok done) old old_faults new new_faults = (new ≡ old) × (new_faults ≡ old_faults)
 PutsLineOf line (Err refusal) old old_faults new new_faults = PutsLine line old old_faults new new_faults
 
--- what `err` holds, where it tells it, and its count of faults
+-- the contents of `err`, if they are known, and its count of faults
 pub record Errors : Type 0 where
   pub bytes : Option (List ℕ)
   pub faults : ℕ
 
--- these from their parts
+-- errors from their parts
 abbrev pub errors : Option (List ℕ) → ℕ → Errors
 errors bytes faults = record { bytes = bytes; faults = faults }
 
--- what the whole call promises of its answer, of shelf and output, and of the place for refusals
+-- the promises of the whole call: its answer, the shelf and the output, and the place for refusals
 pub record Runs (words : List (List ℕ)) (old new : Scene) (before after : Errors) (result : Result Done Refusal) :
     Type 0 where
   -- the line of a refusal
   pub line : List ℕ
-  -- the answer to the words' order with that line, its cause, what it leaves, and the headline
+  -- the answer to the words' order with this line, its cause, the state after it, and the headline
   pub performs : Performs (order_of words) old new (with_line line result)
-  -- where the shelf tells what it holds, or no file is used, and no read, no write and no put fails, it is the task's
-  -- answer, but for want of memory
+  -- if the contents of the shelf are known, or no file is used, and no read, no write and no put fails, the answer is
+  -- the task's, or want of memory
   pub completes : (held : Files) → Serves (order_of words) old.held held → NoneFailed (order_of words) old new
       → Completes (task_of (order_of words) held) (with_line line result)
-  -- `err` got that line, and nothing with a report
+  -- `err` gets this line, and nothing with a report
   pub puts : PutsLineOf line result before.bytes before.faults after.bytes after.faults

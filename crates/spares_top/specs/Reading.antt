@@ -1,4 +1,4 @@
--- How far the reading of inputs came, for the calls that read. No promise of the crate rests on these words.
+-- The progress of reading, for the calls that read. No promise of the crate rests on these words.
 use Rattle.std.specs.Prelude.{◌⊎◌, ⊤, ◌<◌, ◌^◌, ℕ, List, Option, Result, Ok, Err}
 use Rattle.spares_io.specs.declared.stop.Stop.{Stop}
 use Rattle.spares_io.specs.declared.stop.Stop.TheVariants as stop
@@ -7,7 +7,7 @@ use Rattle.refusals.specs.declared.failure.Failure.{Failure}
 use Rattle.spares_top.specs.declared.files.Input.{Input}
 use Rattle.spares_top.specs.Files.{IsTooLong, IsUnread, Reads}
 
--- a shelf takes the limit
+-- the limit is one that a shelf takes
 abbrev pub IsReadable : Input → Type 0
 IsReadable input = input.limit < 2 ^ 32
 
@@ -17,7 +17,7 @@ Unread told before now input stop.NoMemory = ⊤
 Unread told before now input (stop.Fault failure) = IsUnread told before now input failure
     ⊎ IsTooLong told input failure
 
--- what the reading gave, but for want of memory
+-- the result of reading; want of memory may always come
 abbrev pub ReadsGive : Option Files → (List ℕ → ℕ) → (List ℕ → ℕ) → List Input → Result (List (List ℕ)) (Stop Failure)
     → Type 0
 ReadsGive told before now inputs (Ok bytes) = Reads told before now inputs (Ok bytes)

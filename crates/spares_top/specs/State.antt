@@ -1,4 +1,4 @@
--- What a command leaves on the shelf and in the output.
+-- The state of the shelf and the output after a command.
 use Rattle.std.specs.Prelude.{◌≡◌, ◌⊎◌, ℕ, List, Option, Some, None, IsSomeAnd}
 use Rattle.std.specs.Option.{option_map}
 use Rattle.spares_io.specs.Causes.{Rose}
@@ -9,7 +9,7 @@ use Rattle.spares_top.specs.declared.done.Written.{Written}
 use Rattle.spares_top.specs.Files.{StandStill}
 use Rattle.spares_top.specs.Texts.{text_of}
 
--- The shelf and the output at a moment: what they hold, where they tell it, and their counts of faults.
+-- The shelf and the output at a moment: their contents, if they are known, and their counts of faults.
 pub record Scene : Type 0 where
   pub held : Option Files
   pub read_faults : List ℕ → ℕ
@@ -22,7 +22,7 @@ abbrev pub scene : Option Files → (List ℕ → ℕ) → (List ℕ → ℕ) �
 scene held read_faults write_faults out faults =
     record { held = held; read_faults = read_faults; write_faults = write_faults; out = out; faults = faults }
 
--- what all names hold after a write: that name its bytes, all others what they held
+-- the contents after a write: the written name has its bytes, and all others are as before
 abbrev pub after_write : Option Written → Option Files → Option Files
 after_write None held = held
 after_write (Some written) held = option_map (λ files. with_file files written.name written.bytes) held
@@ -40,14 +40,14 @@ pub record HasDelivered (outcome : Outcome) (old new : Scene) : Type 0 where
   pub faults : new.faults ≡ old.faults
   pub writes : StandStill old.write_faults new.write_faults
 
--- the write of a name failed: that name may hold anything, all others hold what they held, and nothing was put
+-- the write of a name failed: this name may have any content, all others are as before, and nothing was put
 pub record HasFailedToWrite (written : Written) (old new : Scene) : Type 0 where
   pub held : KeepsOthers written.name old.held new.held
   pub out : new.out ≡ old.out
   pub faults : new.faults ≡ old.faults
   pub rose : Rose (old.write_faults written.name) (new.write_faults written.name)
 
--- the put of the report failed: what was to be written is whole, and the output got a prefix of the report
+-- the put of the report failed: the write is complete, and the output got a prefix of the report
 pub record HasFailedToPut (outcome : Outcome) (old new : Scene) : Type 0 where
   pub held : new.held ≡ after_write outcome.writes old.held
   pub out : GainsPart old.out new.out (text_of outcome.done)

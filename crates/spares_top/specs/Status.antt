@@ -4,8 +4,8 @@ use Rattle.refusals.specs.declared.refusal.Refusal.{Refusal}
 use Rattle.refusals.specs.declared.refusal.Refusal.TheVariants as refusal
 use Rattle.spares_top.specs.declared.done.Done.{Done}
 
--- the exit status: 0 for a report; by the refusal 2 for words, 3 for what tables or edits say, 4 for certificates,
--- 5 and 6 for faults of reading and writing, 7 for want of memory, 8 for a file that is too long
+-- the exit status: 0 for a report, 2 for refused words, 3 for refused tables or edits, 4 for certificates, 5 and 6 for
+-- faults of reading and writing, 7 for want of memory, and 8 for a file that is too long
 abbrev pub status_of : Result Done Refusal → ℕ
 status_of (Ok done) = 0
 status_of (Err (refusal.Words fault)) = 2

@@ -1,4 +1,4 @@
--- What an order asks for, as a task, over the bytes of its files. Means and variances are counted in ten-thousandths.
+-- The task of an order, over the bytes of its files. Means and variances are in ten-thousandths.
 use Rattle.std.specs.List.{AllZip}
 use Rattle.std.specs.Prelude.{◌≡◌, ℕ, List, [], get_or, Option, Some, None, option_map, Result, Ok, Err, unwrap_or}
 use Rattle.demand_rates.specs.Single.{single_fault_of}
@@ -38,30 +38,30 @@ use Rattle.demonstration.specs.Demonstrations.{IsDemonstrated}
 use Rattle.spares_top.specs.Checks.{Claimed, claimed_of, check_of}
 use Rattle.family_curve.specs.Points.{plain_ends}
 
--- What is to be done once it is accepted.
+-- The task of an accepted order.
 pub data Task : Type 0 where
   -- the backorders of a pipeline with this mean and variance, and their variance, at this stock
   show_pipeline : ℕ → ℕ → ℕ → Task
-  -- the figures of a case at these stocks, with so many bits
+  -- the figures of a case at these stocks, with this count of bits
   evaluate : CaseRows → StockList → ℕ → Task
   -- the plan of a case, and its certificate under this name
   make_plan : Planning → List ℕ → Task
-  -- the claims of a certificate, no rule of which it breaks
+  -- the claims of a certificate that breaks no rule
   confirm : Claimed → Task
-  -- the plan of the demonstration case of a number with so many line units
+  -- the plan of the demonstration case of a number and a count of line units
   demonstrate : ℕ → ℕ → Task
-  -- what can be had of a case for every budget
+  -- the best backorders of a case for every budget
   sweep_budgets : CaseRows → Task
-  -- for how much so many backorders can be had of a case
+  -- the cost of this target for a case
   price_target : CaseRows → Decimal → Task
   -- these plans, one after the other
   plan_in_turn : List PlanDue → Task
-  -- the figures of a case at these stocks, beside those of Poisson pipelines
+  -- the backorders of a case at these stocks, beside those with Poisson pipelines
   set_beside : CaseRows → StockList → Task
 
 -- ---- the task of an order
 
--- the variance of a pipeline: its mean, where none is given
+-- the variance of a pipeline, by default its mean
 abbrev pub variance_of : Decimal → Option Decimal → Decimal
 variance_of mean variance = unwrap_or variance mean
 
@@ -80,13 +80,13 @@ eval_task sites parts rates stocks bits = do
   stocked ← stocked_of file.Stocks sites parts rates stocks
   Ok (evaluate stocked.case stocked.stocks bits)
 
--- a case is planned from three tables, and from a fourth where stocks are on hand
+-- a case is planned from three tables, and from a fourth if stocks are on hand
 abbrev pub plan_task : List ℕ → List ℕ → List ℕ → Option (List ℕ) → Terms → List ℕ → Result Task Failure
 plan_task sites parts rates on_hand terms name = do
   planning ← planning_of sites parts rates on_hand terms
   Ok (make_plan planning name)
 
--- a certificate is confirmed that breaks no rule
+-- a certificate that breaks no rule is confirmed
 abbrev pub check_task : List ℕ → Result Task Failure
 check_task bytes = do
   claimed ← claimed_of bytes
@@ -104,7 +104,7 @@ target_task sites parts rates backorders = do
   case ← case_within_work sites parts rates
   Ok (price_target case backorders)
 
--- the plans that edits of a case ask for are made; its rates are looked at where a plan is asked for
+-- the plans that edits of a case ask for are made; its rates matter only if a plan is asked for
 abbrev pub session_task : List ℕ → List ℕ → List ℕ → List ℕ → Result Task Failure
 session_task sites parts rates edits = do
   case ← case_to_edit sites parts rates
@@ -117,11 +117,11 @@ compare_task sites parts rates stocks = do
   stocked ← stocked_of file.Stocks sites parts rates stocks
   Ok (set_beside stocked.case stocked.stocks)
 
--- the bytes at a place of the inputs
+-- the bytes of an input
 abbrev pub bytes_at : List (List ℕ) → ℕ → List ℕ
 bytes_at bytes place = get_or bytes place []
 
--- the task of an order on the bytes of its inputs, or why it is refused
+-- the task of an order on the bytes of its inputs, or the reason why it is refused
 abbrev pub task_on : Order → List (List ℕ) → Result Task Failure
 task_on (order.Single mean variance stock) bytes = single_task mean.units (variance_of mean variance).units stock
 task_on (order.Eval sites parts rates stocks bits) bytes =
@@ -144,13 +144,13 @@ abbrev pub task_on_words : Result Order WordsFault → List (List ℕ) → Resul
 task_on_words (Ok o) bytes = task_on o bytes
 task_on_words (Err fault) bytes = Err (plain_failure (refusal.Words fault))
 
--- the task of an order over the files that are held, or the first refusal, with its line
+-- the task of an order over these files, or the first refusal, with its line
 abbrev pub task_of : Result Order WordsFault → Files → Result Task Failure
 task_of order held = do
   bytes ← reads held (inputs_of order)
   task_on_words order bytes
 
--- ---- what fulfils it
+-- ---- fulfilment
 
 -- the row of the table at 48 bits for the stock
 abbrev pub row_of : ℕ → ℕ → ℕ → Row 48
@@ -163,15 +163,15 @@ single_of mean variance stock = record {
   spread = (row_of mean variance stock).vbo;
 }
 
--- the report of a case at stocks, with so many bits
+-- the report of a case at stocks, with this count of bits
 abbrev pub eval_of : ℕ → CaseRows → StockList → EvalReport
 eval_of bits c s = record { bits = bits; figures = figures_of bits c s }
 
--- a report that is printed, with nothing written beside it
+-- a printed report, with no write before it
 abbrev pub printed : Done → Outcome
 printed done = record { done = done; writes = None }
 
--- a report of this kind is printed of which this holds
+-- the outcome prints a report of this kind that satisfies `Holds`
 pub record Shows {R : Type 0} (kind : R → Done) (Holds : R → Type 0) (outcome : Outcome) : Type 0 where
   pub report : R
   pub is : outcome ≡ printed (kind report)

@@ -23,7 +23,7 @@ text_of (Priced report) = target_text report
 text_of (Session report) = flat_map plan_text report.plans
 text_of (Compared report) = compare_text report
 
--- all numbers of a report have a text
+-- all numbers of a report can be printed
 abbrev pub CanPrint : Done → Type 0
 CanPrint (Single report) = (report.backorders.hi < 2 ^ 86) × (report.spread.hi < 2 ^ 86)
 CanPrint (Evaluated report) = FitsPrint report.figures

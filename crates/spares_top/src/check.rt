@@ -1,6 +1,6 @@
 //! The check of a certificate.
 ghost use Rattle.std.specs.Prelude.{◌≡◌, ◌≤◌, IfOk, length};
-ghost use Rattle.certified_plan.specs.Scores.{ends_of};
+ghost use Rattle.gap_checker.specs.Scores.{ends_of};
 ghost use Rattle.gap_checker.specs.Refusals.{judged};
 ghost use Rattle.on_hand.specs.Held.{held_of};
 ghost use Rattle.price_certificate.specs.Certificates.{cert_of, certificate_limit};
@@ -21,7 +21,7 @@ use spares_input::{Stocks, nothing_held};
 use spares_io::Stop;
 use std::alloc::Global;
 
-/// A certificate with what is held of its case. Where it says nothing of stocks on hand, no stock is held.
+/// A certificate with the held stocks of its case, which are zero if it has no stocks on hand.
 #[derive(Drop)]
 pub(crate) struct Claim {
     pub(crate) certificate: Certificate,
@@ -29,7 +29,7 @@ pub(crate) struct Claim {
     pub(crate) on_hand: bool,
 }
 
-/// The claim of a certificate that says which stocks are on hand.
+/// The claim of a certificate with stocks on hand.
 fn held_claim(alloc: Global, bytes: &[u8]) -> Result<Claim, Stop<Failure>>
     requires { length bytes.now ≤ certificate_limit }
     ensures answer { TellsClaim (with_held (held_of bytes.now)) result }
@@ -46,7 +46,7 @@ fn held_claim(alloc: Global, bytes: &[u8]) -> Result<Claim, Stop<Failure>>
     }
 }
 
-/// The claim of a certificate that says nothing of stocks on hand.
+/// The claim of a certificate without stocks on hand.
 fn plain_claim(alloc: Global, bytes: &[u8]) -> Result<Claim, Stop<Failure>>
     requires { length bytes.now ≤ certificate_limit }
     ensures answer { TellsClaim (with_nothing (cert_of bytes.now)) result }
@@ -67,7 +67,7 @@ fn plain_claim(alloc: Global, bytes: &[u8]) -> Result<Claim, Stop<Failure>>
     })
 }
 
-/// The claim of the bytes of a certificate, by what they begin with.
+/// The claim of the bytes of a certificate, whose first line decides the form.
 fn claim_of(alloc: Global, bytes: &[u8]) -> Result<Claim, Stop<Failure>>
     requires { length bytes.now ≤ certificate_limit }
     ensures answer { TellsClaim (form_of bytes.now) result }
@@ -80,7 +80,7 @@ fn claim_of(alloc: Global, bytes: &[u8]) -> Result<Claim, Stop<Failure>>
     }
 }
 
-/// What a claim's check answers, by the score of its objective.
+/// The check of a claim, by the score of its objective.
 fn accepted(alloc: Global, claim: &Claim) -> Result<Accepted, Stop<Reject>>
     requires { IsClaim claim.now }
     ensures { Gives (judged (ends_of claim.now.certificate.objective) claim.now.certificate claim.now.held) result }
@@ -96,7 +96,7 @@ fn accepted(alloc: Global, claim: &Claim) -> Result<Accepted, Stop<Reject>>
     }
 }
 
-/// The report of a claim that was accepted.
+/// The report of an accepted claim.
 fn report_of(claim: &Claim, accepted: Accepted) -> CheckReport
     requires claim { IsClaim claim.now }
     requires accepted { judged (ends_of claim.now.certificate.objective) claim.now.certificate claim.now.held

@@ -1,4 +1,4 @@
-//! The figures of a case at given stocks, beside those of Poisson pipelines.
+//! The backorders of a case at given stocks, beside those with Poisson pipelines.
 ghost use Rattle.std.specs.Prelude.{◌≡◌, ◌≤◌, IfOk, length};
 ghost use Rattle.csv_tables.specs.Rest.{table_limit};
 ghost use Rattle.demand_rates.specs.Rates.{AreRatesOf};

@@ -1,4 +1,4 @@
-//! The delivery of an outcome: what is written to the shelf, and then the report.
+//! The delivery of an outcome: first the write to the shelf, then the report.
 ghost use Rattle.std.specs.Prelude.{◌≡◌, None, IfErr, OnOk, OnErr};
 ghost use Rattle.spares_io.specs.Causes.{Rose};
 ghost use Rattle.spares_io.specs.Sink.{Gains, GainsPart};
@@ -13,7 +13,7 @@ use crate::done::{Done, Outcome, Written};
 use refusals::{Failure, Refusal};
 use spares_io::{Shelf, ShelfError, Sink, SinkFailed};
 
-/// Writes what an outcome writes.
+/// Makes the write of an outcome, if it has one.
 fn write<H: Shelf>(writes: &Option<Written>, shelf: &mut H) -> Result<(), Failure>
     ensures held { OnOk result (H.held shelf.new ≡ after_write writes.now (H.held shelf.old)) }
     ensures still { OnOk result (StandStill (H.write_faults shelf.old) (H.write_faults shelf.new)) }

@@ -1,4 +1,4 @@
-//! What the commands give.
+//! The results of the commands.
 ghost use Rattle.std.specs.Prelude.{◌≡◌, IfOk};
 ghost use Rattle.spares_top.specs.Task.{printed};
 ghost use Rattle.spares_top.specs.Texts.{CanPrint, text_of};
@@ -19,17 +19,17 @@ pub enum Done {
     Evaluated(EvalReport),
     /// The plan of a case under a budget.
     Planned(PlanReport),
-    /// What an accepted certificate shows.
+    /// The claims of an accepted certificate.
     Checked(CheckReport),
     /// The plan of a demonstration case, whose certificate was accepted.
     Demo(Summary),
-    /// What can be had of a case for every budget.
+    /// The best backorders of a case for every budget.
     Swept(SweepReport),
-    /// For how much a target can be had of a case.
+    /// The cost of a target for a case.
     Priced(TargetReport),
     /// The plans that a file of edits asks for.
     Session(SessionReport),
-    /// The figures of a case at given stocks, beside those of Poisson pipelines.
+    /// The backorders of a case at given stocks, beside those with Poisson pipelines.
     Compared(CompareReport),
 }
 
@@ -53,14 +53,14 @@ impl Done {
     }
 }
 
-/// Bytes that a command writes to a name.
+/// Bytes that a command writes under a name.
 #[derive(Drop)]
 pub(crate) struct Written {
     pub(crate) name: Text,
     pub(crate) bytes: List<u8>,
 }
 
-/// What a command gives: the report that it prints, and what it writes before.
+/// The result of a command: its report, and the write that comes before it.
 #[derive(Drop)]
 pub(crate) struct Outcome {
     pub(crate) done: Done,
@@ -68,7 +68,7 @@ pub(crate) struct Outcome {
 }
 
 impl Outcome {
-    /// A report, with nothing written beside it.
+    /// A report with no write before it.
     pub(crate) fn printed(done: Done) -> Outcome
         ensures { result ≡ printed done }
     {

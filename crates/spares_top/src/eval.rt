@@ -24,7 +24,7 @@ use spares_input::{Case, Stocks};
 use spares_io::{List, NoMemory, Stop};
 use std::alloc::Global;
 
-/// The figures of a case at stocks within its limits, with so many bits.
+/// The figures of a case at stocks within its limits, with `F` bits.
 fn figures<const F: u32>(
     alloc: Global,
     case: &Case,

@@ -5,7 +5,7 @@ ghost use Rattle.spares_top.specs.Status.{status_of};
 use crate::done::Done;
 use refusals::Refusal;
 
-/// The exit status of an answer: 0 for a report, and for a refusal by its kind.
+/// The exit status of an answer: 0 for a report; a refusal's status depends on its kind.
 pub fn status(answer: &Result<Done, Refusal>) -> u8
     ensures { result ≡ status_of answer.now }
 {

@@ -11,7 +11,7 @@ use spares_io::{List, NoMemory, Shelf, ShelfError, Stop, Text};
 use spares_words::Order;
 use std::alloc::Global;
 
-/// A file that an order reads: which it is, its name, and the most bytes that it may have.
+/// A file that an order reads: its kind, its name, and the most bytes that it may have.
 #[derive(Drop)]
 pub(crate) struct Input {
     pub(crate) file: File,
@@ -59,7 +59,7 @@ fn case_tables(
     Ok(tables)
 }
 
-/// The tables of a case, and then one file more, where one is named.
+/// The tables of a case, then one more file, if one is named.
 fn tables_and(
     alloc: Global,
     sites: &Text,
@@ -78,7 +78,7 @@ fn tables_and(
     Ok(tables)
 }
 
-/// The files that an order reads, in the order in which they are read.
+/// The files that an order reads, in the order of reading.
 pub(crate) fn inputs_of(alloc: Global, order: &Order) -> Result<Vec<Input>, NoMemory>
     ensures { IfOk result (λ v. v.items ≡ inputs order.now) }
 {
@@ -152,7 +152,7 @@ fn read_file<H: Shelf>(
     }
 }
 
-/// Reads the inputs, one after the other. The first that isn't read is refused.
+/// Reads the inputs in order. The first unreadable input is refused.
 pub(crate) fn read_files<H: Shelf>(
     alloc: Global,
     shelf: &mut H,

@@ -1,4 +1,4 @@
-//! The whole program over a shelf and two sinks that are handed in.
+//! The whole program over a shelf and two sinks, which the caller passes in.
 #![tactic(auto)]
 
 mod check;

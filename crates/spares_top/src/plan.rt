@@ -27,8 +27,8 @@ use spares_input::{Case, Stocks, nothing_held};
 use spares_io::{List, NoMemory, Stop, Text};
 use std::alloc::Global;
 
-/// What is planned: a case with its rates, what is held of it, and the terms. Where nothing is on hand, no stock is
-/// held.
+/// The ground of a plan: a case with its rates, its held stocks and the terms. If nothing is on hand, the held stocks
+/// are zeros.
 #[derive(Drop)]
 pub(crate) struct Ground {
     pub(crate) case: Case,
@@ -38,7 +38,7 @@ pub(crate) struct Ground {
     pub(crate) terms: Terms,
 }
 
-/// The case of sites, parts and rates, with its exact rates, if its curves don't take too many tables.
+/// The case of sites, parts and rates, with its exact rates, if its curves take few enough tables.
 fn within_work(
     alloc: Global,
     sites: &[u8],
@@ -61,7 +61,7 @@ fn within_work(
     }
 }
 
-/// The case of three tables, if its curves don't take too many tables.
+/// The case of three tables, if its curves take few enough tables.
 pub(crate) fn case_within_work(alloc: Global, files: &[List<u8>]) -> Result<Accepted, Stop<Failure>>
     requires { AreTables 3 files.now }
     ensures answer { Tells (case_within_work (bytes_at files.now 0) (bytes_at files.now 1) (bytes_at files.now 2))
@@ -74,7 +74,7 @@ pub(crate) fn case_within_work(alloc: Global, files: &[List<u8>]) -> Result<Acce
     within_work(alloc, sites, parts, files[2].as_slice())
 }
 
-/// What is planned of three tables.
+/// The ground of a plan from three tables.
 fn plain_ground(alloc: Global, files: &[List<u8>], terms: Terms) -> Result<Ground, Stop<Failure>>
     requires { AreTables 3 files.now }
     ensures answer { TellsGround (planning_of (bytes_at files.now 0) (bytes_at files.now 1)
@@ -95,7 +95,7 @@ fn plain_ground(alloc: Global, files: &[List<u8>], terms: Terms) -> Result<Groun
     })
 }
 
-/// What is planned of three tables and that of the stocks on hand.
+/// The ground of a plan from three tables and the table of stocks on hand.
 fn held_ground(alloc: Global, files: &[List<u8>], terms: Terms) -> Result<Ground, Stop<Failure>>
     requires { AreTables 4 files.now }
     ensures answer { TellsGround (planning_of (bytes_at files.now 0) (bytes_at files.now 1) (bytes_at files.now 2)
@@ -123,7 +123,7 @@ fn held_ground(alloc: Global, files: &[List<u8>], terms: Terms) -> Result<Ground
     })
 }
 
-/// What is planned, of three tables, or of four where stocks are on hand.
+/// The ground of a plan, from three tables, or from four if stocks are on hand.
 fn ground_of(
     alloc: Global,
     files: &[List<u8>],
@@ -142,7 +142,7 @@ fn ground_of(
     }
 }
 
-/// The plan of a ground, with the numbers that its certificate claims.
+/// The plan of a ground, with the claims of its certificate.
 fn plan_of(alloc: Global, ground: &Ground) -> Result<case_plan::Outcome, NoMemory>
     requires ground { IsGround ground.now }
     requires terms { AreTerms ground.now.terms }
@@ -201,7 +201,7 @@ fn planned(alloc: Global, ground: Ground, name: Text) -> Result<Outcome, NoMemor
     })
 }
 
-/// Carries out `plan` on the bytes of its tables: sites, parts, rates, and the stocks on hand where there are any.
+/// Carries out `plan` on the bytes of its tables: sites, parts, rates, and the stocks on hand if there are any.
 pub(crate) fn plan(
     alloc: Global,
     files: &[List<u8>],

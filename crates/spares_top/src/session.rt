@@ -17,8 +17,8 @@ use spares_input::Case;
 use spares_io::{List, Stop};
 use std::alloc::Global;
 
-/// The case of sites, parts and rates, if its curves don't take too many tables. The model needn't take its rates:
-/// edits may change them before a plan is asked for.
+/// The case of sites, parts and rates, if its curves take few enough tables. Its rates may be beyond the limits of the
+/// model: edits may change them before a plan.
 fn case_to_edit(
     alloc: Global,
     sites: &[u8],

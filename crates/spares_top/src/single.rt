@@ -21,7 +21,7 @@ use std::alloc::Global;
 
 const TEN_THOUSAND: u128 = 10_000;
 
-/// So many ten-thousandths, as an interval.
+/// A number of ten-thousandths, as an interval.
 #[tactic(auto, unfolding(fleet_model::specs::Rows::ten_thousandths))]
 fn interval_of(units: u64) -> Iv<48>
     requires { units ≤ 2560000 }
@@ -55,7 +55,7 @@ fn single_report(
     })
 }
 
-/// Carries out `single`. Without a variance it is the mean.
+/// Carries out `single`. The default variance is the mean.
 pub(crate) fn single(
     alloc: Global,
     mean: Decimal,

@@ -1,4 +1,4 @@
-//! The sweep of a case, and what a target costs.
+//! The sweep of a case, and the cost of a target.
 ghost use Rattle.std.specs.Prelude.{◌≡◌, ◌≤◌, IfOk, length};
 ghost use Rattle.std.specs.Result.{IsOk};
 ghost use Rattle.budget_sweep.specs.Cases.{IsCaseSweep, IsCaseTarget};
@@ -25,7 +25,7 @@ use spares_input::nothing_held;
 use spares_io::{List, NoMemory, Stop};
 use std::alloc::Global;
 
-/// The curves of all families of a case, where nothing is held.
+/// The curves of all families of a case with nothing held.
 fn curves_of(alloc: Global, given: &Accepted) -> Result<Vec<Curve>, NoMemory>
     requires rates { AreRatesOf given.now.case given.now.rates }
     requires accepted { IsAcceptedCase given.now.case }
@@ -51,7 +51,7 @@ fn sweep_of(alloc: Global, given: &Accepted) -> Result<SweepReport, NoMemory>
     budget_sweep::sweep(alloc, curves.as_slice())
 }
 
-/// What the sweep of a case tells of a target.
+/// The report of a target from the sweep of a case.
 fn target_of(alloc: Global, given: &Accepted, backorders: Decimal) -> Result<TargetReport, NoMemory>
     requires rates { AreRatesOf given.now.case given.now.rates }
     requires accepted { IsAcceptedCase given.now.case }

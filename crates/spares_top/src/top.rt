@@ -9,14 +9,14 @@ use refusals::{Failure, Line, Refusal};
 use spares_io::{Shelf, Sink, Text};
 use std::alloc::Global;
 
-/// Puts a line, by one put. Where that fails nothing else is done.
+/// Puts a line, by one put. If the put fails, it does nothing else.
 fn put_line<E: Sink>(line: &Line, err: &mut E)
     ensures { PutsLine line.now (E.bytes err.old) (E.faults err.old) (E.bytes err.new) (E.faults err.new) }
 {
     let _ = err.put(line.as_slice());
 }
 
-/// Puts the line of a refusal that stands at no pair of a case, by one put. Where that fails nothing else is done.
+/// Puts the line of a refusal that names no pair of a case, by one put. If the put fails, it does nothing else.
 pub fn refuse<E: Sink>(refusal: &Refusal, err: &mut E)
     requires { NamesNoPair refusal.now }
     ensures { PutsLine (line_of no_names refusal.now) (E.bytes err.old) (E.faults err.old) (E.bytes err.new)
@@ -26,20 +26,27 @@ pub fn refuse<E: Sink>(refusal: &Refusal, err: &mut E)
     put_line(&failure.line, err);
 }
 
-/// Carries out the words that follow the program's name, over a shelf, an output and a place for refusals.
+/// Carries out the words after the program's name, over a shelf, an output and a place for refusals.
 ///
-/// All texts are made before the first put, and the report is put to `out` by one put. On a refusal `err`
-/// gets one line, which takes no memory.
+/// All texts are made before the first put, and the report is put to `out` by one put. For a refusal `err` gets one
+/// line, which takes no memory.
 ///
 /// # Errors
 ///
-/// In this order: `Words` where the words give no order; `ReadFault` or `TooLong` at the first file that isn't read;
-/// the first `Table` or `Case` of sites, parts and rates, and then `Table` or `Stock` of the stocks; `Rate` where a
-/// pipeline is beyond the model's limits; `Work` where the curves of a case take too many tables; of `check`, `Cert`
-/// where its file is no certificate and `Rejected` where it breaks a rule; of `session`, which looks at rates only
-/// where its edits ask for a plan, `Edit` at the first line that is wrong or whose plan isn't made; and `WriteFault`
-/// where the certificate isn't written or the put of the report fails. After `WriteFault` the output holds a prefix
-/// of the report, and after the others it is as before. `NoMemory` may come at any step before the put.
+/// In this order:
+///
+/// - `Words` if the words are no order;
+/// - `ReadFault` or `TooLong` at the first file that isn't read;
+/// - the first `Table` or `Case` of sites, parts and rates, and then `Table` or `Stock` of the stocks;
+/// - `Rate` if a pipeline is beyond the model's limits;
+/// - `Work` if the curves of a case take too many tables;
+/// - of `check`, `Cert` if its file is no certificate, and `Rejected` if the certificate breaks a rule;
+/// - of `session`, `Edit` at the first line that is wrong or whose plan isn't made. It looks at rates only if its edits
+///   ask for a plan;
+/// - `WriteFault` if the certificate isn't written or the put of the report fails.
+///
+/// After `WriteFault` the output holds a prefix of the report, and after the others it is as before. `NoMemory` may
+/// come at any step before the put.
 pub fn run<H: Shelf, W: Sink, E: Sink>(
     alloc: Global,
     words: &[Text],

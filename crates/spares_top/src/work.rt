@@ -24,7 +24,7 @@ use spares_io::{List, NoMemory, Shelf, Sink, Stop, Text};
 use spares_words::{Order, read_words};
 use std::alloc::Global;
 
-/// What an order gives on the bytes of its inputs.
+/// The outcome of an order on the bytes of its inputs.
 fn outcome_on(alloc: Global, order: Order, files: &[List<u8>]) -> Result<Outcome, Stop<Failure>>
     requires order { IsInRange order }
     requires files { AreWithin (inputs order) files.now }
@@ -61,7 +61,7 @@ fn outcome_on(alloc: Global, order: Order, files: &[List<u8>]) -> Result<Outcome
     }
 }
 
-/// What an order gives, before anything is written.
+/// The outcome of an order, before any write.
 fn outcome_of<H: Shelf>(
     alloc: Global,
     order: Order,
@@ -83,7 +83,7 @@ fn outcome_of<H: Shelf>(
     }
 }
 
-/// Carries out an order: what it gives is made whole before anything is written.
+/// Carries out an order. Its outcome is complete before any write.
 fn perform<H: Shelf, W: Sink>(
     alloc: Global,
     order: Order,
@@ -107,7 +107,7 @@ fn perform<H: Shelf, W: Sink>(
     deliver(outcome, text.as_slice(), shelf, out)
 }
 
-/// Reads the words, and carries out the order that they give.
+/// Reads the words, and carries out their order.
 pub(crate) fn work<H: Shelf, W: Sink>(
     alloc: Global,
     words: &[Text],

@@ -20,7 +20,7 @@ command_named name =
     else if bytes_eq name (codes "compare") then Some Compare
     else None
 
--- a value that stands by itself and may not be left out
+-- a required value without an option name
 abbrev pub positional : Text → Rule
 positional id = record (new_rule id) { required = true }
 
@@ -28,11 +28,11 @@ positional id = record (new_rule id) { required = true }
 abbrev pub option : Text → Rule
 option id = record (new_rule id) { long = Some id }
 
--- the same, where it may not be left out
+-- `--id VALUE` or `--id=VALUE`, which is required
 abbrev pub required_option : Text → Rule
 required_option id = record (new_rule id) { long = Some id; required = true }
 
--- a command that takes no words but its own name
+-- a command with only its own name
 abbrev pub bare : Text → App
 bare name = on_top (λ s. record s { disable_help_flag = true; disable_version_flag = true }) (new_app name)
 
@@ -52,7 +52,7 @@ with_tables app =
     (required_option (codes "parts")))
     (required_option (codes "rates"))
 
--- a command that takes the tables of a case and one value more
+-- a command with the tables of a case and one further option
 abbrev pub tables_and : Text → Text → App
 tables_and name id = with_rule (with_tables (bare name)) (required_option id)
 
@@ -60,7 +60,7 @@ tables_and name id = with_rule (with_tables (bare name)) (required_option id)
 unfoldable pub eval_app : App
 eval_app = with_rule (tables_and (codes "eval") (codes "stocks")) (option (codes "bits"))
 
--- the options of what a plan is to reach
+-- the options of a plan's aim
 abbrev pub with_aim : App → App
 with_aim app =
     with_rule (with_rule (with_rule app

@@ -1,10 +1,10 @@
--- What `single` and `plan` make of the words that a user may write, in terms of these words alone.
+-- The orders of `single` and `plan` for the words that a user may write, in terms of these words alone.
 use Rattle.std.specs.Prelude.{◌≡◌, ◌≢◌, ⊤, List, [], ◌∷◌, ◌++◌, Some, None, Err, codes}
 use Rattle.clap.specs.Words.{Text}
 use Rattle.spares_words.specs.Order.{order_of, plan_from, plan_terms_from, single_from}
 use Rattle.spares_words.specs.declared.order.WordsFault.TheVariants.{Shape}
 
--- the word begins with no hyphen (45), or is one alone
+-- the word begins with no hyphen (45), or has at most one byte
 abbrev pub IsPlain : Text → Type 0
 IsPlain [] = ⊤
 IsPlain (_ ∷ []) = ⊤
@@ -19,12 +19,12 @@ abbrev pub TakesTwoWords : Type 0
 TakesTwoWords = (mean stock : Text) → IsPlain mean → IsPlain stock
     → order_of (single_words (mean ∷ stock ∷ [])) ≡ single_from mean None stock
 
--- after two hyphens these are any words
+-- after two hyphens any two words are the mean and the stock
 abbrev pub TakesAnyWords : Type 0
 TakesAnyWords = (mean stock : Text)
     → order_of (single_words (codes "--" ∷ mean ∷ stock ∷ [])) ≡ single_from mean None stock
 
--- `--variance V` stands before, between or after them
+-- `--variance V` may be before, between or after them
 pub record TakesOption (mean stock variance : Text) : Type 0 where
   pub before : order_of (single_words (codes "--variance" ∷ variance ∷ mean ∷ stock ∷ []))
       ≡ single_from mean (Some variance) stock
@@ -33,12 +33,12 @@ pub record TakesOption (mean stock variance : Text) : Type 0 where
   pub after : order_of (single_words (mean ∷ stock ∷ codes "--variance" ∷ variance ∷ []))
       ≡ single_from mean (Some variance) stock
 
--- `--variance V` is taken at each of these places, where V is a plain word too
+-- `--variance V` is taken at each of these places, for any plain word V
 abbrev pub TakesOptionAnywhere : Type 0
 TakesOptionAnywhere = (mean stock variance : Text) → IsPlain mean → IsPlain stock → IsPlain variance
     → TakesOption mean stock variance
 
--- `--variance=V` does too, and there V is any text
+-- so may `--variance=V`, for any text V
 pub record TakesJoined (mean stock variance : Text) : Type 0 where
   pub before : order_of (single_words ((codes "--variance=" ++ variance) ∷ mean ∷ stock ∷ []))
       ≡ single_from mean (Some variance) stock
@@ -52,22 +52,22 @@ abbrev pub TakesJoinedAnywhere : Type 0
 TakesJoinedAnywhere = (mean stock variance : Text) → IsPlain mean → IsPlain stock
     → TakesJoined mean stock variance
 
--- one plain word and three are refused, and so is an option with no value
+-- one plain word or three are refused, and so is an option with no value
 pub record Refuses (a b c : Text) : Type 0 where
   pub one_word : order_of (single_words (a ∷ [])) ≡ Err Shape
   pub three_words : order_of (single_words (a ∷ b ∷ c ∷ [])) ≡ Err Shape
   pub no_value : order_of (single_words (a ∷ b ∷ codes "--variance" ∷ [])) ≡ Err Shape
 
--- these counts of words are refused, whatever plain words they are
+-- these counts of words are refused, for any plain words
 abbrev pub RefusesOtherCounts : Type 0
 RefusesOtherCounts = (a b c : Text) → IsPlain a → IsPlain b → IsPlain c → Refuses a b c
 
--- a second variance is refused, whatever follows
+-- a second variance is refused, whatever follows it
 abbrev pub RefusesSecondOption : Type 0
 RefusesSecondOption = (variance second : Text) (rest : List Text)
     → order_of (single_words ((codes "--variance=" ++ variance) ∷ (codes "--variance=" ++ second) ∷ rest)) ≡ Err Shape
 
--- `plan` with its tables, its budget and its certificate, each joined to its option, and there any text
+-- `plan` with its tables, its budget and its certificate, each any text joined to its option
 abbrev pub TakesJoinedPlan : Type 0
 TakesJoinedPlan = (sites parts rates budget certificate : Text)
     → order_of (

@@ -1,4 +1,4 @@
--- The order that the words of a command line give.
+-- The order of the words of a command line.
 use Rattle.std.specs.Prelude.{◌≡◌, ◌≤◌, ⊤, false, ℕ, List, [], ◌∷◌, Option, Some, None, IfSome, Result, Ok, Err, if◌then◌else◌, ◌&&◌, nat_le, codes, unwrap_or}
 use Rattle.clap.specs.Words.{App, Row, Text, first_of, found_of, rows_of, matches_of, fault_of}
 use Rattle.clap.specs.Walk.{is_empty}
@@ -26,39 +26,39 @@ use Rattle.spares_words.specs.declared.order.WordsFault.{WordsFault}
 use Rattle.spares_words.specs.declared.order.WordsFault.TheVariants.{Shape, Number, Range}
 use Rattle.spares_words.specs.declared.values.Names.{Names}
 
--- the value of an argument that may not be left out
+-- the value of a required argument
 abbrev pub text_of : List Row → Text → Text
 text_of rows id = unwrap_or (first_of id rows) []
 
--- a fault of a number is named by the argument
+-- a fault of a number carries the argument's name
 abbrev pub named : Which → Result Decimal NumberFault → Result Decimal WordsFault
 named which (Ok number) = Ok number
 named which (Err fault) = Err (Number which fault)
 
--- the number that the text of an argument gives with these places
+-- the number that an argument's text spells with this count of decimals
 abbrev pub number_of : Which → ℕ → Text → Result Decimal WordsFault
 number_of which places text = named which (decimal_of text places)
 
--- the same, of an argument that may be left out
+-- the same for an argument that may be left out
 abbrev pub optional_of : Which → ℕ → Option Text → Result (Option Decimal) WordsFault
 optional_of which places None = Ok None
 optional_of which places (Some text) = do
   number ← number_of which places text
   Ok (Some number)
 
--- the same, where it may be from the least to the most of its units
+-- the number if it is from `least` to `most` units
 abbrev pub within : Which → ℕ → ℕ → ℕ → Text → Result Decimal WordsFault
 within which places least most text = do
   number ← number_of which places text
   if nat_le least number.units && nat_le number.units most then Ok number else Err (Range which)
 
--- a whole number that may be from the least to the most
+-- a whole number from `least` to `most`
 abbrev pub whole_of : Which → ℕ → ℕ → Text → Result ℕ WordsFault
 whole_of which least most text = do
   number ← within which 0 least most text
   Ok number.units
 
--- `single` by the texts of its arguments: the mean, then the variance, then the stock of at most 63
+-- `single` from the texts of its arguments: the mean, then the variance, then the stock of at most 63
 abbrev pub single_from : Text → Option Text → Text → Result Order WordsFault
 single_from mean_text variance_text stock_text = do
   mean ← number_of which.Mean 4 mean_text
@@ -66,12 +66,12 @@ single_from mean_text variance_text stock_text = do
   stock ← whole_of which.Stock 0 63 stock_text
   Ok (Single mean variance stock)
 
--- the order of `single` by the rows of its words
+-- the order of `single` from the rows of its words
 abbrev pub single_of : List Row → Result Order WordsFault
 single_of rows =
     single_from (text_of rows (codes "mean")) (first_of (codes "variance") rows) (text_of rows (codes "stock"))
 
--- the bits that a text gives, and 48 where there is none
+-- the bits of a text, by default 48
 abbrev pub bits_of : Option Text → Result ℕ WordsFault
 bits_of None = Ok 48
 bits_of (Some text) = do
@@ -86,39 +86,39 @@ names_of rows = record {
   rates = text_of rows (codes "rates");
 }
 
--- `eval` by the texts of its options: four names as they stand, and the bits
+-- `eval` from the texts of its options: four names, and the bits
 abbrev pub eval_from : Names → Text → Option Text → Result Order WordsFault
 eval_from names stocks bits_text = do
   bits ← bits_of bits_text
   Ok (Eval names.sites names.parts names.rates stocks bits)
 
--- the order of `eval` by the rows of its words
+-- the order of `eval` from the rows of its words
 abbrev pub eval_of : List Row → Result Order WordsFault
 eval_of rows = eval_from (names_of rows) (text_of rows (codes "stocks")) (first_of (codes "bits") rows)
 
--- the objective of a text, if there is one of this name, and backorders where there is no text
+-- the objective of a text, if an objective has this name; by default backorders
 abbrev pub objective_of : Option Text → Option Objective
 objective_of None = Some objective.Backorders
 objective_of (Some name) = objective_word.read name
 
--- an objective that was named must be there
+-- a named objective must exist
 abbrev pub objective_from : Option Objective → Result Objective WordsFault
 objective_from (Some objective) = Ok objective
 objective_from None = Err (Range which.Objective)
 
--- the lowest format that a plan may have: with stocks on hand or by the loss of availability it is the second
+-- the lowest format that a plan may have: 2 with stocks on hand or with the loss of availability
 abbrev pub lowest_format : Option Text → Option Objective → ℕ
 lowest_format (Some on_hand) _ = 2
 lowest_format None (Some objective.LogAvailability) = 2
 lowest_format None (Some objective.Backorders) = 1
 lowest_format None None = 1
 
--- the format of certificates that a text gives, and the lowest where there is none
+-- the format of a text, by default the lowest
 abbrev pub format_of : ℕ → Option Text → Result ℕ WordsFault
 format_of lowest None = Ok lowest
 format_of lowest (Some text) = whole_of which.Format lowest 2 text
 
--- what the texts of `plan` say beside names: the budget, then the format, then the objective
+-- the numbers and the objective of `plan`: the budget, then the format, then the objective
 abbrev pub plan_terms_from : Option Text → Text → Option Text → Option Text → Result Terms WordsFault
 plan_terms_from on_hand budget_text format_text objective_text = do
   budget ← whole_of which.Budget 0 most_budget budget_text
@@ -126,19 +126,19 @@ plan_terms_from on_hand budget_text format_text objective_text = do
   objective ← objective_from (objective_of objective_text)
   Ok (record { budget = budget; format = format; objective = objective })
 
--- budget, format and objective of `plan` by the rows of its words
+-- budget, format and objective of `plan` from the rows of its words
 abbrev pub plan_terms_of : List Row → Result Terms WordsFault
 plan_terms_of rows =
     plan_terms_from (first_of (codes "on-hand") rows) (text_of rows (codes "budget"))
     (first_of (codes "format") rows) (first_of (codes "objective") rows)
 
--- `plan` with the names as they stand
+-- `plan` from its names and its terms
 abbrev pub plan_from : Names → Option Text → Result Terms WordsFault → Text → Result Order WordsFault
 plan_from names on_hand terms_read certificate = do
   terms ← terms_read
   Ok (Plan names.sites names.parts names.rates on_hand terms.budget terms.format terms.objective certificate)
 
--- the order of `plan` by the rows of its words
+-- the order of `plan` from the rows of its words
 abbrev pub plan_of : List Row → Result Order WordsFault
 plan_of rows =
     plan_from (names_of rows) (first_of (codes "on-hand") rows) (plan_terms_of rows)
@@ -148,48 +148,48 @@ plan_of rows =
 abbrev pub check_of : List Row → Result Order WordsFault
 check_of rows = Ok (Check (text_of rows (codes "certificate")))
 
--- `demo` by the texts of its arguments: the number in 32 bits, then 1 to 80 lines
+-- `demo` from the texts of its arguments: the number in 32 bits, then 1 to 80 lines
 abbrev pub demo_from : Text → Text → Result Order WordsFault
 demo_from number_text lines_text = do
   number ← whole_of which.Number 0 4294967295 number_text
   lines ← whole_of which.Lines 1 80 lines_text
   Ok (Demo number lines)
 
--- the order of `demo` by the rows of its words
+-- the order of `demo` from the rows of its words
 abbrev pub demo_of : List Row → Result Order WordsFault
 demo_of rows = demo_from (text_of rows (codes "number")) (text_of rows (codes "lines"))
 
--- `sweep` by the names of its tables
+-- `sweep` from the names of its tables
 abbrev pub sweep_of : List Row → Result Order WordsFault
 sweep_of rows = let names = names_of rows in Ok (Sweep names.sites names.parts names.rates)
 
--- the most backorders that may be asked for, in ten-thousandths
+-- the largest target, in ten-thousandths of a backorder
 abbrev pub most_target : ℕ
 most_target = 10000000000000
 
--- `target` by the texts of its options
+-- `target` from the texts of its options
 abbrev pub target_from : Names → Text → Result Order WordsFault
 target_from names backorders_text = do
   backorders ← within which.Target 4 0 most_target backorders_text
   Ok (Target names.sites names.parts names.rates backorders)
 
--- the order of `target` by the rows of its words
+-- the order of `target` from the rows of its words
 abbrev pub target_of : List Row → Result Order WordsFault
 target_of rows = target_from (names_of rows) (text_of rows (codes "backorders"))
 
--- the order of `session` by the rows of its words
+-- the order of `session` from the rows of its words
 abbrev pub session_of : List Row → Result Order WordsFault
 session_of rows =
     let names = names_of rows in
     Ok (Session names.sites names.parts names.rates (text_of rows (codes "edits")))
 
--- the order of `compare` by the rows of its words
+-- the order of `compare` from the rows of its words
 abbrev pub compare_of : List Row → Result Order WordsFault
 compare_of rows =
     let names = names_of rows in
     Ok (Compare names.sites names.parts names.rates (text_of rows (codes "stocks")))
 
--- the order of a command, by what its arguments and options are given
+-- the order of a command, from the rows of its words
 abbrev pub order_named : CommandName → List Row → Result Order WordsFault
 order_named command.Single = single_of
 order_named command.Eval = eval_of
@@ -201,13 +201,13 @@ order_named command.Target = target_of
 order_named command.Session = session_of
 order_named command.Compare = compare_of
 
--- what a command makes of its words, where it takes them
+-- the order of a command's words, if the command takes them
 unfoldable pub by_command : CommandName → List Text → Result Order WordsFault
 by_command command words =
     if is_empty (fault_of (app_named command) words) then order_named command (matches_of (app_named command) words)
     else Err Shape
 
--- the same, where there is such a command
+-- the same, if there is such a command
 abbrev pub by_named : Option CommandName → List Text → Result Order WordsFault
 by_named None words = Err Shape
 by_named (Some command) words = by_command command words
@@ -217,7 +217,7 @@ unfoldable pub order_of : List Text → Result Order WordsFault
 order_of [] = Err Shape
 order_of (name ∷ rest) = by_named (command_named name) (name ∷ rest)
 
--- the ranges of what `plan` says beside names
+-- the ranges of the budget and the format of `plan`
 abbrev pub AreInRange : Option Text → Terms → Type 0
 AreInRange on_hand terms =
     (terms.budget ≤ most_budget) × (lowest_format on_hand (Some terms.objective) ≤ terms.format) × (terms.format ≤ 2)
@@ -236,7 +236,7 @@ IsInRange (Target sites parts rates backorders) = (backorders.places ≡ 4) × (
 IsInRange (Session sites parts rates edits) = ⊤
 IsInRange (Compare sites parts rates stocks) = ⊤
 
--- what `clap` makes of the words of a command: its rows where it takes them, and else the fault
+-- the answer of `clap` for the words of a command: its rows if the command takes them, or else the fault
 abbrev pub Parses : App → List Text → Result ArgMatches (Stop WordsFault) → Type 0
 Parses app words (Ok matches) =
     (fault_of app words ≡ []) × (rows_of (found_of matches) ≡ matches_of app words)

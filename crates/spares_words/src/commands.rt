@@ -58,7 +58,7 @@ pub(crate) fn command_named(name: &str) -> Option<CommandName>
     }
 }
 
-/// A value that stands by itself and may not be left out.
+/// A required value without an option name.
 fn positional<'a>(alloc: Global, id: &'a str) -> Arg<'a>
     ensures rule { rule_of result ≡ positional id.entry.now }
     ensures local { result.global ≡ false }
@@ -74,7 +74,7 @@ fn option<'a>(alloc: Global, id: &'a str) -> Arg<'a>
     Arg::new(alloc, id).long(id)
 }
 
-/// The same, where it may not be left out.
+/// `--id VALUE` or `--id=VALUE`, which is required.
 fn required_option<'a>(alloc: Global, id: &'a str) -> Arg<'a>
     ensures rule { rule_of result ≡ required_option id.entry.now }
     ensures local { result.global ≡ false }
@@ -82,7 +82,7 @@ fn required_option<'a>(alloc: Global, id: &'a str) -> Arg<'a>
     Arg::new(alloc, id).long(id).required(true)
 }
 
-/// A command that takes no words but its own name, neither help nor version.
+/// A command with only its own name, without help and version.
 fn bare<'a>(alloc: Global, name: &'a str) -> Command<'a>
     ensures { app_of result ≡ bare name.entry.now }
 {
@@ -99,7 +99,7 @@ fn with_arg<'a>(command: Command<'a>, arg: Arg<'a>) -> Result<Command<'a>, Alloc
     command.arg(arg)
 }
 
-/// The command with a value that stands by itself.
+/// The command with a required value without an option name.
 fn with_positional<'a>(
     alloc: Global,
     command: Command<'a>,
@@ -121,7 +121,7 @@ fn with_option<'a>(
     with_arg(command, option(alloc, id))
 }
 
-/// The command with an option that may not be left out.
+/// The command with a required option.
 fn with_required<'a>(
     alloc: Global,
     command: Command<'a>,
@@ -151,7 +151,7 @@ fn with_tables<'a>(alloc: Global, command: Command<'a>) -> Result<Command<'a>, A
     with_required(alloc, command, "rates")
 }
 
-/// A command that takes the tables of a case and one value more.
+/// A command with the tables of a case and one further option.
 fn tables_and<'a>(alloc: Global, name: &'a str, id: &'a str) -> Result<Command<'a>, AllocError>
     ensures { IfOk result (λ c. app_of c ≡ tables_and name.entry.now id.entry.now) }
 {
@@ -168,7 +168,7 @@ fn eval_command<'a>(alloc: Global) -> Result<Command<'a>, AllocError>
     with_option(alloc, command, "bits")
 }
 
-/// The options of what a plan is to reach: the money, the stocks on hand and the objective.
+/// The options of a plan's aim: the budget, the stocks on hand and the objective.
 fn with_aim<'a>(alloc: Global, command: Command<'a>) -> Result<Command<'a>, AllocError>
     ensures { IfOk result (λ c. app_of c ≡ with_aim (app_of command.entry)) }
 {

@@ -1,6 +1,6 @@
-//! What `single` and `plan` make of the words that a user may write, for every text.
+//! The orders of `single` and `plan` for every text that a user may write.
 //!
-//! `order_of` is defined by what `clap` takes. These laws say the same in terms of the words alone.
+//! `order_of` is defined by `clap`'s rules. These laws say the same in terms of the words alone.
 ghost use Rattle.spares_words.specs.Laws.{
   RefusesOtherCounts,
   RefusesSecondOption,
@@ -21,17 +21,17 @@ pub fn takes_any_words()
     ensures { TakesAnyWords }
 {}
 
-/// `--variance V` may stand before, between or after them.
+/// `--variance V` may be before, between or after them.
 pub fn takes_option()
     ensures { TakesOptionAnywhere }
 {}
 
-/// So may `--variance=V`, where V is any text.
+/// So may `--variance=V`, for any text V.
 pub fn takes_joined_option()
     ensures { TakesJoinedAnywhere }
 {}
 
-/// One word, three words and an option with no value are refused.
+/// One word, three words or an option with no value are refused.
 pub fn refuses_other_counts()
     ensures { RefusesOtherCounts }
 {}
@@ -41,7 +41,7 @@ pub fn refuses_second_option()
     ensures { RefusesSecondOption }
 {}
 
-/// `plan --sites=F --parts=F --rates=F --budget=N --certificate=F`, where F and N are any texts.
+/// `plan --sites=F --parts=F --rates=F --budget=N --certificate=F` is taken for any texts F and N.
 pub fn takes_joined_plan()
     ensures { TakesJoinedPlan }
 {}

@@ -7,7 +7,7 @@ use crate::{Which, WordsFault};
 use exact_ratio::{Decimal, read_decimal};
 use price_certificate::Objective;
 
-/// The number that a text gives with these places.
+/// The number that a text spells with this count of decimals.
 pub(crate) fn number(which: Which, places: u8, text: &str) -> Result<Decimal, WordsFault>
     requires { places ≤ 4 }
     ensures value { result ≡ number_of which places text.now }
@@ -35,7 +35,7 @@ pub(crate) fn optional(
     }
 }
 
-/// The number that a text gives with these places, if it is one from `least` to `most` units.
+/// The number that a text spells with this count of decimals, if it is from `least` to `most` units.
 pub(crate) fn within(
     which: Which,
     places: u8,
@@ -57,7 +57,7 @@ pub(crate) fn within(
     }
 }
 
-/// The whole number that a text gives, if it is one from `least` to `most`.
+/// The whole number that a text spells, if it is from `least` to `most`.
 pub(crate) fn whole(which: Which, least: u64, most: u64, text: &str) -> Result<u64, WordsFault>
     ensures value { result ≡ whole_of which least most text.now }
     ensures least { IfOk result (λ number. least ≤ number) }
@@ -67,14 +67,14 @@ pub(crate) fn whole(which: Which, least: u64, most: u64, text: &str) -> Result<u
     Ok(number.units)
 }
 
-/// Whether an interval may have so many bits.
+/// Whether an interval may have this count of bits.
 fn is_width(bits: u64) -> bool
     ensures { result ≡ is_width bits }
 {
     bits == 32 || bits == 48 || bits == 52
 }
 
-/// The bits of a text that may be left out: then they are 48.
+/// The bits of a text that may be left out; the default is 48.
 pub(crate) fn bits(text: Option<&str>) -> Result<u8, WordsFault>
     ensures value { result ≡ bits_of (option_map (λ s. s.now) text.entry) }
     ensures range { IfOk result IsWidth }
@@ -90,7 +90,7 @@ pub(crate) fn bits(text: Option<&str>) -> Result<u8, WordsFault>
     }
 }
 
-/// The objective of a text, if there is one of this name, and backorders where there is no text.
+/// The objective of a text, if an objective has this name; the default is backorders.
 pub(crate) fn objective_of(text: Option<&str>) -> Option<Objective>
     ensures { result ≡ objective_of (option_map (λ s. s.now) text.entry) }
 {
@@ -114,7 +114,7 @@ pub(crate) fn lowest_format(on_hand: Option<&str>, objective: Option<Objective>)
     }
 }
 
-/// The format of a text that may be left out: then it is the lowest.
+/// The format of a text that may be left out; the default is `lowest`.
 pub(crate) fn format(lowest: u8, text: Option<&str>) -> Result<u8, WordsFault>
     requires { lowest ≤ 2 }
     ensures value { result ≡ format_of lowest (option_map (λ s. s.now) text.entry) }

@@ -1,4 +1,4 @@
-//! What a command line asks for.
+//! The order of a command line.
 use exact_ratio::{Decimal, NumberFault};
 use price_certificate::Objective;
 use spares_io::Text;
@@ -28,29 +28,29 @@ pub enum Which {
     Objective,
 }
 
-/// Why the words of a command line give no order.
+/// The reason why the words of a command line are no order.
 #[derive(Clone, Copy, Debug, PartialEq, Eq)]
 pub enum WordsFault {
     /// The first word names no command, or the command doesn't take the words after it.
     Shape,
-    /// The text of an argument is no number, or has too many decimals, or is too large for any number.
+    /// The text of an argument is no number, has too many decimals, or is too large for any number.
     Number(Which, NumberFault),
     /// A number that is outside its range.
     Range(Which),
 }
 
-/// What a command line asks for.
+/// The order of a command line: a command with its values.
 #[derive(Debug, Drop, PartialEq, Eq)]
 pub enum Order {
-    /// `single MEAN STOCK [--variance V]`: the backorders of one pipeline. Mean and variance are units,
-    /// in ten-thousandths (4 places); the stock is at most 63 units. Without a variance it is the mean.
+    /// `single MEAN STOCK [--variance V]`: the backorders of one pipeline. Mean and variance are in units with 4
+    /// decimals; the stock is at most 63 units. The default variance is the mean.
     Single {
         mean: Decimal,
         variance: Option<Decimal>,
         stock: u8,
     },
-    /// `eval --sites F --parts F --rates F --stocks F [--bits N]`: the figures of a case at given stocks. The
-    /// texts are the names of its four tables; intervals have 32, 48 or 52 bits, and 48 where none are given.
+    /// `eval --sites F --parts F --rates F --stocks F [--bits N]`: the figures of a case at given stocks. The texts are
+    /// the names of its four tables. Intervals have 32, 48 or 52 bits; the default is 48.
     Eval {
         sites: Text,
         parts: Text,
@@ -59,10 +59,10 @@ pub enum Order {
         bits: u8,
     },
     /// `plan --sites F --parts F --rates F [--on-hand F] --budget N [--format N] [--objective NAME] --certificate F`:
-    /// the best stocks for at most this money, 0 to 10^15, and a certificate that shows how good they are, to be
-    /// written under a name. With a table of stocks on hand they are only added to. The objective is backorders
-    /// where none is named. The format of the certificate is 1 or 2. It is 2 with stocks on hand and by the loss of
-    /// availability, and elsewhere 1 where none is given.
+    /// the best stocks for at most this money, 0 to 10^15, and the file name for a certificate that shows how good they
+    /// are. With a table of stocks on hand the plan only adds to them. The default objective is backorders. The format
+    /// of the certificate is 1 or 2: 2 with stocks on hand or with the loss of availability, and otherwise 1 by
+    /// default.
     Plan {
         sites: Text,
         parts: Text,
@@ -73,11 +73,11 @@ pub enum Order {
         objective: Objective,
         certificate: Text,
     },
-    /// `check --certificate F`: whether a certificate shows what it claims.
+    /// `check --certificate F`: whether a certificate shows its claims.
     Check {
         certificate: Text,
     },
-    /// `demo NUMBER LINES`: a case of 1 to 80 line units, made from its number, planned and checked.
+    /// `demo NUMBER LINES`: a case of 1 to 80 line units, made from this number, planned and checked.
     Demo {
         number: u32,
         lines: u16,
@@ -88,23 +88,23 @@ pub enum Order {
         parts: Text,
         rates: Text,
     },
-    /// `target --sites F --parts F --rates F --backorders X`: what it costs to have at most so many backorders, in
-    /// ten-thousandths (4 places), from 0 to 1,000,000,000 of them.
+    /// `target --sites F --parts F --rates F --backorders X`: the cost of at most this number of backorders, 0 to
+    /// 1,000,000,000 with 4 decimals.
     Target {
         sites: Text,
         parts: Text,
         rates: Text,
         backorders: Decimal,
     },
-    /// `session --sites F --parts F --rates F --edits F`: the plans that a file of edits asks for, one after the other.
+    /// `session --sites F --parts F --rates F --edits F`: the plans that a file of edits asks for, in order.
     Session {
         sites: Text,
         parts: Text,
         rates: Text,
         edits: Text,
     },
-    /// `compare --sites F --parts F --rates F --stocks F`: the backorders of a case at given stocks, beside those
-    /// where each pipeline is taken for Poisson.
+    /// `compare --sites F --parts F --rates F --stocks F`: the backorders of a case at given stocks, beside those with
+    /// Poisson pipelines.
     Compare {
         sites: Text,
         parts: Text,

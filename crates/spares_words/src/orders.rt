@@ -215,7 +215,7 @@ fn compare_order(alloc: Global, matches: &ArgMatches<'_>) -> Result<Order, Stop<
     })
 }
 
-/// A fault of the words, beside want of memory.
+/// The order, or its fault as a stop.
 fn or_stop(order: Result<Order, WordsFault>) -> Result<Order, Stop<WordsFault>>
     ensures { Gives order result }
 {

@@ -12,7 +12,7 @@ use clap::{ArgMatches, Command};
 use spares_io::{Stop, Text};
 use std::alloc::Global;
 
-/// What `clap` makes of the words of a command.
+/// The matches of `clap` for the words of a command.
 fn parsed<'a>(command: Command<'a>, words: &'a [Text]) -> Result<ArgMatches<'a>, Stop<WordsFault>>
     requires { is_simple_and_free (app_of command) ≡ true }
     ensures { Parses (app_of command.entry) words.entry.now result }
@@ -26,7 +26,7 @@ fn parsed<'a>(command: Command<'a>, words: &'a [Text]) -> Result<ArgMatches<'a>,
     }
 }
 
-/// The order that a command makes of its words.
+/// The order of a command's words.
 #[tactic(auto, using(crate::proofs::Taken::taken, crate::proofs::Taken::handed_up))]
 fn read_command(alloc: Global, name: CommandName, words: &[Text]) -> Result<Order, Stop<WordsFault>>
     ensures order { Gives (by_command name words.now) result }
@@ -39,11 +39,11 @@ fn read_command(alloc: Global, name: CommandName, words: &[Text]) -> Result<Orde
     order_named(alloc, name, &matches)
 }
 
-/// The order of the words that follow the program's name.
+/// The order of the words after the program's name.
 ///
-/// The first word must be the name of a command, and the words after it must be ones that this command
-/// takes, else the answer is `Shape`. Then the numbers are read in the order of the fields of `Order`,
-/// each `Number` before its `Range`.
+/// The first word must be the name of a command, and the words after it must fit this command: otherwise the fault is
+/// `Shape`. Then the numbers are read in the order of the fields of `Order`, and each number's `Number` comes before
+/// its `Range`.
 #[tactic(auto, unfolding(crate::specs::Order::order_of))]
 pub fn read_words(alloc: Global, words: &[Text]) -> Result<Order, Stop<WordsFault>>
     ensures order { Gives (order_of words.now) result }

@@ -1,4 +1,4 @@
-//! What `clap` found for the arguments of a command.
+//! The values that `clap` found for the arguments of a command.
 ghost use Rattle.std.specs.Prelude.{◌≡◌, option_map, Ok};
 ghost use Rattle.clap.specs.Words.{first_of, found_of, rows_of};
 ghost use Rattle.spares_io.specs.Answers.{Gives};
@@ -16,7 +16,7 @@ pub(crate) fn value_of<'a>(matches: &ArgMatches<'a>, id: &str) -> Option<&'a str
     matches.get_str(id)
 }
 
-/// The value of an argument that may not be left out.
+/// The value of a required argument.
 pub(crate) fn text_of<'a>(matches: &ArgMatches<'a>, id: &str) -> &'a str
     ensures { result.now ≡ text_of (rows_of (found_of matches.now)) id.now }
 {
@@ -36,7 +36,7 @@ fn copy_of(alloc: Global, text: &str) -> Result<Text, Stop<WordsFault>>
     }
 }
 
-/// A copy of the value of an argument that may not be left out.
+/// A copy of the value of a required argument.
 pub(crate) fn copied(
     alloc: Global,
     matches: &ArgMatches<'_>,

@@ -16,16 +16,16 @@ pub record HasStep (curves : List (List Point)) (f k : ℕ) : Type 0 where
   pub family : f < length curves
   pub place : k + 1 < length (curve_at curves f)
 
--- how much lower the vertex after the place k of the family f is than that at k
+-- the fall of the lower end from the vertex at k of the family f to the next
 abbrev pub fall : List (List Point) → ℕ → ℕ → ℕ
 fall curves f k = (vertex_at curves f k).lo - (vertex_at curves f (k + 1)).lo
 
--- how much more the vertex after the place k of the family f costs than that at k
+-- the rise of the cost from the vertex at k of the family f to the next
 abbrev pub rise : List (List Point) → ℕ → ℕ → ℕ
 rise curves f k = (vertex_at curves f (k + 1)).cost - (vertex_at curves f k).cost
 
--- the one step comes before the other: it falls more per money, or as much and its family is the first, or then its
--- place
+-- the first step comes before the other: it falls more per money, or as much and its family comes first, or its place
+-- in the same family
 abbrev pub IsBefore : List (List Point) → ℕ → ℕ → ℕ → ℕ → Type 0
 IsBefore curves f k g j =
     (fall curves g j * rise curves f k < fall curves f k * rise curves g j)

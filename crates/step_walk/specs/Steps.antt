@@ -7,7 +7,7 @@ use Rattle.hull.specs.declared.point.Point.{Point}
 use Rattle.step_walk.specs.declared.step.Step.{Step}
 use Rattle.step_walk.specs.Prefix.{HasStep, fall, rise}
 
--- by cross products
+-- the order of slopes, by cross products
 abbrev pub slope_cmp : Step → Step → Ordering
 slope_cmp x y = nat_cmp (x.price.p * y.price.q) (y.price.p * x.price.q)
 
@@ -22,16 +22,16 @@ pub record TellsStep (curves : List (List Point)) (f k : ℕ) (s : Step) : Type 
   pub p : s.price.p ≡ fall curves f k
   pub q : s.price.q ≡ rise curves f k
 
--- the step from there, where there is one
+-- the step from place k of family f, if there is one
 abbrev pub TellsNext : List (List Point) → ℕ → ℕ → Option Step → Type 0
 TellsNext curves f k None = HasStep curves f k → ⊥
 TellsNext curves f k (Some s) = TellsStep curves f k s
 
--- 1 where f is g, and else 0
+-- 1 if f is g, otherwise 0
 abbrev pub is_of : ℕ → ℕ → ℕ
 is_of g f = 1 - ((f - g) + (g - f))
 
--- how many of the steps are of family g
+-- the number of the steps that are of family g
 abbrev pub count_of : ℕ → List Step → ℕ
 count_of g [] = 0
 count_of g (s ∷ steps) = is_of g s.family + count_of g steps
@@ -41,7 +41,7 @@ pub record IsNextOfOwn (curves : List (List Point)) (picks : List ℕ) (n : ℕ)
   pub below : s.family < n
   pub told : TellsStep curves s.family (slice_index picks s.family) s
 
--- the steps are the next ones of the families below n that have one, each of them once
+-- the steps are the next steps of the families below n that have one, each once
 pub record HoldsNext (curves : List (List Point)) (picks : List ℕ) (n : ℕ) (steps : List Step) : Type 0 where
   pub own : AllByRecursion (IsNextOfOwn curves picks n) steps
   pub once : (g : ℕ) → count_of g steps ≤ 1

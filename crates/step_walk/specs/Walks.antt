@@ -8,12 +8,12 @@ use Rattle.step_walk.specs.declared.walk.Next.{Next}
 use Rattle.step_walk.specs.Steep.{AreAfterSteep}
 use Rattle.step_walk.specs.Steps.{step_cmp, HoldsNext}
 
--- the curves, and the vertex of each that was come to
+-- the curves, and the vertex of each that the walk has reached
 pub record Walked : Type 0 where
   pub curves : List (List Point)
   pub picks : List ℕ
 
--- the steps that were taken are a prefix of all, and the next ones of the families wait
+-- the steps taken are a prefix of all, and the next ones of the families wait
 pub record IsWalk (curves : List (List Point)) (picks : List ℕ) (waiting : List Step) : Type 0 where
   pub few : length curves ≤ 2000
   pub shapes : HaveShapes curves
@@ -21,7 +21,7 @@ pub record IsWalk (curves : List (List Point)) (picks : List ℕ) (waiting : Lis
   pub order : IsHeap step_cmp waiting
   pub held : HoldsNext curves picks (length curves) waiting
 
--- what is true of each walk
+-- the properties of each walk
 pub record IsOnWay (walk : Walked) : Type 0 where
   pub shapes : HaveShapes walk.curves
   pub prefix : IsPrefix walk.curves walk.picks
@@ -32,7 +32,7 @@ pub record IsAtFirst (curves : List (List Point)) (walk : Walked) : Type 0 where
   pub same : walk.curves ≡ curves
   pub zero : (f : ℕ) → slice_index walk.picks f ≡ 0
 
--- the steps of these curves that fall by more than p for each unit of money are taken, and no others
+-- the steps of these curves that fall by more than p per unit of money are taken, and no others
 pub record IsAfter (p : ℕ) (curves : List (List Point)) (walk : Walked) : Type 0 where
   pub way : IsOnWay walk
   pub same : walk.curves ≡ curves
@@ -56,7 +56,7 @@ pub record TellsFirst (walk : Walked) (next : Next) : Type 0 where
 abbrev pub HasNext : Walked → Type 0
 HasNext walk = (f : ℕ) × IsNext walk.curves walk.picks f
 
--- the first step that wasn't taken is, and nothing else
+-- one step more is taken: the first that wasn't
 pub record MovesOn (old new : Walked) : Type 0 where
   pub curves : new.curves ≡ old.curves
   pub picks : (f : ℕ) → IsNext old.curves old.picks f → new.picks ≡ set old.picks f (slice_index old.picks f + 1)

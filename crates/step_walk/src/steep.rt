@@ -1,4 +1,4 @@
-//! The steps that fall by more than a price for each unit of money, which come before all others.
+//! The steps that fall by more than a price per unit of money, which come before all others.
 ghost use Rattle.std.specs.Prelude.{◌*◌, ◌^◌, ◌<◌, ◌≤◌, IfOk, IsTrue, ◌↔◌};
 ghost use Rattle.step_walk.specs.Steep.{AreAfterSteep, IsAfterSteep};
 
@@ -6,7 +6,7 @@ use hull::{Curve, Price};
 use spares_io::NoMemory;
 use std::alloc::Global;
 
-/// Whether a step falls by more than this for each unit of money.
+/// Whether a step falls by more than `price` per unit of money.
 fn is_steep(step: Price, price: u128) -> bool
     requires price { price ≤ 2 ^ 74 }
     requires rise { step.q ≤ 1000000000000 }
@@ -15,7 +15,7 @@ fn is_steep(step: Price, price: u128) -> bool
     price * u128::from(step.q) < step.p
 }
 
-/// The vertex of a curve after its steps that fall by more than this for each unit of money.
+/// The vertex of a curve after its steps that fall by more than `price` per unit of money.
 fn after_steep(curve: &Curve, price: u128) -> u32
     requires { price ≤ 2 ^ 74 }
     ensures { IsAfterSteep price curve.now result }
@@ -33,8 +33,8 @@ fn after_steep(curve: &Curve, price: u128) -> u32
     low
 }
 
-/// The vertex of each curve after its steps that fall by more than this for each unit of money. It is in units of
-/// 2^-48 for whole money, and at most 2^74. Want of memory is the only error.
+/// The vertex of each curve after its steps that fall by more than `price` per unit of money. The price is in units of
+/// 2^-48 for whole money, at most 2^74. Want of memory is the only error.
 pub fn all_after_steep(alloc: Global, curves: &[Curve], price: u128) -> Result<Vec<u32>, NoMemory>
     requires { price ≤ 2 ^ 74 }
     ensures { IfOk result (λ picks. AreAfterSteep price curves.now picks.items) }

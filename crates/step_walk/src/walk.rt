@@ -22,10 +22,9 @@ pub struct Next {
     pub price: Price,
 }
 
-/// The steps of at most 2,000 curves, as far as they were taken: by falling slope, of equal slopes by family and then
-/// by place.
+/// A walk over the steps of at most 2,000 curves: by falling slope, of equal slopes by family and then by place.
 ///
-/// It is seen as the curves and the picks, which are one vertex of each curve.
+/// Contracts see it as the curves and the picks, one vertex of each curve.
 #[derive(Drop)]
 pub struct Walk<'a> {
     curves: &'a [Curve],
@@ -44,7 +43,7 @@ impl<'a> Model for Walk<'a> {
     ghost invariant = { λ w. IsWalk w.curves.now w.picks.items (heap_items w.waiting) };
 }
 
-/// The step of a family from a place, where there is one.
+/// The step of a family from a place, if there is one.
 fn next_step(curves: &[Curve], family: u32, place: u32) -> Option<Step>
     requires family { family < length curves.now }
     requires place { place < length (curve_at curves.now family) }
@@ -110,8 +109,8 @@ impl<'a> Walk<'a> {
         })
     }
 
-    /// A walk that has taken the steps that fall by more than this for each unit of money. It is in units of 2^-48 for
-    /// whole money, and at most 2^74. Want of memory is the only error.
+    /// A walk that has taken the steps that fall by more than `price` per unit of money. The price is in units of 2^-48
+    /// for whole money, at most 2^74. Want of memory is the only error.
     pub fn begin_after(
         alloc: Global,
         curves: &'a [Curve],
@@ -130,7 +129,7 @@ impl<'a> Walk<'a> {
         })
     }
 
-    /// The next step, and None where no step is left.
+    /// The next step, or None if no step is left.
     pub fn next(&self) -> Option<Next>
         ensures none { IfNone result (AllDone self.now) }
         ensures some { IfSome result (λ next. TellsFirst self.now next) }
@@ -145,7 +144,7 @@ impl<'a> Walk<'a> {
         })
     }
 
-    /// Takes the next step, where one is left. Want of memory is the only error.
+    /// Takes the next step, if one is left. Want of memory is the only error.
     pub fn take(self) -> Result<Walk<'a>, NoMemory>
         requires { HasNext self }
         ensures { IfOk result (λ walk. MovesOn self.entry walk) }
@@ -170,14 +169,14 @@ impl<'a> Walk<'a> {
         })
     }
 
-    /// The vertices that the walk has come to, as a vector.
+    /// The vertices that the walk has reached, as a vector.
     pub fn into_picks(self) -> Vec<u32>
         ensures { result.items ≡ self.entry.picks }
     {
         self.picks
     }
 
-    /// The vertices that the walk has come to.
+    /// The vertices that the walk has reached.
     pub fn picks(&self) -> &[u32]
         ensures { result.now ≡ self.now.picks }
     {

@@ -1,7 +1,7 @@
-//! A walk through the sums of several curves, which hands out those that may be vertices of a curve.
+//! A walk through the sums of several curves, which hands out the sums that may be vertices of a curve.
 //!
-//! Each curve has its vertices by cost, and so its steps fall less for their money from vertex to vertex. The sums of a
-//! vertex of each are many; those that are vertices themselves are passed where always the steepest step is taken.
+//! Each curve lists its vertices by cost, so its steps fall less and less per money. There are many sums of one vertex
+//! of each curve; a walk that always takes the steepest step passes every sum that is a vertex.
 #![tactic(auto)]
 
 pub mod walk;

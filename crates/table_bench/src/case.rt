@@ -1,4 +1,4 @@
-//! A case: how many tables, and of which moments.
+//! A case: a count of tables, and their moments.
 
 use anyhow::{Context, anyhow};
 use fixed_interval::Iv;
@@ -6,10 +6,10 @@ use moment_table::{put_backorders, table};
 use series_bounds::short::Iv64;
 use std::alloc::Global;
 
-/// The most of a mean or a variance, in ten-thousandths.
+/// The largest mean or variance, in ten-thousandths.
 const MOST: u32 = 2_560_000;
 
-/// How many tables, and the mean and the variance of the first one, in ten-thousandths.
+/// The count of tables, and the mean and the variance of the first, in ten-thousandths.
 #[derive(Clone, Copy, Drop)]
 pub struct Case {
     pub count: u32,
@@ -27,8 +27,8 @@ impl Case {
         })
     }
 
-    /// The ends of all tables taken together: the lower one of the backorders at 7, and the upper one of their
-    /// variance at 9.
+    /// The checksum of all tables, from two ends of each: the lower end of the backorders at 7, and the upper end of
+    /// their variance at 9.
     pub fn checksum(self, alloc: Global) -> anyhow::Result<u128> {
         let mut sum = 0;
         for i in 0..self.count {
@@ -42,7 +42,7 @@ impl Case {
     }
 }
 
-/// The moment of this many ten-thousandths and `more`.
+/// The moment of `units` and `more` ten-thousandths.
 fn moment(units: u32, more: u32) -> anyhow::Result<Iv<48>> {
     if units > MOST || more > MOST - units {
         return Err(anyhow!("a moment is at most {MOST}"));
@@ -50,7 +50,7 @@ fn moment(units: u32, more: u32) -> anyhow::Result<Iv<48>> {
     Ok(Iv::of_ratio(u128::from(units + more), 10_000))
 }
 
-/// Two ends of one table, where a mean and a variance of these sizes have one.
+/// Two ends of one table, if a mean and a variance of these sizes have one.
 fn ends(alloc: Global, mean: Iv<48>, variance: Iv<48>) -> anyhow::Result<u128> {
     let most = Iv::<48>::exact(256).hi();
     if mean.hi() > most || variance.hi() > most {
@@ -64,8 +64,8 @@ fn ends(alloc: Global, mean: Iv<48>, variance: Iv<48>) -> anyhow::Result<u128> {
     Ok(table.ebo(7).lo() ^ table.vbo(9).hi())
 }
 
-/// The ends of the last backorders of so many lists taken together. List number i is that of a mean from 0.3 to 6, and
-/// of a variance that is from 1 to 1.3 times the mean.
+/// The checksum of `count` lists, from the ends of the last backorders of each. List number i has a mean from 0.3 to 6,
+/// and a variance from 1 to 1.3 times the mean.
 pub fn backorders_checksum(alloc: Global, count: u32) -> anyhow::Result<u128> {
     let mut sum = 0;
     let mut found = Vec::new(alloc);
@@ -77,7 +77,7 @@ pub fn backorders_checksum(alloc: Global, count: u32) -> anyhow::Result<u128> {
     Ok(sum)
 }
 
-/// The ends of the backorders at the stock 5, where a mean and a variance of these sizes have a table.
+/// The ends of the backorders at the stock 5, if a mean and a variance of these sizes have a table.
 fn last_ends(found: &mut Vec<Iv64<48>>, mean: Iv<48>, variance: Iv<48>) -> anyhow::Result<u128> {
     let most = Iv::<48>::exact(256).hi();
     if mean.hi() > most || variance.hi() > most {

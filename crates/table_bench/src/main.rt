@@ -1,8 +1,8 @@
 //! Times the making of tables, and checks their ends by a checksum.
 //!
-//! With the words `COUNT MEAN VARIANCE` it makes COUNT tables, number i of the mean MEAN + i mod 97 and of the variance
-//! VARIANCE + i mod 89, both in ten-thousandths, and prints the checksum. With a fourth word `timed` it prints the
-//! nanoseconds of a table too. With no words it makes a few tables of each of five cases.
+//! With the words `COUNT MEAN VARIANCE` it makes COUNT tables, number i with the mean MEAN + i mod 97 and the variance
+//! VARIANCE + i mod 89, both in ten-thousandths, and prints the checksum. With a fourth word `timed` it also prints the
+//! nanoseconds of a table. With no words it makes a few tables of each of five cases.
 //!
 //! With the words `backorders COUNT [timed]` it makes COUNT lists of the backorders at the stocks 0 to 5 instead.
 #![tactic(auto)]
@@ -14,7 +14,7 @@ use case::{Case, backorders_checksum};
 use std::env;
 use std::time::Instant;
 
-/// The means and variances of a run with no words, in ten-thousandths, and how many tables it makes of each.
+/// The means and variances of a run with no words, in ten-thousandths, and the count of tables of each.
 const MOMENTS: [(u32, u32); 5] = [
     (5_000, 5_000),
     (46_594, 60_000),
@@ -25,7 +25,7 @@ const MOMENTS: [(u32, u32); 5] = [
 
 const FEW: u32 = 5;
 
-/// Makes the tables of a case, and prints the checksum and, where it is asked for, the time of one.
+/// Makes the tables of a case, and prints the checksum and, if it is asked for, the time of one.
 fn report(rt: &HostRuntime, case: Case, timed: bool) -> anyhow::Result<()> {
     let start = Instant::now(rt)?;
     let sum = case.checksum(rt.alloc())?;
@@ -44,7 +44,7 @@ fn report(rt: &HostRuntime, case: Case, timed: bool) -> anyhow::Result<()> {
     Ok(())
 }
 
-/// Makes lists of backorders, and prints their checksum and, where it is asked for, the time of one.
+/// Makes lists of backorders, and prints their checksum and, if it is asked for, the time of one.
 fn report_backorders(rt: &HostRuntime, count: &str, timed: bool) -> anyhow::Result<()> {
     let count: u32 = count.parse().context("COUNT")?;
     let start = Instant::now(rt)?;

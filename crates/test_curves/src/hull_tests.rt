@@ -1,4 +1,4 @@
-//! Curves of a few points, as a program that was written apart from this one makes them, and a score.
+//! Curves of a few points, against a program written apart from this one, and a score.
 
 ghost use Rattle.std.specs.Prelude.{◌≡◌, ◌^◌, ◌<◌, ◌≤◌, IfOk, length};
 ghost use Rattle.hull.specs.declared.point.Point.{Point};
@@ -14,7 +14,7 @@ use std::test::Fail;
 /// The cost, both ends and the stocks of a point.
 type Row = (u64, u128, u128, &'static [u8]);
 
-/// All points of one line unit at a depot with room for 2 and a base with room for 3.
+/// All points of a line unit at a depot that may hold 2 and a base that may hold 3.
 const LINE_UNIT: [Row; 12] = [
     (0, 844424930131968, 844424930131968, &[0, 0]),
     (100, 576963767330647, 576963767330649, &[0, 1]),
@@ -102,7 +102,7 @@ fn has(rt: &impl Abort, curve: &Curve, rows: &[Row]) {
 /// Points, and the vertices of their curve.
 const CURVES: [(&[Row], &[Row]); 4] = [
     (&LINE_UNIT, &ITS_CURVE),
-    // Of the same place the first stocks stay.
+    // Of two points at the same place the first one's stocks stay.
     (
         &[
             (0, 9, 9, &[0, 0]),
@@ -113,7 +113,7 @@ const CURVES: [(&[Row], &[Row]); 4] = [
         ],
         &[(0, 9, 9, &[0, 0]), (4, 5, 6, &[1, 0])],
     ),
-    // What lies on a line between two others goes.
+    // A point on the line between two others goes.
     (
         &[
             (0, 12, 12, &[0, 0]),
@@ -124,7 +124,7 @@ const CURVES: [(&[Row], &[Row]); 4] = [
         ],
         &[(0, 12, 12, &[0, 0]), (3, 3, 3, &[1, 0]), (4, 2, 2, &[1, 1])],
     ),
-    // And so does what lies above.
+    // So does a point above such a line.
     (
         &[
             (2, 8, 8, &[0, 1]),
@@ -248,7 +248,7 @@ fn joins_and_adds_curves(rt: HostRuntime) -> Result<(), Fail> {
     Ok(())
 }
 
-/// Prices, and the vertex that is best at each: where two are least, the first.
+/// Prices, and the best vertex at each: of two least ones, the first.
 const PRICES: [(u128, u64, u32); 6] = [
     (0, 1, 5),
     (1 << 74, 1, 0),

@@ -1,4 +1,4 @@
-//! Ends computed apart from this code.
+//! Losses whose ends were computed apart from this code.
 
 use fixed_interval::Iv;
 use hull::Score;

@@ -1,4 +1,4 @@
-//! Choices over a few curves, as a program that was written apart from this one makes them.
+//! Choices over a few curves, against a program written apart from this one.
 
 ghost use Rattle.std.specs.Prelude.{◌≡◌, ℕ, ◌^◌, ◌<◌, IsTrue, length};
 ghost use Rattle.hull.specs.declared.point.Point.{Point};
@@ -12,10 +12,10 @@ use std::alloc::Global;
 use std::process::Abort;
 use std::test::Fail;
 
-/// How many pieces a vertex has, and both its ends.
+/// The count of pieces of a vertex, and both its ends.
 type Row = (u64, u128, u128);
 
-/// A line unit at a depot with room for 2 and a base with room for 3.
+/// A line unit at a depot that may hold 2 and a base that may hold 3.
 const LINE_UNIT: [Row; 6] = [
     (0, 844424930131968, 844424930131968),
     (1, 576963767330647, 576963767330649),
@@ -28,7 +28,7 @@ const LINE_UNIT: [Row; 6] = [
 /// Upper ends that don't fall all along the curve.
 const WIDE: [Row; 4] = [(0, 40, 45), (2, 20, 50), (5, 8, 30), (9, 2, 31)];
 
-/// The vertices of all curves, what a piece of each costs, a budget, the hull choice, and its filling.
+/// The vertices of all curves, the cost of a piece of each, a budget, the hull choice, and its filling.
 #[derive(Clone, Copy, Drop)]
 struct Case<'a> {
     rows: &'a [Row],
@@ -132,7 +132,7 @@ const CASES: [Case<'static>; 10] = [
         critical: None,
         filled: &[5],
     },
-    // Of equal slopes the first family's step is taken.
+    // Of equal slopes the first family's step comes first.
     Case {
         rows: &LINE_UNIT,
         apiece: &[100, 100],
@@ -153,7 +153,7 @@ const CASES: [Case<'static>; 10] = [
         critical: Some((2, 2)),
         filled: &[2, 2, 1],
     },
-    // What is left after the critical step fits the last vertex of the other family.
+    // The money left after the critical step buys the last vertex of the other family.
     Case {
         rows: &LINE_UNIT,
         apiece: &[100, 30],
@@ -164,7 +164,7 @@ const CASES: [Case<'static>; 10] = [
         critical: Some((0, 1)),
         filled: &[0, 5],
     },
-    // A filling goes back where an earlier upper end is lower.
+    // A filling goes back if an earlier upper end is lower.
     Case {
         rows: &WIDE,
         apiece: &[1],

@@ -13,7 +13,7 @@ use spares_io::{NoMemory, Stop};
 use std::alloc::Global;
 use std::test::*;
 
-/// Demand, repair here, share and days of a pair. What the pair doesn't have is dropped.
+/// Demand, repair here, share and days of a pair. Fields that the pair doesn't have are dropped.
 #[derive(Clone, Copy)]
 struct Fields(u32, u16, u16, u32);
 
@@ -93,7 +93,7 @@ fn rate(frame: &Frame, part: PartId, site: SiteId, fields: Fields) -> RateRow
     }
 }
 
-/// The rows of all pairs: at the depot and at each base the same.
+/// The rows of all pairs: one of these at the depot, and the same one at each base.
 fn rates_of(
     alloc: Global,
     frame: &Frame,
@@ -137,7 +137,7 @@ fn sites_of(alloc: Global, bases: u8, ship: u32) -> Option<Vec<SiteRow>>
     Some(sites)
 }
 
-/// A line unit, and a shop unit of it where there are two parts.
+/// A line unit, and a shop unit of it if there are two parts.
 fn parts_of(alloc: Global, count: usize) -> Option<Vec<PartRow>>
     ensures rows { IfSome result (λ v. All IsPartRow v.items) }
     ensures few { IfSome result (λ v. vec_len v ≤ 2) }
@@ -187,7 +187,7 @@ fn pairs_of(alloc: Global, case: &Case, rates: &Rates) -> Option<Vec<PairRates>>
     Some(pairs)
 }
 
-/// Whether the rates of a case are these, or are refused so.
+/// Whether a case has these rates or this refusal.
 fn gives(alloc: Global, case: &Case, want: Result<&[PairRates], RateFault>) -> bool {
     match (rates(alloc, case), want) {
         (Ok(rates), Ok(want)) => match pairs_of(alloc, case, &rates) {
@@ -368,7 +368,7 @@ const LINE_ROWS: [LineRow; 9] = [
     },
 ];
 
-/// Whether the rates of each row are as it says.
+/// Whether each row has its rates.
 fn all_give(alloc: Global, rows: &[LineRow]) -> bool {
     for row in rows {
         let fields = [(Fields(0, 0, 0, row.days), row.base)];

@@ -6,14 +6,14 @@ use demand_rates::{Place, RateFault, check_single};
 use exact_ratio::{Decimal, Ratio};
 use std::process::Abort;
 
-/// So many ten-thousandths.
+/// A number of ten-thousandths.
 fn decimal(units: u64) -> Decimal
     ensures { result.places ≡ 4 }
 {
     Decimal { units, places: 4 }
 }
 
-/// A pipeline of so many ten-thousandths is too large.
+/// A pipeline of this many ten-thousandths is too large.
 macro_rules! too_large {
     ($units:expr) => {
         Err(RateFault::PipelineTooLarge {
@@ -43,7 +43,7 @@ macro_rules! wide {
     };
 }
 
-/// Means and variances in ten-thousandths, and what is answered for them.
+/// Means and variances in ten-thousandths, each pair with its answer.
 const LIMITS: [(u64, u64, Result<(), RateFault>); 10] = [
     (0, 0, Ok(())),
     (2_560_000, 2_560_000, Ok(())),

@@ -1,4 +1,4 @@
-//! A family's figures are those of a program that was written apart from this one.
+//! The figures of a family, against a program written apart from this one.
 
 ghost use Rattle.std.specs.Prelude.{◌≡◌, ◌<◌, length, vec_len};
 ghost use Rattle.fixed_interval.specs.Ends.{InScale};
@@ -17,7 +17,7 @@ use std::test::*;
 /// The ends of an item: of its mean, its variance, its backorders and their variance.
 type Figures = [(u128, u128); 4];
 
-/// A line unit and a shop unit of it, a depot and two bases: the stocks by part and then by site, and what they give.
+/// A line unit and its shop unit, a depot and two bases: the stocks by part and then by site, and their figures.
 #[derive(Clone, Copy)]
 struct Family {
     /// The demand for the line unit at the second base, in ten-thousandths a year.
@@ -186,7 +186,7 @@ fn frame_of(alloc: Global, weight: u8) -> Option<Frame> {
     Frame::build(alloc, sites, parts).ok()
 }
 
-/// Demand, repair here, share and days of a pair. What the pair doesn't have is dropped.
+/// Demand, repair here, share and days of a pair. Fields that the pair doesn't have are dropped.
 fn rate(frame: &Frame, pair: (u16, u8), demand: u32, here: u16, share: u16, days: u32) -> RateRow
     requires part { pair.0 < length frame.now.parts }
     requires site { pair.1 < length frame.now.sites }
@@ -232,7 +232,7 @@ fn is<const F: u32>(x: &Iv<F>, want: (u128, u128)) -> bool {
     x.lo() == want.0 && x.hi() == want.1
 }
 
-/// Whether the item at a place has the pair and the stock of its place, and these figures.
+/// Whether the item at a place has this place's pair, this stock and these figures.
 fn item_is<const F: u32>(item: &Item<F>, place: usize, stock: u8, want: Figures) -> bool {
     usize::from(item.part.0) == place / 3
         && usize::from(item.site.0) == place % 3
@@ -267,7 +267,7 @@ fn stock(part: u16, site: u8, stock: u8) -> StockRow
     }
 }
 
-/// Whether the family, alone and among all, is this.
+/// Whether the family has these figures, alone and among all.
 fn gives<const F: u32>(alloc: Global, want: &Family) -> bool
     requires { InScale F }
 {

@@ -1,4 +1,4 @@
-//! Worked rows of the rates of a case and of what a family's stocks give. They are run by the tests of this crate.
+//! Worked rows of the rates of a case and of the figures of a family's stocks. The tests of this crate run them.
 #![tactic(auto)]
 
 #[cfg(test)]

@@ -1,4 +1,4 @@
-//! Tables that give a case, and tables that give none.
+//! Tables of a case, and tables of none.
 
 use std::test::*;
 use text_cases::{case_of, family_of, rates_of, stocks_of};

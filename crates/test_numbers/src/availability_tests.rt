@@ -1,4 +1,4 @@
-//! Ends computed apart from this code.
+//! Availabilities whose ends were computed apart from this code.
 
 use availability::{Weighted, base_availability, factor, fleet};
 use fixed_interval::Iv;

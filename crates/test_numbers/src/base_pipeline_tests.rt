@@ -1,4 +1,4 @@
-//! Ends computed apart from this code.
+//! Base pipelines whose ends were computed apart from this code.
 
 ghost use Rattle.depot_pipeline.specs.Exact.{IsSmallFeed};
 
@@ -18,7 +18,7 @@ macro_rules! check_ends {
     }};
 }
 
-/// A third of backorders that are 7/5 on average and have the variance 9/4.
+/// A third of backorders with the mean 7/5 and the variance 9/4.
 fn depot() -> Feed<48>
     ensures { IsSmallFeed 48 result }
 {

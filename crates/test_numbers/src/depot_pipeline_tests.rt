@@ -1,4 +1,4 @@
-//! Ends computed apart from this code.
+//! Depot pipelines whose ends were computed apart from this code.
 
 use depot_pipeline::{Feed, depot_line, depot_shop};
 use fixed_interval::Iv;

@@ -1,4 +1,4 @@
-//! What no clause says: how each kind of text reads, in a table.
+//! The reading of each kind of text, in a table; no clause says it.
 
 ghost use Rattle.std.specs.Prelude.{◌≤◌};
 
@@ -6,7 +6,7 @@ use exact_ratio::{Decimal, NumberFault, read_decimal};
 use std::process::Abort;
 use std::test::*;
 
-/// Texts with four places at most, and what is read.
+/// Texts with up to four decimals, each with its result.
 const FOUR: [(&[u8], Result<Decimal, NumberFault>); 11] = [
     (
         b"12.5",

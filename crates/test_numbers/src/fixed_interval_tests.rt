@@ -3,7 +3,7 @@
 use fixed_interval::{Iv, ratio_down};
 use std::test::Fail;
 
-/// A third, 7/5 and what comes of them, at `$places` binary places: each call with its ends.
+/// A third, 7/5 and results of these, at `$places` binary places: each call with its ends.
 macro_rules! check_ends {
     ($rt:ident, $places:literal, $third:ident, $ratio:ident, $($answer:expr => $ends:expr;)*) => {{
         let $third = Iv::<$places>::of_ratio(1, 3);

@@ -1,9 +1,10 @@
-//! Worked rows of the crates that calculate: ends and tables of other programs. They are run by the tests of this
-//! crate.
+//! Worked rows of the crates that calculate: ends and tables of other programs. The tests of this crate run them.
 #![tactic(auto)]
 
 #[cfg(test)]
 mod availability_tests;
+#[cfg(test)]
+mod backorder_bounds_tests;
 #[cfg(test)]
 mod base_pipeline_tests;
 #[cfg(test)]

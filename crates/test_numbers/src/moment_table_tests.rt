@@ -1,4 +1,4 @@
-//! The tables are those of a program that was written apart from this one.
+//! The tables, against a program written apart from this one.
 
 ghost use Rattle.std.specs.Prelude.{◌≤◌};
 ghost use Rattle.fixed_interval.specs.Ends.{InScale};
@@ -116,7 +116,7 @@ fn numbers(alloc: Global, row: &str) -> Result<Vec<u128>, Fail> {
     Ok(list)
 }
 
-/// A table has these ends at a stock, whether it holds them or walks to them.
+/// A table has these ends at a stock, both stored and walked to.
 fn shows<const F: u32>(
     rt: &impl Abort,
     table: &Table<F>,

@@ -1,4 +1,4 @@
-//! The weights are those of a program that was written apart from this one.
+//! The weights, against a program written apart from this one.
 
 ghost use Rattle.std.specs.Prelude.{◌<◌, ◌≤◌, ◌*◌, ◌^◌};
 ghost use Rattle.fixed_interval.specs.Ends.{InScale, IsWithinLimit};
@@ -11,8 +11,8 @@ use std::alloc::Global;
 use std::process::Abort;
 use std::test::Fail;
 
-/// A row has the ends of a mean and of an excess, and then the pivot, the last index and the ends of the sum, or nothing
-/// where the weights are wide.
+/// A row has the ends of a mean and of an excess, then the pivot, the last index and the ends of the sum, or nothing if
+/// the weights are wide.
 const AT_32: [&str; 8] = [
     "2147483648 2147483648 0 0 0 63 7081203934 7081203997",
     "4294967296 4294967297 0 3 0 63 11674931536 11674931621",
@@ -56,7 +56,7 @@ fn numbers(alloc: Global, row: &str) -> Result<Vec<u128>, Fail> {
     Ok(list)
 }
 
-/// The first weights and the sum of all are those that are walked to one by one.
+/// The first weights and the sum of all equal those of a walk from index to index.
 fn begins_plainly<const F: u32>(
     rt: &impl Abort,
     alloc: Global,

@@ -1,4 +1,4 @@
-//! Certificates made again from what they claim, against those of another program.
+//! Certificates made again from their claims, against those of another program.
 
 ghost use Rattle.std.specs.Prelude.{◌≡◌, ◌≤◌, IfOk};
 ghost use Rattle.price_certificate.specs.declared.certificate.Objective.TheVariants.{Backorders};
@@ -19,21 +19,21 @@ const FIRST: &[u8] =
 rates,2\nL,D,,,,20.00\nL,B,36.5000,0.0000,,0.00\nbudget,250\nprice,162357558481304,100\nfloors,1\n\
 67625916321994100\nstocks,2\n0\n2\nupper,351544046257340\nbound,270365267016681\nend\n";
 
-/// The same with a cover: five at the base cost more than the floor.
+/// The same with a cover: five units at the base cost more than the floor.
 const SECOND: &[u8] =
     b"spares-certificate,2\nobjective,backorders\nsites,2\nD,depot,,\nB,base,12,10.00\nparts,1\n\
 L,,100,1,2,9\nrates,2\nL,D,,,,20.00\nL,B,36.5000,0.0000,,0.00\nbudget,250\nprice,162357558481304,100\nfloors,1\n\
 67625916321994100\ncovers,1\ncover,3\nsplit,1,5\nwhole\ncost\nstocks,2\n0\n2\nupper,351544046257340\n\
 bound,270365267016681\nend\n";
 
-/// Its loss of availability.
+/// The same for the loss of availability.
 const LOSS: &[u8] =
     b"spares-certificate,2\nobjective,log-availability\nsites,2\nD,depot,,\nB,base,12,10.00\n\
 parts,1\nL,,100,1,2,9\nrates,2\nL,D,,,,20.00\nL,B,36.5000,0.0000,,0.00\nbudget,250\nprice,176524252841808,100\n\
 floors,1\n72426399475250400\ncovers,1\ncover,3\nsplit,1,5\nwhole\ncost\nstocks,2\n0\n2\nupper,371215489071972\n\
 bound,282953362647984\nend\n";
 
-/// Where one is held at the base.
+/// The same with one unit held at the base.
 const HELD: &[u8] =
     b"spares-held,1\nspares-certificate,2\nobjective,backorders\nsites,2\nD,depot,,\n\
 B,base,12,10.00\nparts,1\nL,,100,1,2,9\nrates,2\nL,D,,,,20.00\nL,B,36.5000,0.0000,,0.00\nbudget,250\n\
@@ -72,7 +72,7 @@ fn remade(
     certificate(alloc, read.case, held, terms, claims)
 }
 
-/// The text of the certificate that these bytes are, made again in a format where nothing is held.
+/// The text of this certificate, made again in this format with nothing held.
 fn again(alloc: Global, bytes: &[u8], format: u8) -> Option<Vec<u8>> {
     if bytes.len() > 16_777_216 || format < 1 || format > 2 {
         return None;
@@ -92,7 +92,7 @@ fn again(alloc: Global, bytes: &[u8], format: u8) -> Option<Vec<u8>> {
     certificate_text(alloc, certificate, None).ok()
 }
 
-/// The text of the held certificate that these bytes are, made again.
+/// The text of this held certificate, made again.
 fn held_again(alloc: Global, bytes: &[u8]) -> Option<Vec<u8>> {
     if bytes.len() > 16_777_216 {
         return None;

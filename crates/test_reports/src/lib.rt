@@ -1,4 +1,4 @@
-//! Worked rows of reports, sessions and certificates of plans. They are run by the tests of this crate.
+//! Worked rows of reports, sessions and certificates of plans. The tests of this crate run them.
 #![tactic(auto)]
 
 #[cfg(test)]

@@ -10,7 +10,7 @@ use spares_io::{List, NoMemory};
 use std::alloc::Global;
 use std::test::*;
 
-/// A line unit at a base, by a program that was written apart from this one, and the largest numbers that are printed.
+/// A line unit at a base, from a program written apart from this one, and the largest numbers that can be printed.
 fn of_line(alloc: Global, part: Name, site: Name) -> Result<CompareReport, NoMemory>
     ensures { IfOk result FitsComparison }
 {

@@ -1,4 +1,4 @@
-//! Held certificates, read, and the work from what they hold.
+//! Held certificates, read, and the work from their held stocks.
 
 use on_hand::{held_work, read};
 use price_certificate::CertFault;
@@ -16,7 +16,7 @@ bound,844424930131968\nend\nheld,2\n0\n0\nend\n";
 
 #[derive(Clone, Copy, Debug, PartialEq, Eq)]
 enum Outcome {
-    /// The bytes are read, and so much is held in all.
+    /// The bytes are read, and the held stocks have this sum.
     Read(u32),
     BadLine(u32),
     BadCase(CaseFault),
@@ -45,7 +45,7 @@ fn read_held(alloc: Global, bytes: &[u8]) -> Outcome {
     }
 }
 
-/// The text with another line in place of one, counted from 1.
+/// The text with line `number`, counted from 1, replaced by another.
 fn with_line(alloc: Global, text: &[u8], number: usize, line: &[u8]) -> Result<Vec<u8>, Fail> {
     let mut changed = Vec::new(alloc);
     let mut at = 1;
@@ -63,7 +63,7 @@ fn with_line(alloc: Global, text: &[u8], number: usize, line: &[u8]) -> Result<V
     Ok(changed)
 }
 
-/// The number of a line, what stands there instead, and the outcome.
+/// The number of a line, its replacement, and the outcome.
 const CHANGED: [(usize, &[u8], Outcome); 6] = [
     (1, b"spares-held,2", Outcome::BadLine(1)),
     (2, b"spares-certificate,1", Outcome::BadLine(2)),
@@ -104,7 +104,7 @@ fn a_case_fault_stands_before_a_bad_line_after_the_first_end(rt: HostRuntime) ->
     Ok(())
 }
 
-/// The work of a held certificate's case from what is held.
+/// The work of a held certificate's case from the held stocks.
 fn work_read(alloc: Global, bytes: &[u8]) -> Result<u64, u64> {
     if bytes.len() > 16_777_216 {
         return Err(0);
@@ -115,7 +115,7 @@ fn work_read(alloc: Global, bytes: &[u8]) -> Result<u64, u64> {
     }
 }
 
-/// The number of a line, what stands there instead, and the work.
+/// The number of a line, its replacement, and the work.
 const WORKS: [(usize, &[u8], u64); 4] = [
     (28, b"0", 4),
     (28, b"1", 3),

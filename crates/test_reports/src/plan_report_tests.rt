@@ -13,7 +13,7 @@ use spares_io::{List, NoMemory};
 use std::alloc::Global;
 use std::test::*;
 
-/// The lower end of an interval in units of 2^-48, and how far its upper end is above.
+/// The lower end of an interval in units of 2^-48, and its width.
 type Ends = (u64, u64);
 
 /// The plan of a line unit of cost 100 at the depot and one base, and its text.
@@ -29,7 +29,7 @@ struct Row {
     bound: u64,
     gap: u64,
     rounding: u64,
-    /// What the critical step lowers, where there is one.
+    /// The fall of the critical step, if there is one.
     fall: Option<u64>,
     hull: u64,
     text: &'static str,

@@ -30,7 +30,7 @@ fn bytes_of(table: &str) -> Option<&[u8]>
     }
 }
 
-/// The case, or nothing where there is no memory.
+/// The case, or None if there is no memory.
 fn case(alloc: Global) -> Option<Case>
     ensures { IfSome result (λ c. IsOk (work_of c)) }
 {
@@ -45,7 +45,7 @@ fn case(alloc: Global) -> Option<Case>
     }
 }
 
-/// Whether the curves of the first two families are kept, where there are two.
+/// Whether the curves of the first two families are kept, if there are two.
 fn kept(session: &Session) -> (bool, bool) {
     if session.family_count() == 2 {
         (session.curve(0).is_some(), session.curve(1).is_some())

@@ -10,7 +10,7 @@ use spares_io::NoMemory;
 use std::alloc::Global;
 use std::test::*;
 
-/// Demand, repair here, share and days of a pair; what the pair doesn't have is dropped.
+/// Demand, repair here, share and days of a pair. Fields that the pair doesn't have are dropped.
 #[derive(Clone, Copy)]
 struct Fields(u32, u16, u16, u32);
 

@@ -1,4 +1,4 @@
-//! Cases of four numbers, against the generator of an independent program.
+//! Cases of four numbers, against the generator of a program written apart from this one.
 
 ghost use Rattle.std.specs.Prelude.{◌≤◌};
 
@@ -8,7 +8,7 @@ use spares_io::NoMemory;
 use std::alloc::Global;
 use std::test::*;
 
-/// A sum in which the order of the numbers counts.
+/// A sum that depends on the order of the numbers.
 fn add(sum: u32, number: u32) -> u32 {
     ((u64::from(sum) * 31 + u64::from(number)) % 4_294_967_296) as u32
 }
@@ -64,7 +64,7 @@ fn sum_of_rates(sum: u32, case: &Case) -> u32 {
     sum
 }
 
-/// How many parts a case has, and the sum of all its fields.
+/// The count of a case's parts, and the sum of all its fields.
 fn digest(alloc: Global, number: u32, lines: u16) -> Result<(u16, u32), NoMemory>
     requires some { 1 ≤ lines }
     requires few { lines ≤ 80 }

@@ -27,7 +27,7 @@ enum File {
     Stocks,
 }
 
-/// Why files give no case or no stocks.
+/// The reason why files are no case or no stocks.
 #[derive(Clone, Copy, Debug, Drop, PartialEq, Eq)]
 enum Refusal {
     NoMemory,
@@ -57,7 +57,7 @@ fn of_stocks(stop: Stop<StockFault>) -> Refusal {
     }
 }
 
-/// Whether a file is no longer than a table may be.
+/// Whether a file is short enough for a table.
 fn is_short(bytes: &[u8]) -> bool
     ensures { IsTrue result ↔ length bytes.now ≤ table_limit }
 {
@@ -120,7 +120,7 @@ struct Change {
     wanted: Refusal,
 }
 
-/// The files of case A, of which one is changed.
+/// The files of case A, one of them changed.
 fn file_with(alloc: Global, file: File, text: &str, change: &Change) -> Result<Vec<u8>, NoMemory> {
     if file == change.file {
         changed(alloc, text, change.old, change.new)
@@ -143,7 +143,7 @@ fn refusal_of(alloc: Global, change: &Change) -> Result<Option<Refusal>, NoMemor
     }
 }
 
-/// A change that is refused by a table's fault.
+/// A change refused with a table's fault.
 macro_rules! table {
     ($file:expr, $old:expr, $new:expr, $fault:expr $(,)?) => {
         Change {
@@ -155,7 +155,7 @@ macro_rules! table {
     };
 }
 
-/// A change that is refused by the fault of a number in a table.
+/// A change refused with the fault of a number in a table.
 macro_rules! number {
     ($file:expr, $old:expr, $new:expr, $row:expr, $column:expr, $fault:expr $(,)?) => {
         Change {
@@ -171,7 +171,7 @@ macro_rules! number {
     };
 }
 
-/// A change that is refused by a case's fault.
+/// A change refused with a case's fault.
 macro_rules! case {
     ($file:expr, $old:expr, $new:expr, $fault:expr $(,)?) => {
         Change {
@@ -195,7 +195,7 @@ macro_rules! stock {
     };
 }
 
-/// The place of the first change that isn't refused as it should be.
+/// The index of the first change without its refusal.
 fn first_wrong(alloc: Global, changes: &[Change]) -> Result<Option<usize>, NoMemory> {
     for i in 0..changes.len() {
         if refusal_of(alloc, &changes[i])? != Some(changes[i].wanted) {
@@ -502,7 +502,7 @@ fn refuses_rates_and_stocks(rt: HostRuntime) -> Result<(), Fail> {
     Ok(())
 }
 
-/// What a row of rates holds: demand, repair here, share and days.
+/// The numbers of a row of rates: demand, repair here, share and days.
 fn numbers_at(case: &Case, part: u16, site: u8) -> Option<(u32, u16, u16, u32)> {
     if part >= case.part_count() || site >= case.site_count() {
         return None;
@@ -511,7 +511,7 @@ fn numbers_at(case: &Case, part: u16, site: u8) -> Option<(u32, u16, u16, u32)> 
     Some((row.demand, row.repair_here, row.share, row.repair_days))
 }
 
-/// What a site holds: its name, systems and days of shipment.
+/// The fields of a site: its name, systems and days of shipment.
 fn site_at(case: &Case, site: u8) -> Option<(&[u8], u32, u32)> {
     if site >= case.site_count() {
         return None;
@@ -520,7 +520,7 @@ fn site_at(case: &Case, site: u8) -> Option<(&[u8], u32, u32)> {
     Some((row.name.as_bytes(), row.systems, row.ship))
 }
 
-/// What a part holds: cost, how many in a system, weight, and its limits at the depot and at a base.
+/// The fields of a part: cost, count per system, weight, and its limits at the depot and at a base.
 fn part_at(case: &Case, part: u16) -> Option<(u32, u32, u8, u8, u8)> {
     if part >= case.part_count() || case.site_count() < 2 {
         return None;
@@ -566,7 +566,7 @@ fn reads_case_a(rt: HostRuntime) -> Result<(), Fail> {
     Ok(())
 }
 
-// A byte that no name has, and more rows than a table may have.
+// A byte that no name may have, and more rows than a table may have.
 #[test]
 fn refuses_bytes_and_rows(rt: HostRuntime) -> Result<(), Fail> {
     let alloc = rt.alloc();

@@ -1,4 +1,4 @@
-//! Worked rows of the crates that read and write bytes. They are run by the tests of this crate.
+//! Worked rows of the crates that read and write bytes. The tests of this crate run them.
 #![tactic(auto)]
 
 #[cfg(test)]

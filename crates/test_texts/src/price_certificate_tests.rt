@@ -20,7 +20,7 @@ bound,844424930131968\nend\n";
 
 #[derive(Clone, Copy, Debug, PartialEq, Eq)]
 enum Outcome {
-    /// The bytes are read, and written again as they are.
+    /// The bytes are read, and written again unchanged.
     Read,
     BadLine(u32),
     BadCase(CaseFault),
@@ -49,7 +49,7 @@ fn read_again(alloc: Global, bytes: &[u8]) -> Outcome {
     }
 }
 
-/// The text with another line in place of one, counted from 1.
+/// The text with line `number`, counted from 1, replaced by another.
 fn with_line(alloc: Global, text: &[u8], number: usize, line: &[u8]) -> Result<Vec<u8>, Fail> {
     let mut changed = Vec::new(alloc);
     let mut at = 1;
@@ -85,7 +85,7 @@ fn names_the_line_that_is_missing(rt: HostRuntime) -> Result<(), Fail> {
     Ok(())
 }
 
-/// A text, the number of a line, what stands there instead, and the outcome.
+/// A text, the number of a line, its replacement, and the outcome.
 const CHANGED: [(&[u8], usize, &[u8], Outcome); 16] = [
     (FIRST, 1, b"spares-certificate,3", Outcome::BadLine(1)),
     (FIRST, 1, b"spares-certificate,1\r", Outcome::BadLine(1)),

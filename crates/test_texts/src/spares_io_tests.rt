@@ -1,4 +1,4 @@
-//! Texts and lists, shelves and sinks: what they keep, and where they fail.
+//! Texts and lists, shelves and sinks: their contents, and their failures.
 
 use spares_io::{
     FileShelf, List, MemShelf, MemSink, Shelf, ShelfError, Sink, SinkFailed, StdSink, Text,
@@ -30,7 +30,7 @@ enum Call {
 
 type Row = (Call, Result<(), ShelfError>, Option<&'static [u8]>);
 
-/// Each call with its answer, and what its name holds afterwards.
+/// Each call with its answer, and the content of its name afterwards.
 const CALLS: [Row; 9] = [
     (Call::Read("sites", 3), Ok(()), Some(b"abc")),
     (
@@ -59,7 +59,7 @@ const CALLS: [Row; 9] = [
     (Call::Read("parts", 2), Ok(()), Some(b"de")),
 ];
 
-/// A name holds this, or nothing.
+/// A name has this content, or none.
 fn holds(rt: &impl Abort, shelf: &MemShelf, name: &str, held: Option<&[u8]>) {
     match (shelf.file(name), held) {
         (Some(found), Some(bytes)) => assert_eq!(rt; found, bytes),
@@ -67,7 +67,7 @@ fn holds(rt: &impl Abort, shelf: &MemShelf, name: &str, held: Option<&[u8]>) {
     }
 }
 
-/// A read that succeeds gives the bytes of the name; any other gives none.
+/// A successful read returns the content of the name; any other returns nothing.
 fn gives(rt: &impl Abort, into: &[u8], is_ok: bool, held: Option<&[u8]>) {
     match held {
         Some(bytes) if is_ok => assert_eq!(rt; into, bytes),
@@ -75,7 +75,7 @@ fn gives(rt: &impl Abort, into: &[u8], is_ok: bool, held: Option<&[u8]>) {
     }
 }
 
-/// The shelf answers each call as its row says. The bytes of a read come into `into`.
+/// The shelf answers each call as in its row. `into` gets the bytes of a read.
 fn answers(rt: &impl Abort, shelf: &mut MemShelf, into: &mut Vec<u8>, rows: &[Row]) {
     for (call, answer, held) in rows {
         match *call {
@@ -123,7 +123,7 @@ fn names_that_stand_twice_are_seen(rt: HostRuntime) -> Result<(), Fail> {
     Ok(())
 }
 
-/// Each piece with its answer, and what the sink holds afterwards.
+/// Each piece with its answer, and the content of the sink afterwards.
 const PUTS: [(&[u8], Result<(), SinkFailed>, &[u8]); 6] = [
     (b"ab", Ok(()), b"ab"),
     (b"cde", Err(SinkFailed), b"abc"),

@@ -1,4 +1,4 @@
-//! Worked rows of the command line. They are run by the tests of this crate.
+//! Worked rows of the command line. The tests of this crate run them.
 #![tactic(auto)]
 
 #[cfg(test)]

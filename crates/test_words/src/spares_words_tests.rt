@@ -1,4 +1,4 @@
-//! Command lines, with the orders that they give and the faults that they have.
+//! Command lines with their orders and their faults.
 
 use exact_ratio::Decimal;
 use exact_ratio::NumberFault::{BadByte, Empty, TooLarge, TooManyPlaces};
@@ -12,7 +12,7 @@ use std::alloc::Global;
 use std::process::Abort;
 use std::test::Fail;
 
-/// The order of words that are parted by single spaces. Between two spaces stands an empty word.
+/// The order of words separated by single spaces. Two adjacent spaces have an empty word between them.
 fn order_of_line(alloc: Global, line: &str) -> Result<Order, Stop<WordsFault>> {
     let mut words = Vec::new(alloc);
     for word in line.split(' ') {
@@ -21,7 +21,7 @@ fn order_of_line(alloc: Global, line: &str) -> Result<Order, Stop<WordsFault>> {
     read_words(alloc, words.as_slice())
 }
 
-/// The words give this order.
+/// The words have this order.
 fn gives(rt: &impl Abort, alloc: Global, line: &str, want: Order) {
     assert_eq!(rt; order_of_line(alloc, line), Ok(want), "at {line}");
 }
@@ -39,7 +39,7 @@ fn ten_thousandths(units: u64) -> Decimal {
     Decimal { units, places: 4 }
 }
 
-/// Lines of `single`, with the mean, the stock and the variance that they give.
+/// Lines of `single`, with their mean, stock and variance.
 const SINGLES: [(&str, u64, u8, Option<u64>); 11] = [
     ("single 1 1", 10_000, 1, None),
     ("single .0001 63.0", 1, 63, None),
@@ -48,7 +48,7 @@ const SINGLES: [(&str, u64, u8, Option<u64>); 11] = [
     ("single --variance 2 1 1", 10_000, 1, Some(20_000)),
     ("single --variance=2 1 1", 10_000, 1, Some(20_000)),
     ("single 1 1 --variance=2.", 10_000, 1, Some(20_000)),
-    // Two hyphens end the options, also where no word follows.
+    // Two hyphens end the options, even if no word follows.
     ("single -- 1 1", 10_000, 1, None),
     ("single 1 -- 1", 10_000, 1, None),
     ("single 1 1 --", 10_000, 1, None),
@@ -76,7 +76,7 @@ fn takes_single_with_its_option_anywhere(rt: HostRuntime) -> Result<(), Fail> {
     gives_singles(&rt, rt.alloc(), &SINGLES)
 }
 
-/// The order of `eval` with these names of files, parted by single spaces, and bits.
+/// The order of `eval` with these names of files, separated by single spaces, and bits.
 fn eval_order(alloc: Global, names: [&str; 4], bits: u8) -> Result<Order, NoMemory> {
     let [sites, parts, rates, stocks] = names;
     Ok(Order::Eval {
@@ -88,7 +88,7 @@ fn eval_order(alloc: Global, names: [&str; 4], bits: u8) -> Result<Order, NoMemo
     })
 }
 
-/// Lines of `eval`, with the names of files and the bits that they give.
+/// Lines of `eval`, with their names of files and their bits.
 const EVALS: [(&str, [&str; 4], u8); 4] = [
     (
         "eval --sites a --parts b --rates c --stocks d",
@@ -129,7 +129,7 @@ fn takes_eval_with_its_options_in_any_order(rt: HostRuntime) -> Result<(), Fail>
     gives_evals(&rt, rt.alloc(), &EVALS)
 }
 
-/// The order of `plan` with these names of its tables and certificate, parted by single spaces, and the rest.
+/// The order of `plan` with these names of its tables and certificate, separated by single spaces, and the rest.
 fn plan_order(
     alloc: Global,
     names: [&str; 4],
@@ -155,7 +155,7 @@ fn plan_order(
     })
 }
 
-/// Lines of `plan`, with the names of files, the budget and the format that they give.
+/// Lines of `plan`, with their names of files, budget and format.
 const PLANS: [(&str, [&str; 4], u64, u8); 3] = [
     (
         "plan --sites a --parts b --rates c --budget 250 --certificate d",
@@ -194,8 +194,7 @@ fn takes_plan(rt: HostRuntime) -> Result<(), Fail> {
     gives_plans(&rt, rt.alloc(), &PLANS)
 }
 
-/// Lines of `plan` with stocks on hand or an objective: each with the stocks, the format and the objective that it
-/// gives.
+/// Lines of `plan` with stocks on hand or an objective, each with its stocks, format and objective.
 const AIMS: [(&str, Option<&str>, u8, Objective); 4] = [
     (
         "plan --sites a --parts b --rates c --budget 1 --certificate d --objective backorders",
@@ -260,7 +259,7 @@ fn takes_check(rt: HostRuntime) -> Result<(), Fail> {
     Ok(())
 }
 
-/// Lines of `demo`, with the number and the lines that they give.
+/// Lines of `demo`, with their number and their count of line units.
 const DEMOS: [(&str, u32, u16); 2] = [
     ("demo 4294967295 80", 4_294_967_295, 80),
     ("demo 0. 01", 0, 1),
@@ -282,7 +281,7 @@ fn takes_demo(rt: HostRuntime) -> Result<(), Fail> {
     Ok(())
 }
 
-/// Lines that give no order, each with its fault.
+/// Lines without an order, each with its fault.
 const REFUSED: [(&str, WordsFault); 62] = [
     ("", Shape),
     ("help", Shape),
@@ -311,7 +310,7 @@ const REFUSED: [(&str, WordsFault); 62] = [
     ("single 1 1 --var 2", Shape),
     ("single 1 1 -v 2", Shape),
     ("single 1 1 --stock 2", Shape),
-    // After two hyphens each word stands by itself.
+    // After two hyphens each word is a value.
     ("single -- 1 1 --variance 2", Shape),
     ("single -- -1 1", Number(Mean, BadByte(0))),
     ("single 1 1 --variance=-1", Number(Variance, BadByte(0))),
@@ -402,7 +401,7 @@ fn refuses_no_words(rt: HostRuntime) -> Result<(), Fail> {
     Ok(())
 }
 
-/// A line that begins so and ends with each of these is refused with its fault.
+/// A line with this start and each of these ends is refused with its fault.
 fn refuses_after(
     rt: &impl Abort,
     alloc: Global,
@@ -416,7 +415,7 @@ fn refuses_after(
     Ok(())
 }
 
-/// What may not follow the names of the tables in `plan`, with its fault.
+/// Words that may not follow the names of the tables in `plan`, each with its fault.
 const REFUSED_PLANS: [(&str, WordsFault); 11] = [
     ("--certificate d", Shape),
     ("--budget 1", Shape),
@@ -451,7 +450,7 @@ fn refuses_plans(rt: HostRuntime) -> Result<(), Fail> {
     )
 }
 
-/// What may not follow them with stocks on hand or an objective, with its fault.
+/// Words that may not follow them with stocks on hand or an objective, each with its fault.
 const REFUSED_AIMS: [(&str, WordsFault); 8] = [
     ("--objective availability", Range(Which::Objective)),
     ("--objective=", Range(Which::Objective)),
@@ -474,7 +473,7 @@ fn refuses_stocks_on_hand_and_objectives(rt: HostRuntime) -> Result<(), Fail> {
     )
 }
 
-/// Lines of `check` and `demo` that give no order, each with its fault.
+/// Lines of `check` and `demo` without an order, each with its fault.
 const REFUSED_REST: [(&str, WordsFault); 9] = [
     ("check", Shape),
     ("check c", Shape),
@@ -493,7 +492,7 @@ fn refuses_check_and_demo(rt: HostRuntime) -> Result<(), Fail> {
     Ok(())
 }
 
-/// Lines of the commands that take tables alone, which give no order, each with its fault.
+/// Lines without an order, of the commands that take only tables, each with its fault.
 const REFUSED_TABLES: [(&str, WordsFault); 8] = [
     ("sweep --sites a --parts b", Shape),
     ("sweep --sites a --parts b --rates c --budget 1", Shape),
@@ -523,7 +522,7 @@ fn refuses_commands_over_tables(rt: HostRuntime) -> Result<(), Fail> {
     Ok(())
 }
 
-/// An order over the tables `a`, `b` and `c`, and the file `d` where it takes one.
+/// An order over the tables `a`, `b` and `c`, and the file `d` if it takes one.
 fn table_order(alloc: Global, command: &str) -> Result<Order, NoMemory> {
     let (sites, parts) = (Text::from_str(alloc, "a")?, Text::from_str(alloc, "b")?);
     let (rates, more) = (Text::from_str(alloc, "c")?, Text::from_str(alloc, "d")?);

@@ -1,4 +1,4 @@
-//! Cases, stocks and rates from tables that stand as texts, for the tests of other crates.
+//! Cases, stocks and rates from tables written as texts, for the tests of other crates.
 #![tactic(auto)]
 
 ghost use Rattle.std.specs.Prelude.{◌≤◌, IfSome, length};
@@ -25,7 +25,7 @@ fn bytes_of(table: &str) -> Option<&[u8]>
     }
 }
 
-/// The case of these tables of sites, parts and rates, or nothing where they give none.
+/// The case of these tables of sites, parts and rates, or None if they have a fault.
 pub fn case_of(alloc: Global, tables: [&str; 3]) -> Option<Case> {
     let sites = read_sites(alloc, bytes_of(tables[0])?).ok()?;
     let parts = read_parts(alloc, bytes_of(tables[1])?).ok()?;
@@ -34,7 +34,7 @@ pub fn case_of(alloc: Global, tables: [&str; 3]) -> Option<Case> {
     Case::build(alloc, frame, rates).ok()
 }
 
-/// The same case, or nothing where its first part is no line unit.
+/// The same case, or None if its first part is no line unit.
 pub fn family_of(alloc: Global, tables: [&str; 3]) -> Option<Case>
     ensures { IfSome result (λ c. IsLine c 0) }
 {
@@ -45,7 +45,7 @@ pub fn family_of(alloc: Global, tables: [&str; 3]) -> Option<Case>
     Some(case)
 }
 
-/// The stocks of a case by a table, or nothing where it gives none.
+/// The stocks of a case in a table, or None if the table has a fault.
 pub fn stocks_of(alloc: Global, case: &Case, table: &str) -> Option<Stocks>
     ensures whole { IfSome result (IsFor case.now) }
     ensures limits { IfSome result (IsWithinLimits case.now) }
@@ -54,7 +54,7 @@ pub fn stocks_of(alloc: Global, case: &Case, table: &str) -> Option<Stocks>
     stocks_from(alloc, case, rows.as_slice()).ok()
 }
 
-/// The rates of a case, or nothing where one of them is refused.
+/// The rates of a case, or None if one of them is refused.
 pub fn rates_of(alloc: Global, case: &Case) -> Option<Rates>
     ensures { IfSome result (AreRatesOf case.now) }
 {

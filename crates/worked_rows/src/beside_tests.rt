@@ -8,7 +8,7 @@ const PARTS: &str = "part,parent,cost,per_system,max_depot,max_base\nL,,100,1,2,
 
 const RATES: &str = "part,site,demand,repair_here,share,repair_days\nL,D,,,,20\nL,B,36.5,0,,0\n";
 
-/// Rates of which a pipeline is beyond the model's limits.
+/// Rates with a pipeline beyond the model's limits.
 const REFUSED_RATES: &str =
     "part,site,demand,repair_here,share,repair_days\nL,D,,,,20\nL,B,10000,0,,0\n";
 
@@ -75,20 +75,29 @@ fn plans_edits_in_turn(rt: HostRuntime) -> Result<(), Fail> {
     Ok(())
 }
 
-/// Edits that are refused, with the line of the refusal.
-const REFUSED: [(&str, &str); 4] = [
-    ("plan\nrate,L,B,x,0,,0\n", "fault,edit,2\n"),
-    ("\n\nbudget,1000000000000001\n", "fault,edit,3\n"),
-    ("\nrate,L,B,10000,0,,0\nplan\nx", "fault,edit-rate,3\n"),
-    ("plan,\n", "fault,edit,1\n"),
+/// A line and its count, the edits after these lines, and the line of the refusal.
+const REFUSED: [(&str, usize, &str, &str); 6] = [
+    ("", 0, "plan\nrate,L,B,x,0,,0\n", "fault,edit,2\n"),
+    ("", 0, "\n\nbudget,1000000000000001\n", "fault,edit,3\n"),
+    (
+        "",
+        0,
+        "\nrate,L,B,10000,0,,0\nplan\nx",
+        "fault,edit-rate,3\n",
+    ),
+    ("", 0, "plan,\n", "fault,edit,1\n"),
+    ("\n", 4000, "x", "fault,edit-lines\n"),
+    ("plan\n", 64, "plan", "fault,edit-plans,65\n"),
 ];
 
 #[test]
 fn refuses_edits(rt: HostRuntime) -> Result<(), Fail> {
     let alloc = rt.alloc();
     let line = "session --sites sites --parts parts --rates rates --edits stocks";
-    for (edits, fault) in &REFUSED {
-        let mut shelf = shelf_of(alloc, [SITES, PARTS, RATES, *edits], &[])?;
+    for (before, count, edits, fault) in &REFUSED {
+        let mut all = before.repeat(alloc, *count)?;
+        all.push_str(edits)?;
+        let mut shelf = shelf_of(alloc, [SITES, PARTS, RATES, all.as_str()], &[])?;
         ends(&rt, alloc, line, &mut shelf, &[], refused(3, fault))?;
     }
     Ok(())

@@ -4,26 +4,34 @@ use std::alloc::Global;
 use std::process::Abort;
 use std::test::*;
 
-/// The words of `check` on a shelf that holds a certificate.
+/// The words of `check` on a shelf with a certificate.
 const CHECK: &str = "check --certificate certificate";
 
-/// Nothing bought for a line unit at the depot and one base, at a price of one backorder for 100 of money; without
+/// Nothing is bought for a line unit at the depot and one base, at a price of one backorder for 100 of money; without
 /// the last line feed.
 const PLAIN: &str =
     "spares-certificate,1\nsites,2\nD,depot,,\nB,base,12,10.00\nparts,1\nL,,100,1,2,3\nrates,2\nL,D,,,,20.00\nL,B,36.5000,0.0000,,0.00\nbudget,0\nprice,281474976710656,100\nfloors,1\n84442493013196800\nstocks,2\n0\n0\nupper,844424930131968\nbound,844424930131968\nend";
 
-/// The same in the second format, where a cover shows the floor.
+/// The same in the second format with a cover that shows the floor.
 const COVERED: &str =
     "spares-certificate,2\nobjective,backorders\nsites,2\nD,depot,,\nB,base,12,10.00\nparts,1\nL,,100,1,2,3\nrates,2\nL,D,,,,20.00\nL,B,36.5000,0.0000,,0.00\nbudget,0\nprice,281474976710656,100\nfloors,1\n84442493013196800\ncovers,1\ncover,3\nsplit,1,3\nwhole\ncost\nstocks,2\n0\n0\nupper,844424930131968\nbound,844424930131968\nend";
 
-/// More lines than any of them has.
+/// The same by the loss, with the whole family in one box.
+const LOST: &str =
+    "spares-certificate,2\nobjective,log-availability\nsites,2\nD,depot,,\nB,base,12,10.00\nparts,1\nL,,100,1,2,3\nrates,2\nL,D,,,,20.00\nL,B,36.5000,0.0000,,0.00\nbudget,0\nprice,339017605730256,100\nfloors,1\n97170365572114800\ncovers,1\ncover,1\nwhole\nstocks,2\n0\n0\nupper,971703655724172\nbound,971703655721148\nend";
+
+/// One unit at the base is on hand, and nothing is bought.
+const HELD: &str =
+    "spares-held,1\nspares-certificate,2\nobjective,backorders\nsites,2\nD,depot,,\nB,base,12,10.00\nparts,1\nL,,100,1,2,3\nrates,2\nL,D,,,,20.00\nL,B,36.5000,0.0000,,0.00\nbudget,0\nprice,225419721073314,100\nfloors,1\n57696376733064700\ncovers,1\ncover,1\nwhole\nstocks,2\n0\n1\nupper,576963767330649\nbound,576963767330647\nend\nheld,2\n0\n1\nend";
+
+/// More lines than each of them has.
 const ALL: usize = 100;
 
 /// No change.
 const SAME: (usize, &str) = (0, "");
 
-/// A certificate, what its lines of these numbers are instead, and the report.
-const ACCEPTED: [(&str, [(usize, &str); 3], &str); 6] = [
+/// A certificate, replacements of its lines by number, and the report.
+const ACCEPTED: [(&str, [(usize, &str); 3], &str); 13] = [
     (
         PLAIN,
         [SAME, SAME, SAME],
@@ -58,10 +66,45 @@ const ACCEPTED: [(&str, [(usize, &str); 3], &str); 6] = [
         ],
         "accepted,1\nbudget,0\ncost,0\nupper,3.000000\nbound,3.000000\n",
     ),
+    (
+        LOST,
+        [SAME, SAME, SAME],
+        "accepted,2\nbudget,0\ncost,0\nupper,3.452185\nbound,3.452184\n",
+    ),
+    (
+        LOST,
+        [(22, "bound,0"), SAME, SAME],
+        "accepted,2\nbudget,0\ncost,0\nupper,3.452185\nbound,0.000000\n",
+    ),
+    (
+        LOST,
+        [(6, "parts,1,weights"), (7, "L,,100,1,2,3,2"), SAME],
+        "accepted,2\nbudget,0\ncost,0\nupper,3.452185\nbound,3.452184\n",
+    ),
+    (
+        LOST,
+        [(16, "cover,3"), (17, "split,1,3\nwhole\ncost"), SAME],
+        "accepted,2\nbudget,0\ncost,0\nupper,3.452185\nbound,3.452184\n",
+    ),
+    (
+        HELD,
+        [SAME, SAME, SAME],
+        "accepted,2\nbudget,0\ncost,0\non-hand,100\nupper,2.049788\nbound,2.049787\n",
+    ),
+    (
+        HELD,
+        [(23, "bound,0"), SAME, SAME],
+        "accepted,2\nbudget,0\ncost,0\non-hand,100\nupper,2.049788\nbound,0.000000\n",
+    ),
+    (
+        HELD,
+        [(17, "cover,3"), (18, "split,1,2\nwhole\nwhole"), SAME],
+        "accepted,2\nbudget,0\ncost,0\non-hand,100\nupper,2.049788\nbound,2.049787\n",
+    ),
 ];
 
 /// The same, and the line of the refusal.
-const REFUSED: [(&str, [(usize, &str); 3], &str); 16] = [
+const REFUSED: [(&str, [(usize, &str); 3], &str); 40] = [
     (
         PLAIN,
         [(13, "84442493013196801"), SAME, SAME],
@@ -138,9 +181,121 @@ const REFUSED: [(&str, [(usize, &str); 3], &str); 16] = [
         [(17, "split,144,3"), SAME, SAME],
         "fault,bad-line,17\n",
     ),
+    (
+        LOST,
+        [(2, "objective,backorders"), SAME, SAME],
+        "fault,rejected,leaf-too-low,0,0,97170365572114800,84442493013196800\n",
+    ),
+    (
+        LOST,
+        [(5, "B,base,2,10.00"), SAME, SAME],
+        "fault,rejected,upper-too-low,971703655724172,1170621519031300\n",
+    ),
+    (
+        LOST,
+        [(14, "97170365572114801"), SAME, SAME],
+        "fault,rejected,leaf-too-low,0,0,97170365572114801,97170365572114800\n",
+    ),
+    (
+        LOST,
+        [(16, "cover,3"), (17, "split,1,2\nwhole\ncost"), SAME],
+        "fault,rejected,leaf-too-low,0,1,97170365572114800,67803521146051200\n",
+    ),
+    (
+        LOST,
+        [(21, "upper,971703655724171"), SAME, SAME],
+        "fault,rejected,upper-too-low,971703655724171,971703655724172\n",
+    ),
+    (
+        LOST,
+        [(22, "bound,971703655721149"), SAME, SAME],
+        "fault,rejected,bound-too-high,971703655721149,971703655721148\n",
+    ),
+    (
+        LOST,
+        [(1, "spares-certificate,1"), SAME, SAME],
+        "fault,bad-line,2\n",
+    ),
+    (
+        HELD,
+        [(21, "0"), SAME, SAME],
+        "fault,rejected,stocks-below-held,L,B,0\n",
+    ),
+    (
+        HELD,
+        [(26, "1"), SAME, SAME],
+        "fault,rejected,stocks-below-held,L,D,0\n",
+    ),
+    (
+        HELD,
+        [(20, "3"), (21, "0"), SAME],
+        "fault,rejected,stocks-over-limit,L,D,3\n",
+    ),
+    (
+        HELD,
+        [(21, "2"), SAME, SAME],
+        "fault,rejected,over-budget,100\n",
+    ),
+    (
+        HELD,
+        [(27, "0"), SAME, SAME],
+        "fault,rejected,over-budget,100\n",
+    ),
+    (
+        HELD,
+        [(15, "57696376733064701"), SAME, SAME],
+        "fault,rejected,leaf-too-low,0,0,57696376733064701,57696376733064700\n",
+    ),
+    (
+        HELD,
+        [(15, "57696376733064701"), (21, "0"), SAME],
+        "fault,rejected,stocks-below-held,L,B,0\n",
+    ),
+    (
+        HELD,
+        [(17, "cover,3"), (18, "split,1,1\nwhole\nwhole"), SAME],
+        "fault,rejected,cover-gap,0\n",
+    ),
+    (
+        HELD,
+        [(22, "upper,576963767330648"), SAME, SAME],
+        "fault,rejected,upper-too-low,576963767330648,576963767330649\n",
+    ),
+    (
+        HELD,
+        [(23, "bound,576963767330648"), SAME, SAME],
+        "fault,rejected,bound-too-high,576963767330648,576963767330647\n",
+    ),
+    (
+        HELD,
+        [(3, "objective,log-availability"), SAME, SAME],
+        "fault,rejected,upper-too-low,576963767330649,632686049993988\n",
+    ),
+    (
+        HELD,
+        [(1, "spares-held,2"), SAME, SAME],
+        "fault,bad-line,1\n",
+    ),
+    (
+        HELD,
+        [(2, "spares-certificate,1"), SAME, SAME],
+        "fault,bad-line,2\n",
+    ),
+    (HELD, [(25, "held,1"), SAME, SAME], "fault,bad-line,25\n"),
+    (HELD, [(26, "3"), SAME, SAME], "fault,bad-line,26\n"),
+    (HELD, [(28, "end\nx"), SAME, SAME], "fault,bad-line,29\n"),
+    (
+        HELD,
+        [
+            (6, "D,base,12,10.00"),
+            (11, "L,D,36.5000,0.0000,,0.00"),
+            (26, "x"),
+        ],
+        "fault,bad-case\n",
+    ),
 ];
 
-/// The first lines of a certificate, and the line of the refusal.
+/// A count of first lines of a certificate, and the line of the refusal.
 const CUT: [(usize, &str); 19] = [
     (0, "fault,bad-line,1\n"),
     (1, "fault,bad-line,2\n"),
@@ -163,7 +318,7 @@ const CUT: [(usize, &str); 19] = [
     (18, "fault,bad-line,19\n"),
 ];
 
-/// The line of that number after the changes.
+/// The line of this number after the changes.
 fn changed<'a>(number: usize, line: &'a str, changes: &[(usize, &'a str)]) -> &'a str {
     let mut now = line;
     for (at, new) in changes {
@@ -174,7 +329,7 @@ fn changed<'a>(number: usize, line: &'a str, changes: &[(usize, &'a str)]) -> &'
     now
 }
 
-/// The first so many lines of a certificate, with some changed.
+/// The first `count` lines of a certificate, some of them changed.
 fn bytes_of<'a>(
     alloc: Global,
     text: &'a str,
@@ -255,7 +410,7 @@ fn refuses_certificates_that_end_early(rt: HostRuntime) -> Result<(), Fail> {
     refuses_cut(&rt, rt.alloc(), &CUT)
 }
 
-/// The one read fails, the name isn't held, and the one put fails, after half of a report of 57 bytes.
+/// The one read fails; the shelf has no such name; the one put fails after half of a report of 57 bytes.
 #[test]
 fn stops_a_check_at_each_call_that_fails(rt: HostRuntime) -> Result<(), Fail> {
     let alloc = rt.alloc();

@@ -7,7 +7,7 @@ use std::test::*;
 const REPORT: &str =
     "demo,7,40\nparts,82\nbudget,80000\ncost,79990\ntotal,27.548090,27.548091\nbound,27.534063\ngap,0.014027\naccepted\n";
 
-/// The first half of it.
+/// Its first half.
 const HALF: &str = "demo,7,40\nparts,82\nbudget,80000\ncost,79990\ntotal,27.5";
 
 /// Words, and the line of the refusal.
@@ -34,7 +34,7 @@ fn refuses_words_of_demonstrations(rt: HostRuntime) -> Result<(), Fail> {
     refuses(&rt, rt.alloc(), &REFUSED)
 }
 
-/// It prints the same at each run, also where the first call of a shelf would fail, and half where the output does.
+/// It prints the same at each run, even with a shelf whose first call would fail, and half if the output fails.
 #[test]
 fn demonstrates(rt: HostRuntime) -> Result<(), Fail> {
     let alloc = rt.alloc();

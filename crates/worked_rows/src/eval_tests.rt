@@ -38,7 +38,7 @@ const SHOP: [&str; 4] = [
     "part,site,stock\nL,D,0\nL,B,1\nS,D,1\nS,B,0\n",
 ];
 
-/// The same, where no shop unit comes to the depot, and without stock.
+/// The same, with no shop unit sent to the depot, and without stock.
 const UNSHARED: [&str; 4] = [
     "site,kind,systems,ship_days\nD,depot,,\nB,base,10,5\n",
     "part,parent,cost,per_system,max_depot,max_base\nL,,1000,2,1,1\nS,L,200,,1,1\n",
@@ -140,8 +140,8 @@ const HOSTILE: [(usize, &str, &str); 22] = [
     ),
 ];
 
-/// What is printed below the first line: of the first case, also in quotes, with a weight, of the shop unit, and
-/// where none is sent.
+/// The lines printed after the first: for the first case (also in quotes), with a weight, for the shop unit, and with
+/// none sent.
 const ONE_FIGURES: &str =
     "cost,0\nitem,L,D,0,2.000000,2.000000,2.000000,2.000000,2.000000,2.000000,2.000000,2.000000\nitem,L,B,0,3.000000,3.000000,3.000000,3.000000,3.000000,3.000000,3.000000,3.000000\nbase,B,0.750000,0.750000\nfleet,0.750000,0.750000\ntotal,3.000000,3.000000\n";
 
@@ -189,7 +189,7 @@ const UNREAD: [(u32, &str, &str); 4] = [
     ),
 ];
 
-/// Tables are evaluated with so many bits, and their figures are printed.
+/// Tables are evaluated with this count of bits, and their figures are printed.
 fn prints(
     rt: &impl Abort,
     alloc: Global,
@@ -233,7 +233,7 @@ fn refuses(rt: &impl Abort, alloc: Global, rows: &[(usize, &str, &str)]) -> Resu
     Ok(())
 }
 
-/// A file isn't read where the call for it fails, and where the shelf doesn't hold it.
+/// A file isn't read if its call fails, or if the shelf lacks it.
 fn stops(rt: &impl Abort, alloc: Global, rows: &[(u32, &str, &str)]) -> Result<(), Fail> {
     for (call, lacking, refusal) in rows {
         let wanted = Ended {
@@ -264,8 +264,8 @@ fn stops_at_each_call_that_fails(rt: HostRuntime) -> Result<(), Fail> {
     stops(&rt, rt.alloc(), &UNREAD)
 }
 
-/// Four calls of the shelf are made, so that the fifth doesn't fail. A failing put keeps the first half of a report
-/// of 254 bytes.
+/// The shelf gets four calls, so its failing fifth doesn't matter. A failing put keeps the first half of a report of
+/// 254 bytes.
 #[test]
 fn keeps_half_of_a_report(rt: HostRuntime) -> Result<(), Fail> {
     let alloc = rt.alloc();

@@ -1,11 +1,11 @@
-//! What the tests of the worked rows share.
+//! Helpers of the tests of the worked rows.
 use spares_io::{List, MemShelf, MemSink, NoMemory, Text};
 use spares_top::{run, status};
 use std::alloc::Global;
 use std::process::Abort;
 use std::test::*;
 
-/// Words, parted by blanks.
+/// Words, separated by spaces.
 pub(crate) fn words_of(alloc: Global, line: &str) -> Result<Vec<Text>, NoMemory> {
     let mut words = Vec::new(alloc);
     for word in line.split(' ') {
@@ -16,7 +16,7 @@ pub(crate) fn words_of(alloc: Global, line: &str) -> Result<Vec<Text>, NoMemory>
     Ok(words)
 }
 
-/// A sink of that room, whose puts fail as listed.
+/// A sink of this room, whose puts fail as listed.
 pub(crate) fn sink(alloc: Global, room: usize, fails: &[u32]) -> Result<MemSink, NoMemory> {
     MemSink::new(alloc, room, fails.to_vec(alloc)?)
 }
@@ -57,7 +57,7 @@ pub(crate) fn shelf_of(
     shelf_with(alloc, &held, fails)
 }
 
-/// How a run ended, and what it put on its two outputs.
+/// The exit status of a run, and the contents of its two outputs.
 #[derive(Clone, Copy)]
 pub(crate) struct Ended<'a> {
     pub(crate) status: u8,
@@ -83,7 +83,7 @@ pub(crate) fn refused(status: u8, line: &str) -> Ended {
     }
 }
 
-/// Runs words that are parted by blanks, where the puts of the output fail as listed: it ends like this.
+/// Runs words separated by spaces, with puts of the output that fail as listed, and compares its end.
 pub(crate) fn ends(
     rt: &impl Abort,
     alloc: Global,

@@ -1,5 +1,5 @@
-//! The program's worked rows: words and files, and what the program puts on its two outputs for them. They are
-//! run by the tests of this crate, over a shelf and sinks in memory.
+//! The program's worked rows: words and files, with the contents of its two outputs. The tests of this crate run them,
+//! over a shelf and sinks in memory.
 #![tactic(auto)]
 
 #[cfg(test)]

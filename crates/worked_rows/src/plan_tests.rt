@@ -4,7 +4,7 @@ use std::alloc::Global;
 use std::process::Abort;
 use std::test::*;
 
-/// The words of `plan` on the files of a shelf, but for the budget.
+/// The words of `plan` on the files of a shelf, without the budget.
 const PLAN: &str = "plan --sites sites --parts parts --rates rates --certificate certificate";
 
 /// The words of `check` on its certificate.
@@ -34,7 +34,23 @@ const WEIGHTED: [&str; 4] = [
     "",
 ];
 
-/// A second line unit that is like the first.
+/// The first case, with one unit on hand at the base.
+const HELD: [&str; 4] = [
+    "site,kind,systems,ship_days\nD,depot,,\nB,base,12,10\n",
+    "part,parent,cost,per_system,max_depot,max_base\nL,,100,1,2,3\n",
+    "part,site,demand,repair_here,share,repair_days\nL,D,,,,20\nL,B,36.5,0,,0\n",
+    "part,site,stock\nL,D,0\nL,B,1\n",
+];
+
+/// The same with nothing on hand.
+const UNHELD: [&str; 4] = [
+    "site,kind,systems,ship_days\nD,depot,,\nB,base,12,10\n",
+    "part,parent,cost,per_system,max_depot,max_base\nL,,100,1,2,3\n",
+    "part,site,demand,repair_here,share,repair_days\nL,D,,,,20\nL,B,36.5,0,,0\n",
+    "part,site,stock\nL,D,0\nL,B,0\n",
+];
+
+/// A second line unit like the first.
 const ALIKE: [&str; 4] = [
     "site,kind,systems,ship_days\nD,depot,,\nB,base,12,10\n",
     "part,parent,cost,per_system,max_depot,max_base\nL,,100,1,2,3\nK,,100,1,2,3\n",
@@ -42,7 +58,15 @@ const ALIKE: [&str; 4] = [
     "",
 ];
 
-/// A second line unit that is cheaper.
+/// The same with weights of 1 and 2.
+const UNLIKE: [&str; 4] = [
+    "site,kind,systems,ship_days\nD,depot,,\nB,base,12,10\n",
+    "part,parent,cost,per_system,max_depot,max_base,weight\nL,,100,1,2,3,1\nK,,100,1,2,3,2\n",
+    "part,site,demand,repair_here,share,repair_days\nL,D,,,,20\nL,B,36.5,0,,0\nK,D,,,,20\nK,B,36.5,0,,0\n",
+    "",
+];
+
+/// A second, cheaper line unit.
 const CHEAP: [&str; 4] = [
     "site,kind,systems,ship_days\nD,depot,,\nB,base,12,10\n",
     "part,parent,cost,per_system,max_depot,max_base\nL,,100,1,2,3\nK,,30,1,2,3\n",
@@ -82,8 +106,8 @@ const LARGE: [&str; 4] = [
     "",
 ];
 
-/// Tables, the words for budget and format, the report of the plan, and that of the check of its certificate.
-const PLANNED: [([&str; 4], &str, &str, &str); 10] = [
+/// Tables, the words after the files, the report of the plan, and the report of its certificate's check.
+const PLANNED: [([&str; 4], &str, &str, &str); 18] = [
     (
         ONE,
         "--budget 0",
@@ -144,9 +168,57 @@ const PLANNED: [([&str; 4], &str, &str, &str); 10] = [
         "plan,1000\ncost,1000\nitem,L,D,2,0.399999,0.400001,0.399999,0.400001,0.008768,0.008769,0.010514,0.010515\nitem,L,B1,4,0.104384,0.104385,0.104820,0.104821,0.000000,0.000001,0.000000,0.000001\nitem,L,B2,4,0.104384,0.104385,0.104820,0.104821,0.000000,0.000001,0.000000,0.000001\nbase,B1,0.999999,1.000000\nbase,B2,0.999999,1.000000\nfleet,0.999999,1.000000\ntotal,0.000000,0.000001\nbound,0.000000\ngap,0.000001\nrounding,0.000001\nprice,0.000000001475\nhull,1000\ncritical,L,100\n",
         "accepted,2\nbudget,1000\ncost,1000\nupper,0.000001\nbound,0.000000\n",
     ),
+    (
+        UNLIKE,
+        "--budget 150",
+        "plan,150\ncost,100\nitem,L,D,0,2.000000,2.000000,2.000000,2.000000,2.000000,2.000000,2.000000,2.000000\nitem,L,B,0,3.000000,3.000000,3.000000,3.000000,3.000000,3.000000,3.000000,3.000000\nitem,K,D,0,2.000000,2.000000,2.000000,2.000000,2.000000,2.000000,2.000000,2.000000\nitem,K,B,1,3.000000,3.000000,3.000000,3.000000,2.049787,2.049788,2.748585,2.748586\nbase,B,0.621888,0.621889\nfleet,0.621888,0.621889\ntotal,7.099574,7.099575\nbound,6.298722\ngap,0.800852\nrounding,0.000001\nprice,0.016017034530\nhull,100\ncritical,K,100\n",
+        "accepted,1\nbudget,150\ncost,100\nupper,7.099575\nbound,6.298722\n",
+    ),
+    (
+        ONE,
+        "--budget 0 --objective log-availability",
+        "plan,0\ncost,0\nitem,L,D,0,2.000000,2.000000,2.000000,2.000000,2.000000,2.000000,2.000000,2.000000\nitem,L,B,0,3.000000,3.000000,3.000000,3.000000,3.000000,3.000000,3.000000,3.000000\nbase,B,0.750000,0.750000\nfleet,0.750000,0.750000\ntotal,3.000000,3.000000\nloss,3.452184,3.452185\nbound,3.452184\ngap,0.000001\nrounding,0.000001\nprice,0.012044324852\nhull,0\ncritical,L,100\n",
+        "accepted,2\nbudget,0\ncost,0\nupper,3.452185\nbound,3.452184\n",
+    ),
+    (
+        ONE,
+        "--budget 250 --objective log-availability",
+        "plan,250\ncost,200\nitem,L,D,0,2.000000,2.000000,2.000000,2.000000,2.000000,2.000000,2.000000,2.000000\nitem,L,B,2,3.000000,3.000000,3.000000,3.000000,1.248935,1.248936,2.091651,2.091652\nbase,B,0.895922,0.895923\nfleet,0.895922,0.895923\ntotal,1.248935,1.248936\nloss,1.318822,1.318823\nbound,1.005252\ngap,0.313571\nrounding,0.000001\nprice,0.006271401277\nhull,200\ncritical,L,100\n",
+        "accepted,2\nbudget,250\ncost,200\nupper,1.318823\nbound,1.005252\n",
+    ),
+    (
+        SMALL,
+        "--budget 0 --objective log-availability",
+        "plan,0\ncost,0\nitem,L,D,0,2.000000,2.000000,2.000000,2.000000,2.000000,2.000000,2.000000,2.000000\nitem,L,B,0,3.000000,3.000000,3.000000,3.000000,3.000000,3.000000,3.000000,3.000000\nbase,B,0.000000,0.000000\nfleet,0.000000,0.000000\ntotal,3.000000,3.000000\nloss,4.158883,4.158884\nbound,4.158883\ngap,0.000001\nrounding,0.000001\nprice,0.011132493084\nhull,0\ncritical,L,300\n",
+        "accepted,2\nbudget,0\ncost,0\nupper,4.158884\nbound,4.158883\n",
+    ),
+    (
+        WEIGHTED,
+        "--budget 0 --objective log-availability",
+        "plan,0\ncost,0\nitem,L,D,0,2.000000,2.000000,2.000000,2.000000,2.000000,2.000000,2.000000,2.000000\nitem,L,B,0,3.000000,3.000000,3.000000,3.000000,3.000000,3.000000,3.000000,3.000000\nbase,B,0.750000,0.750000\nfleet,0.750000,0.750000\ntotal,9.000000,9.000000\nloss,3.452184,3.452185\nbound,3.452184\ngap,0.000001\nrounding,0.000001\nprice,0.012044324852\nhull,0\ncritical,L,100\n",
+        "accepted,2\nbudget,0\ncost,0\nupper,3.452185\nbound,3.452184\n",
+    ),
+    (
+        HELD,
+        "--budget 0 --on-hand stocks",
+        "plan,0\ncost,0\non-hand,100\nitem,L,D,0,2.000000,2.000000,2.000000,2.000000,2.000000,2.000000,2.000000,2.000000\nitem,L,B,1,3.000000,3.000000,3.000000,3.000000,2.049787,2.049788,2.748585,2.748586\nbase,B,0.829184,0.829185\nfleet,0.829184,0.829185\ntotal,2.049787,2.049788\nbound,2.049787\ngap,0.000001\nrounding,0.000001\nprice,0.008008517265\nhull,0\ncritical,L,100\n",
+        "accepted,2\nbudget,0\ncost,0\non-hand,100\nupper,2.049788\nbound,2.049787\n",
+    ),
+    (
+        UNHELD,
+        "--budget 250 --on-hand=stocks",
+        "plan,250\ncost,200\non-hand,0\nitem,L,D,0,2.000000,2.000000,2.000000,2.000000,2.000000,2.000000,2.000000,2.000000\nitem,L,B,2,3.000000,3.000000,3.000000,3.000000,1.248935,1.248936,2.091651,2.091652\nbase,B,0.895922,0.895923\nfleet,0.895922,0.895923\ntotal,1.248935,1.248936\nbound,0.960530\ngap,0.288405\nrounding,0.000001\nprice,0.005768099188\nhull,200\ncritical,L,100\n",
+        "accepted,2\nbudget,250\ncost,200\non-hand,0\nupper,1.248936\nbound,0.960530\n",
+    ),
+    (
+        HELD,
+        "--budget 0 --on-hand stocks --objective log-availability",
+        "plan,0\ncost,0\non-hand,100\nitem,L,D,0,2.000000,2.000000,2.000000,2.000000,2.000000,2.000000,2.000000,2.000000\nitem,L,B,1,3.000000,3.000000,3.000000,3.000000,2.049787,2.049788,2.748585,2.748586\nbase,B,0.829184,0.829185\nfleet,0.829184,0.829185\ntotal,2.049787,2.049788\nloss,2.247752,2.247753\nbound,2.247752\ngap,0.000001\nrounding,0.000001\nprice,0.009289300383\nhull,0\ncritical,L,100\n",
+        "accepted,2\nbudget,0\ncost,0\non-hand,100\nupper,2.247753\nbound,2.247752\n",
+    ),
 ];
 
-/// The certificate of the first case at a budget of 250, its first half, and that of the report.
+/// The certificate of the first case at a budget of 250, its first half, and the first half of the report.
 const CERTIFICATE: &str =
     "spares-certificate,1\nsites,2\nD,depot,,\nB,base,12,10.00\nparts,1\nL,,100,1,2,3\nrates,2\nL,D,,,,20.00\nL,B,36.5000,0.0000,,0.00\nbudget,250\nprice,162357558481304,100\nfloors,1\n67625916321994100\nstocks,2\n0\n2\nupper,351544046257340\nbound,270365267016681\nend\n";
 
@@ -159,9 +231,8 @@ const WHOLE_REPORT: &str =
 const HALF_REPORT: &str =
     "plan,250\ncost,200\nitem,L,D,0,2.000000,2.000000,2.000000,2.000000,2.000000,2.000000,2.000000,2.000000\nitem,L,B,2,3.000000,3.000000,3.000000,3.000000,1.248935,1.248936,2.091651";
 
-/// A call of the shelf that fails and one of the output, each 0 where none does, at a budget of 250; what the shelf
-/// then holds under the certificate's name, nothing where it isn't held; what the output holds, the line and the
-/// status.
+/// At a budget of 250, the number of a failing call of the shelf and of the output, each 0 if none fails; the
+/// certificate on the shelf afterwards, empty if there is none; the output, the line and the status.
 const FAILING: [(u32, u32, &str, &str, &str, u8); 6] = [
     (1, 0, "", "", "fault,read,sites\n", 5),
     (2, 0, "", "", "fault,read,parts\n", 5),
@@ -171,7 +242,7 @@ const FAILING: [(u32, u32, &str, &str, &str, u8); 6] = [
     (5, 2, CERTIFICATE, WHOLE_REPORT, "", 0),
 ];
 
-/// Tables and words that are refused, the line and the status.
+/// Refused tables and words, with the line and the status.
 const REFUSED: [([&str; 4], &str, &str, u8); 8] = [
     (ONE, "", "fault,words\n", 2),
     (ONE, "--budget 1 --budget 1", "fault,words\n", 2),
@@ -188,7 +259,7 @@ const REFUSED: [([&str; 4], &str, &str, u8); 8] = [
     (UNRATED, "--budget 1000", "fault,missing-rate,L,B\n", 3),
 ];
 
-/// The shelf holds exactly this under a name; nothing where the name isn't held.
+/// The shelf has exactly this content under a name, or lacks the name if it is empty.
 fn holds(rt: &impl Abort, shelf: &MemShelf, name: &str, text: &str) {
     assert_eq!(rt;
         shelf.file(name).unwrap_or(b"".as_slice()),
@@ -234,7 +305,7 @@ fn refuses(
     Ok(())
 }
 
-/// Where a call of the shelf or of the output fails, both hold what they should.
+/// If a call of the shelf or of the output fails, both have these contents.
 fn stops(
     rt: &impl Abort,
     alloc: Global,
@@ -269,7 +340,7 @@ fn stops_a_plan_at_each_call_that_fails(rt: HostRuntime) -> Result<(), Fail> {
     stops(&rt, rt.alloc(), &FAILING)
 }
 
-/// A certificate takes the place of the table that has its name.
+/// A certificate replaces the table of its name.
 #[test]
 fn replaces_an_input(rt: HostRuntime) -> Result<(), Fail> {
     let alloc = rt.alloc();

@@ -9,7 +9,7 @@ const ONE: [&str; 4] = [
     "",
 ];
 
-/// One line unit, and a second one that costs less.
+/// One line unit, and a second, cheaper one.
 const TWO: [&str; 4] = [
     "site,kind,systems,ship_days\nD,depot,,\nB,base,12,10\n",
     "part,parent,cost,per_system,max_depot,max_base\nL,,100,1,2,3\nK,,30,1,2,3\n",

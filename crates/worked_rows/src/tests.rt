@@ -4,7 +4,7 @@ use std::alloc::Global;
 use std::process::Abort;
 use std::test::Fail;
 
-/// Words, parted by blanks, and the report that is printed for them.
+/// Words, separated by spaces, and their report.
 const PRINTED: [(&str, &str); 18] = [
     (
         "single 1 1",
@@ -80,7 +80,7 @@ const PRINTED: [(&str, &str); 18] = [
     ),
 ];
 
-/// Words, parted by blanks, with the line of their refusal and the exit status.
+/// Words, separated by spaces, with the line of their refusal and the exit status.
 const REFUSED: [(&str, &str, u8); 19] = [
     ("", "fault,words\n", 2),
     ("help", "fault,words\n", 2),
@@ -133,7 +133,7 @@ fn prints(rt: &impl Abort, alloc: Global, rows: &[(&str, &str)]) -> Result<(), F
     Ok(())
 }
 
-/// Each line is refused, by its line and its status.
+/// Each line is refused, with this line and this status.
 fn refuses(rt: &impl Abort, alloc: Global, rows: &[(&str, &str, u8)]) -> Result<(), Fail> {
     for (line, refusal, code) in rows {
         let mut shelf = empty_shelf(alloc)?;
@@ -157,7 +157,7 @@ fn refuses_the_worked_rows(rt: HostRuntime) -> Result<(), Fail> {
     refuses(&rt, rt.alloc(), &REFUSED)
 }
 
-/// What the output holds after a report of 56 bytes that it doesn't take, and what the standard error.
+/// The contents of the output after a report of 56 bytes that it doesn't take whole, and of the standard error.
 #[test]
 fn keeps_a_prefix_of_the_report(rt: HostRuntime) -> Result<(), Fail> {
     let alloc = rt.alloc();
@@ -180,7 +180,7 @@ fn keeps_a_prefix_of_the_report(rt: HostRuntime) -> Result<(), Fail> {
     Ok(())
 }
 
-/// A refusal stays the same where its line can't be put.
+/// A refusal stays the same if its line can't be put.
 #[test]
 fn refuses_without_a_line(rt: HostRuntime) -> Result<(), Fail> {
     let alloc = rt.alloc();

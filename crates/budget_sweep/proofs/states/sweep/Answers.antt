@@ -1,6 +1,6 @@
 use Rattle.std.proofs.Common.{◌≡◌, ◌++◌, ◌∷◌, [], sym, ◌∙◌, subst}
 use Rattle.budget_sweep.specs.Sums.{AreSums}
-use Rattle.budget_sweep.proofs.Room.{all_small}
+use Rattle.budget_sweep.proofs.Room.{all_fit, all_small}
 use Rattle.budget_sweep.proofs.Taken.{Swept, none_swept, stepped, ended}
 use Rattle.budget_sweep.proofs.states.sweep.Goals as goal
 
@@ -50,10 +50,18 @@ returns-clause-case c =
       is_sweep = record { areas = areas; shapes = e.shapes; sweep = e.sweep };
     }
 
+pub returns-clause-small : goal.returns-clause-small
+returns-clause-small c =
+    let m : c.push-2.new.self.items ≡ c.steps.points.items ++ c.at_price-2.result ∷ [] = c.in_ok-push-2.ensures.items in
+    let e = ended c.args.curves.now c.steps.walk c.steps.points.items c.of.result c.at_price-2.result c.steps.sums
+    c.steps.invariant.same c.in_default.ensures.none c.steps.invariant.sums c.steps.invariant.swept c.at_price-2.ensures
+    (c.of.ensures ∙ m) in
+    all_small c.args.curves.now c.of.result c.requires e.shapes e.sweep
+
 pub returns-clause-fits : goal.returns-clause-fits
 returns-clause-fits c =
     let m : c.push-2.new.self.items ≡ c.steps.points.items ++ c.at_price-2.result ∷ [] = c.in_ok-push-2.ensures.items in
     let e = ended c.args.curves.now c.steps.walk c.steps.points.items c.of.result c.at_price-2.result c.steps.sums
     c.steps.invariant.same c.in_default.ensures.none c.steps.invariant.sums c.steps.invariant.swept c.at_price-2.ensures
     (c.of.ensures ∙ m) in
-    all_small c.args.curves.now c.of.result c.requires e.shapes e.sweep
+    all_fit c.of.result (all_small c.args.curves.now c.of.result c.requires e.shapes e.sweep)

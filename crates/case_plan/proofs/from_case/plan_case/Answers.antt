@@ -21,4 +21,4 @@ returns g c =
     (λ x h. h g.S.Score.ends c.args.held.now.list
     (subst (λ (z : List (List Point)). AreCurves (case_points g.S.Score.ends c.args.case.now c.args.held.now.list) z) (sym c.as_slice.ensures.value)
     (are_curves g.S.Score.ends c.args.case.now c.args.held.now.list c.in_ok-curves.curves.items c.in_ok-curves.ensures)))
-    c.plan.ensures
+    c.plan.ensures.case

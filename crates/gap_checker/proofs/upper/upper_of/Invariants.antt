@@ -7,5 +7,5 @@ use Rattle.gap_checker.proofs.upper.upper_of.Given as goal
 abbrev pub invariant-loop-f : goal.invariant-loop-f
 invariant-loop-f g l = record {
   sum : l.upper + hi_of (map (chosen_point g.S.Score.ends l.fn.cert l.fn.held) (drop l.f (line_units l.fn.cert.case))) ≡ upper_of g.S.Score.ends l.fn.cert l.fn.held;
-  most : l.upper ≤ l.f * 2 ^ 74;
+  most : l.upper ≤ l.f * 2 ^ 78;
 }

@@ -1,5 +1,5 @@
 use Rattle.std.proofs.Common.{Err, subst}
-use Rattle.certified_plan.specs.Scores.{ends_of}
+use Rattle.gap_checker.specs.Scores.{ends_of}
 use Rattle.gap_checker.specs.Refusals.{judged}
 use Rattle.gap_checker.specs.declared.refusal.Accepted.{Accepted}
 use Rattle.spares_io.specs.Answers.{Gives}

@@ -1,4 +1,4 @@
--- What an objective keeps low: as intervals, and as the values that they enclose.
+-- The score of each objective: its intervals, and the values that they enclose.
 use Rattle.fleet_model.specs.Aims.{Value, weighted_backorders}
 use Rattle.family_curve.specs.Points.{ScoreEnds, plain_ends}
 use Rattle.log_loss.specs.Loss.{loss_of}

@@ -4,28 +4,29 @@ use Rattle.gap_checker.specs.Boxes.{AtMost, IsOrdered}
 use Rattle.family_curve.specs.Points.{added_cost}
 use Rattle.family_curve.specs.Vectors.{limits}
 use Rattle.gap_checker.specs.Covers.{box_of}
-use Rattle.gap_checker.specs.Values.{leaf_tables, value_of}
+use Rattle.gap_checker.specs.Values.{below, leaf_tables, value_of}
 use Rattle.gap_checker.proofs.Boxes.{at_most_chain}
-use Rattle.gap_checker.proofs.value.value_of.Goals as goal
+use Rattle.gap_checker.proofs.value.low_value.Goals as goal
 
 pub added_cost-cost-requires-clause-limit : goal.added_cost-cost-requires-clause-limit
 added_cost-cost-requires-clause-limit g c =
     let o : IsOrdered c.args.case.now c.args.line.0 c.in-Cost.bounds = subst (λ x. IsOrdered c.args.case.now c.args.line.0 (box_of x)) c.in-Cost.is c.requires.ordered in
     subst (λ z. AtMost z (limits c.args.case.now c.args.line.0)) (sym c.as_slice-in-Cost.ensures) (at_most_chain c.in-Cost.bounds.low c.in-Cost.bounds.high (limits c.args.case.now c.args.line.0) o.low_least o.within)
 
-pub least_within-requires-clause-work : goal.least_within-requires-clause-work
+pub low_within-requires-clause-work : goal.low_within-requires-clause-work
 unfolding leaf_tables
-least_within-requires-clause-work g c = subst (λ x. leaf_tables c.args.case.now c.args.line.0 x ≤ 1000000) c.in-Whole.is c.requires.work
+low_within-requires-clause-work g c = subst (λ x. leaf_tables c.args.case.now c.args.line.0 x ≤ 1000000) c.in-Whole.is c.requires.work
 
 pub returns-in-Cost : goal.returns-in-Cost
 unfolding value_of
 returns-in-Cost g c =
-    ap (λ z. c.args.price.p * z) (c.from.ensures ∙ c.added_cost-cost.ensures.cost)
-    ∙ ap (λ z. c.args.price.p * added_cost c.args.case.now c.args.line.0 z c.as_slice-in-Cost.result.now) c.as_slice.ensures
-    ∙ ap (λ z. c.args.price.p * added_cost c.args.case.now c.args.line.0 c.in-Cost.bounds.held z) c.as_slice-in-Cost.ensures
-    ∙ sym (ap (λ x. value_of c.args.case.now c.args.line.0 g.S.Score.ends c.args.price x) c.in-Cost.is)
+    c.below.ensures
+    ∙ ap (λ z. below c.args.floor (c.args.price.p * z)) (c.from.ensures ∙ c.added_cost-cost.ensures.cost)
+    ∙ ap (λ z. below c.args.floor (c.args.price.p * added_cost c.args.case.now c.args.line.0 z c.as_slice-in-Cost.result.now)) c.as_slice.ensures
+    ∙ ap (λ z. below c.args.floor (c.args.price.p * added_cost c.args.case.now c.args.line.0 c.in-Cost.bounds.held z)) c.as_slice-in-Cost.ensures
+    ∙ sym (ap (λ x. below c.args.floor (value_of c.args.case.now c.args.line.0 g.S.Score.ends c.args.price x)) c.in-Cost.is)
 
 pub returns-in-Whole : goal.returns-in-Whole
 unfolding value_of
 returns-in-Whole g c =
-    subst (λ x. IfOk c.least_within.result (λ value. value ≡ value_of c.args.case.now c.args.line.0 g.S.Score.ends c.args.price x)) (sym c.in-Whole.is) c.least_within.ensures
+    subst (λ x. IfOk c.low_within.result (λ low. low ≡ below c.args.floor (value_of c.args.case.now c.args.line.0 g.S.Score.ends c.args.price x))) (sym c.in-Whole.is) c.low_within.ensures

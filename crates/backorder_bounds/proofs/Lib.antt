@@ -1,0 +1,8 @@
+pub mod Coarse
+pub mod Lists
+pub mod Moments
+pub mod Parts
+pub mod SumBounds
+pub mod Reaches
+pub mod Starts
+pub mod Falls

@@ -1,0 +1,4 @@
+pub mod Lows
+pub mod Coarse
+pub mod Lead
+pub mod Falling

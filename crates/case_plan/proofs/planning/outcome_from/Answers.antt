@@ -1,0 +1,20 @@
+use Rattle.std.proofs.Common.{refl, arith}
+use Rattle.case_plan.specs.Report.{Terms}
+use Rattle.case_plan.proofs.ChosenFacts.{evaluable}
+use Rattle.case_plan.proofs.Whole.{made}
+use Rattle.case_plan.proofs.planning.outcome_from.Goals as goal
+
+pub figures_at-requires : goal.figures_at-requires
+figures_at-requires c = (
+  omega arith,
+  (refl, (evaluable c.args.case.now c.args.chosen c.site_count-sites.ensures.valid c.requires.rates c.requires.fits, c.requires.families)),
+)
+
+pub line_of-requires : goal.line_of-requires
+line_of-requires c = c.requires.fits.critical
+
+pub returns : goal.returns
+returns c =
+    let terms : Terms = record { budget = c.args.budget; loss = c.args.loss; on_hand = c.args.on_hand } in
+    made c.args.case.now terms c.args.chosen c.of.result c.in_ok-figures.figures c.aim_of.result c.line_of.result
+    c.of.ensures c.in_ok-figures.ensures.figures c.aim_of.ensures c.line_of.ensures
