@@ -1,32 +1,27 @@
 #!/bin/bash
-# Times the hull choice of 2,000 curves of 64 vertices and its filling beside a peer's table, both built now and run in turn
-# on one processor.
+# Times the hull choice of 2,000 curves of 64 vertices and its filling beside a peer's table, both built now and run in
+# turn on one processor.
 #   bench/choice.sh [RUNS]
 # The peer is peers/literal.rs. RUNS: how many times each is run, 5 if left out; the best time counts. The second
 # case has a first family so dear that its step is critical and most of the budget is left to the filling; the third has
 # intervals wider than many steps, so that upper ends don't fall along the curves.
-set -eu
-cd "$(dirname "$0")/.."
+# shellcheck source=bench/common.sh
+. "$(dirname "$0")/common.sh"
 runs=${1:-5}
 cases=("2000 64 1000 1 3600000" "2000 64 1000 1000000 3600000" "2000 64 1000000000000 1 3600000")
 
-work=$(mktemp -d)
-trap 'rm -rf "$work"' EXIT
-rustc --edition 2024 -O -C target-cpu=native bench/peers/literal.rs -o "$work/peer"
-(cd crates/choice_bench && rt run) > /dev/null 2>&1
-ours=crates/choice_bench/out/choice_bench
-on_one=()
-command -v taskset > /dev/null && on_one=(taskset -c "$(($(nproc) - 1))")
+build_peer literal
+take_crate choice_bench
 
 for _ in $(seq "$runs"); do
-    "${on_one[@]}" "$work/peer" 1000 | sed -n '3s/.*nanoseconds //p' >> "$work/peer.all"
+    "${on_one[@]}" "$work/literal" 1000 | sed -n '3s/.*nanoseconds //p' >> "$work/literal.all"
     for i in "${!cases[@]}"; do
         # shellcheck disable=SC2086
         "${on_one[@]}" "$ours" ${cases[$i]} timed | sed 's/.*nanoseconds //' >> "$work/ours.$i"
     done
 done
 
-table=$(sort -n "$work/peer.all" | head -n 1)
+table=$(sort -n "$work/literal.all" | head -n 1)
 echo "a table of the peer: $table nanoseconds"
 echo "families vertices widths dear budget: choice, filling (nanoseconds, best of $runs), both in tables of the peer"
 for i in "${!cases[@]}"; do

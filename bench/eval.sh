@@ -1,66 +1,39 @@
 #!/bin/bash
 # Times `eval` of a large case beside two peers, in turn on one processor.
-#   bench/eval.sh [RUNS [COUNT [PEER]]]
-# RUNS: how many times each is run, 5 if left out; the best time counts. One peer is peers/plan.rs, or PEER: another
-# program that takes the same words; it stops where its report isn't ours. The other is peers/literal.rs, which makes
-# COUNT tables (1000 if left out) of each case.
+#   bench/eval.sh PROGRAM [RUNS [COUNT [PEER]]]
+# PROGRAM is the built program. RUNS: how many times each is run, 5 if left out; the best time counts. One peer is
+# peers/plan.rs, or PEER: another program that takes the same words (`-` as if left out); the script stops if its report
+# isn't ours. The other is peers/literal.rs, which makes COUNT tables (1000 if left out) of each of its cases.
 #
 # large_case.py writes the case, of 32,000 pipelines. The literal peer's cost is that of its cheapest table up to the
-# mean 20, for each pipeline, though 3% of them have larger means, whose tables cost it more. The other times are the
-# wall time of the whole program: four files read, all pipelines, the report written. Memory is the peak of the whole
-# process of ours.
-set -eu
-cd "$(dirname "$0")/.."
-runs=${1:-5}
-count=${2:-1000}
-peer=${3:-}
+# mean 20, for each pipeline, though 3% of them have larger means, whose tables cost it more. The other times are by the
+# clock for the whole program: four files read, all pipelines, the report written. Memory is the peak of our process.
+# shellcheck source=bench/common.sh
+. "$(dirname "$0")/common.sh"
+program=${1:?words: PROGRAM [RUNS [COUNT [PEER]]]}
+runs=${2:-5}
+count=${3:-1000}
 pipelines=32000
 
-work=$(mktemp -d)
-trap 'rm -rf "$work"' EXIT
-rustc --edition 2024 -O -C target-cpu=native bench/peers/literal.rs -o "$work/literal"
-if [ -z "$peer" ]; then
-    peer=$work/plan
-    rustc --edition 2024 -O -C target-cpu=native bench/peers/plan.rs -o "$peer"
-fi
-python3 bench/large_case.py "$work"
-./spares single 1 1 > /dev/null
-words=(eval)
-for table in sites parts rates stocks; do
-    words+=("--$table" "$work/$table.csv")
-done
-ours=(crates/spares/out/spares "${words[@]}")
-on_one=()
-command -v taskset > /dev/null && on_one=(taskset -c "$(($(nproc) - 1))")
+build_peer literal
+take_peer "${4:-}"
+python3 "$bench/large_case.py" "$work/eval"
+take_case "$work/eval" 0
+words=(eval "${files[@]}" --stocks "$work/eval/stocks.csv")
 
-microseconds() { printf '%s' "${EPOCHREALTIME//[.,]/}"; }
-# timed NAME WORDS..: adds the wall time of one run to the times of that name; its report is kept
-timed() {
-    local start
-    start=$(microseconds)
-    "${on_one[@]}" "${@:2}" > "$work/$1.report"
-    echo $(($(microseconds) - start)) >> "$work/$1.all"
-}
 for _ in $(seq "$runs"); do
     "${on_one[@]}" "$work/literal" "$count" | sed 's/.*nanoseconds //' | head -n 4 >> "$work/literal.all"
-    timed peer "$peer" "${words[@]}"
-    timed ours "${ours[@]}"
+    spent peer "$peer" "${words[@]}"
+    spent ours "$program" "${words[@]}"
     cmp "$work/peer.report" "$work/ours.report"
 done
-# the peak that the kernel keeps while the process lives
-"${ours[@]}" > "$work/report" &
-peak=0
-while now=$(awk '/VmHWM/ { print $2 }' "/proc/$!/status" 2> /dev/null) && [ -n "$now" ]; do
-    peak=$now
-done
-wait $!
 
-tail -n 1 "$work/report"
-least() { sort -n "$1" | head -n 1; }
-awk -v ours="$(least "$work/ours.all")" -v peer="$(least "$work/peer.all")" -v table="$(least "$work/literal.all")" \
-    -v n="$pipelines" -v kb="$peak" -v runs="$runs" 'BEGIN {
-    printf "%d pipelines, best of %d: ours %.3f s, ", n, runs, ours / 1e6
-    printf "peer %.3f s, ratio %.2f; ", peer / 1e6, ours / peer
-    printf "literal peer %.3f s (%d nanoseconds a table), ratio %.2f; peak memory %.1f MB\n",
-        n * table / 1e9, table, ours * 1000 / (n * table), kb / 1024
-}'
+tail -n 1 "$work/ours.report"
+ours=$(least ours wall)
+theirs=$(least peer wall)
+table=$(sort -n "$work/literal.all" | head -n 1)
+literal=$((pipelines * table / 1000))
+printf '%d pipelines, best of %d: ours %s s, ' "$pipelines" "$runs" "$(seconds "$ours")"
+printf 'peer %s s, ratio %s; ' "$(seconds "$theirs")" "$(ratio "$ours" "$theirs")"
+printf 'literal peer %s s (%d nanoseconds a table), ratio %s; ' "$(seconds "$literal")" "$table" "$(ratio "$ours" "$literal")"
+printf 'peak memory %s MB\n' "$(megabytes "$(peak "$program" "${words[@]}")")"

@@ -15,6 +15,16 @@ the tables:
     demo80      2 bases, 80 line units and up to two shop units each: the case of `spares demo 7 80`
     wide15      15 bases, 1,000 line units without shop units
     max         15 bases, 900 line units and 1,100 shop units, with about as many tables as a plan may have
+    middle6     6 bases, 60 line units and 40 shop units with limits up to 8, most tables in families with a shop unit
+    middle6s    the same with limits of shop units of 4 at the depot and 2 at a base
+
+The rest are families that differ in their demand alone, with shop units whose tables serve many choices of stocks:
+
+    kept1       6 bases, one family with 8 shop units, limits 2 at the depot
+    kept2       6 bases, 6 families with 4 shop units, limits 4
+    kept3       6 bases, 10 families with 4 shop units, limits 5
+    kept4       15 bases, 3 families with 6 shop units, limits 3
+    kept5       6 bases, 40 families with one shop unit, limits 4, and 1 at a base
 
 The bytes are the same at every run.
 """
@@ -96,6 +106,14 @@ def line_unit(draws, line):
     return parts, rates, stocks
 
 
+def shuffled(draws, items):
+    """The items in a drawn order."""
+    for k in reversed(range(1, len(items))):
+        other = draws.below(k + 1)
+        items[k], items[other] = items[other], items[k]
+    return items
+
+
 class Tables:
     """The rows of a case."""
 
@@ -131,7 +149,7 @@ def case_for_eval():
 
 
 def tables_of(bases, limits):
-    """How many tables the curve of a family takes, by the formula of docs/MODEL.md."""
+    """How many tables the curve of a family takes, by the formula of docs/CERTIFICATE.md, Covers."""
     at_depot, at_base, widths = 1, 1, 0
     for depot, base in limits[1:]:
         at_depot *= depot + 1
@@ -198,10 +216,7 @@ def wide15():
 
 def largest():
     draws = Draws(2001)
-    counts = [0] * 300 + [1] * 265 + [2] * 205 + [3] * 95 + [4] * 35
-    for k in reversed(range(1, len(counts))):
-        other = draws.below(k + 1)
-        counts[k], counts[other] = counts[other], counts[k]
+    counts = shuffled(draws, [0] * 300 + [1] * 265 + [2] * 205 + [3] * 95 + [4] * 35)
     # the more shop units, the fewer of each
     most_depot, most_base = [0, 4, 3, 1, 1], [0, 2, 1, 1, 0]
     families = []
@@ -253,7 +268,51 @@ def demo80():
     return case, 160000, tables
 
 
-CASES = {'fleet22': fleet22, 'demo80': demo80, 'wide15': wide15, 'max': largest}
+def middle(seed, alone, in_pairs):
+    """60 line units: 24 have a shop unit with the limits `alone`, 8 have two with the limits `in_pairs`."""
+    draws = Draws(seed)
+    shops = shuffled(draws, [[alone]] * 24 + [[in_pairs] * 2] * 8 + [[]] * 28)
+    return planned(draws, 6, [[(8, 8)] + limits for limits in shops], 3000000)
+
+
+def like_family(number, bases, limits):
+    """The rows of a family. A base demands 6 units in a year, plus its own number, plus the family's."""
+    name = 'Unit%04d' % number
+    parts = ['%s,,1000,1,%d,%d' % (name, *limits[0])]
+    rates = ['%s,Depot,,,,30' % name]
+    rates += ['%s,Base%02d,%d,0.5,,4' % (name, base, 6 + base + number) for base in range(1, bases + 1)]
+    for shop, pair in enumerate(limits[1:], 1):
+        inner = '%s-%d' % (name, shop)
+        parts.append('%s,%s,%d,,%d,%d' % (inner, name, 90 + 10 * shop, *pair))
+        rates.append('%s,Depot,,,0.3,20' % inner)
+        rates += ['%s,Base%02d,,0.4,0.3,5' % (inner, base) for base in range(1, bases + 1)]
+    return parts, rates
+
+
+def kept(bases, count, limits):
+    """Families with these limits that differ in their demand alone."""
+    draws = Draws(count)
+    sites = ['Depot,depot,,'] + ['Base%02d,base,%d,%d' % (base, 9 + base, 2 + base) for base in range(1, bases + 1)]
+    case = Tables(sites)
+    for number in range(1, count + 1):
+        parts, rates = like_family(number, bases, limits)
+        case.add(parts, rates, stocks_of(draws, parts, sites))
+    return case, 100000, count * tables_of(bases, limits)
+
+
+CASES = {
+    'fleet22': fleet22,
+    'demo80': demo80,
+    'wide15': wide15,
+    'max': largest,
+    'middle6': lambda: middle(606, (8, 8), (8, 2)),
+    'middle6s': lambda: middle(607, (4, 2), (4, 2)),
+    'kept1': lambda: kept(6, 1, [(1, 3)] + [(2, 0)] * 8),
+    'kept2': lambda: kept(6, 6, [(4, 4)] + [(4, 0)] * 4),
+    'kept3': lambda: kept(6, 10, [(1, 4)] + [(5, 0)] * 4),
+    'kept4': lambda: kept(15, 3, [(0, 3)] + [(3, 0)] * 6),
+    'kept5': lambda: kept(6, 40, [(4, 4), (4, 1)]),
+}
 
 
 def main():

@@ -3,39 +3,22 @@
 # processor's time.
 #   bench/plan.sh PROGRAM FOLDER BUDGET [RUNS [PEER]]
 # PROGRAM is the built program; FOLDER has sites.csv, parts.csv and rates.csv, whose fields aren't quoted. RUNS: how
-# many times each is run, 5 if left out; the least time counts. The plan of peers/plan.rs, which is built here, is timed
-# as well, or that of PEER: another program that takes the same words of `plan` without an aim. It stops where the
-# peer's report or certificate isn't ours.
+# many times each is run, 5 if left out; the least time counts. PEER: another program that takes the same words of `plan`
+# without an aim, whose plan is timed too; if left out or `-`, peers/plan.rs is built. The script stops if the peer's
+# report or certificate isn't ours.
 #
-# What counts is the user time of the whole run, with the reading of the tables and the writing of the certificate in
-# it. The tables are counted by the formula of docs/MODEL.md. A score is what the backorders of a line unit at one
-# base count for, at one choice of stocks for the depot and that base; those are counted from the limits as well.
-set -eu
-bench=$(cd "$(dirname "$0")" && pwd)
+# The times are the processor's in the program alone for the whole run, with the reading of the tables and the writing
+# of the certificate. The tables are counted by the formula of docs/CERTIFICATE.md. A score is the value of a line unit's
+# backorders at one base, at one choice of stocks for the depot and that base; the limits say how many there are.
+# shellcheck source=bench/common.sh
+. "$(dirname "$0")/common.sh"
 program=${1:?words: PROGRAM FOLDER BUDGET [RUNS [PEER]]}
 folder=${2:?words: PROGRAM FOLDER BUDGET [RUNS [PEER]]}
 budget=${3:?words: PROGRAM FOLDER BUDGET [RUNS [PEER]]}
 runs=${4:-5}
-peer=${5:-}
 
-work=$(mktemp -d)
-trap 'rm -rf "$work"' EXIT
-if [ -z "$peer" ]; then
-    peer=$work/plan_peer
-    rustc --edition 2024 -O -C target-cpu=native "$bench/peers/plan.rs" -o "$peer"
-fi
-on_one=()
-command -v taskset > /dev/null && on_one=(taskset -c "$(($(nproc) - 1))")
-files=(--sites "$folder/sites.csv" --parts "$folder/parts.csv" --rates "$folder/rates.csv")
-words=(plan "${files[@]}" --budget "$budget")
-
-# timed NAME WORDS..: adds the user seconds of one run to the times of that name; its report is kept
-TIMEFORMAT=%U
-timed() {
-    local name=$1
-    shift
-    { time "${on_one[@]}" "$@" > "$work/$name.report"; } 2>> "$work/$name.all"
-}
+take_peer "${5:-}"
+take_case "$folder" "$budget"
 
 # a session of 64 plans, each after the demand of one more line unit, at one base, was raised by a hundredth
 {
@@ -48,19 +31,19 @@ timed() {
 } > "$work/edits"
 
 for _ in $(seq "$runs"); do
-    timed peer "$peer" "${words[@]}" --certificate "$work/peer"
-    timed plan "$program" "${words[@]}" --certificate "$work/plain"
+    spent peer "$peer" "${plan[@]}" --certificate "$work/peer"
+    spent plan "$program" "${plan[@]}" --certificate "$work/plain"
     cmp "$work/peer" "$work/plain"
     cmp "$work/peer.report" "$work/plan.report"
-    timed check "$program" check --certificate "$work/plain"
-    timed sweep "$program" sweep "${files[@]}"
-    timed session "$program" session "${files[@]}" --edits "$work/edits"
-    timed loss_plan "$program" "${words[@]}" --objective log-availability --certificate "$work/loss"
-    timed loss_check "$program" check --certificate "$work/loss"
+    spent check "$program" check --certificate "$work/plain"
+    spent sweep "$program" sweep "${files[@]}"
+    spent session "$program" session "${files[@]}" --edits "$work/edits"
+    spent loss_plan "$program" "${plan[@]}" --objective log-availability --certificate "$work/loss"
+    spent loss_check "$program" check --certificate "$work/loss"
 done
 
 # the tables and the scores of all families
-read -r tables scores < <(tr -d '\r' < "$folder/parts.csv" | awk -F, -v sites="$(grep -c , "$folder/sites.csv")" '
+read -r made scores < <(tr -d '\r' < "$folder/parts.csv" | awk -F, -v sites="$(grep -c , "$folder/sites.csv")" '
     FNR == 1 || NF < 6 { next }
     $2 == "" { depot[$1] = $5 + 1; base[$1] = $6 + 1; next }
     { A[$2] = (I[$2] ? A[$2] : 1) * ($5 + 1); B[$2] = (I[$2] ? B[$2] : 1) * ($6 + 1); I[$2]++; sum[$2] += $5 + 1 }
@@ -75,19 +58,19 @@ read -r tables scores < <(tr -d '\r' < "$folder/parts.csv" | awk -F, -v sites="$
         printf "%d %d\n", tables, scores
     }')
 
-least() { sort -n "$work/$1.all" | head -n 1; }
-awk -v runs="$runs" -v tables="$tables" -v scores="$scores" -v plan="$(least plan)" -v check="$(least check)" -v sweep="$(least sweep)" -v session="$(least session)" \
-    -v loss_plan="$(least loss_plan)" -v loss_check="$(least loss_check)" \
-    -v peer="$(least peer)" '
-    function ratio(a, b) { return b > 0 ? sprintf("%.2f", a / b) : "-" }
+awk -v runs="$runs" -v tables="$made" -v scores="$scores" -v peer="$(least peer own)" -v plan="$(least plan own)" \
+    -v check="$(least check own)" -v sweep="$(least sweep own)" -v session="$(least session own)" \
+    -v loss_plan="$(least loss_plan own)" -v loss_check="$(least loss_check own)" '
+    function ratio(a, b) { return a > 0 && b > 0 ? sprintf("%.2f", a / b) : "-" }
+    function seconds(a) { return sprintf("%.3f", a / 1e6) }
     BEGIN {
-    printf "%d tables, %d scores; user seconds, least of %d\n", tables, scores, runs
-    printf "peer: plan %.3f; ours/peer %s\n", peer, ratio(plan, peer)
-    printf "backorders: plan %.3f, check %.3f, check/plan %s\n", plan, check, ratio(check, plan)
-    printf "sweep %.3f, sweep/plan %s\n", sweep, ratio(sweep, plan)
-    printf "session of 64 plans %.3f, session/plan %s\n", session, ratio(session, plan)
-    printf "log-availability: plan %.3f, check %.3f, check/plan %s\n", loss_plan, loss_check, ratio(loss_check, loss_plan)
+    printf "%d tables, %d scores; seconds in the program, least of %d\n", tables, scores, runs
+    printf "peer: plan %s; ours/peer %s\n", seconds(peer), ratio(plan, peer)
+    printf "backorders: plan %s, check %s, check/plan %s\n", seconds(plan), seconds(check), ratio(check, plan)
+    printf "sweep %s, sweep/plan %s\n", seconds(sweep), ratio(sweep, plan)
+    printf "session of 64 plans %s, session/plan %s\n", seconds(session), ratio(session, plan)
+    printf "log-availability: plan %s, check %s, check/plan %s\n", seconds(loss_plan), seconds(loss_check), ratio(loss_check, loss_plan)
     printf "by the loss/by backorders: plan %s, check %s\n", ratio(loss_plan, plan), ratio(loss_check, check)
     printf "nanoseconds a table: %d by backorders, %d by the loss; a score of the loss costs %d more than a plain one\n",
-        plan * 1e9 / tables, loss_plan * 1e9 / tables, (loss_plan - plan) * 1e9 / scores
+        plan * 1e3 / tables, loss_plan * 1e3 / tables, (loss_plan - plan) * 1e3 / scores
 }'

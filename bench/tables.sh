@@ -4,33 +4,26 @@
 # The peers are plain Rust: peers/literal.rs follows the definition of a table operation by operation in 128 bits, and
 # peers/fast.rs makes the same tables with few divisions. RUNS: how many times each is run, 9 if left out; the best time
 # counts. COUNT: how many tables of each case a run makes, 1000 if left out. The checksums of all three must agree.
-set -eu
-cd "$(dirname "$0")/.."
+# shellcheck source=bench/common.sh
+. "$(dirname "$0")/common.sh"
 runs=${1:-9}
 count=${2:-1000}
 cases=("5000 5000" "46594 60000" "200000 200000" "200000 800000" "2000000 2000000")
 
-work=$(mktemp -d)
-trap 'rm -rf "$work"' EXIT
-for peer in literal fast; do
-    rustc --edition 2024 -O -C target-cpu=native "bench/peers/$peer.rs" -o "$work/$peer"
-done
-(cd crates/table_bench && rt run) > /dev/null 2>&1
-ours=crates/table_bench/out/table_bench
-on_one=()
-command -v taskset > /dev/null && on_one=(taskset -c "$(($(nproc) - 1))")
+for name in literal fast; do build_peer "$name"; done
+take_crate table_bench
 
 for _ in $(seq "$runs"); do
     for case in "${cases[@]}"; do
         # shellcheck disable=SC2086
         "${on_one[@]}" "$ours" "$count" $case timed
     done >> "$work/ours.all"
-    for peer in literal fast; do
-        "${on_one[@]}" "$work/$peer" "$count" >> "$work/$peer.all"
+    for name in literal fast; do
+        "${on_one[@]}" "$work/$name" "$count" >> "$work/$name.all"
     done
 done
-for peer in literal fast; do
-    cmp <(sed 's/ nanoseconds.*//' "$work/ours.all") <(sed 's/ nanoseconds.*//' "$work/$peer.all")
+for name in literal fast; do
+    cmp <(sed 's/ nanoseconds.*//' "$work/ours.all") <(sed 's/ nanoseconds.*//' "$work/$name.all")
 done
 
 echo "mean variance: ours, literal, fast (nanoseconds a table, best of $runs), ratio to the literal peer, to the fast one"

@@ -1,6 +1,6 @@
 """Changes one byte of a certificate at a time: none of these is accepted with a higher bound.
 
-    python3 changed_bytes.py PROGRAM CERTIFICATE PLACES
+    python3 tests/changed_bytes.py PROGRAM CERTIFICATE PLACES
 """
 
 import os

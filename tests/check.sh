@@ -1,5 +1,5 @@
 # The command `check`, on real files: certificates that are accepted, hostile ones, files that can't be read, a full device, and bytes
-# changed one by one.
+# changed one by one; floors exactly at the least and one unit beside it.
 
 # a certificate of nothing bought, at a price of one backorder for 100 of money
 plain=$room/plain
@@ -257,3 +257,6 @@ done <<ROWS
 --objective log-availability
 --on-hand $fleet/stocks.csv
 ROWS
+
+# floors exactly at the least, one unit more and one unit less
+says=yes with_python 'floors beside the least' "$here/floors.py" "$program"

@@ -1,6 +1,6 @@
 """The lint of tables judges as the program does: 50 damaged exports of a fleet, and 50 with several damages at once.
 
-    python3 damaged_exports.py PROGRAM EXAMPLES FLEET
+    python3 tests/damaged_exports.py PROGRAM EXAMPLES FLEET
 
 FLEET is a folder with tables that are right. What lint.py names first must be the line of the program's refusal, and it
 must find no fault exactly where the program takes the tables.

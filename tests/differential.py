@@ -4,9 +4,10 @@
     python3 tests/differential.py PROGRAM SEED/NUMBER
 
 There are trials of several kinds, drawn at random: of sound tables (a plan, its certificate and damaged ones under `check`, and further
-commands), of damaged tables and edits, of damaged words, of single pipelines, and of generated cases. A trial hangs on its seed and its
-number alone, so the second form runs one of them again. Each difference is printed with the trial's name and a folder that keeps its
-files. The status is 1 if there was one. PROGRAM is split like the words of a shell.
+commands), of certificates with floors exactly at the least or one unit beside it, of damaged tables and edits, of damaged words, of single
+pipelines, and of generated cases. A trial hangs on its seed and its number alone, so the second form runs one of them again. Each
+difference is printed with the trial's name and a folder that keeps its files. The status is 1 if there was one. PROGRAM is split like the
+words of a shell.
 """
 
 import difflib
@@ -24,10 +25,14 @@ from collections import Counter
 sys.path.insert(0, os.path.join(os.path.dirname(os.path.abspath(__file__)), "model"))
 
 import spares
+from certificate import certificate_text
+from demands import demands_of, fault_of
 from random_cases import TABLES, cost_of_all, decimal, long_edits, other_form, random_case, random_edits, texts_of
 from random_damage import changed_certificate, damaged_rows, damaged_text, damaged_words, wrong_rows
+from random_floors import Leasts, claims_of, families_in, random_form, rows_of
 
 TABLE_WORDS = [word for file in TABLES for word in ("--" + file, file)]
+CHECK_WORDS = ["check", "--certificate", "certificate"]
 MOST_DIFFERENCES = 10
 # seconds of the processor; a run that takes the model longer isn't compared
 LONGEST_RUN = 5
@@ -64,10 +69,15 @@ def stop(number, frame):
 
 def modelled(words, folder):
     """What the model leaves, or None if it takes too long."""
+    return in_time(lambda: spares.run(words, FolderShelf(folder)))
+
+
+def in_time(work):
+    """The answer of some work, or None if it takes too long."""
     signal.signal(signal.SIGVTALRM, stop)
     signal.setitimer(signal.ITIMER_VIRTUAL, LONGEST_RUN)
     try:
-        return spares.run(words, FolderShelf(folder))
+        return work()
     except TooLong:
         return None
     finally:
@@ -213,11 +223,32 @@ def try_tables(trial):
 
 def try_certificates(trial, certificate):
     """A certificate and changed ones under `check`."""
-    words = ["check", "--certificate", "certificate"]
-    trial.compare(words)
+    trial.compare(CHECK_WORDS)
     for _ in range(6):
         trial.put({"certificate": changed_certificate(trial.rng, certificate)})
-        trial.compare(words)
+        trial.compare(CHECK_WORDS)
+
+
+def try_floors(trial):
+    """Certificates whose floors are exactly the least of a case's families, one unit more or one unit less, under `check`."""
+    rng = trial.rng
+    case = accepted_case(rng)
+    families = families_in(case)
+    for _ in range(3):
+        leasts = in_time(lambda: Leasts(claims_of(case, families, *random_form(rng), rng), families))
+        rows = list(rows_of("", leasts, rng)) if leasts else []
+        for _, claims, _ in rng.sample(rows, min(5, len(rows))):
+            trial.put({"certificate": certificate_text(claims).encode("latin-1")})
+            trial.compare(CHECK_WORDS)
+
+
+def accepted_case(rng):
+    """A random case whose rates are accepted."""
+    while True:
+        texts = texts_of(rng, random_case(rng))
+        case = spares.read_case({file: text.decode("latin-1") for file, text in texts.items()})
+        if fault_of(case, demands_of(case)) is None:
+            return case
 
 
 def try_damage(trial):
@@ -293,7 +324,8 @@ def try_files(trial):
             trial.compare([name if word == file else word for word in words])
 
 
-KINDS = [try_tables] * 60 + [try_damage] * 20 + [try_words] * 10 + [try_single] * 4 + [try_demo] * 2 + [try_edits] * 3 + [try_files]
+KINDS = [try_tables] * 60 + [try_floors] * 20 + [try_damage] * 20 + [try_words] * 10
+KINDS += [try_single] * 4 + [try_demo] * 2 + [try_edits] * 3 + [try_files]
 
 
 def run_trial(program, seed, number):

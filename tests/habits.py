@@ -1,7 +1,9 @@
 #!/usr/bin/env python3
-"""The habits of docs/CONTRIBUTING.md that a script can see: prints each place that breaks one, and how many there are.
+"""The habits of docs/CONTRIBUTING.md that a script can see: prints each place that breaks one, and the count of these places.
 
-Usage: tests/habits.py [ROOT]
+    python3 tests/habits.py [ROOT]
+
+ROOT is the top of a repository, and this one if left out. The status is 1 if a place breaks a habit.
 """
 import collections
 import pathlib

@@ -1,6 +1,6 @@
 """Runs the examples of a page: each must print what the page shows.
 
-    python3 pages.py PROGRAM EXAMPLES PAGE
+    python3 tests/pages.py PROGRAM EXAMPLES PAGE
 
 An example is an indented line `$ ..`, continued if it ends with a backslash, and the lines up to the next
 blank one or the next command: what is put out. A line `fault,..` is put on the standard error, alone and with a status that

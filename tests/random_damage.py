@@ -265,8 +265,8 @@ class Claimed:
         return "\n".join(lines + [""]).encode()
 
 
-def random_cover(rng, low, high, depth):
-    """A tree over this box; now and then one that isn't."""
+def random_cover(rng, low, high, depth, odd=0.03):
+    """A tree over this box; now and then, by the chance `odd` at each split, one that isn't."""
     places = [at for at in range(len(low)) if low[at] < high[at]]
     if depth == 0 or not places or rng.random() < 0.3:
         return [rng.choice(["whole", "cost"])]
@@ -274,8 +274,8 @@ def random_cover(rng, low, high, depth):
     start = rng.randint(low[at] + 1, high[at])
     below, above = list(high), list(low)
     below[at], above[at] = start - 1, start
-    parts = random_cover(rng, low, below, depth - 1) + random_cover(rng, above, high, depth - 1)
-    if rng.random() < 0.03:
+    parts = random_cover(rng, low, below, depth - 1, odd) + random_cover(rng, above, high, depth - 1, odd)
+    if rng.random() < odd:
         parts.append(rng.choice(["whole", "cost", "split,0,1"]))
     return ["split,%d,%d" % (at, start)] + parts
 

@@ -1,7 +1,7 @@
 """The scripts of the folder of examples do what they say, on a fleet whose tables a spreadsheet would write.
 
-    python3 scripts.py PROGRAM EXAMPLES FLEET CHECK
-    python3 scripts.py --list
+    python3 tests/scripts.py PROGRAM EXAMPLES FLEET CHECK
+    python3 tests/scripts.py --list
 
 FLEET is a folder with tables that have a byte order mark, CRLF, quotes and a depot of another name, with reports of
 them that another program made, and with what the scripts must write of these in the folder `wanted`, made by hand.

@@ -1,6 +1,6 @@
 """A second checker agrees with the program about certificates: of the examples, of the page, and 50 damaged ones.
 
-    python3 second_checker.py PROGRAM EXAMPLES PAGE CERTIFICATE..
+    python3 tests/second_checker.py PROGRAM EXAMPLES PAGE CERTIFICATE..
 
 EXAMPLES is the folder of the example cases, with the second checker; PAGE is CERTIFICATE.md, whose certificate is accepted too, as are
 the further ones.

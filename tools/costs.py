@@ -20,6 +20,7 @@ TOP = os.path.dirname(os.path.dirname(os.path.realpath(__file__)))
 PAGE = f"{TOP}/docs/CONTRIBUTING.md"
 BEGIN, END = "<!-- costs: made by tools/costs.py -->", "<!-- end of costs -->"
 KINDS = ("proof", "tests", "wrong bodies")
+SHOWN = 10  # crates in the table
 TICKS = os.sysconf("SC_CLK_TCK")
 
 
@@ -88,15 +89,15 @@ def minutes_in(log):
 
 
 def table_of(log):
-    """Returns the table, dearest crate first."""
+    """Returns the table: the dearest crates, the dearest first, and the sum of all."""
     minutes, last = minutes_in(log)
     crates = sorted({crate for crate, _ in minutes}, key=lambda it: (-sum(minutes[it, kind] for kind in KINDS), it))
     lines = [f"`{last.partition(':')[0]}`:{last.partition(':')[2]}.", "", f"| crate | {' | '.join(KINDS)} |", "|---|---|---|---|"]
-    for crate in crates:
+    for crate in crates[:SHOWN]:
         cells = [f"{minutes[crate, kind]:.1f}" if (crate, kind) in minutes else "" for kind in KINDS]
         lines.append(f"| `{crate}` | {' | '.join(cells)} |")
     sums = [sum(minutes[crate, kind] for crate in crates) for kind in KINDS]
-    return "\n".join([*lines, f"| all | {' | '.join(f'{it:.0f}' for it in sums)} |"])
+    return "\n".join([*lines, f"| all {len(crates)} | {' | '.join(f'{it:.0f}' for it in sums)} |"])
 
 
 def write(table):

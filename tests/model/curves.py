@@ -1,4 +1,4 @@
-"""Curves of points and the curve of a family (MODEL, Curves of points, The curve of a family)."""
+"""Curves of points and the curve of a family (MODEL, Curves of points, The curve of a family; CERTIFICATE, Covers)."""
 
 from collections import namedtuple
 from itertools import product

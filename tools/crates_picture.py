@@ -1,15 +1,18 @@
 #!/usr/bin/env python3
-"""Draws the crates of crates.txt: python3 docs/crates_picture.py [--write]
+"""Draws the crates of crates.txt as docs/crates.svg.
 
-A crate stands above all that it names, as low as that allows; a line goes to each crate that it names and doesn't reach through
-another. The colours are the groups of crates.txt, which stand at the left. Without `--write` the picture docs/crates.svg is compared, as the tests do.
+    python3 tools/crates_picture.py [--write]
+
+Each crate is above all crates that it names, as low as that allows. A line leads to each crate that it names and doesn't reach through
+another. The colours are the groups of crates.txt, listed at the left. Without `--write` the script compares the picture with its own, as
+`tests/run` does, and ends with status 1 if they differ; `--write` draws it anew.
 """
 
 import pathlib
 import sys
 
-DOCS = pathlib.Path(__file__).resolve().parent
-PICTURE = DOCS / "crates.svg"
+TOP = pathlib.Path(__file__).resolve().parent.parent
+PICTURE = TOP / "docs/crates.svg"
 BOX, HIGH, GAP, STEP, MARGIN = 124, 24, 14, 62, 20
 
 
@@ -114,11 +117,11 @@ def drawn(text):
 
 
 def main():
-    picture = drawn((DOCS.parent / "crates.txt").read_text())
+    picture = drawn((TOP / "crates.txt").read_text())
     if sys.argv[1:] == ["--write"]:
         PICTURE.write_text(picture)
     elif not PICTURE.exists() or picture != PICTURE.read_text():
-        raise SystemExit("%s is another picture: run docs/crates_picture.py --write" % PICTURE.name)
+        raise SystemExit("%s is another picture: run tools/crates_picture.py --write" % PICTURE.name)
 
 
 if __name__ == "__main__":

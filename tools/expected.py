@@ -1,11 +1,12 @@
 """Says where the expected outputs of pages, examples and tests differ from the model's, or makes them anew.
 
-    python3 tests/model/expected.py [--write] [--all | PAGE..]
+    python3 tools/expected.py [--write] [--all | PAGE..]
 
 They are the examples `$ ..` of the pages, the reports beside the cases with the pictures of sweeps, and the texts in `tests/expected`; with
 `--all` also the pages of the larger cases and the scripts that make many plans, which take minutes. If pages are named, these alone are
-looked at, with all their examples. A line that a page shows is found again by its first field and its names; `..` stays. With `--write` what
-differs is written anew, and what can't be is told. Without it the status is 1 if something differs.
+looked at, with all their examples. A line that a page shows is found again by its first field and its names; `..` stays. `--write` writes
+anew each output that differs, and names an example that it can't write. Without it the status is 1 if an output differs, as `tests/run`
+needs it.
 """
 
 import difflib
@@ -14,10 +15,10 @@ import subprocess
 import sys
 import tempfile
 
-HERE = os.path.dirname(os.path.abspath(__file__))
-TESTS = os.path.dirname(HERE)
-TOP = os.path.dirname(TESTS)
-sys.path.insert(0, TESTS)
+TOP = os.path.dirname(os.path.dirname(os.path.abspath(__file__)))
+TESTS = os.path.join(TOP, "tests")
+MODEL = os.path.join(TESTS, "model")
+sys.path[:0] = [TESTS, MODEL]
 
 import pages
 import spares
@@ -132,7 +133,7 @@ def check_page(page, is_written, left_out=()):
     """How many examples of a page differ; with `is_written` they are written anew."""
     lines = read(page).decode().split("\n")
     changes, found = [], 0
-    places = [os.path.join(*names) for names in ((HERE, "spares.py"), (TOP, "examples"), (TOP, page))]
+    places = [os.path.join(*names) for names in ((MODEL, "spares.py"), (TOP, "examples"), (TOP, page))]
     for example, ran in pages.runs_of(*places, left_out):
         if pages.is_right(example.lines, ran):
             continue
@@ -173,7 +174,7 @@ def picture_of(name, options):
 def check_texts(is_written):
     """How many files of expected texts of the tests differ."""
     with tempfile.TemporaryDirectory() as room:
-        subprocess.run(["bash", os.path.join(TESTS, "run"), "--write", room, os.path.join(HERE, "spares.py")], check=True)
+        subprocess.run(["bash", os.path.join(TESTS, "run"), "--write", room, os.path.join(MODEL, "spares.py")], check=True)
         found = 0
         for name in sorted(os.listdir(room)):
             with open(os.path.join(room, name), "rb") as file:

@@ -1,13 +1,17 @@
-"""Prints what the tests of single crates expect: ends in units of 2^-bits, fractions of rates, and curves.
+"""Prints, by the model, what the tests of single crates expect: ends in units of 2^-bits, fractions of rates, and curves.
 
-    python3 tests/model/ends.py weights BITS MEAN_LO MEAN_HI EXCESS_LO EXCESS_HI
-    python3 tests/model/ends.py table BITS MEAN_LO MEAN_HI VARIANCE_LO VARIANCE_HI
-    python3 tests/model/ends.py series SHARE_LO SHARE_HI
-    python3 tests/model/ends.py rates SITES PARTS RATES
-    python3 tests/model/ends.py curves SITES PARTS RATES
+    python3 tools/ends.py weights BITS MEAN_LO MEAN_HI EXCESS_LO EXCESS_HI
+    python3 tools/ends.py table BITS MEAN_LO MEAN_HI VARIANCE_LO VARIANCE_HI
+    python3 tools/ends.py series SHARE_LO SHARE_HI
+    python3 tools/ends.py rates SITES PARTS RATES
+    python3 tools/ends.py curves SITES PARTS RATES
 """
 
+import os
 import sys
+
+TOP = os.path.dirname(os.path.dirname(os.path.abspath(__file__)))
+sys.path.insert(0, os.path.join(TOP, "tests", "model"))
 
 from cases import names_of, pairs_of
 from demands import demands_of
