@@ -1,4 +1,4 @@
--- 1 over 1 and the excess, which is the mean over the variance where that is at most 1.
+-- 1 / (1 + excess), which is the mean over the variance where that is at most 1.
 use Rattle.std.proofs.Common.{◌≡◌, ℕ, ◌+◌, ◌-◌, ◌*◌, ◌/◌, ◌<◌, ◌≤◌, ◌^◌, max, min, inl, inr, ap, ◌∙◌, refl, arith, subst, pow_pos, le_trans, mul-le-mul_left, mul-le-mul_right, le_of_mul-le-mul_right}
 use Rattle.std.specs.Int.{div_ceil}
 use Rattle.std.proofs.Math.Nat.{div-mul-le_self, lt-mul-div-succ}
@@ -12,7 +12,7 @@ use Rattle.backorder_bounds.specs.declared.scale.Coarse.{Coarse}
 use Rattle.backorder_bounds.specs.Coarse.{IsCoarse, coarse_unit}
 use Rattle.backorder_bounds.proofs.Coarse.{places}
 
--- ---- 1 over 1 and the excess, over plain numbers: o is one whole
+-- ---- 1 / (1 + excess), over plain numbers: o is one whole
 
 -- l is at most the mean over the variance, and b is the variance over the mean, rounded up
 inverse_low : (o m t l b : ℕ) → 0 < m → l ≤ o → o ≤ b → l * t ≤ m * o → (b - 1) * m ≤ t * o → (l - 1) * b ≤ o * o

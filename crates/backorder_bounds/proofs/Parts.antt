@@ -1,4 +1,4 @@
--- The parts of ratios from the ends of the mean and of 1 over 1 and the excess. Over plain numbers o is one whole, a and
+-- The parts of ratios from the ends of the mean and of 1 / (1 + excess). Over plain numbers o is one whole, a and
 -- a + y are the ends of 1 and the excess, and low and low + x of their inverse.
 use Rattle.std.proofs.Common.{◌≡◌, ℕ, ◌+◌, ◌-◌, ◌*◌, ◌/◌, ◌<◌, ◌≤◌, ◌^◌, inl, inr, sym, ap, ◌∙◌, arith, lit<, subst, pow_pos, le_trans, mul-le-mul_left, mul-le-mul_right, le_of_mul-le-mul_right}
 use Rattle.std.proofs.Math.Nat.{div-eq_of_lt, div-mul-le_self, lt-mul-div-succ, lt_of_mul-lt-mul_right, mul-pos, mul-sub}

@@ -7,7 +7,7 @@ use Rattle.backorder_bounds.specs.declared.scale.Coarse.{Coarse}
 abbrev pub coarse_unit : ℕ → ℕ
 coarse_unit f = 2 ^ (f - 28)
 
--- the coarse ends are no nearer to each other than the exact ones
+-- the coarse ends enclose the exact ones
 pub record IsCoarse (f : ℕ) (exact : Ends) (coarse : Coarse) : Type 0 where
   pub low : coarse.lo * coarse_unit f ≤ exact.lo
   pub high : exact.hi ≤ coarse.hi * coarse_unit f

@@ -1,4 +1,4 @@
--- What runs along from stock to stock. No promise of the crate rests on these words.
+-- The values that a walk carries from stock to stock. No promise of the crate rests on these words.
 use Rattle.std.specs.Prelude.{ℕ, ◌≡◌, ◌+◌, ◌*◌, ◌^◌, ◌<◌, ◌≤◌}
 use Rattle.fixed_interval.specs.Ends.{Ends}
 use Rattle.series_bounds.specs.Profile.{weight_ends}

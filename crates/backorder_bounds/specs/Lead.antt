@@ -1,5 +1,5 @@
--- What is known of weights that begin with the stock 0, in numbers of 28 places. No promise of the crate rests on
--- these words.
+-- Bounds on weights that begin with the stock 0, in numbers of 28 places. No promise of the crate rests on these
+-- words.
 use Rattle.std.specs.Prelude.{ℕ, suc, false, ◌≡◌, ◌+◌, ◌*◌, ◌^◌, ◌<◌, ◌≤◌, List}
 use Rattle.fixed_interval.specs.Ends.{Ends}
 use Rattle.series_bounds.specs.Profile.{ends_raised, ends_sum, is_wide, last_index, listed, pivot_at, remainder_at, weight_ends}
@@ -12,11 +12,11 @@ use Rattle.backorder_bounds.specs.declared.sums.Start.{Start}
 abbrev pub all_weights : ℕ → Ends → Ends → List Ends
 all_weights f m d = listed (weight_ends f m d) (suc (last_index f m d))
 
--- their sum, with what the ones past the last index come to at most
+-- their sum, with an upper bound on the weights past the last index
 abbrev pub all_sum : ℕ → Ends → Ends → Ends
 all_sum f m d = ends_raised (ends_sum (all_weights f m d)) (remainder_at f m d (last_index f m d))
 
--- the weights aren't wide, and this is at most 1 over the upper end of the sum of all
+-- the weights aren't wide, and the number is at most 1 over the upper end of the sum of all weights
 pub record IsOverSum (f : ℕ) (m d : Ends) (inverse : ℕ) : Type 0 where
   pub narrow : is_wide f m d ≡ false
   pub most : inverse * (all_sum f m d).hi ≤ 2 ^ 56 * coarse_unit f
@@ -30,12 +30,12 @@ pub record AreOver (f : ℕ) (m d : Ends) (parts : Rising) : Type 0 where
   pub first : m.hi * 2 ^ f ≤ parts.first * coarse_unit f * (1 * 2 ^ f + d.lo)
   pub step : d.hi * 2 ^ f ≤ parts.step * coarse_unit f * (1 * 2 ^ f + d.lo)
 
--- and at least that
+-- a ratio of weights is at least (first + step (x - 1)) / x at each index
 pub record AreUnder (f : ℕ) (m d : Ends) (parts : Rising) : Type 0 where
   pub first : parts.first * coarse_unit f * (1 * 2 ^ f + d.hi) ≤ m.lo * 2 ^ f
   pub step : parts.step * coarse_unit f * (1 * 2 ^ f + d.hi) ≤ d.lo * 2 ^ f
 
--- 1 over 1 and the excess, at least an eighth
+-- 1 / (1 + excess), at least an eighth
 pub record IsInverse (f : ℕ) (d : Ends) (low high : ℕ) : Type 0 where
   pub under : low * coarse_unit f * (1 * 2 ^ f + d.hi) ≤ 2 ^ f * 2 ^ f
   pub over : 2 ^ f * 2 ^ f ≤ high * coarse_unit f * (1 * 2 ^ f + d.lo)

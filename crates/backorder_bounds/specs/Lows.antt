@@ -1,4 +1,4 @@
--- Numbers that the backorders of a table aren't below.
+-- Lower bounds on the backorders of a table.
 use Rattle.std.specs.Prelude.{ℕ, ◌<◌, ◌≤◌, List, length, get_or}
 use Rattle.fixed_interval.specs.Ends.{Ends}
 use Rattle.moment_table.specs.Profile.{table_rows}

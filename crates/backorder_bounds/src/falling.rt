@@ -10,8 +10,8 @@ use crate::lead::Lead;
 use crate::scale::{MOST, product};
 use quotients::few_quotient;
 
-/// What the backorders at a stock are at least, and what their fall to the next one is bounded by. The backorders and
-/// the chance have `F` places, the weight and the ratio 28.
+/// A lower bound on the backorders at a stock, and the numbers that bound their fall to the next one. `low` and `tail`
+/// have `F` places, `weight` and `above` 28.
 #[derive(Clone, Copy, Drop)]
 pub(crate) struct Falling {
     pub(crate) low: u64,
@@ -21,7 +21,7 @@ pub(crate) struct Falling {
 }
 
 impl Falling {
-    /// At the stock 0.
+    /// The values at the stock 0.
     #[inline(always)]
     pub(crate) fn first<const F: u32>(mean: u64, lead: Lead) -> Falling
         requires most { F ≤ 52 }
@@ -38,7 +38,7 @@ impl Falling {
         }
     }
 
-    /// At the stock after `s`. Where no backorders are left it stays.
+    /// The values at the stock after `s`; the same ones if no backorders are left.
     #[inline(always)]
     pub(crate) fn next<const F: u32>(self, lead: Lead, s: u8) -> Falling
         requires least { 38 ≤ F }

@@ -1,4 +1,4 @@
-//! What is known of weights that begin with the stock 0: their ratios and 1 over their sum, from below.
+//! Lower bounds on weights that begin with the stock 0, on their ratios, and on 1 over their sum.
 
 ghost use Rattle.std.specs.Prelude.{◌≡◌, true, ◌+◌, ◌-◌, ◌*◌, ◌/◌, ◌^◌, ◌<◌, ◌≤◌, ℕ, IfSome};
 ghost use Rattle.fixed_interval.specs.Ends.{Ends, IsWithinLimit};
@@ -21,15 +21,14 @@ pub(crate) struct Lead {
     pub(crate) inverse: u64,
 }
 
-/// 1 over 1 and the excess, from below and from above.
+/// 1 / (1 + excess), from below and from above.
 #[derive(Clone, Copy, Drop)]
 pub(crate) struct Inverse {
     low: u64,
     high: u64,
 }
 
-/// 1 over 1 and the excess, which is the mean over the variance where that is at most 1. None where it may be below an
-/// eighth.
+/// 1 / (1 + excess), which is the mean over the variance if that is at most 1. None if it may be below an eighth.
 #[inline(always)]
 fn inverse_of_excess(mean: Coarse, variance: Coarse) -> Option<Inverse>
     requires positive { 0 < mean.lo }
@@ -50,7 +49,7 @@ fn inverse_of_excess(mean: Coarse, variance: Coarse) -> Option<Inverse>
     Some(Inverse { low, high })
 }
 
-/// The pivot and the weight at the stock 0, by the ratios. None where it isn't found.
+/// The pivot and the weight at the stock 0, from the ratios. None if no pivot is found.
 #[inline(always)]
 fn start_of<const F: u32>(
     mean: Iv<F>,
@@ -112,7 +111,7 @@ fn squares_over(x: u8, den: u64) -> u64
     u64::from(x) * (UNIT * UNIT) / den
 }
 
-/// The weight at the stock 0, from the pivot down. None where it may pass 8 or the ratios are too small.
+/// The weight at the stock 0, from the pivot down. None if the weight may pass 8 or the ratios are too small.
 fn walked_down(over: Rising, under: Rising, pivot: u8) -> Option<Start>
     requires few { pivot ≤ 8 }
     ensures start { (f : ℕ) (m d : Ends) → pivot_at f m d ≡ pivot → AreOver f m d over → AreUnder f m d under
@@ -145,8 +144,8 @@ fn walked_down(over: Rising, under: Rising, pivot: u8) -> Option<Start>
     Some(Start { pivot, low, high })
 }
 
-/// What is known of the weights of this mean and variance. None where the mean is above 8 or nearly 0, the weights may
-/// be wide, or the ends have few places.
+/// The bounds on the weights of this mean and variance. None if the mean is above 8 or nearly 0, if the weights may be
+/// wide, or if the ends have few places.
 #[inline(always)]
 pub(crate) fn lead_of<const F: u32>(mean: Iv<F>, variance: Iv<F>) -> Option<Lead>
     requires mean_top { IsWithinLimit F mean }

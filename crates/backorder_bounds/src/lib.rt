@@ -1,8 +1,8 @@
 //! Lower bounds on expected backorders, for less work than a table.
 //!
-//! The backorders of a table fall from stock to stock by the chance of more units in the pipeline. A chance is a weight
-//! over the sum of all; so what the sum is at most says what each chance is at least, and so the backorders. The sum is
-//! that of the first weights, and of a geometric series behind them.
+//! From a stock to the next, the backorders of a table fall by the chance of more units in the pipeline. The chance of
+//! a number of units is its weight over the sum of all weights, so an upper bound on the sum gives lower bounds on the
+//! chances and on the backorders. It adds up the first weights, and bounds the others by a geometric series.
 #![tactic(auto)]
 
 ghost use Rattle.std.specs.Prelude.{◌≡◌, ◌≤◌, length};
@@ -21,7 +21,7 @@ mod lead;
 mod scale;
 mod sums;
 
-/// What the backorders are at least by the mean alone: one more in stock takes at most one off.
+/// The bounds from the mean alone: one more unit in stock takes off at most one backorder.
 fn by_mean<const F: u32>(lows: &mut [u64], mean: Iv<F>)
     requires mean_top { IsWithinLimit F mean }
     requires few { length lows.old ≤ 64 }
@@ -34,7 +34,7 @@ fn by_mean<const F: u32>(lows: &mut [u64], mean: Iv<F>)
     }
 }
 
-/// What they are at least by the chances.
+/// The bounds from the chances.
 #[inline(always)]
 fn by_chances<const F: u32>(lows: &mut [u64], mean: Iv<F>, lead: Lead)
     requires places { 38 ≤ F }
@@ -50,9 +50,9 @@ fn by_chances<const F: u32>(lows: &mut [u64], mean: Iv<F>, lead: Lead)
     }
 }
 
-/// Puts numbers over a list of up to 64, none of which is above the lower end of the table's backorders at its stock,
-/// for a mean and a variance as `table` takes them. They are near these ends where the mean is small, and may be far
-/// below them elsewhere: nothing is promised of that.
+/// Overwrites a list of up to 64 with lower bounds on the backorders at its stocks: no entry is above the lower end of
+/// the table's backorders there, for a mean and a variance as `table` takes them. The entries are near these ends if
+/// the mean is small, and else may be far below them: no clause says how far.
 pub fn put_lows<const F: u32>(lows: &mut [u64], mean: Iv<F>, variance: Iv<F>)
     requires table { CanTable F mean variance }
     requires few { length lows.old ≤ 64 }

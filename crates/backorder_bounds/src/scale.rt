@@ -29,7 +29,7 @@ pub(crate) struct Coarse {
 }
 
 impl Coarse {
-    /// Those of an interval of more places.
+    /// The ends of an interval of more places.
     #[inline(always)]
     pub(crate) fn of<const F: u32>(exact: Iv<F>) -> Coarse
         requires places { 38 ≤ F }

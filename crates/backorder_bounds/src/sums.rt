@@ -24,8 +24,8 @@ pub(crate) struct Start {
     pub(crate) high: u64,
 }
 
-/// What the weights before an index come to at most, the one there, and the number that is the next ratio times the
-/// next index.
+/// Upper bounds on the sum of the weights before an index, on the weight there, and on the next ratio times the next
+/// index.
 #[derive(Clone, Copy, Drop)]
 pub(crate) struct Reached {
     sum: u64,
@@ -34,7 +34,7 @@ pub(crate) struct Reached {
 }
 
 impl Reached {
-    /// At the index after `k`.
+    /// The values at the index after `k`.
     #[inline(always)]
     fn next(self, k: u8, step: u64) -> Reached
         requires index { k ≤ 20 }
@@ -54,8 +54,8 @@ impl Reached {
         }
     }
 
-    /// 1 over the sum of all weights at least, from the index `k` on by a geometric series. None where no ratio below 1
-    /// bounds the ones to come.
+    /// A lower bound on 1 over the sum of all weights, by a geometric series from the index `k` on. None if its ratio
+    /// isn't below 1.
     #[inline(always)]
     fn closed(self, k: u8, step: u64) -> Option<u64>
         requires index { k ≤ 12 }
@@ -79,7 +79,7 @@ impl Reached {
 /// The index up to which weights are added one by one at most.
 const LAST: u8 = 12;
 
-/// Weights of at most this are left to a geometric series: it is near where the ratios fall by much, and so where their
+/// Weights of at most this are left to a geometric series, whose sum is near if the ratios fall by much, so if their
 /// step is small.
 #[inline(always)]
 fn few_of(step: u64) -> u64
@@ -88,8 +88,8 @@ fn few_of(step: u64) -> u64
     (UNIT / 256) >> (step / 16_777_216)
 }
 
-/// The weights to the pivot, above which none is larger than the one before but by the rounding. None where one may
-/// pass 8, or it isn't known that the ratios are at most 1 but for that.
+/// The weights up to the pivot, after which each exceeds the one before by rounding at most. None if a weight may pass
+/// 8, or a later ratio may exceed 1 by more than rounding.
 #[inline(always)]
 fn risen(over: Rising, start: Start) -> Option<Reached>
     requires pivot { start.pivot ≤ 8 }
@@ -123,7 +123,7 @@ fn risen(over: Rising, start: Start) -> Option<Reached>
     Some(reached)
 }
 
-/// 1 over the sum of all weights, from below. None where they may be wide.
+/// A lower bound on 1 over the sum of all weights. None if the weights may be wide.
 #[inline(always)]
 pub(crate) fn inverse_of_sum(over: Rising, start: Start) -> Option<u64>
     requires pivot { start.pivot ≤ 8 }

@@ -23,7 +23,8 @@ use Rattle.price_bounds.specs.Soundness.{stocks_of}
 use Rattle.fleet_plan.specs.Families.{HasWidth}
 use Rattle.fleet_plan.proofs.Lists.{map_among}
 use Rattle.fleet_plan.proofs.Places.{kept, family_apart, in_case, one_family, place_has, vector_by, length_part, length_places}
-use Rattle.case_plan.specs.Placing.{ids, IsPlacedFamily, lines_below, ArePlaced}
+use Rattle.spares_input.specs.Building.{ids}
+use Rattle.case_plan.specs.Placing.{IsPlacedFamily, lines_below, ArePlaced}
 use Rattle.case_plan.proofs.Placed.{part_of, id_at}
 
 -- part q is a line unit

@@ -7,12 +7,7 @@ use Rattle.spares_input.specs.Frames.{part_at}
 use Rattle.spares_input.specs.Cases.{CaseRows}
 use Rattle.spares_input.specs.Stocks.{StockList, IsFor, stock_at}
 use Rattle.family_curve.specs.Vectors.{vector_of}
-use Rattle.spares_input.specs.declared.rows.PartId.{PartId}
 use Rattle.fleet_plan.proofs.Places.{IsApart}
-
--- the numbers of parts
-abbrev pub ids : List PartId → List ℕ
-ids units = map (λ (p : PartId). p.0) units
 
 -- the first m of these parts have these stocks at site k, and no other pair has changed
 pub record IsPlacedAt (old new : StockList) (ps : List ℕ) (k : ℕ) (part : List ℕ) (m : ℕ) : Type 0 where

@@ -9,10 +9,10 @@ ghost use Rattle.fleet_model.specs.Rows.{line_units};
 ghost use Rattle.step_walk.specs.Prefix.{AreVertices, picked};
 ghost use Rattle.price_bounds.specs.Soundness.{stocks_of};
 ghost use Rattle.fleet_plan.specs.Families.{HasWidth, vectors_at};
-ghost use Rattle.case_plan.specs.Placing.{ids, IsPlacedAt, IsPlacedFamily};
+ghost use Rattle.spares_input.specs.Building.{ids};
+ghost use Rattle.case_plan.specs.Placing.{IsPlacedAt, IsPlacedFamily};
 
 use crate::choose::pick_of;
-use crate::members::all_members;
 use hull::Curve;
 use spares_input::{Case, PartId, SiteId, Stocks};
 use spares_io::NoMemory;
@@ -61,12 +61,11 @@ pub(crate) fn stocks_of(
     let parts = case.part_count();
     let pairs = parts as usize * sites as usize;
     let mut stocks = Stocks::of(vec![in alloc; 0; pairs]?, sites);
-    let members = all_members(alloc, case)?;
     let mut f: usize = 0;
     for p in 0..parts {
         let line = PartId(p);
         if case.is_line(line) {
-            let units = members[p as usize].as_slice();
+            let units = case.family(line);
             let point = pick_of(curves, picks, f);
             place_vector(&mut stocks, units, sites, point.stocks.as_slice());
             f += 1;

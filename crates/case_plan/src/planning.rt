@@ -102,8 +102,11 @@ pub fn choose_stocks(
     })
 }
 
-/// The outcome of chosen stocks, from the families' evaluation at these stocks, whatever curves they were chosen from.
-fn outcome_from(
+/// The outcome of chosen stocks, from the families' evaluation at these stocks.
+///
+/// If the stocks were chosen from curves, the outcome is their plan's, as [`plan`] returns it with these terms. Want of
+/// memory is the only error.
+pub fn outcome_at(
     alloc: Global,
     case: &Case,
     chosen: ChosenStocks,
@@ -115,8 +118,10 @@ fn outcome_from(
     requires rates { rate_fault_of case.now ≡ None }
     requires fits { FitsCase case.now chosen }
     requires families { families.now ≡ families_of 48 case.now chosen.stocks }
-    ensures { IfOk result (λ outcome. outcome ≡ chosen_outcome case.now
+    ensures chosen { IfOk result (λ outcome. outcome ≡ chosen_outcome case.now
         (record { budget = budget; loss = loss; on_hand = on_hand }) chosen) }
+    ensures case { IfOk result (λ outcome. (curves : List (List Point)) → IsChosen case.now curves budget chosen
+        → IsPlanOf case.now curves (record { budget = budget; loss = loss; on_hand = on_hand }) outcome) }
 {
     let _sites = case.site_count();
     let numbers = chosen.numbers;
@@ -141,29 +146,6 @@ fn outcome_from(
         floors: List::of(chosen.floors),
         upper: numbers.upper,
     })
-}
-
-/// The outcome of chosen stocks, from the families' evaluation at these stocks.
-///
-/// If the stocks were chosen from curves, the outcome is their plan's, as [`plan`] returns it with these terms. Want of
-/// memory is the only error.
-pub fn outcome_at(
-    alloc: Global,
-    case: &Case,
-    chosen: ChosenStocks,
-    families: &[FamilyResult<48>],
-    budget: u64,
-    loss: bool,
-    on_hand: Option<u64>,
-) -> Result<Outcome, NoMemory>
-    requires rates { rate_fault_of case.now ≡ None }
-    requires fits { FitsCase case.now chosen }
-    requires families { families.now ≡ families_of 48 case.now chosen.stocks }
-    ensures { IfOk result (λ outcome. (curves : List (List Point)) → IsChosen case.now curves budget chosen
-        → IsPlanOf case.now curves (record { budget = budget; loss = loss; on_hand = on_hand }) outcome) }
-{
-    let _sites = case.site_count();
-    outcome_from(alloc, case, chosen, families, budget, loss, on_hand)
 }
 
 /// The plan of a case under a budget in whole money, from a curve for each line unit in order.
@@ -192,7 +174,7 @@ pub fn plan(
     let _sites = case.site_count();
     let chosen = choose_stocks(alloc, case, curves, budget, 0)?;
     let families = evaluate_all::<48>(alloc, case, rates, &chosen.stocks)?;
-    outcome_from(
+    outcome_at(
         alloc,
         case,
         chosen,

@@ -41,15 +41,6 @@ const LARGE: &str = "spares-certificate,1\n\
     stocks,12\n0\n0\n0\n0\n0\n0\n0\n0\n0\n0\n0\n0\n\
     upper,38685626227668133590597632\nbound,0\nend\n";
 
-/// The first line if covers show the floors.
-const SECOND: (usize, &str) = (1, "spares-certificate,2\nobjective,backorders");
-
-/// The same by the loss.
-const LOSS: (usize, &str) = (1, "spares-certificate,2\nobjective,log-availability");
-
-/// No change.
-const SAME: (usize, &str) = (0, "");
-
 /// The answer for a certificate's bytes.
 #[derive(Clone, Copy, Debug, PartialEq, Eq)]
 enum Answer {
@@ -93,27 +84,19 @@ const ANYTHING: Answer = Answer::Takes(Accepted {
 });
 
 /// Certificates with some changed lines, counted from 1, and their answers.
-const FIRST_FORMAT: [(&str, [(usize, &str); 3], Answer); 13] = [
-    (PLAIN, [SAME, SAME, SAME], THREE),
-    (WEIGHTED, [SAME, SAME, SAME], NINE),
-    (PLAIN, [(18, "bound,0"), SAME, SAME], NO_BOUND),
+const FIRST_FORMAT: [(&str, &str, Answer); 13] = [
+    (PLAIN, "", THREE),
+    (WEIGHTED, "", NINE),
+    (PLAIN, "18=bound,0", NO_BOUND),
+    (PLAIN, "11=price,0,1|13=0|18=bound,0", NO_BOUND),
     (
         PLAIN,
-        [(11, "price,0,1"), (13, "0"), (18, "bound,0")],
-        NO_BOUND,
-    ),
-    (
-        PLAIN,
-        [
-            (11, "price,281474976710656,1"),
-            (13, "844424930131968"),
-            SAME,
-        ],
+        "11=price,281474976710656,1|13=844424930131968",
         THREE,
     ),
     (
         PLAIN,
-        [(13, "84442493013196801"), SAME, SAME],
+        "13=84442493013196801",
         Answer::Refused(Reject::FloorTooHigh {
             family: 0,
             floor: 84_442_493_013_196_801,
@@ -122,7 +105,7 @@ const FIRST_FORMAT: [(&str, [(usize, &str); 3], Answer); 13] = [
     ),
     (
         PLAIN,
-        [(17, "upper,844424930131967"), SAME, SAME],
+        "17=upper,844424930131967",
         Answer::Refused(Reject::UpperTooLow {
             claimed: 844_424_930_131_967,
             upper: 844_424_930_131_968,
@@ -130,7 +113,7 @@ const FIRST_FORMAT: [(&str, [(usize, &str); 3], Answer); 13] = [
     ),
     (
         PLAIN,
-        [(18, "bound,844424930131969"), SAME, SAME],
+        "18=bound,844424930131969",
         Answer::Refused(Reject::BoundTooHigh {
             claimed: 844_424_930_131_969,
             largest: 844_424_930_131_968,
@@ -138,12 +121,12 @@ const FIRST_FORMAT: [(&str, [(usize, &str); 3], Answer); 13] = [
     ),
     (
         PLAIN,
-        [(16, "1"), SAME, SAME],
+        "16=1",
         Answer::Refused(Reject::OverBudget { cost: 100 }),
     ),
     (
         PLAIN,
-        [(16, "4"), SAME, SAME],
+        "16=4",
         Answer::Refused(Reject::StocksOverLimit {
             part: PartId(0),
             site: SiteId(1),
@@ -152,49 +135,27 @@ const FIRST_FORMAT: [(&str, [(usize, &str); 3], Answer); 13] = [
     ),
     (
         PLAIN,
-        [(4, "B,base,12,0.00"), SAME, SAME],
+        "4=B,base,12,0.00",
         Answer::Thin(Place::Pair(PartId(0), SiteId(1))),
     ),
     (
         PLAIN,
-        [
-            (4, "D,base,12,10.00"),
-            (9, "L,D,36.5000,0.0000,,0.00"),
-            SAME,
-        ],
+        "4=D,base,12,10.00|9=L,D,36.5000,0.0000,,0.00",
         Answer::Unread(CertFault::BadCase(CaseFault::DoubleSite(3))),
     ),
-    (
-        LARGE,
-        [SAME, SAME, SAME],
-        Answer::Refused(Reject::WorkTooLarge(1_152_762)),
-    ),
+    (LARGE, "", Answer::Refused(Reject::WorkTooLarge(1_152_762))),
 ];
 
 /// The same if covers show the floors. The large case split at 1 needs 115,530 tables.
-const SECOND_FORMAT: [(&str, [(usize, &str); 3], Answer); 8] = [
+const SECOND_FORMAT: [(&str, &str, Answer); 8] = [
     (
         PLAIN,
-        [
-            SECOND,
-            (
-                13,
-                "84442493013196800\ncovers,1\ncover,3\nsplit,1,3\nwhole\ncost",
-            ),
-            SAME,
-        ],
+        "1=spares-certificate,2\nobjective,backorders|13=84442493013196800\ncovers,1\ncover,3\nsplit,1,3\nwhole\ncost",
         THREE,
     ),
     (
         PLAIN,
-        [
-            SECOND,
-            (
-                13,
-                "84442493013196800\ncovers,1\ncover,3\nsplit,1,2\nwhole\ncost",
-            ),
-            SAME,
-        ],
+        "1=spares-certificate,2\nobjective,backorders|13=84442493013196800\ncovers,1\ncover,3\nsplit,1,2\nwhole\ncost",
         Answer::Refused(Reject::LeafTooLow {
             family: 0,
             leaf: 1,
@@ -204,55 +165,32 @@ const SECOND_FORMAT: [(&str, [(usize, &str); 3], Answer); 8] = [
     ),
     (
         PLAIN,
-        [
-            SECOND,
-            (13, "84442493013196800\ncovers,1\ncover,2\nsplit,1,3\nwhole"),
-            SAME,
-        ],
+        "1=spares-certificate,2\nobjective,backorders|13=84442493013196800\ncovers,1\ncover,2\nsplit,1,3\nwhole",
         Answer::Refused(Reject::CoverGap { family: 0 }),
     ),
     (
         PLAIN,
-        [
-            SECOND,
-            (
-                13,
-                "84442493013196800\ncovers,1\ncover,3\nsplit,1,4\nwhole\ncost",
-            ),
-            SAME,
-        ],
+        "1=spares-certificate,2\nobjective,backorders|13=84442493013196800\ncovers,1\ncover,3\nsplit,1,4\nwhole\ncost",
         Answer::Refused(Reject::CoverGap { family: 0 }),
     ),
     (
         LARGE,
-        [SECOND, (27, "0\ncovers,1\ncover,1\ncost"), SAME],
+        "1=spares-certificate,2\nobjective,backorders|27=0\ncovers,1\ncover,1\ncost",
         ANYTHING,
     ),
     (
         LARGE,
-        [
-            SECOND,
-            (27, "0\ncovers,1\ncover,3\nsplit,0,1\nwhole\ncost"),
-            SAME,
-        ],
+        "1=spares-certificate,2\nobjective,backorders|27=0\ncovers,1\ncover,3\nsplit,0,1\nwhole\ncost",
         ANYTHING,
     ),
     (
         LARGE,
-        [
-            SECOND,
-            (27, "0\ncovers,1\ncover,3\nsplit,0,9\nwhole\ncost"),
-            SAME,
-        ],
+        "1=spares-certificate,2\nobjective,backorders|27=0\ncovers,1\ncover,3\nsplit,0,9\nwhole\ncost",
         Answer::Refused(Reject::WorkTooLarge(1_037_514)),
     ),
     (
         PLAIN,
-        [
-            LOSS,
-            (13, "84442493013196800\ncovers,1\ncover,1\nwhole"),
-            SAME,
-        ],
+        "1=spares-certificate,2\nobjective,log-availability|13=84442493013196800\ncovers,1\ncover,1\nwhole",
         Answer::Refused(Reject::UpperTooLow {
             claimed: 844_424_930_131_968,
             upper: 971_703_655_724_172,
@@ -261,22 +199,20 @@ const SECOND_FORMAT: [(&str, [(usize, &str); 3], Answer); 8] = [
 ];
 
 /// The line of this number after the changes.
-fn changed<'a>(number: usize, line: &'a str, changes: &[(usize, &'a str)]) -> &'a str {
+fn changed<'a>(number: usize, line: &'a str, changes: &'a str) -> &'a str {
     let mut now = line;
-    for (at, new) in changes {
-        if *at == number {
-            now = *new;
+    for change in changes.split('|') {
+        if let Some((at, new)) = change.split_once('=')
+            && at.parse::<usize>() == Ok(number)
+        {
+            now = new;
         }
     }
     now
 }
 
 /// The bytes of a certificate with these lines changed.
-fn bytes_of<'a>(
-    alloc: Global,
-    text: &'a str,
-    changes: &[(usize, &'a str)],
-) -> Result<Vec<u8>, NoMemory> {
+fn bytes_of<'a>(alloc: Global, text: &'a str, changes: &'a str) -> Result<Vec<u8>, NoMemory> {
     let mut bytes = Vec::new(alloc);
     let mut number: usize = 0;
     for line in text.split('\n') {
@@ -284,7 +220,7 @@ fn bytes_of<'a>(
             bytes.push(b'\n')?;
         }
         number = number.saturating_add(1);
-        bytes.extend_from_slice(changed(number, line, &*changes).as_bytes())?;
+        bytes.extend_from_slice(changed(number, line, changes).as_bytes())?;
     }
     Ok(bytes)
 }
@@ -313,7 +249,7 @@ fn answer_of(alloc: Global, bytes: &[u8]) -> Answer {
 fn meets(
     rt: &impl Abort,
     alloc: Global,
-    rows: &[(&'static str, [(usize, &'static str); 3], Answer)],
+    rows: &[(&'static str, &'static str, Answer)],
 ) -> Result<(), Fail> {
     for (text, changes, wanted) in rows {
         let bytes = bytes_of(alloc, text, changes)?;

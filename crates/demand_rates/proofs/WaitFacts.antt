@@ -11,7 +11,7 @@ use Rattle.std.proofs.lemmas.List.Quantifiers.{position-Some}
 use Rattle.std.proofs.lemmas.List.Sums.{sum_by-append, sum_by-cons}
 use Rattle.std.proofs.lemmas.Slice.Eq.{bytes_eq-Decides}
 use Rattle.spares_input.specs.Rows.{is_line, no_part}
-use Rattle.spares_input.specs.Frames.{is_shop_of, line_of, part_at, part_names, place_of}
+use Rattle.spares_input.specs.Frames.{is_shop_of, line_of, part_at, part_names, place_of, shops_below}
 use Rattle.spares_input.specs.Cases.{CaseRows, IsCase, rate_at}
 use Rattle.spares_input.specs.declared.rows.PartRow.{PartRow}
 use Rattle.spares_input.proofs.Standing.{no_shop_at}
@@ -20,7 +20,7 @@ use Rattle.fleet_model.specs.Rows.{shop_units}
 use Rattle.fleet_model.specs.Units.{demand_00, direct_units_00, needed_i0, zero_stock_units_00}
 use Rattle.demand_rates.specs.declared.kinds.PairRates.{PairRates}
 use Rattle.demand_rates.specs.Rates.{rates_of_pair}
-use Rattle.demand_rates.specs.Waits.{shops_below, wait, wait_most, wait_sum, AreWaits}
+use Rattle.demand_rates.specs.Waits.{wait, wait_most, wait_sum, AreWaits}
 use Rattle.demand_rates.proofs.Sums.{later}
 
 -- ---- whose shop unit a part is
@@ -90,7 +90,7 @@ sum_more g t n =
 -- the sums over the parts below p, as they stand in a loop
 pub record AreWaitsBelow (c : CaseRows) (k p : ℕ) (sums : List ℕ) : Type 0 where
   pub count : length sums ≡ length c.parts
-  pub each : (q : ℕ) → q < length c.parts → get_or sums q 0 ≡ sum_by (wait c q k) (shops_below c q p)
+  pub each : (q : ℕ) → q < length c.parts → get_or sums q 0 ≡ sum_by (wait c q k) (shops_below c.parts q p)
   pub small : (q : ℕ) → get_or sums q 0 ≤ p * wait_most k
 
 zero_at : (n q : ℕ) (xs : List ℕ) → xs ≡ replicate n 0 → length xs ≡ n → get_or xs q 0 ≡ 0
@@ -104,24 +104,24 @@ pub waits_same : (c : CaseRows) (k p : ℕ) (xs : List ℕ) → is_line (part_at
 waits_same c k p xs line h = record {
   count = h.count;
   each = λ q w.
-      h.each q w ∙ alone (sum_by (wait c q k) (shops_below c q p))
-      ∙ ap (λ b. sum_by (wait c q k) (shops_below c q p) + cond b (wait c q k p) 0) (sym (line_of_none (part_at c.parts q) (part_at c.parts p) line))
+      h.each q w ∙ alone (sum_by (wait c q k) (shops_below c.parts q p))
+      ∙ ap (λ b. sum_by (wait c q k) (shops_below c.parts q p) + cond b (wait c q k p) 0) (sym (line_of_none (part_at c.parts q) (part_at c.parts p) line))
       ∙ sym (sum_more (wait c q k) (λ i. is_shop_of (part_at c.parts q) (part_at c.parts i)) p);
   small = λ q. omega (arith, h.small q);
 }
 
 added_at : (c : CaseRows) (k p l w : ℕ) (xs : List ℕ) → line_of c.parts p ≡ Some l → l < length c.parts → w ≡ wait c l k p → AreWaitsBelow c k p xs
-    → get_or xs l 0 + w ≡ sum_by (wait c l k) (shops_below c l (p + 1))
+    → get_or xs l 0 + w ≡ sum_by (wait c l k) (shops_below c.parts l (p + 1))
 added_at c k p l w xs e wl t h =
-    ap (λ n. n + w) (h.each l wl) ∙ ap (λ n. sum_by (wait c l k) (shops_below c l p) + n) t
-    ∙ ap (λ b. sum_by (wait c l k) (shops_below c l p) + cond b (wait c l k p) 0) (sym (own_shop c p l e))
+    ap (λ n. n + w) (h.each l wl) ∙ ap (λ n. sum_by (wait c l k) (shops_below c.parts l p) + n) t
+    ∙ ap (λ b. sum_by (wait c l k) (shops_below c.parts l p) + cond b (wait c l k p) 0) (sym (own_shop c p l e))
     ∙ sym (sum_more (wait c l k) (λ i. is_shop_of (part_at c.parts l) (part_at c.parts i)) p)
 
 kept_at : (c : CaseRows) (k p l q : ℕ) (xs : List ℕ) → IsCase c → line_of c.parts p ≡ Some l → l < length c.parts → q < length c.parts → q ≢ l
-    → AreWaitsBelow c k p xs → get_or xs q 0 ≡ sum_by (wait c q k) (shops_below c q (p + 1))
+    → AreWaitsBelow c k p xs → get_or xs q 0 ≡ sum_by (wait c q k) (shops_below c.parts q (p + 1))
 kept_at c k p l q xs v e wl wq ne h =
-    h.each q wq ∙ alone (sum_by (wait c q k) (shops_below c q p))
-    ∙ ap (λ b. sum_by (wait c q k) (shops_below c q p) + cond b (wait c q k p) 0) (sym (other_shop c p l q v e wl wq ne))
+    h.each q wq ∙ alone (sum_by (wait c q k) (shops_below c.parts q p))
+    ∙ ap (λ b. sum_by (wait c q k) (shops_below c.parts q p) + cond b (wait c q k p) 0) (sym (other_shop c p l q v e wl wq ne))
     ∙ sym (sum_more (wait c q k) (λ i. is_shop_of (part_at c.parts q) (part_at c.parts i)) p)
 
 pub waits_more : (c : CaseRows) (k p l w : ℕ) (xs : List ℕ) → IsCase c → line_of c.parts p ≡ Some l → l < length c.parts → w ≡ wait c l k p → w ≤ wait_most k
@@ -131,7 +131,7 @@ waits_more c k p l w xs v e wl t most h =
     record {
       count = length-set xs l (get_or xs l 0 + w) ∙ h.count;
       each = λ q wq. elim (cases_eq q l) [
-        | inl s ↦ subst (λ m. get_or (set xs l (get_or xs l 0 + w)) m 0 ≡ sum_by (wait c m k) (shops_below c m (p + 1))) (sym s)
+        | inl s ↦ subst (λ m. get_or (set xs l (get_or xs l 0 + w)) m 0 ≡ sum_by (wait c m k) (shops_below c.parts m (p + 1))) (sym s)
             (get_or-set_same xs l (get_or xs l 0 + w) 0 within ∙ added_at c k p l w xs e wl t h)
         | inr ne ↦ get_or-set_other xs l q (get_or xs l 0 + w) 0 ne ∙ kept_at c k p l q xs v e wl wq ne h
       ];

@@ -1,8 +1,6 @@
 -- The waits for shop units in their line unit's zero-stock mean at a site. No promise of the crate rests on these
 -- definitions.
-use Rattle.std.specs.Prelude.{◌≡◌, ℕ, zero, suc, ◌*◌, ◌<◌, ◌≤◌, List, [], length, get_or, filter, sum_by}
-use Rattle.std.specs.List.{range_with_len}
-use Rattle.spares_input.specs.Frames.{part_at, is_shop_of}
+use Rattle.std.specs.Prelude.{◌≡◌, ℕ, zero, suc, ◌*◌, ◌<◌, ◌≤◌, List, [], length, get_or, sum_by}
 use Rattle.spares_input.specs.Cases.{CaseRows, rate_at}
 use Rattle.fleet_model.specs.Rows.{shop_units}
 use Rattle.fleet_model.specs.Units.{zero_stock_units_ij}
@@ -15,10 +13,6 @@ wait c l (suc j) i = zero_stock_units_ij c l i (suc j)
 -- the sum over all shop units of the line unit l at site k
 abbrev pub wait_sum : CaseRows → ℕ → ℕ → ℕ
 wait_sum c l k = sum_by (wait c l k) (shop_units c l)
-
--- the shop units of l among the first n parts
-abbrev pub shops_below : CaseRows → ℕ → ℕ → List ℕ
-shops_below c l n = filter (λ p. is_shop_of (part_at c.parts l) (part_at c.parts p)) (range_with_len 0 n)
 
 -- the largest wait for one shop unit
 abbrev pub wait_most : ℕ → ℕ

@@ -4,6 +4,7 @@ use Rattle.std.specs.Result.{IsOk}
 use Rattle.std.proofs.lemmas.List.{get_or-replicate, length-replicate}
 use Rattle.spares_input.specs.Cases.{CaseRows, IsCase, frame_rows, pair_count}
 use Rattle.spares_input.specs.Stocks.{StockList, IsFor, IsWithinLimits, nothing_held}
+use Rattle.case_figures.specs.Figures.{total_of}
 use Rattle.case_maker.specs.Demonstration.{made}
 use Rattle.case_maker.proofs.Valid.{made_few, made_lines, made_valid}
 use Rattle.case_maker.proofs.Whole.{made_drawn}
@@ -19,14 +20,16 @@ use Rattle.certified_plan.proofs.Scores.{scores_enclose, scores_leave_room}
 use Rattle.certified_plan.proofs.Short.{text_short}
 use Rattle.demand_rates.specs.Limits.{rate_fault_of}
 use Rattle.demo_accepts.proofs.FewTables.{all_few, work_few}
+use Rattle.fleet_plan.specs.Plans.{IsCasePlan}
 use Rattle.gap_checker.specs.Refusals.{reject_of}
 use Rattle.on_hand.specs.Work.{IsNothing, held_work_of}
 use Rattle.on_hand.proofs.Kept.{all_work}
 use Rattle.plan_report.specs.Fits.{FitsPlan, FitsSummary}
+use Rattle.plan_report.specs.declared.summary.Summary.{Summary}
 use Rattle.price_certificate.specs.Certificates.{cert_text, certificate_limit}
 use Rattle.price_certificate.specs.declared.certificate.Certificate.{Certificate}
 use Rattle.price_certificate.specs.declared.certificate.Objective.TheVariants.{Backorders}
-use Rattle.demonstration.specs.Demonstrations.{budget_of, claims_in, demo_terms, summary_in}
+use Rattle.demonstration.specs.Demonstrations.{IsDemonstrated, budget_of, claims_in, demo_terms, summary_in}
 use Rattle.family_curve.specs.Points.{plain_ends}
 
 -- ---- the work
@@ -84,6 +87,27 @@ module _ (c : CaseRows) (held : StockList) (lines : ℕ) (few : lines ≤ 80) (v
   sums_fit number parts =
       let p = plan_prints in
       record { total = p.figures.total; bound = p.bound; gap = p.gap }
+
+  -- the summary of the outcome is the demonstration's
+  pub is_demonstrated : (number parts : ℕ) → c ≡ made number lines → held ≡ nothing_held c → parts ≡ length c.parts → IsDemonstrated number lines (summary_in number lines parts o)
+  is_demonstrated number parts is none count =
+      let told : CaseRows → Summary = λ d. record {
+        number = number;
+        lines = lines;
+        parts = length d.parts;
+        budget = budget_of lines;
+        cost = h.plan.numbers.cost;
+        total = total_of 48 d h.plan.stocks;
+        bound = h.plan.numbers.bound;
+        gap = h.plan.numbers.gap;
+      } in
+      let here : summary_in number lines (length c.parts) o ≡ told c = rw h.is refl in
+      record {
+        plan = h.plan;
+        is_plan = subst (λ (d : CaseRows). IsCasePlan plain_ends d (nothing_held d).list (budget_of lines) h.plan) is
+            (subst (λ (s : StockList). IsCasePlan plain_ends c s.list (budget_of lines) h.plan) none h.is_plan);
+        is = ap (λ n. summary_in number lines n o) count ∙ here ∙ ap told is;
+      }
 
   module _ (cert : Certificate) (is : cert ≡ certificate_of c held (demo_terms (budget_of lines)) (claims_in o)) (none : held ≡ nothing_held c)
       (work : IsOk (held_work_of c held.list)) where

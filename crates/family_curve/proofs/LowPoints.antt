@@ -2,10 +2,9 @@
 use Rattle.std.proofs.Common.{◌≡◌, ℕ, suc, ◌+◌, ◌-◌, ◌*◌, ◌^◌, ◌<◌, ◌≤◌, inl, inr, min, List, [], ◌∷◌, length, drop, get_or, map, take, sym, ap, ap₂, ◌∙◌, subst, arith, mul-le-mul_left, ◌⊎◌}
 use Rattle.std.specs.List.{range_with_len}
 use Rattle.std.proofs.lemmas.List.{take_all}
-use Rattle.std.proofs.lemmas.Nat.{mul-le}
-use Rattle.fixed_interval.specs.Ends.{Ends}
+use Rattle.fixed_interval.specs.Ends.{Ends, IsWithinLimit}
 use Rattle.fleet_model.specs.Laws.{IsBase}
-use Rattle.fleet_model.specs.Fleet.{family}
+use Rattle.fleet_model.specs.Rows.{systems, per_system, weight}
 use Rattle.family_eval.specs.Profile.{item_of}
 use Rattle.family_tables.specs.Numbers.{AreBaseLows, base_backorders}
 use Rattle.family_tables.proofs.FromNumbers.{backorders_alone}
@@ -15,40 +14,43 @@ use Rattle.hull.specs.Scores.{LeavesRoom}
 use Rattle.hull.proofs.Members.{Flattened, Mapped, among_flattened, among_mapped, range_has}
 use Rattle.hull.proofs.Stand.{among_either}
 use Rattle.family_curve.specs.Vectors.{between, vectors}
-use Rattle.family_curve.specs.Points.{ScoreEnds, cost_above}
+use Rattle.family_curve.specs.Points.{ScoreEnds}
 use Rattle.family_curve.specs.Separation.{base_point, base_points, base_stocks, depot_and_base, depot_point, points_over}
-use Rattle.family_curve.specs.Inputs.{FamilyBox, IsAt, IsFamilyBox, held_at, line_high, line_low, shop_high, shop_low, shop_vectors}
+use Rattle.family_curve.specs.Inputs.{AreShopsAt, FamilyBox, IsAt, IsFamilyBox, line_high, line_low, shop_high, shop_low, shop_vectors}
 use Rattle.family_curve.specs.Least.{AreAtLeast, AreLowsAt}
 use Rattle.family_curve.specs.Tabled.{numbers}
 use Rattle.family_curve.proofs.Bounded.{at_long}
 use Rattle.family_curve.proofs.Distinct.{family_stocks_in}
 use Rattle.family_curve.proofs.Leasts.{at_least_sums}
-use Rattle.family_curve.proofs.Points.{base_small, begins, high_begins, low_begins, over_more, take_next}
+use Rattle.family_curve.proofs.Points.{base_small, begins, high_begins, joined_at, low_begins, over_more, take_next}
+use Rattle.family_curve.proofs.Scores.{backorders_small}
 use Rattle.family_curve.proofs.Separate.{at_base}
 
--- a cost and a score that is at least so much, at a stock: their Lagrangian is at most the point's, and there is room
-pub record IsUnder (p q cost scored : ℕ) (v : Point) : Type 0 where
-  pub low : q * scored + p * cost ≤ lagrangian p q v
-  pub cost_most : p * cost ≤ 2 ^ 74 * 1000000000000
-  pub scored_most : q * scored ≤ 1000000000000 * 2 ^ 74
+-- a score that is at most the point's, and no larger than any score
+pub record IsLowScore (scored : ℕ) (v : Point) : Type 0 where
+  pub low : scored ≤ v.lo
+  pub most : scored ≤ 2 ^ 74
 
--- a cost and a lower bound on the score are under the point of their stocks
-pub under_point : (x : FamilyBox) (valid : IsFamilyBox x) (ends : ScoreEnds) → LeavesRoom ends → (d : List ℕ) → IsAt x 0 d → (j : ℕ) (b : List ℕ) → IsBase x.case j → IsAt x j b
-    → (p q cost scored : ℕ) → p ≤ 2 ^ 74 → q ≤ 1000000000000 → cost ≡ cost_above x.case (family x.case x.line) (held_at x j) b
-    → scored ≤ (base_point x.case x.line ends x.held d j b).lo → IsUnder p q cost scored (base_point x.case x.line ends x.held d j b)
-under_point x valid ends room d at_depot j b base at p q cost scored few_p few_q same under =
-    let v : Point = base_point x.case x.line ends x.held d j b in
-    let small = base_small x valid ends room d at_depot j b base at in
-    let e = small.ends in let r = small.room in let k = small.cost in
-    let c : cost ≤ 1000000000000 = omega (arith, same, k) in
-    let s : scored ≤ 2 ^ 74 = omega (arith, under, e, r) in
-    let m : q * scored ≤ q * v.lo = mul-le-mul_left q under in
-    let n : p * cost ≡ p * v.cost = ap (λ z. p * z) same in
-    record {
-      low = omega (arith, m, n);
-      cost_most = mul-le p cost (2 ^ 74) 1000000000000 few_p c;
-      scored_most = mul-le q scored 1000000000000 (2 ^ 74) few_q s;
-    }
+-- a score that is at most that of all backorders from a lower bound on is one of the point of the bound's stocks
+pub score_under : (x : FamilyBox) (valid : IsFamilyBox x) (ends : ScoreEnds) → LeavesRoom ends → (d : List ℕ) → IsAt x 0 d → (j s : ℕ) (v lows : List ℕ) → IsBase x.case j
+    → AreShopsAt x j v → line_low x j ≤ s → s ≤ line_high x j → s < length lows → AreLowsAt x d j v lows → (n scored : ℕ) → n ≡ s
+    → ((e : Ends) → IsWithinLimit 48 e → get_or lows n 0 ≤ e.lo → scored ≤ (ends (systems x.case j) (per_system x.case x.line) (weight x.case x.line) e).lo)
+    → IsLowScore scored (base_point x.case x.line ends x.held d j (s ∷ v))
+score_under x valid ends room d at_depot j s v lows base within low high long are n scored e under =
+    let at : IsAt x j (s ∷ v) = joined_at x valid j s v base.1 within low high in
+    let item = item_of 48 x.case (base_stocks x.case x.line d j (s ∷ v)) x.line j in
+    let bound : get_or lows n 0 ≤ item.backorders.lo = subst (λ k. get_or lows k 0 ≤ item.backorders.lo) (sym e) (are s at long) in
+    let here : scored ≤ (base_point x.case x.line ends x.held d j (s ∷ v)).lo = under item.backorders (backorders_small x valid j d (s ∷ v) at_depot at base) bound in
+    let small = base_small x valid ends room d at_depot j (s ∷ v) base at in
+    let order = small.ends in let most = small.room in
+    record { low = here; most = omega (arith, here, order, most) }
+
+-- the Lagrangian of a point's cost and of at most its score is at most the point's
+pub lagrangian_under : (p q cost scored value : ℕ) (v : Point) → value ≡ q * scored + p * cost → cost ≡ v.cost → scored ≤ v.lo → value ≤ lagrangian p q v
+lagrangian_under p q cost scored value v e g h =
+    let m : q * scored ≤ q * v.lo = mul-le-mul_left q h in
+    let n : p * cost ≡ p * v.cost = ap (λ z. p * z) g in
+    omega (arith, e, m, n)
 
 -- one stock more
 module _ (f : ℕ → ℕ) (a : ℕ) where
@@ -92,7 +94,8 @@ base_under x valid ends d j base p q m n all h v k =
     let range = range_has two.from (line_low x j) (suc (line_high x j) - line_low x j) two.there in
     let among : Among three.from (take n (shop_vectors x j)) = subst (λ ws. Among three.from ws) (sym (take_all n (shop_vectors x j) all)) three.there in
     let low = range.0 in let high = range.1 in
-    subst (λ u. m ≤ lagrangian p q u) (sym (one.is ∙ ap point three.is)) (h three.from among two.from low (omega (arith, low, high)))
+    let there_is : point (two.from ∷ three.from) ≡ v = sym (ap point three.is) ∙ sym one.is in
+    subst (λ u. m ≤ lagrangian p q u) there_is (h three.from among two.from low (omega (arith, low, high)))
 
 -- the depot's stocks alone
 pub depot_under : (x : FamilyBox) (d : List ℕ) (p q n : ℕ) → n ≡ (depot_point x.case x.line x.held d).cost → AreAtLeast p q (p * n) (depot_point x.case x.line x.held d ∷ [])

@@ -1,5 +1,5 @@
 -- Stocks at a base as the code keeps them.
-use Rattle.std.proofs.Common.{◌≡◌, ℕ, zero, suc, ◌+◌, ◌-◌, ◌*◌, ◌<◌, ◌≤◌, List, [], ◌∷◌, ◌++◌, length, map, take, get_or, refl, sym, ap, ◌∙◌, arith}
+use Rattle.std.proofs.Common.{◌≡◌, ℕ, zero, suc, ◌+◌, ◌-◌, ◌*◌, ◌<◌, ◌≤◌, List, [], ◌∷◌, ◌++◌, length, map, take, get_or, refl, sym, ap, ap₂, ◌∙◌, arith}
 use Rattle.std.proofs.lemmas.List.{map-append}
 use Rattle.spares_input.specs.Frames.{part_at}
 use Rattle.spares_input.specs.Cases.{CaseRows}
@@ -39,6 +39,19 @@ module _ (x : FamilyBox) (valid : IsFamilyBox x) (k s : ℕ) (v : List ℕ) (m :
   -- such stocks cost at most 56,700,000,000 beyond what is held there
   pub line_cost_most : cost_above x.case (family x.case x.line) (held_at x k) (s ∷ v) ≤ 56700000000
   line_cost_most = site_cost_most x valid k (s ∷ v) m here
+
+  -- the cost with the least stock, and so many units above it
+  pub line_cost : (base above each : ℕ) → base ≡ cost_above x.case (family x.case x.line) (held_at x k) (line_low x k ∷ v) → above ≡ s - line_low x k
+      → each ≡ (part_at x.case.parts x.line).cost → base + above * each ≡ cost_above x.case (family x.case x.line) (held_at x k) (s ∷ v)
+  line_cost base above each e g h = ap₂ (λ a b. a + b) e (ap₂ (λ n p. n * p) g h) ∙ sym line_dearer
+
+  -- which is at most 56,700,000,000
+  pub line_cost_small : (base above each : ℕ) → base ≡ cost_above x.case (family x.case x.line) (held_at x k) (line_low x k ∷ v) → above ≡ s - line_low x k
+      → each ≡ (part_at x.case.parts x.line).cost → base + above * each ≤ 56700000000
+  line_cost_small base above each e g h =
+      let is : base + above * each ≡ cost_above x.case (family x.case x.line) (held_at x k) (s ∷ v) = line_cost base above each e g h in
+      let most = line_cost_most in
+      omega (arith, is, most)
 
 -- shop vectors with the first n stocks of a list have, with the next one added, its first n + 1
 pub stocks_more : (xs ys : List ShopVector) (v : ShopVector) (all : List (List ℕ)) (n : ℕ) (d : List ℕ) → ys ≡ xs ++ v ∷ [] → map (λ (v : ShopVector). v.stocks) xs ≡ take n all

@@ -3,7 +3,7 @@ use Rattle.std.proofs.Common.{◌≡◌, ℕ, zero, suc, ◌+◌, ◌-◌, ◌*�
 use Rattle.std.specs.List.{All, AllZip, range_with_len}
 use Rattle.std.proofs.lemmas.List.{append_assoc, get_or-map, get_or_default, length-map}
 use Rattle.std.proofs.lemmas.List.FromFn.{get_or-range_with_len, length-range_with_len, map-range_with_len_more}
-use Rattle.moment_table.specs.declared.kinds.Row.{Row}
+use Rattle.moment_table.specs.Rows.{TableRows}
 use Rattle.fixed_interval.specs.Ends.{Ends}
 use Rattle.series_bounds.specs.Answer.{at_place}
 use Rattle.spares_input.specs.Stocks.{limit_at}
@@ -50,12 +50,12 @@ pub tables_long : (n : FamilyNumbers 48) (d : List ℕ) (t : DepotTables) → Ar
 tables_long n d t h = ap length h.bases ∙ length-map (range_with_len 1 (n.sites - 1)) (base_shops n d) ∙ length-range_with_len 1 (n.sites - 1)
 
 -- what is read there for a base are the tables of its shop units
-pub read_base : (n : FamilyNumbers 48) (d : List ℕ) (t : DepotTables) (i j : ℕ) (rows : List (List (Row 48))) → AreTables n d t → 1 + i ≡ j → i < n.sites - 1
-    → rows ≡ get_or t.bases.items i rows → rows ≡ base_shops n d j
-read_base n d t i j rows h e m g =
+pub read_base : (n : FamilyNumbers 48) (d : List ℕ) (t : DepotTables) (i j : ℕ) (tables : List (TableRows 48)) → AreTables n d t → 1 + i ≡ j → i < n.sites - 1
+    → tables ≡ get_or t.bases.items i tables → tables ≡ base_shops n d j
+read_base n d t i j tables h e m g =
     let inside : i < length (range_with_len 1 (n.sites - 1)) = omega (arith, m, length-range_with_len 1 (n.sites - 1)) in
     let at : get_or (range_with_len 1 (n.sites - 1)) i 0 ≡ j = omega (arith, get_or-range_with_len 1 (n.sites - 1) i 0 m, e) in
-    g ∙ ap (λ ys. get_or ys i rows) h.bases ∙ get_or-map (base_shops n d) (range_with_len 1 (n.sites - 1)) i 0 rows inside ∙ ap (base_shops n d) at
+    g ∙ ap (λ ys. get_or ys i tables) h.bases ∙ get_or-map (base_shops n d) (range_with_len 1 (n.sites - 1)) i 0 tables inside ∙ ap (base_shops n d) at
 
 -- ---- stocks of shop units
 

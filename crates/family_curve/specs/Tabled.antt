@@ -1,9 +1,9 @@
 -- The tables from which the points of a family are made. No promise of the crate rests on these words.
 use Rattle.std.specs.Prelude.{◌≡◌, ℕ, ◌-◌, ◌≤◌, List, drop, length, map}
 use Rattle.std.specs.List.{All, range_with_len}
-use Rattle.moment_table.specs.declared.kinds.Row.{Row}
+use Rattle.moment_table.specs.Rows.{TableRows}
 use Rattle.family_tables.specs.declared.own_part.OwnPart.{OwnPart}
-use Rattle.family_tables.specs.Numbers.{FamilyNumbers, base_shop_moments, depot_line_moments, depot_shop_moments, nth_stock, numbers_of, own_part, rows_of, shop_numbers}
+use Rattle.family_tables.specs.Numbers.{FamilyNumbers, base_shop_table, depot_line_table, depot_shop_table, nth_stock, numbers_of, own_part, shop_numbers}
 use Rattle.family_curve.specs.declared.depot.DepotTables.{DepotTables}
 use Rattle.family_curve.specs.Inputs.{FamilyBox}
 
@@ -17,16 +17,16 @@ pub record AreShopStocks (n : FamilyNumbers 48) (v : List ℕ) : Type 0 where
   pub small : All (λ s. s ≤ 63) v
 
 -- the tables of the shop units at the depot
-abbrev pub depot_shops : FamilyNumbers 48 → List (List (Row 48))
-depot_shops n = map (λ i. rows_of 48 (depot_shop_moments 48 n i)) (shop_numbers n)
+abbrev pub depot_shops : FamilyNumbers 48 → List (TableRows 48)
+depot_shops n = map (λ i. depot_shop_table 48 n i) (shop_numbers n)
 
 -- the tables of the shop units at base j, if these have the stocks d at the depot
-abbrev pub base_shops : FamilyNumbers 48 → List ℕ → ℕ → List (List (Row 48))
-base_shops n d j = map (λ i. rows_of 48 (base_shop_moments 48 n i j (nth_stock d i))) (shop_numbers n)
+abbrev pub base_shops : FamilyNumbers 48 → List ℕ → ℕ → List (TableRows 48)
+base_shops n d j = map (λ i. base_shop_table 48 n i j (nth_stock d i)) (shop_numbers n)
 
 -- the tables shared by all vectors with these stocks of the shop units at the depot
 pub record AreTables (n : FamilyNumbers 48) (d : List ℕ) (t : DepotTables) : Type 0 where
-  pub line : t.line ≡ rows_of 48 (depot_line_moments 48 n d)
+  pub line : t.line ≡ depot_line_table 48 n d
   pub bases : t.bases.items ≡ map (base_shops n d) (range_with_len 1 (n.sites - 1))
 
 -- the own part of the line unit's pipeline at base j, if the depot has the stocks d

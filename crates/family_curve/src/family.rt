@@ -15,7 +15,6 @@ ghost use Rattle.family_curve.specs.Tabled.{numbers};
 use crate::bounds::Bounds;
 use crate::vectors::{count, vector_at};
 use demand_rates::kinds::Rates;
-use family_eval::members;
 use family_tables::Evaluator;
 use spares_input::{Case, PartId, PartRow, SiteId};
 use spares_io::NoMemory;
@@ -29,7 +28,7 @@ pub(crate) struct Family<'a> {
     rates: &'a Rates,
     line: PartId,
     bounds: &'a Bounds,
-    members: Vec<PartId>,
+    members: &'a [PartId],
 }
 
 impl<'a> Model for Family<'a> {
@@ -56,7 +55,7 @@ impl<'a> Model for Family<'a> {
       low = x.bounds.now.low;
       high = x.bounds.now.high;
     })
-        × (map (λ p. p.0) x.members.items ≡ family x.case.now x.line.0) };
+        × (map (λ p. p.0) x.members.now ≡ family x.case.now x.line.0) };
 }
 
 /// The part of a vector that belongs to a site; `size` is the number of parts of the family.
@@ -90,33 +89,31 @@ pub(crate) fn joined(alloc: Global, line: u8, shops: &[u8]) -> Result<Vec<u8>, N
 impl<'a> Family<'a> {
     /// The family of a line unit.
     pub(crate) fn of(
-        alloc: Global,
         case: &'a Case,
         rates: &'a Rates,
         line: PartId,
         bounds: &'a Bounds,
-    ) -> Result<Family<'a>, NoMemory>
+    ) -> Family<'a>
         requires rates { AreRatesOf case.now rates.now }
         requires line { IsLine case.now line.0 }
         requires ordered { AreOrdered case.now line.0 bounds.now.held bounds.now.low bounds.now.high }
-        ensures { IfOk result (λ x. x ≡ record {
+        ensures { result ≡ record {
           case = case.now;
           rates = rates.now;
           line = line.0;
           held = bounds.now.held;
           low = bounds.now.low;
           high = bounds.now.high;
-        }) }
+        } }
     {
         let _valid = case.site_count();
-        let members = members(alloc, case, line)?;
-        Ok(Family {
+        Family {
             case,
             rates,
             line,
             bounds,
-            members,
-        })
+            members: case.family(line),
+        }
     }
 
     /// The number of parts, at most 9.

@@ -245,7 +245,7 @@ pub fn is_at_least<S: Score>(
         (points_within case.now line.0 S.ends bounds.now.held bounds.now.low bounds.now.high))) }
 {
     let _sites = case.site_count();
-    let family = Family::of(alloc, case, rates, line, bounds)?;
+    let family = Family::of(case, rates, line, bounds);
     let sources = Sources::of(alloc, &family)?;
     let answer = all_are_at_least(alloc, &sources, score, price, floor)?;
     Ok(answer)

@@ -89,7 +89,7 @@ pub fn curve_within<S: Score>(
         → IsBetween bounds.now.low bounds.now.high v.stocks) }
 {
     let _sites = case.site_count();
-    let family = Family::of(alloc, case, rates, line, bounds)?;
+    let family = Family::of(case, rates, line, bounds);
     let curve = family_curve(alloc, &family, score)?;
     let _vertices = curve.len();
     Ok(curve)

@@ -2,10 +2,12 @@
 //! work than exact backorders.
 
 ghost use Rattle.std.specs.Prelude.{◌≡◌, ℕ, ◌+◌, ◌-◌, ◌*◌, ◌^◌, ◌<◌, ◌≤◌, ◌∷◌, drop, length};
+ghost use Rattle.fleet_model.specs.Fleet.{family};
 ghost use Rattle.hull.specs.Curves.{lagrangian};
-ghost use Rattle.family_curve.specs.Inputs.{AreShopsAt, IsAt, line_high, line_low};
+ghost use Rattle.family_curve.specs.Inputs.{AreShopsAt, IsAt, held_at, line_high, line_low};
 ghost use Rattle.family_curve.specs.Joining.{AreSources};
 ghost use Rattle.family_curve.specs.Least.{AreAtLeast, AreLowsAt};
+ghost use Rattle.family_curve.specs.Points.{cost_above};
 ghost use Rattle.family_curve.specs.Separation.{base_point, base_points, depot_points};
 ghost use Rattle.family_curve.specs.Spots.{IsBaseAt, IsShopVector};
 ghost use Rattle.family_curve.specs.Tabled.{AreTables, numbers, own_at};
@@ -53,6 +55,48 @@ fn put_lows(
     );
 }
 
+/// The Lagrangian of a cost and a score at a price.
+fn lagrangian(price: Price, cost: u64, scored: u128) -> u128
+    requires most_money { price.q ≤ 1000000000000 }
+    requires price { price.p ≤ 2 ^ 74 }
+    requires cost { cost ≤ 1000000000000 }
+    requires scored { scored ≤ 2 ^ 74 }
+    ensures value { result ≡ price.q * scored + price.p * cost }
+    ensures most { result ≤ 2 ^ 115 }
+{
+    u128::from(price.q) * scored + price.p * u128::from(cost)
+}
+
+/// A lower bound on the Lagrangian of a base at these stocks, from their cost and lower bounds on the line unit's
+/// backorders.
+fn low_at_stocks<S: Score>(
+    here: &BaseAt<'_, '_>,
+    score: &S,
+    lows: &[u64],
+    shops: &ShopVector,
+    line: u8,
+    cost: u64,
+    price: Price,
+) -> u128
+    requires here { IsBaseAt here.now }
+    requires shops { IsShopVector here.now.family.now here.now.site.0 shops.now }
+    requires least { line_low here.now.family.now here.now.site.0 ≤ line }
+    requires most { line ≤ line_high here.now.family.now here.now.site.0 }
+    requires long { line < length lows.now }
+    requires lows { AreLowsAt here.now.family.now here.now.depot.now here.now.site.0 shops.now.stocks lows.now }
+    requires cost { let x = here.now.family.now in
+        cost ≡ cost_above x.case (family x.case x.line) (held_at x here.now.site.0) (line ∷ shops.now.stocks) }
+    requires small { cost ≤ 9 * 6300000000 }
+    requires most_money { price.q ≤ 1000000000000 }
+    requires price { price.p ≤ 2 ^ 74 }
+    ensures low { let x = here.now.family.now in result ≤ lagrangian price.p price.q
+        (base_point x.case x.line S.ends x.held here.now.depot.now here.now.site.0 (line ∷ shops.now.stocks)) }
+    ensures most { result ≤ 2 ^ 115 }
+{
+    let scored = here.low(score, lows[usize::from(line)]);
+    lagrangian(price, cost, scored)
+}
+
 /// A lower bound on the Lagrangians of a base whose shop units have these stocks; `lows` is overwritten.
 fn low_at_shops<S: Score>(
     lows: &mut [u64],
@@ -88,8 +132,7 @@ fn low_at_shops<S: Score>(
     let mut least = MOST;
     for s in low..high + 1 {
         let cost = shops.cost + u64::from(s - low) * each;
-        let scored = here.low(score, lows[usize::from(s)]);
-        least = least.min(u128::from(price.q) * scored + price.p * u128::from(cost));
+        least = least.min(low_at_stocks(here, score, lows, shops, s, cost, price));
     }
     least
 }

@@ -6,7 +6,6 @@ ghost use Rattle.spares_input.specs.Stocks.{HasPair, IsFor, limit_at, stock_at};
 ghost use Rattle.family_eval.specs.Inputs.{IsLine};
 ghost use Rattle.family_curve.specs.Vectors.{limits, places, vector_of};
 
-use family_eval::members;
 use spares_input::{Case, PartId, SiteId, Stocks};
 use spares_io::{List, NoMemory};
 use std::alloc::Global;
@@ -16,10 +15,10 @@ pub fn place_parts(alloc: Global, case: &Case, line: PartId) -> Result<Vec<PartI
     requires { IsLine case.now line.0 }
     ensures { IfOk result (λ v. map (λ p. p.0) v.items ≡ map (λ x. x.part) (places case.now line.0)) }
 {
-    let members = members(alloc, case, line)?;
+    let members = case.family(line);
     let mut parts = Vec::new(alloc);
     for _k in 0..case.site_count() {
-        parts.extend_from_slice(members.as_slice())?;
+        parts.extend_from_slice(members)?;
     }
     Ok(parts)
 }
@@ -47,10 +46,10 @@ pub fn limits_of(alloc: Global, case: &Case, line: PartId) -> Result<List<u8>, N
     requires { IsLine case.now line.0 }
     ensures { IfOk result (λ v. v ≡ limits case.now line.0) }
 {
-    let members = members(alloc, case, line)?;
+    let members = case.family(line);
     let mut list = Vec::new(alloc);
     for k in 0..case.site_count() {
-        put_limits(&mut list, case, members.as_slice(), SiteId(k))?;
+        put_limits(&mut list, case, members, SiteId(k))?;
     }
     Ok(List::of(list))
 }
@@ -83,10 +82,10 @@ pub fn vector_of(
     requires stocks { IsFor case.now stocks.now }
     ensures { IfOk result (λ v. v ≡ vector_of case.now line.0 stocks.now.list) }
 {
-    let members = members(alloc, case, line)?;
+    let members = case.family(line);
     let mut list = Vec::new(alloc);
     for k in 0..case.site_count() {
-        put_stocks(&mut list, stocks, members.as_slice(), SiteId(k))?;
+        put_stocks(&mut list, stocks, members, SiteId(k))?;
     }
     Ok(List::of(list))
 }

@@ -89,7 +89,7 @@ pub fn upper_within<S: Score>(
         (points_within case.now line.0 S.ends bounds.now.held bounds.now.low bounds.now.high)) }
     ensures most { IfOk result (λ hi. hi ≤ 16 * 2 ^ 74) }
 {
-    let family = Family::of(alloc, case, rates, line, bounds)?;
+    let family = Family::of(case, rates, line, bounds);
     let _size = family.size();
     let sources = Sources::of(alloc, &family)?;
     let shops = sources.evaluator.depot_shops()?;

@@ -28,12 +28,7 @@ pub fn shop_units(alloc: Global, case: &Case, line: PartId) -> Result<Vec<PartId
     ensures { IfOk result (λ v. map (λ p. p.0) v.items ≡ shop_units case.now line.0) }
 {
     let mut shops = Vec::new(alloc);
-    for p in 0..case.part_count() {
-        let part = PartId(p);
-        if case.is_shop_of(part, line) {
-            shops.push(part)?;
-        }
-    }
+    shops.extend_from_slice(&case.family(line)[1..])?;
     Ok(shops)
 }
 
@@ -42,9 +37,7 @@ pub fn members(alloc: Global, case: &Case, line: PartId) -> Result<Vec<PartId>, 
     requires { line.0 < length case.now.parts }
     ensures { IfOk result (λ v. map (λ p. p.0) v.items ≡ family case.now line.0) }
 {
-    let mut shops = shop_units(alloc, case, line)?;
     let mut members = Vec::new(alloc);
-    members.push(line)?;
-    members.append(&mut shops)?;
+    members.extend_from_slice(case.family(line))?;
     Ok(members)
 }

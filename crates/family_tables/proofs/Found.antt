@@ -9,8 +9,8 @@ use Rattle.std.proofs.lemmas.List.Folds.{list_any-append, list_any_at, list_any_
 use Rattle.std.proofs.lemmas.Slice.Eq.{bytes_eq-Decides}
 use Rattle.family_tables.specs.declared.keys.Key.{Key}
 use Rattle.family_tables.specs.declared.keys.Kept.{Kept}
-use Rattle.family_tables.specs.Kept.{Grows, IsKept, is_among, is_key, moments_at}
-use Rattle.family_tables.specs.Numbers.{FamilyNumbers, rows_of}
+use Rattle.family_tables.specs.Kept.{Grows, IsKept, is_among, is_key, table_at}
+use Rattle.family_tables.specs.Numbers.{FamilyNumbers}
 
 split : (k n : ℕ) → k < n + 1 → (k ≡ n) ⊎ (k < n)
 split k n h = grind arith
@@ -64,15 +64,15 @@ bytes_same : (xs ys : List ℕ) → bytes_eq xs ys ≡ true → xs ≡ ys
 bytes_same xs ys h = grind (arith, bytes_eq-Decides xs ys)
 
 -- the table kept under the first such key is that of the pipeline of this place, this site and these stocks
-pub rows_found : (f : ℕ) (x : FamilyNumbers f) (kept : List (Kept f)) (n i k : ℕ) (s : List ℕ) (y : Kept f) → All (IsKept f x) kept → y ≡ get_or kept n y
-    → position (λ (z : Kept f). is_key z.key i k s) kept ≡ Some n → y.table ≡ rows_of f (moments_at f x i k s)
-rows_found f x kept n i k s y all r found =
+pub table_found : (f : ℕ) (x : FamilyNumbers f) (kept : List (Kept f)) (n i k : ℕ) (s : List ℕ) (y : Kept f) → All (IsKept f x) kept → y ≡ get_or kept n y
+    → position (λ (z : Kept f). is_key z.key i k s) kept ≡ Some n → y.table ≡ table_at f x i k s
+table_found f x kept n i k s y all r found =
     let at = position-Some (λ (z : Kept f). is_key z.key i k s) kept n y found in
     let same : is_key y.key i k s ≡ true = ap (λ (z : Kept f). is_key z.key i k s) r ∙ at.1 in
     let rest = and_parts ((y.key.place == i) && (y.key.site.0 == k)) (bytes_eq y.key.stocks s) same in
     let first = and_parts (y.key.place == i) (y.key.site.0 == k) rest.0 in
     subst (IsKept f x) (sym r) (all n y at.0)
-    ∙ ap₂ (λ (a : ℕ) (z : ℕ × List ℕ). rows_of f (moments_at f x a z.0 z.1)) (equal y.key.place i first.0)
+    ∙ ap₂ (λ (a : ℕ) (z : ℕ × List ℕ). table_at f x a z.0 z.1) (equal y.key.place i first.0)
     (ap₂ (λ (b : ℕ) (v : List ℕ). (b, v)) (equal y.key.site.0 k first.1) (bytes_same y.key.stocks s rest.1))
 
 -- ---- keys that come

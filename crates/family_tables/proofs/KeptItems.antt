@@ -8,7 +8,7 @@ use Rattle.family_eval.specs.Inputs.{IsLine}
 use Rattle.family_eval.specs.Profile.{item_of}
 use Rattle.family_eval.proofs.Items.{base_shop_item, depot_line_item, depot_shop_item}
 use Rattle.family_eval.proofs.Units.{shop_at}
-use Rattle.family_tables.specs.Kept.{Evaluation, key_stocks, moments_at, moments_of, rows_kept}
+use Rattle.family_tables.specs.Kept.{Evaluation, key_stocks, moments_at, moments_of, table_kept}
 use Rattle.family_tables.specs.Numbers.{FamilyNumbers, family_stocks, numbers_of, rows_of}
 use Rattle.family_tables.proofs.FromNumbers.{base_shop_made, depot_line_made, depot_shop_made}
 
@@ -28,7 +28,7 @@ module _ (f : ℕ) (c : CaseRows) (l : ℕ) (valid : IsCase c) (line : IsLine c 
 
   -- the rows of a kept table are those of the item of its part at its site
   pub kept_item : (e : Evaluation f) (p i k : ℕ) → e.numbers ≡ numbers_of f c l → position (λ q. q == p) (family c l) ≡ Some i → k < length c.sites → (i ≡ 0 → k ≡ 0)
-      → rows_kept f e p k (key_stocks i k d) ≡ rows_of f (moments_of (item_of f c s p k))
+      → (table_kept f e p k (key_stocks i k d)).rows ≡ rows_of f (moments_of (item_of f c s p k))
   kept_item e p i k en at m only =
       let found = position-Some (λ q. q == p) (family c l) i 0 at in
       let same : get_or (family c l) i 0 ≡ p = grind (arith, found) in

@@ -1,10 +1,13 @@
 -- The keys of stocks.
-use Rattle.std.proofs.Common.{◌≡◌, ℕ, zero, suc, ◌+◌, ◌-◌, ◌<◌, ◌≤◌, List, [], ◌∷◌, ◌++◌, length, map, flat_map, sym, ap, ◌∙◌, refl, arith, add-one, append-nil, append_assoc, subst}
+use Rattle.std.proofs.Common.{◌≡◌, ℕ, zero, suc, ◌+◌, ◌-◌, ◌<◌, ◌≤◌, List, [], ◌∷◌, ◌++◌, length, map, flat_map, sym, ap, ap₂, ◌∙◌, refl, arith, add-one, append-nil, append_assoc, subst}
 use Rattle.std.specs.List.{All, range_with_len}
 use Rattle.std.proofs.lemmas.List.Elements.{All-append}
-use Rattle.family_tables.specs.Kept.{IsKey, key_at, keys_of}
+use Rattle.depot_pipeline.specs.declared.Feed.{Feed}
+use Rattle.base_pipeline.specs.Profile.{base_shop_ends}
+use Rattle.family_tables.specs.declared.numbers.PairNumbers.{PairNumbers}
+use Rattle.family_tables.specs.Kept.{IsKey, key_at, keys_of, table_at}
 use Rattle.family_tables.proofs.Served.{all_numbered}
-use Rattle.family_tables.specs.Numbers.{AreNumbers, FamilyNumbers, shop_numbers, nth_stock}
+use Rattle.family_tables.specs.Numbers.{AreNumbers, FamilyNumbers, depot_shop_row, feed_from, nth_stock, pair_at, shop_numbers, table_of}
 
 flat_more : {X : Type 0} (h : ℕ → List X) (a n : ℕ) → flat_map h (range_with_len a (suc n)) ≡ flat_map h (range_with_len a n) ++ h (a + n)
 flat_more h a zero = let same : a ≡ a + 0 = omega arith in append-nil (h a) ∙ ap h same
@@ -57,3 +60,17 @@ keys_valid f x d are same few =
       base = λ p q. refl;
       stocks = all_one (λ n. n ≤ 63) (nth_stock d (0 + i)) (few (0 + i) 0 (omega (arith, l, same)));
     }))))
+
+-- the table of a shop unit at a base, fed by the depot, is that of its key
+pub base_keyed : (f : ℕ) (x : FamilyNumbers f) (p k : ℕ) (s : List ℕ) (pair : PairNumbers f) (feed : Feed f) (n : ℕ) → 0 < p → 0 < k → pair ≡ pair_at x p k
+    → feed ≡ feed_from f (pair_at x (p - 1 + 1) k).share (depot_shop_row f x (p - 1) n) → n ≡ nth_stock s 0
+    → table_of f (base_shop_ends f pair.direct pair.cap feed) pair.limit ≡ table_at f x p k s
+base_keyed f x zero k s pair feed n a b e h m = absurd (omega (arith, a))
+base_keyed f x (suc i) zero s pair feed n a b e h m = absurd (omega (arith, b))
+base_keyed f x (suc i) (suc k) s pair feed n a b e h m =
+    let one : suc i ≡ i + 1 = omega arith in
+    let shop : suc i - 1 ≡ i = omega arith in
+    ap₂ (λ (w : PairNumbers f) (z : Feed f). table_of f (base_shop_ends f w.direct w.cap z) w.limit) e
+    (h ∙ ap₂ (λ (q r : ℕ). feed_from f (pair_at x (q + 1) (suc k)).share (depot_shop_row f x q r)) shop m)
+    ∙ ap (λ q. table_of f (base_shop_ends f (pair_at x q (suc k)).direct (pair_at x q (suc k)).cap
+    (feed_from f (pair_at x (i + 1) (suc k)).share (depot_shop_row f x i (nth_stock s 0)))) (pair_at x (suc i) (suc k)).limit) one

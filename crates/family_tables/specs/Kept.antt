@@ -2,13 +2,13 @@
 use Rattle.std.specs.Prelude.{◌≡◌, ◌==◌, ◌&&◌, ◌+◌, ◌-◌, ◌<◌, ◌≤◌, ◌⊎◌, ℕ, zero, suc, Bool, true, false, bytes_eq, List, [], ◌∷◌, ◌++◌, length, get_or, map, flat_map, position, unwrap_or}
 use Rattle.std.specs.List.{All, list_any, range_with_len}
 use Rattle.std.specs.Option.{option_map_or}
-use Rattle.moment_table.specs.declared.kinds.Row.{Row}
+use Rattle.moment_table.specs.Rows.{TableRows}
 use Rattle.depot_pipeline.specs.declared.Moments.{Moments}
 use Rattle.spares_input.specs.Stocks.{StockList, stock_at}
 use Rattle.family_eval.specs.declared.item.Item.{Item}
 use Rattle.family_tables.specs.declared.keys.Key.{Key}
 use Rattle.family_tables.specs.declared.keys.Kept.{Kept}
-use Rattle.family_tables.specs.Numbers.{FamilyNumbers, nth_stock, base_shop_moments, depot_line_moments, depot_shop_moments, rows_of, shop_numbers}
+use Rattle.family_tables.specs.Numbers.{FamilyNumbers, nth_stock, base_shop_moments, depot_line_moments, depot_shop_moments, pair_at, shop_numbers, table_of}
 
 -- an evaluator as contracts see it: the numbers of its family, and the keys of the kept tables. A key is a place in the
 -- family, a site and the stocks on which the pair's pipeline depends: none for a shop unit at the depot, the shop
@@ -23,13 +23,17 @@ moments_at f x zero k s = depot_line_moments f x s
 moments_at f x (suc i) zero s = depot_shop_moments f x i
 moments_at f x (suc i) (suc k) s = base_shop_moments f x i (suc k) (nth_stock s 0)
 
--- the pipeline of a key
-abbrev pub key_moments : (f : ℕ) → FamilyNumbers f → Key → Moments f
-key_moments f x key = moments_at f x key.place key.site.0 key.stocks
+-- its table, stored up to the limit of that place and site
+abbrev pub table_at : (f : ℕ) → FamilyNumbers f → ℕ → ℕ → List ℕ → TableRows f
+table_at f x i k s = table_of f (moments_at f x i k s) (pair_at x i k).limit
 
--- the table is the table of its key's pipeline
+-- the table of a key
+abbrev pub key_table : (f : ℕ) → FamilyNumbers f → Key → TableRows f
+key_table f x key = table_at f x key.place key.site.0 key.stocks
+
+-- the table is that of its key
 abbrev pub IsKept : (f : ℕ) → FamilyNumbers f → Kept f → Type 0
-IsKept f x y = y.table ≡ rows_of f (key_moments f x y.key)
+IsKept f x y = y.table ≡ key_table f x y.key
 
 -- whether a key has this place, this site and these stocks
 abbrev pub is_key : Key → ℕ → ℕ → List ℕ → Bool
@@ -43,9 +47,9 @@ is_among keys i k s = list_any (λ key. is_key key i k s) keys
 abbrev pub is_kept : {f : ℕ} → Evaluation f → ℕ → ℕ → List ℕ → Bool
 is_kept e p k s = option_map_or (λ i. is_among e.keys i k s) (position (λ q. q == p) e.numbers.parts) false
 
--- the rows of that table
-abbrev pub rows_kept : (f : ℕ) → Evaluation f → ℕ → ℕ → List ℕ → List (Row f)
-rows_kept f e p k s = rows_of f (moments_at f e.numbers (unwrap_or (position (λ q. q == p) e.numbers.parts) 0) k s)
+-- that table
+abbrev pub table_kept : (f : ℕ) → Evaluation f → ℕ → ℕ → List ℕ → TableRows f
+table_kept f e p k s = table_at f e.numbers (unwrap_or (position (λ q. q == p) e.numbers.parts) 0) k s
 
 -- the stocks on which the pipeline of place i at site k depends, where the depot has the stocks d of the shop units
 abbrev pub key_stocks : ℕ → ℕ → List ℕ → List ℕ

@@ -5,7 +5,7 @@ use Rattle.std.specs.List.{range_with_len}
 use Rattle.fixed_interval.specs.Ends.{Ends, IsWithinLimit, ends_exact, ends_ratio}
 use Rattle.moment_table.specs.declared.kinds.Row.{Row}
 use Rattle.moment_table.specs.Profile.{table_rows}
-use Rattle.moment_table.specs.Rows.{at_stock, AreBackorders}
+use Rattle.moment_table.specs.Rows.{TableRows, at_stock, AreBackorders}
 use Rattle.backorder_bounds.specs.Lows.{AreLows}
 use Rattle.depot_pipeline.specs.declared.Moments.{Moments}
 use Rattle.depot_pipeline.specs.declared.Feed.{Feed}
@@ -85,9 +85,13 @@ pub record AreNumbers (f : ℕ) (x : FamilyNumbers f) : Type 0 where
 
 -- ---- the levels
 
--- the table of a pipeline, row by row
+-- the rows of a pipeline's table
 abbrev pub rows_of : (f : ℕ) → Moments f → List (Row f)
 rows_of f m = table_rows f m.mean m.variance
+
+-- the table of a pipeline, stored at the stocks 0 to the limit
+abbrev pub table_of : (f : ℕ) → Moments f → ℕ → TableRows f
+table_of f m limit = record { rows = rows_of f m; stored = limit + 1 }
 
 -- the feed of a pair with this row to another, by a share
 abbrev pub feed_from : (f : ℕ) → Ends → Row f → Feed f
@@ -109,6 +113,10 @@ nth_stock stocks i = get_or stocks i 0
 abbrev pub depot_shop_moments : (f : ℕ) → FamilyNumbers f → ℕ → Moments f
 depot_shop_moments f x i = depot_shop_ends f (pair_at x (i + 1) 0).direct (pair_at x (i + 1) 0).cap
 
+-- its table, stored up to its limit there
+abbrev pub depot_shop_table : (f : ℕ) → FamilyNumbers f → ℕ → TableRows f
+depot_shop_table f x i = table_of f (depot_shop_moments f x i) (pair_at x (i + 1) 0).limit
+
 -- its row at the stock s
 abbrev pub depot_shop_row : (f : ℕ) → FamilyNumbers f → ℕ → ℕ → Row f
 depot_shop_row f x i s = at_stock (rows_of f (depot_shop_moments f x i)) s
@@ -122,6 +130,10 @@ depot_feeds f x d = map (λ i. feed_from f (pair_at x (i + 1) 0).share (depot_sh
 abbrev pub depot_line_moments : (f : ℕ) → FamilyNumbers f → List ℕ → Moments f
 depot_line_moments f x d = depot_line_ends f (pair_at x 0 0).direct (pair_at x 0 0).cap (depot_feeds f x d)
 
+-- its table, stored up to its limit there
+abbrev pub depot_line_table : (f : ℕ) → FamilyNumbers f → List ℕ → TableRows f
+depot_line_table f x d = table_of f (depot_line_moments f x d) (pair_at x 0 0).limit
+
 -- its row at the stock s
 abbrev pub depot_line_row : (f : ℕ) → FamilyNumbers f → List ℕ → ℕ → Row f
 depot_line_row f x d s = at_stock (rows_of f (depot_line_moments f x d)) s
@@ -131,6 +143,10 @@ abbrev pub base_shop_moments : (f : ℕ) → FamilyNumbers f → ℕ → ℕ →
 base_shop_moments f x i k n =
     base_shop_ends f (pair_at x (i + 1) k).direct (pair_at x (i + 1) k).cap
     (feed_from f (pair_at x (i + 1) k).share (depot_shop_row f x i n))
+
+-- its table, stored up to its limit there
+abbrev pub base_shop_table : (f : ℕ) → FamilyNumbers f → ℕ → ℕ → ℕ → TableRows f
+base_shop_table f x i k n = table_of f (base_shop_moments f x i k n) (pair_at x (i + 1) k).limit
 
 -- its row at the stock s
 abbrev pub base_shop_row : (f : ℕ) → FamilyNumbers f → ℕ → ℕ → ℕ → ℕ → Row f

@@ -1,7 +1,7 @@
 //! The levels of a family from its numbers and its stocks, by tables that serve many stocks.
 
 ghost use Rattle.std.specs.Prelude.{◌≡◌, ◌+◌, ◌-◌, ◌*◌, ◌^◌, ◌<◌, ◌≤◌, IfOk, length, map, All};
-ghost use Rattle.family_tables.specs.Numbers.{base_shop_moments, depot_feeds, depot_line_moments, depot_shop_moments, nth_stock, rows_of, shop_numbers};
+ghost use Rattle.family_tables.specs.Numbers.{base_shop_table, depot_feeds, depot_line_table, depot_shop_table, nth_stock, shop_numbers};
 
 use crate::numbers::Numbers;
 use crate::pair_tables::{base_shop_table, depot_line_table, depot_shop_table, feed_from};
@@ -16,8 +16,7 @@ pub(crate) fn depot_shop_tables<const F: u32>(
     alloc: Global,
     numbers: &Numbers<F>,
 ) -> Result<Vec<Table<F>>, NoMemory>
-    ensures { IfOk result (λ v. v.items ≡ map (λ i. rows_of F (depot_shop_moments F numbers.now i))
-        (shop_numbers numbers.now)) }
+    ensures { IfOk result (λ v. v.items ≡ map (λ i. depot_shop_table F numbers.now i) (shop_numbers numbers.now)) }
 {
     let _valid = numbers.sites();
     let mut tables = Vec::new(alloc);
@@ -35,8 +34,7 @@ fn feeds_at<const F: u32>(
     tables: &[Table<F>],
     depot: &[u8],
 ) -> Result<Vec<Feed<F>>, NoMemory>
-    requires tables { tables.now ≡ map (λ i. rows_of F (depot_shop_moments F numbers.now i))
-        (shop_numbers numbers.now) }
+    requires tables { tables.now ≡ map (λ i. depot_shop_table F numbers.now i) (shop_numbers numbers.now) }
     requires count { length depot.now ≡ length numbers.now.parts - 1 }
     requires stocks { All (λ n. n ≤ 63) depot.now }
     ensures { IfOk result (λ v. v.items ≡ depot_feeds F numbers.now depot.now) }
@@ -57,11 +55,10 @@ pub(crate) fn depot_line<const F: u32>(
     tables: &[Table<F>],
     depot: &[u8],
 ) -> Result<Table<F>, NoMemory>
-    requires tables { tables.now ≡ map (λ i. rows_of F (depot_shop_moments F numbers.now i))
-        (shop_numbers numbers.now) }
+    requires tables { tables.now ≡ map (λ i. depot_shop_table F numbers.now i) (shop_numbers numbers.now) }
     requires count { length depot.now ≡ length numbers.now.parts - 1 }
     requires stocks { All (λ n. n ≤ 63) depot.now }
-    ensures { IfOk result (λ t. t ≡ rows_of F (depot_line_moments F numbers.now depot.now)) }
+    ensures { IfOk result (λ t. t ≡ depot_line_table F numbers.now depot.now) }
 {
     let _valid = numbers.sites();
     let feeds = feeds_at(alloc, numbers, tables, depot)?;
@@ -76,13 +73,12 @@ pub(crate) fn base_shop_tables<const F: u32>(
     depot: &[u8],
     site: SiteId,
 ) -> Result<Vec<Table<F>>, NoMemory>
-    requires tables { tables.now ≡ map (λ i. rows_of F (depot_shop_moments F numbers.now i))
-        (shop_numbers numbers.now) }
+    requires tables { tables.now ≡ map (λ i. depot_shop_table F numbers.now i) (shop_numbers numbers.now) }
     requires count { length depot.now ≡ length numbers.now.parts - 1 }
     requires stocks { All (λ n. n ≤ 63) depot.now }
     requires site { site.0 < numbers.now.sites }
     ensures { IfOk result (λ v. v.items ≡ map
-        (λ i. rows_of F (base_shop_moments F numbers.now i site.0 (nth_stock depot.now i)))
+        (λ i. base_shop_table F numbers.now i site.0 (nth_stock depot.now i))
         (shop_numbers numbers.now)) }
 {
     let _valid = numbers.sites();

@@ -6,8 +6,8 @@ ghost use Rattle.demand_rates.specs.Rates.{AreRatesOf};
 ghost use Rattle.family_eval.specs.Inputs.{IsLine};
 ghost use Rattle.family_eval.specs.Profile.{family_of};
 ghost use Rattle.family_eval.specs.Encloses.{CanEvaluate, EnclosesFamily, IsSmallFamily};
-ghost use Rattle.family_tables.specs.Kept.{Grows, Has, depot_stocks, is_kept, keys_of, rows_kept};
-ghost use Rattle.family_tables.specs.Numbers.{AreBaseBackorders, AreBaseLows, base_shop_moments, depot_line_moments, depot_shop_moments, nth_stock, numbers_of, own_part, rows_of, shop_numbers};
+ghost use Rattle.family_tables.specs.Kept.{Grows, Has, depot_stocks, is_kept, keys_of, table_kept};
+ghost use Rattle.family_tables.specs.Numbers.{AreBaseBackorders, AreBaseLows, base_shop_table, depot_line_table, depot_shop_table, nth_stock, numbers_of, own_part, shop_numbers};
 
 use crate::by_numbers;
 use crate::keys::{Kept, table_at};
@@ -71,7 +71,7 @@ impl<const F: u32> Evaluator<F> {
     /// its own stock at the depot for a shop unit at a base.
     pub fn kept(&self, part: PartId, site: SiteId, key: &[u8]) -> Option<&Table<F>>
         ensures kept { is_some result ≡ is_kept self.now part.0 site.0 key.now }
-        ensures rows { IfSome result (λ t. t.now ≡ rows_kept F self.now part.0 site.0 key.now) }
+        ensures table { IfSome result (λ t. t.now ≡ table_kept F self.now part.0 site.0 key.now) }
     {
         match self.family.place_of(part) {
             Some(place) => table_at(&self.family, self.tables.as_slice(), place, site, key),
@@ -111,7 +111,7 @@ impl<const F: u32> Evaluator<F> {
 
     /// The tables of the shop units at the depot, in part order. Want of memory is the only error.
     pub fn depot_shops(&self) -> Result<Vec<Table<F>>, NoMemory>
-        ensures { IfOk result (λ v. v.items ≡ map (λ i. rows_of F (depot_shop_moments F self.now.numbers i))
+        ensures { IfOk result (λ v. v.items ≡ map (λ i. depot_shop_table F self.now.numbers i)
             (shop_numbers self.now.numbers)) }
     {
         by_numbers::depot_shop_tables(self.alloc, &self.family)
@@ -120,11 +120,10 @@ impl<const F: u32> Evaluator<F> {
     /// The table of the line unit at the depot, at the shop units' stocks `depot` there; `shops` are their tables. Want
     /// of memory is the only error.
     pub fn depot_line(&self, shops: &[Table<F>], depot: &[u8]) -> Result<Table<F>, NoMemory>
-        requires shops { shops.now ≡ map (λ i. rows_of F (depot_shop_moments F self.now.numbers i))
-            (shop_numbers self.now.numbers) }
+        requires shops { shops.now ≡ map (λ i. depot_shop_table F self.now.numbers i) (shop_numbers self.now.numbers) }
         requires count { length depot.now ≡ length self.now.numbers.parts - 1 }
         requires stocks { All (λ n. n ≤ 63) depot.now }
-        ensures { IfOk result (λ t. t ≡ rows_of F (depot_line_moments F self.now.numbers depot.now)) }
+        ensures { IfOk result (λ t. t ≡ depot_line_table F self.now.numbers depot.now) }
     {
         by_numbers::depot_line(self.alloc, &self.family, shops, depot)
     }
@@ -137,13 +136,12 @@ impl<const F: u32> Evaluator<F> {
         depot: &[u8],
         site: SiteId,
     ) -> Result<Vec<Table<F>>, NoMemory>
-        requires shops { shops.now ≡ map (λ i. rows_of F (depot_shop_moments F self.now.numbers i))
-            (shop_numbers self.now.numbers) }
+        requires shops { shops.now ≡ map (λ i. depot_shop_table F self.now.numbers i) (shop_numbers self.now.numbers) }
         requires count { length depot.now ≡ length self.now.numbers.parts - 1 }
         requires stocks { All (λ n. n ≤ 63) depot.now }
         requires site { site.0 < self.now.numbers.sites }
         ensures { IfOk result (λ v. v.items ≡ map
-            (λ i. rows_of F (base_shop_moments F self.now.numbers i site.0 (nth_stock depot.now i)))
+            (λ i. base_shop_table F self.now.numbers i site.0 (nth_stock depot.now i))
             (shop_numbers self.now.numbers)) }
     {
         by_numbers::base_shop_tables(self.alloc, &self.family, shops, depot, site)
@@ -153,7 +151,7 @@ impl<const F: u32> Evaluator<F> {
     /// depot has `own` of the line unit, with the table `line`, and the stocks `depot` of the shop units.
     /// [`Evaluator::put_backorders`] starts from it.
     pub fn own_part(&self, line: &Table<F>, own: u8, depot: &[u8], site: SiteId) -> OwnPart<F>
-        requires line { line.now ≡ rows_of F (depot_line_moments F self.now.numbers depot.now) }
+        requires line { line.now ≡ depot_line_table F self.now.numbers depot.now }
         requires own { own ≤ 63 }
         requires site { site.0 < self.now.numbers.sites }
         ensures { result ≡ own_part F self.now.numbers site.0 own depot.now }
@@ -178,8 +176,8 @@ impl<const F: u32> Evaluator<F> {
         requires part { part.now ≡ own_part F self.now.numbers site.0 own depot.now }
         requires own { own ≤ 63 }
         requires site { site.0 < self.now.numbers.sites }
-        requires shops { shops.now ≡ map (λ i. rows_of F
-            (base_shop_moments F self.now.numbers i site.0 (nth_stock depot.now i))) (shop_numbers self.now.numbers) }
+        requires shops { shops.now ≡ map (λ i. base_shop_table F self.now.numbers i site.0 (nth_stock depot.now i))
+            (shop_numbers self.now.numbers) }
         requires count { length base.now ≡ length self.now.numbers.parts - 1 }
         requires stocks { All (λ n. n ≤ 63) base.now }
         ensures ends { OnOk result
@@ -205,8 +203,8 @@ impl<const F: u32> Evaluator<F> {
         requires part { part.now ≡ own_part F self.now.numbers site.0 own depot.now }
         requires own { own ≤ 63 }
         requires site { site.0 < self.now.numbers.sites }
-        requires shops { shops.now ≡ map (λ i. rows_of F
-            (base_shop_moments F self.now.numbers i site.0 (nth_stock depot.now i))) (shop_numbers self.now.numbers) }
+        requires shops { shops.now ≡ map (λ i. base_shop_table F self.now.numbers i site.0 (nth_stock depot.now i))
+            (shop_numbers self.now.numbers) }
         requires count { length base.now ≡ length self.now.numbers.parts - 1 }
         requires stocks { All (λ n. n ≤ 63) base.now }
         ensures count { length lows.new ≡ length lows.old }

@@ -2,8 +2,7 @@
 
 ghost use Rattle.std.specs.Prelude.{◌≡◌, IfSome, is_some, map, position};
 ghost use Rattle.std.specs.List.{All};
-ghost use Rattle.family_tables.specs.Kept.{IsKept, is_among, is_key, moments_at};
-ghost use Rattle.family_tables.specs.Numbers.{rows_of};
+ghost use Rattle.family_tables.specs.Kept.{IsKept, is_among, is_key, table_at};
 
 use crate::numbers::Numbers;
 use moment_table::kinds::Table;
@@ -59,7 +58,7 @@ pub(crate) fn table_at<'a, const F: u32>(
 ) -> Option<&'a Table<F>>
     requires { All (IsKept F numbers.now) kept.now }
     ensures found { is_some result ≡ is_among (map (λ x. x.key) kept.now) place site.0 stocks.now }
-    ensures rows { IfSome result (λ t. t.now ≡ rows_of F (moments_at F numbers.now place site.0 stocks.now)) }
+    ensures table { IfSome result (λ t. t.now ≡ table_at F numbers.now place site.0 stocks.now) }
 {
     match place_of(kept, place, site, stocks) {
         Some(n) => Some(&kept[n].table),

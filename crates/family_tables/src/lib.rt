@@ -12,7 +12,7 @@ ghost use Rattle.fleet_model.specs.Fleet.{family};
 ghost use Rattle.fleet_model.specs.Laws.{IsBase};
 ghost use Rattle.family_eval.specs.Profile.{item_of};
 ghost use Rattle.family_eval.specs.Inputs.{IsLine};
-ghost use Rattle.family_tables.specs.Kept.{Evaluation, key_stocks, moments_of, rows_kept};
+ghost use Rattle.family_tables.specs.Kept.{Evaluation, key_stocks, moments_of, table_kept};
 ghost use Rattle.family_tables.specs.Numbers.{AgreeAt, base_backorders, family_stocks, numbers_of, rows_of};
 
 mod by_numbers;
@@ -45,5 +45,5 @@ pub fn kept_are_items()
     ensures { (f : ℕ) (c : CaseRows) (l : ℕ) (e : Evaluation f) (s : List ℕ) (o : ℕ) (d : List ℕ) (p i k : ℕ)
         → IsCase c → IsLine c l → e.numbers ≡ numbers_of f c l → family_stocks c l s 0 ≡ o ∷ d
         → position (λ q. q == p) (family c l) ≡ Some i → k < length c.sites → (i ≡ 0 → k ≡ 0)
-        → rows_kept f e p k (key_stocks i k d) ≡ rows_of f (moments_of (item_of f c s p k)) }
+        → (table_kept f e p k (key_stocks i k d)).rows ≡ rows_of f (moments_of (item_of f c s p k)) }
 {}

@@ -3,8 +3,8 @@
 ghost use Rattle.std.specs.Prelude.{◌≡◌, ◌+◌, ◌-◌, ◌<◌, ◌≤◌, ◌⊎◌, ◌∷◌, [], ◌++◌, true, IfOk, OnOk, OnErr, length, map, flat_map, get_or, ℕ};
 ghost use Rattle.std.specs.List.{All, range_with_len};
 ghost use Rattle.spares_input.specs.Stocks.{HasPair};
-ghost use Rattle.family_tables.specs.Kept.{Grows, Has, IsKept, IsKey, depot_stocks, is_among, key_at, key_moments, keys_of};
-ghost use Rattle.family_tables.specs.Numbers.{nth_stock, depot_feeds, depot_shop_row, feed_from, pair_at, rows_of};
+ghost use Rattle.family_tables.specs.Kept.{Grows, Has, IsKept, IsKey, depot_stocks, is_among, key_at, key_table, keys_of};
+ghost use Rattle.family_tables.specs.Numbers.{nth_stock, depot_feeds, depot_shop_row, feed_from, pair_at};
 
 use crate::keys::{Kept, Key, table_at};
 use crate::numbers::Numbers;
@@ -72,7 +72,7 @@ fn made<const F: u32>(
 ) -> Result<Table<F>, NoMemory>
     requires kept { All (IsKept F numbers.now) kept.now }
     requires key { IsKey numbers.now key.now }
-    ensures { IfOk result (λ t. t ≡ rows_of F (key_moments F numbers.now key.now)) }
+    ensures { IfOk result (λ t. t ≡ key_table F numbers.now key.now) }
 {
     let _valid = numbers.sites();
     let pair = numbers.pair(key.place, key.site.0);

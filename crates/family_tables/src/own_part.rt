@@ -3,7 +3,7 @@
 
 ghost use Rattle.std.specs.Prelude.{◌≡◌, ◌-◌, ◌*◌, ◌^◌, ◌<◌, ◌≤◌, OnOk, length, map, All};
 ghost use Rattle.fixed_interval.specs.Ends.{IsWithinLimit};
-ghost use Rattle.family_tables.specs.Numbers.{AreBaseBackorders, AreBaseLows, base_line_moments, base_shop_moments, depot_line_moments, nth_stock, own_part, rows_of, shop_numbers};
+ghost use Rattle.family_tables.specs.Numbers.{AreBaseBackorders, AreBaseLows, base_line_moments, base_shop_table, depot_line_table, nth_stock, own_part, shop_numbers};
 
 use crate::numbers::Numbers;
 use crate::pair_tables::feed_from;
@@ -36,7 +36,7 @@ pub(crate) fn own_part<const F: u32>(
     depot: &[u8],
     site: SiteId,
 ) -> OwnPart<F>
-    requires line { line.now ≡ rows_of F (depot_line_moments F numbers.now depot.now) }
+    requires line { line.now ≡ depot_line_table F numbers.now depot.now }
     requires own { own ≤ 63 }
     requires site { site.0 < numbers.now.sites }
     ensures { result ≡ own_part F numbers.now site.0 own depot.now }
@@ -64,8 +64,8 @@ fn line_moments<const F: u32>(
     requires part { part.now ≡ own_part F numbers.now site.0 own depot.now }
     requires own { own ≤ 63 }
     requires site { site.0 < numbers.now.sites }
-    requires tables { tables.now ≡ map (λ i. rows_of F
-        (base_shop_moments F numbers.now i site.0 (nth_stock depot.now i))) (shop_numbers numbers.now) }
+    requires tables { tables.now ≡ map (λ i. base_shop_table F numbers.now i site.0 (nth_stock depot.now i))
+        (shop_numbers numbers.now) }
     requires count { length base.now ≡ length numbers.now.parts - 1 }
     requires stocks { All (λ n. n ≤ 63) base.now }
     ensures { result ≡ base_line_moments F numbers.now site.0 own depot.now base.now }
@@ -101,8 +101,8 @@ pub(crate) fn put_line_backorders<const F: u32>(
     requires part { part.now ≡ own_part F numbers.now site.0 own depot.now }
     requires own { own ≤ 63 }
     requires site { site.0 < numbers.now.sites }
-    requires tables { tables.now ≡ map (λ i. rows_of F
-        (base_shop_moments F numbers.now i site.0 (nth_stock depot.now i))) (shop_numbers numbers.now) }
+    requires tables { tables.now ≡ map (λ i. base_shop_table F numbers.now i site.0 (nth_stock depot.now i))
+        (shop_numbers numbers.now) }
     requires count { length base.now ≡ length numbers.now.parts - 1 }
     requires stocks { All (λ n. n ≤ 63) base.now }
     ensures ends { OnOk result (AreBaseBackorders F numbers.now site.0 own depot.now base.now found.new.items) }
@@ -129,8 +129,8 @@ pub(crate) fn put_line_lows<const F: u32>(
     requires part { part.now ≡ own_part F numbers.now site.0 own depot.now }
     requires own { own ≤ 63 }
     requires site { site.0 < numbers.now.sites }
-    requires tables { tables.now ≡ map (λ i. rows_of F
-        (base_shop_moments F numbers.now i site.0 (nth_stock depot.now i))) (shop_numbers numbers.now) }
+    requires tables { tables.now ≡ map (λ i. base_shop_table F numbers.now i site.0 (nth_stock depot.now i))
+        (shop_numbers numbers.now) }
     requires count { length base.now ≡ length numbers.now.parts - 1 }
     requires stocks { All (λ n. n ≤ 63) base.now }
     ensures count { length lows.new ≡ length lows.old }

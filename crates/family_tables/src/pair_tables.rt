@@ -5,7 +5,7 @@ ghost use Rattle.moment_table.specs.Rows.{at_stock};
 ghost use Rattle.depot_pipeline.specs.Exact.{IsSmallFeed};
 ghost use Rattle.depot_pipeline.specs.Profile.{depot_shop_ends, depot_line_ends};
 ghost use Rattle.base_pipeline.specs.Profile.{base_shop_ends};
-ghost use Rattle.family_tables.specs.Numbers.{ArePairNumbers, feed_from, rows_of};
+ghost use Rattle.family_tables.specs.Numbers.{ArePairNumbers, feed_from, table_of};
 
 use crate::numbers::PairNumbers;
 use base_pipeline::base_shop;
@@ -19,7 +19,7 @@ use std::alloc::Global;
 /// The feed of a pair with this table to another pair at its stock, by a share.
 pub(crate) fn feed_from<const F: u32>(share: Iv<F>, table: &Table<F>, stock: u8) -> Feed<F>
     requires { stock ≤ 63 }
-    ensures { result ≡ feed_from F share.entry (at_stock table.now stock) }
+    ensures { result ≡ feed_from F share.entry (at_stock table.now.rows stock) }
 {
     Feed {
         share,
@@ -28,19 +28,19 @@ pub(crate) fn feed_from<const F: u32>(share: Iv<F>, table: &Table<F>, stock: u8)
     }
 }
 
-/// The table of a shop unit at the depot, with the rows up to its limit there.
+/// The table of a shop unit at the depot, stored up to its limit there.
 pub(crate) fn depot_shop_table<const F: u32>(
     alloc: Global,
     pair: PairNumbers<F>,
 ) -> Result<Table<F>, NoMemory>
     requires { ArePairNumbers F pair }
-    ensures { IfOk result (λ t. t ≡ rows_of F (depot_shop_ends F pair.entry.direct pair.entry.cap)) }
+    ensures { IfOk result (λ t. t ≡ table_of F (depot_shop_ends F pair.entry.direct pair.entry.cap) pair.entry.limit) }
 {
     let moments = depot_shop(pair.direct, pair.cap);
     table_to(alloc, moments.mean, moments.variance, pair.limit)
 }
 
-/// The table of a line unit at the depot, fed by its shop units there, with the rows up to its limit there.
+/// The table of a line unit at the depot, fed by its shop units there, stored up to its limit there.
 pub(crate) fn depot_line_table<const F: u32>(
     alloc: Global,
     pair: PairNumbers<F>,
@@ -49,13 +49,14 @@ pub(crate) fn depot_line_table<const F: u32>(
     requires pair { ArePairNumbers F pair }
     requires few { length feeds.now ≤ 8 }
     requires small { All (IsSmallFeed F) feeds.now }
-    ensures { IfOk result (λ t. t ≡ rows_of F (depot_line_ends F pair.entry.direct pair.entry.cap feeds.now)) }
+    ensures { IfOk result (λ t. t ≡ table_of F
+        (depot_line_ends F pair.entry.direct pair.entry.cap feeds.now) pair.entry.limit) }
 {
     let moments = depot_line(pair.direct, pair.cap, feeds);
     table_to(alloc, moments.mean, moments.variance, pair.limit)
 }
 
-/// The table of a shop unit at a base, fed by the depot, with the rows up to its limit there.
+/// The table of a shop unit at a base, fed by the depot, stored up to its limit there.
 pub(crate) fn base_shop_table<const F: u32>(
     alloc: Global,
     pair: PairNumbers<F>,
@@ -63,7 +64,8 @@ pub(crate) fn base_shop_table<const F: u32>(
 ) -> Result<Table<F>, NoMemory>
     requires pair { ArePairNumbers F pair }
     requires small { IsSmallFeed F depot }
-    ensures { IfOk result (λ t. t ≡ rows_of F (base_shop_ends F pair.entry.direct pair.entry.cap depot.entry)) }
+    ensures { IfOk result (λ t. t ≡ table_of F
+        (base_shop_ends F pair.entry.direct pair.entry.cap depot.entry) pair.entry.limit) }
 {
     let moments = base_shop(pair.direct, pair.cap, depot);
     table_to(alloc, moments.mean, moments.variance, pair.limit)

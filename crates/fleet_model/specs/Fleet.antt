@@ -1,11 +1,12 @@
 -- Availability, the weighted total of backorders, and allocations with their cost.
-use Rattle.std.specs.Prelude.{◌≡◌, ℕ, ◌*◌, ◌<◌, ◌≤◌, List, ◌∷◌, length, sum_by}
+use Rattle.std.specs.Prelude.{◌≡◌, ℕ, ◌*◌, ◌<◌, ◌≤◌, List, length, sum_by}
 use Rattle.exact_model.specs.Fraction.{Fraction, whole, ◌-ℚ◌, ◌*ℚ◌, ◌/ℚ◌}
+use Rattle.spares_input.specs.Frames as frames
 use Rattle.spares_input.specs.Frames.{part_at}
 use Rattle.spares_input.specs.Cases.{CaseRows, frame_rows, pair_count}
 use Rattle.spares_input.specs.Stocks.{limit_at}
 use Rattle.exact_model.specs.Sums.{sum_over, product_over, power}
-use Rattle.fleet_model.specs.Rows.{all_sites, bases, all_parts, line_units, shop_units, systems, per_system, weight, stock}
+use Rattle.fleet_model.specs.Rows.{all_sites, bases, all_parts, line_units, systems, per_system, weight, stock}
 use Rattle.fleet_model.specs.Pipelines.{ebo_0j}
 
 -- max(0, 1 - EBO(s_0j) / (N_j Z))^Z, the factor of the line unit l in the availability of base j
@@ -45,7 +46,7 @@ cost c s = sum_by (part_cost c s) (all_parts c)
 
 -- a family: the line unit l and its shop units
 abbrev pub family : CaseRows → ℕ → List ℕ
-family c l = l ∷ shop_units c l
+family c l = frames.family c.parts l
 
 -- the cost of the stocks of the family of the line unit l
 abbrev pub family_cost : CaseRows → List ℕ → ℕ → ℕ

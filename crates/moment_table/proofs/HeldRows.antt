@@ -89,6 +89,10 @@ bare_short f m v s row w a b e =
 
 -- ---- as they are read
 
+-- the rows u(0) .. u(n - 1) are n stored rows
+pub count_stored : (f : ℕ) (u : ℕ → Row f) (n tails : ℕ) (rows : Rows f) → HasRows f u n tails rows → length rows.held.items ≡ n
+count_stored f u n tails rows h = ap length h.held ∙ length_listed (λ k. held_row (u k)) n
+
 -- held rows that are those of a table are a beginning of it
 pub rows_held : (f : ℕ) (m v : Ends) (n tails : ℕ) (rows : Rows f) → CanTable f m v → HasRows f (at_stock (table_rows f m v)) n tails rows → IsHeld f m v rows
 rows_held f m v n tails rows can h = record {

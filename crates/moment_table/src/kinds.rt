@@ -1,6 +1,6 @@
 //! A table and its rows.
 
-ghost use Rattle.std.specs.Prelude.{◌≡◌, ◌≤◌};
+ghost use Rattle.std.specs.Prelude.{◌≡◌, ◌≤◌, length};
 ghost use Rattle.moment_table.specs.Held.{IsHeld};
 ghost use Rattle.moment_table.specs.Profile.{table_rows};
 ghost use Rattle.moment_table.specs.Rows.{at_stock};
@@ -24,8 +24,8 @@ pub struct Row<const F: u32> {
 
 /// The figures of a pipeline at the stocks 0 to 63.
 ///
-/// Contracts see it as the list of its rows. It stores the first rows, and its mean and variance, from which the others
-/// are computed.
+/// Contracts see its rows, and the number of first stocks whose backorders and variance are stored. Others are computed
+/// from the stored mean and variance.
 #[derive(Drop)]
 pub struct Table<const F: u32> {
     mean: Iv64<F>,
@@ -34,14 +34,14 @@ pub struct Table<const F: u32> {
 }
 
 impl<const F: u32> Model for Table<F> {
-    ghost use Rattle.std.specs.Prelude.{List};
-    ghost use Rattle.moment_table.specs.declared.kinds.Row.{Row};
+    ghost use Rattle.std.specs.Prelude.{length};
     ghost use Rattle.moment_table.specs.Held.{IsHeld};
     ghost use Rattle.moment_table.specs.Profile.{table_rows};
+    ghost use Rattle.moment_table.specs.Rows.{TableRows};
 
-    ghost Value = { List (Row F) };
+    ghost Value = { TableRows F };
 
-    ghost view = { λ t. table_rows F t.mean t.variance };
+    ghost view = { λ t. record { rows = table_rows F t.mean t.variance; stored = length t.rows.held.items } };
 
     // the stored rows are the first of the table
     ghost invariant = { λ t. IsHeld F t.mean t.variance t.rows };
@@ -51,7 +51,8 @@ impl<const F: u32> Table<F> {
     /// The table of this mean and variance, with these rows stored.
     pub(crate) fn of(mean: Iv<F>, variance: Iv<F>, rows: Rows<F>) -> Self
         requires { IsHeld F mean variance rows }
-        ensures { result ≡ table_rows F mean.entry variance.entry }
+        ensures rows { result.rows ≡ table_rows F mean.entry variance.entry }
+        ensures stored { result.stored ≡ length rows.entry.held.items }
     {
         Table {
             mean: Iv64::of(mean),
@@ -63,7 +64,7 @@ impl<const F: u32> Table<F> {
     /// Computes the row at the stock `s`, which isn't stored.
     fn row(&self, s: u8) -> Row<F>
         requires { s ≤ 63 }
-        ensures { result ≡ at_stock self.now s }
+        ensures { result ≡ at_stock self.now.rows s }
     {
         plain_row(self.mean.open(), self.variance.open(), s)
     }
@@ -71,7 +72,7 @@ impl<const F: u32> Table<F> {
     /// The expected backorders at the stock `s`, at most 63.
     pub fn ebo(&self, s: u8) -> Iv<F>
         requires { s ≤ 63 }
-        ensures { result ≡ (at_stock self.now s).ebo }
+        ensures { result ≡ (at_stock self.now.rows s).ebo }
     {
         if usize::from(s) < self.rows.held.len() {
             self.rows.held[usize::from(s)].ebo.open()
@@ -83,7 +84,7 @@ impl<const F: u32> Table<F> {
     /// The variance of the backorders at the stock `s`, at most 63.
     pub fn vbo(&self, s: u8) -> Iv<F>
         requires { s ≤ 63 }
-        ensures { result ≡ (at_stock self.now s).vbo }
+        ensures { result ≡ (at_stock self.now.rows s).vbo }
     {
         if usize::from(s) < self.rows.held.len() {
             self.rows.held[usize::from(s)].vbo.open()
@@ -95,7 +96,7 @@ impl<const F: u32> Table<F> {
     /// The probability of more than `s` units in the pipeline, with `s` at most 62.
     pub fn tail(&self, s: u8) -> Iv<F>
         requires { s ≤ 62 }
-        ensures { result ≡ (at_stock self.now s).tail }
+        ensures { result ≡ (at_stock self.now.rows s).tail }
     {
         if usize::from(s) < self.rows.tails.len() {
             self.rows.tails[usize::from(s)].open()

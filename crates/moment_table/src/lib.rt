@@ -51,10 +51,10 @@ pub fn table<const F: u32>(
     variance: Iv<F>,
 ) -> Result<Table<F>, NoMemory>
     requires { CanTable F mean variance }
-    ensures ends { IfOk result (λ t. t ≡ table_rows F mean.entry variance.entry) }
-    ensures encloses { IfOk result (λ t. EncloseRows F mean.entry variance.entry t) }
-    ensures stocks { IfOk result (λ t. length t ≡ 64) }
-    ensures most { IfOk result (λ t. (s : ℕ) → s < 64 → IsBelow F mean.entry variance.entry (at_stock t s)) }
+    ensures ends { IfOk result (λ t. t ≡ record { rows = table_rows F mean.entry variance.entry; stored = 64 }) }
+    ensures encloses { IfOk result (λ t. EncloseRows F mean.entry variance.entry t.rows) }
+    ensures stocks { IfOk result (λ t. length t.rows ≡ 64) }
+    ensures most { IfOk result (λ t. (s : ℕ) → s < 64 → IsBelow F mean.entry variance.entry (at_stock t.rows s)) }
 {
     let rows = rows_of(alloc, mean, variance, LAST, LAST)?;
     Ok(Table::of(mean, variance, rows))
@@ -70,10 +70,10 @@ pub fn table_to<const F: u32>(
 ) -> Result<Table<F>, NoMemory>
     requires table { CanTable F mean variance }
     requires limit { limit ≤ 63 }
-    ensures ends { IfOk result (λ t. t ≡ table_rows F mean.entry variance.entry) }
-    ensures encloses { IfOk result (λ t. EncloseRows F mean.entry variance.entry t) }
-    ensures stocks { IfOk result (λ t. length t ≡ 64) }
-    ensures most { IfOk result (λ t. (s : ℕ) → s < 64 → IsBelow F mean.entry variance.entry (at_stock t s)) }
+    ensures ends { IfOk result (λ t. t ≡ record { rows = table_rows F mean.entry variance.entry; stored = limit + 1 }) }
+    ensures encloses { IfOk result (λ t. EncloseRows F mean.entry variance.entry t.rows) }
+    ensures stocks { IfOk result (λ t. length t.rows ≡ 64) }
+    ensures most { IfOk result (λ t. (s : ℕ) → s < 64 → IsBelow F mean.entry variance.entry (at_stock t.rows s)) }
 {
     let rows = rows_of(alloc, mean, variance, u32::from(limit), 0)?;
     Ok(Table::of(mean, variance, rows))

@@ -9,3 +9,4 @@ pub mod CaseFacts
 pub mod StockFacts
 pub mod Standing
 pub mod Ranges
+pub mod FamilyFacts

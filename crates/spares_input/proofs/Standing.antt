@@ -1,13 +1,14 @@
 -- A frame breaks no rule, nor do the rates of a case; and shop units are told by the places of their line units.
 use Rattle.std.proofs.Common.{◌≡◌, ◌==◌, ◌⊎◌, inl, inr, ℕ, zero, suc, ◌+◌, ◌*◌, ◌/◌, ◌%◌, ◌<◌, ◌≤◌, List, [], ◌∷◌, take, length, get_or, map, filter, count_by, Bool, true, false, cond, Option, Some, None, Ok, unwrap_or, refl, sym, ap, subst, ◌∙◌, arith, bytes_eq}
 use Rattle.std.specs.Prelude.{is_none, is_some, not}
-use Rattle.std.specs.List.{AllByRecursion, find, list_any, IsDistinct, take-map}
+use Rattle.std.specs.List.{AllByRecursion, find, list_any, IsDistinct, position_or_len, take-map}
 use Rattle.std.specs.Option.{option_and_then, option_map_or}
 use Rattle.std.proofs.lemmas.Bool.{false≢true, false_from_ne_true, lt-leb, ne_eqb, eq-eqb}
 use Rattle.std.proofs.lemmas.List.{get_or-map, get_or-take, length-map, length-take}
 use Rattle.std.proofs.lemmas.List.Folds.{list_any_at}
 use Rattle.std.proofs.lemmas.List.FromFn.{fill_by_all}
-use Rattle.std.proofs.lemmas.List.Sums.{count_by_more_yes, sum_by-take-le}
+use Rattle.std.proofs.lemmas.Grind.{common_steps}
+use Rattle.std.proofs.lemmas.List.Sums.{count_by_more_yes, fails_before_first, sum_by-take-le}
 use Rattle.std.proofs.lemmas.Nat.{div-add-mod', div_below, mod_below}
 use Rattle.std.proofs.lemmas.Slice.Eq.{bytes_eq-Decides}
 use Rattle.spares_input.specs.First.{first}
@@ -177,6 +178,20 @@ no_shop_at line (Some name) h = absurd (false≢true h)
 -- a line unit is no shop unit
 pub no_shop : (parts : List PartRow) (p l : ℕ) → is_line (part_at parts p) ≡ true → is_shop_of (part_at parts l) (part_at parts p) ≡ false
 no_shop parts p l h = no_shop_at (part_at parts l) (part_at parts p).parent h
+
+-- a name that has no place is that of no part
+unnamed : (parts : List PartRow) (l : ℕ) (o : Option (List ℕ)) → l < length parts → option_and_then (λ name. place_of name (part_names parts)) o ≡ None
+    → option_map_or (bytes_eq (part_at parts l).name) o false ≡ false
+unnamed parts l None within h = refl
+unnamed parts l (Some name) within h =
+    let all : l < length (part_names parts) = omega (arith, within, length-map parts (λ (x : PartRow). x.name)) in
+    let past : length (part_names parts) ≤ position_or_len (bytes_eq name) (part_names parts) = grind (arith, common_steps) in
+    let other = fails_before_first (bytes_eq name) (part_names parts) l [] (omega (arith, all, past)) in
+    flip_false name (part_at parts l).name (ap (bytes_eq name) (sym (get_or-map (λ (x : PartRow). x.name) parts l no_part [] within)) ∙ other)
+
+-- a part without a place for its line unit is no shop unit
+pub no_shop_unplaced : (parts : List PartRow) (p l : ℕ) → l < length parts → line_of parts p ≡ None → is_shop_of (part_at parts l) (part_at parts p) ≡ false
+no_shop_unplaced parts p l within h = unnamed parts l (part_at parts p).parent within h
 
 -- ---- the rates stand in the places of their pairs
 

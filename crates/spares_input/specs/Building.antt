@@ -1,10 +1,10 @@
 -- Facts about the rows between the steps of a build. No promise of the crate rests on these words.
-use Rattle.std.specs.Prelude.{◌≡◌, ℕ, ◌<◌, Bool, ◌&&◌, List, length, slice_get, Option, Some, None, is_some, Result, Ok, Err, if◌then◌else◌, position, bytes_eq, get_or, ⊤}
+use Rattle.std.specs.Prelude.{◌≡◌, ℕ, ◌<◌, Bool, ◌&&◌, List, [], ◌∷◌, length, map, slice_get, Option, Some, None, is_some, Result, Ok, Err, if◌then◌else◌, position, bytes_eq, get_or, ⊤}
 use Rattle.spares_io.specs.declared.stop.Stop.{Stop}
 use Rattle.spares_io.specs.declared.stop.Stop.TheVariants as stop
 use Rattle.std.specs.List.{IsDistinct}
 use Rattle.std.specs.Option.{option_flatten, option_map}
-use Rattle.spares_input.specs.Frames.{site_names, part_names, line_of, frame_fault, is_depot}
+use Rattle.spares_input.specs.Frames.{site_names, part_names, line_of, frame_fault, family, shops_below, is_depot}
 use Rattle.spares_input.specs.Pairs.{row_at, part_of_place, site_of_place}
 use Rattle.spares_input.specs.declared.rows.SiteRow.{SiteRow}
 use Rattle.spares_input.specs.declared.rows.PartRow.{PartRow}
@@ -41,6 +41,20 @@ pub record IsNumbered (sites : List SiteRow) (parts : List PartRow) (sites_by_na
 pub record AreParents (parts : List PartRow) (parents : List (Option PartId)) : Type 0 where
   pub whole : length parents ≡ length parts
   pub each : (p : ℕ) → p < length parts → option_map (λ line. line.0) (get_or parents p None) ≡ line_of parts p
+
+-- the numbers of these parts
+abbrev pub ids : List PartId → List ℕ
+ids parts = map (λ (p : PartId). p.0) parts
+
+-- list l is the family of part l
+pub record AreFamilies (parts : List PartRow) (families : List (List ℕ)) : Type 0 where
+  pub whole : length families ≡ length parts
+  pub each : (l : ℕ) → l < length parts → get_or families l [] ≡ family parts l
+
+-- list l has l and its shop units among the first n parts
+pub record AreFamiliesBelow (parts : List PartRow) (n : ℕ) (families : List (List ℕ)) : Type 0 where
+  pub whole : length families ≡ length parts
+  pub each : (l : ℕ) → l < length parts → get_or families l [] ≡ l ∷ shops_below parts l n
 
 -- each of the first places has its first row, if any
 pub record ArePlaced {A : Type 0} (place : A → ℕ) (count : ℕ) (rows : List A) (slots : List (Option A)) : Type 0 where

@@ -106,9 +106,17 @@ frame_of sites parts = unless (frame_fault sites parts) (record { sites = sites_
 abbrev pub has_line : List PartRow → ℕ → Bool
 has_line parts p = option_map_or (λ l. is_line (part_at parts l)) (line_of parts p) false
 
+-- the shop units of line unit l among the first n parts, in part order
+abbrev pub shops_below : List PartRow → ℕ → ℕ → List ℕ
+shops_below parts l n = filter (λ p. is_shop_of (part_at parts l) (part_at parts p)) (range_with_len 0 n)
+
 -- the shop units of line unit l, in part order
 abbrev pub shop_units : List PartRow → ℕ → List ℕ
-shop_units parts l = filter (λ p. is_shop_of (part_at parts l) (part_at parts p)) (range_with_len 0 (length parts))
+shop_units parts l = shops_below parts l (length parts)
+
+-- the family of line unit l: l, and then its shop units. A shop unit has none: its family is itself alone.
+abbrev pub family : List PartRow → ℕ → List ℕ
+family parts l = l ∷ shop_units parts l
 
 -- the invariant of every frame
 pub record IsFrame (f : FrameRows) : Type 0 where

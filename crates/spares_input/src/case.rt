@@ -5,7 +5,7 @@ ghost use Rattle.std.specs.Option.{option_map};
 ghost use Rattle.spares_io.specs.Answers.{Gives};
 ghost use Rattle.spares_input.specs.First.{first};
 ghost use Rattle.spares_input.specs.Rows.{is_line, no_rate, IsSiteRow, IsPartRow, IsRateRow};
-ghost use Rattle.spares_input.specs.Frames.{site_at, part_at, line_of, is_shop_of};
+ghost use Rattle.spares_input.specs.Frames.{site_at, part_at, line_of, family, is_shop_of};
 ghost use Rattle.spares_input.specs.Pairs.{rows_in_order};
 ghost use Rattle.spares_input.specs.Cases.{frame_rows, rate_at, rate_place, double_rate, rates_fault, case_of, without_frame, IsRateOf, IsCase};
 ghost use Rattle.spares_input.specs.Edits.{with_rate};
@@ -110,6 +110,14 @@ impl Case {
         ensures none { is_none result ≡ is_line (part_at self.now.parts part.0) }
     {
         self.frame.parent(part)
+    }
+
+    /// The family of a line unit: the line unit, and then its shop units in part order. Of a shop unit, it alone.
+    pub fn family(&self, line: PartId) -> &[PartId]
+        requires { line.0 < length self.now.parts }
+        ensures { map (λ p. p.0) result.now ≡ family self.now.parts line.0 }
+    {
+        self.frame.family(line)
     }
 
     /// Whether a part is a shop unit of this line unit.

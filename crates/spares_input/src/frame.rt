@@ -1,6 +1,6 @@
 //! The frame of a case: its sites and its parts.
 
-ghost use Rattle.std.specs.Prelude.{◌≡◌, ◌==◌, ◌+◌, ◌≤◌, ◌<◌, ◌∷◌, [], ◌++◌, true, not, length, position, count_by, All, Some, None, IfSome, IfOk, OnOk, MatchResult, is_none, vec_len};
+ghost use Rattle.std.specs.Prelude.{◌≡◌, ◌==◌, ◌+◌, ◌≤◌, ◌<◌, ◌∷◌, [], ◌++◌, true, not, length, map, position, count_by, All, Some, None, IfSome, IfOk, OnOk, MatchResult, is_none, vec_len};
 ghost use Rattle.std.specs.List.{list_any};
 ghost use Rattle.std.specs.Option.{option_map, option_and_then};
 ghost use Rattle.indexmap.specs.IndexSet.{index_set_len};
@@ -8,10 +8,11 @@ ghost use Rattle.indexmap.specs.IndexMap.{move_index};
 ghost use Rattle.spares_io.specs.Answers.{Gives};
 ghost use Rattle.spares_input.specs.First.{first};
 ghost use Rattle.spares_input.specs.Rows.{is_line, IsSiteRow, IsPartRow};
-ghost use Rattle.spares_input.specs.Frames.{site_at, part_at, site_names, part_names, is_among, place_of, line_of, is_shop_of, is_depot, is_base, site_fault, kinds_fault, double_part, shop_fault, parent_fault, frame_fault, frame_of, IsFrame};
+ghost use Rattle.spares_input.specs.Frames.{site_at, part_at, site_names, part_names, is_among, place_of, line_of, is_shop_of, is_depot, is_base, site_fault, kinds_fault, double_part, shop_fault, parent_fault, frame_fault, frame_of, family, IsFrame};
 ghost use Rattle.spares_input.specs.Stocks.{limit_at};
 ghost use Rattle.spares_input.specs.Building.{AreParents, IsNumbered, StopsAt, site_rule};
 
+use crate::families::families_of;
 use crate::fault::CaseFault;
 use crate::name::Name;
 use crate::rows::{PartId, PartRow, SiteId, SiteRow};
@@ -26,14 +27,15 @@ pub struct Frame {
     sites: Vec<SiteRow>,
     parts: Vec<PartRow>,
     parents: Vec<Option<PartId>>,
+    families: Vec<Vec<PartId>>,
     site_index: IndexSet<Name>,
     part_index: IndexSet<Name>,
 }
 
 impl Model for Frame {
-    ghost use Rattle.std.specs.Prelude.{◌≡◌};
+    ghost use Rattle.std.specs.Prelude.{◌≡◌, map};
     ghost use Rattle.spares_input.specs.Frames.{FrameRows, IsFrame, site_names, part_names};
-    ghost use Rattle.spares_input.specs.Building.{AreParents};
+    ghost use Rattle.spares_input.specs.Building.{AreParents, AreFamilies, ids};
 
     ghost Value = { FrameRows };
 
@@ -41,7 +43,8 @@ impl Model for Frame {
 
     ghost invariant = { λ f. IsFrame (record { sites = f.sites.items; parts = f.parts.items })
         × (f.site_index.keys ≡ site_names f.sites.items) × (f.part_index.keys ≡ part_names f.parts.items)
-        × AreParents f.parts.items f.parents.items };
+        × AreParents f.parts.items f.parents.items
+        × AreFamilies f.parts.items (map (λ v. ids v.items) f.families.items) };
 }
 
 impl Frame {
@@ -64,6 +67,7 @@ impl Frame {
             parts.as_slice(),
         )?;
         let parents = parents_of(alloc, &part_index, parts.as_slice())?;
+        let families = families_of(alloc, parts.as_slice(), parents.as_slice())?;
         let mut sites = sites;
         let Ok(()) = put_first(&mut sites, depot) else {
             return Err(Stop::NoMemory);
@@ -73,6 +77,7 @@ impl Frame {
             sites,
             parts,
             parents,
+            families,
             site_index,
             part_index,
         })
@@ -130,6 +135,14 @@ impl Frame {
         ensures none { is_none result ≡ is_line (part_at self.now.parts part.0) }
     {
         self.parents[part.0 as usize]
+    }
+
+    /// The family of a line unit: the line unit, and then its shop units in part order. Of a shop unit, it alone.
+    pub fn family(&self, line: PartId) -> &[PartId]
+        requires { line.0 < length self.now.parts }
+        ensures { map (λ p. p.0) result.now ≡ family self.now.parts line.0 }
+    {
+        self.families[line.0 as usize].as_slice()
     }
 
     /// Whether a part is a shop unit of this line unit.

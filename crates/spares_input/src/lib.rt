@@ -2,6 +2,7 @@
 #![tactic(auto)]
 
 mod case;
+mod families;
 mod fault;
 mod frame;
 mod laws;

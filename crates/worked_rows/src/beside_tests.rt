@@ -1,4 +1,4 @@
-use crate::helpers::{ends, printed, refused, shelf_of};
+use crate::helpers::{ends, printed, refused, shelf_of_tables};
 use std::test::*;
 
 /// One line unit at the depot and one base: its sites, parts and rates.
@@ -37,7 +37,7 @@ fn compares_with_poisson_pipelines(rt: HostRuntime) -> Result<(), Fail> {
     let alloc = rt.alloc();
     let line = "compare --sites sites --parts parts --rates rates --stocks stocks";
     for (tables, report) in &COMPARED {
-        let mut shelf = shelf_of(alloc, *tables, &[])?;
+        let mut shelf = shelf_of_tables(alloc, *tables, &[])?;
         ends(&rt, alloc, line, &mut shelf, &[], printed(report))?;
     }
     Ok(())
@@ -69,7 +69,7 @@ fn plans_edits_in_turn(rt: HostRuntime) -> Result<(), Fail> {
     let alloc = rt.alloc();
     let line = "session --sites sites --parts parts --rates rates --edits stocks";
     for (rates, edits, report) in &EDITED {
-        let mut shelf = shelf_of(alloc, [SITES, PARTS, *rates, *edits], &[])?;
+        let mut shelf = shelf_of_tables(alloc, [SITES, PARTS, *rates, *edits], &[])?;
         ends(&rt, alloc, line, &mut shelf, &[], printed(report))?;
     }
     Ok(())
@@ -97,7 +97,7 @@ fn refuses_edits(rt: HostRuntime) -> Result<(), Fail> {
     for (before, count, edits, fault) in &REFUSED {
         let mut all = before.repeat(alloc, *count)?;
         all.push_str(edits)?;
-        let mut shelf = shelf_of(alloc, [SITES, PARTS, RATES, all.as_str()], &[])?;
+        let mut shelf = shelf_of_tables(alloc, [SITES, PARTS, RATES, all.as_str()], &[])?;
         ends(&rt, alloc, line, &mut shelf, &[], refused(3, fault))?;
     }
     Ok(())

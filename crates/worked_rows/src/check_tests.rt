@@ -27,270 +27,195 @@ const HELD: &str =
 /// More lines than each of them has.
 const ALL: usize = 100;
 
-/// No change.
-const SAME: (usize, &str) = (0, "");
-
-/// A certificate, replacements of its lines by number, and the report.
-const ACCEPTED: [(&str, [(usize, &str); 3], &str); 13] = [
+/// A certificate, new lines with their numbers and a bar between two, and the report.
+const ACCEPTED: [(&str, &str, &str); 13] = [
     (
         PLAIN,
-        [SAME, SAME, SAME],
+        "",
         "accepted,1\nbudget,0\ncost,0\nupper,3.000000\nbound,3.000000\n",
     ),
     (
         COVERED,
-        [SAME, SAME, SAME],
+        "",
         "accepted,2\nbudget,0\ncost,0\nupper,3.000000\nbound,3.000000\n",
     ),
     (
         PLAIN,
-        [(18, "bound,0"), SAME, SAME],
+        "18=bound,0",
         "accepted,1\nbudget,0\ncost,0\nupper,3.000000\nbound,0.000000\n",
     ),
     (
         PLAIN,
-        [(17, "upper,844424930131969"), SAME, SAME],
+        "17=upper,844424930131969",
         "accepted,1\nbudget,0\ncost,0\nupper,3.000001\nbound,3.000000\n",
     ),
     (
         PLAIN,
-        [(11, "price,0,1"), (13, "0"), (18, "bound,0")],
+        "11=price,0,1|13=0|18=bound,0",
         "accepted,1\nbudget,0\ncost,0\nupper,3.000000\nbound,0.000000\n",
     ),
     (
         PLAIN,
-        [
-            (11, "price,281474976710656,1"),
-            (13, "844424930131968"),
-            SAME,
-        ],
+        "11=price,281474976710656,1|13=844424930131968",
         "accepted,1\nbudget,0\ncost,0\nupper,3.000000\nbound,3.000000\n",
     ),
     (
         LOST,
-        [SAME, SAME, SAME],
+        "",
         "accepted,2\nbudget,0\ncost,0\nupper,3.452185\nbound,3.452184\n",
     ),
     (
         LOST,
-        [(22, "bound,0"), SAME, SAME],
+        "22=bound,0",
         "accepted,2\nbudget,0\ncost,0\nupper,3.452185\nbound,0.000000\n",
     ),
     (
         LOST,
-        [(6, "parts,1,weights"), (7, "L,,100,1,2,3,2"), SAME],
+        "6=parts,1,weights|7=L,,100,1,2,3,2",
         "accepted,2\nbudget,0\ncost,0\nupper,3.452185\nbound,3.452184\n",
     ),
     (
         LOST,
-        [(16, "cover,3"), (17, "split,1,3\nwhole\ncost"), SAME],
+        "16=cover,3|17=split,1,3\nwhole\ncost",
         "accepted,2\nbudget,0\ncost,0\nupper,3.452185\nbound,3.452184\n",
     ),
     (
         HELD,
-        [SAME, SAME, SAME],
+        "",
         "accepted,2\nbudget,0\ncost,0\non-hand,100\nupper,2.049788\nbound,2.049787\n",
     ),
     (
         HELD,
-        [(23, "bound,0"), SAME, SAME],
+        "23=bound,0",
         "accepted,2\nbudget,0\ncost,0\non-hand,100\nupper,2.049788\nbound,0.000000\n",
     ),
     (
         HELD,
-        [(17, "cover,3"), (18, "split,1,2\nwhole\nwhole"), SAME],
+        "17=cover,3|18=split,1,2\nwhole\nwhole",
         "accepted,2\nbudget,0\ncost,0\non-hand,100\nupper,2.049788\nbound,2.049787\n",
     ),
 ];
 
 /// The same, and the line of the refusal.
-const REFUSED: [(&str, [(usize, &str); 3], &str); 40] = [
+const REFUSED: [(&str, &str, &str); 40] = [
     (
         PLAIN,
-        [(13, "84442493013196801"), SAME, SAME],
+        "13=84442493013196801",
         "fault,rejected,floor-too-high,0,84442493013196801,84442493013196800\n",
     ),
     (
         PLAIN,
-        [(17, "upper,844424930131967"), SAME, SAME],
+        "17=upper,844424930131967",
         "fault,rejected,upper-too-low,844424930131967,844424930131968\n",
     ),
     (
         PLAIN,
-        [(18, "bound,844424930131969"), SAME, SAME],
+        "18=bound,844424930131969",
         "fault,rejected,bound-too-high,844424930131969,844424930131968\n",
     ),
+    (PLAIN, "16=1", "fault,rejected,over-budget,100\n"),
+    (PLAIN, "16=4", "fault,rejected,stocks-over-limit,L,B,4\n"),
+    (PLAIN, "4=B,base,12,0.00", "fault,rejected,rate\n"),
     (
         PLAIN,
-        [(16, "1"), SAME, SAME],
-        "fault,rejected,over-budget,100\n",
-    ),
-    (
-        PLAIN,
-        [(16, "4"), SAME, SAME],
-        "fault,rejected,stocks-over-limit,L,B,4\n",
-    ),
-    (
-        PLAIN,
-        [(4, "B,base,12,0.00"), SAME, SAME],
-        "fault,rejected,rate\n",
-    ),
-    (
-        PLAIN,
-        [
-            (4, "D,base,12,10.00"),
-            (9, "L,D,36.5000,0.0000,,0.00"),
-            SAME,
-        ],
+        "4=D,base,12,10.00|9=L,D,36.5000,0.0000,,0.00",
         "fault,bad-case\n",
     ),
-    (
-        PLAIN,
-        [(1, "spares-certificate,3"), SAME, SAME],
-        "fault,bad-line,1\n",
-    ),
-    (
-        PLAIN,
-        [(1, "spares-certificate,1\r"), SAME, SAME],
-        "fault,bad-line,1\n",
-    ),
-    (
-        PLAIN,
-        [(11, "price,1,0"), SAME, SAME],
-        "fault,bad-line,11\n",
-    ),
-    (PLAIN, [(16, "00"), SAME, SAME], "fault,bad-line,16\n"),
-    (PLAIN, [(19, "end\nx"), SAME, SAME], "fault,bad-line,20\n"),
+    (PLAIN, "1=spares-certificate,3", "fault,bad-line,1\n"),
+    (PLAIN, "1=spares-certificate,1\r", "fault,bad-line,1\n"),
+    (PLAIN, "11=price,1,0", "fault,bad-line,11\n"),
+    (PLAIN, "16=00", "fault,bad-line,16\n"),
+    (PLAIN, "19=end\nx", "fault,bad-line,20\n"),
     (
         COVERED,
-        [(17, "split,1,2"), SAME, SAME],
+        "17=split,1,2",
         "fault,rejected,leaf-too-low,0,1,84442493013196800,56294995342131200\n",
     ),
+    (COVERED, "17=split,1,4", "fault,rejected,cover-gap,0\n"),
     (
         COVERED,
-        [(17, "split,1,4"), SAME, SAME],
-        "fault,rejected,cover-gap,0\n",
-    ),
-    (
-        COVERED,
-        [(16, "cover,2"), (18, "whole\nstocks,2"), (19, "0")],
+        "16=cover,2|18=whole\nstocks,2|19=0",
         "fault,bad-line,21\n",
     ),
-    (
-        COVERED,
-        [(17, "split,144,3"), SAME, SAME],
-        "fault,bad-line,17\n",
-    ),
+    (COVERED, "17=split,144,3", "fault,bad-line,17\n"),
     (
         LOST,
-        [(2, "objective,backorders"), SAME, SAME],
+        "2=objective,backorders",
         "fault,rejected,leaf-too-low,0,0,97170365572114800,84442493013196800\n",
     ),
     (
         LOST,
-        [(5, "B,base,2,10.00"), SAME, SAME],
+        "5=B,base,2,10.00",
         "fault,rejected,upper-too-low,971703655724172,1170621519031300\n",
     ),
     (
         LOST,
-        [(14, "97170365572114801"), SAME, SAME],
+        "14=97170365572114801",
         "fault,rejected,leaf-too-low,0,0,97170365572114801,97170365572114800\n",
     ),
     (
         LOST,
-        [(16, "cover,3"), (17, "split,1,2\nwhole\ncost"), SAME],
+        "16=cover,3|17=split,1,2\nwhole\ncost",
         "fault,rejected,leaf-too-low,0,1,97170365572114800,67803521146051200\n",
     ),
     (
         LOST,
-        [(21, "upper,971703655724171"), SAME, SAME],
+        "21=upper,971703655724171",
         "fault,rejected,upper-too-low,971703655724171,971703655724172\n",
     ),
     (
         LOST,
-        [(22, "bound,971703655721149"), SAME, SAME],
+        "22=bound,971703655721149",
         "fault,rejected,bound-too-high,971703655721149,971703655721148\n",
     ),
-    (
-        LOST,
-        [(1, "spares-certificate,1"), SAME, SAME],
-        "fault,bad-line,2\n",
-    ),
+    (LOST, "1=spares-certificate,1", "fault,bad-line,2\n"),
+    (HELD, "21=0", "fault,rejected,stocks-below-held,L,B,0\n"),
+    (HELD, "26=1", "fault,rejected,stocks-below-held,L,D,0\n"),
     (
         HELD,
-        [(21, "0"), SAME, SAME],
-        "fault,rejected,stocks-below-held,L,B,0\n",
-    ),
-    (
-        HELD,
-        [(26, "1"), SAME, SAME],
-        "fault,rejected,stocks-below-held,L,D,0\n",
-    ),
-    (
-        HELD,
-        [(20, "3"), (21, "0"), SAME],
+        "20=3|21=0",
         "fault,rejected,stocks-over-limit,L,D,3\n",
     ),
+    (HELD, "21=2", "fault,rejected,over-budget,100\n"),
+    (HELD, "27=0", "fault,rejected,over-budget,100\n"),
     (
         HELD,
-        [(21, "2"), SAME, SAME],
-        "fault,rejected,over-budget,100\n",
-    ),
-    (
-        HELD,
-        [(27, "0"), SAME, SAME],
-        "fault,rejected,over-budget,100\n",
-    ),
-    (
-        HELD,
-        [(15, "57696376733064701"), SAME, SAME],
+        "15=57696376733064701",
         "fault,rejected,leaf-too-low,0,0,57696376733064701,57696376733064700\n",
     ),
     (
         HELD,
-        [(15, "57696376733064701"), (21, "0"), SAME],
+        "15=57696376733064701|21=0",
         "fault,rejected,stocks-below-held,L,B,0\n",
     ),
     (
         HELD,
-        [(17, "cover,3"), (18, "split,1,1\nwhole\nwhole"), SAME],
+        "17=cover,3|18=split,1,1\nwhole\nwhole",
         "fault,rejected,cover-gap,0\n",
     ),
     (
         HELD,
-        [(22, "upper,576963767330648"), SAME, SAME],
+        "22=upper,576963767330648",
         "fault,rejected,upper-too-low,576963767330648,576963767330649\n",
     ),
     (
         HELD,
-        [(23, "bound,576963767330648"), SAME, SAME],
+        "23=bound,576963767330648",
         "fault,rejected,bound-too-high,576963767330648,576963767330647\n",
     ),
     (
         HELD,
-        [(3, "objective,log-availability"), SAME, SAME],
+        "3=objective,log-availability",
         "fault,rejected,upper-too-low,576963767330649,632686049993988\n",
     ),
+    (HELD, "1=spares-held,2", "fault,bad-line,1\n"),
+    (HELD, "2=spares-certificate,1", "fault,bad-line,2\n"),
+    (HELD, "25=held,1", "fault,bad-line,25\n"),
+    (HELD, "26=3", "fault,bad-line,26\n"),
+    (HELD, "28=end\nx", "fault,bad-line,29\n"),
     (
         HELD,
-        [(1, "spares-held,2"), SAME, SAME],
-        "fault,bad-line,1\n",
-    ),
-    (
-        HELD,
-        [(2, "spares-certificate,1"), SAME, SAME],
-        "fault,bad-line,2\n",
-    ),
-    (HELD, [(25, "held,1"), SAME, SAME], "fault,bad-line,25\n"),
-    (HELD, [(26, "3"), SAME, SAME], "fault,bad-line,26\n"),
-    (HELD, [(28, "end\nx"), SAME, SAME], "fault,bad-line,29\n"),
-    (
-        HELD,
-        [
-            (6, "D,base,12,10.00"),
-            (11, "L,D,36.5000,0.0000,,0.00"),
-            (26, "x"),
-        ],
+        "6=D,base,12,10.00|11=L,D,36.5000,0.0000,,0.00|26=x",
         "fault,bad-case\n",
     ),
 ];
@@ -319,11 +244,13 @@ const CUT: [(usize, &str); 19] = [
 ];
 
 /// The line of this number after the changes.
-fn changed<'a>(number: usize, line: &'a str, changes: &[(usize, &'a str)]) -> &'a str {
+fn changed<'a>(number: usize, line: &'a str, changes: &'a str) -> &'a str {
     let mut now = line;
-    for (at, new) in changes {
-        if *at == number {
-            now = *new;
+    for change in changes.split('|') {
+        if let Some((at, new)) = change.split_once('=')
+            && at.parse::<usize>() == Ok(number)
+        {
+            now = new;
         }
     }
     now
@@ -334,14 +261,14 @@ fn bytes_of<'a>(
     alloc: Global,
     text: &'a str,
     count: usize,
-    changes: &[(usize, &'a str)],
+    changes: &'a str,
 ) -> Result<Vec<u8>, NoMemory> {
     let mut bytes = Vec::new(alloc);
     let mut number: usize = 0;
     for line in text.split('\n') {
         number = number.saturating_add(1);
         if number <= count {
-            bytes.extend_from_slice(changed(number, line, &*changes).as_bytes())?;
+            bytes.extend_from_slice(changed(number, line, changes).as_bytes())?;
             bytes.push(b'\n')?;
         }
     }
@@ -353,7 +280,7 @@ fn certified(
     alloc: Global,
     text: &str,
     count: usize,
-    changes: &[(usize, &str)],
+    changes: &str,
     fails: &[u32],
 ) -> Result<MemShelf, NoMemory> {
     let bytes = bytes_of(alloc, text, count, changes)?;
@@ -361,11 +288,7 @@ fn certified(
 }
 
 /// Certificates are accepted.
-fn accepts(
-    rt: &impl Abort,
-    alloc: Global,
-    rows: &[(&str, [(usize, &str); 3], &str)],
-) -> Result<(), Fail> {
+fn accepts(rt: &impl Abort, alloc: Global, rows: &[(&str, &str, &str)]) -> Result<(), Fail> {
     for (text, changes, report) in rows {
         let mut shelf = certified(alloc, text, ALL, changes, &[])?;
         ends(rt, alloc, CHECK, &mut shelf, &[], printed(report))?;
@@ -374,11 +297,7 @@ fn accepts(
 }
 
 /// Certificates are refused.
-fn refuses(
-    rt: &impl Abort,
-    alloc: Global,
-    rows: &[(&str, [(usize, &str); 3], &str)],
-) -> Result<(), Fail> {
+fn refuses(rt: &impl Abort, alloc: Global, rows: &[(&str, &str, &str)]) -> Result<(), Fail> {
     for (text, changes, line) in rows {
         let mut shelf = certified(alloc, text, ALL, changes, &[])?;
         ends(rt, alloc, CHECK, &mut shelf, &[], refused(4, line))?;
@@ -389,7 +308,7 @@ fn refuses(
 /// A certificate that ends early is refused.
 fn refuses_cut(rt: &impl Abort, alloc: Global, rows: &[(usize, &str)]) -> Result<(), Fail> {
     for (count, line) in rows {
-        let mut shelf = certified(alloc, PLAIN, *count, &[], &[])?;
+        let mut shelf = certified(alloc, PLAIN, *count, "", &[])?;
         ends(rt, alloc, CHECK, &mut shelf, &[], refused(4, line))?;
     }
     Ok(())
@@ -415,9 +334,9 @@ fn refuses_certificates_that_end_early(rt: HostRuntime) -> Result<(), Fail> {
 fn stops_a_check_at_each_call_that_fails(rt: HostRuntime) -> Result<(), Fail> {
     let alloc = rt.alloc();
     let unread = refused(5, "fault,read,certificate\n");
-    let mut failing = certified(alloc, PLAIN, ALL, &[], &[1])?;
+    let mut failing = certified(alloc, PLAIN, ALL, "", &[1])?;
     ends(&rt, alloc, CHECK, &mut failing, &[], unread)?;
-    let mut whole = certified(alloc, PLAIN, ALL, &[], &[2])?;
+    let mut whole = certified(alloc, PLAIN, ALL, "", &[2])?;
     ends(
         &rt,
         alloc,
@@ -431,6 +350,6 @@ fn stops_a_check_at_each_call_that_fails(rt: HostRuntime) -> Result<(), Fail> {
         out: "accepted,1\nbudget,0\ncost,0\nu",
         err: "fault,write\n",
     };
-    let mut full = certified(alloc, PLAIN, ALL, &[], &[2])?;
+    let mut full = certified(alloc, PLAIN, ALL, "", &[2])?;
     ends(&rt, alloc, CHECK, &mut full, &[1], half)
 }

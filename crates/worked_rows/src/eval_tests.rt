@@ -1,4 +1,4 @@
-use crate::helpers::{Ended, ends, shelf_of};
+use crate::helpers::{Ended, ends, shelf_of, shelf_of_tables, tables_of};
 use std::alloc::Global;
 use std::process::Abort;
 use std::test::Fail;
@@ -7,44 +7,34 @@ use std::test::Fail;
 const EVAL: &str = "eval --sites sites --parts parts --rates rates --stocks stocks";
 
 /// One line unit at the depot and one base: sites, parts, rates and stocks.
-const ONE: [&str; 4] = [
-    "site,kind,systems,ship_days\nD,depot,,\nB,base,12,10\n",
-    "part,parent,cost,per_system,max_depot,max_base\nL,,100,1,2,3\n",
-    "part,site,demand,repair_here,share,repair_days\nL,D,,,,20\nL,B,36.5,0,,0\n",
-    "part,site,stock\nL,D,0\nL,B,0\n",
-];
+const ONE: &str = "site,kind,systems,ship_days\nD,depot,,\nB,base,12,10\n|\
+    part,parent,cost,per_system,max_depot,max_base\nL,,100,1,2,3\n|\
+    part,site,demand,repair_here,share,repair_days\nL,D,,,,20\nL,B,36.5,0,,0\n|\
+    part,site,stock\nL,D,0\nL,B,0\n";
 
 /// The same, with a byte order mark, CRLF, quotes and blanks.
-const QUOTED: [&str; 4] = [
-    "\u{feff}site,kind,systems,ship_days\r\nD,\"depot\",,\r\nB,base, 12\t,10\r\n",
-    "part,parent,cost,per_system,max_depot,max_base\nL,,100,1,2,3\n",
-    "part,site,demand,repair_here,share,repair_days\n\"L\",D,,,,20\n\"L\", B,36.5 ,0,,0\n",
-    "part,site,stock\nL,D,0\nL,B,0\n",
-];
+const QUOTED: &str = "\u{feff}site,kind,systems,ship_days\r\nD,\"depot\",,\r\nB,base, 12\t,10\r\n|\
+    part,parent,cost,per_system,max_depot,max_base\nL,,100,1,2,3\n|\
+    part,site,demand,repair_here,share,repair_days\n\"L\",D,,,,20\n\"L\", B,36.5 ,0,,0\n|\
+    part,site,stock\nL,D,0\nL,B,0\n";
 
 /// The same, with a weight.
-const WEIGHTED: [&str; 4] = [
-    "site,kind,systems,ship_days\nD,depot,,\nB,base,12,10\n",
-    "part,parent,cost,per_system,max_depot,max_base,weight\nL,,100,1,2,3,3\n",
-    "part,site,demand,repair_here,share,repair_days\nL,D,,,,20\nL,B,36.5,0,,0\n",
-    "part,site,stock\nL,D,0\nL,B,0\n",
-];
+const WEIGHTED: &str = "site,kind,systems,ship_days\nD,depot,,\nB,base,12,10\n|\
+    part,parent,cost,per_system,max_depot,max_base,weight\nL,,100,1,2,3,3\n|\
+    part,site,demand,repair_here,share,repair_days\nL,D,,,,20\nL,B,36.5,0,,0\n|\
+    part,site,stock\nL,D,0\nL,B,0\n";
 
 /// A line unit and its shop unit.
-const SHOP: [&str; 4] = [
-    "site,kind,systems,ship_days\nD,depot,,\nB,base,10,5\n",
-    "part,parent,cost,per_system,max_depot,max_base\nL,,1000,2,1,1\nS,L,200,,1,1\n",
-    "part,site,demand,repair_here,share,repair_days\nL,D,,,,10\nL,B,36.5,0.5,,5\nS,D,,,0.4,20\nS,B,,0.25,0.4,5\n",
-    "part,site,stock\nL,D,0\nL,B,1\nS,D,1\nS,B,0\n",
-];
+const SHOP: &str = "site,kind,systems,ship_days\nD,depot,,\nB,base,10,5\n|\
+    part,parent,cost,per_system,max_depot,max_base\nL,,1000,2,1,1\nS,L,200,,1,1\n|\
+    part,site,demand,repair_here,share,repair_days\nL,D,,,,10\nL,B,36.5,0.5,,5\nS,D,,,0.4,20\nS,B,,0.25,0.4,5\n|\
+    part,site,stock\nL,D,0\nL,B,1\nS,D,1\nS,B,0\n";
 
 /// The same, with no shop unit sent to the depot, and without stock.
-const UNSHARED: [&str; 4] = [
-    "site,kind,systems,ship_days\nD,depot,,\nB,base,10,5\n",
-    "part,parent,cost,per_system,max_depot,max_base\nL,,1000,2,1,1\nS,L,200,,1,1\n",
-    "part,site,demand,repair_here,share,repair_days\nL,D,,,,10\nL,B,36.5,0.5,,5\nS,D,,,0,20\nS,B,,1,0.4,5\n",
-    "part,site,stock\nL,D,0\nL,B,0\nS,D,0\nS,B,0\n",
-];
+const UNSHARED: &str = "site,kind,systems,ship_days\nD,depot,,\nB,base,10,5\n|\
+    part,parent,cost,per_system,max_depot,max_base\nL,,1000,2,1,1\nS,L,200,,1,1\n|\
+    part,site,demand,repair_here,share,repair_days\nL,D,,,,10\nL,B,36.5,0.5,,5\nS,D,,,0,20\nS,B,,1,0.4,5\n|\
+    part,site,stock\nL,D,0\nL,B,0\nS,D,0\nS,B,0\n";
 
 /// One file of the first case in another form, by its place, and the line of its refusal.
 const HOSTILE: [(usize, &str, &str); 22] = [
@@ -155,7 +145,7 @@ const UNSHARED_FIGURES: &str =
     "cost,0\nitem,L,D,0,0.500000,0.500000,0.500000,0.500000,0.500000,0.500000,0.500000,0.500000\nitem,L,B,0,1.099999,1.100001,1.099999,1.100001,1.099999,1.100001,1.099999,1.100001\nitem,S,D,0,0.000000,0.000000,0.000000,0.000000,0.000000,0.000000,0.000000,0.000000\nitem,S,B,0,0.099999,0.100001,0.099999,0.100001,0.099999,0.100001,0.099999,0.100001\nbase,B,0.893024,0.893026\nfleet,0.893024,0.893026\ntotal,1.099999,1.100001\n";
 
 /// Tables, the words for the bits, the bits, and the figures.
-const PRINTED: [([&str; 4], &str, u8, &str); 7] = [
+const PRINTED: [(&str, &str, u8, &str); 7] = [
     (SHOP, "", 48, SHOP_FIGURES),
     (SHOP, " --bits 52", 52, SHOP_FIGURES),
     (ONE, "", 48, ONE_FIGURES),
@@ -190,15 +180,11 @@ const UNREAD: [(u32, &str, &str); 4] = [
 ];
 
 /// Tables are evaluated with this count of bits, and their figures are printed.
-fn prints(
-    rt: &impl Abort,
-    alloc: Global,
-    rows: &[([&str; 4], &str, u8, &str)],
-) -> Result<(), Fail> {
+fn prints(rt: &impl Abort, alloc: Global, rows: &[(&str, &str, u8, &str)]) -> Result<(), Fail> {
     for (tables, words, bits, figures) in rows {
         let line = format!(in alloc; "{EVAL}{words}")?;
         let report = format!(in alloc; "eval,{bits}\n{figures}")?;
-        let mut shelf = shelf_of(alloc, *tables, &[])?;
+        let mut shelf = shelf_of(alloc, tables, &[])?;
         let wanted = Ended {
             status: 0,
             out: report.as_str(),
@@ -212,11 +198,11 @@ fn prints(
 /// The first case with one file in another form is refused.
 fn refuses(rt: &impl Abort, alloc: Global, rows: &[(usize, &str, &str)]) -> Result<(), Fail> {
     for (file, table, refusal) in rows {
-        let mut tables = ONE;
+        let mut tables = tables_of(ONE);
         if let Some(changed) = tables.get_mut(*file) {
             *changed = table;
         }
-        let mut shelf = shelf_of(alloc, tables, &[])?;
+        let mut shelf = shelf_of_tables(alloc, tables, &[])?;
         ends(
             rt,
             alloc,

@@ -42,8 +42,26 @@ pub(crate) fn shelf_with(
     MemShelf::new(alloc, files, fails.to_vec(alloc)?)
 }
 
+/// The tables of a text, which has a bar between two: sites, parts, rates and stocks.
+pub(crate) fn tables_of(text: &str) -> [&str; 4] {
+    let mut tables = [""; 4];
+    let mut place: usize = 0;
+    for table in text.split('|') {
+        if let Some(here) = tables.get_mut(place) {
+            *here = table;
+        }
+        place = place.saturating_add(1);
+    }
+    tables
+}
+
+/// The files of the tables of a text, and the numbers of the calls that fail.
+pub(crate) fn shelf_of(alloc: Global, text: &str, fails: &[u32]) -> Result<MemShelf, NoMemory> {
+    shelf_of_tables(alloc, tables_of(text), fails)
+}
+
 /// The files `sites`, `parts`, `rates` and `stocks`, and the numbers of the calls that fail.
-pub(crate) fn shelf_of(
+pub(crate) fn shelf_of_tables(
     alloc: Global,
     tables: [&str; 4],
     fails: &[u32],

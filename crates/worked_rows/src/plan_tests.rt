@@ -11,103 +11,70 @@ const PLAN: &str = "plan --sites sites --parts parts --rates rates --certificate
 const CHECK: &str = "check --certificate certificate";
 
 /// One line unit at the depot and one base.
-const ONE: [&str; 4] = [
-    "site,kind,systems,ship_days\nD,depot,,\nB,base,12,10\n",
-    "part,parent,cost,per_system,max_depot,max_base\nL,,100,1,2,3\n",
-    "part,site,demand,repair_here,share,repair_days\nL,D,,,,20\nL,B,36.5,0,,0\n",
-    "",
-];
+const ONE: &str = "site,kind,systems,ship_days\nD,depot,,\nB,base,12,10\n|\
+    part,parent,cost,per_system,max_depot,max_base\nL,,100,1,2,3\n|\
+    part,site,demand,repair_here,share,repair_days\nL,D,,,,20\nL,B,36.5,0,,0\n|";
 
 /// The same with two systems at the base.
-const SMALL: [&str; 4] = [
-    "site,kind,systems,ship_days\nD,depot,,\nB,base,2,10\n",
-    "part,parent,cost,per_system,max_depot,max_base\nL,,100,1,2,3\n",
-    "part,site,demand,repair_here,share,repair_days\nL,D,,,,20\nL,B,36.5,0,,0\n",
-    "",
-];
+const SMALL: &str = "site,kind,systems,ship_days\nD,depot,,\nB,base,2,10\n|\
+    part,parent,cost,per_system,max_depot,max_base\nL,,100,1,2,3\n|\
+    part,site,demand,repair_here,share,repair_days\nL,D,,,,20\nL,B,36.5,0,,0\n|";
 
 /// The same with a weight of 3.
-const WEIGHTED: [&str; 4] = [
-    "site,kind,systems,ship_days\nD,depot,,\nB,base,12,10\n",
-    "part,parent,cost,per_system,max_depot,max_base,weight\nL,,100,1,2,3,3\n",
-    "part,site,demand,repair_here,share,repair_days\nL,D,,,,20\nL,B,36.5,0,,0\n",
-    "",
-];
+const WEIGHTED: &str = "site,kind,systems,ship_days\nD,depot,,\nB,base,12,10\n|\
+    part,parent,cost,per_system,max_depot,max_base,weight\nL,,100,1,2,3,3\n|\
+    part,site,demand,repair_here,share,repair_days\nL,D,,,,20\nL,B,36.5,0,,0\n|";
 
 /// The first case, with one unit on hand at the base.
-const HELD: [&str; 4] = [
-    "site,kind,systems,ship_days\nD,depot,,\nB,base,12,10\n",
-    "part,parent,cost,per_system,max_depot,max_base\nL,,100,1,2,3\n",
-    "part,site,demand,repair_here,share,repair_days\nL,D,,,,20\nL,B,36.5,0,,0\n",
-    "part,site,stock\nL,D,0\nL,B,1\n",
-];
+const HELD: &str = "site,kind,systems,ship_days\nD,depot,,\nB,base,12,10\n|\
+    part,parent,cost,per_system,max_depot,max_base\nL,,100,1,2,3\n|\
+    part,site,demand,repair_here,share,repair_days\nL,D,,,,20\nL,B,36.5,0,,0\n|\
+    part,site,stock\nL,D,0\nL,B,1\n";
 
 /// The same with nothing on hand.
-const UNHELD: [&str; 4] = [
-    "site,kind,systems,ship_days\nD,depot,,\nB,base,12,10\n",
-    "part,parent,cost,per_system,max_depot,max_base\nL,,100,1,2,3\n",
-    "part,site,demand,repair_here,share,repair_days\nL,D,,,,20\nL,B,36.5,0,,0\n",
-    "part,site,stock\nL,D,0\nL,B,0\n",
-];
+const UNHELD: &str = "site,kind,systems,ship_days\nD,depot,,\nB,base,12,10\n|\
+    part,parent,cost,per_system,max_depot,max_base\nL,,100,1,2,3\n|\
+    part,site,demand,repair_here,share,repair_days\nL,D,,,,20\nL,B,36.5,0,,0\n|\
+    part,site,stock\nL,D,0\nL,B,0\n";
 
 /// A second line unit like the first.
-const ALIKE: [&str; 4] = [
-    "site,kind,systems,ship_days\nD,depot,,\nB,base,12,10\n",
-    "part,parent,cost,per_system,max_depot,max_base\nL,,100,1,2,3\nK,,100,1,2,3\n",
-    "part,site,demand,repair_here,share,repair_days\nL,D,,,,20\nL,B,36.5,0,,0\nK,D,,,,20\nK,B,36.5,0,,0\n",
-    "",
-];
+const ALIKE: &str = "site,kind,systems,ship_days\nD,depot,,\nB,base,12,10\n|\
+    part,parent,cost,per_system,max_depot,max_base\nL,,100,1,2,3\nK,,100,1,2,3\n|\
+    part,site,demand,repair_here,share,repair_days\nL,D,,,,20\nL,B,36.5,0,,0\nK,D,,,,20\nK,B,36.5,0,,0\n|";
 
 /// The same with weights of 1 and 2.
-const UNLIKE: [&str; 4] = [
-    "site,kind,systems,ship_days\nD,depot,,\nB,base,12,10\n",
-    "part,parent,cost,per_system,max_depot,max_base,weight\nL,,100,1,2,3,1\nK,,100,1,2,3,2\n",
-    "part,site,demand,repair_here,share,repair_days\nL,D,,,,20\nL,B,36.5,0,,0\nK,D,,,,20\nK,B,36.5,0,,0\n",
-    "",
-];
+const UNLIKE: &str = "site,kind,systems,ship_days\nD,depot,,\nB,base,12,10\n|\
+    part,parent,cost,per_system,max_depot,max_base,weight\nL,,100,1,2,3,1\nK,,100,1,2,3,2\n|\
+    part,site,demand,repair_here,share,repair_days\nL,D,,,,20\nL,B,36.5,0,,0\nK,D,,,,20\nK,B,36.5,0,,0\n|";
 
 /// A second, cheaper line unit.
-const CHEAP: [&str; 4] = [
-    "site,kind,systems,ship_days\nD,depot,,\nB,base,12,10\n",
-    "part,parent,cost,per_system,max_depot,max_base\nL,,100,1,2,3\nK,,30,1,2,3\n",
-    "part,site,demand,repair_here,share,repair_days\nL,D,,,,20\nL,B,36.5,0,,0\nK,D,,,,20\nK,B,36.5,0,,0\n",
-    "",
-];
+const CHEAP: &str = "site,kind,systems,ship_days\nD,depot,,\nB,base,12,10\n|\
+    part,parent,cost,per_system,max_depot,max_base\nL,,100,1,2,3\nK,,30,1,2,3\n|\
+    part,site,demand,repair_here,share,repair_days\nL,D,,,,20\nL,B,36.5,0,,0\nK,D,,,,20\nK,B,36.5,0,,0\n|";
 
 /// No parts.
-const BARE: [&str; 4] = [
-    "site,kind,systems,ship_days\nD,depot,,\nB,base,12,10\n",
-    "part,parent,cost,per_system,max_depot,max_base\n",
-    "part,site,demand,repair_here,share,repair_days\n",
-    "",
-];
+const BARE: &str = "site,kind,systems,ship_days\nD,depot,,\nB,base,12,10\n|\
+    part,parent,cost,per_system,max_depot,max_base\n|\
+    part,site,demand,repair_here,share,repair_days\n|";
 
 /// The first case without a row of rates.
-const UNRATED: [&str; 4] = [
-    "site,kind,systems,ship_days\nD,depot,,\nB,base,12,10\n",
-    "part,parent,cost,per_system,max_depot,max_base\nL,,100,1,2,3\n",
-    "part,site,demand,repair_here,share,repair_days\nL,D,,,,20\n",
-    "",
-];
+const UNRATED: &str = "site,kind,systems,ship_days\nD,depot,,\nB,base,12,10\n|\
+    part,parent,cost,per_system,max_depot,max_base\nL,,100,1,2,3\n|\
+    part,site,demand,repair_here,share,repair_days\nL,D,,,,20\n|";
 
 /// Two bases with 20,160 choices and 71 tables.
-const CHOICES: [&str; 4] = [
-    "site,kind,systems,ship_days\nD,depot,,\nB1,base,12,10\nB2,base,12,10\n",
-    "part,parent,cost,per_system,max_depot,max_base\nL,,100,1,34,23\n",
-    "part,site,demand,repair_here,share,repair_days\nL,D,,,,20\nL,B1,3.65,0,,0\nL,B2,3.65,0,,0\n",
-    "",
-];
+const CHOICES: &str = "site,kind,systems,ship_days\nD,depot,,\nB1,base,12,10\nB2,base,12,10\n|\
+    part,parent,cost,per_system,max_depot,max_base\nL,,100,1,34,23\n|\
+    part,site,demand,repair_here,share,repair_days\nL,D,,,,20\nL,B1,3.65,0,,0\nL,B2,3.65,0,,0\n|";
 
 /// Three bases with 1,152,762 tables.
-const LARGE: [&str; 4] = [
-    "site,kind,systems,ship_days\nD,depot,,\nB1,base,12,10\nB2,base,12,10\nB3,base,12,10\n",
-    "part,parent,cost,per_system,max_depot,max_base\nL,,100,1,9,0\nR,L,10,,13,13\nS,L,10,,13,13\n",
-    "part,site,demand,repair_here,share,repair_days\nL,D,,,,20\nL,B1,3.65,0.5,,0\nL,B2,3.65,0.5,,0\nL,B3,3.65,0.5,,0\nR,D,,,0.2,20\nR,B1,,0.5,0.2,5\nR,B2,,0.5,0.2,5\nR,B3,,0.5,0.2,5\nS,D,,,0.2,20\nS,B1,,0.5,0.2,5\nS,B2,,0.5,0.2,5\nS,B3,,0.5,0.2,5\n",
-    "",
-];
+const LARGE: &str =
+    "site,kind,systems,ship_days\nD,depot,,\nB1,base,12,10\nB2,base,12,10\nB3,base,12,10\n|\
+    part,parent,cost,per_system,max_depot,max_base\nL,,100,1,9,0\nR,L,10,,13,13\nS,L,10,,13,13\n|\
+    part,site,demand,repair_here,share,repair_days\nL,D,,,,20\nL,B1,3.65,0.5,,0\nL,B2,3.65,0.5,,0\nL,B3,3.65,0.5,,0\nR,D,,,0.2,20\nR,B1,,0.5,0.2,5\nR,B2,,0.5,0.2,5\nR,B3,,0.5,0.2,5\nS,D,,,0.2,20\nS,B1,,0.5,0.2,5\nS,B2,,0.5,0.2,5\nS,B3,,0.5,0.2,5\n|";
 
 /// Tables, the words after the files, the report of the plan, and the report of its certificate's check.
-const PLANNED: [([&str; 4], &str, &str, &str); 18] = [
+const PLANNED: [(&str, &str, &str, &str); 18] = [
     (
         ONE,
         "--budget 0",
@@ -243,7 +210,7 @@ const FAILING: [(u32, u32, &str, &str, &str, u8); 6] = [
 ];
 
 /// Refused tables and words, with the line and the status.
-const REFUSED: [([&str; 4], &str, &str, u8); 8] = [
+const REFUSED: [(&str, &str, &str, u8); 8] = [
     (ONE, "", "fault,words\n", 2),
     (ONE, "--budget 1 --budget 1", "fault,words\n", 2),
     (ONE, "--budget 1 more", "fault,words\n", 2),
@@ -269,14 +236,10 @@ fn holds(rt: &impl Abort, shelf: &MemShelf, name: &str, text: &str) {
 }
 
 /// Tables are planned, and the certificate is accepted.
-fn plans(
-    rt: &impl Abort,
-    alloc: Global,
-    rows: &[([&str; 4], &str, &str, &str)],
-) -> Result<(), Fail> {
+fn plans(rt: &impl Abort, alloc: Global, rows: &[(&str, &str, &str, &str)]) -> Result<(), Fail> {
     for (tables, words, report, checked) in rows {
         let line = format!(in alloc; "{PLAN} {words}")?;
-        let mut shelf = shelf_of(alloc, *tables, &[])?;
+        let mut shelf = shelf_of(alloc, tables, &[])?;
         ends(rt, alloc, line.as_str(), &mut shelf, &[], printed(report))?;
         ends(rt, alloc, CHECK, &mut shelf, &[], printed(checked))?;
     }
@@ -284,14 +247,10 @@ fn plans(
 }
 
 /// A plan is refused, and no certificate is written.
-fn refuses(
-    rt: &impl Abort,
-    alloc: Global,
-    rows: &[([&str; 4], &str, &str, u8)],
-) -> Result<(), Fail> {
+fn refuses(rt: &impl Abort, alloc: Global, rows: &[(&str, &str, &str, u8)]) -> Result<(), Fail> {
     for (tables, words, refusal, code) in rows {
         let line = format!(in alloc; "{PLAN} {words}")?;
-        let mut shelf = shelf_of(alloc, *tables, &[])?;
+        let mut shelf = shelf_of(alloc, tables, &[])?;
         ends(
             rt,
             alloc,

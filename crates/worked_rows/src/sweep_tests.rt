@@ -2,39 +2,28 @@ use crate::helpers::{Ended, ends, printed, refused, shelf_of};
 use std::test::*;
 
 /// One line unit at the depot and one base.
-const ONE: [&str; 4] = [
-    "site,kind,systems,ship_days\nD,depot,,\nB,base,12,10\n",
-    "part,parent,cost,per_system,max_depot,max_base\nL,,100,1,2,3\n",
-    "part,site,demand,repair_here,share,repair_days\nL,D,,,,20\nL,B,36.5,0,,0\n",
-    "",
-];
+const ONE: &str = "site,kind,systems,ship_days\nD,depot,,\nB,base,12,10\n|\
+    part,parent,cost,per_system,max_depot,max_base\nL,,100,1,2,3\n|\
+    part,site,demand,repair_here,share,repair_days\nL,D,,,,20\nL,B,36.5,0,,0\n|";
 
 /// One line unit, and a second, cheaper one.
-const TWO: [&str; 4] = [
-    "site,kind,systems,ship_days\nD,depot,,\nB,base,12,10\n",
-    "part,parent,cost,per_system,max_depot,max_base\nL,,100,1,2,3\nK,,30,1,2,3\n",
-    "part,site,demand,repair_here,share,repair_days\nL,D,,,,20\nL,B,36.5,0,,0\nK,D,,,,20\nK,B,36.5,0,,0\n",
-    "",
-];
+const TWO: &str = "site,kind,systems,ship_days\nD,depot,,\nB,base,12,10\n|\
+    part,parent,cost,per_system,max_depot,max_base\nL,,100,1,2,3\nK,,30,1,2,3\n|\
+    part,site,demand,repair_here,share,repair_days\nL,D,,,,20\nL,B,36.5,0,,0\nK,D,,,,20\nK,B,36.5,0,,0\n|";
 
 /// No parts.
-const BARE: [&str; 4] = [
-    "site,kind,systems,ship_days\nD,depot,,\nB,base,12,10\n",
-    "part,parent,cost,per_system,max_depot,max_base\n",
-    "part,site,demand,repair_here,share,repair_days\n",
-    "",
-];
+const BARE: &str = "site,kind,systems,ship_days\nD,depot,,\nB,base,12,10\n|\
+    part,parent,cost,per_system,max_depot,max_base\n|\
+    part,site,demand,repair_here,share,repair_days\n|";
 
 /// Three bases with 1,152,762 tables.
-const LARGE: [&str; 4] = [
-    "site,kind,systems,ship_days\nD,depot,,\nB1,base,12,10\nB2,base,12,10\nB3,base,12,10\n",
-    "part,parent,cost,per_system,max_depot,max_base\nL,,100,1,9,0\nR,L,10,,13,13\nS,L,10,,13,13\n",
-    "part,site,demand,repair_here,share,repair_days\nL,D,,,,20\nL,B1,3.65,0.5,,0\nL,B2,3.65,0.5,,0\nL,B3,3.65,0.5,,0\nR,D,,,0.2,20\nR,B1,,0.5,0.2,5\nR,B2,,0.5,0.2,5\nR,B3,,0.5,0.2,5\nS,D,,,0.2,20\nS,B1,,0.5,0.2,5\nS,B2,,0.5,0.2,5\nS,B3,,0.5,0.2,5\n",
-    "",
-];
+const LARGE: &str =
+    "site,kind,systems,ship_days\nD,depot,,\nB1,base,12,10\nB2,base,12,10\nB3,base,12,10\n|\
+    part,parent,cost,per_system,max_depot,max_base\nL,,100,1,9,0\nR,L,10,,13,13\nS,L,10,,13,13\n|\
+    part,site,demand,repair_here,share,repair_days\nL,D,,,,20\nL,B1,3.65,0.5,,0\nL,B2,3.65,0.5,,0\nL,B3,3.65,0.5,,0\nR,D,,,0.2,20\nR,B1,,0.5,0.2,5\nR,B2,,0.5,0.2,5\nR,B3,,0.5,0.2,5\nS,D,,,0.2,20\nS,B1,,0.5,0.2,5\nS,B2,,0.5,0.2,5\nS,B3,,0.5,0.2,5\n|";
 
 /// Tables, words, and the report.
-const REPORTED: [([&str; 4], &str, &str); 10] = [
+const REPORTED: [(&str, &str, &str); 10] = [
     (
         ONE,
         "sweep --sites sites --parts parts --rates rates",
@@ -91,7 +80,7 @@ const REPORTED: [([&str; 4], &str, &str); 10] = [
 fn tells_points_and_targets(rt: HostRuntime) -> Result<(), Fail> {
     let alloc = rt.alloc();
     for (tables, line, report) in &REPORTED {
-        let mut shelf = shelf_of(alloc, *tables, &[])?;
+        let mut shelf = shelf_of(alloc, tables, &[])?;
         ends(&rt, alloc, line, &mut shelf, &[], printed(report))?;
     }
     Ok(())

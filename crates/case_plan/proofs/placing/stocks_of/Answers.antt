@@ -8,7 +8,6 @@ use Rattle.step_walk.specs.Prefix.{picked}
 use Rattle.price_bounds.specs.Soundness.{stocks_of}
 use Rattle.case_plan.specs.Placing.{IsPlacedFamily}
 use Rattle.case_plan.proofs.Families.{here, unit_pair, family_placed, none_placed, all_placed}
-use Rattle.case_plan.proofs.Rows.{family_read}
 use Rattle.case_plan.proofs.placing.stocks_of.Goals as goal
 use Rattle.case_plan.proofs.placing.stocks_of.Goals.{then-is_line, else-is_line}
 
@@ -25,16 +24,16 @@ pick_of-point-requires-clause-family c =
 
 pub place_vector-requires-clause-pairs : goal.place_vector-requires-clause-pairs
 place_vector-requires-clause-pairs c i k d l b =
-    unit_pair c.args.case.now c.loop-p.stocks c.as_slice-units.result.now c.loop-p.p i k d c.site_count-sites.ensures.valid c.loop-p.invariant.is_for
+    unit_pair c.args.case.now c.loop-p.stocks c.family-units.result.now c.loop-p.p i k d c.site_count-sites.ensures.valid c.loop-p.invariant.is_for
     (subst (λ n. c.loop-p.p < n) c.part_count-parts.ensures.count c.loop-p-test.true) (sym c.is_line.ensures ∙ c.if-is_line.true)
-    (family_read c.args.case.now (λ v. v.items) c.in_ok-members.members.items c.index.result.now c.as_slice-units.result.now c.loop-p.p c.in_ok-members.ensures (subst (λ n. c.loop-p.p < n) c.part_count-parts.ensures.count c.loop-p-test.true) (sym c.is_line.ensures ∙ c.if-is_line.true) c.index.ensures c.as_slice-units.ensures.value) l (subst (λ n. k < n) c.site_count-sites.ensures.count b)
+    c.family-units.ensures l (subst (λ n. k < n) c.site_count-sites.ensures.count b)
 
 pub place_vector-requires-clause-count : goal.place_vector-requires-clause-count
 place_vector-requires-clause-count c =
     let h = here c.args.case.now c.site_count-sites.ensures.valid c.args.curves.now c.args.picks.now c.loop-p.stocks c.loop-p.p c.loop-p.f
     (subst (λ n. c.loop-p.p < n) c.part_count-parts.ensures.count c.loop-p-test.true) (sym c.is_line.ensures ∙ c.if-is_line.true) c.requires.vertices.count c.requires.widths c.loop-p.invariant in
     ap length (c.as_slice.ensures ∙ ap (λ (v : Point). v.stocks) c.pick_of-point.ensures.is) ∙ h.width
-    ∙ ap₂ (λ a b. a * b) (sym c.site_count-sites.ensures.count) (sym (ap length (family_read c.args.case.now (λ v. v.items) c.in_ok-members.members.items c.index.result.now c.as_slice-units.result.now c.loop-p.p c.in_ok-members.ensures (subst (λ n. c.loop-p.p < n) c.part_count-parts.ensures.count c.loop-p-test.true) (sym c.is_line.ensures ∙ c.if-is_line.true) c.index.ensures c.as_slice-units.ensures.value)) ∙ length-map c.as_slice-units.result.now (λ (q : PartId). q.0))
+    ∙ ap₂ (λ a b. a * b) (sym c.site_count-sites.ensures.count) (sym (ap length c.family-units.ensures) ∙ length-map c.family-units.result.now (λ (q : PartId). q.0))
 
 pub overflow_add-f : goal.overflow_add-f
 overflow_add-f c =
@@ -54,7 +53,7 @@ loop-p-preserved c =
           (family_placed c.args.case.now c.site_count-sites.ensures.valid (stocks_of (picked c.args.curves.now c.args.picks.now)) c.loop-p.stocks w.place_vector.new.stocks c.loop-p.p c.loop-p.f
           w.as_slice.result.now lp k c.loop-p.invariant c.requires.widths (h.vector ∙ sym v)
           (subst (λ n. IsPlacedFamily c.loop-p.stocks w.place_vector.new.stocks (family c.args.case.now c.loop-p.p) w.as_slice.result.now n) c.site_count-sites.ensures.count
-          (subst (λ ps. IsPlacedFamily c.loop-p.stocks w.place_vector.new.stocks ps w.as_slice.result.now c.site_count-sites.result) (family_read c.args.case.now (λ v. v.items) c.in_ok-members.members.items w.index.result.now w.as_slice-units.result.now c.loop-p.p c.in_ok-members.ensures lp k w.index.ensures w.as_slice-units.ensures.value) w.place_vector.ensures)))
+          (subst (λ ps. IsPlacedFamily c.loop-p.stocks w.place_vector.new.stocks ps w.as_slice.result.now c.site_count-sites.result) w.family-units.ensures w.place_vector.ensures)))
       | else-is_line w ↦
           rw (w.stocks-is, w.f-is)
           (none_placed c.args.case.now c.site_count-sites.ensures.valid (stocks_of (picked c.args.curves.now c.args.picks.now)) c.loop-p.stocks c.loop-p.p c.loop-p.f (sym c.is_line.ensures ∙ w.if-is_line.false) c.loop-p.invariant)

@@ -1,11 +1,27 @@
-use Rattle.std.proofs.lemmas.Result.{IfOk-weaker}
+use Rattle.std.proofs.Common.{refl, arith}
 use Rattle.case_plan.specs.Report.{Terms}
-use Rattle.case_plan.proofs.Whole.{case_outcome}
+use Rattle.case_plan.proofs.ChosenFacts.{evaluable}
+use Rattle.case_plan.proofs.Whole.{case_outcome, made}
 use Rattle.case_plan.proofs.planning.outcome_at.Goals as goal
 
-pub returns : goal.returns
-returns c =
+pub figures_at-requires : goal.figures_at-requires
+figures_at-requires c = (
+  omega arith,
+  (refl, (evaluable c.args.case.now c.args.chosen c.site_count-sites.ensures.valid c.requires.rates c.requires.fits, c.requires.families)),
+)
+
+pub line_of-requires : goal.line_of-requires
+line_of-requires c = c.requires.fits.critical
+
+pub returns-clause-chosen : goal.returns-clause-chosen
+returns-clause-chosen c =
     let terms : Terms = record { budget = c.args.budget; loss = c.args.loss; on_hand = c.args.on_hand } in
-    IfOk-weaker c.outcome_from.result _ _
-    (λ outcome is. λ curves chosen. case_outcome c.args.case.now curves terms c.args.chosen outcome c.site_count-sites.ensures.valid c.requires.fits chosen is)
-    c.outcome_from.ensures
+    made c.args.case.now terms c.args.chosen c.of.result c.in_ok-figures.figures c.aim_of.result c.line_of.result
+    c.of.ensures c.in_ok-figures.ensures.figures c.aim_of.ensures c.line_of.ensures
+
+pub returns-clause-case : goal.returns-clause-case
+returns-clause-case c = λ curves chosen.
+    (let terms : Terms = record { budget = c.args.budget; loss = c.args.loss; on_hand = c.args.on_hand } in
+    let is = made c.args.case.now terms c.args.chosen c.of.result c.in_ok-figures.figures c.aim_of.result c.line_of.result
+    c.of.ensures c.in_ok-figures.ensures.figures c.aim_of.ensures c.line_of.ensures in
+    case_outcome c.args.case.now curves terms c.args.chosen _ c.site_count-sites.ensures.valid c.requires.fits chosen is)

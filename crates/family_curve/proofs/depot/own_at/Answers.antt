@@ -1,5 +1,5 @@
 use Rattle.std.proofs.Common.{◌≡◌, ◌<◌, length, get_or, sym, ap, ◌∙◌, subst, arith, lit<}
-use Rattle.family_tables.specs.Numbers.{FamilyNumbers, depot_line_moments, own_part, rows_of}
+use Rattle.family_tables.specs.Numbers.{FamilyNumbers, depot_line_table, own_part}
 use Rattle.family_curve.proofs.Bounded.{at_long, stock_small}
 use Rattle.family_curve.proofs.depot.own_at.Goals as goal
 
@@ -22,8 +22,8 @@ own_part-requires c =
     let valid = c.requires.here.valid in
     let some : 0 < length x.case.sites = omega (arith, c.requires.here.site.1) in
     let inside : j < n.sites = subst (λ (n : FamilyNumbers 48). j < n.sites) (sym c.requires.evaluator) c.requires.here.site.1 in
-    let line : c.args.tables.now.line ≡ rows_of 48 (depot_line_moments 48 n c.shops_of.result.now) =
-    c.requires.tables.line ∙ ap (λ d. rows_of 48 (depot_line_moments 48 n d)) (sym c.shops_of.ensures) in
+    let line : c.args.tables.now.line ≡ depot_line_table 48 n c.shops_of.result.now =
+    c.requires.tables.line ∙ ap (λ d. depot_line_table 48 n d) (sym c.shops_of.ensures) in
     (lit< tt, (lit< tt, (lit< tt, (line, (stock_small x valid 0 0 c.args.here.now.depot.now some c.requires.here.depot (omega arith), inside)))))
 
 pub returns : goal.returns

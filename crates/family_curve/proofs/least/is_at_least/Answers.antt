@@ -14,4 +14,4 @@ returns g c =
     decided p q c.args.floor (points_within c.args.case.now c.args.line.0 g.S.Score.ends b.held b.low b.high) c.in_ok-answer.answer
     (box_some c.args.case.now c.args.line.0 g.S.Score.ends p q b.held b.low b.high c.site_count-sites.ensures.valid c.requires.line c.requires.ordered)
     (subst (λ (x : FamilyBox). Decides p q c.args.floor (points_within x.case x.line g.S.Score.ends x.held x.low x.high) c.in_ok-answer.answer)
-    (c.in_ok-sources.ensures.family ∙ c.in_ok-family.ensures) c.in_ok-answer.ensures)
+    (c.in_ok-sources.ensures.family ∙ c.of-family.ensures) c.in_ok-answer.ensures)

@@ -1,4 +1,4 @@
-use Rattle.std.proofs.Common.{◌≡◌, ◌<◌, ℕ, List, length, get_or, map, flat_map, sym, ap, ◌∙◌, subst, arith}
+use Rattle.std.proofs.Common.{◌≡◌, ℕ, List, length, map, flat_map, sym, ap, ◌∙◌, arith}
 use Rattle.spares_input.specs.declared.rows.PartId.{PartId}
 use Rattle.spares_input.specs.Stocks.{limit_at}
 use Rattle.std.specs.List.{range_with_len}
@@ -9,14 +9,13 @@ use Rattle.family_curve.proofs.places.limits_of.Goals as goal
 
 pub put_limits-requires-clause-members : goal.put_limits-requires-clause-members
 put_limits-requires-clause-members c =
-    subst (λ (ids : List PartId). (k : ℕ) (d : PartId) → k < length ids → (get_or ids k d).0 < length c.args.case.now.parts) (sym c.as_slice.ensures.value)
-    (ids_within c.args.case.now c.args.line.0 c.in_ok-members.members.items c.site_count-k-end.ensures.valid c.requires c.in_ok-members.ensures)
+    ids_within c.args.case.now c.args.line.0 c.family-members.result.now c.site_count-k-end.ensures.valid c.requires c.family-members.ensures
 
 pub loop-k-preserved : goal.loop-k-preserved
 loop-k-preserved c =
     rows_more (λ k. map (λ p. limit_at c.args.case.now.parts p k) (family c.args.case.now c.args.line.0)) c.loop-k.k c.loop-k.list.items
-    (map (λ (p : PartId). limit_at c.args.case.now.parts p.0 c.loop-k.k) c.as_slice.result.now) c.put_limits.new.list.items c.in_ok-put_limits.ensures c.loop-k.invariant
-    (ap (map (λ (p : PartId). limit_at c.args.case.now.parts p.0 c.loop-k.k)) c.as_slice.ensures.value ∙ ids_limits c.args.case.now c.args.line.0 c.loop-k.k c.in_ok-members.members.items c.in_ok-members.ensures)
+    (map (λ (p : PartId). limit_at c.args.case.now.parts p.0 c.loop-k.k) c.family-members.result.now) c.put_limits.new.list.items c.in_ok-put_limits.ensures c.loop-k.invariant
+    (ids_limits c.args.case.now c.args.line.0 c.loop-k.k c.family-members.result.now c.family-members.ensures)
 
 pub returns : goal.returns
 returns c =

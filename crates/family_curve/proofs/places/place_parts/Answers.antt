@@ -10,9 +10,9 @@ use Rattle.family_curve.proofs.places.place_parts.Goals as goal
 pub loop-k-preserved : goal.loop-k-preserved
 loop-k-preserved c =
     let id : PartId → ℕ = λ p. p.0 in
-    rows_more (λ (k : ℕ). family c.args.case.now c.args.line.0) c.loop-k._k (map id c.loop-k.parts.items) (map id c.as_slice.result.now) _
-    (ap (map id) c.in_ok-extend_from_slice.ensures.items ∙ map-append id c.loop-k.parts.items c.as_slice.result.now) c.loop-k.invariant
-    (ap (map id) c.as_slice.ensures.value ∙ c.in_ok-members.ensures)
+    rows_more (λ (k : ℕ). family c.args.case.now c.args.line.0) c.loop-k._k (map id c.loop-k.parts.items) (map id c.family-members.result.now) _
+    (ap (map id) c.in_ok-extend_from_slice.ensures.items ∙ map-append id c.loop-k.parts.items c.family-members.result.now) c.loop-k.invariant
+    c.family-members.ensures
 
 pub returns : goal.returns
 returns c =

@@ -1,6 +1,6 @@
-use Rattle.std.proofs.Common.{◌≡◌, ◌<◌, ℕ, List, length, get_or, map, flat_map, sym, ap, ◌∙◌, subst, arith}
+use Rattle.std.proofs.Common.{◌≡◌, ℕ, List, length, map, flat_map, sym, ap, ◌∙◌, arith}
 use Rattle.spares_input.specs.declared.rows.PartId.{PartId}
-use Rattle.spares_input.specs.Stocks.{HasPair, stock_at}
+use Rattle.spares_input.specs.Stocks.{stock_at}
 use Rattle.std.specs.List.{range_with_len}
 use Rattle.fleet_model.specs.Rows.{stock}
 use Rattle.fleet_model.specs.Fleet.{family}
@@ -10,16 +10,14 @@ use Rattle.family_curve.proofs.places.vector_of.Goals as goal
 
 pub put_stocks-requires : goal.put_stocks-requires
 put_stocks-requires c =
-    subst (λ (ids : List PartId). (k : ℕ) (d : PartId) → k < length ids → HasPair c.args.stocks.now (get_or ids k d).0 c.loop-k.k) (sym c.as_slice.ensures.value)
-    (ids_there c.args.case.now c.args.line.0 c.loop-k.k c.in_ok-members.members.items c.args.stocks.now c.site_count-k-end.ensures.valid c.requires.line c.requires.stocks
-    (omega (arith, c.loop-k-test.true, c.site_count-k-end.ensures.count)) c.in_ok-members.ensures)
+    ids_there c.args.case.now c.args.line.0 c.loop-k.k c.family-members.result.now c.args.stocks.now c.site_count-k-end.ensures.valid c.requires.line c.requires.stocks
+    (omega (arith, c.loop-k-test.true, c.site_count-k-end.ensures.count)) c.family-members.ensures
 
 pub loop-k-preserved : goal.loop-k-preserved
 loop-k-preserved c =
     rows_more (λ k. map (λ p. stock c.args.case.now c.args.stocks.now.list p k) (family c.args.case.now c.args.line.0)) c.loop-k.k c.loop-k.list.items
-    (map (λ (p : PartId). stock_at c.args.stocks.now p.0 c.loop-k.k) c.as_slice.result.now) c.put_stocks.new.list.items c.in_ok-put_stocks.ensures c.loop-k.invariant
-    (ap (map (λ (p : PartId). stock_at c.args.stocks.now p.0 c.loop-k.k)) c.as_slice.ensures.value
-    ∙ ids_stocks c.args.case.now c.args.line.0 c.loop-k.k c.in_ok-members.members.items c.args.stocks.now c.requires.stocks c.in_ok-members.ensures)
+    (map (λ (p : PartId). stock_at c.args.stocks.now p.0 c.loop-k.k) c.family-members.result.now) c.put_stocks.new.list.items c.in_ok-put_stocks.ensures c.loop-k.invariant
+    (ids_stocks c.args.case.now c.args.line.0 c.loop-k.k c.family-members.result.now c.args.stocks.now c.requires.stocks c.family-members.ensures)
 
 pub returns : goal.returns
 returns c =

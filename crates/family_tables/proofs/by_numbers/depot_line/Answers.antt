@@ -6,7 +6,7 @@ use Rattle.depot_pipeline.specs.declared.Feed.{Feed}
 use Rattle.depot_pipeline.specs.Exact.{IsSmallFeed}
 use Rattle.depot_pipeline.specs.Profile.{depot_line_ends}
 use Rattle.family_tables.specs.declared.numbers.PairNumbers.{PairNumbers}
-use Rattle.family_tables.specs.Numbers.{depot_feeds, rows_of}
+use Rattle.family_tables.specs.Numbers.{depot_feeds, table_of}
 use Rattle.family_tables.proofs.Served.{depot_feeds_small}
 use Rattle.family_tables.proofs.by_numbers.depot_line.Goals as goal
 
@@ -35,4 +35,4 @@ pub returns : goal.returns
 returns g c =
     let feeds : c.as_slice.result.now ≡ depot_feeds g.row.F c.args.numbers.now c.args.depot.now = c.as_slice.ensures.value ∙ c.in_ok-feeds.ensures in
     IfOk-weaker c.depot_line_table.result _ _
-    (λ t h. h ∙ ap₂ (λ (w : PairNumbers g.row.F) (z : List (Feed g.row.F)). rows_of g.row.F (depot_line_ends g.row.F w.direct w.cap z)) c.pair.ensures.is feeds) c.depot_line_table.ensures
+    (λ t h. h ∙ ap₂ (λ (w : PairNumbers g.row.F) (z : List (Feed g.row.F)). table_of g.row.F (depot_line_ends g.row.F w.direct w.cap z) w.limit) c.pair.ensures.is feeds) c.depot_line_table.ensures

@@ -1,9 +1,11 @@
 use Rattle.std.proofs.Common.{◌≡◌, ◌-◌, ◌+◌, ◌<◌, ◌≤◌, ◌∙◌, List, lit<, subst, sym, arith, ap, length}
+use Rattle.std.proofs.lemmas.Result.{IfOk-weaker}
 use Rattle.std.proofs.lemmas.List.FromFn.{length-map-range_with_len}
 use Rattle.std.specs.List.{All}
 use Rattle.depot_pipeline.specs.declared.Feed.{Feed}
 use Rattle.depot_pipeline.specs.Exact.{IsSmallFeed}
 use Rattle.family_tables.specs.Numbers.{nth_stock, depot_feeds}
+use Rattle.family_tables.proofs.Keyed.{base_keyed}
 use Rattle.family_tables.proofs.Served.{depot_feeds_small, depot_shop_small, feed_is_small}
 use Rattle.family_tables.proofs.making.made.Goals as goal
 
@@ -53,3 +55,12 @@ base_shop_table-requires g c =
         ),
       ),
     )
+
+pub returns-in_ok-feed : goal.returns-in_ok-feed
+returns-in_ok-feed g c =
+    let stock : nth_stock c.as_slice-else-key-eq0-2.result.now 0 ≡ nth_stock c.args.key.now.stocks 0 = ap (λ v. nth_stock v 0) c.as_slice-else-key-eq0-2.ensures in
+    IfOk-weaker c.base_shop_table.result _ _
+    (λ t h. h
+    ∙ base_keyed g.row.F c.args.numbers.now c.args.key.now.place c.args.key.now.site.0 c.args.key.now.stocks c.pair-pair.result c.in_ok-feed.feed _
+    (omega (arith, c.if-key-eq0.false)) (omega (arith, c.if-key-eq0-2.false)) c.pair-pair.ensures.is c.in_ok-feed.ensures stock)
+    c.base_shop_table.ensures

@@ -6,7 +6,7 @@ use Rattle.depot_pipeline.proofs.Walk.{summed_next, at_the_end}
 use Rattle.base_pipeline.specs.Profile.{held_at}
 use Rattle.base_pipeline.proofs.Walk.{started}
 use Rattle.family_tables.specs.declared.own_part.OwnPart.{OwnPart}
-use Rattle.family_tables.specs.Numbers.{base_helds, base_shop_moments, nth_stock, own_part, rows_of}
+use Rattle.family_tables.specs.Numbers.{base_helds, base_shop_table, nth_stock, own_part}
 use Rattle.family_tables.proofs.Served.{count_of}
 use Rattle.family_tables.proofs.Own.{held_of_shop, own_small, room_for, shop_read, shop_small, whole_is}
 use Rattle.family_tables.proofs.own_part.line_moments.Goals as goal
@@ -29,7 +29,7 @@ loop-i-init g c =
 
 pub bounds-tables-i : goal.bounds-tables-i
 bounds-tables-i g c =
-    count_of (λ i. rows_of g.row.F (base_shop_moments g.row.F c.args.numbers.now i c.args.site.0 (nth_stock c.args.depot.now i))) (length c.args.numbers.now.parts - 1)
+    count_of (λ i. base_shop_table g.row.F c.args.numbers.now i c.args.site.0 (nth_stock c.args.depot.now i)) (length c.args.numbers.now.parts - 1)
     c.loop-i.i c.args.tables.now c.requires.tables (rw c.shops-i-end.ensures.shops at c.loop-i-test.true)
 
 pub add-mean-requires : goal.add-mean-requires

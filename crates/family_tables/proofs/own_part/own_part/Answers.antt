@@ -1,6 +1,5 @@
-use Rattle.std.proofs.Common.{◌≡◌, ◌∙◌, List, ap, lit<}
-use Rattle.moment_table.specs.declared.kinds.Row.{Row}
-use Rattle.moment_table.specs.Rows.{at_stock}
+use Rattle.std.proofs.Common.{◌≡◌, ◌∙◌, ap, lit<}
+use Rattle.moment_table.specs.Rows.{TableRows, at_stock}
 use Rattle.family_tables.specs.Numbers.{depot_line_row, feed_from}
 use Rattle.family_tables.proofs.Served.{depot_line_small, feed_is_small}
 use Rattle.family_tables.proofs.own_part.own_part.Goals as goal
@@ -10,7 +9,7 @@ base_own-requires g c =
     let x = c.args.numbers.now in
     let share = c.pair-pair.result.share in
     let feed : c.feed_from-feed.result ≡ feed_from g.row.F share (depot_line_row g.row.F x c.args.depot.now c.args.own) =
-    c.feed_from-feed.ensures ∙ ap (λ (rows : List (Row g.row.F)). feed_from g.row.F share (at_stock rows c.args.own)) c.requires.line in (
+    c.feed_from-feed.ensures ∙ ap (λ (t : TableRows g.row.F). feed_from g.row.F share (at_stock t.rows c.args.own)) c.requires.line in (
       lit< tt,
       (
         lit< tt,

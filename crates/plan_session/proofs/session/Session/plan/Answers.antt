@@ -39,4 +39,4 @@ returns-clause-answer c =
     (reported c.self.inside.case c.keep_all.new.marks c.keep_all.new.curves c.keep_all.ensures.kept c.in_ok-keep_all.ensures.on c.self.inside.budget c.in_ok-outcome.outcome
     (record { valid = c.self.invariant.valid; no_fault = c.in-Ok.ensures.model.no_fault })
     (subst (λ (z : List (List Point)). IsPlanOf c.self.inside.case z (plain_terms c.self.inside.budget) c.in_ok-outcome.outcome) (c.as_slice-curves.ensures.value ∙ all)
-    (c.in_ok-outcome.ensures c.as_slice-curves.result.now c.in_ok-chosen.ensures.chosen)))
+    (c.in_ok-outcome.ensures.case c.as_slice-curves.result.now c.in_ok-chosen.ensures.chosen)))

@@ -6,7 +6,8 @@ invariant_of-result c =
     let n = rw (c.as_slice.ensures.value, c.as_slice-2.ensures.value) at c.in_ok-site_index.ensures.numbered in
     let f = frame_numbered _ _ _ _ _ _ _ n c.requires.few_sites c.requires.few_parts c.requires.site_rows c.requires.part_rows c.in-Ok.ensures c.move_index.ensures.keys c.move_index.ensures.unique in
     let parents = rw c.as_slice-3.ensures.value at c.in_ok-parents.ensures in
-    (f.0, f.1, f.2, parents)
+    let families = rw (c.as_slice-4.ensures.value) at c.in_ok-families.ensures in
+    (f.0, f.1, f.2, parents, families)
 
 pub returns : goal.returns
 returns c =
@@ -32,3 +33,8 @@ pub parents_of-requires-clause-numbered : goal.parents_of-requires-clause-number
 parents_of-requires-clause-numbered c =
     let n = rw (c.as_slice.ensures.value, c.as_slice-2.ensures.value) at c.in_ok-site_index.ensures.numbered in
     rw c.as_slice-3.ensures.value n.parts_named
+
+pub families_of-requires-clause-distinct : goal.families_of-requires-clause-distinct
+families_of-requires-clause-distinct c =
+    let n = rw (c.as_slice.ensures.value, c.as_slice-2.ensures.value) at c.in_ok-site_index.ensures.numbered in
+    rw (c.as_slice-4.ensures.value, ← n.parts_named) n.distinct_parts

@@ -1,0 +1,45 @@
+//! The family of each part, found in one pass over the parts.
+
+ghost use Rattle.std.specs.Prelude.{◌≤◌, IfOk, bytes_eq, length, map};
+ghost use Rattle.std.specs.List.{IsDistinct};
+ghost use Rattle.spares_input.specs.Frames.{part_names};
+ghost use Rattle.spares_input.specs.Building.{AreParents, AreFamilies, AreFamiliesBelow, ids};
+
+use crate::rows::{PartId, PartRow};
+use spares_io::NoMemory;
+use std::alloc::Global;
+
+/// Each part alone.
+fn each_alone(alloc: Global, parts: &[PartRow]) -> Result<Vec<Vec<PartId>>, NoMemory>
+    requires { length parts.now ≤ 2000 }
+    ensures { IfOk result (λ rows. AreFamiliesBelow parts.now 0 (map (λ v. ids v.items) rows.items)) }
+{
+    let mut families = Vec::with_capacity(alloc, parts.len())?;
+    for p in 0..parts.len() {
+        let mut family = Vec::new(alloc);
+        family.push(PartId(p as u16))?;
+        families.push(family)?;
+    }
+    Ok(families)
+}
+
+/// The family of each part, by its number: a line unit, and then its shop units in part order.
+pub(crate) fn families_of(
+    alloc: Global,
+    parts: &[PartRow],
+    parents: &[Option<PartId>],
+) -> Result<Vec<Vec<PartId>>, NoMemory>
+    requires few { length parts.now ≤ 2000 }
+    requires distinct { IsDistinct bytes_eq (part_names parts.now) }
+    requires parents { AreParents parts.now parents.now }
+    ensures { IfOk result (λ rows. AreFamilies parts.now (map (λ v. ids v.items) rows.items)) }
+{
+    let mut families = each_alone(alloc, parts)?;
+    for p in 0..parts.len() {
+        if let Some(line) = parents[p] {
+            let family = &mut families[line.0 as usize];
+            family.push(PartId(p as u16))?;
+        }
+    }
+    Ok(families)
+}
