@@ -230,7 +230,7 @@ def main():
     writer.writerow(header_of(fleet))
     writer.writerows(row_of(*plan) for plan in shown)
     if not shown:
-        sys.stderr.write('availability.py: no plan of these budgets reaches this share\n')
+        sys.stderr.write('availability.py: no plan of these budgets reaches this share: raise --to, or the limits of the parts\n')
         return 1
     return 0
 

@@ -583,8 +583,13 @@ def report(data):
 
 
 def main():
-    with open(sys.argv[1], "rb") as file:
-        data = file.read()
+    if len(sys.argv) != 2 or sys.argv[1] in ("-h", "--help"):
+        sys.exit("usage: python3 second_checker.py CERTIFICATE")
+    try:
+        with open(sys.argv[1], "rb") as file:
+            data = file.read()
+    except OSError as reason:
+        sys.exit("can't be read: %s" % reason)
     try:
         sys.stdout.write(report(data))
     except Refused as reason:

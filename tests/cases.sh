@@ -1,7 +1,7 @@
 # What the checks share: how a run is judged, and small cases.
 #
 # An expected output is a text, or has lines `@NAME` in place of the text of that name in `expected/`; `@` alone is the text of the check's
-# own name. By `tests/run --write` the runs with such a text are made alone, and what they put out is written to a folder.
+# own name. `tests/run --write` makes only the runs with such a text, and writes their output to a folder.
 
 certificate=$room/certificate
 

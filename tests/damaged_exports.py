@@ -2,8 +2,8 @@
 
     python3 tests/damaged_exports.py PROGRAM EXAMPLES FLEET
 
-FLEET is a folder with tables that are right. What lint.py names first must be the line of the program's refusal, and it
-must find no fault exactly where the program takes the tables.
+FLEET is a folder with tables that are right. The first fault of lint.py must be the program's refusal, and lint.py
+must find no fault exactly if the program takes the tables.
 """
 
 import os

@@ -5,7 +5,7 @@
 
 There are trials of several kinds, drawn at random: of sound tables (a plan, its certificate and damaged ones under `check`, and further
 commands), of certificates with floors exactly at the least or one unit beside it, of damaged tables and edits, of damaged words, of single
-pipelines, and of generated cases. A trial hangs on its seed and its number alone, so the second form runs one of them again. Each
+pipelines, and of generated cases. A trial depends on its seed and number alone, so the second form runs one of them again. Each
 difference is printed with the trial's name and a folder that keeps its files. The status is 1 if there was one. PROGRAM is split like the
 words of a shell.
 """

@@ -1,5 +1,5 @@
-# The script `spares`: what it says where nothing can be built, and how far it is while a kit builds. The kit is a stand-in
-# that says what the gate says, and proves nothing.
+# The script `spares`: its line if nothing can be built, and its progress while a kit builds. The kit is a stand-in that
+# prints the gate's lines and proves nothing.
 
 first=$room/first
 mkdir -p "$first/tools" "$first/bin" "$first/crates/low/src" "$first/crates/low/must-fail" "$first/crates/spares/src"

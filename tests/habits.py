@@ -124,10 +124,18 @@ def stale(crates):
                 yield path, number, 'stands %d times' % text.count(line[5:])
 
 
+def miscounted(crates):
+    """docs/CONTRIBUTING.md says how many wrong bodies there are"""
+    page, count = crates.parent / 'docs' / 'CONTRIBUTING.md', len([*crates.glob('*/must-fail/*.edit')])
+    said = re.search(r'There are\s+(\d+)\s+edits', page.read_text())
+    if said and int(said.group(1)) != count:
+        yield page, page.read_text().count('\n', 0, said.start(1)) + 1, '%d edits' % count
+
+
 def main():
     root = pathlib.Path(sys.argv[1] if len(sys.argv) > 1 else pathlib.Path(__file__).parent.parent)
     broken = 0
-    for rule in (opening, wide, undocumented, hyphened, uncommented, unused, stale):
+    for rule in (opening, wide, undocumented, hyphened, uncommented, unused, stale, miscounted):
         for path, number, what in rule(root / 'crates'):
             print('%s:%d: %s: %s' % (path.relative_to(root), number, what, rule.__doc__))
             broken += 1

@@ -3,8 +3,8 @@
     python3 tests/scripts.py PROGRAM EXAMPLES FLEET CHECK
     python3 tests/scripts.py --list
 
-FLEET is a folder with tables that have a byte order mark, CRLF, quotes and a depot of another name, with reports of
-them that another program made, and with what the scripts must write of these in the folder `wanted`, made by hand.
+FLEET is a folder with tables that have a byte order mark, CRLF, quotes and a depot of another name, with the model's
+reports of them, and with the outputs that the scripts must write in the folder `wanted`, made by hand.
 `--list` names the checks.
 """
 

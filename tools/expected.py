@@ -130,7 +130,7 @@ def renewed(shown, printed):
 
 
 def check_page(page, is_written, left_out=()):
-    """How many examples of a page differ; with `is_written` they are written anew."""
+    """How many examples of a page differ; with `is_written` they are written anew, but for those whose run fails."""
     lines = read(page).decode().split("\n")
     changes, found = [], 0
     places = [os.path.join(*names) for names in ((MODEL, "spares.py"), (TOP, "examples"), (TOP, page))]
@@ -140,7 +140,8 @@ def check_page(page, is_written, left_out=()):
         found += 1
         print(pages.difference(example, ran, page))
         printed = (ran.stdout or ran.stderr).decode().splitlines()
-        changes.append((example, renewed(example.lines, printed)))
+        is_failed = ran.returncode != 0 and not any(line.startswith("fault,") for line in example.lines)
+        changes.append((example, None if is_failed else renewed(example.lines, printed)))
     for example, renewed_lines in reversed(changes if is_written else []):
         if renewed_lines is None:
             print("%s:%d: this example can't be written anew" % (page, example.place))

@@ -261,7 +261,7 @@ def section(names_too):
     return "\n\n".join([
         BEGIN,
         *[list_of(specs, listed, *each, names_too) for each in LISTS],
-        "**Where the lists stop.** What the lists name is in them, but for %d definitions, which rest on %d more. These say in full "
+        "**Where the lists stop.** The lists name all that they use but %d definitions, which rest on %d more. These say in full "
         "which bytes,\nnumbers and refusals come out; a page says the same in words:" % (len(STOPPED), len(specs.reached(ROOTS) - found)),
         stops_of(specs, found) if names_too else subjects(),
         END,
