@@ -35,6 +35,15 @@ take_case() {
     plan=(plan "${files[@]}" --budget "${2:-$(cat "$1/budget")}")
 }
 
+# take_words PROGRAM FOLDER BUDGET [RUNS [PEER]]: sets `program`, `folder`, `budget`, and `runs` (5 if left out), and takes
+# the peer and the folder's case
+take_words() {
+    words='words: PROGRAM FOLDER BUDGET [RUNS [PEER]]'
+    program=${1:?$words} folder=${2:?$words} budget=${3:?$words} runs=${4:-5}
+    take_peer "${5:-}"
+    take_case "$folder" "$budget"
+}
+
 # runs_of FOLDER RUNS: how many times to run a case that large_case.py wrote: RUNS, and ten times as often if it has
 # fewer than 10,000 tables
 runs_of() { echo $(($(cat "$1/tables") < 10000 ? 10 * $2 : $2)); }

@@ -11,13 +11,7 @@
 # Before that the built program plans the case too, and the script stops if the peer's report or certificate isn't ours.
 # shellcheck source=bench/common.sh
 . "$(dirname "$0")/common.sh"
-program=${1:?words: PROGRAM FOLDER BUDGET [RUNS [PEER]]}
-folder=${2:?words: PROGRAM FOLDER BUDGET [RUNS [PEER]]}
-budget=${3:?words: PROGRAM FOLDER BUDGET [RUNS [PEER]]}
-runs=${4:-5}
-
-take_peer "${5:-}"
-take_case "$folder" "$budget"
+take_words "$@"
 take_crate plan_bench -- data/sites.csv data/parts.csv data/rates.csv data/certificate
 
 "$program" "${plan[@]}" --certificate "$work/ours" > "$work/ours.report"

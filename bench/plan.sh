@@ -12,13 +12,7 @@
 # backorders at one base, at one choice of stocks for the depot and that base; the limits say how many there are.
 # shellcheck source=bench/common.sh
 . "$(dirname "$0")/common.sh"
-program=${1:?words: PROGRAM FOLDER BUDGET [RUNS [PEER]]}
-folder=${2:?words: PROGRAM FOLDER BUDGET [RUNS [PEER]]}
-budget=${3:?words: PROGRAM FOLDER BUDGET [RUNS [PEER]]}
-runs=${4:-5}
-
-take_peer "${5:-}"
-take_case "$folder" "$budget"
+take_words "$@"
 
 # a session of 64 plans, each after the demand of one more line unit, at one base, was raised by a hundredth
 {
