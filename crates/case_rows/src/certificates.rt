@@ -200,15 +200,14 @@ const SECOND_FORMAT: [(&str, &str, Answer); 8] = [
 
 /// The line of this number after the changes.
 fn changed<'a>(number: usize, line: &'a str, changes: &'a str) -> &'a str {
-    let mut now = line;
     for change in changes.split('|') {
         if let Some((at, new)) = change.split_once('=')
             && at.parse::<usize>() == Ok(number)
         {
-            now = new;
+            return new;
         }
     }
-    now
+    line
 }
 
 /// The bytes of a certificate with these lines changed.

@@ -245,15 +245,14 @@ const CUT: [(usize, &str); 19] = [
 
 /// The line of this number after the changes.
 fn changed<'a>(number: usize, line: &'a str, changes: &'a str) -> &'a str {
-    let mut now = line;
     for change in changes.split('|') {
         if let Some((at, new)) = change.split_once('=')
             && at.parse::<usize>() == Ok(number)
         {
-            now = new;
+            return new;
         }
     }
-    now
+    line
 }
 
 /// The first `count` lines of a certificate, some of them changed.
