@@ -1,9 +1,8 @@
 -- What the tables of a family give is what the model's profile gives at the stocks of the case.
 use Rattle.std.proofs.Common.{◌≡◌, ℕ, zero, suc, ◌+◌, ◌-◌, ◌*◌, ◌<◌, ◌≤◌, List, [], ◌∷◌, ◌++◌, length, get_or, drop, map, sym, ap, ap₂, ◌∙◌, subst, arith}
 use Rattle.std.specs.List.{All, AllZip, range_with_len}
-use Rattle.std.proofs.lemmas.List.{append_assoc, get_or-map, get_or_default, length-map}
-use Rattle.std.proofs.lemmas.List.FromFn.{get_or-range_with_len, length-range_with_len, map-range_with_len_more}
-use Rattle.moment_table.specs.Rows.{TableRows}
+use Rattle.std.proofs.lemmas.List.{append_assoc, get_or_default}
+use Rattle.std.proofs.lemmas.List.FromFn.{map-range_with_len_more}
 use Rattle.fixed_interval.specs.Ends.{Ends}
 use Rattle.series_bounds.specs.Answer.{at_place}
 use Rattle.spares_input.specs.Stocks.{limit_at}
@@ -11,15 +10,16 @@ use Rattle.fleet_model.specs.Fleet.{family}
 use Rattle.fleet_model.specs.Laws.{IsBase}
 use Rattle.family_eval.specs.Profile.{item_of}
 use Rattle.family_eval.proofs.Items.{flat_at}
+use Rattle.family_tables.specs.declared.base_shops.BaseShops.{BaseShops}
+use Rattle.family_tables.specs.BaseTables.{AreBaseShops, AreShopBounds, HaveShops}
 use Rattle.family_tables.specs.Numbers.{AreBaseBackorders, FamilyNumbers, no_numbers, pair_at, pair_numbers}
 use Rattle.family_tables.proofs.FromNumbers.{backorders_alone}
 use Rattle.family_curve.specs.Boxes.{IsBox}
-use Rattle.family_curve.specs.declared.depot.DepotTables.{DepotTables}
 use Rattle.family_curve.specs.Points.{ScoreEnds}
 use Rattle.family_curve.specs.Separation.{base_point, base_stocks, depot_and_base}
 use Rattle.family_curve.proofs.Boxes.{same_map}
 use Rattle.family_curve.specs.Inputs.{AreShopsAt, FamilyBox, IsFamilyBox, IsAt, high_at, line_high, line_low, line_stocks, low_at, scored_point, shop_high, shop_low}
-use Rattle.family_curve.specs.Tabled.{AreShopStocks, AreTables, base_shops, numbers}
+use Rattle.family_curve.specs.Tabled.{AreShopStocks, numbers}
 use Rattle.family_curve.proofs.Bounded.{at_limit, at_long, box_at, high_long}
 use Rattle.family_curve.proofs.Distinct.{family_stocks_in}
 use Rattle.family_curve.proofs.Numbers.{same_length}
@@ -42,20 +42,6 @@ mapped_from {X} f a s old xs ys x h e g t =
 -- what is read at a place of a list within its length is the entry there
 pub read_place : (list : List Ends) (i s : ℕ) (e : Ends) → e ≡ get_or list i e → i ≡ s → s < length list → e ≡ at_place list s
 read_place list i s e h g m = h ∙ ap (λ k. get_or list k e) g ∙ get_or_default list s e (record { lo = 0; hi = 0 }) m
-
--- ---- the tables of each base
-
--- the tables for given depot stocks have an entry for each base
-pub tables_long : (n : FamilyNumbers 48) (d : List ℕ) (t : DepotTables) → AreTables n d t → length t.bases.items ≡ n.sites - 1
-tables_long n d t h = ap length h.bases ∙ length-map (range_with_len 1 (n.sites - 1)) (base_shops n d) ∙ length-range_with_len 1 (n.sites - 1)
-
--- what is read there for a base are the tables of its shop units
-pub read_base : (n : FamilyNumbers 48) (d : List ℕ) (t : DepotTables) (i j : ℕ) (tables : List (TableRows 48)) → AreTables n d t → 1 + i ≡ j → i < n.sites - 1
-    → tables ≡ get_or t.bases.items i tables → tables ≡ base_shops n d j
-read_base n d t i j tables h e m g =
-    let inside : i < length (range_with_len 1 (n.sites - 1)) = omega (arith, m, length-range_with_len 1 (n.sites - 1)) in
-    let at : get_or (range_with_len 1 (n.sites - 1)) i 0 ≡ j = omega (arith, get_or-range_with_len 1 (n.sites - 1) i 0 m, e) in
-    g ∙ ap (λ ys. get_or ys i tables) h.bases ∙ get_or-map (base_shops n d) (range_with_len 1 (n.sites - 1)) i 0 tables inside ∙ ap (base_shops n d) at
 
 -- ---- stocks of shop units
 
@@ -84,18 +70,40 @@ module _ (x : FamilyBox) (valid : IsFamilyBox x) where
   pub line_most : (k : ℕ) → k < length x.case.sites → line_high x k ≤ 63
   line_most k m = (box_at x k valid m).small 0 0 (subst (λ (v : List ℕ). 0 < length v) (high_begins x valid k m) (omega arith))
 
+  shops_low_long : (k : ℕ) → k < length x.case.sites → length (shop_low x k) ≡ length (family x.case x.line) - 1
+  shops_low_long k m = omega (arith, ap length (low_begins x valid k m), part_long x.case x.line x.low k (length x.case.sites) low_at_long m)
+    where
+      low_at_long : length x.low ≡ length x.case.sites * size x.case x.line
+      low_at_long = sym (same_length x.low x.high valid.ordered.low_least) ∙ high_long x valid
+
   -- stocks of the shop units at a site, as tables take them
   pub shop_stocks : (k : ℕ) (v : List ℕ) (n : FamilyNumbers 48) → n ≡ numbers x → k < length x.case.sites → AreShopsAt x k v → AreShopStocks n v
   shop_stocks k v n e m h = subst (λ (n : FamilyNumbers 48). AreShopStocks n v) (sym e) (record {
-    count = same_length (shop_low x k) v h.least ∙ long;
+    count = same_length (shop_low x k) v h.least ∙ shops_low_long k m;
     small = all_below v (shop_high x k) h.most (box_shops k m).small;
   })
-    where
-      long : length (shop_low x k) ≡ length (family x.case x.line) - 1
-      long = omega (arith, ap length (low_begins x valid k m), part_long x.case x.line x.low k (length x.case.sites) (low_at_long) m)
-        where
-          low_at_long : length x.low ≡ length x.case.sites * size x.case x.line
-          low_at_long = sym (same_length x.low x.high valid.ordered.low_least) ∙ high_long x valid
+
+  -- the shop units' bounds at the depot, as tables take them
+  pub shop_bounds : (n : FamilyNumbers 48) → n ≡ numbers x → AreShopBounds n (shop_low x 0) (shop_high x 0)
+  shop_bounds n e =
+      let some : 0 < length x.case.sites = omega (arith, valid.valid.frame.fewest_sites) in
+      subst (λ (n : FamilyNumbers 48). AreShopBounds n (shop_low x 0) (shop_high x 0)) (sym e) (record {
+        count = shops_low_long 0 some;
+        order = (box_shops 0 some).ordered;
+        most = (box_shops 0 some).small;
+      })
+
+  -- the tables of the family's box have those of each vector of the shop units' stocks at the depot
+  pub have_shops : (n : FamilyNumbers 48) (t : BaseShops 48) (d : List ℕ) → n ≡ numbers x → AreBaseShops 48 n (shop_low x 0) (shop_high x 0) t → AreShopsAt x 0 d
+      → HaveShops 48 n d t
+  have_shops n t d e are h = record {
+    low = shop_low x 0;
+    high = shop_high x 0;
+    bounds = shop_bounds n e;
+    are = are;
+    least = h.least;
+    most = h.most;
+  }
 
   line_limit : (j : ℕ) → j < length x.case.sites → (pair_at (numbers x) 0 j).limit ≡ limit_at x.case.parts x.line j
   line_limit j m =

@@ -1,9 +1,10 @@
 -- The tables from which the points of a family are made. No promise of the crate rests on these words.
 use Rattle.std.specs.Prelude.{◌≡◌, ℕ, ◌-◌, ◌≤◌, List, drop, length, map}
-use Rattle.std.specs.List.{All, range_with_len}
+use Rattle.std.specs.List.{All}
 use Rattle.moment_table.specs.Rows.{TableRows}
 use Rattle.family_tables.specs.declared.own_part.OwnPart.{OwnPart}
-use Rattle.family_tables.specs.Numbers.{FamilyNumbers, base_shop_table, depot_line_table, depot_shop_table, nth_stock, numbers_of, own_part, shop_numbers}
+use Rattle.family_tables.specs.BaseTables.{HaveShops}
+use Rattle.family_tables.specs.Numbers.{FamilyNumbers, depot_line_table, depot_shop_table, nth_stock, numbers_of, own_part, shop_numbers}
 use Rattle.family_curve.specs.declared.depot.DepotTables.{DepotTables}
 use Rattle.family_curve.specs.Inputs.{FamilyBox}
 
@@ -20,14 +21,10 @@ pub record AreShopStocks (n : FamilyNumbers 48) (v : List ℕ) : Type 0 where
 abbrev pub depot_shops : FamilyNumbers 48 → List (TableRows 48)
 depot_shops n = map (λ i. depot_shop_table 48 n i) (shop_numbers n)
 
--- the tables of the shop units at base j, if these have the stocks d at the depot
-abbrev pub base_shops : FamilyNumbers 48 → List ℕ → ℕ → List (TableRows 48)
-base_shops n d j = map (λ i. base_shop_table 48 n i j (nth_stock d i)) (shop_numbers n)
-
 -- the tables shared by all vectors with these stocks of the shop units at the depot
 pub record AreTables (n : FamilyNumbers 48) (d : List ℕ) (t : DepotTables) : Type 0 where
   pub line : t.line ≡ depot_line_table 48 n d
-  pub bases : t.bases.items ≡ map (base_shops n d) (range_with_len 1 (n.sites - 1))
+  pub shops : HaveShops 48 n d t.shops.now
 
 -- the own part of the line unit's pipeline at base j, if the depot has the stocks d
 abbrev pub own_at : FamilyNumbers 48 → List ℕ → ℕ → OwnPart 48

@@ -107,7 +107,7 @@ pub(crate) fn put_rows(
     rows: &mut Vec<Vec<Iv64<48>>>,
     here: &BaseAt<'_, '_>,
     evaluator: &Evaluator<48>,
-    tables: &DepotTables,
+    tables: &DepotTables<'_>,
 ) -> Result<(), NoMemory>
     requires here { IsBaseAt here.now }
     requires evaluator { evaluator.now.numbers ≡ numbers here.now.family.now }
@@ -221,7 +221,7 @@ pub(crate) fn put_curve<'b, S: Score>(
     here: &BaseAt<'_, 'b>,
     score: &S,
     evaluator: &Evaluator<48>,
-    tables: &DepotTables,
+    tables: &DepotTables<'_>,
 ) -> Result<(), NoMemory>
     requires here { IsBaseAt here.now }
     requires evaluator { evaluator.now.numbers ≡ numbers here.now.family.now }

@@ -25,9 +25,9 @@ struct ShopCounts {
     count: u64,
     /// The sum over them of the number of stocks at the depot.
     sum: u64,
-    /// The number of their vectors of stocks at the depot, or the largest count.
+    /// The number of their vectors of stocks at the depot, or 2^64 - 1 if there are more.
     depot: u64,
-    /// The number of their vectors of stocks at a base, or the largest count.
+    /// The number of their vectors of stocks at a base, or 2^64 - 1 if there are more.
     base: u64,
 }
 
@@ -89,8 +89,7 @@ pub fn tables(case: &Case, line: PartId) -> u64
         .saturating_add(depot.saturating_mul(bases.saturating_mul(shops.base)))
 }
 
-/// The number of tables of all families together. `Err` if it is above 1,000,000, with the number or, if it is larger,
-/// with 2^64 - 1.
+/// The number of tables of all families together. A number above 1,000,000 is the error, capped at 2^64 - 1.
 pub fn work(case: &Case) -> Result<u64, u64>
     ensures { result ≡ work_of case.now }
 {
@@ -119,7 +118,7 @@ struct SiteWays {
     shops: u64,
 }
 
-/// The numbers of a site, from its least stocks to its most.
+/// The numbers of stocks at a site's places, from least to most.
 fn ways(low: &[u8], high: &[u8]) -> SiteWays
     requires some { 0 < length low.now }
     requires bounds { IsBox low.now high.now }
@@ -140,7 +139,7 @@ fn ways(low: &[u8], high: &[u8]) -> SiteWays
     }
 }
 
-/// The numbers of a site, in the bounds of a family with `size` parts.
+/// The numbers of stocks at a site's places, in the bounds of a family with `size` parts.
 fn site_ways(case: &Case, line: PartId, bounds: &Bounds, size: usize, site: SiteId) -> SiteWays
     requires line { IsLine case.now line.0 }
     requires ordered { AreOrdered case.now line.0 bounds.now.held bounds.now.low bounds.now.high }

@@ -144,7 +144,7 @@ impl<'a> Family<'a> {
     }
 
     /// The most stocks of a site.
-    fn high(&self, site: SiteId) -> &[u8]
+    pub(crate) fn high(&self, site: SiteId) -> &[u8]
         requires { site.0 < length self.now.case.sites }
         ensures high { result.now ≡ high_at self.now site.0 }
         ensures bounds { IsBox (low_at self.now site.0) (high_at self.now site.0) }

@@ -7,48 +7,19 @@ ghost use Rattle.family_curve.specs.Separation.{depot_point, depot_points};
 ghost use Rattle.family_curve.specs.Points.{points_within};
 ghost use Rattle.family_curve.specs.Inputs.{AreShopsAt, IsAt, line_stocks, vector_count, vertex_count};
 ghost use Rattle.family_curve.specs.Joining.{AreSources, HaveWidthOf, middle, vertices_of};
-ghost use Rattle.family_curve.specs.Tabled.{AreTables, depot_shops};
+ghost use Rattle.family_curve.specs.Tabled.{AreTables};
 
 use crate::base::{BaseSpot, chains_of, put_curve};
 use crate::base_at::BaseAt;
 use crate::depot::{DepotTables, depot_tables};
 use crate::family::{Family, joined};
-use crate::order::{Base, bases_of};
-use family_tables::Evaluator;
+use crate::sources::Sources;
 use hull::{Chain, Curve, Point, Score};
-use moment_table::kinds::Table;
 use series_bounds::short::Iv64;
 use spares_input::SiteId;
 use spares_io::{List, NoMemory};
 use std::alloc::Global;
 use sum_walk::walk::{Runner, Stocks, Turn, walk};
-
-/// The data of a family that doesn't depend on the depot's stocks.
-#[derive(Drop)]
-pub(crate) struct Sources<'f> {
-    /// The family.
-    pub(crate) family: &'f Family<'f>,
-    /// The evaluator of its tables.
-    pub(crate) evaluator: Evaluator<48>,
-    /// The choices at each base, the first base first.
-    pub(crate) bases: Vec<Base>,
-}
-
-impl<'f> Sources<'f> {
-    /// The sources of a family.
-    pub(crate) fn of(alloc: Global, family: &'f Family<'f>) -> Result<Sources<'f>, NoMemory>
-        ensures are { IfOk result AreSources }
-        ensures family { IfOk result (λ s. s.family.now ≡ family.now) }
-    {
-        let evaluator = family.evaluator(alloc)?;
-        let bases = bases_of(alloc, family)?;
-        Ok(Sources {
-            family,
-            evaluator,
-            bases,
-        })
-    }
-}
 
 /// Scratch lists; contents are not kept between calls.
 #[derive(Drop)]
@@ -89,7 +60,7 @@ fn depot_path<'b, S: Score>(
     work: &mut Work<'b>,
     sources: &'b Sources<'_>,
     score: &S,
-    tables: &DepotTables,
+    tables: &DepotTables<'_>,
     depot: &[u8],
     below: &[Point],
 ) -> Result<Vec<Point>, NoMemory>
@@ -141,7 +112,7 @@ fn with_depot<'b, S: Score>(
     work: &mut Work<'b>,
     sources: &'b Sources<'_>,
     score: &S,
-    tables: &DepotTables,
+    tables: &DepotTables<'_>,
     depot: &[u8],
 ) -> Result<Curve, NoMemory>
     requires sources { AreSources sources.now }
@@ -198,19 +169,17 @@ fn behind_middle(low: u8, high: u8, n: u8) -> u8
     }
 }
 
-/// The curve of the points so far and of all vectors with the shop units' stocks `depot` at the depot; `shops` are
-/// their tables there. The line unit's middle stock comes first, because its points pass most of the others.
+/// The curve of the points so far and of all vectors with the shop units' stocks `depot` at the depot. The line unit's
+/// middle stock comes first, because its points pass most of the others.
 fn with_shops<'b, S: Score>(
     alloc: Global,
     so_far: Option<Curve>,
     work: &mut Work<'b>,
     sources: &'b Sources<'_>,
     score: &S,
-    shops: &[Table<48>],
     depot: &[u8],
 ) -> Result<Curve, NoMemory>
     requires sources { AreSources sources.now }
-    requires shops { shops.now ≡ depot_shops sources.now.evaluator.numbers }
     requires depot { AreShopsAt sources.now.family.now 0 depot.now }
     requires room { let x = sources.now.family.now in
         length (vertices_of so_far) + length (line_stocks x 0) * vertex_count x ≤ 65000000 }
@@ -225,7 +194,7 @@ fn with_shops<'b, S: Score>(
 {
     let family = sources.family;
     let _size = family.size();
-    let tables = depot_tables(alloc, family, &sources.evaluator, shops, depot)?;
+    let tables = depot_tables(sources, depot)?;
     let low = family.line_low(SiteId(0));
     let high = family.line_high(SiteId(0));
     let first = joined(alloc, middle(low, high), depot)?;
@@ -255,23 +224,13 @@ fn whole_curve<'b, S: Score>(
 {
     let family = sources.family;
     let _size = family.size();
-    let shops = sources.evaluator.depot_shops()?;
-    let tables = shops.as_slice();
     let depot = SiteId(0);
     let count = family.shop_count(depot);
     let first = family.shop_vector(alloc, depot, count - 1)?;
-    let mut curve = with_shops(alloc, None, work, sources, score, tables, first.as_slice())?;
+    let mut curve = with_shops(alloc, None, work, sources, score, first.as_slice())?;
     for n in 1..count {
         let stocks = family.shop_vector(alloc, depot, count - 1 - n)?;
-        curve = with_shops(
-            alloc,
-            Some(curve),
-            work,
-            sources,
-            score,
-            tables,
-            stocks.as_slice(),
-        )?;
+        curve = with_shops(alloc, Some(curve), work, sources, score, stocks.as_slice())?;
     }
     Ok(curve)
 }

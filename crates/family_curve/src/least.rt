@@ -11,20 +11,19 @@ ghost use Rattle.family_curve.specs.Least.{IsLeast, LeastSeparates, Decides, lea
 ghost use Rattle.family_curve.specs.Points.{AreOrdered, points_within};
 ghost use Rattle.family_curve.specs.Separation.{base_points, depot_points};
 ghost use Rattle.family_curve.specs.Spots.{AreRows, IsBaseAt, IsChoice, choice_point};
-ghost use Rattle.family_curve.specs.Tabled.{AreTables, depot_shops, numbers};
+ghost use Rattle.family_curve.specs.Tabled.{AreTables, numbers};
 
 use crate::base::{put_rows, spot_at};
 use crate::base_at::BaseAt;
 use crate::bounds::Bounds;
 use crate::depot::{DepotTables, depot_tables};
 use crate::family::{Family, joined};
-use crate::joining::Sources;
 use crate::lows::low_at_depot;
 use crate::order::Choice;
+use crate::sources::Sources;
 use demand_rates::kinds::Rates;
 use family_tables::Evaluator;
 use hull::{Price, Score, Spot};
-use moment_table::kinds::Table;
 use series_bounds::short::Iv64;
 use spares_input::{Case, PartId, SiteId};
 use spares_io::NoMemory;
@@ -84,7 +83,7 @@ fn least_at_base<S: Score>(
     here: &BaseAt<'_, '_>,
     score: &S,
     evaluator: &Evaluator<48>,
-    tables: &DepotTables,
+    tables: &DepotTables<'_>,
     price: Price,
 ) -> Result<u128, NoMemory>
     requires here { IsBaseAt here.now }
@@ -106,7 +105,7 @@ fn least_at_depot<S: Score>(
     rows: &mut Vec<Vec<Iv64<48>>>,
     sources: &Sources<'_>,
     score: &S,
-    tables: &DepotTables,
+    tables: &DepotTables<'_>,
     depot: &[u8],
     price: Price,
 ) -> Result<u128, NoMemory>
@@ -134,7 +133,7 @@ fn depot_is_at_least<S: Score>(
     rows: &mut Vec<Vec<Iv64<48>>>,
     sources: &Sources<'_>,
     score: &S,
-    tables: &DepotTables,
+    tables: &DepotTables<'_>,
     depot: &[u8],
     price: Price,
     floor: u128,
@@ -155,20 +154,17 @@ fn depot_is_at_least<S: Score>(
     Ok(floor <= least)
 }
 
-/// Whether the Lagrangian of each vector whose shop units have these stocks at the depot reaches the floor; `shops` are
-/// the shop units' tables there.
+/// Whether the Lagrangian of each vector whose shop units have these stocks at the depot reaches the floor.
 fn are_at_least<S: Score>(
     alloc: Global,
     rows: &mut Vec<Vec<Iv64<48>>>,
     sources: &Sources<'_>,
     score: &S,
-    shops: &[Table<48>],
     depot: &[u8],
     price: Price,
     floor: u128,
 ) -> Result<bool, NoMemory>
     requires sources { AreSources sources.now }
-    requires shops { shops.now ≡ depot_shops sources.now.evaluator.numbers }
     requires depot { AreShopsAt sources.now.family.now 0 depot.now }
     requires most_money { price.q ≤ 1000000000000 }
     requires price { price.p ≤ 2 ^ 74 }
@@ -177,7 +173,7 @@ fn are_at_least<S: Score>(
 {
     let family = sources.family;
     let _size = family.size();
-    let tables = depot_tables(alloc, family, &sources.evaluator, shops, depot)?;
+    let tables = depot_tables(sources, depot)?;
     let low = family.line_low(SiteId(0));
     let high = family.line_high(SiteId(0));
     for s in low..high + 1 {
@@ -206,17 +202,13 @@ fn all_are_at_least<S: Score>(
 {
     let family = sources.family;
     let _size = family.size();
-    let shops = sources.evaluator.depot_shops()?;
-    let tables = shops.as_slice();
     let mut rows = Vec::new(alloc);
     let depot = SiteId(0);
     let count = family.shop_count(depot);
     for n in 0..count {
         let stocks = family.shop_vector(alloc, depot, n)?;
         let at_depot = stocks.as_slice();
-        if !are_at_least(
-            alloc, &mut rows, sources, score, tables, at_depot, price, floor,
-        )? {
+        if !are_at_least(alloc, &mut rows, sources, score, at_depot, price, floor)? {
             return Ok(false);
         }
     }

@@ -38,6 +38,7 @@ mod least;
 mod lows;
 mod order;
 mod places;
+mod sources;
 mod upper;
 mod vectors;
 

@@ -15,8 +15,8 @@ ghost use Rattle.family_curve.specs.Tabled.{AreTables, numbers, own_at};
 use crate::base_at::BaseAt;
 use crate::depot::{DepotTables, own_at};
 use crate::family::shops_of;
-use crate::joining::Sources;
 use crate::order::ShopVector;
+use crate::sources::Sources;
 use family_tables::{Evaluator, OwnPart};
 use hull::{Price, Score};
 use spares_input::SiteId;
@@ -29,7 +29,7 @@ fn put_lows(
     lows: &mut [u64],
     here: &BaseAt<'_, '_>,
     evaluator: &Evaluator<48>,
-    tables: &DepotTables,
+    tables: &DepotTables<'_>,
     own: &OwnPart<48>,
     shops: &[u8],
 )
@@ -43,14 +43,13 @@ fn put_lows(
     ensures lows { AreLowsAt here.now.family.now here.now.depot.now here.now.site.0 shops.now lows.new }
 {
     let (site, depot) = (here.site, here.depot);
-    let base = &tables.bases[usize::from(site.0) - 1];
     evaluator.put_lows(
         lows,
         own,
         depot[0],
         shops_of(depot),
         site,
-        base.as_slice(),
+        tables.shops,
         shops,
     );
 }
@@ -103,7 +102,7 @@ fn low_at_shops<S: Score>(
     here: &BaseAt<'_, '_>,
     score: &S,
     evaluator: &Evaluator<48>,
-    tables: &DepotTables,
+    tables: &DepotTables<'_>,
     own: &OwnPart<48>,
     shops: &ShopVector,
     price: Price,
@@ -142,7 +141,7 @@ fn low_at_base<S: Score>(
     here: &BaseAt<'_, '_>,
     score: &S,
     evaluator: &Evaluator<48>,
-    tables: &DepotTables,
+    tables: &DepotTables<'_>,
     price: Price,
 ) -> u128
     requires here { IsBaseAt here.now }
@@ -171,7 +170,7 @@ fn low_at_base<S: Score>(
 pub(crate) fn low_at_depot<S: Score>(
     sources: &Sources<'_>,
     score: &S,
-    tables: &DepotTables,
+    tables: &DepotTables<'_>,
     depot: &[u8],
     price: Price,
 ) -> u128

@@ -15,7 +15,7 @@ use crate::base_at::BaseAt;
 use crate::bounds::Bounds;
 use crate::depot::{DepotTables, depot_tables};
 use crate::family::{Family, shops_of};
-use crate::joining::Sources;
+use crate::sources::Sources;
 use demand_rates::kinds::Rates;
 use family_tables::Evaluator;
 use hull::{Score, Spot};
@@ -30,7 +30,7 @@ fn upper_at_base<S: Score>(
     here: &BaseAt<'_, '_>,
     score: &S,
     evaluator: &Evaluator<48>,
-    tables: &DepotTables,
+    tables: &DepotTables<'_>,
 ) -> Result<u128, NoMemory>
     requires here { IsBaseAt here.now }
     requires evaluator { evaluator.now.numbers ≡ numbers here.now.family.now }
@@ -51,7 +51,7 @@ fn upper_at_depot<S: Score>(
     alloc: Global,
     sources: &Sources<'_>,
     score: &S,
-    tables: &DepotTables,
+    tables: &DepotTables<'_>,
     depot: &[u8],
 ) -> Result<u128, NoMemory>
     requires sources { AreSources sources.now }
@@ -92,10 +92,8 @@ pub fn upper_within<S: Score>(
     let family = Family::of(case, rates, line, bounds);
     let _size = family.size();
     let sources = Sources::of(alloc, &family)?;
-    let shops = sources.evaluator.depot_shops()?;
     let depot = family.low(SiteId(0));
-    let evaluator = &sources.evaluator;
-    let tables = depot_tables(alloc, &family, evaluator, shops.as_slice(), shops_of(depot))?;
+    let tables = depot_tables(&sources, shops_of(depot))?;
     let upper = upper_at_depot(alloc, &sources, score, &tables, depot)?;
     Ok(upper)
 }

@@ -1,6 +1,7 @@
 pub mod FromNumbers
 pub mod Local
 pub mod Gathered
+pub mod BaseTables
 pub mod Served
 pub mod Found
 pub mod Keyed

@@ -1,5 +1,5 @@
 -- A line unit at a base: what it has without its shop units there is small, and what these add is as listed.
-use Rattle.std.proofs.Common.{◌≡◌, ℕ, ◌+◌, ◌-◌, ◌*◌, ◌^◌, ◌<◌, ◌≤◌, ◌∙◌, List, length, get_or, map, refl, ap₂, subst, sym, arith, le_trans, lit<, mul-le-mul_right}
+use Rattle.std.proofs.Common.{◌≡◌, ℕ, ◌+◌, ◌-◌, ◌*◌, ◌^◌, ◌<◌, ◌≤◌, ◌∙◌, List, length, refl, ap₂, subst, sym, arith, le_trans, lit<, mul-le-mul_right}
 use Rattle.std.proofs.Math.Nat.{pow-le-pow_right}
 use Rattle.std.specs.List.{All}
 use Rattle.std.proofs.lemmas.List.FromFn.{get_or-map-range_with_len, length-map-range_with_len}
@@ -11,8 +11,8 @@ use Rattle.depot_pipeline.specs.Exact.{IsSmallFeed}
 use Rattle.depot_pipeline.specs.Profile.{added, capped_at, mean_part, variance_part}
 use Rattle.depot_pipeline.proofs.Laws.{part_most}
 use Rattle.base_pipeline.specs.Profile.{held_at}
-use Rattle.family_tables.specs.Numbers.{AreNumbers, FamilyNumbers, base_helds, base_line_moments, base_shop_row, base_shop_table, depot_line_row, feed_from, held_from, nth_stock, own_part, pair_at, shop_numbers}
-use Rattle.family_tables.proofs.Served.{IsSmallRow, base_shop_small, depot_line_small, feed_is_small, read_of}
+use Rattle.family_tables.specs.Numbers.{AreNumbers, FamilyNumbers, base_helds, base_line_moments, base_shop_row, base_shop_table, depot_line_row, feed_from, held_from, nth_stock, own_part, pair_at}
+use Rattle.family_tables.proofs.Served.{IsSmallRow, base_shop_small, depot_line_small, feed_is_small}
 
 part_least : (b : ℕ) (share number : Ends) → share.hi ≤ 2 ^ b → (ends_mul b share number).hi ≤ number.hi
 part_least b share number h = part_most b share number (ends_mul b share number) h refl
@@ -59,12 +59,10 @@ held_of_shop f x k d b i h = get_or-map-range_with_len _ 0 (length x.parts - 1) 
 pub helds_count : (f : ℕ) (x : FamilyNumbers f) (k : ℕ) (d b : List ℕ) → length (base_helds f x k d b) ≡ length x.parts - 1
 helds_count f x k d b = length-map-range_with_len _ 0 (length x.parts - 1)
 
--- what is read of it
-pub shop_read : (f : ℕ) (x : FamilyNumbers f) (k : ℕ) (d b : List ℕ) (i : ℕ) (tables : List (TableRows f)) (table : TableRows f) (s : ℕ)
-    → tables ≡ map (λ n. base_shop_table f x n k (nth_stock d n)) (shop_numbers x) → i < length x.parts - 1 → table ≡ get_or tables i table → s ≡ nth_stock b i
+-- what is read of its table
+pub shop_read : (f : ℕ) (x : FamilyNumbers f) (k : ℕ) (d b : List ℕ) (i : ℕ) (table : TableRows f) (s : ℕ) → table ≡ base_shop_table f x i k (nth_stock d i) → s ≡ nth_stock b i
     → at_stock table.rows s ≡ base_shop_row f x i k (nth_stock d i) (nth_stock b i)
-shop_read f x k d b i tables table s e h r t =
-    ap₂ (λ (t : TableRows f) (n : ℕ). at_stock t.rows n) (read_of (λ n. base_shop_table f x n k (nth_stock d n)) (length x.parts - 1) i tables table e h r) t
+shop_read f x k d b i table s e t = ap₂ (λ (t : TableRows f) (n : ℕ). at_stock t.rows n) e t
 
 -- what a shop unit's table has at a stock is small
 pub shop_small : (f : ℕ) (x : FamilyNumbers f) (are : AreNumbers f x) (k : ℕ) (d b : List ℕ) (i : ℕ) (row : Row f) → k < x.sites → i < length x.parts - 1

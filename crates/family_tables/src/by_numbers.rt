@@ -1,13 +1,12 @@
 //! The levels of a family from its numbers and its stocks, by tables that serve many stocks.
 
 ghost use Rattle.std.specs.Prelude.{◌≡◌, ◌+◌, ◌-◌, ◌*◌, ◌^◌, ◌<◌, ◌≤◌, IfOk, length, map, All};
-ghost use Rattle.family_tables.specs.Numbers.{base_shop_table, depot_feeds, depot_line_table, depot_shop_table, nth_stock, shop_numbers};
+ghost use Rattle.family_tables.specs.Numbers.{depot_feeds, depot_line_table, depot_shop_table, shop_numbers};
 
 use crate::numbers::Numbers;
-use crate::pair_tables::{base_shop_table, depot_line_table, depot_shop_table, feed_from};
+use crate::pair_tables::{depot_line_table, depot_shop_table, feed_from};
 use depot_pipeline::Feed;
 use moment_table::kinds::Table;
-use spares_input::SiteId;
 use spares_io::NoMemory;
 use std::alloc::Global;
 
@@ -63,31 +62,4 @@ pub(crate) fn depot_line<const F: u32>(
     let _valid = numbers.sites();
     let feeds = feeds_at(alloc, numbers, tables, depot)?;
     depot_line_table(alloc, numbers.pair(0, 0), feeds.as_slice())
-}
-
-/// The tables of the shop units at a base, at their stocks at the depot.
-pub(crate) fn base_shop_tables<const F: u32>(
-    alloc: Global,
-    numbers: &Numbers<F>,
-    tables: &[Table<F>],
-    depot: &[u8],
-    site: SiteId,
-) -> Result<Vec<Table<F>>, NoMemory>
-    requires tables { tables.now ≡ map (λ i. depot_shop_table F numbers.now i) (shop_numbers numbers.now) }
-    requires count { length depot.now ≡ length numbers.now.parts - 1 }
-    requires stocks { All (λ n. n ≤ 63) depot.now }
-    requires site { site.0 < numbers.now.sites }
-    ensures { IfOk result (λ v. v.items ≡ map
-        (λ i. base_shop_table F numbers.now i site.0 (nth_stock depot.now i))
-        (shop_numbers numbers.now)) }
-{
-    let _valid = numbers.sites();
-    let mut made = Vec::new(alloc);
-    for i in 0..numbers.shops() {
-        let pair = numbers.pair(i + 1, site.0);
-        let feed = feed_from(pair.share, &tables[i], depot[i]);
-        let table = base_shop_table(alloc, pair, feed)?;
-        made.push(table)?;
-    }
-    Ok(made)
 }

@@ -7,8 +7,10 @@ ghost use Rattle.family_eval.specs.Inputs.{IsLine};
 ghost use Rattle.family_eval.specs.Profile.{family_of};
 ghost use Rattle.family_eval.specs.Encloses.{CanEvaluate, EnclosesFamily, IsSmallFamily};
 ghost use Rattle.family_tables.specs.Kept.{Grows, Has, depot_stocks, is_kept, keys_of, table_kept};
-ghost use Rattle.family_tables.specs.Numbers.{AreBaseBackorders, AreBaseLows, base_shop_table, depot_line_table, depot_shop_table, nth_stock, numbers_of, own_part, shop_numbers};
+ghost use Rattle.family_tables.specs.BaseTables.{AreBaseShops, AreShopBounds, HaveShops};
+ghost use Rattle.family_tables.specs.Numbers.{AreBaseBackorders, AreBaseLows, depot_line_table, depot_shop_table, numbers_of, own_part, shop_numbers};
 
+use crate::base_shops::BaseShops;
 use crate::by_numbers;
 use crate::keys::{Kept, table_at};
 use crate::making::{depot_stocks, keep_each, keys_of};
@@ -128,23 +130,19 @@ impl<const F: u32> Evaluator<F> {
         by_numbers::depot_line(self.alloc, &self.family, shops, depot)
     }
 
-    /// The tables of the shop units at a site, at their stocks `depot` at the depot; `shops` are their tables there.
-    /// Want of memory is the only error.
+    /// The tables of the shop units at the bases, for their stocks at the depot from `low` to `high`; `shops` are their
+    /// tables there. Want of memory is the only error.
     pub fn base_shops(
         &self,
         shops: &[Table<F>],
-        depot: &[u8],
-        site: SiteId,
-    ) -> Result<Vec<Table<F>>, NoMemory>
+        low: &[u8],
+        high: &[u8],
+    ) -> Result<BaseShops<F>, NoMemory>
         requires shops { shops.now ≡ map (λ i. depot_shop_table F self.now.numbers i) (shop_numbers self.now.numbers) }
-        requires count { length depot.now ≡ length self.now.numbers.parts - 1 }
-        requires stocks { All (λ n. n ≤ 63) depot.now }
-        requires site { site.0 < self.now.numbers.sites }
-        ensures { IfOk result (λ v. v.items ≡ map
-            (λ i. base_shop_table F self.now.numbers i site.0 (nth_stock depot.now i))
-            (shop_numbers self.now.numbers)) }
+        requires bounds { AreShopBounds self.now.numbers low.now high.now }
+        ensures { IfOk result (AreBaseShops F self.now.numbers low.now high.now) }
     {
-        by_numbers::base_shop_tables(self.alloc, &self.family, shops, depot, site)
+        BaseShops::of(self.alloc, &self.family, shops, low, high)
     }
 
     /// The own part of the line unit's pipeline at a base, which doesn't depend on the shop units' stocks there. The
@@ -170,14 +168,14 @@ impl<const F: u32> Evaluator<F> {
         own: u8,
         depot: &[u8],
         site: SiteId,
-        shops: &[Table<F>],
+        shops: &BaseShops<F>,
         base: &[u8],
     ) -> Result<(), NoMemory>
         requires part { part.now ≡ own_part F self.now.numbers site.0 own depot.now }
         requires own { own ≤ 63 }
+        requires base { 0 < site.0 }
         requires site { site.0 < self.now.numbers.sites }
-        requires shops { shops.now ≡ map (λ i. base_shop_table F self.now.numbers i site.0 (nth_stock depot.now i))
-            (shop_numbers self.now.numbers) }
+        requires shops { HaveShops F self.now.numbers depot.now shops.now }
         requires count { length base.now ≡ length self.now.numbers.parts - 1 }
         requires stocks { All (λ n. n ≤ 63) base.now }
         ensures ends { OnOk result
@@ -196,15 +194,15 @@ impl<const F: u32> Evaluator<F> {
         own: u8,
         depot: &[u8],
         site: SiteId,
-        shops: &[Table<F>],
+        shops: &BaseShops<F>,
         base: &[u8],
     )
         requires few { length lows.old ≤ 64 }
         requires part { part.now ≡ own_part F self.now.numbers site.0 own depot.now }
         requires own { own ≤ 63 }
+        requires base { 0 < site.0 }
         requires site { site.0 < self.now.numbers.sites }
-        requires shops { shops.now ≡ map (λ i. base_shop_table F self.now.numbers i site.0 (nth_stock depot.now i))
-            (shop_numbers self.now.numbers) }
+        requires shops { HaveShops F self.now.numbers depot.now shops.now }
         requires count { length base.now ≡ length self.now.numbers.parts - 1 }
         requires stocks { All (λ n. n ≤ 63) base.now }
         ensures count { length lows.new ≡ length lows.old }

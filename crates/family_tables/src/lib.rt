@@ -15,6 +15,7 @@ ghost use Rattle.family_eval.specs.Inputs.{IsLine};
 ghost use Rattle.family_tables.specs.Kept.{Evaluation, key_stocks, moments_of, table_kept};
 ghost use Rattle.family_tables.specs.Numbers.{AgreeAt, base_backorders, family_stocks, numbers_of, rows_of};
 
+mod base_shops;
 mod by_numbers;
 mod keeping;
 mod keys;
@@ -23,6 +24,7 @@ mod numbers;
 mod own_part;
 mod pair_tables;
 
+pub use base_shops::BaseShops;
 pub use keeping::Evaluator;
 pub use own_part::OwnPart;
 

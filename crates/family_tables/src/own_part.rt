@@ -1,10 +1,12 @@
 //! A line unit at a base: the own part of its pipeline, which serves all stocks of its shop units there, and its
 //! backorders.
 
-ghost use Rattle.std.specs.Prelude.{◌≡◌, ◌-◌, ◌*◌, ◌^◌, ◌<◌, ◌≤◌, OnOk, length, map, All};
+ghost use Rattle.std.specs.Prelude.{◌≡◌, ◌-◌, ◌*◌, ◌^◌, ◌<◌, ◌≤◌, OnOk, length, All};
 ghost use Rattle.fixed_interval.specs.Ends.{IsWithinLimit};
-ghost use Rattle.family_tables.specs.Numbers.{AreBaseBackorders, AreBaseLows, base_line_moments, base_shop_table, depot_line_table, nth_stock, own_part, shop_numbers};
+ghost use Rattle.family_tables.specs.BaseTables.{HaveShops};
+ghost use Rattle.family_tables.specs.Numbers.{AreBaseBackorders, AreBaseLows, base_line_moments, depot_line_table, own_part};
 
+use crate::base_shops::{BaseShops, table_of};
 use crate::numbers::Numbers;
 use crate::pair_tables::feed_from;
 use backorder_bounds::put_lows;
@@ -58,14 +60,14 @@ fn line_moments<const F: u32>(
     own: u8,
     depot: &[u8],
     site: SiteId,
-    tables: &[Table<F>],
+    tables: &BaseShops<F>,
     base: &[u8],
 ) -> Moments<F>
     requires part { part.now ≡ own_part F numbers.now site.0 own depot.now }
     requires own { own ≤ 63 }
+    requires base { 0 < site.0 }
     requires site { site.0 < numbers.now.sites }
-    requires tables { tables.now ≡ map (λ i. base_shop_table F numbers.now i site.0 (nth_stock depot.now i))
-        (shop_numbers numbers.now) }
+    requires tables { HaveShops F numbers.now depot.now tables.now }
     requires count { length base.now ≡ length numbers.now.parts - 1 }
     requires stocks { All (λ n. n ≤ 63) base.now }
     ensures { result ≡ base_line_moments F numbers.now site.0 own depot.now base.now }
@@ -74,7 +76,7 @@ fn line_moments<const F: u32>(
     let mut mean = part.moments.mean;
     let mut variance = part.moments.variance;
     for i in 0..numbers.shops() {
-        let table = &tables[i];
+        let table = table_of(tables, numbers, depot, site, i);
         let stock = base[i];
         mean = mean.add(table.ebo(stock));
         variance = variance.add(table.vbo(stock));
@@ -95,14 +97,14 @@ pub(crate) fn put_line_backorders<const F: u32>(
     own: u8,
     depot: &[u8],
     site: SiteId,
-    tables: &[Table<F>],
+    tables: &BaseShops<F>,
     base: &[u8],
 ) -> Result<(), NoMemory>
     requires part { part.now ≡ own_part F numbers.now site.0 own depot.now }
     requires own { own ≤ 63 }
+    requires base { 0 < site.0 }
     requires site { site.0 < numbers.now.sites }
-    requires tables { tables.now ≡ map (λ i. base_shop_table F numbers.now i site.0 (nth_stock depot.now i))
-        (shop_numbers numbers.now) }
+    requires tables { HaveShops F numbers.now depot.now tables.now }
     requires count { length base.now ≡ length numbers.now.parts - 1 }
     requires stocks { All (λ n. n ≤ 63) base.now }
     ensures ends { OnOk result (AreBaseBackorders F numbers.now site.0 own depot.now base.now found.new.items) }
@@ -122,15 +124,15 @@ pub(crate) fn put_line_lows<const F: u32>(
     own: u8,
     depot: &[u8],
     site: SiteId,
-    tables: &[Table<F>],
+    tables: &BaseShops<F>,
     base: &[u8],
 )
     requires few { length lows.old ≤ 64 }
     requires part { part.now ≡ own_part F numbers.now site.0 own depot.now }
     requires own { own ≤ 63 }
+    requires base { 0 < site.0 }
     requires site { site.0 < numbers.now.sites }
-    requires tables { tables.now ≡ map (λ i. base_shop_table F numbers.now i site.0 (nth_stock depot.now i))
-        (shop_numbers numbers.now) }
+    requires tables { HaveShops F numbers.now depot.now tables.now }
     requires count { length base.now ≡ length numbers.now.parts - 1 }
     requires stocks { All (λ n. n ≤ 63) base.now }
     ensures count { length lows.new ≡ length lows.old }

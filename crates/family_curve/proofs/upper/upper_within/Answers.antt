@@ -19,7 +19,8 @@ depot_tables-requires-clause-depot g c =
     let valid = c.size-size.ensures.valid in
     let some = valid.valid.frame.fewest_sites in
     let is : c.shops_of.result.now ≡ shop_low x 0 = c.shops_of.ensures ∙ ap (drop 1) c.low-depot.ensures in
-    subst (AreShopsAt x 0) (sym is) (low_shops_at x valid 0 (omega (arith, some)))
+    subst (λ (y : FamilyBox). AreShopsAt y 0 c.shops_of.result.now) (sym c.in_ok-sources.ensures.family)
+    (subst (AreShopsAt x 0) (sym is) (low_shops_at x valid 0 (omega (arith, some))))
 
 pub upper_at_depot-requires-clause-depot : goal.upper_at_depot-requires-clause-depot
 upper_at_depot-requires-clause-depot g c =

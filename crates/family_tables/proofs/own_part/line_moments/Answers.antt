@@ -6,8 +6,7 @@ use Rattle.depot_pipeline.proofs.Walk.{summed_next, at_the_end}
 use Rattle.base_pipeline.specs.Profile.{held_at}
 use Rattle.base_pipeline.proofs.Walk.{started}
 use Rattle.family_tables.specs.declared.own_part.OwnPart.{OwnPart}
-use Rattle.family_tables.specs.Numbers.{base_helds, base_shop_table, nth_stock, own_part}
-use Rattle.family_tables.proofs.Served.{count_of}
+use Rattle.family_tables.specs.Numbers.{base_helds, own_part}
 use Rattle.family_tables.proofs.Own.{held_of_shop, own_small, room_for, shop_read, shop_small, whole_is}
 use Rattle.family_tables.proofs.own_part.line_moments.Goals as goal
 
@@ -27,18 +26,17 @@ loop-i-init g c =
           (omega (arith, small.variance_most, ap (λ (e : Ends). e.hi) variance));
     }
 
-pub bounds-tables-i : goal.bounds-tables-i
-bounds-tables-i g c =
-    count_of (λ i. base_shop_table g.row.F c.args.numbers.now i c.args.site.0 (nth_stock c.args.depot.now i)) (length c.args.numbers.now.parts - 1)
-    c.loop-i.i c.args.tables.now c.requires.tables (rw c.shops-i-end.ensures.shops at c.loop-i-test.true)
+pub table_of-table-requires : goal.table_of-table-requires
+table_of-table-requires g c =
+    let inside : c.loop-i.i < length c.args.numbers.now.parts - 1 = rw c.shops-i-end.ensures.shops at c.loop-i-test.true in
+    (lit< tt, (lit< tt, (lit< tt, (c.requires.tables, (c.requires.base, (c.requires.site, inside))))))
 
 pub add-mean-requires : goal.add-mean-requires
 add-mean-requires g c =
     let x = c.args.numbers.now in
     let scale : InScale g.row.F = search rules in
     let inside : c.loop-i.i < length x.parts - 1 = rw c.shops-i-end.ensures.shops at c.loop-i-test.true in
-    let row = shop_read g.row.F x c.args.site.0 c.args.depot.now c.args.base.now c.loop-i.i c.args.tables.now c.index-tables-i.result _
-    c.requires.tables inside c.index-tables-i.is refl in
+    let row = shop_read g.row.F x c.args.site.0 c.args.depot.now c.args.base.now c.loop-i.i c.table_of-table.result.now _ c.table_of-table.ensures refl in
     let small = shop_small g.row.F x c.sites-valid.ensures.valid c.args.site.0 c.args.depot.now c.args.base.now c.loop-i.i _
     c.requires.site inside c.requires.count c.requires.stocks row in (
       lit< tt,
@@ -51,8 +49,7 @@ add-variance-requires g c =
     let x = c.args.numbers.now in
     let scale : InScale g.row.F = search rules in
     let inside : c.loop-i.i < length x.parts - 1 = rw c.shops-i-end.ensures.shops at c.loop-i-test.true in
-    let row = shop_read g.row.F x c.args.site.0 c.args.depot.now c.args.base.now c.loop-i.i c.args.tables.now c.index-tables-i.result _
-    c.requires.tables inside c.index-tables-i.is refl in
+    let row = shop_read g.row.F x c.args.site.0 c.args.depot.now c.args.base.now c.loop-i.i c.table_of-table.result.now _ c.table_of-table.ensures refl in
     let small = shop_small g.row.F x c.sites-valid.ensures.valid c.args.site.0 c.args.depot.now c.args.base.now c.loop-i.i _
     c.requires.site inside c.requires.count c.requires.stocks row in (
       lit< tt,
@@ -69,7 +66,7 @@ loop-i-preserved g c =
     let i = c.loop-i.i in
     let own = own_part g.row.F x k c.args.own d in
     let inside : i < length x.parts - 1 = rw c.shops-i-end.ensures.shops at c.loop-i-test.true in
-    let row = shop_read g.row.F x k d b i c.args.tables.now c.index-tables-i.result _ c.requires.tables inside c.index-tables-i.is refl in
+    let row = shop_read g.row.F x k d b i c.table_of-table.result.now _ c.table_of-table.ensures refl in
     let small = shop_small g.row.F x c.sites-valid.ensures.valid k d b i _ c.requires.site inside c.requires.count c.requires.stocks row in
     let held = sym (held_of_shop g.row.F x k d b i inside) in
     record {
