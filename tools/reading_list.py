@@ -67,8 +67,7 @@ LISTS = [
             price_certificate Grammar Certificates
             gap_checker Refusals Scores
             on_hand Held Work
-            certified_bounds Laws
-            certified_plan Certificates Laws
+            certified_plan Accepted Certificates Laws
         """),
     ),
     (

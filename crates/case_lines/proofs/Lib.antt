@@ -3,3 +3,7 @@ pub mod Shape
 pub mod Written
 pub mod Valid
 pub mod Few
+pub mod Pairs
+pub mod Rows
+pub mod Framed
+pub mod Again

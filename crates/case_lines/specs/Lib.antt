@@ -1,2 +1,4 @@
 pub mod Grammar
 pub mod Fields
+pub mod Rates
+pub mod Framed

@@ -12,3 +12,4 @@ pub mod Zeros
 pub mod Widths
 pub mod Sizes
 pub mod Short
+pub mod Believed

@@ -2,7 +2,7 @@
 use Rattle.std.proofs.Common.{ℕ, ◌+◌, sym, subst}
 use Rattle.spares_input.specs.Cases.{CaseRows}
 use Rattle.spares_input.specs.Stocks.{StockList, IsFor}
-use Rattle.certified_bounds.specs.Laws as bounds
+use Rattle.certified_plan.specs.Accepted as bounds
 use Rattle.fleet_plan.specs.Plans.{AreAcceptable, CasePlan}
 use Rattle.fleet_plan.proofs.Bridge.{from_points, plan_true}
 use Rattle.gap_checker.proofs.Acceptable.{accepted_are_acceptable}

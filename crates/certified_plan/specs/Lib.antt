@@ -1,3 +1,4 @@
 pub mod Inputs
 pub mod Certificates
 pub mod Laws
+pub mod Accepted

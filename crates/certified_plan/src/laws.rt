@@ -1,5 +1,6 @@
 //! The laws of a plan's certificate, as contracts of functions with empty bodies.
 
+ghost use Rattle.certified_plan.specs.Accepted.{AcceptedAreTrue, PlainAcceptedAreTrue};
 ghost use Rattle.certified_plan.specs.Laws.{HeldTextsAreShort, PlansAreAccepted, PlansClaim, PlansComeNearest, ScoresEnclose, ScoresLeaveRoom, TextsAreShort};
 
 /// The intervals of each objective enclose its values, and leave room to add up.
@@ -16,6 +17,15 @@ pub fn plans_claim()
 /// The checker accepts the certificate of a plan, in both formats, for each objective and with any held stocks.
 pub fn plans_are_accepted()
     ensures { PlansAreAccepted }
+{}
+
+/// An accepted certificate, whoever made it and however, is true of its case: its stocks include the held stocks and
+/// fit the budget, their aim is at most its upper end, and no stocks within the budget have less than its bound, at
+/// every depth of the model from 1024 on.
+pub fn accepted_are_true()
+    ensures claims { AcceptedAreTrue }
+    // For weighted backorders, if nothing is held, in the model's plain words.
+    ensures plain { PlainAcceptedAreTrue }
 {}
 
 /// No certificate of the same case, held stocks, budget and objective that the checker accepts has a bound above the

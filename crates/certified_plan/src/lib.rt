@@ -3,7 +3,8 @@
 //! A plan's certificate carries the case, the budget, the price of the hull choice with each family's exact floor at
 //! this price, the stocks, their upper end and the bound. In format 2 each family has a trimmed cover. The laws say
 //! that the certificate is well formed, that no rule of the checker refuses it, and that its text is short enough to be
-//! read: for both objectives, and for plans that begin with stocks on hand.
+//! read: for both objectives, and for plans that begin with stocks on hand. One more law says that each certificate
+//! that the checker accepts is true of its case, whoever made it.
 #![tactic(auto)]
 
 mod certifying;
@@ -13,7 +14,8 @@ mod writing;
 
 pub use certifying::certificate;
 pub use laws::{
-    plans_are_accepted, plans_claim, plans_come_nearest, scores_are_sound, texts_are_short,
+    accepted_are_true, plans_are_accepted, plans_claim, plans_come_nearest, scores_are_sound,
+    texts_are_short,
 };
 pub use terms::PlanClaims;
 pub use writing::certificate_text;

@@ -14,7 +14,7 @@ use Rattle.spares_input.specs.Cases.{CaseRows, frame_rows, pair_count}
 use Rattle.spares_input.specs.Stocks.{limit_at}
 use Rattle.spares_input.specs.declared.rows.PartRow.{PartRow}
 use Rattle.case_lines.proofs.Few.{few_pairs}
-use Rattle.case_reading.proofs.Framed.{are_part_rows}
+use Rattle.case_lines.proofs.Framed.{are_part_rows}
 use Rattle.price_certificate.specs.declared.certificate.Certificate.{Certificate}
 use Rattle.price_certificate.specs.Grammar.{certificate_format}
 use Rattle.price_certificate.proofs.Exact.{certificate_is_exact}

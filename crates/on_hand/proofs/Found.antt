@@ -11,7 +11,7 @@ use Rattle.spares_input.specs.Cases.{CaseRows, frame_rows, pair_count}
 use Rattle.spares_input.specs.Stocks.{StockList, limit_at, IsFor, IsWithinLimits}
 use Rattle.spares_input.proofs.CaseFacts.{place_fits}
 use Rattle.case_lines.specs.Grammar.{case_format}
-use Rattle.case_reading.proofs.Rows.{fits_at}
+use Rattle.case_lines.proofs.Rows.{fits_at}
 use Rattle.price_certificate.specs.declared.certificate.Certificate.{Certificate}
 use Rattle.price_certificate.specs.declared.fault.CertFault.{CertFault}
 use Rattle.price_certificate.specs.Grammar.{budget_line, certificate_format, covers, family_count, floors, objective_line, price_line, stocks}

@@ -12,8 +12,8 @@ use Rattle.spares_input.specs.Cases.{CaseRows, IsCase}
 use Rattle.spares_input.specs.Stocks.{StockList}
 use Rattle.spares_input.specs.declared.fault.CaseFault.{CaseFault}
 use Rattle.case_lines.specs.Grammar.{case_format}
-use Rattle.case_reading.specs.Framed.{rows_of, framed}
-use Rattle.case_reading.specs.Framed as framing
+use Rattle.case_lines.specs.Framed.{rows_of, framed}
+use Rattle.case_lines.specs.Framed as framing
 use Rattle.price_certificate.specs.declared.certificate.Certificate.{Certificate}
 use Rattle.price_certificate.specs.declared.reading.CertificateLines.{CertificateLines}
 use Rattle.price_certificate.specs.declared.fault.CertFault.{CertFault}

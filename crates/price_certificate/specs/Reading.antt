@@ -4,7 +4,7 @@ use Rattle.line_text.specs.Formats.{Text}
 use Rattle.line_text.specs.Files.{line}
 use Rattle.line_text.specs.Texts.{word, Either, Left, Right, either}
 use Rattle.spares_input.specs.Stocks.{StockList}
-use Rattle.case_reading.specs.Framed.{rows_of}
+use Rattle.case_lines.specs.Framed.{rows_of}
 use Rattle.price_certificate.specs.declared.certificate.Certificate.{Certificate}
 use Rattle.price_certificate.specs.declared.certificate.Node.{Node}
 use Rattle.price_certificate.specs.declared.reading.CertificateLines.{CertificateLines}

@@ -12,8 +12,8 @@ use Rattle.spares_io.specs.declared.stop.Stop.TheVariants as stop
 use Rattle.price_certificate.specs.declared.certificate.Objective.{Objective}
 use Rattle.price_certificate.specs.declared.certificate.Objective.TheVariants.{Backorders}
 use Rattle.case_plan.specs.Truth.{NoneHasLessThanPrinted}
-use Rattle.certified_bounds.specs.Laws.{claims_of}
-use Rattle.certified_bounds.proofs.Accepted.{accepted_true, plain_true}
+use Rattle.certified_plan.specs.Accepted.{claims_of}
+use Rattle.certified_plan.proofs.Believed.{accepted_true, plain_true}
 use Rattle.gap_checker.specs.Scores.{ends_of, value_of}
 use Rattle.fleet_plan.specs.Plans.{AreTrueClaims, ArePlainClaims}
 use Rattle.gap_checker.specs.Refusals.{cost_above, judged, reject_of}

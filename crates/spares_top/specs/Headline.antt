@@ -19,7 +19,7 @@ use Rattle.case_figures.specs.Spans.{ends, places}
 use Rattle.case_figures.specs.declared.figures.Span.{Span}
 use Rattle.case_maker.specs.Demonstration.{made}
 use Rattle.case_plan.specs.Truth.{IsTruePlanReport, IsTrueReport, NoneHasLessThanPrinted}
-use Rattle.certified_bounds.specs.Laws.{claims_of}
+use Rattle.certified_plan.specs.Accepted.{claims_of}
 use Rattle.certified_plan.specs.Laws.{NoCertificateShowsMore}
 use Rattle.gap_checker.specs.Scores.{ends_of, value_of}
 use Rattle.demonstration.specs.Demonstrations.{budget_of, demo_certificate, summary_of}

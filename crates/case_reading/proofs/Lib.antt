@@ -1,4 +1,0 @@
-pub mod Pairs
-pub mod Rows
-pub mod Framed
-pub mod Valid
