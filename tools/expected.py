@@ -195,7 +195,7 @@ def main():
         found += check_texts(is_written)
     left_out = [] if named or is_all else SLOW_SCRIPTS
     found += sum(check_page(page, is_written, left_out) for page in named or PAGES + SLOW_PAGES * is_all)
-    print("%d expected outputs differ" % found)
+    print("%d expected outputs %s" % (found, "differed" if is_written else "differ"))
     sys.exit(1 if found and not is_written else 0)
 
 

@@ -36,7 +36,7 @@ chosen_outcome c terms x = record {
   upper = x.numbers.upper;
 }
 
--- The outcome is the outcome of stocks that are the plan, under the budget, of any points with these curves.
+-- The outcome is that of chosen stocks: the plan, under the budget, of any points with these curves.
 pub record IsOutcomeOf (c : CaseRows) (curves : List (List Point)) (terms : Terms) (outcome : Outcome) : Type 0 where
   pub chosen : ChosenStocks
   pub fits : FitsCase c chosen

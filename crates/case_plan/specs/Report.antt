@@ -19,7 +19,7 @@ use Rattle.plan_report.specs.declared.plan.PlanReport.{PlanReport}
 use Rattle.case_plan.specs.declared.outcome.Outcome.{Outcome}
 
 -- The request: a plan under a budget in whole money; whether the aim is a loss, which is reported beside the total of
--- backorders; and the cost of the stocks on hand, printed if some may be held.
+-- backorders; and the cost of the stocks on hand, printed if there is a table of them.
 pub record Terms : Type 0 where
   pub budget : ℕ
   pub loss : Bool

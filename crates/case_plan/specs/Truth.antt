@@ -23,7 +23,8 @@ NoneHasLessThanPrinted value c held budget bound =
     (n : ℕ) → 1024 ≤ n → (s : List ℕ) → IsHeldAllocation c held s → cost_beyond c held s ≤ budget
     → text_value 6 (millionths_down 48 bound) ≤ℚ aim value c s n
 
--- For any held stocks, any score and the value that it encloses. The stocks are the plan's.
+-- A plan's report is true, for any held stocks, any score and the value that the score encloses. The stocks are the
+-- plan's.
 pub record IsTrueReport (ends : ScoreEnds) (value : Value) (c : CaseRows) (held : List ℕ) (terms : Terms)
     (plan : CasePlan) (report : PlanReport) : Type 0 where
   pub budget_is : report.budget ≡ terms.budget

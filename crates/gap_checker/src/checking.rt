@@ -41,11 +41,11 @@ fn rates_of(alloc: Global, case: &Case) -> Result<Rates, Stop<Reject>>
     }
 }
 
-/// Checks a certificate over the stocks that are held, by a score: what it claims, or the first rule that it breaks,
-/// in the order of [`Reject`].
+/// Checks a certificate over the held stocks, by a score: its claims, or the first rule that it breaks, in the order of
+/// [`Reject`].
 ///
-/// The certificate is well formed, and what is held is a list for its case, within the limits. Costs count what the
-/// stocks add to it. Nothing is computed before the work is known to be at most 1,000,000 tables; no clause says so.
+/// The certificate is well formed, and the held stocks are a list for its case, within the limits. Costs are of the
+/// stocks added to them. No table is made before the work is known to be at most 1,000,000 tables; no clause says so.
 /// A smaller floor, a larger upper end or a smaller bound than needed is accepted.
 pub fn check_within<S: Score>(
     alloc: Global,

@@ -35,7 +35,7 @@ impl Model for Curve {
     ghost invariant = { λ c. IsShape c.vertices.items };
 }
 
-/// The number of vertices that cost less, counted from the first.
+/// The number of vertices that cost less than `cost`.
 fn cheaper(vertices: &[Point], cost: u64) -> usize
     requires chain { IsChain vertices.now }
     requires few { length vertices.now ≤ 2 ^ 31 }

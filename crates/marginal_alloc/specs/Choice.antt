@@ -35,7 +35,7 @@ rounding_at curves picks None = width_of (picked curves picks) + 1
 rounding_at curves picks (Some c) = width_of (picked curves picks)
     + ((vertex_at curves c.family c.vertex).hi - (vertex_at curves c.family c.vertex).lo) + 1
 
--- the most by which the bound can differ from another price's bound
+-- the most by which another price's bound can be above the bound
 abbrev pub rounding_of : List (List Point) → Chosen → ℕ
 rounding_of curves chosen = rounding_at curves chosen.picks chosen.critical
 

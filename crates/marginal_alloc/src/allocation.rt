@@ -15,7 +15,7 @@ pub struct Critical {
     pub vertex: u32,
 }
 
-/// A hull choice: a vertex of each curve, their total cost, and the price at which each of them is least.
+/// A hull choice: a vertex of each curve, their total cost, and a price at which each has its curve's least Lagrangian.
 ///
 /// The price is the slope of the critical step: its fall of the lower end in units of 2^-48, for its rise of cost in
 /// whole money. If every step was taken, there is no critical step, and the price is 0/1.

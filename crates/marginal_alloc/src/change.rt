@@ -16,7 +16,7 @@ pub(crate) struct Change {
     pub gain: u128,
 }
 
-/// The first place at which an upper end can be below the upper end at the pick: all lower ends before it are too high.
+/// The first place whose upper end can be below the pick's: before it even the lower ends are too high.
 fn first_below(curve: &Curve, pick: u32) -> u32
     requires shape { IsShape curve.now }
     requires pick { pick < length curve.now }

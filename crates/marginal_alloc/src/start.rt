@@ -40,7 +40,7 @@ fn lower_within(
     Ok(price)
 }
 
-/// A price such that the steps above it fit the budget, and at most about a fifth above a price for which they don't.
+/// A price at which the steps above it fit the budget; at a price about a fifth lower they don't.
 fn price_found(alloc: Global, curves: &[Curve], budget: u64) -> Result<u128, NoMemory>
     requires few { length curves.now ≤ 2000 }
     ensures { IfOk result (λ p. p ≤ 2 ^ 74) }

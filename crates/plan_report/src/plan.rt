@@ -40,7 +40,7 @@ pub struct PlanReport {
     pub budget: u64,
     /// Their cost is the cost charged to the budget: of all stocks, or of the stocks added to those on hand.
     pub figures: Figures,
-    /// The cost of the stocks on hand, if some may be held already.
+    /// The cost of the stocks on hand, if there is a table of them.
     pub on_hand: Option<u64>,
     /// The aim at these stocks, if it isn't the total of backorders.
     pub loss: Option<Iv<48>>,

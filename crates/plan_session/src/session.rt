@@ -22,7 +22,7 @@ use std::alloc::Global;
 use std::marker::Model;
 
 /// A case and a budget, with the curves of the marked families and the evaluations of the last plan. The search for the
-/// next price begins at the price of the last plan.
+/// next price begins a little above that of the last plan.
 ///
 /// Its model is the case, the budget and one mark for each family. The mark is on if the family's curve is kept. If it
 /// is off, the curve is a placeholder.

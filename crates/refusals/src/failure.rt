@@ -35,7 +35,7 @@ impl Failure {
     }
 }
 
-/// The reason why the reading of tables stopped, as a refusal with its line.
+/// The reason of a stop, as a refusal with its line.
 pub fn failure_of(stop: Stop<Failure>) -> Failure
     ensures { result ≡ stopped stop }
 {

@@ -189,7 +189,7 @@ fn rates_by_pair(
     rows_of_places(alloc, places.as_slice(), sites)
 }
 
-/// The row of each pair at its place, if no two rows have one pair.
+/// The row of each pair at its place, if no two rows have the same pair.
 fn place_rows(
     alloc: Global,
     rows: &[RateRow],
