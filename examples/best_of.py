@@ -16,7 +16,7 @@ there are no better ones: the gap says how much better they could be. --write-st
 `spares eval` and buy.py. It prints
 
     start,AIM,BUDGET,COST,LO,HI      the plans that were made, in the order of their totals; those with the same stocks once
-    from,AIM,BUDGET,ROUNDS           the plan from which the best stocks come, after so many rounds of exchanges
+    from,AIM,BUDGET,ROUNDS           the plan that led to the best stocks, and the rounds of exchanges
     best,COST,LO,HI                  the best stocks: what they cost, beyond those on hand, and the ends of their total
     bound,X                          no stocks within the limits that cost at most the budget have a total below this
     gap,X                            HI less the bound

@@ -175,10 +175,10 @@ def why_no_number(text, number):
     """What a planner may have meant by a text that is no number."""
     if re.fullmatch(r'[0-9]+,[0-9]+', text):
         return 'has a comma: a decimal has a point, and thousands have no separator'
-    if re.fullmatch(r'[0-9]*\.[0-9]*', text) and units_of(text, 18) is not None:
+    if re.fullmatch(r'[0-9]*\.[0-9]*', text) and len(text.partition('.')[2].rstrip('0')) > number.places:
         return 'has too many decimals: at most %d are taken' % number.places if number.places else 'is no whole number'
     if re.fullmatch(r'[0-9.]+', text):
-        return 'has two points or no digit' if not text.isdigit() else 'is too large'
+        return 'has two points or no digit' if text.count('.') > 1 or text == '.' else 'is too large'
     if '\xa0' in text or ' ' in text:
         return 'has a blank in it'
     return 'is no number: write digits alone, without signs, separators or units'

@@ -5,14 +5,14 @@
 
 One file of edits (or some, for more than 63 line units) is given to `spares session`: for each line unit the demand at
 all bases is raised by 20 percent, or --percent, rounded up in the 4th decimal; then comes a plan by backorders for the
-same budget, and the demand goes back. The first row is the plan as it is:
+same budget, with nothing on hand, and the demand goes back. The first row is the plan as it is:
 
     line_unit,total_low,total_high,more,stocks
 
 `more` is by how much the upper end of the total grows, `stocks` how many pairs of part and site have another stock than
-in the first plan. Where both are small, the demand is known well enough to buy by. `more` can be below 0, and says nothing
-where it is smaller than the gap of the plans: the rest of a budget then fits better or worse. --picture writes bars of
-`more`, the largest first. What is wrong is one line on the standard error, with the status 2.
+in the first plan. If both are small, the demand is known well enough. `more` can be below 0, and says nothing if it is
+smaller than the gap of the plans: the rest of a budget then fits better or worse. --picture writes bars of `more`, the
+largest first. What is wrong is one line on the standard error, with the status 2.
 """
 
 import argparse
@@ -22,7 +22,7 @@ import re
 import sys
 import tempfile
 
-from fleet_tables import decimal, whole
+from fleet_tables import Refused, decimal, whole
 from pictures import bars_picture
 from reports import Program, Words, micro, run_script, value, whole_number, write_file
 
@@ -62,6 +62,19 @@ def edits_of(words, fleet, units):
     return ''.join(lines)
 
 
+def fault_of(program, words, fleet, units, fault):
+    """The refusal of a session by the tables: the line unit whose larger demand isn't taken, or what `plan` says of them."""
+    line = re.search('fault,edit(?:-rate)?,([0-9]+)$', str(fault))
+    if not line:
+        return fault
+    # two lines before the first unit; each unit has a line for each base, `plan`, and a line for each base
+    at = (int(line.group(1)) - 3) // (2 * len(fleet.bases) + 1)
+    if at < 0:
+        program.reports('plan', '--budget', words.budget, '--certificate', os.devnull)
+        return fault
+    return Refused('%s: %d percent more demand is refused (%s): take fewer' % (units[at], words.percent, line.group(0)))
+
+
 def planned(words, fleet):
     """The plan as it is, and the plans by line unit."""
     program = Program(words)
@@ -72,7 +85,10 @@ def planned(words, fleet):
         for begin in range(0, max(1, len(units)), MOST_UNITS):
             some = units[begin : begin + MOST_UNITS]
             write_file(edits, edits_of(words, fleet, some))
-            first, *reports = program.reports('session', '--edits', edits)
+            try:
+                first, *reports = program.reports('session', '--edits', edits)
+            except Refused as fault:
+                raise fault_of(program, words, fleet, some, fault) from None
             found.update(zip(some, reports))
     return first, found
 

@@ -178,6 +178,9 @@ def lint(trial):
     must(said.startswith("nowhere.csv: fault,read,rates: "), said)
     trial.refuses("lint.py", *trial.tables("sites", "parts"), says="--rates")
     trial.refuses("lint.py", *trial.tables(), "--stoks", "x", says="--stoks")
+    for cost, says in ((b"38.5", "is no whole number"), (b"3.8.5", "has two points"), (b"9" * 30, "is too large")):
+        said = linted(trial, parts=[(b"40000", cost)])
+        must(says in said, "of a cost of %s lint says %s" % (cost, said))
 
 
 def linted(trial, **changes):
@@ -639,6 +642,14 @@ def sensitivity(trial):
     must(len(bars) == 2 and abs(bars[1] / bars[0] - mores[1] / mores[0]) < 1e-3, "the bars")
     must(rows_of(trial.run("sensitivity.py", *words, "--percent", "1"))[1]["more"] < found[1]["more"], "one percent")
     trial.refuses("sensitivity.py", *words, "--percent", "0")
+    # a larger demand that isn't taken, and tables that no plan takes
+    for demand, says in (
+        (b"2500", "winch: 50 percent more demand is refused (fault,edit-rate,"),
+        (b"5000", "fault,pipeline-too-large,winch,"),
+    ):
+        made = changed_rates(trial, rb"winch,(\"?Pier East\"?),4.5", lambda hit: b"winch,%s,%s" % (hit.group(1), demand))
+        words = [*trial.tables("sites", "parts"), "--rates", made, "--budget", "60000", "--program", trial.program]
+        trial.refuses("sensitivity.py", *words, "--percent", "50", says=says)
 
 
 def drivers(trial):
