@@ -11,9 +11,9 @@ ghost use Rattle.budget_sweep.specs.Fits.{IsSmallPoint, IsSmallTarget, TargetFit
 
 use crate::report::{SweepPoint, TargetReport};
 use crate::states::sweep;
+use answers::NoMemory;
 use exact_ratio::Decimal;
 use hull::Curve;
-use spares_io::NoMemory;
 use std::alloc::Global;
 
 /// Target units per backorder (10,000).

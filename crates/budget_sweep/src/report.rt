@@ -1,8 +1,8 @@
 //! The reports of a sweep and of a target.
 
+use answers::List;
 use exact_ratio::Decimal;
 use hull::Price;
-use spares_io::List;
 
 /// The state after a number of steps.
 #[derive(Clone, Copy, Debug, Drop, PartialEq, Eq)]

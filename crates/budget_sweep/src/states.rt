@@ -11,8 +11,8 @@ ghost use Rattle.budget_sweep.specs.Fits.{IsSmallSweep, SweepFits};
 
 use crate::report::SweepReport;
 use crate::sums::{sums_after, sums_at};
+use answers::{List, NoMemory};
 use hull::Curve;
-use spares_io::{List, NoMemory};
 use std::alloc::Global;
 use step_walk::Walk;
 

@@ -14,11 +14,11 @@ ghost use Rattle.budget_sweep.specs.Texts.{
 };
 
 use crate::report::{SweepPoint, SweepReport, TargetReport};
+use answers::NoMemory;
 use fixed_interval::{Iv, ratio_down};
 use hull::Price;
 use line_text::{put_fixed, put_number};
 use plan_report::{put_interval, put_number_line};
-use spares_io::NoMemory;
 use std::alloc::Global;
 
 /// Appends the cost and both ends of a state.

@@ -1,6 +1,6 @@
 -- The plans that the lines of an edits file ask for: a case and a budget for each, or the first fault.
 use Rattle.std.specs.Prelude.{◌==◌, ℕ, suc, nat_le, nat_lt, List, [], ◌∷◌, ◌++◌, length, Option, Some, None, Result, Ok, Err, if◌then◌else◌}
-use Rattle.spares_io.specs.Steps.{◌>>=◌}
+use Rattle.answers.specs.Steps.{◌>>=◌}
 use Rattle.spares_input.specs.Cases.{CaseRows, frame_rows}
 use Rattle.spares_input.specs.Edits.{with_rate}
 use Rattle.demand_rates.specs.Limits.{rate_fault_of}

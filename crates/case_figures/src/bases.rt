@@ -9,11 +9,11 @@ ghost use Rattle.case_figures.specs.Gathering.{IsFamilyOf, base_line_from, facto
 
 use crate::figures::BaseLine;
 use crate::items::span_of;
+use answers::NoMemory;
 use availability::{Weighted, base_availability, factor};
 use family_eval::FamilyResult;
 use fixed_interval::Iv;
 use spares_input::{Case, SiteId};
-use spares_io::NoMemory;
 use std::alloc::Global;
 
 /// The availability factor of a family's line unit at a base.

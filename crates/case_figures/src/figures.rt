@@ -4,9 +4,9 @@ ghost use Rattle.std.specs.Prelude.{◌≡◌};
 ghost use Rattle.case_figures.specs.Spans.{ends, places};
 
 use crate::held::Items;
+use answers::List;
 use fixed_interval::Iv;
 use spares_input::Name;
-use spares_io::List;
 
 /// An interval with 32, 48 or 52 binary places.
 #[derive(Clone, Copy, Debug, PartialEq, Eq)]

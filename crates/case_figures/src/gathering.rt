@@ -15,11 +15,11 @@ use crate::bases::{base_lines, weighted_bases};
 use crate::figures::Figures;
 use crate::held::Items;
 use crate::items::{held_by_pair, part_names, site_names, span_of};
+use answers::{List, NoMemory};
 use availability::fleet;
 use family_eval::FamilyResult;
 use fixed_interval::Iv;
 use spares_input::{Case, Stocks};
-use spares_io::{List, NoMemory};
 use std::alloc::Global;
 
 /// The figures of a case enclose the model's at every depth, and can be printed.

@@ -10,10 +10,10 @@ ghost use Rattle.case_figures.specs.Spans.{span_of};
 
 use crate::figures::Span;
 use crate::held::HeldItem;
+use answers::NoMemory;
 use family_eval::{FamilyResult, Item};
 use fixed_interval::Iv;
 use spares_input::{Case, Name, PartId, SiteId, pair_place};
-use spares_io::NoMemory;
 use std::alloc::Global;
 
 /// An interval as one of the three kinds of [`Span`].

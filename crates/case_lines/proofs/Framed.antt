@@ -20,9 +20,9 @@ use Rattle.case_lines.proofs.Few.{case_parts, case_sites}
 use Rattle.case_lines.proofs.Rows.{fits_at, sites_at, part_rows, rate_row}
 use Rattle.spares_input.proofs.Standing.{Stand, case_of_standing, stand_in_order}
 use Rattle.case_lines.specs.Framed.{framed}
-use Rattle.spares_io.specs.Answers.{Gives}
-use Rattle.spares_io.specs.declared.stop.Stop.{Stop}
-use Rattle.spares_io.specs.declared.stop.Stop.TheVariants as stop
+use Rattle.answers.specs.Answers.{Gives}
+use Rattle.answers.specs.declared.stop.Stop.{Stop}
+use Rattle.answers.specs.declared.stop.Stop.TheVariants as stop
 use lib.Chars.{codes}
 
 module _ (c : CaseRows) (h : case_format.fits c ≡ true) where

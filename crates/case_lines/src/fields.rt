@@ -3,8 +3,8 @@
 ghost use Rattle.std.specs.Prelude.{◌≡◌, ◌≤◌, ◌++◌, OnOk};
 ghost use Rattle.case_lines.specs.Fields.{number_text, fixed_text_if};
 
+use answers::NoMemory;
 use line_text::{put_fixed, put_number};
-use spares_io::NoMemory;
 
 /// Writes a whole number, or an empty field.
 pub(crate) fn put_number_if(out: &mut Vec<u8>, has: bool, number: u128) -> Result<(), NoMemory>

@@ -8,9 +8,9 @@ ghost use Rattle.case_lines.specs.Grammar.{part_fields, part_lines, parts_line, 
 ghost use Rattle.case_lines.specs.Fields.{parent_text, weight_text};
 
 use crate::fields::put_number_if;
+use answers::NoMemory;
 use line_text::{put_count_line, put_number};
 use spares_input::{Case, Name, PartId, PartRow};
-use spares_io::NoMemory;
 
 /// Writes the name of a parent, if there is one.
 fn put_parent(out: &mut Vec<u8>, parent: &Option<Name>) -> Result<(), NoMemory>

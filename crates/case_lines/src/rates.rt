@@ -10,9 +10,9 @@ ghost use Rattle.spares_input.specs.Cases.{rate_at};
 ghost use Rattle.case_lines.specs.Grammar.{pair_of, pair_at, rate_fields, rate_line, rates};
 
 use crate::fields::put_fixed_if;
+use answers::NoMemory;
 use line_text::{put_count_line, put_fixed};
 use spares_input::{Case, PartId, PartRow, RateRow, SiteId, SiteRow};
-use spares_io::NoMemory;
 
 /// Whether a pair has a demand field: only a line unit at a base has one.
 pub fn has_demand(is_line: bool, is_depot: bool) -> bool

@@ -9,9 +9,9 @@ ghost use Rattle.case_lines.specs.Grammar.{weight_field, part_fields, is_owed, m
 
 use crate::parts::are_weighted;
 use crate::read_fields::{name_in, number_if, parent_in};
+use answers::Stop;
 use line_text::{BadLine, Fields, Lines, count_line};
 use spares_input::PartRow;
-use spares_io::Stop;
 use std::alloc::Global;
 
 /// Takes the weight if weights are written; otherwise a line unit has 1 and a shop unit 0.

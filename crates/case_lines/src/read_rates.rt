@@ -9,9 +9,9 @@ ghost use Rattle.case_lines.specs.Grammar.{pair_of, pair_at, rate_fields, rate_l
 
 use crate::rates::has_demand;
 use crate::read_fields::fixed_if;
+use answers::Stop;
 use line_text::{BadLine, Fields, Lines, count_line};
 use spares_input::{PartId, PartRow, RateRow, SiteId, SiteRow};
-use spares_io::Stop;
 use std::alloc::Global;
 
 /// Takes `PART,SITE,DEMAND,REPAIR_HERE,SHARE,DAYS`; a field that the pair lacks is empty.

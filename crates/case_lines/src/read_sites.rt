@@ -8,9 +8,9 @@ ghost use Rattle.line_text.specs.Reading.{Reads, Gathers, Takes};
 ghost use Rattle.case_lines.specs.Grammar.{depot_fields, base_fields, site_line, sites};
 
 use crate::read_fields::name_in;
+use answers::Stop;
 use line_text::{BadLine, Fields, Lines, count_line};
 use spares_input::SiteRow;
-use spares_io::Stop;
 use std::alloc::Global;
 
 /// Takes `NAME,depot,,`.

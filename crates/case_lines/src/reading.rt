@@ -1,7 +1,7 @@
 //! All lines of a case.
 
 ghost use Rattle.std.specs.Prelude.{◌≡◌, true};
-ghost use Rattle.spares_io.specs.Answers.{Gives};
+ghost use Rattle.answers.specs.Answers.{Gives};
 ghost use Rattle.line_text.specs.Reading.{Gathers};
 ghost use Rattle.case_lines.specs.Grammar.{case_format};
 ghost use Rattle.case_lines.specs.Framed.{rows_of, framed};
@@ -9,9 +9,9 @@ ghost use Rattle.case_lines.specs.Framed.{rows_of, framed};
 use crate::read_parts::parts;
 use crate::read_rates::rates;
 use crate::read_sites::sites;
+use answers::{List, Stop};
 use line_text::{BadLine, Lines};
 use spares_input::{Case, CaseFault, Frame, PartRow, RateRow, SiteRow};
-use spares_io::{List, Stop};
 use std::alloc::Global;
 
 /// The rows of a case's lines. They need not make a case: names may be repeated, and parents may be unknown.

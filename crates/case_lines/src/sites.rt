@@ -7,9 +7,9 @@ ghost use Rattle.line_text.specs.Files.{line, file_text};
 ghost use Rattle.line_text.specs.Texts.{numbers_from};
 ghost use Rattle.case_lines.specs.Grammar.{depot_fields, base_fields, site_line, sites};
 
+use answers::NoMemory;
 use line_text::{put_count_line, put_fixed, put_number};
 use spares_input::{Case, SiteId, SiteRow};
-use spares_io::NoMemory;
 
 /// Writes NAME,depot,,
 fn put_depot(out: &mut Vec<u8>, site: &SiteRow) -> Result<(), NoMemory>

@@ -7,8 +7,8 @@ ghost use Rattle.case_lines.specs.Grammar.{case_format};
 use crate::parts::put_parts;
 use crate::rates::put_rates;
 use crate::sites::put_sites;
+use answers::NoMemory;
 use spares_input::Case;
-use spares_io::NoMemory;
 use std::alloc::Global;
 
 /// Writes the lines of a case.

@@ -10,10 +10,10 @@ ghost use Rattle.marginal_alloc.specs.Choice.{AreCurves};
 ghost use Rattle.marginal_alloc.specs.Plans.{IsPlan};
 ghost use Rattle.case_plan.specs.Parts.{slack, IsPlace, IsSmallPrice};
 
+use answers::NoMemory;
 use hull::{Curve, Point, Price};
 use marginal_alloc::plans::PlanNumbers;
 use marginal_alloc::{Critical, allocate_near, fill};
-use spares_io::NoMemory;
 use std::alloc::Global;
 
 /// Sums over all picks.

@@ -10,11 +10,11 @@ ghost use Rattle.case_plan.specs.Report.{IsOutcome};
 
 use crate::outcome::Outcome;
 use crate::planning::plan;
+use answers::NoMemory;
 use demand_rates::kinds::Rates;
 use hull::Score;
 use on_hand::held_curves;
 use spares_input::{Case, Stocks};
-use spares_io::NoMemory;
 use std::alloc::Global;
 
 /// The plan of a case under a budget in whole money, from held stocks: a list for the case, within the limits. If

@@ -1,9 +1,9 @@
 //! The outcome of a plan.
 
+use answers::List;
 use hull::Price;
 use plan_report::PlanReport;
 use spares_input::Stocks;
-use spares_io::List;
 
 /// A report with the claims of its certificate.
 #[derive(Drop)]

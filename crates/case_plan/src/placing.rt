@@ -13,9 +13,9 @@ ghost use Rattle.spares_input.specs.Building.{ids};
 ghost use Rattle.case_plan.specs.Placing.{IsPlacedAt, IsPlacedFamily};
 
 use crate::choose::pick_of;
+use answers::NoMemory;
 use hull::Curve;
 use spares_input::{Case, PartId, SiteId, Stocks};
-use spares_io::NoMemory;
 use std::alloc::Global;
 
 /// Writes the stocks of some parts at one site to their pairs.

@@ -16,6 +16,7 @@ use crate::choose::choose;
 use crate::chosen::ChosenStocks;
 use crate::outcome::Outcome;
 use crate::placing::stocks_of;
+use answers::{List, NoMemory};
 use case_figures::figures_at;
 use demand_rates::kinds::Rates;
 use family_eval::{FamilyResult, evaluate_all};
@@ -24,7 +25,6 @@ use hull::{Curve, Price};
 use marginal_alloc::Critical;
 use plan_report::{CriticalLine, PlanReport};
 use spares_input::{Case, PartId};
-use spares_io::{List, NoMemory};
 use std::alloc::Global;
 
 /// The line unit with this index among the line units.

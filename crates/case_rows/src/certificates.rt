@@ -1,10 +1,10 @@
 //! Certificates as texts, and the answers of their checker.
 
+use answers::{NoMemory, Stop};
 use demand_rates::{Place, RateFault};
 use gap_checker::{Accepted, Reject, check};
 use price_certificate::{CertFault, read};
 use spares_input::{CaseFault, PartId, SiteId};
-use spares_io::{NoMemory, Stop};
 use std::alloc::Global;
 use std::process::Abort;
 use std::test::*;

@@ -5,10 +5,10 @@ ghost use Rattle.std.specs.List.{AllZip};
 ghost use Rattle.family_eval.specs.Inputs.{IsLine};
 ghost use Rattle.family_curve.specs.Points.{AreOrdered};
 
+use answers::List;
 use family_curve::{Bounds, choices, curve, curve_within, limits_of, tables, tables_within, work};
 use hull::{Curve, Plain, Point};
 use spares_input::{Case, PartId};
-use spares_io::List;
 use std::alloc::Global;
 use std::test::*;
 use text_cases::{family_of, rates_of};

@@ -14,7 +14,7 @@ use Rattle.refusals.specs.declared.refusal.File.{File}
 use Rattle.refusals.specs.declared.refusal.File.TheVariants.{Sites, Parts, Rates}
 use Rattle.refusals.specs.declared.refusal.Refusal.{Refusal}
 use Rattle.refusals.specs.declared.refusal.Refusal.TheVariants as refusal
-use Rattle.spares_io.specs.Steps.{◌>>=◌}
+use Rattle.answers.specs.Steps.{◌>>=◌}
 use Rattle.refusals.specs.Causes.{of_task, kind_of, or_refuse}
 use Rattle.refusals.specs.Lines.{no_names}
 use Rattle.case_tables.specs.Tables.{accepted_of, case_of_table, case_of_tables, frame_of_tables, rates_of_case, stocked_of, stocks_of_table}

@@ -1,8 +1,8 @@
 -- The answers of the calls: a value, the refusal of its definition, or want of memory.
 use Rattle.std.specs.Prelude.{◌≡◌, ⊤, Result, Ok, Err}
 use Rattle.spares_input.specs.Cases.{CaseRows}
-use Rattle.spares_io.specs.declared.stop.Stop.{Stop}
-use Rattle.spares_io.specs.declared.stop.Stop.TheVariants as stop
+use Rattle.answers.specs.declared.stop.Stop.{Stop}
+use Rattle.answers.specs.declared.stop.Stop.TheVariants as stop
 use Rattle.refusals.specs.declared.failure.Failure.{Failure}
 use Rattle.case_tables.specs.declared.Accepted.{Accepted}
 use Rattle.case_tables.specs.declared.Stocked.{Stocked}

@@ -13,7 +13,7 @@ use Rattle.refusals.specs.declared.failure.Failure.{Failure}
 use Rattle.refusals.specs.declared.refusal.File.{File}
 use Rattle.refusals.specs.declared.refusal.File.TheVariants.{Sites, Parts, Rates}
 use Rattle.refusals.specs.declared.refusal.Refusal.TheVariants as refusal
-use Rattle.spares_io.specs.Steps.{◌>>=◌}
+use Rattle.answers.specs.Steps.{◌>>=◌}
 use Rattle.refusals.specs.Causes.{or_refuse}
 use Rattle.refusals.specs.Lines.{no_names}
 

@@ -5,17 +5,17 @@
 ghost use Rattle.std.specs.Prelude.{◌≤◌, IfOk, length};
 ghost use Rattle.demand_rates.specs.Rates.{AreRatesOf};
 ghost use Rattle.spares_input.specs.Stocks.{IsFor, IsWithinLimits};
-ghost use Rattle.spares_io.specs.Answers.{Gives};
+ghost use Rattle.answers.specs.Answers.{Gives};
 ghost use Rattle.csv_tables.specs.Rest.{table_limit};
 ghost use Rattle.case_tables.specs.Answers.{Tells, TellsStocked};
 ghost use Rattle.case_tables.specs.Tables.{accepted_of, case_of_table, case_of_tables, frame_of_tables, rates_of_case, stocked_of, stocks_of_table};
 
+use answers::Stop;
 use csv_tables::{read_parts, read_rates, read_sites, read_stocks};
 use demand_rates::kinds::Rates;
 use demand_rates::rates;
 use refusals::{Failure, File, Refusal};
 use spares_input::{Case, Frame, Stocks, stocks_from};
-use spares_io::Stop;
 use std::alloc::Global;
 
 /// The frame of two tables.

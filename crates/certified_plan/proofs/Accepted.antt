@@ -8,7 +8,7 @@ use Rattle.std.specs.Option.{option_map}
 use Rattle.std.proofs.lemmas.Nat.{div-add-mod'}
 use Rattle.std.proofs.lemmas.List.Sums.{sum_by-cons}
 use Rattle.std.proofs.Math.Nat.{mod-lt, div-lt_iff_lt-mul}
-use Rattle.spares_io.specs.Causes.{count64}
+use Rattle.answers.specs.Counts.{count64}
 use Rattle.hull.specs.declared.point.Point.{Point}
 use Rattle.hull.specs.declared.price.Price.{Price}
 use Rattle.hull.specs.Curves.{lagrangian, Among}

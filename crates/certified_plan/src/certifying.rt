@@ -8,12 +8,12 @@ ghost use Rattle.certified_plan.specs.Inputs.{AreClaims, AreTerms, IsHeld};
 ghost use Rattle.certified_plan.specs.Certificates.{certificate_of, cover_of, covers_in, covers_of};
 
 use crate::terms::PlanClaims;
+use answers::{List, NoMemory};
 use family_curve::vector_of;
 use family_eval::line_units;
 use hull::Price;
 use price_certificate::{Certificate, Node, Terms, trim};
 use spares_input::{Case, PartId, Stocks};
-use spares_io::{List, NoMemory};
 use std::alloc::Global;
 
 /// The cover of a family at a price and its floor, from the held stocks.

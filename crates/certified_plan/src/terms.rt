@@ -1,8 +1,8 @@
 //! The claims of a plan's certificate.
 
+use answers::List;
 use hull::Price;
 use spares_input::Stocks;
-use spares_io::List;
 
 /// The claims of a plan about its case.
 #[derive(Drop)]

@@ -5,10 +5,10 @@ ghost use Rattle.price_certificate.specs.Certificates.{IsWellFormed};
 ghost use Rattle.on_hand.specs.Held.{IsWellHeld};
 ghost use Rattle.certified_plan.specs.Certificates.{text_of};
 
+use answers::NoMemory;
 use on_hand::HeldCertificate;
 use price_certificate::Certificate;
 use spares_input::Stocks;
-use spares_io::NoMemory;
 use std::alloc::Global;
 
 /// The text of a certificate, with the held stocks if there are any. Want of memory is the only error.

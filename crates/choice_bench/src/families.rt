@@ -3,9 +3,9 @@ ghost use Rattle.std.specs.Prelude.{◌≡◌, ◌<◌, length, IfOk};
 ghost use Rattle.hull.specs.declared.point.Point.{Point};
 ghost use Rattle.hull.specs.Curves.{InRange};
 
+use answers::List;
 use anyhow::anyhow;
 use hull::{Curve, Point};
-use spares_io::List;
 use std::alloc::Global;
 
 /// Families with a count of vertices each, whose intervals have widths below a number of units. The first family is

@@ -13,7 +13,7 @@ use Rattle.spares_input.specs.declared.rows.RateRow.{RateRow}
 use Rattle.spares_input.specs.declared.rows.StockRow.{StockRow}
 use Rattle.spares_input.proofs.PartFacts.{part_named, site_named}
 use Rattle.csv_tables.specs.Rest.{Record}
-use Rattle.spares_io.specs.Steps.{◌>>=◌}
+use Rattle.answers.specs.Steps.{◌>>=◌}
 use Rattle.csv_tables.specs.Fields.{field, has_none, name_in, number_in, used_in}
 use Rattle.csv_tables.specs.Sites.{depot_in, site_of}
 use Rattle.csv_tables.specs.Parts.{parent_in, part_of, weight_in}

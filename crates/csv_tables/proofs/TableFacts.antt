@@ -1,14 +1,14 @@
 -- The rows of a table, record by record.
 use Rattle.std.proofs.Common.{◌≡◌, ℕ, ◌+◌, ◌<◌, ◌≤◌, Bool, true, false, List, [], ◌∷◌, ◌++◌, length, Some, None, Result, Ok, Err, refl, sym, ◌∙◌, arith, append_assoc, nat_le, if◌then◌else◌, ◌&&◌, IfOk, Vec, Global}
-use Rattle.spares_io.specs.Answers.{Gives}
-use Rattle.spares_io.specs.declared.stop.Stop.{Stop}
+use Rattle.answers.specs.Answers.{Gives}
+use Rattle.answers.specs.declared.stop.Stop.{Stop}
 use Rattle.std.specs.List.{All}
 use Rattle.std.proofs.lemmas.List.{append-nil}
 use Rattle.std.proofs.lemmas.List.Elements.{All-nil, All-cons}
 use Rattle.std.proofs.lemmas.Bool.{false≢true, le-leb, lt-leb, leb-false, and_from}
 use Rattle.spares_input.specs.First.{first}
 use Rattle.csv_tables.specs.Rest.{Record, TakesFirst}
-use Rattle.spares_io.specs.Steps.{◌>>=◌}
+use Rattle.answers.specs.Steps.{◌>>=◌}
 use Rattle.csv_tables.specs.Fields.{counted}
 use Rattle.csv_tables.specs.Tables.{column_fault, header_in, row_with, rows_from, rows_of, table_of}
 use Rattle.csv_tables.specs.declared.fault.TableFault.{TableFault}

@@ -2,7 +2,7 @@
 use Rattle.std.specs.Prelude.{ℕ, Bool, ◌==◌, List, [], ◌∷◌, length, Option, Some, None, is_none, Result, Ok, if◌then◌else◌, codes}
 use Rattle.spares_input.specs.declared.rows.PartRow.{PartRow}
 use Rattle.csv_tables.specs.Rest.{Record, all_records}
-use Rattle.spares_io.specs.Steps.{◌>>=◌}
+use Rattle.answers.specs.Steps.{◌>>=◌}
 use Rattle.csv_tables.specs.Fields.{field, has_none, name_in, number_in, used_in}
 use Rattle.csv_tables.specs.Tables.{table_of}
 use Rattle.csv_tables.specs.declared.fault.TableFault.{TableFault}

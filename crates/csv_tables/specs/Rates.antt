@@ -6,7 +6,7 @@ use Rattle.spares_input.specs.Rows.{is_line}
 use Rattle.spares_input.specs.Frames.{FrameRows, part_at, part_names, place_of, site_names}
 use Rattle.spares_input.specs.declared.rows.RateRow.{RateRow}
 use Rattle.csv_tables.specs.Rest.{Record, all_records}
-use Rattle.spares_io.specs.Steps.{◌>>=◌}
+use Rattle.answers.specs.Steps.{◌>>=◌}
 use Rattle.csv_tables.specs.Fields.{field, name_in, number_in, used_in}
 use Rattle.csv_tables.specs.Tables.{table_of}
 use Rattle.csv_tables.specs.declared.fault.TableFault.{TableFault}

@@ -2,7 +2,7 @@
 use Rattle.std.specs.Prelude.{ℕ, Bool, true, false, not, List, [], ◌∷◌, Result, Ok, Err, if◌then◌else◌, bytes_eq, codes}
 use Rattle.spares_input.specs.declared.rows.SiteRow.{SiteRow}
 use Rattle.csv_tables.specs.Rest.{Record, all_records}
-use Rattle.spares_io.specs.Steps.{◌>>=◌}
+use Rattle.answers.specs.Steps.{◌>>=◌}
 use Rattle.csv_tables.specs.Fields.{field, name_in, used_in}
 use Rattle.csv_tables.specs.Tables.{table_of}
 use Rattle.csv_tables.specs.declared.fault.TableFault.{TableFault}

@@ -3,7 +3,7 @@ use Rattle.std.specs.Prelude.{ℕ, List, [], ◌∷◌, Result, Ok, codes}
 use Rattle.spares_input.specs.Frames.{FrameRows}
 use Rattle.spares_input.specs.declared.rows.StockRow.{StockRow}
 use Rattle.csv_tables.specs.Rest.{Record, all_records}
-use Rattle.spares_io.specs.Steps.{◌>>=◌}
+use Rattle.answers.specs.Steps.{◌>>=◌}
 use Rattle.csv_tables.specs.Fields.{field, number_in}
 use Rattle.csv_tables.specs.Rates.{part_in, site_in}
 use Rattle.csv_tables.specs.Tables.{table_of}

@@ -4,7 +4,7 @@ use Rattle.std.specs.Prelude.{ℕ, ◌+◌, ◌&&◌, nat_le, List, [], ◌∷�
 use Rattle.std.specs.Global.{Global}
 use Rattle.spares_input.specs.First.{first, unless}
 use Rattle.csv_tables.specs.Rest.{Record}
-use Rattle.spares_io.specs.Steps.{◌>>=◌}
+use Rattle.answers.specs.Steps.{◌>>=◌}
 use Rattle.csv_tables.specs.Fields.{counted, field}
 use Rattle.csv_tables.specs.declared.fault.TableFault.{TableFault}
 use Rattle.csv_tables.specs.declared.fault.TableFault.TheVariants as fault

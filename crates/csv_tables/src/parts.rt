@@ -2,7 +2,7 @@
 
 ghost use Rattle.std.specs.Prelude.{◌≡◌, ◌≤◌, IfOk, All, length, map};
 ghost use Rattle.csv.specs.Records.{fields_of};
-ghost use Rattle.spares_io.specs.Answers.{Gives};
+ghost use Rattle.answers.specs.Answers.{Gives};
 ghost use Rattle.spares_input.specs.Rows.{IsPartRow};
 ghost use Rattle.csv_tables.specs.Rest.{table_limit};
 ghost use Rattle.csv_tables.specs.Tables.{rows_of};
@@ -11,9 +11,9 @@ ghost use Rattle.csv_tables.specs.Parts.{parent_in, part_of, parts_of, parts_hea
 use crate::fault::TableFault;
 use crate::fields::{field, name_in, number_in, used_in};
 use crate::table::{Table, read_table};
+use answers::Stop;
 use csv::ByteRecord;
 use spares_input::{Name, PartRow};
-use spares_io::Stop;
 use std::alloc::Global;
 
 /// The rows of a table of parts, or its first fault. The last column, `weight`, may be missing: then each line unit has

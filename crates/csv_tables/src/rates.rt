@@ -3,7 +3,7 @@
 ghost use Rattle.std.specs.Prelude.{◌≡◌, ◌≤◌, ◌<◌, [], IfOk, All, length, get_or, map};
 ghost use Rattle.std.specs.Result.{result_map_both};
 ghost use Rattle.csv.specs.Records.{fields_of};
-ghost use Rattle.spares_io.specs.Answers.{Gives};
+ghost use Rattle.answers.specs.Answers.{Gives};
 ghost use Rattle.spares_input.specs.Cases.{IsRateOf};
 ghost use Rattle.csv_tables.specs.Rest.{table_limit};
 ghost use Rattle.csv_tables.specs.Tables.{rows_of};
@@ -12,9 +12,9 @@ ghost use Rattle.csv_tables.specs.Rates.{part_in, rate_in, rate_of, rates_of, ra
 use crate::fault::TableFault;
 use crate::fields::{field, name_in, number_in, used_in};
 use crate::table::{Table, read_table};
+use answers::Stop;
 use csv::ByteRecord;
 use spares_input::{Frame, PartId, RateRow, SiteId};
-use spares_io::Stop;
 use std::alloc::Global;
 
 /// The rows of a table of rates for this frame, or its first fault.

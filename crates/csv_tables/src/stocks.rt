@@ -2,7 +2,7 @@
 
 ghost use Rattle.std.specs.Prelude.{◌≡◌, ◌≤◌, IfOk, All, length, map};
 ghost use Rattle.csv.specs.Records.{fields_of};
-ghost use Rattle.spares_io.specs.Answers.{Gives};
+ghost use Rattle.answers.specs.Answers.{Gives};
 ghost use Rattle.spares_input.specs.Stocks.{IsStockOf};
 ghost use Rattle.csv_tables.specs.Rest.{table_limit};
 ghost use Rattle.csv_tables.specs.Tables.{rows_of};
@@ -12,9 +12,9 @@ use crate::fault::TableFault;
 use crate::fields::{field, number_in};
 use crate::rates::{part_in, site_in};
 use crate::table::{Table, read_table};
+use answers::Stop;
 use csv::ByteRecord;
 use spares_input::{Frame, StockRow};
-use spares_io::Stop;
 use std::alloc::Global;
 
 /// The rows of a table of stocks for this frame, or its first fault.

@@ -2,7 +2,7 @@
 
 ghost use Rattle.std.specs.Prelude.{◌≡◌, ◌+◌, ◌<◌, ◌≤◌, ◌^◌, ℕ, Result, length, map};
 ghost use Rattle.csv.specs.Records.{fields_of};
-ghost use Rattle.spares_io.specs.Answers.{Gives};
+ghost use Rattle.answers.specs.Answers.{Gives};
 ghost use Rattle.csv_tables.specs.Rest.{all_records, rest_of, IsTable, Record, table_limit};
 ghost use Rattle.csv_tables.specs.Tables.{column_fault, header_in, row_with, rows_from, rows_of, table_of};
 ghost use Rattle.csv_tables.specs.declared.fault.TableFault.{TableFault};
@@ -10,8 +10,8 @@ ghost use Rattle.csv_tables.specs.declared.fault.TableFault.{TableFault};
 use crate::fault::TableFault;
 use crate::fields::{counted, field};
 use crate::reader::{next_record, table_of};
+use answers::Stop;
 use csv::{ByteRecord, Reader};
-use spares_io::Stop;
 use std::alloc::Global;
 
 /// A kind of table, which parses its records.

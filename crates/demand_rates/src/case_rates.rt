@@ -1,7 +1,7 @@
 //! The rates of a case.
 
 ghost use Rattle.std.specs.Prelude.{◌≡◌, ◌*◌, ◌<◌, map, IfOk};
-ghost use Rattle.spares_io.specs.Answers.{Gives};
+ghost use Rattle.answers.specs.Answers.{Gives};
 ghost use Rattle.spares_input.specs.Building.{StopsAt};
 ghost use Rattle.demand_rates.specs.Depot.{AreDepotDemands};
 ghost use Rattle.demand_rates.specs.Limits.{rate_fault_of};
@@ -14,8 +14,8 @@ use crate::kinds::{PairRates, Rates};
 use crate::limits::pipeline_fault;
 use crate::pairs::pair_rates;
 use crate::waits::all_waits;
+use answers::Stop;
 use spares_input::{Case, pair_at};
-use spares_io::Stop;
 use std::alloc::Global;
 
 /// The rates of all pairs, by part and then by site, or the first rule that they break.

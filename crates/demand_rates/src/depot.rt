@@ -6,8 +6,8 @@ ghost use Rattle.fleet_model.specs.Units.{demand_00, demand_i0, demand_units, se
 ghost use Rattle.demand_rates.specs.Depot.{AreDepotDemands};
 
 use crate::rows::{depot_row, line_sent, rate_row, shop_needed, shop_sent};
+use answers::NoMemory;
 use spares_input::{Case, PartId, SiteId};
-use spares_io::NoMemory;
 use std::alloc::Global;
 
 /// m_00 of a line unit, in 10^-8 a year.

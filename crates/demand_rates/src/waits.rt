@@ -6,8 +6,8 @@ ghost use Rattle.demand_rates.specs.Limits.{IsRate};
 ghost use Rattle.demand_rates.specs.Waits.{wait, wait_most, AreWaits, AreAllWaits};
 
 use crate::rows::{days_at, depot_row, in_repair, rate_row, ship_days, shop_demand, shop_sent};
+use answers::NoMemory;
 use spares_input::{Case, PartId, RateRow, SiteId};
-use spares_io::NoMemory;
 use std::alloc::Global;
 
 /// q_i0 T_i0 of a shop unit, in 10^-6 days.

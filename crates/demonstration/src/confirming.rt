@@ -7,9 +7,9 @@ ghost use Rattle.price_certificate.specs.declared.certificate.Objective.TheVaria
 ghost use Rattle.family_curve.specs.Points.{plain_ends};
 ghost use Rattle.spares_input.specs.Stocks.{nothing_held};
 
+use answers::{NoMemory, Stop};
 use gap_checker::check;
 use price_certificate::{Certificate, read, text};
-use spares_io::{NoMemory, Stop};
 use std::alloc::Global;
 
 /// Writes a certificate that breaks no rule, reads it back and checks it.

@@ -9,6 +9,7 @@ ghost use Rattle.plan_report.specs.Fits.{FitsSummary};
 ghost use Rattle.price_certificate.specs.Certificates.{IsWellFormed};
 
 use crate::confirming::confirm;
+use answers::NoMemory;
 use case_plan::{Outcome, plan_case};
 use certified_plan::{PlanClaims, certificate};
 use demo_accepts::demonstration;
@@ -16,7 +17,6 @@ use hull::Plain;
 use plan_report::Summary;
 use price_certificate::{Certificate, Objective, Terms};
 use spares_input::{Case, Stocks, nothing_held};
-use spares_io::NoMemory;
 use std::alloc::Global;
 
 /// The budget for each line unit of a demonstration, in whole money.

@@ -13,11 +13,11 @@ ghost use Rattle.family_curve.specs.Tabled.{AreTables, numbers};
 use crate::base_at::BaseAt;
 use crate::depot::{DepotTables, own_at, put_backorders};
 use crate::order::{Base, Choice};
+use answers::NoMemory;
 use family_tables::Evaluator;
 use fixed_interval::Iv;
 use hull::{Chain, Score, Spot, is_first};
 use series_bounds::short::Iv64;
-use spares_io::NoMemory;
 use std::alloc::Global;
 
 /// Stocks at a base, with their cost and the ends of their score.

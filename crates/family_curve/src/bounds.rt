@@ -5,8 +5,8 @@ ghost use Rattle.family_eval.specs.Inputs.{IsLine};
 ghost use Rattle.family_curve.specs.Vectors.{limits, zeros};
 
 use crate::places::limits_of;
+use answers::{List, NoMemory};
 use spares_input::{Case, PartId};
-use spares_io::{List, NoMemory};
 use std::alloc::Global;
 
 /// The vectors of a family that a curve considers, and the stocks that are held already and cost nothing. The lists are

@@ -1,7 +1,7 @@
 //! The work that a family's curve takes, counted in tables.
 
 ghost use Rattle.std.specs.Prelude.{◌≡◌, ◌+◌, ◌-◌, ◌*◌, ◌^◌, ◌<◌, ◌≤◌, length, get_or, map, sum, drop};
-ghost use Rattle.spares_io.specs.Causes.{count64};
+ghost use Rattle.answers.specs.Counts.{count64};
 ghost use Rattle.fleet_model.specs.Rows.{shop_units};
 ghost use Rattle.family_eval.specs.Inputs.{IsLine};
 ghost use Rattle.family_curve.specs.Counts.{product, depot_width, base_width, choices_of, tables_of, tables_between, widths, work_of};

@@ -9,10 +9,10 @@ ghost use Rattle.family_curve.specs.Tabled.{AreTables, numbers, own_at};
 use crate::base_at::BaseAt;
 use crate::family::shops_of;
 use crate::sources::Sources;
+use answers::NoMemory;
 use family_tables::{BaseShops, Evaluator, OwnPart};
 use moment_table::kinds::Table;
 use series_bounds::short::Iv64;
-use spares_io::NoMemory;
 
 /// The tables shared by all vectors with the same stocks of the shop units at the depot.
 #[derive(Drop)]

@@ -14,10 +14,10 @@ ghost use Rattle.family_curve.specs.Tabled.{numbers};
 
 use crate::bounds::Bounds;
 use crate::vectors::{count, vector_at};
+use answers::NoMemory;
 use demand_rates::kinds::Rates;
 use family_tables::Evaluator;
 use spares_input::{Case, PartId, PartRow, SiteId};
-use spares_io::NoMemory;
 use std::alloc::Global;
 use std::marker::Model;
 

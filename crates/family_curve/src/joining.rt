@@ -14,10 +14,10 @@ use crate::base_at::BaseAt;
 use crate::depot::{DepotTables, depot_tables};
 use crate::family::{Family, joined};
 use crate::sources::Sources;
+use answers::{List, NoMemory};
 use hull::{Chain, Curve, Point, Score};
 use series_bounds::short::Iv64;
 use spares_input::SiteId;
-use spares_io::{List, NoMemory};
 use std::alloc::Global;
 use sum_walk::walk::{Runner, Stocks, Turn, walk};
 

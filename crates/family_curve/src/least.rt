@@ -21,12 +21,12 @@ use crate::family::{Family, joined};
 use crate::lows::low_at_depot;
 use crate::order::Choice;
 use crate::sources::Sources;
+use answers::NoMemory;
 use demand_rates::kinds::Rates;
 use family_tables::Evaluator;
 use hull::{Price, Score, Spot};
 use series_bounds::short::Iv64;
 use spares_input::{Case, PartId, SiteId};
-use spares_io::NoMemory;
 use std::alloc::Global;
 
 /// The Lagrangian of a choice at a base, by the base's rows.

@@ -20,10 +20,10 @@ ghost use Rattle.family_curve.specs.Local.{ChangesAreLocal, FamiliesAreLocal};
 
 use crate::family::Family;
 use crate::joining::family_curve;
+use answers::NoMemory;
 use demand_rates::kinds::Rates;
 use hull::{Curve, Score};
 use spares_input::{Case, PartId};
-use spares_io::NoMemory;
 use std::alloc::Global;
 
 mod base;

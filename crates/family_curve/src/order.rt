@@ -8,8 +8,8 @@ ghost use Rattle.family_curve.specs.Inputs.{line_stocks, shop_vectors};
 ghost use Rattle.family_curve.specs.Spots.{AreBases, IsBaseOf, IsChoice, IsShopVector, choice_stocks, turned_stocks};
 
 use crate::family::{Family, joined};
+use answers::{List, NoMemory};
 use spares_input::SiteId;
-use spares_io::{List, NoMemory};
 use std::alloc::Global;
 
 /// Stocks of the shop units at a base.

@@ -6,8 +6,8 @@ ghost use Rattle.spares_input.specs.Stocks.{HasPair, IsFor, limit_at, stock_at};
 ghost use Rattle.family_eval.specs.Inputs.{IsLine};
 ghost use Rattle.family_curve.specs.Vectors.{limits, places, vector_of};
 
+use answers::{List, NoMemory};
 use spares_input::{Case, PartId, SiteId, Stocks};
-use spares_io::{List, NoMemory};
 use std::alloc::Global;
 
 /// The part at each place of a family's vectors. Want of memory is the only error.

@@ -5,10 +5,10 @@ ghost use Rattle.family_curve.specs.Joining.{AreSources};
 
 use crate::family::{Family, shops_of};
 use crate::order::{Base, bases_of};
+use answers::NoMemory;
 use family_tables::{BaseShops, Evaluator};
 use moment_table::kinds::Table;
 use spares_input::SiteId;
-use spares_io::NoMemory;
 use std::alloc::Global;
 
 /// The data of a family that doesn't depend on the depot's stocks: each is made once.

@@ -16,12 +16,12 @@ use crate::bounds::Bounds;
 use crate::depot::{DepotTables, depot_tables};
 use crate::family::{Family, shops_of};
 use crate::sources::Sources;
+use answers::NoMemory;
 use demand_rates::kinds::Rates;
 use family_tables::Evaluator;
 use hull::{Score, Spot};
 use series_bounds::short::Iv64;
 use spares_input::{Case, PartId, SiteId};
-use spares_io::NoMemory;
 use std::alloc::Global;
 
 /// The upper end of the first choice at a base.

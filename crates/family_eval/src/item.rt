@@ -1,8 +1,8 @@
 //! The results of an evaluation.
 
+use answers::List;
 use fixed_interval::Iv;
 use spares_input::{PartId, SiteId};
-use spares_io::List;
 
 /// The figures of a part at a site, in units of `2^-F`.
 #[derive(Clone, Copy, Drop)]

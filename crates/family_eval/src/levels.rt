@@ -11,11 +11,11 @@ ghost use Rattle.family_eval.specs.Inputs.{IsPipeline};
 
 use crate::item::Item;
 use crate::pipeline::Pipeline;
+use answers::NoMemory;
 use base_pipeline::{Held, base_line, base_shop};
 use depot_pipeline::{Feed, Moments, depot_line, depot_shop};
 use fixed_interval::Iv;
 use moment_table::row_at;
-use spares_io::NoMemory;
 use std::alloc::Global;
 
 /// The pipeline of a pair with its backorders at the pair's stock.

@@ -30,9 +30,9 @@ ghost use Rattle.family_eval.specs.Inputs.{IsLine};
 use crate::inputs::Inputs;
 use crate::lines::{line_items, total_of};
 use crate::shops::all_shop_items;
+use answers::{List, NoMemory};
 use demand_rates::kinds::Rates;
 use spares_input::{Case, PartId, Stocks};
-use spares_io::{List, NoMemory};
 use std::alloc::Global;
 
 pub mod inputs;

@@ -11,11 +11,11 @@ ghost use Rattle.family_eval.specs.Inputs.{IsLine};
 use crate::inputs::Inputs;
 use crate::item::Item;
 use crate::levels::{base_line_item, depot_line_item, feed_of, held_of};
+use answers::NoMemory;
 use base_pipeline::Held;
 use depot_pipeline::Feed;
 use fixed_interval::Iv;
 use spares_input::{PartId, SiteId};
-use spares_io::NoMemory;
 use std::alloc::Global;
 
 /// The feeds of shop units to their line unit at the depot. Their items are by unit and then by site.

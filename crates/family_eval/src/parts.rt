@@ -4,8 +4,8 @@ ghost use Rattle.std.specs.Prelude.{◌≡◌, ◌<◌, IfOk, length, map};
 ghost use Rattle.fleet_model.specs.Fleet.{family};
 ghost use Rattle.fleet_model.specs.Rows.{line_units, shop_units};
 
+use answers::NoMemory;
 use spares_input::{Case, PartId};
-use spares_io::NoMemory;
 use std::alloc::Global;
 
 /// The line units of a case, in part order. Want of memory is the only error.

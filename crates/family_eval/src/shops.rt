@@ -8,8 +8,8 @@ ghost use Rattle.family_eval.specs.Inputs.{IsShopUnit};
 use crate::inputs::Inputs;
 use crate::item::Item;
 use crate::levels::{base_shop_item, depot_shop_item, feed_of};
+use answers::NoMemory;
 use spares_input::{Case, PartId, SiteId};
-use spares_io::NoMemory;
 use std::alloc::Global;
 
 /// A shop unit at the depot.

@@ -6,9 +6,9 @@ ghost use Rattle.family_tables.specs.Numbers.{base_shop_table, depot_shop_table,
 
 use crate::numbers::Numbers;
 use crate::pair_tables::{base_shop_table, feed_from};
+use answers::{List, NoMemory};
 use moment_table::kinds::Table;
 use spares_input::SiteId;
-use spares_io::{List, NoMemory};
 use std::alloc::Global;
 
 /// The tables of a family's shop units at the bases: by base, by shop unit, and by its stock at the depot.

@@ -5,9 +5,9 @@ ghost use Rattle.family_tables.specs.Numbers.{depot_feeds, depot_line_table, dep
 
 use crate::numbers::Numbers;
 use crate::pair_tables::{depot_line_table, depot_shop_table, feed_from};
+use answers::NoMemory;
 use depot_pipeline::Feed;
 use moment_table::kinds::Table;
-use spares_io::NoMemory;
 use std::alloc::Global;
 
 /// The tables of the shop units at the depot.

@@ -16,12 +16,12 @@ use crate::keys::{Kept, table_at};
 use crate::making::{depot_stocks, keep_each, keys_of};
 use crate::numbers::Numbers;
 use crate::own_part::{OwnPart, own_part, put_line_backorders, put_line_lows};
+use answers::NoMemory;
 use demand_rates::kinds::Rates;
 use family_eval::{FamilyResult, evaluate};
 use moment_table::kinds::Table;
 use series_bounds::short::Iv64;
 use spares_input::{Case, PartId, SiteId, Stocks};
-use spares_io::NoMemory;
 use std::alloc::Global;
 use std::marker::Model;
 

@@ -5,9 +5,9 @@ ghost use Rattle.std.specs.List.{All};
 ghost use Rattle.family_tables.specs.Kept.{IsKept, is_among, is_key, table_at};
 
 use crate::numbers::Numbers;
+use answers::List;
 use moment_table::kinds::Table;
 use spares_input::SiteId;
-use spares_io::List;
 
 /// The key of a table: a place in the family, a site, and the stocks on which the pair's pipeline depends.
 #[derive(Drop)]

@@ -9,10 +9,10 @@ ghost use Rattle.family_tables.specs.Numbers.{nth_stock, depot_feeds, depot_shop
 use crate::keys::{Kept, Key, table_at};
 use crate::numbers::Numbers;
 use crate::pair_tables::{base_shop_table, depot_line_table, depot_shop_table, feed_from};
+use answers::{List, NoMemory};
 use depot_pipeline::Feed;
 use moment_table::kinds::Table;
 use spares_input::{SiteId, Stocks};
-use spares_io::{List, NoMemory};
 use std::alloc::Global;
 
 /// The feed of a shop unit to a site at its stock at the depot, by its kept table if there is one.

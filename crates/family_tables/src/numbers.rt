@@ -8,11 +8,11 @@ ghost use Rattle.demand_rates.specs.Rates.{AreRatesOf};
 ghost use Rattle.family_eval.specs.Inputs.{IsLine};
 ghost use Rattle.family_tables.specs.Numbers.{AreNumbers, ArePairNumbers, numbers_of, pair_at, pair_numbers};
 
+use answers::NoMemory;
 use demand_rates::kinds::{PIPELINE_SCALE, Rates};
 use family_eval::members;
 use fixed_interval::Iv;
 use spares_input::{Case, PartId, SiteId};
-use spares_io::NoMemory;
 use std::alloc::Global;
 use std::marker::Model;
 

@@ -9,6 +9,7 @@ ghost use Rattle.family_tables.specs.Numbers.{AreBaseBackorders, AreBaseLows, ba
 use crate::base_shops::{BaseShops, table_of};
 use crate::numbers::Numbers;
 use crate::pair_tables::feed_from;
+use answers::NoMemory;
 use backorder_bounds::put_lows;
 use base_pipeline::base_own;
 use depot_pipeline::Moments;
@@ -16,7 +17,6 @@ use moment_table::kinds::Table;
 use moment_table::put_backorders;
 use series_bounds::short::Iv64;
 use spares_input::SiteId;
-use spares_io::NoMemory;
 
 /// The own part of a line unit's pipeline at a base, which doesn't depend on the shop units' stocks there.
 #[derive(Clone, Copy, Drop)]

@@ -8,12 +8,12 @@ ghost use Rattle.base_pipeline.specs.Profile.{base_shop_ends};
 ghost use Rattle.family_tables.specs.Numbers.{ArePairNumbers, feed_from, table_of};
 
 use crate::numbers::PairNumbers;
+use answers::NoMemory;
 use base_pipeline::base_shop;
 use depot_pipeline::{Feed, depot_line, depot_shop};
 use fixed_interval::Iv;
 use moment_table::kinds::Table;
 use moment_table::table_to;
-use spares_io::NoMemory;
 use std::alloc::Global;
 
 /// The feed of a pair with this table to another pair at its stock, by a share.

@@ -3,7 +3,7 @@ use Rattle.std.proofs.Common.{◌≡◌, ℕ, zero, suc, ◌+◌, ◌<◌, ◌�
 use Rattle.std.specs.Option.{option_map}
 use Rattle.std.proofs.lemmas.List.Sums.{sum_by-cons}
 use Rattle.std.proofs.lemmas.List.{length-reverse, drop_all}
-use Rattle.spares_io.specs.Causes.{count64}
+use Rattle.answers.specs.Counts.{count64}
 use Rattle.spares_input.specs.Cases.{CaseRows}
 use Rattle.family_curve.specs.declared.bounds.Bounds.{Bounds}
 use Rattle.price_certificate.specs.declared.certificate.Node.{Node}

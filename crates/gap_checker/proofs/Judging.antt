@@ -4,9 +4,9 @@ use Rattle.spares_input.specs.First.{first, or_else, unless}
 use Rattle.spares_input.specs.Cases.{frame_rows, pair_count}
 use Rattle.spares_input.specs.Stocks.{StockList}
 use Rattle.spares_input.specs.Building.{StopsAt}
-use Rattle.spares_io.specs.Answers.{Gives}
-use Rattle.spares_io.specs.declared.stop.Stop.{Stop}
-use Rattle.spares_io.specs.declared.stop.Stop.TheVariants as halt
+use Rattle.answers.specs.Answers.{Gives}
+use Rattle.answers.specs.declared.stop.Stop.{Stop}
+use Rattle.answers.specs.declared.stop.Stop.TheVariants as halt
 use Rattle.std.specs.Prelude.{Result, Ok, Err, IsErrAnd, nat_lt, if◌then◌else◌}
 use Rattle.std.specs.Option.{option_map}
 use Rattle.demand_rates.specs.Limits.{rate_fault_of}

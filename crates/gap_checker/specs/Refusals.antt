@@ -3,7 +3,7 @@
 use Rattle.std.specs.Prelude.{◌==◌, ℕ, ◌+◌, ◌-◌, nat_lt, List, [], ◌∷◌, length, map, get_or, sum, sum_by, Option, Some, None, is_none, unwrap_or, Result, if◌then◌else◌}
 use Rattle.std.specs.List.{range_with_len}
 use Rattle.std.specs.Option.{option_map}
-use Rattle.spares_io.specs.Causes.{count64}
+use Rattle.answers.specs.Counts.{count64}
 use Rattle.hull.specs.declared.point.Point.{Point}
 use Rattle.spares_input.specs.First.{first, first_of, unless}
 use Rattle.spares_input.specs.Pairs.{part_of_place, site_of_place}

@@ -2,7 +2,7 @@
 
 ghost use Rattle.std.specs.Prelude.{IfOk};
 ghost use Rattle.std.specs.Option.{option_map};
-ghost use Rattle.spares_io.specs.Answers.{Gives};
+ghost use Rattle.answers.specs.Answers.{Gives};
 ghost use Rattle.spares_input.specs.Building.{StopsAt};
 ghost use Rattle.spares_input.specs.Stocks.{IsFor, IsWithinLimits, nothing_held};
 ghost use Rattle.demand_rates.specs.Limits.{rate_fault_of};
@@ -18,6 +18,7 @@ use crate::floors::first_low;
 use crate::refusal::{Accepted, Reject};
 use crate::stocks::{below_held, cost_above, over_limit};
 use crate::upper::upper_of;
+use answers::{NoMemory, Stop};
 use demand_rates::kinds::Rates;
 use demand_rates::rates;
 use family_curve::MOST_TABLES;
@@ -26,7 +27,6 @@ use hull::{Plain, Score};
 use log_loss::LogLoss;
 use price_certificate::{Certificate, Objective};
 use spares_input::{Case, Stocks, nothing_held};
-use spares_io::{NoMemory, Stop};
 use std::alloc::Global;
 
 /// The rates of a case, or the refusal of the first pipeline that the model can't take.

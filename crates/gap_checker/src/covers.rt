@@ -2,7 +2,7 @@
 
 ghost use Rattle.std.specs.Prelude.{◌≡◌, ◌<◌, ◌≤◌, IfOk, length, map};
 ghost use Rattle.std.specs.Option.{option_map};
-ghost use Rattle.spares_io.specs.Causes.{count64};
+ghost use Rattle.answers.specs.Counts.{count64};
 ghost use Rattle.spares_input.specs.First.{first};
 ghost use Rattle.spares_input.specs.Building.{StopsAt};
 ghost use Rattle.spares_input.specs.Stocks.{IsFor, IsWithinLimits};
@@ -15,9 +15,9 @@ ghost use Rattle.gap_checker.specs.Refusals.{line_at, family_count, cover_of, ga
 use crate::family::{box_from, nodes_of};
 use crate::refusal::Reject;
 use crate::work::cover_tables;
+use answers::{NoMemory, Stop};
 use price_certificate::{Certificate, Node};
 use spares_input::{PartId, Stocks};
-use spares_io::{NoMemory, Stop};
 use std::alloc::Global;
 
 /// The tables of a family's whole leaves, or None if its nodes aren't a tree.

@@ -6,10 +6,10 @@ ghost use Rattle.family_eval.specs.Inputs.{IsLine};
 ghost use Rattle.price_certificate.specs.declared.certificate.Node.TheVariants.{Whole};
 ghost use Rattle.gap_checker.specs.Refusals.{box_from, nodes_of};
 
+use answers::NoMemory;
 use family_curve::{Bounds, limits_of, vector_of};
 use price_certificate::{Certificate, Node};
 use spares_input::{Case, PartId, Stocks};
-use spares_io::NoMemory;
 use std::alloc::Global;
 
 /// All vectors of a family from the held stocks to the limits.

@@ -13,12 +13,12 @@ ghost use Rattle.gap_checker.specs.Refusals.{line_at, family_count, cover_of, ga
 use crate::family::{box_from, nodes_of};
 use crate::low::low_leaf;
 use crate::refusal::Reject;
+use answers::NoMemory;
 use demand_rates::kinds::Rates;
 use family_curve::place_parts;
 use hull::Score;
 use price_certificate::{Certificate, Node};
 use spares_input::{PartId, Stocks};
-use spares_io::NoMemory;
 use std::alloc::Global;
 
 /// The refusal of a leaf, or in format 1 of a family.

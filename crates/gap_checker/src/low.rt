@@ -12,12 +12,12 @@ ghost use Rattle.gap_checker.specs.Refusals.{low_leaf};
 
 use crate::reading::{Read, read_node};
 use crate::value::low_value;
+use answers::NoMemory;
 use demand_rates::kinds::Rates;
 use family_curve::Bounds;
 use hull::{Price, Score};
 use price_certificate::Node;
 use spares_input::{Case, PartId};
-use spares_io::NoMemory;
 use std::alloc::Global;
 
 /// The first leaf whose value is below the floor: its number and its value. The nodes are a tree of the box.

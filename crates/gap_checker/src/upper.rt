@@ -9,12 +9,12 @@ ghost use Rattle.demand_rates.specs.Rates.{AreRatesOf};
 ghost use Rattle.family_eval.specs.Inputs.{IsLine};
 ghost use Rattle.gap_checker.specs.Refusals.{over_limit, below_held, chosen_point, upper_of};
 
+use answers::NoMemory;
 use demand_rates::kinds::Rates;
 use family_curve::{Bounds, upper_within, vector_of};
 use hull::Score;
 use price_certificate::Certificate;
 use spares_input::{PartId, Stocks};
-use spares_io::NoMemory;
 use std::alloc::Global;
 
 /// The upper end of a family at the stocks, from the curve of their vector alone.

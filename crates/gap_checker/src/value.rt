@@ -11,11 +11,11 @@ ghost use Rattle.gap_checker.specs.Values.{below, least_within, leaf_tables, val
 
 use crate::cost::added_cost;
 use crate::leaf::Leaf;
+use answers::NoMemory;
 use demand_rates::kinds::Rates;
 use family_curve::{Bounds, curve_within, is_at_least};
 use hull::{Price, Score};
 use spares_input::{Case, PartId};
-use spares_io::NoMemory;
 use std::alloc::Global;
 
 /// The least Lagrangian of the vectors of a box, at a price.

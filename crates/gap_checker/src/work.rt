@@ -2,7 +2,7 @@
 
 ghost use Rattle.std.specs.Prelude.{◌≡◌, ◌∷◌, [], IfOk};
 ghost use Rattle.std.specs.Option.{option_map};
-ghost use Rattle.spares_io.specs.Causes.{count64};
+ghost use Rattle.answers.specs.Counts.{count64};
 ghost use Rattle.family_eval.specs.Inputs.{IsLine};
 ghost use Rattle.gap_checker.specs.Boxes.{IsOrdered};
 ghost use Rattle.gap_checker.specs.Covers.{leaves, box_of};
@@ -10,10 +10,10 @@ ghost use Rattle.gap_checker.specs.Values.{leaf_tables, cover_tables};
 
 use crate::leaf::Leaf;
 use crate::reading::{Read, read_node};
+use answers::NoMemory;
 use family_curve::{Bounds, tables_within};
 use price_certificate::Node;
 use spares_input::{Case, PartId};
-use spares_io::NoMemory;
 use std::alloc::Global;
 
 /// The tables of a leaf, or 2^64 - 1 if it takes more.

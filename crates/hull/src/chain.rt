@@ -6,7 +6,7 @@ ghost use Rattle.hull.specs.Curves.{Among, InRange, IsShape, StandFor, point_at}
 
 use crate::scan::grow;
 use crate::{Price, Spot};
-use spares_io::NoMemory;
+use answers::NoMemory;
 use std::alloc::Global;
 use std::marker::Model;
 

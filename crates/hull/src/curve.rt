@@ -9,7 +9,7 @@ use crate::joins::{chain_of, chain_of_both};
 use crate::scan::in_order;
 use crate::walk::path;
 use crate::{Point, Price};
-use spares_io::NoMemory;
+use answers::NoMemory;
 use std::alloc::Global;
 use std::marker::Model;
 use std::mem;

@@ -3,7 +3,7 @@
 ghost use Rattle.std.specs.Prelude.{◌≡◌, ◌^◌, ◌≤◌, ◌++◌, IfOk};
 ghost use Rattle.hull.specs.Curves.{lagrangian, InRange, plus};
 
-use spares_io::{List, NoMemory};
+use answers::{List, NoMemory};
 use std::alloc::Global;
 
 /// Stocks with their cost and the ends of their score. In a curve the cost is at most 10^12, and the lower end is at

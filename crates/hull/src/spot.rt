@@ -5,7 +5,7 @@ ghost use Rattle.hull.specs.declared.point.Point.{Point};
 ghost use Rattle.hull.specs.Curves.{IsFirstOf};
 
 use crate::Point;
-use spares_io::NoMemory;
+use answers::NoMemory;
 
 /// A point, which need not store its stocks as a list.
 pub trait Spot: Drop {

@@ -5,7 +5,7 @@ ghost use Rattle.hull.specs.Curves.{Among, StandFor, Steps, IsChain, InRange, pl
 ghost use Rattle.hull.specs.Verdicts.{LeadsTo};
 
 use crate::Point;
-use spares_io::NoMemory;
+use answers::NoMemory;
 use std::alloc::Global;
 
 /// The chain on which a walk through the sums of two chains steps next.

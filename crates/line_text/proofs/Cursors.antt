@@ -12,7 +12,7 @@ use Rattle.std.specs.Option.{option_map_or}
 use Rattle.std.specs.Borrow.{Bor}
 use Rattle.std.proofs.lemmas.Slice.Eq.{bytes_eq-Decides}
 use Rattle.line_text.specs.Texts.{word}
-use Rattle.spares_io.specs.Steps.{◌>>=◌}
+use Rattle.answers.specs.Steps.{◌>>=◌}
 use Rattle.line_text.specs.Formats.{all_read, Token, Text, Format, one, accepted, read_all}
 use Rattle.line_text.specs.Files.{line, comma, unended, lines_of, onto_line}
 use Rattle.line_text.specs.Reading.{first_fields, later, fields_left}

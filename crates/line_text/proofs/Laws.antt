@@ -2,7 +2,7 @@
 use Rattle.std.proofs.Common.{◌≡◌, ◌⊎◌, Bool, true, List, [], ◌∷◌, ◌++◌, length, Option, Some, None, Result, Ok, Err, refl, sym, ap, subst, ◌∙◌, append_assoc, arith, inl, inr}
 use Rattle.std.specs.List.{AllByRecursion}
 use Rattle.std.proofs.lemmas.Bool.{and_parts, and_from}
-use Rattle.spares_io.specs.Steps.{◌>>=◌}
+use Rattle.answers.specs.Steps.{◌>>=◌}
 use Rattle.line_text.specs.Formats.{Token, Text, Format, taken, one, nothing, and_then, as_shape, each_after, read_after, fits_after}
 use Rattle.line_text.specs.Exact.{next, Refused, IsExactText, IsExact}
 

@@ -4,13 +4,13 @@ use Rattle.std.proofs.lemmas.Grind.{take_at_read}
 use Rattle.std.proofs.lemmas.List.{append-nil}
 use Rattle.std.specs.List.{concat}
 use Rattle.std.proofs.lemmas.List.Folds.{concat-append}
-use Rattle.spares_io.specs.Steps.{◌>>=◌}
+use Rattle.answers.specs.Steps.{◌>>=◌}
 use Rattle.line_text.specs.Formats.{Token, Text, Format, one, each_after, read_after, print_after}
 use Rattle.line_text.specs.Texts.{numbers_from}
 use Rattle.line_text.specs.Reading.{Gathers}
 use Rattle.line_text.specs.declared.bad_line.BadLine.{BadLine}
-use Rattle.spares_io.specs.declared.stop.Stop.{Stop}
-use Rattle.spares_io.specs.declared.stop.Stop.TheVariants as stop
+use Rattle.answers.specs.declared.stop.Stop.{Stop}
+use Rattle.answers.specs.declared.stop.Stop.TheVariants as stop
 
 -- what was read before, and what is still read
 abbrev pub with_front : {A : Type 0} → List A → Result (List A × List Token) (List Token) → Result (List A × List Token) (List Token)

@@ -4,7 +4,7 @@ use Rattle.std.proofs.lemmas.Bool.{false≢true}
 use Rattle.std.proofs.Math.Seq.{take-append_seam, take-append-add}
 use Rattle.std.proofs.lemmas.List.{append-nil, take-append-drop}
 use Rattle.std.specs.Result.{IsErr}
-use Rattle.spares_io.specs.declared.stop.NoMemory.{NoMemory}
+use Rattle.answers.specs.declared.stop.NoMemory.{NoMemory}
 use Rattle.line_text.specs.Writing.{AppendsPart, Puts}
 
 -- nothing was appended

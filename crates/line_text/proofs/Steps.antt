@@ -6,7 +6,7 @@ use Rattle.line_text.specs.Reading.{Gathers}
 use Rattle.line_text.specs.declared.bad_line.BadLine.{BadLine}
 use Rattle.line_text.proofs.Loops.{with_front, goes_on, ends_as, is_done, numbers_more, numbers_done}
 use Rattle.line_text.proofs.Laws.{ok, bad, ok_is}
-use Rattle.spares_io.specs.declared.stop.Stop.{Stop}
+use Rattle.answers.specs.declared.stop.Stop.{Stop}
 
 -- what is still read, after the values so far, where there are n in all
 abbrev pub read_from : {A : Type 0} → (List A → ℕ → Format A) → List A → ℕ → ℕ → List Token → Result (List A × List Token) (List Token)

@@ -1,7 +1,7 @@
 -- A format is one term for both writing and reading values. A file is a list of lines, each with its line feed, and a
 -- line is a list of fields: both are lists of tokens.
 use Rattle.std.specs.Prelude.{ℕ, Bool, true, false, ◌&&◌, List, [], ◌∷◌, ◌++◌, Option, Some, None, Result, Ok, Err, if◌then◌else◌, bytes_eq}
-use Rattle.spares_io.specs.Steps.{◌>>=◌}
+use Rattle.answers.specs.Steps.{◌>>=◌}
 
 -- the bytes of a field or of a line
 abbrev pub Token : Type 0

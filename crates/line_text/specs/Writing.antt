@@ -1,6 +1,6 @@
 -- The bytes that a step of writing appends.
 use Rattle.std.specs.Prelude.{◌≡◌, ℕ, List, ◌++◌, take, Result, Ok, Err}
-use Rattle.spares_io.specs.declared.stop.NoMemory.{NoMemory}
+use Rattle.answers.specs.declared.stop.NoMemory.{NoMemory}
 
 -- the first of these bytes were appended
 pub record AppendsPart (old new piece : List ℕ) : Type 0 where

@@ -1,9 +1,9 @@
 //! Why reading stopped.
 
 ghost use Rattle.std.specs.Prelude.{◌≡◌};
-ghost use Rattle.spares_io.specs.declared.stop.Stop.TheVariants as stop;
+ghost use Rattle.answers.specs.declared.stop.Stop.TheVariants as stop;
 
-use spares_io::Stop;
+use answers::Stop;
 
 /// The next line doesn't belong to the format. The cursor stays before it.
 #[derive(Clone, Copy, Debug, PartialEq, Eq)]

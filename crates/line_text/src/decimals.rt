@@ -6,7 +6,7 @@ ghost use Rattle.line_text.specs.Texts.{fixed};
 ghost use Rattle.line_text.specs.Writing.{Puts};
 
 use crate::numbers::{are_digits, number, put_number, value_after};
-use spares_io::NoMemory;
+use answers::NoMemory;
 
 /// The bytes before and after the point, if the point is before the last `places` bytes.
 #[tactic(auto, using(crate::proofs::FixedLaws::too_short, crate::proofs::FixedLaws::no_point, crate::proofs::FixedLaws::point_found))]

@@ -6,8 +6,8 @@ ghost use Rattle.std.specs.Str.Parse.{digits_value_after};
 ghost use Rattle.line_text.specs.Texts.{AreDigits, IsShort, number};
 ghost use Rattle.line_text.specs.Writing.{Puts};
 
+use answers::NoMemory;
 use itoa::Buffer;
-use spares_io::NoMemory;
 
 /// Whether each byte is a digit.
 pub(crate) fn are_digits(text: &[u8]) -> bool

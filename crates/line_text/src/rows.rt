@@ -10,7 +10,7 @@ ghost use Rattle.line_text.specs.Writing.{Puts};
 use crate::bad_line::BadLine;
 use crate::lines::{Fields, Lines};
 use crate::numbers::put_number;
-use spares_io::NoMemory;
+use answers::NoMemory;
 
 /// Takes a word and a number from a line's fields.
 fn count_of(fields: &mut Fields<'_>, name: &[u8], least: u128, most: u128) -> Option<u128>

@@ -4,8 +4,8 @@ ghost use Rattle.step_walk.specs.Prefix.{vertex_at, HaveShapes};
 ghost use Rattle.marginal_alloc.specs.Choice.{IsHullChoice};
 
 use crate::start::start;
+use answers::{List, NoMemory};
 use hull::{Curve, Price};
-use spares_io::{List, NoMemory};
 use std::alloc::Global;
 
 /// The first step that doesn't fit the budget: its family, and the vertex that it would reach.

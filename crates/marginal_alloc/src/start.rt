@@ -4,8 +4,8 @@ ghost use Rattle.price_bounds.specs.Sums.{cost_of};
 ghost use Rattle.step_walk.specs.Prefix.{vertex_at, picked};
 
 use crate::filling::cost_at;
+use answers::NoMemory;
 use hull::Curve;
-use spares_io::NoMemory;
 use std::alloc::Global;
 use step_walk::{Walk, all_after_steep};
 

@@ -5,10 +5,10 @@ ghost use Rattle.fixed_interval.specs.Ends.{IsWithinLimit};
 ghost use Rattle.moment_table.specs.Inputs.{CanTable};
 ghost use Rattle.metric_compare.specs.Profile.{backorders_at, fed};
 
+use answers::NoMemory;
 use depot_pipeline::Feed;
 use fixed_interval::Iv;
 use moment_table::row_at;
-use spares_io::NoMemory;
 use std::alloc::Global;
 
 /// The backorders of a pipeline with this mean and this variance, at a stock.

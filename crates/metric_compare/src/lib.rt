@@ -21,12 +21,12 @@ ghost use Rattle.metric_compare.specs.Fits.{FitsComparison};
 use crate::rows::all_numbers;
 use crate::shops::shop_numbers;
 use crate::totals::poisson_total;
+use answers::{List, NoMemory};
 use case_figures::figures_at;
 use demand_rates::kinds::Rates;
 use family_eval::evaluate_all;
 use family_eval::inputs::Inputs;
 use spares_input::{Case, Stocks};
-use spares_io::{List, NoMemory};
 use std::alloc::Global;
 
 mod levels;

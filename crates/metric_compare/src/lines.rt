@@ -12,13 +12,13 @@ ghost use Rattle.metric_compare.specs.Profile.{base_line, base_shop, depot_feed,
 
 use crate::levels::{backorders_at, fed};
 use crate::shops::{at_base, at_depot};
+use answers::NoMemory;
 use base_pipeline::{Held, base_line};
 use depot_pipeline::{Feed, depot_line};
 use family_eval::inputs::Inputs;
 use family_eval::shop_units;
 use fixed_interval::Iv;
 use spares_input::{PartId, SiteId};
-use spares_io::NoMemory;
 use std::alloc::Global;
 
 /// The feeds of shop units to their line unit at the depot.

@@ -6,11 +6,11 @@ ghost use Rattle.plan_report.specs.Fits.{IntervalFits};
 ghost use Rattle.metric_compare.specs.Fits.{ComparedFits, FitsComparison};
 ghost use Rattle.metric_compare.specs.Texts.{columns_text, compare_text, compared_text, pair_text, totals_text};
 
+use answers::{List, NoMemory};
 use fixed_interval::Iv;
 use line_text::put_number;
 use plan_report::{put_interval, put_number_line};
 use spares_input::Name;
-use spares_io::{List, NoMemory};
 use std::alloc::Global;
 
 /// A pair of a part and a site with its stock, its expected backorders, and its expected backorders with Poisson

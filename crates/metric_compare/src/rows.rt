@@ -5,10 +5,10 @@ ghost use Rattle.metric_compare.specs.Levels.{poisson_numbers, shop_numbers};
 
 use crate::lines::line_row;
 use crate::shops::row_of;
+use answers::NoMemory;
 use family_eval::inputs::Inputs;
 use fixed_interval::Iv;
 use spares_input::PartId;
-use spares_io::NoMemory;
 use std::alloc::Global;
 
 /// The backorders of all pairs, by part and then by site, from the backorders of all shop units.

@@ -8,12 +8,12 @@ ghost use Rattle.metric_compare.specs.Levels.{by_site, of_shop, shop_numbers};
 ghost use Rattle.metric_compare.specs.Profile.{base_shop, depot_shop, poisson_of};
 
 use crate::levels::{backorders_at, fed};
+use answers::NoMemory;
 use base_pipeline::base_shop;
 use depot_pipeline::depot_shop;
 use family_eval::inputs::Inputs;
 use fixed_interval::Iv;
 use spares_input::{PartId, SiteId, pair_place};
-use spares_io::NoMemory;
 use std::alloc::Global;
 
 /// The backorders of a shop unit at the depot. As at every level, the variance is the mean.

@@ -12,9 +12,9 @@ ghost use Rattle.moment_table.specs.Rows.{AreBackorders, EncloseBackorders};
 use crate::rows::bare_row;
 use crate::running::Falling;
 use crate::weighed::weigh_to;
+use answers::NoMemory;
 use fixed_interval::Iv;
 use series_bounds::short::Iv64;
-use spares_io::NoMemory;
 
 /// Overwrites the first weights with the backorders at the stocks 0 to `last`, computed from them and the sum of all.
 fn known<const F: u32>(

@@ -4,8 +4,8 @@ ghost use Rattle.std.specs.Prelude.{◌≡◌, ◌<◌, ◌^◌, ◌++◌, ◌�
 ghost use Rattle.moment_table.specs.Held.{IsShort, held_row};
 
 use crate::kinds::Row;
+use answers::NoMemory;
 use series_bounds::short::Iv64;
-use spares_io::NoMemory;
 use std::alloc::Global;
 
 /// A stored row, without its tail.

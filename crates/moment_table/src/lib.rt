@@ -16,8 +16,8 @@ ghost use Rattle.moment_table.specs.Rows.{EncloseRows, EnclosesRow, IsBelow, at_
 use crate::kinds::{Row, Table};
 use crate::rows::{bare_row, known_row, rows_of};
 use crate::weighed::weigh;
+use answers::NoMemory;
 use fixed_interval::Iv;
-use spares_io::NoMemory;
 use std::alloc::Global;
 
 mod backorders;

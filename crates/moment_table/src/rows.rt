@@ -12,9 +12,9 @@ use crate::held::{Held, Rows};
 use crate::kinds::Row;
 use crate::running::Running;
 use crate::weighed::weigh_to;
+use answers::NoMemory;
 use fixed_interval::Iv;
 use series_bounds::short::Iv64;
-use spares_io::NoMemory;
 use std::alloc::Global;
 
 /// The row at a stock from known weights.

@@ -8,13 +8,13 @@ ghost use Rattle.moment_table.specs.Profile.{known_row, excess_ends};
 ghost use Rattle.moment_table.specs.Running.{AreFirst};
 ghost use Rattle.moment_table.specs.Weighed.{IsWeighed};
 
+use answers::NoMemory;
 use fixed_interval::Iv;
 use series_bounds::heads::first_weights;
 use series_bounds::kinds::Weights;
 use series_bounds::shares::quotient;
 use series_bounds::short::Iv64;
 use series_bounds::weights;
-use spares_io::NoMemory;
 use std::alloc::Global;
 
 /// The first weights and the sum of all.

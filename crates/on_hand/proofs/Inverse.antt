@@ -14,9 +14,9 @@ use Rattle.line_text.specs.Texts.{word_line, count_line, numbers_from}
 use Rattle.line_text.specs.Exact.{IsLine}
 use Rattle.line_text.proofs.LineLaws.{lines_again}
 use Rattle.line_text.proofs.Files.{answer_again, answer_takes, answer_refuses}
-use Rattle.spares_io.specs.Answers.{Gives}
-use Rattle.spares_io.specs.declared.stop.Stop.{Stop}
-use Rattle.spares_io.specs.declared.stop.Stop.TheVariants as stop
+use Rattle.answers.specs.Answers.{Gives}
+use Rattle.answers.specs.declared.stop.Stop.{Stop}
+use Rattle.answers.specs.declared.stop.Stop.TheVariants as stop
 use Rattle.spares_input.specs.Frames.{FrameRows, frame_of}
 use Rattle.spares_input.specs.Cases.{CaseRows, frame_rows, pair_count, IsCase}
 use Rattle.spares_input.specs.Stocks.{StockList, limit_at, IsFor, IsWithinLimits}

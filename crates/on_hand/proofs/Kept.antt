@@ -4,7 +4,7 @@ use Rattle.std.specs.Result.{IsOk}
 use Rattle.std.proofs.lemmas.Bool.{false≢true}
 use Rattle.std.proofs.lemmas.Bool.Decides.{nat_tests}
 use Rattle.std.proofs.lemmas.List.Sums.{sum_by-cons}
-use Rattle.spares_io.specs.Causes.{count64}
+use Rattle.answers.specs.Counts.{count64}
 use Rattle.hull.specs.Curves.{Among, IsCurve, point_at}
 use Rattle.hull.specs.declared.point.Point.{Point}
 use Rattle.spares_input.specs.Cases.{CaseRows, IsCase}

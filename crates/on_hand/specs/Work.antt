@@ -1,6 +1,6 @@
 -- The work of the curves of a case that begin at the held stocks.
 use Rattle.std.specs.Prelude.{◌≡◌, ℕ, suc, ◌-◌, List, All, Result, sum_by}
-use Rattle.spares_io.specs.Causes.{count64}
+use Rattle.answers.specs.Counts.{count64}
 use Rattle.spares_input.specs.Cases.{CaseRows}
 use Rattle.spares_input.specs.Stocks.{limit_at}
 use Rattle.fleet_model.specs.Rows.{line_units, stock}

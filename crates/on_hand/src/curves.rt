@@ -11,11 +11,11 @@ ghost use Rattle.family_curve.specs.Vectors.{limits, vector_of};
 ghost use Rattle.on_hand.specs.Work.{held_work_of};
 ghost use Rattle.on_hand.specs.Curves.{IsFamilyCurve};
 
+use answers::NoMemory;
 use demand_rates::kinds::Rates;
 use family_curve::{Bounds, curve_within, limits_of, vector_of};
 use hull::{Curve, Score};
 use spares_input::{Case, PartId, Stocks};
-use spares_io::NoMemory;
 use std::alloc::Global;
 
 /// The vectors of a family from the held stocks to the limits, with the cost of the stocks above the held ones.

@@ -5,7 +5,7 @@ ghost use Rattle.line_text.specs.Formats.{each};
 ghost use Rattle.line_text.specs.Files.{lines_of};
 ghost use Rattle.line_text.specs.Texts.{numbers_from};
 ghost use Rattle.line_text.specs.Reading.{Reads, Gathers};
-ghost use Rattle.spares_io.specs.Answers.{Gives};
+ghost use Rattle.answers.specs.Answers.{Gives};
 ghost use Rattle.price_certificate.specs.Reading.{draft_of};
 ghost use Rattle.on_hand.specs.Held.{held_line, held_lines, rest, rest_of, front, held_of, held_text, IsWellHeld};
 ghost use Rattle.price_certificate.specs.Certificates.{IsWellFormed, certificate_limit};
@@ -13,12 +13,12 @@ ghost use Rattle.on_hand.specs.declared.held.HeldCertificate.{HeldCertificate};
 ghost use Rattle.price_certificate.specs.Grammar.{certificate_format};
 
 use crate::held::HeldCertificate;
+use answers::Stop;
 use line_text::{BadLine, Lines, count_line, number_line, word_line};
 use price_certificate::{
     CertFault, Certificate, CertificateLines, certificate_lines, certificate_of, line_number,
 };
 use spares_input::{Case, Stocks, pair_at};
-use spares_io::Stop;
 use std::alloc::Global;
 
 /// Reads the lines up to the first `end`.

@@ -1,7 +1,7 @@
 //! The work of the curves of a case that begin at the held stocks.
 
 ghost use Rattle.std.specs.Prelude.{◌≡◌, ◌≤◌, ◌<◌, length, map, sum, sum_by};
-ghost use Rattle.spares_io.specs.Causes.{count64};
+ghost use Rattle.answers.specs.Counts.{count64};
 ghost use Rattle.spares_input.specs.Stocks.{IsFor, IsWithinLimits};
 ghost use Rattle.fleet_model.specs.Rows.{bases, shop_units};
 ghost use Rattle.family_eval.specs.Inputs.{IsLine};

@@ -9,10 +9,10 @@ ghost use Rattle.spares_input.specs.Stocks.{IsFor};
 ghost use Rattle.on_hand.specs.Held.{held_line, held, IsWellHeld, held_text};
 
 use crate::held::HeldCertificate;
+use answers::NoMemory;
 use line_text::{put_count_line, put_number_line};
 use price_certificate::text as certificate_text;
 use spares_input::{Case, Stocks};
-use spares_io::NoMemory;
 use std::alloc::Global;
 
 /// Writes a line for each pair.

@@ -4,7 +4,7 @@ ghost use Rattle.plan_report.specs.Fits.{FitsCheck};
 ghost use Rattle.plan_report.specs.Texts.{check_text};
 
 use crate::text::{put_down_line, put_number_line, put_on_hand, put_up_line};
-use spares_io::NoMemory;
+use answers::NoMemory;
 use std::alloc::Global;
 
 /// The claims of an accepted certificate, and the cost of its stocks. The upper end and the bound are in units of 2^-48

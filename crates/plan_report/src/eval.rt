@@ -4,8 +4,8 @@ ghost use Rattle.case_figures.specs.Fits.{FitsPrint};
 ghost use Rattle.plan_report.specs.Texts.{eval_text};
 
 use crate::text::{put_figures, put_number_line};
+use answers::NoMemory;
 use case_figures::Figures;
-use spares_io::NoMemory;
 use std::alloc::Global;
 
 /// The figures of a case at given stocks.

@@ -17,12 +17,12 @@ use crate::text::{
     put_cost, put_down_line, put_line, put_number_line, put_on_hand, put_span_line, put_stocks,
     put_up_line,
 };
+use answers::NoMemory;
 use case_figures::{Figures, Span};
 use fixed_interval::{Iv, ratio_down};
 use hull::Price;
 use line_text::put_number;
 use spares_input::Name;
-use spares_io::NoMemory;
 use std::alloc::Global;
 
 /// The line unit of the step that doesn't fit the budget, and the cost of the step, in whole money.

@@ -3,9 +3,9 @@ ghost use Rattle.std.specs.Prelude.{◌≡◌, ◌<◌, ◌^◌, IfOk};
 ghost use Rattle.plan_report.specs.Texts.{single_text};
 
 use crate::text::put_span_line;
+use answers::NoMemory;
 use case_figures::Span;
 use fixed_interval::Iv;
-use spares_io::NoMemory;
 use std::alloc::Global;
 
 /// The expected backorders of a single pipeline and the variance of its backorders, in units.

@@ -4,10 +4,10 @@ ghost use Rattle.plan_report.specs.Fits.{FitsSummary};
 ghost use Rattle.plan_report.specs.Texts.{case_text, planned_text, summary_text};
 
 use crate::text::{put_down_line, put_number_line, put_span_line, put_up_line};
+use answers::NoMemory;
 use case_figures::Span;
 use fixed_interval::Iv;
 use line_text::put_number;
-use spares_io::NoMemory;
 use std::alloc::Global;
 
 /// The plan of a demonstration case whose certificate was accepted. Bound and gap are in units of 2^-48.

@@ -30,11 +30,11 @@ ghost use Rattle.plan_report.specs.Texts.{
 };
 
 use crate::item::{ItemLine, put_item};
+use answers::NoMemory;
 use case_figures::{BaseLine, Figures, Items, Span};
 use fixed_interval::Iv;
 use itoa::Buffer;
 use line_text::{put_count_line, put_fixed};
-use spares_io::NoMemory;
 
 /// The two printed numbers of an interval enclose the interval. A number printed rounded down is at most itself, and
 /// one rounded up is at least itself. If a bound is within a rounding of another, so are their printed forms.

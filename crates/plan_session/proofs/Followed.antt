@@ -3,9 +3,9 @@ use Rattle.std.proofs.Common.{◌≡◌, ◌==◌, ℕ, suc, ◌+◌, ◌<◌, �
 use Rattle.std.specs.List.{AllZip}
 use Rattle.std.proofs.lemmas.Bool.Decides.{nat_tests}
 use Rattle.std.proofs.lemmas.Slice.Zip.{AllZip-long}
-use Rattle.spares_io.specs.Steps.{◌>>=◌}
-use Rattle.spares_io.specs.declared.stop.Stop.{Stop}
-use Rattle.spares_io.specs.declared.stop.Stop.TheVariants as stop
+use Rattle.answers.specs.Steps.{◌>>=◌}
+use Rattle.answers.specs.declared.stop.Stop.{Stop}
+use Rattle.answers.specs.declared.stop.Stop.TheVariants as stop
 use Rattle.spares_input.specs.Cases.{CaseRows, frame_rows}
 use Rattle.demand_rates.specs.Limits.{rate_fault_of}
 use Rattle.demand_rates.specs.declared.fault.RateFault.{RateFault}

@@ -1,8 +1,8 @@
 -- The answers to the edits of a case.
 use Rattle.std.specs.Prelude.{◌≡◌, ⊤, List, Result, Ok, Err}
 use Rattle.std.specs.List.{AllZip}
-use Rattle.spares_io.specs.declared.stop.Stop.{Stop}
-use Rattle.spares_io.specs.declared.stop.Stop.TheVariants as stop
+use Rattle.answers.specs.declared.stop.Stop.{Stop}
+use Rattle.answers.specs.declared.stop.Stop.TheVariants as stop
 use Rattle.case_edits.specs.Edits.{PlanDue}
 use Rattle.case_edits.specs.declared.fault.EditFault.{EditFault}
 use Rattle.plan_session.specs.declared.report.SessionReport.{SessionReport}

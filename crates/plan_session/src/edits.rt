@@ -16,10 +16,10 @@ ghost use Rattle.demand_rates.specs.Limits.{rate_fault_of};
 
 use crate::report::SessionReport;
 use crate::session::Session;
+use answers::{List, Stop};
 use case_edits::{Edit, EditFault, edit_in, first_line};
 use plan_report::PlanReport;
 use spares_input::Case;
-use spares_io::{List, Stop};
 use std::alloc::Global;
 
 /// The largest count of lines in an edits file.

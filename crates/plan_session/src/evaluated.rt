@@ -11,11 +11,11 @@ ghost use Rattle.plan_session.specs.Sessions.{no_family, AreEvaluated, AreMarked
 ghost use Rattle.plan_session.specs.Settling.{AreSettled};
 
 use crate::kept::{lines_before, place_of};
+use answers::{List, NoMemory};
 use demand_rates::kinds::Rates;
 use family_eval::{FamilyResult, evaluate};
 use fixed_interval::Iv;
 use spares_input::{Case, PartId, SiteId, Stocks, nothing_held};
-use spares_io::{List, NoMemory};
 use std::alloc::Global;
 
 /// The stocks of a session's last plan, with an evaluation and a mark for each family.

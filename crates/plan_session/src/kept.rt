@@ -12,11 +12,11 @@ ghost use Rattle.case_plan.specs.Placing.{lines_below};
 ghost use Rattle.plan_session.specs.Sessions.{family_place, AreKept, AreLater};
 ghost use Rattle.family_curve.specs.Points.{plain_ends};
 
+use answers::{List, NoMemory};
 use demand_rates::kinds::Rates;
 use family_curve::curve;
 use hull::{Curve, Plain, Point};
 use spares_input::{Case, PartId};
-use spares_io::{List, NoMemory};
 use std::alloc::Global;
 
 /// A placeholder curve.

@@ -5,8 +5,8 @@ ghost use Rattle.std.specs.List.{flat_map};
 ghost use Rattle.plan_report.specs.Fits.{FitsPlan};
 ghost use Rattle.plan_report.specs.Texts.{plan_text};
 
+use answers::{List, NoMemory};
 use plan_report::PlanReport;
-use spares_io::{List, NoMemory};
 use std::alloc::Global;
 
 /// The plans of a session, in order.

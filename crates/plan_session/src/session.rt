@@ -12,12 +12,12 @@ ghost use Rattle.family_curve.specs.Points.{plain_ends};
 
 use crate::evaluated::{Evaluated, evaluate_at, nothing_evaluated};
 use crate::kept::{keep_all, nothing_kept, place_of};
+use answers::{NoMemory, Stop};
 use case_plan::{choose_stocks, outcome_at};
 use demand_rates::{RateFault, rates};
 use hull::{Curve, Price};
 use plan_report::PlanReport;
 use spares_input::{Case, Frame, RateRow};
-use spares_io::{NoMemory, Stop};
 use std::alloc::Global;
 use std::marker::Model;
 

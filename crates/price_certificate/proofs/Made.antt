@@ -2,11 +2,11 @@
 use Rattle.std.proofs.Common.{◌≡◌, ◌≢◌, ◌*◌, ◌%◌, ◌-◌, ℕ, suc, List, [], ◌∷◌, length, true, Result, Ok, Err, refl, sym, ap, subst, ◌∙◌}
 use Rattle.std.specs.Prelude.{IfOk}
 use Rattle.std.proofs.Math.Nat.{mul-mod_left}
-use Rattle.spares_io.specs.Steps.{◌>>=◌}
+use Rattle.answers.specs.Steps.{◌>>=◌}
 use Rattle.line_text.specs.Formats.{Token, Format, all_read}
 use Rattle.line_text.specs.Files.{lines_of, file_answer, numbered}
-use Rattle.spares_io.specs.Answers.{Gives}
-use Rattle.spares_io.specs.declared.stop.Stop.{Stop}
+use Rattle.answers.specs.Answers.{Gives}
+use Rattle.answers.specs.declared.stop.Stop.{Stop}
 use Rattle.spares_input.specs.Frames.{FrameRows, frame_of}
 use Rattle.spares_input.specs.Cases.{CaseRows, IsCase}
 use Rattle.spares_input.specs.Stocks.{StockList}

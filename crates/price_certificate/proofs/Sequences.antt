@@ -3,8 +3,8 @@ use Rattle.std.proofs.Common.{◌≡◌, ℕ, List, length, Ok, Err, refl}
 use Rattle.line_text.specs.Formats.{Token}
 use Rattle.line_text.specs.Reading.{Gathers}
 use Rattle.line_text.specs.declared.bad_line.BadLine.{BadLine}
-use Rattle.spares_io.specs.declared.stop.Stop.{Stop}
-use Rattle.spares_io.specs.declared.stop.Stop.TheVariants as stop
+use Rattle.answers.specs.declared.stop.Stop.{Stop}
+use Rattle.answers.specs.declared.stop.Stop.TheVariants as stop
 use Rattle.spares_input.specs.Cases.{CaseRows, frame_rows, pair_count}
 use Rattle.spares_input.specs.Stocks.{StockList}
 use Rattle.price_certificate.specs.declared.certificate.Node.{Node}

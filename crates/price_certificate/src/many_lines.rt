@@ -10,8 +10,8 @@ ghost use lib.Chars.{codes};
 
 use crate::certificate::Node;
 use crate::single_lines::node_line;
+use answers::{List, Stop};
 use line_text::{BadLine, Lines, count_line, number_line};
-use spares_io::{List, Stop};
 use std::alloc::Global;
 
 /// Reads `count` floors.

@@ -10,9 +10,9 @@ ghost use Rattle.price_certificate.specs.Covers.{CutsAt, IsHeld, family, place_o
 
 use crate::certificate::Node;
 use crate::place::Place;
+use answers::NoMemory;
 use hull::Price;
 use spares_input::{Case, PartId, PartRow, SiteId};
-use spares_io::NoMemory;
 use std::alloc::Global;
 
 /// The least stock above the held one whose cost at this place alone reaches the floor; None if the place may not have

@@ -13,11 +13,11 @@ ghost use Rattle.price_certificate.specs.Certificates.{IsWellFormed, cert_text};
 ghost use lib.Chars.{codes};
 
 use crate::certificate::{Certificate, Node, Objective};
+use answers::{List, NoMemory};
 use case_lines::write_case;
 use hull::Price;
 use line_text::{put_count_line, put_number, put_number_line};
 use spares_input::{Case, Stocks};
-use spares_io::{List, NoMemory};
 use std::alloc::Global;
 
 /// Writes `objective,NAME`.

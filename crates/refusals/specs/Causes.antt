@@ -1,8 +1,8 @@
 -- Refusals with their lines, and their kinds.
 use Rattle.std.specs.Prelude.{Result, Ok, Err}
 use Rattle.spares_input.specs.Frames.{FrameRows}
-use Rattle.spares_io.specs.declared.stop.Stop.{Stop}
-use Rattle.spares_io.specs.declared.stop.Stop.TheVariants as stop
+use Rattle.answers.specs.declared.stop.Stop.{Stop}
+use Rattle.answers.specs.declared.stop.Stop.TheVariants as stop
 use Rattle.spares_words.specs.declared.order.WordsFault.{WordsFault}
 use Rattle.refusals.specs.declared.failure.Failure.{Failure}
 use Rattle.refusals.specs.declared.refusal.File.{File}

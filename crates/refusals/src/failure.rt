@@ -6,8 +6,8 @@ ghost use Rattle.refusals.specs.Causes.{failure_of, stopped};
 
 use crate::line::Line;
 use crate::refusal::Refusal;
+use answers::Stop;
 use spares_input::Frame;
-use spares_io::Stop;
 use spares_words::{Which, WordsFault};
 
 /// A refusal with its line. The line is made while the names of the case are known.

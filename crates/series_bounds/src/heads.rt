@@ -7,8 +7,8 @@ ghost use Rattle.series_bounds.specs.Answer.{IsBeginning};
 
 use crate::short::Iv64;
 use crate::walk::weigh;
+use answers::NoMemory;
 use fixed_interval::Iv;
-use spares_io::NoMemory;
 
 /// Overwrites the list with the first weights, at least `wanted` of them, with `wanted` at most 63, and returns the sum
 /// of all, whose upper end also covers all weights past the last index. The mean and the excess are as for

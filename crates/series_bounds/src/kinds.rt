@@ -1,8 +1,8 @@
 //! The result of `weights`.
 
 use crate::short::Iv64;
+use answers::List;
 use fixed_interval::Iv;
-use spares_io::List;
 
 /// The weights of a pipeline's distribution relative to the weight at the pivot, with a sum that covers every depth.
 ///

@@ -27,8 +27,8 @@ ghost use Rattle.series_bounds.specs.Answer.{Weighs, SizedAnswer};
 
 use crate::kinds::Weights;
 use crate::walk::weigh;
+use answers::{List, NoMemory};
 use fixed_interval::Iv;
-use spares_io::{List, NoMemory};
 use std::alloc::Global;
 
 pub mod heads;

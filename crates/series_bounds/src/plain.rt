@@ -11,8 +11,8 @@ ghost use Rattle.series_bounds.specs.Answer.{IsSum};
 
 use crate::short::Iv64;
 use crate::{FIRST_END, LAST_END, most_weight, pivot_of, rest_at, unit};
+use answers::NoMemory;
 use fixed_interval::Iv;
-use spares_io::NoMemory;
 
 /// A weight times a ratio.
 #[inline(always)]

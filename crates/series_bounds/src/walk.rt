@@ -13,9 +13,9 @@ use crate::ratios::Ratios;
 use crate::shares::div_near;
 use crate::short::Iv64;
 use crate::{FIRST_END, LAST_END, most_weight, pivot_of, rest_at, unit};
+use answers::NoMemory;
 use fixed_interval::Iv;
 use quotients::Divisor;
-use spares_io::NoMemory;
 
 /// Weights of fewer units are checked for staying the same.
 const FEW: u64 = 3;

@@ -4,7 +4,8 @@
 ghost use Rattle.std.specs.Prelude.{IfErr};
 ghost use Rattle.refusals.specs.Lines.{NamesNoPair};
 
-use spares_io::{FileShelf, NoMemory, StdSink, Text};
+use answers::NoMemory;
+use spares_io::{FileShelf, StdSink, Text};
 use spares_top::{Refusal, refuse, run, status};
 use spares_words::WordsFault;
 use std::alloc::Global;

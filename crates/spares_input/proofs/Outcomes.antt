@@ -1,6 +1,6 @@
 -- Steps that may refuse, one after the other.
 use Rattle.std.proofs.Common.{◌≡◌, Option, Some, None, Result, refl}
-use Rattle.spares_io.specs.declared.stop.Stop.{Stop}
+use Rattle.answers.specs.declared.stop.Stop.{Stop}
 use Rattle.spares_input.specs.First.{or_else}
 use Rattle.spares_input.specs.Building.{StopsAt}
 

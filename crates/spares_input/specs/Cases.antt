@@ -1,6 +1,6 @@
 -- A case: a frame with the rates of each pair, and the first rule that the rows of rates break.
 use Rattle.std.specs.Prelude.{◌≡◌, ◌==◌, ℕ, ◌+◌, ◌*◌, ◌<◌, List, [], ◌∷◌, take, length, get_or, All, Option, Some, None, Result, Ok, Err, if◌then◌else◌}
-use Rattle.spares_io.specs.declared.stop.Stop.{Stop}
+use Rattle.answers.specs.declared.stop.Stop.{Stop}
 use Rattle.spares_input.specs.First.{first, first_of, unless}
 use Rattle.spares_input.specs.Rows.{is_line, no_rate, IsRateRow}
 use Rattle.spares_input.specs.Frames.{FrameRows, IsFrame, part_at}

@@ -2,7 +2,7 @@
 
 ghost use Rattle.std.specs.Prelude.{◌≡◌, true, ◌==◌, ◌+◌, ◌*◌, ◌≤◌, ◌<◌, length, map, All, Some, None, IfSome, IfOk, IfErr, is_none};
 ghost use Rattle.std.specs.Option.{option_map};
-ghost use Rattle.spares_io.specs.Answers.{Gives};
+ghost use Rattle.answers.specs.Answers.{Gives};
 ghost use Rattle.spares_input.specs.First.{first};
 ghost use Rattle.spares_input.specs.Rows.{is_line, no_rate, IsSiteRow, IsPartRow, IsRateRow};
 ghost use Rattle.spares_input.specs.Frames.{site_at, part_at, line_of, family, is_shop_of};
@@ -16,7 +16,7 @@ use crate::fault::CaseFault;
 use crate::frame::Frame;
 use crate::pairs::{pair_at, pair_place};
 use crate::rows::{PartId, PartRow, RateRow, SiteId, SiteRow};
-use spares_io::Stop;
+use answers::Stop;
 use std::alloc::Global;
 use std::marker::Model;
 

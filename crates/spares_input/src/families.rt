@@ -6,7 +6,7 @@ ghost use Rattle.spares_input.specs.Frames.{part_names};
 ghost use Rattle.spares_input.specs.Building.{AreParents, AreFamilies, AreFamiliesBelow, ids};
 
 use crate::rows::{PartId, PartRow};
-use spares_io::NoMemory;
+use answers::NoMemory;
 use std::alloc::Global;
 
 /// Each part alone.

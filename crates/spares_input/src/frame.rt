@@ -5,7 +5,7 @@ ghost use Rattle.std.specs.List.{list_any};
 ghost use Rattle.std.specs.Option.{option_map, option_and_then};
 ghost use Rattle.indexmap.specs.IndexSet.{index_set_len};
 ghost use Rattle.indexmap.specs.IndexMap.{move_index};
-ghost use Rattle.spares_io.specs.Answers.{Gives};
+ghost use Rattle.answers.specs.Answers.{Gives};
 ghost use Rattle.spares_input.specs.First.{first};
 ghost use Rattle.spares_input.specs.Rows.{is_line, IsSiteRow, IsPartRow};
 ghost use Rattle.spares_input.specs.Frames.{site_at, part_at, site_names, part_names, is_among, place_of, line_of, is_shop_of, is_depot, is_base, site_fault, kinds_fault, double_part, shop_fault, parent_fault, frame_fault, frame_of, family, IsFrame};
@@ -16,8 +16,8 @@ use crate::families::families_of;
 use crate::fault::CaseFault;
 use crate::name::Name;
 use crate::rows::{PartId, PartRow, SiteId, SiteRow};
+use answers::{NoMemory, Stop};
 use indexmap::IndexSet;
-use spares_io::{NoMemory, Stop};
 use std::alloc::Global;
 use std::marker::Model;
 

@@ -2,7 +2,7 @@
 
 ghost use Rattle.std.specs.Prelude.{◌≡◌, ◌+◌, ◌*◌, ◌%◌, ◌≤◌, ◌<◌, length, map, slice_set, All, Some, IfOk};
 ghost use Rattle.std.specs.Option.{option_map};
-ghost use Rattle.spares_io.specs.Answers.{Gives};
+ghost use Rattle.answers.specs.Answers.{Gives};
 ghost use Rattle.spares_input.specs.First.{first};
 ghost use Rattle.spares_input.specs.Pairs.{pair_place};
 ghost use Rattle.spares_input.specs.Cases.{frame_rows};
@@ -13,7 +13,7 @@ use crate::case::Case;
 use crate::fault::StockFault;
 use crate::pairs::{pair_at, pair_place, place_in};
 use crate::rows::{PartId, SiteId, StockRow};
-use spares_io::{NoMemory, Stop};
+use answers::{NoMemory, Stop};
 use std::alloc::Global;
 use std::marker::Model;
 

@@ -12,7 +12,3 @@ Rose before now = next_count before ≤ now
 -- a count is at most 2 ^ 64 - 1
 abbrev pub Fits64 : ℕ → Type 0
 Fits64 n = n ≤ 2 ^ 64 - 1
-
--- the count of a field that the code keeps as a `u64`
-abbrev pub count64 : ℕ → ℕ
-count64 n = min n (2 ^ 64 - 1)

@@ -3,7 +3,8 @@ ghost use Rattle.std.specs.Prelude.{◌≡◌, ◌≢◌, ◌↔◌, ◌⊎◌, 
 ghost use Rattle.std.specs.IoError.{error_kind};
 ghost use Rattle.std.specs.Option.{option_map};
 ghost use Rattle.std.proofs.Common.{arith};
-ghost use Rattle.spares_io.specs.Causes.{Rose, count64, next_count};
+ghost use Rattle.answers.specs.Counts.{count64};
+ghost use Rattle.spares_io.specs.Causes.{Rose, next_count};
 ghost use Rattle.spares_io.specs.Files.{ReadsAll, ReadsMore, WritesAll};
 ghost use Rattle.spares_io.specs.Shelf.{untold, with_file, Holds, HoldsMore, KeepsOthers, Lacks, is_failed};
 

@@ -3,23 +3,20 @@
 
 mod files;
 mod folder;
-mod list;
 mod memory_shelf;
 mod memory_sink;
 mod schedule;
 mod shelf;
 mod sink;
 mod std_sink;
-mod stop;
 mod text;
 
+pub use answers::{List, NoMemory, Stop};
 pub use files::FileShelf;
 pub use folder::Folder;
-pub use list::List;
 pub use memory_shelf::MemShelf;
 pub use memory_sink::MemSink;
 pub use shelf::{Shelf, ShelfError};
 pub use sink::{Sink, SinkFailed};
 pub use std_sink::StdSink;
-pub use stop::{NoMemory, Stop};
 pub use text::Text;

@@ -2,7 +2,8 @@
 ghost use Rattle.std.specs.Prelude as prelude;
 ghost use Rattle.std.specs.Prelude.{◌≡◌, ◌⊎◌, ◌≤◌, [], ℕ, length, bytes_eq, position, IsTrue, Some, IfOk, OnOk, OnErr, IsErrOf};
 ghost use Rattle.std.specs.Option.{option_map};
-ghost use Rattle.spares_io.specs.Causes.{Rose, count64};
+ghost use Rattle.answers.specs.Counts.{count64};
+ghost use Rattle.spares_io.specs.Causes.{Rose};
 ghost use Rattle.spares_io.specs.Memory.{files_of, are_distinct, within, read_of, Reads, after_read, Writes};
 ghost use Rattle.spares_io.specs.Shelf.{file_of, with_file, Holds, HoldsMore, KeepsOthers, Lacks};
 
@@ -142,7 +143,7 @@ impl MemShelf {
 impl Shelf for MemShelf {
     ghost use Rattle.std.specs.Prelude.{Some};
     ghost use Rattle.std.proofs.Common.{arith};
-    ghost use Rattle.spares_io.specs.Causes.{count64};
+    ghost use Rattle.answers.specs.Counts.{count64};
 
     ghost held = { λ s. Some s.files };
 

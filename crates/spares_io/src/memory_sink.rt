@@ -1,6 +1,7 @@
 //! A sink in memory.
 ghost use Rattle.std.specs.Prelude.{◌≡◌, ◌≤◌, ◌/◌, [], length, vec_capacity, Some, is_ok, IfOk, OnOk, OnErr, if◌then◌else◌};
-ghost use Rattle.spares_io.specs.Causes.{Rose, count64};
+ghost use Rattle.answers.specs.Counts.{count64};
+ghost use Rattle.spares_io.specs.Causes.{Rose};
 ghost use Rattle.spares_io.specs.Memory.{after_put, can_put};
 ghost use Rattle.spares_io.specs.Sink.{Gains, GainsPart};
 

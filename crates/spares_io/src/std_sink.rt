@@ -2,7 +2,8 @@
 ghost use Rattle.std.specs.Prelude.{◌≡◌, None, OnOk, OnErr};
 ghost use Rattle.std.specs.Io.KnownBytes.{Appends};
 ghost use Rattle.std.proofs.Common.{arith};
-ghost use Rattle.spares_io.specs.Causes.{Rose, count64};
+ghost use Rattle.answers.specs.Counts.{count64};
+ghost use Rattle.spares_io.specs.Causes.{Rose};
 ghost use Rattle.spares_io.specs.Sink.{Gains, GainsPart};
 
 use crate::{Sink, SinkFailed};

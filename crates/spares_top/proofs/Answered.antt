@@ -18,10 +18,10 @@ use Rattle.refusals.specs.Lines.{no_names}
 use Rattle.refusals.specs.declared.failure.Failure.{Failure}
 use Rattle.refusals.specs.declared.refusal.Refusal.TheVariants as refusal
 use Rattle.spares_input.specs.Cases.{CaseRows}
-use Rattle.spares_io.specs.Answers.{Gives}
-use Rattle.spares_io.specs.Steps.{◌>>=◌}
-use Rattle.spares_io.specs.declared.stop.Stop.{Stop}
-use Rattle.spares_io.specs.declared.stop.Stop.TheVariants as stop
+use Rattle.answers.specs.Answers.{Gives}
+use Rattle.answers.specs.Steps.{◌>>=◌}
+use Rattle.answers.specs.declared.stop.Stop.{Stop}
+use Rattle.answers.specs.declared.stop.Stop.TheVariants as stop
 use Rattle.demonstration.proofs.Told.{zeros_hold}
 use Rattle.spares_top.specs.Headline.{IsTrueAnswer}
 use Rattle.spares_top.specs.Making.{Is, IsMade, MakesBy}

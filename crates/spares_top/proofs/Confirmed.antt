@@ -7,8 +7,8 @@ use Rattle.fixed_interval.proofs.Laws.{up_above}
 use Rattle.spares_input.specs.Cases.{CaseRows, frame_rows}
 use Rattle.spares_input.specs.First.{unless}
 use Rattle.spares_input.specs.Stocks.{StockList, IsFor, cost_of, nothing_held}
-use Rattle.spares_io.specs.declared.stop.Stop.{Stop}
-use Rattle.spares_io.specs.declared.stop.Stop.TheVariants as stop
+use Rattle.answers.specs.declared.stop.Stop.{Stop}
+use Rattle.answers.specs.declared.stop.Stop.TheVariants as stop
 use Rattle.price_certificate.specs.declared.certificate.Objective.{Objective}
 use Rattle.price_certificate.specs.declared.certificate.Objective.TheVariants.{Backorders}
 use Rattle.case_plan.specs.Truth.{NoneHasLessThanPrinted}

@@ -11,8 +11,8 @@ use Rattle.refusals.specs.declared.refusal.File.{File}
 use Rattle.refusals.specs.declared.refusal.Refusal.TheVariants as refusal
 use Rattle.refusals.specs.Causes.{of_reading, kind_of, plain_failure}
 use Rattle.spares_top.specs.Files.{AllGave, Gave, IsTooLong, IsUnread, NoneRose, Reads, StandStill, StopsAt, content_of, reads}
-use Rattle.spares_io.specs.declared.stop.Stop.{Stop}
-use Rattle.spares_io.specs.declared.stop.Stop.TheVariants as stop
+use Rattle.answers.specs.declared.stop.Stop.{Stop}
+use Rattle.answers.specs.declared.stop.Stop.TheVariants as stop
 use Rattle.spares_top.specs.Making.{IsOfWork}
 use Rattle.spares_top.specs.Reading.{ReadsGive, Unread}
 

@@ -4,9 +4,9 @@ use Rattle.spares_input.specs.Cases.{CaseRows, frame_rows}
 use Rattle.family_curve.specs.Counts.{work_of}
 use Rattle.on_hand.specs.Work.{held_work_of}
 use Rattle.price_certificate.specs.declared.certificate.Terms.{Terms}
-use Rattle.spares_io.specs.Steps.{◌>>=◌}
-use Rattle.spares_io.specs.declared.stop.Stop.{Stop}
-use Rattle.spares_io.specs.declared.stop.Stop.TheVariants as stop
+use Rattle.answers.specs.Steps.{◌>>=◌}
+use Rattle.answers.specs.declared.stop.Stop.{Stop}
+use Rattle.answers.specs.declared.stop.Stop.TheVariants as stop
 use Rattle.refusals.specs.Causes.{or_refuse}
 use Rattle.refusals.specs.Lines.{no_names}
 use Rattle.refusals.specs.declared.failure.Failure.{Failure}

@@ -11,7 +11,7 @@ use Rattle.fleet_plan.specs.Laws.{IsAcceptedCase}
 use Rattle.fleet_plan.proofs.Plain.{plain_encloses}
 use Rattle.refusals.specs.declared.failure.Failure.{Failure}
 use Rattle.spares_input.specs.Cases.{CaseRows}
-use Rattle.spares_io.specs.Steps.{◌>>=◌}
+use Rattle.answers.specs.Steps.{◌>>=◌}
 use Rattle.spares_top.specs.Headline.{IsTruePrice, IsTrueSweep}
 use Rattle.spares_top.specs.Making.{Is, IsMade}
 use Rattle.spares_top.specs.Task.{price_target, printed, sweep_budgets}

@@ -17,7 +17,7 @@ use Rattle.refusals.specs.declared.failure.Failure.{Failure}
 use Rattle.refusals.specs.declared.refusal.Refusal.TheVariants as refusal
 use Rattle.spares_input.specs.Cases.{frame_rows}
 use Rattle.spares_input.specs.Stocks.{StockList, cost_of}
-use Rattle.spares_io.specs.Steps.{◌>>=◌}
+use Rattle.answers.specs.Steps.{◌>>=◌}
 use Rattle.spares_top.specs.Held.{held_in}
 
 -- The contents of a certificate, with the stocks on hand if it begins with them.

@@ -10,7 +10,7 @@ use Rattle.spares_top.specs.declared.files.Input.{Input}
 use Rattle.refusals.specs.declared.refusal.File.{File}
 use Rattle.refusals.specs.declared.refusal.File.TheVariants.{Sites, Parts, Rates, Stocks, OnHand, Certificate, Edits}
 use Rattle.refusals.specs.declared.refusal.Refusal.TheVariants as refusal
-use Rattle.spares_io.specs.Steps.{◌>>=◌}
+use Rattle.answers.specs.Steps.{◌>>=◌}
 use Rattle.refusals.specs.Causes.{plain_failure}
 use Rattle.csv_tables.specs.Rest.{table_limit}
 use Rattle.price_certificate.specs.Certificates.{certificate_limit}

@@ -4,15 +4,15 @@ use Rattle.plan_report.specs.declared.eval.EvalReport.{EvalReport}
 use Rattle.case_figures.specs.Fits.{FitsPrint}
 use Rattle.spares_io.specs.Causes.{Rose}
 use Rattle.spares_io.specs.Shelf.{Files, KeepsOthers}
-use Rattle.spares_io.specs.declared.stop.Stop.{Stop}
-use Rattle.spares_io.specs.declared.stop.Stop.TheVariants as stop
+use Rattle.answers.specs.declared.stop.Stop.{Stop}
+use Rattle.answers.specs.declared.stop.Stop.TheVariants as stop
 use Rattle.spares_words.specs.declared.order.Order.{Order}
 use Rattle.spares_top.specs.declared.done.Done.{Done}
 use Rattle.spares_top.specs.declared.done.Outcome.{Outcome}
 use Rattle.spares_top.specs.declared.done.Written.{Written}
 use Rattle.refusals.specs.declared.failure.Failure.{Failure}
 use Rattle.refusals.specs.declared.refusal.Refusal.TheVariants as refusal
-use Rattle.spares_io.specs.Steps.{◌>>=◌}
+use Rattle.answers.specs.Steps.{◌>>=◌}
 use Rattle.refusals.specs.Causes.{Kind, of_words, of_reading, of_writing, of_memory, of_task, kind_of, plain_failure}
 use Rattle.spares_top.specs.Files.{Reads, inputs}
 use Rattle.spares_top.specs.declared.files.Input.{Input}

@@ -6,8 +6,8 @@ use Rattle.on_hand.specs.Work.{held_work_of}
 use Rattle.refusals.specs.declared.failure.Failure.{Failure}
 use Rattle.spares_input.specs.Cases.{IsCase}
 use Rattle.spares_input.specs.Stocks.{IsFor, IsWithinLimits, nothing_held}
-use Rattle.spares_io.specs.declared.stop.Stop.{Stop}
-use Rattle.spares_io.specs.declared.stop.Stop.TheVariants as stop
+use Rattle.answers.specs.declared.stop.Stop.{Stop}
+use Rattle.answers.specs.declared.stop.Stop.TheVariants as stop
 use Rattle.spares_top.specs.declared.plan.Ground.{Ground}
 use Rattle.case_plan.specs.Report.{IsOutcome}
 use Rattle.case_plan.specs.declared.outcome.Outcome as plans

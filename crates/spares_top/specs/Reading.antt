@@ -1,7 +1,7 @@
 -- The progress of reading, for the calls that read. No promise of the crate rests on these words.
 use Rattle.std.specs.Prelude.{◌⊎◌, ⊤, ◌<◌, ◌^◌, ℕ, List, Option, Result, Ok, Err}
-use Rattle.spares_io.specs.declared.stop.Stop.{Stop}
-use Rattle.spares_io.specs.declared.stop.Stop.TheVariants as stop
+use Rattle.answers.specs.declared.stop.Stop.{Stop}
+use Rattle.answers.specs.declared.stop.Stop.TheVariants as stop
 use Rattle.spares_io.specs.Shelf.{Files}
 use Rattle.refusals.specs.declared.failure.Failure.{Failure}
 use Rattle.spares_top.specs.declared.files.Input.{Input}

@@ -28,7 +28,7 @@ use Rattle.spares_top.specs.declared.done.Outcome.{Outcome}
 use Rattle.refusals.specs.declared.failure.Failure.{Failure}
 use Rattle.refusals.specs.declared.refusal.File.TheVariants as file
 use Rattle.refusals.specs.declared.refusal.Refusal.TheVariants as refusal
-use Rattle.spares_io.specs.Steps.{◌>>=◌}
+use Rattle.answers.specs.Steps.{◌>>=◌}
 use Rattle.refusals.specs.Causes.{or_refuse, plain_failure}
 use Rattle.refusals.specs.Lines.{no_names}
 use Rattle.case_tables.specs.Tables.{stocked_of}

@@ -4,13 +4,14 @@ ghost use Rattle.gap_checker.specs.Scores.{ends_of};
 ghost use Rattle.gap_checker.specs.Refusals.{judged};
 ghost use Rattle.on_hand.specs.Held.{held_of};
 ghost use Rattle.price_certificate.specs.Certificates.{cert_of, certificate_limit};
-ghost use Rattle.spares_io.specs.Answers.{Gives};
+ghost use Rattle.answers.specs.Answers.{Gives};
 ghost use Rattle.spares_top.specs.Checks.{check_of, form_of, with_held, with_nothing};
 ghost use Rattle.spares_top.specs.Checking.{IsClaim, TellsClaim, claimed_by};
 ghost use Rattle.spares_top.specs.Making.{Is, MakesBy};
 ghost use Rattle.spares_top.specs.Task.{check_task};
 
 use crate::done::{Done, Outcome};
+use answers::Stop;
 use gap_checker::{Accepted, Reject, check_within};
 use hull::Plain;
 use log_loss::LogLoss;
@@ -18,7 +19,6 @@ use plan_report::CheckReport;
 use price_certificate::{Certificate, Objective};
 use refusals::{Failure, Refusal};
 use spares_input::{Stocks, nothing_held};
-use spares_io::Stop;
 use std::alloc::Global;
 
 /// A certificate with the held stocks of its case, which are zero if it has no stocks on hand.

@@ -10,12 +10,12 @@ ghost use Rattle.spares_top.specs.Making.{AreTables, Is, MakesBy};
 ghost use Rattle.spares_top.specs.Task.{bytes_at, compare_task};
 
 use crate::done::{Done, Outcome};
+use answers::{List, NoMemory, Stop};
 use case_tables::{Stocked, stocked_of};
 use demand_rates::kinds::Rates;
 use metric_compare::CompareReport;
 use refusals::{Failure, File};
 use spares_input::{Case, Stocks};
-use spares_io::{List, NoMemory, Stop};
 use std::alloc::Global;
 
 /// The comparison of a case at stocks within its limits.

@@ -5,9 +5,9 @@ ghost use Rattle.spares_top.specs.Making.{Is, MakesBy};
 ghost use Rattle.spares_top.specs.Task.{demonstrate};
 
 use crate::done::{Done, Outcome};
+use answers::{NoMemory, Stop};
 use demonstration::demonstrate;
 use refusals::Failure;
-use spares_io::{NoMemory, Stop};
 use std::alloc::Global;
 
 /// Carries out `demo`.

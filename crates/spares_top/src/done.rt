@@ -3,11 +3,12 @@ ghost use Rattle.std.specs.Prelude.{◌≡◌, IfOk};
 ghost use Rattle.spares_top.specs.Task.{printed};
 ghost use Rattle.spares_top.specs.Texts.{CanPrint, text_of};
 
+use answers::{List, NoMemory};
 use budget_sweep::{SweepReport, TargetReport};
 use metric_compare::CompareReport;
 use plan_report::{CheckReport, EvalReport, PlanReport, SingleReport, Summary};
 use plan_session::SessionReport;
-use spares_io::{List, NoMemory, Text};
+use spares_io::Text;
 use std::alloc::Global;
 
 /// The report of a command that was carried out.

@@ -14,6 +14,7 @@ ghost use Rattle.refusals.specs.declared.refusal.File.TheVariants as file;
 ghost use Rattle.spares_top.specs.Task.{bytes_at, eval_of, eval_task};
 
 use crate::done::{Done, Outcome};
+use answers::{List, NoMemory, Stop};
 use case_figures::{Figures, figures_at};
 use case_tables::{Stocked, stocked_of};
 use demand_rates::kinds::Rates;
@@ -21,7 +22,6 @@ use family_eval::evaluate_all;
 use plan_report::EvalReport;
 use refusals::{Failure, File};
 use spares_input::{Case, Stocks};
-use spares_io::{List, NoMemory, Stop};
 use std::alloc::Global;
 
 /// The figures of a case at stocks within its limits, with `F` bits.

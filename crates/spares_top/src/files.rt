@@ -4,10 +4,11 @@ ghost use Rattle.std.specs.Option.{option_map};
 ghost use Rattle.spares_top.specs.Files.{Gave, Reads, StandStill, case_in, certificate_in, inputs, if_named, table_in};
 ghost use Rattle.spares_top.specs.Reading.{IsReadable, ReadsGive, Unread};
 
+use answers::{List, NoMemory, Stop};
 use csv_tables::TABLE_LIMIT;
 use price_certificate::CERTIFICATE_LIMIT;
 use refusals::{Failure, File, Refusal};
-use spares_io::{List, NoMemory, Shelf, ShelfError, Stop, Text};
+use spares_io::{Shelf, ShelfError, Text};
 use spares_words::Order;
 use std::alloc::Global;
 

@@ -13,6 +13,7 @@ ghost use Rattle.spares_top.specs.Plans.{case_within_work, planning_of};
 ghost use Rattle.spares_top.specs.Task.{bytes_at, make_plan, plan_task};
 
 use crate::done::{Done, Outcome, Written};
+use answers::{List, NoMemory, Stop};
 use case_plan::plan_case;
 use case_tables::{Accepted, Stocked, accepted_of, stocked_of};
 use certified_plan::{PlanClaims, certificate, certificate_text};
@@ -24,7 +25,7 @@ use on_hand::held_work;
 use price_certificate::{Objective, Terms};
 use refusals::{Failure, File, Refusal};
 use spares_input::{Case, Stocks, nothing_held};
-use spares_io::{List, NoMemory, Stop, Text};
+use spares_io::Text;
 use std::alloc::Global;
 
 /// The ground of a plan: a case with its rates, its held stocks and the terms. If nothing is on hand, the held stocks

@@ -1,7 +1,7 @@
 //! The plans that a file of edits asks for.
 ghost use Rattle.std.specs.Prelude.{◌≤◌, length, IfOk};
 ghost use Rattle.std.specs.Result.{IsOk};
-ghost use Rattle.spares_io.specs.Answers.{Gives};
+ghost use Rattle.answers.specs.Answers.{Gives};
 ghost use Rattle.family_curve.specs.Counts.{work_of};
 ghost use Rattle.csv_tables.specs.Rest.{table_limit};
 ghost use Rattle.spares_top.specs.Making.{AreTables, Is, MakesBy};
@@ -9,12 +9,12 @@ ghost use Rattle.spares_top.specs.Plans.{case_to_edit};
 ghost use Rattle.spares_top.specs.Task.{bytes_at, session_task};
 
 use crate::done::{Done, Outcome};
+use answers::{List, Stop};
 use case_tables::case_of;
 use family_curve::work;
 use plan_session::run_edits;
 use refusals::{Failure, Refusal};
 use spares_input::Case;
-use spares_io::{List, Stop};
 use std::alloc::Global;
 
 /// The case of sites, parts and rates, if its curves take few enough tables. Its rates may be beyond the limits of the

@@ -10,13 +10,13 @@ ghost use Rattle.spares_top.specs.Making.{Is, MakesBy};
 ghost use Rattle.spares_top.specs.Task.{single_of, single_task, variance_of};
 
 use crate::done::{Done, Outcome};
+use answers::{NoMemory, Stop};
 use demand_rates::check_single;
 use exact_ratio::Decimal;
 use fixed_interval::Iv;
 use moment_table::row_at;
 use plan_report::SingleReport;
 use refusals::{Failure, Refusal};
-use spares_io::{NoMemory, Stop};
 use std::alloc::Global;
 
 const TEN_THOUSAND: u128 = 10_000;

@@ -15,6 +15,7 @@ ghost use Rattle.spares_input.specs.Stocks.{nothing_held};
 
 use crate::done::{Done, Outcome};
 use crate::plan::case_within_work;
+use answers::{List, NoMemory, Stop};
 use budget_sweep::{SweepReport, TargetReport};
 use case_tables::Accepted;
 use exact_ratio::Decimal;
@@ -22,7 +23,6 @@ use hull::{Curve, Plain};
 use on_hand::held_curves;
 use refusals::Failure;
 use spares_input::nothing_held;
-use spares_io::{List, NoMemory, Stop};
 use std::alloc::Global;
 
 /// The curves of all families of a case with nothing held.

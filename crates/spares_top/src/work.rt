@@ -18,9 +18,10 @@ use crate::plan::plan;
 use crate::session::session;
 use crate::single::single;
 use crate::sweep::{sweep, target};
+use answers::{List, NoMemory, Stop};
 use price_certificate::Terms;
 use refusals::{Failure, Refusal, failure_of};
-use spares_io::{List, NoMemory, Shelf, Sink, Stop, Text};
+use spares_io::{Shelf, Sink, Text};
 use spares_words::{Order, read_words};
 use std::alloc::Global;
 

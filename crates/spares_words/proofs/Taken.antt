@@ -3,9 +3,9 @@ use Rattle.std.proofs.Common.{◌≡◌, ◌∙◌, ap, sym, subst, refl, true, 
 use Rattle.clap.specs.Words.{App, Text, found_of, rows_of, matches_of, is_simple_and_free}
 use Rattle.clap.specs.Walk.{is_empty}
 use Rattle.clap.specs.declared.parser.matches.ArgMatches.{ArgMatches}
-use Rattle.spares_io.specs.declared.stop.Stop.TheVariants.{Fault, NoMemory}
-use Rattle.spares_io.specs.declared.stop.Stop.{Stop}
-use Rattle.spares_io.specs.Answers.{Gives}
+use Rattle.answers.specs.declared.stop.Stop.TheVariants.{Fault, NoMemory}
+use Rattle.answers.specs.declared.stop.Stop.{Stop}
+use Rattle.answers.specs.Answers.{Gives}
 use Rattle.spares_words.specs.Commands.{app_named, check_app, compare_app, demo_app, eval_app, plan_app, session_app, single_app, sweep_app, target_app}
 use Rattle.spares_words.specs.Order.{by_command, order_named, Parses}
 use Rattle.spares_words.specs.declared.commands.CommandName.{CommandName}

@@ -12,9 +12,9 @@ use Rattle.price_certificate.specs.declared.certificate.Objective.{Objective}
 use Rattle.price_certificate.specs.declared.certificate.Objective.TheVariants as objective
 use Rattle.price_certificate.specs.declared.certificate.Terms.{Terms}
 use Rattle.spares_input.specs.Money.{most_budget}
-use Rattle.spares_io.specs.Steps.{◌>>=◌}
-use Rattle.spares_io.specs.declared.stop.Stop.{Stop}
-use Rattle.spares_io.specs.declared.stop.Stop.TheVariants as stop
+use Rattle.answers.specs.Steps.{◌>>=◌}
+use Rattle.answers.specs.declared.stop.Stop.{Stop}
+use Rattle.answers.specs.declared.stop.Stop.TheVariants as stop
 use Rattle.spares_words.specs.Commands.{app_named, command_named}
 use Rattle.spares_words.specs.declared.commands.CommandName.{CommandName}
 use Rattle.spares_words.specs.declared.commands.CommandName.TheVariants as command

@@ -1,7 +1,7 @@
 //! The order of each command, from the values of its arguments.
 ghost use Rattle.std.specs.Prelude.{◌≡◌, codes, IfOk, Ok};
 ghost use Rattle.clap.specs.Words.{first_of, found_of, rows_of};
-ghost use Rattle.spares_io.specs.Answers.{Gives};
+ghost use Rattle.answers.specs.Answers.{Gives};
 ghost use Rattle.spares_words.specs.Order.{
   AreInRange,
   IsInRange,
@@ -22,10 +22,11 @@ use crate::commands::CommandName;
 use crate::number::{bits, format, lowest_format, number, objective_of, optional, whole, within};
 use crate::values::{Names, copied, copied_if_given, names_of, text_of, value_of};
 use crate::{Order, Which, WordsFault};
+use answers::Stop;
 use clap::ArgMatches;
 use price_certificate::Terms;
 use spares_input::MOST_BUDGET;
-use spares_io::{Stop, Text};
+use spares_io::Text;
 use std::alloc::Global;
 
 /// The order of `single`.

@@ -1,15 +1,16 @@
 //! From words to an order.
 ghost use Rattle.std.specs.Prelude.{◌≡◌, true, IfOk};
 ghost use Rattle.clap.specs.Words.{app_of, is_simple_and_free};
-ghost use Rattle.spares_io.specs.Answers.{Gives};
+ghost use Rattle.answers.specs.Answers.{Gives};
 ghost use Rattle.spares_words.specs.Order.{IsInRange, Parses, by_command, order_of};
 
 use crate::commands::{CommandName, command_named, command_of};
 use crate::orders::order_named;
 use crate::{Order, WordsFault};
+use answers::Stop;
 use clap::error::ErrorKind;
 use clap::{ArgMatches, Command};
-use spares_io::{Stop, Text};
+use spares_io::Text;
 use std::alloc::Global;
 
 /// The matches of `clap` for the words of a command.

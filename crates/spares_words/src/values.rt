@@ -1,12 +1,13 @@
 //! The values that `clap` found for the arguments of a command.
 ghost use Rattle.std.specs.Prelude.{◌≡◌, option_map, Ok};
 ghost use Rattle.clap.specs.Words.{first_of, found_of, rows_of};
-ghost use Rattle.spares_io.specs.Answers.{Gives};
+ghost use Rattle.answers.specs.Answers.{Gives};
 ghost use Rattle.spares_words.specs.Order.{names_of, text_of};
 
 use crate::WordsFault;
+use answers::Stop;
 use clap::ArgMatches;
-use spares_io::{Stop, Text};
+use spares_io::Text;
 use std::alloc::Global;
 
 /// The value of an argument that may be left out.

@@ -2,8 +2,8 @@
 ghost use Rattle.std.specs.Prelude.{◌*◌, ◌^◌, ◌<◌, ◌≤◌, IfOk, IsTrue, ◌↔◌};
 ghost use Rattle.step_walk.specs.Steep.{AreAfterSteep, IsAfterSteep};
 
+use answers::NoMemory;
 use hull::{Curve, Price};
-use spares_io::NoMemory;
 use std::alloc::Global;
 
 /// Whether a step falls by more than `price` per unit of money.

@@ -7,8 +7,8 @@ ghost use Rattle.step_walk.specs.Walks.{IsAfter, IsAtFirst, AllDone, TellsFirst,
 
 use crate::steep::all_after_steep;
 use crate::step::Step;
+use answers::NoMemory;
 use hull::{Curve, Price};
-use spares_io::NoMemory;
 use std::alloc::Global;
 use std::collections::BinaryHeap;
 use std::marker::Model;

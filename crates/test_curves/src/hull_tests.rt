@@ -4,9 +4,9 @@ ghost use Rattle.std.specs.Prelude.{◌≡◌, ◌^◌, ◌<◌, ◌≤◌, IfOk
 ghost use Rattle.hull.specs.declared.point.Point.{Point};
 ghost use Rattle.hull.specs.Curves.{Among};
 
+use answers::List;
 use fixed_interval::Iv;
 use hull::{Chain, Curve, Plain, Point, Score, Spot};
-use spares_io::List;
 use std::alloc::Global;
 use std::process::Abort;
 use std::test::Fail;

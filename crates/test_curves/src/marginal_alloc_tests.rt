@@ -5,9 +5,9 @@ ghost use Rattle.hull.specs.declared.point.Point.{Point};
 ghost use Rattle.hull.specs.Curves.{InRange};
 ghost use Rattle.step_walk.specs.Prefix.{vertex_at};
 
+use answers::List;
 use hull::{Curve, Point};
 use marginal_alloc::{Chosen, allocate, fill};
-use spares_io::List;
 use std::alloc::Global;
 use std::process::Abort;
 use std::test::Fail;

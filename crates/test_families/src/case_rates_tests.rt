@@ -5,11 +5,11 @@ ghost use Rattle.spares_input.specs.Rows.{IsSiteRow, IsPartRow};
 ghost use Rattle.spares_input.specs.Cases.{IsRateOf};
 ghost use Rattle.demand_rates.specs.Rates.{AreRatesOf};
 
+use answers::{NoMemory, Stop};
 use demand_rates::kinds::{PairRates, Rates};
 use demand_rates::{Place, RateFault, rates};
 use exact_ratio::Ratio;
 use spares_input::{Case, Frame, Name, PartId, PartRow, RateRow, SiteId, SiteRow};
-use spares_io::{NoMemory, Stop};
 use std::alloc::Global;
 use std::test::*;
 

@@ -5,11 +5,11 @@ ghost use Rattle.price_certificate.specs.declared.certificate.Objective.TheVaria
 ghost use Rattle.price_certificate.specs.Certificates.{IsWellFormed};
 ghost use Rattle.certified_plan.specs.Inputs.{IsHeld};
 
+use answers::NoMemory;
 use certified_plan::{PlanClaims, certificate, certificate_text};
 use on_hand::HeldCertificate;
 use price_certificate::{Certificate, Objective, Terms};
 use spares_input::{Stocks, nothing_held};
-use spares_io::NoMemory;
 use std::alloc::Global;
 use std::test::*;
 

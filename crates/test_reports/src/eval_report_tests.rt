@@ -3,11 +3,11 @@
 ghost use Rattle.std.specs.Prelude.{◌≡◌, ◌≤◌, ◌<◌, ◌^◌, IfOk};
 ghost use Rattle.case_figures.specs.Fits.{FitsPrint};
 
+use answers::{List, NoMemory};
 use case_figures::{BaseLine, Figures, HeldItem, Items, Narrow, Span};
 use fixed_interval::Iv;
 use plan_report::{EvalReport, SingleReport};
 use spares_input::{Name, PartId, SiteId};
-use spares_io::{List, NoMemory};
 use std::alloc::Global;
 use std::test::*;
 

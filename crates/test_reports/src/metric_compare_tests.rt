@@ -3,10 +3,10 @@
 ghost use Rattle.std.specs.Prelude.{◌<◌, ◌^◌, IfOk};
 ghost use Rattle.metric_compare.specs.Fits.{FitsComparison};
 
+use answers::{List, NoMemory};
 use fixed_interval::Iv;
 use metric_compare::{CompareItem, CompareReport};
 use spares_input::Name;
-use spares_io::{List, NoMemory};
 use std::alloc::Global;
 use std::test::*;
 

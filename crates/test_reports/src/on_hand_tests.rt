@@ -1,9 +1,9 @@
 //! Held certificates, read, and the work from their held stocks.
 
+use answers::Stop;
 use on_hand::{held_work, read};
 use price_certificate::CertFault;
 use spares_input::CaseFault;
-use spares_io::Stop;
 use std::alloc::Global;
 use std::process::Abort;
 use std::test::*;

@@ -4,12 +4,12 @@ ghost use Rattle.std.specs.Prelude.{◌≡◌, All, IfOk, IfSome};
 ghost use Rattle.case_figures.specs.Fits.{FitsPrint, ItemFits, SpanFits};
 ghost use Rattle.plan_report.specs.Fits.{FitsPlan, IntervalFits, PriceFits, UnitsFit};
 
+use answers::{List, NoMemory};
 use case_figures::{BaseLine, Figures, HeldItem, Items, Narrow, Span};
 use fixed_interval::Iv;
 use hull::Price;
 use plan_report::{CheckReport, CriticalLine, PlanReport, Summary};
 use spares_input::{Name, PartId, SiteId};
-use spares_io::{List, NoMemory};
 use std::alloc::Global;
 use std::test::*;
 

@@ -3,11 +3,11 @@ ghost use Rattle.std.specs.Prelude.{◌≤◌, true, IfSome, length};
 ghost use Rattle.std.specs.Result.{IsOk};
 ghost use Rattle.family_curve.specs.Counts.{work_of};
 
+use answers::Stop;
 use csv_tables::{rate_line, read_parts, read_rates, read_sites};
 use family_curve::work;
 use plan_session::{EditFault, Session, run_edits};
 use spares_input::{Case, Frame};
-use spares_io::Stop;
 use std::alloc::Global;
 use std::test::*;
 

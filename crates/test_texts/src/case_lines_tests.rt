@@ -4,9 +4,9 @@ ghost use Rattle.std.specs.Prelude.{◌<◌, ◌≤◌, length, vec_len, All, If
 ghost use Rattle.spares_input.specs.Rows.{IsSiteRow, IsPartRow};
 ghost use Rattle.spares_input.specs.Cases.{IsRateOf};
 
+use answers::NoMemory;
 use case_lines::write_case;
 use spares_input::{Case, Frame, Name, PartId, PartRow, RateRow, SiteId, SiteRow};
-use spares_io::NoMemory;
 use std::alloc::Global;
 use std::test::*;
 

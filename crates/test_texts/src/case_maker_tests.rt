@@ -2,9 +2,9 @@
 
 ghost use Rattle.std.specs.Prelude.{◌≤◌};
 
+use answers::NoMemory;
 use case_maker::make_case;
 use spares_input::{Case, PartId, SiteId};
-use spares_io::NoMemory;
 use std::alloc::Global;
 use std::test::*;
 

@@ -4,10 +4,10 @@ ghost use Rattle.std.specs.Prelude.{◌≤◌, ◌↔◌, IsTrue, IfOk, length};
 ghost use Rattle.spares_input.specs.Stocks.{IsFor};
 ghost use Rattle.csv_tables.specs.Rest.{table_limit};
 
+use answers::{NoMemory, Stop};
 use csv_tables::{TABLE_LIMIT, TableFault, read_parts, read_rates, read_sites, read_stocks};
 use exact_ratio::NumberFault;
 use spares_input::{Case, CaseFault, Frame, PartId, SiteId, StockFault, Stocks, stocks_from};
-use spares_io::{NoMemory, Stop};
 use std::alloc::Global;
 use std::test::Fail;
 

@@ -1,8 +1,8 @@
 //! Certificates, written and read.
 
+use answers::Stop;
 use price_certificate::{CertFault, read, text};
 use spares_input::CaseFault;
-use spares_io::Stop;
 use std::alloc::Global;
 use std::process::Abort;
 use std::test::*;

@@ -1,8 +1,7 @@
 //! Texts and lists, shelves and sinks: their contents, and their failures.
 
-use spares_io::{
-    FileShelf, List, MemShelf, MemSink, Shelf, ShelfError, Sink, SinkFailed, StdSink, Text,
-};
+use answers::List;
+use spares_io::{FileShelf, MemShelf, MemSink, Shelf, ShelfError, Sink, SinkFailed, StdSink, Text};
 use std::fs;
 use std::io::{self, Error, ErrorKind, Write};
 use std::process::Abort;

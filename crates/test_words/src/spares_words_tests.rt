@@ -1,10 +1,11 @@
 //! Command lines with their orders and their faults.
 
+use answers::{NoMemory, Stop};
 use exact_ratio::Decimal;
 use exact_ratio::NumberFault::{BadByte, Empty, TooLarge, TooManyPlaces};
 use price_certificate::Objective;
 use price_certificate::Objective::{Backorders, LogAvailability};
-use spares_io::{NoMemory, Stop, Text};
+use spares_io::Text;
 use spares_words::Which::{Bits, Budget, Format, Lines, Mean, Stock, Target, Variance};
 use spares_words::WordsFault::{Number, Range, Shape};
 use spares_words::{Order, Which, WordsFault, read_words};

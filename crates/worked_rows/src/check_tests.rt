@@ -1,5 +1,6 @@
 use crate::helpers::{Ended, ends, printed, refused, shelf_with};
-use spares_io::{MemShelf, NoMemory};
+use answers::NoMemory;
+use spares_io::MemShelf;
 use std::alloc::Global;
 use std::process::Abort;
 use std::test::*;

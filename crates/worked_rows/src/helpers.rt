@@ -1,5 +1,6 @@
 //! Helpers of the tests of the worked rows.
-use spares_io::{List, MemShelf, MemSink, NoMemory, Text};
+use answers::{List, NoMemory};
+use spares_io::{MemShelf, MemSink, Text};
 use spares_top::{run, status};
 use std::alloc::Global;
 use std::process::Abort;

@@ -4,7 +4,7 @@ use Rattle.std.proofs.lemmas.Result.{err_from_is_err_and}
 use Rattle.line_text.specs.Formats.{one}
 use Rattle.line_text.specs.Files.{line}
 use Rattle.line_text.specs.Texts.{only}
-use Rattle.spares_io.specs.declared.stop.Stop.TheVariants as stop
+use Rattle.answers.specs.declared.stop.Stop.TheVariants as stop
 use Rattle.spares_input.specs.declared.rows.PartRow.{PartRow}
 use Rattle.case_lines.specs.Grammar.{is_owed, may_stand, part_fields, part_line, part_lines}
 use Rattle.line_text.proofs.Steps.{step, stops}

@@ -2,7 +2,7 @@ use Rattle.std.proofs.Common.{Vec, Global, ◌*◌, length}
 use Rattle.std.proofs.lemmas.Result.{err_from_is_err_and}
 use Rattle.line_text.specs.Formats.{each}
 use Rattle.line_text.specs.Texts.{numbers_from}
-use Rattle.spares_io.specs.declared.stop.Stop.TheVariants as stop
+use Rattle.answers.specs.declared.stop.Stop.TheVariants as stop
 use Rattle.spares_input.specs.declared.rows.RateRow.{RateRow}
 use Rattle.case_lines.specs.Grammar.{pair_at, rate_line}
 use Rattle.line_text.proofs.Steps.{step, stops}

@@ -1,5 +1,5 @@
 use Rattle.std.proofs.Common.{◌≡◌, List, Ok, Err, ap, subst, sym, ◌∙◌}
-use Rattle.spares_io.specs.Answers.{Gives}
+use Rattle.answers.specs.Answers.{Gives}
 use Rattle.spares_input.specs.Frames.{frame_of}
 use Rattle.spares_input.specs.Cases.{CaseRows, case_of}
 use Rattle.spares_input.specs.declared.rows.RateRow.{RateRow}

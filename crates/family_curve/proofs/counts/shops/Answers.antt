@@ -1,5 +1,5 @@
 use Rattle.std.proofs.Common.{◌≡◌, ◌+◌, ◌*◌, ◌≤◌, sym, ap, ◌∙◌, subst}
-use Rattle.spares_io.specs.Causes.{count64}
+use Rattle.answers.specs.Counts.{count64}
 use Rattle.spares_input.specs.Frames.{is_shop_of, part_at}
 use Rattle.family_curve.proofs.Counting.{Counts, counts_begin, counts_more, counts_same}
 use Rattle.family_curve.proofs.counts.shops.Goals as goal

@@ -1,5 +1,5 @@
 use Rattle.std.proofs.Common.{◌≡◌, None}
-use Rattle.spares_io.specs.Causes.{count64}
+use Rattle.answers.specs.Counts.{count64}
 use Rattle.spares_input.specs.First.{first}
 use Rattle.gap_checker.specs.Refusals.{gap_at, tables_of_first}
 use Rattle.gap_checker.proofs.covers.work_of.Given as goal

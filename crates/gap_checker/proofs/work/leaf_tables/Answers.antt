@@ -1,5 +1,5 @@
 use Rattle.std.proofs.Common.{sym, ap, ◌∙◌}
-use Rattle.spares_io.specs.Causes.{count64}
+use Rattle.answers.specs.Counts.{count64}
 use Rattle.gap_checker.specs.Values.{leaf_tables}
 use Rattle.gap_checker.proofs.work.leaf_tables.Goals as goal
 

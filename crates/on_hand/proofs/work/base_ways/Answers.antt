@@ -1,5 +1,5 @@
 use Rattle.std.proofs.Common.{◌≡◌, length, ap, ◌∙◌, arith}
-use Rattle.spares_io.specs.Causes.{count64}
+use Rattle.answers.specs.Counts.{count64}
 use Rattle.on_hand.proofs.Rooms.{ways_below, ways_more}
 use Rattle.on_hand.proofs.work.base_ways.Goals as goal
 

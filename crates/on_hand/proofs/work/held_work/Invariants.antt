@@ -1,5 +1,5 @@
 use Rattle.std.proofs.Common.{◌≡◌, sum_by}
-use Rattle.spares_io.specs.Causes.{count64}
+use Rattle.answers.specs.Counts.{count64}
 use Rattle.on_hand.proofs.Rooms.{lines_below, tables_at}
 use Rattle.on_hand.proofs.work.held_work.Given as goal
 

@@ -2,7 +2,7 @@ use Rattle.std.specs.Prelude.{Result, Ok, Err, OnOk}
 use Rattle.std.proofs.Common.{◌≡◌, List, ℕ, [], ◌∷◌, ◌++◌, ap, ◌∙◌, append_assoc}
 use Rattle.std.proofs.lemmas.List.{append-nil}
 use Rattle.std.specs.Fmt.{decimal}
-use Rattle.spares_io.specs.declared.stop.NoMemory.{NoMemory}
+use Rattle.answers.specs.declared.stop.NoMemory.{NoMemory}
 use Rattle.line_text.specs.Writing.{Puts}
 use Rattle.plan_report.proofs.text.put_number_line.Goals as goal
 

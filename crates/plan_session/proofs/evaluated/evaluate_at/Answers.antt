@@ -1,6 +1,6 @@
 use Rattle.std.specs.Prelude.{Result, Ok, Err, OnOk}
 use Rattle.std.proofs.Common.{◌≡◌, Bool, List, length, sym, ap, ◌∙◌, subst}
-use Rattle.spares_io.specs.declared.stop.NoMemory.{NoMemory}
+use Rattle.answers.specs.declared.stop.NoMemory.{NoMemory}
 use Rattle.family_eval.specs.declared.item.FamilyResult.{FamilyResult}
 use Rattle.plan_session.specs.Sessions.{no_family, AreMarked, IsEvaluation}
 use Rattle.plan_session.proofs.Marking.{written}

@@ -4,7 +4,7 @@ use Rattle.line_text.specs.Formats.{each}
 use Rattle.line_text.specs.Texts.{numbers_from}
 use Rattle.line_text.proofs.Steps.{step, stops}
 use Rattle.price_certificate.specs.declared.certificate.Node.{Node}
-use Rattle.spares_io.specs.declared.list.List.{List as Kept}
+use Rattle.answers.specs.declared.list.List.{List as Kept}
 use Rattle.price_certificate.specs.Grammar.{cover}
 use Rattle.price_certificate.proofs.many_lines.each_cover.Goals as goal
 

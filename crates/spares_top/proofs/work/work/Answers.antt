@@ -1,5 +1,5 @@
 use Rattle.std.proofs.Common.{Err, subst}
-use Rattle.spares_io.specs.Answers.{Gives}
+use Rattle.answers.specs.Answers.{Gives}
 use Rattle.spares_words.specs.Order.{order_of}
 use Rattle.spares_words.specs.declared.order.Order.{Order}
 use Rattle.spares_top.proofs.Whole.{wordless}

@@ -1,6 +1,6 @@
 use Rattle.std.proofs.Common.{◌∙◌, ap, sym, subst, Result}
 use Rattle.clap.specs.Words.{is_simple_and_free}
-use Rattle.spares_io.specs.Answers.{Gives}
+use Rattle.answers.specs.Answers.{Gives}
 use Rattle.spares_words.specs.declared.order.Order.{Order}
 use Rattle.spares_words.specs.declared.order.WordsFault.{WordsFault}
 use Rattle.spares_words.proofs.Taken.{each_simple, taken, handed_up}

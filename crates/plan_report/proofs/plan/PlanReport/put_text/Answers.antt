@@ -1,7 +1,7 @@
 use Rattle.std.specs.Prelude.{Result, Ok, Err, OnOk, codes}
 use Rattle.std.proofs.Common.{◌≡◌, List, ℕ, ◌++◌, ap, ◌∙◌, append_assoc}
 use Rattle.std.specs.Fmt.{decimal}
-use Rattle.spares_io.specs.declared.stop.NoMemory.{NoMemory}
+use Rattle.answers.specs.declared.stop.NoMemory.{NoMemory}
 use Rattle.plan_report.specs.Texts.{bounds_text, gains_text, line, steps_text}
 use Rattle.plan_report.proofs.plan.PlanReport.put_text.Goals as goal
 

@@ -1,6 +1,6 @@
 //! Want of memory, alone and beside a fault.
 ghost use Rattle.std.specs.Prelude.{◌≡◌};
-ghost use Rattle.spares_io.specs.declared.stop.Stop.TheVariants as stop;
+ghost use Rattle.answers.specs.declared.stop.Stop.TheVariants as stop;
 
 use std::alloc::{AllocError, AllocFailed};
 
