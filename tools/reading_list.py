@@ -42,7 +42,7 @@ LISTS = [
     (
         "**How bytes become a case, and which cases are taken: %d definitions.**",
         files("""
-            spares_io Steps
+            answers Steps
             refusals Causes Lines
             line_text Formats Files
             csv_tables Rest Fields Tables
@@ -63,7 +63,7 @@ LISTS = [
             moment_table Profile Rows
             hull Curves
             price_bounds Sums Certificates
-            family_curve Points Vectors
+            family_points Points Vectors
             price_certificate Grammar Certificates
             gap_checker Refusals Scores
             on_hand Held Work
@@ -125,7 +125,7 @@ STOPS = [
     (
         "the count of tables",
         "[MODEL](MODEL.md)",
-        [("family_curve", "Counts", "work_of"), ("on_hand", "Work", "held_work_of")],
+        [("family_points", "Counts", "work_of"), ("on_hand", "Work", "held_work_of")],
     ),
     (
         "a certificate's text, cover and rules",

@@ -5,7 +5,7 @@ use Rattle.hull.specs.declared.point.Point.{Point}
 use Rattle.hull.proofs.Shapes.{one_curve}
 use Rattle.spares_input.specs.Cases.{CaseRows}
 use Rattle.exact_ratio.specs.declared.decimal.Decimal.{Decimal}
-use Rattle.family_curve.specs.Points.{ScoreEnds}
+use Rattle.family_points.specs.Points.{ScoreEnds}
 use Rattle.step_walk.specs.Prefix.{curve_at}
 use Rattle.marginal_alloc.specs.Choice.{AreCurves}
 use Rattle.fleet_plan.specs.Families.{case_points}

@@ -6,7 +6,7 @@ use Rattle.fixed_interval.proofs.Laws.{down_below, up_above}
 use Rattle.hull.specs.declared.point.Point.{Point}
 use Rattle.hull.specs.Scores.{EnclosesValue}
 use Rattle.spares_input.specs.Cases.{CaseRows}
-use Rattle.family_curve.specs.Points.{ScoreEnds}
+use Rattle.family_points.specs.Points.{ScoreEnds}
 use Rattle.price_bounds.specs.Allocations.{Family, points_of, cost_at, total_at}
 use Rattle.fleet_model.specs.Aims.{Value, aim, IsHeldAllocation}
 use Rattle.fleet_model.specs.Bounds.{NoneHasLess}

@@ -4,7 +4,7 @@ use Rattle.std.specs.Prelude.{◌≡◌, ℕ, List}
 use Rattle.hull.specs.declared.point.Point.{Point}
 use Rattle.spares_input.specs.Cases.{CaseRows}
 use Rattle.exact_ratio.specs.declared.decimal.Decimal.{Decimal}
-use Rattle.family_curve.specs.Points.{ScoreEnds}
+use Rattle.family_points.specs.Points.{ScoreEnds}
 use Rattle.step_walk.specs.Prefix.{HaveShapes}
 use Rattle.marginal_alloc.specs.Choice.{AreCurves}
 use Rattle.fleet_plan.specs.Families.{case_points}

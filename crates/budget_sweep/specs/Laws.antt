@@ -5,7 +5,7 @@ use Rattle.hull.specs.Scores.{EnclosesValue}
 use Rattle.spares_input.specs.Cases.{CaseRows}
 use Rattle.exact_ratio.specs.declared.decimal.Decimal.{Decimal}
 use Rattle.fleet_model.specs.Aims.{Value}
-use Rattle.family_curve.specs.Points.{ScoreEnds}
+use Rattle.family_points.specs.Points.{ScoreEnds}
 use Rattle.step_walk.specs.Prefix.{HaveShapes}
 use Rattle.marginal_alloc.specs.declared.allocation.Chosen.{Chosen}
 use Rattle.marginal_alloc.specs.Choice.{IsHullChoice}

@@ -1,7 +1,7 @@
 //! The report of a target, read off a sweep.
 ghost use Rattle.std.specs.Prelude.{◌≡◌, ℕ, ◌+◌, ◌^◌, ◌<◌, ◌≤◌, List, length, All, IfOk, IfSome};
 ghost use Rattle.spares_input.specs.Cases.{CaseRows};
-ghost use Rattle.family_curve.specs.Points.{ScoreEnds};
+ghost use Rattle.family_points.specs.Points.{ScoreEnds};
 ghost use Rattle.marginal_alloc.specs.Choice.{AreCurves};
 ghost use Rattle.fleet_plan.specs.Families.{case_points};
 ghost use Rattle.budget_sweep.specs.Sweep.{last_state};

@@ -1,7 +1,7 @@
 //! The sweep.
 ghost use Rattle.std.specs.Prelude.{ℕ, ◌≤◌, List, length, IfOk, OnOk};
 ghost use Rattle.spares_input.specs.Cases.{CaseRows};
-ghost use Rattle.family_curve.specs.Points.{ScoreEnds};
+ghost use Rattle.family_points.specs.Points.{ScoreEnds};
 ghost use Rattle.step_walk.specs.Prefix.{HaveShapes};
 ghost use Rattle.marginal_alloc.specs.Choice.{AreCurves};
 ghost use Rattle.fleet_plan.specs.Families.{case_points};

@@ -12,9 +12,9 @@ use Rattle.spares_input.specs.Cases.{CaseRows, IsCase}
 use Rattle.fleet_model.specs.Rows.{line_units}
 use Rattle.fleet_model.specs.Aims.{Value, aim, family_aim}
 use Rattle.family_eval.specs.Inputs.{IsLine, IsSound}
-use Rattle.family_curve.specs.Vectors.{vector_of, stocks_with}
-use Rattle.family_curve.specs.Points.{ScoreEnds, scored_total, point_at_vector}
-use Rattle.family_curve.proofs.Stands.{vector_stands}
+use Rattle.family_points.specs.Vectors.{vector_of, stocks_with}
+use Rattle.family_points.specs.Points.{ScoreEnds, scored_total, point_at_vector}
+use Rattle.family_points.proofs.Stands.{vector_stands}
 use Rattle.price_bounds.specs.Sums.{hi_of, lo_of}
 use Rattle.price_bounds.specs.Soundness.{stocks_of}
 use Rattle.marginal_alloc.specs.Plans.{IsPlan}

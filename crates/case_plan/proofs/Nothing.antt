@@ -6,8 +6,8 @@ use Rattle.std.proofs.lemmas.Bool.{cases_lt}
 use Rattle.hull.specs.declared.point.Point.{Point}
 use Rattle.spares_input.specs.Cases.{CaseRows}
 use Rattle.fleet_model.specs.Rows.{stock, line_units}
-use Rattle.family_curve.specs.Vectors.{Pair, places, vector_of, limits}
-use Rattle.family_curve.specs.Points.{ScoreEnds, point_at_vector, points_within}
+use Rattle.family_points.specs.Vectors.{Pair, places, vector_of, limits}
+use Rattle.family_points.specs.Points.{ScoreEnds, point_at_vector, points_within}
 use Rattle.marginal_alloc.specs.Plans.{IsPlan}
 use Rattle.fleet_plan.specs.Families.{family_points, case_points, points_at}
 use Rattle.fleet_plan.specs.Plans.{CasePlan, IsCasePlan}

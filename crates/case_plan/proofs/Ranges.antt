@@ -12,7 +12,7 @@ use Rattle.spares_input.specs.Cases.{CaseRows}
 use Rattle.fleet_model.specs.Rows.{line_units}
 use Rattle.fleet_model.proofs.AllocationLaws.{allocation_reaches}
 use Rattle.family_eval.specs.Inputs.{IsLine}
-use Rattle.family_curve.specs.Points.{ScoreEnds}
+use Rattle.family_points.specs.Points.{ScoreEnds}
 use Rattle.marginal_alloc.specs.declared.allocation.Critical.{Critical}
 use Rattle.marginal_alloc.specs.declared.allocation.Chosen.{Chosen}
 use Rattle.price_bounds.specs.Sums.{hi_of, width_of, Picks}

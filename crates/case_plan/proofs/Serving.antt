@@ -9,9 +9,9 @@ use Rattle.hull.proofs.Runs.{among_at}
 use Rattle.hull.proofs.Members.{among_map, among_mapped}
 use Rattle.spares_input.specs.Cases.{CaseRows, IsCase}
 use Rattle.fleet_model.specs.Rows.{line_units}
-use Rattle.family_curve.specs.Vectors.{Pair, places, vector_of, limits, vectors}
-use Rattle.family_curve.specs.Points.{ScoreEnds, point_at_vector}
-use Rattle.family_curve.proofs.Points.{nothing_above}
+use Rattle.family_points.specs.Vectors.{Pair, places, vector_of, limits, vectors}
+use Rattle.family_points.specs.Points.{ScoreEnds, point_at_vector}
+use Rattle.family_points.proofs.Points.{nothing_above}
 use Rattle.step_walk.specs.Prefix.{curve_at, vertex_at, HaveShapes}
 use Rattle.marginal_alloc.specs.Choice.{AreCurves}
 use Rattle.fleet_model.specs.Aims.{weighted_backorders, IsHeldAllocation}

@@ -14,8 +14,8 @@ use Rattle.case_figures.specs.declared.figures.Figures.{Figures}
 use Rattle.case_figures.specs.Figures.{figures_of}
 use Rattle.case_figures.specs.Shows.{ShowsFigures}
 use Rattle.case_figures.proofs.Shown.{evaluated_as, figures_fit, figures_shown}
-use Rattle.family_curve.specs.Vectors.{stock_list}
-use Rattle.family_curve.specs.Points.{ScoreEnds, plain_ends}
+use Rattle.family_points.specs.Vectors.{stock_list}
+use Rattle.family_points.specs.Points.{ScoreEnds, plain_ends}
 use Rattle.fleet_model.proofs.WordLaws.{plain_words}
 use Rattle.fleet_plan.specs.Plans.{IsCasePlan, IsPlainPlan}
 use Rattle.fleet_plan.specs.Laws.{IsAcceptedCase}

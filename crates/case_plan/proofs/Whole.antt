@@ -13,7 +13,7 @@ use Rattle.spares_input.specs.Rows.{is_line}
 use Rattle.spares_input.specs.Frames.{part_at}
 use Rattle.fleet_model.specs.Rows.{all_parts, stock, line_units}
 use Rattle.fleet_model.proofs.AllocationLaws.{stock_holds}
-use Rattle.family_curve.specs.Vectors.{Pair, places, vector_of, limits, stock_list, IsBetween}
+use Rattle.family_points.specs.Vectors.{Pair, places, vector_of, limits, stock_list, IsBetween}
 use Rattle.marginal_alloc.specs.declared.allocation.Critical.{Critical}
 use Rattle.marginal_alloc.specs.declared.plans.PlanNumbers.{PlanNumbers}
 use Rattle.step_walk.specs.Prefix.{curve_at, AreVertices, picked}
@@ -28,7 +28,7 @@ use Rattle.fleet_plan.proofs.Lists.{is_among}
 use Rattle.fleet_plan.proofs.Places.{kept, zip_each}
 use Rattle.fleet_plan.proofs.Bridge.{held_of}
 use Rattle.fixed_interval.specs.Ends.{Ends}
-use Rattle.family_curve.specs.Points.{ScoreEnds, plain_ends}
+use Rattle.family_points.specs.Points.{ScoreEnds, plain_ends}
 use Rattle.plan_report.specs.declared.plan.CriticalLine.{CriticalLine}
 use Rattle.case_plan.specs.declared.outcome.Outcome.{Outcome}
 use Rattle.case_plan.specs.Report.{Terms, aim_ends, if_asked, step_line, outcome_of, IsPlanOf}

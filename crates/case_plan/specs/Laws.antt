@@ -3,7 +3,7 @@ use Rattle.std.specs.Prelude.{◌≡◌, ℕ, ◌^◌, ◌≤◌, ◌↔◌, [],
 use Rattle.hull.specs.Scores.{EnclosesValue, LeavesRoom}
 use Rattle.spares_input.specs.Cases.{CaseRows, IsCase}
 use Rattle.fleet_model.specs.Rows.{line_units}
-use Rattle.family_curve.specs.Points.{ScoreEnds, plain_ends}
+use Rattle.family_points.specs.Points.{ScoreEnds, plain_ends}
 use Rattle.hull.specs.declared.point.Point.{Point}
 use Rattle.step_walk.specs.Prefix.{HaveShapes}
 use Rattle.marginal_alloc.specs.Choice.{AreCurves}

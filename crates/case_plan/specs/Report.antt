@@ -11,8 +11,8 @@ use Rattle.fleet_plan.specs.Families.{case_points, hi_at}
 use Rattle.spares_input.specs.Frames.{part_at}
 use Rattle.spares_input.specs.Cases.{CaseRows}
 use Rattle.case_figures.specs.Figures.{figures_of}
-use Rattle.family_curve.specs.Vectors.{limits, stock_list}
-use Rattle.family_curve.specs.Points.{ScoreEnds, scored_total}
+use Rattle.family_points.specs.Vectors.{limits, stock_list}
+use Rattle.family_points.specs.Points.{ScoreEnds, scored_total}
 use Rattle.fleet_plan.specs.Plans.{CasePlan, critical_line, IsCasePlan}
 use Rattle.plan_report.specs.declared.plan.CriticalLine.{CriticalLine}
 use Rattle.plan_report.specs.declared.plan.PlanReport.{PlanReport}

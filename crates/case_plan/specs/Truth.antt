@@ -9,8 +9,8 @@ use Rattle.fleet_model.specs.Aims.{Value, aim, IsHeldAllocation, cost_beyond}
 use Rattle.fleet_model.specs.Bounds.{NoneHasLess, NoPriceShowsMore, HasNoMore}
 use Rattle.case_figures.specs.Spans.{ends}
 use Rattle.case_figures.specs.Shows.{ShowsFigures}
-use Rattle.family_curve.specs.Vectors.{stock_list}
-use Rattle.family_curve.specs.Points.{ScoreEnds}
+use Rattle.family_points.specs.Vectors.{stock_list}
+use Rattle.family_points.specs.Points.{ScoreEnds}
 use Rattle.fleet_plan.specs.Families.{hi_at}
 use Rattle.fleet_plan.specs.Plans.{CasePlan, CaseClaims, AreAcceptable, critical_line}
 use Rattle.plan_report.specs.Texts.{millionths_down}

@@ -3,10 +3,11 @@
 ghost use Rattle.std.specs.Prelude.{◌≡◌, ◌≤◌, true};
 ghost use Rattle.std.specs.List.{AllZip};
 ghost use Rattle.family_eval.specs.Inputs.{IsLine};
-ghost use Rattle.family_curve.specs.Points.{AreOrdered};
+ghost use Rattle.family_points.specs.Points.{AreOrdered};
 
 use answers::List;
-use family_curve::{Bounds, choices, curve, curve_within, limits_of, tables, tables_within, work};
+use family_curve::{curve, curve_within};
+use family_points::{Bounds, choices, limits_of, tables, tables_within, work};
 use hull::{Curve, Plain, Point};
 use spares_input::{Case, PartId};
 use std::alloc::Global;

@@ -19,9 +19,9 @@ use Rattle.spares_input.proofs.Standing.{first_none}
 use Rattle.fleet_model.specs.Rows.{line_units, stock}
 use Rattle.price_bounds.specs.Certificates.{AreFloors}
 use Rattle.family_eval.specs.Inputs.{IsLine}
-use Rattle.family_curve.specs.Vectors.{places, vector_of, limits, stock_list}
-use Rattle.family_curve.specs.Points.{ScoreEnds, points_within}
-use Rattle.family_curve.specs.Counts.{most_tables, tables_between}
+use Rattle.family_points.specs.Vectors.{places, vector_of, limits, stock_list}
+use Rattle.family_points.specs.Points.{ScoreEnds, points_within}
+use Rattle.family_points.specs.Counts.{most_tables, tables_between}
 use Rattle.fleet_plan.specs.Families.{family_points}
 use Rattle.fleet_plan.specs.Plans.{CasePlan, IsTruePlan}
 use Rattle.fleet_plan.proofs.Bridge.{plan_true}

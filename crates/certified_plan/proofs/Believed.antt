@@ -10,7 +10,7 @@ use Rattle.fleet_model.specs.Rows.{all_parts, all_sites, stock}
 use Rattle.fleet_model.specs.Aims.{Value, weighted_backorders, part_cost_beyond, cost_beyond}
 use Rattle.fleet_model.proofs.FamilyLaws.{sum_each}
 use Rattle.fleet_model.proofs.WordLaws.{plain_words}
-use Rattle.family_curve.specs.Points.{ScoreEnds, plain_ends}
+use Rattle.family_points.specs.Points.{ScoreEnds, plain_ends}
 use Rattle.fleet_plan.specs.Plans.{AreTrueClaims, ArePlainClaims}
 use Rattle.fleet_plan.specs.Laws.{IsAcceptedCase}
 use Rattle.fleet_plan.proofs.Bridge.{claims_true, from_points}

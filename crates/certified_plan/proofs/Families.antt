@@ -10,8 +10,8 @@ use Rattle.spares_input.specs.Cases.{CaseRows, IsCase}
 use Rattle.fleet_model.specs.Rows.{all_sites}
 use Rattle.fleet_model.specs.Fleet.{family}
 use Rattle.family_eval.specs.Inputs.{IsLine}
-use Rattle.family_curve.specs.Vectors.{Pair, places, limits}
-use Rattle.family_curve.specs.Points.{cost_above, added_cost}
+use Rattle.family_points.specs.Vectors.{Pair, places, limits}
+use Rattle.family_points.specs.Points.{cost_above, added_cost}
 use Rattle.fleet_plan.proofs.Places.{length_places}
 use Rattle.price_certificate.specs.declared.place.Place.{Place}
 use Rattle.price_certificate.specs.Covers.{Corner, no_place, held_at, most_at, IsPlace, IsHeld, added_from, added, place_at, place_count, places_of}

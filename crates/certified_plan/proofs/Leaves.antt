@@ -8,17 +8,17 @@ use Rattle.hull.specs.Curves.{lagrangian, Among}
 use Rattle.hull.proofs.Stand.{among_either}
 use Rattle.hull.proofs.Members.{among_map, Mapped, among_mapped}
 use Rattle.spares_input.specs.Cases.{CaseRows}
-use Rattle.family_curve.specs.declared.bounds.Bounds.{Bounds}
-use Rattle.family_curve.specs.Vectors.{places, limits, vectors}
-use Rattle.family_curve.specs.Points.{ScoreEnds, added_cost, point_at_vector, points_within}
-use Rattle.family_curve.specs.Counts.{tables_between}
+use Rattle.family_points.specs.declared.bounds.Bounds.{Bounds}
+use Rattle.family_points.specs.Vectors.{places, limits, vectors}
+use Rattle.family_points.specs.Points.{ScoreEnds, added_cost, point_at_vector, points_within}
+use Rattle.family_points.specs.Counts.{tables_between}
 use Rattle.price_certificate.specs.declared.place.Place.{Place}
 use Rattle.price_certificate.specs.Covers as cover
 use Rattle.price_certificate.specs.Covers.{Tree, Corner, put, held_at, most_at, added, places_of, AllCostLeaves, AllWholeLeaves}
 use Rattle.gap_checker.specs.Boxes.{AtMost}
 use Rattle.gap_checker.specs.Covers.{box_of, fewer, as_many}
 use Rattle.gap_checker.specs.Trees.{leaves_of}
-use Rattle.family_curve.specs.Least.{least}
+use Rattle.family_floors.specs.Least.{least}
 use Rattle.gap_checker.specs.Values.{least_within, value_of, leaf_tables, cover_tables}
 use Rattle.gap_checker.specs.Refusals.{low_leaf}
 use Rattle.gap_checker.proofs.Boxes.{at_most_self, at_most_chain, at_most_unset_high}

@@ -7,7 +7,7 @@ use Rattle.spares_input.specs.Cases.{CaseRows, IsCase}
 use Rattle.fleet_model.specs.Rows.{line_units}
 use Rattle.fleet_model.proofs.AllocationLaws.{allocation_reaches, stocks_allocation}
 use Rattle.fleet_model.proofs.FrameLaws.{few_lines}
-use Rattle.family_curve.specs.Vectors.{vector_of}
+use Rattle.family_points.specs.Vectors.{vector_of}
 use Rattle.fleet_plan.specs.Plans.{CasePlan}
 use Rattle.price_certificate.specs.declared.certificate.Node.{Node}
 use Rattle.price_certificate.specs.Covers.{places_of}

@@ -6,8 +6,8 @@ use Rattle.std.proofs.lemmas.List.Sums.{sum_by-cons}
 use Rattle.spares_input.specs.Cases.{CaseRows}
 use Rattle.fleet_model.specs.Rows.{bases}
 use Rattle.fleet_model.specs.Fleet.{family}
-use Rattle.family_curve.specs.Vectors.{site_part}
-use Rattle.family_curve.specs.Counts.{product, tables_between, widths}
+use Rattle.family_points.specs.Vectors.{site_part}
+use Rattle.family_points.specs.Counts.{product, tables_between, widths}
 use Rattle.gap_checker.specs.Boxes.{AtMost}
 use Rattle.gap_checker.proofs.Boxes.{at_most_at, at_most_length}
 

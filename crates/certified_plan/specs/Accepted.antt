@@ -3,7 +3,7 @@ use Rattle.std.specs.Prelude.{◌≡◌, None}
 use Rattle.hull.specs.Scores.{EnclosesValue}
 use Rattle.spares_input.specs.Stocks.{StockList, IsFor, nothing_held}
 use Rattle.fleet_model.specs.Aims.{Value}
-use Rattle.family_curve.specs.Points.{ScoreEnds, plain_ends}
+use Rattle.family_points.specs.Points.{ScoreEnds, plain_ends}
 use Rattle.fleet_plan.specs.Plans.{CaseClaims, AreTrueClaims, ArePlainClaims}
 use Rattle.price_certificate.specs.declared.certificate.Certificate.{Certificate}
 use Rattle.price_certificate.specs.Certificates.{IsWellFormed}

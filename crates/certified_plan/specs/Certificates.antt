@@ -4,7 +4,7 @@ use Rattle.std.specs.List.{range_with_len}
 use Rattle.spares_input.specs.Cases.{CaseRows}
 use Rattle.spares_input.specs.Stocks.{StockList}
 use Rattle.fleet_model.specs.Rows.{line_units}
-use Rattle.family_curve.specs.Vectors.{vector_of, stock_list}
+use Rattle.family_points.specs.Vectors.{vector_of, stock_list}
 use Rattle.fleet_plan.specs.Plans.{CasePlan}
 use Rattle.price_certificate.specs.declared.certificate.Certificate.{Certificate}
 use Rattle.price_certificate.specs.declared.certificate.Node.{Node}

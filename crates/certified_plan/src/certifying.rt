@@ -9,8 +9,8 @@ ghost use Rattle.certified_plan.specs.Certificates.{certificate_of, cover_of, co
 
 use crate::terms::PlanClaims;
 use answers::{List, NoMemory};
-use family_curve::vector_of;
 use family_eval::line_units;
+use family_points::vector_of;
 use hull::Price;
 use price_certificate::{Certificate, Node, Terms, trim};
 use spares_input::{Case, PartId, Stocks};

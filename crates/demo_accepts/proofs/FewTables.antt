@@ -13,7 +13,7 @@ use Rattle.spares_input.specs.Cases.{CaseRows, IsCase}
 use Rattle.spares_input.specs.declared.rows.PartRow.{PartRow}
 use Rattle.fleet_model.specs.Rows.{bases, line_units, shop_units, all_parts}
 use Rattle.case_maker.specs.Ranges.{IsDrawn, HasFewShopUnits, HasLineUnits}
-use Rattle.family_curve.specs.Counts.{base_width, depot_width, limited, tables_by, tables_of, work_of}
+use Rattle.family_points.specs.Counts.{base_width, depot_width, limited, tables_by, tables_of, work_of}
 use Rattle.demo_accepts.specs.Tables.{all_tables, HasFewTables}
 use Rattle.demo_accepts.proofs.Accepted.{of_shops, sum_list}
 

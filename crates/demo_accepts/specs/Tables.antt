@@ -4,7 +4,7 @@ use Rattle.spares_input.specs.Rows.{is_line}
 use Rattle.spares_input.specs.Frames.{part_at}
 use Rattle.spares_input.specs.Cases.{CaseRows}
 use Rattle.fleet_model.specs.Rows.{line_units}
-use Rattle.family_curve.specs.Counts.{tables_of}
+use Rattle.family_points.specs.Counts.{tables_of}
 
 -- the tables of all families
 abbrev pub all_tables : CaseRows → ℕ

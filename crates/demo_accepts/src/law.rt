@@ -5,7 +5,7 @@ ghost use Rattle.spares_input.specs.Cases.{CaseRows, IsCase};
 ghost use Rattle.case_maker.specs.Demonstration.{made};
 ghost use Rattle.case_maker.specs.Ranges.{IsDrawn};
 ghost use Rattle.demand_rates.specs.Limits.{rate_fault_of};
-ghost use Rattle.family_curve.specs.Counts.{work_of};
+ghost use Rattle.family_points.specs.Counts.{work_of};
 ghost use Rattle.demo_accepts.specs.Tables.{HasFewTables, all_tables};
 
 /// No pipeline of a demonstration case is refused, nor of any other case whose fields are all in the ranges of the

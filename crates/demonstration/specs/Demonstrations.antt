@@ -11,7 +11,7 @@ use Rattle.fleet_plan.specs.Plans.{CasePlan, IsCasePlan}
 use Rattle.plan_report.specs.declared.summary.Summary.{Summary}
 use Rattle.price_certificate.specs.declared.certificate.Certificate.{Certificate}
 use Rattle.price_certificate.specs.declared.certificate.Objective.TheVariants.{Backorders}
-use Rattle.family_curve.specs.Points.{plain_ends}
+use Rattle.family_points.specs.Points.{plain_ends}
 use Rattle.spares_input.specs.Stocks.{nothing_held}
 
 -- the budget for this count of line units, in whole money

@@ -4,7 +4,7 @@ ghost use Rattle.std.specs.Prelude.{◌≡◌, ◌≤◌, None, length};
 ghost use Rattle.gap_checker.specs.Refusals.{reject_of};
 ghost use Rattle.price_certificate.specs.Certificates.{IsWellFormed, cert_text, certificate_limit};
 ghost use Rattle.price_certificate.specs.declared.certificate.Objective.TheVariants as objective;
-ghost use Rattle.family_curve.specs.Points.{plain_ends};
+ghost use Rattle.family_points.specs.Points.{plain_ends};
 ghost use Rattle.spares_input.specs.Stocks.{nothing_held};
 
 use answers::{NoMemory, Stop};

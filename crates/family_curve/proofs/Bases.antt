@@ -8,11 +8,11 @@ use Rattle.hull.specs.Curves.{HaveOneWidth, IsCurve, StandFor, sums}
 use Rattle.hull.specs.Scores.{LeavesRoom}
 use Rattle.hull.proofs.Stand.{curve_stands}
 use Rattle.hull.proofs.Sums.{stand_for_sums}
-use Rattle.family_curve.specs.Inputs.{FamilyBox, IsAt, IsFamilyBox}
-use Rattle.family_curve.specs.Points.{ScoreEnds}
-use Rattle.family_curve.specs.Separation.{base_points, points_over}
+use Rattle.family_points.specs.Inputs.{FamilyBox, IsAt, IsFamilyBox}
+use Rattle.family_points.specs.Points.{ScoreEnds}
+use Rattle.family_points.specs.Separation.{base_points, points_over}
 use Rattle.sum_walk.specs.Sums.{sums_of_each}
-use Rattle.family_curve.proofs.Points.{over_more, over_small}
+use Rattle.family_points.proofs.Points.{over_more, over_small}
 use Rattle.sum_walk.proofs.Walks.{sums_one_more}
 
 -- with one list more, the lengths of all come to that list's length more

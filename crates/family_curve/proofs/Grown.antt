@@ -1,12 +1,9 @@
 -- A family's curve so far, and what comes to it.
-use Rattle.std.proofs.Common.{◌≡◌, ◌==◌, Bool, true, refl, ℕ, zero, suc, ◌+◌, ◌-◌, ◌*◌, ◌<◌, ◌≤◌, inl, inr, List, [], ◌∷◌, ◌++◌, length, get_or, flat_map, append_assoc, sym, ◌∙◌, subst, arith}
-use Rattle.std.specs.List.{AllZip, range_with_len}
+use Rattle.std.proofs.Common.{◌≡◌, ◌==◌, Bool, true, refl, ℕ, ◌+◌, ◌-◌, ◌*◌, ◌<◌, ◌≤◌, inl, inr, List, [], ◌∷◌, ◌++◌, length, flat_map, append_assoc, sym, ◌∙◌, subst, arith}
+use Rattle.std.specs.List.{range_with_len}
 use Rattle.std.proofs.lemmas.Bool.{cases_lt, eqb-true}
 use Rattle.std.proofs.lemmas.List.{append-nil}
-use Rattle.std.proofs.lemmas.List.FromFn.{get_or-range_with_len, length-range_with_len}
-use Rattle.std.proofs.lemmas.Slice.Zip.{AllZip-long}
 use Rattle.std.proofs.Math.Nat.{mul-le-mul_right}
-use Rattle.fleet_model.specs.Rows.{bases}
 use Rattle.hull.specs.declared.point.Point.{Point}
 use Rattle.hull.specs.Curves.{Among, InRange, IsChain, IsCurve, StandFor}
 use Rattle.hull.specs.Scores.{LeavesRoom}
@@ -14,15 +11,13 @@ use Rattle.hull.proofs.Chains.{chain_is_curve}
 use Rattle.hull.proofs.Shapes.{of_members}
 use Rattle.hull.proofs.Stand.{among_either, among_left, among_right, curve_stands, stand_for, stand_for_both}
 use Rattle.hull.proofs.StepsOf.{stand_self}
-use Rattle.family_curve.specs.declared.order.Base.{Base}
-use Rattle.family_curve.specs.Inputs.{FamilyBox, IsAt, IsFamilyBox}
+use Rattle.family_points.specs.Inputs.{FamilyBox, IsAt, IsFamilyBox}
 use Rattle.family_curve.specs.Joining.{HaveWidthOf, middle, run_start}
-use Rattle.family_curve.specs.Points.{ScoreEnds}
-use Rattle.family_curve.specs.Separation.{depot_points}
-use Rattle.family_curve.specs.Spots.{AreBases, IsBaseOf}
-use Rattle.family_curve.proofs.Bounded.{low_long}
-use Rattle.family_curve.proofs.Points.{depot_points_small, flat_stock_before, flat_stock_behind, small_range}
-use Rattle.family_curve.proofs.Sites.{size}
+use Rattle.family_points.specs.Points.{ScoreEnds}
+use Rattle.family_points.specs.Separation.{depot_points}
+use Rattle.family_points.proofs.Bounded.{low_long}
+use Rattle.family_points.proofs.Points.{depot_points_small, flat_stock_before, flat_stock_behind, small_range}
+use Rattle.family_points.proofs.Sites.{size}
 
 -- the curve of points so far, and of what comes to it
 pub curve_grows : (ps qs c e : List Point) → IsCurve ps c → IsCurve (c ++ qs) e → IsCurve (ps ++ qs) e
@@ -101,24 +96,6 @@ module _ (x : FamilyBox) (valid : IsFamilyBox x) (ends : ScoreEnds) (room : Leav
       let some = valid.valid.frame.fewest_sites in
       let few = valid.valid.frame.most_sites in
       small_range (size x.case x.line) (length x.case.sites) v (omega (arith, some)) (omega (arith, few)) (depot_points_small x valid ends room d at_depot v m)
-
--- the base at a place
-zip_read : (x : FamilyBox) (js : List ℕ) (bs : List Base) (k : ℕ) (b : Base) → AllZip (IsBaseOf x) js bs → k < length js → b ≡ get_or bs k b → IsBaseOf x (get_or js k 0) b
-zip_read x [] bs k b a h e = absurd (let n : k < 0 = h in omega arith)
-zip_read x (j ∷ js) [] k b a h e = absurd a
-zip_read x (j ∷ js) (y ∷ bs) zero b a h e = subst (IsBaseOf x j) (sym e) a.0
-zip_read x (j ∷ js) (y ∷ bs) (suc k) b a h e = zip_read x js bs k b a.1 (omega arith) e
-
--- what stands at the place j - 1 of the list of bases is base j
-pub base_read : (x : FamilyBox) (j : ℕ) (bs : List Base) (b : Base) → AreBases x bs → 0 < j → j < length x.case.sites → b ≡ get_or bs (j - 1) b → IsBaseOf x j b
-base_read x j bs b a some most e =
-    let within : j - 1 < length x.case.sites - 1 = omega (arith, some, most) in
-    let at : get_or (bases x.case) (j - 1) 0 ≡ j = omega (arith, some, get_or-range_with_len 1 (length x.case.sites - 1) (j - 1) 0 within) in
-    subst (λ k. IsBaseOf x k b) at (zip_read x (bases x.case) bs (j - 1) b a (omega (arith, within, length-range_with_len 1 (length x.case.sites - 1))) e)
-
--- the list of bases has an entry for each base of the case
-pub bases_long : (x : FamilyBox) (bs : List Base) → AreBases x bs → length bs ≡ length x.case.sites - 1
-bases_long x bs a = omega (arith, AllZip-long (IsBaseOf x) (bases x.case) bs a, length-range_with_len 1 (length x.case.sites - 1))
 
 nil_of : (l : List Point) → length l ≡ 0 → l ≡ []
 nil_of [] e = refl

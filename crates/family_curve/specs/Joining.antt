@@ -2,18 +2,7 @@
 use Rattle.std.specs.Prelude.{◌≡◌, ℕ, ◌+◌, ◌-◌, ◌/◌, min, List, [], Option, None, Some, length}
 use Rattle.hull.specs.declared.point.Point.{Point}
 use Rattle.hull.specs.Curves.{Among}
-use Rattle.family_tables.specs.BaseTables.{AreBaseShops}
-use Rattle.family_curve.specs.declared.sources.Sources.{Sources}
-use Rattle.family_curve.specs.Inputs.{FamilyBox, shop_high, shop_low}
-use Rattle.family_curve.specs.Spots.{AreBases}
-use Rattle.family_curve.specs.Tabled.{depot_shops, numbers}
-
--- the evaluator, the bases and the tables belong to the family
-pub record AreSources (s : Sources) : Type 0 where
-  pub evaluator : s.evaluator.numbers ≡ numbers s.family.now
-  pub bases : AreBases s.family.now s.bases.items
-  pub depot_shops : s.depot_shops.items ≡ depot_shops s.evaluator.numbers
-  pub base_shops : AreBaseShops 48 s.evaluator.numbers (shop_low s.family.now 0) (shop_high s.family.now 0) s.base_shops
+use Rattle.family_points.specs.Inputs.{FamilyBox}
 
 -- the vertices of a curve, if there is one
 abbrev pub vertices_of : Option (List Point) → List Point

@@ -1,13 +1,1 @@
-pub mod Vectors
-pub mod Points
-pub mod Counts
-pub mod Separation
-pub mod Laws
-pub mod Boxes
-pub mod Inputs
-pub mod Spots
-pub mod Turned
-pub mod Local
-pub mod Tabled
 pub mod Joining
-pub mod Least

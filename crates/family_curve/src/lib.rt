@@ -12,58 +12,24 @@ ghost use Rattle.demand_rates.specs.Rates.{AreRatesOf};
 ghost use Rattle.family_eval.specs.Inputs.{IsLine};
 ghost use Rattle.hull.specs.declared.point.Point.{Point};
 ghost use Rattle.hull.specs.Curves.{Among, InRange, IsCurve, point_at};
-ghost use Rattle.family_curve.specs.Vectors.{limits, zeros, IsBetween};
-ghost use Rattle.family_curve.specs.Points.{points_within, AreOrdered};
-ghost use Rattle.family_curve.specs.Counts.{most_tables, tables_between, tables_of};
-ghost use Rattle.family_curve.specs.Laws.{Separates};
-ghost use Rattle.family_curve.specs.Local.{ChangesAreLocal, FamiliesAreLocal};
+ghost use Rattle.family_points.specs.Vectors.{limits, zeros, IsBetween};
+ghost use Rattle.family_points.specs.Points.{points_within, AreOrdered};
+ghost use Rattle.family_points.specs.Counts.{most_tables, tables_between, tables_of};
 
-use crate::family::Family;
 use crate::joining::family_curve;
 use answers::NoMemory;
 use demand_rates::kinds::Rates;
+use family_points::family::Family;
 use hull::{Curve, Score};
 use spares_input::{Case, PartId};
 use std::alloc::Global;
 
 mod base;
-mod base_at;
-pub mod bounds;
-mod counts;
-mod depot;
-mod family;
 mod joining;
-mod laws;
-mod least;
-mod lows;
-mod order;
-mod places;
-mod sources;
-mod upper;
-mod vectors;
 
-pub use bounds::Bounds;
-pub use counts::{MOST_TABLES, choices, tables, tables_within, work};
-pub use laws::{vectors_are_counted, vectors_stand};
-pub use least::{is_at_least, least_separates};
-pub use places::{limits_of, place_parts, vector_of};
-pub use upper::upper_within;
-
-/// The points of a family are the sums of the depot's point and a point of each base, for each choice of stocks at the
-/// depot.
-pub fn points_separate()
-    ensures { Separates }
-{}
-
-/// A family's rates, items and points depend only on the sites and parts of the case and on the rates of its own parts.
-pub fn families_are_local()
-    ensures { FamiliesAreLocal }
-{}
-
-/// Replacing a pair's row of rates changes no family but the family of its part.
-pub fn changes_are_local()
-    ensures { ChangesAreLocal }
-{}
+pub use family_points::{
+    Bounds, MOST_TABLES, choices, limits_of, place_parts, tables, tables_within, vector_of, work,
+};
 
 /// The curve of a line unit's family over the vectors from `low` to `high`. The cost counts stocks above `held`.
 ///

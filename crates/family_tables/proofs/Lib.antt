@@ -1,5 +1,4 @@
 pub mod FromNumbers
-pub mod Local
 pub mod Gathered
 pub mod BaseTables
 pub mod Served

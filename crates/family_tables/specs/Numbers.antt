@@ -190,7 +190,3 @@ AreBaseLows f x k o d b lows =
 -- the stocks of the family of the line unit l at site k, by place
 abbrev pub family_stocks : CaseRows → ℕ → List ℕ → ℕ → List ℕ
 family_stocks c l s k = map (λ p. stock c s p k) (family c l)
-
--- two lists of stocks agree on the family at site k
-abbrev pub AgreeAt : CaseRows → ℕ → List ℕ → List ℕ → ℕ → Type 0
-AgreeAt c l s t k = family_stocks c l s k ≡ family_stocks c l t k

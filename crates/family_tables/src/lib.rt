@@ -13,7 +13,7 @@ ghost use Rattle.fleet_model.specs.Laws.{IsBase};
 ghost use Rattle.family_eval.specs.Profile.{item_of};
 ghost use Rattle.family_eval.specs.Inputs.{IsLine};
 ghost use Rattle.family_tables.specs.Kept.{Evaluation, key_stocks, moments_of, table_kept};
-ghost use Rattle.family_tables.specs.Numbers.{AgreeAt, base_backorders, family_stocks, numbers_of, rows_of};
+ghost use Rattle.family_tables.specs.Numbers.{base_backorders, family_stocks, numbers_of, rows_of};
 
 mod base_shops;
 mod by_numbers;
@@ -28,14 +28,10 @@ pub use base_shops::BaseShops;
 pub use keeping::Evaluator;
 pub use own_part::OwnPart;
 
-/// A line unit's item at a base depends only on its family's stocks at the depot and at that base.
-pub fn items_are_local()
-    ensures local { (f : ℕ) (c : CaseRows) (s t : List ℕ) (l j : ℕ) → IsLine c l → 0 < j → AgreeAt c l s t 0
-        → AgreeAt c l s t j
-        → item_of f c s l j ≡ item_of f c t l j }
-    // Its backorders come from the family's numbers, and its pipeline there doesn't depend on its own stock at the
-    // base.
-    ensures backorders { (f : ℕ) (c : CaseRows) (s : List ℕ) (l j o : ℕ) (d : List ℕ) (own : ℕ) (b : List ℕ)
+/// A line unit's backorders at a base come from the family's numbers. Its own stock there only picks the row of its
+/// table.
+pub fn numbers_give_backorders()
+    ensures { (f : ℕ) (c : CaseRows) (s : List ℕ) (l j o : ℕ) (d : List ℕ) (own : ℕ) (b : List ℕ)
         → IsLine c l → IsBase c j
         → family_stocks c l s 0 ≡ o ∷ d → family_stocks c l s j ≡ own ∷ b
         → (item_of f c s l j).backorders ≡ base_backorders f (numbers_of f c l) j o d b own }

@@ -3,7 +3,7 @@ use Rattle.std.proofs.Common.{◌≡◌, ℕ, suc, ◌-◌, inl, inr, List, [], 
 use Rattle.std.specs.List.{AllByRecursion, AllZip}
 use Rattle.hull.specs.Curves.{Among}
 use Rattle.hull.proofs.Members.{among_map, among_mapped, among_flat, among_flattened, in_range, range_has}
-use Rattle.family_curve.specs.Vectors.{between, vectors, IsBetween}
+use Rattle.family_points.specs.Vectors.{between, vectors, IsBetween}
 
 -- what is true of each that is among a list is true of all of it
 pub all_from_among : {X : Type 0} (P : X → Type 0) (xs : List X) → ((x : X) → Among x xs → P x) → AllByRecursion P xs

@@ -7,8 +7,8 @@ use Rattle.hull.proofs.Stops.{least_of_all}
 use Rattle.hull.proofs.Members.{among_mapped}
 use Rattle.spares_input.specs.Cases.{CaseRows, IsCase, frame_rows, pair_count}
 use Rattle.fleet_model.specs.Rows.{line_units}
-use Rattle.family_curve.specs.Vectors.{vector_of, limits, vectors}
-use Rattle.family_curve.specs.Points.{ScoreEnds, point_at_vector}
+use Rattle.family_points.specs.Vectors.{vector_of, limits, vectors}
+use Rattle.family_points.specs.Points.{ScoreEnds, point_at_vector}
 use Rattle.price_bounds.specs.Sums.{cost_of, hi_of, Picks}
 use Rattle.marginal_alloc.specs.Choice.{AreCurves}
 use Rattle.marginal_alloc.specs.Plans.{IsPlan}

@@ -24,9 +24,9 @@ use Rattle.demand_rates.proofs.DepotFacts.{no_line_there}
 use Rattle.family_eval.specs.Inputs.{IsLine, IsShop}
 use Rattle.family_eval.proofs.Items.{flat_at, flat_length}
 use Rattle.family_eval.proofs.Units.{shops_all}
-use Rattle.family_curve.proofs.Boxes.{map_flat}
-use Rattle.family_curve.proofs.Sites.{all_joined, members, part_long}
-use Rattle.family_curve.specs.Vectors.{Pair, places_at, places, vector_of, site_part}
+use Rattle.family_points.proofs.Boxes.{map_flat}
+use Rattle.family_points.proofs.Sites.{all_joined, members, part_long}
+use Rattle.family_points.specs.Vectors.{Pair, places_at, places, vector_of, site_part}
 use Rattle.fleet_model.specs.Laws.{AgreeOnFamily}
 use Rattle.fleet_plan.specs.Families.{HasWidth}
 use Rattle.fleet_plan.proofs.Lists.{all_from_among, among_all, maps_agree, map_among}

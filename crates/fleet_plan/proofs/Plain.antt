@@ -9,14 +9,14 @@ use Rattle.spares_input.specs.Cases.{CaseRows}
 use Rattle.fleet_model.specs.Rows.{line_units}
 use Rattle.fleet_model.specs.Fleet.{cost}
 use Rattle.family_eval.specs.Profile.{total_of}
-use Rattle.family_curve.specs.Vectors.{vector_of, zeros}
+use Rattle.family_points.specs.Vectors.{vector_of, zeros}
 use Rattle.fleet_model.specs.Aims.{weighted_backorders, cost_beyond}
 use Rattle.fleet_plan.specs.Families.{hi_at}
 use Rattle.fleet_plan.specs.Plans.{CasePlan, IsCasePlan, CaseClaims, AreAcceptable, IsTruePlan, AreTrueClaims, IsPlainPlan, ArePlainClaims}
 use Rattle.fleet_plan.specs.Laws.{IsAcceptedCase}
 use Rattle.fleet_model.proofs.WordLaws.{plain_words}
 use Rattle.fleet_plan.proofs.Bridge.{plan_true, claims_true}
-use Rattle.family_curve.specs.Points.{plain_ends}
+use Rattle.family_points.specs.Points.{plain_ends}
 
 -- the plain score encloses the weighted backorders, which it stands for
 pub plain_encloses : EnclosesValue plain_ends weighted_backorders

@@ -31,10 +31,10 @@ use Rattle.family_eval.proofs.Units.{few_shops}
 use Rattle.family_eval.proofs.Families.{evaluable, line_in}
 use Rattle.family_eval.proofs.Enclosed.{item_small}
 use Rattle.family_eval.proofs.Items.{added_same}
-use Rattle.family_curve.specs.Vectors.{Pair, places, vector_of, limits, vectors, site_part, stock_in, stocks_with, stock_list, IsBetween}
-use Rattle.family_curve.proofs.Depend.{scored_same}
-use Rattle.family_curve.specs.Points.{ScoreEnds, scored, scored_total, cost_above, point_at_vector}
-use Rattle.family_curve.proofs.Stands.{vector_stands}
+use Rattle.family_points.specs.Vectors.{Pair, places, vector_of, limits, vectors, site_part, stock_in, stocks_with, stock_list, IsBetween}
+use Rattle.family_points.proofs.Depend.{scored_same}
+use Rattle.family_points.specs.Points.{ScoreEnds, scored, scored_total, cost_above, point_at_vector}
+use Rattle.family_points.proofs.Stands.{vector_stands}
 use Rattle.fleet_model.specs.Aims.{Value, family_aim}
 use Rattle.fleet_model.specs.Laws.{AgreeOnFamily}
 use Rattle.fleet_model.proofs.AllocationLaws.{chosen_most}

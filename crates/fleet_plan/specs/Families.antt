@@ -4,8 +4,8 @@ use Rattle.std.specs.Prelude.{◌≡◌, ℕ, List, length, map, sum_by}
 use Rattle.hull.specs.declared.point.Point.{Point}
 use Rattle.spares_input.specs.Cases.{CaseRows}
 use Rattle.fleet_model.specs.Rows.{line_units}
-use Rattle.family_curve.specs.Vectors.{places, vector_of, limits, vectors, stocks_with}
-use Rattle.family_curve.specs.Points.{ScoreEnds, scored_total, added_cost, point_at_vector, points_within}
+use Rattle.family_points.specs.Vectors.{places, vector_of, limits, vectors, stocks_with}
+use Rattle.family_points.specs.Points.{ScoreEnds, scored_total, added_cost, point_at_vector, points_within}
 use Rattle.price_bounds.specs.Allocations.{Family}
 use Rattle.fleet_model.specs.Aims.{Value, family_aim}
 

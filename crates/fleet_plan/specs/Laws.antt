@@ -10,8 +10,8 @@ use Rattle.demand_rates.specs.Limits.{rate_fault_of}
 use Rattle.fleet_model.specs.Rows.{line_units}
 use Rattle.family_eval.specs.Profile.{total_of}
 use Rattle.family_eval.specs.Inputs.{IsLine}
-use Rattle.family_curve.specs.Vectors.{vector_of, zeros}
-use Rattle.family_curve.specs.Points.{ScoreEnds, plain_ends}
+use Rattle.family_points.specs.Vectors.{vector_of, zeros}
+use Rattle.family_points.specs.Points.{ScoreEnds, plain_ends}
 use Rattle.marginal_alloc.specs.Choice.{AreCurves}
 use Rattle.marginal_alloc.specs.Plans.{IsPlan}
 use Rattle.price_bounds.specs.Certificates.{AreLeastFloors, Claims, IsAcceptable}

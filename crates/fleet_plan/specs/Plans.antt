@@ -5,7 +5,7 @@ use Rattle.spares_input.specs.Cases.{CaseRows, frame_rows, pair_count}
 use Rattle.fleet_model.specs.Rows.{line_units}
 use Rattle.fleet_model.specs.Fleet.{IsAllocation, cost}
 use Rattle.fleet_model.specs.Headline.{NoAllocationHasFewer, NoPriceIsHigher, HasAtMost}
-use Rattle.family_curve.specs.Points.{ScoreEnds}
+use Rattle.family_points.specs.Points.{ScoreEnds}
 use Rattle.marginal_alloc.specs.declared.allocation.Critical.{Critical}
 use Rattle.marginal_alloc.specs.declared.plans.PlanNumbers.{PlanNumbers}
 use Rattle.marginal_alloc.specs.Plans.{IsPlan}

@@ -14,8 +14,8 @@ use Rattle.fleet_model.specs.Rows.{line_units}
 use Rattle.demand_rates.specs.Limits.{rate_fault_of}
 use Rattle.price_bounds.specs.Sums.{cost_of, Picks}
 use Rattle.price_bounds.specs.Certificates.{AreFloors, IsAcceptable}
-use Rattle.family_curve.specs.Vectors.{vector_of, limits, vectors}
-use Rattle.family_curve.specs.Points.{point_at_vector, points_within, ScoreEnds}
+use Rattle.family_points.specs.Vectors.{vector_of, limits, vectors}
+use Rattle.family_points.specs.Points.{point_at_vector, points_within, ScoreEnds}
 use Rattle.price_certificate.specs.declared.certificate.Certificate.{Certificate}
 use Rattle.price_certificate.specs.Certificates.{IsWellFormed}
 use Rattle.gap_checker.specs.declared.leaf.Leaf.{Leaf}

@@ -12,9 +12,9 @@ use Rattle.fleet_model.specs.Rows.{all_sites}
 use Rattle.fleet_model.specs.Fleet.{family}
 use Rattle.family_eval.specs.Inputs.{IsLine}
 use Rattle.gap_checker.specs.Boxes.{AtMost}
-use Rattle.family_curve.specs.Vectors.{Pair, places, limits}
+use Rattle.family_points.specs.Vectors.{Pair, places, limits}
 use Rattle.gap_checker.proofs.Added.{added_at}
-use Rattle.family_curve.specs.Points.{added_cost}
+use Rattle.family_points.specs.Points.{added_cost}
 use Rattle.gap_checker.proofs.Boxes.{at_most_length}
 use Rattle.gap_checker.proofs.Places.{place_pair}
 

@@ -4,7 +4,7 @@ use Rattle.std.specs.List.{range_with_len}
 use Rattle.hull.specs.Curves.{Among}
 use Rattle.hull.proofs.Members.{among_map, Mapped, among_mapped, Flattened, among_flattened, range_has, in_range, among_flat}
 use Rattle.gap_checker.specs.Boxes.{AtMost}
-use Rattle.family_curve.specs.Vectors.{vectors}
+use Rattle.family_points.specs.Vectors.{vectors}
 
 -- the vectors from low to high are those between the two
 pub among_vectors : (low high v : List ℕ) → AtMost low v → AtMost v high → Among v (vectors low high)

@@ -3,9 +3,9 @@ use Rattle.std.proofs.Common.{◌≡◌, ℕ, zero, suc, ◌+◌, ◌-◌, ◌*�
 use Rattle.std.proofs.lemmas.Bool.Decides.{nat_tests}
 use Rattle.spares_input.specs.Cases.{CaseRows}
 use Rattle.spares_input.specs.Frames.{part_at}
-use Rattle.family_curve.specs.declared.bounds.Bounds.{Bounds}
+use Rattle.family_points.specs.declared.bounds.Bounds.{Bounds}
 use Rattle.gap_checker.specs.Boxes.{AtMost}
-use Rattle.family_curve.specs.Vectors.{Pair}
+use Rattle.family_points.specs.Vectors.{Pair}
 use Rattle.gap_checker.proofs.Added.{added_at}
 use Rattle.gap_checker.specs.Covers.{fewer, as_many, has_parts, IsIn}
 

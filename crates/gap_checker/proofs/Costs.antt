@@ -14,9 +14,9 @@ use Rattle.fleet_model.proofs.FamilyLaws.{cost_families, sum_turned}
 use Rattle.fleet_model.proofs.FrameLaws.{has_families}
 use Rattle.fleet_model.proofs.AllocationLaws.{cost_holds}
 use Rattle.price_bounds.specs.Sums.{total}
-use Rattle.family_curve.specs.Vectors.{Pair, places, vector_of}
+use Rattle.family_points.specs.Vectors.{Pair, places, vector_of}
 use Rattle.gap_checker.proofs.Added.{added_at}
-use Rattle.family_curve.specs.Points.{added_cost}
+use Rattle.family_points.specs.Points.{added_cost}
 use Rattle.gap_checker.specs.Refusals.{below_held, cost_above}
 use Rattle.gap_checker.proofs.Places.{place_pair, held_most, line_part}
 

@@ -15,10 +15,10 @@ use Rattle.fleet_model.specs.Rows.{line_units}
 use Rattle.fleet_model.proofs.AllocationLaws.{stock_holds}
 use Rattle.demand_rates.proofs.Sums.{sum_more}
 use Rattle.family_eval.specs.Inputs.{IsLine}
-use Rattle.family_curve.specs.declared.bounds.Bounds.{Bounds}
+use Rattle.family_points.specs.declared.bounds.Bounds.{Bounds}
 use Rattle.hull.proofs.Runs.{among_at}
 use Rattle.gap_checker.specs.Boxes.{AtMost, IsOrdered}
-use Rattle.family_curve.specs.Vectors.{places, vector_of, limits}
+use Rattle.family_points.specs.Vectors.{places, vector_of, limits}
 use Rattle.price_certificate.specs.declared.certificate.Node.{Node}
 use Rattle.price_certificate.specs.declared.certificate.Certificate.{Certificate}
 use Rattle.gap_checker.specs.declared.leaf.Leaf.{Leaf}
@@ -31,7 +31,7 @@ use Rattle.gap_checker.proofs.Boxes.{at_most_self}
 use Rattle.gap_checker.proofs.Places.{IsPair, place_pair, line_part, at_most_maps}
 use Rattle.gap_checker.proofs.Adding.{part_first}
 use Rattle.gap_checker.proofs.Acceptable.{some_leaves}
-use Rattle.family_curve.specs.Points.{ScoreEnds}
+use Rattle.family_points.specs.Points.{ScoreEnds}
 
 -- ---- line units
 

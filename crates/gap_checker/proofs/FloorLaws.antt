@@ -5,13 +5,13 @@ use Rattle.hull.specs.declared.price.Price.{Price}
 use Rattle.hull.specs.Curves.{lagrangian, Among}
 use Rattle.hull.proofs.Members.{among_map, Mapped, among_mapped}
 use Rattle.spares_input.specs.Cases.{CaseRows}
-use Rattle.family_curve.specs.declared.bounds.Bounds.{Bounds}
-use Rattle.family_curve.specs.Points.{added_cost, point_at_vector, ScoreEnds}
-use Rattle.family_curve.specs.Vectors.{places, vectors}
+use Rattle.family_points.specs.declared.bounds.Bounds.{Bounds}
+use Rattle.family_points.specs.Points.{added_cost, point_at_vector, ScoreEnds}
+use Rattle.family_points.specs.Vectors.{places, vectors}
 use Rattle.gap_checker.specs.declared.leaf.Leaf.{Leaf}
 use Rattle.gap_checker.specs.declared.leaf.Leaf.TheVariants as leaf
 use Rattle.gap_checker.specs.Covers.{box_of, IsIn}
-use Rattle.family_curve.specs.Least.{least}
+use Rattle.family_floors.specs.Least.{least}
 use Rattle.gap_checker.specs.Values.{least_within, value_of}
 use Rattle.gap_checker.specs.Laws.{FloorsHold}
 use Rattle.gap_checker.proofs.Boxes.{added_more}

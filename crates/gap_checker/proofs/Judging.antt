@@ -16,7 +16,7 @@ use Rattle.gap_checker.specs.declared.refusal.Reject.{Reject}
 use Rattle.gap_checker.specs.declared.refusal.Reject.TheVariants as reject
 use Rattle.gap_checker.specs.Refusals.{family_count, gap_at, work_of, over_limit, below_held, cost_above, low_at, upper_of, largest_of, reject_of, judged}
 use Rattle.gap_checker.proofs.StockFaults.{then_some, else_none}
-use Rattle.family_curve.specs.Points.{ScoreEnds}
+use Rattle.family_points.specs.Points.{ScoreEnds}
 pub use Rattle.fleet_model.proofs.FrameLaws.{few_lines}
 
 pub skip : {A : Type 0} (a rest r : Option A) → a ≡ None → rest ≡ r → or_else a rest ≡ r

@@ -13,7 +13,7 @@ use Rattle.spares_input.proofs.Firsts.{first_none}
 use Rattle.fleet_model.specs.Rows.{all_sites, all_parts, line_units, stock}
 use Rattle.fleet_model.specs.Fleet.{family}
 use Rattle.gap_checker.specs.Boxes.{AtMost}
-use Rattle.family_curve.specs.Vectors.{Pair, places, vector_of, limits}
+use Rattle.family_points.specs.Vectors.{Pair, places, vector_of, limits}
 use Rattle.gap_checker.specs.Refusals.{over_limit, below_held}
 
 pub record IsKept {A : Type 0} (t : A → Bool) (x : A) (xs : List A) : Type 0 where

@@ -6,9 +6,9 @@ use Rattle.std.proofs.lemmas.List.{reverse-append}
 use Rattle.hull.specs.Curves.{Among}
 use Rattle.hull.proofs.Stand.{among_left, among_right, among_either}
 use Rattle.spares_input.specs.Cases.{CaseRows}
-use Rattle.family_curve.specs.declared.bounds.Bounds.{Bounds}
+use Rattle.family_points.specs.declared.bounds.Bounds.{Bounds}
 use Rattle.gap_checker.specs.Boxes.{AtMost, IsOrdered}
-use Rattle.family_curve.specs.Vectors.{limits}
+use Rattle.family_points.specs.Vectors.{limits}
 use Rattle.price_certificate.specs.declared.certificate.Node.{Node}
 use Rattle.price_certificate.specs.declared.certificate.Node.TheVariants.{Split, Cost, Whole}
 use Rattle.gap_checker.specs.declared.leaf.Leaf.TheVariants as leaf

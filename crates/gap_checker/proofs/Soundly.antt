@@ -7,8 +7,8 @@ use Rattle.fleet_model.specs.Rows.{line_units}
 use Rattle.price_bounds.specs.Allocations.{points_of}
 use Rattle.price_bounds.specs.Certificates.{IsAcceptable}
 use Rattle.price_bounds.proofs.Vectors.{certificate_sound}
-use Rattle.family_curve.specs.Vectors.{vector_of, limits}
-use Rattle.family_curve.specs.Points.{points_within, ScoreEnds}
+use Rattle.family_points.specs.Vectors.{vector_of, limits}
+use Rattle.family_points.specs.Points.{points_within, ScoreEnds}
 use Rattle.gap_checker.specs.Laws.{claims_of}
 use Rattle.gap_checker.specs.Soundness.{family_model, models_of, AcceptedAreSound}
 use Rattle.gap_checker.proofs.Acceptable.{accepted_are_acceptable}

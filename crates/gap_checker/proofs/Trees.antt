@@ -3,7 +3,7 @@ use Rattle.std.proofs.Common.{◌≡◌, ℕ, inl, inr, Bool, true, false, List,
 use Rattle.std.specs.Prelude.{if◌then◌else◌}
 use Rattle.std.specs.Option.{option_map}
 use Rattle.hull.specs.Curves.{Among}
-use Rattle.family_curve.specs.declared.bounds.Bounds.{Bounds}
+use Rattle.family_points.specs.declared.bounds.Bounds.{Bounds}
 use Rattle.price_certificate.specs.declared.certificate.Node.{Node}
 use Rattle.price_certificate.specs.declared.certificate.Node.TheVariants.{Split, Cost, Whole}
 use Rattle.gap_checker.specs.declared.leaf.Leaf.{Leaf}

@@ -6,8 +6,8 @@ use Rattle.hull.proofs.Members.{Mapped, among_mapped}
 use Rattle.spares_input.specs.Cases.{CaseRows}
 use Rattle.price_bounds.specs.Sums.{hi_of}
 use Rattle.gap_checker.specs.Boxes.{AtMost, IsOrdered}
-use Rattle.family_curve.specs.Vectors.{vectors, limits}
-use Rattle.family_curve.specs.Points.{HasUpper, point_at_vector, points_within, ScoreEnds}
+use Rattle.family_points.specs.Vectors.{vectors, limits}
+use Rattle.family_points.specs.Points.{HasUpper, point_at_vector, points_within, ScoreEnds}
 use Rattle.gap_checker.proofs.AmongLaws.{IsBetween, between}
 use Rattle.gap_checker.proofs.Boxes.{at_most_self}
 

@@ -2,8 +2,8 @@
 use Rattle.std.specs.Prelude.{ℕ, ◌≤◌, List}
 use Rattle.std.specs.List.{AllZip}
 use Rattle.spares_input.specs.Cases.{CaseRows}
-use Rattle.family_curve.specs.declared.bounds.Bounds.{Bounds}
-use Rattle.family_curve.specs.Points.{AreOrdered}
+use Rattle.family_points.specs.declared.bounds.Bounds.{Bounds}
+use Rattle.family_points.specs.Points.{AreOrdered}
 
 -- the vectors have the same length, and at each place the first has no more than the second
 abbrev pub AtMost : List ℕ → List ℕ → Type 0

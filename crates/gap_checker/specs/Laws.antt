@@ -7,9 +7,9 @@ use Rattle.spares_input.specs.Cases.{CaseRows, IsCase}
 use Rattle.spares_input.specs.Stocks.{StockList, IsFor}
 use Rattle.fleet_model.specs.Rows.{line_units}
 use Rattle.price_bounds.specs.Certificates.{Claims, IsAcceptable}
-use Rattle.family_curve.specs.declared.bounds.Bounds.{Bounds}
-use Rattle.family_curve.specs.Vectors.{vector_of, limits}
-use Rattle.family_curve.specs.Points.{points_within, ScoreEnds}
+use Rattle.family_points.specs.declared.bounds.Bounds.{Bounds}
+use Rattle.family_points.specs.Vectors.{vector_of, limits}
+use Rattle.family_points.specs.Points.{points_within, ScoreEnds}
 use Rattle.price_certificate.specs.declared.certificate.Node.{Node}
 use Rattle.price_certificate.specs.declared.certificate.Certificate.{Certificate}
 use Rattle.price_certificate.specs.Certificates.{IsWellFormed}

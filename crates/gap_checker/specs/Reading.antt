@@ -3,7 +3,7 @@ use Rattle.std.specs.Prelude.{◌≡◌, ℕ, List, ◌∷◌, reverse, Option, 
 use Rattle.std.specs.Option.{option_map}
 use Rattle.hull.specs.Curves.{Among}
 use Rattle.spares_input.specs.Cases.{CaseRows}
-use Rattle.family_curve.specs.declared.bounds.Bounds.{Bounds}
+use Rattle.family_points.specs.declared.bounds.Bounds.{Bounds}
 use Rattle.gap_checker.specs.Boxes.{IsOrdered}
 use Rattle.price_certificate.specs.declared.certificate.Node.{Node}
 use Rattle.gap_checker.specs.declared.leaf.Leaf.{Leaf}

@@ -12,10 +12,10 @@ use Rattle.spares_input.specs.Stocks.{StockList, limit_at, cost_of}
 use Rattle.fleet_model.specs.Rows.{line_units}
 use Rattle.demand_rates.specs.Limits.{rate_fault_of}
 use Rattle.price_bounds.specs.Sums.{hi_of, bound_of}
-use Rattle.family_curve.specs.declared.bounds.Bounds.{Bounds}
-use Rattle.family_curve.specs.Vectors.{vector_of, limits}
-use Rattle.family_curve.specs.Points.{point_at_vector, ScoreEnds}
-use Rattle.family_curve.specs.Counts.{most_tables}
+use Rattle.family_points.specs.declared.bounds.Bounds.{Bounds}
+use Rattle.family_points.specs.Vectors.{vector_of, limits}
+use Rattle.family_points.specs.Points.{point_at_vector, ScoreEnds}
+use Rattle.family_points.specs.Counts.{most_tables}
 use Rattle.price_certificate.specs.declared.certificate.Node.{Node}
 use Rattle.price_certificate.specs.declared.certificate.Node.TheVariants.{Whole}
 use Rattle.price_certificate.specs.declared.certificate.Certificate.{Certificate}

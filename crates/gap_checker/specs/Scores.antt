@@ -1,6 +1,6 @@
 -- The score of each objective: its intervals, and the values that they enclose.
 use Rattle.fleet_model.specs.Aims.{Value, weighted_backorders}
-use Rattle.family_curve.specs.Points.{ScoreEnds, plain_ends}
+use Rattle.family_points.specs.Points.{ScoreEnds, plain_ends}
 use Rattle.log_loss.specs.Loss.{loss_of}
 use Rattle.log_loss.specs.Profile.{loss_ends}
 use Rattle.price_certificate.specs.declared.certificate.Objective.{Objective}

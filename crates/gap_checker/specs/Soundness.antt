@@ -6,8 +6,8 @@ use Rattle.spares_input.specs.Stocks.{StockList, IsFor}
 use Rattle.fleet_model.specs.Rows.{line_units}
 use Rattle.price_bounds.specs.Allocations.{Family, AreEnclosed}
 use Rattle.price_bounds.specs.Soundness.{IsSoundCertificate}
-use Rattle.family_curve.specs.Vectors.{vector_of, limits, vectors}
-use Rattle.family_curve.specs.Points.{point_at_vector, ScoreEnds}
+use Rattle.family_points.specs.Vectors.{vector_of, limits, vectors}
+use Rattle.family_points.specs.Points.{point_at_vector, ScoreEnds}
 use Rattle.price_certificate.specs.declared.certificate.Certificate.{Certificate}
 use Rattle.price_certificate.specs.Certificates.{IsWellFormed}
 use Rattle.gap_checker.specs.Refusals.{reject_of}

@@ -1,6 +1,6 @@
 -- Trees of boxes, as an auditor draws them, and the reading of their nodes in preorder.
 use Rattle.std.specs.Prelude.{◌≡◌, true, List, [], ◌∷◌, ◌++◌, Some}
-use Rattle.family_curve.specs.declared.bounds.Bounds.{Bounds}
+use Rattle.family_points.specs.declared.bounds.Bounds.{Bounds}
 use Rattle.price_certificate.specs.declared.certificate.Node.{Node}
 use Rattle.price_certificate.specs.Covers as cover
 use Rattle.price_certificate.specs.Covers.{Tree, nodes_of}

@@ -3,10 +3,10 @@ use Rattle.std.specs.Prelude.{ℕ, ◌*◌, nat_lt, List, sum_by, Option, Some, 
 use Rattle.hull.specs.declared.price.Price.{Price}
 use Rattle.hull.specs.Curves.{lagrangian}
 use Rattle.spares_input.specs.Cases.{CaseRows}
-use Rattle.family_curve.specs.declared.bounds.Bounds.{Bounds}
-use Rattle.family_curve.specs.Points.{added_cost, points_within, ScoreEnds}
-use Rattle.family_curve.specs.Least.{least}
-use Rattle.family_curve.specs.Counts.{tables_between}
+use Rattle.family_points.specs.declared.bounds.Bounds.{Bounds}
+use Rattle.family_points.specs.Points.{added_cost, points_within, ScoreEnds}
+use Rattle.family_floors.specs.Least.{least}
+use Rattle.family_points.specs.Counts.{tables_between}
 use Rattle.gap_checker.specs.declared.leaf.Leaf.{Leaf}
 use Rattle.gap_checker.specs.declared.leaf.Leaf.TheVariants as leaf
 

@@ -3,8 +3,8 @@
 ghost use Rattle.std.specs.Prelude.{◌≡◌, ◌≤◌, map};
 ghost use Rattle.family_eval.specs.Inputs.{IsLine};
 ghost use Rattle.gap_checker.specs.Boxes.{AtMost};
-ghost use Rattle.family_curve.specs.Points.{added_cost};
-ghost use Rattle.family_curve.specs.Vectors.{limits, places};
+ghost use Rattle.family_points.specs.Points.{added_cost};
+ghost use Rattle.family_points.specs.Vectors.{limits, places};
 
 use spares_input::{Case, PartId};
 

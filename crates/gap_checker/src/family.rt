@@ -7,7 +7,7 @@ ghost use Rattle.price_certificate.specs.declared.certificate.Node.TheVariants.{
 ghost use Rattle.gap_checker.specs.Refusals.{box_from, nodes_of};
 
 use answers::NoMemory;
-use family_curve::{Bounds, limits_of, vector_of};
+use family_points::{Bounds, limits_of, vector_of};
 use price_certificate::{Certificate, Node};
 use spares_input::{Case, PartId, Stocks};
 use std::alloc::Global;

@@ -6,7 +6,7 @@ ghost use Rattle.spares_input.specs.Stocks.{IsFor, IsWithinLimits};
 ghost use Rattle.fleet_model.specs.Rows.{line_units};
 ghost use Rattle.demand_rates.specs.Rates.{AreRatesOf};
 ghost use Rattle.family_eval.specs.Inputs.{IsLine};
-ghost use Rattle.family_curve.specs.Counts.{most_tables};
+ghost use Rattle.family_points.specs.Counts.{most_tables};
 ghost use Rattle.price_certificate.specs.Certificates.{IsWellFormed};
 ghost use Rattle.gap_checker.specs.Refusals.{line_at, family_count, cover_of, gap_at, family_tables, work_of, too_low, low_at};
 
@@ -15,7 +15,7 @@ use crate::low::low_leaf;
 use crate::refusal::Reject;
 use answers::NoMemory;
 use demand_rates::kinds::Rates;
-use family_curve::place_parts;
+use family_points::place_parts;
 use hull::Score;
 use price_certificate::{Certificate, Node};
 use spares_input::{PartId, Stocks};

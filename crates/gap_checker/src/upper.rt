@@ -11,7 +11,8 @@ ghost use Rattle.gap_checker.specs.Refusals.{over_limit, below_held, chosen_poin
 
 use answers::NoMemory;
 use demand_rates::kinds::Rates;
-use family_curve::{Bounds, upper_within, vector_of};
+use family_floors::upper_within;
+use family_points::{Bounds, vector_of};
 use hull::Score;
 use price_certificate::Certificate;
 use spares_input::{PartId, Stocks};

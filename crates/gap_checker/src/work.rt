@@ -11,7 +11,7 @@ ghost use Rattle.gap_checker.specs.Values.{leaf_tables, cover_tables};
 use crate::leaf::Leaf;
 use crate::reading::{Read, read_node};
 use answers::NoMemory;
-use family_curve::{Bounds, tables_within};
+use family_points::{Bounds, tables_within};
 use price_certificate::Node;
 use spares_input::{Case, PartId};
 use std::alloc::Global;

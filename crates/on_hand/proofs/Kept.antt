@@ -15,12 +15,12 @@ use Rattle.fleet_model.specs.Rows.{line_units, stock}
 use Rattle.fleet_model.proofs.AllocationLaws.{stocks_allocation}
 use Rattle.fleet_model.proofs.FamilyLaws.{sum_each}
 use Rattle.family_eval.specs.Inputs.{IsLine}
-use Rattle.family_curve.specs.declared.bounds.Bounds.{Bounds}
-use Rattle.family_curve.specs.Vectors.{Pair, limits, places, vector_of, zeros, IsBetween}
-use Rattle.family_curve.specs.Points.{ScoreEnds, points_within, AreOrdered, plain_ends}
-use Rattle.family_curve.specs.Counts.{limited, most_tables, tables_between, tables_of, work_of}
-use Rattle.family_curve.proofs.Boxes.{each_any, same_map}
-use Rattle.family_curve.proofs.Whole.{tables_whole, whole_ordered}
+use Rattle.family_points.specs.declared.bounds.Bounds.{Bounds}
+use Rattle.family_points.specs.Vectors.{Pair, limits, places, vector_of, zeros, IsBetween}
+use Rattle.family_points.specs.Points.{ScoreEnds, points_within, AreOrdered, plain_ends}
+use Rattle.family_points.specs.Counts.{limited, most_tables, tables_between, tables_of, work_of}
+use Rattle.family_points.proofs.Boxes.{each_any, same_map}
+use Rattle.family_points.proofs.Whole.{tables_whole, whole_ordered}
 pub use Rattle.sum_walk.proofs.Walks.{zip_push}
 use Rattle.fleet_plan.specs.Families.{case_points, family_points}
 use Rattle.fleet_plan.proofs.Bridge.{vector_between}

@@ -14,13 +14,13 @@ use Rattle.spares_input.specs.Stocks.{limit_at}
 use Rattle.fleet_model.specs.Rows.{bases, shop_units, stock}
 use Rattle.fleet_model.specs.Fleet.{family}
 use Rattle.family_eval.proofs.Items.{kept_more, left_out}
-use Rattle.family_curve.specs.Vectors.{Pair, limits, places, places_at, site_part, vector_of}
-use Rattle.family_curve.specs.Counts.{product, tables_between, tables_by, widths}
-use Rattle.family_curve.proofs.Boxes.{map_flat, same_map}
-use Rattle.family_curve.proofs.Counting.{below, counted_times, product_push, sum_push, counted_both}
-use Rattle.family_curve.proofs.Sites.{size}
-use Rattle.family_curve.proofs.Bounded.{part_of_flat}
-use Rattle.family_curve.proofs.Stands.{below_all}
+use Rattle.family_points.specs.Vectors.{Pair, limits, places, places_at, site_part, vector_of}
+use Rattle.family_points.specs.Counts.{product, tables_between, tables_by, widths}
+use Rattle.family_points.proofs.Boxes.{map_flat, same_map}
+use Rattle.family_points.proofs.Counting.{below, counted_times, product_push, sum_push, counted_both}
+use Rattle.family_points.proofs.Sites.{size}
+use Rattle.family_points.proofs.Bounded.{part_of_flat}
+use Rattle.family_points.proofs.Stands.{below_all}
 use Rattle.on_hand.specs.Work.{room}
 
 -- ---- what stands at a site

@@ -3,8 +3,8 @@ use Rattle.std.specs.Prelude.{◌≡◌, ℕ, List}
 use Rattle.hull.specs.declared.point.Point.{Point}
 use Rattle.hull.specs.Curves.{Among, IsCurve, point_at}
 use Rattle.spares_input.specs.Cases.{CaseRows}
-use Rattle.family_curve.specs.Vectors.{limits, vector_of, IsBetween}
-use Rattle.family_curve.specs.Points.{ScoreEnds}
+use Rattle.family_points.specs.Vectors.{limits, vector_of, IsBetween}
+use Rattle.family_points.specs.Points.{ScoreEnds}
 use Rattle.fleet_plan.specs.Families.{family_points}
 
 -- The curve of the family of line unit l, its cost counted above the held stocks: it begins at cost 0, and its vectors

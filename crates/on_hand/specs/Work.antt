@@ -4,8 +4,8 @@ use Rattle.answers.specs.Counts.{count64}
 use Rattle.spares_input.specs.Cases.{CaseRows}
 use Rattle.spares_input.specs.Stocks.{limit_at}
 use Rattle.fleet_model.specs.Rows.{line_units, stock}
-use Rattle.family_curve.specs.Vectors.{limits, vector_of}
-use Rattle.family_curve.specs.Counts.{limited, tables_between}
+use Rattle.family_points.specs.Vectors.{limits, vector_of}
+use Rattle.family_points.specs.Counts.{limited, tables_between}
 
 -- the count of tables of all families, each over its vectors from the held stocks to the limits
 abbrev pub tables_from : CaseRows → List ℕ → ℕ

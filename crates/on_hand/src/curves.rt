@@ -7,13 +7,14 @@ ghost use Rattle.demand_rates.specs.Rates.{AreRatesOf};
 ghost use Rattle.spares_input.specs.Stocks.{IsFor, IsWithinLimits};
 ghost use Rattle.fleet_model.specs.Rows.{line_units};
 ghost use Rattle.family_eval.specs.Inputs.{IsLine};
-ghost use Rattle.family_curve.specs.Vectors.{limits, vector_of};
+ghost use Rattle.family_points.specs.Vectors.{limits, vector_of};
 ghost use Rattle.on_hand.specs.Work.{held_work_of};
 ghost use Rattle.on_hand.specs.Curves.{IsFamilyCurve};
 
 use answers::NoMemory;
 use demand_rates::kinds::Rates;
-use family_curve::{Bounds, curve_within, limits_of, vector_of};
+use family_curve::curve_within;
+use family_points::{Bounds, limits_of, vector_of};
 use hull::{Curve, Score};
 use spares_input::{Case, PartId, Stocks};
 use std::alloc::Global;

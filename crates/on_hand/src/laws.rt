@@ -3,8 +3,8 @@
 ghost use Rattle.std.specs.Prelude.{◌≡◌, ℕ, List, [], sum_by};
 ghost use Rattle.spares_input.specs.Cases.{CaseRows, IsCase};
 ghost use Rattle.fleet_model.specs.Rows.{line_units};
-ghost use Rattle.family_curve.specs.Counts.{tables_of, work_of};
-ghost use Rattle.family_curve.specs.Points.{ScoreEnds};
+ghost use Rattle.family_points.specs.Counts.{tables_of, work_of};
+ghost use Rattle.family_points.specs.Points.{ScoreEnds};
 ghost use Rattle.fleet_plan.specs.Families.{case_points};
 ghost use Rattle.on_hand.specs.Work.{held_work_of, tables_from, IsNothing};
 

@@ -5,11 +5,11 @@ ghost use Rattle.answers.specs.Counts.{count64};
 ghost use Rattle.spares_input.specs.Stocks.{IsFor, IsWithinLimits};
 ghost use Rattle.fleet_model.specs.Rows.{bases, shop_units};
 ghost use Rattle.family_eval.specs.Inputs.{IsLine};
-ghost use Rattle.family_curve.specs.Vectors.{limits, vector_of};
-ghost use Rattle.family_curve.specs.Counts.{product, tables_between};
+ghost use Rattle.family_points.specs.Vectors.{limits, vector_of};
+ghost use Rattle.family_points.specs.Counts.{product, tables_between};
 ghost use Rattle.on_hand.specs.Work.{held_work_of, room};
 
-use family_curve::MOST_TABLES;
+use family_points::MOST_TABLES;
 use spares_input::{Case, PartId, SiteId, Stocks};
 
 /// The count of stocks that a pair can have, from its held stock to its limit.

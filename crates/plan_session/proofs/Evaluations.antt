@@ -23,7 +23,7 @@ use Rattle.family_eval.specs.declared.item.FamilyResult.{FamilyResult}
 use Rattle.family_eval.specs.Profile.{pipeline_from, share_of, stocked, feed_of, held_of, depot_shop, depot_feed, depot_line, base_shop, base_line, item_of, part_items, weighed, family_of}
 use Rattle.family_eval.specs.Inputs.{IsLine, IsShop}
 use Rattle.family_eval.proofs.Units.{shops_all}
-use Rattle.family_curve.proofs.Local.{line_owner}
+use Rattle.family_points.proofs.Local.{line_owner}
 use Rattle.family_eval.proofs.Items.{added_same}
 
 -- ---- lists

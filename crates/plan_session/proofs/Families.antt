@@ -8,9 +8,9 @@ use Rattle.spares_input.specs.declared.rows.RateRow.{RateRow}
 use Rattle.fleet_model.specs.Rows.{line_units}
 use Rattle.family_eval.specs.Inputs.{IsLine}
 use Rattle.family_eval.specs.declared.item.FamilyResult.{FamilyResult}
-use Rattle.family_curve.specs.Vectors.{vector_of, limits}
-use Rattle.family_curve.specs.Local.{home_of, HaveOneFamily}
-use Rattle.family_curve.proofs.Local.{changed, local}
+use Rattle.family_points.specs.Vectors.{vector_of, limits}
+use Rattle.family_points.specs.Local.{home_of, HaveOneFamily}
+use Rattle.family_points.proofs.Local.{changed, local}
 use Rattle.hull.specs.declared.point.Point.{Point}
 use Rattle.hull.specs.Curves.{IsCurve}
 use Rattle.fleet_plan.proofs.Places.{apart_at, at_among, lines_apart, lines_are}
@@ -21,7 +21,7 @@ use Rattle.plan_session.specs.Sessions.{family_place, no_family, AreEvaluated, A
 use Rattle.plan_session.specs.declared.evaluated.Evaluated.{Evaluated}
 use Rattle.plan_session.proofs.Evaluations.{same_with_rate}
 use Rattle.plan_session.proofs.Marking.{on_within, still_on}
-use Rattle.family_curve.specs.Points.{plain_ends}
+use Rattle.family_points.specs.Points.{plain_ends}
 
 before_or_after : (a b : ℕ) → (a ≡ b) ⊎ ((a < b) ⊎ (b < a))
 before_or_after a b = grind arith

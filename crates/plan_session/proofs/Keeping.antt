@@ -4,10 +4,10 @@ use Rattle.std.specs.Result.{IsOk}
 use Rattle.spares_input.specs.Cases.{CaseRows, IsCase}
 use Rattle.fleet_model.specs.Rows.{line_units}
 use Rattle.family_eval.specs.Inputs.{IsLine}
-use Rattle.family_curve.specs.Vectors.{limits, zeros, IsBetween}
-use Rattle.family_curve.specs.Points.{points_within, plain_ends}
-use Rattle.family_curve.specs.Counts.{most_tables, tables_of, work_of}
-use Rattle.family_curve.proofs.Whole.{tables_whole}
+use Rattle.family_points.specs.Vectors.{limits, zeros, IsBetween}
+use Rattle.family_points.specs.Points.{points_within, plain_ends}
+use Rattle.family_points.specs.Counts.{most_tables, tables_of, work_of}
+use Rattle.family_points.proofs.Whole.{tables_whole}
 use Rattle.hull.specs.declared.point.Point.{Point}
 use Rattle.hull.specs.Curves.{Among, IsCurve, point_at}
 use Rattle.on_hand.specs.Curves.{IsFamilyCurve}

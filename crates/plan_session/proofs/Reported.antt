@@ -23,7 +23,7 @@ use Rattle.plan_report.specs.declared.plan.PlanReport.{PlanReport}
 use Rattle.case_edits.specs.Edits.{PlanDue}
 use Rattle.plan_session.specs.Sessions.{has_mark, AreKept, IsReportOf}
 use Rattle.plan_session.proofs.Keeping.{none_held}
-use Rattle.family_curve.specs.Points.{plain_ends}
+use Rattle.family_points.specs.Points.{plain_ends}
 
 zip_from : {X Y : Type 0} (R : X → Y → Type 0) (xs : List X) (ys : List Y) (d : X) (e : Y) → length ys ≡ length xs
     → ((k : ℕ) → k < length xs → R (get_or xs k d) (get_or ys k e)) → AllZip R xs ys

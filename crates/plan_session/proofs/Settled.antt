@@ -10,7 +10,7 @@ use Rattle.family_eval.specs.declared.item.FamilyResult.{FamilyResult}
 use Rattle.family_eval.specs.Inputs.{IsShop}
 use Rattle.family_eval.specs.Profile.{families_of, family_of}
 use Rattle.family_eval.proofs.Units.{shops_all}
-use Rattle.family_curve.specs.Local.{home_of}
+use Rattle.family_points.specs.Local.{home_of}
 use Rattle.case_plan.specs.Placing.{lines_below}
 use Rattle.fleet_model.proofs.DependLaws.{all_follow}
 use Rattle.plan_session.specs.Sessions.{family_place, has_mark, no_family, AreMarked, IsEvaluation}
@@ -18,7 +18,7 @@ use Rattle.plan_session.specs.Settling.{AreSettled}
 use Rattle.plan_session.proofs.Evaluations.{stocks_alone}
 use Rattle.plan_session.proofs.Families.{line_at, place_of_line}
 use Rattle.plan_session.proofs.Marking.{each_value, on_within}
-use Rattle.family_curve.proofs.Local.{line_owner}
+use Rattle.family_points.proofs.Local.{line_owner}
 
 -- ---- part after part
 

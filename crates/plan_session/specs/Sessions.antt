@@ -19,15 +19,15 @@ use Rattle.demand_rates.specs.declared.fault.RateFault.{RateFault}
 use Rattle.family_eval.specs.declared.item.FamilyResult.{FamilyResult}
 use Rattle.family_eval.specs.Profile.{family_of}
 use Rattle.hull.specs.declared.point.Point.{Point}
-use Rattle.family_curve.specs.Counts.{work_of}
-use Rattle.family_curve.specs.Local.{home_of}
+use Rattle.family_points.specs.Counts.{work_of}
+use Rattle.family_points.specs.Local.{home_of}
 use Rattle.fleet_plan.specs.Laws.{IsAcceptedCase}
 use Rattle.on_hand.specs.Curves.{IsFamilyCurve}
 use Rattle.on_hand.specs.Work.{IsNothing}
 use Rattle.case_plan.specs.Report.{IsPlanned, plain_terms}
 use Rattle.plan_report.specs.declared.plan.PlanReport.{PlanReport}
 use Rattle.plan_session.specs.declared.evaluated.Evaluated.{Evaluated}
-use Rattle.family_curve.specs.Points.{plain_ends}
+use Rattle.family_points.specs.Points.{plain_ends}
 
 -- a case, a budget, and for each family in order whether its curve is kept
 pub record SessionRows : Type 0 where

@@ -4,7 +4,7 @@ ghost use Rattle.std.specs.Prelude.{◌≤◌, List, All, IfOk, OnOk};
 ghost use Rattle.std.specs.List.{AllZip};
 ghost use Rattle.std.specs.Result.{IsOk};
 ghost use Rattle.spares_input.specs.Cases.{frame_rows};
-ghost use Rattle.family_curve.specs.Counts.{work_of};
+ghost use Rattle.family_points.specs.Counts.{work_of};
 ghost use Rattle.plan_report.specs.Fits.{FitsPlan};
 ghost use Rattle.case_edits.specs.Lines.{IsEditOf};
 ghost use Rattle.case_edits.specs.Edits.{PlanDue};

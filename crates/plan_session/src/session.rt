@@ -4,11 +4,11 @@ ghost use Rattle.std.specs.Prelude.{◌≡◌, ◌<◌, ◌≤◌, [], true, not
 ghost use Rattle.std.specs.Result.{IsOk};
 ghost use Rattle.spares_input.specs.Cases.{frame_rows, IsRateOf};
 ghost use Rattle.fleet_model.specs.Rows.{line_units};
-ghost use Rattle.family_curve.specs.Counts.{work_of};
+ghost use Rattle.family_points.specs.Counts.{work_of};
 ghost use Rattle.on_hand.specs.Curves.{IsFamilyCurve};
 ghost use Rattle.spares_input.specs.Money.{most_budget};
 ghost use Rattle.plan_session.specs.Sessions.{due, has_mark, started, with_budget, with_row, AnswersPlan, IsLater};
-ghost use Rattle.family_curve.specs.Points.{plain_ends};
+ghost use Rattle.family_points.specs.Points.{plain_ends};
 
 use crate::evaluated::{Evaluated, evaluate_at, nothing_evaluated};
 use crate::kept::{keep_all, nothing_kept, place_of};

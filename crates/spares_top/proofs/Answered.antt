@@ -28,7 +28,7 @@ use Rattle.spares_top.specs.Making.{Is, IsMade, MakesBy}
 use Rattle.spares_top.specs.Task.{Task, plan_in_turn, printed}
 use Rattle.spares_top.specs.declared.done.Done.TheVariants.{Session}
 use Rattle.spares_top.proofs.Shown.{span_prints}
-use Rattle.family_curve.specs.Points.{plain_ends}
+use Rattle.family_points.specs.Points.{plain_ends}
 use Rattle.case_plan.specs.Report.{plain_terms}
 use Rattle.spares_input.specs.Stocks.{nothing_held}
 

@@ -28,7 +28,7 @@ use Rattle.spares_top.specs.Making.{Is, IsMade}
 use Rattle.spares_top.specs.Task.{demonstrate, printed}
 use Rattle.spares_top.specs.declared.done.Done.TheVariants.{Demo}
 use Rattle.spares_top.proofs.Shown.{shown}
-use Rattle.family_curve.specs.Points.{plain_ends}
+use Rattle.family_points.specs.Points.{plain_ends}
 use Rattle.spares_input.specs.Stocks.{nothing_held}
 
 module _ (number lines : ℕ) (few : lines ≤ 80) (summary : Summary) (h : IsDemonstrated number lines summary) where

@@ -12,7 +12,7 @@ use Rattle.certified_plan.specs.declared.terms.PlanClaims.{PlanClaims}
 use Rattle.price_certificate.specs.declared.certificate.Terms.{Terms}
 use Rattle.certified_plan.proofs.Formed.{plan_claims}
 use Rattle.case_plan.specs.Report as reports
-use Rattle.family_curve.specs.Counts.{work_of}
+use Rattle.family_points.specs.Counts.{work_of}
 use Rattle.on_hand.proofs.Kept.{all_work}
 use Rattle.std.specs.Result.{IsOk}
 use Rattle.certified_plan.specs.Laws.{IsPlanOn, NoCertificateShowsMore}
@@ -27,7 +27,7 @@ use Rattle.gap_checker.specs.Refusals.{reject_of}
 use Rattle.price_certificate.specs.declared.certificate.Objective.{Objective}
 use Rattle.price_certificate.specs.declared.certificate.Objective.TheVariants.{Backorders}
 use Rattle.on_hand.specs.Work.{IsNothing, held_work_of}
-use Rattle.family_curve.specs.Points.{ScoreEnds}
+use Rattle.family_points.specs.Points.{ScoreEnds}
 use Rattle.on_hand.specs.Held.{IsWellHeld, held_text}
 use Rattle.on_hand.specs.declared.held.HeldCertificate.{HeldCertificate}
 use Rattle.on_hand.proofs.Inverse as held_inverse

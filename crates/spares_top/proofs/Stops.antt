@@ -1,7 +1,7 @@
 -- Where what a command works on isn't given, its task is refused; and such refusals are of the task.
 use Rattle.std.proofs.Common.{ap, refl, sym, Option, Some, None, Result, Ok, Err, ℕ, List}
 use Rattle.spares_input.specs.Cases.{CaseRows, frame_rows}
-use Rattle.family_curve.specs.Counts.{work_of}
+use Rattle.family_points.specs.Counts.{work_of}
 use Rattle.on_hand.specs.Work.{held_work_of}
 use Rattle.price_certificate.specs.declared.certificate.Terms.{Terms}
 use Rattle.answers.specs.Steps.{◌>>=◌}

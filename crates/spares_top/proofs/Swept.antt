@@ -16,7 +16,7 @@ use Rattle.spares_top.specs.Headline.{IsTruePrice, IsTrueSweep}
 use Rattle.spares_top.specs.Making.{Is, IsMade}
 use Rattle.spares_top.specs.Task.{price_target, printed, sweep_budgets}
 use Rattle.spares_top.specs.declared.done.Done.TheVariants.{Priced, Swept}
-use Rattle.family_curve.specs.Points.{plain_ends}
+use Rattle.family_points.specs.Points.{plain_ends}
 use Rattle.spares_input.specs.Stocks.{nothing_held}
 
 module _ (c : CaseRows) (accepted : IsAcceptedCase c) (given : Result CaseRows Failure) (is_given : given ≡ Ok c) where

@@ -36,7 +36,7 @@ use Rattle.spares_top.specs.Files.{inputs_of, reads}
 use Rattle.spares_top.specs.Plans.{Planning, IsPlanned, case_to_edit, case_within_work, planning_of}
 use Rattle.demonstration.specs.Demonstrations.{IsDemonstrated}
 use Rattle.spares_top.specs.Checks.{Claimed, claimed_of, check_of}
-use Rattle.family_curve.specs.Points.{plain_ends}
+use Rattle.family_points.specs.Points.{plain_ends}
 
 -- The task of an accepted order.
 pub data Task : Type 0 where

@@ -2,7 +2,7 @@
 ghost use Rattle.std.specs.Prelude.{◌≤◌, length, IfOk};
 ghost use Rattle.std.specs.Result.{IsOk};
 ghost use Rattle.answers.specs.Answers.{Gives};
-ghost use Rattle.family_curve.specs.Counts.{work_of};
+ghost use Rattle.family_points.specs.Counts.{work_of};
 ghost use Rattle.csv_tables.specs.Rest.{table_limit};
 ghost use Rattle.spares_top.specs.Making.{AreTables, Is, MakesBy};
 ghost use Rattle.spares_top.specs.Plans.{case_to_edit};
@@ -11,7 +11,7 @@ ghost use Rattle.spares_top.specs.Task.{bytes_at, session_task};
 use crate::done::{Done, Outcome};
 use answers::{List, Stop};
 use case_tables::case_of;
-use family_curve::work;
+use family_points::work;
 use plan_session::run_edits;
 use refusals::{Failure, Refusal};
 use spares_input::Case;

@@ -4,13 +4,13 @@ ghost use Rattle.std.specs.Result.{IsOk};
 ghost use Rattle.budget_sweep.specs.Cases.{IsCaseSweep, IsCaseTarget};
 ghost use Rattle.budget_sweep.specs.Fits.{SweepFits, TargetFits};
 ghost use Rattle.demand_rates.specs.Rates.{AreRatesOf};
-ghost use Rattle.family_curve.specs.Counts.{work_of};
+ghost use Rattle.family_points.specs.Counts.{work_of};
 ghost use Rattle.fleet_plan.specs.Families.{case_points};
 ghost use Rattle.fleet_plan.specs.Laws.{IsAcceptedCase};
 ghost use Rattle.marginal_alloc.specs.Choice.{AreCurves};
 ghost use Rattle.spares_top.specs.Making.{AreTables, Is, MakesBy};
 ghost use Rattle.spares_top.specs.Task.{bytes_at, sweep_task, target_task};
-ghost use Rattle.family_curve.specs.Points.{plain_ends};
+ghost use Rattle.family_points.specs.Points.{plain_ends};
 ghost use Rattle.spares_input.specs.Stocks.{nothing_held};
 
 use crate::done::{Done, Outcome};

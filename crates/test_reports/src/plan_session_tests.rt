@@ -1,11 +1,11 @@
 //! Sessions of a case of two line units.
 ghost use Rattle.std.specs.Prelude.{◌≤◌, true, IfSome, length};
 ghost use Rattle.std.specs.Result.{IsOk};
-ghost use Rattle.family_curve.specs.Counts.{work_of};
+ghost use Rattle.family_points.specs.Counts.{work_of};
 
 use answers::Stop;
 use csv_tables::{rate_line, read_parts, read_rates, read_sites};
-use family_curve::work;
+use family_points::work;
 use plan_session::{EditFault, Session, run_edits};
 use spares_input::{Case, Frame};
 use std::alloc::Global;

@@ -5,7 +5,7 @@ use Rattle.demonstration.specs.Demonstrations.{IsDemonstrated, claims_in, demo_t
 use Rattle.plan_report.specs.Fits.{FitsSummary}
 use Rattle.demonstration.proofs.Told.{demo_work, have_claims, is_accepted, is_demonstrated, is_short, sums_fit}
 use Rattle.demonstration.proofs.demonstrating.demonstrate.Goals as goal
-use Rattle.family_curve.specs.Points.{plain_ends}
+use Rattle.family_points.specs.Points.{plain_ends}
 
 pub plan_case-requires-clause-work : goal.plan_case-requires-clause-work
 plan_case-requires-clause-work c =

@@ -1,11 +1,11 @@
 use Rattle.std.proofs.Common.{length, ap, arith}
 use Rattle.std.proofs.lemmas.List.{length-map}
 use Rattle.hull.proofs.Runs.{curve_made}
-use Rattle.family_curve.specs.declared.order.ShopVector.{ShopVector}
-use Rattle.family_curve.specs.Inputs.{shop_vectors}
-use Rattle.family_curve.proofs.Ordered.{order_count, ordered_stands}
-use Rattle.family_curve.proofs.Points.{some_vectors, turned_curve}
-use Rattle.family_curve.proofs.Rows.{rows_taken}
+use Rattle.family_points.specs.declared.order.ShopVector.{ShopVector}
+use Rattle.family_points.specs.Inputs.{shop_vectors}
+use Rattle.family_points.proofs.Ordered.{order_count, ordered_stands}
+use Rattle.family_points.proofs.Points.{some_vectors, turned_curve}
+use Rattle.family_rows.proofs.Rows.{rows_taken}
 use Rattle.family_curve.proofs.base.put_curve.Goals as goal
 
 pub put_points-requires-clause-rows : goal.put_points-requires-clause-rows

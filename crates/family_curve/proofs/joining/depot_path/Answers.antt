@@ -7,14 +7,14 @@ use Rattle.hull.specs.Curves.{Among, IsCurve, StandFor}
 use Rattle.hull.proofs.Stand.{stand_for_both}
 use Rattle.hull.proofs.StepsOf.{stand_self, stand_trans}
 use Rattle.fleet_model.specs.Laws.{IsBase}
-use Rattle.family_curve.specs.declared.order.Base.{Base}
-use Rattle.family_curve.specs.Separation.{base_points, depot_point, depot_points, points_over}
-use Rattle.family_curve.specs.Inputs.{FamilyBox, vector_count}
-use Rattle.family_curve.specs.Spots.{AreBases}
+use Rattle.family_points.specs.declared.order.Base.{Base}
+use Rattle.family_points.specs.Separation.{base_points, depot_point, depot_points, points_over}
+use Rattle.family_points.specs.Inputs.{FamilyBox, vector_count}
+use Rattle.family_points.specs.Choices.{AreBases}
 use Rattle.sum_walk.specs.Sums.{sums_of_each}
 use Rattle.family_curve.proofs.Bases.{base_more, lengths_one_more}
-use Rattle.family_curve.proofs.Grown.{base_read, bases_long}
-use Rattle.family_curve.proofs.Points.{over_count_more, room_at}
+use Rattle.family_points.proofs.AllBases.{base_read, bases_long}
+use Rattle.family_points.proofs.Points.{over_count_more, room_at}
 use Rattle.family_curve.proofs.joining.depot_path.Goals as goal
 
 pub loop-j-init : goal.loop-j-init

@@ -1,9 +1,9 @@
 use Rattle.std.proofs.Common.{◌≡◌, ◌+◌, ◌-◌, ◌≤◌, [], ◌∷◌, length, sum_by, take}
 use Rattle.std.specs.List.{range_with_len}
 use Rattle.hull.specs.Curves.{StandFor}
-use Rattle.family_curve.specs.Separation.{points_over}
+use Rattle.family_points.specs.Separation.{points_over}
 use Rattle.sum_walk.specs.Sums.{sums_of_each}
-use Rattle.family_curve.proofs.Points.{over_count}
+use Rattle.family_points.proofs.Points.{over_count}
 use Rattle.family_curve.proofs.joining.depot_path.Given as goal
 
 abbrev pub invariant-loop-j : goal.invariant-loop-j

@@ -1,7 +1,7 @@
 use Rattle.std.proofs.Common.{◌*◌, ◌≤◌, sym, subst}
 use Rattle.hull.specs.Curves.{IsCurve}
-use Rattle.family_curve.specs.Inputs.{FamilyBox, vector_count, vertex_count}
-use Rattle.family_curve.specs.Points.{points_within}
+use Rattle.family_points.specs.Inputs.{FamilyBox, vector_count, vertex_count}
+use Rattle.family_points.specs.Points.{points_within}
 use Rattle.family_curve.proofs.joining.family_curve.Goals as goal
 
 pub whole_curve-requires-clause-room : goal.whole_curve-requires-clause-room

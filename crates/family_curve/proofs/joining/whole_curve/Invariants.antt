@@ -1,7 +1,7 @@
 use Rattle.std.proofs.Common.{◌≡◌, ◌-◌, ◌*◌, ◌≤◌, ◌∷◌, drop, flat_map, length}
 use Rattle.hull.specs.Curves.{IsCurve}
-use Rattle.family_curve.specs.Separation.{depot_points}
-use Rattle.family_curve.specs.Inputs.{line_stocks, shop_vectors, vertex_count}
+use Rattle.family_points.specs.Separation.{depot_points}
+use Rattle.family_points.specs.Inputs.{line_stocks, shop_vectors, vertex_count}
 use Rattle.family_curve.specs.Joining.{HaveWidthOf}
 use Rattle.family_curve.proofs.joining.whole_curve.Given as goal
 

@@ -3,11 +3,11 @@ use Rattle.std.specs.List.{range_with_len}
 use Rattle.std.proofs.lemmas.List.{append-nil}
 use Rattle.hull.specs.declared.point.Point.{Point}
 use Rattle.hull.specs.Curves.{IsCurve}
-use Rattle.family_curve.specs.Separation.{depot_points}
-use Rattle.family_curve.specs.Inputs.{IsAt, line_high, line_low, line_stocks, vertex_count}
+use Rattle.family_points.specs.Separation.{depot_points}
+use Rattle.family_points.specs.Inputs.{IsAt, line_high, line_low, line_stocks, vertex_count}
 use Rattle.family_curve.specs.Joining.{middle, run_start, vertices_of}
 use Rattle.family_curve.proofs.Grown.{room_for, room_for_one, run_grows}
-use Rattle.family_curve.proofs.Points.{joined_at, stocks_count}
+use Rattle.family_points.proofs.Points.{joined_at, stocks_count}
 use Rattle.family_curve.proofs.joining.with_shops.Goals as goal
 
 pub with_depot-requires-clause-depot : goal.with_depot-requires-clause-depot

@@ -1,8 +1,8 @@
 use Rattle.std.proofs.Common.{◌≡◌, ◌+◌, ◌*◌, ◌≤◌, ◌∷◌, ◌++◌, flat_map, length}
 use Rattle.std.specs.List.{range_with_len}
 use Rattle.hull.specs.Curves.{IsCurve}
-use Rattle.family_curve.specs.Separation.{depot_points}
-use Rattle.family_curve.specs.Inputs.{line_high, line_low, vertex_count}
+use Rattle.family_points.specs.Separation.{depot_points}
+use Rattle.family_points.specs.Inputs.{line_high, line_low, vertex_count}
 use Rattle.family_curve.specs.Joining.{HaveWidthOf, run_start, vertices_of}
 use Rattle.family_curve.proofs.joining.with_shops.Given as goal
 

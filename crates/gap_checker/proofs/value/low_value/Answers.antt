@@ -1,8 +1,8 @@
 use Rattle.std.proofs.Common.{◌≡◌, ◌*◌, ◌≤◌, sym, ap, ◌∙◌, subst}
 use Rattle.std.specs.Prelude.{IfOk}
 use Rattle.gap_checker.specs.Boxes.{AtMost, IsOrdered}
-use Rattle.family_curve.specs.Points.{added_cost}
-use Rattle.family_curve.specs.Vectors.{limits}
+use Rattle.family_points.specs.Points.{added_cost}
+use Rattle.family_points.specs.Vectors.{limits}
 use Rattle.gap_checker.specs.Covers.{box_of}
 use Rattle.gap_checker.specs.Values.{below, leaf_tables, value_of}
 use Rattle.gap_checker.proofs.Boxes.{at_most_chain}

@@ -3,7 +3,7 @@ use Rattle.on_hand.specs.Curves.{IsFamilyCurve}
 use Rattle.plan_session.proofs.Marking.{all_marked, kept_before, kept_next, kept_one, line_here, mark_within, next_below, passed, still_below, value_within}
 use Rattle.plan_session.proofs.kept.keep_all.Goals as goal
 use Rattle.plan_session.proofs.kept.keep_all.Goals.{then-is_line+in_ok-keep, else-is_line}
-use Rattle.family_curve.specs.Points.{plain_ends}
+use Rattle.family_points.specs.Points.{plain_ends}
 
 pub bounds-curves-place : goal.bounds-curves-place
 bounds-curves-place c =

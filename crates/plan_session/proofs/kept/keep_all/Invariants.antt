@@ -2,7 +2,7 @@ use Rattle.std.proofs.Common.{◌≤◌, []}
 use Rattle.on_hand.specs.Curves.{IsFamilyCurve}
 use Rattle.plan_session.proofs.Marking.{AreMarkedTo}
 use Rattle.plan_session.proofs.kept.keep_all.Given as goal
-use Rattle.family_curve.specs.Points.{plain_ends}
+use Rattle.family_points.specs.Points.{plain_ends}
 
 abbrev pub invariant-loop-p : goal.invariant-loop-p
 invariant-loop-p l =

@@ -8,7 +8,7 @@ use Rattle.spares_input.specs.Stocks.{StockList}
 use Rattle.std.proofs.lemmas.List.{length-map}
 use Rattle.spares_top.proofs.Planned.{plain_work}
 use Rattle.spares_top.proofs.sweep.curves_of.Goals as goal
-use Rattle.family_curve.specs.Points.{plain_ends}
+use Rattle.family_points.specs.Points.{plain_ends}
 
 pub held_curves-requires-clause-work : goal.held_curves-requires-clause-work
 held_curves-requires-clause-work c = plain_work c.args.given.now.case c.in_ok-held.held c.requires.accepted.valid c.in_ok-held.ensures.held c.requires.work

@@ -3,7 +3,7 @@ use Rattle.fleet_plan.specs.Families.{case_points}
 use Rattle.hull.specs.declared.point.Point.{Point}
 use Rattle.marginal_alloc.specs.Choice.{AreCurves}
 use Rattle.spares_top.proofs.sweep.sweep_of.Goals as goal
-use Rattle.family_curve.specs.Points.{plain_ends}
+use Rattle.family_points.specs.Points.{plain_ends}
 use Rattle.spares_input.specs.Stocks.{nothing_held}
 
 pub returns-clause-sweep : goal.returns-clause-sweep

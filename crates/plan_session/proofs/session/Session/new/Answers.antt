@@ -3,7 +3,7 @@ use Rattle.spares_input.specs.Cases.{IsCase}
 use Rattle.on_hand.specs.Curves.{IsFamilyCurve}
 use Rattle.plan_session.proofs.Marking.{unkept}
 use Rattle.plan_session.proofs.session.Session.new.Goals as goal
-use Rattle.family_curve.specs.Points.{plain_ends}
+use Rattle.family_points.specs.Points.{plain_ends}
 
 pub invariant_of-result : goal.invariant_of-result
 invariant_of-result c = record {

@@ -1,6 +1,0 @@
-use Rattle.family_curve.proofs.Products.{choices_counted}
-use Rattle.family_curve.proofs.Single.{one_vector}
-use Rattle.family_curve.proofs.laws.vectors_are_counted.Goals as goal
-
-pub returns : goal.returns
-returns c = record { choices = choices_counted; few = one_vector }

@@ -1,8 +1,0 @@
-use Rattle.std.proofs.Common.{◌∷◌, flat_map, take}
-use Rattle.family_curve.specs.Separation.{depot_points}
-use Rattle.family_curve.specs.Inputs.{line_stocks, shop_vectors}
-use Rattle.family_curve.specs.Least.{AreAtLeast}
-use Rattle.family_curve.proofs.least.all_are_at_least.Given as goal
-
-abbrev pub invariant-loop-n : goal.invariant-loop-n
-invariant-loop-n g l = AreAtLeast l.price.p l.price.q l.floor (flat_map (λ d. flat_map (λ s. depot_points l.sources.family.now.case l.sources.family.now.line g.S.Score.ends l.sources.family.now.held l.sources.family.now.low l.sources.family.now.high (s ∷ d)) (line_stocks l.sources.family.now 0)) (take l.n (shop_vectors l.sources.family.now 0)))

@@ -1,6 +1,0 @@
-use Rattle.std.proofs.Common.{◌≡◌, ◌++◌, map, take}
-use Rattle.spares_input.specs.Stocks.{stock_at}
-use Rattle.family_curve.proofs.places.put_stocks.Given as goal
-
-abbrev pub invariant-loop-part : goal.invariant-loop-part
-invariant-loop-part l = l.list.items ≡ l.initial.list.items ++ map (λ p. stock_at l.stocks p.0 l.fn.site.0) (take l.part-index l.members)

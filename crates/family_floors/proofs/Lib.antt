@@ -1,0 +1,4 @@
+pub mod Leasts
+pub mod LeastPoints
+pub mod LowPoints
+pub mod Uppers

@@ -1,0 +1,41 @@
+use Rattle.std.proofs.Common.{ℕ, ◌<◌, ◌∷◌, true, false, List, flat_map, length, subst, arith}
+use Rattle.hull.specs.declared.point.Point.{Point}
+use Rattle.family_points.specs.Separation.{depot_points}
+use Rattle.family_points.specs.Inputs.{line_stocks, shop_vectors}
+use Rattle.family_floors.specs.Least.{Decides}
+use Rattle.family_floors.proofs.LeastPoints.{shops_all, shops_below, shops_more, decides_all}
+use Rattle.family_floors.proofs.least.all_are_at_least.Goals as goal
+
+pub returns-then-not-branch : goal.returns-then-not-branch
+returns-then-not-branch g c =
+    let x = c.args.sources.now.family.now in
+    let p = c.args.price.p in
+    let q = c.args.price.q in
+    let own : List ℕ → List Point = λ d. flat_map (λ s. depot_points x.case x.line g.S.Score.ends x.held x.low x.high (s ∷ d)) (line_stocks x 0) in
+    let stocks = c.in_ok-stocks.stocks.items in
+    let inside : c.loop-n.n < length (shop_vectors x 0) = omega (arith, c.loop-n-test.true, c.shop_count-count.ensures.count) in
+    let here : Decides p q c.args.floor (own stocks) c.in_ok-are_at_least.field-0 =
+    subst (λ (v : List ℕ). Decides p q c.args.floor (own v) c.in_ok-are_at_least.field-0) c.as_slice-at_depot.ensures.value c.in_ok-are_at_least.ensures in
+    let low : Decides p q c.args.floor (own stocks) false = subst (Decides p q c.args.floor (own stocks)) c.if-not-branch.true here in
+    decides_all x c.size-size.ensures.valid g.S.Score.ends p q c.args.floor false
+    (shops_below p q c.args.floor own (shop_vectors x 0) c.loop-n.n stocks inside c.in_ok-stocks.ensures.vector low)
+
+pub loop-n-preserved : goal.loop-n-preserved
+loop-n-preserved g c =
+    let x = c.args.sources.now.family.now in
+    let p = c.args.price.p in
+    let q = c.args.price.q in
+    let own : List ℕ → List Point = λ d. flat_map (λ s. depot_points x.case x.line g.S.Score.ends x.held x.low x.high (s ∷ d)) (line_stocks x 0) in
+    let stocks = c.in_ok-stocks.stocks.items in
+    let inside : c.loop-n.n < length (shop_vectors x 0) = omega (arith, c.loop-n-test.true, c.shop_count-count.ensures.count) in
+    let here : Decides p q c.args.floor (own stocks) c.in_ok-are_at_least.field-0 =
+    subst (λ (v : List ℕ). Decides p q c.args.floor (own v) c.in_ok-are_at_least.field-0) c.as_slice-at_depot.ensures.value c.in_ok-are_at_least.ensures in
+    let high : Decides p q c.args.floor (own stocks) true = subst (Decides p q c.args.floor (own stocks)) c.if-not-branch.false here in
+    shops_more p q c.args.floor own (shop_vectors x 0) c.loop-n.n stocks inside c.in_ok-stocks.ensures.vector c.loop-n.invariant high
+
+pub returns : goal.returns
+returns g c =
+    let x = c.args.sources.now.family.now in
+    let own : List ℕ → List Point = λ d. flat_map (λ s. depot_points x.case x.line g.S.Score.ends x.held x.low x.high (s ∷ d)) (line_stocks x 0) in
+    decides_all x c.size-size.ensures.valid g.S.Score.ends c.args.price.p c.args.price.q c.args.floor true
+    (shops_all c.args.price.p c.args.price.q c.args.floor own (shop_vectors x 0) c.loop-n.n (omega (arith, c.loop-n-test.false, c.shop_count-count.ensures.count)) c.loop-n.invariant)

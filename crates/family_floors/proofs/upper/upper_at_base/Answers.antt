@@ -1,0 +1,57 @@
+use Rattle.std.proofs.Common.{◌<◌, ◌∙◌, length, sym, ap, subst, arith}
+use Rattle.hull.specs.declared.point.Point.{Point}
+use Rattle.hull.specs.Curves.{InRange}
+use Rattle.family_points.specs.Choices.{IsChoice}
+use Rattle.family_rows.specs.Spots.{spot_point}
+use Rattle.family_points.proofs.Ordered.{choice_range, order_count}
+use Rattle.family_points.proofs.Points.{some_vectors}
+use Rattle.family_floors.proofs.Uppers.{upper_of_choice}
+use Rattle.family_floors.proofs.upper.upper_at_base.Goals as goal
+
+pub index-first-requires : goal.index-first-requires
+index-first-requires g c =
+    let here = c.args.here.now in
+    let x = here.family.now in
+    omega (
+      arith,
+      some_vectors x c.requires.here.valid here.site.0 c.requires.here.site.1,
+      order_count x here.site.0 here.base.now.order.items c.requires.here.base.order g.S.Score.ends here.depot.now c.requires.here.valid g.met.S.Score.leaves_room c.requires.here.depot c.requires.here.site,
+      here.base.now.order.ok.0,
+    )
+
+pub spot_at-spot-requires-clause-choice : goal.spot_at-spot-requires-clause-choice
+spot_at-spot-requires-clause-choice g c =
+    let here = c.args.here.now in
+    let x = here.family.now in
+    let some : 0 < length here.base.now.order.items = omega (
+      arith,
+      some_vectors x c.requires.here.valid here.site.0 c.requires.here.site.1,
+      order_count x here.site.0 here.base.now.order.items c.requires.here.base.order g.S.Score.ends here.depot.now c.requires.here.valid g.met.S.Score.leaves_room c.requires.here.depot c.requires.here.site,
+    ) in
+    subst (IsChoice x here.site.0) (sym c.index-first.ensures) (c.requires.here.base.order.choices 0 c.index-first.result.now some)
+
+pub returns-clause-upper : goal.returns-clause-upper
+returns-clause-upper g c =
+    let here = c.args.here.now in
+    let x = here.family.now in
+    let some : 0 < length here.base.now.order.items = omega (
+      arith,
+      some_vectors x c.requires.here.valid here.site.0 c.requires.here.site.1,
+      order_count x here.site.0 here.base.now.order.items c.requires.here.base.order g.S.Score.ends here.depot.now c.requires.here.valid g.met.S.Score.leaves_room c.requires.here.depot c.requires.here.site,
+    ) in
+    upper_of_choice x c.requires.here.valid here.site.0 here.base.now.order.items c.requires.here.base.order g.S.Score.ends here.depot.now c.requires.here.site
+    c.index-first.result.now c.hi.result some c.index-first.ensures (c.hi.ensures ∙ ap (λ (p : Point). p.hi) c.spot_at-spot.ensures)
+
+pub returns-clause-most : goal.returns-clause-most
+returns-clause-most g c =
+    let here = c.args.here.now in
+    let x = here.family.now in
+    let some : 0 < length here.base.now.order.items = omega (
+      arith,
+      some_vectors x c.requires.here.valid here.site.0 c.requires.here.site.1,
+      order_count x here.site.0 here.base.now.order.items c.requires.here.base.order g.S.Score.ends here.depot.now c.requires.here.valid g.met.S.Score.leaves_room c.requires.here.depot c.requires.here.site,
+    ) in
+    let choice = subst (IsChoice x here.site.0) (sym c.index-first.ensures) (c.requires.here.base.order.choices 0 c.index-first.result.now some) in
+    let r : InRange (spot_point c.spot_at-spot.result) = subst InRange (sym c.spot_at-spot.ensures)
+    (choice_range x c.requires.here.valid here.site.0 c.index-first.result.now choice c.requires.here.site g.S.Score.ends g.met.S.Score.leaves_room here.depot.now c.requires.here.depot) in
+    let h = r.hi in omega (arith, c.hi.ensures, h)

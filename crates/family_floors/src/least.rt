@@ -1,0 +1,251 @@
+//! Whether the Lagrangian of each vector of a family reaches a floor at one price, without a curve: for given stocks at
+//! the depot, the least Lagrangian is their cost at the price plus the least of each base.
+
+ghost use Rattle.std.specs.Prelude.{◌≡◌, ◌+◌, ◌-◌, ◌*◌, ◌^◌, ◌<◌, ◌≤◌, ◌∷◌, IfOk, drop, flat_map, length, map, nat_le};
+ghost use Rattle.demand_rates.specs.Rates.{AreRatesOf};
+ghost use Rattle.family_eval.specs.Inputs.{IsLine};
+ghost use Rattle.hull.specs.Curves.{lagrangian};
+ghost use Rattle.family_points.specs.Inputs.{AreShopsAt, IsAt, line_stocks};
+ghost use Rattle.family_rows.specs.Sources.{AreSources};
+ghost use Rattle.family_floors.specs.Least.{IsLeast, LeastSeparates, Decides, least};
+ghost use Rattle.family_points.specs.Points.{AreOrdered, points_within};
+ghost use Rattle.family_points.specs.Separation.{base_points, depot_points};
+ghost use Rattle.family_points.specs.Choices.{IsChoice, choice_point};
+ghost use Rattle.family_rows.specs.Spots.{AreRows, IsBaseAt};
+ghost use Rattle.family_rows.specs.Tabled.{AreTables, numbers};
+
+use crate::lows::low_at_depot;
+use answers::NoMemory;
+use demand_rates::kinds::Rates;
+use family_points::bounds::Bounds;
+use family_points::family::{Family, joined};
+use family_points::order::Choice;
+use family_rows::base::{put_rows, spot_at};
+use family_rows::base_at::BaseAt;
+use family_rows::depot::{DepotTables, depot_tables};
+use family_rows::sources::Sources;
+use family_tables::Evaluator;
+use hull::{Price, Score, Spot};
+use series_bounds::short::Iv64;
+use spares_input::{Case, PartId, SiteId};
+use std::alloc::Global;
+
+/// The Lagrangian of a choice at a base, by the base's rows.
+fn value_at<S: Score>(
+    here: &BaseAt<'_, '_>,
+    score: &S,
+    rows: &[Vec<Iv64<48>>],
+    choice: &Choice,
+    price: Price,
+) -> u128
+    requires here { IsBaseAt here.now }
+    requires rows { AreRows here.now (map (λ r. r.items) rows.now) }
+    requires choice { IsChoice here.now.family.now here.now.site.0 choice.now }
+    requires most_money { price.q ≤ 1000000000000 }
+    requires price { price.p ≤ 2 ^ 74 }
+    ensures value { result ≡ lagrangian price.p price.q
+        (choice_point here.now.family.now S.ends here.now.depot.now here.now.site.0 choice.now) }
+    ensures most { result ≤ 2 ^ 115 }
+{
+    let spot = spot_at(here, score, rows, choice);
+    u128::from(price.q) * spot.lo() + price.p * u128::from(spot.cost())
+}
+
+/// The least Lagrangian of a base's choices, by its rows.
+fn least_of_choices<S: Score>(
+    here: &BaseAt<'_, '_>,
+    score: &S,
+    rows: &[Vec<Iv64<48>>],
+    price: Price,
+) -> u128
+    requires here { IsBaseAt here.now }
+    requires rows { AreRows here.now (map (λ r. r.items) rows.now) }
+    requires some { 0 < length here.now.base.now.order.items }
+    requires most_money { price.q ≤ 1000000000000 }
+    requires price { price.p ≤ 2 ^ 74 }
+    ensures least { IsLeast price.p price.q (map
+        (choice_point here.now.family.now S.ends here.now.depot.now here.now.site.0)
+        here.now.base.now.order.items) result }
+    ensures most { result ≤ 2 ^ 115 }
+{
+    let first = &here.base.order[0];
+    let mut least = value_at(here, score, rows, first, price);
+    for n in 1..here.base.order.len() {
+        let choice = &here.base.order[n];
+        let value = value_at(here, score, rows, choice, price);
+        least = least.min(value);
+    }
+    least
+}
+
+/// The least Lagrangian of a base's vectors; sets `rows` to its backorders.
+fn least_at_base<S: Score>(
+    rows: &mut Vec<Vec<Iv64<48>>>,
+    here: &BaseAt<'_, '_>,
+    score: &S,
+    evaluator: &Evaluator<48>,
+    tables: &DepotTables<'_>,
+    price: Price,
+) -> Result<u128, NoMemory>
+    requires here { IsBaseAt here.now }
+    requires evaluator { evaluator.now.numbers ≡ numbers here.now.family.now }
+    requires tables { AreTables evaluator.now.numbers (drop 1 here.now.depot.now) tables.now }
+    requires most_money { price.q ≤ 1000000000000 }
+    requires price { price.p ≤ 2 ^ 74 }
+    ensures least { IfOk result (let x = here.now.family.now in IsLeast price.p price.q
+        (base_points x.case x.line S.ends x.held x.low x.high here.now.depot.now here.now.site.0)) }
+    ensures most { IfOk result (λ least. least ≤ 2 ^ 115) }
+{
+    put_rows(rows, here, evaluator, tables)?;
+    let count = here.base.shops.len();
+    Ok(least_of_choices(here, score, &rows.as_slice()[..count], price))
+}
+
+/// The least Lagrangian of the vectors with these stocks at the depot.
+fn least_at_depot<S: Score>(
+    rows: &mut Vec<Vec<Iv64<48>>>,
+    sources: &Sources<'_>,
+    score: &S,
+    tables: &DepotTables<'_>,
+    depot: &[u8],
+    price: Price,
+) -> Result<u128, NoMemory>
+    requires sources { AreSources sources.now }
+    requires depot { IsAt sources.now.family.now 0 depot.now }
+    requires tables { AreTables sources.now.evaluator.numbers (drop 1 depot.now) tables.now }
+    requires most_money { price.q ≤ 1000000000000 }
+    requires price { price.p ≤ 2 ^ 74 }
+    ensures { IfOk result (let x = sources.now.family.now in IsLeast price.p price.q
+        (depot_points x.case x.line S.ends x.held x.low x.high depot.now)) }
+{
+    let _size = sources.family.size();
+    let mut least = price.p * u128::from(sources.family.cost(SiteId(0), depot));
+    for j in 1..sources.family.sites() {
+        let base = &sources.bases[usize::from(j) - 1];
+        let here = BaseAt::of(sources.family, depot, SiteId(j), base);
+        least += least_at_base(rows, &here, score, &sources.evaluator, tables, price)?;
+    }
+    Ok(least)
+}
+
+/// Whether the Lagrangian of each vector with these stocks at the depot reaches the floor. If the lower bounds do, no
+/// backorders are computed.
+fn depot_is_at_least<S: Score>(
+    rows: &mut Vec<Vec<Iv64<48>>>,
+    sources: &Sources<'_>,
+    score: &S,
+    tables: &DepotTables<'_>,
+    depot: &[u8],
+    price: Price,
+    floor: u128,
+) -> Result<bool, NoMemory>
+    requires sources { AreSources sources.now }
+    requires depot { IsAt sources.now.family.now 0 depot.now }
+    requires tables { AreTables sources.now.evaluator.numbers (drop 1 depot.now) tables.now }
+    requires most_money { price.q ≤ 1000000000000 }
+    requires price { price.p ≤ 2 ^ 74 }
+    ensures { IfOk result (let x = sources.now.family.now in Decides price.p price.q floor
+        (depot_points x.case x.line S.ends x.held x.low x.high depot.now)) }
+{
+    let low = low_at_depot(sources, score, tables, depot, price);
+    if floor <= low {
+        return Ok(true);
+    }
+    let least = least_at_depot(rows, sources, score, tables, depot, price)?;
+    Ok(floor <= least)
+}
+
+/// Whether the Lagrangian of each vector whose shop units have these stocks at the depot reaches the floor.
+fn are_at_least<S: Score>(
+    alloc: Global,
+    rows: &mut Vec<Vec<Iv64<48>>>,
+    sources: &Sources<'_>,
+    score: &S,
+    depot: &[u8],
+    price: Price,
+    floor: u128,
+) -> Result<bool, NoMemory>
+    requires sources { AreSources sources.now }
+    requires depot { AreShopsAt sources.now.family.now 0 depot.now }
+    requires most_money { price.q ≤ 1000000000000 }
+    requires price { price.p ≤ 2 ^ 74 }
+    ensures { IfOk result (let x = sources.now.family.now in Decides price.p price.q floor
+        (flat_map (λ s. depot_points x.case x.line S.ends x.held x.low x.high (s ∷ depot.now)) (line_stocks x 0))) }
+{
+    let family = sources.family;
+    let _size = family.size();
+    let tables = depot_tables(sources, depot)?;
+    let low = family.line_low(SiteId(0));
+    let high = family.line_high(SiteId(0));
+    for s in low..high + 1 {
+        let stocks = joined(alloc, s, depot)?;
+        let at_depot = stocks.as_slice();
+        if !depot_is_at_least(rows, sources, score, &tables, at_depot, price, floor)? {
+            return Ok(false);
+        }
+    }
+    Ok(true)
+}
+
+/// Whether the Lagrangian of each vector of a family within its bounds reaches the floor.
+fn all_are_at_least<S: Score>(
+    alloc: Global,
+    sources: &Sources<'_>,
+    score: &S,
+    price: Price,
+    floor: u128,
+) -> Result<bool, NoMemory>
+    requires sources { AreSources sources.now }
+    requires most_money { price.q ≤ 1000000000000 }
+    requires price { price.p ≤ 2 ^ 74 }
+    ensures { IfOk result (let x = sources.now.family.now in
+        Decides price.p price.q floor (points_within x.case x.line S.ends x.held x.low x.high)) }
+{
+    let family = sources.family;
+    let _size = family.size();
+    let mut rows = Vec::new(alloc);
+    let depot = SiteId(0);
+    let count = family.shop_count(depot);
+    for n in 0..count {
+        let stocks = family.shop_vector(alloc, depot, n)?;
+        let at_depot = stocks.as_slice();
+        if !are_at_least(alloc, &mut rows, sources, score, at_depot, price, floor)? {
+            return Ok(false);
+        }
+    }
+    Ok(true)
+}
+
+/// Whether the Lagrangian of each vector of a box reaches a floor at a price, for the family of a line unit: whether
+/// the floor is at most the least of them. The floor is in units of 2^-48 times the price's `q`. Want of memory is the
+/// only error.
+pub fn is_at_least<S: Score>(
+    alloc: Global,
+    case: &Case,
+    rates: &Rates,
+    line: PartId,
+    bounds: &Bounds,
+    price: Price,
+    floor: u128,
+    score: &S,
+) -> Result<bool, NoMemory>
+    requires rates { AreRatesOf case.now rates.now }
+    requires line { IsLine case.now line.0 }
+    requires ordered { AreOrdered case.now line.0 bounds.now.held bounds.now.low bounds.now.high }
+    requires most_money { price.q ≤ 1000000000000 }
+    requires price { price.p ≤ 2 ^ 74 }
+    ensures { IfOk result (λ answer. answer ≡ nat_le floor (least (lagrangian price.p price.q)
+        (points_within case.now line.0 S.ends bounds.now.held bounds.now.low bounds.now.high))) }
+{
+    let _sites = case.site_count();
+    let family = Family::of(case, rates, line, bounds);
+    let sources = Sources::of(alloc, &family)?;
+    let answer = all_are_at_least(alloc, &sources, score, price, floor)?;
+    Ok(answer)
+}
+
+/// The least Lagrangian of a box at a price is the least, over the depot's stocks, of their cost at the price plus the
+/// least of each base.
+pub fn least_separates()
+    ensures { LeastSeparates }
+{}

@@ -1,0 +1,10 @@
+//! Whether the Lagrangian of each vector of a family reaches a floor at one price, and the upper end of a vector's
+//! score. Neither needs a curve.
+#![tactic(auto)]
+
+mod least;
+mod lows;
+mod upper;
+
+pub use least::{is_at_least, least_separates};
+pub use upper::upper_within;

@@ -1,0 +1,99 @@
+//! The upper end of a vector's score, without a curve: the sum of its bases' upper ends.
+
+ghost use Rattle.std.specs.Prelude.{◌≡◌, ◌*◌, ◌^◌, ◌≤◌, IfOk, drop};
+ghost use Rattle.demand_rates.specs.Rates.{AreRatesOf};
+ghost use Rattle.family_eval.specs.Inputs.{IsLine};
+ghost use Rattle.family_points.specs.Inputs.{IsAt};
+ghost use Rattle.family_rows.specs.Sources.{AreSources};
+ghost use Rattle.family_points.specs.Points.{AreOrdered, HasUpper, points_within};
+ghost use Rattle.family_points.specs.Separation.{base_points, depot_points};
+ghost use Rattle.family_rows.specs.Spots.{IsBaseAt};
+ghost use Rattle.family_rows.specs.Tabled.{AreTables, numbers};
+
+use answers::NoMemory;
+use demand_rates::kinds::Rates;
+use family_points::bounds::Bounds;
+use family_points::family::{Family, shops_of};
+use family_rows::base::{put_rows, spot_at};
+use family_rows::base_at::BaseAt;
+use family_rows::depot::{DepotTables, depot_tables};
+use family_rows::sources::Sources;
+use family_tables::Evaluator;
+use hull::{Score, Spot};
+use series_bounds::short::Iv64;
+use spares_input::{Case, PartId, SiteId};
+use std::alloc::Global;
+
+/// The upper end of the first choice at a base.
+fn upper_at_base<S: Score>(
+    rows: &mut Vec<Vec<Iv64<48>>>,
+    here: &BaseAt<'_, '_>,
+    score: &S,
+    evaluator: &Evaluator<48>,
+    tables: &DepotTables<'_>,
+) -> Result<u128, NoMemory>
+    requires here { IsBaseAt here.now }
+    requires evaluator { evaluator.now.numbers ≡ numbers here.now.family.now }
+    requires tables { AreTables evaluator.now.numbers (drop 1 here.now.depot.now) tables.now }
+    ensures upper { IfOk result (let x = here.now.family.now in
+        HasUpper (base_points x.case x.line S.ends x.held x.low x.high here.now.depot.now here.now.site.0)) }
+    ensures most { IfOk result (λ hi. hi ≤ 2 ^ 74) }
+{
+    put_rows(rows, here, evaluator, tables)?;
+    let count = here.base.shops.len();
+    let first = &here.base.order[0];
+    let spot = spot_at(here, score, &rows.as_slice()[..count], first);
+    Ok(spot.hi())
+}
+
+/// The upper end of one of the vectors that have these stocks at the depot.
+fn upper_at_depot<S: Score>(
+    alloc: Global,
+    sources: &Sources<'_>,
+    score: &S,
+    tables: &DepotTables<'_>,
+    depot: &[u8],
+) -> Result<u128, NoMemory>
+    requires sources { AreSources sources.now }
+    requires depot { IsAt sources.now.family.now 0 depot.now }
+    requires tables { AreTables sources.now.evaluator.numbers (drop 1 depot.now) tables.now }
+    ensures upper { IfOk result (let x = sources.now.family.now in
+        HasUpper (depot_points x.case x.line S.ends x.held x.low x.high depot.now)) }
+    ensures most { IfOk result (λ hi. hi ≤ 16 * 2 ^ 74) }
+{
+    let _size = sources.family.size();
+    let mut rows = Vec::new(alloc);
+    let mut upper = 0;
+    for j in 1..sources.family.sites() {
+        let base = &sources.bases[usize::from(j) - 1];
+        let here = BaseAt::of(sources.family, depot, SiteId(j), base);
+        upper += upper_at_base(&mut rows, &here, score, &sources.evaluator, tables)?;
+    }
+    Ok(upper)
+}
+
+/// The upper end of one of the vectors of a box of the family of a line unit, in units of 2^-48. If the box has one
+/// vector alone, the upper end is that vector's. Want of memory is the only error.
+pub fn upper_within<S: Score>(
+    alloc: Global,
+    case: &Case,
+    rates: &Rates,
+    line: PartId,
+    bounds: &Bounds,
+    score: &S,
+) -> Result<u128, NoMemory>
+    requires rates { AreRatesOf case.now rates.now }
+    requires line { IsLine case.now line.0 }
+    requires ordered { AreOrdered case.now line.0 bounds.now.held bounds.now.low bounds.now.high }
+    ensures upper { IfOk result (HasUpper
+        (points_within case.now line.0 S.ends bounds.now.held bounds.now.low bounds.now.high)) }
+    ensures most { IfOk result (λ hi. hi ≤ 16 * 2 ^ 74) }
+{
+    let family = Family::of(case, rates, line, bounds);
+    let _size = family.size();
+    let sources = Sources::of(alloc, &family)?;
+    let depot = family.low(SiteId(0));
+    let tables = depot_tables(&sources, shops_of(depot))?;
+    let upper = upper_at_depot(alloc, &sources, score, &tables, depot)?;
+    Ok(upper)
+}

@@ -1,0 +1,22 @@
+use Rattle.std.proofs.Common.{◌*◌, ◌<◌, length, sym, ap, ◌∙◌, subst, arith}
+use Rattle.family_points.specs.Boxes.{IsBox}
+use Rattle.family_points.specs.Inputs.{FamilyBox, low_at, high_at}
+use Rattle.family_points.proofs.Bounded.{box_at, few_members, ids_long, part_within, high_long}
+use Rattle.family_points.proofs.family.Family.high.Goals as goal
+
+pub part_of-requires-clause-few : goal.part_of-requires-clause-few
+part_of-requires-clause-few c =
+    let few = few_members c.self.inside.case.now c.self.inside.line.0 c.self.invariant.0.valid c.self.invariant.0.is_line in
+    omega (arith, ids_long c.self.inside.case.now c.self.inside.line.0 c.self.inside.members.now c.self.invariant.1, few)
+
+pub part_of-requires-clause-within : goal.part_of-requires-clause-within
+part_of-requires-clause-within c =
+    let site = subst (λ (x : FamilyBox). c.args.site.0 < length x.case.sites) (sym c.self.view_is) c.requires in
+    let long = ids_long c.self.inside.case.now c.self.inside.line.0 c.self.inside.members.now c.self.invariant.1 in
+    part_within c.args.site.0 (length c.self.inside.case.now.sites) (length c.self.inside.members.now) _ site
+    (ap length c.as_slice.ensures ∙ high_long _ c.self.invariant.0 ∙ ap (λ n. length c.self.inside.case.now.sites * n) (sym long))
+
+pub returns-clause-bounds : goal.returns-clause-bounds
+returns-clause-bounds c =
+    let site = subst (λ (x : FamilyBox). c.args.site.0 < length x.case.sites) (sym c.self.view_is) c.requires in
+    subst (λ (x : FamilyBox). IsBox (low_at x c.args.site.0) (high_at x c.args.site.0)) c.self.view_is (box_at _ c.args.site.0 c.self.invariant.0 site)

@@ -1,0 +1,5 @@
+use Rattle.family_points.proofs.Stands.{vector_stands}
+use Rattle.family_points.proofs.laws.vectors_stand.Goals as goal
+
+pub returns : goal.returns
+returns c = vector_stands

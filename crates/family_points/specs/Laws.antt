@@ -1,0 +1,29 @@
+-- Laws of families' points.
+use Rattle.std.specs.Prelude.{◌≡◌, ◌≤◌, ℕ, List, length}
+use Rattle.spares_input.specs.Cases.{CaseRows, IsCase}
+use Rattle.family_eval.specs.Inputs.{IsLine}
+use Rattle.family_points.specs.Points.{ScoreEnds, points_within, AreOrdered}
+use Rattle.family_points.specs.Vectors.{limits, places, stocks_with, vector_of, vectors, zeros}
+use Rattle.family_points.specs.Counts.{choices_of, tables_between}
+use Rattle.family_points.specs.Separation.{separated}
+
+-- the points of all vectors are the sums of the depot's point and a point of each base, for each choice at the depot
+abbrev pub Separates : Type 0
+Separates =
+    (c : CaseRows) (l : ℕ) (ends : ScoreEnds) (held low high : List ℕ) → IsCase c → IsLine c l
+    → AreOrdered c l held low high
+    → separated c l ends held low high ≡ points_within c l ends held low high
+
+-- the choices of a family count its vectors
+abbrev pub ChoicesAreVectors : Type 0
+ChoicesAreVectors = (c : CaseRows) (l : ℕ) → IsCase c → choices_of c l ≡ length (vectors (zeros c l) (limits c l))
+
+-- a box of a single vector takes few tables
+abbrev pub OneVectorTakesFew : Type 0
+OneVectorTakesFew = (c : CaseRows) (l : ℕ) (v : List ℕ) → IsCase c → IsLine c l → tables_between c l v v ≤ 144
+
+-- the stocks made of a vector have it at the places of its family
+abbrev pub VectorsStand : Type 0
+VectorsStand =
+    (c : CaseRows) (l : ℕ) (v : List ℕ) → IsCase c → IsLine c l → length v ≡ length (places c l)
+    → vector_of c l (stocks_with c l v) ≡ v

@@ -1,0 +1,10 @@
+pub mod Vectors
+pub mod Points
+pub mod Counts
+pub mod Separation
+pub mod Laws
+pub mod Boxes
+pub mod Inputs
+pub mod Turned
+pub mod Local
+pub mod Choices

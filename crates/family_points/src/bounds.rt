@@ -1,0 +1,45 @@
+//! Bounds of vectors.
+
+ghost use Rattle.std.specs.Prelude.{◌≡◌, IfOk};
+ghost use Rattle.family_eval.specs.Inputs.{IsLine};
+ghost use Rattle.family_points.specs.Vectors.{limits, zeros};
+
+use crate::places::limits_of;
+use answers::{List, NoMemory};
+use spares_input::{Case, PartId};
+use std::alloc::Global;
+
+/// The vectors of a family that a curve considers, and the stocks that are held already and cost nothing. The lists are
+/// in the order of a vector: site by site, the depot first, and at each site the line unit and then its shop units in
+/// part order.
+#[derive(Debug, Drop)]
+pub struct Bounds {
+    /// The stocks held already.
+    pub held: List<u8>,
+    /// The least stock of each place.
+    pub low: List<u8>,
+    /// The most stock of each place.
+    pub high: List<u8>,
+}
+
+impl Bounds {
+    /// All vectors of the family of a line unit, with nothing held.
+    pub fn whole(alloc: Global, case: &Case, line: PartId) -> Result<Bounds, NoMemory>
+        requires { IsLine case.now line.0 }
+        ensures { IfOk result (λ bounds. bounds ≡ record {
+          held = zeros case.now line.0;
+          low = zeros case.now line.0;
+          high = limits case.now line.0;
+        }) }
+    {
+        let high = limits_of(alloc, case, line)?;
+        let places = high.as_slice().len();
+        let held = vec![in alloc; 0; places]?;
+        let low = vec![in alloc; 0; places]?;
+        Ok(Bounds {
+            held: List::of(held),
+            low: List::of(low),
+            high,
+        })
+    }
+}

@@ -1,0 +1,31 @@
+-- The tables from which the points of a family are made. No promise of the crate rests on these words.
+use Rattle.std.specs.Prelude.{◌≡◌, ℕ, ◌-◌, ◌≤◌, List, drop, length, map}
+use Rattle.std.specs.List.{All}
+use Rattle.moment_table.specs.Rows.{TableRows}
+use Rattle.family_tables.specs.declared.own_part.OwnPart.{OwnPart}
+use Rattle.family_tables.specs.BaseTables.{HaveShops}
+use Rattle.family_tables.specs.Numbers.{FamilyNumbers, depot_line_table, depot_shop_table, nth_stock, numbers_of, own_part, shop_numbers}
+use Rattle.family_rows.specs.declared.depot.DepotTables.{DepotTables}
+use Rattle.family_points.specs.Inputs.{FamilyBox}
+
+-- the numbers of the family at 48 fraction bits, from which its tables are made
+abbrev pub numbers : FamilyBox → FamilyNumbers 48
+numbers x = numbers_of 48 x.case x.line
+
+-- a stock for each shop unit
+pub record AreShopStocks (n : FamilyNumbers 48) (v : List ℕ) : Type 0 where
+  pub count : length v ≡ length n.parts - 1
+  pub small : All (λ s. s ≤ 63) v
+
+-- the tables of the shop units at the depot
+abbrev pub depot_shops : FamilyNumbers 48 → List (TableRows 48)
+depot_shops n = map (λ i. depot_shop_table 48 n i) (shop_numbers n)
+
+-- the tables shared by all vectors with these stocks of the shop units at the depot
+pub record AreTables (n : FamilyNumbers 48) (d : List ℕ) (t : DepotTables) : Type 0 where
+  pub line : t.line ≡ depot_line_table 48 n d
+  pub shops : HaveShops 48 n d t.shops.now
+
+-- the own part of the line unit's pipeline at base j, if the depot has the stocks d
+abbrev pub own_at : FamilyNumbers 48 → List ℕ → ℕ → OwnPart 48
+own_at n d j = own_part 48 n j (nth_stock d 0) (drop 1 d)
