@@ -13,8 +13,8 @@ use Rattle.price_certificate.specs.declared.certificate.Node.{Node}
 use Rattle.price_certificate.specs.Covers.{places_of}
 use Rattle.price_certificate.specs.Certificates.{IsNode, cert_text, certificate_limit}
 use Rattle.price_certificate.specs.Grammar.{certificate_format}
-use Rattle.on_hand.specs.declared.held.HeldCertificate.{HeldCertificate}
-use Rattle.on_hand.specs.Held.{held_format, held_text}
+use Rattle.held_certificate.specs.declared.held.HeldCertificate.{HeldCertificate}
+use Rattle.held_certificate.specs.Held.{held_format, held_text}
 use Rattle.price_certificate.specs.declared.certificate.Terms.{Terms}
 use Rattle.certified_plan.specs.Certificates.{cover_at, covers_of, certificate_of, claims_of}
 use Rattle.certified_plan.specs.Inputs.{IsHeld}

@@ -29,9 +29,9 @@ use Rattle.price_certificate.specs.declared.certificate.Node.TheVariants as node
 use Rattle.price_certificate.specs.Grammar.{objective_fields, objective_line, budget_line, price_fields, price_line, family_count, floors, split_fields, node_line, cover, covers, stocks, certificate_format}
 use Rattle.price_certificate.specs.Certificates.{IsNode, IsWellFormed}
 use Rattle.price_certificate.proofs.Fits.{objective_at, covers_at}
-use Rattle.on_hand.specs.declared.held.HeldCertificate.{HeldCertificate}
-use Rattle.on_hand.specs.Held as held
-use Rattle.on_hand.specs.Held.{held_format}
+use Rattle.held_certificate.specs.declared.held.HeldCertificate.{HeldCertificate}
+use Rattle.held_certificate.specs.Held as held
+use Rattle.held_certificate.specs.Held.{held_format}
 use lib.Chars.{codes}
 use Rattle.certified_plan.proofs.Widths.{width, both_most, token_most, line_most, digits_most, places_most, number_if_most, fixed_if_most, count_most, number_most, each_most, counted_most}
 

@@ -10,7 +10,7 @@ use Rattle.price_certificate.specs.declared.certificate.Certificate.{Certificate
 use Rattle.price_certificate.specs.declared.certificate.Node.{Node}
 use Rattle.price_certificate.specs.Covers.{places_of, trimmed, nodes_of}
 use Rattle.price_certificate.specs.Certificates.{cert_text}
-use Rattle.on_hand.specs.Held.{held_text}
+use Rattle.held_certificate.specs.Held.{held_text}
 use Rattle.price_certificate.specs.declared.certificate.Terms.{Terms}
 use Rattle.certified_plan.specs.declared.terms.PlanClaims.{PlanClaims}
 

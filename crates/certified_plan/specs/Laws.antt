@@ -9,7 +9,7 @@ use Rattle.price_certificate.specs.declared.certificate.Objective.{Objective}
 use Rattle.price_certificate.specs.declared.certificate.Certificate.{Certificate}
 use Rattle.price_certificate.specs.Certificates.{IsWellFormed, cert_text, certificate_limit}
 use Rattle.gap_checker.specs.Refusals.{reject_of}
-use Rattle.on_hand.specs.Held.{held_text}
+use Rattle.held_certificate.specs.Held.{held_text}
 use Rattle.price_certificate.specs.declared.certificate.Terms.{Terms}
 use Rattle.gap_checker.specs.Scores.{ends_of, value_of}
 use Rattle.certified_plan.specs.Inputs.{AreTerms, IsHeld, AreClaims, IsWithinWork}

@@ -2,11 +2,11 @@
 
 ghost use Rattle.std.specs.Prelude.{◌≡◌, IfOk, IfSome};
 ghost use Rattle.price_certificate.specs.Certificates.{IsWellFormed};
-ghost use Rattle.on_hand.specs.Held.{IsWellHeld};
+ghost use Rattle.held_certificate.specs.Held.{IsWellHeld};
 ghost use Rattle.certified_plan.specs.Certificates.{text_of};
 
 use answers::NoMemory;
-use on_hand::HeldCertificate;
+use held_certificate::HeldCertificate;
 use price_certificate::Certificate;
 use spares_input::Stocks;
 use std::alloc::Global;
@@ -23,6 +23,6 @@ pub fn certificate_text(
 {
     match held {
         None => price_certificate::text(alloc, &certificate),
-        Some(held) => on_hand::text(alloc, &HeldCertificate { certificate, held }),
+        Some(held) => held_certificate::text(alloc, &HeldCertificate { certificate, held }),
     }
 }

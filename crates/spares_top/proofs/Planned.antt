@@ -28,10 +28,10 @@ use Rattle.price_certificate.specs.declared.certificate.Objective.{Objective}
 use Rattle.price_certificate.specs.declared.certificate.Objective.TheVariants.{Backorders}
 use Rattle.on_hand.specs.Work.{IsNothing, held_work_of}
 use Rattle.family_points.specs.Points.{ScoreEnds}
-use Rattle.on_hand.specs.Held.{IsWellHeld, held_text}
-use Rattle.on_hand.specs.declared.held.HeldCertificate.{HeldCertificate}
-use Rattle.on_hand.proofs.Inverse as held_inverse
-use Rattle.on_hand.proofs.Refused.{held_form, plain_form}
+use Rattle.held_certificate.specs.Held.{IsWellHeld, held_text}
+use Rattle.held_certificate.specs.declared.held.HeldCertificate.{HeldCertificate}
+use Rattle.held_certificate.proofs.Inverse as held_inverse
+use Rattle.held_certificate.proofs.Refused.{held_form, plain_form}
 use Rattle.price_certificate.specs.Certificates.{IsWellFormed, cert_text, certificate_limit}
 use Rattle.price_certificate.specs.declared.certificate.Certificate.{Certificate}
 use Rattle.price_certificate.proofs.Inverse.{again}

@@ -5,8 +5,8 @@ use Rattle.gap_checker.specs.Scores.{ends_of}
 use Rattle.gap_checker.specs.Refusals.{cost_above, judged}
 use Rattle.gap_checker.specs.declared.refusal.Accepted.{Accepted}
 use Rattle.gap_checker.specs.declared.refusal.Reject.{Reject}
-use Rattle.on_hand.specs.Held.{held_of, is_held_form}
-use Rattle.on_hand.specs.declared.held.HeldCertificate.{HeldCertificate}
+use Rattle.held_certificate.specs.Held.{held_of, is_held_form}
+use Rattle.held_certificate.specs.declared.held.HeldCertificate.{HeldCertificate}
 use Rattle.plan_report.specs.declared.check.CheckReport.{CheckReport}
 use Rattle.price_certificate.specs.Certificates.{cert_of}
 use Rattle.price_certificate.specs.declared.certificate.Certificate.{Certificate}

@@ -2,7 +2,7 @@
 ghost use Rattle.std.specs.Prelude.{◌≡◌, ◌≤◌, IfOk, length};
 ghost use Rattle.gap_checker.specs.Scores.{ends_of};
 ghost use Rattle.gap_checker.specs.Refusals.{judged};
-ghost use Rattle.on_hand.specs.Held.{held_of};
+ghost use Rattle.held_certificate.specs.Held.{held_of};
 ghost use Rattle.price_certificate.specs.Certificates.{cert_of, certificate_limit};
 ghost use Rattle.answers.specs.Answers.{Gives};
 ghost use Rattle.spares_top.specs.Checks.{check_of, form_of, with_held, with_nothing};
@@ -35,7 +35,7 @@ fn held_claim(alloc: Global, bytes: &[u8]) -> Result<Claim, Stop<Failure>>
     ensures answer { TellsClaim (with_held (held_of bytes.now)) result }
     ensures claim { IfOk result IsClaim }
 {
-    match on_hand::read(alloc, bytes) {
+    match held_certificate::read(alloc, bytes) {
         Ok(read) => Ok(Claim {
             certificate: read.certificate,
             held: read.held,
@@ -73,7 +73,7 @@ fn claim_of(alloc: Global, bytes: &[u8]) -> Result<Claim, Stop<Failure>>
     ensures answer { TellsClaim (form_of bytes.now) result }
     ensures claim { IfOk result IsClaim }
 {
-    if on_hand::is_held_form(bytes) {
+    if held_certificate::is_held_form(bytes) {
         held_claim(alloc, bytes)
     } else {
         plain_claim(alloc, bytes)

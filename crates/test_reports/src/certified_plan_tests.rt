@@ -7,7 +7,7 @@ ghost use Rattle.certified_plan.specs.Inputs.{IsHeld};
 
 use answers::NoMemory;
 use certified_plan::{PlanClaims, certificate, certificate_text};
-use on_hand::HeldCertificate;
+use held_certificate::HeldCertificate;
 use price_certificate::{Certificate, Objective, Terms};
 use spares_input::{Stocks, nothing_held};
 use std::alloc::Global;
@@ -97,7 +97,7 @@ fn held_again(alloc: Global, bytes: &[u8]) -> Option<Vec<u8>> {
     if bytes.len() > 16_777_216 {
         return None;
     }
-    let Ok(read) = on_hand::read(alloc, bytes) else {
+    let Ok(read) = held_certificate::read(alloc, bytes) else {
         return None;
     };
     let HeldCertificate { certificate, held } = read;

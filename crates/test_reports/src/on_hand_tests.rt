@@ -1,7 +1,8 @@
 //! Held certificates, read, and the work from their held stocks.
 
 use answers::Stop;
-use on_hand::{held_work, read};
+use held_certificate::read;
+use on_hand::held_work;
 use price_certificate::CertFault;
 use spares_input::CaseFault;
 use std::alloc::Global;

@@ -1,0 +1,4 @@
+pub mod Exact
+pub mod Inverse
+pub mod Found
+pub mod Refused

@@ -1,8 +1,0 @@
-use Rattle.std.proofs.Common.{◌≡◌, ◌++◌, length}
-use Rattle.line_text.proofs.Loops.{text_from}
-use Rattle.spares_input.specs.Cases.{CaseRows}
-use Rattle.on_hand.specs.Held.{held_line}
-use Rattle.on_hand.proofs.writing.put_each_held.Given as goal
-
-abbrev pub invariant-loop-k : goal.invariant-loop-k
-invariant-loop-k l = (c : CaseRows) → l.out.items ++ text_from (λ _ i. held_line c i) l.list (length l.list) l.k ≡ l.fn.out.items ++ text_from (λ _ i. held_line c i) l.list (length l.list) 0
