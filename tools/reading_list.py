@@ -66,7 +66,8 @@ LISTS = [
             family_points Points Vectors
             price_certificate Grammar Certificates
             gap_checker Refusals Scores
-            on_hand Held Work
+            held_certificate Held
+            held_work Work
             certified_plan Accepted Certificates Laws
         """),
     ),
@@ -125,14 +126,14 @@ STOPS = [
     (
         "the count of tables",
         "[MODEL](MODEL.md)",
-        [("family_points", "Counts", "work_of"), ("on_hand", "Work", "held_work_of")],
+        [("family_points", "Counts", "work_of"), ("held_work", "Work", "held_work_of")],
     ),
     (
         "a certificate's text, cover and rules",
         "[CERTIFICATE](CERTIFICATE.md)",
         [
             ("price_certificate", "Certificates", "cert_of"),
-            ("on_hand", "Held", "held_of"),
+            ("held_certificate", "Held", "held_of"),
             ("certified_plan", "Certificates", "certificate_of"),
             ("certified_plan", "Certificates", "text_of"),
             ("gap_checker", "Refusals", "reject_of"),

@@ -11,7 +11,7 @@ use Rattle.family_points.specs.Points.{ScoreEnds}
 use Rattle.step_walk.specs.Prefix.{curve_at, vertex_at}
 use Rattle.marginal_alloc.specs.Choice.{AreCurves}
 use Rattle.fleet_plan.specs.Families.{family_points, case_points}
-use Rattle.on_hand.specs.Curves.{IsFamilyCurve}
+use Rattle.held_work.specs.Curves.{IsFamilyCurve}
 use Rattle.case_plan.specs.Report.{AreFamilyCurves}
 
 -- ---- all families

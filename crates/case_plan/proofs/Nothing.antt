@@ -12,7 +12,7 @@ use Rattle.marginal_alloc.specs.Plans.{IsPlan}
 use Rattle.fleet_plan.specs.Families.{family_points, case_points, points_at}
 use Rattle.fleet_plan.specs.Plans.{CasePlan, IsCasePlan}
 use Rattle.fleet_plan.proofs.Lists.{map_among}
-use Rattle.on_hand.specs.Work.{IsNothing}
+use Rattle.held_work.specs.Work.{IsNothing}
 
 module _ (c : CaseRows) (held : List ℕ) (nothing : IsNothing held) where
   none_at : (i : ℕ) → get_or held i 0 ≡ 0

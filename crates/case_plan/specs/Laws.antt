@@ -13,7 +13,7 @@ use Rattle.fleet_plan.specs.Plans.{CasePlan, IsCasePlan}
 use Rattle.fleet_plan.specs.Laws.{IsAcceptedCase}
 use Rattle.plan_report.specs.Fits.{FitsPlan}
 use Rattle.plan_report.specs.declared.plan.PlanReport.{PlanReport}
-use Rattle.on_hand.specs.Work.{IsNothing}
+use Rattle.held_work.specs.Work.{IsNothing}
 use Rattle.case_plan.specs.Report.{AreFamilyCurves, IsPlanned, Terms}
 use Rattle.case_plan.specs.Truth.{IsTruePlanReport, IsTrueReport}
 

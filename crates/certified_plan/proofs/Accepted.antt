@@ -46,7 +46,7 @@ use Rattle.price_certificate.specs.declared.certificate.Terms.{Terms}
 use Rattle.gap_checker.specs.Scores as scores
 use Rattle.gap_checker.specs.Scores.{ends_of}
 use Rattle.certified_plan.specs.Certificates.{covers_of, certificate_of, claims_of}
-use Rattle.on_hand.specs.Work.{tables_from}
+use Rattle.held_work.specs.Work.{tables_from}
 use Rattle.certified_plan.specs.Inputs.{IsWithinWork}
 use Rattle.certified_plan.specs.Laws.{IsPlanOn}
 use Rattle.certified_plan.proofs.Corners.{Boxed, lawful_box}

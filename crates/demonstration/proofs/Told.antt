@@ -22,8 +22,8 @@ use Rattle.demand_rates.specs.Limits.{rate_fault_of}
 use Rattle.demo_accepts.proofs.FewTables.{all_few, work_few}
 use Rattle.fleet_plan.specs.Plans.{IsCasePlan}
 use Rattle.gap_checker.specs.Refusals.{reject_of}
-use Rattle.on_hand.specs.Work.{IsNothing, held_work_of}
-use Rattle.on_hand.proofs.Kept.{all_work}
+use Rattle.held_work.specs.Work.{IsNothing, held_work_of}
+use Rattle.held_work.proofs.Kept.{all_work}
 use Rattle.plan_report.specs.Fits.{FitsPlan, FitsSummary}
 use Rattle.plan_report.specs.declared.summary.Summary.{Summary}
 use Rattle.price_certificate.specs.Certificates.{cert_text, certificate_limit}

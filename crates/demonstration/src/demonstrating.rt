@@ -10,10 +10,11 @@ ghost use Rattle.price_certificate.specs.Certificates.{IsWellFormed};
 
 use crate::confirming::confirm;
 use answers::NoMemory;
-use case_plan::{Outcome, plan_case};
+use case_plan::Outcome;
 use certified_plan::{PlanClaims, certificate};
 use demo_accepts::demonstration;
 use hull::Plain;
+use on_hand::plan_case;
 use plan_report::Summary;
 use price_certificate::{Certificate, Objective, Terms};
 use spares_input::{Case, Stocks, nothing_held};

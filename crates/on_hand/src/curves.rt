@@ -8,8 +8,8 @@ ghost use Rattle.spares_input.specs.Stocks.{IsFor, IsWithinLimits};
 ghost use Rattle.fleet_model.specs.Rows.{line_units};
 ghost use Rattle.family_eval.specs.Inputs.{IsLine};
 ghost use Rattle.family_points.specs.Vectors.{limits, vector_of};
-ghost use Rattle.on_hand.specs.Work.{held_work_of};
-ghost use Rattle.on_hand.specs.Curves.{IsFamilyCurve};
+ghost use Rattle.held_work.specs.Work.{held_work_of};
+ghost use Rattle.held_work.specs.Curves.{IsFamilyCurve};
 
 use answers::NoMemory;
 use demand_rates::kinds::Rates;

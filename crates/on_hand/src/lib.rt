@@ -1,11 +1,10 @@
-//! Plans that begin with stocks on hand: the work and the curves from the held stocks to the limits.
+//! Plans that begin with stocks on hand: the curves from the held stocks to the limits, and the plan of a case by them.
 #![tactic(auto)]
 
 mod curves;
-mod laws;
-mod work;
+mod plan;
 
 pub use curves::held_curves;
 pub use held_certificate::{HeldCertificate, is_held_form, read, text};
-pub use laws::nothing_held_is_all;
-pub use work::held_work;
+pub use held_work::{held_work, nothing_held_is_all};
+pub use plan::plan_case;

@@ -14,7 +14,7 @@ use Rattle.family_points.proofs.Local.{changed, local}
 use Rattle.hull.specs.declared.point.Point.{Point}
 use Rattle.hull.specs.Curves.{IsCurve}
 use Rattle.fleet_plan.proofs.Places.{apart_at, at_among, lines_apart, lines_are}
-use Rattle.on_hand.specs.Curves.{IsFamilyCurve}
+use Rattle.held_work.specs.Curves.{IsFamilyCurve}
 use Rattle.case_plan.specs.Placing.{lines_below}
 use Rattle.case_plan.proofs.Families.{line_fewer, line_place}
 use Rattle.plan_session.specs.Sessions.{family_place, no_family, AreEvaluated, AreKept, AreMarked, IsEvaluation, IsSession, SessionRows}

@@ -9,7 +9,7 @@ use Rattle.answers.specs.declared.stop.Stop.TheVariants as stop
 use Rattle.spares_input.specs.Cases.{CaseRows, frame_rows}
 use Rattle.demand_rates.specs.Limits.{rate_fault_of}
 use Rattle.demand_rates.specs.declared.fault.RateFault.{RateFault}
-use Rattle.on_hand.proofs.Kept.{zip_push}
+use Rattle.held_work.proofs.Kept.{zip_push}
 use Rattle.plan_report.specs.declared.plan.PlanReport.{PlanReport}
 use Rattle.case_edits.specs.declared.fault.EditFault.{EditFault}
 use Rattle.case_edits.specs.declared.fault.EditFault.TheVariants as fault

@@ -10,9 +10,9 @@ use Rattle.family_points.specs.Counts.{most_tables, tables_of, work_of}
 use Rattle.family_points.proofs.Whole.{tables_whole}
 use Rattle.hull.specs.declared.point.Point.{Point}
 use Rattle.hull.specs.Curves.{Among, IsCurve, point_at}
-use Rattle.on_hand.specs.Curves.{IsFamilyCurve}
-use Rattle.on_hand.specs.Work.{IsNothing}
-use Rattle.on_hand.proofs.Kept.{all_work, few_tables}
+use Rattle.held_work.specs.Curves.{IsFamilyCurve}
+use Rattle.held_work.specs.Work.{IsNothing}
+use Rattle.held_work.proofs.Kept.{all_work, few_tables}
 use Rattle.plan_session.specs.Sessions.{has_mark, IsSession, SessionRows}
 use Rattle.plan_session.specs.declared.evaluated.Evaluated.{Evaluated}
 use Rattle.plan_session.proofs.Marking.{any_default}

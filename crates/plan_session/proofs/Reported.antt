@@ -12,8 +12,8 @@ use Rattle.marginal_alloc.specs.Choice.{AreCurves}
 use Rattle.fleet_plan.specs.Families.{case_points}
 use Rattle.fleet_plan.specs.Laws.{IsAcceptedCase}
 use Rattle.fleet_plan.proofs.Plain.{plain_encloses, plain_room}
-use Rattle.on_hand.specs.Curves.{IsFamilyCurve}
-use Rattle.on_hand.proofs.Kept.{all_points}
+use Rattle.held_work.specs.Curves.{IsFamilyCurve}
+use Rattle.held_work.proofs.Kept.{all_points}
 use Rattle.case_plan.specs.Report.{AreFamilyCurves, IsPlanOf, plain_terms}
 use Rattle.case_plan.specs.declared.outcome.Outcome.{Outcome}
 use Rattle.case_plan.proofs.CurveFacts.{are_curves, are_family_curves}

@@ -22,8 +22,8 @@ use Rattle.hull.specs.declared.point.Point.{Point}
 use Rattle.family_points.specs.Counts.{work_of}
 use Rattle.family_points.specs.Local.{home_of}
 use Rattle.fleet_plan.specs.Laws.{IsAcceptedCase}
-use Rattle.on_hand.specs.Curves.{IsFamilyCurve}
-use Rattle.on_hand.specs.Work.{IsNothing}
+use Rattle.held_work.specs.Curves.{IsFamilyCurve}
+use Rattle.held_work.specs.Work.{IsNothing}
 use Rattle.case_plan.specs.Report.{IsPlanned, plain_terms}
 use Rattle.plan_report.specs.declared.plan.PlanReport.{PlanReport}
 use Rattle.plan_session.specs.declared.evaluated.Evaluated.{Evaluated}

@@ -7,7 +7,7 @@ ghost use Rattle.demand_rates.specs.Rates.{AreRatesOf};
 ghost use Rattle.family_eval.specs.Inputs.{IsLine};
 ghost use Rattle.family_points.specs.Counts.{work_of};
 ghost use Rattle.family_points.specs.Local.{home_of};
-ghost use Rattle.on_hand.specs.Curves.{IsFamilyCurve};
+ghost use Rattle.held_work.specs.Curves.{IsFamilyCurve};
 ghost use Rattle.case_plan.specs.Placing.{lines_below};
 ghost use Rattle.plan_session.specs.Sessions.{family_place, AreKept, AreLater};
 ghost use Rattle.family_points.specs.Points.{plain_ends};

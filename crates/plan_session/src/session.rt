@@ -5,7 +5,7 @@ ghost use Rattle.std.specs.Result.{IsOk};
 ghost use Rattle.spares_input.specs.Cases.{frame_rows, IsRateOf};
 ghost use Rattle.fleet_model.specs.Rows.{line_units};
 ghost use Rattle.family_points.specs.Counts.{work_of};
-ghost use Rattle.on_hand.specs.Curves.{IsFamilyCurve};
+ghost use Rattle.held_work.specs.Curves.{IsFamilyCurve};
 ghost use Rattle.spares_input.specs.Money.{most_budget};
 ghost use Rattle.plan_session.specs.Sessions.{due, has_mark, started, with_budget, with_row, AnswersPlan, IsLater};
 ghost use Rattle.family_points.specs.Points.{plain_ends};

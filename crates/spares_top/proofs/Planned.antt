@@ -13,7 +13,7 @@ use Rattle.price_certificate.specs.declared.certificate.Terms.{Terms}
 use Rattle.certified_plan.proofs.Formed.{plan_claims}
 use Rattle.case_plan.specs.Report as reports
 use Rattle.family_points.specs.Counts.{work_of}
-use Rattle.on_hand.proofs.Kept.{all_work}
+use Rattle.held_work.proofs.Kept.{all_work}
 use Rattle.std.specs.Result.{IsOk}
 use Rattle.certified_plan.specs.Laws.{IsPlanOn, NoCertificateShowsMore}
 use Rattle.gap_checker.specs.Scores.{ends_of, value_of}
@@ -26,7 +26,7 @@ use Rattle.fleet_plan.specs.Plans.{CasePlan, IsCasePlan}
 use Rattle.gap_checker.specs.Refusals.{reject_of}
 use Rattle.price_certificate.specs.declared.certificate.Objective.{Objective}
 use Rattle.price_certificate.specs.declared.certificate.Objective.TheVariants.{Backorders}
-use Rattle.on_hand.specs.Work.{IsNothing, held_work_of}
+use Rattle.held_work.specs.Work.{IsNothing, held_work_of}
 use Rattle.family_points.specs.Points.{ScoreEnds}
 use Rattle.held_certificate.specs.Held.{IsWellHeld, held_text}
 use Rattle.held_certificate.specs.declared.held.HeldCertificate.{HeldCertificate}

@@ -2,7 +2,7 @@
 use Rattle.std.proofs.Common.{ap, refl, sym, Option, Some, None, Result, Ok, Err, ℕ, List}
 use Rattle.spares_input.specs.Cases.{CaseRows, frame_rows}
 use Rattle.family_points.specs.Counts.{work_of}
-use Rattle.on_hand.specs.Work.{held_work_of}
+use Rattle.held_work.specs.Work.{held_work_of}
 use Rattle.price_certificate.specs.declared.certificate.Terms.{Terms}
 use Rattle.answers.specs.Steps.{◌>>=◌}
 use Rattle.answers.specs.declared.stop.Stop.{Stop}

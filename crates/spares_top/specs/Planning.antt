@@ -2,7 +2,7 @@
 use Rattle.std.specs.Prelude.{◌≡◌, ⊤, false, ℕ, Bool, List, Option, Some, None, Result, Ok, Err, if◌then◌else◌}
 use Rattle.std.specs.Result.{IsOk}
 use Rattle.demand_rates.specs.Rates.{AreRatesOf}
-use Rattle.on_hand.specs.Work.{held_work_of}
+use Rattle.held_work.specs.Work.{held_work_of}
 use Rattle.refusals.specs.declared.failure.Failure.{Failure}
 use Rattle.spares_input.specs.Cases.{IsCase}
 use Rattle.spares_input.specs.Stocks.{IsFor, IsWithinLimits, nothing_held}

@@ -14,14 +14,14 @@ ghost use Rattle.spares_top.specs.Task.{bytes_at, make_plan, plan_task};
 
 use crate::done::{Done, Outcome, Written};
 use answers::{List, NoMemory, Stop};
-use case_plan::plan_case;
 use case_tables::{Accepted, Stocked, accepted_of, stocked_of};
 use certified_plan::{PlanClaims, certificate, certificate_text};
 use demand_rates::kinds::Rates;
 use family_points::work;
+use held_work::held_work;
 use hull::Plain;
 use log_loss::LogLoss;
-use on_hand::held_work;
+use on_hand::plan_case;
 use price_certificate::{Objective, Terms};
 use refusals::{Failure, File, Refusal};
 use spares_input::{Case, Stocks, nothing_held};

@@ -2,7 +2,7 @@
 
 use answers::Stop;
 use held_certificate::read;
-use on_hand::held_work;
+use held_work::held_work;
 use price_certificate::CertFault;
 use spares_input::CaseFault;
 use std::alloc::Global;

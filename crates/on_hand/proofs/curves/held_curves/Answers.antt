@@ -6,9 +6,9 @@ use Rattle.spares_input.specs.Frames.{part_at}
 use Rattle.spares_input.specs.Cases.{CaseRows}
 use Rattle.family_eval.proofs.Items.{kept_more, left_out}
 use Rattle.sum_walk.proofs.Walks.{zip_push}
-use Rattle.on_hand.specs.Curves.{IsFamilyCurve}
-use Rattle.on_hand.proofs.Rooms.{lines_below}
-use Rattle.on_hand.proofs.Kept.{box_curve, box_few, box_ordered}
+use Rattle.held_work.specs.Curves.{IsFamilyCurve}
+use Rattle.held_work.proofs.Rooms.{lines_below}
+use Rattle.held_work.proofs.Kept.{box_curve, box_few, box_ordered}
 use Rattle.on_hand.proofs.curves.held_curves.Goals as goal
 use Rattle.on_hand.proofs.curves.held_curves.Goals.{then-is_line+in_ok-bounds+in_ok-family+in_ok-push, else-is_line}
 

@@ -1,6 +1,6 @@
 use Rattle.std.specs.List.{AllZip}
-use Rattle.on_hand.specs.Curves.{IsFamilyCurve}
-use Rattle.on_hand.proofs.Rooms.{lines_below}
+use Rattle.held_work.specs.Curves.{IsFamilyCurve}
+use Rattle.held_work.proofs.Rooms.{lines_below}
 use Rattle.on_hand.proofs.curves.held_curves.Given as goal
 
 abbrev pub invariant-loop-p : goal.invariant-loop-p

@@ -1,5 +1,5 @@
 use Rattle.std.proofs.Common.{[], arith, sym, ◌∙◌}
-use Rattle.on_hand.specs.Curves.{IsFamilyCurve}
+use Rattle.held_work.specs.Curves.{IsFamilyCurve}
 use Rattle.plan_session.proofs.Marking.{all_marked, kept_before, kept_next, kept_one, line_here, mark_within, next_below, passed, still_below, value_within}
 use Rattle.plan_session.proofs.kept.keep_all.Goals as goal
 use Rattle.plan_session.proofs.kept.keep_all.Goals.{then-is_line+in_ok-keep, else-is_line}

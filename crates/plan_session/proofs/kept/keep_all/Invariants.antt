@@ -1,5 +1,5 @@
 use Rattle.std.proofs.Common.{◌≤◌, []}
-use Rattle.on_hand.specs.Curves.{IsFamilyCurve}
+use Rattle.held_work.specs.Curves.{IsFamilyCurve}
 use Rattle.plan_session.proofs.Marking.{AreMarkedTo}
 use Rattle.plan_session.proofs.kept.keep_all.Given as goal
 use Rattle.family_points.specs.Points.{plain_ends}

@@ -1,6 +1,6 @@
 use Rattle.std.proofs.Common.{[], subst}
 use Rattle.spares_input.specs.Cases.{IsCase}
-use Rattle.on_hand.specs.Curves.{IsFamilyCurve}
+use Rattle.held_work.specs.Curves.{IsFamilyCurve}
 use Rattle.plan_session.proofs.Marking.{unkept}
 use Rattle.plan_session.proofs.session.Session.new.Goals as goal
 use Rattle.family_points.specs.Points.{plain_ends}

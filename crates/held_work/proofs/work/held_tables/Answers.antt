@@ -1,7 +1,7 @@
 use Rattle.std.proofs.Common.{◌≡◌, ◌+◌, ◌-◌, ◌*◌, length, ap, ◌∙◌}
 use Rattle.answers.specs.Counts.{count64}
-use Rattle.on_hand.proofs.Rooms.{tables_held}
-use Rattle.on_hand.proofs.work.held_tables.Goals as goal
+use Rattle.held_work.proofs.Rooms.{tables_held}
+use Rattle.held_work.proofs.work.held_tables.Goals as goal
 
 pub returns : goal.returns
 returns c =

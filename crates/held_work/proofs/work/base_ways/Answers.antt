@@ -1,7 +1,7 @@
 use Rattle.std.proofs.Common.{◌≡◌, length, ap, ◌∙◌, arith}
 use Rattle.answers.specs.Counts.{count64}
-use Rattle.on_hand.proofs.Rooms.{ways_below, ways_more}
-use Rattle.on_hand.proofs.work.base_ways.Goals as goal
+use Rattle.held_work.proofs.Rooms.{ways_below, ways_more}
+use Rattle.held_work.proofs.work.base_ways.Goals as goal
 
 pub loop-j-preserved : goal.loop-j-preserved
 loop-j-preserved c =

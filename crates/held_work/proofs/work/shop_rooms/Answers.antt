@@ -1,7 +1,7 @@
 use Rattle.std.proofs.Common.{sym, ◌∙◌}
-use Rattle.on_hand.proofs.Rooms.{rooms_begin, rooms_more, rooms_same}
-use Rattle.on_hand.proofs.work.shop_rooms.Goals as goal
-use Rattle.on_hand.proofs.work.shop_rooms.Goals.{then-is_shop_of, else-is_shop_of}
+use Rattle.held_work.proofs.Rooms.{rooms_begin, rooms_more, rooms_same}
+use Rattle.held_work.proofs.work.shop_rooms.Goals as goal
+use Rattle.held_work.proofs.work.shop_rooms.Goals.{then-is_shop_of, else-is_shop_of}
 
 pub loop-p-init : goal.loop-p-init
 loop-p-init c = rooms_begin c.args.case.now c.args.held.now.list c.args.line.0 c.args.site.0

@@ -7,7 +7,7 @@ ghost use Rattle.fleet_model.specs.Rows.{bases, shop_units};
 ghost use Rattle.family_eval.specs.Inputs.{IsLine};
 ghost use Rattle.family_points.specs.Vectors.{limits, vector_of};
 ghost use Rattle.family_points.specs.Counts.{product, tables_between};
-ghost use Rattle.on_hand.specs.Work.{held_work_of, room};
+ghost use Rattle.held_work.specs.Work.{held_work_of, room};
 
 use family_points::MOST_TABLES;
 use spares_input::{Case, PartId, SiteId, Stocks};

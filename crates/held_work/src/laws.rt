@@ -6,7 +6,7 @@ ghost use Rattle.fleet_model.specs.Rows.{line_units};
 ghost use Rattle.family_points.specs.Counts.{tables_of, work_of};
 ghost use Rattle.family_points.specs.Points.{ScoreEnds};
 ghost use Rattle.fleet_plan.specs.Families.{case_points};
-ghost use Rattle.on_hand.specs.Work.{held_work_of, tables_from, IsNothing};
+ghost use Rattle.held_work.specs.Work.{held_work_of, tables_from, IsNothing};
 
 /// If nothing is held, the tables, the work and the points are those of all vectors.
 pub fn nothing_held_is_all()

@@ -21,7 +21,7 @@ use Rattle.family_points.proofs.Counting.{below, counted_times, product_push, su
 use Rattle.family_points.proofs.Sites.{size}
 use Rattle.family_points.proofs.Bounded.{part_of_flat}
 use Rattle.family_points.proofs.Stands.{below_all}
-use Rattle.on_hand.specs.Work.{room}
+use Rattle.held_work.specs.Work.{room}
 
 -- ---- what stands at a site
 

@@ -1,5 +1,5 @@
-use Rattle.on_hand.proofs.Kept.{all_points, all_tables, all_work}
-use Rattle.on_hand.proofs.laws.nothing_held_is_all.Goals as goal
+use Rattle.held_work.proofs.Kept.{all_points, all_tables, all_work}
+use Rattle.held_work.proofs.laws.nothing_held_is_all.Goals as goal
 
 pub returns-clause-tables : goal.returns-clause-tables
 returns-clause-tables c = λ rows held valid h. all_tables rows held valid h

@@ -5,15 +5,14 @@ ghost use Rattle.std.specs.Result.{IsOk};
 ghost use Rattle.spares_input.specs.Money.{most_budget};
 ghost use Rattle.spares_input.specs.Stocks.{IsFor, IsWithinLimits};
 ghost use Rattle.demand_rates.specs.Rates.{AreRatesOf};
-ghost use Rattle.on_hand.specs.Work.{held_work_of};
+ghost use Rattle.held_work.specs.Work.{held_work_of};
 ghost use Rattle.case_plan.specs.Report.{IsOutcome};
 
-use crate::outcome::Outcome;
-use crate::planning::plan;
+use crate::curves::held_curves;
 use answers::NoMemory;
+use case_plan::{Outcome, plan};
 use demand_rates::kinds::Rates;
 use hull::Score;
-use on_hand::held_curves;
 use spares_input::{Case, Stocks};
 use std::alloc::Global;
 

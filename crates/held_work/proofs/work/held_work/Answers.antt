@@ -1,7 +1,7 @@
 use Rattle.std.proofs.Common.{sym, ◌∙◌}
-use Rattle.on_hand.proofs.Rooms.{work_more, work_same}
-use Rattle.on_hand.proofs.work.held_work.Goals as goal
-use Rattle.on_hand.proofs.work.held_work.Goals.{then-is_line, else-is_line}
+use Rattle.held_work.proofs.Rooms.{work_more, work_same}
+use Rattle.held_work.proofs.work.held_work.Goals as goal
+use Rattle.held_work.proofs.work.held_work.Goals.{then-is_line, else-is_line}
 
 pub loop-p-preserved : goal.loop-p-preserved
 loop-p-preserved c =

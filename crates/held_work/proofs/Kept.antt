@@ -25,8 +25,8 @@ pub use Rattle.sum_walk.proofs.Walks.{zip_push}
 use Rattle.fleet_plan.specs.Families.{case_points, family_points}
 use Rattle.fleet_plan.proofs.Bridge.{vector_between}
 use Rattle.fleet_plan.proofs.Places.{line_among}
-use Rattle.on_hand.specs.Curves.{IsFamilyCurve}
-use Rattle.on_hand.specs.Work.{held_work_of, tables_from, IsNothing}
+use Rattle.held_work.specs.Curves.{IsFamilyCurve}
+use Rattle.held_work.specs.Work.{held_work_of, tables_from, IsNothing}
 
 -- ---- the box of a family
 

@@ -1,7 +1,7 @@
 use Rattle.std.proofs.Common.{◌≡◌, sum_by}
 use Rattle.answers.specs.Counts.{count64}
-use Rattle.on_hand.proofs.Rooms.{lines_below, tables_at}
-use Rattle.on_hand.proofs.work.held_work.Given as goal
+use Rattle.held_work.proofs.Rooms.{lines_below, tables_at}
+use Rattle.held_work.proofs.work.held_work.Given as goal
 
 abbrev pub invariant-loop-p : goal.invariant-loop-p
 invariant-loop-p l = l.work ≡ count64 (sum_by (tables_at l.case l.held.list) (lines_below l.case l.p))
