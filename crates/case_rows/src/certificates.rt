@@ -2,7 +2,8 @@
 
 use answers::{NoMemory, Stop};
 use demand_rates::{Place, RateFault};
-use gap_checker::{Accepted, Reject, check};
+use gap_checker::check;
+use gap_rules::{Accepted, Reject};
 use price_certificate::{CertFault, read};
 use spares_input::{CaseFault, PartId, SiteId};
 use std::alloc::Global;

@@ -19,7 +19,7 @@ use Rattle.spares_input.proofs.Standing.{first_none}
 use Rattle.fleet_model.specs.Rows.{line_units, stock}
 use Rattle.price_bounds.specs.Certificates.{AreFloors}
 use Rattle.family_eval.specs.Inputs.{IsLine}
-use Rattle.family_points.specs.Vectors.{places, vector_of, limits, stock_list}
+use Rattle.family_points.specs.Vectors.{places, vector_of, limits, stock_list, box_from}
 use Rattle.family_points.specs.Points.{ScoreEnds, points_within}
 use Rattle.family_points.specs.Counts.{most_tables, tables_between}
 use Rattle.fleet_plan.specs.Families.{family_points}
@@ -33,18 +33,18 @@ use Rattle.price_certificate.specs.declared.certificate.Node.{Node}
 use Rattle.price_certificate.specs.declared.certificate.Node.TheVariants as node
 use Rattle.price_certificate.specs.Covers as cover
 use Rattle.price_certificate.specs.Covers.{Tree, held_at, most_at, IsTrim, places_of, trimmed}
-use Rattle.gap_checker.specs.declared.refusal.Reject.TheVariants as reject
-use Rattle.gap_checker.specs.Covers.{leaves}
-use Rattle.gap_checker.specs.Trees.{leaves_of}
-use Rattle.gap_checker.specs.Values.{value_of, cover_tables}
-use Rattle.gap_checker.specs.Refusals.{family_count, box_from, cover_of, family_leaves, gap_at, family_tables, work_of, over_limit, too_low, below_held, cost_above, leaf_value, low_at, upper_of, largest_of, reject_of}
-use Rattle.gap_checker.proofs.Costs.{added_is}
-use Rattle.gap_checker.proofs.Judging.{by_none}
-use Rattle.gap_checker.proofs.Readings.{trees_are_read}
-use Rattle.gap_checker.proofs.StockFaults.{else_none}
+use Rattle.gap_rules.specs.declared.refusal.Reject.TheVariants as reject
+use Rattle.gap_rules.specs.Covers.{leaves}
+use Rattle.gap_rules.specs.Trees.{leaves_of}
+use Rattle.gap_rules.specs.Values.{value_of, cover_tables}
+use Rattle.gap_rules.specs.Refusals.{family_count, cover_of, family_leaves, gap_at, family_tables, work_of, over_limit, too_low, below_held, cost_above, leaf_value, low_at, upper_of, largest_of, reject_of}
+use Rattle.gap_rules.proofs.Costs.{added_is}
+use Rattle.gap_rules.proofs.Judging.{by_none}
+use Rattle.gap_rules.proofs.Readings.{trees_are_read}
+use Rattle.gap_rules.proofs.StockFaults.{else_none}
 use Rattle.price_certificate.specs.declared.certificate.Terms.{Terms}
-use Rattle.gap_checker.specs.Scores as scores
-use Rattle.gap_checker.specs.Scores.{ends_of}
+use Rattle.gap_rules.specs.Scores as scores
+use Rattle.gap_rules.specs.Scores.{ends_of}
 use Rattle.certified_plan.specs.Certificates.{covers_of, certificate_of, claims_of}
 use Rattle.held_work.specs.Work.{tables_from}
 use Rattle.certified_plan.specs.Inputs.{IsWithinWork}

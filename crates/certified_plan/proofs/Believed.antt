@@ -17,8 +17,8 @@ use Rattle.fleet_plan.proofs.Bridge.{claims_true, from_points}
 use Rattle.fleet_plan.proofs.Plain.{plain_encloses}
 use Rattle.price_certificate.specs.declared.certificate.Certificate.{Certificate}
 use Rattle.price_certificate.specs.Certificates.{IsWellFormed}
-use Rattle.gap_checker.specs.Refusals.{reject_of}
-use Rattle.gap_checker.proofs.Acceptable.{accepted_are_acceptable, breaks_none, map_none}
+use Rattle.gap_rules.specs.Refusals.{reject_of}
+use Rattle.gap_rules.proofs.Acceptable.{accepted_are_acceptable, breaks_none, map_none}
 use Rattle.certified_plan.specs.Accepted.{claims_of}
 
 -- what a certificate claims is true of its case, where it breaks no rule and its score encloses the value

@@ -6,10 +6,10 @@ use Rattle.family_points.specs.declared.bounds.Bounds.{Bounds}
 use Rattle.price_certificate.specs.Covers as cover
 use Rattle.price_certificate.specs.Covers.{Tree, Corner, put}
 use Rattle.price_certificate.proofs.Trims.{put_here, put_there}
-use Rattle.gap_checker.specs.Boxes.{AtMost}
-use Rattle.gap_checker.specs.Covers.{fewer, as_many, has_parts}
-use Rattle.gap_checker.specs.Trees.{IsLawful}
-use Rattle.gap_checker.proofs.Boxes.{at_most_set_high, at_most_set_low}
+use Rattle.gap_rules.specs.Boxes.{AtMost}
+use Rattle.gap_rules.specs.Covers.{fewer, as_many, has_parts}
+use Rattle.gap_rules.specs.Trees.{IsLawful}
+use Rattle.gap_rules.proofs.Boxes.{at_most_set_high, at_most_set_low}
 
 -- the list has what the corner has at the first n places, and no more
 pub record Lists (n : ℕ) (corner : Corner) (xs : List ℕ) : Type 0 where

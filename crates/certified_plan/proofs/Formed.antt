@@ -19,15 +19,15 @@ use Rattle.price_certificate.specs.declared.certificate.Node.{Node}
 use Rattle.price_certificate.specs.Covers.{no_place, held_at, most_at, IsTrim, places_of, nodes_of, trimmed}
 use Rattle.price_certificate.specs.Certificates.{IsNode, IsCover, IsSecond, IsWellFormed}
 use Rattle.price_certificate.proofs.Trims.{trim_is}
-use Rattle.gap_checker.specs.Boxes.{AtMost}
-use Rattle.gap_checker.proofs.Adding.{few_places}
-use Rattle.gap_checker.proofs.Families.{held_limited}
-use Rattle.gap_checker.proofs.Formed.{lines_counted}
-use Rattle.gap_checker.proofs.Places.{place_pair}
+use Rattle.gap_rules.specs.Boxes.{AtMost}
+use Rattle.gap_rules.proofs.Adding.{few_places}
+use Rattle.gap_rules.proofs.Families.{held_limited}
+use Rattle.gap_rules.proofs.Formed.{lines_counted}
+use Rattle.gap_rules.proofs.Places.{place_pair}
 use Rattle.hull.specs.Curves.{Among}
 use Rattle.hull.proofs.Runs.{among_at}
 use Rattle.price_certificate.specs.declared.certificate.Terms.{Terms}
-use Rattle.gap_checker.specs.Scores.{ends_of, value_of}
+use Rattle.gap_rules.specs.Scores.{ends_of, value_of}
 use Rattle.certified_plan.specs.Certificates.{cover_at, covers_of, certificate_of, claims_of}
 use Rattle.certified_plan.specs.declared.terms.PlanClaims.{PlanClaims}
 use Rattle.certified_plan.specs.Inputs.{AreTerms, IsHeld, AreClaims}

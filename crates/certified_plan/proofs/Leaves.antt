@@ -15,14 +15,14 @@ use Rattle.family_points.specs.Counts.{tables_between}
 use Rattle.price_certificate.specs.declared.place.Place.{Place}
 use Rattle.price_certificate.specs.Covers as cover
 use Rattle.price_certificate.specs.Covers.{Tree, Corner, put, held_at, most_at, added, places_of, AllCostLeaves, AllWholeLeaves}
-use Rattle.gap_checker.specs.Boxes.{AtMost}
-use Rattle.gap_checker.specs.Covers.{box_of, fewer, as_many}
-use Rattle.gap_checker.specs.Trees.{leaves_of}
-use Rattle.family_floors.specs.Least.{least}
-use Rattle.gap_checker.specs.Values.{least_within, value_of, leaf_tables, cover_tables}
-use Rattle.gap_checker.specs.Refusals.{low_leaf}
-use Rattle.gap_checker.proofs.Boxes.{at_most_self, at_most_chain, at_most_unset_high}
-use Rattle.gap_checker.proofs.AmongLaws.{IsBetween, among_vectors, between}
+use Rattle.gap_rules.specs.Boxes.{AtMost}
+use Rattle.gap_rules.specs.Covers.{box_of, fewer, as_many}
+use Rattle.gap_rules.specs.Trees.{leaves_of}
+use Rattle.family_points.specs.Least.{least}
+use Rattle.gap_rules.specs.Values.{least_within, value_of, leaf_tables, cover_tables}
+use Rattle.gap_rules.specs.Refusals.{low_leaf}
+use Rattle.gap_rules.proofs.Boxes.{at_most_self, at_most_chain, at_most_unset_high}
+use Rattle.gap_rules.proofs.AmongLaws.{IsBetween, among_vectors, between}
 use Rattle.certified_plan.proofs.Corners.{Lists, Boxed, cut_of, fewer_boxed, as_many_boxed, below_high}
 use Rattle.certified_plan.proofs.Families.{added_is, held_is}
 use Rattle.certified_plan.proofs.Trees.{HasOneWhole}

@@ -12,7 +12,7 @@ use Rattle.fleet_plan.proofs.Places.{length_places, length_vector}
 use Rattle.price_certificate.specs.declared.certificate.Node.{Node}
 use Rattle.price_certificate.specs.Covers as cover
 use Rattle.price_certificate.specs.Covers.{place_count}
-use Rattle.gap_checker.proofs.Families.{line_read_at}
+use Rattle.gap_rules.proofs.Families.{line_read_at}
 use Rattle.certified_plan.specs.Inputs.{IsHeld}
 use Rattle.certified_plan.specs.Certificates.{cover_of, cover_at}
 use Rattle.certified_plan.proofs.Families.{within_most}

@@ -5,8 +5,8 @@ use Rattle.spares_input.specs.Stocks.{StockList, IsFor}
 use Rattle.certified_plan.specs.Accepted as bounds
 use Rattle.fleet_plan.specs.Plans.{AreAcceptable, CasePlan}
 use Rattle.fleet_plan.proofs.Bridge.{from_points, plan_true}
-use Rattle.gap_checker.proofs.Acceptable.{accepted_are_acceptable}
-use Rattle.gap_checker.specs.Scores.{ends_of, value_of}
+use Rattle.gap_rules.proofs.Acceptable.{accepted_are_acceptable}
+use Rattle.gap_rules.specs.Scores.{ends_of, value_of}
 use Rattle.price_certificate.specs.declared.certificate.Certificate.{Certificate}
 use Rattle.price_certificate.specs.declared.certificate.Terms.{Terms}
 use Rattle.certified_plan.specs.Laws.{IsAcceptedFor, IsPlanOn, NoCertificateShowsMore}

@@ -4,7 +4,7 @@ use Rattle.fleet_plan.proofs.Plain.{plain_encloses, plain_room}
 use Rattle.log_loss.specs.Enclosing.{loss_encloses, loss_has_room}
 use Rattle.price_certificate.specs.declared.certificate.Objective.{Objective}
 use Rattle.price_certificate.specs.declared.certificate.Objective.TheVariants.{Backorders, LogAvailability}
-use Rattle.gap_checker.specs.Scores.{ends_of, value_of}
+use Rattle.gap_rules.specs.Scores.{ends_of, value_of}
 
 -- the intervals of each objective enclose the values that it aims at
 pub scores_enclose : (o : Objective) → EnclosesValue (ends_of o) (value_of o)

@@ -7,7 +7,7 @@ use Rattle.family_points.specs.Points.{ScoreEnds, plain_ends}
 use Rattle.fleet_plan.specs.Plans.{CaseClaims, AreTrueClaims, ArePlainClaims}
 use Rattle.price_certificate.specs.declared.certificate.Certificate.{Certificate}
 use Rattle.price_certificate.specs.Certificates.{IsWellFormed}
-use Rattle.gap_checker.specs.Refusals.{reject_of}
+use Rattle.gap_rules.specs.Refusals.{reject_of}
 
 -- the claims of a certificate
 abbrev pub claims_of : Certificate → CaseClaims

@@ -8,10 +8,10 @@ use Rattle.fleet_plan.specs.Laws.{IsAcceptedCase}
 use Rattle.price_certificate.specs.declared.certificate.Objective.{Objective}
 use Rattle.price_certificate.specs.declared.certificate.Certificate.{Certificate}
 use Rattle.price_certificate.specs.Certificates.{IsWellFormed, cert_text, certificate_limit}
-use Rattle.gap_checker.specs.Refusals.{reject_of}
+use Rattle.gap_rules.specs.Refusals.{reject_of}
 use Rattle.held_certificate.specs.Held.{held_text}
 use Rattle.price_certificate.specs.declared.certificate.Terms.{Terms}
-use Rattle.gap_checker.specs.Scores.{ends_of, value_of}
+use Rattle.gap_rules.specs.Scores.{ends_of, value_of}
 use Rattle.certified_plan.specs.Inputs.{AreTerms, IsHeld, AreClaims, IsWithinWork}
 use Rattle.certified_plan.specs.Certificates.{certificate_of, claims_of}
 

@@ -21,7 +21,7 @@ use Rattle.certified_plan.proofs.Short.{text_short}
 use Rattle.demand_rates.specs.Limits.{rate_fault_of}
 use Rattle.demo_accepts.proofs.FewTables.{all_few, work_few}
 use Rattle.fleet_plan.specs.Plans.{IsCasePlan}
-use Rattle.gap_checker.specs.Refusals.{reject_of}
+use Rattle.gap_rules.specs.Refusals.{reject_of}
 use Rattle.held_work.specs.Work.{IsNothing, held_work_of}
 use Rattle.held_work.proofs.Kept.{all_work}
 use Rattle.plan_report.specs.Fits.{FitsPlan, FitsSummary}

@@ -1,7 +1,7 @@
 //! The certificate of a plan, written, read back and checked.
 
 ghost use Rattle.std.specs.Prelude.{◌≡◌, ◌≤◌, None, length};
-ghost use Rattle.gap_checker.specs.Refusals.{reject_of};
+ghost use Rattle.gap_rules.specs.Refusals.{reject_of};
 ghost use Rattle.price_certificate.specs.Certificates.{IsWellFormed, cert_text, certificate_limit};
 ghost use Rattle.price_certificate.specs.declared.certificate.Objective.TheVariants as objective;
 ghost use Rattle.family_points.specs.Points.{plain_ends};

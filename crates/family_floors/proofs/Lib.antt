@@ -1,4 +1,2 @@
-pub mod Leasts
-pub mod LeastPoints
 pub mod LowPoints
 pub mod Uppers

@@ -17,11 +17,11 @@ use Rattle.family_points.specs.Vectors.{between, vectors}
 use Rattle.family_points.specs.Points.{ScoreEnds}
 use Rattle.family_points.specs.Separation.{base_point, base_points, base_stocks, depot_and_base, depot_point, points_over}
 use Rattle.family_points.specs.Inputs.{AreShopsAt, FamilyBox, IsAt, IsFamilyBox, line_high, line_low, shop_high, shop_low, shop_vectors}
-use Rattle.family_floors.specs.Least.{AreAtLeast, AreLowsAt}
+use Rattle.family_points.specs.Least.{AreAtLeast, AreLowsAt}
 use Rattle.family_rows.specs.Tabled.{numbers}
 use Rattle.family_points.proofs.Bounded.{at_long}
 use Rattle.family_points.proofs.Distinct.{family_stocks_in}
-use Rattle.family_floors.proofs.Leasts.{at_least_sums}
+use Rattle.family_points.proofs.Leasts.{at_least_sums}
 use Rattle.family_points.proofs.Points.{base_small, begins, high_begins, joined_at, low_begins, over_more, take_next}
 use Rattle.family_points.proofs.Scores.{backorders_small}
 use Rattle.family_points.proofs.Separate.{at_base}

@@ -15,7 +15,7 @@ use Rattle.family_points.specs.Inputs.{AreShopsAt, FamilyBox, IsAt, IsFamilyBox,
 use Rattle.family_points.specs.Choices.{IsOrder, choice_point}
 use Rattle.family_points.specs.Turned.{turned_points}
 use Rattle.family_points.proofs.Bounded.{box_at, high_long, low_long}
-use Rattle.family_floors.proofs.LeastPoints.{turned_among}
+use Rattle.family_points.proofs.LeastPoints.{turned_among}
 use Rattle.family_points.proofs.Ordered.{points_permuted}
 use Rattle.family_points.proofs.Points.{first_vector, high_begins, low_begins, mapped_among, over_more}
 use Rattle.family_points.proofs.Separate.{separated_is}

@@ -7,7 +7,7 @@ ghost use Rattle.family_eval.specs.Inputs.{IsLine};
 ghost use Rattle.hull.specs.Curves.{lagrangian};
 ghost use Rattle.family_points.specs.Inputs.{AreShopsAt, IsAt, line_stocks};
 ghost use Rattle.family_rows.specs.Sources.{AreSources};
-ghost use Rattle.family_floors.specs.Least.{IsLeast, LeastSeparates, Decides, least};
+ghost use Rattle.family_points.specs.Least.{IsLeast, Decides, least};
 ghost use Rattle.family_points.specs.Points.{AreOrdered, points_within};
 ghost use Rattle.family_points.specs.Separation.{base_points, depot_points};
 ghost use Rattle.family_points.specs.Choices.{IsChoice, choice_point};
@@ -243,9 +243,3 @@ pub fn is_at_least<S: Score>(
     let answer = all_are_at_least(alloc, &sources, score, price, floor)?;
     Ok(answer)
 }
-
-/// The least Lagrangian of a box at a price is the least, over the depot's stocks, of their cost at the price plus the
-/// least of each base.
-pub fn least_separates()
-    ensures { LeastSeparates }
-{}

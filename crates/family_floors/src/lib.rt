@@ -6,5 +6,5 @@ mod least;
 mod lows;
 mod upper;
 
-pub use least::{is_at_least, least_separates};
+pub use least::is_at_least;
 pub use upper::upper_within;

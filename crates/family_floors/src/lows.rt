@@ -6,7 +6,7 @@ ghost use Rattle.fleet_model.specs.Fleet.{family};
 ghost use Rattle.hull.specs.Curves.{lagrangian};
 ghost use Rattle.family_points.specs.Inputs.{AreShopsAt, IsAt, held_at, line_high, line_low};
 ghost use Rattle.family_rows.specs.Sources.{AreSources};
-ghost use Rattle.family_floors.specs.Least.{AreAtLeast, AreLowsAt};
+ghost use Rattle.family_points.specs.Least.{AreAtLeast, AreLowsAt};
 ghost use Rattle.family_points.specs.Points.{cost_above};
 ghost use Rattle.family_points.specs.Separation.{base_point, base_points, depot_points};
 ghost use Rattle.family_points.specs.Choices.{IsShopVector};

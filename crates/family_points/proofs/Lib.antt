@@ -22,3 +22,5 @@ pub mod Stands
 pub mod Items
 pub mod AllBases
 pub mod Shops
+pub mod Leasts
+pub mod LeastPoints

@@ -8,3 +8,4 @@ pub mod Inputs
 pub mod Turned
 pub mod Local
 pub mod Choices
+pub mod Least

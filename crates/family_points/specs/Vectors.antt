@@ -7,6 +7,7 @@ use Rattle.spares_input.specs.Cases.{CaseRows}
 use Rattle.spares_input.specs.Stocks.{StockList, limit_at}
 use Rattle.fleet_model.specs.Rows.{all_parts, all_sites, stock}
 use Rattle.fleet_model.specs.Fleet.{family}
+use Rattle.family_points.specs.declared.bounds.Bounds.{Bounds}
 
 -- a part at a site
 pub record Pair : Type 0 where
@@ -32,6 +33,10 @@ limits c l = map (λ (x : Pair). limit_at c.parts x.part x.site) (places c l)
 -- no stock at any place
 abbrev pub zeros : CaseRows → ℕ → List ℕ
 zeros c l = map (λ (x : Pair). 0) (places c l)
+
+-- all vectors of a family from the held stocks to the limits
+abbrev pub box_from : CaseRows → ℕ → List ℕ → Bounds
+box_from c l held = record { held = vector_of c l held; low = vector_of c l held; high = limits c l }
 
 -- ---- stocks that are made of vectors
 

@@ -1,12 +1,13 @@
 //! Bounds of vectors.
 
 ghost use Rattle.std.specs.Prelude.{◌≡◌, IfOk};
+ghost use Rattle.spares_input.specs.Stocks.{IsFor};
 ghost use Rattle.family_eval.specs.Inputs.{IsLine};
-ghost use Rattle.family_points.specs.Vectors.{limits, zeros};
+ghost use Rattle.family_points.specs.Vectors.{box_from, limits, zeros};
 
-use crate::places::limits_of;
+use crate::places::{limits_of, vector_of};
 use answers::{List, NoMemory};
-use spares_input::{Case, PartId};
+use spares_input::{Case, PartId, Stocks};
 use std::alloc::Global;
 
 /// The vectors of a family that a curve considers, and the stocks that are held already and cost nothing. The lists are
@@ -40,6 +41,25 @@ impl Bounds {
             held: List::of(held),
             low: List::of(low),
             high,
+        })
+    }
+
+    /// The vectors of the family of a line unit from the held stocks to the limits. The held stocks are a list for the
+    /// case.
+    pub fn from_held(
+        alloc: Global,
+        case: &Case,
+        line: PartId,
+        held: &Stocks,
+    ) -> Result<Bounds, NoMemory>
+        requires line { IsLine case.now line.0 }
+        requires held { IsFor case.now held.now }
+        ensures { IfOk result (λ bounds. bounds ≡ box_from case.now line.0 held.now.list) }
+    {
+        Ok(Bounds {
+            held: vector_of(alloc, case, line, held)?,
+            low: vector_of(alloc, case, line, held)?,
+            high: limits_of(alloc, case, line)?,
         })
     }
 }

@@ -6,6 +6,7 @@
 #![tactic(auto)]
 
 ghost use Rattle.family_points.specs.Laws.{Separates};
+ghost use Rattle.family_points.specs.Least.{LeastSeparates};
 ghost use Rattle.family_points.specs.Local.{ChangesAreLocal, FamiliesAreLocal, ItemsAreLocal};
 
 pub mod bounds;
@@ -26,6 +27,12 @@ pub use places::{limits_of, place_parts, vector_of};
 /// depot.
 pub fn points_separate()
     ensures { Separates }
+{}
+
+/// The least Lagrangian of a box at a price is the least, over the depot's stocks, of their cost at the price plus the
+/// least of each base.
+pub fn least_separates()
+    ensures { LeastSeparates }
 {}
 
 /// A line unit's item at a base depends only on its family's stocks at the depot and at that base.

@@ -8,15 +8,15 @@ use Rattle.spares_input.specs.Cases.{CaseRows}
 use Rattle.family_points.specs.declared.bounds.Bounds.{Bounds}
 use Rattle.price_certificate.specs.declared.certificate.Node.{Node}
 use Rattle.price_certificate.specs.declared.certificate.Node.TheVariants.{Split}
-use Rattle.gap_checker.specs.declared.leaf.Leaf.{Leaf}
-use Rattle.gap_checker.specs.declared.reading.Read.{Read}
-use Rattle.gap_checker.specs.declared.reading.Read.TheVariants as read
-use Rattle.gap_checker.specs.Covers.{leaves}
-use Rattle.gap_checker.specs.Values.{below, leaf_tables, cover_tables}
-use Rattle.gap_checker.specs.Reading.{joined, Reads, AllOrdered, KeepsOrder}
-use Rattle.gap_checker.specs.Refusals.{low_leaf}
-use Rattle.gap_checker.proofs.Trees.{IsCons, cons_of}
-use Rattle.gap_checker.proofs.Counting.{advance}
+use Rattle.gap_rules.specs.declared.leaf.Leaf.{Leaf}
+use Rattle.gap_rules.specs.declared.reading.Read.{Read}
+use Rattle.gap_rules.specs.declared.reading.Read.TheVariants as read
+use Rattle.gap_rules.specs.Covers.{leaves}
+use Rattle.gap_rules.specs.Values.{below, leaf_tables, cover_tables}
+use Rattle.gap_rules.specs.Reading.{joined, Reads, AllOrdered, KeepsOrder}
+use Rattle.gap_rules.specs.Refusals.{low_leaf}
+use Rattle.gap_rules.proofs.Trees.{IsCons, cons_of}
+use Rattle.gap_rules.proofs.Counting.{advance}
 
 -- the leaves of a box's nodes
 abbrev pub all_leaves : List Node → Bounds → List Leaf

@@ -5,11 +5,11 @@ use Rattle.hull.specs.Curves.{Among}
 use Rattle.hull.proofs.Members.{Mapped, among_mapped}
 use Rattle.spares_input.specs.Cases.{CaseRows}
 use Rattle.price_bounds.specs.Sums.{hi_of}
-use Rattle.gap_checker.specs.Boxes.{AtMost, IsOrdered}
+use Rattle.gap_rules.specs.Boxes.{AtMost, IsOrdered}
 use Rattle.family_points.specs.Vectors.{vectors, limits}
 use Rattle.family_points.specs.Points.{HasUpper, point_at_vector, points_within, ScoreEnds}
-use Rattle.gap_checker.proofs.AmongLaws.{IsBetween, between}
-use Rattle.gap_checker.proofs.Boxes.{at_most_self}
+use Rattle.gap_rules.proofs.AmongLaws.{IsBetween, between}
+use Rattle.gap_rules.proofs.Boxes.{at_most_self}
 
 at_most_same : (a b : List ℕ) → AtMost a b → AtMost b a → a ≡ b
 at_most_same [] [] h k = refl

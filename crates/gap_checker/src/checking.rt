@@ -8,21 +8,21 @@ ghost use Rattle.spares_input.specs.Stocks.{IsFor, IsWithinLimits, nothing_held}
 ghost use Rattle.demand_rates.specs.Limits.{rate_fault_of};
 ghost use Rattle.demand_rates.specs.Rates.{AreRatesOf};
 ghost use Rattle.price_certificate.specs.Certificates.{IsWellFormed};
-ghost use Rattle.gap_checker.specs.declared.refusal.Reject.TheVariants as reject;
-ghost use Rattle.gap_checker.specs.Refusals.{judged};
-ghost use Rattle.gap_checker.specs.Scores.{ends_of};
+ghost use Rattle.gap_rules.specs.declared.refusal.Reject.TheVariants as reject;
+ghost use Rattle.gap_rules.specs.Refusals.{judged};
+ghost use Rattle.gap_rules.specs.Scores.{ends_of};
 
-use crate::bound::largest_bound;
-use crate::covers::work_of;
 use crate::floors::first_low;
-use crate::refusal::{Accepted, Reject};
-use crate::stocks::{below_held, cost_above, over_limit};
 use crate::upper::upper_of;
 use answers::{NoMemory, Stop};
 use demand_rates::kinds::Rates;
 use demand_rates::rates;
 use family_eval::line_units;
 use family_points::MOST_TABLES;
+use gap_rules::bound::largest_bound;
+use gap_rules::covers::work_of;
+use gap_rules::stocks::{below_held, cost_above, over_limit};
+use gap_rules::{Accepted, Reject};
 use hull::{Plain, Score};
 use log_loss::LogLoss;
 use price_certificate::{Certificate, Objective};

@@ -8,14 +8,14 @@ ghost use Rattle.demand_rates.specs.Rates.{AreRatesOf};
 ghost use Rattle.family_eval.specs.Inputs.{IsLine};
 ghost use Rattle.family_points.specs.Counts.{most_tables};
 ghost use Rattle.price_certificate.specs.Certificates.{IsWellFormed};
-ghost use Rattle.gap_checker.specs.Refusals.{line_at, family_count, cover_of, gap_at, family_tables, work_of, too_low, low_at};
+ghost use Rattle.gap_rules.specs.Refusals.{line_at, family_count, cover_of, gap_at, family_tables, work_of, too_low, low_at};
 
-use crate::family::{box_from, nodes_of};
 use crate::low::low_leaf;
-use crate::refusal::Reject;
 use answers::NoMemory;
 use demand_rates::kinds::Rates;
-use family_points::place_parts;
+use family_points::{Bounds, place_parts};
+use gap_rules::Reject;
+use gap_rules::family::nodes_of;
 use hull::Score;
 use price_certificate::{Certificate, Node};
 use spares_input::{PartId, Stocks};
@@ -64,7 +64,7 @@ fn family_low<S: Score>(
 {
     let one = [Node::Whole];
     let nodes = nodes_of(cert, family as usize, &one);
-    let bounds = box_from(alloc, &cert.case, line, held)?;
+    let bounds = Bounds::from_held(alloc, &cert.case, line, held)?;
     let parts = place_parts(alloc, &cert.case, line)?;
     let floor = cert.floors.as_slice()[family as usize];
     let low = low_leaf(

@@ -3,18 +3,18 @@
 ghost use Rattle.std.specs.Prelude.{◌≡◌, ◌∷◌, [], ◌^◌, ◌<◌, ◌≤◌, true, is_some, unwrap_or, IfOk, length, map};
 ghost use Rattle.demand_rates.specs.Rates.{AreRatesOf};
 ghost use Rattle.family_eval.specs.Inputs.{IsLine};
-ghost use Rattle.gap_checker.specs.Boxes.{IsOrdered};
+ghost use Rattle.gap_rules.specs.Boxes.{IsOrdered};
 ghost use Rattle.family_points.specs.Counts.{most_tables};
 ghost use Rattle.family_points.specs.Vectors.{places};
-ghost use Rattle.gap_checker.specs.Covers.{leaves};
-ghost use Rattle.gap_checker.specs.Values.{cover_tables, value_of};
-ghost use Rattle.gap_checker.specs.Refusals.{low_leaf};
+ghost use Rattle.gap_rules.specs.Covers.{leaves};
+ghost use Rattle.gap_rules.specs.Values.{cover_tables, value_of};
+ghost use Rattle.gap_rules.specs.Refusals.{low_leaf};
 
-use crate::reading::{Read, read_node};
 use crate::value::low_value;
 use answers::NoMemory;
 use demand_rates::kinds::Rates;
 use family_points::Bounds;
+use gap_rules::reading::{Read, read_node};
 use hull::{Price, Score};
 use price_certificate::Node;
 use spares_input::{Case, PartId};

@@ -3,19 +3,19 @@
 ghost use Rattle.std.specs.Prelude.{◌≡◌, ◌^◌, ◌<◌, ◌≤◌, IfOk, map};
 ghost use Rattle.demand_rates.specs.Rates.{AreRatesOf};
 ghost use Rattle.family_eval.specs.Inputs.{IsLine};
-ghost use Rattle.gap_checker.specs.Boxes.{IsOrdered};
+ghost use Rattle.gap_rules.specs.Boxes.{IsOrdered};
 ghost use Rattle.family_points.specs.Counts.{most_tables, tables_between};
 ghost use Rattle.family_points.specs.Vectors.{places};
-ghost use Rattle.gap_checker.specs.Covers.{box_of};
-ghost use Rattle.gap_checker.specs.Values.{below, least_within, leaf_tables, value_of};
+ghost use Rattle.gap_rules.specs.Covers.{box_of};
+ghost use Rattle.gap_rules.specs.Values.{below, least_within, leaf_tables, value_of};
 
-use crate::cost::added_cost;
-use crate::leaf::Leaf;
 use answers::NoMemory;
 use demand_rates::kinds::Rates;
 use family_curve::curve_within;
 use family_floors::is_at_least;
 use family_points::Bounds;
+use gap_rules::cost::added_cost;
+use gap_rules::leaf::Leaf;
 use hull::{Price, Score};
 use spares_input::{Case, PartId};
 use std::alloc::Global;

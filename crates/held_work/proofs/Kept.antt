@@ -16,7 +16,7 @@ use Rattle.fleet_model.proofs.AllocationLaws.{stocks_allocation}
 use Rattle.fleet_model.proofs.FamilyLaws.{sum_each}
 use Rattle.family_eval.specs.Inputs.{IsLine}
 use Rattle.family_points.specs.declared.bounds.Bounds.{Bounds}
-use Rattle.family_points.specs.Vectors.{Pair, limits, places, vector_of, zeros, IsBetween}
+use Rattle.family_points.specs.Vectors.{IsBetween, Pair, box_from, limits, places, vector_of, zeros}
 use Rattle.family_points.specs.Points.{ScoreEnds, points_within, AreOrdered, plain_ends}
 use Rattle.family_points.specs.Counts.{limited, most_tables, tables_between, tables_of, work_of}
 use Rattle.family_points.proofs.Boxes.{each_any, same_map}
@@ -65,9 +65,6 @@ few_tables c held l valid line h =
     omega (arith, own, small)
 
 -- ---- curves
-
-abbrev pub box_from : CaseRows → ℕ → List ℕ → Bounds
-box_from c l held = record { held = vector_of c l held; low = vector_of c l held; high = limits c l }
 
 -- the bounds of a family from what is held to its limits are in order
 pub box_ordered : (c : CaseRows) (l : ℕ) (held : StockList) (b : Bounds) → b ≡ box_from c l held.list → IsCase c → IsLine c l → IsFor c held → IsWithinLimits c held

@@ -1,39 +1,22 @@
 //! The curves of a case that begin at the held stocks.
 
-ghost use Rattle.std.specs.Prelude.{◌≡◌, IfOk};
+ghost use Rattle.std.specs.Prelude.{IfOk};
 ghost use Rattle.std.specs.List.{AllZip};
 ghost use Rattle.std.specs.Result.{IsOk};
 ghost use Rattle.demand_rates.specs.Rates.{AreRatesOf};
 ghost use Rattle.spares_input.specs.Stocks.{IsFor, IsWithinLimits};
 ghost use Rattle.fleet_model.specs.Rows.{line_units};
-ghost use Rattle.family_eval.specs.Inputs.{IsLine};
-ghost use Rattle.family_points.specs.Vectors.{limits, vector_of};
+ghost use Rattle.family_points.specs.Vectors.{limits};
 ghost use Rattle.held_work.specs.Work.{held_work_of};
 ghost use Rattle.held_work.specs.Curves.{IsFamilyCurve};
 
 use answers::NoMemory;
 use demand_rates::kinds::Rates;
 use family_curve::curve_within;
-use family_points::{Bounds, limits_of, vector_of};
+use family_points::Bounds;
 use hull::{Curve, Score};
 use spares_input::{Case, PartId, Stocks};
 use std::alloc::Global;
-
-/// The vectors of a family from the held stocks to the limits, with the cost of the stocks above the held ones.
-fn bounds_from(alloc: Global, case: &Case, line: PartId, held: &Stocks) -> Result<Bounds, NoMemory>
-    requires line { IsLine case.now line.0 }
-    requires held { IsFor case.now held.now }
-    ensures { IfOk result (λ bounds. bounds ≡ record {
-      held = vector_of case.now line.0 held.now.list;
-      low = vector_of case.now line.0 held.now.list;
-      high = limits case.now line.0;
-    }) }
-{
-    let high = limits_of(alloc, case, line)?;
-    let low = vector_of(alloc, case, line, held)?;
-    let held = vector_of(alloc, case, line, held)?;
-    Ok(Bounds { held, low, high })
-}
 
 /// The curve of each line unit's family in order, over its vectors from the held stocks to the limits, with the cost of
 /// the stocks above the held ones. `held` has a number for each pair of the case, at most its limit, and the work from
@@ -56,7 +39,7 @@ pub fn held_curves<S: Score>(
     for p in 0..case.part_count() {
         let line = PartId(p);
         if case.is_line(line) {
-            let bounds = bounds_from(alloc, case, line, held)?;
+            let bounds = Bounds::from_held(alloc, case, line, held)?;
             let family = curve_within(alloc, case, rates, line, &bounds, score)?;
             curves.push(family)?;
         }

@@ -3,7 +3,7 @@
 use case_edits::EditFault;
 use csv_tables::TableFault;
 use demand_rates::RateFault;
-use gap_checker::Reject;
+use gap_rules::Reject;
 use price_certificate::CertFault;
 use spares_input::{CaseFault, StockFault};
 use spares_words::WordsFault;

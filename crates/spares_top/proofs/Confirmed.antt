@@ -14,13 +14,13 @@ use Rattle.price_certificate.specs.declared.certificate.Objective.TheVariants.{B
 use Rattle.case_plan.specs.Truth.{NoneHasLessThanPrinted}
 use Rattle.certified_plan.specs.Accepted.{claims_of}
 use Rattle.certified_plan.proofs.Believed.{accepted_true, plain_true}
-use Rattle.gap_checker.specs.Scores.{ends_of, value_of}
+use Rattle.gap_rules.specs.Scores.{ends_of, value_of}
 use Rattle.fleet_plan.specs.Plans.{AreTrueClaims, ArePlainClaims}
-use Rattle.gap_checker.specs.Refusals.{cost_above, judged, reject_of}
-use Rattle.gap_checker.proofs.Acceptable.{breaks_none}
-use Rattle.gap_checker.proofs.Costs.{added_is}
-use Rattle.gap_checker.specs.declared.refusal.Accepted.{Accepted}
-use Rattle.gap_checker.specs.declared.refusal.Reject.{Reject}
+use Rattle.gap_rules.specs.Refusals.{cost_above, judged, reject_of}
+use Rattle.gap_rules.proofs.Acceptable.{breaks_none}
+use Rattle.gap_rules.proofs.Costs.{added_is}
+use Rattle.gap_rules.specs.declared.refusal.Accepted.{Accepted}
+use Rattle.gap_rules.specs.declared.refusal.Reject.{Reject}
 use Rattle.plan_report.specs.Fits.{FitsCheck}
 use Rattle.plan_report.specs.Texts.{millionths_up}
 use Rattle.refusals.specs.Causes.{or_refuse}

@@ -16,14 +16,14 @@ use Rattle.family_points.specs.Counts.{work_of}
 use Rattle.held_work.proofs.Kept.{all_work}
 use Rattle.std.specs.Result.{IsOk}
 use Rattle.certified_plan.specs.Laws.{IsPlanOn, NoCertificateShowsMore}
-use Rattle.gap_checker.specs.Scores.{ends_of, value_of}
+use Rattle.gap_rules.specs.Scores.{ends_of, value_of}
 use Rattle.certified_plan.proofs.Accepted.{accepted}
 use Rattle.certified_plan.proofs.Nearest.{nearest}
 use Rattle.certified_plan.proofs.Scores.{scores_enclose, scores_leave_room}
 use Rattle.certified_plan.proofs.Short.{held_short, text_short}
 use Rattle.fleet_plan.specs.Laws.{IsAcceptedCase}
 use Rattle.fleet_plan.specs.Plans.{CasePlan, IsCasePlan}
-use Rattle.gap_checker.specs.Refusals.{reject_of}
+use Rattle.gap_rules.specs.Refusals.{reject_of}
 use Rattle.price_certificate.specs.declared.certificate.Objective.{Objective}
 use Rattle.price_certificate.specs.declared.certificate.Objective.TheVariants.{Backorders}
 use Rattle.held_work.specs.Work.{IsNothing, held_work_of}

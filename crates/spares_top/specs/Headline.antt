@@ -21,11 +21,11 @@ use Rattle.case_maker.specs.Demonstration.{made}
 use Rattle.case_plan.specs.Truth.{IsTruePlanReport, IsTrueReport, NoneHasLessThanPrinted}
 use Rattle.certified_plan.specs.Accepted.{claims_of}
 use Rattle.certified_plan.specs.Laws.{NoCertificateShowsMore}
-use Rattle.gap_checker.specs.Scores.{ends_of, value_of}
+use Rattle.gap_rules.specs.Scores.{ends_of, value_of}
 use Rattle.demonstration.specs.Demonstrations.{budget_of, demo_certificate, summary_of}
 use Rattle.fleet_plan.specs.Laws.{IsAcceptedCase}
 use Rattle.fleet_plan.specs.Plans.{ArePlainClaims, AreTrueClaims, CasePlan, IsPlainPlan}
-use Rattle.gap_checker.specs.Refusals.{reject_of}
+use Rattle.gap_rules.specs.Refusals.{reject_of}
 use Rattle.metric_compare.specs.Shows.{ShowsComparison}
 use Rattle.metric_compare.specs.declared.report.CompareReport.{CompareReport}
 use Rattle.plan_report.specs.Texts.{lower_millionths, millionths_down, millionths_up, upper_millionths}

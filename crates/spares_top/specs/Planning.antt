@@ -11,7 +11,7 @@ use Rattle.answers.specs.declared.stop.Stop.TheVariants as stop
 use Rattle.spares_top.specs.declared.plan.Ground.{Ground}
 use Rattle.case_plan.specs.Report.{IsOutcome}
 use Rattle.case_plan.specs.declared.outcome.Outcome as plans
-use Rattle.gap_checker.specs.Scores.{ends_of}
+use Rattle.gap_rules.specs.Scores.{ends_of}
 use Rattle.spares_top.specs.Plans.{Planning, plan_terms}
 use Rattle.spares_top.specs.Task.{bytes_at}
 

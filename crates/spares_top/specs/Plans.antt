@@ -5,7 +5,7 @@ use Rattle.case_plan.specs.Report.{report_of}
 use Rattle.case_plan.specs.Report as reports
 use Rattle.case_tables.specs.Tables.{accepted_of, case_of_tables, stocked_of}
 use Rattle.certified_plan.specs.Certificates.{certificate_of, claims_of, text_of}
-use Rattle.gap_checker.specs.Scores.{ends_of}
+use Rattle.gap_rules.specs.Scores.{ends_of}
 use Rattle.price_certificate.specs.declared.certificate.Terms.{Terms}
 use Rattle.family_points.specs.Counts.{work_of}
 use Rattle.fleet_plan.specs.Plans.{CasePlan, IsCasePlan}

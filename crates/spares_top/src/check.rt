@@ -1,7 +1,7 @@
 //! The check of a certificate.
 ghost use Rattle.std.specs.Prelude.{◌≡◌, ◌≤◌, IfOk, length};
-ghost use Rattle.gap_checker.specs.Scores.{ends_of};
-ghost use Rattle.gap_checker.specs.Refusals.{judged};
+ghost use Rattle.gap_rules.specs.Scores.{ends_of};
+ghost use Rattle.gap_rules.specs.Refusals.{judged};
 ghost use Rattle.held_certificate.specs.Held.{held_of};
 ghost use Rattle.price_certificate.specs.Certificates.{cert_of, certificate_limit};
 ghost use Rattle.answers.specs.Answers.{Gives};
@@ -12,7 +12,8 @@ ghost use Rattle.spares_top.specs.Task.{check_task};
 
 use crate::done::{Done, Outcome};
 use answers::Stop;
-use gap_checker::{Accepted, Reject, check_within};
+use gap_checker::check_within;
+use gap_rules::{Accepted, Reject};
 use hull::Plain;
 use log_loss::LogLoss;
 use plan_report::CheckReport;

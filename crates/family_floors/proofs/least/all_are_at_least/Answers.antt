@@ -2,8 +2,8 @@ use Rattle.std.proofs.Common.{ℕ, ◌<◌, ◌∷◌, true, false, List, flat_m
 use Rattle.hull.specs.declared.point.Point.{Point}
 use Rattle.family_points.specs.Separation.{depot_points}
 use Rattle.family_points.specs.Inputs.{line_stocks, shop_vectors}
-use Rattle.family_floors.specs.Least.{Decides}
-use Rattle.family_floors.proofs.LeastPoints.{shops_all, shops_below, shops_more, decides_all}
+use Rattle.family_points.specs.Least.{Decides}
+use Rattle.family_points.proofs.LeastPoints.{shops_all, shops_below, shops_more, decides_all}
 use Rattle.family_floors.proofs.least.all_are_at_least.Goals as goal
 
 pub returns-then-not-branch : goal.returns-then-not-branch

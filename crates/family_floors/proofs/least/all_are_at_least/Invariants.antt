@@ -1,7 +1,7 @@
 use Rattle.std.proofs.Common.{◌∷◌, flat_map, take}
 use Rattle.family_points.specs.Separation.{depot_points}
 use Rattle.family_points.specs.Inputs.{line_stocks, shop_vectors}
-use Rattle.family_floors.specs.Least.{AreAtLeast}
+use Rattle.family_points.specs.Least.{AreAtLeast}
 use Rattle.family_floors.proofs.least.all_are_at_least.Given as goal
 
 abbrev pub invariant-loop-n : goal.invariant-loop-n

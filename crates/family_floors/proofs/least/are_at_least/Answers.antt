@@ -3,9 +3,9 @@ use Rattle.std.specs.List.{range_with_len}
 use Rattle.hull.specs.declared.point.Point.{Point}
 use Rattle.family_points.specs.Separation.{depot_points}
 use Rattle.family_points.specs.Inputs.{IsAt, line_high, line_low}
-use Rattle.family_floors.specs.Least.{AreAtLeast, Decides}
-use Rattle.family_floors.proofs.Leasts.{decides_true}
-use Rattle.family_floors.proofs.LeastPoints.{stock_below, stock_more}
+use Rattle.family_points.specs.Least.{AreAtLeast, Decides}
+use Rattle.family_points.proofs.Leasts.{decides_true}
+use Rattle.family_points.proofs.LeastPoints.{stock_below, stock_more}
 use Rattle.family_points.proofs.Points.{joined_at}
 use Rattle.family_floors.proofs.least.are_at_least.Goals as goal
 

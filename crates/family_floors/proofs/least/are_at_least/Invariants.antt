@@ -2,7 +2,7 @@ use Rattle.std.proofs.Common.{◌-◌, ◌∷◌, flat_map}
 use Rattle.std.specs.List.{range_with_len}
 use Rattle.family_points.specs.Separation.{depot_points}
 use Rattle.family_points.specs.Inputs.{line_low}
-use Rattle.family_floors.specs.Least.{AreAtLeast}
+use Rattle.family_points.specs.Least.{AreAtLeast}
 use Rattle.family_floors.proofs.least.are_at_least.Given as goal
 
 abbrev pub invariant-loop-s : goal.invariant-loop-s

@@ -1,9 +1,9 @@
 use Rattle.std.proofs.Common.{◌∙◌, subst}
 use Rattle.family_points.specs.Inputs.{FamilyBox}
-use Rattle.family_floors.specs.Least.{Decides}
+use Rattle.family_points.specs.Least.{Decides}
 use Rattle.family_points.specs.Points.{points_within}
-use Rattle.family_floors.proofs.LeastPoints.{box_some}
-use Rattle.family_floors.proofs.Leasts.{decided}
+use Rattle.family_points.proofs.LeastPoints.{box_some}
+use Rattle.family_points.proofs.Leasts.{decided}
 use Rattle.family_floors.proofs.least.is_at_least.Goals as goal
 
 pub returns : goal.returns

@@ -1,5 +1,5 @@
 use Rattle.std.proofs.Common.{arith}
-use Rattle.family_floors.proofs.LeastPoints.{base_least_is}
+use Rattle.family_points.proofs.LeastPoints.{base_least_is}
 use Rattle.family_points.proofs.Ordered.{order_count}
 use Rattle.family_points.proofs.Points.{some_vectors}
 use Rattle.family_floors.proofs.least.least_at_base.Goals as goal

@@ -3,9 +3,9 @@ use Rattle.std.specs.List.{range_with_len}
 use Rattle.std.proofs.lemmas.Nat.{mul-le}
 use Rattle.family_points.specs.Separation.{base_points, points_over}
 use Rattle.family_points.specs.Inputs.{FamilyBox}
-use Rattle.family_floors.specs.Least.{IsLeast}
+use Rattle.family_points.specs.Least.{IsLeast}
 use Rattle.family_points.proofs.AllBases.{base_read, bases_long}
-use Rattle.family_floors.proofs.LeastPoints.{base_added, depot_begins}
+use Rattle.family_points.proofs.LeastPoints.{base_added, depot_begins}
 use Rattle.family_floors.proofs.least.least_at_depot.Goals as goal
 
 pub loop-j-init : goal.loop-j-init

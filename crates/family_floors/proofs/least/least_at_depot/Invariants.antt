@@ -1,6 +1,6 @@
 use Rattle.std.proofs.Common.{◌-◌, ◌*◌, ◌^◌, ◌≤◌}
 use Rattle.std.specs.List.{range_with_len}
-use Rattle.family_floors.specs.Least.{IsLeast}
+use Rattle.family_points.specs.Least.{IsLeast}
 use Rattle.family_points.specs.Separation.{points_over}
 use Rattle.family_floors.proofs.least.least_at_depot.Given as goal
 

@@ -1,5 +1,5 @@
 use Rattle.std.proofs.Common.{◌^◌, ◌≤◌}
-use Rattle.family_floors.specs.Least.{IsLeast}
+use Rattle.family_points.specs.Least.{IsLeast}
 use Rattle.family_points.proofs.Ordered.{points_to}
 use Rattle.family_floors.proofs.least.least_of_choices.Given as goal
 

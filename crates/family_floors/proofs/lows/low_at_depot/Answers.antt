@@ -3,7 +3,7 @@ use Rattle.std.specs.List.{range_with_len}
 use Rattle.std.proofs.lemmas.Nat.{mul-le}
 use Rattle.family_points.specs.Separation.{base_points, points_over}
 use Rattle.family_points.specs.Inputs.{FamilyBox}
-use Rattle.family_floors.specs.Least.{AreAtLeast}
+use Rattle.family_points.specs.Least.{AreAtLeast}
 use Rattle.family_points.proofs.AllBases.{base_read, bases_long}
 use Rattle.family_floors.proofs.LowPoints.{base_under_more, depot_under}
 use Rattle.family_floors.proofs.lows.low_at_depot.Goals as goal

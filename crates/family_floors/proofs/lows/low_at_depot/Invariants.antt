@@ -1,6 +1,6 @@
 use Rattle.std.proofs.Common.{◌-◌, ◌*◌, ◌^◌, ◌≤◌}
 use Rattle.std.specs.List.{range_with_len}
-use Rattle.family_floors.specs.Least.{AreAtLeast}
+use Rattle.family_points.specs.Least.{AreAtLeast}
 use Rattle.family_points.specs.Separation.{points_over}
 use Rattle.family_floors.proofs.lows.low_at_depot.Given as goal
 

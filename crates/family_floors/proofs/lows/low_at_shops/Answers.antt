@@ -1,7 +1,7 @@
 use Rattle.std.proofs.Common.{◌≡◌, ℕ, ◌+◌, ◌-◌, ◌<◌, ◌≤◌, List, ◌∷◌, min, sym, ap, ◌∙◌, subst, arith}
 use Rattle.hull.specs.Curves.{lagrangian}
 use Rattle.family_points.specs.Inputs.{line_low}
-use Rattle.family_floors.specs.Least.{AreLowsAt}
+use Rattle.family_points.specs.Least.{AreLowsAt}
 use Rattle.family_points.specs.Separation.{base_point}
 use Rattle.family_floors.proofs.LowPoints.{under_more}
 use Rattle.family_points.proofs.Spotted.{line_cost, line_cost_small}

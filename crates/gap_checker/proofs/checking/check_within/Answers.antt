@@ -1,9 +1,9 @@
 use Rattle.std.proofs.Common.{length, sum, sym, ap, ◌∙◌, arith}
 use Rattle.price_bounds.specs.Sums.{bound_of}
 use Rattle.fleet_model.proofs.FrameLaws.{few_lines}
-use Rattle.gap_checker.proofs.Formed.{has_floors}
-use Rattle.gap_checker.proofs.Families.{count_lines}
-use Rattle.gap_checker.proofs.Judging.{gives_stop, by_rates, by_gaps, by_work, by_limits, by_held, by_budget, by_floors, by_upper, by_bound, by_none}
+use Rattle.gap_rules.proofs.Formed.{has_floors}
+use Rattle.gap_rules.proofs.Families.{count_lines}
+use Rattle.gap_rules.proofs.Judging.{gives_stop, by_rates, by_gaps, by_work, by_limits, by_held, by_budget, by_floors, by_upper, by_bound, by_none}
 use Rattle.gap_checker.proofs.checking.check_within.Goals as goal
 
 pub returns-in_err-rates : goal.returns-in_err-rates

@@ -1,7 +1,7 @@
 use Rattle.std.proofs.Common.{◌≡◌, ◌+◌, ◌*◌, ◌^◌, ◌≤◌, drop, map}
 use Rattle.fleet_model.specs.Rows.{line_units}
 use Rattle.price_bounds.specs.Sums.{hi_of}
-use Rattle.gap_checker.specs.Refusals.{chosen_point, upper_of}
+use Rattle.gap_rules.specs.Refusals.{chosen_point, upper_of}
 use Rattle.gap_checker.proofs.upper.upper_of.Given as goal
 
 abbrev pub invariant-loop-f : goal.invariant-loop-f

@@ -2,7 +2,7 @@ use Rattle.std.proofs.Common.{◌*◌, ◌+◌, ◌^◌, ◌≤◌, ap, ◌∙�
 use Rattle.std.proofs.lemmas.Nat.{mul-le}
 use Rattle.hull.specs.Curves.{InRange}
 use Rattle.family_points.specs.Points.{points_within}
-use Rattle.gap_checker.specs.Values.{least_within}
+use Rattle.gap_rules.specs.Values.{least_within}
 use Rattle.gap_checker.proofs.Leasts.{least_vertex, vertex_among}
 use Rattle.gap_checker.proofs.value.least_within.Goals as goal
 

@@ -1,6 +1,6 @@
 use Rattle.std.proofs.Common.{◌≡◌, ◌<◌, nat_le, true, false, Some, sym, ap, ◌∙◌}
 use Rattle.std.proofs.lemmas.Bool.{leb-false, leb-true}
-use Rattle.gap_checker.specs.Values.{least_within}
+use Rattle.gap_rules.specs.Values.{least_within}
 use Rattle.gap_checker.proofs.Lowering.{below_is, below_isnt}
 use Rattle.gap_checker.proofs.value.low_within.Goals as goal
 

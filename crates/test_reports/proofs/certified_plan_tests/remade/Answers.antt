@@ -1,5 +1,5 @@
 use Rattle.std.proofs.Common.{sym, ◌∙◌}
-use Rattle.gap_checker.proofs.Formed.{lines_counted}
+use Rattle.gap_rules.proofs.Formed.{lines_counted}
 use Rattle.test_reports.proofs.certified_plan_tests.remade.Goals as goal
 
 pub certificate-requires-clause-claims : goal.certificate-requires-clause-claims

@@ -1,0 +1,177 @@
+-- The families of a certificate, by their numbers.
+use Rattle.std.proofs.Common.{◌≡◌, ℕ, zero, suc, ◌+◌, ◌<◌, ◌≤◌, ◌⊎◌, inl, inr, min, true, false, List, [], ◌∷◌, map, length, get_or, sum_by, Option, Some, None, is_none, refl, sym, ap, ◌∙◌, subst, arith}
+use Rattle.std.specs.Prelude.{if◌then◌else◌, unwrap_or, is_some}
+use Rattle.std.specs.List.{range_with_len}
+use Rattle.std.specs.Option.{option_map}
+use Rattle.std.proofs.lemmas.List.Sums.{sum_by-cons}
+use Rattle.std.proofs.lemmas.List.{length-map}
+use Rattle.answers.specs.Counts.{count64}
+use Rattle.spares_input.specs.declared.rows.PartId.{PartId}
+use Rattle.spares_input.specs.First.{first}
+use Rattle.spares_input.specs.Cases.{CaseRows}
+use Rattle.spares_input.specs.Stocks.{StockList, IsFor, IsWithinLimits, limit_at}
+use Rattle.spares_input.proofs.Firsts.{first_none, first_found, first_more}
+use Rattle.fleet_model.specs.Rows.{line_units}
+use Rattle.fleet_model.proofs.AllocationLaws.{stock_holds}
+use Rattle.demand_rates.proofs.Sums.{sum_more}
+use Rattle.family_eval.specs.Inputs.{IsLine}
+use Rattle.family_points.specs.declared.bounds.Bounds.{Bounds}
+use Rattle.hull.proofs.Runs.{among_at}
+use Rattle.gap_rules.specs.Boxes.{AtMost, IsOrdered}
+use Rattle.family_points.specs.Vectors.{places, vector_of, limits, box_from}
+use Rattle.price_certificate.specs.declared.certificate.Node.{Node}
+use Rattle.price_certificate.specs.declared.certificate.Certificate.{Certificate}
+use Rattle.gap_rules.specs.declared.leaf.Leaf.{Leaf}
+use Rattle.gap_rules.specs.declared.refusal.Reject.{Reject}
+use Rattle.gap_rules.specs.declared.refusal.Reject.TheVariants as reject
+use Rattle.gap_rules.specs.Covers.{leaves}
+use Rattle.gap_rules.specs.Values.{cover_tables, value_of}
+use Rattle.gap_rules.specs.Refusals.{line_at, family_count, nodes_of, cover_of, family_leaves, gap_at, family_tables, tables_of_first, work_of, too_low, low_leaf, low_at}
+use Rattle.gap_rules.proofs.Boxes.{at_most_self}
+use Rattle.gap_rules.proofs.Places.{IsPair, place_pair, line_part, at_most_maps}
+use Rattle.gap_rules.proofs.Adding.{part_first}
+use Rattle.gap_rules.proofs.Acceptable.{some_leaves}
+use Rattle.family_points.specs.Points.{ScoreEnds}
+
+-- ---- line units
+
+-- the line unit read by its id at place f is that of family f
+pub line_read_at : (c : CaseRows) (lines : List PartId) (f : ℕ) → map (λ (p : PartId). p.0) lines ≡ line_units c → (get_or lines f (record { 0 = 0 })).0 ≡ line_at c f
+line_read_at c lines f h = part_first lines f ∙ ap (λ xs. get_or xs f 0) h
+
+-- there are as many ids of line units as families
+pub count_lines : (c : CaseRows) (lines : List PartId) → map (λ (p : PartId). p.0) lines ≡ line_units c → length lines ≡ family_count c
+count_lines c lines h = sym (length-map lines (λ (p : PartId). p.0)) ∙ ap length h
+
+-- what is read there is a line unit of the case
+pub line_is : (c : CaseRows) (lines : List PartId) (f : ℕ) → map (λ (p : PartId). p.0) lines ≡ line_units c → f < length lines → IsLine c (get_or lines f (record { 0 = 0 })).0
+line_is c lines f h b =
+    let n = count_lines c lines h in
+    let r = line_part c (line_at c f) (among_at (line_units c) f 0 (omega (arith, n, b))) in
+    let own : IsLine c (line_at c f) = record { is_part = r.0; no_parent = r.1 } in
+    subst (λ l. IsLine c l) (sym (line_read_at c lines f h)) own
+
+-- ---- boxes
+
+-- stocks held within their limits are within those of each family
+pub held_limited : (c : CaseRows) (l : ℕ) (held : StockList) → l < length c.parts → IsFor c held → IsWithinLimits c held → AtMost (vector_of c l held.list) (limits c l)
+held_limited c l held b is_for within =
+    at_most_maps _ _ (places c l) (λ x m. (let p : IsPair c x = place_pair c l x b m in subst (λ z. z ≤ limit_at c.parts x.part x.site) (sym (stock_holds c held x.part x.site is_for)) (within x.part x.site p.part p.site)))
+
+-- the box from what is held to the limits is in order
+pub box_ordered : (c : CaseRows) (l : ℕ) (held : StockList) → l < length c.parts → IsFor c held → IsWithinLimits c held → IsOrdered c l (box_from c l held.list)
+box_ordered c l held b is_for within =
+    let h = held_limited c l held b is_for within in
+    record { held_least = at_most_self (vector_of c l held.list); low_least = h; within = at_most_self (limits c l) }
+
+-- ---- covers
+
+module _ (cert : Certificate) (held : StockList) (f l : ℕ) (nodes : List Node) (bounds : Bounds) (line : l ≡ line_at cert.case f) (own_nodes : nodes ≡ nodes_of cert f) (own_box : bounds ≡ box_from cert.case l held.list) where
+  pub cover_same : leaves nodes (bounds ∷ []) ≡ cover_of cert held f
+  unfolding cover_of
+  cover_same =
+      ap (λ z. leaves z (bounds ∷ [])) own_nodes
+      ∙ ap (λ z. leaves (nodes_of cert f) (z ∷ [])) own_box
+      ∙ ap (λ z. leaves (nodes_of cert f) (box_from cert.case z held.list ∷ [])) line
+
+  -- where the cover of family f is a tree, so are the nodes that are read
+  pub own_tree : is_some (cover_of cert held f) ≡ true → is_some (leaves nodes (bounds ∷ [])) ≡ true
+  own_tree h = ap (λ z. is_some z) cover_same ∙ h
+
+  -- where the tables of family f are within the limit, so are those of the leaves that are read
+  pub own_work : family_tables cert held f ≤ 1000000 → cover_tables cert.case l (unwrap_or (leaves nodes (bounds ∷ [])) []) ≤ 1000000
+  own_work h = subst (λ z. cover_tables cert.case z (unwrap_or (leaves nodes (bounds ∷ [])) []) ≤ 1000000) (sym line)
+      (subst (λ z. cover_tables cert.case (line_at cert.case f) (unwrap_or z []) ≤ 1000000) (sym cover_same) h)
+
+  -- the tables counted of the nodes that are read are those of the cover of family f
+  pub own_count : option_map (λ ls. count64 (cover_tables cert.case l ls)) (leaves nodes (bounds ∷ [])) ≡ option_map (λ ls. count64 (cover_tables cert.case (line_at cert.case f) ls)) (cover_of cert held f)
+  own_count =
+      ap (λ z. option_map (λ ls. count64 (cover_tables cert.case l ls)) z) cover_same
+      ∙ ap (λ z. option_map (λ ls. count64 (cover_tables cert.case z ls)) (cover_of cert held f)) line
+
+  module _ (score : ScoreEnds) (floor : ℕ) (own_floor : floor ≡ get_or cert.floors f 0) (low : Option (ℕ × ℕ))
+      (is : low ≡ low_leaf (value_of cert.case l score cert.price) floor 0 (unwrap_or (leaves nodes (bounds ∷ [])) [])) where
+    -- the reject of the low leaf that was found is that of family f
+    pub own_low : option_map (λ x. too_low cert.format f x.0 floor x.1) low ≡ low_at score cert held f
+    unfolding low_at
+    own_low =
+        ap (λ z. option_map (λ x. too_low cert.format f x.0 floor x.1) z)
+        (is
+        ∙ ap (λ z. low_leaf (value_of cert.case l score cert.price) floor 0 (unwrap_or z [])) cover_same
+        ∙ ap (λ z. low_leaf (value_of cert.case z score cert.price) floor 0 (family_leaves cert held f)) line)
+        ∙ ap (λ z. option_map (λ x. too_low cert.format f x.0 z x.1) (low_leaf (value_of cert.case (line_at cert.case f) score cert.price) z 0 (family_leaves cert held f))) own_floor
+
+some_is : {A : Type 0} (o : Option A) (x : A) → o ≡ Some x → is_some o ≡ true
+some_is o x e = ap (λ z. is_some z) e
+
+-- where no family has a gap, each family's nodes are a tree
+pub tree_at : (cert : Certificate) (held : StockList) (f : ℕ) → first (gap_at cert held) (family_count cert.case) ≡ None → f < family_count cert.case → is_some (cover_of cert held f) ≡ true
+tree_at cert held f none b = some_is (cover_of cert held f) _ (some_leaves (cover_of cert held f) (reject.CoverGap f) (first_none (gap_at cert held) (family_count cert.case) f none b))
+
+term_most : (g : ℕ → ℕ) (n a j : ℕ) → a ≤ j → j < a + n → g j ≤ sum_by g (range_with_len a n)
+term_most g zero a j h k = absurd (omega arith)
+term_most g (suc n) a j h k = elim (here a j h) [
+  | inl e ↦ (let s = sum_by-cons g a (range_with_len (a + 1) n) in let q = ap g e in omega (arith, s, q))
+  | inr m ↦ (let s = sum_by-cons g a (range_with_len (a + 1) n) in let r = term_most g n (a + 1) j m (omega arith) in omega (arith, s, r))
+]
+  where
+    here : (a j : ℕ) → a ≤ j → (a ≡ j) ⊎ (a + 1 ≤ j)
+    here a j h = grind arith
+
+uncounted : (n : ℕ) → count64 n ≤ 1000000 → n ≤ 1000000
+uncounted n h = omega arith
+
+-- where the work of all families is within the limit, so are the tables of each
+pub work_at : (cert : Certificate) (held : StockList) (f : ℕ) → work_of cert held ≤ 1000000 → f < family_count cert.case → family_tables cert held f ≤ 1000000
+work_at cert held f h b =
+    let s = uncounted (tables_of_first cert held (family_count cert.case)) h in
+    let t = term_most (family_tables cert held) (family_count cert.case) 0 f (omega arith) (omega (arith, b)) in
+    omega (arith, s, t)
+
+-- ---- the first of all families
+
+-- the first fault found, with none before it, is the first of all
+pub found_some : (at : ℕ → Option Reject) (f n : ℕ) (o : Option Reject) → o ≡ at f → is_some o ≡ true → first at f ≡ None → f < n → o ≡ first at n
+found_some at f n None e h before b = absurd (cc)
+found_some at f n (Some x) e h before b = sym (first_found at f n x before (sym e) b)
+
+-- with no fault found so far and none here, there is none up to the next
+pub found_none : (at : ℕ → Option Reject) (f : ℕ) (o : Option Reject) → o ≡ at f → is_some o ≡ false → first at f ≡ None → first at (f + 1) ≡ None
+found_none at f None e h before = first_more at f before (sym e)
+found_none at f (Some x) e h before = absurd (cc)
+
+-- ---- the count
+
+cap_sum : (a b w t : ℕ) → w ≡ count64 a → t ≡ count64 b → min (w + t) 18446744073709551615 ≡ count64 (a + b)
+cap_sum a b w t e f = omega arith
+
+module _ (cert : Certificate) (held : StockList) (f : ℕ) where
+  count_by : (o : Option (List Leaf)) (tables : ℕ) → Some tables ≡ option_map (λ ls. count64 (cover_tables cert.case (line_at cert.case f) ls)) o
+      → ((if is_none o then Some (reject.CoverGap f) else None) ≡ None) × (tables ≡ count64 (cover_tables cert.case (line_at cert.case f) (unwrap_or o [])))
+  count_by None tables h = absurd (cc)
+  count_by (Some ls) tables h = (refl, (cc))
+
+  gap_by : (o : Option (List Leaf)) → None ≡ option_map (λ ls. count64 (cover_tables cert.case (line_at cert.case f) ls)) o → (if is_none o then Some (reject.CoverGap f) else None) ≡ Some (reject.CoverGap f)
+  gap_by None h = refl
+  gap_by (Some ls) h = absurd (cc)
+
+  -- with the tables of family f counted there is no gap so far, and the count is that of one family more
+  pub counted_more : (work tables now : ℕ) → first (gap_at cert held) f ≡ None → work ≡ count64 (tables_of_first cert held f)
+      → Some tables ≡ option_map (λ ls. count64 (cover_tables cert.case (line_at cert.case f) ls)) (cover_of cert held f) → now ≡ min (work + tables) 18446744073709551615
+      → (first (gap_at cert held) (f + 1) ≡ None) × (now ≡ count64 (tables_of_first cert held (f + 1)))
+  counted_more work tables now before w t n =
+      let r = count_by (cover_of cert held f) tables t in
+      let s : tables_of_first cert held (f + 1) ≡ tables_of_first cert held f + family_tables cert held f =
+      ap (λ k. sum_by (family_tables cert held) (range_with_len 0 k)) (one f) ∙ sum_more (family_tables cert held) 0 f ∙ ap (λ k. tables_of_first cert held f + family_tables cert held k) (none f) in
+      (first_more (gap_at cert held) f before r.0, n ∙ cap_sum (tables_of_first cert held f) (family_tables cert held f) work tables w r.1 ∙ sym (ap count64 s))
+    where
+      one : (f : ℕ) → f + 1 ≡ suc f
+      one f = omega arith
+
+      none : (f : ℕ) → 0 + f ≡ f
+      none f = omega arith
+
+  -- where family f has a gap and none before it has one, the first gap of all is that of f
+  pub counted_gap_at : (n : ℕ) → first (gap_at cert held) f ≡ None → None ≡ option_map (λ ls. count64 (cover_tables cert.case (line_at cert.case f) ls)) (cover_of cert held f) → f < n
+      → first (gap_at cert held) n ≡ Some (reject.CoverGap f)
+  counted_gap_at n before h b = first_found (gap_at cert held) f n (reject.CoverGap f) before (gap_by (cover_of cert held f) h) b

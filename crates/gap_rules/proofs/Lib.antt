@@ -1,0 +1,17 @@
+pub mod Added
+pub mod Formed
+pub mod Boxes
+pub mod Trees
+pub mod AmongLaws
+pub mod FloorLaws
+pub mod Places
+pub mod Costs
+pub mod Acceptable
+pub mod ReadingLaws
+pub mod Counting
+pub mod StockFaults
+pub mod Adding
+pub mod Families
+pub mod Judging
+pub mod Readings
+pub mod Soundly

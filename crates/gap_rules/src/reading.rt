@@ -1,0 +1,96 @@
+//! The reading of a cover, node by node, with the boxes that wait for their nodes.
+//!
+//! Each split leaves both of its parts fewer vectors, so at most 9,073 boxes wait at once.
+
+ghost use Rattle.std.specs.Prelude.{◌≡◌, IfOk, get_or, set};
+ghost use Rattle.gap_rules.specs.Reading.{parts_at, Reads, KeepsOrder};
+
+use crate::leaf::Leaf;
+use answers::{List, NoMemory};
+use family_points::Bounds;
+use price_certificate::Node;
+use std::alloc::Global;
+
+/// The kind of a node in its cover: a gap (no part of a tree), a split, or a leaf.
+#[derive(Debug, Drop)]
+pub enum Read {
+    Gap,
+    Inner,
+    Leaf(Leaf),
+}
+
+/// The stock at a place, and 0 past the last place.
+fn stock_at(vector: &[u8], at: usize) -> u8
+    ensures { result ≡ get_or vector.now at 0 }
+{
+    if at < vector.len() { vector[at] } else { 0 }
+}
+
+/// A copy of these stocks.
+fn same(alloc: Global, vector: &[u8]) -> Result<List<u8>, NoMemory>
+    ensures { IfOk result (λ v. v ≡ vector.now) }
+{
+    let copy = Vec::from_slice(alloc, vector)?;
+    Ok(List::of(copy))
+}
+
+/// These stocks with another stock at one place.
+fn with(alloc: Global, vector: &[u8], at: usize, stock: u8) -> Result<List<u8>, NoMemory>
+    ensures { IfOk result (λ v. v ≡ set vector.now at stock) }
+{
+    let mut copy = Vec::from_slice(alloc, vector)?;
+    if at < copy.len() {
+        copy[at] = stock;
+    }
+    Ok(List::of(copy))
+}
+
+/// The two parts of a box at a place, if both have vectors.
+fn parts(
+    alloc: Global,
+    bounds: Bounds,
+    at: usize,
+    from: u8,
+) -> Result<Option<(Bounds, Bounds)>, NoMemory>
+    ensures { IfOk result (λ r. r ≡ parts_at bounds at from) }
+{
+    let low = stock_at(bounds.low.as_slice(), at);
+    let high = stock_at(bounds.high.as_slice(), at);
+    if low < from && from <= high {
+        let fewer = Bounds {
+            held: same(alloc, bounds.held.as_slice())?,
+            low: same(alloc, bounds.low.as_slice())?,
+            high: with(alloc, bounds.high.as_slice(), at, from - 1)?,
+        };
+        let as_many = Bounds {
+            held: bounds.held,
+            low: with(alloc, bounds.low.as_slice(), at, from)?,
+            high: bounds.high,
+        };
+        Ok(Some((fewer, as_many)))
+    } else {
+        Ok(None)
+    }
+}
+
+/// Reads a node for the last waiting box.
+pub fn read_node(alloc: Global, waiting: &mut Vec<Bounds>, node: Node) -> Result<Read, NoMemory>
+    ensures reads { IfOk result (λ r. Reads waiting.old.items node r waiting.new.items) }
+    ensures ordered { IfOk result (λ r. KeepsOrder waiting.old.items r waiting.new.items) }
+{
+    let Some(bounds) = waiting.pop() else {
+        return Ok(Read::Gap);
+    };
+    match node {
+        Node::Split { at, from } => match parts(alloc, bounds, usize::from(at), from)? {
+            Some((fewer, as_many)) => {
+                waiting.push(as_many)?;
+                waiting.push(fewer)?;
+                Ok(Read::Inner)
+            }
+            None => Ok(Read::Gap),
+        },
+        Node::Cost => Ok(Read::Leaf(Leaf::Cost(bounds))),
+        Node::Whole => Ok(Read::Leaf(Leaf::Whole(bounds))),
+    }
+}
