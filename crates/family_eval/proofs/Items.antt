@@ -180,7 +180,8 @@ held_are f c s l k xs base valid line e =
 abbrev unit_items : (f : ℕ) → CaseRows → List ℕ → List PartId → List (Item f)
 unit_items f c s xs = flat_map (λ (p : PartId). part_items f c s p.0) xs
 
-by_ids : (f : ℕ) (c : CaseRows) (s : List ℕ) (xs : List PartId) → unit_items f c s xs ≡ flat_map (part_items f c s) (map (λ (p : PartId). p.0) xs)
+-- the items of collected units are those of their ids
+pub by_ids : (f : ℕ) (c : CaseRows) (s : List ℕ) (xs : List PartId) → unit_items f c s xs ≡ flat_map (part_items f c s) (map (λ (p : PartId). p.0) xs)
 by_ids f c s xs = sym (flat_map-map (part_items f c s) (λ (p : PartId). p.0) xs)
 
 before_end : (i n k m : ℕ) → i < m → k < n → i * n + k < m * n
@@ -296,12 +297,11 @@ row_small f c s p items list least sound l h e k d i =
     (item_small f c s least sound p k l n)
 
 -- the items of a line unit, those of its shop units and the total make the family's result
-pub family_is : (f : ℕ) (c : CaseRows) (s : StockList) (l : ℕ) (rows shops all items : List (Item f)) (xs : List PartId) (total : Ends) → rows ≡ part_items f c s.list l
-    → shops ≡ unit_items f c s.list xs → map (λ (p : PartId). p.0) xs ≡ shop_units c l → all ≡ rows ++ shops → items ≡ all → total ≡ total_of f c s.list l
+pub family_is : (f : ℕ) (c : CaseRows) (s : StockList) (l : ℕ) (rows shops all items : List (Item f)) (total : Ends) → rows ≡ part_items f c s.list l
+    → shops ≡ flat_map (part_items f c s.list) (shop_units c l) → all ≡ rows ++ shops → items ≡ all → total ≡ total_of f c s.list l
     → record { items = items; total = total } ≡ family_of f c l s
-family_is f c s l rows shops all items xs total hr hs hx ha hi ht =
-    ap₂ (λ (a : List (Item f)) (b : Ends). record { items = a; total = b })
-    (hi ∙ ha ∙ ap₂ (λ (a b : List (Item f)). a ++ b) hr (hs ∙ by_ids f c s.list xs ∙ ap (flat_map (part_items f c s.list)) hx)) ht
+family_is f c s l rows shops all items total hr hs ha hi ht =
+    ap₂ (λ (a : List (Item f)) (b : Ends). record { items = a; total = b }) (hi ∙ ha ∙ ap₂ (λ (a b : List (Item f)). a ++ b) hr hs) ht
 
 -- ---- what the shop units pass on is few and small
 

@@ -13,22 +13,22 @@
 //! [`families_enclose`]).
 #![tactic(auto)]
 
-ghost use Rattle.std.specs.Prelude.{◌≡◌, ℕ, ◌<◌, IfOk, length};
+ghost use Rattle.std.specs.Prelude.{◌≡◌, ℕ, ◌<◌, IfOk, length, flat_map};
 ghost use Rattle.exact_model.specs.Fraction.{Encloses};
 ghost use Rattle.fixed_interval.specs.Ends.{InScale};
 ghost use Rattle.spares_input.specs.Cases.{CaseRows};
 ghost use Rattle.spares_input.specs.Stocks.{StockList};
 ghost use Rattle.demand_rates.specs.Rates.{AreRatesOf};
 ghost use Rattle.std.specs.List.{AllZip};
-ghost use Rattle.fleet_model.specs.Rows.{line_units};
+ghost use Rattle.fleet_model.specs.Rows.{line_units, shop_units};
 ghost use Rattle.fleet_model.specs.Pipelines.{ebo_0j};
 ghost use Rattle.fleet_model.specs.Laws.{IsBase};
-ghost use Rattle.family_eval.specs.Profile.{item_of, family_of, families_of};
+ghost use Rattle.family_eval.specs.Profile.{item_of, part_items, family_of, families_of};
 ghost use Rattle.family_eval.specs.Encloses.{CanEvaluate, EnclosesItem, EnclosesFamily, IsSmallItem, IsSmallFamily};
 ghost use Rattle.family_eval.specs.Inputs.{IsLine};
 
 use crate::inputs::Inputs;
-use crate::lines::{line_items, total_of};
+use crate::lines::{depot_line_at, line_items, total_of};
 use crate::shops::all_shop_items;
 use answers::{List, NoMemory};
 use demand_rates::kinds::Rates;
@@ -68,6 +68,33 @@ pub fn families_enclose()
         → IsSmallFamily f c l (family_of f c l s) }
 {}
 
+/// The family of a line unit, from its item at the depot and the items of its shop units, each by site in part order.
+/// Want of memory is the only error.
+pub fn family_from<const F: u32>(
+    alloc: Global,
+    inputs: &Inputs<'_>,
+    line: PartId,
+    depot: Item<F>,
+    shop_items: &[Item<F>],
+) -> Result<FamilyResult<F>, NoMemory>
+    requires scale { InScale F }
+    requires line { IsLine inputs.now.case line.0 }
+    requires depot { depot ≡ item_of F inputs.now.case inputs.now.stocks.list line.0 0 }
+    requires shops { shop_items.now ≡ flat_map (part_items F inputs.now.case inputs.now.stocks.list)
+        (shop_units inputs.now.case line.0) }
+    ensures { IfOk result (λ r. r ≡ family_of F inputs.now.case line.0 inputs.now.stocks) }
+{
+    let _sites = inputs.sites();
+    let units = shop_units(alloc, inputs.case(), line)?;
+    let mut items = line_items(alloc, inputs, line, depot, units.as_slice(), shop_items)?;
+    let total = total_of(items.as_slice(), inputs.weight(line));
+    items.extend_from_slice(shop_items)?;
+    Ok(FamilyResult {
+        items: List::of(items),
+        total,
+    })
+}
+
 /// The family of a line unit.
 fn evaluate_family<const F: u32>(
     alloc: Global,
@@ -81,14 +108,9 @@ fn evaluate_family<const F: u32>(
     let _sites = inputs.sites();
     let units = shop_units(alloc, inputs.case(), line)?;
     let shops = units.as_slice();
-    let mut shop_items = all_shop_items(alloc, inputs, shops)?;
-    let mut items = line_items(alloc, inputs, line, shops, shop_items.as_slice())?;
-    let total = total_of(items.as_slice(), inputs.weight(line));
-    items.append(&mut shop_items)?;
-    Ok(FamilyResult {
-        items: List::of(items),
-        total,
-    })
+    let items = all_shop_items(alloc, inputs, shops)?;
+    let depot = depot_line_at(alloc, inputs, line, shops, items.as_slice())?;
+    family_from(alloc, inputs, line, depot, items.as_slice())
 }
 
 /// The items of a line unit and of its shop units at these stocks, and the family's total, in units of `2^-F`.

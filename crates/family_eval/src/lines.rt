@@ -66,7 +66,7 @@ fn held_at<const F: u32>(
 }
 
 /// A line unit at the depot, from the items of its shop units.
-fn depot_line_at<const F: u32>(
+pub(crate) fn depot_line_at<const F: u32>(
     alloc: Global,
     inputs: &Inputs<'_>,
     line: PartId,
@@ -109,21 +109,22 @@ fn base_line_at<const F: u32>(
     base_line_item(alloc, inputs.pipeline(line, site), feed, held.as_slice())
 }
 
-/// The items of a line unit, by site, from its shop units' items.
+/// The items of a line unit, by site, from its item at the depot and its shop units' items.
 pub(crate) fn line_items<const F: u32>(
     alloc: Global,
     inputs: &Inputs<'_>,
     line: PartId,
+    depot: Item<F>,
     shops: &[PartId],
     items: &[Item<F>],
 ) -> Result<Vec<Item<F>>, NoMemory>
     requires scale { InScale F }
     requires line { IsLine inputs.now.case line.0 }
+    requires depot { depot ≡ depot_line F inputs.now.case inputs.now.stocks.list line.0 }
     requires shops { map (λ p. p.0) shops.now ≡ shop_units inputs.now.case line.0 }
     requires items { items.now ≡ flat_map (λ p. part_items F inputs.now.case inputs.now.stocks.list p.0) shops.now }
     ensures { IfOk result (λ v. v.items ≡ part_items F inputs.now.case inputs.now.stocks.list line.0) }
 {
-    let depot = depot_line_at(alloc, inputs, line, shops, items)?;
     let mut row = Vec::new(alloc);
     row.push(depot)?;
     for j in 1..inputs.sites() {

@@ -42,7 +42,8 @@ module _ (f : ℕ) (c : CaseRows) (l : ℕ) where
       ap (λ n. pair_at (numbers_of f c l) n k) (add-one i)
       ∙ flat_at (pair_numbers f c) (length c.sites) (no_numbers f) (family c l) (suc i) k (omega (arith, h)) m
 
-  shops_numbered : {X : Type 0} (h g : ℕ → X) → ((n : ℕ) → n < length (shop_units c l) → h n ≡ g (get_or (shop_units c l) n 0))
+  -- what stands at the numbers of the shop units, by the shop units
+  pub shops_numbered : {X : Type 0} (h g : ℕ → X) → ((n : ℕ) → n < length (shop_units c l) → h n ≡ g (get_or (shop_units c l) n 0))
       → map h (range_with_len 0 (length (family c l) - 1)) ≡ map g (shop_units c l)
   shops_numbered h g e =
       let count : length (family c l) - 1 ≡ length (shop_units c l) = omega arith in

@@ -6,7 +6,7 @@ use Rattle.spares_input.specs.Cases.{CaseRows, IsCase}
 use Rattle.spares_input.specs.Stocks.{HasPair, IsFor, IsWithinLimits, StockList, stock_at}
 use Rattle.std.specs.List.{All}
 use Rattle.std.proofs.lemmas.List.FromFn.{length-map-range_with_len}
-use Rattle.family_tables.specs.Kept.{depot_stocks}
+use Rattle.family_tables.specs.Kept.{HaveStocks, depot_stocks}
 use Rattle.family_tables.proofs.Served.{all_numbered}
 use Rattle.spares_input.specs.declared.rows.PartId.{PartId}
 use Rattle.fleet_model.specs.Rows.{all_sites, weight}
@@ -73,24 +73,23 @@ numbers_made f c r l x least valid rates line e = subst (AreNumbers f) (sym e) (
 
 -- ---- stocks of the case
 
-has_pair : (c : CaseRows) (s : StockList) (p : ℕ) → IsFor c s → p < length c.parts → 0 < length c.sites → HasPair s p 0
-has_pair c s p for l k = grind (arith, for.sites, for.pairs, mul-le-mul_right (length c.sites) l)
+has_pair : (c : CaseRows) (s : StockList) (p k : ℕ) → IsFor c s → p < length c.parts → k < length c.sites → HasPair s p k
+has_pair c s p k for l m = grind (arith, for.sites, for.pairs, mul-le-mul_right (length c.sites) l)
 
--- stocks of the case have a number for each part of the family at the depot
-pub stocks_there : (f : ℕ) (c : CaseRows) (l : ℕ) (s : StockList) (x : FamilyNumbers f) → IsCase c → IsLine c l → IsFor c s → x ≡ numbers_of f c l
-    → (i : ℕ) → i < length x.parts → HasPair s (get_or x.parts i 0) 0
-stocks_there f c l s x valid line for e =
-    subst (λ (y : FamilyNumbers f). (i : ℕ) → i < length y.parts → HasPair s (get_or y.parts i 0) 0) (sym e)
-    (λ i h. has_pair c s (get_or (family c l) i 0) for (member_in_case c l i valid line h) (omega (arith, valid.frame.fewest_sites)))
+-- stocks of the case within its limits have one of at most 63 for each part of the family at each site
+pub stocks_there : (f : ℕ) (c : CaseRows) (l : ℕ) (s : StockList) (x : FamilyNumbers f) → IsCase c → IsLine c l → IsFor c s → IsWithinLimits c s → x ≡ numbers_of f c l
+    → HaveStocks x s
+stocks_there f c l s x valid line for within e =
+    subst (λ (y : FamilyNumbers f). HaveStocks y s) (sym e) (record {
+      pairs = λ i k h m. has_pair c s (get_or (family c l) i 0) k for (member_in_case c l i valid line h) m;
+      most = λ i k h m. (let p = member_in_case c l i valid line h in le_trans (within (get_or (family c l) i 0) k p m) (limit_most c (get_or (family c l) i 0) k valid p));
+    })
 
--- the shop units' stocks at the depot are at most 63 where stocks are within the limits
-pub stocks_few : (f : ℕ) (c : CaseRows) (l : ℕ) (s : StockList) (x : FamilyNumbers f) → IsCase c → IsLine c l → IsWithinLimits c s → x ≡ numbers_of f c l
-    → All (λ n. n ≤ 63) (depot_stocks x s)
-stocks_few f c l s x valid line within e =
-    subst (λ (y : FamilyNumbers f). All (λ n. n ≤ 63) (depot_stocks y s)) (sym e)
-    (all_numbered (λ n. n ≤ 63) (λ i. stock_at s (get_or (family c l) (i + 1) 0) 0) (length (family c l) - 1)
-    (λ i h. (let p = member_in_case c l (i + 1) valid line (omega (arith, h)) in
-    le_trans (within (get_or (family c l) (i + 1) 0) 0 p (omega (arith, valid.frame.fewest_sites))) (limit_most c (get_or (family c l) (i + 1) 0) 0 valid p))))
+-- then the shop units' stocks at the depot are at most 63
+pub stocks_few : (f : ℕ) (x : FamilyNumbers f) (s : StockList) → AreNumbers f x → HaveStocks x s → All (λ n. n ≤ 63) (depot_stocks x s)
+stocks_few f x s are have =
+    all_numbered (λ n. n ≤ 63) (λ i. stock_at s (get_or x.parts (i + 1) 0) 0) (length x.parts - 1)
+    (λ i h. have.most (i + 1) 0 (omega (arith, h)) (omega (arith, are.fewest_sites)))
 
 -- there is such a stock for each shop unit
 pub stocks_count : (f : ℕ) (x : FamilyNumbers f) (s : StockList) → length (depot_stocks x s) ≡ length x.parts - 1

@@ -64,10 +64,13 @@ module _ (f : ℕ) (x : FamilyNumbers f) (are : AreNumbers f x) where
   depot : (i : ℕ) → i < length x.parts - 1 → ArePairNumbers f (pair_at x (i + 1) 0)
   depot i h = are.pairs (i + 1) 0 (place_of_shop i h) (omega (arith, are.fewest_sites))
 
-  -- a row of a shop unit at the depot is small
+  -- the pipeline of a shop unit at the depot has a table
+  pub depot_shop_can : (i : ℕ) → i < length x.parts - 1 → HasTable f (depot_shop_moments f x i)
+  depot_shop_can i h = can_rows f (pair_at x (i + 1) 0) (pair_at x (i + 1) 0).direct (pair_at x (i + 1) 0).direct (depot i h) (le_refl _)
+
+  -- its rows are small
   pub depot_shop_small : (i s : ℕ) → i < length x.parts - 1 → s ≤ 63 → IsSmallRow f (depot_shop_row f x i s)
-  depot_shop_small i s h few =
-      rows_small f (depot_shop_moments f x i) (can_rows f (pair_at x (i + 1) 0) (pair_at x (i + 1) 0).direct (pair_at x (i + 1) 0).direct (depot i h) (le_refl _)) s few
+  depot_shop_small i s h few = rows_small f (depot_shop_moments f x i) (depot_shop_can i h) s few
 
   -- what each shop unit feeds to the line unit at the depot is small
   pub depot_feeds_small : (d : List ℕ) → All (λ n. n ≤ 63) d → length d ≡ length x.parts - 1 → All (IsSmallFeed f) (depot_feeds f x d)
@@ -76,17 +79,23 @@ module _ (f : ℕ) (x : FamilyNumbers f) (are : AreNumbers f x) where
       (λ k h. feed_is_small f (pair_at x (k + 1) 0).share (depot_shop_row f x k (nth_stock d k)) _ refl (depot k h).share_most
       (depot_shop_small k (nth_stock d k) h (few k 0 (omega (arith, h, same)))))
 
-  -- a row of the line unit at the depot is small
-  pub depot_line_small : (d : List ℕ) (s : ℕ) → s ≤ 63 → IsSmallRow f (depot_line_row f x d s)
-  depot_line_small d s few =
-      rows_small f (depot_line_moments f x d)
-      (can_rows f (pair_at x 0 0) _ _ (are.pairs 0 0 are.some (omega (arith, are.fewest_sites)))
-      (added_least (pair_at x 0 0).direct (λ k. mean_part f (feed_at (depot_feeds f x d) k)) (length (depot_feeds f x d)))) s few
+  -- the pipeline of the line unit at the depot has a table
+  pub depot_line_can : (d : List ℕ) → HasTable f (depot_line_moments f x d)
+  depot_line_can d =
+      can_rows f (pair_at x 0 0) _ _ (are.pairs 0 0 are.some (omega (arith, are.fewest_sites)))
+      (added_least (pair_at x 0 0).direct (λ k. mean_part f (feed_at (depot_feeds f x d) k)) (length (depot_feeds f x d)))
 
-  -- a row of a shop unit at a site is small
+  -- its rows are small
+  pub depot_line_small : (d : List ℕ) (s : ℕ) → s ≤ 63 → IsSmallRow f (depot_line_row f x d s)
+  depot_line_small d s few = rows_small f (depot_line_moments f x d) (depot_line_can d) s few
+
+  -- the pipeline of a shop unit at a site has a table
+  pub base_shop_can : (i k n : ℕ) → i < length x.parts - 1 → k < x.sites → HasTable f (base_shop_moments f x i k n)
+  base_shop_can i k n h m = can_rows f (pair_at x (i + 1) k) _ _ (are.pairs (i + 1) k (place_of_shop i h) m) (omega arith)
+
+  -- its rows are small
   pub base_shop_small : (i k n s : ℕ) → i < length x.parts - 1 → k < x.sites → s ≤ 63 → IsSmallRow f (base_shop_row f x i k n s)
-  base_shop_small i k n s h m few =
-      rows_small f (base_shop_moments f x i k n) (can_rows f (pair_at x (i + 1) k) _ _ (are.pairs (i + 1) k (place_of_shop i h) m) (omega arith)) s few
+  base_shop_small i k n s h m few = rows_small f (base_shop_moments f x i k n) (base_shop_can i k n h m) s few
 
   -- the pipeline of the line unit at a site has a table
   pub base_line_table : (k o : ℕ) (d b : List ℕ) → k < x.sites → HasTable f (base_line_moments f x k o d b)

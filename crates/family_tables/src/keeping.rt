@@ -6,19 +6,19 @@ ghost use Rattle.demand_rates.specs.Rates.{AreRatesOf};
 ghost use Rattle.family_eval.specs.Inputs.{IsLine};
 ghost use Rattle.family_eval.specs.Profile.{family_of};
 ghost use Rattle.family_eval.specs.Encloses.{CanEvaluate, EnclosesFamily, IsSmallFamily};
-ghost use Rattle.family_tables.specs.Kept.{Grows, Has, depot_stocks, is_kept, keys_of, table_kept};
+ghost use Rattle.family_tables.specs.Kept.{Grows, Has, depot_stocks, is_kept, keys_of, table_kept, with_keys};
 ghost use Rattle.family_tables.specs.BaseTables.{AreBaseShops, AreShopBounds, HaveShops};
 ghost use Rattle.family_tables.specs.Numbers.{AreBaseBackorders, AreBaseLows, depot_line_table, depot_shop_table, numbers_of, own_part, shop_numbers};
 
 use crate::base_shops::BaseShops;
 use crate::by_numbers;
-use crate::keys::{Kept, table_at};
-use crate::making::{depot_stocks, keep_each, keys_of};
+use crate::items::{family_of, kept_items};
+use crate::keys::{Kept, kept_at};
 use crate::numbers::Numbers;
 use crate::own_part::{OwnPart, own_part, put_line_backorders, put_line_lows};
 use answers::NoMemory;
 use demand_rates::kinds::Rates;
-use family_eval::{FamilyResult, evaluate};
+use family_eval::FamilyResult;
 use moment_table::kinds::Table;
 use series_bounds::short::Iv64;
 use spares_input::{Case, PartId, SiteId, Stocks};
@@ -75,13 +75,20 @@ impl<const F: u32> Evaluator<F> {
         ensures kept { is_some result ≡ is_kept self.now part.0 site.0 key.now }
         ensures table { IfSome result (λ t. t.now ≡ table_kept F self.now part.0 site.0 key.now) }
     {
-        match self.family.place_of(part) {
-            Some(place) => table_at(&self.family, self.tables.as_slice(), place, site, key),
-            None => None,
-        }
+        let place = self.family.place_of(part)?;
+        let kept = kept_at(&self.family, self.tables.as_slice(), place, site, key)?;
+        Some(&kept.table)
     }
 
-    /// The same result as [`family_eval::evaluate`] at these stocks. Afterwards the tables of the stocks are kept.
+    /// The number of kept tables.
+    pub fn kept_count(&self) -> usize
+        ensures { result ≡ length self.now.keys }
+    {
+        self.tables.len()
+    }
+
+    /// The same result as [`family_eval::evaluate`] at these stocks, from kept tables: only those that are missing are
+    /// made, and kept. Afterwards the tables of the stocks are kept, each once.
     ///
     /// The case and the rates are the evaluator's own. No kept table is removed, and after `NoMemory` only tables of
     /// these stocks may have been added.
@@ -103,12 +110,12 @@ impl<const F: u32> Evaluator<F> {
             self.new.keys }
         ensures has { IfOk result (λ _. Has (keys_of self.old.numbers (depot_stocks self.old.numbers stocks.now))
             self.new.keys) }
+        ensures keys { IfOk result (λ _. self.new.keys ≡ with_keys self.old.keys
+            (keys_of self.old.numbers (depot_stocks self.old.numbers stocks.now))) }
     {
-        let _numbers = self.family.sites();
-        let depot = depot_stocks(self.alloc, &self.family, stocks)?;
-        let keys = keys_of(self.alloc, &self.family, depot.as_slice())?;
-        keep_each(self.alloc, &self.family, &mut self.tables, keys.as_slice())?;
-        evaluate(self.alloc, case, rates, self.family.part(0), stocks)
+        let items = kept_items(self.alloc, &self.family, &mut self.tables, stocks)?;
+        let line = self.family.part(0);
+        family_of(self.alloc, case, rates, line, stocks, items.as_slice())
     }
 
     /// The tables of the shop units at the depot, in part order. Want of memory is the only error.

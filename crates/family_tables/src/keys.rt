@@ -2,10 +2,11 @@
 
 ghost use Rattle.std.specs.Prelude.{◌≡◌, IfSome, is_some, map, position};
 ghost use Rattle.std.specs.List.{All};
-ghost use Rattle.family_tables.specs.Kept.{IsKept, is_among, is_key, table_at};
+ghost use Rattle.family_tables.specs.Kept.{IsKept, is_among, is_key, moments_at, table_at};
 
 use crate::numbers::Numbers;
 use answers::List;
+use depot_pipeline::Moments;
 use moment_table::kinds::Table;
 use spares_input::SiteId;
 
@@ -17,10 +18,11 @@ pub(crate) struct Key {
     pub(crate) stocks: List<u8>,
 }
 
-/// A table with its key.
+/// A pipeline with its key and its table.
 #[derive(Drop)]
 pub(crate) struct Kept<const F: u32> {
     pub(crate) key: Key,
+    pub(crate) moments: Moments<F>,
     pub(crate) table: Table<F>,
 }
 
@@ -48,20 +50,21 @@ fn place_of<const F: u32>(
     None
 }
 
-/// The table with this key, if it is kept.
-pub(crate) fn table_at<'a, const F: u32>(
+/// What is kept under this key, if anything.
+pub(crate) fn kept_at<'a, const F: u32>(
     numbers: &Numbers<F>,
     kept: &'a [Kept<F>],
     place: usize,
     site: SiteId,
     stocks: &[u8],
-) -> Option<&'a Table<F>>
+) -> Option<&'a Kept<F>>
     requires { All (IsKept F numbers.now) kept.now }
     ensures found { is_some result ≡ is_among (map (λ x. x.key) kept.now) place site.0 stocks.now }
-    ensures table { IfSome result (λ t. t.now ≡ table_at F numbers.now place site.0 stocks.now) }
+    ensures moments { IfSome result (λ y. y.now.moments ≡ moments_at F numbers.now place site.0 stocks.now) }
+    ensures table { IfSome result (λ y. y.now.table ≡ table_at F numbers.now place site.0 stocks.now) }
 {
     match place_of(kept, place, site, stocks) {
-        Some(n) => Some(&kept[n].table),
+        Some(n) => Some(&kept[n]),
         None => None,
     }
 }

@@ -17,6 +17,7 @@ ghost use Rattle.family_tables.specs.Numbers.{base_backorders, family_stocks, nu
 
 mod base_shops;
 mod by_numbers;
+mod items;
 mod keeping;
 mod keys;
 mod making;

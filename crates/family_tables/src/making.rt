@@ -1,17 +1,18 @@
 //! Making the tables that aren't kept yet.
 
-ghost use Rattle.std.specs.Prelude.{◌≡◌, ◌+◌, ◌-◌, ◌<◌, ◌≤◌, ◌⊎◌, ◌∷◌, [], ◌++◌, true, IfOk, OnOk, OnErr, length, map, flat_map, get_or, ℕ};
+ghost use Rattle.std.specs.Prelude.{◌≡◌, ◌+◌, ◌-◌, ◌<◌, ◌≤◌, IfOk, OnOk, OnErr, length, map, get_or, ℕ};
 ghost use Rattle.std.specs.List.{All, range_with_len};
 ghost use Rattle.spares_input.specs.Stocks.{HasPair};
-ghost use Rattle.family_tables.specs.Kept.{Grows, Has, IsKept, IsKey, depot_stocks, is_among, key_at, key_table, keys_of};
-ghost use Rattle.family_tables.specs.Numbers.{nth_stock, depot_feeds, depot_shop_row, feed_from, pair_at};
+ghost use Rattle.family_tables.specs.Kept.{Grows, IsKept, IsKey, depot_stocks, key_at, key_moments, keys_of, shop_key, with_key, with_keys};
+ghost use Rattle.family_tables.specs.Numbers.{depot_feeds, depot_shop_row, feed_from, pair_at};
 
-use crate::keys::{Kept, Key, table_at};
+use crate::keys::{Kept, Key, kept_at};
 use crate::numbers::Numbers;
-use crate::pair_tables::{base_shop_table, depot_line_table, depot_shop_table, feed_from};
+use crate::pair_tables::{depot_shop_table, feed_from};
 use answers::{List, NoMemory};
-use depot_pipeline::Feed;
-use moment_table::kinds::Table;
+use base_pipeline::base_shop;
+use depot_pipeline::{Feed, Moments, depot_line, depot_shop};
+use moment_table::table_to;
 use spares_input::{SiteId, Stocks};
 use std::alloc::Global;
 
@@ -33,8 +34,8 @@ fn feed_at<const F: u32>(
 {
     let _valid = numbers.sites();
     let share = numbers.pair(shop + 1, site).share;
-    match table_at(numbers, kept, shop + 1, SiteId(0), &[]) {
-        Some(table) => Ok(feed_from(share, table, stock)),
+    match kept_at(numbers, kept, shop + 1, SiteId(0), &[]) {
+        Some(depot) => Ok(feed_from(share, &depot.table, stock)),
         None => {
             let table = depot_shop_table(alloc, numbers.pair(shop + 1, 0))?;
             Ok(feed_from(share, &table, stock))
@@ -63,33 +64,56 @@ fn feeds_at<const F: u32>(
     Ok(feeds)
 }
 
-/// The table of a key.
-fn made<const F: u32>(
+/// The pipeline of a key.
+fn pipeline_of<const F: u32>(
     alloc: Global,
     numbers: &Numbers<F>,
     kept: &[Kept<F>],
     key: &Key,
-) -> Result<Table<F>, NoMemory>
+) -> Result<Moments<F>, NoMemory>
     requires kept { All (IsKept F numbers.now) kept.now }
     requires key { IsKey numbers.now key.now }
-    ensures { IfOk result (λ t. t ≡ key_table F numbers.now key.now) }
+    ensures { IfOk result (λ m. m ≡ key_moments F numbers.now key.now) }
 {
     let _valid = numbers.sites();
     let pair = numbers.pair(key.place, key.site.0);
     if key.place == 0 {
         let feeds = feeds_at(alloc, numbers, kept, key.stocks.as_slice())?;
-        depot_line_table(alloc, pair, feeds.as_slice())
+        Ok(depot_line(pair.direct, pair.cap, feeds.as_slice()))
     } else if key.site.0 == 0 {
-        depot_shop_table(alloc, pair)
+        Ok(depot_shop(pair.direct, pair.cap))
     } else {
         let stock = key.stocks.as_slice()[0];
         let feed = feed_at(alloc, numbers, kept, key.place - 1, key.site.0, stock)?;
-        base_shop_table(alloc, pair, feed)
+        Ok(base_shop(pair.direct, pair.cap, feed))
     }
 }
 
+/// The pipeline of a key with its table.
+fn made<const F: u32>(
+    alloc: Global,
+    numbers: &Numbers<F>,
+    kept: &[Kept<F>],
+    key: Key,
+) -> Result<Kept<F>, NoMemory>
+    requires kept { All (IsKept F numbers.now) kept.now }
+    requires key { IsKey numbers.now key }
+    ensures key { IfOk result (λ y. y.key ≡ key) }
+    ensures kept { IfOk result (IsKept F numbers.now) }
+{
+    let _valid = numbers.sites();
+    let pair = numbers.pair(key.place, key.site.0);
+    let moments = pipeline_of(alloc, numbers, kept, &key)?;
+    let table = table_to(alloc, moments.mean, moments.variance, pair.limit)?;
+    Ok(Kept {
+        key,
+        moments,
+        table,
+    })
+}
+
 /// Makes and keeps the table of a key, if it isn't kept yet. After `NoMemory` the kept tables are as before.
-pub(crate) fn keep<const F: u32>(
+fn keep<const F: u32>(
     alloc: Global,
     numbers: &Numbers<F>,
     kept: &mut Vec<Kept<F>>,
@@ -98,24 +122,16 @@ pub(crate) fn keep<const F: u32>(
     requires kept { All (IsKept F numbers.now) kept.old.items }
     requires key { IsKey numbers.now key }
     ensures kept { All (IsKept F numbers.now) kept.new.items }
-    ensures ok { OnOk result (((kept.new.items ≡ kept.old.items)
-        × (is_among (map (λ x. x.key) kept.old.items) key.place key.site.0 key.stocks ≡ true))
-        ⊎ (map (λ x. x.key) kept.new.items ≡ map (λ x. x.key) kept.old.items ++ key ∷ [])) }
+    ensures ok { OnOk result (map (λ x. x.key) kept.new.items ≡ with_key (map (λ x. x.key) kept.old.items) key) }
     ensures err { OnErr result (kept.new.items ≡ kept.old.items) }
 {
-    let found = table_at(
-        numbers,
-        kept.as_slice(),
-        key.place,
-        key.site,
-        key.stocks.as_slice(),
-    )
-    .is_some();
+    let stocks = key.stocks.as_slice();
+    let found = kept_at(numbers, kept.as_slice(), key.place, key.site, stocks).is_some();
     if found {
         return Ok(());
     }
-    let table = made(alloc, numbers, kept.as_slice(), &key)?;
-    kept.push(Kept { key, table })?;
+    let more = made(alloc, numbers, kept.as_slice(), key)?;
+    kept.push(more)?;
     Ok(())
 }
 
@@ -132,7 +148,8 @@ fn copied(alloc: Global, key: &Key) -> Result<Key, NoMemory>
     })
 }
 
-/// Keeps the tables of these keys. After `NoMemory` only some of them may have been added, and none is removed.
+/// Keeps the tables of these keys: makes those that aren't kept yet, in order. After `NoMemory` only some of them may
+/// have been added, and none is removed.
 pub(crate) fn keep_each<const F: u32>(
     alloc: Global,
     numbers: &Numbers<F>,
@@ -143,7 +160,8 @@ pub(crate) fn keep_each<const F: u32>(
     requires keys { All (IsKey numbers.now) keys.now }
     ensures kept { All (IsKept F numbers.now) kept.new.items }
     ensures grows { Grows keys.now (map (λ x. x.key) kept.old.items) (map (λ x. x.key) kept.new.items) }
-    ensures has { IfOk result (λ _. Has keys.now (map (λ x. x.key) kept.new.items)) }
+    ensures keys { OnOk result
+        (map (λ x. x.key) kept.new.items ≡ with_keys (map (λ x. x.key) kept.old.items) keys.now) }
 {
     for n in 0..keys.len() {
         let key = copied(alloc, &keys[n])?;
@@ -182,44 +200,27 @@ fn key_at(alloc: Global, place: usize, site: u8, stocks: &[u8]) -> Result<Key, N
     })
 }
 
-/// The keys of the shop units at the depot.
-fn depot_keys(alloc: Global, shops: usize) -> Result<Vec<Key>, NoMemory>
-    requires { shops ≤ 8 }
-    ensures { IfOk result (λ v. v.items ≡ map (λ i. key_at (i + 1) 0 []) (range_with_len 0 shops)) }
+/// The key of a shop unit at a site, with the stocks `depot` of the shop units at the depot.
+fn shop_key(alloc: Global, shop: usize, site: u8, depot: &[u8]) -> Result<Key, NoMemory>
+    requires { shop < length depot.now }
+    ensures { IfOk result (λ key. key ≡ shop_key depot.now shop site) }
 {
-    let mut keys = Vec::new(alloc);
-    for i in 0..shops {
-        let key = key_at(alloc, i + 1, 0, &[])?;
-        keys.push(key)?;
+    if site == 0 {
+        key_at(alloc, shop + 1, site, &[])
+    } else {
+        key_at(alloc, shop + 1, site, &[depot[shop]])
     }
-    Ok(keys)
 }
 
-/// The keys of the part at a place at the bases, with this stock at the depot.
-fn place_keys(alloc: Global, place: usize, bases: u8, stock: u8) -> Result<Vec<Key>, NoMemory>
-    requires { bases ≤ 15 }
-    ensures { IfOk result (λ v. v.items ≡ map (λ j. key_at place (j + 1) (stock ∷ [])) (range_with_len 0 bases)) }
+/// Its keys at the sites.
+fn shop_keys(alloc: Global, shop: usize, sites: u8, depot: &[u8]) -> Result<Vec<Key>, NoMemory>
+    requires { shop < length depot.now }
+    ensures { IfOk result (λ v. v.items ≡ map (shop_key depot.now shop) (range_with_len 0 sites)) }
 {
     let mut keys = Vec::new(alloc);
-    for j in 0..bases {
-        let key = key_at(alloc, place, j + 1, &[stock])?;
+    for k in 0..sites {
+        let key = shop_key(alloc, shop, k, depot)?;
         keys.push(key)?;
-    }
-    Ok(keys)
-}
-
-/// The keys of the shop units at the bases, with these stocks at the depot.
-fn base_keys(alloc: Global, bases: u8, depot: &[u8]) -> Result<Vec<Key>, NoMemory>
-    requires bases { bases ≤ 15 }
-    requires few { length depot.now ≤ 8 }
-    ensures { IfOk result (λ v. v.items ≡ flat_map
-        (λ i. map (λ j. key_at (i + 1) (j + 1) (nth_stock depot.now i ∷ [])) (range_with_len 0 bases))
-        (range_with_len 0 (length depot.now))) }
-{
-    let mut keys = Vec::new(alloc);
-    for i in 0..depot.len() {
-        let mut more = place_keys(alloc, i + 1, bases, depot[i])?;
-        keys.append(&mut more)?;
     }
     Ok(keys)
 }
@@ -233,11 +234,12 @@ pub(crate) fn keys_of<const F: u32>(
     requires { length depot.now ≡ length numbers.now.parts - 1 }
     ensures { IfOk result (λ v. v.items ≡ keys_of numbers.now depot.now) }
 {
-    let bases = numbers.sites() - 1;
-    let mut keys = depot_keys(alloc, numbers.shops())?;
+    let mut keys = Vec::new(alloc);
+    for i in 0..numbers.shops() {
+        let mut more = shop_keys(alloc, i, numbers.sites(), depot)?;
+        keys.append(&mut more)?;
+    }
     let line = key_at(alloc, 0, 0, depot)?;
     keys.push(line)?;
-    let mut more = base_keys(alloc, bases, depot)?;
-    keys.append(&mut more)?;
     Ok(keys)
 }

@@ -8,6 +8,5 @@ use Rattle.family_tables.proofs.making.keep.Goals as goal
 pub returns-clause-kept : goal.returns-clause-kept
 returns-clause-kept g c =
     let P : Kept g.row.F → Type 0 = IsKept g.row.F c.args.numbers.now in
-    let y : Kept g.row.F = record { key = c.args.key; table = c.in_ok-table.table } in
-    let here : All P (y ∷ []) = All-from_recursion P (y ∷ []) (c.in_ok-table.ensures, tt) in
-    subst (λ (v : List (Kept g.row.F)). All P v) (sym c.in_ok-push.ensures.items) (All-append P c.args.kept.now.items (y ∷ []) c.requires.kept here)
+    let here : All P (c.in_ok-more.more ∷ []) = All-from_recursion P (c.in_ok-more.more ∷ []) (c.in_ok-more.ensures.kept, tt) in
+    subst (λ (v : List (Kept g.row.F)). All P v) (sym c.in_ok-push.ensures.items) (All-append P c.args.kept.now.items (c.in_ok-more.more ∷ []) c.requires.kept here)
