@@ -1,5 +1,5 @@
 -- Rows that break no rule make a frame.
-use Rattle.std.proofs.Common.{◌≡◌, ℕ, zero, suc, ◌<◌, ◌≤◌, ◌∷◌, List, length, get_or, map, filter, take, drop, true, false, Some, None, Ok, slice_get, bytes_eq, position, refl, sym, ◌∙◌, arith, length-append, length-drop, length-take-le}
+use Rattle.std.proofs.Common.{◌≡◌, ℕ, zero, suc, ◌<◌, ◌≤◌, ◌∷◌, List, length, get_or, map, filter, take, drop, true, false, Some, None, Ok, slice_get, bytes_eq, position, refl, sym, subst, ◌∙◌, arith, length-append, length-drop, length-take-le}
 use Rattle.std.specs.List.{All, IsDistinct, remove}
 use Rattle.std.proofs.lemmas.List.Elements.{filter_passes, All-append, All-filter}
 use Rattle.std.proofs.lemmas.List.Quantifiers.{position-Some}
@@ -7,7 +7,10 @@ use Rattle.std.proofs.lemmas.List.{length-map}
 use Rattle.std.proofs.lemmas.Option.{slice_get-get_or, slice_get-map, slice_get_within}
 use Rattle.std.proofs.lemmas.Bool.{not-true}
 use Rattle.indexmap.specs.IndexMap.{move_index}
+use Rattle.std.proofs.lemmas.Map.Keys.{IsDistinct-IsPermutation}
+use Rattle.std.specs.Cmp.Lexicographic.{nat_list_eq_equiv}
 use Rattle.indexmap.proofs.SetLemmas.{map-insert, map-remove}
+use Rattle.indexmap.proofs.MoveLemmas.{move_permutes}
 use Rattle.spares_input.specs.First.{first}
 use Rattle.spares_input.specs.Rows.{no_site, no_part, IsSiteRow, IsPartRow}
 use Rattle.spares_input.specs.Frames.{double_part, frame_fault, frame_of, IsFrame, is_base, is_depot, kinds_fault, parent_fault, part_names, site_at, site_fault, site_names, sites_in_order}
@@ -15,7 +18,7 @@ use Rattle.spares_input.specs.Building.{IsNumbered}
 use Rattle.spares_input.specs.declared.rows.SiteRow.{SiteRow}
 use Rattle.spares_input.specs.declared.rows.PartRow.{PartRow}
 use Rattle.spares_input.proofs.Firsts.{or_else_none}
-use Rattle.spares_input.proofs.SiteFacts.{few_depots, depot_apart, enough_sites}
+use Rattle.spares_input.proofs.SiteFacts.{distinct_names, few_depots, depot_apart, enough_sites}
 use Rattle.spares_input.proofs.PartFacts.{shop_units_few, length_shop_units, parent_has_line}
 
 -- a list with one element put before all others
@@ -53,31 +56,25 @@ later_base : (r : SiteRow) (bases : List SiteRow) (k : ℕ) → All (λ x. is_ba
 later_base r bases zero h some within = absurd (omega arith)
 later_base r bases (suc j) h some within = not-true (get_or bases j no_site).depot (h j no_site (omega arith))
 
-above_none : (d n : ℕ) → d < n → 0 < n
-above_none d n h = omega arith
+-- the depot has a place among the rows of sites
+pub depot_within : (sites : List SiteRow) (parts : List PartRow) (part_numbers : List (List ℕ)) (d : ℕ) → IsNumbered sites parts part_numbers d
+    → d < length sites
+depot_within sites parts part_numbers d n = (position-Some is_depot sites d no_site n.depot_place).0
 
--- the depot has a place among the rows of sites and among their names
-pub depot_within : (sites : List SiteRow) (parts : List PartRow) (names part_numbers : List (List ℕ)) (d : ℕ) → IsNumbered sites parts names part_numbers d
-    → (d < length sites) × (d < length names) × (0 < length names)
-depot_within sites parts names part_numbers d n =
-    let found = position-Some is_depot sites d no_site n.depot_place in
-    let named : length names ≡ length sites = rw (n.sites_named, length-map) refl in
-    let row : d < length sites = found.0 in
-    let name : d < length names = rw named row in
-    (row, name, above_none d (length names) name)
-
--- rows that break no rule are a frame once the depot is moved to the front,
--- and the names are numbered as it has them
-pub frame_numbered : (sites placed : List SiteRow) (parts : List PartRow) (names numbered part_numbers : List (List ℕ)) (d : ℕ)
-    → IsNumbered sites parts names part_numbers d → length sites ≤ 16 → length parts ≤ 2000 → All IsSiteRow sites → All IsPartRow parts
-    → placed ≡ move_index sites d 0 → numbered ≡ move_index names d 0 → IsDistinct bytes_eq numbered
-    → IsFrame (record { sites = placed; parts = parts }) × (numbered ≡ site_names placed) × (part_numbers ≡ part_names parts)
-frame_numbered sites placed parts names numbered part_numbers d n few few_parts site_rows part_rows moved renamed distinct =
+-- rows that break no rule are a frame once the depot is moved to the front, and the names of the parts are numbered as
+-- it has them
+pub frame_numbered : (sites placed : List SiteRow) (parts : List PartRow) (part_numbers : List (List ℕ)) (d : ℕ)
+    → IsNumbered sites parts part_numbers d → length sites ≤ 16 → length parts ≤ 2000 → All IsSiteRow sites → All IsPartRow parts
+    → placed ≡ move_index sites d 0 → IsFrame (record { sites = placed; parts = parts }) × (part_numbers ≡ part_names parts)
+frame_numbered sites placed parts part_numbers d n few few_parts site_rows part_rows moved =
     let kept = rules_kept sites parts n.no_fault in
     let found = position-Some is_depot sites d no_site n.depot_place in
     let at = slice_get-get_or sites d no_site found.0 in
     let apart = depot_apart sites d (site_at sites d) found.0 refl found.1 (few_depots sites kept.0) in
-    let named : numbered ≡ site_names placed = renamed ∙ (rw (n.sites_named, moved) (sym (map_to_front (λ s. s.name) sites d (site_at sites d) at))) in
+    let named : site_names placed ≡ move_index (site_names sites) d 0 = rw moved (map_to_front (λ s. s.name) sites d (site_at sites d) at) in
+    let among : d < length (site_names sites) = rw (length-map sites (λ (s : SiteRow). s.name)) found.0 in
+    let permuted = move_permutes (site_names sites) d 0 among (omega (arith, among)) in
+    let distinct = IsDistinct-IsPermutation bytes_eq nat_list_eq_equiv.symm (site_names sites) (move_index (site_names sites) d 0) permuted (distinct_names sites kept.0) in
     let ordered : placed ≡ sites_in_order sites = moved ∙ moved_in_order sites parts d n.no_fault n.depot_place in
     let split : placed ≡ site_at sites d ∷ filter is_base sites = ordered ∙ rw apart.0 refl in
     let many : length (move_index sites d 0) ≡ length sites = length_to_front sites d (site_at sites d) at in (
@@ -87,19 +84,18 @@ frame_numbered sites placed parts names numbered part_numbers d n few few_parts 
         most_parts = few_parts;
         depot = rw split found.1;
         bases = rw split (λ k some within. later_base (site_at sites d) (filter is_base sites) k (filter_passes is_base sites) some within);
-        distinct_sites = rw (← named) distinct;
+        distinct_sites = subst (IsDistinct bytes_eq) (sym named) distinct;
         distinct_parts = rw (← n.parts_named) n.distinct_parts;
         parents = λ p within shop. parent_has_line parts p kept.2 within shop;
         few_shop_units = λ l within. rw (length_shop_units parts l) (shop_units_few (get_or parts l no_part) parts kept.2);
         site_rows = rw ordered (All-append IsSiteRow (filter is_depot sites) (filter is_base sites) (All-filter is_depot IsSiteRow sites site_rows) (All-filter is_base IsSiteRow sites site_rows));
         part_rows = part_rows;
       },
-      named,
       n.parts_named,
     )
 
 -- the frame of rows that break no rule has the depot moved to the front
-pub frame_answer : (sites placed : List SiteRow) (parts : List PartRow) (names part_numbers : List (List ℕ)) (d : ℕ) → IsNumbered sites parts names part_numbers d
+pub frame_answer : (sites placed : List SiteRow) (parts : List PartRow) (part_numbers : List (List ℕ)) (d : ℕ) → IsNumbered sites parts part_numbers d
     → placed ≡ move_index sites d 0 → frame_of sites parts ≡ Ok (record { sites = placed; parts = parts })
-frame_answer sites placed parts names part_numbers d n moved =
+frame_answer sites placed parts part_numbers d n moved =
     rw (n.no_fault, moved, moved_in_order sites parts d n.no_fault n.depot_place) refl

@@ -1,18 +1,21 @@
 -- Which rule a row of parts breaks.
 use Rattle.std.proofs.Common.{◌≡◌, ℕ, zero, suc, ◌+◌, ◌<◌, ◌≤◌, ◌∷◌, [], ◌++◌, List, take, length, get_or, map, filter, count_by, Bool, true, false, not, Option, Some, None, if◌then◌else◌, bytes_eq, nat_le, refl, sym, ap, ◌∙◌, inl, inr, arith, add-one}
 use Rattle.std.specs.List.{range_with_len}
-use Rattle.std.specs.Option.{option_and_then}
+use Rattle.std.specs.Option.{option_and_then, option_map}
 use Rattle.std.proofs.lemmas.List.{take_more, map-append, get_or-map, length-map, take_all}
+use Rattle.std.proofs.Math.ListN.{get_or-append}
+use Rattle.std.proofs.Math.Seq.{get_or-append_seam}
 use Rattle.std.proofs.lemmas.List.FromFn.{fill_by_all}
 use Rattle.std.proofs.lemmas.List.Folds.{fold-map}
 use Rattle.std.proofs.lemmas.List.Sums.{length-filter, count_by_more_yes, count_by_more_no}
 use Rattle.std.proofs.lemmas.List.Quantifiers.{position-Some}
-use Rattle.std.proofs.lemmas.Bool.{cases_Bool, leb-false, lt-leb, le-leb, false≢true}
+use Rattle.std.proofs.lemmas.Bool.{cases_Bool, cases_eq, leb-false, lt-leb, le-leb, false≢true}
 use Rattle.std.proofs.lemmas.Slice.Eq.{bytes_eq-Decides}
 use Rattle.spares_input.specs.First.{first}
 use Rattle.spares_input.specs.Rows.{is_line, no_part, no_site}
 use Rattle.spares_input.specs.Frames.{double_part, has_line, is_among, is_shop_of, line_of, parent_fault, part_at, part_names, place_of, shop_fault, shop_units, site_at, site_names}
 use Rattle.spares_input.specs.declared.rows.PartRow.{PartRow}
+use Rattle.spares_input.specs.declared.rows.PartId.{PartId}
 use Rattle.spares_input.specs.declared.rows.SiteRow.{SiteRow}
 use Rattle.spares_input.specs.declared.fault.CaseFault.TheVariants as fault
 use Rattle.spares_input.proofs.Firsts.{first_none}
@@ -141,3 +144,13 @@ passing_places t parts =
 -- a line unit has as many shop units as there are parts that name it as their parent
 pub length_shop_units : (parts : List PartRow) (l : ℕ) → length (shop_units parts l) ≡ count_by (is_shop_of (part_at parts l)) parts
 length_shop_units parts l = passing_places (is_shop_of (part_at parts l)) parts
+
+-- one parent more
+pub parents_more : (parts : List PartRow) (parents : List (Option PartId)) (line : Option PartId) (i : ℕ) → length parents ≡ i
+    → option_map (λ l. l.0) line ≡ line_of parts i → ((p : ℕ) → p < i → option_map (λ l. l.0) (get_or parents p None) ≡ line_of parts p)
+    → (p : ℕ) → p < i + 1 → option_map (λ l. l.0) (get_or (parents ++ line ∷ []) p None) ≡ line_of parts p
+parents_more parts parents line i count here before p b =
+    elim (cases_eq p i) [
+      | inl e ↦ rw (e, ← count) (ap (option_map (λ l. l.0)) (get_or-append_seam parents line [] None) ∙ rw count here)
+      | inr o ↦ ap (option_map (λ l. l.0)) (get_or-append parents (line ∷ []) None p (omega (arith, b, o, count))) ∙ before p (omega (arith, b, o))
+    ]

@@ -1,17 +1,18 @@
--- Which rule a row of sites breaks, and that rows that break none have the depot in one place.
-use Rattle.std.proofs.Common.{◌≡◌, ℕ, zero, suc, ◌+◌, ◌<◌, ◌≤◌, ◌∷◌, [], ◌++◌, List, take, drop, length, filter, count_by, Bool, true, false, not, ◌&&◌, ◌||◌, Option, Some, None, if◌then◌else◌, nat_lt, position, refl, sym, ap, ◌∙◌, inl, inr, arith, add-one}
-use Rattle.std.proofs.lemmas.List.{take_more, map-append, drop_more, take-append-drop, take_all}
-use Rattle.std.proofs.lemmas.List.Folds.{list_any_more, list_any_at, list_any_none}
+-- Sites by their names, and that rows of sites that break no rule have distinct names and the depot in one place.
+use Rattle.std.proofs.Common.{◌≡◌, ℕ, zero, suc, ◌+◌, ◌<◌, ◌≤◌, ◌∷◌, [], ◌++◌, List, take, drop, length, filter, count_by, Bool, true, false, not, ◌&&◌, Option, Some, None, if◌then◌else◌, nat_lt, position, bytes_eq, refl, sym, ap, ◌∙◌, inl, inr, arith, add-one}
+use Rattle.std.proofs.lemmas.List.{take_more, map-append, length-map, drop_more, take-append-drop, take_all}
+use Rattle.std.proofs.lemmas.List.Folds.{list_any_at, list_any_none}
 use Rattle.std.proofs.lemmas.List.Elements.{filter-append}
 use Rattle.std.proofs.lemmas.List.Sums.{count_by_more_yes, count_by_more_no, sum_by-cons, sum_by-remove, fails_before_first}
 use Rattle.std.proofs.lemmas.List.Quantifiers.{position-Some}
 use Rattle.std.proofs.lemmas.Bool.{cases_Bool, or_parts, false≢true, ltb-false, not-true, both_ways}
 use Rattle.std.proofs.Math.Bool.{or-false}
-use Rattle.std.specs.List.{list_any, position_or_len, remove}
+use Rattle.std.proofs.lemmas.Map.Keys.{IsDistinct-push}
+use Rattle.std.specs.Cmp.Lexicographic.{nat_list_eq_equiv}
+use Rattle.std.specs.List.{IsDistinct, list_any, position_or_len, remove}
 use Rattle.spares_input.specs.First.{first}
 use Rattle.spares_input.specs.Rows.{no_site}
-use Rattle.spares_input.specs.Frames.{is_among, is_base, is_depot, kinds_fault, site_at, site_fault, site_names}
-use Rattle.spares_input.specs.Building.{site_rule}
+use Rattle.spares_input.specs.Frames.{is_among, is_base, is_depot, kinds_fault, place_of, site_at, site_fault, site_names}
 use Rattle.spares_input.specs.declared.rows.SiteRow.{SiteRow}
 use Rattle.spares_input.specs.declared.fault.CaseFault.TheVariants as fault
 use Rattle.spares_input.proofs.Firsts.{first_none}
@@ -21,34 +22,50 @@ pub not_not : (a b : Bool) → a ≡ not b → not a ≡ b
 not_not a true h = rw h refl
 not_not a false h = rw h refl
 
--- the rule by whether a name is new and a depot was there is the rule that the row of sites breaks
-pub site_fault_at : (sites : List SiteRow) (k : ℕ) (r : SiteRow) (keys : List (List ℕ)) (fresh has_depot : Bool)
-    → r ≡ site_at sites k → keys ≡ site_names (take k sites) → fresh ≡ not (is_among r.name keys)
-    → has_depot ≡ list_any is_depot (take k sites) → site_fault sites k ≡ site_rule r (not fresh) has_depot (k + 2)
-site_fault_at sites k r keys fresh has_depot row names new depot =
-    rw (← row, ← depot, ← names, not_not fresh (is_among r.name keys) new) refl
+-- a name is among the names of sites where one of the sites has it
+pub is_named : (name : List ℕ) (sites : List SiteRow) → is_among name (site_names sites) ≡ list_any (λ s. bytes_eq name s.name) sites
+is_named name [] = refl
+is_named name (s ∷ sites) = rw (is_named name sites) refl
 
--- a row of sites that breaks no rule has a new name
-pub fresh_site_rule : (r : SiteRow) (fresh has_depot : Bool) (row : ℕ) → site_rule r (not fresh) has_depot row ≡ None → fresh ≡ true
-fresh_site_rule r true has_depot row h = refl
-fresh_site_rule r false has_depot row h = cc
+-- the rule by whether the name of the row is known and whether a depot was there
+pub site_rule : (sites : List SiteRow) (k : ℕ) (r : SiteRow) (named : Bool) → r ≡ site_at sites k
+    → named ≡ list_any (λ s. bytes_eq r.name s.name) (take k sites)
+    → site_fault sites k ≡ (if named then Some (fault.DoubleSite (k + 2))
+    else if r.depot && list_any is_depot (take k sites) then Some (fault.TwoDepots (k + 2)) else None)
+site_rule sites k r named row known = rw (← row, is_named r.name (take k sites), ← known) refl
 
--- the names up to a row are those before it and its own
-pub site_names_more : (sites : List SiteRow) (k : ℕ) (r : SiteRow) → k < length sites → r ≡ site_at sites k
-    → site_names (take (k + 1) sites) ≡ site_names (take k sites) ++ r.name ∷ []
-site_names_more sites k r within row =
-    rw (take_more sites k no_site within, ← row) (map-append (λ x. x.name) (take k sites) (r ∷ []))
+as_far : (name : List ℕ) (sites : List SiteRow)
+    → position_or_len (bytes_eq name) (site_names sites) ≡ position_or_len (λ s. bytes_eq name s.name) sites
+as_far name [] = refl
+as_far name (s ∷ sites) = rw (as_far name sites) refl
 
--- there is a depot up to a row where there is one before it or the row is one
-pub has_depot_more : (sites : List SiteRow) (k : ℕ) (r : SiteRow) → k < length sites → r ≡ site_at sites k
-    → list_any is_depot (take (k + 1) sites) ≡ (list_any is_depot (take k sites) || r.depot)
-has_depot_more sites k r within row = list_any_more is_depot sites k no_site within ∙ rw (← row) refl
+-- the place of a name is that of the first site that has it
+pub site_place : (name : List ℕ) (sites : List SiteRow) → place_of name (site_names sites) ≡ position (λ s. bytes_eq name s.name) sites
+site_place name sites = rw (as_far name sites, length-map sites (λ (s : SiteRow). s.name)) refl
 
 -- neither test holds where no rule is broken
 rules_none : {A : Type 0} (a b : Bool) (x y : A) → (if a then Some x else if b then Some y else None) ≡ None → (a ≡ false) × (b ≡ false)
 rules_none true b x y h = cc
 rules_none false true x y h = cc
 rules_none false false x y h = (refl, refl)
+
+distinct_below : (sites : List SiteRow) (n : ℕ) → n ≤ length sites → first (site_fault sites) (length sites) ≡ None
+    → IsDistinct bytes_eq (site_names (take n sites))
+unfolding IsDistinct
+distinct_below sites zero h none = tt
+distinct_below sites (suc n) h none =
+    let within : n < length sites = omega arith in
+    let at = site_at sites n in
+    let new = (rules_none (is_among at.name (site_names (take n sites))) (at.depot && list_any is_depot (take n sites)) _ _ (first_none (site_fault sites) (length sites) n none within)).0 in
+    let more : site_names (take (n + 1) sites) ≡ site_names (take n sites) ++ at.name ∷ [] =
+    rw (take_more sites n no_site within) (map-append (λ x. x.name) (take n sites) (at ∷ [])) in
+    let whole : IsDistinct bytes_eq (site_names (take (n + 1) sites)) =
+    rw more (IsDistinct-push nat_list_eq_equiv (site_names (take n sites)) at.name (distinct_below sites n (omega arith) none) new) in
+    rw add-one at whole
+
+-- the names of sites that break no rule are distinct
+pub distinct_names : (sites : List SiteRow) → first (site_fault sites) (length sites) ≡ None → IsDistinct bytes_eq (site_names sites)
+distinct_names sites none = rw (take_all (length sites) sites (omega arith)) at (distinct_below sites (length sites) (omega arith) none)
 
 -- a depot stands behind no other
 depot_alone : (sites : List SiteRow) (k : ℕ) → site_fault sites k ≡ None → (site_at sites k).depot ≡ true → list_any is_depot (take k sites) ≡ false

@@ -1,10 +1,10 @@
 -- Facts about the rows between the steps of a build. No promise of the crate rests on these words.
-use Rattle.std.specs.Prelude.{◌≡◌, ℕ, ◌<◌, Bool, ◌&&◌, List, [], ◌∷◌, length, map, slice_get, Option, Some, None, is_some, Result, Ok, Err, if◌then◌else◌, position, bytes_eq, get_or, ⊤}
+use Rattle.std.specs.Prelude.{◌≡◌, ℕ, ◌<◌, List, [], ◌∷◌, length, map, slice_get, Option, Some, None, is_some, Result, Ok, Err, if◌then◌else◌, position, bytes_eq, get_or, ⊤}
 use Rattle.answers.specs.declared.stop.Stop.{Stop}
 use Rattle.answers.specs.declared.stop.Stop.TheVariants as stop
 use Rattle.std.specs.List.{IsDistinct}
 use Rattle.std.specs.Option.{option_flatten, option_map}
-use Rattle.spares_input.specs.Frames.{site_names, part_names, line_of, frame_fault, family, shops_below, is_depot}
+use Rattle.spares_input.specs.Frames.{part_names, line_of, frame_fault, family, shops_below, is_depot}
 use Rattle.spares_input.specs.Pairs.{row_at, part_of_place, site_of_place}
 use Rattle.spares_input.specs.declared.rows.SiteRow.{SiteRow}
 use Rattle.spares_input.specs.declared.rows.PartRow.{PartRow}
@@ -21,18 +21,10 @@ StopsAt due (Ok value) = due ≡ None
 StopsAt due (Err stop.NoMemory) = ⊤
 StopsAt due (Err (stop.Fault fault)) = due ≡ Some fault
 
--- the rule that a row of sites breaks, given whether its name is known and whether there is a depot before it
-abbrev pub site_rule : SiteRow → Bool → Bool → ℕ → Option CaseFault
-site_rule site is_known has_depot row =
-    if is_known then Some (fault.DoubleSite row)
-    else if site.depot && has_depot then Some (fault.TwoDepots row)
-    else None
-
--- rows that break no rule, with their names at their places, and the place of the depot
-pub record IsNumbered (sites : List SiteRow) (parts : List PartRow) (sites_by_name parts_by_name : List (List ℕ))
-    (depot : ℕ) : Type 0 where
+-- rows that break no rule, with the names of the parts at their places, and the place of the depot
+pub record IsNumbered (sites : List SiteRow) (parts : List PartRow) (parts_by_name : List (List ℕ)) (depot : ℕ) :
+    Type 0 where
   pub no_fault : frame_fault sites parts ≡ None
-  pub sites_named : sites_by_name ≡ site_names sites
   pub parts_named : parts_by_name ≡ part_names parts
   pub distinct_parts : IsDistinct bytes_eq parts_by_name
   pub depot_place : position is_depot sites ≡ Some depot

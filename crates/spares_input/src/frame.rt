@@ -1,6 +1,6 @@
 //! The frame of a case: its sites and its parts.
 
-ghost use Rattle.std.specs.Prelude.{◌≡◌, ◌==◌, ◌+◌, ◌≤◌, ◌<◌, ◌∷◌, [], ◌++◌, true, not, length, map, position, count_by, All, Some, None, IfSome, IfOk, OnOk, MatchResult, is_none, vec_len};
+ghost use Rattle.std.specs.Prelude.{◌≡◌, ◌==◌, ◌+◌, ◌≤◌, ◌<◌, ◌∷◌, [], ◌++◌, true, not, length, map, position, count_by, All, Some, None, IfSome, IfOk, OnOk, MatchResult, is_none, vec_len, bytes_eq};
 ghost use Rattle.std.specs.List.{list_any};
 ghost use Rattle.std.specs.Option.{option_map, option_and_then};
 ghost use Rattle.indexmap.specs.IndexSet.{index_set_len};
@@ -10,7 +10,7 @@ ghost use Rattle.spares_input.specs.First.{first};
 ghost use Rattle.spares_input.specs.Rows.{is_line, IsSiteRow, IsPartRow};
 ghost use Rattle.spares_input.specs.Frames.{site_at, part_at, site_names, part_names, is_among, place_of, line_of, is_shop_of, is_depot, is_base, site_fault, kinds_fault, double_part, shop_fault, parent_fault, frame_fault, frame_of, family, IsFrame};
 ghost use Rattle.spares_input.specs.Stocks.{limit_at};
-ghost use Rattle.spares_input.specs.Building.{AreParents, IsNumbered, StopsAt, site_rule};
+ghost use Rattle.spares_input.specs.Building.{AreParents, IsNumbered, StopsAt};
 
 use crate::families::families_of;
 use crate::fault::CaseFault;
@@ -28,13 +28,12 @@ pub struct Frame {
     parts: Vec<PartRow>,
     parents: Vec<Option<PartId>>,
     families: Vec<Vec<PartId>>,
-    site_index: IndexSet<Name>,
     part_index: IndexSet<Name>,
 }
 
 impl Model for Frame {
     ghost use Rattle.std.specs.Prelude.{◌≡◌, map};
-    ghost use Rattle.spares_input.specs.Frames.{FrameRows, IsFrame, site_names, part_names};
+    ghost use Rattle.spares_input.specs.Frames.{FrameRows, IsFrame, part_names};
     ghost use Rattle.spares_input.specs.Building.{AreParents, AreFamilies, ids};
 
     ghost Value = { FrameRows };
@@ -42,7 +41,7 @@ impl Model for Frame {
     ghost view = { λ f. record { sites = f.sites.items; parts = f.parts.items } };
 
     ghost invariant = { λ f. IsFrame (record { sites = f.sites.items; parts = f.parts.items })
-        × (f.site_index.keys ≡ site_names f.sites.items) × (f.part_index.keys ≡ part_names f.parts.items)
+        × (f.part_index.keys ≡ part_names f.parts.items)
         × AreParents f.parts.items f.parents.items
         × AreFamilies f.parts.items (map (λ v. ids v.items) f.families.items) };
 }
@@ -61,24 +60,18 @@ impl Frame {
         requires part_rows { All IsPartRow parts.items }
         ensures { Gives (frame_of sites.items parts.items) result }
     {
-        let (mut site_index, part_index, depot) = number_rows(
-            alloc,
-            sites.as_slice(),
-            parts.as_slice(),
-        )?;
-        let parents = parents_of(alloc, &part_index, parts.as_slice())?;
-        let families = families_of(alloc, parts.as_slice(), parents.as_slice())?;
+        let (part_index, depot) = number_rows(alloc, sites.as_slice(), parts.as_slice())?;
         let mut sites = sites;
         let Ok(()) = put_first(&mut sites, depot) else {
             return Err(Stop::NoMemory);
         };
-        site_index.move_index(depot, 0);
+        let parents = parents_of(alloc, &part_index, parts.as_slice())?;
+        let families = families_of(alloc, parts.as_slice(), parents.as_slice())?;
         Ok(Frame {
             sites,
             parts,
             parents,
             families,
-            site_index,
             part_index,
         })
     }
@@ -199,25 +192,27 @@ impl Frame {
         ensures row { IfSome result (λ s. (s.0 < length self.now.sites)
             × ((site_at self.now.sites s.0).name ≡ name.now)) }
     {
-        match self.site_index.get_index_of(name) {
+        match site_place(self.sites.as_slice(), name) {
             Some(place) => Some(SiteId(place as u8)),
             None => None,
         }
     }
 }
 
-/// The names of sites and of parts, each at its row's place, and the depot's place, if no rule is broken.
+/// The names of the parts, each at its row's place, and the depot's place, if no rule is broken.
 fn number_rows(
     alloc: Global,
     sites: &[SiteRow],
     parts: &[PartRow],
-) -> Result<(IndexSet<Name>, IndexSet<Name>, usize), Stop<CaseFault>>
+) -> Result<(IndexSet<Name>, usize), Stop<CaseFault>>
     requires sites { length sites.now ≤ 16 }
     requires parts { length parts.now ≤ 2000 }
     ensures fault { StopsAt (frame_fault sites.now parts.now) result }
-    ensures numbered { IfOk result (λ n. IsNumbered sites.now parts.now n.0.keys n.1.keys n.2) }
+    ensures numbered { IfOk result (λ n. IsNumbered sites.now parts.now n.0.keys n.1) }
 {
-    let site_names = number_sites(alloc, sites)?;
+    if let Some(fault) = sites_fault(sites) {
+        return Err(Stop::Fault(fault));
+    }
     let depot = match depot_place(sites) {
         Ok(depot) => depot,
         Err(fault) => return Err(Stop::Fault(fault)),
@@ -227,26 +222,66 @@ fn number_rows(
         return Err(Stop::Fault(fault));
     }
     let _ = part_names.len();
-    Ok((site_names, part_names, depot))
+    Ok((part_names, depot))
 }
 
-/// The names of the sites, each at its row's place, if no row repeats a name or is a second depot.
-fn number_sites(alloc: Global, sites: &[SiteRow]) -> Result<IndexSet<Name>, Stop<CaseFault>>
+/// The first rule that a row of sites breaks.
+fn sites_fault(sites: &[SiteRow]) -> Option<CaseFault>
     requires { length sites.now ≤ 16 }
-    ensures fault { StopsAt (first (site_fault sites.now) (length sites.now)) result }
-    ensures names { IfOk result (λ names. names.keys ≡ site_names sites.now) }
+    ensures { result ≡ first (site_fault sites.now) (length sites.now) }
 {
-    let mut names = IndexSet::new(alloc);
-    let mut has_depot = false;
     for k in 0..sites.len() {
-        let site = sites[k];
-        let fresh = add_name(&mut names, site.name)?;
-        if let Some(fault) = site_fault(&site, !fresh, has_depot, k as u32 + 2) {
-            return Err(Stop::Fault(fault));
+        if let Some(fault) = site_fault(sites, k) {
+            return Some(fault);
         }
-        has_depot = has_depot || site.depot;
     }
-    Ok(names)
+    None
+}
+
+/// The rule that row k of the sites breaks.
+fn site_fault(sites: &[SiteRow], k: usize) -> Option<CaseFault>
+    requires few { length sites.now ≤ 16 }
+    requires within { k < length sites.now }
+    ensures { result ≡ site_fault sites.now k }
+{
+    let row = k as u32 + 2;
+    let site = sites[k];
+    let before = &sites[..k];
+    if is_named(before, &site.name) {
+        return Some(CaseFault::DoubleSite(row));
+    }
+    if site.depot && has_depot(before) {
+        return Some(CaseFault::TwoDepots(row));
+    }
+    None
+}
+
+/// Whether a site has this name.
+fn has_name(site: &SiteRow, name: &Name) -> bool
+    ensures { result ≡ bytes_eq name.now site.now.name }
+{
+    *name == site.name
+}
+
+/// Whether one of the sites has this name.
+fn is_named(sites: &[SiteRow], name: &Name) -> bool
+    ensures { result ≡ list_any (λ s. bytes_eq name.now s.name) sites.now }
+{
+    sites.iter().any(|site| has_name(site, name))
+}
+
+/// The place of the first site of this name.
+fn site_place(sites: &[SiteRow], name: &Name) -> Option<usize>
+    ensures { result ≡ position (λ s. bytes_eq name.now s.name) sites.now }
+{
+    sites.iter().position(|site| has_name(site, name))
+}
+
+/// Whether one of the sites is a depot.
+fn has_depot(sites: &[SiteRow]) -> bool
+    ensures { result ≡ list_any is_depot sites.now }
+{
+    sites.iter().any(|site| site.depot)
 }
 
 /// Adds a name, and returns whether it is new.
@@ -258,19 +293,6 @@ fn add_name(names: &mut IndexSet<Name>, name: Name) -> Result<bool, NoMemory>
         Ok((_, fresh)) => Ok(fresh),
         Err(_) => Err(NoMemory),
     }
-}
-
-/// The rule that a row of sites breaks.
-fn site_fault(site: &SiteRow, is_known: bool, has_depot: bool, row: u32) -> Option<CaseFault>
-    ensures { result ≡ site_rule site.now is_known has_depot row }
-{
-    if is_known {
-        return Some(CaseFault::DoubleSite(row));
-    }
-    if site.depot && has_depot {
-        return Some(CaseFault::TwoDepots(row));
-    }
-    None
 }
 
 /// The place of the depot, if there are a depot and a base.
