@@ -7,14 +7,14 @@ ghost use Rattle.family_points.specs.Separation.{base_points};
 ghost use Rattle.family_points.specs.Inputs.{vector_count};
 ghost use Rattle.family_points.specs.Choices.{IsChoice, choice_point, choice_stocks};
 ghost use Rattle.family_rows.specs.Spots.{AreRows, IsBaseAt};
-ghost use Rattle.family_rows.specs.Tabled.{AreTables, numbers};
+ghost use Rattle.family_rows.specs.Tabled.{AreTables, box_numbers};
 
 use answers::NoMemory;
+use family_numbers::Numbers;
 use family_points::order::{Base, Choice};
 use family_rows::base::{BaseSpot, put_rows, spot_at};
 use family_rows::base_at::BaseAt;
 use family_rows::depot::DepotTables;
-use family_tables::Evaluator;
 use hull::{Chain, Score};
 use series_bounds::short::Iv64;
 use std::alloc::Global;
@@ -96,18 +96,18 @@ pub(crate) fn put_curve<'b, S: Score>(
     rows: &mut Vec<Vec<Iv64<48>>>,
     here: &BaseAt<'_, 'b>,
     score: &S,
-    evaluator: &Evaluator<48>,
+    numbers: &Numbers<48>,
     tables: &DepotTables<'_>,
 ) -> Result<(), NoMemory>
     requires here { IsBaseAt here.now }
-    requires evaluator { evaluator.now.numbers ≡ numbers here.now.family.now }
-    requires tables { AreTables evaluator.now.numbers (drop 1 here.now.depot.now) tables.now }
+    requires numbers { numbers.now ≡ box_numbers here.now.family.now }
+    requires tables { AreTables numbers.now (drop 1 here.now.depot.now) tables.now }
     requires room { vector_count here.now.family.now here.now.site.0 ≤ 65000000 }
     ensures curve { IfOk result (λ _. let x = here.now.family.now in
         IsCurve (base_points x.case x.line S.ends x.held x.low x.high here.now.depot.now here.now.site.0) chain.new) }
     ensures few { IfOk result (λ _. length chain.new ≤ vector_count here.now.family.now here.now.site.0) }
 {
-    put_rows(rows, here, evaluator, tables)?;
+    put_rows(rows, here, numbers, tables)?;
     let count = here.base.shops.len();
     put_points(chain, here, score, &rows.as_slice()[..count])?;
     let _vertices = chain.len();

@@ -68,7 +68,7 @@ fn depot_path<'b, S: Score>(
 ) -> Result<Vec<Point>, NoMemory>
     requires sources { AreSources sources.now }
     requires depot { IsAt sources.now.family.now 0 depot.now }
-    requires tables { AreTables sources.now.evaluator.numbers (drop 1 depot.now) tables.now }
+    requires tables { AreTables sources.now.numbers (drop 1 depot.now) tables.now }
     requires room { length below.now + vertex_count sources.now.family.now ≤ 65000000 }
     requires ranges { (v : Point) → Among v below.now → InRange v }
     requires work { length work.old.chains.items ≡ length sources.now.bases.items }
@@ -91,7 +91,7 @@ fn depot_path<'b, S: Score>(
             &mut work.rows,
             &here,
             score,
-            &sources.evaluator,
+            &sources.numbers,
             tables,
         )?;
     }
@@ -119,7 +119,7 @@ fn with_depot<'b, S: Score>(
 ) -> Result<Curve, NoMemory>
     requires sources { AreSources sources.now }
     requires depot { IsAt sources.now.family.now 0 depot.now }
-    requires tables { AreTables sources.now.evaluator.numbers (drop 1 depot.now) tables.now }
+    requires tables { AreTables sources.now.numbers (drop 1 depot.now) tables.now }
     requires room { length (vertices_of so_far) + vertex_count sources.now.family.now ≤ 65000000 }
     requires widths { HaveWidthOf sources.now.family.now (vertices_of so_far) }
     requires work { length work.old.chains.items ≡ length sources.now.bases.items }
@@ -196,7 +196,7 @@ fn with_shops<'b, S: Score>(
 {
     let family = sources.family;
     let _size = family.size();
-    let tables = depot_tables(sources, depot)?;
+    let tables = depot_tables(alloc, sources, depot)?;
     let low = family.line_low(SiteId(0));
     let high = family.line_high(SiteId(0));
     let first = joined(alloc, middle(low, high), depot)?;

@@ -6,8 +6,8 @@ use Rattle.fixed_interval.specs.Ends.{Ends, IsWithinLimit}
 use Rattle.fleet_model.specs.Laws.{IsBase}
 use Rattle.fleet_model.specs.Rows.{systems, per_system, weight}
 use Rattle.family_eval.specs.Profile.{item_of}
-use Rattle.family_tables.specs.Numbers.{AreBaseLows, base_backorders}
-use Rattle.family_tables.proofs.FromNumbers.{backorders_alone}
+use Rattle.family_numbers.specs.Numbers.{AreBaseLows, base_backorders}
+use Rattle.family_numbers.proofs.FromNumbers.{backorders_alone}
 use Rattle.hull.specs.declared.point.Point.{Point}
 use Rattle.hull.specs.Curves.{lagrangian, Among, sums}
 use Rattle.hull.specs.Scores.{LeavesRoom}
@@ -18,7 +18,7 @@ use Rattle.family_points.specs.Points.{ScoreEnds}
 use Rattle.family_points.specs.Separation.{base_point, base_points, base_stocks, depot_and_base, depot_point, points_over}
 use Rattle.family_points.specs.Inputs.{AreShopsAt, FamilyBox, IsAt, IsFamilyBox, line_high, line_low, shop_high, shop_low, shop_vectors}
 use Rattle.family_points.specs.Least.{AreAtLeast, AreLowsAt}
-use Rattle.family_rows.specs.Tabled.{numbers}
+use Rattle.family_rows.specs.Tabled.{box_numbers}
 use Rattle.family_points.proofs.Bounded.{at_long}
 use Rattle.family_points.proofs.Distinct.{family_stocks_in}
 use Rattle.family_points.proofs.Leasts.{at_least_sums}
@@ -120,12 +120,12 @@ base_under_more x ends d p q j a b some h k =
 
 -- numbers that the tables' backorders aren't below are so of the model's items
 pub lows_tabled : (x : FamilyBox) (valid : IsFamilyBox x) (j : ℕ) (d b lows : List ℕ) → IsBase x.case j → IsAt x 0 d
-    → AreBaseLows 48 (numbers x) j (get_or d 0 0) (drop 1 d) b lows → AreLowsAt x d j b lows
+    → AreBaseLows 48 (box_numbers x) j (get_or d 0 0) (drop 1 d) b lows → AreLowsAt x d j b lows
 lows_tabled x valid j d b lows base h is s g below =
     let some = valid.valid.frame.fewest_sites in
     let own : ℕ → List ℕ = depot_and_base d j (s ∷ b) in
     let depot_long = at_long x valid 0 d (omega (arith, some)) h in
-    let item : base_backorders 48 (numbers x) j (get_or d 0 0) (drop 1 d) b s ≡ (item_of 48 x.case (base_stocks x.case x.line d j (s ∷ b)) x.line j).backorders =
+    let item : base_backorders 48 (box_numbers x) j (get_or d 0 0) (drop 1 d) b s ≡ (item_of 48 x.case (base_stocks x.case x.line d j (s ∷ b)) x.line j).backorders =
     sym (backorders_alone 48 x.case x.line j (base_stocks x.case x.line d j (s ∷ b)) (get_or d 0 0) (drop 1 d) s b valid.is_line base.0 base.1
     (family_stocks_in x.case x.line own 0 valid.valid valid.is_line (omega (arith, some)) depot_long ∙ sym (begins d (omega (arith, depot_long))))
     (family_stocks_in x.case x.line own j valid.valid valid.is_line base.1 (ap length (at_base d j (s ∷ b) base.0) ∙ at_long x valid j (s ∷ b) base.1 g)

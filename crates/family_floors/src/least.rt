@@ -12,11 +12,12 @@ ghost use Rattle.family_points.specs.Points.{AreOrdered, points_within};
 ghost use Rattle.family_points.specs.Separation.{base_points, depot_points};
 ghost use Rattle.family_points.specs.Choices.{IsChoice, choice_point};
 ghost use Rattle.family_rows.specs.Spots.{AreRows, IsBaseAt};
-ghost use Rattle.family_rows.specs.Tabled.{AreTables, numbers};
+ghost use Rattle.family_rows.specs.Tabled.{AreTables, box_numbers};
 
 use crate::lows::low_at_depot;
 use answers::NoMemory;
 use demand_rates::kinds::Rates;
+use family_numbers::Numbers;
 use family_points::bounds::Bounds;
 use family_points::family::{Family, joined};
 use family_points::order::Choice;
@@ -24,7 +25,6 @@ use family_rows::base::{put_rows, spot_at};
 use family_rows::base_at::BaseAt;
 use family_rows::depot::{DepotTables, depot_tables};
 use family_rows::sources::Sources;
-use family_tables::Evaluator;
 use hull::{Price, Score, Spot};
 use series_bounds::short::Iv64;
 use spares_input::{Case, PartId, SiteId};
@@ -83,20 +83,20 @@ fn least_at_base<S: Score>(
     rows: &mut Vec<Vec<Iv64<48>>>,
     here: &BaseAt<'_, '_>,
     score: &S,
-    evaluator: &Evaluator<48>,
+    numbers: &Numbers<48>,
     tables: &DepotTables<'_>,
     price: Price,
 ) -> Result<u128, NoMemory>
     requires here { IsBaseAt here.now }
-    requires evaluator { evaluator.now.numbers ≡ numbers here.now.family.now }
-    requires tables { AreTables evaluator.now.numbers (drop 1 here.now.depot.now) tables.now }
+    requires numbers { numbers.now ≡ box_numbers here.now.family.now }
+    requires tables { AreTables numbers.now (drop 1 here.now.depot.now) tables.now }
     requires most_money { price.q ≤ 1000000000000 }
     requires price { price.p ≤ 2 ^ 74 }
     ensures least { IfOk result (let x = here.now.family.now in IsLeast price.p price.q
         (base_points x.case x.line S.ends x.held x.low x.high here.now.depot.now here.now.site.0)) }
     ensures most { IfOk result (λ least. least ≤ 2 ^ 115) }
 {
-    put_rows(rows, here, evaluator, tables)?;
+    put_rows(rows, here, numbers, tables)?;
     let count = here.base.shops.len();
     Ok(least_of_choices(here, score, &rows.as_slice()[..count], price))
 }
@@ -112,7 +112,7 @@ fn least_at_depot<S: Score>(
 ) -> Result<u128, NoMemory>
     requires sources { AreSources sources.now }
     requires depot { IsAt sources.now.family.now 0 depot.now }
-    requires tables { AreTables sources.now.evaluator.numbers (drop 1 depot.now) tables.now }
+    requires tables { AreTables sources.now.numbers (drop 1 depot.now) tables.now }
     requires most_money { price.q ≤ 1000000000000 }
     requires price { price.p ≤ 2 ^ 74 }
     ensures { IfOk result (let x = sources.now.family.now in IsLeast price.p price.q
@@ -123,7 +123,7 @@ fn least_at_depot<S: Score>(
     for j in 1..sources.family.sites() {
         let base = &sources.bases[usize::from(j) - 1];
         let here = BaseAt::of(sources.family, depot, SiteId(j), base);
-        least += least_at_base(rows, &here, score, &sources.evaluator, tables, price)?;
+        least += least_at_base(rows, &here, score, &sources.numbers, tables, price)?;
     }
     Ok(least)
 }
@@ -141,7 +141,7 @@ fn depot_is_at_least<S: Score>(
 ) -> Result<bool, NoMemory>
     requires sources { AreSources sources.now }
     requires depot { IsAt sources.now.family.now 0 depot.now }
-    requires tables { AreTables sources.now.evaluator.numbers (drop 1 depot.now) tables.now }
+    requires tables { AreTables sources.now.numbers (drop 1 depot.now) tables.now }
     requires most_money { price.q ≤ 1000000000000 }
     requires price { price.p ≤ 2 ^ 74 }
     ensures { IfOk result (let x = sources.now.family.now in Decides price.p price.q floor
@@ -174,7 +174,7 @@ fn are_at_least<S: Score>(
 {
     let family = sources.family;
     let _size = family.size();
-    let tables = depot_tables(sources, depot)?;
+    let tables = depot_tables(alloc, sources, depot)?;
     let low = family.line_low(SiteId(0));
     let high = family.line_high(SiteId(0));
     for s in low..high + 1 {

@@ -11,14 +11,14 @@ ghost use Rattle.family_points.specs.Points.{cost_above};
 ghost use Rattle.family_points.specs.Separation.{base_point, base_points, depot_points};
 ghost use Rattle.family_points.specs.Choices.{IsShopVector};
 ghost use Rattle.family_rows.specs.Spots.{IsBaseAt};
-ghost use Rattle.family_rows.specs.Tabled.{AreTables, numbers, own_at};
+ghost use Rattle.family_rows.specs.Tabled.{AreTables, box_numbers, own_at};
 
+use family_numbers::{Numbers, OwnPart};
 use family_points::family::shops_of;
 use family_points::order::ShopVector;
 use family_rows::base_at::BaseAt;
 use family_rows::depot::{DepotTables, own_at};
 use family_rows::sources::Sources;
-use family_tables::{Evaluator, OwnPart};
 use hull::{Price, Score};
 use spares_input::SiteId;
 
@@ -29,23 +29,24 @@ const MOST: u128 = 1 << 115;
 fn put_lows(
     lows: &mut [u64],
     here: &BaseAt<'_, '_>,
-    evaluator: &Evaluator<48>,
+    numbers: &Numbers<48>,
     tables: &DepotTables<'_>,
     own: &OwnPart<48>,
     shops: &[u8],
 )
     requires few { length lows.old ≤ 64 }
     requires here { IsBaseAt here.now }
-    requires evaluator { evaluator.now.numbers ≡ numbers here.now.family.now }
-    requires tables { AreTables evaluator.now.numbers (drop 1 here.now.depot.now) tables.now }
-    requires own { own.now ≡ own_at evaluator.now.numbers here.now.depot.now here.now.site.0 }
+    requires numbers { numbers.now ≡ box_numbers here.now.family.now }
+    requires tables { AreTables numbers.now (drop 1 here.now.depot.now) tables.now }
+    requires own { own.now ≡ own_at numbers.now here.now.depot.now here.now.site.0 }
     requires shops { AreShopsAt here.now.family.now here.now.site.0 shops.now }
     ensures count { length lows.new ≡ length lows.old }
     ensures lows { AreLowsAt here.now.family.now here.now.depot.now here.now.site.0 shops.now lows.new }
 {
     let (site, depot) = (here.site, here.depot);
-    evaluator.put_lows(
+    put_line_lows(
         lows,
+        numbers,
         own,
         depot[0],
         shops_of(depot),
@@ -102,7 +103,7 @@ fn low_at_shops<S: Score>(
     lows: &mut [u64],
     here: &BaseAt<'_, '_>,
     score: &S,
-    evaluator: &Evaluator<48>,
+    numbers: &Numbers<48>,
     tables: &DepotTables<'_>,
     own: &OwnPart<48>,
     shops: &ShopVector,
@@ -111,9 +112,9 @@ fn low_at_shops<S: Score>(
     requires few { length lows.old ≤ 64 }
     requires long { line_high here.now.family.now here.now.site.0 < length lows.old }
     requires here { IsBaseAt here.now }
-    requires evaluator { evaluator.now.numbers ≡ numbers here.now.family.now }
-    requires tables { AreTables evaluator.now.numbers (drop 1 here.now.depot.now) tables.now }
-    requires own { own.now ≡ own_at evaluator.now.numbers here.now.depot.now here.now.site.0 }
+    requires numbers { numbers.now ≡ box_numbers here.now.family.now }
+    requires tables { AreTables numbers.now (drop 1 here.now.depot.now) tables.now }
+    requires own { own.now ≡ own_at numbers.now here.now.depot.now here.now.site.0 }
     requires shops { IsShopVector here.now.family.now here.now.site.0 shops.now }
     requires most_money { price.q ≤ 1000000000000 }
     requires price { price.p ≤ 2 ^ 74 }
@@ -123,7 +124,7 @@ fn low_at_shops<S: Score>(
     ensures most { result ≤ 2 ^ 115 }
     ensures count { length lows.new ≡ length lows.old }
 {
-    put_lows(lows, here, evaluator, tables, own, shops.stocks.as_slice());
+    put_lows(lows, here, numbers, tables, own, shops.stocks.as_slice());
     let family = here.family;
     let _size = family.size();
     let low = family.line_low(here.site);
@@ -141,13 +142,13 @@ fn low_at_shops<S: Score>(
 fn low_at_base<S: Score>(
     here: &BaseAt<'_, '_>,
     score: &S,
-    evaluator: &Evaluator<48>,
+    numbers: &Numbers<48>,
     tables: &DepotTables<'_>,
     price: Price,
 ) -> u128
     requires here { IsBaseAt here.now }
-    requires evaluator { evaluator.now.numbers ≡ numbers here.now.family.now }
-    requires tables { AreTables evaluator.now.numbers (drop 1 here.now.depot.now) tables.now }
+    requires numbers { numbers.now ≡ box_numbers here.now.family.now }
+    requires tables { AreTables numbers.now (drop 1 here.now.depot.now) tables.now }
     requires most_money { price.q ≤ 1000000000000 }
     requires price { price.p ≤ 2 ^ 74 }
     ensures low { let x = here.now.family.now in AreAtLeast price.p price.q result
@@ -155,14 +156,14 @@ fn low_at_base<S: Score>(
     ensures most { result ≤ 2 ^ 115 }
 {
     let _size = here.family.size();
-    let own = own_at(here, evaluator, tables);
+    let own = own_at(here, numbers, tables);
     let high = here.family.line_high(here.site);
     let mut buffer = [0; 64];
     let lows = &mut buffer[..usize::from(high) + 1];
     let mut least = MOST;
     for n in 0..here.base.shops.len() {
         let shops = &here.base.shops[n];
-        least = least.min(low_at_shops(lows, here, score, evaluator, tables, &own, shops, price));
+        least = least.min(low_at_shops(lows, here, score, numbers, tables, &own, shops, price));
     }
     least
 }
@@ -177,7 +178,7 @@ pub(crate) fn low_at_depot<S: Score>(
 ) -> u128
     requires sources { AreSources sources.now }
     requires depot { IsAt sources.now.family.now 0 depot.now }
-    requires tables { AreTables sources.now.evaluator.numbers (drop 1 depot.now) tables.now }
+    requires tables { AreTables sources.now.numbers (drop 1 depot.now) tables.now }
     requires most_money { price.q ≤ 1000000000000 }
     requires price { price.p ≤ 2 ^ 74 }
     ensures { let x = sources.now.family.now in AreAtLeast price.p price.q result
@@ -188,7 +189,7 @@ pub(crate) fn low_at_depot<S: Score>(
     for j in 1..sources.family.sites() {
         let base = &sources.bases[usize::from(j) - 1];
         let here = BaseAt::of(sources.family, depot, SiteId(j), base);
-        low += low_at_base(&here, score, &sources.evaluator, tables, price);
+        low += low_at_base(&here, score, &sources.numbers, tables, price);
     }
     low
 }

@@ -8,17 +8,17 @@ ghost use Rattle.family_rows.specs.Sources.{AreSources};
 ghost use Rattle.family_points.specs.Points.{AreOrdered, HasUpper, points_within};
 ghost use Rattle.family_points.specs.Separation.{base_points, depot_points};
 ghost use Rattle.family_rows.specs.Spots.{IsBaseAt};
-ghost use Rattle.family_rows.specs.Tabled.{AreTables, numbers};
+ghost use Rattle.family_rows.specs.Tabled.{AreTables, box_numbers};
 
 use answers::NoMemory;
 use demand_rates::kinds::Rates;
+use family_numbers::Numbers;
 use family_points::bounds::Bounds;
 use family_points::family::{Family, shops_of};
 use family_rows::base::{put_rows, spot_at};
 use family_rows::base_at::BaseAt;
 use family_rows::depot::{DepotTables, depot_tables};
 use family_rows::sources::Sources;
-use family_tables::Evaluator;
 use hull::{Score, Spot};
 use series_bounds::short::Iv64;
 use spares_input::{Case, PartId, SiteId};
@@ -29,17 +29,17 @@ fn upper_at_base<S: Score>(
     rows: &mut Vec<Vec<Iv64<48>>>,
     here: &BaseAt<'_, '_>,
     score: &S,
-    evaluator: &Evaluator<48>,
+    numbers: &Numbers<48>,
     tables: &DepotTables<'_>,
 ) -> Result<u128, NoMemory>
     requires here { IsBaseAt here.now }
-    requires evaluator { evaluator.now.numbers ≡ numbers here.now.family.now }
-    requires tables { AreTables evaluator.now.numbers (drop 1 here.now.depot.now) tables.now }
+    requires numbers { numbers.now ≡ box_numbers here.now.family.now }
+    requires tables { AreTables numbers.now (drop 1 here.now.depot.now) tables.now }
     ensures upper { IfOk result (let x = here.now.family.now in
         HasUpper (base_points x.case x.line S.ends x.held x.low x.high here.now.depot.now here.now.site.0)) }
     ensures most { IfOk result (λ hi. hi ≤ 2 ^ 74) }
 {
-    put_rows(rows, here, evaluator, tables)?;
+    put_rows(rows, here, numbers, tables)?;
     let count = here.base.shops.len();
     let first = &here.base.order[0];
     let spot = spot_at(here, score, &rows.as_slice()[..count], first);
@@ -56,7 +56,7 @@ fn upper_at_depot<S: Score>(
 ) -> Result<u128, NoMemory>
     requires sources { AreSources sources.now }
     requires depot { IsAt sources.now.family.now 0 depot.now }
-    requires tables { AreTables sources.now.evaluator.numbers (drop 1 depot.now) tables.now }
+    requires tables { AreTables sources.now.numbers (drop 1 depot.now) tables.now }
     ensures upper { IfOk result (let x = sources.now.family.now in
         HasUpper (depot_points x.case x.line S.ends x.held x.low x.high depot.now)) }
     ensures most { IfOk result (λ hi. hi ≤ 16 * 2 ^ 74) }
@@ -67,7 +67,7 @@ fn upper_at_depot<S: Score>(
     for j in 1..sources.family.sites() {
         let base = &sources.bases[usize::from(j) - 1];
         let here = BaseAt::of(sources.family, depot, SiteId(j), base);
-        upper += upper_at_base(&mut rows, &here, score, &sources.evaluator, tables)?;
+        upper += upper_at_base(&mut rows, &here, score, &sources.numbers, tables)?;
     }
     Ok(upper)
 }
@@ -93,7 +93,7 @@ pub fn upper_within<S: Score>(
     let _size = family.size();
     let sources = Sources::of(alloc, &family)?;
     let depot = family.low(SiteId(0));
-    let tables = depot_tables(&sources, shops_of(depot))?;
+    let tables = depot_tables(alloc, &sources, shops_of(depot))?;
     let upper = upper_at_depot(alloc, &sources, score, &tables, depot)?;
     Ok(upper)
 }

@@ -7,15 +7,15 @@ use Rattle.fleet_model.specs.Fleet.{family}
 use Rattle.fleet_model.specs.Laws.{IsBase}
 use Rattle.family_eval.specs.Profile.{item_of}
 use Rattle.family_eval.proofs.Items.{flat_at}
-use Rattle.family_tables.specs.declared.base_shops.BaseShops.{BaseShops}
-use Rattle.family_tables.specs.BaseTables.{AreBaseShops, AreShopBounds, HaveShops}
-use Rattle.family_tables.specs.Numbers.{AreBaseBackorders, FamilyNumbers, no_numbers, pair_at, pair_numbers}
-use Rattle.family_tables.proofs.FromNumbers.{backorders_alone}
+use Rattle.family_numbers.specs.declared.base_shops.BaseShops.{BaseShops}
+use Rattle.family_numbers.specs.BaseTables.{AreBaseShops, AreShopBounds, HaveShops}
+use Rattle.family_numbers.specs.Numbers.{AreBaseBackorders, FamilyNumbers, no_numbers, pair_at, pair_numbers}
+use Rattle.family_numbers.proofs.FromNumbers.{backorders_alone}
 use Rattle.family_points.specs.Points.{ScoreEnds}
 use Rattle.family_points.specs.Separation.{base_point, base_stocks, depot_and_base}
 use Rattle.family_points.proofs.Boxes.{same_map}
 use Rattle.family_points.specs.Inputs.{AreShopsAt, FamilyBox, IsFamilyBox, IsAt, line_high, line_low, line_stocks, scored_point, shop_high, shop_low}
-use Rattle.family_rows.specs.Tabled.{AreShopStocks, numbers}
+use Rattle.family_rows.specs.Tabled.{AreShopStocks, box_numbers}
 use Rattle.family_points.proofs.Bounded.{at_limit, at_long}
 use Rattle.family_points.proofs.Distinct.{family_stocks_in}
 use Rattle.family_points.proofs.Numbers.{same_length}
@@ -27,14 +27,14 @@ use Rattle.family_points.proofs.Shops.{all_below, box_shops, shops_low_long}
 
 module _ (x : FamilyBox) (valid : IsFamilyBox x) where
   -- stocks of the shop units at a site, as tables take them
-  pub shop_stocks : (k : ℕ) (v : List ℕ) (n : FamilyNumbers 48) → n ≡ numbers x → k < length x.case.sites → AreShopsAt x k v → AreShopStocks n v
+  pub shop_stocks : (k : ℕ) (v : List ℕ) (n : FamilyNumbers 48) → n ≡ box_numbers x → k < length x.case.sites → AreShopsAt x k v → AreShopStocks n v
   shop_stocks k v n e m h = subst (λ (n : FamilyNumbers 48). AreShopStocks n v) (sym e) (record {
     count = same_length (shop_low x k) v h.least ∙ shops_low_long x valid k m;
     small = all_below v (shop_high x k) h.most (box_shops x valid k m).small;
   })
 
   -- the shop units' bounds at the depot, as tables take them
-  pub shop_bounds : (n : FamilyNumbers 48) → n ≡ numbers x → AreShopBounds n (shop_low x 0) (shop_high x 0)
+  pub shop_bounds : (n : FamilyNumbers 48) → n ≡ box_numbers x → AreShopBounds n (shop_low x 0) (shop_high x 0)
   shop_bounds n e =
       let some : 0 < length x.case.sites = omega (arith, valid.valid.frame.fewest_sites) in
       subst (λ (n : FamilyNumbers 48). AreShopBounds n (shop_low x 0) (shop_high x 0)) (sym e) (record {
@@ -44,7 +44,7 @@ module _ (x : FamilyBox) (valid : IsFamilyBox x) where
       })
 
   -- the tables of the family's box have those of each vector of the shop units' stocks at the depot
-  pub have_shops : (n : FamilyNumbers 48) (t : BaseShops 48) (d : List ℕ) → n ≡ numbers x → AreBaseShops 48 n (shop_low x 0) (shop_high x 0) t → AreShopsAt x 0 d
+  pub have_shops : (n : FamilyNumbers 48) (t : BaseShops 48) (d : List ℕ) → n ≡ box_numbers x → AreBaseShops 48 n (shop_low x 0) (shop_high x 0) t → AreShopsAt x 0 d
       → HaveShops 48 n d t
   have_shops n t d e are h = record {
     low = shop_low x 0;
@@ -55,18 +55,18 @@ module _ (x : FamilyBox) (valid : IsFamilyBox x) where
     most = h.most;
   }
 
-  line_limit : (j : ℕ) → j < length x.case.sites → (pair_at (numbers x) 0 j).limit ≡ limit_at x.case.parts x.line j
+  line_limit : (j : ℕ) → j < length x.case.sites → (pair_at (box_numbers x) 0 j).limit ≡ limit_at x.case.parts x.line j
   line_limit j m =
       ap (λ w. w.limit) (flat_at (pair_numbers 48 x.case) (length x.case.sites) (no_numbers 48) (family x.case x.line) 0 j (omega arith) m)
 
   -- the line unit's stocks at a base are within those of its list of backorders
   pub line_listed : (j : ℕ) (d b : List ℕ) (list : List Ends) → IsBase x.case j → IsAt x j b
-      → AreBaseBackorders 48 (numbers x) j (get_or d 0 0) (drop 1 d) (drop 1 b) list → get_or b 0 0 < length list
+      → AreBaseBackorders 48 (box_numbers x) j (get_or d 0 0) (drop 1 d) (drop 1 b) list → get_or b 0 0 < length list
   line_listed j d b list base h is = omega (arith, is.count, line_limit j base.1, at_limit x valid j 0 b base.1 h (omega arith))
 
   -- the table's backorders at a stock of the line unit are those of the pair at these stocks
   pub tabled : (j s : ℕ) (d b : List ℕ) (list : List Ends) → IsBase x.case j → IsAt x 0 d → IsAt x j (s ∷ b)
-      → AreBaseBackorders 48 (numbers x) j (get_or d 0 0) (drop 1 d) b list
+      → AreBaseBackorders 48 (box_numbers x) j (get_or d 0 0) (drop 1 d) b list
       → at_place list s ≡ (item_of 48 x.case (base_stocks x.case x.line d j (s ∷ b)) x.line j).backorders
   tabled j s d b list base h g is =
       let some = valid.valid.frame.fewest_sites in

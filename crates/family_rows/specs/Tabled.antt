@@ -2,15 +2,15 @@
 use Rattle.std.specs.Prelude.{◌≡◌, ℕ, ◌-◌, ◌≤◌, List, drop, length, map}
 use Rattle.std.specs.List.{All}
 use Rattle.moment_table.specs.Rows.{TableRows}
-use Rattle.family_tables.specs.declared.own_part.OwnPart.{OwnPart}
-use Rattle.family_tables.specs.BaseTables.{HaveShops}
-use Rattle.family_tables.specs.Numbers.{FamilyNumbers, depot_line_table, depot_shop_table, nth_stock, numbers_of, own_part, shop_numbers}
+use Rattle.family_numbers.specs.declared.own_part.OwnPart.{OwnPart}
+use Rattle.family_numbers.specs.BaseTables.{HaveShops}
+use Rattle.family_numbers.specs.Numbers.{FamilyNumbers, depot_line_table, depot_shop_table, nth_stock, numbers_of, own_part, shop_numbers}
 use Rattle.family_rows.specs.declared.depot.DepotTables.{DepotTables}
 use Rattle.family_points.specs.Inputs.{FamilyBox}
 
 -- the numbers of the family at 48 fraction bits, from which its tables are made
-abbrev pub numbers : FamilyBox → FamilyNumbers 48
-numbers x = numbers_of 48 x.case x.line
+abbrev pub box_numbers : FamilyBox → FamilyNumbers 48
+box_numbers x = numbers_of 48 x.case x.line
 
 -- a stock for each shop unit
 pub record AreShopStocks (n : FamilyNumbers 48) (v : List ℕ) : Type 0 where

@@ -7,13 +7,13 @@ ghost use Rattle.family_points.specs.Separation.{base_stocks};
 ghost use Rattle.family_points.specs.Inputs.{shop_vectors};
 ghost use Rattle.family_points.specs.Choices.{IsChoice, choice_point, choice_stocks};
 ghost use Rattle.family_rows.specs.Spots.{AreRows, IsBaseAt, spot_point};
-ghost use Rattle.family_rows.specs.Tabled.{AreTables, numbers};
+ghost use Rattle.family_rows.specs.Tabled.{AreTables, box_numbers};
 
 use crate::base_at::BaseAt;
 use crate::depot::{DepotTables, own_at, put_backorders};
 use answers::NoMemory;
+use family_numbers::Numbers;
 use family_points::order::Choice;
-use family_tables::Evaluator;
 use fixed_interval::Iv;
 use hull::{Score, Spot, is_first};
 use series_bounds::short::Iv64;
@@ -85,12 +85,12 @@ fn make_rows(rows: &mut Vec<Vec<Iv64<48>>>, count: usize) -> Result<(), NoMemory
 pub fn put_rows(
     rows: &mut Vec<Vec<Iv64<48>>>,
     here: &BaseAt<'_, '_>,
-    evaluator: &Evaluator<48>,
+    numbers: &Numbers<48>,
     tables: &DepotTables<'_>,
 ) -> Result<(), NoMemory>
     requires here { IsBaseAt here.now }
-    requires evaluator { evaluator.now.numbers ≡ numbers here.now.family.now }
-    requires tables { AreTables evaluator.now.numbers (drop 1 here.now.depot.now) tables.now }
+    requires numbers { numbers.now ≡ box_numbers here.now.family.now }
+    requires tables { AreTables numbers.now (drop 1 here.now.depot.now) tables.now }
     ensures long { IfOk result
         (λ _. length (shop_vectors here.now.family.now here.now.site.0) ≤ length rows.new.items) }
     ensures rows { IfOk result (λ _. AreRows here.now (map (λ r. r.items)
@@ -98,10 +98,10 @@ pub fn put_rows(
 {
     let count = here.base.shops.len();
     make_rows(rows, count)?;
-    let own = own_at(here, evaluator, tables);
+    let own = own_at(here, numbers, tables);
     for n in 0..count {
         let stocks = here.base.shops[n].stocks.as_slice();
-        put_backorders(&mut rows[n], here, evaluator, tables, &own, stocks)?;
+        put_backorders(&mut rows[n], here, numbers, tables, &own, stocks)?;
     }
     Ok(())
 }

@@ -4,15 +4,16 @@ ghost use Rattle.std.specs.Prelude.{◌≡◌, IfOk, drop};
 ghost use Rattle.family_points.specs.Inputs.{AreShopsAt};
 ghost use Rattle.family_rows.specs.Sources.{AreSources};
 ghost use Rattle.family_rows.specs.Spots.{IsBaseAt, IsRow};
-ghost use Rattle.family_rows.specs.Tabled.{AreTables, numbers, own_at};
+ghost use Rattle.family_rows.specs.Tabled.{AreTables, box_numbers, own_at};
 
 use crate::base_at::BaseAt;
 use crate::sources::Sources;
 use answers::NoMemory;
+use family_numbers::{BaseShops, Numbers, OwnPart};
 use family_points::family::shops_of;
-use family_tables::{BaseShops, Evaluator, OwnPart};
 use moment_table::kinds::Table;
 use series_bounds::short::Iv64;
+use std::alloc::Global;
 
 /// The tables shared by all vectors with the same stocks of the shop units at the depot.
 #[derive(Drop)]
@@ -27,11 +28,11 @@ pub struct DepotTables<'s> {
 pub fn depot_tables<'s>(sources: &'s Sources<'_>, depot: &[u8]) -> Result<DepotTables<'s>, NoMemory>
     requires sources { AreSources sources.now }
     requires depot { AreShopsAt sources.now.family.now 0 depot.now }
-    ensures { IfOk result (AreTables sources.now.evaluator.numbers depot.now) }
+    ensures { IfOk result (AreTables sources.now.numbers depot.now) }
 {
     let _size = sources.family.size();
     let shops = sources.depot_shops.as_slice();
-    let line = sources.evaluator.depot_line(shops, depot)?;
+    let line = depot_line(alloc, &sources.numbers, shops, depot)?;
     Ok(DepotTables {
         line,
         shops: &sources.base_shops,
@@ -39,18 +40,14 @@ pub fn depot_tables<'s>(sources: &'s Sources<'_>, depot: &[u8]) -> Result<DepotT
 }
 
 /// The own part of the line unit's pipeline at a base, shared by all stocks of the shop units there.
-pub fn own_at(
-    here: &BaseAt<'_, '_>,
-    evaluator: &Evaluator<48>,
-    tables: &DepotTables<'_>,
-) -> OwnPart<48>
+pub fn own_at(here: &BaseAt<'_, '_>, numbers: &Numbers<48>, tables: &DepotTables<'_>) -> OwnPart<48>
     requires here { IsBaseAt here.now }
-    requires evaluator { evaluator.now.numbers ≡ numbers here.now.family.now }
-    requires tables { AreTables evaluator.now.numbers (drop 1 here.now.depot.now) tables.now }
-    ensures { result ≡ own_at evaluator.now.numbers here.now.depot.now here.now.site.0 }
+    requires numbers { numbers.now ≡ box_numbers here.now.family.now }
+    requires tables { AreTables numbers.now (drop 1 here.now.depot.now) tables.now }
+    ensures { result ≡ own_at numbers.now here.now.depot.now here.now.site.0 }
 {
     let depot = here.depot;
-    evaluator.own_part(&tables.line, depot[0], shops_of(depot), here.site)
+    own_part(numbers, &tables.line, depot[0], shops_of(depot), here.site)
 }
 
 /// Overwrites `found` with the line unit's backorders at a base by its stock there. The shop units have the stocks
@@ -58,22 +55,23 @@ pub fn own_at(
 pub fn put_backorders(
     found: &mut Vec<Iv64<48>>,
     here: &BaseAt<'_, '_>,
-    evaluator: &Evaluator<48>,
+    numbers: &Numbers<48>,
     tables: &DepotTables<'_>,
     own: &OwnPart<48>,
     shops: &[u8],
 ) -> Result<(), NoMemory>
     requires here { IsBaseAt here.now }
-    requires evaluator { evaluator.now.numbers ≡ numbers here.now.family.now }
-    requires tables { AreTables evaluator.now.numbers (drop 1 here.now.depot.now) tables.now }
-    requires own { own.now ≡ own_at evaluator.now.numbers here.now.depot.now here.now.site.0 }
+    requires numbers { numbers.now ≡ box_numbers here.now.family.now }
+    requires tables { AreTables numbers.now (drop 1 here.now.depot.now) tables.now }
+    requires own { own.now ≡ own_at numbers.now here.now.depot.now here.now.site.0 }
     requires shops { AreShopsAt here.now.family.now here.now.site.0 shops.now }
     ensures { IfOk result
         (λ _. IsRow here.now.family.now here.now.depot.now here.now.site.0 shops.now found.new.items) }
 {
     let (site, depot) = (here.site, here.depot);
-    evaluator.put_backorders(
+    put_line_backorders(
         found,
+        numbers,
         own,
         depot[0],
         shops_of(depot),

@@ -2,12 +2,12 @@
 
 ghost use Rattle.std.specs.Prelude.{◌≡◌, IfOk};
 ghost use Rattle.family_rows.specs.Sources.{AreSources};
-ghost use Rattle.family_rows.specs.Tabled.{numbers};
+ghost use Rattle.family_rows.specs.Tabled.{box_numbers};
 
 use answers::NoMemory;
+use family_numbers::{BaseShops, Numbers};
 use family_points::family::{Family, shops_of};
 use family_points::order::{Base, bases_of};
-use family_tables::{BaseShops, Evaluator};
 use moment_table::kinds::Table;
 use spares_input::SiteId;
 use std::alloc::Global;
@@ -17,8 +17,8 @@ use std::alloc::Global;
 pub struct Sources<'f> {
     /// The family.
     pub family: &'f Family<'f>,
-    /// The evaluator of its tables.
-    pub evaluator: Evaluator<48>,
+    /// Its numbers, from which its tables are made.
+    pub numbers: Numbers<48>,
     /// The choices at each base, the first base first.
     pub bases: Vec<Base>,
     /// The shop units' tables at the depot.
@@ -27,12 +27,12 @@ pub struct Sources<'f> {
     pub base_shops: BaseShops<48>,
 }
 
-/// The evaluator of a family's tables, which has kept none so far.
-fn evaluator_of(alloc: Global, family: &Family<'_>) -> Result<Evaluator<48>, NoMemory>
-    ensures { IfOk result (λ e. e.numbers ≡ numbers family.now) }
+/// The numbers of a family.
+fn numbers_of(alloc: Global, family: &Family<'_>) -> Result<Numbers<48>, NoMemory>
+    ensures { IfOk result (λ n. n ≡ box_numbers family.now) }
 {
     let case = family.case();
-    Evaluator::new(alloc, case, family.rates(), family.line())
+    Numbers::of(alloc, case, family.rates(), family.line())
 }
 
 impl<'f> Sources<'f> {
@@ -42,15 +42,15 @@ impl<'f> Sources<'f> {
         ensures family { IfOk result (λ s. s.family.now ≡ family.now) }
     {
         let _size = family.size();
-        let evaluator = evaluator_of(alloc, family)?;
+        let numbers = numbers_of(alloc, family)?;
         let bases = bases_of(alloc, family)?;
-        let depot_shops = evaluator.depot_shops()?;
+        let depot_shops = depot_shop_tables(alloc, &numbers)?;
         let low = shops_of(family.low(SiteId(0)));
         let high = shops_of(family.high(SiteId(0)));
-        let base_shops = evaluator.base_shops(depot_shops.as_slice(), low, high)?;
+        let base_shops = BaseShops::of(alloc, &numbers, depot_shops.as_slice(), low, high)?;
         Ok(Sources {
             family,
-            evaluator,
+            numbers,
             bases,
             depot_shops,
             base_shops,

@@ -1,8 +1,8 @@
 -- Where the first element stands that passes a test, and what a key's place says.
-use Rattle.std.proofs.Common.{◌≡◌, ◌==◌, ◌&&◌, ℕ, ◌+◌, ◌<◌, ◌⊎◌, inl, inr, Bool, true, false, not, cond, List, [], ◌∷◌, ◌++◌, length, get_or, map, take, drop, ◌||◌, position, nat_lt, bytes_eq, Some, None, is_some, refl, sym, ap, ap₂, ◌∙◌, subst, arith, lt-ltb, le-ltb}
+use Rattle.std.proofs.Common.{◌≡◌, ◌==◌, ◌&&◌, ℕ, ◌+◌, ◌<◌, ◌⊎◌, inl, inr, Bool, true, false, cond, List, [], ◌∷◌, ◌++◌, length, get_or, take, drop, ◌||◌, position, nat_lt, bytes_eq, Some, None, is_some, refl, sym, ap, ap₂, ◌∙◌, subst, arith, lt-ltb, le-ltb}
 use Rattle.std.specs.List.{All, list_any, position_or_len}
 use Rattle.std.proofs.lemmas.Bool.{false≢true, cases_lt, and_parts}
-use Rattle.std.proofs.lemmas.List.{length-map, take-append-drop, take_more}
+use Rattle.std.proofs.lemmas.List.{take-append-drop, take_more}
 use Rattle.std.proofs.lemmas.List.Quantifiers.{position-Some}
 use Rattle.std.proofs.lemmas.List.Sums.{position_or_len_is, fails_before_first, passes_at_first}
 use Rattle.std.proofs.lemmas.List.Folds.{list_any-append, list_any_at, list_any_none}
@@ -10,7 +10,7 @@ use Rattle.std.proofs.lemmas.Slice.Eq.{bytes_eq-Decides}
 use Rattle.family_tables.specs.declared.keys.Key.{Key}
 use Rattle.family_tables.specs.declared.keys.Kept.{Kept}
 use Rattle.family_tables.specs.Kept.{Grows, Has, IsKept, is_among, is_key, moments_at, table_at, with_key, with_keys}
-use Rattle.family_tables.specs.Numbers.{FamilyNumbers}
+use Rattle.family_numbers.specs.Numbers.{FamilyNumbers}
 
 not_below : (n : ℕ) → nat_lt n n ≡ false
 not_below n = grind arith
@@ -29,16 +29,6 @@ position_missed p (y ∷ ys) h =
     let xs = y ∷ ys in
     let e : position_or_len p xs ≡ length xs = position_or_len_is p xs (length xs) y (omega arith) (λ k b. h k y b) (λ b. absurd (omega (arith, b))) in
     ap (λ n. cond (nat_lt n (length xs)) (Some n) None) e ∙ ap (λ b. cond b (Some (length xs)) None) (not_below (length xs))
-
--- the same test of what the elements have
-places_same : {X Y : Type 0} (g : X → Y) (p : Y → Bool) (xs : List X) → position_or_len p (map g xs) ≡ position_or_len (λ x. p (g x)) xs
-places_same g p [] = refl
-places_same g p (x ∷ xs) = ap (λ n. cond (not (p (g x))) (1 + n) 0) (places_same g p xs)
-
--- the first image that passes a test is at the place of the first entry whose image does
-pub position_mapped : {X Y : Type 0} (g : X → Y) (p : Y → Bool) (xs : List X) → position p (map g xs) ≡ position (λ x. p (g x)) xs
-position_mapped g p xs =
-    ap₂ (λ (n m : ℕ). cond (nat_lt n m) (Some n) None) (places_same g p xs) (length-map xs g)
 
 -- whether there is a first one is whether any passes
 pub position_any : {X : Type 0} (p : X → Bool) (xs : List X) → is_some (position p xs) ≡ list_any p xs

@@ -8,7 +8,7 @@ use Rattle.spares_input.specs.Stocks.{HasPair, StockList, stock_at}
 use Rattle.family_eval.specs.declared.item.Item.{Item}
 use Rattle.family_tables.specs.declared.keys.Key.{Key}
 use Rattle.family_tables.specs.declared.keys.Kept.{Kept}
-use Rattle.family_tables.specs.Numbers.{FamilyNumbers, nth_stock, base_shop_moments, depot_line_moments, depot_shop_moments, pair_at, rows_of, shop_numbers, table_of}
+use Rattle.family_numbers.specs.Numbers.{FamilyNumbers, nth_stock, base_shop_moments, depot_line_moments, depot_shop_moments, pair_at, rows_of, shop_numbers, table_of}
 
 -- an evaluator as contracts see it: the numbers of its family, and the keys of the kept tables. A key is a place in the
 -- family, a site and the stocks on which the pair's pipeline depends: none for a shop unit at the depot, the shop
@@ -61,10 +61,6 @@ abbrev pub key_stocks : ℕ → ℕ → List ℕ → List ℕ
 key_stocks zero k d = d
 key_stocks (suc i) zero d = []
 key_stocks (suc i) (suc k) d = nth_stock d i ∷ []
-
--- the mean and the variance of an item's pipeline
-abbrev pub moments_of : {f : ℕ} → Item f → Moments f
-moments_of x = record { mean = x.mean; variance = x.variance }
 
 -- ---- which keys come
 

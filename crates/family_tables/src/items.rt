@@ -11,11 +11,11 @@ ghost use Rattle.family_tables.specs.Kept.{Grows, Has, HaveStocks, IsKept, IsKey
 
 use crate::keys::{Kept, Key, kept_at};
 use crate::making::{depot_stocks, keep_each, keys_of};
-use crate::numbers::Numbers;
 use answers::NoMemory;
 use demand_rates::kinds::Rates;
 use family_eval::inputs::Inputs;
 use family_eval::{FamilyResult, Item, families_enclose, family_from};
+use family_numbers::numbers::Numbers;
 use spares_input::{Case, PartId, Stocks};
 use std::alloc::Global;
 

@@ -1,26 +1,21 @@
 //! Evaluators, which keep tables.
 
-ghost use Rattle.std.specs.Prelude.{◌≡◌, ◌+◌, ◌-◌, ◌*◌, ◌^◌, ◌<◌, ◌≤◌, [], IfOk, IfSome, OnOk, is_some, length, get_or, map, All};
-ghost use Rattle.fixed_interval.specs.Ends.{InScale, IsWithinLimit};
+ghost use Rattle.std.specs.Prelude.{◌≡◌, ◌+◌, ◌-◌, ◌*◌, ◌^◌, ◌<◌, [], IfOk, IfSome, is_some, length, get_or, map, All};
+ghost use Rattle.fixed_interval.specs.Ends.{InScale};
 ghost use Rattle.demand_rates.specs.Rates.{AreRatesOf};
 ghost use Rattle.family_eval.specs.Inputs.{IsLine};
 ghost use Rattle.family_eval.specs.Profile.{family_of};
 ghost use Rattle.family_eval.specs.Encloses.{CanEvaluate, EnclosesFamily, IsSmallFamily};
 ghost use Rattle.family_tables.specs.Kept.{Grows, Has, depot_stocks, is_kept, keys_of, table_kept, with_keys};
-ghost use Rattle.family_tables.specs.BaseTables.{AreBaseShops, AreShopBounds, HaveShops};
-ghost use Rattle.family_tables.specs.Numbers.{AreBaseBackorders, AreBaseLows, depot_line_table, depot_shop_table, numbers_of, own_part, shop_numbers};
+ghost use Rattle.family_numbers.specs.Numbers.{numbers_of};
 
-use crate::base_shops::BaseShops;
-use crate::by_numbers;
 use crate::items::{family_of, kept_items};
 use crate::keys::{Kept, kept_at};
-use crate::numbers::Numbers;
-use crate::own_part::{OwnPart, own_part, put_line_backorders, put_line_lows};
 use answers::NoMemory;
 use demand_rates::kinds::Rates;
 use family_eval::FamilyResult;
+use family_numbers::numbers::Numbers;
 use moment_table::kinds::Table;
-use series_bounds::short::Iv64;
 use spares_input::{Case, PartId, SiteId, Stocks};
 use std::alloc::Global;
 use std::marker::Model;
@@ -116,105 +111,5 @@ impl<const F: u32> Evaluator<F> {
         let items = kept_items(self.alloc, &self.family, &mut self.tables, stocks)?;
         let line = self.family.part(0);
         family_of(self.alloc, case, rates, line, stocks, items.as_slice())
-    }
-
-    /// The tables of the shop units at the depot, in part order. Want of memory is the only error.
-    pub fn depot_shops(&self) -> Result<Vec<Table<F>>, NoMemory>
-        ensures { IfOk result (λ v. v.items ≡ map (λ i. depot_shop_table F self.now.numbers i)
-            (shop_numbers self.now.numbers)) }
-    {
-        by_numbers::depot_shop_tables(self.alloc, &self.family)
-    }
-
-    /// The table of the line unit at the depot, at the shop units' stocks `depot` there; `shops` are their tables. Want
-    /// of memory is the only error.
-    pub fn depot_line(&self, shops: &[Table<F>], depot: &[u8]) -> Result<Table<F>, NoMemory>
-        requires shops { shops.now ≡ map (λ i. depot_shop_table F self.now.numbers i) (shop_numbers self.now.numbers) }
-        requires count { length depot.now ≡ length self.now.numbers.parts - 1 }
-        requires stocks { All (λ n. n ≤ 63) depot.now }
-        ensures { IfOk result (λ t. t ≡ depot_line_table F self.now.numbers depot.now) }
-    {
-        by_numbers::depot_line(self.alloc, &self.family, shops, depot)
-    }
-
-    /// The tables of the shop units at the bases, for their stocks at the depot from `low` to `high`; `shops` are their
-    /// tables there. Want of memory is the only error.
-    pub fn base_shops(
-        &self,
-        shops: &[Table<F>],
-        low: &[u8],
-        high: &[u8],
-    ) -> Result<BaseShops<F>, NoMemory>
-        requires shops { shops.now ≡ map (λ i. depot_shop_table F self.now.numbers i) (shop_numbers self.now.numbers) }
-        requires bounds { AreShopBounds self.now.numbers low.now high.now }
-        ensures { IfOk result (AreBaseShops F self.now.numbers low.now high.now) }
-    {
-        BaseShops::of(self.alloc, &self.family, shops, low, high)
-    }
-
-    /// The own part of the line unit's pipeline at a base, which doesn't depend on the shop units' stocks there. The
-    /// depot has `own` of the line unit, with the table `line`, and the stocks `depot` of the shop units.
-    /// [`Evaluator::put_backorders`] starts from it.
-    pub fn own_part(&self, line: &Table<F>, own: u8, depot: &[u8], site: SiteId) -> OwnPart<F>
-        requires line { line.now ≡ depot_line_table F self.now.numbers depot.now }
-        requires own { own ≤ 63 }
-        requires site { site.0 < self.now.numbers.sites }
-        ensures { result ≡ own_part F self.now.numbers site.0 own depot.now }
-    {
-        own_part(&self.family, line, own, depot, site)
-    }
-
-    /// Overwrites `found` with the line unit's backorders at a base, at each of its stocks there up to its limit, and
-    /// reuses its allocation. `part` is the line unit's own part there; the depot has `own` of it and the stocks
-    /// `depot` of the shop units, and the base has their stocks `base`, with the tables `shops`. After `NoMemory` the
-    /// contents of `found` are unspecified.
-    pub fn put_backorders(
-        &self,
-        found: &mut Vec<Iv64<F>>,
-        part: &OwnPart<F>,
-        own: u8,
-        depot: &[u8],
-        site: SiteId,
-        shops: &BaseShops<F>,
-        base: &[u8],
-    ) -> Result<(), NoMemory>
-        requires part { part.now ≡ own_part F self.now.numbers site.0 own depot.now }
-        requires own { own ≤ 63 }
-        requires base { 0 < site.0 }
-        requires site { site.0 < self.now.numbers.sites }
-        requires shops { HaveShops F self.now.numbers depot.now shops.now }
-        requires count { length base.now ≡ length self.now.numbers.parts - 1 }
-        requires stocks { All (λ n. n ≤ 63) base.now }
-        ensures ends { OnOk result
-            (AreBaseBackorders F self.now.numbers site.0 own depot.now base.now found.new.items) }
-        ensures most { OnOk result (All (IsWithinLimit F) found.new.items) }
-    {
-        put_line_backorders(found, &self.family, part, own, depot, site, shops, base)
-    }
-
-    /// Sets `lows`, up to 64 numbers, to lower bounds on the line unit's backorders at a base, by its stock there. This
-    /// is less work than [`Evaluator::put_backorders`].
-    pub fn put_lows(
-        &self,
-        lows: &mut [u64],
-        part: &OwnPart<F>,
-        own: u8,
-        depot: &[u8],
-        site: SiteId,
-        shops: &BaseShops<F>,
-        base: &[u8],
-    )
-        requires few { length lows.old ≤ 64 }
-        requires part { part.now ≡ own_part F self.now.numbers site.0 own depot.now }
-        requires own { own ≤ 63 }
-        requires base { 0 < site.0 }
-        requires site { site.0 < self.now.numbers.sites }
-        requires shops { HaveShops F self.now.numbers depot.now shops.now }
-        requires count { length base.now ≡ length self.now.numbers.parts - 1 }
-        requires stocks { All (λ n. n ≤ 63) base.now }
-        ensures count { length lows.new ≡ length lows.old }
-        ensures lows { AreBaseLows F self.now.numbers site.0 own depot.now base.now lows.new }
-    {
-        put_line_lows(lows, &self.family, part, own, depot, site, shops, base);
     }
 }

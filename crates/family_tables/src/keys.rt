@@ -4,9 +4,9 @@ ghost use Rattle.std.specs.Prelude.{◌≡◌, IfSome, is_some, map, position};
 ghost use Rattle.std.specs.List.{All};
 ghost use Rattle.family_tables.specs.Kept.{IsKept, is_among, is_key, moments_at, table_at};
 
-use crate::numbers::Numbers;
 use answers::List;
 use depot_pipeline::Moments;
+use family_numbers::numbers::Numbers;
 use moment_table::kinds::Table;
 use spares_input::SiteId;
 

@@ -4,14 +4,14 @@ ghost use Rattle.std.specs.Prelude.{◌≡◌, ◌+◌, ◌-◌, ◌<◌, ◌≤
 ghost use Rattle.std.specs.List.{All, range_with_len};
 ghost use Rattle.spares_input.specs.Stocks.{HasPair};
 ghost use Rattle.family_tables.specs.Kept.{Grows, IsKept, IsKey, depot_stocks, key_at, key_moments, keys_of, shop_key, with_key, with_keys};
-ghost use Rattle.family_tables.specs.Numbers.{depot_feeds, depot_shop_row, feed_from, pair_at};
+ghost use Rattle.family_numbers.specs.Numbers.{depot_feeds, depot_shop_row, feed_from, pair_at};
 
 use crate::keys::{Kept, Key, kept_at};
-use crate::numbers::Numbers;
-use crate::pair_tables::{depot_shop_table, feed_from};
 use answers::{List, NoMemory};
 use base_pipeline::base_shop;
 use depot_pipeline::{Feed, Moments, depot_line, depot_shop};
+use family_numbers::numbers::Numbers;
+use family_numbers::pair_tables::{depot_shop_table, feed_from};
 use moment_table::table_to;
 use spares_input::{SiteId, Stocks};
 use std::alloc::Global;

@@ -1,6 +1,6 @@
 use Rattle.std.proofs.Common.{◌≡◌, ◌<◌, length, get_or, drop, sym, ap, ◌∙◌, subst, arith, lit<}
-use Rattle.family_tables.specs.BaseTables.{HaveShops}
-use Rattle.family_tables.specs.Numbers.{AreBaseLows, FamilyNumbers, own_part}
+use Rattle.family_numbers.specs.BaseTables.{HaveShops}
+use Rattle.family_numbers.specs.Numbers.{AreBaseLows, FamilyNumbers, own_part}
 use Rattle.family_points.proofs.Bounded.{stock_small}
 use Rattle.family_points.proofs.Bounded.{at_long}
 use Rattle.family_rows.proofs.Tabled.{shop_stocks}
@@ -21,12 +21,12 @@ shops_of-requires c =
 pub put_lows-requires : goal.put_lows-requires
 put_lows-requires c =
     let x = c.args.here.now.family.now in
-    let n = c.args.evaluator.now.numbers in
+    let n = c.args.numbers.now in
     let j = c.args.here.now.site.0 in
     let valid = c.requires.here.valid in
     let some : 0 < length x.case.sites = omega (arith, c.requires.here.site.1) in
-    let base = shop_stocks x valid j c.args.shops.now n c.requires.evaluator c.requires.here.site.1 c.requires.shops in
-    let inside : j < n.sites = subst (λ (n : FamilyNumbers 48). j < n.sites) (sym c.requires.evaluator) c.requires.here.site.1 in
+    let base = shop_stocks x valid j c.args.shops.now n c.requires.numbers c.requires.here.site.1 c.requires.shops in
+    let inside : j < n.sites = subst (λ (n : FamilyNumbers 48). j < n.sites) (sym c.requires.numbers) c.requires.here.site.1 in
     let own : c.args.own.now ≡ own_part 48 n j (get_or c.args.here.now.depot.now 0 0) c.shops_of.result.now =
     c.requires.own ∙ ap (λ d. own_part 48 n j (get_or c.args.here.now.depot.now 0 0) d) (sym c.shops_of.ensures) in
     let shops = subst (λ d. HaveShops 48 n d c.args.tables.now.shops.now) (sym c.shops_of.ensures) c.requires.tables.shops in (
@@ -50,5 +50,5 @@ returns-clause-lows c =
     let depot = c.args.here.now.depot.now in
     let lows = c.put_lows.new.lows in
     lows_tabled x c.requires.here.valid j depot c.args.shops.now lows c.requires.here.site c.requires.here.depot
-    (subst (λ (n : FamilyNumbers 48). AreBaseLows 48 n j (get_or depot 0 0) (drop 1 depot) c.args.shops.now lows) c.requires.evaluator
-    (subst (λ d. AreBaseLows 48 c.args.evaluator.now.numbers j (get_or depot 0 0) d c.args.shops.now lows) c.shops_of.ensures c.put_lows.ensures.lows))
+    (subst (λ (n : FamilyNumbers 48). AreBaseLows 48 n j (get_or depot 0 0) (drop 1 depot) c.args.shops.now lows) c.requires.numbers
+    (subst (λ d. AreBaseLows 48 c.args.numbers.now j (get_or depot 0 0) d c.args.shops.now lows) c.shops_of.ensures c.put_lows.ensures.lows))

@@ -7,8 +7,8 @@ depot_line-requires c =
     let x = c.args.sources.now.family.now in
     let valid = c.size-size.ensures.valid in
     let some = valid.valid.frame.fewest_sites in
-    let depot = shop_stocks x valid 0 c.args.depot.now c.args.sources.now.evaluator.numbers c.requires.sources.evaluator (omega (arith, some)) c.requires.depot in
+    let depot = shop_stocks x valid 0 c.args.depot.now c.args.sources.now.numbers c.requires.sources.numbers (omega (arith, some)) c.requires.depot in
     (lit< tt, (lit< tt, (c.as_slice-shops.ensures.value ∙ c.requires.sources.depot_shops, (depot.count, depot.small))))
 
 pub returns : goal.returns
-returns c = record { line = c.in_ok-line.ensures; shops = have_shops c.args.sources.now.family.now c.size-size.ensures.valid c.args.sources.now.evaluator.numbers c.args.sources.now.base_shops c.args.depot.now c.requires.sources.evaluator c.requires.sources.base_shops c.requires.depot }
+returns c = record { line = c.in_ok-line.ensures; shops = have_shops c.args.sources.now.family.now c.size-size.ensures.valid c.args.sources.now.numbers c.args.sources.now.base_shops c.args.depot.now c.requires.sources.numbers c.requires.sources.base_shops c.requires.depot }

@@ -1,6 +1,6 @@
 use Rattle.std.proofs.Common.{◌≡◌, ◌<◌, ◌∷◌, length, get_or, drop, sym, ap, ◌∙◌, subst, arith, lit<}
-use Rattle.family_tables.specs.BaseTables.{HaveShops}
-use Rattle.family_tables.specs.Numbers.{AreBaseBackorders, FamilyNumbers, own_part}
+use Rattle.family_numbers.specs.BaseTables.{HaveShops}
+use Rattle.family_numbers.specs.Numbers.{AreBaseBackorders, FamilyNumbers, own_part}
 use Rattle.family_points.specs.Inputs.{line_high}
 use Rattle.family_points.proofs.Bounded.{stock_small}
 use Rattle.family_points.proofs.Points.{box_begins, joined_at}
@@ -22,12 +22,12 @@ shops_of-requires c =
 pub put_backorders-requires : goal.put_backorders-requires
 put_backorders-requires c =
     let x = c.args.here.now.family.now in
-    let n = c.args.evaluator.now.numbers in
+    let n = c.args.numbers.now in
     let j = c.args.here.now.site.0 in
     let valid = c.requires.here.valid in
     let some : 0 < length x.case.sites = omega (arith, c.requires.here.site.1) in
-    let base = shop_stocks x valid j c.args.shops.now n c.requires.evaluator c.requires.here.site.1 c.requires.shops in
-    let inside : j < n.sites = subst (λ (n : FamilyNumbers 48). j < n.sites) (sym c.requires.evaluator) c.requires.here.site.1 in
+    let base = shop_stocks x valid j c.args.shops.now n c.requires.numbers c.requires.here.site.1 c.requires.shops in
+    let inside : j < n.sites = subst (λ (n : FamilyNumbers 48). j < n.sites) (sym c.requires.numbers) c.requires.here.site.1 in
     let own : c.args.own.now ≡ own_part 48 n j (get_or c.args.here.now.depot.now 0 0) c.shops_of.result.now =
     c.requires.own ∙ ap (λ d. own_part 48 n j (get_or c.args.here.now.depot.now 0 0) d) (sym c.shops_of.ensures) in
     let shops = subst (λ d. HaveShops 48 n d c.args.tables.now.shops.now) (sym c.shops_of.ensures) c.requires.tables.shops in (
@@ -46,8 +46,8 @@ returns c =
     let valid = c.requires.here.valid in
     let order = (box_begins x valid j c.requires.here.site.1).0 in
     let items = c.put_backorders.new.found.items in
-    let is = subst (λ (n : FamilyNumbers 48). AreBaseBackorders 48 n j (get_or depot 0 0) (drop 1 depot) c.args.shops.now items) c.requires.evaluator
-    (subst (λ d. AreBaseBackorders 48 c.args.evaluator.now.numbers j (get_or depot 0 0) d c.args.shops.now items) c.shops_of.ensures c.in_ok-put_backorders.ensures.ends) in
+    let is = subst (λ (n : FamilyNumbers 48). AreBaseBackorders 48 n j (get_or depot 0 0) (drop 1 depot) c.args.shops.now items) c.requires.numbers
+    (subst (λ d. AreBaseBackorders 48 c.args.numbers.now j (get_or depot 0 0) d c.args.shops.now items) c.shops_of.ensures c.in_ok-put_backorders.ensures.ends) in
     record {
       long = line_listed x valid j depot (line_high x j ∷ c.args.shops.now) items c.requires.here.site
           (joined_at x valid j (line_high x j) c.args.shops.now c.requires.here.site.1 c.requires.shops order (omega arith)) is;

@@ -1,6 +1,6 @@
 use Rattle.std.proofs.Common.{◌+◌}
 use Rattle.demand_rates.proofs.Grown.{mapped_more}
-use Rattle.family_tables.specs.Numbers.{nth_stock, depot_shop_row, feed_from, pair_at}
+use Rattle.family_numbers.specs.Numbers.{nth_stock, depot_shop_row, feed_from, pair_at}
 use Rattle.family_tables.proofs.making.feeds_at.Goals as goal
 
 pub loop-i-preserved : goal.loop-i-preserved

@@ -1,6 +1,6 @@
 use Rattle.std.proofs.Common.{◌≡◌, ◌+◌, map}
 use Rattle.std.specs.List.{range_with_len}
-use Rattle.family_tables.specs.Numbers.{nth_stock, depot_shop_row, feed_from, pair_at}
+use Rattle.family_numbers.specs.Numbers.{nth_stock, depot_shop_row, feed_from, pair_at}
 use Rattle.family_tables.proofs.making.feeds_at.Given as goal
 
 abbrev pub invariant-loop-i : goal.invariant-loop-i

@@ -3,9 +3,9 @@ use Rattle.std.proofs.lemmas.List.FromFn.{length-map-range_with_len}
 use Rattle.std.specs.List.{All}
 use Rattle.depot_pipeline.specs.declared.Feed.{Feed}
 use Rattle.depot_pipeline.specs.Exact.{IsSmallFeed}
-use Rattle.family_tables.specs.Numbers.{nth_stock, depot_feeds}
+use Rattle.family_numbers.specs.Numbers.{nth_stock, depot_feeds}
 use Rattle.family_tables.proofs.Keyed.{base_keyed}
-use Rattle.family_tables.proofs.Served.{depot_feeds_small, depot_shop_small, feed_is_small}
+use Rattle.family_numbers.proofs.Served.{depot_feeds_small, depot_shop_small, feed_is_small}
 use Rattle.family_tables.proofs.making.pipeline_of.Goals as goal
 
 pub depot_line-requires : goal.depot_line-requires

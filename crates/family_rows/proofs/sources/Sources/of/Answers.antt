@@ -1,5 +1,5 @@
 use Rattle.std.proofs.Common.{◌≡◌, ℕ, ◌<◌, List, drop, length, sym, ap, ◌∙◌, subst, arith, lit<}
-use Rattle.family_tables.specs.BaseTables.{AreBaseShops, AreShopBounds}
+use Rattle.family_numbers.specs.BaseTables.{AreBaseShops, AreShopBounds}
 use Rattle.family_points.specs.Inputs.{shop_high, shop_low}
 use Rattle.family_points.proofs.Points.{low_some}
 use Rattle.family_rows.proofs.Tabled.{shop_bounds}
@@ -14,10 +14,10 @@ shops_of-low-requires c =
 pub base_shops-requires : goal.base_shops-requires
 base_shops-requires c =
     let x = c.args.family.now in
-    let n = c.in_ok-evaluator.evaluator.numbers in
+    let n = c.in_ok-numbers.numbers in
     let low : c.shops_of-low.result.now ≡ shop_low x 0 = c.shops_of-low.ensures ∙ ap (drop 1) c.low.ensures in
     let high : c.shops_of-high.result.now ≡ shop_high x 0 = c.shops_of-high.ensures ∙ ap (drop 1) c.high.ensures.high in
-    let bounds = shop_bounds x c.size-size.ensures.valid n c.in_ok-evaluator.ensures in
+    let bounds = shop_bounds x c.size-size.ensures.valid n c.in_ok-numbers.ensures in
     let is : AreShopBounds n c.shops_of-low.result.now c.shops_of-high.result.now = subst (λ v. AreShopBounds n v c.shops_of-high.result.now) (sym low)
     (subst (λ v. AreShopBounds n (shop_low x 0) v) (sym high) bounds) in
     (lit< tt, (lit< tt, (lit< tt, (c.as_slice.ensures.value ∙ c.in_ok-depot_shops.ensures, is))))
@@ -25,11 +25,11 @@ base_shops-requires c =
 pub returns-clause-are : goal.returns-clause-are
 returns-clause-are c =
     let x = c.args.family.now in
-    let n = c.in_ok-evaluator.evaluator.numbers in
+    let n = c.in_ok-numbers.numbers in
     let low : c.shops_of-low.result.now ≡ shop_low x 0 = c.shops_of-low.ensures ∙ ap (drop 1) c.low.ensures in
     let high : c.shops_of-high.result.now ≡ shop_high x 0 = c.shops_of-high.ensures ∙ ap (drop 1) c.high.ensures.high in
     record {
-      evaluator = c.in_ok-evaluator.ensures;
+      numbers = c.in_ok-numbers.ensures;
       bases = c.in_ok-bases.ensures;
       depot_shops = c.in_ok-depot_shops.ensures;
       base_shops = subst (λ v. AreBaseShops 48 n v (shop_high x 0) c.in_ok-base_shops.base_shops) low

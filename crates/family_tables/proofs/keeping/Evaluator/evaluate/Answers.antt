@@ -5,7 +5,7 @@ use Rattle.family_eval.specs.Inputs.{IsLine}
 use Rattle.family_eval.specs.Profile.{item_of, part_items}
 use Rattle.family_tables.specs.declared.keys.Kept.{Kept}
 use Rattle.family_tables.specs.Kept.{Evaluation, Grows, Has, depot_stocks, keys_of}
-use Rattle.family_tables.specs.Numbers.{numbers_of}
+use Rattle.family_numbers.specs.Numbers.{numbers_of}
 use Rattle.family_tables.proofs.Found.{has_all}
 use Rattle.family_tables.proofs.Gathered.{stocks_there}
 use Rattle.family_tables.proofs.KeptItems.{items_are}

@@ -1,0 +1,5 @@
+pub mod FromNumbers
+pub mod BaseTables
+pub mod Served
+pub mod Own
+pub mod Numbered

@@ -1,0 +1,12 @@
+use Rattle.depot_pipeline.proofs.Walk.{Summed}
+use Rattle.base_pipeline.specs.Profile.{held_at}
+use Rattle.family_numbers.specs.Numbers.{base_helds, own_part}
+use Rattle.family_numbers.proofs.own_part.line_moments.Given as goal
+
+abbrev pub invariant-loop-i : goal.invariant-loop-i
+invariant-loop-i g l = record {
+  mean : Summed g.row.F 768 (own_part g.row.F l.fn.numbers l.fn.site.0 l.fn.own l.fn.depot).moments.mean
+      (λ n. (held_at (base_helds g.row.F l.fn.numbers l.fn.site.0 l.fn.depot l.fn.base) n).backorders) l.mean l.i;
+  variance : Summed g.row.F 768 (own_part g.row.F l.fn.numbers l.fn.site.0 l.fn.own l.fn.depot).moments.variance
+      (λ n. (held_at (base_helds g.row.F l.fn.numbers l.fn.site.0 l.fn.depot l.fn.base) n).spread) l.variance l.i;
+}

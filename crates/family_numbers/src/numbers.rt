@@ -1,0 +1,203 @@
+//! The numbers of a family.
+
+ghost use Rattle.std.specs.Prelude.{◌≡◌, ◌==◌, position, ◌-◌, ◌<◌, IfOk, length, get_or, map, flat_map, All};
+ghost use Rattle.fixed_interval.specs.Ends.{InScale};
+ghost use Rattle.fleet_model.specs.Fleet.{family};
+ghost use Rattle.fleet_model.specs.Rows.{all_sites};
+ghost use Rattle.demand_rates.specs.Rates.{AreRatesOf};
+ghost use Rattle.family_eval.specs.Inputs.{IsLine};
+ghost use Rattle.family_numbers.specs.Numbers.{AreNumbers, ArePairNumbers, numbers_of, pair_at, pair_numbers};
+
+use answers::NoMemory;
+use demand_rates::kinds::{PIPELINE_SCALE, Rates};
+use family_eval::members;
+use fixed_interval::Iv;
+use spares_input::{Case, PartId, SiteId};
+use std::alloc::Global;
+use std::marker::Model;
+
+/// The numbers of a pair, in units of `2^-F`.
+#[derive(Clone, Copy, Drop)]
+pub struct PairNumbers<const F: u32> {
+    /// The direct part of its pipeline.
+    pub direct: Iv<F>,
+    /// The largest possible mean and variance of its pipeline.
+    pub cap: u128,
+    /// Its share in the depot's backorders.
+    pub share: Iv<F>,
+    /// The largest stock.
+    pub limit: u8,
+}
+
+/// The numbers of a family: its parts, the line unit first, and the numbers of each pair, by part and then by site.
+#[derive(Drop)]
+pub struct Numbers<const F: u32> {
+    members: Vec<PartId>,
+    site_count: u8,
+    own: Vec<PairNumbers<F>>,
+    line_weight: u32,
+}
+
+impl<const F: u32> Model for Numbers<F> {
+    ghost use Rattle.std.specs.Prelude.{map};
+    ghost use Rattle.family_numbers.specs.Numbers.{FamilyNumbers, AreNumbers};
+
+    ghost Value = { FamilyNumbers F };
+
+    ghost view = { λ x. record {
+      parts = map (λ p. p.0) x.members.items;
+      sites = x.site_count;
+      pairs = x.own.items;
+      weight = x.line_weight;
+    } };
+
+    ghost invariant = { λ x. AreNumbers F (record {
+      parts = map (λ p. p.0) x.members.items;
+      sites = x.site_count;
+      pairs = x.own.items;
+      weight = x.line_weight;
+    }) };
+}
+
+/// The index of a part among `members`.
+fn place_in(members: &[PartId], part: PartId) -> Option<usize>
+    ensures { result ≡ position (λ q. q.0 == part.0) members.now }
+{
+    members.iter().position(|q| q.0 == part.0)
+}
+
+/// The numbers of a pair of a case.
+fn pair_numbers<const F: u32>(
+    case: &Case,
+    rates: &Rates,
+    part: PartId,
+    site: SiteId,
+) -> PairNumbers<F>
+    requires scale { InScale F }
+    requires rates { AreRatesOf case.now rates.now }
+    requires part { part.0 < length case.now.parts }
+    requires site { site.0 < length case.now.sites }
+    ensures { result ≡ pair_numbers F case.now part.0 site.0 }
+{
+    let share = rates.share(part, site);
+    PairNumbers {
+        direct: Iv::of_ratio(rates.direct(part, site), PIPELINE_SCALE),
+        cap: Iv::<F>::of_ratio(rates.zero_stock(part, site), PIPELINE_SCALE).hi(),
+        share: Iv::of_ratio(share.num, share.den),
+        limit: case.limit(part, site),
+    }
+}
+
+/// The numbers of a part at each site.
+fn part_numbers<const F: u32>(
+    alloc: Global,
+    case: &Case,
+    rates: &Rates,
+    part: PartId,
+) -> Result<Vec<PairNumbers<F>>, NoMemory>
+    requires scale { InScale F }
+    requires rates { AreRatesOf case.now rates.now }
+    requires part { part.0 < length case.now.parts }
+    ensures { IfOk result (λ v. v.items ≡ map (pair_numbers F case.now part.0) (all_sites case.now)) }
+{
+    let mut numbers = Vec::new(alloc);
+    for k in 0..case.site_count() {
+        numbers.push(pair_numbers(case, rates, part, SiteId(k)))?;
+    }
+    Ok(numbers)
+}
+
+/// The numbers of these parts, by part and then by site.
+fn all_numbers<const F: u32>(
+    alloc: Global,
+    case: &Case,
+    rates: &Rates,
+    parts: &[PartId],
+) -> Result<Vec<PairNumbers<F>>, NoMemory>
+    requires scale { InScale F }
+    requires rates { AreRatesOf case.now rates.now }
+    requires parts { All (λ p. p.0 < length case.now.parts) parts.now }
+    ensures { IfOk result (λ v. v.items ≡ flat_map
+        (λ p. map (pair_numbers F case.now p.0) (all_sites case.now)) parts.now) }
+{
+    let mut numbers = Vec::new(alloc);
+    for part in parts {
+        let mut row = part_numbers(alloc, case, rates, *part)?;
+        numbers.append(&mut row)?;
+    }
+    Ok(numbers)
+}
+
+impl<const F: u32> Numbers<F> {
+    /// The numbers of the family of a line unit of a case.
+    pub fn of(
+        alloc: Global,
+        case: &Case,
+        rates: &Rates,
+        line: PartId,
+    ) -> Result<Numbers<F>, NoMemory>
+        requires scale { InScale F }
+        requires rates { AreRatesOf case.now rates.now }
+        requires line { IsLine case.now line.0 }
+        ensures { IfOk result (λ x. x ≡ numbers_of F case.now line.0) }
+    {
+        let site_count = case.site_count();
+        let members = members(alloc, case, line)?;
+        let own = all_numbers(alloc, case, rates, members.as_slice())?;
+        Ok(Numbers {
+            members,
+            site_count,
+            own,
+            line_weight: u32::from(case.part(line).weight),
+        })
+    }
+
+    /// The number of parts.
+    pub fn size(&self) -> usize
+        ensures size { result ≡ length self.now.parts }
+        ensures valid { AreNumbers F self.now }
+    {
+        self.members.len()
+    }
+
+    /// The part at a place.
+    pub fn part(&self, place: usize) -> PartId
+        requires { place < length self.now.parts }
+        ensures { result.0 ≡ get_or self.now.parts place 0 }
+    {
+        self.members[place]
+    }
+
+    /// The place of a part in the family.
+    pub fn place_of(&self, part: PartId) -> Option<usize>
+        ensures { result ≡ position (λ q. q == part.0) self.now.parts }
+    {
+        place_in(self.members.as_slice(), part)
+    }
+
+    /// The number of shop units.
+    pub fn shops(&self) -> usize
+        ensures shops { result ≡ length self.now.parts - 1 }
+        ensures valid { AreNumbers F self.now }
+    {
+        self.members.len() - 1
+    }
+
+    /// The number of sites.
+    pub fn sites(&self) -> u8
+        ensures sites { result ≡ self.now.sites }
+        ensures valid { AreNumbers F self.now }
+    {
+        self.site_count
+    }
+
+    /// The numbers of the part at a place, at a site.
+    pub fn pair(&self, place: usize, site: u8) -> PairNumbers<F>
+        requires place { place < length self.now.parts }
+        requires site { site < self.now.sites }
+        ensures is { result ≡ pair_at self.now place site }
+        ensures valid { ArePairNumbers F result }
+    {
+        self.own[place * usize::from(self.site_count) + usize::from(site)]
+    }
+}
