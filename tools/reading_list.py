@@ -65,7 +65,7 @@ LISTS = [
             price_bounds Sums Certificates
             family_points Points Vectors
             price_certificate Grammar Certificates
-            gap_checker Refusals Scores
+            gap_rules Refusals Scores
             held_certificate Held
             held_work Work
             certified_plan Accepted Certificates Laws
@@ -136,7 +136,7 @@ STOPS = [
             ("held_certificate", "Held", "held_of"),
             ("certified_plan", "Certificates", "certificate_of"),
             ("certified_plan", "Certificates", "text_of"),
-            ("gap_checker", "Refusals", "reject_of"),
+            ("gap_rules", "Refusals", "reject_of"),
         ],
     ),
 ]

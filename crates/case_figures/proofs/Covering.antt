@@ -17,10 +17,10 @@ use Rattle.fleet_model.specs.Pairs.{by_pair}
 use Rattle.fleet_model.specs.Fleet.{family}
 use Rattle.fleet_model.proofs.FamilyLaws.{HasLine}
 use Rattle.fleet_model.proofs.FrameLaws.{has_families}
-use Rattle.family_eval.specs.declared.item.Item.{Item}
-use Rattle.family_eval.specs.declared.item.FamilyResult.{FamilyResult}
-use Rattle.family_eval.specs.Profile.{stocked, depot_shop, depot_line, base_shop, base_line, item_of, part_items, family_of, families_of}
-use Rattle.family_eval.specs.Encloses.{no_item}
+use Rattle.family_items.specs.declared.item.Item.{Item}
+use Rattle.family_items.specs.declared.item.FamilyResult.{FamilyResult}
+use Rattle.family_items.specs.Profile.{stocked, depot_shop, depot_line, base_shop, base_line, item_of, part_items, family_of, families_of}
+use Rattle.family_items.specs.Encloses.{no_item}
 use Rattle.case_figures.specs.Figures.{item_at_place, all_items}
 use Rattle.case_figures.specs.Gathering.{place_of, items_by_pair}
 use Rattle.case_figures.proofs.Placing.{IsAt, Keeps, Fills, keeps_map, fills_map, keeps_both, keeps_each, fills_first, fills_later, fills_each}

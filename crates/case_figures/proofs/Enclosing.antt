@@ -26,8 +26,8 @@ use Rattle.availability.specs.declared.Weighted.{Weighted}
 use Rattle.availability.specs.Profile.{all_systems}
 use Rattle.availability.specs.Exact.{factor_of, weighted_mean, BaseIn, BasesIn}
 use Rattle.availability.proofs.Laws.{factor_in, fleet_in}
-use Rattle.family_eval.specs.Profile.{item_of}
-use Rattle.family_eval.specs.Profile as family
+use Rattle.family_items.specs.Profile.{item_of}
+use Rattle.family_items.specs.Profile as family
 use Rattle.case_figures.specs.Figures.{factor_at, availability_at, weighted_at, fleet_of, total_of}
 use Rattle.case_figures.proofs.Each.{each_that_passes}
 

@@ -15,12 +15,12 @@ use Rattle.fleet_model.specs.Rows.{all_sites, bases, line_units, shop_units, sys
 use Rattle.fleet_model.specs.Fleet.{family}
 use Rattle.availability.specs.declared.Weighted.{Weighted}
 use Rattle.availability.specs.Profile.{factor_ends, base_ends, fleet_ends}
-use Rattle.family_eval.specs.declared.item.Item.{Item}
-use Rattle.family_eval.specs.declared.item.FamilyResult.{FamilyResult}
-use Rattle.family_eval.specs.Encloses.{IsSmallItem, no_item}
-use Rattle.family_eval.specs.Profile.{item_of, part_items, family_of, families_of}
-use Rattle.family_eval.specs.Profile as evaluated
-use Rattle.family_eval.proofs.Units.{each_in_range}
+use Rattle.family_items.specs.declared.item.Item.{Item}
+use Rattle.family_items.specs.declared.item.FamilyResult.{FamilyResult}
+use Rattle.family_items.specs.Encloses.{IsSmallItem, no_item}
+use Rattle.family_items.specs.Profile.{item_of, part_items, family_of, families_of}
+use Rattle.family_items.specs.Profile as evaluated
+use Rattle.family_items.proofs.Units.{each_in_range}
 use Rattle.case_figures.specs.declared.figures.BaseLine.{BaseLine}
 use Rattle.case_figures.specs.declared.figures.Figures.{Figures}
 use Rattle.case_figures.specs.Spans.{span_of}

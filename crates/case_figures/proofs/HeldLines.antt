@@ -10,9 +10,9 @@ use Rattle.spares_input.specs.Frames.{part_names, site_names}
 use Rattle.spares_input.specs.declared.rows.PartRow.{PartRow}
 use Rattle.spares_input.specs.declared.rows.SiteRow.{SiteRow}
 use Rattle.spares_input.specs.Cases.{CaseRows, frame_rows, pair_count}
-use Rattle.family_eval.specs.declared.item.Item.{Item}
-use Rattle.family_eval.specs.declared.item.FamilyResult.{FamilyResult}
-use Rattle.family_eval.specs.Encloses.{no_item}
+use Rattle.family_items.specs.declared.item.Item.{Item}
+use Rattle.family_items.specs.declared.item.FamilyResult.{FamilyResult}
+use Rattle.family_items.specs.Encloses.{no_item}
 use Rattle.case_figures.specs.declared.figures.ItemLine.{ItemLine}
 use Rattle.case_figures.specs.Figures.{named}
 use Rattle.case_figures.specs.Held.{IsHeldPair, held_line, held_of, line_under}

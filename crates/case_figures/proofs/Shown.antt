@@ -20,13 +20,13 @@ use Rattle.fleet_model.specs.Fleet.{availability, fleet, family_total, total}
 use Rattle.fleet_model.specs.Laws.{IsBase}
 use Rattle.fleet_model.proofs.AllocationLaws.{cost_holds}
 use Rattle.availability.specs.declared.Weighted.{Weighted}
-use Rattle.family_eval.specs.declared.item.Item.{Item}
-use Rattle.family_eval.specs.Encloses.{CanEvaluate, EnclosesItem, IsSmallItem, no_item}
-use Rattle.family_eval.specs.Profile.{item_of}
-use Rattle.family_eval.specs.Profile as evaluated
-use Rattle.family_eval.proofs.Enclosed.{item_in, item_small}
-use Rattle.family_eval.proofs.Families.{evaluable, family_in, family_small}
-use Rattle.family_eval.proofs.Units.{each_in_range}
+use Rattle.family_items.specs.declared.item.Item.{Item}
+use Rattle.family_items.specs.Encloses.{CanEvaluate, EnclosesItem, IsSmallItem, no_item}
+use Rattle.family_items.specs.Profile.{item_of}
+use Rattle.family_items.specs.Profile as evaluated
+use Rattle.family_items.proofs.Enclosed.{item_in, item_small}
+use Rattle.family_items.proofs.Families.{evaluable, family_in, family_small}
+use Rattle.family_items.proofs.Units.{each_in_range}
 use Rattle.case_figures.specs.Fits.{SpanFits, ItemFits, BaseFits, FitsPrint}
 use Rattle.case_figures.specs.Spans.{places, ends, span_of}
 use Rattle.fixed_interval.specs.Widths.{IsWidth}

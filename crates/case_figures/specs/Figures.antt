@@ -9,9 +9,9 @@ use Rattle.spares_input.specs.Stocks.{StockList, cost_of}
 use Rattle.fleet_model.specs.Rows.{bases, line_units, systems, per_system}
 use Rattle.availability.specs.declared.Weighted.{Weighted}
 use Rattle.availability.specs.Profile.{factor_ends, base_ends, fleet_ends}
-use Rattle.family_eval.specs.declared.item.Item.{Item}
-use Rattle.family_eval.specs.Profile as family
-use Rattle.family_eval.specs.Profile.{item_of}
+use Rattle.family_items.specs.declared.item.Item.{Item}
+use Rattle.family_items.specs.Profile as family
+use Rattle.family_items.specs.Profile.{item_of}
 use Rattle.case_figures.specs.Spans.{span_of}
 use Rattle.case_figures.specs.declared.figures.ItemLine.{ItemLine}
 use Rattle.case_figures.specs.declared.figures.BaseLine.{BaseLine}

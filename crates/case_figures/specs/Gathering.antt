@@ -9,9 +9,9 @@ use Rattle.spares_input.specs.Cases.{CaseRows, frame_rows, pair_count}
 use Rattle.fleet_model.specs.Rows.{systems, per_system}
 use Rattle.availability.specs.declared.Weighted.{Weighted}
 use Rattle.availability.specs.Profile.{factor_ends, base_ends}
-use Rattle.family_eval.specs.declared.item.Item.{Item}
-use Rattle.family_eval.specs.declared.item.FamilyResult.{FamilyResult}
-use Rattle.family_eval.specs.Encloses.{IsSmallItem, no_item}
+use Rattle.family_items.specs.declared.item.Item.{Item}
+use Rattle.family_items.specs.declared.item.FamilyResult.{FamilyResult}
+use Rattle.family_items.specs.Encloses.{IsSmallItem, no_item}
 use Rattle.availability.specs.Exact.{base_at}
 use Rattle.case_figures.specs.declared.figures.BaseLine.{BaseLine}
 use Rattle.case_figures.specs.declared.held.HeldItem.{HeldItem}

@@ -1,7 +1,7 @@
 -- The compact items of a report, and their lines.
 use Rattle.std.specs.Prelude.{ℕ, ◌<◌, List, [], length, get_or, All}
 use Rattle.fixed_interval.specs.Widths.{IsWidth}
-use Rattle.family_eval.specs.declared.item.Item.{Item}
+use Rattle.family_items.specs.declared.item.Item.{Item}
 use Rattle.case_figures.specs.Spans.{span_of}
 use Rattle.case_figures.specs.declared.held.HeldItem.{HeldItem}
 use Rattle.case_figures.specs.declared.figures.ItemLine.{ItemLine}

@@ -11,7 +11,7 @@ use crate::figures::BaseLine;
 use crate::items::span_of;
 use answers::NoMemory;
 use availability::{Weighted, base_availability, factor};
-use family_eval::FamilyResult;
+use family_items::FamilyResult;
 use fixed_interval::Iv;
 use spares_input::{Case, SiteId};
 use std::alloc::Global;

@@ -2,13 +2,13 @@
 ghost use Rattle.std.specs.Prelude.{◌≡◌, ◌<◌, All, get_or, length, map};
 ghost use Rattle.fixed_interval.specs.Ends.{InScale};
 ghost use Rattle.fixed_interval.specs.Widths.{IsWidth};
-ghost use Rattle.family_eval.specs.Encloses.{IsSmallItem};
+ghost use Rattle.family_items.specs.Encloses.{IsSmallItem};
 ghost use Rattle.case_figures.specs.Held.{IsHeldPair, held_line, held_of, line_under};
 ghost use Rattle.case_figures.specs.Shows.{no_item_line};
 
 use crate::figures::ItemLine;
 use crate::narrow::Narrow;
-use family_eval::Item;
+use family_items::Item;
 use spares_input::{Name, PartId, SiteId};
 use std::marker::Model;
 

@@ -2,7 +2,7 @@
 ghost use Rattle.std.specs.Prelude.{◌≡◌, ◌*◌, ◌<◌, All, IfOk, length, vec_len};
 ghost use Rattle.fixed_interval.specs.Ends.{InScale};
 ghost use Rattle.spares_input.specs.Frames.{part_names, site_names};
-ghost use Rattle.family_eval.specs.Encloses.{no_item};
+ghost use Rattle.family_items.specs.Encloses.{no_item};
 ghost use Rattle.fixed_interval.specs.Widths.{IsWidth};
 ghost use Rattle.case_figures.specs.Gathering.{IsFamilyOf, IsItemOf, held_by_pair, placed_held};
 ghost use Rattle.case_figures.specs.Held.{held_of};
@@ -11,7 +11,7 @@ ghost use Rattle.case_figures.specs.Spans.{span_of};
 use crate::figures::Span;
 use crate::held::HeldItem;
 use answers::NoMemory;
-use family_eval::{FamilyResult, Item};
+use family_items::{FamilyResult, Item};
 use fixed_interval::Iv;
 use spares_input::{Case, Name, PartId, SiteId, pair_place};
 use std::alloc::Global;

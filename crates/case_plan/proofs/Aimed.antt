@@ -11,7 +11,7 @@ use Rattle.hull.specs.Scores.{EnclosesValue}
 use Rattle.spares_input.specs.Cases.{CaseRows, IsCase}
 use Rattle.fleet_model.specs.Rows.{line_units}
 use Rattle.fleet_model.specs.Aims.{Value, aim, family_aim}
-use Rattle.family_eval.specs.Inputs.{IsLine, IsSound}
+use Rattle.family_items.specs.Inputs.{IsLine, IsSound}
 use Rattle.family_points.specs.Vectors.{vector_of, stocks_with}
 use Rattle.family_points.specs.Points.{ScoreEnds, scored_total, point_at_vector}
 use Rattle.family_points.proofs.Stands.{vector_stands}

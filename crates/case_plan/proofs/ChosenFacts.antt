@@ -2,7 +2,7 @@
 use Rattle.std.proofs.Common.{◌≡◌, None, arith}
 use Rattle.spares_input.specs.Cases.{CaseRows, IsCase}
 use Rattle.demand_rates.specs.Limits.{rate_fault_of}
-use Rattle.family_eval.specs.Encloses.{CanEvaluate}
+use Rattle.family_items.specs.Encloses.{CanEvaluate}
 use Rattle.case_plan.specs.Chosen.{FitsCase}
 use Rattle.case_plan.specs.declared.chosen.ChosenStocks.{ChosenStocks}
 

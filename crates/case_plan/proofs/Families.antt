@@ -15,8 +15,8 @@ use Rattle.spares_input.specs.declared.rows.PartId.{PartId}
 use Rattle.fleet_model.specs.Rows.{stock, line_units}
 use Rattle.fleet_model.specs.Fleet.{family}
 use Rattle.fleet_model.proofs.AllocationLaws.{stock_holds}
-use Rattle.family_eval.specs.Inputs.{IsLine}
-use Rattle.family_eval.proofs.Items.{kept_more, left_out}
+use Rattle.family_items.specs.Inputs.{IsLine}
+use Rattle.family_items.proofs.Items.{kept_more, left_out}
 use Rattle.family_points.specs.Vectors.{Pair, places, vector_of, site_part}
 use Rattle.step_walk.specs.Prefix.{vertex_at, picked}
 use Rattle.price_bounds.specs.Soundness.{stocks_of}

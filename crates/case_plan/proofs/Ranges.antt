@@ -11,7 +11,7 @@ use Rattle.hull.proofs.Runs.{among_at}
 use Rattle.spares_input.specs.Cases.{CaseRows}
 use Rattle.fleet_model.specs.Rows.{line_units}
 use Rattle.fleet_model.proofs.AllocationLaws.{allocation_reaches}
-use Rattle.family_eval.specs.Inputs.{IsLine}
+use Rattle.family_items.specs.Inputs.{IsLine}
 use Rattle.family_points.specs.Points.{ScoreEnds}
 use Rattle.marginal_alloc.specs.declared.allocation.Critical.{Critical}
 use Rattle.marginal_alloc.specs.declared.allocation.Chosen.{Chosen}

@@ -8,8 +8,8 @@ use Rattle.hull.specs.Scores.{EnclosesValue, LeavesRoom}
 use Rattle.spares_input.specs.Cases.{CaseRows, IsCase}
 use Rattle.spares_input.specs.Stocks.{StockList}
 use Rattle.fleet_model.specs.Fleet.{IsAllocation, cost, total}
-use Rattle.family_eval.specs.Encloses.{CanEvaluate}
-use Rattle.family_eval.proofs.Families.{evaluable}
+use Rattle.family_items.specs.Encloses.{CanEvaluate}
+use Rattle.family_items.proofs.Families.{evaluable}
 use Rattle.case_figures.specs.declared.figures.Figures.{Figures}
 use Rattle.case_figures.specs.Figures.{figures_of}
 use Rattle.case_figures.specs.Shows.{ShowsFigures}

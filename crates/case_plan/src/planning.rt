@@ -4,7 +4,7 @@ ghost use Rattle.std.specs.Prelude.{◌≡◌, ◌^◌, ◌<◌, ◌≤◌, List
 ghost use Rattle.spares_input.specs.Money.{most_budget};
 ghost use Rattle.demand_rates.specs.Limits.{rate_fault_of};
 ghost use Rattle.demand_rates.specs.Rates.{AreRatesOf};
-ghost use Rattle.family_eval.specs.Profile.{families_of};
+ghost use Rattle.family_items.specs.Profile.{families_of};
 ghost use Rattle.hull.specs.declared.point.Point.{Point};
 ghost use Rattle.fleet_model.specs.Rows.{line_units};
 ghost use Rattle.fleet_plan.specs.Plans.{line_of_step};
@@ -19,7 +19,8 @@ use crate::placing::stocks_of;
 use answers::{List, NoMemory};
 use case_figures::figures_at;
 use demand_rates::kinds::Rates;
-use family_eval::{FamilyResult, evaluate_all};
+use family_eval::evaluate_all;
+use family_items::FamilyResult;
 use fixed_interval::Iv;
 use hull::{Curve, Price};
 use marginal_alloc::Critical;

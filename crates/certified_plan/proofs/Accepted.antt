@@ -18,7 +18,7 @@ use Rattle.spares_input.specs.Stocks.{StockList, limit_at}
 use Rattle.spares_input.proofs.Standing.{first_none}
 use Rattle.fleet_model.specs.Rows.{line_units, stock}
 use Rattle.price_bounds.specs.Certificates.{AreFloors}
-use Rattle.family_eval.specs.Inputs.{IsLine}
+use Rattle.family_items.specs.Inputs.{IsLine}
 use Rattle.family_points.specs.Vectors.{places, vector_of, limits, stock_list, box_from}
 use Rattle.family_points.specs.Points.{ScoreEnds, points_within}
 use Rattle.family_points.specs.Counts.{most_tables, tables_between}

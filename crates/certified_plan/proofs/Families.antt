@@ -9,7 +9,7 @@ use Rattle.spares_input.specs.Stocks.{limit_at}
 use Rattle.spares_input.specs.Cases.{CaseRows, IsCase}
 use Rattle.fleet_model.specs.Rows.{all_sites}
 use Rattle.fleet_model.specs.Fleet.{family}
-use Rattle.family_eval.specs.Inputs.{IsLine}
+use Rattle.family_items.specs.Inputs.{IsLine}
 use Rattle.family_points.specs.Vectors.{Pair, places, limits}
 use Rattle.family_points.specs.Points.{cost_above, added_cost}
 use Rattle.fleet_plan.proofs.Places.{length_places}

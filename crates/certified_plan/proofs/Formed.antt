@@ -8,7 +8,7 @@ use Rattle.spares_input.specs.Stocks.{StockList, limit_at}
 use Rattle.spares_input.specs.Cases.{CaseRows, IsCase}
 use Rattle.fleet_model.specs.Rows.{line_units}
 use Rattle.fleet_model.proofs.AllocationLaws.{limit_most}
-use Rattle.family_eval.specs.Inputs.{IsLine}
+use Rattle.family_items.specs.Inputs.{IsLine}
 use Rattle.family_points.specs.Vectors.{Pair, places, vector_of, limits}
 use Rattle.fleet_plan.specs.Plans.{CasePlan}
 use Rattle.fleet_plan.proofs.Places.{lines_are}

@@ -6,7 +6,7 @@ use Rattle.spares_input.specs.declared.rows.PartId.{PartId}
 use Rattle.spares_input.specs.Cases.{CaseRows}
 use Rattle.spares_input.specs.Stocks.{StockList}
 use Rattle.fleet_model.specs.Rows.{line_units}
-use Rattle.family_eval.specs.Inputs.{IsLine}
+use Rattle.family_items.specs.Inputs.{IsLine}
 use Rattle.family_points.specs.Vectors.{vector_of}
 use Rattle.fleet_plan.proofs.Places.{length_places, length_vector}
 use Rattle.price_certificate.specs.declared.certificate.Node.{Node}

@@ -2,14 +2,14 @@
 
 ghost use Rattle.std.specs.Prelude.{◌≡◌, ◌+◌, ◌^◌, ◌<◌, ◌≤◌, IfOk, length, map};
 ghost use Rattle.fleet_model.specs.Rows.{line_units};
-ghost use Rattle.family_eval.specs.Inputs.{IsLine};
+ghost use Rattle.family_items.specs.Inputs.{IsLine};
 ghost use Rattle.price_certificate.specs.Certificates.{IsWellFormed};
 ghost use Rattle.certified_plan.specs.Inputs.{AreClaims, AreTerms, IsHeld};
 ghost use Rattle.certified_plan.specs.Certificates.{certificate_of, cover_of, covers_in, covers_of};
 
 use crate::terms::PlanClaims;
 use answers::{List, NoMemory};
-use family_eval::line_units;
+use family_items::line_units;
 use family_points::vector_of;
 use hull::Price;
 use price_certificate::{Certificate, Node, Terms, trim};

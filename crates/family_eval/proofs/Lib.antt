@@ -1,5 +1,0 @@
-pub mod Ranges
-pub mod Units
-pub mod Enclosed
-pub mod Items
-pub mod Families

@@ -1,3 +1,0 @@
-pub mod Profile
-pub mod Encloses
-pub mod Inputs

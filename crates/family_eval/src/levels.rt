@@ -6,14 +6,14 @@ ghost use Rattle.depot_pipeline.specs.Exact.{IsSmallFeed};
 ghost use Rattle.depot_pipeline.specs.Profile.{depot_shop_ends, depot_line_ends};
 ghost use Rattle.base_pipeline.specs.Exact.{IsSmallHeld};
 ghost use Rattle.base_pipeline.specs.Profile.{base_shop_ends, base_line_ends};
-ghost use Rattle.family_eval.specs.Profile.{stocked, feed_of, held_of};
-ghost use Rattle.family_eval.specs.Inputs.{IsPipeline};
+ghost use Rattle.family_items.specs.Profile.{stocked, feed_of, held_of};
+ghost use Rattle.family_items.specs.Inputs.{IsPipeline};
 
-use crate::item::Item;
-use crate::pipeline::Pipeline;
 use answers::NoMemory;
 use base_pipeline::{Held, base_line, base_shop};
 use depot_pipeline::{Feed, Moments, depot_line, depot_shop};
+use family_items::Item;
+use family_items::pipeline::Pipeline;
 use fixed_interval::Iv;
 use moment_table::row_at;
 use std::alloc::Global;

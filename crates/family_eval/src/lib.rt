@@ -13,60 +13,28 @@
 //! [`families_enclose`]).
 #![tactic(auto)]
 
-ghost use Rattle.std.specs.Prelude.{◌≡◌, ℕ, ◌<◌, IfOk, length, flat_map};
-ghost use Rattle.exact_model.specs.Fraction.{Encloses};
+ghost use Rattle.std.specs.Prelude.{◌≡◌, ◌<◌, IfOk, flat_map};
 ghost use Rattle.fixed_interval.specs.Ends.{InScale};
-ghost use Rattle.spares_input.specs.Cases.{CaseRows};
-ghost use Rattle.spares_input.specs.Stocks.{StockList};
 ghost use Rattle.demand_rates.specs.Rates.{AreRatesOf};
 ghost use Rattle.std.specs.List.{AllZip};
 ghost use Rattle.fleet_model.specs.Rows.{line_units, shop_units};
-ghost use Rattle.fleet_model.specs.Pipelines.{ebo_0j};
-ghost use Rattle.fleet_model.specs.Laws.{IsBase};
-ghost use Rattle.family_eval.specs.Profile.{item_of, part_items, family_of, families_of};
-ghost use Rattle.family_eval.specs.Encloses.{CanEvaluate, EnclosesItem, EnclosesFamily, IsSmallItem, IsSmallFamily};
-ghost use Rattle.family_eval.specs.Inputs.{IsLine};
+ghost use Rattle.family_items.specs.Profile.{item_of, part_items, family_of, families_of};
+ghost use Rattle.family_items.specs.Encloses.{CanEvaluate, EnclosesFamily, IsSmallFamily};
+ghost use Rattle.family_items.specs.Inputs.{IsLine};
 
-use crate::inputs::Inputs;
 use crate::lines::{depot_line_at, line_items, total_of};
 use crate::shops::all_shop_items;
 use answers::{List, NoMemory};
 use demand_rates::kinds::Rates;
+use family_items::inputs::Inputs;
 use spares_input::{Case, PartId, Stocks};
 use std::alloc::Global;
 
-pub mod inputs;
-mod item;
 mod levels;
 mod lines;
-mod parts;
-pub mod pipeline;
 mod shops;
 
-pub use item::{FamilyResult, Item};
-pub use parts::{line_units, members, shop_units};
-
-/// The item of each pair encloses the model's figures at every depth from 1024 on, and none of them is above 256.
-pub fn items_enclose()
-    ensures encloses { (f : ℕ) (c : CaseRows) (s : StockList) (p k : ℕ) → CanEvaluate f c s → p < length c.parts
-        → k < length c.sites
-        → EnclosesItem f c s.list p k (item_of f c s.list p k) }
-    // The backorders of a line unit at a base, which make up availability and the total.
-    ensures line { (f : ℕ) (c : CaseRows) (s : StockList) (l j : ℕ) → CanEvaluate f c s → IsLine c l → IsBase c j
-        → Encloses f (item_of f c s.list l j).backorders.lo (item_of f c s.list l j).backorders.hi
-        (λ n. ebo_0j c s.list n l j) }
-    ensures small { (f : ℕ) (c : CaseRows) (s : StockList) (p k : ℕ) → CanEvaluate f c s → p < length c.parts
-        → k < length c.sites
-        → IsSmallItem f (item_of f c s.list p k) }
-{}
-
-/// The items of a family enclose its pairs' figures at every depth from 1024 on, and its total the family's.
-pub fn families_enclose()
-    ensures encloses { (f : ℕ) (c : CaseRows) (s : StockList) (l : ℕ) → CanEvaluate f c s → IsLine c l
-        → EnclosesFamily f c s.list l (family_of f c l s) }
-    ensures small { (f : ℕ) (c : CaseRows) (s : StockList) (l : ℕ) → CanEvaluate f c s → IsLine c l
-        → IsSmallFamily f c l (family_of f c l s) }
-{}
+pub use family_items::{FamilyResult, Item, line_units, members, shop_units};
 
 /// The family of a line unit, from its item at the depot and the items of its shop units, each by site in part order.
 /// Want of memory is the only error.

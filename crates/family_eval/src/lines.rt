@@ -4,16 +4,16 @@ ghost use Rattle.std.specs.Prelude.{◌≡◌, ◌+◌, ◌-◌, ◌<◌, ◌≤
 ghost use Rattle.fixed_interval.specs.Ends.{InScale, ends_exact, ends_times};
 ghost use Rattle.depot_pipeline.specs.Profile.{added};
 ghost use Rattle.fleet_model.specs.Rows.{shop_units};
-ghost use Rattle.family_eval.specs.Profile.{base_line, depot_line, feed_of, held_of, item_of, part_items, share_of};
-ghost use Rattle.family_eval.specs.Encloses.{IsSmallItem, no_item};
-ghost use Rattle.family_eval.specs.Inputs.{IsLine};
+ghost use Rattle.family_items.specs.Profile.{base_line, depot_line, feed_of, held_of, item_of, part_items, share_of};
+ghost use Rattle.family_items.specs.Encloses.{IsSmallItem, no_item};
+ghost use Rattle.family_items.specs.Inputs.{IsLine};
 
-use crate::inputs::Inputs;
-use crate::item::Item;
 use crate::levels::{base_line_item, depot_line_item, feed_of, held_of};
 use answers::NoMemory;
 use base_pipeline::Held;
 use depot_pipeline::Feed;
+use family_items::Item;
+use family_items::inputs::Inputs;
 use fixed_interval::Iv;
 use spares_input::{PartId, SiteId};
 use std::alloc::Global;

@@ -2,13 +2,13 @@
 
 ghost use Rattle.std.specs.Prelude.{◌≡◌, ◌<◌, IfOk, length, flat_map, All};
 ghost use Rattle.fixed_interval.specs.Ends.{InScale};
-ghost use Rattle.family_eval.specs.Profile.{base_shop, depot_shop, part_items};
-ghost use Rattle.family_eval.specs.Inputs.{IsShopUnit};
+ghost use Rattle.family_items.specs.Profile.{base_shop, depot_shop, part_items};
+ghost use Rattle.family_items.specs.Inputs.{IsShopUnit};
 
-use crate::inputs::Inputs;
-use crate::item::Item;
 use crate::levels::{base_shop_item, depot_shop_item, feed_of};
 use answers::NoMemory;
+use family_items::Item;
+use family_items::inputs::Inputs;
 use spares_input::{Case, PartId, SiteId};
 use std::alloc::Global;
 

@@ -5,7 +5,7 @@ use Rattle.std.proofs.lemmas.List.{take_all}
 use Rattle.fixed_interval.specs.Ends.{Ends, IsWithinLimit}
 use Rattle.fleet_model.specs.Laws.{IsBase}
 use Rattle.fleet_model.specs.Rows.{systems, per_system, weight}
-use Rattle.family_eval.specs.Profile.{item_of}
+use Rattle.family_items.specs.Profile.{item_of}
 use Rattle.family_numbers.specs.Numbers.{AreBaseLows, base_backorders}
 use Rattle.family_numbers.proofs.FromNumbers.{backorders_alone}
 use Rattle.hull.specs.declared.point.Point.{Point}

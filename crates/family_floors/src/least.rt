@@ -3,7 +3,7 @@
 
 ghost use Rattle.std.specs.Prelude.{◌≡◌, ◌+◌, ◌-◌, ◌*◌, ◌^◌, ◌<◌, ◌≤◌, ◌∷◌, IfOk, drop, flat_map, length, map, nat_le};
 ghost use Rattle.demand_rates.specs.Rates.{AreRatesOf};
-ghost use Rattle.family_eval.specs.Inputs.{IsLine};
+ghost use Rattle.family_items.specs.Inputs.{IsLine};
 ghost use Rattle.hull.specs.Curves.{lagrangian};
 ghost use Rattle.family_points.specs.Inputs.{AreShopsAt, IsAt, line_stocks};
 ghost use Rattle.family_rows.specs.Sources.{AreSources};

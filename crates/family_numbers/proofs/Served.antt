@@ -14,10 +14,10 @@ use Rattle.depot_pipeline.specs.declared.Feed.{Feed}
 use Rattle.depot_pipeline.specs.Exact.{IsSmallFeed}
 use Rattle.depot_pipeline.specs.Profile.{feed_at, mean_part}
 use Rattle.base_pipeline.specs.Profile.{held_at}
-use Rattle.family_eval.specs.Inputs.{HasTable}
+use Rattle.family_items.specs.Inputs.{HasTable}
 use Rattle.family_numbers.specs.Numbers.{AreBaseBackorders, AreNumbers, ArePairNumbers, FamilyNumbers, nth_stock, base_backorders, base_helds, base_line_moments, base_shop_moments, base_shop_row, depot_feeds, depot_line_moments, depot_line_row, depot_shop_moments, depot_shop_row, feed_from, pair_at, rows_of}
 use Rattle.family_numbers.proofs.FromNumbers.{can_rows}
-use Rattle.family_eval.proofs.Ranges.{added_least}
+use Rattle.family_items.proofs.Ranges.{added_least}
 
 -- ---- lists by number
 

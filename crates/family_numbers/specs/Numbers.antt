@@ -21,8 +21,8 @@ use Rattle.demand_rates.specs.declared.kinds.PairRates.{PairRates}
 use Rattle.demand_rates.specs.Rates.{pair_rates}
 use Rattle.family_numbers.specs.declared.numbers.PairNumbers.{PairNumbers}
 use Rattle.family_numbers.specs.declared.own_part.OwnPart.{OwnPart}
-use Rattle.family_eval.specs.declared.item.Item.{Item}
-use Rattle.family_eval.specs.Profile.{share_from}
+use Rattle.family_items.specs.declared.item.Item.{Item}
+use Rattle.family_items.specs.Profile.{share_from}
 
 -- the numbers from which a family is computed: its parts, the line unit first; the number of sites; the numbers of each
 -- pair, by part and then by site; and the weight of the line unit

@@ -8,8 +8,8 @@
 ghost use Rattle.std.specs.Prelude.{◌≡◌, ℕ, ◌∷◌, List};
 ghost use Rattle.spares_input.specs.Cases.{CaseRows};
 ghost use Rattle.fleet_model.specs.Laws.{IsBase};
-ghost use Rattle.family_eval.specs.Profile.{item_of};
-ghost use Rattle.family_eval.specs.Inputs.{IsLine};
+ghost use Rattle.family_items.specs.Profile.{item_of};
+ghost use Rattle.family_items.specs.Inputs.{IsLine};
 ghost use Rattle.family_numbers.specs.Numbers.{base_backorders, family_stocks, numbers_of};
 
 pub mod base_shops;

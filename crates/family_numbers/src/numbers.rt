@@ -5,12 +5,12 @@ ghost use Rattle.fixed_interval.specs.Ends.{InScale};
 ghost use Rattle.fleet_model.specs.Fleet.{family};
 ghost use Rattle.fleet_model.specs.Rows.{all_sites};
 ghost use Rattle.demand_rates.specs.Rates.{AreRatesOf};
-ghost use Rattle.family_eval.specs.Inputs.{IsLine};
+ghost use Rattle.family_items.specs.Inputs.{IsLine};
 ghost use Rattle.family_numbers.specs.Numbers.{AreNumbers, ArePairNumbers, numbers_of, pair_at, pair_numbers};
 
 use answers::NoMemory;
 use demand_rates::kinds::{PIPELINE_SCALE, Rates};
-use family_eval::members;
+use family_items::members;
 use fixed_interval::Iv;
 use spares_input::{Case, PartId, SiteId};
 use std::alloc::Global;

@@ -12,7 +12,7 @@ use Rattle.spares_input.specs.Rows.{is_line}
 use Rattle.fleet_model.specs.Rows.{shop_units}
 use Rattle.spares_input.specs.Frames.{is_shop_of, part_at}
 use Rattle.spares_input.specs.Cases.{CaseRows}
-use Rattle.family_eval.proofs.Items.{kept_more, left_out}
+use Rattle.family_items.proofs.Items.{kept_more, left_out}
 use Rattle.family_points.specs.Counts.{product, depot_width, base_width, choices_of, tables_of}
 
 -- ---- sums and products

@@ -2,8 +2,8 @@
 use Rattle.std.proofs.Common.{◌≡◌, ℕ, ◌<◌, List, ap}
 use Rattle.spares_input.specs.Cases.{CaseRows}
 use Rattle.fleet_model.specs.Rows.{systems, per_system, weight}
-use Rattle.family_eval.specs.declared.item.Item.{Item}
-use Rattle.family_eval.specs.Inputs.{IsLine}
+use Rattle.family_items.specs.declared.item.Item.{Item}
+use Rattle.family_items.specs.Inputs.{IsLine}
 use Rattle.family_points.proofs.Items.{Agree, item_agrees}
 use Rattle.family_points.specs.Points.{ScoreEnds, scored}
 

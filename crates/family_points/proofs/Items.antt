@@ -9,11 +9,11 @@ use Rattle.spares_input.specs.Cases.{CaseRows}
 use Rattle.fleet_model.specs.Rows.{shop_units, stock}
 use Rattle.fleet_model.specs.Fleet.{family}
 use Rattle.demand_rates.specs.Rates.{pair_rates}
-use Rattle.family_eval.specs.declared.item.Item.{Item}
-use Rattle.family_eval.specs.Profile.{pipeline_from, share_of, stocked, feed_of, held_of, depot_shop, depot_feed, depot_line, base_shop, base_line, item_of}
-use Rattle.family_eval.specs.Inputs.{IsLine}
+use Rattle.family_items.specs.declared.item.Item.{Item}
+use Rattle.family_items.specs.Profile.{pipeline_from, share_of, stocked, feed_of, held_of, depot_shop, depot_feed, depot_line, base_shop, base_line, item_of}
+use Rattle.family_items.specs.Inputs.{IsLine}
 use Rattle.family_points.specs.Local.{AgreeAt}
-use Rattle.family_eval.proofs.Items.{base_line_item}
+use Rattle.family_items.proofs.Items.{base_line_item}
 
 -- two lists of stocks agree on each part of a family at site k
 abbrev pub Agree : CaseRows → ℕ → List ℕ → List ℕ → ℕ → Type 0

@@ -8,7 +8,7 @@ use Rattle.std.proofs.lemmas.Simd.{map-map}
 use Rattle.spares_input.specs.Cases.{CaseRows, IsCase}
 use Rattle.spares_input.proofs.Ranges.{range_more}
 use Rattle.fleet_model.specs.Laws.{IsBase}
-use Rattle.family_eval.specs.Inputs.{IsLine}
+use Rattle.family_items.specs.Inputs.{IsLine}
 use Rattle.hull.specs.declared.point.Point.{Point}
 use Rattle.hull.specs.Curves.{lagrangian, Among, sums}
 use Rattle.hull.proofs.Members.{among_flat, in_range}

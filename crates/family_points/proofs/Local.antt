@@ -22,10 +22,10 @@ use Rattle.fleet_model.proofs.FamilyLaws.{sum_range}
 use Rattle.fleet_model.proofs.DependLaws.{all_follow, count_each}
 use Rattle.demand_rates.specs.declared.kinds.PairRates.{PairRates}
 use Rattle.demand_rates.specs.Rates.{pair_rates, rates_of_pair, share_ratio}
-use Rattle.family_eval.specs.declared.item.Item.{Item}
-use Rattle.family_eval.specs.Profile.{base_line, base_shop, depot_feed, depot_line, depot_shop, feed_of, held_of, item_of, pipeline_from, share_from, stocked}
-use Rattle.family_eval.specs.Inputs.{IsLine, IsShop}
-use Rattle.family_eval.proofs.Units.{shops_all}
+use Rattle.family_items.specs.declared.item.Item.{Item}
+use Rattle.family_items.specs.Profile.{base_line, base_shop, depot_feed, depot_line, depot_shop, feed_of, held_of, item_of, pipeline_from, share_from, stocked}
+use Rattle.family_items.specs.Inputs.{IsLine, IsShop}
+use Rattle.family_items.proofs.Units.{shops_all}
 use Rattle.family_points.specs.Vectors.{stocks_with, vectors}
 use Rattle.family_points.specs.Points.{ScoreEnds, added_cost, points_within, scored, scored_total}
 use Rattle.family_points.specs.Local.{home_of, HaveOneFamily, SameFamily, SameRates}

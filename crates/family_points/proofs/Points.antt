@@ -20,8 +20,8 @@ use Rattle.spares_input.proofs.Ranges.{range_more}
 use Rattle.fleet_model.specs.Rows.{systems, per_system, weight, bases}
 use Rattle.fleet_model.specs.Fleet.{family}
 use Rattle.fleet_model.specs.Laws.{IsBase}
-use Rattle.family_eval.specs.Profile.{item_of}
-use Rattle.family_eval.proofs.Units.{each_append, each_in_range}
+use Rattle.family_items.specs.Profile.{item_of}
+use Rattle.family_items.proofs.Units.{each_append, each_in_range}
 use Rattle.family_points.specs.Vectors.{Pair, places, between, vectors, IsBetween}
 use Rattle.family_points.specs.Points.{ScoreEnds, cost_above, added_cost, point_at_vector, points_within}
 use Rattle.family_points.specs.Counts.{product, widths}

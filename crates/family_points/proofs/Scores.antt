@@ -4,13 +4,13 @@ use Rattle.fixed_interval.proofs.Laws.{ends_ordered}
 use Rattle.spares_input.specs.Cases.{CaseRows}
 use Rattle.fleet_model.specs.Laws.{IsBase}
 use Rattle.fleet_model.specs.Pipelines.{ebo_0j}
-use Rattle.family_eval.specs.declared.item.Item.{Item}
-use Rattle.family_eval.specs.Profile.{item_of, family_of}
-use Rattle.family_eval.specs.Inputs.{IsSound}
-use Rattle.family_eval.proofs.Enclosed.{item_small}
-use Rattle.family_eval.proofs.Families.{line_in}
-use Rattle.family_eval.proofs.Items.{flat_at, flat_length}
-use Rattle.family_eval.proofs.Ranges.{sound_of}
+use Rattle.family_items.specs.declared.item.Item.{Item}
+use Rattle.family_items.specs.Profile.{item_of, family_of}
+use Rattle.family_items.specs.Inputs.{IsSound}
+use Rattle.family_items.proofs.Enclosed.{item_small}
+use Rattle.family_items.proofs.Families.{line_in}
+use Rattle.family_items.proofs.Items.{flat_at, flat_length}
+use Rattle.family_items.proofs.Ranges.{sound_of}
 use Rattle.fleet_model.specs.Fleet.{family}
 use Rattle.family_points.specs.Vectors.{stock_list}
 use Rattle.family_points.specs.Separation.{depot_and_base, base_stocks}

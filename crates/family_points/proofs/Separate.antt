@@ -12,8 +12,8 @@ use Rattle.spares_input.specs.Frames.{part_at}
 use Rattle.spares_input.specs.Cases.{CaseRows, IsCase}
 use Rattle.spares_input.proofs.Ranges.{range_more}
 use Rattle.fleet_model.specs.Fleet.{family}
-use Rattle.family_eval.specs.Inputs.{IsLine}
-use Rattle.family_eval.proofs.Items.{added_same}
+use Rattle.family_items.specs.Inputs.{IsLine}
+use Rattle.family_items.proofs.Items.{added_same}
 use Rattle.hull.specs.declared.point.Point.{Point}
 use Rattle.hull.specs.Curves.{plus, plus_each, sums}
 use Rattle.family_points.specs.Vectors.{Pair, places_at, site_part, stocks_with, vectors}

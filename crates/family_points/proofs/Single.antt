@@ -6,7 +6,7 @@ use Rattle.std.proofs.lemmas.List.Sums.{sum_by-cons}
 use Rattle.spares_input.specs.Cases.{CaseRows, IsCase}
 use Rattle.fleet_model.specs.Rows.{bases}
 use Rattle.fleet_model.specs.Fleet.{family}
-use Rattle.family_eval.specs.Inputs.{IsLine}
+use Rattle.family_items.specs.Inputs.{IsLine}
 use Rattle.family_points.specs.Vectors.{site_part}
 use Rattle.family_points.specs.Counts.{product, tables_between, widths}
 use Rattle.family_points.proofs.Bounded.{few_members}

@@ -6,7 +6,7 @@ use Rattle.spares_input.specs.Stocks.{limit_at}
 use Rattle.spares_input.specs.Cases.{CaseRows, IsCase}
 use Rattle.fleet_model.specs.Rows.{stock}
 use Rattle.fleet_model.specs.Fleet.{family}
-use Rattle.family_eval.specs.Inputs.{IsLine}
+use Rattle.family_items.specs.Inputs.{IsLine}
 use Rattle.family_points.specs.Vectors.{Pair, places, site_part, stocks_with, vector_of}
 use Rattle.family_points.proofs.Boxes.{same_flat}
 use Rattle.family_points.proofs.Bounded.{limits_long}

@@ -8,7 +8,7 @@ use Rattle.answers.specs.Counts.{count64}
 use Rattle.spares_input.specs.Cases.{CaseRows, IsCase}
 use Rattle.spares_input.proofs.Ranges.{range_more}
 use Rattle.fleet_model.specs.Rows.{bases, shop_units}
-use Rattle.family_eval.specs.Inputs.{IsLine}
+use Rattle.family_items.specs.Inputs.{IsLine}
 use Rattle.family_points.specs.Vectors.{limits, site_part}
 use Rattle.family_points.specs.Points.{AreOrdered}
 use Rattle.family_points.specs.Counts.{product, widths, tables_between}

@@ -10,7 +10,7 @@ use Rattle.spares_input.specs.Stocks.{limit_at}
 use Rattle.spares_input.specs.Cases.{CaseRows, IsCase}
 use Rattle.fleet_model.specs.Rows.{bases, shop_units}
 use Rattle.fleet_model.specs.Fleet.{family}
-use Rattle.family_eval.specs.Inputs.{IsLine}
+use Rattle.family_items.specs.Inputs.{IsLine}
 use Rattle.family_points.specs.Vectors.{Pair, limits, places, places_at, site_part, zeros}
 use Rattle.family_points.specs.Points.{AreOrdered}
 use Rattle.family_points.specs.Counts.{widths, base_width, tables_by, tables_of, tables_between}

@@ -7,7 +7,7 @@ use Rattle.hull.specs.declared.point.Point.{Point}
 use Rattle.spares_input.specs.Cases.{CaseRows, IsCase}
 use Rattle.demand_rates.specs.RateLists.{RateList}
 use Rattle.demand_rates.specs.Rates.{AreRatesOf}
-use Rattle.family_eval.specs.Inputs.{IsLine}
+use Rattle.family_items.specs.Inputs.{IsLine}
 use Rattle.family_points.specs.Vectors.{between, site_part, vectors, IsBetween}
 use Rattle.family_points.specs.Points.{ScoreEnds, cost_above, AreOrdered}
 

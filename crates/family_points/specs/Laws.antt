@@ -1,7 +1,7 @@
 -- Laws of families' points.
 use Rattle.std.specs.Prelude.{◌≡◌, ◌≤◌, ℕ, List, length}
 use Rattle.spares_input.specs.Cases.{CaseRows, IsCase}
-use Rattle.family_eval.specs.Inputs.{IsLine}
+use Rattle.family_items.specs.Inputs.{IsLine}
 use Rattle.family_points.specs.Points.{ScoreEnds, points_within, AreOrdered}
 use Rattle.family_points.specs.Vectors.{limits, places, stocks_with, vector_of, vectors, zeros}
 use Rattle.family_points.specs.Counts.{choices_of, tables_between}

@@ -3,8 +3,8 @@
 use Rattle.std.specs.Prelude.{◌≡◌, ℕ, ◌+◌, ◌*◌, ◌<◌, ◌≤◌, min, Bool, true, false, List, [], ◌∷◌, get_or, length, map, sum_by}
 use Rattle.spares_input.specs.Cases.{CaseRows, IsCase}
 use Rattle.fleet_model.specs.Rows.{bases}
-use Rattle.family_eval.specs.Inputs.{IsLine}
-use Rattle.family_eval.specs.Profile.{item_of}
+use Rattle.family_items.specs.Inputs.{IsLine}
+use Rattle.family_items.specs.Profile.{item_of}
 use Rattle.hull.specs.declared.point.Point.{Point}
 use Rattle.hull.specs.Curves.{lagrangian, Among}
 use Rattle.family_points.specs.Vectors.{site_part, vectors}

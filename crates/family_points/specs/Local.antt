@@ -9,8 +9,8 @@ use Rattle.spares_input.specs.Edits.{with_rate}
 use Rattle.fleet_model.specs.Rows.{stock}
 use Rattle.fleet_model.specs.Fleet.{family}
 use Rattle.demand_rates.specs.Rates.{pair_rates}
-use Rattle.family_eval.specs.Inputs.{IsLine}
-use Rattle.family_eval.specs.Profile.{item_of}
+use Rattle.family_items.specs.Inputs.{IsLine}
+use Rattle.family_items.specs.Profile.{item_of}
 use Rattle.family_points.specs.Points.{ScoreEnds, points_within}
 
 -- two lists of stocks agree on the family of the line unit l at site k

@@ -6,7 +6,7 @@ use Rattle.depot_pipeline.specs.Profile.{added}
 use Rattle.spares_input.specs.Frames.{part_at}
 use Rattle.spares_input.specs.Cases.{CaseRows}
 use Rattle.fleet_model.specs.Rows.{systems, per_system, weight}
-use Rattle.family_eval.specs.Profile.{item_of}
+use Rattle.family_items.specs.Profile.{item_of}
 use Rattle.hull.specs.declared.point.Point.{Point}
 use Rattle.hull.specs.Curves.{Among}
 use Rattle.family_points.specs.Vectors.{Pair, places, limits, stocks_with, vectors}

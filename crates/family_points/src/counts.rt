@@ -3,7 +3,7 @@
 ghost use Rattle.std.specs.Prelude.{◌≡◌, ◌+◌, ◌-◌, ◌*◌, ◌^◌, ◌<◌, ◌≤◌, length, get_or, map, sum, drop};
 ghost use Rattle.answers.specs.Counts.{count64};
 ghost use Rattle.fleet_model.specs.Rows.{shop_units};
-ghost use Rattle.family_eval.specs.Inputs.{IsLine};
+ghost use Rattle.family_items.specs.Inputs.{IsLine};
 ghost use Rattle.family_points.specs.Counts.{product, depot_width, base_width, choices_of, tables_of, tables_between, widths, work_of};
 ghost use Rattle.fleet_model.specs.Fleet.{family};
 ghost use Rattle.family_points.specs.Vectors.{site_part};

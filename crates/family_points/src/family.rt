@@ -6,7 +6,7 @@ ghost use Rattle.fleet_model.specs.Laws.{IsBase};
 ghost use Rattle.fleet_model.specs.Fleet.{family};
 ghost use Rattle.fleet_model.specs.Rows.{systems};
 ghost use Rattle.demand_rates.specs.Rates.{AreRatesOf};
-ghost use Rattle.family_eval.specs.Inputs.{IsLine};
+ghost use Rattle.family_items.specs.Inputs.{IsLine};
 ghost use Rattle.family_points.specs.Points.{AreOrdered, cost_above};
 ghost use Rattle.family_points.specs.Boxes.{IsBox};
 ghost use Rattle.family_points.specs.Inputs.{AreShopsAt, IsFamilyBox, IsAt, low_at, high_at, held_at, line_high, line_low, shop_vectors};

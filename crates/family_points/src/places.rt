@@ -3,7 +3,7 @@
 
 ghost use Rattle.std.specs.Prelude.{◌≡◌, ◌<◌, ◌++◌, IfOk, All, length, map};
 ghost use Rattle.spares_input.specs.Stocks.{HasPair, IsFor, limit_at, stock_at};
-ghost use Rattle.family_eval.specs.Inputs.{IsLine};
+ghost use Rattle.family_items.specs.Inputs.{IsLine};
 ghost use Rattle.family_points.specs.Vectors.{limits, places, vector_of};
 
 use answers::{List, NoMemory};

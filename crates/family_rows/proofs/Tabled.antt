@@ -5,8 +5,8 @@ use Rattle.series_bounds.specs.Answer.{at_place}
 use Rattle.spares_input.specs.Stocks.{limit_at}
 use Rattle.fleet_model.specs.Fleet.{family}
 use Rattle.fleet_model.specs.Laws.{IsBase}
-use Rattle.family_eval.specs.Profile.{item_of}
-use Rattle.family_eval.proofs.Items.{flat_at}
+use Rattle.family_items.specs.Profile.{item_of}
+use Rattle.family_items.proofs.Items.{flat_at}
 use Rattle.family_numbers.specs.declared.base_shops.BaseShops.{BaseShops}
 use Rattle.family_numbers.specs.BaseTables.{AreBaseShops, AreShopBounds, HaveShops}
 use Rattle.family_numbers.specs.Numbers.{AreBaseBackorders, FamilyNumbers, no_numbers, pair_at, pair_numbers}

@@ -5,7 +5,7 @@ use Rattle.fixed_interval.specs.Ends.{Ends, IsWithinLimit}
 use Rattle.series_bounds.specs.Answer.{at_place}
 use Rattle.fleet_model.specs.Laws.{IsBase}
 use Rattle.fleet_model.specs.Rows.{systems, per_system, weight}
-use Rattle.family_eval.specs.Profile.{item_of}
+use Rattle.family_items.specs.Profile.{item_of}
 use Rattle.hull.specs.declared.point.Point.{Point}
 use Rattle.family_points.specs.Choices.{IsBaseOf}
 use Rattle.family_points.specs.Inputs.{FamilyBox, IsAt, IsFamilyBox, line_high, shop_vectors}

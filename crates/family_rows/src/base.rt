@@ -2,7 +2,7 @@
 
 ghost use Rattle.std.specs.Prelude.{◌≡◌, ◌+◌, ◌^◌, ◌<◌, ◌≤◌, ◌++◌, [], IfOk, drop, length, map, take, vec_len};
 ghost use Rattle.fixed_interval.specs.Ends.{IsWithinLimit};
-ghost use Rattle.family_eval.specs.Profile.{item_of};
+ghost use Rattle.family_items.specs.Profile.{item_of};
 ghost use Rattle.family_points.specs.Separation.{base_stocks};
 ghost use Rattle.family_points.specs.Inputs.{shop_vectors};
 ghost use Rattle.family_points.specs.Choices.{IsChoice, choice_point, choice_stocks};

@@ -8,9 +8,9 @@ use Rattle.family_tables.specs.Kept.{HaveStocks, depot_stocks}
 use Rattle.family_numbers.proofs.Served.{all_numbered}
 use Rattle.fleet_model.specs.Fleet.{family}
 use Rattle.fleet_model.proofs.AllocationLaws.{limit_most}
-use Rattle.family_eval.specs.Inputs.{IsLine}
+use Rattle.family_items.specs.Inputs.{IsLine}
 use Rattle.family_numbers.specs.Numbers.{AreNumbers, FamilyNumbers, numbers_of}
-use Rattle.family_eval.proofs.Families.{member_in_case}
+use Rattle.family_items.proofs.Families.{member_in_case}
 
 -- ---- stocks of the case
 

@@ -11,11 +11,11 @@ use Rattle.fleet_model.specs.Rows.{shop_units, stock}
 use Rattle.fleet_model.specs.Fleet.{family}
 use Rattle.fleet_model.proofs.AllocationLaws.{stock_holds}
 use Rattle.demand_rates.specs.Rates.{pair_rates}
-use Rattle.family_eval.specs.declared.item.Item.{Item}
-use Rattle.family_eval.specs.Inputs.{IsLine}
-use Rattle.family_eval.specs.Profile.{base_shop, depot_line, depot_shop, item_of, part_items, pipeline_from, pipeline_of, stocked}
-use Rattle.family_eval.proofs.Items.{base_shop_item, depot_line_item, depot_shop_item}
-use Rattle.family_eval.proofs.Units.{shop_at}
+use Rattle.family_items.specs.declared.item.Item.{Item}
+use Rattle.family_items.specs.Inputs.{IsLine}
+use Rattle.family_items.specs.Profile.{base_shop, depot_line, depot_shop, item_of, part_items, pipeline_from, pipeline_of, stocked}
+use Rattle.family_items.proofs.Items.{base_shop_item, depot_line_item, depot_shop_item}
+use Rattle.family_items.proofs.Units.{shop_at}
 use Rattle.family_numbers.specs.Numbers.{moments_of}
 use Rattle.family_tables.specs.Kept.{Evaluation, depot_stocks, key_at, key_item, key_stocks, keys_of, moments_at, shop_key, table_kept}
 use Rattle.family_numbers.specs.Numbers.{FamilyNumbers, family_stocks, numbers_of, rows_of, shop_numbers}

@@ -5,7 +5,7 @@ use Rattle.std.proofs.lemmas.List.Elements.{All-append}
 use Rattle.depot_pipeline.specs.declared.Feed.{Feed}
 use Rattle.base_pipeline.specs.Profile.{base_shop_ends}
 use Rattle.family_numbers.specs.declared.numbers.PairNumbers.{PairNumbers}
-use Rattle.family_eval.specs.Inputs.{HasTable}
+use Rattle.family_items.specs.Inputs.{HasTable}
 use Rattle.family_tables.specs.Kept.{IsKey, key_at, keys_of, moments_at, shop_key}
 use Rattle.family_numbers.proofs.Served.{all_numbered, base_shop_can, depot_line_can, depot_shop_can}
 use Rattle.family_numbers.specs.Numbers.{AreNumbers, FamilyNumbers, depot_shop_row, feed_from, nth_stock, pair_at, shop_numbers}

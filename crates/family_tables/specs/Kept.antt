@@ -5,7 +5,7 @@ use Rattle.std.specs.Option.{option_map_or}
 use Rattle.moment_table.specs.Rows.{TableRows, at_stock}
 use Rattle.depot_pipeline.specs.declared.Moments.{Moments}
 use Rattle.spares_input.specs.Stocks.{HasPair, StockList, stock_at}
-use Rattle.family_eval.specs.declared.item.Item.{Item}
+use Rattle.family_items.specs.declared.item.Item.{Item}
 use Rattle.family_tables.specs.declared.keys.Key.{Key}
 use Rattle.family_tables.specs.declared.keys.Kept.{Kept}
 use Rattle.family_numbers.specs.Numbers.{FamilyNumbers, nth_stock, base_shop_moments, depot_line_moments, depot_shop_moments, pair_at, rows_of, shop_numbers, table_of}

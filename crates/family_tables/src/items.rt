@@ -4,17 +4,18 @@ ghost use Rattle.std.specs.Prelude.{◌≡◌, ◌∷◌, ◌++◌, [], true, If
 ghost use Rattle.std.specs.List.{All};
 ghost use Rattle.fleet_model.specs.Rows.{shop_units};
 ghost use Rattle.demand_rates.specs.Rates.{AreRatesOf};
-ghost use Rattle.family_eval.specs.Encloses.{CanEvaluate, EnclosesFamily, IsSmallFamily};
-ghost use Rattle.family_eval.specs.Inputs.{IsLine};
-ghost use Rattle.family_eval.specs.Profile.{family_of, item_of, part_items};
+ghost use Rattle.family_items.specs.Encloses.{CanEvaluate, EnclosesFamily, IsSmallFamily};
+ghost use Rattle.family_items.specs.Inputs.{IsLine};
+ghost use Rattle.family_items.specs.Profile.{family_of, item_of, part_items};
 ghost use Rattle.family_tables.specs.Kept.{Grows, Has, HaveStocks, IsKept, IsKey, depot_stocks, is_among, key_item, keys_of, with_keys};
 
 use crate::keys::{Kept, Key, kept_at};
 use crate::making::{depot_stocks, keep_each, keys_of};
 use answers::NoMemory;
 use demand_rates::kinds::Rates;
-use family_eval::inputs::Inputs;
-use family_eval::{FamilyResult, Item, families_enclose, family_from};
+use family_eval::family_from;
+use family_items::inputs::Inputs;
+use family_items::{FamilyResult, Item, families_enclose};
 use family_numbers::numbers::Numbers;
 use spares_input::{Case, PartId, Stocks};
 use std::alloc::Global;

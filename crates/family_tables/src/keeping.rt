@@ -3,9 +3,9 @@
 ghost use Rattle.std.specs.Prelude.{◌≡◌, ◌+◌, ◌-◌, ◌*◌, ◌^◌, ◌<◌, [], IfOk, IfSome, is_some, length, get_or, map, All};
 ghost use Rattle.fixed_interval.specs.Ends.{InScale};
 ghost use Rattle.demand_rates.specs.Rates.{AreRatesOf};
-ghost use Rattle.family_eval.specs.Inputs.{IsLine};
-ghost use Rattle.family_eval.specs.Profile.{family_of};
-ghost use Rattle.family_eval.specs.Encloses.{CanEvaluate, EnclosesFamily, IsSmallFamily};
+ghost use Rattle.family_items.specs.Inputs.{IsLine};
+ghost use Rattle.family_items.specs.Profile.{family_of};
+ghost use Rattle.family_items.specs.Encloses.{CanEvaluate, EnclosesFamily, IsSmallFamily};
 ghost use Rattle.family_tables.specs.Kept.{Grows, Has, depot_stocks, is_kept, keys_of, table_kept, with_keys};
 ghost use Rattle.family_numbers.specs.Numbers.{numbers_of};
 
@@ -13,7 +13,7 @@ use crate::items::{family_of, kept_items};
 use crate::keys::{Kept, kept_at};
 use answers::NoMemory;
 use demand_rates::kinds::Rates;
-use family_eval::FamilyResult;
+use family_items::FamilyResult;
 use family_numbers::numbers::Numbers;
 use moment_table::kinds::Table;
 use spares_input::{Case, PartId, SiteId, Stocks};

@@ -4,8 +4,8 @@
 ghost use Rattle.std.specs.Prelude.{◌≡◌, ◌==◌, ℕ, ◌<◌, ◌∷◌, List, Some, length, position};
 ghost use Rattle.spares_input.specs.Cases.{CaseRows, IsCase};
 ghost use Rattle.fleet_model.specs.Fleet.{family};
-ghost use Rattle.family_eval.specs.Profile.{item_of};
-ghost use Rattle.family_eval.specs.Inputs.{IsLine};
+ghost use Rattle.family_items.specs.Profile.{item_of};
+ghost use Rattle.family_items.specs.Inputs.{IsLine};
 ghost use Rattle.family_tables.specs.Kept.{Evaluation, key_stocks, table_kept};
 ghost use Rattle.family_numbers.specs.Numbers.{family_stocks, moments_of, numbers_of, rows_of};
 

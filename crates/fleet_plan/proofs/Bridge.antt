@@ -11,7 +11,7 @@ use Rattle.spares_input.specs.Cases.{CaseRows, IsCase, frame_rows, pair_count}
 use Rattle.spares_input.specs.Stocks.{limit_at}
 use Rattle.exact_model.specs.Sums.{sum_over}
 use Rattle.fleet_model.specs.Rows.{stock, line_units}
-use Rattle.family_eval.specs.Inputs.{IsLine}
+use Rattle.family_items.specs.Inputs.{IsLine}
 use Rattle.family_points.specs.Vectors.{Pair, places, vector_of, limits, vectors, stocks_with, IsBetween}
 use Rattle.family_points.specs.Points.{ScoreEnds, scored_total, added_cost, point_at_vector}
 use Rattle.family_points.proofs.Stands.{vector_stands}

@@ -21,9 +21,9 @@ use Rattle.fleet_model.specs.Fleet.{family}
 use Rattle.fleet_model.proofs.FamilyLaws.{HasLine, HasFamilies}
 use Rattle.fleet_model.proofs.FrameLaws.{has_families}
 use Rattle.demand_rates.proofs.DepotFacts.{no_line_there}
-use Rattle.family_eval.specs.Inputs.{IsLine, IsShop}
-use Rattle.family_eval.proofs.Items.{flat_at, flat_length}
-use Rattle.family_eval.proofs.Units.{shops_all}
+use Rattle.family_items.specs.Inputs.{IsLine, IsShop}
+use Rattle.family_items.proofs.Items.{flat_at, flat_length}
+use Rattle.family_items.proofs.Units.{shops_all}
 use Rattle.family_points.proofs.Boxes.{map_flat}
 use Rattle.family_points.proofs.Sites.{all_joined, members, part_long}
 use Rattle.family_points.specs.Vectors.{Pair, places_at, places, vector_of, site_part}

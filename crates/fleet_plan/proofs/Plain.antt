@@ -8,7 +8,7 @@ use Rattle.hull.specs.Scores.{EnclosesValue, LeavesRoom}
 use Rattle.spares_input.specs.Cases.{CaseRows}
 use Rattle.fleet_model.specs.Rows.{line_units}
 use Rattle.fleet_model.specs.Fleet.{cost}
-use Rattle.family_eval.specs.Profile.{total_of}
+use Rattle.family_items.specs.Profile.{total_of}
 use Rattle.family_points.specs.Vectors.{vector_of, zeros}
 use Rattle.fleet_model.specs.Aims.{weighted_backorders, cost_beyond}
 use Rattle.fleet_plan.specs.Families.{hi_at}

@@ -25,12 +25,12 @@ use Rattle.fleet_model.specs.Pipelines.{ebo_0j}
 use Rattle.fleet_model.specs.Fleet.{family}
 use Rattle.fleet_model.specs.Laws.{IsBase}
 use Rattle.fleet_model.proofs.SumLaws.{sum_range}
-use Rattle.family_eval.specs.Profile.{item_of}
-use Rattle.family_eval.specs.Inputs.{IsLine, IsSound}
-use Rattle.family_eval.proofs.Units.{few_shops}
-use Rattle.family_eval.proofs.Families.{evaluable, line_in}
-use Rattle.family_eval.proofs.Enclosed.{item_small}
-use Rattle.family_eval.proofs.Items.{added_same}
+use Rattle.family_items.specs.Profile.{item_of}
+use Rattle.family_items.specs.Inputs.{IsLine, IsSound}
+use Rattle.family_items.proofs.Units.{few_shops}
+use Rattle.family_items.proofs.Families.{evaluable, line_in}
+use Rattle.family_items.proofs.Enclosed.{item_small}
+use Rattle.family_items.proofs.Items.{added_same}
 use Rattle.family_points.specs.Vectors.{Pair, places, vector_of, limits, vectors, site_part, stock_in, stocks_with, stock_list, IsBetween}
 use Rattle.family_points.proofs.Depend.{scored_same}
 use Rattle.family_points.specs.Points.{ScoreEnds, scored, scored_total, cost_above, point_at_vector}

@@ -8,8 +8,8 @@ use Rattle.hull.specs.Scores.{EnclosesValue, LeavesRoom}
 use Rattle.spares_input.specs.Cases.{CaseRows, IsCase, frame_rows, pair_count}
 use Rattle.demand_rates.specs.Limits.{rate_fault_of}
 use Rattle.fleet_model.specs.Rows.{line_units}
-use Rattle.family_eval.specs.Profile.{total_of}
-use Rattle.family_eval.specs.Inputs.{IsLine}
+use Rattle.family_items.specs.Profile.{total_of}
+use Rattle.family_items.specs.Inputs.{IsLine}
 use Rattle.family_points.specs.Vectors.{vector_of, zeros}
 use Rattle.family_points.specs.Points.{ScoreEnds, plain_ends}
 use Rattle.marginal_alloc.specs.Choice.{AreCurves}

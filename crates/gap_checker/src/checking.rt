@@ -17,7 +17,7 @@ use crate::upper::upper_of;
 use answers::{NoMemory, Stop};
 use demand_rates::kinds::Rates;
 use demand_rates::rates;
-use family_eval::line_units;
+use family_items::line_units;
 use family_points::MOST_TABLES;
 use gap_rules::bound::largest_bound;
 use gap_rules::covers::work_of;

@@ -2,7 +2,7 @@
 
 ghost use Rattle.std.specs.Prelude.{◌≡◌, ◌∷◌, [], ◌^◌, ◌<◌, ◌≤◌, true, is_some, unwrap_or, IfOk, length, map};
 ghost use Rattle.demand_rates.specs.Rates.{AreRatesOf};
-ghost use Rattle.family_eval.specs.Inputs.{IsLine};
+ghost use Rattle.family_items.specs.Inputs.{IsLine};
 ghost use Rattle.gap_rules.specs.Boxes.{IsOrdered};
 ghost use Rattle.family_points.specs.Counts.{most_tables};
 ghost use Rattle.family_points.specs.Vectors.{places};

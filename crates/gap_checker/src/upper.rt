@@ -6,7 +6,7 @@ ghost use Rattle.spares_input.specs.Cases.{frame_rows, pair_count};
 ghost use Rattle.spares_input.specs.Stocks.{IsFor};
 ghost use Rattle.fleet_model.specs.Rows.{line_units};
 ghost use Rattle.demand_rates.specs.Rates.{AreRatesOf};
-ghost use Rattle.family_eval.specs.Inputs.{IsLine};
+ghost use Rattle.family_items.specs.Inputs.{IsLine};
 ghost use Rattle.gap_rules.specs.Refusals.{over_limit, below_held, chosen_point, upper_of};
 
 use answers::NoMemory;

@@ -10,7 +10,7 @@ use Rattle.spares_input.specs.Frames.{part_at}
 use Rattle.spares_input.specs.Cases.{CaseRows, IsCase}
 use Rattle.fleet_model.specs.Rows.{all_sites}
 use Rattle.fleet_model.specs.Fleet.{family}
-use Rattle.family_eval.specs.Inputs.{IsLine}
+use Rattle.family_items.specs.Inputs.{IsLine}
 use Rattle.gap_rules.specs.Boxes.{AtMost}
 use Rattle.family_points.specs.Vectors.{Pair, places, limits}
 use Rattle.gap_rules.proofs.Added.{added_at}

@@ -14,7 +14,7 @@ use Rattle.spares_input.proofs.Firsts.{first_none, first_found, first_more}
 use Rattle.fleet_model.specs.Rows.{line_units}
 use Rattle.fleet_model.proofs.AllocationLaws.{stock_holds}
 use Rattle.demand_rates.proofs.Sums.{sum_more}
-use Rattle.family_eval.specs.Inputs.{IsLine}
+use Rattle.family_items.specs.Inputs.{IsLine}
 use Rattle.family_points.specs.declared.bounds.Bounds.{Bounds}
 use Rattle.hull.proofs.Runs.{among_at}
 use Rattle.gap_rules.specs.Boxes.{AtMost, IsOrdered}

@@ -1,7 +1,7 @@
 //! The cost of a vector above the held stocks.
 
 ghost use Rattle.std.specs.Prelude.{◌≡◌, ◌≤◌, map};
-ghost use Rattle.family_eval.specs.Inputs.{IsLine};
+ghost use Rattle.family_items.specs.Inputs.{IsLine};
 ghost use Rattle.gap_rules.specs.Boxes.{AtMost};
 ghost use Rattle.family_points.specs.Points.{added_cost};
 ghost use Rattle.family_points.specs.Vectors.{limits, places};

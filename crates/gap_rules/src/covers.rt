@@ -7,7 +7,7 @@ ghost use Rattle.spares_input.specs.First.{first};
 ghost use Rattle.spares_input.specs.Building.{StopsAt};
 ghost use Rattle.spares_input.specs.Stocks.{IsFor, IsWithinLimits};
 ghost use Rattle.fleet_model.specs.Rows.{line_units};
-ghost use Rattle.family_eval.specs.Inputs.{IsLine};
+ghost use Rattle.family_items.specs.Inputs.{IsLine};
 ghost use Rattle.price_certificate.specs.Certificates.{IsWellFormed};
 ghost use Rattle.gap_rules.specs.Values.{cover_tables};
 ghost use Rattle.gap_rules.specs.Refusals.{line_at, family_count, cover_of, gap_at, work_of};

@@ -3,7 +3,7 @@
 ghost use Rattle.std.specs.Prelude.{◌≡◌, ◌∷◌, [], IfOk};
 ghost use Rattle.std.specs.Option.{option_map};
 ghost use Rattle.answers.specs.Counts.{count64};
-ghost use Rattle.family_eval.specs.Inputs.{IsLine};
+ghost use Rattle.family_items.specs.Inputs.{IsLine};
 ghost use Rattle.gap_rules.specs.Boxes.{IsOrdered};
 ghost use Rattle.gap_rules.specs.Covers.{leaves, box_of};
 ghost use Rattle.gap_rules.specs.Values.{leaf_tables, cover_tables};

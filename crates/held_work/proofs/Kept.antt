@@ -14,7 +14,7 @@ use Rattle.fleet_model.specs.Aims.{weighted_backorders, IsHeldAllocation}
 use Rattle.fleet_model.specs.Rows.{line_units, stock}
 use Rattle.fleet_model.proofs.AllocationLaws.{stocks_allocation}
 use Rattle.fleet_model.proofs.FamilyLaws.{sum_each}
-use Rattle.family_eval.specs.Inputs.{IsLine}
+use Rattle.family_items.specs.Inputs.{IsLine}
 use Rattle.family_points.specs.declared.bounds.Bounds.{Bounds}
 use Rattle.family_points.specs.Vectors.{IsBetween, Pair, box_from, limits, places, vector_of, zeros}
 use Rattle.family_points.specs.Points.{ScoreEnds, points_within, AreOrdered, plain_ends}

@@ -13,7 +13,7 @@ use Rattle.spares_input.specs.Cases.{CaseRows, IsCase}
 use Rattle.spares_input.specs.Stocks.{limit_at}
 use Rattle.fleet_model.specs.Rows.{bases, shop_units, stock}
 use Rattle.fleet_model.specs.Fleet.{family}
-use Rattle.family_eval.proofs.Items.{kept_more, left_out}
+use Rattle.family_items.proofs.Items.{kept_more, left_out}
 use Rattle.family_points.specs.Vectors.{Pair, limits, places, places_at, site_part, vector_of}
 use Rattle.family_points.specs.Counts.{product, tables_between, tables_by, widths}
 use Rattle.family_points.proofs.Boxes.{map_flat, same_map}

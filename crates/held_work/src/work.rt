@@ -4,7 +4,7 @@ ghost use Rattle.std.specs.Prelude.{◌≡◌, ◌≤◌, ◌<◌, length, map, 
 ghost use Rattle.answers.specs.Counts.{count64};
 ghost use Rattle.spares_input.specs.Stocks.{IsFor, IsWithinLimits};
 ghost use Rattle.fleet_model.specs.Rows.{bases, shop_units};
-ghost use Rattle.family_eval.specs.Inputs.{IsLine};
+ghost use Rattle.family_items.specs.Inputs.{IsLine};
 ghost use Rattle.family_points.specs.Vectors.{limits, vector_of};
 ghost use Rattle.family_points.specs.Counts.{product, tables_between};
 ghost use Rattle.held_work.specs.Work.{held_work_of, room};

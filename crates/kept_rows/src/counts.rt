@@ -1,6 +1,6 @@
 //! How many tables an evaluator keeps: with each vector only those that are missing come.
 ghost use Rattle.demand_rates.specs.Rates.{AreRatesOf};
-ghost use Rattle.family_eval.specs.Inputs.{IsLine};
+ghost use Rattle.family_items.specs.Inputs.{IsLine};
 
 use crate::helpers::{evaluated, evaluator_of};
 use demand_rates::kinds::Rates;

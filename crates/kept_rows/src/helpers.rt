@@ -2,11 +2,11 @@
 ghost use Rattle.std.specs.Prelude.{◌≡◌, [], IfSome};
 ghost use Rattle.spares_input.specs.Stocks.{IsFor, IsWithinLimits};
 ghost use Rattle.demand_rates.specs.Rates.{AreRatesOf};
-ghost use Rattle.family_eval.specs.Inputs.{IsLine};
+ghost use Rattle.family_items.specs.Inputs.{IsLine};
 ghost use Rattle.family_numbers.specs.Numbers.{numbers_of};
 
 use demand_rates::kinds::Rates;
-use family_eval::FamilyResult;
+use family_items::FamilyResult;
 use family_tables::Evaluator;
 use spares_input::{Case, PartId, Stocks};
 use std::alloc::Global;

@@ -1,10 +1,10 @@
 //! The tables that an evaluator keeps, and their ends, against a program written apart from this one.
 ghost use Rattle.demand_rates.specs.Rates.{AreRatesOf};
-ghost use Rattle.family_eval.specs.Inputs.{IsLine};
+ghost use Rattle.family_items.specs.Inputs.{IsLine};
 
 use crate::helpers::{evaluated, evaluator_of};
 use demand_rates::kinds::Rates;
-use family_eval::{FamilyResult, Item};
+use family_items::{FamilyResult, Item};
 use family_tables::Evaluator;
 use spares_input::{Case, PartId, SiteId};
 use std::alloc::Global;

@@ -11,10 +11,10 @@ use Rattle.spares_input.specs.Cases.{CaseRows}
 use Rattle.spares_input.specs.Frames.{line_of}
 use Rattle.fleet_model.specs.Rows.{all_parts, stock}
 use Rattle.fleet_model.specs.Pairs.{by_pair}
-use Rattle.family_eval.specs.Inputs.{IsSound}
-use Rattle.family_eval.specs.Profile.{pipeline_of}
-use Rattle.family_eval.proofs.Items.{flat_at, flat_length, kept_more, left_out}
-use Rattle.family_eval.proofs.Ranges.{pipeline_is}
+use Rattle.family_items.specs.Inputs.{IsSound}
+use Rattle.family_items.specs.Profile.{pipeline_of}
+use Rattle.family_items.proofs.Items.{flat_at, flat_length, kept_more, left_out}
+use Rattle.family_items.proofs.Ranges.{pipeline_is}
 use Rattle.spares_input.specs.Pairs.{pair_place}
 use Rattle.metric_compare.specs.Levels.{by_part, of_shop}
 use Rattle.metric_compare.specs.Profile.{backorders_at, poisson_at, base_line, base_shop, depot_line, depot_shop, poisson_of}

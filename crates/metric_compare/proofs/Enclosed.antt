@@ -27,13 +27,13 @@ use Rattle.fleet_model.proofs.SumLaws.{passed, sum_most}
 use Rattle.fleet_model.proofs.MeanLaws as zero_mean
 use Rattle.fleet_model.proofs.AllocationLaws.{allocation_reaches}
 use Rattle.demand_rates.proofs.DepotFacts.{no_line_there}
-use Rattle.family_eval.specs.Profile.{pipeline_of, share_of}
+use Rattle.family_items.specs.Profile.{pipeline_of, share_of}
 use Rattle.moment_table.specs.Inputs.{CanTable}
-use Rattle.family_eval.specs.Inputs.{IsLine, IsPipeline, IsShop, IsSound}
+use Rattle.family_items.specs.Inputs.{IsLine, IsPipeline, IsShop, IsSound}
 use Rattle.moment_table.proofs.Tables.{table_encloses}
-use Rattle.family_eval.proofs.Ranges.{added_least, can_table, cap_in, pipeline_is}
-use Rattle.family_eval.proofs.Units.{line_at, shop_at, each_in_range}
-use Rattle.family_eval.proofs.Enclosed.{sum_by_places, direct_level, share_level}
+use Rattle.family_items.proofs.Ranges.{added_least, can_table, cap_in, pipeline_is}
+use Rattle.family_items.proofs.Units.{line_at, shop_at, each_in_range}
+use Rattle.family_items.proofs.Enclosed.{sum_by_places, direct_level, share_level}
 use Rattle.fleet_model.specs.Poisson.{mean_i0, mean_00, mean_ij, mean_0j, poisson, poisson_i0, poisson_00, poisson_ij, poisson_0j, poisson_family_total, poisson_total}
 use Rattle.fleet_model.proofs.DependLaws.{all_follow}
 use Rattle.case_figures.proofs.Enclosing.{sum_in}

@@ -12,12 +12,12 @@ use Rattle.spares_input.specs.Pairs.{pair_place, part_of_place, site_of_place}
 use Rattle.spares_input.specs.Cases.{CaseRows, frame_rows, pair_count}
 use Rattle.spares_input.specs.Stocks.{StockList}
 use Rattle.fleet_model.specs.Rows.{bases, line_units, weight}
-use Rattle.family_eval.specs.Encloses.{CanEvaluate}
-use Rattle.family_eval.specs.Encloses as evaluated
-use Rattle.family_eval.specs.Inputs.{IsLine}
-use Rattle.family_eval.proofs.Enclosed.{item_in, item_small}
-use Rattle.family_eval.proofs.Families.{evaluable, family_in, weight_most}
-use Rattle.family_eval.proofs.Units.{each_in_range}
+use Rattle.family_items.specs.Encloses.{CanEvaluate}
+use Rattle.family_items.specs.Encloses as evaluated
+use Rattle.family_items.specs.Inputs.{IsLine}
+use Rattle.family_items.proofs.Enclosed.{item_in, item_small}
+use Rattle.family_items.proofs.Families.{evaluable, family_in, weight_most}
+use Rattle.family_items.proofs.Units.{each_in_range}
 use Rattle.case_figures.specs.Spans.{ends, places}
 use Rattle.case_figures.specs.Figures.{all_items, item_at_place, named}
 use Rattle.case_figures.specs.declared.figures.ItemLine.{ItemLine}

@@ -13,7 +13,7 @@ use Rattle.spares_input.specs.Cases.{CaseRows}
 use Rattle.spares_input.specs.Frames.{line_of}
 use Rattle.fleet_model.specs.Rows.{bases, line_units, shop_units, stock, weight}
 use Rattle.fleet_model.specs.Pairs.{by_pair}
-use Rattle.family_eval.specs.Profile.{pipeline_of, share_of}
+use Rattle.family_items.specs.Profile.{pipeline_of, share_of}
 
 -- the backorders of a pipeline with this mean and this variance, at a stock
 unfoldable pub backorders_at : (f : ℕ) → Ends → Ends → ℕ → Ends

@@ -6,7 +6,7 @@ use Rattle.spares_input.specs.Pairs.{part_of_place, site_of_place}
 use Rattle.spares_input.specs.Cases.{CaseRows, frame_rows, pair_count}
 use Rattle.spares_input.specs.Stocks.{StockList}
 use Rattle.fleet_model.specs.Rows.{stock}
-use Rattle.family_eval.specs.Profile.{item_of}
+use Rattle.family_items.specs.Profile.{item_of}
 use Rattle.case_figures.specs.Figures.{total_of}
 use Rattle.metric_compare.specs.Profile.{poisson_of, poisson_total_of}
 use Rattle.metric_compare.specs.declared.report.CompareItem.{CompareItem}

@@ -12,7 +12,7 @@ ghost use Rattle.spares_input.specs.Cases.{CaseRows};
 ghost use Rattle.spares_input.specs.Stocks.{StockList};
 ghost use Rattle.demand_rates.specs.Rates.{AreRatesOf};
 ghost use Rattle.fleet_model.specs.Poisson.{poisson, poisson_total};
-ghost use Rattle.family_eval.specs.Encloses.{CanEvaluate};
+ghost use Rattle.family_items.specs.Encloses.{CanEvaluate};
 ghost use Rattle.metric_compare.specs.Profile.{poisson_of, poisson_total_of};
 ghost use Rattle.metric_compare.specs.Report.{comparison_of};
 ghost use Rattle.metric_compare.specs.Shows.{ShowsComparison};
@@ -25,7 +25,7 @@ use answers::{List, NoMemory};
 use case_figures::figures_at;
 use demand_rates::kinds::Rates;
 use family_eval::evaluate_all;
-use family_eval::inputs::Inputs;
+use family_items::inputs::Inputs;
 use spares_input::{Case, Stocks};
 use std::alloc::Global;
 

@@ -6,7 +6,7 @@ ghost use Rattle.metric_compare.specs.Levels.{poisson_numbers, shop_numbers};
 use crate::lines::line_row;
 use crate::shops::row_of;
 use answers::NoMemory;
-use family_eval::inputs::Inputs;
+use family_items::inputs::Inputs;
 use fixed_interval::Iv;
 use spares_input::PartId;
 use std::alloc::Global;

@@ -3,7 +3,7 @@
 ghost use Rattle.std.specs.Prelude.{◌≡◌, ◌<◌, IfOk, length};
 ghost use Rattle.fixed_interval.specs.Ends.{IsWithinLimit};
 ghost use Rattle.fleet_model.specs.Laws.{IsBase};
-ghost use Rattle.family_eval.specs.Inputs.{IsLine, IsShopUnit};
+ghost use Rattle.family_items.specs.Inputs.{IsLine, IsShopUnit};
 ghost use Rattle.metric_compare.specs.Levels.{by_site, of_shop, shop_numbers};
 ghost use Rattle.metric_compare.specs.Profile.{base_shop, depot_shop, poisson_of};
 
@@ -11,7 +11,7 @@ use crate::levels::{backorders_at, fed};
 use answers::NoMemory;
 use base_pipeline::base_shop;
 use depot_pipeline::depot_shop;
-use family_eval::inputs::Inputs;
+use family_items::inputs::Inputs;
 use fixed_interval::Iv;
 use spares_input::{PartId, SiteId, pair_place};
 use std::alloc::Global;

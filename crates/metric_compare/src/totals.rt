@@ -2,11 +2,11 @@
 
 ghost use Rattle.std.specs.Prelude.{◌≡◌, ◌*◌, ◌^◌, ◌<◌, ◌≤◌, length};
 ghost use Rattle.fixed_interval.specs.Ends.{IsWithinLimit};
-ghost use Rattle.family_eval.specs.Inputs.{IsLine};
+ghost use Rattle.family_items.specs.Inputs.{IsLine};
 ghost use Rattle.metric_compare.specs.Levels.{poisson_numbers};
 ghost use Rattle.metric_compare.specs.Profile.{poisson_family_total_of, poisson_of, poisson_total_of};
 
-use family_eval::inputs::Inputs;
+use family_items::inputs::Inputs;
 use fixed_interval::Iv;
 use spares_input::{PartId, SiteId, pair_place};
 

@@ -6,8 +6,8 @@ use Rattle.spares_input.proofs.CaseFacts.{set_valid}
 use Rattle.spares_input.specs.Stocks.{StockList, IsFor}
 use Rattle.spares_input.specs.declared.rows.RateRow.{RateRow}
 use Rattle.fleet_model.specs.Rows.{line_units}
-use Rattle.family_eval.specs.Inputs.{IsLine}
-use Rattle.family_eval.specs.declared.item.FamilyResult.{FamilyResult}
+use Rattle.family_items.specs.Inputs.{IsLine}
+use Rattle.family_items.specs.declared.item.FamilyResult.{FamilyResult}
 use Rattle.family_points.specs.Vectors.{vector_of, limits}
 use Rattle.family_points.specs.Local.{home_of, HaveOneFamily}
 use Rattle.family_points.proofs.Local.{changed, local}

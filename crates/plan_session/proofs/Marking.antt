@@ -4,8 +4,8 @@ use Rattle.std.proofs.lemmas.Bool.{false≢true}
 use Rattle.std.proofs.lemmas.List.{append-nil, ext_get_or, get_or-replicate, get_or_past, length-append, length-replicate, take_all}
 use Rattle.spares_input.specs.Cases.{CaseRows}
 use Rattle.fleet_model.specs.Rows.{line_units}
-use Rattle.family_eval.specs.Inputs.{IsLine}
-use Rattle.family_eval.proofs.Items.{kept_more, left_out}
+use Rattle.family_items.specs.Inputs.{IsLine}
+use Rattle.family_items.proofs.Items.{kept_more, left_out}
 use Rattle.case_plan.specs.Placing.{lines_below}
 use Rattle.case_plan.proofs.Families.{is_line_at, line_fewer, line_place}
 use Rattle.plan_session.specs.Sessions.{has_mark, AreLater, AreMarked}

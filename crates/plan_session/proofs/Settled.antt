@@ -6,10 +6,10 @@ use Rattle.spares_input.specs.Stocks.{StockList, stock_at, IsFor}
 use Rattle.fleet_model.specs.Rows.{line_units, shop_units, stock}
 use Rattle.fleet_model.specs.Laws.{AgreeOnFamily}
 use Rattle.fleet_model.proofs.AllocationLaws.{stock_holds}
-use Rattle.family_eval.specs.declared.item.FamilyResult.{FamilyResult}
-use Rattle.family_eval.specs.Inputs.{IsShop}
-use Rattle.family_eval.specs.Profile.{families_of, family_of}
-use Rattle.family_eval.proofs.Units.{shops_all}
+use Rattle.family_items.specs.declared.item.FamilyResult.{FamilyResult}
+use Rattle.family_items.specs.Inputs.{IsShop}
+use Rattle.family_items.specs.Profile.{families_of, family_of}
+use Rattle.family_items.proofs.Units.{shops_all}
 use Rattle.family_points.specs.Local.{home_of}
 use Rattle.case_plan.specs.Placing.{lines_below}
 use Rattle.fleet_model.proofs.DependLaws.{all_follow}

@@ -16,8 +16,8 @@ use Rattle.spares_input.specs.declared.rows.RateRow.{RateRow}
 use Rattle.fleet_model.specs.Rows.{line_units}
 use Rattle.demand_rates.specs.Limits.{rate_fault_of}
 use Rattle.demand_rates.specs.declared.fault.RateFault.{RateFault}
-use Rattle.family_eval.specs.declared.item.FamilyResult.{FamilyResult}
-use Rattle.family_eval.specs.Profile.{family_of}
+use Rattle.family_items.specs.declared.item.FamilyResult.{FamilyResult}
+use Rattle.family_items.specs.Profile.{family_of}
 use Rattle.hull.specs.declared.point.Point.{Point}
 use Rattle.family_points.specs.Counts.{work_of}
 use Rattle.family_points.specs.Local.{home_of}

@@ -4,16 +4,17 @@ ghost use Rattle.std.specs.Prelude.{◌≡◌, ◌<◌, ℕ, false, true, length
 ghost use Rattle.spares_input.specs.Stocks.{stock_at, HasPair, IsFor};
 ghost use Rattle.fleet_model.specs.Rows.{line_units};
 ghost use Rattle.demand_rates.specs.Rates.{AreRatesOf};
-ghost use Rattle.family_eval.specs.Encloses.{CanEvaluate};
-ghost use Rattle.family_eval.specs.Inputs.{IsLine};
-ghost use Rattle.family_eval.specs.Profile.{families_of};
+ghost use Rattle.family_items.specs.Encloses.{CanEvaluate};
+ghost use Rattle.family_items.specs.Inputs.{IsLine};
+ghost use Rattle.family_items.specs.Profile.{families_of};
 ghost use Rattle.plan_session.specs.Sessions.{no_family, AreEvaluated, AreMarked, IsEvaluation};
 ghost use Rattle.plan_session.specs.Settling.{AreSettled};
 
 use crate::kept::{lines_before, place_of};
 use answers::{List, NoMemory};
 use demand_rates::kinds::Rates;
-use family_eval::{FamilyResult, evaluate};
+use family_eval::evaluate;
+use family_items::FamilyResult;
 use fixed_interval::Iv;
 use spares_input::{Case, PartId, SiteId, Stocks, nothing_held};
 use std::alloc::Global;

@@ -6,7 +6,8 @@ ghost use Rattle.spares_input.specs.Rows.{IsSiteRow, IsPartRow};
 ghost use Rattle.spares_input.specs.Cases.{IsRateOf};
 
 use demand_rates::rates;
-use family_eval::{FamilyResult, Item, evaluate, evaluate_all};
+use family_eval::{evaluate, evaluate_all};
+use family_items::{FamilyResult, Item};
 use fixed_interval::Iv;
 use spares_input::{
     Case, Frame, Name, PartId, PartRow, RateRow, SiteId, SiteRow, StockRow, stocks_from,

@@ -2,7 +2,7 @@ use Rattle.std.proofs.Common.{◌≡◌, filter, map}
 use Rattle.std.specs.List.{range_with_len}
 use Rattle.spares_input.specs.Rows.{is_line}
 use Rattle.spares_input.specs.Frames.{part_at}
-use Rattle.family_eval.specs.Profile.{family_of}
+use Rattle.family_items.specs.Profile.{family_of}
 use Rattle.family_eval.proofs.evaluate_all.Given as goal
 
 abbrev pub invariant-loop-p : goal.invariant-loop-p

@@ -2,8 +2,8 @@ use Rattle.std.proofs.Common.{ap, ◌∙◌, lit<, map, flat_map}
 use Rattle.spares_input.specs.Cases.{CaseRows}
 use Rattle.spares_input.specs.declared.rows.PartId.{PartId}
 use Rattle.fleet_model.specs.Rows.{shop_units}
-use Rattle.family_eval.specs.Profile.{part_items}
-use Rattle.family_eval.proofs.Items.{by_ids, depot_line_item, shop_of}
+use Rattle.family_items.specs.Profile.{part_items}
+use Rattle.family_items.proofs.Items.{by_ids, depot_line_item, shop_of}
 use Rattle.family_eval.proofs.evaluate_family.Goals as goal
 
 pub all_shop_items-requires : goal.all_shop_items-requires

@@ -2,8 +2,8 @@ use Rattle.std.proofs.Common.{ap, ◌∙◌, arith, lit<, map, flat_map, sym}
 use Rattle.spares_input.specs.Cases.{CaseRows}
 use Rattle.spares_input.specs.declared.rows.PartId.{PartId}
 use Rattle.fleet_model.specs.Rows.{shop_units}
-use Rattle.family_eval.specs.Profile.{part_items}
-use Rattle.family_eval.proofs.Items.{by_ids, depot_line_item, family_is, row_length, row_small, total_is}
+use Rattle.family_items.specs.Profile.{part_items}
+use Rattle.family_items.proofs.Items.{by_ids, depot_line_item, family_is, row_length, row_small, total_is}
 use Rattle.family_eval.proofs.family_from.Goals as goal
 
 pub line_items-requires : goal.line_items-requires

@@ -2,8 +2,8 @@ use Rattle.std.proofs.Common.{◌≡◌, true, lit<, ap, ◌∙◌, arith}
 use Rattle.spares_input.specs.Rows.{is_line}
 use Rattle.spares_input.specs.Frames.{part_at}
 use Rattle.spares_input.specs.declared.rows.PartRow.{PartRow}
-use Rattle.family_eval.specs.declared.item.Item.{Item}
-use Rattle.family_eval.specs.Encloses.{no_item}
+use Rattle.family_items.specs.declared.item.Item.{Item}
+use Rattle.family_items.specs.Encloses.{no_item}
 use Rattle.case_figures.proofs.Rows.{of_base, of_line, read}
 use Rattle.case_figures.proofs.bases.factor_from.Goals as goal
 

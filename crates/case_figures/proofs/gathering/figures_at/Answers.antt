@@ -5,9 +5,9 @@ use Rattle.fleet_model.specs.Rows.{bases}
 use Rattle.availability.specs.declared.Weighted.{Weighted}
 use Rattle.availability.specs.Profile.{fleet_ends}
 use Rattle.availability.specs.Exact.{IsWeighted}
-use Rattle.family_eval.specs.declared.item.FamilyResult.{FamilyResult}
-use Rattle.family_eval.specs.Encloses.{CanEvaluate}
-use Rattle.family_eval.specs.Profile.{families_of}
+use Rattle.family_items.specs.declared.item.FamilyResult.{FamilyResult}
+use Rattle.family_items.specs.Encloses.{CanEvaluate}
+use Rattle.family_items.specs.Profile.{families_of}
 use Rattle.spares_input.specs.Cases.{CaseRows}
 use Rattle.spares_input.specs.Frames.{part_names}
 use Rattle.spares_input.specs.Stocks.{StockList}

@@ -1,7 +1,7 @@
 use Rattle.std.proofs.Common.{ap}
 use Rattle.moment_table.specs.declared.kinds.Row.{Row}
-use Rattle.family_eval.specs.declared.item.Item.{Item}
-use Rattle.family_eval.specs.Profile.{stocked}
+use Rattle.family_items.specs.declared.item.Item.{Item}
+use Rattle.family_items.specs.Profile.{stocked}
 use Rattle.family_eval.proofs.levels.stocked.Goals as goal
 
 pub returns : goal.returns

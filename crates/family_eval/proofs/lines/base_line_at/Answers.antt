@@ -1,8 +1,8 @@
 use Rattle.std.proofs.Common.{◌∙◌, lit<, subst, sym}
 use Rattle.std.proofs.lemmas.Result.{IfOk-weaker}
-use Rattle.family_eval.specs.Encloses.{IsSmallItem}
-use Rattle.family_eval.proofs.Enclosed.{small_00}
-use Rattle.family_eval.proofs.Items.{all_held_small, base_line_is, feed_small, held_are, held_few, ids_few}
+use Rattle.family_items.specs.Encloses.{IsSmallItem}
+use Rattle.family_items.proofs.Enclosed.{small_00}
+use Rattle.family_items.proofs.Items.{all_held_small, base_line_is, feed_small, held_are, held_few, ids_few}
 use Rattle.family_eval.proofs.lines.base_line_at.Goals as goal
 
 pub held_at-requires : goal.held_at-requires

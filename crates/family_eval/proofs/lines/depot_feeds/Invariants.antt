@@ -1,6 +1,6 @@
 use Rattle.std.proofs.Common.{◌≡◌, map, take}
 use Rattle.spares_input.specs.declared.rows.PartId.{PartId}
-use Rattle.family_eval.specs.Profile.{feed_of, item_of, share_of}
+use Rattle.family_items.specs.Profile.{feed_of, item_of, share_of}
 use Rattle.family_eval.proofs.lines.depot_feeds.Given as goal
 
 abbrev pub invariant-loop-i : goal.invariant-loop-i

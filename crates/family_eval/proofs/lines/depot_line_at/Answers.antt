@@ -1,6 +1,6 @@
 use Rattle.std.proofs.Common.{◌∙◌, lit<}
 use Rattle.std.proofs.lemmas.Result.{IfOk-weaker}
-use Rattle.family_eval.proofs.Items.{depot_feeds_small, depot_line_is, feeds_are, feeds_few, ids_few, shop_of}
+use Rattle.family_items.proofs.Items.{depot_feeds_small, depot_line_is, feeds_are, feeds_few, ids_few, shop_of}
 use Rattle.family_eval.proofs.lines.depot_line_at.Goals as goal
 
 pub depot_feeds-requires : goal.depot_feeds-requires

@@ -1,6 +1,6 @@
 use Rattle.std.proofs.Common.{◌≡◌, map, take}
 use Rattle.spares_input.specs.declared.rows.PartId.{PartId}
-use Rattle.family_eval.specs.Profile.{held_of, item_of}
+use Rattle.family_items.specs.Profile.{held_of, item_of}
 use Rattle.family_eval.proofs.lines.held_at.Given as goal
 
 abbrev pub invariant-loop-i : goal.invariant-loop-i

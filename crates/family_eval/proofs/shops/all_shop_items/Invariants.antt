@@ -1,6 +1,6 @@
 use Rattle.std.proofs.Common.{◌≡◌, flat_map, take}
 use Rattle.spares_input.specs.declared.rows.PartId.{PartId}
-use Rattle.family_eval.specs.Profile.{part_items}
+use Rattle.family_items.specs.Profile.{part_items}
 use Rattle.family_eval.proofs.shops.all_shop_items.Given as goal
 
 abbrev pub invariant-loop-part : goal.invariant-loop-part

@@ -1,8 +1,8 @@
 use Rattle.std.proofs.Common.{lit<, subst, sym}
 use Rattle.std.proofs.lemmas.Result.{IfOk-weaker}
-use Rattle.family_eval.specs.Encloses.{IsSmallItem}
-use Rattle.family_eval.proofs.Enclosed.{small_i0}
-use Rattle.family_eval.proofs.Items.{base_shop_is, feed_small}
+use Rattle.family_items.specs.Encloses.{IsSmallItem}
+use Rattle.family_items.proofs.Enclosed.{small_i0}
+use Rattle.family_items.proofs.Items.{base_shop_is, feed_small}
 use Rattle.family_eval.proofs.shops.base_shop_at.Goals as goal
 
 pub base_shop_item-requires : goal.base_shop_item-requires

@@ -1,6 +1,6 @@
 use Rattle.std.proofs.Common.{◌≡◌, map}
 use Rattle.std.specs.List.{range_with_len}
-use Rattle.family_eval.specs.Profile.{item_of}
+use Rattle.family_items.specs.Profile.{item_of}
 use Rattle.family_eval.proofs.shops.shop_items.Given as goal
 
 abbrev pub invariant-loop-j : goal.invariant-loop-j

@@ -2,7 +2,7 @@ use Rattle.std.proofs.Common.{◌≤◌, arith, ap, lit<, subst, sym}
 use Rattle.std.proofs.lemmas.Result.{on_ok_weaker}
 use Rattle.moment_table.specs.Rows.{AreBackorders}
 use Rattle.depot_pipeline.specs.declared.Moments.{Moments}
-use Rattle.family_eval.specs.Inputs.{HasTable}
+use Rattle.family_items.specs.Inputs.{HasTable}
 use Rattle.family_numbers.specs.declared.own_part.OwnPart.{OwnPart}
 use Rattle.family_numbers.specs.Numbers.{base_line_moments}
 use Rattle.family_numbers.proofs.Served.{all_backorders_small, base_line_table}

@@ -1,7 +1,7 @@
 use Rattle.std.proofs.Common.{subst, sym, lit<}
 use Rattle.depot_pipeline.specs.declared.Moments.{Moments}
 use Rattle.backorder_bounds.specs.Lows.{AreLows}
-use Rattle.family_eval.specs.Inputs.{HasTable}
+use Rattle.family_items.specs.Inputs.{HasTable}
 use Rattle.family_numbers.proofs.Served.{base_line_table}
 use Rattle.family_numbers.proofs.own_part.put_line_lows.Goals as goal
 

@@ -1,8 +1,8 @@
 use Rattle.std.proofs.Common.{◌∙◌, ap, subst, sym}
 use Rattle.std.proofs.lemmas.Result.{IfOk-weaker}
-use Rattle.family_eval.specs.Encloses.{EnclosesFamily, IsSmallFamily}
-use Rattle.family_eval.specs.Inputs.{InputRows}
-use Rattle.family_eval.specs.Profile.{family_of}
+use Rattle.family_items.specs.Encloses.{EnclosesFamily, IsSmallFamily}
+use Rattle.family_items.specs.Inputs.{InputRows}
+use Rattle.family_items.specs.Profile.{family_of}
 use Rattle.family_tables.proofs.items.family_of.Goals as goal
 
 pub returns-clause-encloses : goal.returns-clause-encloses

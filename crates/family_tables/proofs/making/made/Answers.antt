@@ -1,5 +1,5 @@
 use Rattle.std.proofs.Common.{lit<, subst, sym}
-use Rattle.family_eval.specs.Inputs.{HasTable}
+use Rattle.family_items.specs.Inputs.{HasTable}
 use Rattle.family_tables.proofs.Keyed.{key_can}
 use Rattle.family_tables.proofs.making.made.Goals as goal
 

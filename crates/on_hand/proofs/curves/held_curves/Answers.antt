@@ -4,7 +4,7 @@ use Rattle.hull.specs.declared.point.Point.{Point}
 use Rattle.spares_input.specs.Rows.{is_line}
 use Rattle.spares_input.specs.Frames.{part_at}
 use Rattle.spares_input.specs.Cases.{CaseRows}
-use Rattle.family_eval.proofs.Items.{kept_more, left_out}
+use Rattle.family_items.proofs.Items.{kept_more, left_out}
 use Rattle.sum_walk.proofs.Walks.{zip_push}
 use Rattle.held_work.specs.Curves.{IsFamilyCurve}
 use Rattle.held_work.proofs.Rooms.{lines_below}

@@ -1,7 +1,7 @@
 use Rattle.std.specs.Prelude.{Result, Ok, Err, OnOk}
 use Rattle.std.proofs.Common.{◌≡◌, Bool, List, length, sym, ap, ◌∙◌, subst}
 use Rattle.answers.specs.declared.stop.NoMemory.{NoMemory}
-use Rattle.family_eval.specs.declared.item.FamilyResult.{FamilyResult}
+use Rattle.family_items.specs.declared.item.FamilyResult.{FamilyResult}
 use Rattle.plan_session.specs.Sessions.{no_family, AreMarked, IsEvaluation}
 use Rattle.plan_session.proofs.Marking.{written}
 use Rattle.plan_session.proofs.Settled.{all_evaluated, kept_at}

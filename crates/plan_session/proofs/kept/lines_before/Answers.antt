@@ -1,6 +1,6 @@
 use Rattle.std.proofs.Common.{◌∷◌, [], length, sym, ap, ◌∙◌, arith}
 use Rattle.std.proofs.lemmas.List.{length-append}
-use Rattle.family_eval.proofs.Items.{kept_more, left_out}
+use Rattle.family_items.proofs.Items.{kept_more, left_out}
 use Rattle.case_plan.specs.Placing.{lines_below}
 use Rattle.case_plan.proofs.Families.{is_line_at}
 use Rattle.plan_session.proofs.kept.lines_before.Goals as goal

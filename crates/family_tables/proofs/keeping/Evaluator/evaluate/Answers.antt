@@ -1,8 +1,8 @@
 use Rattle.std.proofs.Common.{◌≡◌, ◌∙◌, ◌++◌, ◌∷◌, [], ℕ, ap, flat_map, get_or, lit<, map, subst, sym}
 use Rattle.std.proofs.lemmas.Result.{IfOk-weaker}
 use Rattle.fleet_model.specs.Rows.{shop_units}
-use Rattle.family_eval.specs.Inputs.{IsLine}
-use Rattle.family_eval.specs.Profile.{item_of, part_items}
+use Rattle.family_items.specs.Inputs.{IsLine}
+use Rattle.family_items.specs.Profile.{item_of, part_items}
 use Rattle.family_tables.specs.declared.keys.Kept.{Kept}
 use Rattle.family_tables.specs.Kept.{Evaluation, Grows, Has, depot_stocks, keys_of}
 use Rattle.family_numbers.specs.Numbers.{numbers_of}

@@ -10,7 +10,7 @@ use Rattle.spares_input.specs.Stocks.{StockList, IsFor, IsWithinLimits}
 use Rattle.fleet_model.specs.Fleet.{IsAllocation}
 use Rattle.demand_rates.specs.RateLists.{RateList}
 use Rattle.demand_rates.specs.Rates.{pair_rates, ArePairRates, AreRatesOf}
-use Rattle.family_eval.specs.declared.pipeline.Pipeline.{Pipeline}
+use Rattle.family_items.specs.declared.pipeline.Pipeline.{Pipeline}
 
 -- a case, rates and stocks
 pub record InputRows : Type 0 where

@@ -22,14 +22,14 @@ use Rattle.fleet_model.specs.Rows.{shop_units, weight}
 use Rattle.fleet_model.specs.Pairs.{by_pair}
 use Rattle.demand_rates.specs.Rates.{pair_rates}
 use Rattle.demand_rates.proofs.DepotFacts.{no_line_there}
-use Rattle.family_eval.specs.declared.pipeline.Pipeline.{Pipeline}
-use Rattle.family_eval.specs.declared.item.Item.{Item}
-use Rattle.family_eval.specs.Profile.{base_line, base_shop, depot_feed, depot_line, depot_shop, family_of, feed_of, held_of, item_of, pipeline_of, part_items, share_of, stocked, total_of, weighed}
-use Rattle.family_eval.specs.Encloses.{IsSmallItem, no_item}
-use Rattle.family_eval.specs.Inputs.{IsLine, IsShop, IsSound}
-use Rattle.family_eval.proofs.Ranges.{share_most}
-use Rattle.family_eval.proofs.Units.{few_shops, shop_at, shops_all}
-use Rattle.family_eval.proofs.Enclosed.{item_small, small_i0, small_ij}
+use Rattle.family_items.specs.declared.pipeline.Pipeline.{Pipeline}
+use Rattle.family_items.specs.declared.item.Item.{Item}
+use Rattle.family_items.specs.Profile.{base_line, base_shop, depot_feed, depot_line, depot_shop, family_of, feed_of, held_of, item_of, pipeline_of, part_items, share_of, stocked, total_of, weighed}
+use Rattle.family_items.specs.Encloses.{IsSmallItem, no_item}
+use Rattle.family_items.specs.Inputs.{IsLine, IsShop, IsSound}
+use Rattle.family_items.proofs.Ranges.{share_most}
+use Rattle.family_items.proofs.Units.{few_shops, shop_at, shops_all}
+use Rattle.family_items.proofs.Enclosed.{item_small, small_i0, small_ij}
 
 -- ---- lists
 

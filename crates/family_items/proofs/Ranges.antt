@@ -17,9 +17,9 @@ use Rattle.fleet_model.proofs.AllocationLaws.{allocation_reaches, stocks_allocat
 use Rattle.demand_rates.specs.declared.kinds.PairRates.{PairRates}
 use Rattle.demand_rates.specs.Limits.{IsAccepted}
 use Rattle.demand_rates.specs.Rates.{pair_rates, value, ArePairRates}
-use Rattle.family_eval.specs.declared.pipeline.Pipeline.{Pipeline}
-use Rattle.family_eval.specs.Profile.{pipeline_from, pipeline_of, share_from, share_of}
-use Rattle.family_eval.specs.Inputs.{AreInputs, HasTable, InputRows, IsPipeline, IsRated, IsSound}
+use Rattle.family_items.specs.declared.pipeline.Pipeline.{Pipeline}
+use Rattle.family_items.specs.Profile.{pipeline_from, pipeline_of, share_from, share_of}
+use Rattle.family_items.specs.Inputs.{AreInputs, HasTable, InputRows, IsPipeline, IsRated, IsSound}
 
 -- ---- what the checks of the rates leave
 

@@ -20,15 +20,15 @@ use Rattle.fleet_model.proofs.SumLaws.{passed, sum_range}
 use Rattle.fleet_model.proofs.DependLaws.{all_follow}
 use Rattle.demand_rates.specs.Rates.{all_rates}
 use Rattle.demand_rates.proofs.RateFacts.{rates_model}
-use Rattle.family_eval.specs.declared.item.Item.{Item}
-use Rattle.family_eval.specs.declared.item.FamilyResult.{FamilyResult}
-use Rattle.family_eval.specs.Profile.{families_of, family_of, item_of, total_of, weighed}
-use Rattle.family_eval.specs.Encloses.{CanEvaluate, EnclosesFamily, EnclosesItem, IsSmallFamily, IsSmallItem, no_item}
-use Rattle.family_eval.specs.Inputs.{IsLine, IsSound}
-use Rattle.family_eval.proofs.Ranges.{sound_of}
-use Rattle.family_eval.proofs.Units.{shop_at}
-use Rattle.family_eval.proofs.Enclosed.{in_0j, item_in, item_small}
-use Rattle.family_eval.proofs.Items.{base_line_item, flat_at, left_out, kept_more, weighed_most}
+use Rattle.family_items.specs.declared.item.Item.{Item}
+use Rattle.family_items.specs.declared.item.FamilyResult.{FamilyResult}
+use Rattle.family_items.specs.Profile.{families_of, family_of, item_of, total_of, weighed}
+use Rattle.family_items.specs.Encloses.{CanEvaluate, EnclosesFamily, EnclosesItem, IsSmallFamily, IsSmallItem, no_item}
+use Rattle.family_items.specs.Inputs.{IsLine, IsSound}
+use Rattle.family_items.proofs.Ranges.{sound_of}
+use Rattle.family_items.proofs.Units.{shop_at}
+use Rattle.family_items.proofs.Enclosed.{in_0j, item_in, item_small}
+use Rattle.family_items.proofs.Items.{base_line_item, flat_at, left_out, kept_more, weighed_most}
 
 -- what can be evaluated has accepted rates at each pair, and stocks within the limits
 pub evaluable : (f : ℕ) (c : CaseRows) (s : StockList) → CanEvaluate f c s → IsSound c s.list

@@ -17,9 +17,9 @@ use Rattle.fleet_model.specs.Pairs.{by_pair}
 use Rattle.fleet_model.specs.Fleet.{family}
 use Rattle.demand_rates.specs.declared.kinds.PairRates.{PairRates}
 use Rattle.demand_rates.specs.Rates.{pair_rates}
-use Rattle.family_eval.specs.declared.pipeline.Pipeline.{Pipeline}
-use Rattle.family_eval.specs.declared.item.Item.{Item}
-use Rattle.family_eval.specs.declared.item.FamilyResult.{FamilyResult}
+use Rattle.family_items.specs.declared.pipeline.Pipeline.{Pipeline}
+use Rattle.family_items.specs.declared.item.Item.{Item}
+use Rattle.family_items.specs.declared.item.FamilyResult.{FamilyResult}
 
 -- ---- a pair by itself
 

@@ -5,8 +5,8 @@ ghost use Rattle.fixed_interval.specs.Ends.{InScale};
 ghost use Rattle.spares_input.specs.Stocks.{IsFor, IsWithinLimits};
 ghost use Rattle.demand_rates.specs.Rates.{AreRatesOf};
 ghost use Rattle.fleet_model.specs.Rows.{weight};
-ghost use Rattle.family_eval.specs.Profile.{pipeline_of, share_of};
-ghost use Rattle.family_eval.specs.Inputs.{IsPipeline, IsSound};
+ghost use Rattle.family_items.specs.Profile.{pipeline_of, share_of};
+ghost use Rattle.family_items.specs.Inputs.{IsPipeline, IsSound};
 
 use crate::pipeline::Pipeline;
 use demand_rates::kinds::{PIPELINE_SCALE, Rates};
@@ -23,7 +23,7 @@ pub struct Inputs<'a> {
 }
 
 impl<'a> Model for Inputs<'a> {
-    ghost use Rattle.family_eval.specs.Inputs.{InputRows, AreInputs};
+    ghost use Rattle.family_items.specs.Inputs.{InputRows, AreInputs};
 
     ghost Value = { InputRows };
 

@@ -1,8 +1,8 @@
 use Rattle.std.proofs.Common.{◌<◌, length, subst, sym}
 use Rattle.demand_rates.specs.RateLists.{rates_at}
-use Rattle.family_eval.specs.Inputs.{InputRows}
-use Rattle.family_eval.proofs.Ranges.{share_most}
-use Rattle.family_eval.proofs.inputs.Inputs.share.Goals as goal
+use Rattle.family_items.specs.Inputs.{InputRows}
+use Rattle.family_items.proofs.Ranges.{share_most}
+use Rattle.family_items.proofs.inputs.Inputs.share.Goals as goal
 
 pub returns-clause-most : goal.returns-clause-most
 returns-clause-most g c =

@@ -1,6 +1,6 @@
-use Rattle.family_eval.proofs.Enclosed.{item_in, item_small}
-use Rattle.family_eval.proofs.Families.{evaluable, line_in}
-use Rattle.family_eval.proofs.items_enclose.Goals as goal
+use Rattle.family_items.proofs.Enclosed.{item_in, item_small}
+use Rattle.family_items.proofs.Families.{evaluable, line_in}
+use Rattle.family_items.proofs.items_enclose.Goals as goal
 
 pub returns-clause-encloses : goal.returns-clause-encloses
 returns-clause-encloses r f c s p k h lp lk = item_in f c s.list h.scale.0 (evaluable f c s h) p k lp lk

@@ -32,14 +32,14 @@ use Rattle.fleet_model.proofs.SumLaws.{sum_places}
 use Rattle.fleet_model.proofs.CapLaws.{capped_i0, capped_00, capped_ij, capped_0j}
 use Rattle.fleet_model.proofs.AllocationLaws.{allocation_reaches}
 use Rattle.demand_rates.proofs.DepotFacts.{no_line_there}
-use Rattle.family_eval.specs.declared.pipeline.Pipeline.{Pipeline}
-use Rattle.family_eval.specs.declared.item.Item.{Item}
-use Rattle.family_eval.specs.Profile.{base_line, base_shop, depot_feed, depot_line, depot_shop, feed_of, held_of, item_of, pipeline_of, share_of, stocked}
-use Rattle.family_eval.specs.Encloses.{EnclosesItem, IsSmallItem}
-use Rattle.family_eval.specs.Inputs.{HasTable, IsLine, IsPipeline, IsShop, IsSound}
+use Rattle.family_items.specs.declared.pipeline.Pipeline.{Pipeline}
+use Rattle.family_items.specs.declared.item.Item.{Item}
+use Rattle.family_items.specs.Profile.{base_line, base_shop, depot_feed, depot_line, depot_shop, feed_of, held_of, item_of, pipeline_of, share_of, stocked}
+use Rattle.family_items.specs.Encloses.{EnclosesItem, IsSmallItem}
+use Rattle.family_items.specs.Inputs.{HasTable, IsLine, IsPipeline, IsShop, IsSound}
 use Rattle.moment_table.proofs.Tables.{table_encloses}
-use Rattle.family_eval.proofs.Ranges.{added_least, can_table, cap_in, direct_in, pipeline_is, share_in}
-use Rattle.family_eval.proofs.Units.{line_at, shop_at}
+use Rattle.family_items.proofs.Ranges.{added_least, can_table, cap_in, direct_in, pipeline_is, share_in}
+use Rattle.family_items.proofs.Units.{line_at, shop_at}
 
 -- the four intervals contain a mean, a variance, backorders and their variance
 pub record FiguresIn (f : ℕ) (x : Item f) (u w e v : Fraction) : Type 0 where

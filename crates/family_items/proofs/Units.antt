@@ -13,7 +13,7 @@ use Rattle.fleet_model.specs.Rows.{shop_units}
 use Rattle.fleet_model.proofs.SumLaws.{passed}
 use Rattle.fleet_model.proofs.DependLaws.{all_follow}
 use Rattle.demand_rates.proofs.WaitFacts.{line_of_none, other_shop}
-use Rattle.family_eval.specs.Inputs.{IsLine, IsShop}
+use Rattle.family_items.specs.Inputs.{IsLine, IsShop}
 
 line_within : (c : CaseRows) (o : Option (List ℕ)) (l : ℕ) → option_and_then (λ name. place_of name (part_names c.parts)) o ≡ Some l → l < length c.parts
 line_within c None l h = cc

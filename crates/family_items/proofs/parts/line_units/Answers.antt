@@ -1,9 +1,9 @@
 use Rattle.std.proofs.Common.{◌∙◌, refl, sym}
 use Rattle.spares_input.specs.Rows.{is_line}
 use Rattle.spares_input.specs.Frames.{part_at}
-use Rattle.family_eval.proofs.Items.{kept_id, left_out}
-use Rattle.family_eval.proofs.parts.line_units.Goals as goal
-use Rattle.family_eval.proofs.parts.line_units.Goals.{else-is_line, then-is_line+in_ok-push}
+use Rattle.family_items.proofs.Items.{kept_id, left_out}
+use Rattle.family_items.proofs.parts.line_units.Goals as goal
+use Rattle.family_items.proofs.parts.line_units.Goals.{else-is_line, then-is_line+in_ok-push}
 
 pub loop-p-preserved : goal.loop-p-preserved
 loop-p-preserved c = elim c.if-is_line.branch [

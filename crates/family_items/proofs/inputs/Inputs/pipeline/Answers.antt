@@ -1,9 +1,9 @@
 use Rattle.std.proofs.Common.{◌<◌, ◌≤◌, ◌∙◌, length, subst, sym}
 use Rattle.fleet_model.proofs.AllocationLaws.{stock_holds}
 use Rattle.demand_rates.specs.RateLists.{rates_at}
-use Rattle.family_eval.specs.Inputs.{InputRows}
-use Rattle.family_eval.proofs.Ranges.{pipeline_from_is, rated, sound_of, stock_most}
-use Rattle.family_eval.proofs.inputs.Inputs.pipeline.Goals as goal
+use Rattle.family_items.specs.Inputs.{InputRows}
+use Rattle.family_items.proofs.Ranges.{pipeline_from_is, rated, sound_of, stock_most}
+use Rattle.family_items.proofs.inputs.Inputs.pipeline.Goals as goal
 
 pub returns-clause-valid : goal.returns-clause-valid
 returns-clause-valid g c =

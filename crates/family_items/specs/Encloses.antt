@@ -8,8 +8,8 @@ use Rattle.spares_input.specs.Stocks.{StockList, IsFor, IsWithinLimits}
 use Rattle.fleet_model.specs.Pairs.{mean, variance, backorders, spread}
 use Rattle.fleet_model.specs.Fleet.{family, family_total}
 use Rattle.demand_rates.specs.Limits.{rate_fault_of}
-use Rattle.family_eval.specs.declared.item.Item.{Item}
-use Rattle.family_eval.specs.declared.item.FamilyResult.{FamilyResult}
+use Rattle.family_items.specs.declared.item.Item.{Item}
+use Rattle.family_items.specs.declared.item.FamilyResult.{FamilyResult}
 
 -- the arguments of an evaluation: a width, a case whose rates break no rule, and stocks of it within its limits
 pub record CanEvaluate (f : ℕ) (c : CaseRows) (s : StockList) : Type 0 where

@@ -1,0 +1,5 @@
+pub mod Ranges
+pub mod Units
+pub mod Enclosed
+pub mod Items
+pub mod Families
