@@ -13,7 +13,8 @@ ghost use Rattle.family_points.specs.Choices.{IsShopVector};
 ghost use Rattle.family_rows.specs.Spots.{IsBaseAt};
 ghost use Rattle.family_rows.specs.Tabled.{AreTables, box_numbers, own_at};
 
-use family_numbers::{Numbers, OwnPart};
+use family_numbers::Numbers;
+use family_numbers::own_part::{OwnPart, put_line_lows};
 use family_points::family::shops_of;
 use family_points::order::ShopVector;
 use family_rows::base_at::BaseAt;

@@ -21,7 +21,7 @@ pub mod pair_tables;
 pub use base_shops::BaseShops;
 pub use by_numbers::{depot_line, depot_shop_tables};
 pub use numbers::Numbers;
-pub use own_part::{OwnPart, own_part, put_line_backorders, put_line_lows};
+pub use own_part::OwnPart;
 
 /// A line unit's backorders at a base come from the family's numbers. Its own stock there only picks the row of its
 /// table.

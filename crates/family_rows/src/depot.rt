@@ -9,7 +9,8 @@ ghost use Rattle.family_rows.specs.Tabled.{AreTables, box_numbers, own_at};
 use crate::base_at::BaseAt;
 use crate::sources::Sources;
 use answers::NoMemory;
-use family_numbers::{BaseShops, Numbers, OwnPart};
+use family_numbers::own_part::{OwnPart, own_part, put_line_backorders};
+use family_numbers::{BaseShops, Numbers, depot_line};
 use family_points::family::shops_of;
 use moment_table::kinds::Table;
 use series_bounds::short::Iv64;
@@ -25,7 +26,11 @@ pub struct DepotTables<'s> {
 }
 
 /// The tables for the shop units' stocks `depot` at the depot.
-pub fn depot_tables<'s>(sources: &'s Sources<'_>, depot: &[u8]) -> Result<DepotTables<'s>, NoMemory>
+pub fn depot_tables<'s>(
+    alloc: Global,
+    sources: &'s Sources<'_>,
+    depot: &[u8],
+) -> Result<DepotTables<'s>, NoMemory>
     requires sources { AreSources sources.now }
     requires depot { AreShopsAt sources.now.family.now 0 depot.now }
     ensures { IfOk result (AreTables sources.now.numbers depot.now) }

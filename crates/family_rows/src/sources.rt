@@ -5,7 +5,7 @@ ghost use Rattle.family_rows.specs.Sources.{AreSources};
 ghost use Rattle.family_rows.specs.Tabled.{box_numbers};
 
 use answers::NoMemory;
-use family_numbers::{BaseShops, Numbers};
+use family_numbers::{BaseShops, Numbers, depot_shop_tables};
 use family_points::family::{Family, shops_of};
 use family_points::order::{Base, bases_of};
 use moment_table::kinds::Table;

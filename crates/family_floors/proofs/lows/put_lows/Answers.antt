@@ -18,8 +18,8 @@ shops_of-requires c =
     let valid = c.requires.here.valid in
     omega (arith, at_long c.args.here.now.family.now valid 0 c.args.here.now.depot.now (omega (arith, c.requires.here.site.1)) c.requires.here.depot)
 
-pub put_lows-requires : goal.put_lows-requires
-put_lows-requires c =
+pub put_line_lows-requires : goal.put_line_lows-requires
+put_line_lows-requires c =
     let x = c.args.here.now.family.now in
     let n = c.args.numbers.now in
     let j = c.args.here.now.site.0 in
@@ -48,7 +48,7 @@ returns-clause-lows c =
     let x = c.args.here.now.family.now in
     let j = c.args.here.now.site.0 in
     let depot = c.args.here.now.depot.now in
-    let lows = c.put_lows.new.lows in
+    let lows = c.put_line_lows.new.lows in
     lows_tabled x c.requires.here.valid j depot c.args.shops.now lows c.requires.here.site c.requires.here.depot
     (subst (λ (n : FamilyNumbers 48). AreBaseLows 48 n j (get_or depot 0 0) (drop 1 depot) c.args.shops.now lows) c.requires.numbers
-    (subst (λ d. AreBaseLows 48 c.args.numbers.now j (get_or depot 0 0) d c.args.shops.now lows) c.shops_of.ensures c.put_lows.ensures.lows))
+    (subst (λ d. AreBaseLows 48 c.args.numbers.now j (get_or depot 0 0) d c.args.shops.now lows) c.shops_of.ensures c.put_line_lows.ensures.lows))

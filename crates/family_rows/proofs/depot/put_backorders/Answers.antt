@@ -19,8 +19,8 @@ shops_of-requires c =
     let valid = c.requires.here.valid in
     omega (arith, at_long c.args.here.now.family.now valid 0 c.args.here.now.depot.now (omega (arith, c.requires.here.site.1)) c.requires.here.depot)
 
-pub put_backorders-requires : goal.put_backorders-requires
-put_backorders-requires c =
+pub put_line_backorders-requires : goal.put_line_backorders-requires
+put_line_backorders-requires c =
     let x = c.args.here.now.family.now in
     let n = c.args.numbers.now in
     let j = c.args.here.now.site.0 in
@@ -45,12 +45,12 @@ returns c =
     let depot = c.args.here.now.depot.now in
     let valid = c.requires.here.valid in
     let order = (box_begins x valid j c.requires.here.site.1).0 in
-    let items = c.put_backorders.new.found.items in
+    let items = c.put_line_backorders.new.found.items in
     let is = subst (λ (n : FamilyNumbers 48). AreBaseBackorders 48 n j (get_or depot 0 0) (drop 1 depot) c.args.shops.now items) c.requires.numbers
-    (subst (λ d. AreBaseBackorders 48 c.args.numbers.now j (get_or depot 0 0) d c.args.shops.now items) c.shops_of.ensures c.in_ok-put_backorders.ensures.ends) in
+    (subst (λ d. AreBaseBackorders 48 c.args.numbers.now j (get_or depot 0 0) d c.args.shops.now items) c.shops_of.ensures c.in_ok-put_line_backorders.ensures.ends) in
     record {
       long = line_listed x valid j depot (line_high x j ∷ c.args.shops.now) items c.requires.here.site
           (joined_at x valid j (line_high x j) c.args.shops.now c.requires.here.site.1 c.requires.shops order (omega arith)) is;
-      small = c.in_ok-put_backorders.ensures.most;
+      small = c.in_ok-put_line_backorders.ensures.most;
       ends = λ s at. tabled x valid j s depot c.args.shops.now items c.requires.here.site c.requires.here.depot at is;
     }

@@ -1,4 +1,5 @@
-use Rattle.std.proofs.Common.{◌∷◌, ◌++◌, [], List, get_or, map, ap, ◌∙◌, arith}
+use Rattle.std.proofs.Common.{length, ◌≡◌, ◌∷◌, ◌++◌, [], List, get_or, map, ap, ◌∙◌, arith}
+use Rattle.std.proofs.lemmas.List.{length-map}
 use Rattle.spares_input.specs.Building.{ids}
 use Rattle.spares_input.specs.declared.rows.PartId.{PartId}
 use Rattle.spares_input.proofs.FamilyFacts.{row_more}
@@ -12,4 +13,13 @@ loop-p-preserved c =
       whole = omega (arith, c.in_ok-push-2.ensures.len, inv.whole);
       each = λ q b. ap (λ rows. get_or (map (λ v. ids v.items) rows) q []) c.in_ok-push-2.ensures.items
           ∙ row_more (λ v. ids v.items) c.loop-p.families.items c.push.new.self c.loop-p.p inv.whole inv.each alone q b;
+    }
+
+pub returns : goal.returns
+returns c =
+    let inv = c.loop-p.invariant in
+    let all : c.loop-p.p ≡ length c.args.parts.now = omega arith in
+    record {
+      whole = length-map c.loop-p.families.items (λ v. ids v.items) ∙ (inv.whole ∙ all);
+      each = λ l b. inv.each l (omega (arith, all, b));
     }

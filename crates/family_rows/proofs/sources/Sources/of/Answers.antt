@@ -11,8 +11,8 @@ shops_of-low-requires c =
     let valid = c.size-size.ensures.valid in
     subst (λ (v : List ℕ). 0 < length v) (sym c.low.ensures) (low_some x valid 0 (omega (arith, valid.valid.frame.fewest_sites)))
 
-pub base_shops-requires : goal.base_shops-requires
-base_shops-requires c =
+pub of-requires : goal.of-requires
+of-requires c =
     let x = c.args.family.now in
     let n = c.in_ok-numbers.numbers in
     let low : c.shops_of-low.result.now ≡ shop_low x 0 = c.shops_of-low.ensures ∙ ap (drop 1) c.low.ensures in
