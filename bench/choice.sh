@@ -11,7 +11,7 @@ runs=${1:-5}
 cases=("2000 64 1000 1 3600000" "2000 64 1000 1000000 3600000" "2000 64 1000000000000 1 3600000")
 
 build_peer literal
-take_crate choice_bench
+take_crate bench_choice
 
 for _ in $(seq "$runs"); do
     "${on_one[@]}" "$work/literal" 1000 | sed -n '3s/.*nanoseconds //p' >> "$work/literal.all"

@@ -12,7 +12,7 @@
 # shellcheck source=bench/common.sh
 . "$(dirname "$0")/common.sh"
 take_words "$@"
-take_crate plan_bench -- data/sites.csv data/parts.csv data/rates.csv data/certificate
+take_crate bench_plan -- data/sites.csv data/parts.csv data/rates.csv data/certificate
 
 "$program" "${plan[@]}" --certificate "$work/ours" > "$work/ours.report"
 "$peer" "${plan[@]}" --certificate "$work/certificate" > "$work/report"

@@ -11,7 +11,7 @@ count=${2:-1000}
 cases=("5000 5000" "46594 60000" "200000 200000" "200000 800000" "2000000 2000000")
 
 for name in literal fast; do build_peer "$name"; done
-take_crate table_bench
+take_crate bench_tables
 
 for _ in $(seq "$runs"); do
     for case in "${cases[@]}"; do

@@ -53,7 +53,7 @@ def undocumented(crates):
             above = number - 1
             while re.match(r'\s*(#\[|\)\])', lines[above]):
                 above -= 1
-            is_test = '#[test]' in lines[above + 1:number] or re.search(r'tests?\.rt|worked_rows|_rows/', str(path))
+            is_test = '#[test]' in lines[above + 1:number] or re.search(r'tests?\.rt|test_(cases|commands|tables)/', str(path))
             if not re.match(r'\s*///', lines[above]) and not is_test and ' fn main' not in ' ' + line:
                 yield path, number + 1, 'no comment'
 

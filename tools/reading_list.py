@@ -82,7 +82,7 @@ LISTS = [
             demonstration Demonstrations
             spares_input Edits Money
             case_edits Lines Edits
-            plan_session Sessions
+            session_report Reports
             spares_io Causes Shelf Sink
             spares_top Headline Files Held Plans Checks Task State Answer Promises
         """),

@@ -33,7 +33,7 @@ use Rattle.price_certificate.specs.declared.certificate.Node.{Node}
 use Rattle.price_certificate.specs.declared.certificate.Node.TheVariants as node
 use Rattle.price_certificate.specs.Covers as cover
 use Rattle.price_certificate.specs.Covers.{Tree, held_at, most_at, IsTrim, places_of, trimmed}
-use Rattle.gap_rules.specs.declared.refusal.Reject.TheVariants as reject
+use Rattle.check_answers.specs.declared.refusal.Reject.TheVariants as reject
 use Rattle.gap_rules.specs.Covers.{leaves}
 use Rattle.gap_rules.specs.Trees.{leaves_of}
 use Rattle.gap_rules.specs.Values.{value_of, cover_tables}

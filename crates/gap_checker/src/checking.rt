@@ -8,13 +8,14 @@ ghost use Rattle.spares_input.specs.Stocks.{IsFor, IsWithinLimits, nothing_held}
 ghost use Rattle.demand_rates.specs.Limits.{rate_fault_of};
 ghost use Rattle.demand_rates.specs.Rates.{AreRatesOf};
 ghost use Rattle.price_certificate.specs.Certificates.{IsWellFormed};
-ghost use Rattle.gap_rules.specs.declared.refusal.Reject.TheVariants as reject;
+ghost use Rattle.check_answers.specs.declared.refusal.Reject.TheVariants as reject;
 ghost use Rattle.gap_rules.specs.Refusals.{judged};
 ghost use Rattle.gap_rules.specs.Scores.{ends_of};
 
 use crate::floors::first_low;
 use crate::upper::upper_of;
 use answers::{NoMemory, Stop};
+use check_answers::{Accepted, Reject};
 use demand_rates::kinds::Rates;
 use demand_rates::rates;
 use family_items::line_units;
@@ -22,7 +23,6 @@ use family_points::MOST_TABLES;
 use gap_rules::bound::largest_bound;
 use gap_rules::covers::work_of;
 use gap_rules::stocks::{below_held, cost_above, over_limit};
-use gap_rules::{Accepted, Reject};
 use hull::{Plain, Score};
 use log_loss::LogLoss;
 use price_certificate::{Certificate, Objective};

@@ -12,9 +12,9 @@ ghost use Rattle.gap_rules.specs.Refusals.{line_at, family_count, cover_of, gap_
 
 use crate::low::low_leaf;
 use answers::NoMemory;
+use check_answers::Reject;
 use demand_rates::kinds::Rates;
 use family_points::{Bounds, place_parts};
-use gap_rules::Reject;
 use gap_rules::family::nodes_of;
 use hull::Score;
 use price_certificate::{Certificate, Node};

@@ -19,8 +19,8 @@ use Rattle.family_points.specs.Points.{point_at_vector, points_within, ScoreEnds
 use Rattle.price_certificate.specs.declared.certificate.Certificate.{Certificate}
 use Rattle.price_certificate.specs.Certificates.{IsWellFormed}
 use Rattle.gap_rules.specs.declared.leaf.Leaf.{Leaf}
-use Rattle.gap_rules.specs.declared.refusal.Reject.{Reject}
-use Rattle.gap_rules.specs.declared.refusal.Reject.TheVariants as reject
+use Rattle.check_answers.specs.declared.refusal.Reject.{Reject}
+use Rattle.check_answers.specs.declared.refusal.Reject.TheVariants as reject
 use Rattle.gap_rules.specs.Refusals.{line_at, family_count, nodes_of, cover_of, family_leaves, gap_at, over_limit, below_held, cost_above, work_of, low_leaf, leaf_value, low_at, chosen_point, chosen_of, upper_of, largest_of, reject_of}
 use Rattle.gap_rules.specs.Laws.{AcceptedAreAcceptable, families_of, claims_of}
 use Rattle.gap_rules.proofs.AmongLaws.{among_vectors}

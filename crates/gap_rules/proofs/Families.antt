@@ -22,8 +22,8 @@ use Rattle.family_points.specs.Vectors.{places, vector_of, limits, box_from}
 use Rattle.price_certificate.specs.declared.certificate.Node.{Node}
 use Rattle.price_certificate.specs.declared.certificate.Certificate.{Certificate}
 use Rattle.gap_rules.specs.declared.leaf.Leaf.{Leaf}
-use Rattle.gap_rules.specs.declared.refusal.Reject.{Reject}
-use Rattle.gap_rules.specs.declared.refusal.Reject.TheVariants as reject
+use Rattle.check_answers.specs.declared.refusal.Reject.{Reject}
+use Rattle.check_answers.specs.declared.refusal.Reject.TheVariants as reject
 use Rattle.gap_rules.specs.Covers.{leaves}
 use Rattle.gap_rules.specs.Values.{cover_tables, value_of}
 use Rattle.gap_rules.specs.Refusals.{line_at, family_count, nodes_of, cover_of, family_leaves, gap_at, family_tables, tables_of_first, work_of, too_low, low_leaf, low_at}

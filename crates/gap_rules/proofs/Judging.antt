@@ -11,9 +11,9 @@ use Rattle.std.specs.Prelude.{Result, Ok, Err, IsErrAnd, nat_lt, if◌then◌els
 use Rattle.std.specs.Option.{option_map}
 use Rattle.demand_rates.specs.Limits.{rate_fault_of}
 use Rattle.price_certificate.specs.declared.certificate.Certificate.{Certificate}
-use Rattle.gap_rules.specs.declared.refusal.Accepted.{Accepted}
-use Rattle.gap_rules.specs.declared.refusal.Reject.{Reject}
-use Rattle.gap_rules.specs.declared.refusal.Reject.TheVariants as reject
+use Rattle.check_answers.specs.declared.refusal.Accepted.{Accepted}
+use Rattle.check_answers.specs.declared.refusal.Reject.{Reject}
+use Rattle.check_answers.specs.declared.refusal.Reject.TheVariants as reject
 use Rattle.gap_rules.specs.Refusals.{family_count, gap_at, work_of, over_limit, below_held, cost_above, low_at, upper_of, largest_of, reject_of, judged}
 use Rattle.gap_rules.proofs.StockFaults.{then_some, else_none}
 use Rattle.family_points.specs.Points.{ScoreEnds}

@@ -19,9 +19,9 @@ use Rattle.price_certificate.specs.declared.certificate.Node.{Node}
 use Rattle.price_certificate.specs.declared.certificate.Node.TheVariants.{Whole}
 use Rattle.price_certificate.specs.declared.certificate.Certificate.{Certificate}
 use Rattle.gap_rules.specs.declared.leaf.Leaf.{Leaf}
-use Rattle.gap_rules.specs.declared.refusal.Accepted.{Accepted}
-use Rattle.gap_rules.specs.declared.refusal.Reject.{Reject}
-use Rattle.gap_rules.specs.declared.refusal.Reject.TheVariants as reject
+use Rattle.check_answers.specs.declared.refusal.Accepted.{Accepted}
+use Rattle.check_answers.specs.declared.refusal.Reject.{Reject}
+use Rattle.check_answers.specs.declared.refusal.Reject.TheVariants as reject
 use Rattle.gap_rules.specs.Covers.{leaves}
 use Rattle.gap_rules.specs.Values.{value_of, cover_tables}
 

@@ -13,9 +13,9 @@ ghost use Rattle.gap_rules.specs.Values.{cover_tables};
 ghost use Rattle.gap_rules.specs.Refusals.{line_at, family_count, cover_of, gap_at, work_of};
 
 use crate::family::nodes_of;
-use crate::refusal::Reject;
 use crate::work::cover_tables;
 use answers::{NoMemory, Stop};
+use check_answers::Reject;
 use family_points::Bounds;
 use price_certificate::{Certificate, Node};
 use spares_input::{PartId, Stocks};

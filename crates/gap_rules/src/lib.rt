@@ -12,11 +12,10 @@ pub mod family;
 mod laws;
 pub mod leaf;
 pub mod reading;
-mod refusal;
 pub mod stocks;
 mod work;
 
+pub use check_answers::{Accepted, Reject};
 pub use laws::{
     accepted_are_acceptable, accepted_are_sound, floors_hold, leaves_cover, trees_are_read,
 };
-pub use refusal::{Accepted, Reject};

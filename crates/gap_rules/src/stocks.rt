@@ -6,7 +6,7 @@ ghost use Rattle.spares_input.specs.Cases.{frame_rows, pair_count};
 ghost use Rattle.spares_input.specs.Stocks.{IsFor};
 ghost use Rattle.gap_rules.specs.Refusals.{over_limit, below_held, cost_above};
 
-use crate::refusal::Reject;
+use check_answers::Reject;
 use spares_input::{Case, Stocks, pair_at};
 
 /// The first stock over its limit, by part and then by site.

@@ -13,9 +13,10 @@ use Rattle.held_work.proofs.Kept.{zip_push}
 use Rattle.plan_report.specs.declared.plan.PlanReport.{PlanReport}
 use Rattle.case_edits.specs.declared.fault.EditFault.{EditFault}
 use Rattle.case_edits.specs.declared.fault.EditFault.TheVariants as fault
-use Rattle.plan_session.specs.declared.report.SessionReport.{SessionReport}
+use Rattle.session_report.specs.declared.report.SessionReport.{SessionReport}
 use Rattle.case_edits.specs.Edits.{PlanDue}
-use Rattle.plan_session.specs.Sessions.{due, started, IsLater, IsReportOf, SessionRows}
+use Rattle.plan_session.specs.Sessions.{due, started, IsLater, SessionRows}
+use Rattle.session_report.specs.Reports.{IsReportOf}
 use Rattle.case_edits.specs.Lines.{edit_lines, edit_of}
 use Rattle.case_edits.specs.Edits.{due_at, edited, most_lines, most_plans, planned, session_from, session_of, Standing, taken}
 use Rattle.plan_session.specs.Answers.{AnswersEdits}

@@ -21,7 +21,8 @@ use Rattle.case_plan.proofs.Truths.{report_fits}
 use Rattle.plan_report.specs.Fits.{FitsPlan}
 use Rattle.plan_report.specs.declared.plan.PlanReport.{PlanReport}
 use Rattle.case_edits.specs.Edits.{PlanDue}
-use Rattle.plan_session.specs.Sessions.{has_mark, AreKept, IsReportOf}
+use Rattle.plan_session.specs.Sessions.{has_mark, AreKept}
+use Rattle.session_report.specs.Reports.{IsReportOf}
 use Rattle.plan_session.proofs.Keeping.{none_held}
 use Rattle.family_points.specs.Points.{plain_ends}
 

@@ -5,8 +5,8 @@ use Rattle.answers.specs.declared.stop.Stop.{Stop}
 use Rattle.answers.specs.declared.stop.Stop.TheVariants as stop
 use Rattle.case_edits.specs.Edits.{PlanDue}
 use Rattle.case_edits.specs.declared.fault.EditFault.{EditFault}
-use Rattle.plan_session.specs.declared.report.SessionReport.{SessionReport}
-use Rattle.plan_session.specs.Sessions.{IsReportOf}
+use Rattle.session_report.specs.declared.report.SessionReport.{SessionReport}
+use Rattle.session_report.specs.Reports.{IsReportOf}
 
 -- a report for each plan that is due, or else the fault
 abbrev pub AnswersEdits : Result (List PlanDue) EditFault → Result SessionReport (Stop EditFault) → Type 0

@@ -6,7 +6,8 @@ use Rattle.answers.specs.declared.stop.Stop.TheVariants as stop
 use Rattle.plan_report.specs.declared.plan.PlanReport.{PlanReport}
 use Rattle.case_edits.specs.declared.fault.EditFault.{EditFault}
 use Rattle.case_edits.specs.Edits.{PlanDue}
-use Rattle.plan_session.specs.Sessions.{SessionRows, IsReportOf}
+use Rattle.plan_session.specs.Sessions.{SessionRows}
+use Rattle.session_report.specs.Reports.{IsReportOf}
 use Rattle.case_edits.specs.Edits.{Standing}
 
 -- the state that the lines have reached with this session and these plans due

@@ -21,13 +21,11 @@ use Rattle.family_items.specs.Profile.{family_of}
 use Rattle.hull.specs.declared.point.Point.{Point}
 use Rattle.family_points.specs.Counts.{work_of}
 use Rattle.family_points.specs.Local.{home_of}
-use Rattle.fleet_plan.specs.Laws.{IsAcceptedCase}
 use Rattle.held_work.specs.Curves.{IsFamilyCurve}
-use Rattle.held_work.specs.Work.{IsNothing}
-use Rattle.case_plan.specs.Report.{IsPlanned, plain_terms}
 use Rattle.plan_report.specs.declared.plan.PlanReport.{PlanReport}
 use Rattle.plan_session.specs.declared.evaluated.Evaluated.{Evaluated}
 use Rattle.family_points.specs.Points.{plain_ends}
+use Rattle.session_report.specs.Reports.{IsReportOf}
 
 -- a case, a budget, and for each family in order whether its curve is kept
 pub record SessionRows : Type 0 where
@@ -105,12 +103,6 @@ pub record IsLater (before after : SessionRows) : Type 0 where
 -- a plan of the session as it is
 abbrev pub due : SessionRows → PlanDue
 due s = record { case = s.case; budget = s.budget }
-
--- The case is accepted, and the report is the report of its plan under this budget with nothing held, for any list of
--- zeros.
-pub record IsReportOf (d : PlanDue) (report : PlanReport) : Type 0 where
-  pub accepted : IsAcceptedCase d.case
-  pub is_planned : (held : List ℕ) → IsNothing held → IsPlanned plain_ends d.case held (plain_terms d.budget) report
 
 -- a report comes if the rates break no rule, and a fault is the first rule that they break
 abbrev pub AnswersPlan : PlanDue → Result PlanReport (Stop RateFault) → Type 0

@@ -8,17 +8,17 @@ ghost use Rattle.family_points.specs.Counts.{work_of};
 ghost use Rattle.plan_report.specs.Fits.{FitsPlan};
 ghost use Rattle.case_edits.specs.Lines.{IsEditOf};
 ghost use Rattle.case_edits.specs.Edits.{PlanDue};
-ghost use Rattle.plan_session.specs.Sessions.{IsReportOf};
 ghost use Rattle.case_edits.specs.Edits.{carried, most_lines, planned, session_of, taken};
+ghost use Rattle.demand_rates.specs.Limits.{rate_fault_of};
+ghost use Rattle.session_report.specs.Reports.{IsReportOf};
 ghost use Rattle.plan_session.specs.Answers.{AnswersEdits};
 ghost use Rattle.plan_session.specs.Following.{standing, Follows};
-ghost use Rattle.demand_rates.specs.Limits.{rate_fault_of};
 
-use crate::report::SessionReport;
 use crate::session::Session;
 use answers::{List, Stop};
 use case_edits::{Edit, EditFault, edit_in, first_line};
 use plan_report::PlanReport;
+use session_report::SessionReport;
 use spares_input::Case;
 use std::alloc::Global;
 

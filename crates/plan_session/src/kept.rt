@@ -9,8 +9,8 @@ ghost use Rattle.family_points.specs.Counts.{work_of};
 ghost use Rattle.family_points.specs.Local.{home_of};
 ghost use Rattle.held_work.specs.Curves.{IsFamilyCurve};
 ghost use Rattle.case_plan.specs.Placing.{lines_below};
-ghost use Rattle.plan_session.specs.Sessions.{family_place, AreKept, AreLater};
 ghost use Rattle.family_points.specs.Points.{plain_ends};
+ghost use Rattle.plan_session.specs.Sessions.{family_place, AreKept, AreLater};
 
 use answers::{List, NoMemory};
 use demand_rates::kinds::Rates;

@@ -10,10 +10,9 @@
 mod edits;
 mod evaluated;
 mod kept;
-mod report;
 mod session;
 
 pub use case_edits::EditFault;
 pub use edits::run_edits;
-pub use report::SessionReport;
 pub use session::Session;
+pub use session_report::SessionReport;

@@ -4,16 +4,20 @@ ghost use Rattle.std.specs.Prelude.{◌≡◌, ◌<◌, ◌≤◌, [], true, not
 ghost use Rattle.std.specs.Result.{IsOk};
 ghost use Rattle.spares_input.specs.Cases.{frame_rows, IsRateOf};
 ghost use Rattle.fleet_model.specs.Rows.{line_units};
+ghost use Rattle.demand_rates.specs.Rates.{AreRatesOf};
 ghost use Rattle.family_points.specs.Counts.{work_of};
 ghost use Rattle.held_work.specs.Curves.{IsFamilyCurve};
 ghost use Rattle.spares_input.specs.Money.{most_budget};
-ghost use Rattle.plan_session.specs.Sessions.{due, has_mark, started, with_budget, with_row, AnswersPlan, IsLater};
 ghost use Rattle.family_points.specs.Points.{plain_ends};
+ghost use Rattle.case_plan.specs.Report.{AreFamilyCurves, IsPlanOf, plain_terms};
+ghost use Rattle.session_report.specs.Reports.{IsReportOf};
+ghost use Rattle.plan_session.specs.Sessions.{due, has_mark, started, with_budget, with_row, AnswersPlan, AreEvaluated, IsLater};
 
 use crate::evaluated::{Evaluated, evaluate_at, nothing_evaluated};
 use crate::kept::{keep_all, nothing_kept, place_of};
 use answers::{NoMemory, Stop};
-use case_plan::{choose_stocks, outcome_at};
+use case_plan::{Outcome, choose_stocks, outcome_at};
+use demand_rates::kinds::Rates;
 use demand_rates::{RateFault, rates};
 use hull::{Curve, Price};
 use plan_report::PlanReport;
@@ -57,6 +61,33 @@ fn above(price: Price) -> u128 {
     }
     let whole = price.p / u128::from(price.q);
     whole.saturating_add(whole / 32)
+}
+
+/// The outcome of the plan of these curves. The search for the price begins near the last plan's, and only the families
+/// whose stocks differ from its stocks are evaluated.
+fn outcome_near(
+    alloc: Global,
+    case: &Case,
+    rates: &Rates,
+    curves: &[Curve],
+    budget: u64,
+    near: &mut u128,
+    evaluated: &mut Evaluated,
+) -> Result<Outcome, NoMemory>
+    requires rates { AreRatesOf case.now rates.now }
+    requires budget { budget ≤ most_budget }
+    requires curves { AreFamilyCurves case.now curves.now }
+    requires kept { AreEvaluated case.now evaluated.old }
+    ensures kept { AreEvaluated case.now evaluated.new }
+    ensures plan { IfOk result (IsPlanOf case.now curves.now (plain_terms budget)) }
+{
+    let _valid = case.site_count();
+    let chosen = choose_stocks(alloc, case, curves, budget, *near)?;
+    *near = above(chosen.numbers.price);
+    evaluate_at(alloc, case, rates, &chosen.stocks, evaluated)?;
+    let families = evaluated.families.as_slice();
+    let outcome = outcome_at(alloc, case, chosen, families, budget, false, None)?;
+    Ok(outcome)
 }
 
 impl Session {
@@ -113,20 +144,29 @@ impl Session {
             Ok(rates) => rates,
             Err(stop) => return Err(stop),
         };
-        keep_all(alloc, &self.case, &rates, &mut self.curves, &mut self.marks)?;
-        let curves = self.curves.as_slice();
-        let chosen = choose_stocks(alloc, &self.case, curves, self.budget, self.near)?;
-        self.near = above(chosen.numbers.price);
-        evaluate_at(
+        match self.planned(alloc, &rates) {
+            Ok(report) => Ok(report),
+            Err(NoMemory) => Err(Stop::NoMemory),
+        }
+    }
+
+    /// The plan of the current case under the current budget. Its rates break no rule.
+    fn planned(&mut self, alloc: Global, rates: &Rates) -> Result<PlanReport, NoMemory>
+        requires { AreRatesOf self.old.case rates.now }
+        ensures report { IfOk result (IsReportOf (due self.old)) }
+        ensures later { IsLater self.old self.new }
+        ensures marks { IfOk result (λ _. self.new.marks ≡ replicate (length (line_units self.old.case)) true) }
+    {
+        keep_all(alloc, &self.case, rates, &mut self.curves, &mut self.marks)?;
+        let outcome = outcome_near(
             alloc,
             &self.case,
-            &rates,
-            &chosen.stocks,
+            rates,
+            self.curves.as_slice(),
+            self.budget,
+            &mut self.near,
             &mut self.evaluated,
         )?;
-        let families = self.evaluated.families.as_slice();
-        let budget = self.budget;
-        let outcome = outcome_at(alloc, &self.case, chosen, families, budget, false, None)?;
         Ok(outcome.report)
     }
 

@@ -9,8 +9,8 @@ use Rattle.demand_rates.specs.declared.fault.Place.{Place}
 use Rattle.demand_rates.specs.declared.fault.Place.TheVariants.{Single, Pair}
 use Rattle.demand_rates.specs.declared.fault.RateFault.{RateFault}
 use Rattle.demand_rates.specs.declared.fault.RateFault.TheVariants.{ThinPipeline, PipelineTooLarge, PipelineRatio}
-use Rattle.gap_rules.specs.declared.refusal.Reject.{Reject}
-use Rattle.gap_rules.specs.declared.refusal.Reject.TheVariants as reject
+use Rattle.check_answers.specs.declared.refusal.Reject.{Reject}
+use Rattle.check_answers.specs.declared.refusal.Reject.TheVariants as reject
 use Rattle.price_certificate.specs.declared.fault.CertFault.{CertFault}
 use Rattle.price_certificate.specs.declared.fault.CertFault.TheVariants as cert
 use Rattle.spares_input.specs.Frames.{FrameRows, part_at, site_at}

@@ -4,7 +4,7 @@ ghost use Rattle.std.specs.Option.{option_map};
 ghost use Rattle.refusals.specs.Lines.{cert_text, names_of, number_field, pair_text, reject_text};
 
 use crate::line::Line;
-use gap_rules::Reject;
+use check_answers::Reject;
 use price_certificate::CertFault;
 use spares_input::{Frame, PartId, SiteId};
 

@@ -1,9 +1,9 @@
 //! Refusals.
 
 use case_edits::EditFault;
+use check_answers::Reject;
 use csv_tables::TableFault;
 use demand_rates::RateFault;
-use gap_rules::Reject;
 use price_certificate::CertFault;
 use spares_input::{CaseFault, StockFault};
 use spares_words::WordsFault;

@@ -11,8 +11,8 @@ use Rattle.fleet_plan.proofs.Plain.{plain_encloses}
 use Rattle.plan_report.specs.Fits.{FitsPlan}
 use Rattle.plan_report.specs.declared.plan.PlanReport.{PlanReport}
 use Rattle.plan_session.specs.Answers.{AnswersEdits}
-use Rattle.plan_session.specs.Sessions.{IsReportOf}
-use Rattle.plan_session.specs.declared.report.SessionReport.{SessionReport}
+use Rattle.session_report.specs.Reports.{IsReportOf}
+use Rattle.session_report.specs.declared.report.SessionReport.{SessionReport}
 use Rattle.refusals.specs.Causes.{or_refuse}
 use Rattle.refusals.specs.Lines.{no_names}
 use Rattle.refusals.specs.declared.failure.Failure.{Failure}

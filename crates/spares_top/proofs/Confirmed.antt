@@ -19,8 +19,8 @@ use Rattle.fleet_plan.specs.Plans.{AreTrueClaims, ArePlainClaims}
 use Rattle.gap_rules.specs.Refusals.{cost_above, judged, reject_of}
 use Rattle.gap_rules.proofs.Acceptable.{breaks_none}
 use Rattle.gap_rules.proofs.Costs.{added_is}
-use Rattle.gap_rules.specs.declared.refusal.Accepted.{Accepted}
-use Rattle.gap_rules.specs.declared.refusal.Reject.{Reject}
+use Rattle.check_answers.specs.declared.refusal.Accepted.{Accepted}
+use Rattle.check_answers.specs.declared.refusal.Reject.{Reject}
 use Rattle.plan_report.specs.Fits.{FitsCheck}
 use Rattle.plan_report.specs.Texts.{millionths_up}
 use Rattle.refusals.specs.Causes.{or_refuse}

@@ -3,8 +3,8 @@ use Rattle.std.specs.Prelude.{ℕ, List, Option, Some, None, Result, Ok, Err, if
 use Rattle.std.specs.Option.{option_map}
 use Rattle.gap_rules.specs.Scores.{ends_of}
 use Rattle.gap_rules.specs.Refusals.{cost_above, judged}
-use Rattle.gap_rules.specs.declared.refusal.Accepted.{Accepted}
-use Rattle.gap_rules.specs.declared.refusal.Reject.{Reject}
+use Rattle.check_answers.specs.declared.refusal.Accepted.{Accepted}
+use Rattle.check_answers.specs.declared.refusal.Reject.{Reject}
 use Rattle.held_certificate.specs.Held.{held_of, is_held_form}
 use Rattle.held_certificate.specs.declared.held.HeldCertificate.{HeldCertificate}
 use Rattle.plan_report.specs.declared.check.CheckReport.{CheckReport}

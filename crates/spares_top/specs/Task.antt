@@ -14,7 +14,7 @@ use Rattle.case_figures.specs.Figures.{figures_of}
 use Rattle.metric_compare.specs.Report.{comparison_of}
 use Rattle.plan_report.specs.declared.eval.EvalReport.{EvalReport}
 use Rattle.plan_report.specs.declared.single.SingleReport.{SingleReport}
-use Rattle.plan_session.specs.Sessions.{IsReportOf}
+use Rattle.session_report.specs.Reports.{IsReportOf}
 use Rattle.spares_input.specs.Cases.{CaseRows}
 use Rattle.spares_input.specs.Stocks.{StockList, nothing_held}
 use Rattle.spares_io.specs.Shelf.{Files}

@@ -12,8 +12,8 @@ ghost use Rattle.spares_top.specs.Task.{check_task};
 
 use crate::done::{Done, Outcome};
 use answers::Stop;
+use check_answers::{Accepted, Reject};
 use gap_checker::check_within;
-use gap_rules::{Accepted, Reject};
 use hull::Plain;
 use log_loss::LogLoss;
 use plan_report::CheckReport;

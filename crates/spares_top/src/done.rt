@@ -7,7 +7,7 @@ use answers::{List, NoMemory};
 use budget_sweep::{SweepReport, TargetReport};
 use metric_compare::CompareReport;
 use plan_report::{CheckReport, EvalReport, PlanReport, SingleReport, Summary};
-use plan_session::SessionReport;
+use session_report::SessionReport;
 use spares_io::Text;
 use std::alloc::Global;
 

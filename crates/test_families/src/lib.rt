@@ -8,4 +8,4 @@ mod demand_rates_tests;
 #[cfg(test)]
 mod family_eval_tests;
 #[cfg(test)]
-mod text_cases_tests;
+mod test_inputs_tests;

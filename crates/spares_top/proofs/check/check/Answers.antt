@@ -1,7 +1,7 @@
 use Rattle.std.proofs.Common.{Err, subst}
 use Rattle.gap_rules.specs.Scores.{ends_of}
 use Rattle.gap_rules.specs.Refusals.{judged}
-use Rattle.gap_rules.specs.declared.refusal.Accepted.{Accepted}
+use Rattle.check_answers.specs.declared.refusal.Accepted.{Accepted}
 use Rattle.answers.specs.Answers.{Gives}
 use Rattle.spares_top.proofs.Confirmed.{confirmed, refused, unclaimed}
 use Rattle.spares_top.proofs.check.check.Goals as goal

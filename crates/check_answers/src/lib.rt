@@ -1,0 +1,6 @@
+//! The answers of a check of a certificate.
+#![tactic(auto)]
+
+mod refusal;
+
+pub use refusal::{Accepted, Reject};

@@ -1,6 +1,0 @@
-use Rattle.std.proofs.Common.{◌≡◌}
-use Rattle.family_tables.specs.Numbers.{numbers_of}
-use Rattle.kept_rows.proofs.counts.keeps.Given as goal
-
-abbrev pub invariant-loop-n : goal.invariant-loop-n
-invariant-loop-n l = l.evaluator.numbers ≡ numbers_of 48 l.fn.case 0
