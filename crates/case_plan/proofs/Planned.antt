@@ -1,5 +1,5 @@
 -- The plan of curves from its parts.
-use Rattle.std.proofs.Common.{◌≡◌, ℕ, ◌+◌, ◌-◌, ◌*◌, ◌/◌, List, [], ◌∷◌, Option, Some, None, map, slice_index, sum, refl, sym, ap, ◌∙◌, subst, arith}
+use Rattle.std.proofs.Common.{◌≡◌, ℕ, ◌+◌, ◌-◌, ◌*◌, ◌/◌, ◌<◌, List, [], ◌∷◌, IfSome, Option, Some, None, length, map, option_map, slice_index, sum, refl, sym, ap, ◌∙◌, subst, arith}
 use Rattle.hull.specs.declared.point.Point.{Point}
 use Rattle.hull.specs.declared.price.Price.{Price}
 use Rattle.hull.specs.Curves.{lagrangian, nowhere}
@@ -15,7 +15,7 @@ use Rattle.price_bounds.specs.Certificates.{AreLeastFloors}
 use Rattle.marginal_alloc.proofs.Bounds.{all_picked, choice_least}
 use Rattle.price_bounds.proofs.Floors.{least_floors}
 use Rattle.marginal_alloc.specs.Plans.{IsPlan}
-use Rattle.case_plan.specs.Parts.{slack, IsPlace}
+use Rattle.case_plan.specs.Parts.{numbers_of, slack, IsPlace}
 
 exact : (price : Price) (families : List (List Point)) (vs : List Point) → AllLeast price.p price.q families vs → Picks families vs → AreLeastFloors price families (map (lagrangian price.p price.q) vs)
 exact price [] [] a k = tt
@@ -51,7 +51,7 @@ module _ (families curves : List (List Point)) (budget : ℕ) (hull : Chosen) (e
   pub planned : (floors : List ℕ) (numbers : PlanNumbers) (all width more : ℕ) → numbers.hull_cost ≡ hull.cost → numbers.price ≡ hull.price → floors ≡ map (lagrangian hull.price.p hull.price.q) (picked curves hull.picks)
       → numbers.cost ≡ cost_of (picked curves end) → numbers.upper ≡ hi_of (picked curves end) → all ≡ total (lagrangian hull.price.p hull.price.q) (picked curves hull.picks)
       → numbers.bound ≡ (all - hull.price.p * budget) / hull.price.q → width ≡ width_of (picked curves hull.picks) → more ≡ slack curves hull.critical → numbers.rounding ≡ width + more + 1
-      → numbers.gap ≡ numbers.upper - numbers.bound → numbers.critical ≡ hull.critical → IsPlan families budget (picked curves end) floors numbers
+      → numbers.gap ≡ numbers.upper - numbers.bound → numbers.critical ≡ option_map (λ c. c.family) hull.critical → IsPlan families budget (picked curves end) floors numbers
   planned floors numbers all width more hc pr f a h w b d m r g t =
       let exacts : AreLeastFloors hull.price families floors = subst (λ z. AreLeastFloors hull.price families z) (sym f) (exact hull.price families (picked curves hull.picks) least own) in
       record {
@@ -72,3 +72,17 @@ module _ (families curves : List (List Point)) (budget : ℕ) (hull : Chosen) (e
         gap = g;
         critical = t;
       }
+
+  -- so are the numbers of a hull choice and of the picks that fill it
+  pub planned_numbers : (floors : List ℕ) (price : Price) (cost bound rounding : ℕ) (family : Option ℕ) → cost ≡ hull.cost → price ≡ hull.price → floors ≡ map (lagrangian hull.price.p hull.price.q) (picked curves hull.picks)
+      → bound ≡ (total (lagrangian hull.price.p hull.price.q) (picked curves hull.picks) - hull.price.p * budget) / hull.price.q
+      → rounding ≡ width_of (picked curves hull.picks) + slack curves hull.critical + 1 → family ≡ option_map (λ c. c.family) hull.critical
+      → IsPlan families budget (picked curves end) floors (numbers_of cost price bound rounding family (picked curves end))
+  planned_numbers floors price cost bound rounding family c p f b r t =
+      planned floors (numbers_of cost price bound rounding family (picked curves end)) (total (lagrangian hull.price.p hull.price.q) (picked curves hull.picks)) (width_of (picked curves hull.picks)) (slack curves hull.critical)
+      c p f refl refl refl b refl refl r refl t
+
+-- the family of a critical step is one of the curves
+pub family_some : (curves : List (List Point)) (o : Option Critical) → IsPlace curves o → IfSome (option_map (λ c. c.family) o) (λ family. family < length curves)
+family_some curves None h = tt
+family_some curves (Some c) h = h.0

@@ -14,7 +14,6 @@ use Rattle.spares_input.specs.Frames.{part_at}
 use Rattle.fleet_model.specs.Rows.{all_parts, stock, line_units}
 use Rattle.fleet_model.proofs.AllocationLaws.{stock_holds}
 use Rattle.family_points.specs.Vectors.{Pair, places, vector_of, limits, stock_list, IsBetween}
-use Rattle.marginal_alloc.specs.declared.allocation.Critical.{Critical}
 use Rattle.marginal_alloc.specs.declared.plans.PlanNumbers.{PlanNumbers}
 use Rattle.step_walk.specs.Prefix.{curve_at, AreVertices, picked}
 use Rattle.price_bounds.specs.Allocations.{IsAllocation}
@@ -23,7 +22,7 @@ use Rattle.case_figures.specs.declared.figures.Figures.{Figures}
 use Rattle.case_figures.specs.Figures.{figures_of}
 use Rattle.fleet_model.specs.Aims.{weighted_backorders}
 use Rattle.fleet_plan.specs.Families.{case_points, family_at, families_at, vectors_at}
-use Rattle.fleet_plan.specs.Plans.{CasePlan, line_of_step}
+use Rattle.fleet_plan.specs.Plans.{CasePlan, line_of_family}
 use Rattle.fleet_plan.proofs.Lists.{is_among}
 use Rattle.fleet_plan.proofs.Places.{kept, zip_each}
 use Rattle.fleet_plan.proofs.Bridge.{held_of}
@@ -33,7 +32,6 @@ use Rattle.plan_report.specs.declared.plan.CriticalLine.{CriticalLine}
 use Rattle.case_plan.specs.declared.outcome.Outcome.{Outcome}
 use Rattle.case_plan.specs.Report.{Terms, aim_ends, if_asked, step_line, outcome_of, IsPlanOf}
 use Rattle.fleet_plan.specs.Families.{HasWidth}
-use Rattle.case_plan.specs.Parts.{IsPlace}
 use Rattle.case_plan.specs.Chosen.{FitsCase, IsChosen}
 use Rattle.case_plan.specs.Outcomes.{chosen_outcome}
 use Rattle.case_plan.specs.declared.chosen.ChosenStocks.{ChosenStocks}
@@ -84,10 +82,10 @@ module _ (c : CaseRows) (valid : IsCase c) (curves : List (List Point)) (picks :
       let a = held_of plain_ends weighted_backorders c [] valid s.list is.pairs (subst (IsAllocation (families_at plain_ends weighted_backorders c [])) (sym e) (allocated c (line_units c) (stocks_of (picked curves picks)) lows)) in
       subst (λ n. n ≤ limit_at c.parts p k) (stock_holds c s p k is) (a.allocation.within p k lp lk)
 
--- the family of a critical vertex is one of as many as there are curves
-pub place_some : (curves : List (List Point)) (n : ℕ) (o : Option Critical) → length curves ≡ n → IsPlace curves o → IfSome o (λ step. step.family < n)
+-- the family of a critical step is one of as many as there are curves
+pub place_some : (curves : List (List Point)) (n : ℕ) (o : Option ℕ) → length curves ≡ n → IfSome o (λ family. family < length curves) → IfSome o (λ family. family < n)
 place_some curves n None e h = tt
-place_some curves n (Some s) e h = subst (λ m. s.family < m) e h.0
+place_some curves n (Some f) e h = subst (λ m. f < m) e h
 
 -- the plan that the parts make
 abbrev pub plan_with : StockList → List ℕ → PlanNumbers → CasePlan
@@ -117,19 +115,19 @@ outcome terms s floors f figures aim line = record {
 -- made of the figures, the aim and the critical line of chosen stocks it is their outcome
 pub made : (c : CaseRows) (terms : Terms) (x : ChosenStocks) (floors : List ℕ) (figures : Figures) (aim : Option Ends) (line : Option CriticalLine) → floors ≡ x.floors.items
     → figures ≡ figures_of 48 c x.stocks → aim ≡ if_asked terms.loss (record { lo = x.lower; hi = x.numbers.upper })
-    → line ≡ option_map (step_line c x.numbers.price.q) (option_map (line_of_step c) x.numbers.critical)
+    → line ≡ option_map (step_line c x.numbers.price.q) (option_map (line_of_family c) x.numbers.critical)
     → outcome terms x.stocks floors x.numbers figures aim line ≡ chosen_outcome c terms x
 made c terms x floors figures aim line f g a l =
     ap (λ (z : List ℕ). outcome terms x.stocks z x.numbers figures aim line) f
     ∙ ap₂ (λ (y : Figures) (z : Option CriticalLine). outcome terms x.stocks x.floors.items x.numbers y aim z) g l
-    ∙ ap (λ (y : Option Ends). outcome terms x.stocks x.floors.items x.numbers (figures_of 48 c x.stocks) y (option_map (step_line c x.numbers.price.q) (option_map (line_of_step c) x.numbers.critical))) a
+    ∙ ap (λ (y : Option Ends). outcome terms x.stocks x.floors.items x.numbers (figures_of 48 c x.stocks) y (option_map (step_line c x.numbers.price.q) (option_map (line_of_family c) x.numbers.critical))) a
 
 -- with the case's own aim the outcome of chosen stocks is the outcome of the plan
 same_outcome : (ends : ScoreEnds) (c : CaseRows) (terms : Terms) (x : ChosenStocks) → x.stocks.sites ≡ length c.sites
     → (let y : Ends = record { lo = x.lower; hi = x.numbers.upper } in y ≡ aim_ends ends c x.stocks.list)
     → chosen_outcome c terms x ≡ outcome_of ends c terms (plan_with x.stocks x.floors.items x.numbers)
 same_outcome ends c terms x e a =
-    let line = option_map (step_line c x.numbers.price.q) (option_map (line_of_step c) x.numbers.critical) in
+    let line = option_map (step_line c x.numbers.price.q) (option_map (line_of_family c) x.numbers.critical) in
     let same : x.stocks ≡ stock_list c x.stocks.list = ap (λ n. let t : StockList = record { sites = n; list = x.stocks.list } in t) e in
     ap (λ (y : Ends). outcome terms x.stocks x.floors.items x.numbers (figures_of 48 c x.stocks) (if_asked terms.loss y) line) a
     ∙ ap (λ (t : StockList). outcome terms t x.floors.items x.numbers (figures_of 48 c t) (if_asked terms.loss (aim_ends ends c x.stocks.list)) line) same

@@ -17,7 +17,7 @@ pub record FitsCase (c : CaseRows) (x : ChosenStocks) : Type 0 where
   pub limits : IsWithinLimits c x.stocks
   pub ordered : x.lower ≤ x.numbers.upper
   pub room : x.numbers.upper < 2 ^ 86
-  pub critical : IfSome x.numbers.critical (λ step. step.family < length (line_units c))
+  pub critical : IfSome x.numbers.critical (λ family. family < length (line_units c))
 
 -- There is a vertex of each curve, and the stocks are the stocks of these vertices. They are the plan, under this
 -- budget, of any points with these curves.

@@ -14,7 +14,8 @@ use Rattle.fleet_plan.specs.Laws.{IsAcceptedCase}
 use Rattle.plan_report.specs.Fits.{FitsPlan}
 use Rattle.plan_report.specs.declared.plan.PlanReport.{PlanReport}
 use Rattle.held_work.specs.Work.{IsNothing}
-use Rattle.case_plan.specs.Report.{AreFamilyCurves, IsPlanned, Terms}
+use Rattle.choice_parts.specs.Parts.{AreFamilies}
+use Rattle.case_plan.specs.Report.{AreFamilyCurves, HaveVectors, IsPlanned, Terms}
 use Rattle.case_plan.specs.Truth.{IsTruePlanReport, IsTrueReport}
 
 -- for any score whose intervals enclose its value, and any held stocks
@@ -75,3 +76,9 @@ CurvesServe =
     (ends : ScoreEnds) (c : CaseRows) (held : List ℕ) (curves : List (List Point))
     → IsCase c → IsHeldAllocation c held held → HaveShapes curves → AreCurves (case_points ends c held) curves
     → AreFamilyCurves c curves
+
+-- the points of a case, from held stocks within the limits, meet the requirements of a plan by parts
+abbrev pub PointsServe : Type 0
+PointsServe =
+    (ends : ScoreEnds) (c : CaseRows) (held : List ℕ) → IsAcceptedCase c → LeavesRoom ends
+    → IsHeldAllocation c held held → AreFamilies (case_points ends c held) × HaveVectors c (case_points ends c held)

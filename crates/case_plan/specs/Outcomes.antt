@@ -3,7 +3,7 @@ use Rattle.std.specs.Prelude.{◌≡◌, List, option_map}
 use Rattle.hull.specs.declared.point.Point.{Point}
 use Rattle.spares_input.specs.Cases.{CaseRows}
 use Rattle.case_figures.specs.Figures.{figures_of}
-use Rattle.fleet_plan.specs.Plans.{line_of_step}
+use Rattle.fleet_plan.specs.Plans.{line_of_family}
 use Rattle.plan_report.specs.declared.plan.PlanReport.{PlanReport}
 use Rattle.case_plan.specs.Chosen.{FitsCase, IsChosen}
 use Rattle.case_plan.specs.Report.{Terms, if_asked, step_line}
@@ -23,7 +23,7 @@ chosen_report c terms x = record {
   rounding = x.numbers.rounding;
   price = x.numbers.price;
   hull = x.numbers.hull_cost;
-  critical = option_map (step_line c x.numbers.price.q) (option_map (line_of_step c) x.numbers.critical);
+  critical = option_map (step_line c x.numbers.price.q) (option_map (line_of_family c) x.numbers.critical);
 }
 
 -- The outcome of chosen stocks: the report with the stocks, and the claims of the certificate.

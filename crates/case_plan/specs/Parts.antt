@@ -1,9 +1,12 @@
 -- The parts that make up a plan of curves.
-use Rattle.std.specs.Prelude.{ℕ, zero, suc, ◌+◌, ◌-◌, ◌^◌, ◌<◌, ◌≤◌, List, [], ◌∷◌, ◌++◌, length, slice_index, Option, Some, None}
+use Rattle.std.specs.Prelude.{ℕ, zero, suc, ◌+◌, ◌-◌, ◌^◌, ◌<◌, ◌≤◌, ◌⊎◌, List, [], ◌∷◌, ◌++◌, length, slice_index, Option, Some, None}
 use Rattle.hull.specs.declared.point.Point.{Point}
 use Rattle.hull.specs.declared.price.Price.{Price}
 use Rattle.marginal_alloc.specs.declared.allocation.Critical.{Critical}
-use Rattle.step_walk.specs.Prefix.{curve_at, vertex_at}
+use Rattle.marginal_alloc.specs.declared.plans.PlanNumbers.{PlanNumbers}
+use Rattle.price_bounds.specs.Sums.{cost_of, hi_of}
+use Rattle.step_walk.specs.Prefix.{AllTaken, IsPrefix, curve_at, picked, vertex_at}
+use Rattle.marginal_alloc.specs.Choice.{firsts}
 
 -- the sum of g over the first i picks
 abbrev pub part : (Point → ℕ) → List (List Point) → List ℕ → ℕ → ℕ
@@ -30,3 +33,21 @@ pub record IsSmallPrice (price : Price) : Type 0 where
   pub p : price.p ≤ 2 ^ 74
   pub q : price.q ≤ 1000000000000
   pub positive : 0 < price.q
+
+-- the numbers of a plan, from those of its hull choice and from the points of the filled one
+abbrev pub numbers_of : ℕ → Price → ℕ → ℕ → Option ℕ → List Point → PlanNumbers
+numbers_of hull_cost price bound rounding critical filled = record {
+  hull_cost = hull_cost;
+  price = price;
+  cost = cost_of filled;
+  upper = hi_of filled;
+  bound = bound;
+  rounding = rounding;
+  gap = hi_of filled - bound;
+  critical = critical;
+}
+
+-- the hull choice of curves under a budget has no critical step: their first vertices exceed it, or no step does
+abbrev pub HasNoCritical : List (List Point) → ℕ → Type 0
+HasNoCritical curves budget = (budget < cost_of (firsts curves))
+    ⊎ ((picks : List ℕ) × IsPrefix curves picks × AllTaken curves picks × (cost_of (picked curves picks) ≤ budget))

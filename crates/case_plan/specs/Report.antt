@@ -84,12 +84,16 @@ pub record IsPlanned (ends : ScoreEnds) (c : CaseRows) (held : List ℕ) (terms 
   pub is_plan : IsCasePlan ends c held terms.budget plan
   pub is : report ≡ report_of ends c terms plan
 
+-- there are points for each line unit, with vectors of its family within the limits
+abbrev pub HaveVectors : CaseRows → List (List Point) → Type 0
+HaveVectors c families = AllZip (λ l points. (v : Point) → Among v points → AllZip (λ x y. x ≤ y) v.stocks (limits c l))
+    (line_units c) families
+
 -- there is a curve for each line unit, which begins at cost 0 and has vectors of the family within the limits
 pub record AreFamilyCurves (c : CaseRows) (curves : List (List Point)) : Type 0 where
   pub count : length curves ≡ length (line_units c)
   pub free : (f : ℕ) → f < length curves → (vertex_at curves f 0).cost ≡ 0
-  pub vectors : AllZip (λ l curve. (v : Point) → Among v curve → AllZip (λ x y. x ≤ y) v.stocks (limits c l))
-      (line_units c) curves
+  pub vectors : HaveVectors c curves
 
 -- the outcome is the outcome of the plan of all points with these curves, for any held stocks
 abbrev pub IsPlanOf : CaseRows → List (List Point) → Terms → Outcome → Type 0

@@ -1,6 +1,6 @@
 //! The plan of curves: their filled hull choice with its numbers.
 
-ghost use Rattle.std.specs.Prelude.{◌≡◌, ℕ, ◌+◌, ◌-◌, ◌*◌, ◌/◌, ◌^◌, ◌<◌, ◌≤◌, List, length, map, slice_index, IfOk};
+ghost use Rattle.std.specs.Prelude.{◌≡◌, ℕ, ◌+◌, ◌-◌, ◌*◌, ◌/◌, ◌^◌, ◌<◌, ◌≤◌, List, length, map, option_map, slice_index, IfOk, IfSome};
 ghost use Rattle.spares_input.specs.Money.{most_budget};
 ghost use Rattle.hull.specs.declared.point.Point.{Point};
 ghost use Rattle.hull.specs.Curves.{lagrangian, InRange};
@@ -8,7 +8,7 @@ ghost use Rattle.price_bounds.specs.Sums.{total, cost_of, hi_of, lo_of, width_of
 ghost use Rattle.step_walk.specs.Prefix.{vertex_at, picked, AreVertices};
 ghost use Rattle.marginal_alloc.specs.Choice.{AreCurves};
 ghost use Rattle.marginal_alloc.specs.Plans.{IsPlan};
-ghost use Rattle.case_plan.specs.Parts.{slack, IsPlace, IsSmallPrice};
+ghost use Rattle.case_plan.specs.Parts.{numbers_of, slack, IsPlace, IsSmallPrice};
 
 use answers::NoMemory;
 use hull::{Curve, Point, Price};
@@ -86,7 +86,7 @@ fn totals_of(curves: &[Curve], picks: &[u32], price: Price) -> Totals
 }
 
 /// The Lagrangian of each pick.
-fn floors_at(
+pub(crate) fn floors_at(
     alloc: Global,
     curves: &[Curve],
     picks: &[u32],
@@ -121,6 +121,59 @@ fn slack_of(curves: &[Curve], critical: Option<Critical>) -> u128
     point.hi - point.lo
 }
 
+/// The family of a critical step, if there is one.
+fn family_of(critical: Option<Critical>) -> Option<u32>
+    ensures { result ≡ option_map (λ c. c.family) critical }
+{
+    match critical {
+        Some(step) => Some(step.family),
+        None => None,
+    }
+}
+
+/// The numbers of a hull choice.
+#[derive(Clone, Copy, Drop)]
+pub(crate) struct HullNumbers {
+    pub cost: u64,
+    pub price: Price,
+    pub bound: u128,
+    pub rounding: u128,
+    pub critical: Option<u32>,
+}
+
+/// The numbers of the hull choice with these picks, this cost and price and this critical step.
+pub(crate) fn hull_numbers(
+    curves: &[Curve],
+    picks: &[u32],
+    cost: u64,
+    price: Price,
+    critical: Option<Critical>,
+    budget: u64,
+) -> HullNumbers
+    requires vertices { AreVertices curves.now picks.now }
+    requires few { length curves.now ≤ 2000 }
+    requires price { IsSmallPrice price }
+    requires critical { IsPlace curves.now critical }
+    requires budget { budget ≤ most_budget }
+    ensures cost { result.cost ≡ cost }
+    ensures price { result.price ≡ price }
+    ensures bound { result.bound ≡ (total (lagrangian price.p price.q) (picked curves.now picks.now) - price.p * budget)
+        / price.q }
+    ensures rounding { result.rounding ≡ width_of (picked curves.now picks.now) + slack curves.now critical + 1 }
+    ensures critical { result.critical ≡ option_map (λ c. c.family) critical }
+{
+    let hull = totals_of(curves, picks, price);
+    let slack = slack_of(curves, critical);
+    let paid = price.p * u128::from(budget);
+    HullNumbers {
+        cost,
+        price,
+        bound: hull.lagrangian.saturating_sub(paid) / u128::from(price.q),
+        rounding: hull.width + slack + 1,
+        critical: family_of(critical),
+    }
+}
+
 /// The filled choice of curves: a vertex and a floor at the price for each curve, the sum of the vertices' lower ends,
 /// and the numbers of the plan.
 #[derive(Drop)]
@@ -129,6 +182,43 @@ pub(crate) struct Choice {
     pub floors: Vec<u128>,
     pub lower: u128,
     pub numbers: PlanNumbers,
+}
+
+/// The choice of these picks, which fill a hull choice with these floors and numbers.
+pub(crate) fn filled_choice(
+    curves: &[Curve],
+    picks: Vec<u32>,
+    floors: Vec<u128>,
+    hull: HullNumbers,
+) -> Choice
+    requires vertices { AreVertices curves.now picks.items }
+    requires few { length curves.now ≤ 2000 }
+    requires price { IsSmallPrice hull.price }
+    ensures picks { result.picks.items ≡ picks.items }
+    ensures floors { result.floors.items ≡ floors.items }
+    ensures lower { result.lower ≡ lo_of (picked curves.now picks.items) }
+    ensures numbers { result.numbers
+        ≡ numbers_of hull.cost hull.price hull.bound hull.rounding hull.critical (picked curves.now picks.items) }
+    ensures ordered { result.lower ≤ result.numbers.upper }
+    ensures small { result.numbers.upper < 2 ^ 86 }
+{
+    let filled = totals_of(curves, picks.as_slice(), hull.price);
+    let numbers = PlanNumbers {
+        hull_cost: hull.cost,
+        price: hull.price,
+        cost: filled.cost,
+        upper: filled.hi,
+        bound: hull.bound,
+        rounding: hull.rounding,
+        gap: filled.hi.saturating_sub(hull.bound),
+        critical: hull.critical,
+    };
+    Choice {
+        picks,
+        floors,
+        lower: filled.lo,
+        numbers,
+    }
 }
 
 /// The plan of these curves under a budget; it equals the plan of all the points that they summarise. Each curve begins
@@ -149,34 +239,15 @@ pub(crate) fn choose(
     ensures lower { IfOk result (λ choice. choice.lower ≡ lo_of (picked curves.now choice.picks.items)) }
     ensures ordered { IfOk result (λ choice. choice.lower ≤ choice.numbers.upper) }
     ensures small { IfOk result (λ choice. choice.numbers.upper < 2 ^ 86) }
-    ensures critical { IfOk result (λ choice. IsPlace curves.now choice.numbers.critical) }
+    ensures critical { IfOk result (λ choice. IfSome choice.numbers.critical (λ family. family < length curves.now)) }
 {
     let chosen = allocate_near(alloc, curves, budget, near)?;
-    let hull_cost = chosen.cost;
+    let cost = chosen.cost;
     let price = chosen.price;
     let critical = chosen.critical;
     let mut picks = chosen.picks.into_vec();
-    let hull = totals_of(curves, picks.as_slice(), price);
+    let hull = hull_numbers(curves, picks.as_slice(), cost, price, critical, budget);
     let floors = floors_at(alloc, curves, picks.as_slice(), price)?;
-    let slack = slack_of(curves, critical);
-    let paid = price.p * u128::from(budget);
-    let bound = hull.lagrangian.saturating_sub(paid) / u128::from(price.q);
     fill(curves, &mut picks, budget);
-    let filled = totals_of(curves, picks.as_slice(), price);
-    let numbers = PlanNumbers {
-        hull_cost,
-        price,
-        cost: filled.cost,
-        upper: filled.hi,
-        bound,
-        rounding: hull.width + slack + 1,
-        gap: filled.hi.saturating_sub(bound),
-        critical,
-    };
-    Ok(Choice {
-        picks,
-        floors,
-        lower: filled.lo,
-        numbers,
-    })
+    Ok(filled_choice(curves, picks, floors, hull))
 }

@@ -7,7 +7,7 @@ ghost use Rattle.demand_rates.specs.Rates.{AreRatesOf};
 ghost use Rattle.family_items.specs.Profile.{families_of};
 ghost use Rattle.hull.specs.declared.point.Point.{Point};
 ghost use Rattle.fleet_model.specs.Rows.{line_units};
-ghost use Rattle.fleet_plan.specs.Plans.{line_of_step};
+ghost use Rattle.fleet_plan.specs.Plans.{line_of_family};
 ghost use Rattle.case_plan.specs.Chosen.{FitsCase, IsChosen};
 ghost use Rattle.case_plan.specs.Outcomes.{chosen_outcome, IsOutcomeOf};
 ghost use Rattle.case_plan.specs.Report.{if_asked, step_line, AreFamilyCurves, IsPlanOf};
@@ -23,7 +23,6 @@ use family_eval::evaluate_all;
 use family_items::FamilyResult;
 use fixed_interval::Iv;
 use hull::{Curve, Price};
-use marginal_alloc::Critical;
 use plan_report::{CriticalLine, PlanReport};
 use spares_input::{Case, PartId};
 use std::alloc::Global;
@@ -46,15 +45,15 @@ fn line_at(case: &Case, place: u32) -> PartId
     PartId(0)
 }
 
-/// The report line of a critical step, if there is one.
-fn line_of(case: &Case, critical: Option<Critical>, price: Price) -> Option<CriticalLine>
-    requires { IfSome critical (λ step. step.family < length (line_units case.now)) }
-    ensures { result ≡ option_map (step_line case.now price.q) (option_map (line_of_step case.now) critical) }
+/// The report line of the critical step's family, if there is one.
+fn line_of(case: &Case, critical: Option<u32>, price: Price) -> Option<CriticalLine>
+    requires { IfSome critical (λ family. family < length (line_units case.now)) }
+    ensures { result ≡ option_map (step_line case.now price.q) (option_map (line_of_family case.now) critical) }
 {
-    let Some(step) = critical else {
+    let Some(family) = critical else {
         return None;
     };
-    let line = line_at(case, step.family);
+    let line = line_at(case, family);
     Some(CriticalLine {
         part: case.part(line).name,
         cost: price.q,

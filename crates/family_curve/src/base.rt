@@ -19,11 +19,8 @@ use hull::{Chain, Score};
 use series_bounds::short::Iv64;
 use std::alloc::Global;
 
-/// A placeholder chain for each base: one point of cost and score 0, without stocks.
-pub(crate) fn chains_of<'a>(
-    alloc: Global,
-    bases: &'a [Base],
-) -> Result<Vec<Chain<BaseSpot<'a>>>, NoMemory>
+/// A placeholder chain for each base: one point of cost and score 0, without stocks. Want of memory is the only error.
+pub fn chains_of<'a>(alloc: Global, bases: &'a [Base]) -> Result<Vec<Chain<BaseSpot<'a>>>, NoMemory>
     ensures { IfOk result (λ v. length v.items ≡ length bases.now) }
 {
     let count = bases.len();
@@ -90,8 +87,9 @@ fn put_points<'b, S: Score>(
     Ok(())
 }
 
-/// Sets `chain` to the curve of a base, and `rows` to the backorders there.
-pub(crate) fn put_curve<'b, S: Score>(
+/// Sets `chain` to the curve of a base, and `rows` to the backorders there. Want of memory is the only error; `chain`
+/// may then hold only some of the base's points.
+pub fn put_curve<'b, S: Score>(
     chain: &mut Chain<BaseSpot<'b>>,
     rows: &mut Vec<Vec<Iv64<48>>>,
     here: &BaseAt<'_, 'b>,

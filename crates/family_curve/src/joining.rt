@@ -38,8 +38,8 @@ struct Work<'b> {
     stocks: Stocks,
 }
 
-/// The point of stocks at the depot.
-fn depot_point(alloc: Global, family: &Family<'_>, stocks: &[u8]) -> Result<Point, NoMemory>
+/// The point of stocks at the depot: their cost above the stocks held, and no score. Want of memory is the only error.
+pub fn depot_point(alloc: Global, family: &Family<'_>, stocks: &[u8]) -> Result<Point, NoMemory>
     requires { IsAt family.now 0 stocks.now }
     ensures point { IfOk result (λ p. p ≡ depot_point family.now.case family.now.line family.now.held stocks.now) }
     ensures range { IfOk result InRange }

@@ -24,8 +24,8 @@ use hull::{Curve, Score};
 use spares_input::{Case, PartId};
 use std::alloc::Global;
 
-mod base;
-mod joining;
+pub mod base;
+pub mod joining;
 
 pub use family_points::{
     Bounds, MOST_TABLES, choices, limits_of, place_parts, tables, tables_within, vector_of, work,

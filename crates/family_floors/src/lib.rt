@@ -3,7 +3,7 @@
 #![tactic(auto)]
 
 mod least;
-mod lows;
+pub mod lows;
 mod upper;
 
 pub use least::is_at_least;

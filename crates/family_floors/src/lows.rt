@@ -24,10 +24,11 @@ use hull::{Price, Score};
 use spares_input::SiteId;
 
 /// No Lagrangian of a base is larger.
-const MOST: u128 = 1 << 115;
+pub const MOST: u128 = 1 << 115;
 
-/// Sets `lows` to lower bounds on the line unit's backorders at a base, by its stock there.
-fn put_lows(
+/// Sets `lows`, up to 64 numbers, to lower bounds on the line unit's backorders at a base, by its stock there, in units
+/// of 2^-48.
+pub fn put_lows(
     lows: &mut [u64],
     here: &BaseAt<'_, '_>,
     numbers: &Numbers<48>,
@@ -99,6 +100,39 @@ fn low_at_stocks<S: Score>(
     lagrangian(price, cost, scored)
 }
 
+/// A lower bound on the Lagrangians of a base whose shop units have these stocks, from lower bounds on the line unit's
+/// backorders.
+pub fn least_low<S: Score>(
+    here: &BaseAt<'_, '_>,
+    score: &S,
+    lows: &[u64],
+    shops: &ShopVector,
+    price: Price,
+) -> u128
+    requires long { line_high here.now.family.now here.now.site.0 < length lows.now }
+    requires here { IsBaseAt here.now }
+    requires shops { IsShopVector here.now.family.now here.now.site.0 shops.now }
+    requires lows { AreLowsAt here.now.family.now here.now.depot.now here.now.site.0 shops.now.stocks lows.now }
+    requires most_money { price.q ≤ 1000000000000 }
+    requires price { price.p ≤ 2 ^ 74 }
+    ensures low { let x = here.now.family.now in let j = here.now.site.0 in
+        (s : ℕ) → line_low x j ≤ s → s ≤ line_high x j → result ≤ lagrangian price.p price.q
+        (base_point x.case x.line S.ends x.held here.now.depot.now j (s ∷ shops.now.stocks)) }
+    ensures most { result ≤ 2 ^ 115 }
+{
+    let family = here.family;
+    let _size = family.size();
+    let low = family.line_low(here.site);
+    let high = family.line_high(here.site);
+    let each = family.line_cost();
+    let mut least = MOST;
+    for s in low..high + 1 {
+        let cost = shops.cost + u64::from(s - low) * each;
+        least = least.min(low_at_stocks(here, score, lows, shops, s, cost, price));
+    }
+    least
+}
+
 /// A lower bound on the Lagrangians of a base whose shop units have these stocks; `lows` is overwritten.
 fn low_at_shops<S: Score>(
     lows: &mut [u64],
@@ -126,17 +160,7 @@ fn low_at_shops<S: Score>(
     ensures count { length lows.new ≡ length lows.old }
 {
     put_lows(lows, here, numbers, tables, own, shops.stocks.as_slice());
-    let family = here.family;
-    let _size = family.size();
-    let low = family.line_low(here.site);
-    let high = family.line_high(here.site);
-    let each = family.line_cost();
-    let mut least = MOST;
-    for s in low..high + 1 {
-        let cost = shops.cost + u64::from(s - low) * each;
-        least = least.min(low_at_stocks(here, score, lows, shops, s, cost, price));
-    }
-    least
+    least_low(here, score, lows, shops, price)
 }
 
 /// A lower bound on the Lagrangians of a base.

@@ -39,6 +39,7 @@ use Rattle.family_points.proofs.Turns.{curve_of_turned, curve_turned}
 
 -- ---- something of each
 
+-- what is true of each element is true of a member
 pub of_each : {X : Type 0} (P : X → Type 0) (xs : List X) → AllByRecursion P xs → (x : X) → Among x xs → P x
 of_each P [] a x m = absurd m
 of_each P (y ∷ ys) a x m = elim m [ inl e ↦ subst P (sym e) a.0 | inr n ↦ of_each P ys a.1 x n ]
@@ -56,6 +57,7 @@ pub each_flat_in : {X Y : Type 0} (Q : X → Type 0) (P : Y → Type 0) (f : X �
 each_flat_in Q P f [] h a = tt
 each_flat_in Q P f (x ∷ xs) h a = each_append P (f x) (flat_map f xs) (h x a.0) (each_flat_in Q P f xs h a.1)
 
+-- each vector of a box is in it
 pub each_between : (low high : List ℕ) → AllZip (λ x y. x ≤ y) low high → AllByRecursion (IsBetween low high) (vectors low high)
 each_between [] [] h = (record { least = tt; most = tt }, tt)
 each_between [] (b ∷ high) h = absurd h

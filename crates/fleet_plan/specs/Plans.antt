@@ -6,7 +6,6 @@ use Rattle.fleet_model.specs.Rows.{line_units}
 use Rattle.fleet_model.specs.Fleet.{IsAllocation, cost}
 use Rattle.fleet_model.specs.Headline.{NoAllocationHasFewer, NoPriceIsHigher, HasAtMost}
 use Rattle.family_points.specs.Points.{ScoreEnds}
-use Rattle.marginal_alloc.specs.declared.allocation.Critical.{Critical}
 use Rattle.marginal_alloc.specs.declared.plans.PlanNumbers.{PlanNumbers}
 use Rattle.marginal_alloc.specs.Plans.{IsPlan}
 use Rattle.price_bounds.specs.Sums.{bound_of}
@@ -21,13 +20,13 @@ pub record CasePlan : Type 0 where
   pub floors : List ℕ
   pub numbers : PlanNumbers
 
--- the line unit of a step
-abbrev pub line_of_step : CaseRows → Critical → ℕ
-line_of_step c step = get_or (line_units c) step.family 0
+-- the line unit of a family
+abbrev pub line_of_family : CaseRows → ℕ → ℕ
+line_of_family c family = get_or (line_units c) family 0
 
 -- the line unit of a plan's critical step, if there is one
 abbrev pub critical_line : CaseRows → CasePlan → Option ℕ
-critical_line c p = option_map (line_of_step c) p.numbers.critical
+critical_line c p = option_map (line_of_family c) p.numbers.critical
 
 -- The plan is the plan of all families' points from the held stocks to the limits.
 pub record IsCasePlan (ends : ScoreEnds) (c : CaseRows) (held : List ℕ) (budget : ℕ) (p : CasePlan) : Type 0 where

@@ -10,3 +10,4 @@ pub mod Stops
 pub mod Sums
 pub mod Shapes
 pub mod Members
+pub mod Kept

@@ -1,6 +1,6 @@
 //! Chains: curves whose points arrive by rising cost, and need not store their stocks.
 
-ghost use Rattle.std.specs.Prelude.{◌≡◌, ◌+◌, ◌^◌, ◌<◌, ◌≤◌, [], ◌∷◌, ◌++◌, List, length, map, IfOk, OnOk, OnErr};
+ghost use Rattle.std.specs.Prelude.{◌≡◌, ◌+◌, ◌-◌, ◌^◌, ◌<◌, ◌≤◌, [], ◌∷◌, ◌++◌, List, drop, length, map, take, IfOk, OnOk, OnErr};
 ghost use Rattle.hull.specs.declared.point.Point.{Point};
 ghost use Rattle.hull.specs.Curves.{Among, InRange, IsShape, StandFor, point_at};
 
@@ -86,6 +86,17 @@ impl<T: Spot> Chain<T> {
         self.vertices.reserve(1)?;
         grow(&mut self.vertices, point);
         Ok(())
+    }
+
+    /// Keeps only the vertices from the place `from` on and before the place `to`. Places count from 0; `from` is below
+    /// `to`, and `to` at most the number of vertices.
+    pub fn keep(&mut self, from: u32, to: u32)
+        requires order { from < to }
+        requires within { to ≤ length self.old }
+        ensures { self.new ≡ take (to - from) (drop from self.old) }
+    {
+        self.vertices.truncate(to as usize);
+        self.vertices.drain(..from as usize);
     }
 
     /// The number of vertices. The clauses also state the shape of a chain.

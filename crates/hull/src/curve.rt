@@ -1,6 +1,6 @@
 //! Curves, seen as their vertices in order of cost.
 
-ghost use Rattle.std.specs.Prelude.{◌≡◌, ◌+◌, ◌^◌, ◌<◌, ◌≤◌, ◌∷◌, [], ◌++◌, List, length, take, IfOk, OnOk, OnErr};
+ghost use Rattle.std.specs.Prelude.{◌≡◌, ◌+◌, ◌-◌, ◌^◌, ◌<◌, ◌≤◌, ◌∷◌, [], ◌++◌, List, drop, length, take, IfOk, OnOk, OnErr};
 ghost use Rattle.hull.specs.declared.point.Point.{Point};
 ghost use Rattle.hull.specs.Curves.{Among, InRange, HaveOneWidth, IsChain, IsCurve, IsShape, IsBestAt, IsLeastAt, point_at, plus, sums};
 
@@ -144,6 +144,17 @@ impl Curve {
     {
         let points = path(alloc, a.vertices.as_slice(), b.vertices.as_slice())?;
         Curve::of(alloc, points)
+    }
+
+    /// Keeps only the vertices from the place `from` on and before the place `to`. Places count from 0; `from` is below
+    /// `to`, and `to` at most the number of vertices.
+    pub fn keep(&mut self, from: u32, to: u32)
+        requires order { from < to }
+        requires within { to ≤ length self.old }
+        ensures { self.new ≡ take (to - from) (drop from self.old) }
+    {
+        self.vertices.truncate(to as usize);
+        self.vertices.drain(..from as usize);
     }
 
     /// The number of vertices. The clauses also state the shape of a curve.

@@ -2,12 +2,12 @@
 use Rattle.std.proofs.Common.{◌≡◌, ℕ, zero, suc, ◌+◌, ◌-◌, ◌<◌, ◌≤◌, inl, inr, List, [], ◌∷◌, ◌++◌, Option, Some, None, length, set, slice_index, refl, sym, ap, subst, arith}
 use Rattle.hull.specs.declared.point.Point.{Point}
 use Rattle.hull.specs.declared.price.Price.{Price}
-use Rattle.hull.specs.Curves.{lagrangian, Among, IsShape, Steps, IsLeastAt, nowhere, point_at}
+use Rattle.hull.specs.Curves.{lagrangian, Among, Steps, IsLeastAt, nowhere, point_at}
 use Rattle.hull.proofs.Stops.{least_at_stop, least_of_all}
 use Rattle.hull.proofs.Runs.{among_at}
 use Rattle.marginal_alloc.specs.declared.allocation.Critical.{Critical}
 use Rattle.price_bounds.specs.Sums.{total, cost_of, lo_of, width_of, Picks, AllLeast, bound_of, IsWithin}
-use Rattle.step_walk.specs.Prefix.{curve_at, vertex_at, HasStep, fall, rise, picked, IsPrefix, IsNext, AllTaken}
+use Rattle.step_walk.specs.Prefix.{curve_at, vertex_at, HasStep, fall, rise, picked, IsPrefix, IsNext, AllTaken, HaveShapes}
 use Rattle.marginal_alloc.specs.Choice.{IsHullChoice, AreCurves, rounding_at}
 use Rattle.marginal_alloc.proofs.Told.{told, bound_at}
 use Rattle.price_bounds.proofs.Duality.{AreEnds, no_fewer, no_price, no_price_at_end}
@@ -71,7 +71,7 @@ around (c ∷ cs) (k ∷ ks) (suc f) b n =
       moved = λ j. ap (λ l. point_at c k ∷ l) (r.moved j);
     }
 
-module _ (families curves : List (List Point)) (budget : ℕ) (picks : List ℕ) (cost : ℕ) (price : Price) (areas : AreCurves families curves) (shapes : (f : ℕ) → f < length curves → IsShape (curve_at curves f)) where
+module _ (families curves : List (List Point)) (budget : ℕ) (picks : List ℕ) (cost : ℕ) (price : Price) (areas : AreCurves families curves) (shapes : HaveShapes curves) where
   rises : (f k : ℕ) → HasStep curves f k → 0 < rise curves f k
   rises f k s = (let r : Steps (vertex_at curves f k) (vertex_at curves f (k + 1)) = own_step (curve_at curves f) (shapes f s.family).chain k s.place in let l = r.cost in omega (arith, l))
 

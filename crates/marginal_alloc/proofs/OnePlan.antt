@@ -1,5 +1,5 @@
 -- Points whose stocks tell them apart have one plan under a budget.
-use Rattle.std.proofs.Common.{◌≡◌, ℕ, ◌-◌, ◌≤◌, List, [], ◌∷◌, sum, refl, sym, ap, ◌∙◌, subst, arith}
+use Rattle.std.proofs.Common.{◌≡◌, ℕ, ◌-◌, ◌≤◌, List, [], ◌∷◌, option_map, sum, refl, sym, ap, ◌∙◌, subst, arith}
 use Rattle.std.proofs.lemmas.List.{ext_get_or}
 use Rattle.hull.specs.declared.point.Point.{Point}
 use Rattle.hull.specs.declared.price.Price.{Price}
@@ -84,5 +84,5 @@ module _ (families : List (List Point)) (budget : ℕ) (chosen other : List Poin
         (p.hull_cost ∙ ap (λ z. z.cost) hulls ∙ sym q.hull_cost) prices costs uppers bounds
         (p.rounding ∙ ap (λ z. rounding_of z p.hull) curves ∙ ap (λ z. rounding_of q.curves z) hulls ∙ sym q.rounding)
         (p.gap ∙ ap (λ z. z - numbers.bound) uppers ∙ ap (λ z. other_numbers.upper - z) bounds ∙ sym q.gap)
-        (p.critical ∙ ap (λ z. z.critical) hulls ∙ sym q.critical);
+        (p.critical ∙ ap (λ z. option_map (λ c. c.family) z.critical) hulls ∙ sym q.critical);
   }

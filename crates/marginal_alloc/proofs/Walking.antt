@@ -1,5 +1,5 @@
 -- A walk under a budget.
-use Rattle.std.proofs.Common.{◌≡◌, ℕ, zero, suc, ◌+◌, ◌<◌, ◌≤◌, List, [], ◌∷◌, length, set, slice_index, refl, sym, ◌∙◌, subst, arith}
+use Rattle.std.proofs.Common.{◌≡◌, ℕ, zero, suc, ◌+◌, ◌<◌, ◌≤◌, List, [], ◌∷◌, length, set, slice_index, refl, sym, ap, ◌∙◌, subst, arith}
 use Rattle.hull.specs.declared.point.Point.{Point}
 use Rattle.hull.specs.Curves.{point_at}
 use Rattle.step_walk.specs.declared.walk.Next.{Next}
@@ -7,6 +7,7 @@ use Rattle.step_walk.specs.Prefix.{vertex_at, rise, picked}
 use Rattle.step_walk.specs.Walks.{Walked, TellsFirst, MovesOn}
 use Rattle.step_walk.proofs.Taking.{cost_rises, steps_left, left_falls}
 use Rattle.price_bounds.specs.Sums.{cost_of}
+use Rattle.marginal_alloc.specs.Choice.{firsts}
 
 -- what the picks cost with one step more
 pub cost_taken : (curves : List (List Point)) (picks : List ℕ) (f : ℕ) → f < length curves → length picks ≡ length curves → (vertex_at curves f (slice_index picks f)).cost ≤ (vertex_at curves f (slice_index picks f + 1)).cost
@@ -16,14 +17,21 @@ cost_taken (c ∷ curves) [] f b n h = absurd (let l : 0 ≡ suc (length curves)
 cost_taken (c ∷ curves) (k ∷ picks) zero b n h = omega (arith, h)
 cost_taken (c ∷ curves) (k ∷ picks) (suc f) b n h = (let r = cost_taken curves picks f (omega arith) (let l : suc (length picks) ≡ suc (length curves) = n in omega arith) h in omega (arith, r))
 
--- picks at the first vertices cost nothing where the first vertex of each curve costs nothing
-pub free_at_first : (curves : List (List Point)) (picks : List ℕ) → length picks ≡ length curves → ((f : ℕ) → slice_index picks f ≡ 0) → ((f : ℕ) → f < length curves → (vertex_at curves f 0).cost ≡ 0) → cost_of (picked curves picks) ≡ 0
-free_at_first [] picks n z h = refl
-free_at_first (c ∷ curves) [] n z h = refl
-free_at_first (c ∷ curves) (k ∷ picks) n z h =
-    let r = free_at_first curves picks (let l : suc (length picks) ≡ suc (length curves) = n in omega arith) (λ f. z (suc f)) (λ f b. h (suc f) (omega arith)) in
+-- picks at the first vertices
+pub firsts_at : (curves : List (List Point)) (picks : List ℕ) → length picks ≡ length curves → ((f : ℕ) → slice_index picks f ≡ 0) → picked curves picks ≡ firsts curves
+firsts_at [] picks n z = refl
+firsts_at (c ∷ curves) [] n z = absurd (let l : 0 ≡ suc (length curves) = n in omega arith)
+firsts_at (c ∷ curves) (k ∷ picks) n z =
+    let r = firsts_at curves picks (let l : suc (length picks) ≡ suc (length curves) = n in omega arith) (λ f. z (suc f)) in
     let e : k ≡ 0 = z zero in
-    let g : (point_at c k).cost ≡ 0 = subst (λ x. (point_at c x).cost ≡ 0) (sym e) (h zero (omega arith)) in
+    ap (λ x. point_at c x ∷ picked curves picks) e ∙ ap (λ (vs : List Point). point_at c 0 ∷ vs) r
+
+-- the first vertices cost nothing where that of each curve costs nothing
+pub free_firsts : (curves : List (List Point)) → ((f : ℕ) → f < length curves → (vertex_at curves f 0).cost ≡ 0) → cost_of (firsts curves) ≡ 0
+free_firsts [] h = refl
+free_firsts (c ∷ curves) h =
+    let r = free_firsts curves (λ f b. h (suc f) (omega arith)) in
+    let g : (point_at c 0).cost ≡ 0 = h zero (omega arith) in
     omega (arith, r, g)
 
 -- what one step more says

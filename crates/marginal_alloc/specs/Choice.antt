@@ -1,12 +1,17 @@
 -- The hull choice: the steps of all curves by falling slope, within the budget.
-use Rattle.std.specs.Prelude.{◌≡◌, ℕ, ◌+◌, ◌-◌, ◌<◌, ◌≤◌, Option, Some, None, List, length, slice_index}
+use Rattle.std.specs.Prelude.{◌≡◌, ℕ, ◌+◌, ◌-◌, ◌<◌, ◌≤◌, Option, Some, None, List, [], ◌∷◌, length, slice_index}
 use Rattle.hull.specs.declared.point.Point.{Point}
 use Rattle.hull.specs.declared.price.Price.{Price}
-use Rattle.hull.specs.Curves.{IsCurve}
+use Rattle.hull.specs.Curves.{IsCurve, point_at}
 use Rattle.step_walk.specs.Prefix.{AllTaken, HaveShapes, IsNext, IsPrefix, curve_at, fall, picked, rise, vertex_at}
 use Rattle.marginal_alloc.specs.declared.allocation.Critical.{Critical}
 use Rattle.marginal_alloc.specs.declared.allocation.Chosen.{Chosen}
 use Rattle.price_bounds.specs.Sums.{cost_of, width_of}
+
+-- the first vertex of each curve
+abbrev pub firsts : List (List Point) → List Point
+firsts [] = []
+firsts (curve ∷ curves) = point_at curve 0 ∷ firsts curves
 
 -- the choice stops at a critical step that exceeds the budget, or when no step is left
 abbrev pub StopsWith : List (List Point) → ℕ → List ℕ → ℕ → Price → Option Critical → Type 0

@@ -1,5 +1,5 @@
 -- The plan of the points of families under a budget.
-use Rattle.std.specs.Prelude.{◌≡◌, ℕ, ◌-◌, List, sum}
+use Rattle.std.specs.Prelude.{◌≡◌, ℕ, ◌-◌, List, option_map, sum}
 use Rattle.hull.specs.declared.point.Point.{Point}
 use Rattle.marginal_alloc.specs.declared.allocation.Chosen.{Chosen}
 use Rattle.marginal_alloc.specs.declared.plans.PlanNumbers.{PlanNumbers}
@@ -27,4 +27,4 @@ pub record IsPlan (families : List (List Point)) (budget : ℕ) (chosen : List P
   pub bound : numbers.bound ≡ bound_of numbers.price.p numbers.price.q (sum floors) budget
   pub rounding : numbers.rounding ≡ rounding_of curves hull
   pub gap : numbers.gap ≡ numbers.upper - numbers.bound
-  pub critical : numbers.critical ≡ hull.critical
+  pub critical : numbers.critical ≡ option_map (λ c. c.family) hull.critical

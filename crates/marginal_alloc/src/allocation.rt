@@ -1,7 +1,8 @@
 //! The hull choice: the steps of all curves by falling slope, within the budget.
 ghost use Rattle.std.specs.Prelude.{◌≡◌, ℕ, ◌^◌, ◌<◌, ◌≤◌, length, IfOk, OnOk};
 ghost use Rattle.step_walk.specs.Prefix.{vertex_at, HaveShapes};
-ghost use Rattle.marginal_alloc.specs.Choice.{IsHullChoice};
+ghost use Rattle.price_bounds.specs.Sums.{cost_of};
+ghost use Rattle.marginal_alloc.specs.Choice.{IsHullChoice, firsts};
 
 use crate::start::start;
 use answers::{List, NoMemory};
@@ -53,6 +54,24 @@ pub fn allocate_near(
 ) -> Result<Chosen, NoMemory>
     requires few { length curves.now ≤ 2000 }
     requires free { (f : ℕ) → f < length curves.now → (vertex_at curves.now f 0).cost ≡ 0 }
+    ensures choice { IfOk result (λ chosen. IsHullChoice curves.now budget chosen) }
+    ensures shapes { OnOk result (HaveShapes curves.now) }
+    ensures price { IfOk result (λ chosen. (chosen.price.p < 2 ^ 74) × (0 < chosen.price.q)
+        × (chosen.price.q ≤ 1000000000000)) }
+{
+    allocate_within(alloc, curves, budget, near)
+}
+
+/// The same hull choice as [`allocate_near`], of curves that needn't begin at cost 0: their first vertices together are
+/// within the budget.
+pub fn allocate_within(
+    alloc: Global,
+    curves: &[Curve],
+    budget: u64,
+    near: u128,
+) -> Result<Chosen, NoMemory>
+    requires few { length curves.now ≤ 2000 }
+    requires firsts { cost_of (firsts curves.now) ≤ budget }
     ensures choice { IfOk result (λ chosen. IsHullChoice curves.now budget chosen) }
     ensures shapes { OnOk result (HaveShapes curves.now) }
     ensures price { IfOk result (λ chosen. (chosen.price.p < 2 ^ 74) × (0 < chosen.price.q)

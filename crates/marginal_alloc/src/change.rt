@@ -3,14 +3,14 @@ ghost use Rattle.std.specs.Prelude.{◌≡◌, ℕ, ◌+◌, ◌^◌, ◌<◌, �
 ghost use Rattle.hull.specs.Curves.{IsShape};
 ghost use Rattle.price_bounds.specs.Sums.{cost_of};
 ghost use Rattle.step_walk.specs.Prefix.{curve_at, AreVertices, picked};
-ghost use Rattle.marginal_alloc.specs.Filling.{IsFull, IsBestChange};
+ghost use Rattle.marginal_alloc.specs.Filling.{IsFull, IsBestChange, gain};
 ghost use Rattle.marginal_alloc.specs.Changes.{hi_at, IsLowest, IsBestBefore};
 
 use hull::Curve;
 
 /// A change of one family to another vertex of its curve, and its gain: the fall of the upper end.
 #[derive(Clone, Copy, Drop)]
-pub(crate) struct Change {
+pub struct Change {
     pub family: u32,
     pub vertex: u32,
     pub gain: u128,
@@ -95,14 +95,16 @@ fn better_of(
     })
 }
 
-/// The best change of the picks with `left` money to spend, if there is one.
-pub(crate) fn best_change(curves: &[Curve], picks: &[u32], left: u64) -> Option<Change>
+/// The best change of the picks with `left` money to spend, if there is one: it lowers its family's upper end most, and
+/// of equal ones it is the first by family and then by vertex.
+pub fn best_change(curves: &[Curve], picks: &[u32], left: u64) -> Option<Change>
     requires few { length curves.now ≤ 2000 }
     requires vertices { AreVertices curves.now picks.now }
     requires money { cost_of (picked curves.now picks.now) + left < 2 ^ 64 }
     ensures none { IfNone result (IsFull curves.now (cost_of (picked curves.now picks.now) + left) picks.now) }
     ensures some { IfSome result (λ c. IsBestChange curves.now
         (cost_of (picked curves.now picks.now) + left) picks.now c.family c.vertex) }
+    ensures gain { IfSome result (λ c. c.gain ≡ gain curves.now picks.now c.family c.vertex) }
 {
     let mut best = None;
     for f in 0..curves.len() {

@@ -1,14 +1,14 @@
 //! The filling: the best change of one family at a time, until no change is left.
-ghost use Rattle.std.specs.Prelude.{◌≡◌, ◌<◌, ◌≤◌, length};
+ghost use Rattle.std.specs.Prelude.{◌≡◌, ◌+◌, ◌^◌, ◌<◌, ◌≤◌, length, set};
 ghost use Rattle.price_bounds.specs.Sums.{cost_of};
 ghost use Rattle.step_walk.specs.Prefix.{AreVertices, picked};
-ghost use Rattle.marginal_alloc.specs.Filling.{Fills};
+ghost use Rattle.marginal_alloc.specs.Filling.{Fills, IsBestChange};
 
-use crate::change::best_change;
+use crate::change::{Change, best_change};
 use hull::Curve;
 
-/// The total cost of the picks.
-pub(crate) fn cost_at(curves: &[Curve], picks: &[u32]) -> u64
+/// The total cost of the picks, one vertex of each of at most 2,000 curves.
+pub fn cost_at(curves: &[Curve], picks: &[u32]) -> u64
     requires few { length curves.now ≤ 2000 }
     requires vertices { AreVertices curves.now picks.now }
     ensures { result ≡ cost_of (picked curves.now picks.now) }
@@ -22,6 +22,23 @@ pub(crate) fn cost_at(curves: &[Curve], picks: &[u32]) -> u64
         cost += curve.point(pick).cost;
     }
     cost
+}
+
+/// Makes a change of the picks that fits the money left, and returns what is left then.
+pub fn take_change(curves: &[Curve], picks: &mut Vec<u32>, change: Change, left: u64) -> u64
+    requires vertices { AreVertices curves.now picks.old.items }
+    requires money { cost_of (picked curves.now picks.old.items) + left < 2 ^ 64 }
+    requires change { IsBestChange curves.now
+        (cost_of (picked curves.now picks.old.items) + left) picks.old.items change.family change.vertex }
+    ensures picks { picks.new.items ≡ set picks.old.items change.family change.vertex }
+    ensures money { cost_of (picked curves.now picks.new.items) + result
+        ≡ cost_of (picked curves.now picks.old.items) + left }
+{
+    let curve = &curves[change.family as usize];
+    let pick = picks[change.family as usize];
+    let after = left + curve.point(pick).cost - curve.point(change.vertex).cost;
+    picks[change.family as usize] = change.vertex;
+    after
 }
 
 /// Fills the picks: takes the best change until no change is left.
@@ -39,9 +56,6 @@ pub fn fill(curves: &[Curve], picks: &mut Vec<u32>, budget: u64)
 {
     let mut left = budget - cost_at(curves, picks.as_slice());
     'changes: while let Some(change) = best_change(curves, picks.as_slice(), left) {
-        let curve = &curves[change.family as usize];
-        let pick = picks[change.family as usize];
-        left = left + curve.point(pick).cost - curve.point(change.vertex).cost;
-        picks[change.family as usize] = change.vertex;
+        left = take_change(curves, picks, change, left);
     }
 }

@@ -8,5 +8,7 @@ pub mod laws;
 pub mod plans;
 mod start;
 
-pub use allocation::{Chosen, Critical, allocate, allocate_near};
-pub use filling::fill;
+pub use allocation::{Chosen, Critical, allocate, allocate_near, allocate_within};
+pub use change::{Change, best_change};
+pub use filling::{cost_at, fill, take_change};
+pub use start::first_cost;

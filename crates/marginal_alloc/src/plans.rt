@@ -4,7 +4,6 @@
 ghost use Rattle.marginal_alloc.specs.Promises.{PlansKeepTheirPromises, PlansAreAcceptable, PlansAreOne};
 ghost use Rattle.marginal_alloc.specs.Soundness.{PlansAreSound};
 
-use crate::Critical;
 use hull::Price;
 
 /// The numbers of a plan. Costs are in whole money; the upper end, the bound, the rounding and the gap are in units
@@ -25,8 +24,8 @@ pub struct PlanNumbers {
     pub rounding: u128,
     /// The upper end less the bound.
     pub gap: u128,
-    /// The critical step of the hull choice.
-    pub critical: Option<Critical>,
+    /// The family of the critical step of the hull choice.
+    pub critical: Option<u32>,
 }
 
 /// The promises of a plan, for all values within the points' ends: its choice is within its families and its budget, no

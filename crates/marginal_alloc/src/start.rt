@@ -1,7 +1,8 @@
 //! The start of the walk of a hull choice: after all steps above a price, many of which fit the budget at once.
-ghost use Rattle.std.specs.Prelude.{◌≡◌, ℕ, ◌^◌, ◌<◌, ◌≤◌, length, IfOk};
+ghost use Rattle.std.specs.Prelude.{◌≡◌, ◌^◌, ◌≤◌, length, IfOk};
 ghost use Rattle.price_bounds.specs.Sums.{cost_of};
-ghost use Rattle.step_walk.specs.Prefix.{vertex_at, picked};
+ghost use Rattle.step_walk.specs.Prefix.{picked};
+ghost use Rattle.marginal_alloc.specs.Choice.{firsts};
 
 use crate::filling::cost_at;
 use answers::NoMemory;
@@ -67,6 +68,15 @@ fn price_within(alloc: Global, curves: &[Curve], budget: u64, near: u128) -> Res
     price_found(alloc, curves, budget)
 }
 
+/// The cost of the first vertices of at most 2,000 curves. Want of memory is the only error.
+pub fn first_cost(alloc: Global, curves: &[Curve]) -> Result<u64, NoMemory>
+    requires few { length curves.now ≤ 2000 }
+    ensures { IfOk result (λ cost. cost ≡ cost_of (firsts curves.now)) }
+{
+    let walk = Walk::begin(alloc, curves)?;
+    Ok(cost_at(curves, walk.picks()))
+}
+
 /// A walk within the budget, and the cost of its picks. `near` is a guess of the price; it changes no result.
 pub(crate) fn start<'a>(
     alloc: Global,
@@ -75,7 +85,7 @@ pub(crate) fn start<'a>(
     near: u128,
 ) -> Result<(Walk<'a>, u64), NoMemory>
     requires few { length curves.now ≤ 2000 }
-    requires free { (f : ℕ) → f < length curves.now → (vertex_at curves.now f 0).cost ≡ 0 }
+    requires firsts { cost_of (firsts curves.now) ≤ budget }
     ensures same { IfOk result (λ s. s.0.curves ≡ curves.now) }
     ensures cost { IfOk result (λ s. s.1 ≡ cost_of (picked curves.now s.0.picks)) }
     ensures fits { IfOk result (λ s. s.1 ≤ budget) }
@@ -87,5 +97,6 @@ pub(crate) fn start<'a>(
         return Ok((walk, cost));
     }
     let walk = Walk::begin(alloc, curves)?;
-    Ok((walk, 0))
+    let cost = cost_at(curves, walk.picks());
+    Ok((walk, cost))
 }

@@ -1,7 +1,11 @@
-//! Plans that begin with stocks on hand: the curves from the held stocks to the limits, and the plan of a case by them.
+//! Plans that begin with stocks on hand: the curves from the held stocks to the limits, and the plan of a case by them
+//! or by their parts near the price at which the budget is spent.
 #![tactic(auto)]
 
 mod curves;
+mod families;
+mod guess;
+mod parts;
 mod plan;
 
 pub use curves::held_curves;

@@ -1,20 +1,89 @@
 //! The plan of a case, with no curves passed in.
 
-ghost use Rattle.std.specs.Prelude.{◌≤◌, IfOk};
+ghost use Rattle.std.specs.Prelude.{◌^◌, ◌<◌, ◌≤◌, IfOk, IfSome};
 ghost use Rattle.std.specs.Result.{IsOk};
 ghost use Rattle.spares_input.specs.Money.{most_budget};
 ghost use Rattle.spares_input.specs.Stocks.{IsFor, IsWithinLimits};
 ghost use Rattle.demand_rates.specs.Rates.{AreRatesOf};
+ghost use Rattle.part_filling.specs.Known.{IsPriceWindow};
 ghost use Rattle.held_work.specs.Work.{held_work_of};
 ghost use Rattle.case_plan.specs.Report.{IsOutcome};
 
 use crate::curves::held_curves;
+use crate::families::HeldFamilies;
+use crate::guess::{guess, price_at};
+use crate::parts::parts_between;
 use answers::NoMemory;
-use case_plan::{Outcome, plan};
+use case_plan::{Outcome, plan, plan_by_parts};
 use demand_rates::kinds::Rates;
-use hull::Score;
+use hull::{Price, Score};
+use part_filling::Window;
 use spares_input::{Case, Stocks};
 use std::alloc::Global;
+
+/// With fewer families a guess of the price costs more than parts of curves save.
+const MANY: u32 = 48;
+
+/// The prices from one to another, in units of 2^-48 for whole money.
+fn window_of(low: u128, high: u128) -> Window
+    requires positive { 0 < low }
+    requires order { low ≤ high }
+    requires most { high ≤ 2 ^ 74 }
+    ensures { IsPriceWindow result.low result.high }
+{
+    Window {
+        low: Price { p: low, q: 1 },
+        high: Price { p: high, q: 1 },
+    }
+}
+
+/// The plan by the parts of the curves between two prices. None if the parts' hull choice has no critical step.
+fn plan_between<S: Score>(
+    alloc: Global,
+    families: &HeldFamilies<'_, S>,
+    window: Window,
+    budget: u64,
+    loss: bool,
+    on_hand: Option<u64>,
+) -> Result<Option<Outcome>, NoMemory>
+    requires window { IsPriceWindow window.low window.high }
+    requires budget { budget ≤ most_budget }
+    ensures { IfOk result (λ found. IfSome found (IsOutcome S.ends families.now.case families.now.held.list
+        (record { budget = budget; loss = loss; on_hand = on_hand }))) }
+{
+    let case = families.case();
+    let rates = families.rates();
+    let parts = parts_between(alloc, families, families.count(), window)?;
+    let near = window.high.p;
+    plan_by_parts(
+        alloc, case, rates, families, window, parts, budget, near, loss, on_hand,
+    )
+}
+
+/// The plan by the parts of the curves near the price at which the budget is about spent. None if nearly all is bought,
+/// or the guess of the price is wrong.
+fn plan_near<S: Score>(
+    alloc: Global,
+    families: &HeldFamilies<'_, S>,
+    budget: u64,
+    loss: bool,
+    on_hand: Option<u64>,
+) -> Result<Option<Outcome>, NoMemory>
+    requires budget { budget ≤ most_budget }
+    ensures { IfOk result (λ found. IfSome found (IsOutcome S.ends families.now.case families.now.held.list
+        (record { budget = budget; loss = loss; on_hand = on_hand }))) }
+{
+    let Some(number) = guess(alloc, families, budget)? else {
+        return Ok(None);
+    };
+    let price = price_at(number);
+    let close = window_of(price * 5 / 8, price_at(number + 2) * 9 / 8);
+    if let Some(outcome) = plan_between(alloc, families, close, budget, loss, on_hand)? {
+        return Ok(Some(outcome));
+    }
+    let wide = window_of(price / 2, price * 4);
+    plan_between(alloc, families, wide, budget, loss, on_hand)
+}
 
 /// The plan of a case under a budget in whole money, from held stocks: a list for the case, within the limits. If
 /// nothing is held, the list is zeros.
@@ -39,6 +108,12 @@ pub fn plan_case<S: Score>(
     ensures { IfOk result (IsOutcome S.ends case.now held.now.list
         (record { budget = budget; loss = loss; on_hand = on_hand })) }
 {
+    let families = HeldFamilies::of(alloc, case, rates, held, score)?;
+    if families.count() >= MANY {
+        if let Some(outcome) = plan_near(alloc, &families, budget, loss, on_hand)? {
+            return Ok(outcome);
+        }
+    }
     let curves = held_curves(alloc, case, rates, held, score)?;
     plan(alloc, case, rates, curves.as_slice(), budget, loss, on_hand)
 }

@@ -5,7 +5,6 @@ use Rattle.std.specs.Prelude.{All}
 use Rattle.case_edits.specs.Edits.{PlanDue, session_of}
 use Rattle.case_edits.specs.declared.fault.EditFault.{EditFault}
 use Rattle.case_plan.proofs.Truths.{plain_true, planned_true}
-use Rattle.case_tables.proofs.Refuse.{Refuses, is_of_task}
 use Rattle.fleet_model.specs.Aims.{weighted_backorders}
 use Rattle.fleet_plan.proofs.Plain.{plain_encloses}
 use Rattle.plan_report.specs.Fits.{FitsPlan}
@@ -18,13 +17,10 @@ use Rattle.refusals.specs.Lines.{no_names}
 use Rattle.refusals.specs.declared.failure.Failure.{Failure}
 use Rattle.refusals.specs.declared.refusal.Refusal.TheVariants as refusal
 use Rattle.spares_input.specs.Cases.{CaseRows}
-use Rattle.answers.specs.Answers.{Gives}
 use Rattle.answers.specs.Steps.{◌>>=◌}
-use Rattle.answers.specs.declared.stop.Stop.{Stop}
-use Rattle.answers.specs.declared.stop.Stop.TheVariants as stop
 use Rattle.demonstration.proofs.Told.{zeros_hold}
 use Rattle.spares_top.specs.Headline.{IsTrueAnswer}
-use Rattle.spares_top.specs.Making.{Is, IsMade, MakesBy}
+use Rattle.spares_top.specs.Making.{Is, IsMade}
 use Rattle.spares_top.specs.Task.{Task, plan_in_turn, printed}
 use Rattle.spares_top.specs.declared.done.Done.TheVariants.{Session}
 use Rattle.spares_top.proofs.Shown.{span_prints}
@@ -71,8 +67,3 @@ module _ (c : CaseRows) (edits : List ℕ) (given : Result CaseRows Failure) (is
   -- a session whose reports answer its edits is what its task asks for
   pub answered : (report : SessionReport) → AnswersEdits (session_of c edits) (Ok report) → All FitsPlan report.plans → IsMade (Is (asked given edits)) (printed (Session report))
   answered report h fits = answered_by (session_of c edits) report refl h fits
-
--- what isn't given isn't edited
-pub unedited : (given : Result CaseRows Failure) (edits : List ℕ) (e : Stop Failure) → Refuses given → Gives given (Err e) → MakesBy (Is (asked given edits)) (Err e)
-unedited given edits stop.NoMemory r h = tt
-unedited given edits (stop.Fault failure) r h = (rw h refl, rw (is_of_task given failure r h) tt)

@@ -1,68 +1,55 @@
 -- What a check confirms.
-use Rattle.std.proofs.Common.{◌≡◌, ◌∙◌, ◌^◌, ◌≤◌, ap, arith, refl, subst, sym, Bool, true, false, Option, Some, None, Ok, Err, ℕ, List, if◌then◌else◌}
+use Rattle.std.proofs.Common.{◌≡◌, ◌∙◌, ◌^◌, ap, arith, refl, subst, sym, Option, Some, None, Result, Ok, Err, ℕ, List}
 use Rattle.std.specs.Option.{option_map}
 use Rattle.exact_model.specs.Fraction.{Contains, Fraction, whole, ◌*ℚ◌, ◌≤ℚ◌}
 use Rattle.fixed_interval.specs.Text.{text_value}
 use Rattle.fixed_interval.proofs.Laws.{up_above}
 use Rattle.spares_input.specs.Cases.{CaseRows, frame_rows}
+use Rattle.spares_input.specs.Frames.{FrameRows}
 use Rattle.spares_input.specs.First.{unless}
-use Rattle.spares_input.specs.Stocks.{StockList, IsFor, cost_of, nothing_held}
-use Rattle.answers.specs.declared.stop.Stop.{Stop}
+use Rattle.spares_input.specs.Stocks.{StockList, cost_of}
 use Rattle.answers.specs.declared.stop.Stop.TheVariants as stop
 use Rattle.price_certificate.specs.declared.certificate.Objective.{Objective}
 use Rattle.price_certificate.specs.declared.certificate.Objective.TheVariants.{Backorders}
 use Rattle.case_plan.specs.Truth.{NoneHasLessThanPrinted}
 use Rattle.certified_plan.specs.Accepted.{claims_of}
+use Rattle.certified_plan.specs.Inputs.{IsHeld}
 use Rattle.certified_plan.proofs.Believed.{accepted_true, plain_true}
 use Rattle.gap_rules.specs.Scores.{ends_of, value_of}
 use Rattle.fleet_plan.specs.Plans.{AreTrueClaims, ArePlainClaims}
-use Rattle.gap_rules.specs.Refusals.{cost_above, judged, reject_of}
+use Rattle.gap_rules.specs.Refusals.{cost_above, reject_of}
 use Rattle.gap_rules.proofs.Acceptable.{breaks_none}
 use Rattle.gap_rules.proofs.Costs.{added_is}
 use Rattle.check_answers.specs.declared.refusal.Accepted.{Accepted}
 use Rattle.check_answers.specs.declared.refusal.Reject.{Reject}
 use Rattle.plan_report.specs.Fits.{FitsCheck}
 use Rattle.plan_report.specs.Texts.{millionths_up}
-use Rattle.refusals.specs.Causes.{or_refuse}
 use Rattle.refusals.specs.Lines.{no_names}
-use Rattle.refusals.specs.declared.failure.Failure.{Failure}
 use Rattle.refusals.specs.declared.refusal.Refusal.TheVariants as refusal
 use Rattle.fleet_model.specs.Aims.{aim, cost_beyond}
 use Rattle.fleet_model.specs.Fleet.{cost}
 use Rattle.fleet_model.proofs.AllocationLaws.{cost_holds}
 use Rattle.fleet_plan.proofs.Costs.{families_beyond}
 use Rattle.case_plan.proofs.Truths.{below_printed}
-use Rattle.case_tables.proofs.Refuse.{is_of_task}
 use Rattle.certified_plan.proofs.Scores.{scores_enclose}
-use Rattle.refusals.specs.Causes.{failure_of}
+use Rattle.answers.specs.Answers.{Gives}
+use Rattle.answers.specs.declared.stop.Stop.{Stop}
+use Rattle.refusals.specs.Causes.{or_refuse}
+use Rattle.refusals.specs.declared.failure.Failure.{Failure}
 use Rattle.spares_top.specs.Making.{Is, MakesBy}
 use Rattle.spares_top.specs.Task as task
 use Rattle.spares_top.specs.Task.{check_task, confirm}
 use Rattle.spares_top.specs.declared.done.Done.TheVariants.{Checked}
-use Rattle.spares_top.proofs.Stops.{claimed_refuses}
 use Rattle.spares_top.specs.Checking.{IsClaim, TellsClaim, claimed_by}
 use Rattle.spares_top.specs.Checks.{check_of, claimed_of, form_of, judged_of}
 use Rattle.spares_top.specs.Headline.{HasNoMoreThanPrinted}
 use Rattle.spares_top.specs.Held.{held_in}
 use Rattle.spares_top.specs.declared.check.Claim.{Claim}
 
--- what is held of a claim is what its certificate says, or nothing
-pub held_by : (c : CaseRows) (held : StockList) (on_hand : Bool) → (on_hand ≡ false → held ≡ nothing_held c) → held_in c (if on_hand then Some held else None) ≡ held
-held_by c held true h = refl
-held_by c held false h = sym (h refl)
-
-pub held_is : (x : Claim) → IsClaim x → held_in x.certificate.case (claimed_by x).on_hand ≡ x.held
-held_is x h = held_by x.certificate.case x.held x.on_hand h.nothing
-
 -- it was accepted
-none_by : (r : Option Reject) (a b : Accepted) → unless r a ≡ Ok b → r ≡ None
-none_by None a b e = refl
-none_by (Some reject) a b e = grind (arith, e)
-
--- with no list of stocks on hand the flag for it is off
-pub off_by : (held : StockList) (on_hand : Bool) → (if on_hand then Some held else None) ≡ None → on_hand ≡ false
-off_by held false e = refl
-off_by held true e = grind (arith, e)
+none_by : (names : FrameRows) (r : Option Reject) (a b : Accepted) → or_refuse names refusal.Rejected (unless r a) ≡ Ok b → r ≡ None
+none_by names None a b e = refl
+none_by names (Some reject) a b e = grind (arith, e)
 
 -- a value that is at most an upper end in units of 2^-48 is at most the end's printed number
 upper_contains : (upper : ℕ) (q : Fraction) → q *ℚ whole (2 ^ 48) ≤ℚ whole upper → Contains 48 0 upper q
@@ -73,53 +60,53 @@ above_printed : (upper : ℕ) (q : Fraction) → q *ℚ whole (2 ^ 48) ≤ℚ wh
 above_printed upper q h = up_above 48 6 (record { lo = 0; hi = upper }) q (upper_contains upper q h)
 
 -- the cost of stocks on hand, in the words of the model
-on_hand_cost : (c : CaseRows) (held : StockList) (on_hand : Bool) → IsFor c held
-    → option_map (cost_of c) (if on_hand then Some held else None) ≡ option_map (λ (s : StockList). cost c s.list) (if on_hand then Some held else None)
-on_hand_cost c held true h = ap Some (sym (cost_holds c held h))
-on_hand_cost c held false h = refl
+on_hand_cost : (c : CaseRows) (on_hand : Option StockList) → IsHeld c (held_in c on_hand)
+    → option_map (cost_of c) on_hand ≡ option_map (λ (s : StockList). cost c s.list) on_hand
+on_hand_cost c (Some held) h = ap Some (sym (cost_holds c held h.is_for))
+on_hand_cost c None h = refl
 
-module _ (x : Claim) (h : IsClaim x) (bytes : List ℕ) (form : form_of bytes ≡ Ok (claimed_by x)) where
+module _ (x : Claim) (h : IsClaim x) (bytes : List ℕ) (form : or_refuse no_names refusal.Cert (form_of bytes) ≡ Ok (claimed_by x)) where
   abbrev aimed : Objective
   aimed = x.certificate.objective
 
-  judged_is : judged_of (claimed_by x) ≡ judged (ends_of aimed) x.certificate x.held
-  judged_is = ap (judged (ends_of aimed) x.certificate) (held_is x h)
+  abbrev case : CaseRows
+  case = x.certificate.case
+
+  abbrev held : StockList
+  held = held_in case x.on_hand
+
+  abbrev answer : Result Accepted Failure
+  answer = or_refuse (frame_rows case) refusal.Rejected (judged_of (claimed_by x))
 
   -- ---- accepted
 
-  module _ (accepted : Accepted) (j : judged (ends_of aimed) x.certificate x.held ≡ Ok accepted) where
-    none : reject_of (ends_of aimed) x.certificate x.held ≡ None
-    none = none_by _ _ accepted j
+  module _ (accepted : Accepted) (j : answer ≡ Ok accepted) where
+    none : reject_of (ends_of aimed) x.certificate held ≡ None
+    none = none_by _ _ _ accepted j
 
     claimed_is : claimed_of bytes ≡ Ok (claimed_by x)
     unfolding claimed_of
-    claimed_is = rw (form, judged_is, j) refl
+    claimed_is = rw (form, j) refl
 
-    says : AreTrueClaims (value_of aimed) x.certificate.case (held_in x.certificate.case (claimed_by x).on_hand).list x.certificate.budget (claims_of x.certificate)
-    says =
-        subst (λ (held : StockList). AreTrueClaims (value_of aimed) x.certificate.case held.list x.certificate.budget (claims_of x.certificate)) (sym (held_is x h))
-        (accepted_true (ends_of aimed) (value_of aimed) x.certificate x.held (scores_enclose aimed) h.formed h.whole none)
+    says : AreTrueClaims (value_of aimed) case held.list x.certificate.budget (claims_of x.certificate)
+    says = accepted_true (ends_of aimed) (value_of aimed) x.certificate held (scores_enclose aimed) h.formed h.held.is_for none
 
-    printed : NoneHasLessThanPrinted (value_of aimed) x.certificate.case (held_in x.certificate.case (claimed_by x).on_hand).list x.certificate.budget x.certificate.bound
-    printed n deep s a f = below_printed x.certificate.bound (aim (value_of aimed) x.certificate.case s n) (says.none_less n deep s a f)
+    printed : NoneHasLessThanPrinted (value_of aimed) case held.list x.certificate.budget x.certificate.bound
+    printed n deep s a f = below_printed x.certificate.bound (aim (value_of aimed) case s n) (says.none_less n deep s a f)
 
-    printed_upper : HasNoMoreThanPrinted (value_of aimed) x.certificate.case x.certificate.stocks.list x.certificate.upper
-    printed_upper n deep = above_printed x.certificate.upper (aim (value_of aimed) x.certificate.case x.certificate.stocks.list n) (says.no_more n deep)
+    printed_upper : HasNoMoreThanPrinted (value_of aimed) case x.certificate.stocks.list x.certificate.upper
+    printed_upper n deep = above_printed x.certificate.upper (aim (value_of aimed) case x.certificate.stocks.list n) (says.no_more n deep)
 
-    own_cost : cost_above x.certificate.case x.held x.certificate.stocks ≡ cost_beyond x.certificate.case x.held.list x.certificate.stocks.list
-    own_cost =
-        sym (added_is x.certificate.case x.held x.certificate.stocks h.formed.case h.whole h.formed.stocks (breaks_none (ends_of aimed) x.certificate x.held none).kept)
-        ∙ families_beyond x.certificate.case x.held.list x.certificate.stocks.list h.formed.case
+    cost_is : cost_above case held x.certificate.stocks ≡ cost_beyond case held.list x.certificate.stocks.list
+    cost_is =
+        sym (added_is case held x.certificate.stocks h.formed.case h.held.is_for h.formed.stocks (breaks_none (ends_of aimed) x.certificate held none).kept)
+        ∙ families_beyond case held.list x.certificate.stocks.list h.formed.case
 
-    cost_is : cost_above x.certificate.case (held_in x.certificate.case (claimed_by x).on_hand) x.certificate.stocks
-        ≡ cost_beyond x.certificate.case (held_in x.certificate.case (claimed_by x).on_hand).list x.certificate.stocks.list
-    cost_is = subst (λ (held : StockList). cost_above x.certificate.case held x.certificate.stocks ≡ cost_beyond x.certificate.case held.list x.certificate.stocks.list) (sym (held_is x h)) own_cost
-
-    plainly : aimed ≡ Backorders → (claimed_by x).on_hand ≡ None → ArePlainClaims x.certificate.case x.certificate.budget (claims_of x.certificate)
+    plainly : aimed ≡ Backorders → x.on_hand ≡ None → ArePlainClaims case x.certificate.budget (claims_of x.certificate)
     plainly o off =
         plain_true x.certificate h.formed
-        (subst (λ (held : StockList). reject_of (ends_of Backorders) x.certificate held ≡ None) (h.nothing (off_by x.held x.on_hand off))
-        (subst (λ (o : Objective). reject_of (ends_of o) x.certificate x.held ≡ None) o none))
+        (subst (λ (on_hand : Option StockList). reject_of (ends_of Backorders) x.certificate (held_in case on_hand) ≡ None) off
+        (subst (λ (o : Objective). reject_of (ends_of o) x.certificate held ≡ None) o none))
 
     fits : FitsCheck (check_of (claimed_by x))
     fits = let u = h.formed.upper in let b = h.formed.bound in record { upper = omega (arith, u); bound = omega (arith, b) }
@@ -139,7 +126,7 @@ module _ (x : Claim) (h : IsClaim x) (bytes : List ℕ) (form : form_of bytes �
           printed = printed;
           printed_upper = printed_upper;
           cost_is = cost_is;
-          on_hand_is = on_hand_cost x.certificate.case x.held x.on_hand h.whole;
+          on_hand_is = on_hand_cost case x.on_hand h.held;
           plainly = plainly;
         };
       };
@@ -148,15 +135,14 @@ module _ (x : Claim) (h : IsClaim x) (bytes : List ℕ) (form : form_of bytes �
 
   -- ---- refused
 
-  rejected_is : (reject : Reject) → judged (ends_of aimed) x.certificate x.held ≡ Err reject
-      → claimed_of bytes ≡ Err (failure_of (frame_rows x.certificate.case) (refusal.Rejected reject))
+  rejected_is : (failure : Failure) → answer ≡ Err failure → claimed_of bytes ≡ Err failure
   unfolding claimed_of
-  rejected_is reject j = rw (form, judged_is, j) refl
+  rejected_is failure j = rw (form, j) refl
 
   -- the rule that a rejected claim breaks is the refusal that a check has to make
-  pub refused : (reject : Reject) → judged (ends_of aimed) x.certificate x.held ≡ Err reject
-      → MakesBy (Is (check_task bytes)) (Err (stop.Fault (failure_of (frame_rows x.certificate.case) (refusal.Rejected reject))))
-  refused reject j = (rw (rejected_is reject j) refl, tt)
+  pub rejected : (e : Stop Failure) → Gives {T = Accepted} answer (Err e) → MakesBy (Is (check_task bytes)) (Err e)
+  rejected stop.NoMemory j = tt
+  rejected (stop.Fault failure) j = rw (rejected_is failure j) refl
 
 -- ---- no certificate
 
@@ -165,8 +151,6 @@ unfolding claimed_of
 none_claimed bytes failure e = rw e refl
 
 -- bytes that are no certificate of either form are refused as the check's task says
-pub unclaimed : (bytes : List ℕ) (e : Stop Failure) → TellsClaim (form_of bytes) (Err e) → MakesBy (Is (check_task bytes)) (Err e)
+pub unclaimed : (bytes : List ℕ) (e : Stop Failure) → TellsClaim (or_refuse no_names refusal.Cert (form_of bytes)) (Err e) → MakesBy (Is (check_task bytes)) (Err e)
 unclaimed bytes stop.NoMemory h = tt
-unclaimed bytes (stop.Fault failure) h =
-    let e = none_claimed bytes failure h in
-    (rw e refl, rw (is_of_task (claimed_of bytes) failure (claimed_refuses bytes) e) tt)
+unclaimed bytes (stop.Fault failure) h = rw (none_claimed bytes failure h) refl

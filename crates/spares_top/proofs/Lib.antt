@@ -1,9 +1,10 @@
 pub mod Answered
 pub mod Confirmed
 pub mod Demonstrated
+pub mod OfTask
 pub mod Planned
 pub mod ReadInputs
 pub mod Shown
-pub mod Stops
+pub mod Steps
 pub mod Swept
 pub mod Whole

@@ -13,7 +13,6 @@ use Rattle.refusals.specs.Causes.{of_reading, kind_of, plain_failure}
 use Rattle.spares_top.specs.Files.{AllGave, Gave, IsTooLong, IsUnread, NoneRose, Reads, StandStill, StopsAt, content_of, reads}
 use Rattle.answers.specs.declared.stop.Stop.{Stop}
 use Rattle.answers.specs.declared.stop.Stop.TheVariants as stop
-use Rattle.spares_top.specs.Making.{IsOfWork}
 use Rattle.spares_top.specs.Reading.{ReadsGive, Unread}
 
 -- ---- one more input
@@ -74,14 +73,6 @@ module _ (told now_told : Option Files) (before mid write_before write_mid : Lis
     still = λ name. still name ∙ far.still name;
     writes = λ name. writes name ∙ far.writes name;
   }
-
--- a refusal to read is of reading
-pub stops_of_work : (told : Option Files) (before now : List ℕ → ℕ) (inputs : List Input) (failure : Failure) → StopsAt told before now inputs failure
-    → IsOfWork (kind_of failure.refusal)
-stops_of_work told before now [] failure h = absurd h
-stops_of_work told before now (i ∷ is) failure (inl u) = subst (λ (f : Failure). IsOfWork (kind_of f.refusal)) (sym u.0) tt
-stops_of_work told before now (i ∷ is) failure (inr (inl l)) = subst (λ (f : Failure). IsOfWork (kind_of f.refusal)) (sym l.0) tt
-stops_of_work told before now (i ∷ is) failure (inr (inr h)) = stops_of_work told before now is failure h.1.1
 
 -- what stops the reading of inputs is a refusal of the kind that reading a file has
 pub stops_kind : (told : Option Files) (before now : List ℕ → ℕ) (inputs : List Input) (failure : Failure) → StopsAt told before now inputs failure

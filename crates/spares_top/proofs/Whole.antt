@@ -24,59 +24,25 @@ use Rattle.answers.specs.Steps.{◌>>=◌}
 use Rattle.refusals.specs.Causes.{Kind, of_words, of_reading, of_writing, of_memory, of_task, kind_of, or_refuse, plain_failure, stopped}
 use Rattle.refusals.specs.Lines.{no_names}
 use Rattle.spares_input.specs.Cases.{CaseRows}
-use Rattle.refusals.specs.declared.refusal.File.{File}
-use Rattle.spares_top.specs.Files.{AllGave, Reads, StandStill, StopsAt, inputs, inputs_of, output_of, reads}
+use Rattle.spares_top.specs.Files.{AllGave, Reads, StandStill, StopsAt, bytes_at, inputs, inputs_of, output_of, reads, tables_in}
 use Rattle.spares_top.specs.Making.{AreWithin, ComesOf, Delivers, Is, IsMade, MakesBy}
 use Rattle.spares_top.specs.Promises.{Completes, Errors, NoneFailed, Performs, PutsLine, Runs, Serves}
 use Rattle.spares_top.specs.Reading.{ReadsGive}
 use Rattle.spares_top.specs.State.{HasDelivered, HasFailed, HasFailedToWrite, IsUntouched, Scene, after_write}
 use Rattle.spares_top.specs.Checks.{claimed_of}
-use Rattle.spares_top.specs.Plans.{case_to_edit, case_within_work, planning_of}
-use Rattle.spares_top.specs.Task.{Fulfils, Task, confirm, demonstrate, evaluate, make_plan, plan_in_turn, price_target, set_beside, show_pipeline, sweep_budgets, bytes_at, task_of, task_on, task_on_words, unless_refused}
+use Rattle.spares_top.specs.Plans.{case_to_edit, case_within_work, planning_of, stocked_by}
+use Rattle.spares_top.specs.Task.{Fulfils, Task, confirm, demonstrate, evaluate, make_plan, plan_in_turn, price_target, set_beside, show_pipeline, sweep_budgets, task_of, task_on, task_on_words, unless_refused}
 use Rattle.spares_top.specs.Texts.{text_of}
-use Rattle.spares_top.proofs.ReadInputs.{none_is, read_is, stops_kind, stops_of_work}
-use Rattle.case_tables.specs.Tables.{stocked_of}
+use Rattle.spares_top.proofs.ReadInputs.{none_is, read_is, stops_kind}
 use Rattle.case_edits.specs.Edits.{session_of}
-use Rattle.case_tables.proofs.Refuse.{Refuses, is_of_task, or_refuses, stocked_refuses, then_refuses}
-use Rattle.spares_top.proofs.Stops.{claimed_refuses, planning_refuses, to_edit_refuses, within_work_refuses}
-
--- ---- refusals
-
--- a task's own refusals are of its kind
-rate_refuses : (fault : Option RateFault) (task : Task) → Refuses (unless_refused fault task)
-rate_refuses None task = tt
-rate_refuses (Some fault) task = refl
-
-task_refuses : (o : Order) (bytes : List (List ℕ)) → Refuses (task_on o bytes)
-task_refuses (order.Single mean variance stock) bytes = rate_refuses _ _
-task_refuses (order.Eval sites parts rates stocks bits) bytes =
-    then_refuses (stocked_of file.Stocks (bytes_at bytes 0) (bytes_at bytes 1) (bytes_at bytes 2) (bytes_at bytes 3)) _
-    (stocked_refuses file.Stocks (bytes_at bytes 0) (bytes_at bytes 1) (bytes_at bytes 2) (bytes_at bytes 3)) (λ stocked. tt)
-task_refuses (order.Plan sites parts rates on_hand budget format objective certificate) bytes =
-    then_refuses (planning_of (bytes_at bytes 0) (bytes_at bytes 1) (bytes_at bytes 2) (option_map (λ name. bytes_at bytes 3) on_hand) _) _
-    (planning_refuses (bytes_at bytes 0) (bytes_at bytes 1) (bytes_at bytes 2) (option_map (λ name. bytes_at bytes 3) on_hand) _) (λ planning. tt)
-task_refuses (order.Check certificate) bytes = then_refuses (claimed_of (bytes_at bytes 0)) _ (claimed_refuses (bytes_at bytes 0)) (λ claimed. tt)
-task_refuses (order.Demo number lines) bytes = tt
-task_refuses (order.Sweep sites parts rates) bytes =
-    then_refuses (case_within_work (bytes_at bytes 0) (bytes_at bytes 1) (bytes_at bytes 2)) _ (within_work_refuses (bytes_at bytes 0) (bytes_at bytes 1) (bytes_at bytes 2)) (λ case. tt)
-task_refuses (order.Target sites parts rates backorders) bytes =
-    then_refuses (case_within_work (bytes_at bytes 0) (bytes_at bytes 1) (bytes_at bytes 2)) _ (within_work_refuses (bytes_at bytes 0) (bytes_at bytes 1) (bytes_at bytes 2)) (λ case. tt)
-task_refuses (order.Session sites parts rates edits) bytes =
-    then_refuses (case_to_edit (bytes_at bytes 0) (bytes_at bytes 1) (bytes_at bytes 2)) _ (to_edit_refuses (bytes_at bytes 0) (bytes_at bytes 1) (bytes_at bytes 2)) (λ case.
-    then_refuses (or_refuse no_names refusal.Edit (session_of case (bytes_at bytes 3))) _ (or_refuses no_names refusal.Edit (session_of case (bytes_at bytes 3)) (λ fault. refl)) (λ due. tt))
-task_refuses (order.Compare sites parts rates stocks) bytes =
-    then_refuses (stocked_of file.Stocks (bytes_at bytes 0) (bytes_at bytes 1) (bytes_at bytes 2) (bytes_at bytes 3)) _
-    (stocked_refuses file.Stocks (bytes_at bytes 0) (bytes_at bytes 1) (bytes_at bytes 2) (bytes_at bytes 3)) (λ stocked. tt)
-
-pub task_kind : (o : Order) (bytes : List (List ℕ)) (failure : Failure) → task_on o bytes ≡ Err failure → kind_of failure.refusal ≡ of_task
-task_kind o bytes failure e = is_of_task (task_on o bytes) failure (task_refuses o bytes) e
+use Rattle.spares_top.proofs.OfTask.{task_kind}
 
 -- ---- what is due
 
 made_by : (P Q : Result Task Failure → Type 0) → ((t : Result Task Failure) → P t → Q t) → (r : Result Outcome (Stop Failure)) → MakesBy P r → MakesBy Q r
 made_by P Q f (Ok outcome) h = record { task = h.task; is_due = f (Ok h.task) h.is_due; fulfils = h.fulfils; is_true = h.is_true; prints = h.prints }
 made_by P Q f (Err stop.NoMemory) h = tt
-made_by P Q f (Err (stop.Fault failure)) h = (f (Err failure) h.0, h.1)
+made_by P Q f (Err (stop.Fault failure)) h = f (Err failure) h
 
 module _ (o : Order) (told : Option Files) (before now : List ℕ → ℕ) where
   -- what is made of the bytes of the inputs comes of the order
@@ -87,7 +53,7 @@ module _ (o : Order) (told : Option Files) (before now : List ℕ → ℕ) where
   -- where the reading stops, its refusal does
   pub unread : (e : Stop Failure) → ReadsGive told before now (inputs o) (Err e) → MakesBy (ComesOf o told before now) (Err e)
   unread stop.NoMemory h = tt
-  unread (stop.Fault failure) h = (record { read = Err failure; reads = h; task_is = refl }, stops_of_work told before now (inputs o) failure h)
+  unread (stop.Fault failure) h = record { read = Err failure; reads = h; task_is = refl }
 
 -- the name that a task writes
 abbrev name_of : Task → Option (List ℕ)
@@ -135,22 +101,18 @@ session_named (Err failure) edits task e = grind (arith, e)
 task_named : (o : Order) (bytes : List (List ℕ)) (task : Task) → task_on o bytes ≡ Ok task → name_of task ≡ output_of (Ok o)
 task_named (order.Single mean variance stock) bytes task e = rated_name _ _ task e
 task_named (order.Eval sites parts rates stocks bits) bytes task e =
-    then_named (stocked_of file.Stocks (bytes_at bytes 0) (bytes_at bytes 1) (bytes_at bytes 2) (bytes_at bytes 3))
-    (λ stocked. evaluate stocked.case stocked.stocks bits) None task (λ stocked. refl) e
+    then_named (stocked_by file.Stocks (tables_in bytes) (bytes_at bytes 3)) (λ stocked. evaluate stocked.case stocked.stocks bits) None task (λ stocked. refl) e
 task_named (order.Plan sites parts rates on_hand budget format objective certificate) bytes task e =
-    then_named (planning_of (bytes_at bytes 0) (bytes_at bytes 1) (bytes_at bytes 2) (option_map (λ name. bytes_at bytes 3) on_hand) _)
-    (λ planning. make_plan planning certificate) (Some certificate) task (λ planning. refl) e
+    then_named (planning_of (tables_in bytes) (option_map (λ name. bytes_at bytes 3) on_hand) _) (λ planning. make_plan planning certificate) (Some certificate) task
+    (λ planning. refl) e
 task_named (order.Check certificate) bytes task e = then_named (claimed_of (bytes_at bytes 0)) confirm None task (λ claimed. refl) e
 task_named (order.Demo number lines) bytes task e = subst (λ (r : Result Task Failure). MatchResult r (λ t. name_of t ≡ None) (λ f. ⊤)) e refl
-task_named (order.Sweep sites parts rates) bytes task e =
-    then_named (case_within_work (bytes_at bytes 0) (bytes_at bytes 1) (bytes_at bytes 2)) sweep_budgets None task (λ case. refl) e
+task_named (order.Sweep sites parts rates) bytes task e = then_named (case_within_work (tables_in bytes)) sweep_budgets None task (λ case. refl) e
 task_named (order.Target sites parts rates backorders) bytes task e =
-    then_named (case_within_work (bytes_at bytes 0) (bytes_at bytes 1) (bytes_at bytes 2)) (λ case. price_target case backorders) None task (λ case. refl) e
-task_named (order.Session sites parts rates edits) bytes task e =
-    session_named (case_to_edit (bytes_at bytes 0) (bytes_at bytes 1) (bytes_at bytes 2)) (bytes_at bytes 3) task e
+    then_named (case_within_work (tables_in bytes)) (λ case. price_target case backorders) None task (λ case. refl) e
+task_named (order.Session sites parts rates edits) bytes task e = session_named (case_to_edit (tables_in bytes)) (bytes_at bytes 3) task e
 task_named (order.Compare sites parts rates stocks) bytes task e =
-    then_named (stocked_of file.Stocks (bytes_at bytes 0) (bytes_at bytes 1) (bytes_at bytes 2) (bytes_at bytes 3))
-    (λ stocked. set_beside stocked.case stocked.stocks) None task (λ stocked. refl) e
+    then_named (stocked_by file.Stocks (tables_in bytes) (bytes_at bytes 3)) (λ stocked. set_beside stocked.case stocked.stocks) None task (λ stocked. refl) e
 
 nothing_of : (written : Option Written) (name : Option (List ℕ)) → option_map (λ (w : Written). w.name) written ≡ name → name ≡ None → written ≡ None
 nothing_of None name e n = refl
@@ -205,7 +167,7 @@ module _ (o : Order) (old new : Scene) where
     pub stops : (e : Stop Failure) → MakesBy (ComesOf o old.held old.read_faults new.read_faults) (Err e) → Performs (Ok o) old new (Err (stopped e))
     stops stop.NoMemory h = wanting
     stops (stop.Fault failure) h = record {
-      answers = refuses_by failure untouched h.0.read h.0.reads h.0.task_is;
+      answers = refuses_by failure untouched h.read h.reads h.task_is;
       reads = reads;
       writes = λ none. writes;
     }

@@ -1,5 +1,5 @@
 -- The files that an order reads, and the results of reading them.
-use Rattle.std.specs.Prelude.{◌≡◌, ◌⊎◌, ◌≤◌, ⊤, ℕ, List, [], ◌∷◌, length, Option, Some, None, Result, Ok, Err, if◌then◌else◌, nat_le}
+use Rattle.std.specs.Prelude.{◌≡◌, ◌⊎◌, ◌≤◌, ⊤, ℕ, List, [], ◌∷◌, length, get_or, Option, Some, None, Result, Ok, Err, if◌then◌else◌, nat_le}
 use Rattle.spares_io.specs.Causes.{Rose}
 use Rattle.spares_io.specs.Shelf.{Files, Holds, HoldsMore, Lacks, file_of}
 use Rattle.spares_words.specs.declared.order.Order.{Order}
@@ -62,6 +62,20 @@ output_of (Ok (order.Target sites parts rates backorders)) = None
 output_of (Ok (order.Session sites parts rates edits)) = None
 output_of (Ok (order.Compare sites parts rates stocks)) = None
 output_of (Err fault) = None
+
+-- the bytes of an input
+abbrev pub bytes_at : List (List ℕ) → ℕ → List ℕ
+bytes_at bytes place = get_or bytes place []
+
+-- the bytes of the tables of a case
+pub record CaseBytes : Type 0 where
+  pub sites : List ℕ
+  pub parts : List ℕ
+  pub rates : List ℕ
+
+-- the tables of a case among the bytes of the inputs
+abbrev pub tables_in : List (List ℕ) → CaseBytes
+tables_in bytes = record { sites = bytes_at bytes 0; parts = bytes_at bytes 1; rates = bytes_at bytes 2 }
 
 -- ---- over known files
 

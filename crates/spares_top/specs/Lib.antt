@@ -2,6 +2,7 @@ pub mod Answer
 pub mod Checking
 pub mod Checks
 pub mod Files
+pub mod Given
 pub mod Headline
 pub mod Held
 pub mod Making

@@ -3,7 +3,7 @@ use Rattle.std.specs.Prelude.{◌≡◌, ℕ, Bool, true, false, List, Option, S
 use Rattle.std.specs.Option.{option_map}
 use Rattle.case_plan.specs.Report.{report_of}
 use Rattle.case_plan.specs.Report as reports
-use Rattle.case_tables.specs.Tables.{accepted_of, case_of_tables, stocked_of}
+use Rattle.case_tables.specs.Tables.{StockedCase, accepted_of, case_of_tables, stocked_of}
 use Rattle.certified_plan.specs.Certificates.{certificate_of, claims_of, text_of}
 use Rattle.gap_rules.specs.Scores.{ends_of}
 use Rattle.price_certificate.specs.declared.certificate.Terms.{Terms}
@@ -16,11 +16,13 @@ use Rattle.price_certificate.specs.declared.certificate.Objective.TheVariants.{B
 use Rattle.refusals.specs.Causes.{or_refuse}
 use Rattle.refusals.specs.Lines.{no_names}
 use Rattle.refusals.specs.declared.failure.Failure.{Failure}
+use Rattle.refusals.specs.declared.refusal.File.{File}
 use Rattle.refusals.specs.declared.refusal.File.TheVariants.{OnHand}
 use Rattle.refusals.specs.declared.refusal.Refusal.TheVariants as refusal
 use Rattle.spares_input.specs.Cases.{CaseRows}
 use Rattle.spares_input.specs.Stocks.{StockList, cost_of}
 use Rattle.answers.specs.Steps.{◌>>=◌}
+use Rattle.spares_top.specs.Files.{CaseBytes}
 use Rattle.spares_top.specs.Held.{held_in}
 use Rattle.spares_top.specs.declared.done.Done.TheVariants.{Planned}
 use Rattle.spares_top.specs.declared.done.Outcome.{Outcome}
@@ -34,26 +36,30 @@ pub record Planning : Type 0 where
 -- ---- the planning of tables, if the curves of their case take few enough tables
 
 -- the case of tables with accepted rates, refused if its curves take too many tables
-abbrev pub case_within_work : List ℕ → List ℕ → List ℕ → Result CaseRows Failure
-case_within_work sites parts rates = do
-  case ← accepted_of sites parts rates
+abbrev pub case_within_work : CaseBytes → Result CaseRows Failure
+case_within_work tables = do
+  case ← accepted_of tables.sites tables.parts tables.rates
   work ← or_refuse no_names refusal.Work (work_of case)
   Ok case
 
 -- the case of tables, refused if its curves take too many tables; its rates may be beyond the limits of the model
-abbrev pub case_to_edit : List ℕ → List ℕ → List ℕ → Result CaseRows Failure
-case_to_edit sites parts rates = do
-  case ← case_of_tables sites parts rates
+abbrev pub case_to_edit : CaseBytes → Result CaseRows Failure
+case_to_edit tables = do
+  case ← case_of_tables tables.sites tables.parts tables.rates
   work ← or_refuse no_names refusal.Work (work_of case)
   Ok case
 
+-- the case of tables and the stocks of a further table, which is this file
+abbrev pub stocked_by : File → CaseBytes → List ℕ → Result StockedCase Failure
+stocked_by file tables stocks = stocked_of file tables.sites tables.parts tables.rates stocks
+
 -- the planning of tables, from stocks on hand if there is a table of them, or the first refusal
-abbrev pub planning_of : List ℕ → List ℕ → List ℕ → Option (List ℕ) → Terms → Result Planning Failure
-planning_of sites parts rates None terms = do
-  case ← case_within_work sites parts rates
+abbrev pub planning_of : CaseBytes → Option (List ℕ) → Terms → Result Planning Failure
+planning_of tables None terms = do
+  case ← case_within_work tables
   Ok (record { case = case; on_hand = None; terms = terms })
-planning_of sites parts rates (Some stocks) terms = do
-  given ← stocked_of OnHand sites parts rates stocks
+planning_of tables (Some stocks) terms = do
+  given ← stocked_by OnHand tables stocks
   work ← or_refuse no_names refusal.Work (held_work_of given.case given.stocks.list)
   Ok (record { case = given.case; on_hand = Some given.stocks; terms = terms })
 

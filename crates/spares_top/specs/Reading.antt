@@ -3,6 +3,8 @@ use Rattle.std.specs.Prelude.{◌⊎◌, ⊤, ◌<◌, ◌^◌, ℕ, List, Optio
 use Rattle.answers.specs.declared.stop.Stop.{Stop}
 use Rattle.answers.specs.declared.stop.Stop.TheVariants as stop
 use Rattle.spares_io.specs.Shelf.{Files}
+use Rattle.spares_words.specs.declared.order.Order.{Order}
+use Rattle.spares_words.specs.declared.order.Order.TheVariants as order
 use Rattle.refusals.specs.declared.failure.Failure.{Failure}
 use Rattle.spares_top.specs.declared.files.Input.{Input}
 use Rattle.spares_top.specs.Files.{IsTooLong, IsUnread, Reads}
@@ -23,3 +25,15 @@ abbrev pub ReadsGive : Option Files → (List ℕ → ℕ) → (List ℕ → ℕ
 ReadsGive told before now inputs (Ok bytes) = Reads told before now inputs (Ok bytes)
 ReadsGive told before now inputs (Err stop.NoMemory) = ⊤
 ReadsGive told before now inputs (Err (stop.Fault failure)) = Reads told before now inputs (Err failure)
+
+-- the order reads the tables of a case, and a further file if it names one
+abbrev pub ReadsMore : Order → Type 0
+ReadsMore (order.Single mean variance stock) = ⊥
+ReadsMore (order.Eval sites parts rates stocks bits) = ⊤
+ReadsMore (order.Plan sites parts rates on_hand budget format objective certificate) = ⊤
+ReadsMore (order.Check certificate) = ⊥
+ReadsMore (order.Demo number lines) = ⊥
+ReadsMore (order.Sweep sites parts rates) = ⊥
+ReadsMore (order.Target sites parts rates backorders) = ⊥
+ReadsMore (order.Session sites parts rates edits) = ⊤
+ReadsMore (order.Compare sites parts rates stocks) = ⊤

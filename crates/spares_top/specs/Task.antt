@@ -1,6 +1,6 @@
 -- The task of an order, over the bytes of its files. Means and variances are in ten-thousandths.
 use Rattle.std.specs.List.{AllZip}
-use Rattle.std.specs.Prelude.{◌≡◌, ℕ, List, [], get_or, Option, Some, None, option_map, Result, Ok, Err, unwrap_or}
+use Rattle.std.specs.Prelude.{◌≡◌, ℕ, List, Option, Some, None, option_map, Result, Ok, Err, unwrap_or}
 use Rattle.demand_rates.specs.Single.{single_fault_of}
 use Rattle.demand_rates.specs.declared.fault.RateFault.{RateFault}
 use Rattle.exact_ratio.specs.declared.decimal.Decimal.{Decimal}
@@ -31,9 +31,8 @@ use Rattle.refusals.specs.declared.refusal.Refusal.TheVariants as refusal
 use Rattle.answers.specs.Steps.{◌>>=◌}
 use Rattle.refusals.specs.Causes.{or_refuse, plain_failure}
 use Rattle.refusals.specs.Lines.{no_names}
-use Rattle.case_tables.specs.Tables.{stocked_of}
-use Rattle.spares_top.specs.Files.{inputs_of, reads}
-use Rattle.spares_top.specs.Plans.{Planning, IsPlanned, case_to_edit, case_within_work, planning_of}
+use Rattle.spares_top.specs.Files.{CaseBytes, bytes_at, inputs_of, reads, tables_in}
+use Rattle.spares_top.specs.Plans.{Planning, IsPlanned, case_to_edit, case_within_work, planning_of, stocked_by}
 use Rattle.demonstration.specs.Demonstrations.{IsDemonstrated}
 use Rattle.spares_top.specs.Checks.{Claimed, claimed_of, check_of}
 use Rattle.family_points.specs.Points.{plain_ends}
@@ -74,16 +73,16 @@ unless_refused (Some fault) task = Err (plain_failure (refusal.Rate fault))
 abbrev pub single_task : ℕ → ℕ → ℕ → Result Task Failure
 single_task mean variance stock = unless_refused (single_fault_of mean variance) (show_pipeline mean variance stock)
 
--- the case and the stocks of four tables are evaluated
-abbrev pub eval_task : List ℕ → List ℕ → List ℕ → List ℕ → ℕ → Result Task Failure
-eval_task sites parts rates stocks bits = do
-  stocked ← stocked_of file.Stocks sites parts rates stocks
+-- the case of tables is evaluated at the stocks of a further table
+abbrev pub eval_task : CaseBytes → List ℕ → ℕ → Result Task Failure
+eval_task tables stocks bits = do
+  stocked ← stocked_by file.Stocks tables stocks
   Ok (evaluate stocked.case stocked.stocks bits)
 
--- a case is planned from three tables, and from a fourth if stocks are on hand
-abbrev pub plan_task : List ℕ → List ℕ → List ℕ → Option (List ℕ) → Terms → List ℕ → Result Task Failure
-plan_task sites parts rates on_hand terms name = do
-  planning ← planning_of sites parts rates on_hand terms
+-- the case of tables is planned, from stocks on hand if there is a table of them
+abbrev pub plan_task : CaseBytes → Option (List ℕ) → Terms → List ℕ → Result Task Failure
+plan_task tables on_hand terms name = do
+  planning ← planning_of tables on_hand terms
   Ok (make_plan planning name)
 
 -- a certificate that breaks no rule is confirmed
@@ -93,51 +92,43 @@ check_task bytes = do
   Ok (confirm claimed)
 
 -- the budgets of a case are swept
-abbrev pub sweep_task : List ℕ → List ℕ → List ℕ → Result Task Failure
-sweep_task sites parts rates = do
-  case ← case_within_work sites parts rates
+abbrev pub sweep_task : CaseBytes → Result Task Failure
+sweep_task tables = do
+  case ← case_within_work tables
   Ok (sweep_budgets case)
 
 -- a target of its backorders is priced
-abbrev pub target_task : List ℕ → List ℕ → List ℕ → Decimal → Result Task Failure
-target_task sites parts rates backorders = do
-  case ← case_within_work sites parts rates
+abbrev pub target_task : CaseBytes → Decimal → Result Task Failure
+target_task tables backorders = do
+  case ← case_within_work tables
   Ok (price_target case backorders)
 
 -- the plans that edits of a case ask for are made; its rates matter only if a plan is asked for
-abbrev pub session_task : List ℕ → List ℕ → List ℕ → List ℕ → Result Task Failure
-session_task sites parts rates edits = do
-  case ← case_to_edit sites parts rates
+abbrev pub session_task : CaseBytes → List ℕ → Result Task Failure
+session_task tables edits = do
+  case ← case_to_edit tables
   due ← or_refuse no_names refusal.Edit (session_of case edits)
   Ok (plan_in_turn due)
 
--- the case and the stocks of four tables are compared
-abbrev pub compare_task : List ℕ → List ℕ → List ℕ → List ℕ → Result Task Failure
-compare_task sites parts rates stocks = do
-  stocked ← stocked_of file.Stocks sites parts rates stocks
+-- the case of tables is compared at the stocks of a further table
+abbrev pub compare_task : CaseBytes → List ℕ → Result Task Failure
+compare_task tables stocks = do
+  stocked ← stocked_by file.Stocks tables stocks
   Ok (set_beside stocked.case stocked.stocks)
-
--- the bytes of an input
-abbrev pub bytes_at : List (List ℕ) → ℕ → List ℕ
-bytes_at bytes place = get_or bytes place []
 
 -- the task of an order on the bytes of its inputs, or the reason why it is refused
 abbrev pub task_on : Order → List (List ℕ) → Result Task Failure
 task_on (order.Single mean variance stock) bytes = single_task mean.units (variance_of mean variance).units stock
-task_on (order.Eval sites parts rates stocks bits) bytes =
-    eval_task (bytes_at bytes 0) (bytes_at bytes 1) (bytes_at bytes 2) (bytes_at bytes 3) bits
+task_on (order.Eval sites parts rates stocks bits) bytes = eval_task (tables_in bytes) (bytes_at bytes 3) bits
 task_on (order.Plan sites parts rates on_hand budget format objective certificate) bytes =
-    plan_task (bytes_at bytes 0) (bytes_at bytes 1) (bytes_at bytes 2) (option_map (λ name. bytes_at bytes 3) on_hand)
+    plan_task (tables_in bytes) (option_map (λ name. bytes_at bytes 3) on_hand)
     (record { budget = budget; format = format; objective = objective }) certificate
 task_on (order.Check certificate) bytes = check_task (bytes_at bytes 0)
 task_on (order.Demo number lines) bytes = Ok (demonstrate number lines)
-task_on (order.Sweep sites parts rates) bytes = sweep_task (bytes_at bytes 0) (bytes_at bytes 1) (bytes_at bytes 2)
-task_on (order.Target sites parts rates backorders) bytes =
-    target_task (bytes_at bytes 0) (bytes_at bytes 1) (bytes_at bytes 2) backorders
-task_on (order.Session sites parts rates edits) bytes =
-    session_task (bytes_at bytes 0) (bytes_at bytes 1) (bytes_at bytes 2) (bytes_at bytes 3)
-task_on (order.Compare sites parts rates stocks) bytes =
-    compare_task (bytes_at bytes 0) (bytes_at bytes 1) (bytes_at bytes 2) (bytes_at bytes 3)
+task_on (order.Sweep sites parts rates) bytes = sweep_task (tables_in bytes)
+task_on (order.Target sites parts rates backorders) bytes = target_task (tables_in bytes) backorders
+task_on (order.Session sites parts rates edits) bytes = session_task (tables_in bytes) (bytes_at bytes 3)
+task_on (order.Compare sites parts rates stocks) bytes = compare_task (tables_in bytes) (bytes_at bytes 3)
 
 -- words without an order are refused
 abbrev pub task_on_words : Result Order WordsFault → List (List ℕ) → Result Task Failure

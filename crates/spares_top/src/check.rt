@@ -1,75 +1,69 @@
-//! The check of a certificate.
-ghost use Rattle.std.specs.Prelude.{◌≡◌, ◌≤◌, IfOk, length};
-ghost use Rattle.gap_rules.specs.Scores.{ends_of};
-ghost use Rattle.gap_rules.specs.Refusals.{judged};
+//! `check`: whether a certificate shows its claims.
+//!
+//! - Reads a certificate.
+//! - Refuses, in this order: bytes that are no certificate; the first rule that the certificate breaks.
+//! - Makes the report of the claims.
+ghost use Rattle.std.specs.Prelude.{◌≡◌, ◌≤◌, IfOk, Ok, length};
 ghost use Rattle.held_certificate.specs.Held.{held_of};
 ghost use Rattle.price_certificate.specs.Certificates.{cert_of, certificate_limit};
 ghost use Rattle.answers.specs.Answers.{Gives};
-ghost use Rattle.spares_top.specs.Checks.{check_of, form_of, with_held, with_nothing};
+ghost use Rattle.refusals.specs.Causes.{or_refuse};
+ghost use Rattle.refusals.specs.Lines.{no_names};
+ghost use Rattle.refusals.specs.declared.refusal.Refusal.TheVariants as refusal;
+ghost use Rattle.spares_input.specs.Cases.{frame_rows};
+ghost use Rattle.spares_top.specs.Checks.{check_of, form_of, judged_of, with_held, with_nothing};
 ghost use Rattle.spares_top.specs.Checking.{IsClaim, TellsClaim, claimed_by};
 ghost use Rattle.spares_top.specs.Making.{Is, MakesBy};
 ghost use Rattle.spares_top.specs.Task.{check_task};
 
 use crate::done::{Done, Outcome};
+use crate::held::{cost_of, held_in};
 use answers::Stop;
 use check_answers::{Accepted, Reject};
 use gap_checker::check_within;
 use hull::Plain;
 use log_loss::LogLoss;
 use plan_report::CheckReport;
-use price_certificate::{Certificate, Objective};
+use price_certificate::{CertFault, Certificate, Objective};
 use refusals::{Failure, Refusal};
-use spares_input::{Stocks, nothing_held};
+use spares_input::Stocks;
 use std::alloc::Global;
 
-/// A certificate with the held stocks of its case, which are zero if it has no stocks on hand.
+/// A certificate with the stocks on hand, if it begins with them.
 #[derive(Drop)]
 pub(crate) struct Claim {
     pub(crate) certificate: Certificate,
-    pub(crate) held: Stocks,
-    pub(crate) on_hand: bool,
+    pub(crate) on_hand: Option<Stocks>,
 }
 
 /// The claim of a certificate with stocks on hand.
-fn held_claim(alloc: Global, bytes: &[u8]) -> Result<Claim, Stop<Failure>>
+fn held_claim(alloc: Global, bytes: &[u8]) -> Result<Claim, Stop<CertFault>>
     requires { length bytes.now ≤ certificate_limit }
     ensures answer { TellsClaim (with_held (held_of bytes.now)) result }
     ensures claim { IfOk result IsClaim }
 {
-    match held_certificate::read(alloc, bytes) {
-        Ok(read) => Ok(Claim {
-            certificate: read.certificate,
-            held: read.held,
-            on_hand: true,
-        }),
-        Err(Stop::NoMemory) => Err(Stop::NoMemory),
-        Err(Stop::Fault(fault)) => Err(Stop::Fault(Failure::of(Refusal::Cert(fault)))),
-    }
+    let read = held_certificate::read(alloc, bytes)?;
+    Ok(Claim {
+        certificate: read.certificate,
+        on_hand: Some(read.held),
+    })
 }
 
 /// The claim of a certificate without stocks on hand.
-fn plain_claim(alloc: Global, bytes: &[u8]) -> Result<Claim, Stop<Failure>>
+fn plain_claim(alloc: Global, bytes: &[u8]) -> Result<Claim, Stop<CertFault>>
     requires { length bytes.now ≤ certificate_limit }
     ensures answer { TellsClaim (with_nothing (cert_of bytes.now)) result }
     ensures claim { IfOk result IsClaim }
 {
-    let certificate = match price_certificate::read(alloc, bytes) {
-        Ok(certificate) => certificate,
-        Err(Stop::NoMemory) => return Err(Stop::NoMemory),
-        Err(Stop::Fault(fault)) => {
-            return Err(Stop::Fault(Failure::of(Refusal::Cert(fault))));
-        }
-    };
-    let held = nothing_held(alloc, &certificate.case)?;
+    let certificate = price_certificate::read(alloc, bytes)?;
     Ok(Claim {
         certificate,
-        held,
-        on_hand: false,
+        on_hand: None,
     })
 }
 
 /// The claim of the bytes of a certificate, whose first line decides the form.
-fn claim_of(alloc: Global, bytes: &[u8]) -> Result<Claim, Stop<Failure>>
+fn read_claim(alloc: Global, bytes: &[u8]) -> Result<Claim, Stop<CertFault>>
     requires { length bytes.now ≤ certificate_limit }
     ensures answer { TellsClaim (form_of bytes.now) result }
     ensures claim { IfOk result IsClaim }
@@ -81,44 +75,61 @@ fn claim_of(alloc: Global, bytes: &[u8]) -> Result<Claim, Stop<Failure>>
     }
 }
 
-/// The check of a claim, by the score of its objective.
-fn accepted(alloc: Global, claim: &Claim) -> Result<Accepted, Stop<Reject>>
-    requires { IsClaim claim.now }
-    ensures { Gives (judged (ends_of claim.now.certificate.objective) claim.now.certificate claim.now.held) result }
+/// The claim of the bytes of a certificate, or the refusal of bytes that are no certificate.
+fn claim_of(alloc: Global, bytes: &[u8]) -> Result<Claim, Stop<Failure>>
+    requires { length bytes.now ≤ certificate_limit }
+    ensures answer { TellsClaim (or_refuse no_names refusal.Cert (form_of bytes.now)) result }
+    ensures claim { IfOk result IsClaim }
 {
-    let Claim {
-        certificate,
-        held,
-        ..
-    } = claim;
+    match read_claim(alloc, bytes) {
+        Ok(claim) => Ok(claim),
+        Err(Stop::NoMemory) => Err(Stop::NoMemory),
+        Err(Stop::Fault(fault)) => Err(Stop::Fault(Failure::of(Refusal::Cert(fault)))),
+    }
+}
+
+/// The answer of the checker to a claim, by the score of its objective.
+fn judged(alloc: Global, claim: &Claim) -> Result<Accepted, Stop<Reject>>
+    requires { IsClaim claim.now }
+    ensures { Gives (judged_of (claimed_by claim.now)) result }
+{
+    let certificate = &claim.certificate;
+    let held = held_in(alloc, &certificate.case, &claim.on_hand)?;
     match certificate.objective {
-        Objective::Backorders => check_within(alloc, certificate, held, &Plain),
-        Objective::LogAvailability => check_within(alloc, certificate, held, &LogLoss),
+        Objective::Backorders => check_within(alloc, certificate, &held, &Plain),
+        Objective::LogAvailability => check_within(alloc, certificate, &held, &LogLoss),
+    }
+}
+
+/// The acceptance of a claim, or the refusal of the first rule that it breaks.
+fn accepted(alloc: Global, claim: &Claim) -> Result<Accepted, Stop<Failure>>
+    requires { IsClaim claim.now }
+    ensures { Gives (or_refuse (frame_rows claim.now.certificate.case) refusal.Rejected
+        (judged_of (claimed_by claim.now))) result }
+{
+    match judged(alloc, claim) {
+        Ok(accepted) => Ok(accepted),
+        Err(Stop::NoMemory) => Err(Stop::NoMemory),
+        Err(Stop::Fault(reject)) => {
+            let frame = claim.certificate.case.frame();
+            Err(Stop::Fault(Failure::at(frame, Refusal::Rejected(reject))))
+        }
     }
 }
 
 /// The report of an accepted claim.
 fn report_of(claim: &Claim, accepted: Accepted) -> CheckReport
     requires claim { IsClaim claim.now }
-    requires accepted { judged (ends_of claim.now.certificate.objective) claim.now.certificate claim.now.held
-        ≡ Ok accepted }
+    requires accepted { or_refuse (frame_rows claim.now.certificate.case) refusal.Rejected
+        (judged_of (claimed_by claim.now)) ≡ Ok accepted }
     ensures { result ≡ check_of (claimed_by claim.now) }
 {
-    let Claim {
-        certificate,
-        held,
-        on_hand,
-    } = claim;
-    let on_hand = if *on_hand {
-        Some(held.cost(&certificate.case))
-    } else {
-        None
-    };
+    let certificate = &claim.certificate;
     CheckReport {
         format: certificate.format,
         budget: certificate.budget,
         cost: accepted.cost,
-        on_hand,
+        on_hand: cost_of(&certificate.case, &claim.on_hand),
         upper: accepted.upper,
         bound: accepted.bound,
     }
@@ -129,16 +140,7 @@ pub(crate) fn check(alloc: Global, bytes: &[u8]) -> Result<Outcome, Stop<Failure
     requires { length bytes.now ≤ certificate_limit }
     ensures { MakesBy (Is (check_task bytes.now)) result }
 {
-    let claim = match claim_of(alloc, bytes) {
-        Ok(claim) => claim,
-        Err(stop) => return Err(stop),
-    };
-    match accepted(alloc, &claim) {
-        Ok(accepted) => Ok(Outcome::printed(Done::Checked(report_of(&claim, accepted)))),
-        Err(Stop::NoMemory) => Err(Stop::NoMemory),
-        Err(Stop::Fault(reject)) => {
-            let frame = claim.certificate.case.frame();
-            Err(Stop::Fault(Failure::at(frame, Refusal::Rejected(reject))))
-        }
-    }
+    let claim = claim_of(alloc, bytes)?;
+    let accepted = accepted(alloc, &claim)?;
+    Ok(Outcome::printed(Done::Checked(report_of(&claim, accepted))))
 }

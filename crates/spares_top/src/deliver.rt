@@ -62,11 +62,7 @@ pub(crate) fn deliver<H: Shelf, W: Sink>(
     ensures nothing { outcome.writes ≡ None → StandStill (H.write_faults shelf.old) (H.write_faults shelf.new) }
     ensures reads { StandStill (H.read_faults shelf.old) (H.read_faults shelf.new) }
 {
-    if let Err(failure) = write(&outcome.writes, shelf) {
-        return Err(failure);
-    }
-    match print(out, text) {
-        Ok(()) => Ok(outcome.done),
-        Err(failure) => Err(failure),
-    }
+    write(&outcome.writes, shelf)?;
+    print(out, text)?;
+    Ok(outcome.done)
 }

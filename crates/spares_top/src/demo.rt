@@ -1,11 +1,14 @@
-//! A demonstration: the plan of a made-up case, and the check of its certificate.
+//! `demo`: the plan of a made-up case, and the check of its certificate.
+//!
+//! - Reads no file, and refuses nothing.
+//! - Makes the report.
 ghost use Rattle.spares_words.specs.Order.{IsInRange};
 ghost use Rattle.spares_words.specs.declared.order.Order.TheVariants as order;
 ghost use Rattle.spares_top.specs.Making.{Is, MakesBy};
 ghost use Rattle.spares_top.specs.Task.{demonstrate};
 
 use crate::done::{Done, Outcome};
-use answers::{NoMemory, Stop};
+use answers::Stop;
 use demonstration::demonstrate;
 use refusals::Failure;
 use std::alloc::Global;
@@ -15,8 +18,6 @@ pub(crate) fn demo(alloc: Global, number: u32, lines: u16) -> Result<Outcome, St
     requires { IsInRange (order.Demo number lines) }
     ensures { MakesBy (Is (Ok (demonstrate number lines))) result }
 {
-    match demonstrate(alloc, number, lines) {
-        Ok(summary) => Ok(Outcome::printed(Done::Demo(summary))),
-        Err(NoMemory) => Err(Stop::NoMemory),
-    }
+    let summary = demonstrate(alloc, number, lines)?;
+    Ok(Outcome::printed(Done::Demo(summary)))
 }

@@ -2,7 +2,7 @@
 ghost use Rattle.std.specs.Prelude.{◌≡◌, ◌<◌, ◌^◌, [], All, IfOk, IfErr, OnOk};
 ghost use Rattle.std.specs.Option.{option_map};
 ghost use Rattle.spares_top.specs.Files.{Gave, Reads, StandStill, case_in, certificate_in, inputs, if_named, table_in};
-ghost use Rattle.spares_top.specs.Reading.{IsReadable, ReadsGive, Unread};
+ghost use Rattle.spares_top.specs.Reading.{IsReadable, ReadsGive, ReadsMore, Unread};
 
 use answers::{List, NoMemory, Stop};
 use csv_tables::TABLE_LIMIT;
@@ -79,12 +79,12 @@ fn tables_and(
     Ok(tables)
 }
 
-/// The files that an order reads, in the order of reading.
-pub(crate) fn inputs_of(alloc: Global, order: &Order) -> Result<Vec<Input>, NoMemory>
+/// The inputs of an order that reads a further file after the tables of a case.
+fn tables_and_file(alloc: Global, order: &Order) -> Result<Vec<Input>, NoMemory>
+    requires { ReadsMore order.now }
     ensures { IfOk result (λ v. v.items ≡ inputs order.now) }
 {
     match order {
-        Order::Single { .. } | Order::Demo { .. } => Ok(Vec::new(alloc)),
         Order::Eval {
             sites,
             parts,
@@ -99,17 +99,6 @@ pub(crate) fn inputs_of(alloc: Global, order: &Order) -> Result<Vec<Input>, NoMe
             on_hand,
             ..
         } => tables_and(alloc, sites, parts, rates, File::OnHand, on_hand.as_ref()),
-        Order::Sweep {
-            sites,
-            parts,
-            rates,
-        } => case_tables(alloc, sites, parts, rates),
-        Order::Target {
-            sites,
-            parts,
-            rates,
-            ..
-        } => case_tables(alloc, sites, parts, rates),
         Order::Session {
             sites,
             parts,
@@ -122,11 +111,33 @@ pub(crate) fn inputs_of(alloc: Global, order: &Order) -> Result<Vec<Input>, NoMe
             rates,
             stocks,
         } => tables_and(alloc, sites, parts, rates, File::Stocks, Some(stocks)),
+        _ => Ok(Vec::new(alloc)),
+    }
+}
+
+/// The files that an order reads, in the order of reading.
+fn inputs_of(alloc: Global, order: &Order) -> Result<Vec<Input>, NoMemory>
+    ensures { IfOk result (λ v. v.items ≡ inputs order.now) }
+{
+    match order {
+        Order::Single { .. } | Order::Demo { .. } => Ok(Vec::new(alloc)),
+        Order::Sweep {
+            sites,
+            parts,
+            rates,
+        } => case_tables(alloc, sites, parts, rates),
+        Order::Target {
+            sites,
+            parts,
+            rates,
+            ..
+        } => case_tables(alloc, sites, parts, rates),
         Order::Check { certificate } => {
             let mut inputs = Vec::new(alloc);
             inputs.push(Input::certificate(alloc, certificate)?)?;
             Ok(inputs)
         }
+        _ => tables_and_file(alloc, order),
     }
 }
 
@@ -154,7 +165,7 @@ fn read_file<H: Shelf>(
 }
 
 /// Reads the inputs in order. The first unreadable input is refused.
-pub(crate) fn read_files<H: Shelf>(
+fn read_files<H: Shelf>(
     alloc: Global,
     shelf: &mut H,
     inputs: &[Input],
@@ -167,11 +178,24 @@ pub(crate) fn read_files<H: Shelf>(
 {
     let mut files = Vec::new(alloc);
     for input in inputs {
-        let bytes = match read_file(alloc, shelf, input) {
-            Ok(bytes) => bytes,
-            Err(stop) => return Err(stop),
-        };
+        let bytes = read_file(alloc, shelf, input)?;
         files.push(bytes)?;
     }
     Ok(List::of(files))
+}
+
+/// Reads the files of an order. The first unreadable file is refused.
+pub(crate) fn files_of<H: Shelf>(
+    alloc: Global,
+    order: &Order,
+    shelf: &mut H,
+) -> Result<List<List<u8>>, Stop<Failure>>
+    ensures held { H.held shelf.new ≡ H.held shelf.old }
+    ensures reads { ReadsGive (H.held shelf.old) (H.read_faults shelf.old) (H.read_faults shelf.new) (inputs order.now)
+        result }
+    ensures nothing { inputs order.now ≡ [] → StandStill (H.read_faults shelf.old) (H.read_faults shelf.new) }
+    ensures writes { StandStill (H.write_faults shelf.old) (H.write_faults shelf.new) }
+{
+    let inputs = inputs_of(alloc, order)?;
+    read_files(alloc, shelf, inputs.as_slice())
 }

@@ -1,18 +1,24 @@
 //! The whole program over a shelf and two sinks, which the caller passes in.
 #![tactic(auto)]
 
+mod cases;
 mod check;
 mod compare;
+mod curves;
 mod deliver;
 mod demo;
 mod done;
 mod eval;
 mod exit;
 mod files;
+mod given;
+mod held;
 mod plan;
 mod session;
 mod single;
 mod sweep;
+mod tables;
+mod target;
 mod top;
 mod work;
 

@@ -1,166 +1,109 @@
-//! The plan of a case under a budget, with its certificate.
-ghost use Rattle.std.specs.Prelude.{◌≡◌, ◌≤◌, IfOk, Some, None, Ok, true, length, if◌then◌else◌};
-ghost use Rattle.std.specs.Result.{IsOk};
-ghost use Rattle.case_tables.specs.Answers.{Tells};
-ghost use Rattle.csv_tables.specs.Rest.{table_limit};
-ghost use Rattle.certified_plan.specs.Inputs.{AreTerms};
-ghost use Rattle.demand_rates.specs.Rates.{AreRatesOf};
-ghost use Rattle.family_points.specs.Counts.{work_of};
-ghost use Rattle.fleet_plan.specs.Laws.{IsAcceptedCase};
-ghost use Rattle.spares_top.specs.Making.{AreTables, Is, IsMade, MakesBy};
-ghost use Rattle.spares_top.specs.Planning.{IsGround, IsPlanFor, TellsGround, fourth, planning_on};
-ghost use Rattle.spares_top.specs.Plans.{case_within_work, planning_of};
-ghost use Rattle.spares_top.specs.Task.{bytes_at, make_plan, plan_task};
+//! `plan`: the best stocks of a case for a budget, with a certificate.
+//!
+//! - Reads sites, parts, rates, and the stocks on hand if a table of them is named.
+//! - Refuses, in this order: the first fault of the tables; a pipeline beyond the limits of the model; too much work.
+//! - Makes the report, and the certificate under its name.
+ghost use Rattle.std.specs.Prelude.{◌≡◌, IfOk, Some, Ok, option_map};
+ghost use Rattle.certified_plan.specs.Inputs.{AreClaims, AreTerms};
+ghost use Rattle.spares_top.specs.Given.{bytes_of};
+ghost use Rattle.spares_top.specs.Making.{Is, IsMade, MakesBy};
+ghost use Rattle.spares_top.specs.Planning.{HasFormat, IsCertified, IsGround, IsPlanFor, TellsGround, planning_on};
+ghost use Rattle.spares_top.specs.Plans.{held_of, planning_of};
+ghost use Rattle.spares_top.specs.Task.{make_plan, plan_task};
 
+use crate::cases::{case_within_work, few_tables, stocked};
 use crate::done::{Done, Outcome, Written};
+use crate::held::{cost_of, held_in};
+use crate::tables::{Table, Tables};
 use answers::{List, NoMemory, Stop};
-use case_tables::{Accepted, Stocked, accepted_of, stocked_of};
+use case_tables::{Accepted, Stocked};
 use certified_plan::{PlanClaims, certificate, certificate_text};
-use demand_rates::kinds::Rates;
-use family_points::work;
 use held_work::held_work;
 use hull::Plain;
 use log_loss::LogLoss;
 use on_hand::plan_case;
 use price_certificate::{Objective, Terms};
-use refusals::{Failure, File, Refusal};
-use spares_input::{Case, Stocks, nothing_held};
+use refusals::{Failure, File};
+use spares_input::Stocks;
 use spares_io::Text;
 use std::alloc::Global;
 
-/// The ground of a plan: a case with its rates, its held stocks and the terms. If nothing is on hand, the held stocks
-/// are zeros.
+/// The ground of a plan: a case with its rates, the stocks on hand if there is a table of them, and the terms.
 #[derive(Drop)]
 pub(crate) struct Ground {
-    pub(crate) case: Case,
-    pub(crate) rates: Rates,
-    pub(crate) held: Stocks,
-    pub(crate) on_hand: bool,
+    pub(crate) given: Accepted,
+    pub(crate) on_hand: Option<Stocks>,
     pub(crate) terms: Terms,
 }
 
-/// The case of sites, parts and rates, with its exact rates, if its curves take few enough tables.
-fn within_work(
-    alloc: Global,
-    sites: &[u8],
-    parts: &[u8],
-    rates: &[u8],
-) -> Result<Accepted, Stop<Failure>>
-    requires sites { length sites.now ≤ table_limit }
-    requires parts { length parts.now ≤ table_limit }
-    requires rates { length rates.now ≤ table_limit }
-    ensures answer { Tells (case_within_work sites.now parts.now rates.now) result }
-    ensures rates { IfOk result (λ given. AreRatesOf given.case given.rates) }
-    ensures accepted { IfOk result (λ given. IsAcceptedCase given.case) }
-    ensures work { IfOk result (λ given. IsOk (work_of given.case)) }
-{
-    let given = accepted_of(alloc, sites, parts, rates)?;
-    let _valid = given.case.site_count();
-    match work(&given.case) {
-        Ok(_) => Ok(given),
-        Err(count) => Err(Stop::Fault(Failure::of(Refusal::Work(count)))),
-    }
-}
-
-/// The case of three tables, if its curves take few enough tables.
-pub(crate) fn case_within_work(alloc: Global, files: &[List<u8>]) -> Result<Accepted, Stop<Failure>>
-    requires { AreTables 3 files.now }
-    ensures answer { Tells (case_within_work (bytes_at files.now 0) (bytes_at files.now 1) (bytes_at files.now 2))
-        result }
-    ensures rates { IfOk result (λ given. AreRatesOf given.case given.rates) }
-    ensures accepted { IfOk result (λ given. IsAcceptedCase given.case) }
-    ensures work { IfOk result (λ given. IsOk (work_of given.case)) }
-{
-    let (sites, parts) = (files[0].as_slice(), files[1].as_slice());
-    within_work(alloc, sites, parts, files[2].as_slice())
-}
-
-/// The ground of a plan from three tables.
-fn plain_ground(alloc: Global, files: &[List<u8>], terms: Terms) -> Result<Ground, Stop<Failure>>
-    requires { AreTables 3 files.now }
-    ensures answer { TellsGround (planning_of (bytes_at files.now 0) (bytes_at files.now 1)
-        (bytes_at files.now 2) None terms) result }
+/// The ground of a plan with no stocks on hand.
+fn plain_ground(alloc: Global, tables: &Tables<'_>, terms: Terms) -> Result<Ground, Stop<Failure>>
+    requires { AreTerms terms }
+    ensures answer { TellsGround (planning_of (bytes_of tables.now) None terms) result }
     ensures ground { IfOk result IsGround }
 {
-    let Accepted { case, rates } = match case_within_work(alloc, files) {
-        Ok(given) => given,
-        Err(stop) => return Err(stop),
-    };
-    let held = nothing_held(alloc, &case)?;
+    let given = case_within_work(alloc, tables)?;
     Ok(Ground {
-        case,
-        rates,
-        held,
-        on_hand: false,
+        given,
+        on_hand: None,
         terms,
     })
 }
 
-/// The ground of a plan from three tables and the table of stocks on hand.
-fn held_ground(alloc: Global, files: &[List<u8>], terms: Terms) -> Result<Ground, Stop<Failure>>
-    requires { AreTables 4 files.now }
-    ensures answer { TellsGround (planning_of (bytes_at files.now 0) (bytes_at files.now 1) (bytes_at files.now 2)
-        (Some (bytes_at files.now 3)) terms) result }
+/// The ground of a plan with stocks on hand.
+fn held_ground(
+    alloc: Global,
+    tables: &Tables<'_>,
+    stocks: &Table<'_>,
+    terms: Terms,
+) -> Result<Ground, Stop<Failure>>
+    requires terms { AreTerms terms }
+    requires format { terms.format ≡ 2 }
+    ensures answer { TellsGround (planning_of (bytes_of tables.now) (Some stocks.now.bytes.now) terms) result }
     ensures ground { IfOk result IsGround }
 {
-    let (sites, parts) = (files[0].as_slice(), files[1].as_slice());
-    let (rates, stocks) = (files[2].as_slice(), files[3].as_slice());
-    let given = stocked_of(alloc, sites, parts, rates, File::OnHand, stocks)?;
     let Stocked {
         case,
         stocks,
         rates,
-    } = given;
+    } = stocked(alloc, tables, File::OnHand, stocks)?;
     let _valid = case.site_count();
-    if let Err(count) = held_work(&case, &stocks) {
-        return Err(Stop::Fault(Failure::of(Refusal::Work(count))));
-    }
+    few_tables(held_work(&case, &stocks))?;
     Ok(Ground {
-        case,
-        rates,
-        held: stocks,
-        on_hand: true,
+        given: Accepted { case, rates },
+        on_hand: Some(stocks),
         terms,
     })
 }
 
-/// The ground of a plan, from three tables, or from four if stocks are on hand.
+/// The ground of a plan, if its curves take few enough tables.
 fn ground_of(
     alloc: Global,
-    files: &[List<u8>],
-    on_hand: bool,
+    tables: &Tables<'_>,
+    on_hand: &Option<Table<'_>>,
     terms: Terms,
 ) -> Result<Ground, Stop<Failure>>
-    requires { AreTables (if on_hand then 4 else 3) files.now }
-    ensures answer { TellsGround (planning_of (bytes_at files.now 0) (bytes_at files.now 1) (bytes_at files.now 2)
-        (fourth on_hand files.now) terms) result }
+    requires terms { AreTerms terms }
+    requires format { HasFormat on_hand.now terms }
+    ensures answer { TellsGround (planning_of (bytes_of tables.now) (option_map (λ t. t.bytes.now) on_hand.now) terms)
+        result }
     ensures ground { IfOk result IsGround }
 {
-    if on_hand {
-        held_ground(alloc, files, terms)
-    } else {
-        plain_ground(alloc, files, terms)
+    match on_hand {
+        Some(stocks) => held_ground(alloc, tables, stocks, terms),
+        None => plain_ground(alloc, tables, terms),
     }
 }
 
-/// The plan of a ground, with the claims of its certificate.
-fn plan_of(alloc: Global, ground: &Ground) -> Result<case_plan::Outcome, NoMemory>
+/// The plan of a ground from its held stocks, with the claims of its certificate.
+fn plan_of(alloc: Global, ground: &Ground, held: &Stocks) -> Result<case_plan::Outcome, NoMemory>
     requires ground { IsGround ground.now }
-    requires terms { AreTerms ground.now.terms }
+    requires held { held.now ≡ held_of (planning_on ground.now) }
     ensures { IfOk result (IsPlanFor ground.now) }
 {
-    let Ground {
-        case,
-        rates,
-        held,
-        ..
-    } = ground;
+    let Accepted { case, rates } = &ground.given;
     let budget = ground.terms.budget;
-    let on_hand = if ground.on_hand {
-        Some(held.cost(case))
-    } else {
-        None
-    };
+    let on_hand = cost_of(case, &ground.on_hand);
     match ground.terms.objective {
         Objective::Backorders => {
             plan_case(alloc, case, rates, held, &Plain, budget, false, on_hand)
@@ -171,14 +114,34 @@ fn plan_of(alloc: Global, ground: &Ground) -> Result<case_plan::Outcome, NoMemor
     }
 }
 
+/// The text of the certificate that carries the claims of a ground's plan.
+fn certified(
+    alloc: Global,
+    ground: Ground,
+    held: &Stocks,
+    claims: PlanClaims,
+) -> Result<Vec<u8>, NoMemory>
+    requires ground { IsGround ground }
+    requires held { held.now ≡ held_of (planning_on ground) }
+    requires claims { AreClaims ground.given.case claims }
+    ensures { IfOk result (λ bytes. IsCertified (planning_on ground) claims bytes.items) }
+{
+    let Ground {
+        given,
+        on_hand,
+        terms,
+    } = ground;
+    let certificate = certificate(alloc, given.case, held, terms, claims)?;
+    certificate_text(alloc, certificate, on_hand)
+}
+
 /// The plan of a ground, and the text of its certificate under this name.
 fn planned(alloc: Global, ground: Ground, name: Text) -> Result<Outcome, NoMemory>
-    requires ground { IsGround ground }
-    requires terms { AreTerms ground.terms }
-    requires held { ground.on_hand ≡ true → ground.terms.format ≡ 2 }
+    requires { IsGround ground }
     ensures { IfOk result (IsMade (Is (Ok (make_plan (planning_on ground) name)))) }
 {
-    let plan = plan_of(alloc, &ground)?;
+    let held = held_in(alloc, &ground.given.case, &ground.on_hand)?;
+    let plan = plan_of(alloc, &ground, &held)?;
     let claims = PlanClaims {
         stocks: plan.stocks,
         price: plan.price,
@@ -186,13 +149,7 @@ fn planned(alloc: Global, ground: Ground, name: Text) -> Result<Outcome, NoMemor
         upper: plan.upper,
         bound: plan.report.bound,
     };
-    let certificate = certificate(alloc, ground.case, &ground.held, ground.terms, claims)?;
-    let held = if ground.on_hand {
-        Some(ground.held)
-    } else {
-        None
-    };
-    let bytes = certificate_text(alloc, certificate, held)?;
+    let bytes = certified(alloc, ground, &held, claims)?;
     Ok(Outcome {
         done: Done::Planned(plan.report),
         writes: Some(Written {
@@ -202,26 +159,20 @@ fn planned(alloc: Global, ground: Ground, name: Text) -> Result<Outcome, NoMemor
     })
 }
 
-/// Carries out `plan` on the bytes of its tables: sites, parts, rates, and the stocks on hand if there are any.
+/// Carries out `plan` on the tables of a case and on the table of stocks on hand, if there is one.
 pub(crate) fn plan(
     alloc: Global,
-    files: &[List<u8>],
-    on_hand: bool,
+    tables: &Tables<'_>,
+    on_hand: &Option<Table<'_>>,
     terms: Terms,
     name: Text,
 ) -> Result<Outcome, Stop<Failure>>
-    requires files { AreTables (if on_hand then 4 else 3) files.now }
     requires terms { AreTerms terms }
-    requires held { on_hand ≡ true → terms.format ≡ 2 }
-    ensures { MakesBy (Is (plan_task (bytes_at files.now 0) (bytes_at files.now 1) (bytes_at files.now 2)
-        (fourth on_hand files.now) terms name)) result }
+    requires format { HasFormat on_hand.now terms }
+    ensures { MakesBy (Is (plan_task (bytes_of tables.now) (option_map (λ t. t.bytes.now) on_hand.now) terms name))
+        result }
 {
-    let ground = match ground_of(alloc, files, on_hand, terms) {
-        Ok(ground) => ground,
-        Err(stop) => return Err(stop),
-    };
-    match planned(alloc, ground, name) {
-        Ok(outcome) => Ok(outcome),
-        Err(NoMemory) => Err(Stop::NoMemory),
-    }
+    let ground = ground_of(alloc, tables, on_hand, terms)?;
+    let outcome = planned(alloc, ground, name)?;
+    Ok(outcome)
 }

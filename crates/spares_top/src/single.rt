@@ -1,4 +1,8 @@
-//! The report of a single pipeline.
+//! `single`: the backorders of one pipeline, and their variance.
+//!
+//! - Reads no file.
+//! - Refuses a mean or a variance beyond the limits of the model.
+//! - Makes the report.
 ghost use Rattle.std.specs.Prelude.{◌≡◌, ◌≤◌, ◌<◌, ◌^◌, IfOk};
 ghost use Rattle.demand_rates.specs.Single.{WithinLimits};
 ghost use Rattle.fixed_interval.specs.Ends.{In, IsWithinLimit, ends_ratio};
@@ -22,7 +26,6 @@ use std::alloc::Global;
 const TEN_THOUSAND: u128 = 10_000;
 
 /// A number of ten-thousandths, as an interval.
-#[tactic(auto, unfolding(fleet_model::specs::Rows::ten_thousandths))]
 fn interval_of(units: u64) -> Iv<48>
     requires { units ≤ 2560000 }
     ensures ends { result ≡ ends_ratio 48 units 10000 }

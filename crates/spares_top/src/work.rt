@@ -13,12 +13,14 @@ use crate::deliver::deliver;
 use crate::demo::demo;
 use crate::done::{Done, Outcome};
 use crate::eval::eval;
-use crate::files::{inputs_of, read_files};
+use crate::files::files_of;
+use crate::given::{fourth_if, table_at, tables_of};
 use crate::plan::plan;
 use crate::session::session;
 use crate::single::single;
-use crate::sweep::{sweep, target};
-use answers::{List, NoMemory, Stop};
+use crate::sweep::sweep;
+use crate::target::target;
+use answers::{List, Stop};
 use price_certificate::Terms;
 use refusals::{Failure, Refusal, failure_of};
 use spares_io::{Shelf, Sink, Text};
@@ -37,7 +39,7 @@ fn outcome_on(alloc: Global, order: Order, files: &[List<u8>]) -> Result<Outcome
             variance,
             stock,
         } => single(alloc, mean, variance, stock),
-        Order::Eval { bits, .. } => eval(alloc, files, bits),
+        Order::Eval { bits, .. } => eval(alloc, &tables_of(files), &table_at(files, 3), bits),
         Order::Plan {
             on_hand,
             budget,
@@ -51,14 +53,15 @@ fn outcome_on(alloc: Global, order: Order, files: &[List<u8>]) -> Result<Outcome
                 format,
                 objective,
             };
-            plan(alloc, files, on_hand.is_some(), terms, certificate)
+            let on_hand = fourth_if(files, on_hand.is_some());
+            plan(alloc, &tables_of(files), &on_hand, terms, certificate)
         }
         Order::Check { .. } => check(alloc, files[0].as_slice()),
         Order::Demo { number, lines } => demo(alloc, number, lines),
-        Order::Sweep { .. } => sweep(alloc, files),
-        Order::Target { backorders, .. } => target(alloc, files, backorders),
-        Order::Session { .. } => session(alloc, files),
-        Order::Compare { .. } => compare(alloc, files),
+        Order::Sweep { .. } => sweep(alloc, &tables_of(files)),
+        Order::Target { backorders, .. } => target(alloc, &tables_of(files), backorders),
+        Order::Session { .. } => session(alloc, &tables_of(files), files[3].as_slice()),
+        Order::Compare { .. } => compare(alloc, &tables_of(files), &table_at(files, 3)),
     }
 }
 
@@ -75,13 +78,8 @@ fn outcome_of<H: Shelf>(
     ensures writes { StandStill (H.write_faults shelf.old) (H.write_faults shelf.new) }
     ensures reads { inputs order ≡ [] → StandStill (H.read_faults shelf.old) (H.read_faults shelf.new) }
 {
-    let Ok(inputs) = inputs_of(alloc, &order) else {
-        return Err(Stop::NoMemory);
-    };
-    match read_files(alloc, shelf, inputs.as_slice()) {
-        Ok(files) => outcome_on(alloc, order, files.as_slice()),
-        Err(stop) => Err(stop),
-    }
+    let files = files_of(alloc, &order, shelf)?;
+    outcome_on(alloc, order, files.as_slice())
 }
 
 /// Carries out an order. Its outcome is complete before any write.

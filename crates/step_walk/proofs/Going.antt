@@ -9,11 +9,11 @@ use Rattle.step_walk.specs.Prefix.{HasStep, IsBefore, IsPrefix, IsNext, HaveShap
 use Rattle.step_walk.proofs.Taking.{next_of}
 use Rattle.step_walk.specs.declared.step.Step.{Step}
 use Rattle.step_walk.specs.Steps.{step_cmp, TellsStep, HoldsNext}
-use Rattle.step_walk.specs.Walks.{IsWalk, TellsFirst, MovesOn}
+use Rattle.step_walk.specs.Walks.{AreShort, IsWalk, TellsFirst, MovesOn}
 use Rattle.step_walk.proofs.Waiting.{own_of, steepest_of, with_step, without, none_left}
 use Rattle.step_walk.proofs.Turns.{Turn, turn_of}
 
-module _ (curves : List (List Point)) (picks : List ℕ) (x : Step) (old rest : List Step) (few : length curves ≤ 2000) (shapes : HaveShapes curves) (pre : IsPrefix curves picks) (popped : IsPermutation old (x ∷ rest)) (top : IsUpperBound step_cmp x old) (held : HoldsNext curves picks (length curves) old) (pick : ℕ) (is : pick ≡ get_or picks x.family pick) where
+module _ (curves : List (List Point)) (picks : List ℕ) (x : Step) (old rest : List Step) (few : length curves ≤ 2000) (short : AreShort curves) (shapes : HaveShapes curves) (pre : IsPrefix curves picks) (popped : IsPermutation old (x ∷ rest)) (top : IsUpperBound step_cmp x old) (held : HoldsNext curves picks (length curves) old) (pick : ℕ) (is : pick ≡ get_or picks x.family pick) where
   turn : Turn curves picks x rest (pick + 1)
   turn = turn_of curves picks x old rest shapes pre popped top held pick is
 
@@ -21,6 +21,7 @@ module _ (curves : List (List Point)) (picks : List ℕ) (x : Step) (old rest : 
   pub goes_with : (y : Step) (new : List Step) → TellsStep curves x.family (pick + 1) y → IsPermutation (y ∷ rest) new → IsHeap step_cmp new → IsWalk curves (set picks x.family (pick + 1)) new
   goes_with y new told pushed order = record {
     few = few;
+    short = short;
     shapes = shapes;
     prefix = turn.prefix;
     order = order;
@@ -32,6 +33,7 @@ module _ (curves : List (List Point)) (picks : List ℕ) (x : Step) (old rest : 
   pub goes_without : (HasStep curves x.family (pick + 1) → ⊥) → IsHeap step_cmp rest → IsWalk curves (set picks x.family (pick + 1)) rest
   goes_without out order = record {
     few = few;
+    short = short;
     shapes = shapes;
     prefix = turn.prefix;
     order = order;

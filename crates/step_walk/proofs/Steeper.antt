@@ -58,7 +58,7 @@ steep_first p f r g s h k some =
 module _ (p : ℕ) (curves : List (List Point)) (picks : List ℕ) (after : AreAfterSteep p curves picks) where
   -- steps are told of curves
   pub shapes_after : HaveShapes curves
-  shapes_after f b = (after.each f b).shape
+  shapes_after f b = (let s = (after.each f b).shape in record { some = s.some; chain = s.chain; ranges = s.ranges })
 
   -- the steep steps are a prefix of all
   pub prefix_after : IsPrefix curves picks

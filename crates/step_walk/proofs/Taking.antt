@@ -1,10 +1,10 @@
 -- Taking the next step keeps the prefix.
 use Rattle.std.proofs.Common.{◌≡◌, ℕ, zero, suc, ◌+◌, ◌-◌, ◌*◌, ◌<◌, ◌≤◌, ◌≢◌, ◌⊎◌, inl, inr, List, [], ◌∷◌, ◌++◌, length, set, slice_index, refl, sym, ap, ◌∙◌, subst, arith, get_or-set_other, get_or-set_same, length-set}
 use Rattle.hull.specs.declared.point.Point.{Point}
-use Rattle.hull.specs.Curves.{Steps, IsChain, IsShape, point_at}
+use Rattle.hull.specs.Curves.{Steps, IsChain, point_at}
 use Rattle.hull.proofs.Chains.{falls_on}
 use Rattle.hull.proofs.Stops.{falls_after}
-use Rattle.step_walk.specs.Prefix.{curve_at, vertex_at, HasStep, fall, rise, IsBefore, IsPrefix, IsNext}
+use Rattle.step_walk.specs.Prefix.{curve_at, vertex_at, HasStep, fall, rise, IsBefore, IsPrefix, IsNext, HaveShapes}
 
 -- the falls and rises of one curve
 abbrev pub own_fall : List Point → ℕ → ℕ
@@ -74,7 +74,7 @@ pub rises_at : (curves : List (List Point)) (f k : ℕ) → IsChain (curve_at cu
 rises_at curves f k c s = (let r : Steps (vertex_at curves f k) (vertex_at curves f (k + 1)) = own_step (curve_at curves f) c k s.place in let l = r.cost in omega (arith, l))
 
 -- the steepest of the next steps is the next of all
-pub next_of : (curves : List (List Point)) (picks : List ℕ) (f : ℕ) → ((g : ℕ) → g < length curves → IsShape (curve_at curves g)) → IsSteepest curves picks f → IsNext curves picks f
+pub next_of : (curves : List (List Point)) (picks : List ℕ) (f : ℕ) → HaveShapes curves → IsSteepest curves picks f → IsNext curves picks f
 next_of curves picks f shapes best = record { step = best.step; first = first }
   where
     pos : 0 < rise curves f (slice_index picks f)

@@ -1,7 +1,7 @@
 -- Prefixes of the steps of curves, in the order in which marginal analysis takes them.
 use Rattle.std.specs.Prelude.{◌≡◌, ℕ, ◌+◌, ◌-◌, ◌*◌, ◌<◌, ◌≤◌, ◌⊎◌, List, [], ◌∷◌, length, slice_index, slice_index_or}
 use Rattle.hull.specs.declared.point.Point.{Point}
-use Rattle.hull.specs.Curves.{IsShape, point_at}
+use Rattle.hull.specs.Curves.{Among, InRange, IsChain, point_at}
 
 -- the curve of the family f
 abbrev pub curve_at : List (List Point) → ℕ → List Point
@@ -58,6 +58,12 @@ pub record IsNext (curves : List (List Point)) (picks : List ℕ) (f : ℕ) : Ty
 abbrev pub AllTaken : List (List Point) → List ℕ → Type 0
 AllTaken curves picks = (f : ℕ) → f < length curves → slice_index picks f + 1 ≡ length (curve_at curves f)
 
--- each list of vertices has the shape of a curve
+-- the vertices of a curve: there is one, their steps are a chain, and their numbers are within their limits
+pub record IsRangedChain (vertices : List Point) : Type 0 where
+  pub some : 0 < length vertices
+  pub chain : IsChain vertices
+  pub ranges : (v : Point) → Among v vertices → InRange v
+
+-- each list of vertices has the shape of a curve, however many they are
 abbrev pub HaveShapes : List (List Point) → Type 0
-HaveShapes curves = (f : ℕ) → f < length curves → IsShape (curve_at curves f)
+HaveShapes curves = (f : ℕ) → f < length curves → IsRangedChain (curve_at curves f)

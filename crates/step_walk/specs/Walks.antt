@@ -2,7 +2,7 @@
 use Rattle.std.specs.Prelude.{◌≡◌, ℕ, ◌+◌, ◌^◌, ◌<◌, ◌≤◌, List, length, set, slice_index}
 use Rattle.std.specs.BinaryHeap.{IsHeap}
 use Rattle.hull.specs.declared.point.Point.{Point}
-use Rattle.step_walk.specs.Prefix.{fall, rise, IsPrefix, IsNext, AllTaken, HaveShapes}
+use Rattle.step_walk.specs.Prefix.{curve_at, fall, rise, IsPrefix, IsNext, AllTaken, HaveShapes}
 use Rattle.step_walk.specs.declared.step.Step.{Step}
 use Rattle.step_walk.specs.declared.walk.Next.{Next}
 use Rattle.step_walk.specs.Steep.{AreAfterSteep}
@@ -13,9 +13,14 @@ pub record Walked : Type 0 where
   pub curves : List (List Point)
   pub picks : List ℕ
 
+-- no curve has more vertices than a place can count
+abbrev pub AreShort : List (List Point) → Type 0
+AreShort curves = (f : ℕ) → f < length curves → length (curve_at curves f) ≤ 2 ^ 31
+
 -- the steps taken are a prefix of all, and the next ones of the families wait
 pub record IsWalk (curves : List (List Point)) (picks : List ℕ) (waiting : List Step) : Type 0 where
   pub few : length curves ≤ 2000
+  pub short : AreShort curves
   pub shapes : HaveShapes curves
   pub prefix : IsPrefix curves picks
   pub order : IsHeap step_cmp waiting

@@ -3,7 +3,7 @@ ghost use Rattle.std.specs.Prelude.{◌≡◌, ℕ, ◌+◌, ◌^◌, ◌<◌, �
 ghost use Rattle.std.specs.BinaryHeap.{IsHeap, heap_items};
 ghost use Rattle.step_walk.specs.Prefix.{curve_at, AreVertices, HaveShapes};
 ghost use Rattle.step_walk.specs.Steps.{step_cmp, TellsNext, HoldsNext};
-ghost use Rattle.step_walk.specs.Walks.{IsAfter, IsAtFirst, AllDone, TellsFirst, HasNext, MovesOn};
+ghost use Rattle.step_walk.specs.Walks.{AreShort, IsAfter, IsAtFirst, AllDone, TellsFirst, HasNext, MovesOn};
 
 use crate::steep::all_after_steep;
 use crate::step::Step;
@@ -83,6 +83,7 @@ fn first_picks(alloc: Global, curves: &[Curve]) -> Result<Vec<u32>, NoMemory>
     ensures count { IfOk result (λ picks. length picks.items ≡ length curves.now) }
     ensures zero { IfOk result (λ picks. (f : ℕ) → slice_index picks.items f ≡ 0) }
     ensures shapes { OnOk result (HaveShapes curves.now) }
+    ensures short { OnOk result (AreShort curves.now) }
 {
     let mut picks = Vec::with_capacity(alloc, curves.len())?;
     for f in 0..curves.len() {

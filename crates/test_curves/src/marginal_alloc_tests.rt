@@ -7,7 +7,7 @@ ghost use Rattle.step_walk.specs.Prefix.{vertex_at};
 
 use answers::List;
 use hull::{Curve, Point};
-use marginal_alloc::{Chosen, allocate, fill};
+use marginal_alloc::{Chosen, allocate, allocate_within, fill, first_cost};
 use std::alloc::Global;
 use std::process::Abort;
 use std::test::Fail;
@@ -27,6 +27,9 @@ const LINE_UNIT: [Row; 6] = [
 
 /// Upper ends that don't fall all along the curve.
 const WIDE: [Row; 4] = [(0, 40, 45), (2, 20, 50), (5, 8, 30), (9, 2, 31)];
+
+/// Vertices of which the first costs money.
+const DEARER: [Row; 3] = [(1, 90, 95), (3, 40, 50), (6, 10, 12)];
 
 /// The vertices of all curves, the cost of a piece of each, a budget, the hull choice, and its filling.
 #[derive(Clone, Copy, Drop)]
@@ -218,4 +221,28 @@ fn all_tried(rt: &impl Abort, alloc: Global, cases: &[Case<'_>]) -> Result<(), F
 #[test]
 fn chooses_and_fills(rt: HostRuntime) -> Result<(), Fail> {
     all_tried(&rt, rt.alloc(), CASES.as_slice())
+}
+
+#[test]
+fn chooses_above_cost_0(rt: HostRuntime) -> Result<(), Fail> {
+    let alloc = rt.alloc();
+    let one = curve_of(&rt, alloc, DEARER.as_slice(), 10)?;
+    let other = curve_of(&rt, alloc, DEARER.as_slice(), 10)?;
+    let curves = Vec::from_array(alloc, [one, other])?;
+    let slice = curves.as_slice();
+    let first = first_cost(alloc, slice)?;
+    assert_eq!(rt; first, 20);
+    let chosen = allocate_within(alloc, slice, 45, 0)?;
+    let case = Case {
+        rows: &DEARER,
+        apiece: &[10, 10],
+        budget: 45,
+        picks: &[1, 0],
+        cost: 40,
+        price: (50, 20),
+        critical: Some((1, 1)),
+        filled: &[],
+    };
+    has(&rt, &chosen, &case);
+    Ok(())
 }

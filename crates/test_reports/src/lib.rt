@@ -10,6 +10,8 @@ mod metric_compare_tests;
 #[cfg(test)]
 mod on_hand_tests;
 #[cfg(test)]
+mod parts_plan_tests;
+#[cfg(test)]
 mod plan_report_tests;
 #[cfg(test)]
 mod plan_session_tests;

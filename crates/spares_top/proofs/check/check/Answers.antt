@@ -1,22 +1,19 @@
-use Rattle.std.proofs.Common.{Err, subst}
-use Rattle.gap_rules.specs.Scores.{ends_of}
-use Rattle.gap_rules.specs.Refusals.{judged}
-use Rattle.check_answers.specs.declared.refusal.Accepted.{Accepted}
-use Rattle.answers.specs.Answers.{Gives}
-use Rattle.spares_top.proofs.Confirmed.{confirmed, refused, unclaimed}
+use Rattle.std.proofs.lemmas.Result.{err_from_is_err_and}
+use Rattle.spares_top.proofs.Confirmed.{confirmed, rejected, unclaimed}
 use Rattle.spares_top.proofs.check.check.Goals as goal
 
-pub returns-in-Err : goal.returns-in-Err
-returns-in-Err c = unclaimed c.args.bytes.now c.in-Err.stop c.in-Err.ensures.answer
+pub returns-in_err-claim : goal.returns-in_err-claim
+returns-in_err-claim c =
+    let p = err_from_is_err_and c.from_residual.result c.from_residual.ensures.1 in
+    rw (p.1, p.2) (unclaimed c.args.bytes.now _ c.in_err-claim.ensures.answer)
 
-pub returns-in-Ok-accepted : goal.returns-in-Ok-accepted
-returns-in-Ok-accepted c =
-    rw (c.printed.ensures, c.report_of.ensures)
-    (confirmed c.in-Ok.claim c.in-Ok.ensures.claim c.args.bytes.now c.in-Ok.ensures.answer c.in-Ok-accepted.accepted c.in-Ok-accepted.ensures)
+pub returns-in_err-accepted : goal.returns-in_err-accepted
+returns-in_err-accepted c =
+    let p = err_from_is_err_and c.from_residual-in_err-accepted.result c.from_residual-in_err-accepted.ensures.1 in
+    rw (p.1, p.2)
+    (rejected c.in_ok-claim.claim c.in_ok-claim.ensures.claim c.args.bytes.now c.in_ok-claim.ensures.answer _ c.in_err-accepted.ensures)
 
 pub returns : goal.returns
 returns c =
-    rw (c.at.ensures, c.frame-frame.ensures.frame)
-    (refused c.in-Ok.claim c.in-Ok.ensures.claim c.args.bytes.now c.in-Ok.ensures.answer c.in-Err-Fault.reject
-    (subst (λ e. Gives {T = Accepted} (judged (ends_of c.in-Ok.claim.certificate.objective) c.in-Ok.claim.certificate c.in-Ok.claim.held) (Err e)) c.in-Err-Fault.field-0-is
-    c.in-Err-Fault.ensures))
+    rw (c.printed.ensures, c.report_of.ensures)
+    (confirmed c.in_ok-claim.claim c.in_ok-claim.ensures.claim c.args.bytes.now c.in_ok-claim.ensures.answer c.in_ok-accepted.accepted c.in_ok-accepted.ensures)

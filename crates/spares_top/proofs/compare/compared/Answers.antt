@@ -5,7 +5,7 @@ use Rattle.spares_top.proofs.compare.compared.Goals as goal
 
 pub compare-requires-clause-inputs : goal.compare-requires-clause-inputs
 compare-requires-clause-inputs c =
-    can_evaluate 48 c.args.case.now c.args.stocks.now refl c.site_count-valid.ensures.valid c.requires.rates.no_fault c.requires.whole c.requires.limits
+    can_evaluate 48 c.args.given.now.case c.args.given.now.stocks refl c.site_count-valid.ensures.valid c.requires.rates.no_fault c.requires.whole c.requires.limits
 
 pub returns-clause-is_true : goal.returns-clause-is_true
-returns-clause-is_true c = comparison_true c.args.case.now c.args.stocks.now c.in_ok-report.report c.in_ok-report.ensures.shows
+returns-clause-is_true c = comparison_true c.args.given.now.case c.args.given.now.stocks c.in_ok-report.report c.in_ok-report.ensures.shows

@@ -1,12 +1,17 @@
+use Rattle.std.proofs.Common.{refl}
+use Rattle.certified_plan.proofs.Zeros.{none_is_held}
+use Rattle.spares_input.specs.Stocks.{nothing_held}
 use Rattle.spares_top.proofs.Planned.{plain_work}
 use Rattle.spares_top.proofs.plan.plain_ground.Goals as goal
 
 pub returns-clause-ground : goal.returns-clause-ground
-returns-clause-ground c = record {
-  valid = c.in-Ok.ensures.accepted.valid;
-  rates = c.in-Ok.ensures.rates;
-  whole = c.in_ok-held.ensures.whole;
-  limits = c.in_ok-held.ensures.limits;
-  nothing = λ off. c.in_ok-held.ensures.held;
-  work = plain_work c.in-Ok.given.case c.in_ok-held.held c.in-Ok.ensures.accepted.valid c.in_ok-held.ensures.held c.in-Ok.ensures.work;
-}
+returns-clause-ground c =
+    let given = c.in_ok-given.ensures.given in
+    record {
+      accepted = given.accepted;
+      rates = given.rates;
+      held = none_is_held c.in_ok-given.given.case;
+      work = plain_work c.in_ok-given.given.case (nothing_held c.in_ok-given.given.case) given.accepted.valid refl given.work;
+      terms = c.requires;
+      format = tt;
+    }

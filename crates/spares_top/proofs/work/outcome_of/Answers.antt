@@ -1,23 +1,18 @@
-use Rattle.std.proofs.Common.{Ok, Err, subst, ◌∙◌}
+use Rattle.std.proofs.Common.{subst}
+use Rattle.std.proofs.lemmas.Result.{err_from_is_err_and}
 use Rattle.spares_top.specs.Making.{Is, MakesBy}
-use Rattle.spares_top.specs.Reading.{ReadsGive}
 use Rattle.spares_top.specs.Task.{task_on}
 use Rattle.spares_top.proofs.Whole.{made_of, unread}
 use Rattle.spares_top.proofs.work.outcome_of.Goals as goal
 
-pub returns-in-Ok-read_files-clause-makes : goal.returns-in-Ok-read_files-clause-makes
-returns-in-Ok-read_files-clause-makes g c =
-    made_of c.args.order (g.H.Shelf.held c.args.shelf.now) (g.H.Shelf.read_faults c.args.shelf.now) (g.H.Shelf.read_faults c.read_files.new.shelf) c.in-Ok-read_files.files
-    c.outcome_on.result
-    (subst (λ i. ReadsGive (g.H.Shelf.held c.args.shelf.now) (g.H.Shelf.read_faults c.args.shelf.now) (g.H.Shelf.read_faults c.read_files.new.shelf) i (Ok c.in-Ok-read_files.files))
-    (c.as_slice.ensures.value ∙ c.in-Ok.ensures) c.in-Ok-read_files.ensures.reads)
-    (subst (λ files. MakesBy (Is (task_on c.args.order files)) c.outcome_on.result) c.as_slice-in-Ok-read_files.ensures c.outcome_on.ensures)
+pub returns-clause-makes : goal.returns-clause-makes
+returns-clause-makes g c =
+    made_of c.args.order (g.H.Shelf.held c.args.shelf.now) (g.H.Shelf.read_faults c.args.shelf.now) (g.H.Shelf.read_faults c.files_of.new.shelf) c.in_ok-files.files
+    c.outcome_on.result c.in_ok-files.ensures.reads
+    (subst (λ files. MakesBy (Is (task_on c.args.order files)) c.outcome_on.result) c.as_slice.ensures c.outcome_on.ensures)
 
-pub returns-in-Err-clause-makes : goal.returns-in-Err-clause-makes
-returns-in-Err-clause-makes g c =
-    unread c.args.order (g.H.Shelf.held c.args.shelf.now) (g.H.Shelf.read_faults c.args.shelf.now) (g.H.Shelf.read_faults c.read_files.new.shelf) c.in-Err.stop
-    (subst (λ i. ReadsGive (g.H.Shelf.held c.args.shelf.now) (g.H.Shelf.read_faults c.args.shelf.now) (g.H.Shelf.read_faults c.read_files.new.shelf) i (Err c.in-Err.stop))
-    (c.as_slice.ensures.value ∙ c.in-Ok.ensures) c.in-Err.ensures.reads)
-
-pub returns-in-Err-clause-reads : goal.returns-in-Err-clause-reads
-returns-in-Err-clause-reads g c = λ none. c.read_files.ensures.nothing (c.as_slice.ensures.value ∙ c.in-Ok.ensures ∙ none)
+pub returns-in_err-files-clause-makes : goal.returns-in_err-files-clause-makes
+returns-in_err-files-clause-makes g c =
+    let p = err_from_is_err_and c.from_residual.result c.from_residual.ensures.1 in
+    rw (p.1, p.2) (unread c.args.order (g.H.Shelf.held c.args.shelf.now) (g.H.Shelf.read_faults c.args.shelf.now) (g.H.Shelf.read_faults c.files_of.new.shelf) _
+    c.in_err-files.ensures.reads)

@@ -9,6 +9,7 @@ invariant_of-result c =
     let curves = c.args.curves.now in
     record {
       few = c.requires.few;
+      short = λ f b. (c.in_ok-picks.ensures.each f b).shape.few;
       shapes = shapes_after c.args.price curves c.in_ok-picks.picks.items c.in_ok-picks.ensures;
       prefix = prefix_after c.args.price curves c.in_ok-picks.picks.items c.in_ok-picks.ensures;
       order = c.in_ok-waiting.ensures.order;

@@ -1,0 +1,115 @@
+//! The plan of a case from parts of its curves between two prices.
+
+ghost use Rattle.std.specs.Prelude.{◌≡◌, ℕ, ◌≤◌, List, IfOk, IfNone, IfSome};
+ghost use Rattle.spares_input.specs.Money.{most_budget};
+ghost use Rattle.demand_rates.specs.Rates.{AreRatesOf};
+ghost use Rattle.hull.specs.declared.point.Point.{Point};
+ghost use Rattle.family_points.specs.Points.{ScoreEnds};
+ghost use Rattle.marginal_alloc.specs.Choice.{AreCurves};
+ghost use Rattle.choice_parts.specs.Parts.{AreFamilies, ArePartsOf};
+ghost use Rattle.part_filling.specs.Known.{IsPriceWindow};
+ghost use Rattle.fleet_plan.specs.Families.{case_points};
+ghost use Rattle.case_plan.specs.Chosen.{FitsCase, IsChosen};
+ghost use Rattle.case_plan.specs.Parts.{HasNoCritical};
+ghost use Rattle.case_plan.specs.Report.{HaveVectors, IsOutcome};
+
+use crate::by_parts::{PartsChoice, choose_by_parts};
+use crate::chosen::ChosenStocks;
+use crate::outcome::Outcome;
+use crate::placing::stocks_of;
+use crate::planning::outcome_at;
+use answers::NoMemory;
+use demand_rates::kinds::Rates;
+use family_eval::evaluate_all;
+use hull::Curve;
+use part_filling::{Families, Window};
+use spares_input::Case;
+use std::alloc::Global;
+
+/// Stocks for a case under a budget in whole money, from the part between two prices of each family's curve.
+///
+/// The choice is the one plan of all the families' points, as of [`choose_stocks`](crate::choose_stocks) by their whole
+/// curves; the filling asks for wider parts of some. None exactly if the parts' hull choice has no
+/// critical step: their first vertices exceed the budget, or all their steps are within it. `near` guesses the plan's
+/// price and changes no answer. Want of memory is the only error.
+pub fn choose_stocks_by_parts<F: Families>(
+    alloc: Global,
+    case: &Case,
+    families: &F,
+    window: Window,
+    parts: Vec<Curve>,
+    budget: u64,
+    near: u128,
+) -> Result<Option<ChosenStocks>, NoMemory>
+    requires budget { budget ≤ most_budget }
+    requires families { AreFamilies (F.points families.now) }
+    requires vectors { HaveVectors case.now (F.points families.now) }
+    requires window { IsPriceWindow window.low window.high }
+    requires parts { ArePartsOf window.low window.high (F.points families.now) parts.items }
+    ensures none { IfOk result (λ found. IfNone found (HasNoCritical parts.items budget)) }
+    ensures some { IfOk result (λ found. IfSome found (λ _. HasNoCritical parts.items budget → ⊥)) }
+    ensures fits { IfOk result (λ found. IfSome found (FitsCase case.now)) }
+    ensures chosen { (curves : List (List Point)) → AreCurves (F.points families.now) curves
+        → IfOk result (λ found. IfSome found (IsChosen case.now curves budget)) }
+{
+    let _sites = case.site_count();
+    let Some(by) = choose_by_parts(alloc, families, window, parts, budget, near)? else {
+        return Ok(None);
+    };
+    let PartsChoice { known, choice } = by;
+    let stocks = stocks_of(alloc, case, known.as_slice(), choice.picks.as_slice())?;
+    Ok(Some(ChosenStocks {
+        stocks,
+        floors: choice.floors,
+        lower: choice.lower,
+        numbers: choice.numbers,
+    }))
+}
+
+/// The plan of a case under a budget in whole money, from the part between two prices of each family's curve.
+///
+/// The outcome is the case's plan from held stocks, if the families' points are the case's points from them, as
+/// [`plan`](crate::plan) returns it. None exactly if the parts' hull choice has no critical step. `near` guesses the
+/// plan's price and changes no answer; `loss` and `on_hand` are those of [`plan`](crate::plan). Want of memory is the
+/// only error.
+pub fn plan_by_parts<F: Families>(
+    alloc: Global,
+    case: &Case,
+    rates: &Rates,
+    families: &F,
+    window: Window,
+    parts: Vec<Curve>,
+    budget: u64,
+    near: u128,
+    loss: bool,
+    on_hand: Option<u64>,
+) -> Result<Option<Outcome>, NoMemory>
+    requires rates { AreRatesOf case.now rates.now }
+    requires budget { budget ≤ most_budget }
+    requires families { AreFamilies (F.points families.now) }
+    requires vectors { HaveVectors case.now (F.points families.now) }
+    requires window { IsPriceWindow window.low window.high }
+    requires parts { ArePartsOf window.low window.high (F.points families.now) parts.items }
+    ensures none { IfOk result (λ found. IfNone found (HasNoCritical parts.items budget)) }
+    ensures some { IfOk result (λ found. IfSome found (λ _. HasNoCritical parts.items budget → ⊥)) }
+    ensures outcome { (ends : ScoreEnds) (held : List ℕ) → F.points families.now ≡ case_points ends case.now held
+        → IfOk result (λ found. IfSome found (IsOutcome ends case.now held
+        (record { budget = budget; loss = loss; on_hand = on_hand }))) }
+{
+    let _sites = case.site_count();
+    let Some(chosen) = choose_stocks_by_parts(alloc, case, families, window, parts, budget, near)?
+    else {
+        return Ok(None);
+    };
+    let results = evaluate_all::<48>(alloc, case, rates, &chosen.stocks)?;
+    let outcome = outcome_at(
+        alloc,
+        case,
+        chosen,
+        results.as_slice(),
+        budget,
+        loss,
+        on_hand,
+    )?;
+    Ok(Some(outcome))
+}

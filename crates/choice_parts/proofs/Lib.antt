@@ -1,0 +1,4 @@
+pub mod Prefixes
+pub mod Chosen
+pub mod Placing
+pub mod OfCurves

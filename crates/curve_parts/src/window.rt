@@ -1,0 +1,177 @@
+//! Cutting a curve at two prices.
+
+ghost use Rattle.std.specs.Prelude.{◌≡◌, ◌+◌, ◌-◌, ◌*◌, ◌^◌, ◌<◌, ◌≤◌, ℕ, List, IfOk, IsFalse, IsTrue, length, drop, take};
+ghost use Rattle.hull.specs.declared.point.Point.{Point};
+ghost use Rattle.hull.specs.declared.price.Price.{Price};
+ghost use Rattle.hull.specs.Curves.{Among, HaveOneWidth, InRange, IsBestAt, IsLeastAt, IsShape, point_at};
+ghost use Rattle.curve_parts.specs.Parts.{IsPartOf, IsPriceBetween};
+ghost use Rattle.curve_parts.specs.Cuts.{IsCutOf, IsWindow, Steeper, NoSteeper, Flatter, NoFlatter, StepAt, IsSmall};
+
+use answers::NoMemory;
+use hull::{Chain, Curve, Point, Price, Spot};
+use std::alloc::Global;
+
+/// The vertices of a curve or a chain, of which a stretch can be kept.
+pub trait Vertices {
+    /// The vertices by rising cost.
+    ghost list: { Self → List Point };
+
+    /// The number of vertices. The clauses also state their shape.
+    fn count(&self) -> u32
+        ensures count { result ≡ length (list self.now) }
+        ensures shape { IsShape (list self.now) };
+
+    /// The step from the vertex at `k` to the next: the fall of the lower end and the rise of the cost. `k + 1` is
+    /// below the number of vertices.
+    fn step(&self, k: u32) -> Price
+        requires { k + 1 < length (list self.now) }
+        ensures fall { result.p + (point_at (list self.now) (k + 1)).lo ≡ (point_at (list self.now) k).lo }
+        ensures rise { result.q + (point_at (list self.now) k).cost ≡ (point_at (list self.now) (k + 1)).cost }
+        ensures small { IsSmall result };
+
+    /// Keeps only the vertices from the place `from` on and before the place `to`.
+    fn keep(&mut self, from: u32, to: u32)
+        requires order { from < to }
+        requires within { to ≤ length (list self.old) }
+        ensures { list self.new ≡ take (to - from) (drop from (list self.old)) };
+}
+
+impl<T: Spot> Vertices for Chain<T> {
+    ghost list = { λ c. c };
+
+    fn count(&self) -> u32 {
+        self.len()
+    }
+
+    fn step(&self, k: u32) -> Price {
+        self.slope(k)
+    }
+
+    fn keep(&mut self, from: u32, to: u32) {
+        self.keep(from, to);
+    }
+}
+
+impl Vertices for Curve {
+    ghost list = { λ c. c };
+
+    fn count(&self) -> u32 {
+        self.len()
+    }
+
+    fn step(&self, k: u32) -> Price {
+        self.slope(k)
+    }
+
+    fn keep(&mut self, from: u32, to: u32) {
+        self.keep(from, to);
+    }
+}
+
+/// Whether a step falls more per money than the price.
+fn is_steeper(step: Price, price: Price) -> bool
+    requires step { IsSmall step }
+    requires price { IsSmall price }
+    ensures steeper { IsTrue result → Steeper price step.p step.q }
+    ensures no_steeper { IsFalse result → NoSteeper price step.p step.q }
+{
+    price.p * u128::from(step.q) < step.p * u128::from(price.q)
+}
+
+/// Whether a step falls less per money than the price.
+fn is_flatter(step: Price, price: Price) -> bool
+    requires step { IsSmall step }
+    requires price { IsSmall price }
+    ensures flatter { IsTrue result → Flatter price step.p step.q }
+    ensures no_flatter { IsFalse result → NoFlatter price step.p step.q }
+{
+    step.p * u128::from(price.q) < price.p * u128::from(step.q)
+}
+
+/// The place of the first vertex whose next step is no steeper than the price.
+fn first_from<V: Vertices>(chain: &V, high: Price) -> u32
+    requires { IsSmall high }
+    ensures below { result < length (V.list chain.now) }
+    ensures steeper { (j : ℕ) → j < result → StepAt (Steeper high) (V.list chain.now) j }
+    ensures ahead { result + 1 < length (V.list chain.now) → StepAt (NoSteeper high) (V.list chain.now) result }
+{
+    let count = chain.count();
+    let mut at = 0;
+    while at + 1 < count {
+        let step = chain.step(at);
+        if !is_steeper(step, high) {
+            return at;
+        }
+        at += 1;
+    }
+    at
+}
+
+/// The place of the first vertex, from the place `from` on, whose next step is flatter than the price.
+fn last_from<V: Vertices>(chain: &V, from: u32, low: Price) -> u32
+    requires from { from < length (V.list chain.now) }
+    requires low { IsSmall low }
+    ensures order { from ≤ result }
+    ensures below { result < length (V.list chain.now) }
+    ensures steps { (j : ℕ) → from ≤ j → j < result → StepAt (NoFlatter low) (V.list chain.now) j }
+    ensures flatter { result + 1 < length (V.list chain.now) → StepAt (Flatter low) (V.list chain.now) result }
+{
+    let count = chain.count();
+    let mut at = from;
+    while at + 1 < count {
+        let step = chain.step(at);
+        if is_flatter(step, low) {
+            return at;
+        }
+        at += 1;
+    }
+    at
+}
+
+/// Keeps only the part between two prices: the steps that fall as much per money as some price from `low` to `high`,
+/// with their vertices, or the one vertex that is best at all these prices. Steps before it are steeper than `high`,
+/// steps after it flatter than `low`.
+pub fn cut<V: Vertices>(chain: &mut V, low: Price, high: Price)
+    requires low { IsSmall low }
+    requires high { IsSmall high }
+    ensures { IsCutOf low high (V.list chain.old) (V.list chain.new) }
+{
+    let _shape = chain.count();
+    let from = first_from(chain, high);
+    let last = last_from(chain, from, low);
+    chain.keep(from, last + 1);
+}
+
+/// The part between two prices of the curve of one or more points, whose stocks have one length. Of points with the
+/// same cost and the same lower end, the one whose stocks come first in dictionary order is kept. Want of memory is the
+/// only error.
+pub fn part_of(
+    alloc: Global,
+    points: Vec<Point>,
+    low: Price,
+    high: Price,
+) -> Result<Curve, NoMemory>
+    requires some { 0 < length points.items }
+    requires few { length points.items ≤ 2 ^ 31 }
+    requires ranges { (v : Point) → Among v points.items → InRange v }
+    requires widths { HaveOneWidth points.items }
+    requires low { IsSmall low }
+    requires high { IsSmall high }
+    requires window { IsWindow low high }
+    ensures { IfOk result (λ part. IsPartOf low high points.items part) }
+{
+    let mut curve = Curve::of(alloc, points)?;
+    cut(&mut curve, low, high);
+    Ok(curve)
+}
+
+/// The place of the first vertex of a part with the least Lagrangian at the price. If the price lies between the part's
+/// two prices, no point that the part is of has a smaller one.
+pub fn best_between(part: &Curve, price: Price) -> u32
+    requires { IsSmall price }
+    ensures first { IsBestAt price.p price.q part.now result }
+    ensures reaches { (low high : Price) (points : List Point) → IsPriceBetween low high price.p price.q
+        → IsPartOf low high points part.now → IsLeastAt price.p price.q points (point_at part.now result) }
+{
+    part.best_at(price.p, price.q)
+}

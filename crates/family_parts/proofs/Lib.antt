@@ -1,0 +1,5 @@
+pub mod Grown
+pub mod InTurn
+pub mod Whole
+pub mod Below
+pub mod Bases

@@ -1,0 +1,119 @@
+//! The part of each base's curve at given stocks of the depot.
+
+ghost use Rattle.std.specs.Prelude.{◌≡◌, ◌+◌, ◌≤◌, ◌∷◌, [], IfOk, drop, length, sum_by};
+ghost use Rattle.sum_walk.specs.Sums.{sums_of_each};
+ghost use Rattle.curve_parts.specs.Parts.{IsPartOf, StandForBetween};
+ghost use Rattle.curve_parts.specs.Cuts.{IsSmall, IsWindow};
+ghost use Rattle.family_points.specs.Separation.{base_points, depot_point, depot_points};
+ghost use Rattle.family_points.specs.Inputs.{IsAt, vector_count, vertex_count};
+ghost use Rattle.family_rows.specs.Sources.{AreSources};
+ghost use Rattle.family_rows.specs.Spots.{IsBaseAt};
+ghost use Rattle.family_rows.specs.Tabled.{AreTables, box_numbers};
+
+use answers::NoMemory;
+use curve_parts::{Walking, cut};
+use family_curve::base::{chains_of, put_curve};
+use family_numbers::Numbers;
+use family_rows::base::BaseSpot;
+use family_rows::base_at::BaseAt;
+use family_rows::depot::DepotTables;
+use family_rows::sources::Sources;
+use hull::{Chain, Price, Score};
+use series_bounds::short::Iv64;
+use spares_input::SiteId;
+use std::alloc::Global;
+
+/// Scratch lists; contents are not kept between calls.
+#[derive(Drop)]
+pub(crate) struct Work<'b> {
+    /// The parts of the bases' curves, the first base first.
+    pub(crate) parts: Vec<Chain<BaseSpot<'b>>>,
+    /// The backorders at a base.
+    pub(crate) rows: Vec<Vec<Iv64<48>>>,
+    /// The lists of a walk over the parts.
+    pub(crate) walking: Walking,
+}
+
+impl<'b> Work<'b> {
+    /// Lists for the bases of these sources.
+    pub(crate) fn new(alloc: Global, sources: &'b Sources<'_>) -> Result<Work<'b>, NoMemory>
+        ensures { IfOk result (λ work. length work.parts.items ≡ length sources.now.bases.items) }
+    {
+        Ok(Work {
+            parts: chains_of(alloc, sources.bases.as_slice())?,
+            rows: Vec::new(alloc),
+            walking: Walking::new(alloc),
+        })
+    }
+}
+
+/// Sets `part` to the part of a base's curve between two prices, and `rows` to the backorders there.
+fn put_part<'b, S: Score>(
+    part: &mut Chain<BaseSpot<'b>>,
+    rows: &mut Vec<Vec<Iv64<48>>>,
+    here: &BaseAt<'_, 'b>,
+    score: &S,
+    numbers: &Numbers<48>,
+    tables: &DepotTables<'_>,
+    low: Price,
+    high: Price,
+) -> Result<(), NoMemory>
+    requires here { IsBaseAt here.now }
+    requires numbers { numbers.now ≡ box_numbers here.now.family.now }
+    requires tables { AreTables numbers.now (drop 1 here.now.depot.now) tables.now }
+    requires room { vector_count here.now.family.now here.now.site.0 ≤ 65000000 }
+    requires low { IsSmall low }
+    requires high { IsSmall high }
+    requires window { IsWindow low high }
+    ensures part { IfOk result (λ _. let x = here.now.family.now in IsPartOf low high
+        (base_points x.case x.line S.ends x.held x.low x.high here.now.depot.now here.now.site.0) part.new) }
+    ensures few { IfOk result (λ _. length part.new ≤ vector_count here.now.family.now here.now.site.0) }
+{
+    put_curve(part, rows, here, score, numbers, tables)?;
+    cut(part, low, high);
+    Ok(())
+}
+
+/// Sets the parts of all bases at these stocks of the depot.
+pub(crate) fn put_parts<'b, S: Score>(
+    work: &mut Work<'b>,
+    sources: &'b Sources<'_>,
+    score: &S,
+    tables: &DepotTables<'_>,
+    depot: &[u8],
+    low: Price,
+    high: Price,
+) -> Result<(), NoMemory>
+    requires sources { AreSources sources.now }
+    requires depot { IsAt sources.now.family.now 0 depot.now }
+    requires tables { AreTables sources.now.numbers (drop 1 depot.now) tables.now }
+    requires room { vertex_count sources.now.family.now ≤ 65000000 }
+    requires low { IsSmall low }
+    requires high { IsSmall high }
+    requires window { IsWindow low high }
+    requires work { length work.old.parts.items ≡ length sources.now.bases.items }
+    ensures stands { IfOk result (λ _. let x = sources.now.family.now in StandForBetween low high
+        (depot_points x.case x.line S.ends x.held x.low x.high depot.now)
+        (sums_of_each (depot_point x.case x.line x.held depot.now ∷ []) work.new.parts.items)) }
+    ensures few { IfOk result
+        (λ _. 1 + sum_by length work.new.parts.items ≤ vertex_count sources.now.family.now) }
+    ensures work { IfOk result (λ _. length work.new.parts.items ≡ length sources.now.bases.items) }
+{
+    let _size = sources.family.size();
+    for j in 1..sources.family.sites() {
+        let place = usize::from(j) - 1;
+        let base = &sources.bases[place];
+        let here = BaseAt::of(sources.family, depot, SiteId(j), base);
+        put_part(
+            &mut work.parts[place],
+            &mut work.rows,
+            &here,
+            score,
+            &sources.numbers,
+            tables,
+            low,
+            high,
+        )?;
+    }
+    Ok(())
+}

@@ -1,0 +1,62 @@
+-- A held case: its families, their bounds, and the points of which a plan is made.
+use Rattle.std.proofs.Common.{◌≡◌, ℕ, zero, suc, ◌≤◌, ◌<◌, List, [], ◌∷◌, length, map, get_or, refl, sym, ap, ◌∙◌, subst, arith}
+use Rattle.std.proofs.lemmas.List.{get_or-map, length-map}
+use Rattle.hull.specs.declared.point.Point.{Point}
+use Rattle.hull.specs.declared.price.Price.{Price}
+use Rattle.hull.specs.Scores.{LeavesRoom}
+use Rattle.spares_input.specs.declared.rows.PartId.{PartId}
+use Rattle.spares_input.specs.Cases.{CaseRows, IsCase}
+use Rattle.fleet_model.specs.Rows.{line_units}
+use Rattle.fleet_model.proofs.FrameLaws.{few_lines}
+use Rattle.fleet_model.proofs.AllocationLaws.{stocks_allocation}
+use Rattle.family_items.specs.Inputs.{IsLine}
+use Rattle.family_points.specs.declared.bounds.Bounds.{Bounds}
+use Rattle.family_points.specs.Vectors.{box_from}
+use Rattle.family_points.specs.Points.{ScoreEnds, points_within}
+use Rattle.step_walk.specs.Prefix.{curve_at}
+use Rattle.curve_parts.specs.Parts.{IsPartOf}
+use Rattle.choice_parts.specs.Parts.{AreFamilies}
+use Rattle.fleet_plan.specs.Families.{case_points, family_points}
+use Rattle.fleet_plan.proofs.Places.{at_among, lines_are}
+use Rattle.case_plan.proofs.PointsServe.{points_are_families}
+use Rattle.on_hand.specs.Held.{HeldCase, IsHeldCase}
+
+-- the ids of the line units are at most 2,000
+pub few_ids : (c : CaseRows) (ids : List PartId) → IsCase c → map (λ (p : PartId). p.0) ids ≡ line_units c → length ids ≤ 2000
+few_ids c ids valid e = omega (arith, length-map ids (λ (p : PartId). p.0), ap length e, few_lines c valid)
+
+-- the line unit of an id that is read at a place
+pub id_at : (c : CaseRows) (ids : List PartId) (f : ℕ) (x : PartId) → map (λ (p : PartId). p.0) ids ≡ line_units c → x ≡ get_or ids f x
+    → f < length (line_units c) → x.0 ≡ get_or (line_units c) f 0
+id_at c ids f x e is h =
+    ap (λ (p : PartId). p.0) is ∙ sym (get_or-map (λ (p : PartId). p.0) ids f x 0 (omega (arith, length-map ids (λ (p : PartId). p.0), ap length e, h)))
+    ∙ ap (λ (l : List ℕ). get_or l f 0) e
+
+-- each place of the line units has a line unit
+pub line_at : (c : CaseRows) (f : ℕ) → IsCase c → f < length (line_units c) → IsLine c (get_or (line_units c) f 0)
+line_at c f valid h = lines_are c valid (get_or (line_units c) f 0) (at_among (line_units c) f h)
+
+points_in : (ends : ScoreEnds) (c : CaseRows) (held ls : List ℕ) (f : ℕ) → f < length ls
+    → curve_at (map (family_points ends c held) ls) f ≡ family_points ends c held (get_or ls f 0)
+points_in ends c held [] f h = absurd (omega (arith, h))
+points_in ends c held (l ∷ ls) zero h = refl
+points_in ends c held (l ∷ ls) (suc f) h = points_in ends c held ls f (omega (arith, h))
+
+-- the number of families is that of the line units
+pub families_long : (ends : ScoreEnds) (c : CaseRows) (held : List ℕ) → length (case_points ends c held) ≡ length (line_units c)
+families_long ends c held = length-map (line_units c) (family_points ends c held)
+
+-- what is a part of the points within the bounds from what is held is a part of the family's points
+pub part_held : (ends : ScoreEnds) (c : CaseRows) (held : List ℕ) (f l : ℕ) (b : Bounds) (low high : Price) (part : List Point)
+    → f < length (line_units c) → l ≡ get_or (line_units c) f 0 → b ≡ box_from c l held
+    → IsPartOf low high (points_within c l ends b.held b.low b.high) part → IsPartOf low high (curve_at (case_points ends c held) f) part
+part_held ends c held f l b low high part h is e p =
+    subst (λ (ys : List Point). IsPartOf low high ys part) (sym (points_in ends c held (line_units c) f h))
+    (subst (λ (m : ℕ). IsPartOf low high (family_points ends c held m) part) is
+    (subst (λ (x : Bounds). IsPartOf low high (points_within c l ends x.held x.low x.high) part) e p))
+
+-- the points of a held case are such as a plan by parts takes
+pub held_families : (ends : ScoreEnds) (x : HeldCase) → IsHeldCase x → LeavesRoom ends → AreFamilies (case_points ends x.case x.held.list)
+held_families ends x h room =
+    points_are_families ends x.case x.held.list (record { valid = h.valid; no_fault = h.rates.no_fault }) room
+    (record { allocation = stocks_allocation x.case x.held h.held h.limits; keeps = λ p k _ _. omega arith })

@@ -1,0 +1,22 @@
+-- A case with the stocks held.
+use Rattle.std.specs.Result.{IsOk}
+use Rattle.spares_input.specs.Cases.{CaseRows, IsCase}
+use Rattle.spares_input.specs.Stocks.{StockList, IsFor, IsWithinLimits}
+use Rattle.demand_rates.specs.RateLists.{RateList}
+use Rattle.demand_rates.specs.Rates.{AreRatesOf}
+use Rattle.held_work.specs.Work.{held_work_of}
+
+-- a case, its rates, and the stocks held
+pub record HeldCase : Type 0 where
+  pub case : CaseRows
+  pub rates : RateList
+  pub held : StockList
+
+-- The rates are those of the case. The held stocks are for the case and within its limits, and the work from them is
+-- within its limit.
+pub record IsHeldCase (x : HeldCase) : Type 0 where
+  pub valid : IsCase x.case
+  pub rates : AreRatesOf x.case x.rates
+  pub held : IsFor x.case x.held
+  pub limits : IsWithinLimits x.case x.held
+  pub work : IsOk (held_work_of x.case x.held.list)

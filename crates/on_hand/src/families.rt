@@ -1,0 +1,140 @@
+//! The families of a case with stocks held, of which parts of the curves can be made.
+
+ghost use Rattle.std.specs.Prelude.{◌≡◌, ◌^◌, ◌<◌, ◌≤◌, IfOk, get_or, length, map};
+ghost use Rattle.std.specs.Result.{IsOk};
+ghost use Rattle.demand_rates.specs.Rates.{AreRatesOf};
+ghost use Rattle.spares_input.specs.Stocks.{IsFor, IsWithinLimits};
+ghost use Rattle.fleet_model.specs.Rows.{line_units};
+ghost use Rattle.family_items.specs.Inputs.{IsLine};
+ghost use Rattle.fleet_plan.specs.Families.{case_points};
+ghost use Rattle.held_work.specs.Work.{held_work_of};
+ghost use Rattle.on_hand.specs.Held.{IsHeldCase};
+
+use answers::NoMemory;
+use demand_rates::kinds::Rates;
+use family_items::line_units;
+use family_parts::{cost_near, part_within};
+use family_points::Bounds;
+use hull::{Curve, Price, Score};
+use part_filling::Families;
+use spares_input::{Case, PartId, Stocks};
+use std::alloc::Global;
+use std::marker::Model;
+
+/// The families of a case's line units, with their vectors from the held stocks to the limits.
+#[derive(Drop)]
+pub(crate) struct HeldFamilies<'a, S: Score> {
+    case: &'a Case,
+    rates: &'a Rates,
+    held: &'a Stocks,
+    score: &'a S,
+    lines: Vec<PartId>,
+}
+
+impl<'a, S: Score> Model for HeldFamilies<'a, S> {
+    ghost use Rattle.std.specs.Prelude.{◌≡◌, map};
+    ghost use Rattle.fleet_model.specs.Rows.{line_units};
+    ghost use Rattle.on_hand.specs.Held.{HeldCase, IsHeldCase};
+
+    ghost Value = { HeldCase };
+
+    ghost view = { λ x. record { case = x.case.now; rates = x.rates.now; held = x.held.now } };
+
+    ghost invariant = { λ x. IsHeldCase (record { case = x.case.now; rates = x.rates.now; held = x.held.now })
+        × (map (λ p. p.0) x.lines.items ≡ line_units x.case.now) };
+}
+
+impl<'a, S: Score> HeldFamilies<'a, S> {
+    /// The families of a case. The rates are the case's; the held stocks are for the case and within its limits, and
+    /// the work from them is within its limit. Want of memory is the only error.
+    pub(crate) fn of(
+        alloc: Global,
+        case: &'a Case,
+        rates: &'a Rates,
+        held: &'a Stocks,
+        score: &'a S,
+    ) -> Result<HeldFamilies<'a, S>, NoMemory>
+        requires rates { AreRatesOf case.now rates.now }
+        requires held { IsFor case.now held.now }
+        requires limits { IsWithinLimits case.now held.now }
+        requires work { IsOk (held_work_of case.now held.now.list) }
+        ensures { IfOk result (λ families. families ≡ record {
+          case = case.now;
+          rates = rates.now;
+          held = held.now;
+        }) }
+    {
+        let _valid = case.site_count();
+        Ok(HeldFamilies {
+            case,
+            rates,
+            held,
+            score,
+            lines: line_units(alloc, case)?,
+        })
+    }
+
+    /// The case.
+    pub(crate) fn case(&self) -> &'a Case
+        ensures case { result.now ≡ self.now.case }
+        ensures valid { IsHeldCase self.now }
+    {
+        self.case
+    }
+
+    /// The rates of the case.
+    pub(crate) fn rates(&self) -> &'a Rates
+        ensures { result.now ≡ self.now.rates }
+    {
+        self.rates
+    }
+
+    /// The number of families, at most 2,000.
+    pub(crate) fn count(&self) -> u32
+        ensures count { result ≡ length (line_units self.now.case) }
+        ensures few { result ≤ 2000 }
+    {
+        self.lines.len() as u32
+    }
+
+    /// The line unit of a family.
+    fn line(&self, family: u32) -> PartId
+        requires { family < length (line_units self.now.case) }
+        ensures line { result.0 ≡ get_or (line_units self.now.case) family 0 }
+        ensures is_line { IsLine self.now.case result.0 }
+    {
+        self.lines[family as usize]
+    }
+
+    /// About what the vectors of a family cost that are best at the price, in whole money. The price is in units of
+    /// 2^-48 for whole money. Want of memory is the only error.
+    pub(crate) fn cost_near(
+        &self,
+        alloc: Global,
+        family: u32,
+        price: u128,
+    ) -> Result<u128, NoMemory>
+        requires family { family < length (line_units self.now.case) }
+        requires price { price < 2 ^ 73 }
+        ensures { IfOk result (λ cost. cost ≤ 1000000000000) }
+    {
+        let line = self.line(family);
+        let bounds = Bounds::from_held(alloc, self.case, line, self.held)?;
+        cost_near(
+            alloc, self.case, self.rates, line, &bounds, price, self.score,
+        )
+    }
+}
+
+impl<'a, S: Score> Families for HeldFamilies<'a, S> {
+    ghost points = { λ x. case_points S.ends x.case x.held.list };
+
+    fn part(&self, alloc: Global, family: u32, low: Price, high: Price) -> Result<Curve, NoMemory> {
+        let line = self.line(family);
+        let bounds = Bounds::from_held(alloc, self.case, line, self.held)?;
+        let part = part_within(
+            alloc, self.case, self.rates, line, &bounds, low, high, self.score,
+        )?;
+        Ok(part)
+    }
+}

@@ -1,0 +1,10 @@
+use Rattle.spares_top.specs.Given.{bytes_of}
+use Rattle.spares_top.specs.Plans.{case_within_work}
+use Rattle.spares_top.proofs.Swept.{priced}
+use Rattle.spares_top.proofs.target.target.Goals as goal
+
+pub returns : goal.returns
+returns c =
+    rw c.printed.ensures
+    (priced c.in_ok-given.given.case c.in_ok-given.ensures.given.accepted (case_within_work (bytes_of c.args.tables.now)) c.in_ok-given.ensures.answer c.args.backorders
+    c.in_ok-report.report c.in_ok-report.ensures.target c.in_ok-report.ensures.fits)

@@ -1,0 +1,57 @@
+//! Plans by parts of curves beside plans by whole curves, of a demonstration with many line units.
+ghost use Rattle.std.specs.Prelude.{◌≤◌};
+ghost use Rattle.spares_input.specs.Money.{most_budget};
+
+use answers::NoMemory;
+use case_maker::make_case;
+use case_plan::plan;
+use demand_rates::rates;
+use held_work::held_work;
+use hull::Plain;
+use on_hand::{held_curves, plan_case};
+use spares_input::nothing_held;
+use std::alloc::Global;
+use std::process::Abort;
+use std::test::*;
+
+/// Whether both plans of a demonstration with 56 line units have the same report and stocks, and the cost of the hull
+/// choice. None if there is no memory, or the case is refused.
+fn agreement(alloc: Global, budget: u64) -> Result<Option<(bool, u64)>, NoMemory>
+    requires { budget ≤ most_budget }
+{
+    let case = make_case(alloc, 7, 56)?;
+    let Ok(rates) = rates(alloc, &case) else {
+        return Ok(None);
+    };
+    let held = nothing_held(alloc, &case)?;
+    if held_work(&case, &held).is_err() {
+        return Ok(None);
+    }
+    let curves = held_curves(alloc, &case, &rates, &held, &Plain)?;
+    let whole = plan(alloc, &case, &rates, curves.as_slice(), budget, false, None)?;
+    let parts = plan_case(alloc, &case, &rates, &held, &Plain, budget, false, None)?;
+    let report = whole.report == parts.report;
+    let stocks = whole.stocks.as_slice() == parts.stocks.as_slice();
+    Ok(Some((report && stocks, whole.report.hull)))
+}
+
+/// Budgets in whole money, from none to enough for all stocks.
+const BUDGETS: [u64; 5] = [0, 900, 20_000, 80_000, 1_000_000_000];
+
+/// Compares the plans at each budget, at the cost of its hull choice, and one below.
+fn agree(rt: &impl Abort, alloc: Global, budgets: &[u64]) -> Result<(), Fail> {
+    for budget in budgets {
+        let (same, hull) = agreement(alloc, (*budget).min(1_000_000_000))?.expect(rt, "plans");
+        assert!(rt; same);
+        let cost = hull.min(1_000_000_000);
+        assert!(rt; agreement(alloc, cost)?.expect(rt, "plans").0);
+        let less = cost.saturating_sub(1);
+        assert!(rt; agreement(alloc, less)?.expect(rt, "plans").0);
+    }
+    Ok(())
+}
+
+#[test]
+fn parts_of_curves_plan_as_whole_curves_do(rt: HostRuntime) -> Result<(), Fail> {
+    agree(&rt, rt.alloc(), BUDGETS.as_slice())
+}
