@@ -19,7 +19,7 @@ use Rattle.backorder_bounds.specs.declared.lead.Lead.{Lead}
 use Rattle.backorder_bounds.specs.Coarse.{coarse_unit}
 use Rattle.backorder_bounds.specs.Lead.{AreUnder, IsLead, IsOverSum, all_sum, all_weights}
 use Rattle.backorder_bounds.proofs.Coarse.{places, product_low}
-use Rattle.backorder_bounds.specs.Falling.{IsFallen}
+use Rattle.backorder_bounds.specs.Falling.{IsFallen, IsFlat, IsWalk}
 
 -- ---- one step
 
@@ -238,3 +238,32 @@ fallen_none f m v lead s now e = record {
 pub fallen_low : (f : ℕ) (m v : Ends) (lead : Lead) (s : ℕ) (now : Falling) → s ≤ 63 → IsLead f m (excess_ends f m v) lead → IsFallen f m v lead s now
     → now.low ≤ (at_stock (table_rows f m v) s).ebo.lo
 fallen_low f m v lead s now l h n = subst (λ (z : Ends). now.low ≤ z.lo) (ebo_at f m v lead.inverse s l h.positive h.sum) n.low
+
+-- by the mean alone, at the next stock
+pub flat_next : (f : ℕ) (m : Ends) (lead : Lead) (s : ℕ) (now : Falling) (chance d tail weight low above : ℕ) → 0 < d → IsFlat f m lead s now → chance ≡ now.weight * lead.inverse / d
+    → tail ≡ now.tail - chance → low ≡ now.low - tail → IsFlat f m lead (s + 1) (record { low = low; tail = tail; weight = weight; above = above })
+flat_next f m lead s now chance d tail weight low above p h ec et el =
+    let a : now.weight * lead.inverse ≡ now.weight * 0 = ap (λ x. now.weight * x) h.inverse in
+    let b : now.weight * lead.inverse / d ≤ 0 = div-le_of_le-mul d (omega (arith, a)) in
+    let c : chance ≡ 0 = omega (arith, ec, b) in
+    let t : tail ≡ 2 ^ f = omega (arith, et, c, h.tail) in
+    record {
+      inverse = h.inverse;
+      tail = t;
+      low = omega (arith, el, t, h.low);
+    }
+
+-- and where no backorders are left
+pub flat_none : (f : ℕ) (m : Ends) (lead : Lead) (s : ℕ) (now : Falling) → now.low ≡ 0 → IsFlat f m lead s now → IsFlat f m lead (s + 1) now
+flat_none f m lead s now e h = record {
+  inverse = h.inverse;
+  tail = h.tail;
+  low = omega (arith, e, h.low);
+}
+
+-- the bound of a walk is at most the table's backorders
+pub walk_low : (f : ℕ) (m v : Ends) (s : ℕ) (lead : Lead) (falling : Falling) → IsWalk f m v s lead falling → falling.low ≤ (at_stock (table_rows f m v) s).ebo.lo
+walk_low f m v s lead falling h = elim h.bounds [
+  | inl n ↦ (let a = mean_low f m v s h.stock h.ordered in omega (arith, a, n.low))
+  | inr n ↦ fallen_low f m v lead s falling h.stock n.weights n.fallen
+]

@@ -1,5 +1,4 @@
 pub mod Coarse
-pub mod Lists
 pub mod Moments
 pub mod Parts
 pub mod SumBounds

@@ -1,4 +1,4 @@
-pub mod Lows
+pub mod Places
 pub mod Coarse
 pub mod Lead
 pub mod Falling

@@ -4,7 +4,7 @@ ghost use Rattle.std.specs.Prelude.{◌≡◌, ◌+◌, ◌*◌, ◌^◌, ◌<�
 ghost use Rattle.fixed_interval.specs.Ends.{Ends};
 ghost use Rattle.moment_table.specs.Profile.{excess_ends};
 ghost use Rattle.backorder_bounds.specs.Lead.{IsLead, IsSmallLead};
-ghost use Rattle.backorder_bounds.specs.Falling.{IsFallen, IsSmall};
+ghost use Rattle.backorder_bounds.specs.Falling.{IsFallen, IsFlat, IsSmall};
 
 use crate::lead::Lead;
 use crate::scale::{MOST, product};
@@ -29,6 +29,7 @@ impl Falling {
         ensures small { IsSmall 0 result }
         ensures fallen { (m v : Ends) → mean ≡ m.lo → IsLead F m (excess_ends F m v) lead
             → IsFallen F m v lead 0 result }
+        ensures flat { (m : Ends) → mean ≡ m.lo → lead.inverse ≡ 0 → IsFlat F m lead 0 result }
     {
         Falling {
             low: mean,
@@ -41,14 +42,14 @@ impl Falling {
     /// The values at the stock after `s`; the same ones if no backorders are left.
     #[inline(always)]
     pub(crate) fn next<const F: u32>(self, lead: Lead, s: u8) -> Falling
-        requires least { 38 ≤ F }
         requires most { F ≤ 52 }
         requires stock { s < 64 }
         requires small { IsSmall s self }
         requires lead { IsSmallLead lead }
         ensures small { IsSmall (s + 1) result }
-        ensures fallen { (m v : Ends) → IsLead F m (excess_ends F m v) lead → IsFallen F m v lead s self
+        ensures fallen { (m v : Ends) → 38 ≤ F → IsLead F m (excess_ends F m v) lead → IsFallen F m v lead s self
             → IsFallen F m v lead (s + 1) result }
+        ensures flat { (m : Ends) → IsFlat F m lead s self → IsFlat F m lead (s + 1) result }
     {
         if self.low == 0 {
             return self;

@@ -5,7 +5,7 @@ use exact_ratio::Decimal;
 use hull::Price;
 
 /// The state after a number of steps.
-#[derive(Clone, Copy, Debug, Drop, PartialEq, Eq)]
+#[derive(Clone, Copy, Drop)]
 pub struct SweepPoint {
     /// The cost of the families' vertices together, in whole money.
     pub cost: u64,
@@ -18,13 +18,13 @@ pub struct SweepPoint {
 }
 
 /// The states after 0 steps, after 1, and so on to all steps.
-#[derive(Debug, Drop, PartialEq, Eq)]
+#[derive(Drop)]
 pub struct SweepReport {
     pub points: List<SweepPoint>,
 }
 
 /// The report of a target of the sum.
-#[derive(Clone, Copy, Debug, Drop, PartialEq, Eq)]
+#[derive(Clone, Copy, Drop)]
 pub struct TargetReport {
     /// The target, with 4 decimals.
     pub target: Decimal,

@@ -7,7 +7,7 @@ ghost use Rattle.line_text.specs.Files.{line, file_text};
 ghost use Rattle.case_lines.specs.Grammar.{part_fields, part_lines, parts_line, weights_fields, header, are_weighted, parts};
 ghost use Rattle.case_lines.specs.Fields.{parent_text, weight_text};
 
-use crate::fields::put_number_if;
+use crate::fields::{put_name, put_number_before, put_number_if};
 use answers::NoMemory;
 use line_text::{put_count_line, put_number};
 use spares_input::{Case, Name, PartId, PartRow};
@@ -41,16 +41,13 @@ fn put_part(out: &mut Vec<u8>, weighted: bool, part: &PartRow) -> Result<(), NoM
     ensures { OnOk result (out.new.items ≡ out.old.items ++ (line (part_fields weighted)).print part.now) }
 {
     let is_line = part.parent.is_none();
-    out.extend_from_slice(part.name.as_bytes())?;
-    out.push(b',')?;
+    put_name(out, &part.name)?;
     put_parent(out, &part.parent)?;
     out.push(b',')?;
-    put_number(out, part.cost as u128)?;
-    out.push(b',')?;
+    put_number_before(out, part.cost as u128)?;
     put_number_if(out, is_line, part.per_system as u128)?;
     out.push(b',')?;
-    put_number(out, part.max_depot as u128)?;
-    out.push(b',')?;
+    put_number_before(out, part.max_depot as u128)?;
     put_number(out, part.max_base as u128)?;
     put_weight(out, weighted, is_line, part.weight)?;
     out.push(b'\n')?;

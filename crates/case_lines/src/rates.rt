@@ -9,7 +9,7 @@ ghost use Rattle.spares_input.specs.Frames.{site_at, part_at};
 ghost use Rattle.spares_input.specs.Cases.{rate_at};
 ghost use Rattle.case_lines.specs.Grammar.{pair_of, pair_at, rate_fields, rate_line, rates};
 
-use crate::fields::put_fixed_if;
+use crate::fields::{put_fixed_if, put_name};
 use answers::NoMemory;
 use line_text::{put_count_line, put_fixed};
 use spares_input::{Case, PartId, PartRow, RateRow, SiteId, SiteRow};
@@ -32,16 +32,11 @@ fn put_rate(
         ++ (line (rate_fields (pair_of p part.now k site.now))).print rate.now) }
 {
     let is_line = part.parent.is_none();
-    out.extend_from_slice(part.name.as_bytes())?;
-    out.push(b',')?;
-    out.extend_from_slice(site.name.as_bytes())?;
-    out.push(b',')?;
+    put_name(out, &part.name)?;
+    put_name(out, &site.name)?;
     put_fixed_if(out, has_demand(is_line, site.depot), 4, rate.demand as u128)?;
-    out.push(b',')?;
     put_fixed_if(out, !site.depot, 4, rate.repair_here as u128)?;
-    out.push(b',')?;
     put_fixed_if(out, !is_line, 4, rate.share as u128)?;
-    out.push(b',')?;
     put_fixed(out, 2, rate.repair_days as u128)?;
     out.push(b'\n')?;
     Ok(())

@@ -9,6 +9,7 @@ use Rattle.demand_rates.specs.Rates as model
 use Rattle.spares_input.specs.Cases.{CaseRows, case_of, frame_rows}
 use Rattle.spares_input.specs.Frames.{FrameRows, frame_of}
 use Rattle.spares_input.specs.Stocks.{StockList, stocks_of}
+use Rattle.spares_input.specs.declared.rows.RateRow.{RateRow}
 use Rattle.refusals.specs.declared.failure.Failure.{Failure}
 use Rattle.refusals.specs.declared.refusal.File.{File}
 use Rattle.refusals.specs.declared.refusal.File.TheVariants.{Sites, Parts, Rates}
@@ -23,6 +24,10 @@ frame_of_tables sites_bytes parts_bytes = do
   sites ← or_refuse no_names (refusal.Table Sites) (sites_of sites_bytes)
   parts ← or_refuse no_names (refusal.Table Parts) (parts_of parts_bytes)
   or_refuse no_names refusal.Case (frame_of sites parts)
+
+-- the rows of the third table
+abbrev pub rate_rows_of : FrameRows → List ℕ → Result (List RateRow) Failure
+rate_rows_of frame rates_bytes = or_refuse frame (refusal.Table Rates) (rates_of frame rates_bytes)
 
 -- the case of a frame and the third table
 unfoldable pub case_of_table : FrameRows → List ℕ → Result CaseRows Failure

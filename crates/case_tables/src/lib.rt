@@ -2,20 +2,22 @@
 //! the case.
 #![tactic(auto)]
 
-ghost use Rattle.std.specs.Prelude.{◌≤◌, IfOk, length};
+ghost use Rattle.std.specs.Prelude.{◌≡◌, ◌≤◌, All, IfOk, length};
 ghost use Rattle.demand_rates.specs.Rates.{AreRatesOf};
+ghost use Rattle.spares_input.specs.Cases.{IsRateOf};
 ghost use Rattle.spares_input.specs.Stocks.{IsFor, IsWithinLimits};
 ghost use Rattle.answers.specs.Answers.{Gives};
 ghost use Rattle.csv_tables.specs.Rest.{table_limit};
-ghost use Rattle.case_tables.specs.Answers.{Tells, TellsStocked};
-ghost use Rattle.case_tables.specs.Tables.{accepted_of, case_of_table, case_of_tables, frame_of_tables, rates_of_case, stocked_of, stocks_of_table};
+ghost use Rattle.csv_tables.specs.Tables.{rows_of};
+ghost use Rattle.case_tables.specs.Answers.{Tells, TellsStocked, case_stop};
+ghost use Rattle.case_tables.specs.Tables.{accepted_of, case_of_table, case_of_tables, frame_of_tables, rate_rows_of, rates_of_case, stocked_of, stocks_of_table};
 
 use answers::Stop;
 use csv_tables::{read_parts, read_rates, read_sites, read_stocks};
 use demand_rates::kinds::Rates;
 use demand_rates::rates;
 use refusals::{Failure, File, Refusal};
-use spares_input::{Case, Frame, Stocks, stocks_from};
+use spares_input::{Case, CaseFault, Frame, RateRow, Stocks, stocks_from};
 use std::alloc::Global;
 
 /// The frame of two tables.
@@ -46,26 +48,42 @@ fn frame_of(alloc: Global, sites: &[u8], parts: &[u8]) -> Result<Frame, Stop<Fai
     }
 }
 
+/// The rows of a table of rates.
+fn rate_rows(alloc: Global, frame: &Frame, bytes: &[u8]) -> Result<Vec<RateRow>, Stop<Failure>>
+    requires { length bytes.now ≤ table_limit }
+    ensures answer { Gives (rate_rows_of frame.now bytes.now) (rows_of result) }
+    ensures fields { IfOk result (λ rows. All (IsRateOf frame.now) rows.items) }
+{
+    match read_rates(alloc, bytes, frame) {
+        Ok(rows) => Ok(rows),
+        Err(Stop::NoMemory) => Err(Stop::NoMemory),
+        Err(Stop::Fault(fault)) => {
+            let refusal = Refusal::Table(File::Rates, fault);
+            Err(Stop::Fault(Failure::at(frame, refusal)))
+        }
+    }
+}
+
+/// A stop of a case, with the line of its fault. The frame has the names of a pair.
+fn case_stop(frame: &Frame, stop: Stop<CaseFault>) -> Stop<Failure>
+    ensures { result ≡ case_stop frame.now stop }
+{
+    match stop {
+        Stop::NoMemory => Stop::NoMemory,
+        Stop::Fault(fault) => Stop::Fault(Failure::at(frame, Refusal::Case(fault))),
+    }
+}
+
 /// The case of a frame and a table of rates.
 #[tactic(auto, unfolding(crate::specs::Tables::case_of_table))]
 fn case_in(alloc: Global, frame: Frame, bytes: &[u8]) -> Result<Case, Stop<Failure>>
     requires { length bytes.now ≤ table_limit }
     ensures { Gives (case_of_table frame bytes.now) result }
 {
-    let rows = match read_rates(alloc, bytes, &frame) {
-        Ok(rows) => rows,
-        Err(Stop::NoMemory) => return Err(Stop::NoMemory),
-        Err(Stop::Fault(fault)) => {
-            let refusal = Refusal::Table(File::Rates, fault);
-            return Err(Stop::Fault(Failure::at(&frame, refusal)));
-        }
-    };
+    let rows = rate_rows(alloc, &frame, bytes)?;
     match Case::build(alloc, frame, rows) {
         Ok(case) => Ok(case),
-        Err((frame, stop)) => match stop {
-            Stop::NoMemory => Err(Stop::NoMemory),
-            Stop::Fault(fault) => Err(Stop::Fault(Failure::at(&frame, Refusal::Case(fault)))),
-        },
+        Err((frame, stop)) => Err(case_stop(&frame, stop)),
     }
 }
 
@@ -153,8 +171,10 @@ pub fn accepted_of(
     ensures rates { IfOk result (λ given. AreRatesOf given.case given.rates) }
 {
     let case = case_of(alloc, sites, parts, rates)?;
-    let rates = rates_of(alloc, &case)?;
-    Ok(Accepted { case, rates })
+    match rates_of(alloc, &case) {
+        Ok(rates) => Ok(Accepted { case, rates }),
+        Err(stop) => Err(stop),
+    }
 }
 
 /// A case with its rates, which are within the limits of the model, and stocks, which are within the case's limits.

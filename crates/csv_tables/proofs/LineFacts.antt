@@ -6,7 +6,7 @@ use Rattle.spares_input.specs.Cases.{IsRateOf}
 use Rattle.spares_input.specs.declared.rows.RateRow.{RateRow}
 use Rattle.csv_tables.specs.Rest.{Record}
 use Rattle.csv_tables.specs.Fields.{field, trimmed}
-use Rattle.csv_tables.specs.Rates.{told, line_fields, rate_in, rate_line, rate_of}
+use Rattle.csv_tables.specs.Rates.{told, line_fields, rate_in, rate_line, rate_of, TakesField}
 use Rattle.csv_tables.specs.declared.fault.TableFault.{TableFault}
 use Rattle.csv_tables.proofs.RowFacts.{rate_good}
 
@@ -50,7 +50,11 @@ pub line_good : (f : FrameRows) (line : List ℕ) (x : RateRow) → Some x ≡ r
 line_good f line x h = kept f (length (line_fields line) == 6) (line_fields line) x (rate_of f 0 (line_fields line)) refl h
 
 -- the fields that are taken one by one
-pub taken : (r r1 r2 r3 r4 r5 r6 : Record) (a b c d e g : List ℕ) → r ≡ a ∷ r1 → r1 ≡ b ∷ r2 → r2 ≡ c ∷ r3 → r3 ≡ d ∷ r4 → r4 ≡ e ∷ r5 → r5 ≡ g ∷ r6 → r6 ≡ []
-    → r ≡ six a b c d e g []
-taken r r1 r2 r3 r4 r5 r6 a b c d e g h1 h2 h3 h4 h5 h6 h7 =
-    h1 ∙ ap (λ z. a ∷ z) (h2 ∙ ap (λ z. b ∷ z) (h3 ∙ ap (λ z. c ∷ z) (h4 ∙ ap (λ z. d ∷ z) (h5 ∙ ap (λ z. e ∷ z) (h6 ∙ ap (λ z. g ∷ z) h7)))))
+pub taken : (f : FrameRows) (line : List ℕ) (r r1 r2 r3 r4 r5 r6 : Record) (a b c d e g : List ℕ) (x : Result RateRow TableFault)
+    → r ≡ line_fields line → TakesField r r1 a → TakesField r1 r2 b → TakesField r2 r3 c → TakesField r3 r4 d → TakesField r4 r5 e → TakesField r5 r6 g → r6 ≡ []
+    → x ≡ rate_in f 0 (at (six a b c d e g [])) → told x ≡ rate_line f line
+taken f line r r1 r2 r3 r4 r5 r6 a b c d e g x whole ta tb tc td te tg none is =
+    line_row f line ta.text tb.text tc.text td.text te.text tg.text x
+    (sym whole ∙ ta.first ∙ ap (λ z. ta.text ∷ z) (tb.first ∙ ap (λ z. tb.text ∷ z) (tc.first ∙ ap (λ z. tc.text ∷ z) (td.first ∙ ap (λ z. td.text ∷ z)
+    (te.first ∙ ap (λ z. te.text ∷ z) (tg.first ∙ ap (λ z. tg.text ∷ z) none))))))
+    (is ∙ (λ t. rate_in f 0 (at (six (ta.trim t) (tb.trim t) (tc.trim t) (td.trim t) (te.trim t) (tg.trim t) []))))

@@ -1,5 +1,5 @@
 -- The rows of the table of rates, and how rows name the pairs of a frame.
-use Rattle.std.specs.Prelude.{ℕ, ◌==◌, ◌&&◌, not, List, [], ◌∷◌, length, Option, Some, None, Result, Ok, Err, codes, if◌then◌else◌}
+use Rattle.std.specs.Prelude.{◌≡◌, ℕ, ◌==◌, ◌&&◌, not, List, [], ◌∷◌, length, Option, Some, None, Result, Ok, Err, codes, if◌then◌else◌}
 use Rattle.std.specs.List.{slice_split}
 use Rattle.line_text.specs.Files.{comma}
 use Rattle.spares_input.specs.Rows.{is_line}
@@ -7,7 +7,7 @@ use Rattle.spares_input.specs.Frames.{FrameRows, part_at, part_names, place_of, 
 use Rattle.spares_input.specs.declared.rows.RateRow.{RateRow}
 use Rattle.csv_tables.specs.Rest.{Record, all_records}
 use Rattle.answers.specs.Steps.{◌>>=◌}
-use Rattle.csv_tables.specs.Fields.{field, name_in, number_in, used_in}
+use Rattle.csv_tables.specs.Fields.{field, name_in, number_in, trimmed, used_in}
 use Rattle.csv_tables.specs.Tables.{table_of}
 use Rattle.csv_tables.specs.declared.fault.TableFault.{TableFault}
 use Rattle.csv_tables.specs.declared.fault.TableFault.TheVariants as fault
@@ -64,6 +64,12 @@ rates_of f bytes = table_of (rate_of f) 32000 6 rates_header (all_records bytes)
 -- the fields of a line: its bytes, cut at commas
 abbrev pub line_fields : List ℕ → Record
 line_fields line = slice_split comma line
+
+-- the first of the fields left is taken, without the blanks at its ends
+pub record TakesField (left rest : Record) (field : List ℕ) : Type 0 where
+  pub text : List ℕ
+  pub first : left ≡ text ∷ rest
+  pub trim : field ≡ trimmed text
 
 -- the row, if there is no fault
 abbrev pub told : {A : Type 0} → Result A TableFault → Option A

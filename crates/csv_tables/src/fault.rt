@@ -4,7 +4,7 @@ use exact_ratio::NumberFault;
 
 /// The first fault of a table: at the header, and then row by row and from left to right. Rows count records, the
 /// header being row 1; columns count from 1.
-#[derive(Clone, Copy, Debug, Drop, PartialEq, Eq)]
+#[derive(Clone, Copy, Drop, PartialEq, Eq)]
 pub enum TableFault {
     /// There is no record.
     NoHeader,

@@ -1,6 +1,6 @@
 //! The fields of a record, and their contents.
 
-ghost use Rattle.std.specs.Prelude.{◌≡◌, ◌≤◌, ◌<◌, ◌^◌, Ok, Err, IfOk, length};
+ghost use Rattle.std.specs.Prelude.{◌≡◌, ◌≤◌, ◌<◌, ◌-◌, ◌^◌, Ok, Err, IfOk, length};
 ghost use Rattle.csv.specs.Records.{fields_of};
 ghost use Rattle.csv_tables.specs.Fields.{counted, field, is_blank, name_in, number_in, trim_end, trim_start, trimmed, used_in};
 
@@ -81,6 +81,14 @@ pub fn name_in(row: u32, column: u8, text: &[u8]) -> Result<Name, TableFault>
     }
 }
 
+/// The name in a column of a record. Columns count from 1.
+pub fn name_at(row: u32, column: u8, record: &ByteRecord) -> Result<Name, TableFault>
+    requires { 0 < column }
+    ensures { result ≡ name_in row column (field (fields_of «record».now) (column - 1)) }
+{
+    name_in(row, column, field(record, column as usize - 1))
+}
+
 /// The number in a field, in units of its last place.
 pub fn number_in(
     row: u32,
@@ -131,4 +139,54 @@ pub fn used_in(
     } else {
         Err(TableFault::FieldNotEmpty { row, column })
     }
+}
+
+/// The number in a column of a record. Columns count from 1.
+pub fn number_at(
+    row: u32,
+    column: u8,
+    places: u8,
+    least: u32,
+    most: u32,
+    record: &ByteRecord,
+) -> Result<u32, TableFault>
+    requires column { 0 < column }
+    requires places { places ≤ 4 }
+    ensures number { result ≡ number_in row column places least most (field (fields_of «record».now) (column - 1)) }
+    ensures range { IfOk result (λ n. (least ≤ n) × (n ≤ most)) }
+{
+    number_in(
+        row,
+        column,
+        places,
+        least,
+        most,
+        field(record, column as usize - 1),
+    )
+}
+
+/// The number in a column of a record if it is used, or 0 for one that must be empty. Columns count from 1.
+pub fn used_at(
+    used: bool,
+    row: u32,
+    column: u8,
+    places: u8,
+    least: u32,
+    most: u32,
+    record: &ByteRecord,
+) -> Result<u32, TableFault>
+    requires column { 0 < column }
+    requires places { places ≤ 4 }
+    ensures number { result ≡ used_in used row column places least most (field (fields_of «record».now) (column - 1)) }
+    ensures range { IfOk result (λ n. n ≤ most) }
+{
+    used_in(
+        used,
+        row,
+        column,
+        places,
+        least,
+        most,
+        field(record, column as usize - 1),
+    )
 }

@@ -9,7 +9,7 @@ ghost use Rattle.csv_tables.specs.Tables.{rows_of};
 ghost use Rattle.csv_tables.specs.Parts.{parent_in, part_of, parts_of, parts_header, weight_in};
 
 use crate::fault::TableFault;
-use crate::fields::{field, name_in, number_in, used_in};
+use crate::fields::{field, name_at, name_in, number_at, used_at};
 use crate::table::{Table, read_table};
 use answers::Stop;
 use csv::ByteRecord;
@@ -60,13 +60,13 @@ impl Table for Parts {
 fn part_of(row: u32, record: &ByteRecord) -> Result<PartRow, TableFault>
     ensures { result ≡ part_of row (fields_of «record».now) }
 {
-    let name = name_in(row, 1, field(record, 0))?;
+    let name = name_at(row, 1, record)?;
     let parent = parent_in(row, 2, field(record, 1))?;
     let line = parent.is_none();
-    let cost = number_in(row, 3, 0, 1, 100_000_000, field(record, 2))?;
-    let per_system = used_in(line, row, 4, 0, 1, 100, field(record, 3))?;
-    let max_depot = number_in(row, 5, 0, 0, 63, field(record, 4))?;
-    let max_base = number_in(row, 6, 0, 0, 63, field(record, 5))?;
+    let cost = number_at(row, 3, 0, 1, 100_000_000, record)?;
+    let per_system = used_at(line, row, 4, 0, 1, 100, record)?;
+    let max_depot = number_at(row, 5, 0, 0, 63, record)?;
+    let max_base = number_at(row, 6, 0, 0, 63, record)?;
     let weight = weight_in(line, row, record)?;
     Ok(PartRow {
         name,
@@ -96,7 +96,7 @@ fn weight_in(line: bool, row: u32, record: &ByteRecord) -> Result<u32, TableFaul
     ensures range { IfOk result (λ n. n ≤ 100) }
 {
     if record.len() == 7 {
-        return used_in(line, row, 7, 0, 1, 100, field(record, 6));
+        return used_at(line, row, 7, 0, 1, 100, record);
     }
     if line { Ok(1) } else { Ok(0) }
 }

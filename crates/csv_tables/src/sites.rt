@@ -9,7 +9,7 @@ ghost use Rattle.csv_tables.specs.Tables.{rows_of};
 ghost use Rattle.csv_tables.specs.Sites.{depot_in, site_of, sites_of, sites_header};
 
 use crate::fault::TableFault;
-use crate::fields::{field, name_in, used_in};
+use crate::fields::{field, name_at, used_at};
 use crate::table::{Table, read_table};
 use answers::Stop;
 use csv::ByteRecord;
@@ -56,10 +56,10 @@ impl Table for Sites {
 fn site_of(row: u32, record: &ByteRecord) -> Result<SiteRow, TableFault>
     ensures { result ≡ site_of row (fields_of «record».now) }
 {
-    let name = name_in(row, 1, field(record, 0))?;
+    let name = name_at(row, 1, record)?;
     let depot = depot_in(row, field(record, 1))?;
-    let systems = used_in(!depot, row, 3, 0, 1, 10_000, field(record, 2))?;
-    let ship = used_in(!depot, row, 4, 2, 0, 999_999, field(record, 3))?;
+    let systems = used_at(!depot, row, 3, 0, 1, 10_000, record)?;
+    let ship = used_at(!depot, row, 4, 2, 0, 999_999, record)?;
     Ok(SiteRow {
         name,
         depot,

@@ -9,7 +9,7 @@ ghost use Rattle.csv_tables.specs.Tables.{rows_of};
 ghost use Rattle.csv_tables.specs.Stocks.{stock_of, stocks_of, stocks_header};
 
 use crate::fault::TableFault;
-use crate::fields::{field, number_in};
+use crate::fields::{field, number_at};
 use crate::rates::{part_in, site_in};
 use crate::table::{Table, read_table};
 use answers::Stop;
@@ -68,7 +68,7 @@ fn stock_of(frame: &Frame, row: u32, record: &ByteRecord) -> Result<StockRow, Ta
 {
     let part = part_in(frame, row, 1, field(record, 0))?;
     let site = site_in(frame, row, 2, field(record, 1))?;
-    let stock = number_in(row, 3, 0, 0, 63, field(record, 2))?;
+    let stock = number_at(row, 3, 0, 0, 63, record)?;
     Ok(StockRow {
         part,
         site,

@@ -1,6 +1,7 @@
 //! A table of any kind, read record by record.
 
-ghost use Rattle.std.specs.Prelude.{◌≡◌, ◌+◌, ◌<◌, ◌≤◌, ◌^◌, ℕ, Result, length, map};
+ghost use Rattle.std.specs.Prelude.{◌≡◌, ◌+◌, ◌<◌, ◌≤◌, ◌^◌, ℕ, [], Result, length, map};
+ghost use Rattle.std.specs.Result.{result_map_both};
 ghost use Rattle.csv.specs.Records.{fields_of};
 ghost use Rattle.answers.specs.Answers.{Gives};
 ghost use Rattle.csv_tables.specs.Rest.{all_records, rest_of, IsTable, Record, table_limit};
@@ -44,11 +45,30 @@ pub fn read_table<T: Table>(
 {
     let mut rdr = table_of(alloc, bytes);
     let mut record = ByteRecord::new(alloc);
-    if !next_record(&mut rdr, &mut record)? {
+    read_records(alloc, &mut rdr, &mut record, table, least, header, limit)
+}
+
+/// The rows of the records left, the first of which is the header, or the first fault.
+fn read_records<T: Table>(
+    alloc: Global,
+    rdr: &mut Reader<&[u8]>,
+    record: &mut ByteRecord,
+    table: &T,
+    least: u8,
+    header: &[&[u8]],
+    limit: u32,
+) -> Result<Vec<T::Row>, Stop<TableFault>>
+    requires reader { IsTable rdr.old }
+    requires columns { length header.now < 256 }
+    requires few { limit ≤ 32000 }
+    ensures { Gives (table_of (T.row_of table.now) limit least (map (λ f. f.now) header.now) (rest_of rdr.old))
+        (rows_of result) }
+{
+    if !next_record(rdr, record)? {
         return Err(Stop::Fault(TableFault::NoHeader));
     }
-    match header_in(least, header, &record) {
-        Ok(columns) => read_rows(alloc, &mut rdr, &mut record, table, columns, limit),
+    match header_in(least, header, record) {
+        Ok(columns) => read_rows(alloc, rdr, record, table, columns, limit),
         Err(fault) => Err(Stop::Fault(fault)),
     }
 }
@@ -104,9 +124,28 @@ fn read_rows<T: Table>(
     ensures { Gives (rows_from (T.row_of table.now) limit columns 2 (rest_of rdr.old)) (rows_of result) }
 {
     let mut rows = Vec::new(alloc);
+    put_rows(&mut rows, rdr, record, table, columns, limit)?;
+    Ok(rows)
+}
+
+/// Puts the rows of the records left to an empty list, the first as row 2 of the file.
+fn put_rows<T: Table>(
+    rows: &mut Vec<T::Row>,
+    rdr: &mut Reader<&[u8]>,
+    record: &mut ByteRecord,
+    table: &T,
+    columns: u8,
+    limit: u32,
+) -> Result<(), Stop<TableFault>>
+    requires empty { rows.old.items ≡ [] }
+    requires reader { IsTable rdr.old }
+    requires few { limit ≤ 32000 }
+    ensures { Gives (rows_from (T.row_of table.now) limit columns 2 (rest_of rdr.old))
+        (result_map_both (λ _. rows.new.items) (λ e. e) result) }
+{
     for row in 2..limit + 2 {
         if !next_record(rdr, record)? {
-            return Ok(rows);
+            return Ok(());
         }
         match row_in(table, row, columns, record) {
             Ok(found) => rows.push(found)?,
@@ -116,7 +155,7 @@ fn read_rows<T: Table>(
     if next_record(rdr, record)? {
         return Err(Stop::Fault(TableFault::TooManyRows));
     }
-    Ok(rows)
+    Ok(())
 }
 
 /// The row of a record with this number of fields, or its first fault.

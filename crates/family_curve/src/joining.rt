@@ -1,18 +1,29 @@
 //! The curve of a family: what each choice of stocks at the depot adds to the curve so far.
 
-ghost use Rattle.std.specs.Prelude.{◌≡◌, ◌+◌, ◌-◌, ◌*◌, ◌<◌, ◌≤◌, ◌++◌, ◌∷◌, [], List, IfOk, drop, flat_map, length};
+ghost use Rattle.std.specs.Prelude.{◌≡◌, ◌+◌, ◌-◌, ◌*◌, ◌<◌, ◌≤◌, ◌++◌, ◌∷◌, [], List, IfOk, drop, flat_map, get_or, length, sum_by};
 ghost use Rattle.hull.specs.declared.point.Point.{Point};
 ghost use Rattle.hull.specs.Curves.{Among, InRange, IsCurve, StandFor};
 ghost use Rattle.family_points.specs.Separation.{depot_point, depot_points};
 ghost use Rattle.family_points.specs.Points.{points_within};
-ghost use Rattle.family_points.specs.Inputs.{AreShopsAt, IsAt, line_stocks, vector_count, vertex_count};
+ghost use Rattle.family_points.specs.Inputs.{
+  AreShopsAt,
+  IsAt,
+  line_high,
+  line_low,
+  line_stocks,
+  shop_vectors,
+  vector_count,
+  vertex_count,
+};
 ghost use Rattle.family_rows.specs.Sources.{AreSources};
 ghost use Rattle.family_curve.specs.Joining.{HaveWidthOf, middle, vertices_of};
 ghost use Rattle.family_rows.specs.Tabled.{AreTables};
+ghost use Rattle.sum_walk.specs.Sums.{sums_of_each};
 
 use crate::base::{chains_of, put_curve};
 use answers::{List, NoMemory};
 use family_points::family::{Family, joined};
+use family_points::order::Base;
 use family_rows::base::BaseSpot;
 use family_rows::base_at::BaseAt;
 use family_rows::depot::{DepotTables, depot_tables};
@@ -55,6 +66,42 @@ pub fn depot_point(alloc: Global, family: &Family<'_>, stocks: &[u8]) -> Result<
     })
 }
 
+/// Sets the chains of `work` to the curves of all bases with these stocks at the depot.
+fn put_curves<'b, S: Score>(
+    work: &mut Work<'b>,
+    sources: &'b Sources<'_>,
+    score: &S,
+    tables: &DepotTables<'_>,
+    depot: &[u8],
+) -> Result<(), NoMemory>
+    requires sources { AreSources sources.now }
+    requires depot { IsAt sources.now.family.now 0 depot.now }
+    requires tables { AreTables sources.now.numbers (drop 1 depot.now) tables.now }
+    requires room { vertex_count sources.now.family.now ≤ 65000000 }
+    requires work { length work.old.chains.items ≡ length sources.now.bases.items }
+    ensures stands { IfOk result (λ _. let x = sources.now.family.now in StandFor
+        (depot_points x.case x.line S.ends x.held x.low x.high depot.now)
+        (sums_of_each (depot_point x.case x.line x.held depot.now ∷ []) work.new.chains.items)) }
+    ensures few { IfOk result (λ _. 1 + sum_by length work.new.chains.items ≤ vertex_count sources.now.family.now) }
+    ensures work { IfOk result (λ _. length work.new.chains.items ≡ length sources.now.bases.items) }
+{
+    let _size = sources.family.size();
+    for j in 1..sources.family.sites() {
+        let place = usize::from(j) - 1;
+        let base = &sources.bases[place];
+        let here = BaseAt::of(sources.family, depot, SiteId(j), base);
+        put_curve(
+            &mut work.chains[place],
+            &mut work.rows,
+            &here,
+            score,
+            &sources.numbers,
+            tables,
+        )?;
+    }
+    Ok(())
+}
+
 /// The points of the vectors with these stocks at the depot, without those that are no vertices beside the points of
 /// `below`.
 fn depot_path<'b, S: Score>(
@@ -80,22 +127,10 @@ fn depot_path<'b, S: Score>(
     ensures few { IfOk result (λ path. length path.items ≤ vertex_count sources.now.family.now) }
     ensures work { IfOk result (λ _. length work.new.chains.items ≡ length sources.now.bases.items) }
 {
-    let _size = sources.family.size();
+    let _sites = sources.family.sites();
+    put_curves(work, sources, score, tables, depot)?;
     let first = depot_point(alloc, sources.family, depot)?;
-    for j in 1..sources.family.sites() {
-        let place = usize::from(j) - 1;
-        let base = &sources.bases[place];
-        let here = BaseAt::of(sources.family, depot, SiteId(j), base);
-        put_curve(
-            &mut work.chains[place],
-            &mut work.rows,
-            &here,
-            score,
-            &sources.numbers,
-            tables,
-        )?;
-    }
-    let path = walk(
+    walk(
         alloc,
         &mut work.runners,
         &mut work.order,
@@ -103,8 +138,7 @@ fn depot_path<'b, S: Score>(
         &first,
         work.chains.as_slice(),
         below,
-    )?;
-    Ok(path)
+    )
 }
 
 /// The curve of the points so far and of all vectors with these stocks at the depot.
@@ -171,24 +205,66 @@ fn behind_middle(low: u8, high: u8, n: u8) -> u8
     }
 }
 
-/// The curve of the points so far and of all vectors with the shop units' stocks `depot` at the depot. The line unit's
-/// middle stock comes first, because its points pass most of the others.
-fn with_shops<'b, S: Score>(
+/// The curve of the points so far and of all vectors with these stocks of the line unit and the shop units at the
+/// depot.
+fn with_line<'b, S: Score>(
     alloc: Global,
     so_far: Option<Curve>,
     work: &mut Work<'b>,
     sources: &'b Sources<'_>,
     score: &S,
-    depot: &[u8],
+    tables: &DepotTables<'_>,
+    line: u8,
+    shops: &[u8],
 ) -> Result<Curve, NoMemory>
     requires sources { AreSources sources.now }
-    requires depot { AreShopsAt sources.now.family.now 0 depot.now }
+    requires least { line_low sources.now.family.now 0 ≤ line }
+    requires most { line ≤ line_high sources.now.family.now 0 }
+    requires shops { AreShopsAt sources.now.family.now 0 shops.now }
+    requires tables { AreTables sources.now.numbers shops.now tables.now }
+    requires room { length (vertices_of so_far) + vertex_count sources.now.family.now ≤ 65000000 }
+    requires widths { HaveWidthOf sources.now.family.now (vertices_of so_far) }
+    requires work { length work.old.chains.items ≡ length sources.now.bases.items }
+    ensures curve { IfOk result (let x = sources.now.family.now in IsCurve (vertices_of so_far
+        ++ depot_points x.case x.line S.ends x.held x.low x.high (line ∷ shops.now))) }
+    ensures few { IfOk result
+        (λ curve. length curve ≤ length (vertices_of so_far) + vertex_count sources.now.family.now) }
+    ensures widths { IfOk result (HaveWidthOf sources.now.family.now) }
+    ensures work { IfOk result (λ _. length work.new.chains.items ≡ length sources.now.bases.items) }
+{
+    let _size = sources.family.size();
+    let depot = joined(alloc, line, shops)?;
+    with_depot(
+        alloc,
+        so_far,
+        work,
+        sources,
+        score,
+        tables,
+        depot.as_slice(),
+    )
+}
+
+/// The curve of the points so far and of all vectors with the shop units' stocks `shops` at the depot. The line unit's
+/// middle stock comes first, because its points pass most of the others.
+fn with_lines<'b, S: Score>(
+    alloc: Global,
+    so_far: Option<Curve>,
+    work: &mut Work<'b>,
+    sources: &'b Sources<'_>,
+    score: &S,
+    tables: &DepotTables<'_>,
+    shops: &[u8],
+) -> Result<Curve, NoMemory>
+    requires sources { AreSources sources.now }
+    requires shops { AreShopsAt sources.now.family.now 0 shops.now }
+    requires tables { AreTables sources.now.numbers shops.now tables.now }
     requires room { let x = sources.now.family.now in
         length (vertices_of so_far) + length (line_stocks x 0) * vertex_count x ≤ 65000000 }
     requires widths { HaveWidthOf sources.now.family.now (vertices_of so_far) }
     requires work { length work.old.chains.items ≡ length sources.now.bases.items }
     ensures curve { IfOk result (let x = sources.now.family.now in IsCurve (vertices_of so_far
-        ++ flat_map (λ s. depot_points x.case x.line S.ends x.held x.low x.high (s ∷ depot.now)) (line_stocks x 0))) }
+        ++ flat_map (λ s. depot_points x.case x.line S.ends x.held x.low x.high (s ∷ shops.now)) (line_stocks x 0))) }
     ensures few { IfOk result (λ curve. let x = sources.now.family.now in
         length curve ≤ length (vertices_of so_far) + length (line_stocks x 0) * vertex_count x) }
     ensures widths { IfOk result (HaveWidthOf sources.now.family.now) }
@@ -196,18 +272,56 @@ fn with_shops<'b, S: Score>(
 {
     let family = sources.family;
     let _size = family.size();
-    let tables = depot_tables(alloc, sources, depot)?;
     let low = family.line_low(SiteId(0));
     let high = family.line_high(SiteId(0));
-    let first = joined(alloc, middle(low, high), depot)?;
-    let at_first = first.as_slice();
-    let mut curve = with_depot(alloc, so_far, work, sources, score, &tables, at_first)?;
+    let first = middle(low, high);
+    let mut curve = with_line(alloc, so_far, work, sources, score, tables, first, shops)?;
     for n in 1..high - low + 1 {
-        let stocks = joined(alloc, behind_middle(low, high, n), depot)?;
-        let at_depot = stocks.as_slice();
-        curve = with_depot(alloc, Some(curve), work, sources, score, &tables, at_depot)?;
+        let line = behind_middle(low, high, n);
+        curve = with_line(
+            alloc,
+            Some(curve),
+            work,
+            sources,
+            score,
+            tables,
+            line,
+            shops,
+        )?;
     }
     Ok(curve)
+}
+
+/// The curve of the points so far and of all vectors with the `number`-th vector of the shop units' stocks at the
+/// depot.
+fn with_shops<'b, S: Score>(
+    alloc: Global,
+    so_far: Option<Curve>,
+    work: &mut Work<'b>,
+    sources: &'b Sources<'_>,
+    score: &S,
+    number: u64,
+) -> Result<Curve, NoMemory>
+    requires sources { AreSources sources.now }
+    requires number { number < length (shop_vectors sources.now.family.now 0) }
+    requires room { let x = sources.now.family.now in
+        length (vertices_of so_far) + length (line_stocks x 0) * vertex_count x ≤ 65000000 }
+    requires widths { HaveWidthOf sources.now.family.now (vertices_of so_far) }
+    requires work { length work.old.chains.items ≡ length sources.now.bases.items }
+    ensures curve { IfOk result (let x = sources.now.family.now in IsCurve (vertices_of so_far
+        ++ flat_map (λ s. depot_points x.case x.line S.ends x.held x.low x.high
+        (s ∷ get_or (shop_vectors x 0) number [])) (line_stocks x 0))) }
+    ensures few { IfOk result (λ curve. let x = sources.now.family.now in
+        length curve ≤ length (vertices_of so_far) + length (line_stocks x 0) * vertex_count x) }
+    ensures widths { IfOk result (HaveWidthOf sources.now.family.now) }
+    ensures work { IfOk result (λ _. length work.new.chains.items ≡ length sources.now.bases.items) }
+{
+    let family = sources.family;
+    let _size = family.size();
+    let vector = family.shop_vector(alloc, SiteId(0), number)?;
+    let shops = vector.as_slice();
+    let tables = depot_tables(alloc, sources, shops)?;
+    with_lines(alloc, so_far, work, sources, score, &tables, shops)
 }
 
 /// The curve of all vectors of the family within its bounds. The shop units' stocks at the depot are taken in falling
@@ -226,15 +340,37 @@ fn whole_curve<'b, S: Score>(
 {
     let family = sources.family;
     let _size = family.size();
-    let depot = SiteId(0);
-    let count = family.shop_count(depot);
-    let first = family.shop_vector(alloc, depot, count - 1)?;
-    let mut curve = with_shops(alloc, None, work, sources, score, first.as_slice())?;
+    let count = family.shop_count(SiteId(0));
+    let mut curve = with_shops(alloc, None, work, sources, score, count - 1)?;
     for n in 1..count {
-        let stocks = family.shop_vector(alloc, depot, count - 1 - n)?;
-        curve = with_shops(alloc, Some(curve), work, sources, score, stocks.as_slice())?;
+        curve = with_shops(alloc, Some(curve), work, sources, score, count - 1 - n)?;
     }
     Ok(curve)
+}
+
+/// The scratch lists for these bases.
+fn work_of<'b>(alloc: Global, bases: &'b [Base]) -> Result<Work<'b>, NoMemory>
+    ensures { IfOk result (λ work. length work.chains.items ≡ length bases.now) }
+{
+    let chains = chains_of(alloc, bases)?;
+    Ok(Work {
+        chains,
+        rows: Vec::new(alloc),
+        runners: Vec::new(alloc),
+        order: Vec::new(alloc),
+        stocks: Stocks::new(alloc),
+    })
+}
+
+/// The curve of all vectors of the family of these sources within its bounds.
+fn curve_of<S: Score>(alloc: Global, sources: &Sources<'_>, score: &S) -> Result<Curve, NoMemory>
+    requires sources { AreSources sources.now }
+    requires room { vector_count sources.now.family.now 0 * vertex_count sources.now.family.now ≤ 65000000 }
+    ensures { IfOk result
+        (let x = sources.now.family.now in IsCurve (points_within x.case x.line S.ends x.held x.low x.high)) }
+{
+    let mut work = work_of(alloc, sources.bases.as_slice())?;
+    whole_curve(alloc, &mut work, sources, score)
 }
 
 /// The curve of all vectors of a family within its bounds.
@@ -249,13 +385,5 @@ pub(crate) fn family_curve<S: Score>(
         family.now.high)) }
 {
     let sources = Sources::of(alloc, family)?;
-    let mut work = Work {
-        chains: chains_of(alloc, sources.bases.as_slice())?,
-        rows: Vec::new(alloc),
-        runners: Vec::new(alloc),
-        order: Vec::new(alloc),
-        stocks: Stocks::new(alloc),
-    };
-    let curve = whole_curve(alloc, &mut work, &sources, score)?;
-    Ok(curve)
+    curve_of(alloc, &sources, score)
 }

@@ -82,6 +82,5 @@ pub fn curve<S: Score>(
 {
     let _valid = case.site_count();
     let bounds = Bounds::whole(alloc, case, line)?;
-    let curve = curve_within(alloc, case, rates, line, &bounds, score)?;
-    Ok(curve)
+    curve_within(alloc, case, rates, line, &bounds, score)
 }

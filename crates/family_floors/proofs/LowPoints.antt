@@ -1,46 +1,68 @@
 -- Lower bounds on the Lagrangians of a base and of the depot's stocks.
-use Rattle.std.proofs.Common.{◌≡◌, ℕ, suc, ◌+◌, ◌-◌, ◌*◌, ◌^◌, ◌<◌, ◌≤◌, inl, inr, min, List, [], ◌∷◌, length, drop, get_or, map, take, sym, ap, ap₂, ◌∙◌, subst, arith, mul-le-mul_left, ◌⊎◌}
+use Rattle.std.proofs.Common.{◌≡◌, ℕ, suc, ◌+◌, ◌-◌, ◌*◌, ◌^◌, ◌<◌, ◌≤◌, inl, inr, List, [], ◌∷◌, length, drop, get_or, map, take, sym, ap, ap₂, ◌∙◌, subst, arith, mul-le-mul_left, mul-le-mul_right}
 use Rattle.std.specs.List.{range_with_len}
+use Rattle.std.proofs.lemmas.Bool.{cases_lt}
 use Rattle.std.proofs.lemmas.List.{take_all}
+use Rattle.spares_input.specs.Frames.{part_at}
 use Rattle.fixed_interval.specs.Ends.{Ends, IsWithinLimit}
+use Rattle.backorder_bounds.specs.Places.{low_end}
+use Rattle.fleet_model.specs.Fleet.{family}
 use Rattle.fleet_model.specs.Laws.{IsBase}
 use Rattle.fleet_model.specs.Rows.{systems, per_system, weight}
 use Rattle.family_items.specs.Profile.{item_of}
-use Rattle.family_numbers.specs.Numbers.{AreBaseLows, base_backorders}
+use Rattle.family_numbers.specs.Numbers.{base_backorders}
 use Rattle.family_numbers.proofs.FromNumbers.{backorders_alone}
 use Rattle.hull.specs.declared.point.Point.{Point}
+use Rattle.hull.specs.declared.price.Price.{Price}
 use Rattle.hull.specs.Curves.{lagrangian, Among, sums}
 use Rattle.hull.specs.Scores.{LeavesRoom}
 use Rattle.hull.proofs.Members.{Flattened, Mapped, among_flattened, among_mapped, range_has}
 use Rattle.hull.proofs.Stand.{among_either}
 use Rattle.family_points.specs.Vectors.{between, vectors}
-use Rattle.family_points.specs.Points.{ScoreEnds}
+use Rattle.family_points.specs.Points.{ScoreEnds, cost_above}
 use Rattle.family_points.specs.Separation.{base_point, base_points, base_stocks, depot_and_base, depot_point, points_over}
-use Rattle.family_points.specs.Inputs.{AreShopsAt, FamilyBox, IsAt, IsFamilyBox, line_high, line_low, shop_high, shop_low, shop_vectors}
-use Rattle.family_points.specs.Least.{AreAtLeast, AreLowsAt}
+use Rattle.family_points.specs.Inputs.{AreShopsAt, FamilyBox, IsAt, IsFamilyBox, held_at, line_high, line_low, shop_high, shop_low, shop_vectors}
+use Rattle.family_points.specs.Least.{AreAtLeast}
 use Rattle.family_rows.specs.Tabled.{box_numbers}
+use Rattle.family_floors.specs.declared.lows.Lows.{Lows}
+use Rattle.family_floors.specs.Lows.{AreNoHigher, AreUnder, IsReached, line_place, lower_of}
 use Rattle.family_points.proofs.Bounded.{at_long}
 use Rattle.family_points.proofs.Distinct.{family_stocks_in}
 use Rattle.family_points.proofs.Leasts.{at_least_sums}
 use Rattle.family_points.proofs.Points.{base_small, begins, high_begins, joined_at, low_begins, over_more, take_next}
 use Rattle.family_points.proofs.Scores.{backorders_small}
 use Rattle.family_points.proofs.Separate.{at_base}
+use Rattle.family_points.proofs.Spotted.{line_dearer}
 
 -- a score that is at most the point's, and no larger than any score
 pub record IsLowScore (scored : ℕ) (v : Point) : Type 0 where
   pub low : scored ≤ v.lo
   pub most : scored ≤ 2 ^ 74
 
+-- the table's backorders at a stock of the line unit are those of the model's item
+place_tabled : (x : FamilyBox) (valid : IsFamilyBox x) (j : ℕ) (d b : List ℕ) (s : ℕ) → IsBase x.case j → IsAt x 0 d → IsAt x j (s ∷ b)
+    → low_end 48 (line_place x d j b s) ≡ (item_of 48 x.case (base_stocks x.case x.line d j (s ∷ b)) x.line j).backorders.lo
+place_tabled x valid j d b s base h g =
+    let some = valid.valid.frame.fewest_sites in
+    let own : ℕ → List ℕ = depot_and_base d j (s ∷ b) in
+    let depot_long = at_long x valid 0 d (omega (arith, some)) h in
+    let item : base_backorders 48 (box_numbers x) j (get_or d 0 0) (drop 1 d) b s ≡ (item_of 48 x.case (base_stocks x.case x.line d j (s ∷ b)) x.line j).backorders =
+    sym (backorders_alone 48 x.case x.line j (base_stocks x.case x.line d j (s ∷ b)) (get_or d 0 0) (drop 1 d) s b valid.is_line base.0 base.1
+    (family_stocks_in x.case x.line own 0 valid.valid valid.is_line (omega (arith, some)) depot_long ∙ sym (begins d (omega (arith, depot_long))))
+    (family_stocks_in x.case x.line own j valid.valid valid.is_line base.1 (ap length (at_base d j (s ∷ b) base.0) ∙ at_long x valid j (s ∷ b) base.1 g)
+    ∙ at_base d j (s ∷ b) base.0)) in
+    ap (λ (e : Ends). e.lo) item
+
 -- a score that is at most that of all backorders from a lower bound on is one of the point of the bound's stocks
-pub score_under : (x : FamilyBox) (valid : IsFamilyBox x) (ends : ScoreEnds) → LeavesRoom ends → (d : List ℕ) → IsAt x 0 d → (j s : ℕ) (v lows : List ℕ) → IsBase x.case j
-    → AreShopsAt x j v → line_low x j ≤ s → s ≤ line_high x j → s < length lows → AreLowsAt x d j v lows → (n scored : ℕ) → n ≡ s
-    → ((e : Ends) → IsWithinLimit 48 e → get_or lows n 0 ≤ e.lo → scored ≤ (ends (systems x.case j) (per_system x.case x.line) (weight x.case x.line) e).lo)
+pub score_under : (x : FamilyBox) (valid : IsFamilyBox x) (ends : ScoreEnds) → LeavesRoom ends → (d : List ℕ) → IsAt x 0 d → (j s : ℕ) (v : List ℕ) → IsBase x.case j
+    → AreShopsAt x j v → line_low x j ≤ s → s ≤ line_high x j → (bound scored : ℕ) → bound ≤ low_end 48 (line_place x d j v s)
+    → ((e : Ends) → IsWithinLimit 48 e → bound ≤ e.lo → scored ≤ (ends (systems x.case j) (per_system x.case x.line) (weight x.case x.line) e).lo)
     → IsLowScore scored (base_point x.case x.line ends x.held d j (s ∷ v))
-score_under x valid ends room d at_depot j s v lows base within low high long are n scored e under =
+score_under x valid ends room d at_depot j s v base within low high bound scored is under =
     let at : IsAt x j (s ∷ v) = joined_at x valid j s v base.1 within low high in
     let item = item_of 48 x.case (base_stocks x.case x.line d j (s ∷ v)) x.line j in
-    let bound : get_or lows n 0 ≤ item.backorders.lo = subst (λ k. get_or lows k 0 ≤ item.backorders.lo) (sym e) (are s at long) in
-    let here : scored ≤ (base_point x.case x.line ends x.held d j (s ∷ v)).lo = under item.backorders (backorders_small x valid j d (s ∷ v) at_depot at base) bound in
+    let below : bound ≤ item.backorders.lo = subst (λ n. bound ≤ n) (place_tabled x valid j d v s base at_depot at) is in
+    let here : scored ≤ (base_point x.case x.line ends x.held d j (s ∷ v)).lo = under item.backorders (backorders_small x valid j d (s ∷ v) at_depot at base) below in
     let small = base_small x valid ends room d at_depot j (s ∷ v) base at in
     let order = small.ends in let most = small.room in
     record { low = here; most = omega (arith, here, order, most) }
@@ -52,27 +74,52 @@ lagrangian_under p q cost scored value v e g h =
     let n : p * cost ≡ p * v.cost = ap (λ z. p * z) g in
     omega (arith, e, m, n)
 
--- one stock more
-module _ (f : ℕ → ℕ) (a : ℕ) where
-  -- one stock more
-  pub under_more : (s m value : ℕ) → ((k : ℕ) → a ≤ k → k < s → m ≤ f k) → value ≤ f s → (k : ℕ) → a ≤ k → k < s + 1 → min m value ≤ f k
-  under_more s m value h v k l t = elim (eq_or_less k s (omega (arith, t))) [
-    | inl e ↦ (let w : value ≤ f k = subst (λ z. value ≤ f z) (sym e) v in omega (arith, w))
-    | inr b ↦ (let w = h k l b in omega (arith, w))
-  ]
-    where
-      eq_or_less : (k s : ℕ) → k ≤ s → (k ≡ s) ⊎ (k < s)
-      eq_or_less k s h = grind arith
+-- lower bounds at two prices
+module _ (x : FamilyBox) (ends : ScoreEnds) (d : List ℕ) (j : ℕ) (low high : Price) where
+  -- lower ones
+  lower_under : (shops : List ℕ) (s : ℕ) (lows others : Lows) → AreNoHigher lows others → AreUnder x ends d j low high shops s others → AreUnder x ends d j low high shops s lows
+  lower_under shops s lows others n h = record { at_low = omega (arith, n.at_low, h.at_low); at_high = omega (arith, n.at_high, h.at_high) }
 
--- stocks of the shop units more
-module _ (x : FamilyBox) (f : List ℕ → ℕ → ℕ) (a b : ℕ) (vs : List (List ℕ)) where
+  -- one stock more
+  pub stock_more : (shops : List ℕ) (s : ℕ) (found here : Lows) → ((k : ℕ) → line_low x j ≤ k → k ≤ s → AreUnder x ends d j low high shops k found)
+      → AreUnder x ends d j low high shops (s + 1) here → (k : ℕ) → line_low x j ≤ k → k ≤ s + 1 → AreUnder x ends d j low high shops k (lower_of found here)
+  stock_more shops s found here h now k l t = elim (cases_lt s k) [
+    | inl b ↦ (let e : s + 1 ≡ k = omega (arith, b, t) in
+        let w : AreUnder x ends d j low high shops k here = subst (λ n. AreUnder x ends d j low high shops n here) e now in
+        lower_under shops k (lower_of found here) here (record { at_low = omega arith; at_high = omega arith }) w)
+    | inr b ↦ lower_under shops k (lower_of found here) found (record { at_low = omega arith; at_high = omega arith }) (h k l b)
+  ]
+
+  -- the first stock
+  pub first_stock : (shops : List ℕ) (s : ℕ) (least here : Lows) → AreUnder x ends d j low high shops s here → (k : ℕ) → s ≤ k → k ≤ s → AreUnder x ends d j low high shops k (lower_of least here)
+  first_stock shops s least here now k l t =
+      let e : s ≡ k = omega (arith, l, t) in
+      let w : AreUnder x ends d j low high shops k here = subst (λ n. AreUnder x ends d j low high shops n here) e now in
+      lower_under shops k (lower_of least here) here (record { at_low = omega arith; at_high = omega arith }) w
+
+  -- what the cost alone reaches at a stock is at most the Lagrangian at each stock from there on
+  pub beyond : (valid : IsFamilyBox x) (shops : List ℕ) (lows : Lows) (s cost : ℕ) → j < length x.case.sites → AreShopsAt x j shops → line_low x j ≤ s
+      → cost ≡ cost_above x.case (family x.case x.line) (held_at x j) (s ∷ shops) → IsReached lows low high cost
+      → (k : ℕ) → s ≤ k → k ≤ line_high x j → AreUnder x ends d j low high shops k lows
+  beyond valid shops lows s cost m within l e h k a b =
+      let each = (part_at x.case.parts x.line).cost in
+      let before = line_dearer x valid j s shops m within l (omega (arith, a, b)) in
+      let after = line_dearer x valid j k shops m within (omega (arith, l, a)) b in
+      let more : (s - line_low x j) * each ≤ (k - line_low x j) * each = mul-le-mul_right each (omega (arith, a)) in
+      let dear : cost ≤ cost_above x.case (family x.case x.line) (held_at x j) (k ∷ shops) = omega (arith, e, before, after, more) in
+      let one : low.p * cost ≤ low.p * cost_above x.case (family x.case x.line) (held_at x j) (k ∷ shops) = mul-le-mul_left low.p dear in
+      let two : high.p * cost ≤ high.p * cost_above x.case (family x.case x.line) (held_at x j) (k ∷ shops) = mul-le-mul_left high.p dear in
+      record { at_low = omega (arith, h.at_low, one); at_high = omega (arith, h.at_high, two) }
+
   -- one choice of the shop units' stocks more
-  pub shops_under_more : (n m value : ℕ) (d : List ℕ) → n < length vs → d ≡ get_or vs n [] → ((w : List ℕ) → Among w (take n vs) → (s : ℕ) → a ≤ s → s ≤ b → m ≤ f w s)
-      → ((s : ℕ) → a ≤ s → s ≤ b → value ≤ f d s) → (w : List ℕ) → Among w (take (n + 1) vs) → (s : ℕ) → a ≤ s → s ≤ b → min m value ≤ f w s
-  shops_under_more n m value d h e so_far here w k s l t = elim (among_either w (take n vs) (get_or vs n [] ∷ []) (subst (λ ws. Among w ws) (take_next vs n h) k)) [
-    | inl i ↦ (let z = so_far w i s l t in omega (arith, z))
+  pub shops_more : (vs : List (List ℕ)) (n : ℕ) (before after : Lows) (shops : List ℕ) → n < length vs → shops ≡ get_or vs n [] → AreNoHigher after before
+      → ((w : List ℕ) → Among w (take n vs) → (s : ℕ) → line_low x j ≤ s → s ≤ line_high x j → AreUnder x ends d j low high w s before)
+      → ((s : ℕ) → line_low x j ≤ s → s ≤ line_high x j → AreUnder x ends d j low high shops s after)
+      → (w : List ℕ) → Among w (take (n + 1) vs) → (s : ℕ) → line_low x j ≤ s → s ≤ line_high x j → AreUnder x ends d j low high w s after
+  shops_more vs n before after shops h e lower so_far here w k s l t = elim (among_either w (take n vs) (get_or vs n [] ∷ []) (subst (λ ws. Among w ws) (take_next vs n h) k)) [
+    | inl i ↦ lower_under w s after before lower (so_far w i s l t)
     | inr i ↦ elim i [
-      | inl g ↦ (let z : value ≤ f w s = subst (λ u. value ≤ f u s) (e ∙ sym g) (here s l t) in omega (arith, z))
+      | inl g ↦ subst (λ u. AreUnder x ends d j low high u s after) (e ∙ sym g) (here s l t)
       | inr none ↦ absurd none
     ]
   ]
@@ -117,17 +164,3 @@ base_under_more x ends d p q j a b some h k =
     let here : j - 1 + 1 ≡ j = omega (arith, some) in
     let more : over (suc (j - 1)) ≡ sums (over (j - 1)) (base j) = over_more x.case x.line ends x.held x.low x.high d (j - 1) ∙ ap (λ i. sums (over (j - 1)) (base i)) here in
     subst (λ n. AreAtLeast p q (a + b) (over n)) next (subst (AreAtLeast p q (a + b)) (sym more) (at_least_sums p q a b (over (j - 1)) (base j) h k))
-
--- numbers that the tables' backorders aren't below are so of the model's items
-pub lows_tabled : (x : FamilyBox) (valid : IsFamilyBox x) (j : ℕ) (d b lows : List ℕ) → IsBase x.case j → IsAt x 0 d
-    → AreBaseLows 48 (box_numbers x) j (get_or d 0 0) (drop 1 d) b lows → AreLowsAt x d j b lows
-lows_tabled x valid j d b lows base h is s g below =
-    let some = valid.valid.frame.fewest_sites in
-    let own : ℕ → List ℕ = depot_and_base d j (s ∷ b) in
-    let depot_long = at_long x valid 0 d (omega (arith, some)) h in
-    let item : base_backorders 48 (box_numbers x) j (get_or d 0 0) (drop 1 d) b s ≡ (item_of 48 x.case (base_stocks x.case x.line d j (s ∷ b)) x.line j).backorders =
-    sym (backorders_alone 48 x.case x.line j (base_stocks x.case x.line d j (s ∷ b)) (get_or d 0 0) (drop 1 d) s b valid.is_line base.0 base.1
-    (family_stocks_in x.case x.line own 0 valid.valid valid.is_line (omega (arith, some)) depot_long ∙ sym (begins d (omega (arith, depot_long))))
-    (family_stocks_in x.case x.line own j valid.valid valid.is_line base.1 (ap length (at_base d j (s ∷ b) base.0) ∙ at_long x valid j (s ∷ b) base.1 g)
-    ∙ at_base d j (s ∷ b) base.0)) in
-    subst (λ (e : Ends). get_or lows s 0 ≤ e.lo) item (is s below)

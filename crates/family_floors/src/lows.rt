@@ -1,20 +1,22 @@
 //! Lower bounds on Lagrangians, of a base and of the depot's stocks, from lower bounds on backorders. They cost less
 //! work than exact backorders.
 
-ghost use Rattle.std.specs.Prelude.{◌≡◌, ℕ, ◌+◌, ◌-◌, ◌*◌, ◌^◌, ◌<◌, ◌≤◌, ◌∷◌, drop, length};
+ghost use Rattle.std.specs.Prelude.{◌≡◌, ℕ, ◌+◌, ◌-◌, ◌*◌, ◌^◌, ◌<◌, ◌≤◌, ◌∷◌, IsTrue, drop};
 ghost use Rattle.fleet_model.specs.Fleet.{family};
 ghost use Rattle.hull.specs.Curves.{lagrangian};
 ghost use Rattle.family_points.specs.Inputs.{AreShopsAt, IsAt, held_at, line_high, line_low};
 ghost use Rattle.family_rows.specs.Sources.{AreSources};
-ghost use Rattle.family_points.specs.Least.{AreAtLeast, AreLowsAt};
+ghost use Rattle.family_points.specs.Least.{AreAtLeast};
 ghost use Rattle.family_points.specs.Points.{cost_above};
-ghost use Rattle.family_points.specs.Separation.{base_point, base_points, depot_points};
+ghost use Rattle.family_points.specs.Separation.{base_points, depot_points};
 ghost use Rattle.family_points.specs.Choices.{IsShopVector};
 ghost use Rattle.family_rows.specs.Spots.{IsBaseAt};
 ghost use Rattle.family_rows.specs.Tabled.{AreTables, box_numbers, own_at};
+ghost use Rattle.family_floors.specs.Lows.{AreNoHigher, AreUnder, IsReached, IsSmallPrice, line_place, lower_of};
 
+use backorder_bounds::Walk;
 use family_numbers::Numbers;
-use family_numbers::own_part::{OwnPart, put_line_lows};
+use family_numbers::own_part::{OwnPart, line_walk};
 use family_points::family::shops_of;
 use family_points::order::ShopVector;
 use family_rows::base_at::BaseAt;
@@ -24,30 +26,71 @@ use hull::{Price, Score};
 use spares_input::SiteId;
 
 /// No Lagrangian of a base is larger.
-pub const MOST: u128 = 1 << 115;
+const MOST: u128 = 1 << 115;
 
-/// Sets `lows`, up to 64 numbers, to lower bounds on the line unit's backorders at a base, by its stock there, in units
-/// of 2^-48.
-pub fn put_lows(
-    lows: &mut [u64],
+/// Lower bounds on Lagrangians at two prices.
+#[derive(Clone, Copy, Drop)]
+pub struct Lows {
+    /// At the low price.
+    pub at_low: u128,
+    /// At the high price.
+    pub at_high: u128,
+}
+
+impl Lows {
+    /// The lower one at each price.
+    #[inline(always)]
+    fn lower(self, other: Lows) -> Lows
+        ensures { result ≡ lower_of self other }
+    {
+        Lows {
+            at_low: self.at_low.min(other.at_low),
+            at_high: self.at_high.min(other.at_high),
+        }
+    }
+
+    /// Whether a cost alone comes to no less at both prices.
+    #[inline(always)]
+    fn is_reached(self, low: Price, high: Price, cost: u64) -> bool
+        requires low { IsSmallPrice low }
+        requires high { IsSmallPrice high }
+        requires cost { cost ≤ 1000000000000 }
+        ensures { IsTrue result → IsReached self low high cost }
+    {
+        self.at_low <= low.p * u128::from(cost) && self.at_high <= high.p * u128::from(cost)
+    }
+}
+
+/// The Lagrangian of a cost and a score at a price.
+#[inline(always)]
+fn lagrangian(price: Price, cost: u64, scored: u128) -> u128
+    requires price { IsSmallPrice price }
+    requires cost { cost ≤ 1000000000000 }
+    requires scored { scored ≤ 2 ^ 74 }
+    ensures { result ≡ price.q * scored + price.p * cost }
+{
+    u128::from(price.q) * scored + price.p * u128::from(cost)
+}
+
+/// A walk with lower bounds on the line unit's backorders at a base, at its least stock there.
+fn walk_at(
     here: &BaseAt<'_, '_>,
     numbers: &Numbers<48>,
     tables: &DepotTables<'_>,
     own: &OwnPart<48>,
     shops: &[u8],
-)
-    requires few { length lows.old ≤ 64 }
+) -> Walk<48>
     requires here { IsBaseAt here.now }
     requires numbers { numbers.now ≡ box_numbers here.now.family.now }
     requires tables { AreTables numbers.now (drop 1 here.now.depot.now) tables.now }
     requires own { own.now ≡ own_at numbers.now here.now.depot.now here.now.site.0 }
     requires shops { AreShopsAt here.now.family.now here.now.site.0 shops.now }
-    ensures count { length lows.new ≡ length lows.old }
-    ensures lows { AreLowsAt here.now.family.now here.now.depot.now here.now.site.0 shops.now lows.new }
+    ensures { let x = here.now.family.now in let j = here.now.site.0 in
+        result ≡ line_place x here.now.depot.now j shops.now (line_low x j) }
 {
     let (site, depot) = (here.site, here.depot);
-    put_line_lows(
-        lows,
+    let _most = here.family.line_high(site);
+    let mut walk = line_walk(
         numbers,
         own,
         depot[0],
@@ -56,139 +99,119 @@ pub fn put_lows(
         tables.shops,
         shops,
     );
-}
-
-/// The Lagrangian of a cost and a score at a price.
-fn lagrangian(price: Price, cost: u64, scored: u128) -> u128
-    requires most_money { price.q ≤ 1000000000000 }
-    requires price { price.p ≤ 2 ^ 74 }
-    requires cost { cost ≤ 1000000000000 }
-    requires scored { scored ≤ 2 ^ 74 }
-    ensures value { result ≡ price.q * scored + price.p * cost }
-    ensures most { result ≤ 2 ^ 115 }
-{
-    u128::from(price.q) * scored + price.p * u128::from(cost)
-}
-
-/// A lower bound on the Lagrangian of a base at these stocks, from their cost and lower bounds on the line unit's
-/// backorders.
-fn low_at_stocks<S: Score>(
-    here: &BaseAt<'_, '_>,
-    score: &S,
-    lows: &[u64],
-    shops: &ShopVector,
-    line: u8,
-    cost: u64,
-    price: Price,
-) -> u128
-    requires here { IsBaseAt here.now }
-    requires shops { IsShopVector here.now.family.now here.now.site.0 shops.now }
-    requires least { line_low here.now.family.now here.now.site.0 ≤ line }
-    requires most { line ≤ line_high here.now.family.now here.now.site.0 }
-    requires long { line < length lows.now }
-    requires lows { AreLowsAt here.now.family.now here.now.depot.now here.now.site.0 shops.now.stocks lows.now }
-    requires cost { let x = here.now.family.now in
-        cost ≡ cost_above x.case (family x.case x.line) (held_at x here.now.site.0) (line ∷ shops.now.stocks) }
-    requires small { cost ≤ 9 * 6300000000 }
-    requires most_money { price.q ≤ 1000000000000 }
-    requires price { price.p ≤ 2 ^ 74 }
-    ensures low { let x = here.now.family.now in result ≤ lagrangian price.p price.q
-        (base_point x.case x.line S.ends x.held here.now.depot.now here.now.site.0 (line ∷ shops.now.stocks)) }
-    ensures most { result ≤ 2 ^ 115 }
-{
-    let scored = here.low(score, lows[usize::from(line)]);
-    lagrangian(price, cost, scored)
-}
-
-/// A lower bound on the Lagrangians of a base whose shop units have these stocks, from lower bounds on the line unit's
-/// backorders.
-pub fn least_low<S: Score>(
-    here: &BaseAt<'_, '_>,
-    score: &S,
-    lows: &[u64],
-    shops: &ShopVector,
-    price: Price,
-) -> u128
-    requires long { line_high here.now.family.now here.now.site.0 < length lows.now }
-    requires here { IsBaseAt here.now }
-    requires shops { IsShopVector here.now.family.now here.now.site.0 shops.now }
-    requires lows { AreLowsAt here.now.family.now here.now.depot.now here.now.site.0 shops.now.stocks lows.now }
-    requires most_money { price.q ≤ 1000000000000 }
-    requires price { price.p ≤ 2 ^ 74 }
-    ensures low { let x = here.now.family.now in let j = here.now.site.0 in
-        (s : ℕ) → line_low x j ≤ s → s ≤ line_high x j → result ≤ lagrangian price.p price.q
-        (base_point x.case x.line S.ends x.held here.now.depot.now j (s ∷ shops.now.stocks)) }
-    ensures most { result ≤ 2 ^ 115 }
-{
-    let family = here.family;
-    let _size = family.size();
-    let low = family.line_low(here.site);
-    let high = family.line_high(here.site);
-    let each = family.line_cost();
-    let mut least = MOST;
-    for s in low..high + 1 {
-        let cost = shops.cost + u64::from(s - low) * each;
-        least = least.min(low_at_stocks(here, score, lows, shops, s, cost, price));
+    for _k in 0..here.family.line_low(site) {
+        walk.advance();
     }
-    least
+    walk
 }
 
-/// A lower bound on the Lagrangians of a base whose shop units have these stocks; `lows` is overwritten.
-fn low_at_shops<S: Score>(
-    lows: &mut [u64],
+/// Lower bounds on the Lagrangian of a base at the stock of a walk and these of the shop units, which cost `cost`.
+fn lows_at_stocks<S: Score>(
+    here: &BaseAt<'_, '_>,
+    score: &S,
+    walk: &Walk<48>,
+    shops: &ShopVector,
+    cost: u64,
+    low: Price,
+    high: Price,
+) -> Lows
+    requires here { IsBaseAt here.now }
+    requires shops { IsShopVector here.now.family.now here.now.site.0 shops.now }
+    requires walk { let x = here.now.family.now in let j = here.now.site.0 in
+        walk.now ≡ line_place x here.now.depot.now j shops.now.stocks walk.now.stock }
+    requires least { line_low here.now.family.now here.now.site.0 ≤ walk.now.stock }
+    requires most { walk.now.stock ≤ line_high here.now.family.now here.now.site.0 }
+    requires cost { let x = here.now.family.now in
+        cost ≡ cost_above x.case (family x.case x.line) (held_at x here.now.site.0)
+        (walk.now.stock ∷ shops.now.stocks) }
+    requires small { cost ≤ 56700000000 }
+    requires low { IsSmallPrice low }
+    requires high { IsSmallPrice high }
+    ensures { AreUnder here.now.family.now S.ends here.now.depot.now here.now.site.0 low high shops.now.stocks
+        walk.now.stock result }
+{
+    let scored = here.low(score, walk.low());
+    Lows {
+        at_low: lagrangian(low, cost, scored),
+        at_high: lagrangian(high, cost, scored),
+    }
+}
+
+/// The lower of `least` and of lower bounds on the Lagrangians of a base whose shop units have these stocks. Bounds are
+/// made only as long as the cost alone comes to less at one of the prices.
+fn lower_at_shops<S: Score>(
+    least: Lows,
     here: &BaseAt<'_, '_>,
     score: &S,
     numbers: &Numbers<48>,
     tables: &DepotTables<'_>,
     own: &OwnPart<48>,
     shops: &ShopVector,
-    price: Price,
-) -> u128
-    requires few { length lows.old ≤ 64 }
-    requires long { line_high here.now.family.now here.now.site.0 < length lows.old }
+    low: Price,
+    high: Price,
+) -> Lows
     requires here { IsBaseAt here.now }
     requires numbers { numbers.now ≡ box_numbers here.now.family.now }
     requires tables { AreTables numbers.now (drop 1 here.now.depot.now) tables.now }
     requires own { own.now ≡ own_at numbers.now here.now.depot.now here.now.site.0 }
     requires shops { IsShopVector here.now.family.now here.now.site.0 shops.now }
-    requires most_money { price.q ≤ 1000000000000 }
-    requires price { price.p ≤ 2 ^ 74 }
-    ensures low { let x = here.now.family.now in let j = here.now.site.0 in
-        (s : ℕ) → line_low x j ≤ s → s ≤ line_high x j → result ≤ lagrangian price.p price.q
-        (base_point x.case x.line S.ends x.held here.now.depot.now j (s ∷ shops.now.stocks)) }
-    ensures most { result ≤ 2 ^ 115 }
-    ensures count { length lows.new ≡ length lows.old }
+    requires low { IsSmallPrice low }
+    requires high { IsSmallPrice high }
+    ensures lower { AreNoHigher result least }
+    ensures under { let x = here.now.family.now in let j = here.now.site.0 in
+        (s : ℕ) → line_low x j ≤ s → s ≤ line_high x j
+        → AreUnder x S.ends here.now.depot.now j low high shops.now.stocks s result }
 {
-    put_lows(lows, here, numbers, tables, own, shops.stocks.as_slice());
-    least_low(here, score, lows, shops, price)
+    let family = here.family;
+    let _size = family.size();
+    let first = family.line_low(here.site);
+    let last = family.line_high(here.site);
+    let each = family.line_cost();
+    if least.is_reached(low, high, shops.cost) {
+        return least;
+    }
+    let mut walk = walk_at(here, numbers, tables, own, shops.stocks.as_slice());
+    let mut found = least.lower(lows_at_stocks(here, score, &walk, shops, shops.cost, low, high));
+    for s in first..last {
+        let cost = shops.cost + u64::from(s + 1 - first) * each;
+        if found.is_reached(low, high, cost) {
+            return found;
+        }
+        walk.advance();
+        found = found.lower(lows_at_stocks(here, score, &walk, shops, cost, low, high));
+    }
+    found
 }
 
-/// A lower bound on the Lagrangians of a base.
-fn low_at_base<S: Score>(
+/// Lower bounds on the Lagrangians of a base.
+pub fn lows_at_base<S: Score>(
     here: &BaseAt<'_, '_>,
     score: &S,
     numbers: &Numbers<48>,
     tables: &DepotTables<'_>,
-    price: Price,
-) -> u128
+    low: Price,
+    high: Price,
+) -> Lows
     requires here { IsBaseAt here.now }
     requires numbers { numbers.now ≡ box_numbers here.now.family.now }
     requires tables { AreTables numbers.now (drop 1 here.now.depot.now) tables.now }
-    requires most_money { price.q ≤ 1000000000000 }
-    requires price { price.p ≤ 2 ^ 74 }
-    ensures low { let x = here.now.family.now in AreAtLeast price.p price.q result
+    requires low { IsSmallPrice low }
+    requires high { IsSmallPrice high }
+    ensures at_low { let x = here.now.family.now in AreAtLeast low.p low.q result.at_low
         (base_points x.case x.line S.ends x.held x.low x.high here.now.depot.now here.now.site.0) }
-    ensures most { result ≤ 2 ^ 115 }
+    ensures at_high { let x = here.now.family.now in AreAtLeast high.p high.q result.at_high
+        (base_points x.case x.line S.ends x.held x.low x.high here.now.depot.now here.now.site.0) }
+    ensures most { (result.at_low ≤ 2 ^ 115) × (result.at_high ≤ 2 ^ 115) }
 {
     let _size = here.family.size();
     let own = own_at(here, numbers, tables);
-    let high = here.family.line_high(here.site);
-    let mut buffer = [0; 64];
-    let lows = &mut buffer[..usize::from(high) + 1];
-    let mut least = MOST;
+    let mut least = Lows {
+        at_low: MOST,
+        at_high: MOST,
+    };
     for n in 0..here.base.shops.len() {
         let shops = &here.base.shops[n];
-        least = least.min(low_at_shops(lows, here, score, numbers, tables, &own, shops, price));
+        least = lower_at_shops(least, here, score, numbers, tables, &own, shops, low, high);
     }
     least
 }
@@ -214,7 +237,7 @@ pub(crate) fn low_at_depot<S: Score>(
     for j in 1..sources.family.sites() {
         let base = &sources.bases[usize::from(j) - 1];
         let here = BaseAt::of(sources.family, depot, SiteId(j), base);
-        low += low_at_base(&here, score, &sources.numbers, tables, price);
+        low += lows_at_base(&here, score, &sources.numbers, tables, price, price).at_low;
     }
     low
 }

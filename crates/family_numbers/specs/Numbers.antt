@@ -6,7 +6,7 @@ use Rattle.fixed_interval.specs.Ends.{Ends, IsWithinLimit, ends_exact, ends_rati
 use Rattle.moment_table.specs.declared.kinds.Row.{Row}
 use Rattle.moment_table.specs.Profile.{table_rows}
 use Rattle.moment_table.specs.Rows.{TableRows, at_stock, AreBackorders}
-use Rattle.backorder_bounds.specs.Lows.{AreLows}
+use Rattle.backorder_bounds.specs.Places.{Place}
 use Rattle.depot_pipeline.specs.declared.Moments.{Moments}
 use Rattle.depot_pipeline.specs.declared.Feed.{Feed}
 use Rattle.depot_pipeline.specs.Profile.{depot_shop_ends, depot_line_ends}
@@ -181,10 +181,13 @@ AreBaseBackorders f x k o d b list =
     AreBackorders f (base_line_moments f x k o d b).mean (base_line_moments f x k o d b).variance
     (pair_at x 0 k).limit list
 
--- lower bounds on these backorders, by the line unit's stock at base k
-abbrev pub AreBaseLows : (f : ℕ) → FamilyNumbers f → ℕ → ℕ → List ℕ → List ℕ → List ℕ → Type 0
-AreBaseLows f x k o d b lows =
-    AreLows f (base_line_moments f x k o d b).mean (base_line_moments f x k o d b).variance lows
+-- its stock s there in the table of its pipeline
+abbrev pub base_line_place : (f : ℕ) → FamilyNumbers f → ℕ → ℕ → List ℕ → List ℕ → ℕ → Place
+base_line_place f x k o d b s = record {
+  mean = (base_line_moments f x k o d b).mean;
+  variance = (base_line_moments f x k o d b).variance;
+  stock = s;
+}
 
 -- ---- the stocks of a case
 

@@ -4,13 +4,13 @@
 ghost use Rattle.std.specs.Prelude.{◌≡◌, ◌-◌, ◌*◌, ◌^◌, ◌<◌, ◌≤◌, OnOk, length, All};
 ghost use Rattle.fixed_interval.specs.Ends.{IsWithinLimit};
 ghost use Rattle.family_numbers.specs.BaseTables.{HaveShops};
-ghost use Rattle.family_numbers.specs.Numbers.{AreBaseBackorders, AreBaseLows, base_line_moments, depot_line_table, own_part};
+ghost use Rattle.family_numbers.specs.Numbers.{AreBaseBackorders, base_line_moments, base_line_place, depot_line_table, own_part};
 
 use crate::base_shops::{BaseShops, table_of};
 use crate::numbers::Numbers;
 use crate::pair_tables::feed_from;
 use answers::NoMemory;
-use backorder_bounds::put_lows;
+use backorder_bounds::Walk;
 use base_pipeline::base_own;
 use depot_pipeline::Moments;
 use moment_table::kinds::Table;
@@ -115,10 +115,9 @@ pub fn put_line_backorders<const F: u32>(
     put_backorders(found, moments.mean, moments.variance, part.limit)
 }
 
-/// Sets `lows`, up to 64 numbers, to lower bounds on the line unit's backorders at a base, by its stock there; the
-/// other arguments are as in [`put_line_backorders`].
-pub fn put_line_lows<const F: u32>(
-    lows: &mut [u64],
+/// A walk over the line unit's stocks at a base, at the stock 0, with lower bounds on its backorders there; the
+/// arguments are as in [`put_line_backorders`].
+pub fn line_walk<const F: u32>(
     numbers: &Numbers<F>,
     part: &OwnPart<F>,
     own: u8,
@@ -126,8 +125,7 @@ pub fn put_line_lows<const F: u32>(
     site: SiteId,
     tables: &BaseShops<F>,
     base: &[u8],
-)
-    requires few { length lows.old ≤ 64 }
+) -> Walk<F>
     requires part { part.now ≡ own_part F numbers.now site.0 own depot.now }
     requires own { own ≤ 63 }
     requires base { 0 < site.0 }
@@ -135,10 +133,9 @@ pub fn put_line_lows<const F: u32>(
     requires tables { HaveShops F numbers.now depot.now tables.now }
     requires count { length base.now ≡ length numbers.now.parts - 1 }
     requires stocks { All (λ n. n ≤ 63) base.now }
-    ensures count { length lows.new ≡ length lows.old }
-    ensures lows { AreBaseLows F numbers.now site.0 own depot.now base.now lows.new }
+    ensures { result ≡ base_line_place F numbers.now site.0 own depot.now base.now 0 }
 {
     let _valid = numbers.sites();
     let moments = line_moments(numbers, part, own, depot, site, tables, base);
-    put_lows(lows, moments.mean, moments.variance);
+    Walk::of(moments.mean, moments.variance)
 }

@@ -10,9 +10,9 @@ ghost use Rattle.family_points.specs.Points.{AreOrdered};
 ghost use Rattle.family_rows.specs.Sources.{AreSources};
 ghost use Rattle.family_rows.specs.Tabled.{AreTables};
 
-use crate::lows::{Lows, lows_at_base};
 use answers::NoMemory;
 use demand_rates::kinds::Rates;
+use family_floors::lows::{Lows, lows_at_base};
 use family_points::bounds::Bounds;
 use family_points::family::{Family, joined};
 use family_rows::base_at::BaseAt;

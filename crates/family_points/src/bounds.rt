@@ -13,7 +13,7 @@ use std::alloc::Global;
 /// The vectors of a family that a curve considers, and the stocks that are held already and cost nothing. The lists are
 /// in the order of a vector: site by site, the depot first, and at each site the line unit and then its shop units in
 /// part order.
-#[derive(Debug, Drop)]
+#[derive(Drop)]
 pub struct Bounds {
     /// The stocks held already.
     pub held: List<u8>,

@@ -210,8 +210,7 @@ impl<'a> Family<'a> {
         let _size = self.size();
         let low = shops_of(self.low(site));
         let high = shops_of(self.high(site));
-        let vector = vector_at(alloc, low, high, number)?;
-        Ok(vector)
+        vector_at(alloc, low, high, number)
     }
 
     /// The cost of stocks at a site, as far as they exceed those held.

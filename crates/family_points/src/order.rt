@@ -41,6 +41,30 @@ pub struct Base {
     pub order: Vec<Choice>,
 }
 
+/// The `n`-th vector of the shop units' stocks at a base, with its cost.
+fn shops_at(
+    alloc: Global,
+    family: &Family<'_>,
+    site: SiteId,
+    number: u64,
+) -> Result<ShopVector, NoMemory>
+    requires site { IsBase family.now.case site.0 }
+    requires within { number < length (shop_vectors family.now site.0) }
+    ensures stocks { IfOk result (λ s. s.stocks ≡ get_or (shop_vectors family.now site.0) number []) }
+    ensures costs { IfOk result (IsShopVector family.now site.0) }
+{
+    let _size = family.size();
+    let low = family.line_low(site);
+    let _high = family.line_high(site);
+    let stocks = family.shop_vector(alloc, site, number)?;
+    let whole = joined(alloc, low, stocks.as_slice())?;
+    let cost = family.cost(site, whole.as_slice());
+    Ok(ShopVector {
+        cost,
+        stocks: List::of(stocks),
+    })
+}
+
 /// All vectors of the shop units' stocks at a base.
 fn shops_of_base(
     alloc: Global,
@@ -51,18 +75,10 @@ fn shops_of_base(
     ensures stocks { IfOk result (λ v. map (λ (s : ShopVector). s.stocks) v.items ≡ shop_vectors family.now site.0) }
     ensures costs { IfOk result (λ v. All (IsShopVector family.now site.0) v.items) }
 {
-    let _size = family.size();
-    let low = family.line_low(site);
-    let _high = family.line_high(site);
     let count = family.shop_count(site);
     let mut shops = Vec::new(alloc);
     for n in 0..count {
-        let stocks = family.shop_vector(alloc, site, n)?;
-        let whole = joined(alloc, low, stocks.as_slice())?;
-        let places = whole.as_slice();
-        let cost = family.cost(site, places);
-        let stocks = List::of(stocks);
-        shops.push(ShopVector { cost, stocks })?;
+        shops.push(shops_at(alloc, family, site, n)?)?;
     }
     Ok(shops)
 }

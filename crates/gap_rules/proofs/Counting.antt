@@ -1,5 +1,5 @@
 -- How the tables of a cover are counted, node by node.
-use Rattle.std.proofs.Common.{◌≡◌, ℕ, zero, suc, ◌+◌, ◌<◌, ◌≤◌, min, List, [], ◌∷◌, length, drop, get_or, reverse, Option, Some, None, refl, sym, ap, ◌∙◌, arith, zero-add}
+use Rattle.std.proofs.Common.{◌≡◌, ℕ, zero, suc, ◌+◌, ◌<◌, ◌≤◌, min, List, [], ◌∷◌, ◌++◌, inl, inr, subst, length, drop, get_or, reverse, Option, Some, None, refl, sym, ap, ◌∙◌, arith, zero-add}
 use Rattle.std.specs.Option.{option_map}
 use Rattle.std.proofs.lemmas.List.Sums.{sum_by-cons}
 use Rattle.std.proofs.lemmas.List.{length-reverse, drop_all}
@@ -11,9 +11,10 @@ use Rattle.price_certificate.specs.declared.certificate.Node.TheVariants.{Split}
 use Rattle.gap_rules.specs.declared.leaf.Leaf.{Leaf}
 use Rattle.gap_rules.specs.declared.reading.Read.{Read}
 use Rattle.gap_rules.specs.declared.reading.Read.TheVariants as read
-use Rattle.gap_rules.specs.Covers.{leaves}
+use Rattle.gap_rules.specs.Boxes.{IsOrdered}
+use Rattle.gap_rules.specs.Covers.{leaves, box_of}
 use Rattle.gap_rules.specs.Values.{leaf_tables, cover_tables}
-use Rattle.gap_rules.specs.Reading.{joined, Reads, AllOrdered, KeepsOrder}
+use Rattle.gap_rules.specs.Reading.{joined, Reads, AllOrdered, IsOrderedRead, KeepsOrder}
 
 -- the tables counted so far and those of the leaves to come
 abbrev pub with_more : CaseRows → ℕ → ℕ → Option (List Leaf) → Option ℕ
@@ -54,6 +55,26 @@ module _ (c : CaseRows) (l : ℕ) where
       ∙ ap (λ z. Some z) (cap_step t (leaf_tables c l x) (cover_tables c l ls))
       ∙ ap (λ z. Some (count64 (t + z))) (sym (sum_by-cons (leaf_tables c l) x ls))
 
+  one_ordered : (bounds : Bounds) → IsOrdered c l bounds → AllOrdered c l (bounds ∷ [])
+  one_ordered bounds h box m = elim m [
+    | inl e ↦ subst (λ z. IsOrdered c l z) (sym e) h
+    | inr n ↦ absurd n
+  ]
+
+  -- before the first node the box alone waits
+  pub counted_start : (bounds : Bounds) (nodes : List Node) (none waiting : List Bounds) → none ≡ [] → waiting ≡ none ++ bounds ∷ [] → IsOrdered c l bounds → Counted c l bounds nodes 0 waiting 0
+  counted_start bounds nodes none waiting e f h =
+      let all : waiting ≡ bounds ∷ [] = f ∙ ap (λ z. z ++ bounds ∷ []) e in
+      record {
+        counts = ap (λ z. with_more c l 0 (leaves nodes (reverse z))) all;
+        ordered = subst (λ z. AllOrdered c l z) (sym all) (one_ordered bounds h);
+        small = omega arith;
+      }
+
+  -- the box of a leaf that is read is ordered
+  pub leaf_ordered : (before after : List Bounds) (r : Read) (x : Leaf) → AllOrdered c l before → KeepsOrder before r after → r ≡ read.Leaf x → IsOrdered c l (box_of x)
+  leaf_ordered before after r x all keeps e = subst (λ z. IsOrderedRead c l z) e (keeps c l all).1
+
   -- a node that makes no leaf leaves the count as it was
   pub counted_inner : (bounds : Bounds) (nodes : List Node) (k : ℕ) (before after : List Bounds) (r : Read) (t now : ℕ) → Counted c l bounds nodes k before t → k < length nodes
       → Reads before (get_or nodes k (Split 0 0)) r after → KeepsOrder before r after → r ≡ read.Inner → now ≡ t → Counted c l bounds nodes (k + 1) after now
@@ -80,6 +101,13 @@ module _ (c : CaseRows) (l : ℕ) where
   from_zero : (o : Option (List Leaf)) → with_more c l 0 o ≡ option_map (λ ls. count64 (cover_tables c l ls)) o
   from_zero None = refl
   from_zero (Some ls) = ap (λ z. Some (count64 z)) (zero-add (cover_tables c l ls))
+
+  -- where a gap is read, the nodes are no tree
+  pub counted_gap : (bounds : Bounds) (nodes : List Node) (k : ℕ) (before after : List Bounds) (r : Read) (t : ℕ) → Counted c l bounds nodes k before t → k < length nodes
+      → Reads before (get_or nodes k (Split 0 0)) r after → r ≡ read.Gap → None ≡ option_map (λ ls. count64 (cover_tables c l ls)) (leaves nodes (bounds ∷ []))
+  counted_gap bounds nodes k before after r t h b reads e =
+      sym (ap (λ z. with_more c l t z) (advance nodes k before after r b reads ∙ ap (λ z. joined z (leaves (drop (k + 1) nodes) (reverse after))) e))
+      ∙ h.counts ∙ from_zero (leaves nodes (bounds ∷ []))
 
   at_cap : (t : ℕ) → t ≤ 18446744073709551615 → t ≡ min (t + 0) 18446744073709551615
   at_cap t h = omega arith

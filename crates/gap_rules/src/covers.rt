@@ -62,9 +62,10 @@ pub fn work_of(
 {
     let mut work: u64 = 0;
     for f in 0..lines.len() {
-        match family_work(alloc, cert, held, f as u32, lines[f])? {
+        let family = f as u32;
+        match family_work(alloc, cert, held, family, lines[f])? {
             Some(tables) => work = work.saturating_add(tables),
-            None => return Err(Stop::Fault(Reject::CoverGap { family: f as u32 })),
+            None => return Err(Stop::Fault(Reject::CoverGap { family })),
         }
     }
     Ok(work)

@@ -2,7 +2,8 @@
 //!
 //! Each split leaves both of its parts fewer vectors, so at most 9,073 boxes wait at once.
 
-ghost use Rattle.std.specs.Prelude.{◌≡◌, IfOk, get_or, set};
+ghost use Rattle.std.specs.Prelude.{◌≡◌, ◌<◌, ◌∷◌, ◌++◌, [], IfOk, OnOk, get_or, set};
+ghost use Rattle.gap_rules.specs.Covers.{fewer, as_many};
 ghost use Rattle.gap_rules.specs.Reading.{parts_at, Reads, KeepsOrder};
 
 use crate::leaf::Leaf;
@@ -12,7 +13,7 @@ use price_certificate::Node;
 use std::alloc::Global;
 
 /// The kind of a node in its cover: a gap (no part of a tree), a split, or a leaf.
-#[derive(Debug, Drop)]
+#[derive(Drop)]
 pub enum Read {
     Gap,
     Inner,
@@ -45,6 +46,40 @@ fn with(alloc: Global, vector: &[u8], at: usize, stock: u8) -> Result<List<u8>, 
     Ok(List::of(copy))
 }
 
+/// The vectors of a box with fewer than `from` at a place.
+fn fewer(alloc: Global, bounds: &Bounds, at: usize, from: u8) -> Result<Bounds, NoMemory>
+    requires { 0 < from }
+    ensures { IfOk result (λ part. part ≡ fewer bounds.now at from) }
+{
+    Ok(Bounds {
+        held: same(alloc, bounds.held.as_slice())?,
+        low: same(alloc, bounds.low.as_slice())?,
+        high: with(alloc, bounds.high.as_slice(), at, from - 1)?,
+    })
+}
+
+/// The vectors of a box with `from` or more at a place.
+fn as_many(alloc: Global, bounds: Bounds, at: usize, from: u8) -> Result<Bounds, NoMemory>
+    ensures { IfOk result (λ part. part ≡ as_many bounds at from) }
+{
+    let low = with(alloc, bounds.low.as_slice(), at, from)?;
+    Ok(Bounds {
+        held: bounds.held,
+        low,
+        high: bounds.high,
+    })
+}
+
+/// The vectors with fewer than `from` at a place, and those with `from` or more.
+fn split(alloc: Global, bounds: Bounds, at: usize, from: u8) -> Result<(Bounds, Bounds), NoMemory>
+    requires { 0 < from }
+    ensures { IfOk result (λ parts. parts ≡ (fewer bounds at from, as_many bounds at from)) }
+{
+    let fewer = fewer(alloc, &bounds, at, from)?;
+    let as_many = as_many(alloc, bounds, at, from)?;
+    Ok((fewer, as_many))
+}
+
 /// The two parts of a box at a place, if both have vectors.
 fn parts(
     alloc: Global,
@@ -57,20 +92,19 @@ fn parts(
     let low = stock_at(bounds.low.as_slice(), at);
     let high = stock_at(bounds.high.as_slice(), at);
     if low < from && from <= high {
-        let fewer = Bounds {
-            held: same(alloc, bounds.held.as_slice())?,
-            low: same(alloc, bounds.low.as_slice())?,
-            high: with(alloc, bounds.high.as_slice(), at, from - 1)?,
-        };
-        let as_many = Bounds {
-            held: bounds.held,
-            low: with(alloc, bounds.low.as_slice(), at, from)?,
-            high: bounds.high,
-        };
-        Ok(Some((fewer, as_many)))
+        Ok(Some(split(alloc, bounds, at, from)?))
     } else {
         Ok(None)
     }
+}
+
+/// Makes the two parts of a box wait, the first one last.
+fn wait(waiting: &mut Vec<Bounds>, fewer: Bounds, as_many: Bounds) -> Result<(), NoMemory>
+    ensures { OnOk result (waiting.new.items ≡ (waiting.old.items ++ as_many ∷ []) ++ fewer ∷ []) }
+{
+    waiting.push(as_many)?;
+    waiting.push(fewer)?;
+    Ok(())
 }
 
 /// Reads a node for the last waiting box.
@@ -84,8 +118,7 @@ pub fn read_node(alloc: Global, waiting: &mut Vec<Bounds>, node: Node) -> Result
     match node {
         Node::Split { at, from } => match parts(alloc, bounds, usize::from(at), from)? {
             Some((fewer, as_many)) => {
-                waiting.push(as_many)?;
-                waiting.push(fewer)?;
+                wait(waiting, fewer, as_many)?;
                 Ok(Read::Inner)
             }
             None => Ok(Read::Gap),

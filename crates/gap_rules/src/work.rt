@@ -17,14 +17,14 @@ use spares_input::{Case, PartId};
 use std::alloc::Global;
 
 /// The tables of a leaf, or 2^64 - 1 if it takes more.
-fn leaf_tables(case: &Case, line: PartId, leaf: &Leaf) -> u64
+fn leaf_tables(case: &Case, line: PartId, leaf: Leaf) -> u64
     requires line { IsLine case.now line.0 }
-    requires ordered { IsOrdered case.now line.0 (box_of leaf.now) }
-    ensures { result ≡ count64 (leaf_tables case.now line.0 leaf.now) }
+    requires ordered { IsOrdered case.now line.0 (box_of leaf) }
+    ensures { result ≡ count64 (leaf_tables case.now line.0 leaf) }
 {
     match leaf {
         Leaf::Cost(_) => 0,
-        Leaf::Whole(bounds) => tables_within(case, line, bounds),
+        Leaf::Whole(bounds) => tables_within(case, line, &bounds),
     }
 }
 
@@ -49,7 +49,7 @@ pub fn cover_tables(
             Read::Gap => return Ok(None),
             Read::Inner => {}
             Read::Leaf(leaf) => {
-                tables = tables.saturating_add(leaf_tables(case, line, &leaf));
+                tables = tables.saturating_add(leaf_tables(case, line, leaf));
             }
         }
     }

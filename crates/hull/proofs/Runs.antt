@@ -153,6 +153,7 @@ steps_at (x ∷ y ∷ xs) c (suc k) h d e =
     let n : suc k + 1 ≡ suc (k + 1) = omega arith in
     subst (λ m. Steps (get_or (y ∷ xs) k d) (get_or (x ∷ y ∷ xs) m e)) (sym n) r
 
+-- within a list the value for what is not there doesn't matter
 pub same_default : (xs : List Point) (k : ℕ) (d e : Point) → k < length xs → get_or xs k d ≡ get_or xs k e
 same_default [] k d e h = absurd (let l : k < 0 = h in omega arith)
 same_default (x ∷ xs) zero d e h = refl

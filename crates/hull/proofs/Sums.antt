@@ -254,6 +254,7 @@ pub record Walked (a b path left right : List Point) : Type 0 where
   pub right_some : 0 < length right
   pub few : length path + length left + length right ≤ length a + length b
 
+-- at the start of both curves nothing is behind the walk
 pub walk_begins : (a b : List Point) → IsChain a → IsChain b → 0 < length a → 0 < length b → Walked a b [] a b
 walk_begins a b c d m n = record { passed = path_begins a b; left_chain = c; right_chain = d; left_some = m; right_some = n; few = omega arith }
 

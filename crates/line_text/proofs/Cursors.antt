@@ -144,6 +144,7 @@ line_value fields (l ∷ ls) fs (Some a) h k = rw (line_at fields ls l (unended 
 pub line_read : {A : Type 0} (fields : Format A) (ts fs : List Token) (a : A) (rest : List Token) → first_fields ts ≡ Some fs → Some a ≡ accepted (read_all fields fs) → rest ≡ later ts → (one (line fields)).read ts ≡ Ok (a, rest)
 line_read fields ts fs a rest h k e = rw e (line_value fields ts fs (Some a) h k)
 
+-- a line whose fields are not of the format is the first bad one
 pub line_refused : {A : Type 0} (fields : Format A) (ts fs : List Token) → first_fields ts ≡ Some fs → None ≡ accepted (read_all fields fs) → (one (line fields)).read ts ≡ Err ts
 line_refused fields ts fs h k = line_value fields ts fs None h k
 
@@ -151,6 +152,7 @@ unended_none : {A : Type 0} (fields : Format A) (l : Token) (o : Option Token) �
 unended_none fields l None e h = rw e refl
 unended_none fields l (Some t) e h = absurd cc
 
+-- where no line is left with its line feed, the first bad line is here
 pub line_missing : {A : Type 0} (fields : Format A) (ts : List Token) → first_fields ts ≡ None → (one (line fields)).read ts ≡ Err ts
 line_missing fields [] h = refl
 line_missing fields (l ∷ ls) h = rw (unended_none fields l (unended l) refl h) refl

@@ -1,7 +1,7 @@
 -- Sums of ends as loops make them.
-use Rattle.std.proofs.Common.{◌≡◌, ℕ, zero, suc, ◌+◌, ◌*◌, ◌^◌, ◌<◌, ◌≤◌, Bool, true, false, List, [], ◌∷◌, length, get_or, map, filter, Option, Some, None, refl, sym, ap, ap₂, ◌∙◌, subst, arith, mul-le-mul_left, zero-add}
+use Rattle.std.proofs.Common.{◌≡◌, ℕ, zero, suc, ◌+◌, ◌*◌, ◌^◌, ◌<◌, ◌≤◌, Bool, true, false, List, [], ◌∷◌, ◌++◌, length, take, get_or, map, filter, Option, Some, None, refl, sym, ap, ap₂, ◌∙◌, subst, arith, mul-le-mul_left, zero-add}
 use Rattle.std.specs.List.{fold, range_with_len}
-use Rattle.std.proofs.lemmas.List.{map_push}
+use Rattle.std.proofs.lemmas.List.{map_more, map_push, take_all}
 use Rattle.std.proofs.lemmas.List.Sums.{fold-append}
 use Rattle.std.proofs.lemmas.List.FromFn.{get_or-range_with_len, length-range_with_len, map-range_with_len_more}
 use Rattle.fixed_interval.specs.Ends.{Ends, IsWithinLimit, ends_add, ends_capped, ends_exact}
@@ -119,3 +119,14 @@ line_less h t n most x lines off = record {
   is = lines.is ∙ sym (ap (λ ls. fold ends_add (ends_exact 48 0) (map h ls)) (left_out t n off));
   top = omega (arith, lines.top);
 }
+
+-- ---- a loop that puts a value for each item
+
+-- one item more is read, and its value put at the end
+pub taken_more : {X Y : Type 0} (f : X → Y) (xs : List X) (i : ℕ) (d : X) (old new : List Y) (y : Y) → i < length xs → new ≡ old ++ y ∷ [] → old ≡ map f (take i xs) → y ≡ f (get_or xs i d)
+    → new ≡ map f (take (i + 1) xs)
+taken_more f xs i d old new y inside put before is = put ∙ ap₂ (λ l z. l ++ z ∷ []) before is ∙ sym (map_more f xs i d inside)
+
+-- all items were read
+pub taken_all : {X Y : Type 0} (f : X → Y) (xs : List X) (i : ℕ) (ys : List Y) → length xs ≤ i → ys ≡ map f (take i xs) → ys ≡ map f xs
+taken_all f xs i ys all is = is ∙ ap (map f) (take_all i xs all)

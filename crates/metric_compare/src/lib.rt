@@ -6,26 +6,29 @@
 //! METRIC leaves out.
 #![tactic(auto)]
 
-ghost use Rattle.std.specs.Prelude.{◌≡◌, ℕ, ◌<◌, IfOk, length};
+ghost use Rattle.std.specs.Prelude.{◌≡◌, ℕ, ◌<◌, IfOk, length, map};
+ghost use Rattle.std.specs.List.{range_with_len};
 ghost use Rattle.exact_model.specs.Fraction.{Encloses};
-ghost use Rattle.spares_input.specs.Cases.{CaseRows};
+ghost use Rattle.spares_input.specs.Cases.{CaseRows, frame_rows, pair_count};
 ghost use Rattle.spares_input.specs.Stocks.{StockList};
 ghost use Rattle.demand_rates.specs.Rates.{AreRatesOf};
 ghost use Rattle.fleet_model.specs.Poisson.{poisson, poisson_total};
 ghost use Rattle.family_items.specs.Encloses.{CanEvaluate};
 ghost use Rattle.metric_compare.specs.Profile.{poisson_of, poisson_total_of};
-ghost use Rattle.metric_compare.specs.Report.{comparison_of};
+ghost use Rattle.case_figures.specs.Figures.{figures_of};
+ghost use Rattle.metric_compare.specs.Levels.{poisson_numbers};
+ghost use Rattle.metric_compare.specs.Report.{compared_at, comparison_of};
 ghost use Rattle.metric_compare.specs.Shows.{ShowsComparison};
 ghost use Rattle.metric_compare.specs.Fits.{FitsComparison};
 
-use crate::rows::all_numbers;
-use crate::shops::shop_numbers;
+use crate::rows::numbers_of;
 use crate::totals::poisson_total;
 use answers::{List, NoMemory};
-use case_figures::figures_at;
+use case_figures::{Figures, figures_at};
 use demand_rates::kinds::Rates;
 use family_eval::evaluate_all;
 use family_items::inputs::Inputs;
+use fixed_interval::Iv;
 use spares_input::{Case, Stocks};
 use std::alloc::Global;
 
@@ -55,6 +58,49 @@ pub fn comparisons_enclose()
     ensures printed { (c : CaseRows) (s : StockList) → CanEvaluate 48 c s → FitsComparison (comparison_of c s) }
 {}
 
+/// The figures of a case at its stocks.
+fn figures_of(
+    alloc: Global,
+    case: &Case,
+    rates: &Rates,
+    stocks: &Stocks,
+) -> Result<Figures, NoMemory>
+    requires inputs { CanEvaluate 48 case.now stocks.now }
+    requires rates { AreRatesOf case.now rates.now }
+    ensures { IfOk result (λ figures. figures ≡ figures_of 48 case.now stocks.now) }
+{
+    let families = evaluate_all::<48>(alloc, case, rates, stocks)?;
+    figures_at::<48>(alloc, case, families.as_slice(), stocks)
+}
+
+/// The line of each pair, from the figures and the Poisson backorders.
+fn compared_items(
+    alloc: Global,
+    inputs: &Inputs<'_>,
+    figures: &Figures,
+    poisson: &[Iv<48>],
+) -> Result<Vec<CompareItem>, NoMemory>
+    requires figures { figures.now ≡ figures_of 48 inputs.now.case inputs.now.stocks }
+    requires poisson { poisson.now ≡ poisson_numbers inputs.now.case inputs.now.stocks.list }
+    ensures { IfOk result (λ v. v.items ≡ map (compared_at inputs.now.case inputs.now.stocks.list)
+        (range_with_len 0 (pair_count (frame_rows inputs.now.case)))) }
+{
+    let _sites = inputs.sites();
+    let lines = &figures.items;
+    let mut items = Vec::new(alloc);
+    for i in 0..lines.len() {
+        let line = lines.get(i);
+        items.push(CompareItem {
+            part: line.part,
+            site: line.site,
+            stock: line.stock,
+            backorders: line.backorders.interval(),
+            poisson: poisson[i],
+        })?;
+    }
+    Ok(items)
+}
+
 /// The backorders of a case at its stocks beside those with Poisson pipelines, by part and then by site, and the two
 /// weighted totals.
 ///
@@ -73,23 +119,10 @@ pub fn compare(
     ensures printed { IfOk result FitsComparison }
 {
     let inputs = Inputs::of(case, rates, stocks);
-    let shops = shop_numbers(alloc, &inputs)?;
-    let numbers = all_numbers(alloc, &inputs, shops.as_slice())?;
+    let numbers = numbers_of(alloc, &inputs)?;
     let poisson = numbers.as_slice();
-    let families = evaluate_all::<48>(alloc, case, rates, stocks)?;
-    let figures = figures_at::<48>(alloc, case, families.as_slice(), stocks)?;
-    let lines = &figures.items;
-    let mut items = Vec::new(alloc);
-    for i in 0..lines.len() {
-        let line = lines.get(i);
-        items.push(CompareItem {
-            part: line.part,
-            site: line.site,
-            stock: line.stock,
-            backorders: line.backorders.interval(),
-            poisson: poisson[i],
-        })?;
-    }
+    let figures = figures_of(alloc, case, rates, stocks)?;
+    let items = compared_items(alloc, &inputs, &figures, poisson)?;
     Ok(CompareReport {
         items: List::of(items),
         total: figures.total.interval(),

@@ -118,6 +118,50 @@ fn base_line_at(
     backorders_at(alloc, base.mean, base.mean, pipe.stock)
 }
 
+/// The backorders of a line unit at the depot, from its shop units and the backorders of all shop units.
+fn line_at_depot(
+    alloc: Global,
+    inputs: &Inputs<'_>,
+    line: PartId,
+    units: &[PartId],
+    shops: &[Iv<48>],
+) -> Result<Iv<48>, NoMemory>
+    requires line { IsLine inputs.now.case line.0 }
+    requires units { map (λ p. p.0) units.now ≡ shop_units inputs.now.case line.0 }
+    requires shops { shops.now ≡ shop_numbers inputs.now.case inputs.now.stocks.list }
+    ensures ends { IfOk result (λ x. x ≡ depot_line 48 inputs.now.case inputs.now.stocks.list line.0) }
+    ensures small { IfOk result (IsWithinLimit 48) }
+{
+    let _sites = inputs.sites();
+    let feeds = depot_feeds(alloc, inputs, units, shops)?;
+    depot_line_at(alloc, inputs, line, feeds.as_slice())
+}
+
+/// The backorders of a line unit at a base, from its backorders at the depot, its shop units and the backorders of all
+/// shop units.
+fn line_at_base(
+    alloc: Global,
+    inputs: &Inputs<'_>,
+    line: PartId,
+    base: SiteId,
+    depot: Iv<48>,
+    units: &[PartId],
+    shops: &[Iv<48>],
+) -> Result<Iv<48>, NoMemory>
+    requires line { IsLine inputs.now.case line.0 }
+    requires base { IsBase inputs.now.case base.0 }
+    requires depot { depot ≡ depot_line 48 inputs.now.case inputs.now.stocks.list line.0 }
+    requires small { IsWithinLimit 48 depot }
+    requires units { map (λ p. p.0) units.now ≡ shop_units inputs.now.case line.0 }
+    requires shops { shops.now ≡ shop_numbers inputs.now.case inputs.now.stocks.list }
+    ensures ends { IfOk result (λ x. x ≡ base_line 48 inputs.now.case inputs.now.stocks.list line.0 base.0) }
+    ensures small { IfOk result (IsWithinLimit 48) }
+{
+    let _sites = inputs.sites();
+    let held = held_at(alloc, inputs, base, units, shops)?;
+    base_line_at(alloc, inputs, line, base, depot, held.as_slice())
+}
+
 /// The backorders of a line unit by site, from the backorders of all shop units.
 pub(crate) fn line_row(
     alloc: Global,
@@ -132,14 +176,12 @@ pub(crate) fn line_row(
 {
     let _sites = inputs.sites();
     let units = shop_units(alloc, inputs.case(), line)?;
-    let feeds = depot_feeds(alloc, inputs, units.as_slice(), shops)?;
-    let depot = depot_line_at(alloc, inputs, line, feeds.as_slice())?;
+    let depot = line_at_depot(alloc, inputs, line, units.as_slice(), shops)?;
     let mut row = Vec::new(alloc);
     row.push(depot)?;
     for j in 1..inputs.sites() {
-        let held = held_at(alloc, inputs, SiteId(j), units.as_slice(), shops)?;
-        let base = base_line_at(alloc, inputs, line, SiteId(j), depot, held.as_slice())?;
-        row.push(base)?;
+        let base = SiteId(j);
+        row.push(line_at_base(alloc, inputs, line, base, depot, units.as_slice(), shops)?)?;
     }
     Ok(row)
 }

@@ -4,7 +4,7 @@ ghost use Rattle.std.specs.Prelude.{◌≡◌, IfOk};
 ghost use Rattle.metric_compare.specs.Levels.{poisson_numbers, shop_numbers};
 
 use crate::lines::line_row;
-use crate::shops::row_of;
+use crate::shops::{row_of, shop_numbers};
 use answers::NoMemory;
 use family_items::inputs::Inputs;
 use fixed_interval::Iv;
@@ -12,7 +12,7 @@ use spares_input::PartId;
 use std::alloc::Global;
 
 /// The backorders of all pairs, by part and then by site, from the backorders of all shop units.
-pub(crate) fn all_numbers(
+fn all_numbers(
     alloc: Global,
     inputs: &Inputs<'_>,
     shops: &[Iv<48>],
@@ -32,4 +32,12 @@ pub(crate) fn all_numbers(
         all.append(&mut row)?;
     }
     Ok(all)
+}
+
+/// The Poisson backorders of all pairs, by part and then by site.
+pub(crate) fn numbers_of(alloc: Global, inputs: &Inputs<'_>) -> Result<Vec<Iv<48>>, NoMemory>
+    ensures { IfOk result (λ v. v.items ≡ poisson_numbers inputs.now.case inputs.now.stocks.list) }
+{
+    let shops = shop_numbers(alloc, inputs)?;
+    all_numbers(alloc, inputs, shops.as_slice())
 }

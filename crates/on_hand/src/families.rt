@@ -132,9 +132,8 @@ impl<'a, S: Score> Families for HeldFamilies<'a, S> {
     fn part(&self, alloc: Global, family: u32, low: Price, high: Price) -> Result<Curve, NoMemory> {
         let line = self.line(family);
         let bounds = Bounds::from_held(alloc, self.case, line, self.held)?;
-        let part = part_within(
+        part_within(
             alloc, self.case, self.rates, line, &bounds, low, high, self.score,
-        )?;
-        Ok(part)
+        )
     }
 }

@@ -124,6 +124,28 @@ fn step_down<S: Score>(
     Ok(FIRST)
 }
 
+/// The number of about the last price at which some families suggest a cost above the budget, looked for from `number`.
+fn step_from<S: Score>(
+    alloc: Global,
+    families: &HeldFamilies<'_, S>,
+    every: u32,
+    number: u32,
+    budget: u64,
+) -> Result<u32, NoMemory>
+    requires every { 0 < every }
+    requires first { 24 ≤ number }
+    requires last { number ≤ 276 }
+    requires budget { budget ≤ most_budget }
+    ensures first { IfOk result (λ number. 24 ≤ number) }
+    ensures last { IfOk result (λ number. number ≤ 276) }
+{
+    if is_dear(alloc, families, every, number, budget)? {
+        step_up(alloc, families, every, number, budget)
+    } else {
+        step_down(alloc, families, every, number, budget)
+    }
+}
+
 /// The number of about the price at which the budget is spent, 24 to 276. None if nearly all is bought. Want of memory
 /// is the only error.
 pub(crate) fn guess<S: Score>(
@@ -141,10 +163,6 @@ pub(crate) fn guess<S: Score>(
     }
     let count = families.count();
     let every = (count / (count / 20).max(16)).max(1);
-    let better = if is_dear(alloc, families, every, number, budget)? {
-        step_up(alloc, families, every, number, budget)?
-    } else {
-        step_down(alloc, families, every, number, budget)?
-    };
+    let better = step_from(alloc, families, every, number, budget)?;
     Ok(Some(better))
 }

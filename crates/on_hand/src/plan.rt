@@ -85,6 +85,56 @@ fn plan_near<S: Score>(
     plan_between(alloc, families, wide, budget, loss, on_hand)
 }
 
+/// The plan by the parts of the curves near the price at which the budget is about spent. None if there are few
+/// families, nearly all is bought, or the guess of the price is wrong.
+fn plan_of_many<S: Score>(
+    alloc: Global,
+    case: &Case,
+    rates: &Rates,
+    held: &Stocks,
+    score: &S,
+    budget: u64,
+    loss: bool,
+    on_hand: Option<u64>,
+) -> Result<Option<Outcome>, NoMemory>
+    requires rates { AreRatesOf case.now rates.now }
+    requires held { IsFor case.now held.now }
+    requires limits { IsWithinLimits case.now held.now }
+    requires work { IsOk (held_work_of case.now held.now.list) }
+    requires budget { budget ≤ most_budget }
+    ensures { IfOk result (λ found. IfSome found (IsOutcome S.ends case.now held.now.list
+        (record { budget = budget; loss = loss; on_hand = on_hand }))) }
+{
+    let families = HeldFamilies::of(alloc, case, rates, held, score)?;
+    if families.count() < MANY {
+        return Ok(None);
+    }
+    plan_near(alloc, &families, budget, loss, on_hand)
+}
+
+/// The plan by the whole curves.
+fn plan_by_curves<S: Score>(
+    alloc: Global,
+    case: &Case,
+    rates: &Rates,
+    held: &Stocks,
+    score: &S,
+    budget: u64,
+    loss: bool,
+    on_hand: Option<u64>,
+) -> Result<Outcome, NoMemory>
+    requires rates { AreRatesOf case.now rates.now }
+    requires held { IsFor case.now held.now }
+    requires limits { IsWithinLimits case.now held.now }
+    requires work { IsOk (held_work_of case.now held.now.list) }
+    requires budget { budget ≤ most_budget }
+    ensures { IfOk result (IsOutcome S.ends case.now held.now.list
+        (record { budget = budget; loss = loss; on_hand = on_hand })) }
+{
+    let curves = held_curves(alloc, case, rates, held, score)?;
+    plan(alloc, case, rates, curves.as_slice(), budget, loss, on_hand)
+}
+
 /// The plan of a case under a budget in whole money, from held stocks: a list for the case, within the limits. If
 /// nothing is held, the list is zeros.
 ///
@@ -108,12 +158,8 @@ pub fn plan_case<S: Score>(
     ensures { IfOk result (IsOutcome S.ends case.now held.now.list
         (record { budget = budget; loss = loss; on_hand = on_hand })) }
 {
-    let families = HeldFamilies::of(alloc, case, rates, held, score)?;
-    if families.count() >= MANY {
-        if let Some(outcome) = plan_near(alloc, &families, budget, loss, on_hand)? {
-            return Ok(outcome);
-        }
+    if let Some(outcome) = plan_of_many(alloc, case, rates, held, score, budget, loss, on_hand)? {
+        return Ok(outcome);
     }
-    let curves = held_curves(alloc, case, rates, held, score)?;
-    plan(alloc, case, rates, curves.as_slice(), budget, loss, on_hand)
+    plan_by_curves(alloc, case, rates, held, score, budget, loss, on_hand)
 }

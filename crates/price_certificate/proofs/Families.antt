@@ -29,7 +29,8 @@ left_out t l n xs ht h =
 
 -- ---- the places of a family
 
-same_length : (parts : List PartId) (fam : List ℕ) → map (λ p. p.0) parts ≡ fam → length fam ≡ length parts
+-- a family has as many parts as ids
+pub same_length : (parts : List PartId) (fam : List ℕ) → map (λ p. p.0) parts ≡ fam → length fam ≡ length parts
 same_length parts fam e = ap length (sym e) ∙ length-map parts (λ (p : PartId). p.0)
 
 part_is : (parts : List PartId) (fam : List ℕ) (m : ℕ) (d : PartId) → map (λ p. p.0) parts ≡ fam → 0 < length parts → (get_or parts (m % length parts) d).0 ≡ get_or fam (m % length fam) 0

@@ -2,10 +2,10 @@
 
 ghost use Rattle.std.specs.Prelude.{◌≡◌, ℕ, ◌^◌, ◌++◌, length, OnOk, IfOk};
 ghost use Rattle.std.specs.List.{concat};
-ghost use Rattle.line_text.specs.Formats.{each};
+ghost use Rattle.line_text.specs.Formats.{each, and_then, one};
 ghost use Rattle.line_text.specs.Files.{line, file_text};
 ghost use Rattle.case_lines.specs.Grammar.{case_format};
-ghost use Rattle.line_text.specs.Texts.{counted, numbers_from};
+ghost use Rattle.line_text.specs.Texts.{counted, numbers_from, word, number};
 ghost use Rattle.spares_input.specs.Stocks.{IsFor};
 ghost use Rattle.price_certificate.specs.Grammar.{objective_fields, objective_line, price_fields, floors, node_line, cover, covers, stocks};
 ghost use Rattle.line_text.specs.Texts.{number_line};
@@ -51,16 +51,25 @@ fn put_case(alloc: Global, out: &mut Vec<u8>, case: &Case) -> Result<(), NoMemor
     Ok(())
 }
 
+/// Writes `NAME,FIRST,SECOND`.
+fn put_two(out: &mut Vec<u8>, name: &[u8], first: u128, second: u128) -> Result<(), NoMemory>
+    ensures { OnOk result (out.new.items ≡ out.old.items ++ (line (and_then (word name.now)
+        (λ _. and_then (one (number 0 first)) (λ _. one (number 0 second))))).print (tt, (first, second))) }
+{
+    out.extend_from_slice(name)?;
+    out.push(b',')?;
+    put_number(out, first)?;
+    out.push(b',')?;
+    put_number(out, second)?;
+    out.push(b'\n')?;
+    Ok(())
+}
+
 /// Writes `price,P,Q`.
 fn put_price(out: &mut Vec<u8>, price: &Price) -> Result<(), NoMemory>
     ensures { OnOk result (out.new.items ≡ out.old.items ++ (line price_fields).print price.now) }
 {
-    out.extend_from_slice(b"price,")?;
-    put_number(out, price.p)?;
-    out.push(b',')?;
-    put_number(out, price.q as u128)?;
-    out.push(b'\n')?;
-    Ok(())
+    put_two(out, b"price", price.p, price.q as u128)
 }
 
 /// Writes a line for each floor.
@@ -89,13 +98,7 @@ fn put_node(out: &mut Vec<u8>, node: &Node) -> Result<(), NoMemory>
     ensures { OnOk result (out.new.items ≡ out.old.items ++ concat (node_line.print node.now)) }
 {
     match node {
-        Node::Split { at, from } => {
-            out.extend_from_slice(b"split,")?;
-            put_number(out, *at as u128)?;
-            out.push(b',')?;
-            put_number(out, *from as u128)?;
-            out.push(b'\n')?;
-        }
+        Node::Split { at, from } => put_two(out, b"split", *at as u128, *from as u128)?,
         Node::Cost => out.extend_from_slice(b"cost\n")?,
         Node::Whole => out.extend_from_slice(b"whole\n")?,
     }

@@ -9,7 +9,7 @@ use spares_input::{CaseFault, StockFault};
 use spares_words::WordsFault;
 
 /// A file that a command names.
-#[derive(Clone, Copy, Debug, PartialEq, Eq)]
+#[derive(Clone, Copy)]
 pub enum File {
     /// The table of sites.
     Sites,
@@ -28,7 +28,7 @@ pub enum File {
 }
 
 /// The reason why a command was refused.
-#[derive(Clone, Copy, Debug, PartialEq, Eq)]
+#[derive(Clone, Copy)]
 pub enum Refusal {
     /// The words aren't a command, or a number among them is bad.
     Words(WordsFault),

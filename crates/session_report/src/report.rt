@@ -10,7 +10,7 @@ use plan_report::PlanReport;
 use std::alloc::Global;
 
 /// The plans of a session, in order.
-#[derive(Drop, PartialEq, Eq)]
+#[derive(Drop)]
 pub struct SessionReport {
     pub plans: List<PlanReport>,
 }

@@ -4,6 +4,7 @@ use Rattle.answers.specs.declared.stop.Stop.{Stop}
 use Rattle.answers.specs.declared.stop.Stop.TheVariants as stop
 use Rattle.std.specs.List.{IsDistinct}
 use Rattle.std.specs.Option.{option_flatten, option_map}
+use Rattle.indexmap.specs.IndexMap.{move_index}
 use Rattle.spares_input.specs.Frames.{part_names, line_of, frame_fault, family, shops_below, is_depot}
 use Rattle.spares_input.specs.Pairs.{row_at, part_of_place, site_of_place}
 use Rattle.spares_input.specs.declared.rows.SiteRow.{SiteRow}
@@ -68,3 +69,13 @@ missing_rate_at n i = fault.MissingRate (part_of_place n i) (site_of_place n i)
 -- the fault of a place without a row of stocks, with n sites
 abbrev pub missing_stock_at : ℕ → ℕ → StockFault
 missing_stock_at n i = stock_fault.Missing (part_of_place n i) (site_of_place n i)
+
+-- rows that break no rule, the sites with the depot moved to the front, and the names, the parents and the families of
+-- the parts
+pub record AreLinked (sites moved : List SiteRow) (parts : List PartRow) (parts_by_name : List (List ℕ))
+    (parents : List (Option PartId)) (families : List (List ℕ)) : Type 0 where
+  pub depot : ℕ
+  pub numbered : IsNumbered sites parts parts_by_name depot
+  pub to_front : moved ≡ move_index sites depot 0
+  pub lines : AreParents parts parents
+  pub shops : AreFamilies parts families

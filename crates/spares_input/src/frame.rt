@@ -10,7 +10,7 @@ ghost use Rattle.spares_input.specs.First.{first};
 ghost use Rattle.spares_input.specs.Rows.{is_line, IsSiteRow, IsPartRow};
 ghost use Rattle.spares_input.specs.Frames.{site_at, part_at, site_names, part_names, is_among, place_of, line_of, is_shop_of, is_depot, is_base, site_fault, kinds_fault, double_part, shop_fault, parent_fault, frame_fault, frame_of, family, IsFrame};
 ghost use Rattle.spares_input.specs.Stocks.{limit_at};
-ghost use Rattle.spares_input.specs.Building.{AreParents, IsNumbered, StopsAt};
+ghost use Rattle.spares_input.specs.Building.{AreLinked, AreParents, IsNumbered, StopsAt, ids};
 
 use crate::families::families_of;
 use crate::fault::CaseFault;
@@ -60,19 +60,14 @@ impl Frame {
         requires part_rows { All IsPartRow parts.items }
         ensures { Gives (frame_of sites.items parts.items) result }
     {
-        let (part_index, depot) = number_rows(alloc, sites.as_slice(), parts.as_slice())?;
         let mut sites = sites;
-        let Ok(()) = put_first(&mut sites, depot) else {
-            return Err(Stop::NoMemory);
-        };
-        let parents = parents_of(alloc, &part_index, parts.as_slice())?;
-        let families = families_of(alloc, parts.as_slice(), parents.as_slice())?;
+        let links = links_of(alloc, &mut sites, parts.as_slice())?;
         Ok(Frame {
             sites,
             parts,
-            parents,
-            families,
-            part_index,
+            parents: links.parents,
+            families: links.families,
+            part_index: links.part_index,
         })
     }
 
@@ -197,6 +192,39 @@ impl Frame {
             None => None,
         }
     }
+}
+
+/// How the rows of parts belong together.
+#[derive(Drop)]
+struct Links {
+    parents: Vec<Option<PartId>>,
+    families: Vec<Vec<PartId>>,
+    part_index: IndexSet<Name>,
+}
+
+/// The links of the parts, if no rule is broken. Moves the depot before the other sites.
+fn links_of(
+    alloc: Global,
+    sites: &mut Vec<SiteRow>,
+    parts: &[PartRow],
+) -> Result<Links, Stop<CaseFault>>
+    requires sites { length sites.old.items ≤ 16 }
+    requires parts { length parts.now ≤ 2000 }
+    ensures fault { StopsAt (frame_fault sites.old.items parts.now) result }
+    ensures linked { IfOk result (λ l. AreLinked sites.old.items sites.new.items parts.now l.part_index.keys
+        l.parents.items (map (λ v. ids v.items) l.families.items)) }
+{
+    let (part_index, depot) = number_rows(alloc, sites.as_slice(), parts)?;
+    let Ok(()) = put_first(sites, depot) else {
+        return Err(Stop::NoMemory);
+    };
+    let parents = parents_of(alloc, &part_index, parts)?;
+    let families = families_of(alloc, parts, parents.as_slice())?;
+    Ok(Links {
+        parents,
+        families,
+        part_index,
+    })
 }
 
 /// The names of the parts, each at its row's place, and the depot's place, if no rule is broken.

@@ -75,6 +75,14 @@ fn read_file(
     Ok(())
 }
 
+/// A file of this name with these bytes.
+fn new_file(alloc: Global, name: &str, bytes: &[u8]) -> Result<(Text, List<u8>), NoMemory>
+    ensures { IfOk result (λ file. file ≡ (name.now, bytes.now)) }
+{
+    let key = Text::from_str(alloc, name)?;
+    Ok((key, List::of(bytes.to_vec(alloc)?)))
+}
+
 /// Sets the bytes of a name in a list of files.
 fn write_file(
     alloc: Global,
@@ -86,10 +94,9 @@ fn write_file(
         (files_of files.new.items ≡ with_file (files_of files.old.items) name.now bytes.now) }
     ensures unchanged { OnErr result (files_of files.new.items ≡ files_of files.old.items) }
 {
-    let content = List::of(bytes.to_vec(alloc)?);
     match find_place(files.as_slice(), name) {
-        Some(place) => files[place].1 = content,
-        None => files.push((Text::from_str(alloc, name)?, content))?,
+        Some(place) => files[place].1 = List::of(bytes.to_vec(alloc)?),
+        None => files.push(new_file(alloc, name, bytes)?)?,
     }
     Ok(())
 }

@@ -22,6 +22,7 @@ use Rattle.gap_rules.proofs.Acceptable.{breaks_none}
 use Rattle.gap_rules.proofs.Costs.{added_is}
 use Rattle.check_answers.specs.declared.refusal.Accepted.{Accepted}
 use Rattle.check_answers.specs.declared.refusal.Reject.{Reject}
+use Rattle.plan_report.specs.declared.check.CheckReport.{CheckReport}
 use Rattle.plan_report.specs.Fits.{FitsCheck}
 use Rattle.plan_report.specs.Texts.{millionths_up}
 use Rattle.refusals.specs.Lines.{no_names}
@@ -33,6 +34,7 @@ use Rattle.fleet_plan.proofs.Costs.{families_beyond}
 use Rattle.case_plan.proofs.Truths.{below_printed}
 use Rattle.certified_plan.proofs.Scores.{scores_enclose}
 use Rattle.answers.specs.Answers.{Gives}
+use Rattle.answers.specs.Steps.{◌>>=◌}
 use Rattle.answers.specs.declared.stop.Stop.{Stop}
 use Rattle.refusals.specs.Causes.{or_refuse}
 use Rattle.refusals.specs.declared.failure.Failure.{Failure}
@@ -112,7 +114,7 @@ module _ (x : Claim) (h : IsClaim x) (bytes : List ℕ) (form : or_refuse no_nam
     fits = let u = h.formed.upper in let b = h.formed.bound in record { upper = omega (arith, u); bound = omega (arith, b) }
 
     -- what is told of an accepted claim is what the task of a check asks for
-    pub confirmed : MakesBy (Is (check_task bytes)) (Ok (task.printed (Checked (check_of (claimed_by x)))))
+    confirmed : MakesBy (Is (check_task bytes)) (Ok (task.printed (Checked (check_of (claimed_by x)))))
     confirmed = record {
       task = confirm (claimed_by x);
       is_due = rw claimed_is refl;
@@ -140,9 +142,23 @@ module _ (x : Claim) (h : IsClaim x) (bytes : List ℕ) (form : or_refuse no_nam
   rejected_is failure j = rw (form, j) refl
 
   -- the rule that a rejected claim breaks is the refusal that a check has to make
-  pub rejected : (e : Stop Failure) → Gives {T = Accepted} answer (Err e) → MakesBy (Is (check_task bytes)) (Err e)
-  rejected stop.NoMemory j = tt
-  rejected (stop.Fault failure) j = rw (rejected_is failure j) refl
+  rejected : (failure : Failure) → answer ≡ Err failure → MakesBy (Is (check_task bytes)) (Err (stop.Fault failure))
+  rejected failure j = rw (rejected_is failure j) refl
+
+  -- ---- either
+
+  -- the report of an accepted claim is what the task of a check asks for
+  pub confirmed_by : (judged : Result Accepted Failure) → answer ≡ judged → (report : CheckReport) → (judged >>= λ accepted. Ok (check_of (claimed_by x))) ≡ Ok report
+      → MakesBy (Is (check_task bytes)) (Ok (task.printed (Checked report)))
+  confirmed_by (Ok accepted) j report e = let is : check_of (claimed_by x) ≡ report = cc in rw (← is) (confirmed accepted j)
+  confirmed_by (Err failure) j report e = cc
+
+  -- and the refusal of a rejected one is the refusal that it has to make
+  pub rejected_by : (judged : Result Accepted Failure) → answer ≡ judged → (e : Stop Failure)
+      → Gives {T = CheckReport} (judged >>= λ accepted. Ok (check_of (claimed_by x))) (Err e) → MakesBy (Is (check_task bytes)) (Err e)
+  rejected_by judged j stop.NoMemory g = tt
+  rejected_by (Ok accepted) j (stop.Fault failure) g = cc
+  rejected_by (Err broken) j (stop.Fault failure) g = rejected failure (cc)
 
 -- ---- no certificate
 

@@ -25,7 +25,7 @@ use Rattle.refusals.specs.Causes.{Kind, of_words, of_reading, of_writing, of_mem
 use Rattle.refusals.specs.Lines.{no_names}
 use Rattle.spares_input.specs.Cases.{CaseRows}
 use Rattle.spares_top.specs.Files.{AllGave, Reads, StandStill, StopsAt, bytes_at, inputs, inputs_of, output_of, reads, tables_in}
-use Rattle.spares_top.specs.Making.{AreWithin, ComesOf, Delivers, Is, IsMade, MakesBy}
+use Rattle.spares_top.specs.Making.{AreWithin, ComesOf, Is, IsMade, IsUndelivered, MakesBy}
 use Rattle.spares_top.specs.Promises.{Completes, Errors, NoneFailed, Performs, PutsLine, Runs, Serves}
 use Rattle.spares_top.specs.Reading.{ReadsGive}
 use Rattle.spares_top.specs.State.{HasDelivered, HasFailed, HasFailedToWrite, IsUntouched, Scene, after_write}
@@ -213,18 +213,20 @@ module _ (outcome : Outcome) (old mid new : Scene) (b : IsBefore old mid new) wh
     due_still : IsDue (Ok o) old new made.task
     due_still = due_by o old new mid.read_faults made.task made.is_due.read b.reads made.is_due.reads made.is_due.task_is
 
-    answers : (result : Result Done Failure) → Delivers outcome mid new result → Answers (Ok o) old new result
-    answers (Ok done) (is, h) = record {
+    answers : HasDelivered outcome mid new → Answers (Ok o) old new (Ok outcome.done)
+    answers h = record {
       task = made.task;
       is_due = due_still;
       outcome = outcome;
-      done_is = is;
+      done_is = refl;
       fulfils = made.fulfils;
       is_true = made.is_true;
       delivered = delivered_from h;
     }
-    answers (Err failure) (inl (is, h)) = subst (λ (f : Failure). Answers (Ok o) old new (Err f)) (sym is) (record { failure_is = refl; untouched = untouched_from h })
-    answers (Err failure) (inr (is, h)) = subst (λ (f : Failure). Answers (Ok o) old new (Err f)) (sym is) (record {
+
+    refuses : (failure : Failure) → IsUndelivered outcome mid new failure → Answers (Ok o) old new (Err failure)
+    refuses failure (inl (is, h)) = subst (λ (f : Failure). Answers (Ok o) old new (Err f)) (sym is) (record { failure_is = refl; untouched = untouched_from h })
+    refuses failure (inr (is, h)) = subst (λ (f : Failure). Answers (Ok o) old new (Err f)) (sym is) (record {
       failure_is = refl;
       task = made.task;
       is_due = due_still;
@@ -234,13 +236,20 @@ module _ (outcome : Outcome) (old mid new : Scene) (b : IsBefore old mid new) wh
       failed = failed_from h;
     })
 
-    -- what was made is delivered
-    pub delivers : (result : Result Done Failure) → Delivers outcome mid new result → Performs (Ok o) old new result
-    delivers result h = record {
-      answers = answers result h;
+    performs : (result : Result Done Failure) → Answers (Ok o) old new result → Performs (Ok o) old new result
+    performs result h = record {
+      answers = h;
       reads = λ none name. b.reads name ∙ reads none name;
       writes = λ none name. nothing (nothing_of outcome.writes (output_of (Ok o)) (names_due (Ok o) due_still.bytes made.task outcome due_still.is_due made.fulfils) none) name ∙ b.writes name;
     }
+
+    -- what was made is delivered
+    pub delivers : HasDelivered outcome mid new → Performs (Ok o) old new (Ok outcome.done)
+    delivers h = performs (Ok outcome.done) (answers h)
+
+    -- or its delivery fails
+    pub fails : (failure : Failure) → IsUndelivered outcome mid new failure → Performs (Ok o) old new (Err failure)
+    fails failure h = performs (Err failure) (refuses failure h)
 
 -- ---- the words
 

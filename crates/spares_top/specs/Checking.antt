@@ -4,7 +4,13 @@ use Rattle.answers.specs.declared.stop.Stop.{Stop}
 use Rattle.answers.specs.declared.stop.Stop.TheVariants as stop
 use Rattle.certified_plan.specs.Inputs.{IsHeld}
 use Rattle.price_certificate.specs.Certificates.{IsWellFormed}
-use Rattle.spares_top.specs.Checks.{Claimed}
+use Rattle.answers.specs.Steps.{◌>>=◌}
+use Rattle.plan_report.specs.declared.check.CheckReport.{CheckReport}
+use Rattle.refusals.specs.Causes.{or_refuse}
+use Rattle.refusals.specs.declared.failure.Failure.{Failure}
+use Rattle.refusals.specs.declared.refusal.Refusal.TheVariants as refusal
+use Rattle.spares_input.specs.Cases.{frame_rows}
+use Rattle.spares_top.specs.Checks.{Claimed, check_of, judged_of}
 use Rattle.spares_top.specs.Held.{held_in}
 use Rattle.spares_top.specs.declared.check.Claim.{Claim}
 
@@ -22,3 +28,9 @@ abbrev pub TellsClaim : {E : Type 0} → Result Claimed E → Result Claim (Stop
 TellsClaim given (Ok x) = given ≡ Ok (claimed_by x)
 TellsClaim given (Err stop.NoMemory) = ⊤
 TellsClaim given (Err (stop.Fault fault)) = given ≡ Err fault
+
+-- the report of a claim, or the first rule that it breaks
+abbrev pub confirmed_of : Claimed → Result CheckReport Failure
+confirmed_of x = do
+  accepted ← or_refuse (frame_rows x.certificate.case) refusal.Rejected (judged_of x)
+  Ok (check_of x)

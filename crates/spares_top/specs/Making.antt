@@ -5,7 +5,6 @@ use Rattle.spares_io.specs.Shelf.{Files, KeepsOthers}
 use Rattle.answers.specs.declared.stop.Stop.{Stop}
 use Rattle.answers.specs.declared.stop.Stop.TheVariants as stop
 use Rattle.spares_words.specs.declared.order.Order.{Order}
-use Rattle.spares_top.specs.declared.done.Done.{Done}
 use Rattle.spares_top.specs.declared.done.Outcome.{Outcome}
 use Rattle.spares_top.specs.declared.done.Written.{Written}
 use Rattle.refusals.specs.declared.failure.Failure.{Failure}
@@ -58,9 +57,13 @@ WriteRefused writes old new before now failure =
     ⊎ ((failure ≡ plain_failure refusal.WriteFault)
     × IsSomeAnd writes (λ w. KeepsOthers w.name old new × Rose (before w.name) (now w.name)))
 
--- the state after the delivery of an outcome
-abbrev pub Delivers : Outcome → Scene → Scene → Result Done Failure → Type 0
-Delivers outcome old new (Ok done) = (outcome.done ≡ done) × HasDelivered outcome old new
-Delivers outcome old new (Err failure) =
+-- the state after a delivery that failed
+abbrev pub IsUndelivered : Outcome → Scene → Scene → Failure → Type 0
+IsUndelivered outcome old new failure =
     ((failure ≡ plain_failure refusal.NoMemory) × IsUntouched old new)
     ⊎ ((failure ≡ plain_failure refusal.WriteFault) × HasFailed outcome old new)
+
+-- the state after the delivery of an outcome
+abbrev pub Delivers : {A : Type 0} → Outcome → Scene → Scene → Result A Failure → Type 0
+Delivers outcome old new (Ok done) = HasDelivered outcome old new
+Delivers outcome old new (Err failure) = IsUndelivered outcome old new failure

@@ -10,13 +10,13 @@ ghost use Rattle.answers.specs.Answers.{Gives};
 ghost use Rattle.refusals.specs.Causes.{or_refuse};
 ghost use Rattle.refusals.specs.Lines.{no_names};
 ghost use Rattle.refusals.specs.declared.refusal.Refusal.TheVariants as refusal;
-ghost use Rattle.spares_input.specs.Cases.{frame_rows};
 ghost use Rattle.spares_top.specs.Checks.{check_of, form_of, judged_of, with_held, with_nothing};
-ghost use Rattle.spares_top.specs.Checking.{IsClaim, TellsClaim, claimed_by};
+ghost use Rattle.spares_top.specs.Checking.{IsClaim, TellsClaim, claimed_by, confirmed_of};
 ghost use Rattle.spares_top.specs.Making.{Is, MakesBy};
 ghost use Rattle.spares_top.specs.Task.{check_task};
 
 use crate::done::{Done, Outcome};
+use crate::free::free;
 use crate::held::{cost_of, held_in};
 use answers::Stop;
 use check_answers::{Accepted, Reject};
@@ -101,27 +101,10 @@ fn judged(alloc: Global, claim: &Claim) -> Result<Accepted, Stop<Reject>>
     }
 }
 
-/// The acceptance of a claim, or the refusal of the first rule that it breaks.
-fn accepted(alloc: Global, claim: &Claim) -> Result<Accepted, Stop<Failure>>
-    requires { IsClaim claim.now }
-    ensures { Gives (or_refuse (frame_rows claim.now.certificate.case) refusal.Rejected
-        (judged_of (claimed_by claim.now))) result }
-{
-    match judged(alloc, claim) {
-        Ok(accepted) => Ok(accepted),
-        Err(Stop::NoMemory) => Err(Stop::NoMemory),
-        Err(Stop::Fault(reject)) => {
-            let frame = claim.certificate.case.frame();
-            Err(Stop::Fault(Failure::at(frame, Refusal::Rejected(reject))))
-        }
-    }
-}
-
 /// The report of an accepted claim.
 fn report_of(claim: &Claim, accepted: Accepted) -> CheckReport
     requires claim { IsClaim claim.now }
-    requires accepted { or_refuse (frame_rows claim.now.certificate.case) refusal.Rejected
-        (judged_of (claimed_by claim.now)) ≡ Ok accepted }
+    requires accepted { judged_of (claimed_by claim.now) ≡ Ok accepted }
     ensures { result ≡ check_of (claimed_by claim.now) }
 {
     let certificate = &claim.certificate;
@@ -135,12 +118,28 @@ fn report_of(claim: &Claim, accepted: Accepted) -> CheckReport
     }
 }
 
+/// The report of a claim, or the refusal of the first rule that it breaks.
+fn confirmed(alloc: Global, claim: &Claim) -> Result<CheckReport, Stop<Failure>>
+    requires { IsClaim claim.now }
+    ensures { Gives (confirmed_of (claimed_by claim.now)) result }
+{
+    match judged(alloc, claim) {
+        Ok(accepted) => Ok(report_of(claim, accepted)),
+        Err(Stop::NoMemory) => Err(Stop::NoMemory),
+        Err(Stop::Fault(reject)) => {
+            let frame = claim.certificate.case.frame();
+            Err(Stop::Fault(Failure::at(frame, Refusal::Rejected(reject))))
+        }
+    }
+}
+
 /// Carries out `check` on the bytes of a certificate.
 pub(crate) fn check(alloc: Global, bytes: &[u8]) -> Result<Outcome, Stop<Failure>>
     requires { length bytes.now ≤ certificate_limit }
     ensures { MakesBy (Is (check_task bytes.now)) result }
 {
     let claim = claim_of(alloc, bytes)?;
-    let accepted = accepted(alloc, &claim)?;
-    Ok(Outcome::printed(Done::Checked(report_of(&claim, accepted))))
+    let report = confirmed(alloc, &claim);
+    free(claim);
+    Ok(Outcome::printed(Done::Checked(report?)))
 }

@@ -13,6 +13,7 @@ ghost use Rattle.spares_top.specs.Task.{compare_task};
 
 use crate::cases::stocked;
 use crate::done::{Done, Outcome};
+use crate::free::free;
 use crate::tables::{Table, Tables};
 use answers::{NoMemory, Stop};
 use case_tables::Stocked;
@@ -33,8 +34,7 @@ fn compared(alloc: Global, given: &Stocked) -> Result<CompareReport, NoMemory>
         rates,
     } = given;
     let _valid = case.site_count();
-    let report = metric_compare::compare(alloc, case, rates, stocks)?;
-    Ok(report)
+    metric_compare::compare(alloc, case, rates, stocks)
 }
 
 /// Carries out `compare` on the tables of a case and of its stocks.
@@ -46,6 +46,7 @@ pub(crate) fn compare(
     ensures { MakesBy (Is (compare_task (bytes_of tables.now) stocks.now.bytes.now)) result }
 {
     let given = stocked(alloc, tables, File::Stocks, stocks)?;
-    let report = compared(alloc, &given)?;
-    Ok(Outcome::printed(Done::Compared(report)))
+    let report = compared(alloc, &given);
+    free(given);
+    Ok(Outcome::printed(Done::Compared(report?)))
 }

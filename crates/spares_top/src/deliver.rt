@@ -7,11 +7,12 @@ ghost use Rattle.refusals.specs.Causes.{plain_failure};
 ghost use Rattle.spares_top.specs.Files.{StandStill};
 ghost use Rattle.spares_top.specs.Making.{Delivers, WriteRefused};
 ghost use Rattle.spares_top.specs.State.{after_write, scene};
-ghost use Rattle.spares_top.specs.Texts.{text_of};
+ghost use Rattle.spares_top.specs.Texts.{CanPrint};
 
-use crate::done::{Done, Outcome, Written};
+use crate::done::{Outcome, Written};
 use refusals::{Failure, Refusal};
 use spares_io::{Shelf, ShelfError, Sink, SinkFailed};
+use std::alloc::Global;
 
 /// Makes the write of an outcome, if it has one.
 fn write<H: Shelf>(writes: &Option<Written>, shelf: &mut H) -> Result<(), Failure>
@@ -46,23 +47,25 @@ fn print<W: Sink>(out: &mut W, text: &[u8]) -> Result<(), Failure>
     }
 }
 
-/// Delivers an outcome whose report has this text.
+/// Delivers an outcome. Its text is complete before any write.
 pub(crate) fn deliver<H: Shelf, W: Sink>(
-    outcome: Outcome,
-    text: &[u8],
+    alloc: Global,
+    outcome: &Outcome,
     shelf: &mut H,
     out: &mut W,
-) -> Result<Done, Failure>
-    requires { text.now ≡ text_of outcome.done }
-    ensures delivers { Delivers outcome
+) -> Result<(), Failure>
+    requires { CanPrint outcome.now.done }
+    ensures delivers { Delivers outcome.now
         (scene (H.held shelf.old) (H.read_faults shelf.old) (H.write_faults shelf.old)
         (W.bytes out.old) (W.faults out.old))
         (scene (H.held shelf.new) (H.read_faults shelf.new) (H.write_faults shelf.new)
         (W.bytes out.new) (W.faults out.new)) result }
-    ensures nothing { outcome.writes ≡ None → StandStill (H.write_faults shelf.old) (H.write_faults shelf.new) }
+    ensures nothing { outcome.now.writes ≡ None → StandStill (H.write_faults shelf.old) (H.write_faults shelf.new) }
     ensures reads { StandStill (H.read_faults shelf.old) (H.read_faults shelf.new) }
 {
+    let Ok(text) = outcome.done.text(alloc) else {
+        return Err(Failure::of(Refusal::NoMemory));
+    };
     write(&outcome.writes, shelf)?;
-    print(out, text)?;
-    Ok(outcome.done)
+    print(out, text.as_slice())
 }

@@ -12,7 +12,7 @@ use spares_io::Text;
 use std::alloc::Global;
 
 /// The report of a command that was carried out.
-#[derive(Drop, PartialEq, Eq)]
+#[derive(Drop)]
 pub enum Done {
     /// The backorders of one pipeline, and their variance.
     Single(SingleReport),
@@ -59,6 +59,19 @@ impl Done {
 pub(crate) struct Written {
     pub(crate) name: Text,
     pub(crate) bytes: List<u8>,
+}
+
+impl Written {
+    /// These bytes under a copy of a name.
+    pub(crate) fn new(alloc: Global, name: &Text, bytes: Vec<u8>) -> Result<Written, NoMemory>
+        ensures { IfOk result (λ written. written ≡ record { name = name.now; bytes = bytes.items }) }
+    {
+        let name = Text::from_str(alloc, name.as_str())?;
+        Ok(Written {
+            name,
+            bytes: List::of(bytes),
+        })
+    }
 }
 
 /// The result of a command: its report, and the write that comes before it.

@@ -15,6 +15,7 @@ ghost use Rattle.spares_top.specs.Task.{eval_of, eval_task};
 
 use crate::cases::stocked;
 use crate::done::{Done, Outcome};
+use crate::free::free;
 use crate::tables::{Table, Tables};
 use answers::{NoMemory, Stop};
 use case_figures::{Figures, figures_at};
@@ -80,6 +81,7 @@ pub(crate) fn eval(
     ensures { MakesBy (Is (eval_task (bytes_of tables.now) stocks.now.bytes.now bits)) result }
 {
     let given = stocked(alloc, tables, File::Stocks, stocks)?;
-    let report = evaluated(alloc, &given, bits)?;
-    Ok(Outcome::printed(Done::Evaluated(report)))
+    let report = evaluated(alloc, &given, bits);
+    free(given);
+    Ok(Outcome::printed(Done::Evaluated(report?)))
 }

@@ -11,6 +11,7 @@ mod done;
 mod eval;
 mod exit;
 mod files;
+mod free;
 mod given;
 mod held;
 mod plan;

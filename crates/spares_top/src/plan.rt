@@ -15,7 +15,7 @@ use crate::cases::{case_within_work, few_tables, stocked};
 use crate::done::{Done, Outcome, Written};
 use crate::held::{cost_of, held_in};
 use crate::tables::{Table, Tables};
-use answers::{List, NoMemory, Stop};
+use answers::{NoMemory, Stop};
 use case_tables::{Accepted, Stocked};
 use certified_plan::{PlanClaims, certificate, certificate_text};
 use held_work::held_work;
@@ -114,17 +114,19 @@ fn plan_of(alloc: Global, ground: &Ground, held: &Stocks) -> Result<case_plan::O
     }
 }
 
-/// The text of the certificate that carries the claims of a ground's plan.
+/// The write of the certificate that carries the claims of a ground's plan, under this name.
 fn certified(
     alloc: Global,
     ground: Ground,
     held: &Stocks,
     claims: PlanClaims,
-) -> Result<Vec<u8>, NoMemory>
+    name: &Text,
+) -> Result<Written, NoMemory>
     requires ground { IsGround ground }
     requires held { held.now ≡ held_of (planning_on ground) }
     requires claims { AreClaims ground.given.case claims }
-    ensures { IfOk result (λ bytes. IsCertified (planning_on ground) claims bytes.items) }
+    ensures certified { IfOk result (λ written. IsCertified (planning_on ground) claims written.bytes) }
+    ensures name { IfOk result (λ written. written.name ≡ name.now) }
 {
     let Ground {
         given,
@@ -132,13 +134,14 @@ fn certified(
         terms,
     } = ground;
     let certificate = certificate(alloc, given.case, held, terms, claims)?;
-    certificate_text(alloc, certificate, on_hand)
+    let bytes = certificate_text(alloc, certificate, on_hand)?;
+    Written::new(alloc, name, bytes)
 }
 
 /// The plan of a ground, and the text of its certificate under this name.
-fn planned(alloc: Global, ground: Ground, name: Text) -> Result<Outcome, NoMemory>
+fn planned(alloc: Global, ground: Ground, name: &Text) -> Result<Outcome, NoMemory>
     requires { IsGround ground }
-    ensures { IfOk result (IsMade (Is (Ok (make_plan (planning_on ground) name)))) }
+    ensures { IfOk result (IsMade (Is (Ok (make_plan (planning_on ground) name.now)))) }
 {
     let held = held_in(alloc, &ground.given.case, &ground.on_hand)?;
     let plan = plan_of(alloc, &ground, &held)?;
@@ -149,13 +152,10 @@ fn planned(alloc: Global, ground: Ground, name: Text) -> Result<Outcome, NoMemor
         upper: plan.upper,
         bound: plan.report.bound,
     };
-    let bytes = certified(alloc, ground, &held, claims)?;
+    let written = certified(alloc, ground, &held, claims, name)?;
     Ok(Outcome {
         done: Done::Planned(plan.report),
-        writes: Some(Written {
-            name,
-            bytes: List::of(bytes),
-        }),
+        writes: Some(written),
     })
 }
 
@@ -165,11 +165,11 @@ pub(crate) fn plan(
     tables: &Tables<'_>,
     on_hand: &Option<Table<'_>>,
     terms: Terms,
-    name: Text,
+    name: &Text,
 ) -> Result<Outcome, Stop<Failure>>
     requires terms { AreTerms terms }
     requires format { HasFormat on_hand.now terms }
-    ensures { MakesBy (Is (plan_task (bytes_of tables.now) (option_map (λ t. t.bytes.now) on_hand.now) terms name))
+    ensures { MakesBy (Is (plan_task (bytes_of tables.now) (option_map (λ t. t.bytes.now) on_hand.now) terms name.now))
         result }
 {
     let ground = ground_of(alloc, tables, on_hand, terms)?;

@@ -15,6 +15,7 @@ ghost use Rattle.spares_top.specs.Task.{target_task};
 use crate::cases::case_within_work;
 use crate::curves::curves_of;
 use crate::done::{Done, Outcome};
+use crate::free::free;
 use crate::tables::Tables;
 use answers::{NoMemory, Stop};
 use budget_sweep::TargetReport;
@@ -47,6 +48,7 @@ pub(crate) fn target(
     ensures { MakesBy (Is (target_task (bytes_of tables.now) backorders)) result }
 {
     let given = case_within_work(alloc, tables)?;
-    let report = target_of(alloc, &given, backorders)?;
-    Ok(Outcome::printed(Done::Priced(report)))
+    let report = target_of(alloc, &given, backorders);
+    free(given);
+    Ok(Outcome::printed(Done::Priced(report?)))
 }

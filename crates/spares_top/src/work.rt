@@ -14,6 +14,7 @@ use crate::demo::demo;
 use crate::done::{Done, Outcome};
 use crate::eval::eval;
 use crate::files::files_of;
+use crate::free::free;
 use crate::given::{fourth_if, table_at, tables_of};
 use crate::plan::plan;
 use crate::session::session;
@@ -28,18 +29,18 @@ use spares_words::{Order, read_words};
 use std::alloc::Global;
 
 /// The outcome of an order on the bytes of its inputs.
-fn outcome_on(alloc: Global, order: Order, files: &[List<u8>]) -> Result<Outcome, Stop<Failure>>
-    requires order { IsInRange order }
-    requires files { AreWithin (inputs order) files.now }
-    ensures { MakesBy (Is (task_on order files.now)) result }
+fn outcome_on(alloc: Global, order: &Order, files: &[List<u8>]) -> Result<Outcome, Stop<Failure>>
+    requires order { IsInRange order.now }
+    requires files { AreWithin (inputs order.now) files.now }
+    ensures { MakesBy (Is (task_on order.now files.now)) result }
 {
     match order {
         Order::Single {
             mean,
             variance,
             stock,
-        } => single(alloc, mean, variance, stock),
-        Order::Eval { bits, .. } => eval(alloc, &tables_of(files), &table_at(files, 3), bits),
+        } => single(alloc, *mean, *variance, *stock),
+        Order::Eval { bits, .. } => eval(alloc, &tables_of(files), &table_at(files, 3), *bits),
         Order::Plan {
             on_hand,
             budget,
@@ -49,17 +50,17 @@ fn outcome_on(alloc: Global, order: Order, files: &[List<u8>]) -> Result<Outcome
             ..
         } => {
             let terms = Terms {
-                budget,
-                format,
-                objective,
+                budget: *budget,
+                format: *format,
+                objective: *objective,
             };
             let on_hand = fourth_if(files, on_hand.is_some());
             plan(alloc, &tables_of(files), &on_hand, terms, certificate)
         }
         Order::Check { .. } => check(alloc, files[0].as_slice()),
-        Order::Demo { number, lines } => demo(alloc, number, lines),
+        Order::Demo { number, lines } => demo(alloc, *number, *lines),
         Order::Sweep { .. } => sweep(alloc, &tables_of(files)),
-        Order::Target { backorders, .. } => target(alloc, &tables_of(files), backorders),
+        Order::Target { backorders, .. } => target(alloc, &tables_of(files), *backorders),
         Order::Session { .. } => session(alloc, &tables_of(files), files[3].as_slice()),
         Order::Compare { .. } => compare(alloc, &tables_of(files), &table_at(files, 3)),
     }
@@ -68,29 +69,29 @@ fn outcome_on(alloc: Global, order: Order, files: &[List<u8>]) -> Result<Outcome
 /// The outcome of an order, before any write.
 fn outcome_of<H: Shelf>(
     alloc: Global,
-    order: Order,
+    order: &Order,
     shelf: &mut H,
 ) -> Result<Outcome, Stop<Failure>>
-    requires { IsInRange order }
-    ensures makes { MakesBy (ComesOf order (H.held shelf.old) (H.read_faults shelf.old) (H.read_faults shelf.new))
+    requires { IsInRange order.now }
+    ensures makes { MakesBy (ComesOf order.now (H.held shelf.old) (H.read_faults shelf.old) (H.read_faults shelf.new))
         result }
     ensures held { H.held shelf.new ≡ H.held shelf.old }
     ensures writes { StandStill (H.write_faults shelf.old) (H.write_faults shelf.new) }
-    ensures reads { inputs order ≡ [] → StandStill (H.read_faults shelf.old) (H.read_faults shelf.new) }
+    ensures reads { inputs order.now ≡ [] → StandStill (H.read_faults shelf.old) (H.read_faults shelf.new) }
 {
-    let files = files_of(alloc, &order, shelf)?;
+    let files = files_of(alloc, order, shelf)?;
     outcome_on(alloc, order, files.as_slice())
 }
 
 /// Carries out an order. Its outcome is complete before any write.
 fn perform<H: Shelf, W: Sink>(
     alloc: Global,
-    order: Order,
+    order: &Order,
     shelf: &mut H,
     out: &mut W,
 ) -> Result<Done, Failure>
-    requires { IsInRange order }
-    ensures { Performs (Ok order)
+    requires { IsInRange order.now }
+    ensures { Performs (Ok order.now)
         (scene (H.held shelf.old) (H.read_faults shelf.old) (H.write_faults shelf.old)
         (W.bytes out.old) (W.faults out.old))
         (scene (H.held shelf.new) (H.read_faults shelf.new) (H.write_faults shelf.new)
@@ -100,10 +101,8 @@ fn perform<H: Shelf, W: Sink>(
         Ok(outcome) => outcome,
         Err(stop) => return Err(failure_of(stop)),
     };
-    let Ok(text) = outcome.done.text(alloc) else {
-        return Err(Failure::of(Refusal::NoMemory));
-    };
-    deliver(outcome, text.as_slice(), shelf, out)
+    deliver(alloc, &outcome, shelf, out)?;
+    Ok(outcome.done)
 }
 
 /// Reads the words, and carries out their order.
@@ -120,7 +119,11 @@ pub(crate) fn work<H: Shelf, W: Sink>(
         (W.bytes out.new) (W.faults out.new)) result }
 {
     match read_words(alloc, words) {
-        Ok(order) => perform(alloc, order, shelf, out),
+        Ok(order) => {
+            let done = perform(alloc, &order, shelf, out);
+            free(order);
+            done
+        }
         Err(Stop::NoMemory) => Err(Failure::of(Refusal::NoMemory)),
         Err(Stop::Fault(fault)) => Err(Failure::of(Refusal::Words(fault))),
     }

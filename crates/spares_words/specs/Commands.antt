@@ -1,10 +1,12 @@
 -- The commands of the command line, as `clap` knows them: no help, no version, no subcommands.
-use Rattle.std.specs.Prelude.{true, Option, Some, None, if◌then◌else◌, codes}
+use Rattle.std.specs.Prelude.{true, List, [], ◌∷◌, Option, Some, None, if◌then◌else◌, codes}
 use Rattle.std.specs.Str.{bytes_eq}
 use Rattle.clap.specs.Words.{App, Rule, Text, new_rule, with_rule, new_app}
 use Rattle.clap.specs.Simple.{on_top}
 use Rattle.spares_words.specs.declared.commands.CommandName.{CommandName}
 use Rattle.spares_words.specs.declared.commands.CommandName.TheVariants.{Single, Eval, Plan, Check, Demo, Sweep, Target, Session, Compare}
+use Rattle.spares_words.specs.declared.commands.Parameter.{Parameter}
+use Rattle.spares_words.specs.declared.commands.Parameter.TheVariants as parameter
 
 -- the command of this name
 abbrev pub command_named : Text → Option CommandName
@@ -31,6 +33,18 @@ option id = record (new_rule id) { long = Some id }
 -- `--id VALUE` or `--id=VALUE`, which is required
 abbrev pub required_option : Text → Rule
 required_option id = record (new_rule id) { long = Some id; required = true }
+
+-- the rule of an argument
+abbrev pub rule_of_parameter : Parameter → Rule
+rule_of_parameter (parameter.Positional id) = positional id.now
+rule_of_parameter (parameter.Optional id) = option id.now
+rule_of_parameter (parameter.Required id) = required_option id.now
+
+-- a command with further arguments, in order
+abbrev pub with_parameters : App → List Parameter → App
+with_parameters app [] = app
+with_parameters app (parameter ∷ parameters) =
+    with_parameters (with_rule app (rule_of_parameter parameter)) parameters
 
 -- a command with only its own name
 abbrev pub bare : Text → App

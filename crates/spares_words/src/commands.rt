@@ -1,6 +1,6 @@
 //! The commands, for `clap`.
 ghost use Rattle.std.specs.Prelude.{◌≡◌, IfOk, false};
-ghost use Rattle.clap.specs.Words.{app_of, rule_of, with_rule};
+ghost use Rattle.clap.specs.Words.{app_of, rule_of};
 ghost use Rattle.spares_words.specs.Commands.{
   app_named,
   bare,
@@ -9,20 +9,16 @@ ghost use Rattle.spares_words.specs.Commands.{
   compare_app,
   demo_app,
   eval_app,
-  option,
   plan_app,
-  positional,
-  required_option,
+  rule_of_parameter,
   session_app,
   single_app,
   sweep_app,
-  tables_and,
   target_app,
-  with_aim,
-  with_certificate,
-  with_tables,
+  with_parameters,
 };
 
+use self::Parameter::{Optional, Positional, Required};
 use clap::{Arg, Command};
 use std::alloc::{AllocError, Global};
 
@@ -58,28 +54,27 @@ pub(crate) fn command_named(name: &str) -> Option<CommandName>
     }
 }
 
-/// A required value without an option name.
-fn positional<'a>(alloc: Global, id: &'a str) -> Arg<'a>
-    ensures rule { rule_of result ≡ positional id.entry.now }
-    ensures local { result.global ≡ false }
-{
-    Arg::new(alloc, id).required(true)
+/// An argument of a command, with its name.
+#[derive(Clone, Copy)]
+enum Parameter<'a> {
+    /// A required value without an option name.
+    Positional(&'a str),
+    /// `--id VALUE` or `--id=VALUE`, which may be left out.
+    Optional(&'a str),
+    /// `--id VALUE` or `--id=VALUE`, which is required.
+    Required(&'a str),
 }
 
-/// `--id VALUE` or `--id=VALUE`, which may be left out.
-fn option<'a>(alloc: Global, id: &'a str) -> Arg<'a>
-    ensures rule { rule_of result ≡ option id.entry.now }
+/// The argument, for `clap`.
+fn arg_of<'a>(alloc: Global, parameter: Parameter<'a>) -> Arg<'a>
+    ensures rule { rule_of result ≡ rule_of_parameter parameter.entry }
     ensures local { result.global ≡ false }
 {
-    Arg::new(alloc, id).long(id)
-}
-
-/// `--id VALUE` or `--id=VALUE`, which is required.
-fn required_option<'a>(alloc: Global, id: &'a str) -> Arg<'a>
-    ensures rule { rule_of result ≡ required_option id.entry.now }
-    ensures local { result.global ≡ false }
-{
-    Arg::new(alloc, id).long(id).required(true)
+    match parameter {
+        Positional(id) => Arg::new(alloc, id).required(true),
+        Optional(id) => Arg::new(alloc, id).long(id),
+        Required(id) => Arg::new(alloc, id).long(id).required(true),
+    }
 }
 
 /// A command with only its own name, without help and version.
@@ -91,45 +86,19 @@ fn bare<'a>(alloc: Global, name: &'a str) -> Command<'a>
         .disable_version_flag(true)
 }
 
-/// The command with one more argument.
-fn with_arg<'a>(command: Command<'a>, arg: Arg<'a>) -> Result<Command<'a>, AllocError>
-    requires { arg.global ≡ false }
-    ensures { IfOk result (λ c. app_of c ≡ with_rule (app_of command.entry) (rule_of arg.entry)) }
-{
-    command.arg(arg)
-}
-
-/// The command with a required value without an option name.
-fn with_positional<'a>(
+/// A command with its name and its arguments, in order.
+fn command_with<'a>(
     alloc: Global,
-    command: Command<'a>,
-    id: &'a str,
+    name: &'a str,
+    parameters: &[Parameter<'a>],
 ) -> Result<Command<'a>, AllocError>
-    ensures { IfOk result (λ c. app_of c ≡ with_rule (app_of command.entry) (positional id.entry.now)) }
+    ensures { IfOk result (λ c. app_of c ≡ with_parameters (bare name.entry.now) parameters.now) }
 {
-    with_arg(command, positional(alloc, id))
-}
-
-/// The command with an option that may be left out.
-fn with_option<'a>(
-    alloc: Global,
-    command: Command<'a>,
-    id: &'a str,
-) -> Result<Command<'a>, AllocError>
-    ensures { IfOk result (λ c. app_of c ≡ with_rule (app_of command.entry) (option id.entry.now)) }
-{
-    with_arg(command, option(alloc, id))
-}
-
-/// The command with a required option.
-fn with_required<'a>(
-    alloc: Global,
-    command: Command<'a>,
-    id: &'a str,
-) -> Result<Command<'a>, AllocError>
-    ensures { IfOk result (λ c. app_of c ≡ with_rule (app_of command.entry) (required_option id.entry.now)) }
-{
-    with_arg(command, required_option(alloc, id))
+    let mut command = bare(alloc, name);
+    for parameter in parameters {
+        command = command.arg(arg_of(alloc, *parameter))?;
+    }
+    Ok(command)
 }
 
 /// `single MEAN STOCK [--variance V]`.
@@ -137,26 +106,15 @@ fn with_required<'a>(
 fn single_command<'a>(alloc: Global) -> Result<Command<'a>, AllocError>
     ensures { IfOk result (λ c. app_of c ≡ single_app) }
 {
-    let command = with_positional(alloc, bare(alloc, "single"), "mean")?;
-    let command = with_positional(alloc, command, "stock")?;
-    with_option(alloc, command, "variance")
-}
-
-/// The options that name the tables of a case.
-fn with_tables<'a>(alloc: Global, command: Command<'a>) -> Result<Command<'a>, AllocError>
-    ensures { IfOk result (λ c. app_of c ≡ with_tables (app_of command.entry)) }
-{
-    let command = with_required(alloc, command, "sites")?;
-    let command = with_required(alloc, command, "parts")?;
-    with_required(alloc, command, "rates")
-}
-
-/// A command with the tables of a case and one further option.
-fn tables_and<'a>(alloc: Global, name: &'a str, id: &'a str) -> Result<Command<'a>, AllocError>
-    ensures { IfOk result (λ c. app_of c ≡ tables_and name.entry.now id.entry.now) }
-{
-    let command = with_tables(alloc, bare(alloc, name))?;
-    with_required(alloc, command, id)
+    command_with(
+        alloc,
+        "single",
+        &[
+            Positional("mean"),
+            Positional("stock"),
+            Optional("variance"),
+        ],
+    )
 }
 
 /// `eval --sites F --parts F --rates F --stocks F [--bits N]`.
@@ -164,25 +122,17 @@ fn tables_and<'a>(alloc: Global, name: &'a str, id: &'a str) -> Result<Command<'
 fn eval_command<'a>(alloc: Global) -> Result<Command<'a>, AllocError>
     ensures { IfOk result (λ c. app_of c ≡ eval_app) }
 {
-    let command = tables_and(alloc, "eval", "stocks")?;
-    with_option(alloc, command, "bits")
-}
-
-/// The options of a plan's aim: the budget, the stocks on hand and the objective.
-fn with_aim<'a>(alloc: Global, command: Command<'a>) -> Result<Command<'a>, AllocError>
-    ensures { IfOk result (λ c. app_of c ≡ with_aim (app_of command.entry)) }
-{
-    let command = with_required(alloc, command, "budget")?;
-    let command = with_option(alloc, command, "on-hand")?;
-    with_option(alloc, command, "objective")
-}
-
-/// The options of the certificate that a plan writes.
-fn with_certificate<'a>(alloc: Global, command: Command<'a>) -> Result<Command<'a>, AllocError>
-    ensures { IfOk result (λ c. app_of c ≡ with_certificate (app_of command.entry)) }
-{
-    let command = with_required(alloc, command, "certificate")?;
-    with_option(alloc, command, "format")
+    command_with(
+        alloc,
+        "eval",
+        &[
+            Required("sites"),
+            Required("parts"),
+            Required("rates"),
+            Required("stocks"),
+            Optional("bits"),
+        ],
+    )
 }
 
 /// `plan --sites F --parts F --rates F [--on-hand F] --budget N [--format N] [--objective NAME] --certificate F`.
@@ -190,9 +140,20 @@ fn with_certificate<'a>(alloc: Global, command: Command<'a>) -> Result<Command<'
 fn plan_command<'a>(alloc: Global) -> Result<Command<'a>, AllocError>
     ensures { IfOk result (λ c. app_of c ≡ plan_app) }
 {
-    let command = with_tables(alloc, bare(alloc, "plan"))?;
-    let command = with_aim(alloc, command)?;
-    with_certificate(alloc, command)
+    command_with(
+        alloc,
+        "plan",
+        &[
+            Required("sites"),
+            Required("parts"),
+            Required("rates"),
+            Required("budget"),
+            Optional("on-hand"),
+            Optional("objective"),
+            Required("certificate"),
+            Optional("format"),
+        ],
+    )
 }
 
 /// `check --certificate F`.
@@ -200,7 +161,7 @@ fn plan_command<'a>(alloc: Global) -> Result<Command<'a>, AllocError>
 fn check_command<'a>(alloc: Global) -> Result<Command<'a>, AllocError>
     ensures { IfOk result (λ c. app_of c ≡ check_app) }
 {
-    with_required(alloc, bare(alloc, "check"), "certificate")
+    command_with(alloc, "check", &[Required("certificate")])
 }
 
 /// `demo NUMBER LINES`.
@@ -208,8 +169,7 @@ fn check_command<'a>(alloc: Global) -> Result<Command<'a>, AllocError>
 fn demo_command<'a>(alloc: Global) -> Result<Command<'a>, AllocError>
     ensures { IfOk result (λ c. app_of c ≡ demo_app) }
 {
-    let command = with_positional(alloc, bare(alloc, "demo"), "number")?;
-    with_positional(alloc, command, "lines")
+    command_with(alloc, "demo", &[Positional("number"), Positional("lines")])
 }
 
 /// `sweep --sites F --parts F --rates F`.
@@ -217,7 +177,11 @@ fn demo_command<'a>(alloc: Global) -> Result<Command<'a>, AllocError>
 fn sweep_command<'a>(alloc: Global) -> Result<Command<'a>, AllocError>
     ensures { IfOk result (λ c. app_of c ≡ sweep_app) }
 {
-    with_tables(alloc, bare(alloc, "sweep"))
+    command_with(
+        alloc,
+        "sweep",
+        &[Required("sites"), Required("parts"), Required("rates")],
+    )
 }
 
 /// `target --sites F --parts F --rates F --backorders X`.
@@ -225,7 +189,16 @@ fn sweep_command<'a>(alloc: Global) -> Result<Command<'a>, AllocError>
 fn target_command<'a>(alloc: Global) -> Result<Command<'a>, AllocError>
     ensures { IfOk result (λ c. app_of c ≡ target_app) }
 {
-    tables_and(alloc, "target", "backorders")
+    command_with(
+        alloc,
+        "target",
+        &[
+            Required("sites"),
+            Required("parts"),
+            Required("rates"),
+            Required("backorders"),
+        ],
+    )
 }
 
 /// `session --sites F --parts F --rates F --edits F`.
@@ -233,7 +206,16 @@ fn target_command<'a>(alloc: Global) -> Result<Command<'a>, AllocError>
 fn session_command<'a>(alloc: Global) -> Result<Command<'a>, AllocError>
     ensures { IfOk result (λ c. app_of c ≡ session_app) }
 {
-    tables_and(alloc, "session", "edits")
+    command_with(
+        alloc,
+        "session",
+        &[
+            Required("sites"),
+            Required("parts"),
+            Required("rates"),
+            Required("edits"),
+        ],
+    )
 }
 
 /// `compare --sites F --parts F --rates F --stocks F`.
@@ -241,7 +223,16 @@ fn session_command<'a>(alloc: Global) -> Result<Command<'a>, AllocError>
 fn compare_command<'a>(alloc: Global) -> Result<Command<'a>, AllocError>
     ensures { IfOk result (λ c. app_of c ≡ compare_app) }
 {
-    tables_and(alloc, "compare", "stocks")
+    command_with(
+        alloc,
+        "compare",
+        &[
+            Required("sites"),
+            Required("parts"),
+            Required("rates"),
+            Required("stocks"),
+        ],
+    )
 }
 
 /// A command with its arguments and options.

@@ -4,7 +4,7 @@ use price_certificate::Objective;
 use spares_io::Text;
 
 /// A number of the command line.
-#[derive(Clone, Copy, Debug, PartialEq, Eq)]
+#[derive(Clone, Copy, PartialEq, Eq)]
 pub enum Which {
     /// `MEAN`, with up to 4 decimals.
     Mean,
@@ -29,7 +29,7 @@ pub enum Which {
 }
 
 /// The reason why the words of a command line are no order.
-#[derive(Clone, Copy, Debug, PartialEq, Eq)]
+#[derive(Clone, Copy, PartialEq, Eq)]
 pub enum WordsFault {
     /// The first word names no command, or the command doesn't take the words after it.
     Shape,
@@ -40,7 +40,7 @@ pub enum WordsFault {
 }
 
 /// The order of a command line: a command with its values.
-#[derive(Debug, Drop, PartialEq, Eq)]
+#[derive(Drop, PartialEq, Eq)]
 pub enum Order {
     /// `single MEAN STOCK [--variance V]`: the backorders of one pipeline. Mean and variance are in units with 4
     /// decimals; the stock is at most 63 units. The default variance is the mean.

@@ -53,12 +53,12 @@ fn eval_order(alloc: Global, matches: &ArgMatches<'_>) -> Result<Order, Stop<Wor
         Ok(bits) => bits,
         Err(fault) => return Err(Stop::Fault(fault)),
     };
+    let stocks = copied(alloc, matches, "stocks")?;
     let Names {
         sites,
         parts,
         rates,
     } = names_of(alloc, matches)?;
-    let stocks = copied(alloc, matches, "stocks")?;
     Ok(Order::Eval {
         sites,
         parts,
@@ -100,13 +100,13 @@ fn plan_order(alloc: Global, matches: &ArgMatches<'_>) -> Result<Order, Stop<Wor
         Ok(terms) => terms,
         Err(fault) => return Err(Stop::Fault(fault)),
     };
+    let certificate = copied(alloc, matches, "certificate")?;
+    let on_hand = copied_if_given(alloc, matches, "on-hand")?;
     let Names {
         sites,
         parts,
         rates,
     } = names_of(alloc, matches)?;
-    let on_hand = copied_if_given(alloc, matches, "on-hand")?;
-    let certificate = copied(alloc, matches, "certificate")?;
     Ok(Order::Plan {
         sites,
         parts,
@@ -183,12 +183,12 @@ fn session_order(alloc: Global, matches: &ArgMatches<'_>) -> Result<Order, Stop<
     ensures order { Gives (session_of (rows_of (found_of matches.now))) result }
     ensures range { IfOk result IsInRange }
 {
+    let edits = copied(alloc, matches, "edits")?;
     let Names {
         sites,
         parts,
         rates,
     } = names_of(alloc, matches)?;
-    let edits = copied(alloc, matches, "edits")?;
     Ok(Order::Session {
         sites,
         parts,
@@ -202,12 +202,12 @@ fn compare_order(alloc: Global, matches: &ArgMatches<'_>) -> Result<Order, Stop<
     ensures order { Gives (compare_of (rows_of (found_of matches.now))) result }
     ensures range { IfOk result IsInRange }
 {
+    let stocks = copied(alloc, matches, "stocks")?;
     let Names {
         sites,
         parts,
         rates,
     } = names_of(alloc, matches)?;
-    let stocks = copied(alloc, matches, "stocks")?;
     Ok(Order::Compare {
         sites,
         parts,

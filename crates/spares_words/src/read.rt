@@ -33,11 +33,10 @@ fn read_command(alloc: Global, name: CommandName, words: &[Text]) -> Result<Orde
     ensures order { Gives (by_command name words.now) result }
     ensures range { IfOk result IsInRange }
 {
-    let matches = match parsed(command_of(alloc, name)?, words) {
-        Ok(matches) => matches,
-        Err(stop) => return Err(stop),
-    };
-    order_named(alloc, name, &matches)
+    match parsed(command_of(alloc, name)?, words) {
+        Ok(matches) => order_named(alloc, name, &matches),
+        Err(stop) => Err(stop),
+    }
 }
 
 /// The order of the words after the program's name.

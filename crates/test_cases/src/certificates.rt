@@ -43,7 +43,7 @@ const LARGE: &str = "spares-certificate,1\n\
     upper,38685626227668133590597632\nbound,0\nend\n";
 
 /// The answer for a certificate's bytes.
-#[derive(Clone, Copy, Debug, PartialEq, Eq)]
+#[derive(Clone, Copy, PartialEq, Eq)]
 enum Answer {
     /// The bytes are no certificate.
     Unread(CertFault),
@@ -253,7 +253,7 @@ fn meets(
 ) -> Result<(), Fail> {
     for (text, changes, wanted) in rows {
         let bytes = bytes_of(alloc, text, changes)?;
-        assert_eq!(rt; answer_of(alloc, bytes.as_slice()), *wanted, "{text}");
+        assert!(rt; answer_of(alloc, bytes.as_slice()) == *wanted, "{text}");
     }
     Ok(())
 }

@@ -1,5 +1,5 @@
 use crate::helpers::{Ended, empty_shelf, ends, sink, words_of};
-use spares_top::{Done, Refusal, run, status};
+use spares_top::{Refusal, run, status};
 use std::alloc::Global;
 use std::process::Abort;
 use std::test::Fail;
@@ -172,7 +172,7 @@ fn keeps_a_prefix_of_the_report(rt: HostRuntime) -> Result<(), Fail> {
         let mut out = sink(alloc, room, fails)?;
         let mut err = sink(alloc, 100, &[])?;
         let answer = run(alloc, words.as_slice(), &mut shelf, &mut out, &mut err);
-        assert!(rt; answer == Err::<Done, Refusal>(Refusal::WriteFault));
+        assert!(rt; matches!(answer, Err(Refusal::WriteFault)));
         assert_eq!(rt; status(&answer), 6);
         assert_eq!(rt; out.bytes(), held.as_bytes());
         assert_eq!(rt; err.bytes(), b"fault,write\n".as_slice());

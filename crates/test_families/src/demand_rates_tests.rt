@@ -59,9 +59,8 @@ const LIMITS: [(u64, u64, Result<(), RateFault>); 10] = [
 
 fn answers(rt: &impl Abort, rows: &[(u64, u64, Result<(), RateFault>)]) {
     for (mean, variance, want) in rows {
-        assert_eq!(rt;
-            check_single(decimal(*mean), decimal(*variance)),
-            *want,
+        assert!(rt;
+            check_single(decimal(*mean), decimal(*variance)) == *want,
             "at {mean} and {variance}"
         );
     }

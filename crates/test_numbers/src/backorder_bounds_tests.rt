@@ -2,7 +2,7 @@
 
 ghost use Rattle.moment_table.specs.Inputs.{CanTable};
 
-use backorder_bounds::put_lows;
+use backorder_bounds::Walk;
 use fixed_interval::Iv;
 use moment_table::row_at;
 use std::alloc::Global;
@@ -36,12 +36,12 @@ fn are_near(
 ) -> Result<(), Fail>
     requires { CanTable 48 mean variance }
 {
-    let mut lows = [0u64; 8];
-    put_lows(&mut lows, mean, variance);
+    let mut walk = Walk::of(mean, variance);
     for s in 0..8u8 {
         let end = row_at(alloc, mean, variance, s)?.ebo.lo();
-        let low = u128::from(lows[usize::from(s)]);
+        let low = u128::from(walk.low());
         assert!(rt; low <= end && end - low <= lack);
+        walk.advance();
     }
     Ok(())
 }
@@ -63,12 +63,24 @@ fn bounds_are_near(rt: HostRuntime) -> Result<(), Fail> {
     Ok(())
 }
 
+/// The bounds at the stocks 0 to 3.
+fn first_lows(mean: Iv<48>, variance: Iv<48>) -> [u64; 4]
+    requires { CanTable 48 mean variance }
+{
+    let mut walk = Walk::of(mean, variance);
+    let mut lows = [0; 4];
+    for s in 0..4u8 {
+        lows[usize::from(s)] = walk.low();
+        walk.advance();
+    }
+    lows
+}
+
 #[test]
 fn bounds_of_large_and_empty_pipelines_fall_by_one(rt: HostRuntime) -> Result<(), Fail> {
-    let mut lows = [9u64; 4];
-    put_lows(&mut lows, Iv::<48>::exact(0), Iv::exact(0));
-    assert_eq!(rt; lows, [0, 0, 0, 0]);
-    put_lows(&mut lows, Iv::<48>::exact(9), Iv::exact(9));
-    assert_eq!(rt; lows, [9 << 48, 8 << 48, 7 << 48, 6 << 48]);
+    let empty = first_lows(Iv::exact(0), Iv::exact(0));
+    assert_eq!(rt; empty, [0, 0, 0, 0]);
+    let large = first_lows(Iv::exact(9), Iv::exact(9));
+    assert_eq!(rt; large, [9 << 48, 8 << 48, 7 << 48, 6 << 48]);
     Ok(())
 }

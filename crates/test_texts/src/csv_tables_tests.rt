@@ -28,7 +28,7 @@ enum File {
 }
 
 /// The reason why files are no case or no stocks.
-#[derive(Clone, Copy, Debug, Drop, PartialEq, Eq)]
+#[derive(Clone, Copy, Drop, PartialEq, Eq)]
 enum Refusal {
     NoMemory,
     Table(TableFault),

@@ -24,14 +24,13 @@ fn order_of_line(alloc: Global, line: &str) -> Result<Order, Stop<WordsFault>> {
 
 /// The words have this order.
 fn gives(rt: &impl Abort, alloc: Global, line: &str, want: Order) {
-    assert_eq!(rt; order_of_line(alloc, line), Ok(want), "at {line}");
+    assert!(rt; order_of_line(alloc, line) == Ok(want), "at {line}");
 }
 
 /// The words are refused with this fault.
 fn refuses(rt: &impl Abort, alloc: Global, line: &str, want: WordsFault) {
-    assert_eq!(rt;
-        order_of_line(alloc, line),
-        Err(Stop::Fault(want)),
+    assert!(rt;
+        order_of_line(alloc, line) == Err(Stop::Fault(want)),
         "at {line}"
     );
 }
@@ -398,7 +397,7 @@ fn refuses_words_and_numbers(rt: HostRuntime) -> Result<(), Fail> {
 fn refuses_no_words(rt: HostRuntime) -> Result<(), Fail> {
     let none: [Text; 0] = [];
     let answer = read_words(rt.alloc(), none.as_slice());
-    assert_eq!(rt; answer, Err(Stop::Fault(Shape)));
+    assert!(rt; answer == Err(Stop::Fault(Shape)));
     Ok(())
 }
 

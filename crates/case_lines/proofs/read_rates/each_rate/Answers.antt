@@ -1,4 +1,5 @@
-use Rattle.std.proofs.Common.{Vec, Global, ◌*◌, length}
+use Rattle.std.proofs.Common.{Vec, Global, ◌*◌, length, arith}
+use Rattle.std.proofs.lemmas.Nat.{mul-le}
 use Rattle.std.proofs.lemmas.Result.{err_from_is_err_and}
 use Rattle.line_text.specs.Formats.{each}
 use Rattle.line_text.specs.Texts.{numbers_from}
@@ -20,3 +21,18 @@ loop-i-preserved c =
     let n = length c.args.parts.now * length c.args.sites.now in
     rw c.in_ok-push.ensures.items (step (λ _ i. rate_line (pair_at c.args.sites.now c.args.parts.now i)) c.loop-i.found.items n c.loop-i.i c.loop-i.lines c.rate_at.new.lines c.in_ok-rate.rate ((each (numbers_from 0 n) (λ i. rate_line (pair_at c.args.sites.now c.args.parts.now i))).read c.args.lines.now)
     c.loop-i-test.true c.in_ok-rate.ensures c.loop-i.invariant)
+
+pub overflow_mul-pairs : goal.overflow_mul-pairs
+overflow_mul-pairs c = omega (arith, mul-le (length c.args.parts.now) (length c.args.sites.now) 2000 16 c.requires.few_parts c.requires.few_sites)
+
+pub rate_at-requires-clause-some_sites : goal.rate_at-requires-clause-some_sites
+rate_at-requires-clause-some_sites c = c.requires.some_sites
+
+pub rate_at-requires-clause-few_sites : goal.rate_at-requires-clause-few_sites
+rate_at-requires-clause-few_sites c = c.requires.few_sites
+
+pub rate_at-requires-clause-few_parts : goal.rate_at-requires-clause-few_parts
+rate_at-requires-clause-few_parts c = c.requires.few_parts
+
+pub rate_at-requires-clause-within : goal.rate_at-requires-clause-within
+rate_at-requires-clause-within c = c.loop-i-test.true

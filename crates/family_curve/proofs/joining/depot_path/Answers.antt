@@ -1,118 +1,24 @@
-use Rattle.std.proofs.Common.{◌≡◌, ℕ, ◌+◌, ◌-◌, ◌<◌, ◌≤◌, ◌∙◌, get_or, List, [], ◌∷◌, ◌++◌, length, set, sum_by, sym, take, ap, subst, arith}
-use Rattle.std.specs.List.{range_with_len}
-use Rattle.std.proofs.lemmas.List.{take_all, take_more_set}
-use Rattle.std.proofs.Math.ListN.{length-set}
+use Rattle.std.proofs.Common.{◌+◌, ◌≤◌, List, [], ◌∷◌, ◌++◌, length, sum_by, sym, ap, subst, arith}
+use Rattle.std.proofs.lemmas.Result.{IfOk-weaker}
 use Rattle.hull.specs.declared.point.Point.{Point}
-use Rattle.hull.specs.Curves.{Among, IsCurve, StandFor}
+use Rattle.hull.specs.Curves.{Among, StandFor}
 use Rattle.hull.proofs.Stand.{stand_for_both}
 use Rattle.hull.proofs.StepsOf.{stand_self, stand_trans}
-use Rattle.fleet_model.specs.Laws.{IsBase}
-use Rattle.family_points.specs.declared.order.Base.{Base}
-use Rattle.family_points.specs.Separation.{base_points, depot_point, depot_points, points_over}
-use Rattle.family_points.specs.Inputs.{FamilyBox, vector_count}
-use Rattle.family_points.specs.Choices.{AreBases}
+use Rattle.family_points.specs.Separation.{depot_point, depot_points}
+use Rattle.family_points.specs.Inputs.{vertex_count}
 use Rattle.sum_walk.specs.Sums.{sums_of_each}
-use Rattle.family_curve.proofs.Bases.{base_more, lengths_one_more}
-use Rattle.family_points.proofs.AllBases.{base_read, bases_long}
-use Rattle.family_points.proofs.Points.{over_count_more, room_at}
+use Rattle.family_points.proofs.AllBases.{bases_long}
 use Rattle.family_curve.proofs.joining.depot_path.Goals as goal
-
-pub loop-j-init : goal.loop-j-init
-loop-j-init g c =
-    let x = c.args.sources.now.family.now in
-    let first : List Point = depot_point x.case x.line x.held c.args.depot.now ∷ [] in
-    record {
-      stands = subst (λ (p : Point). StandFor first (p ∷ [])) (sym c.in_ok-first.ensures.point) (stand_self first);
-      few = omega arith;
-      count = c.requires.work;
-    }
-
-pub index-base-requires : goal.index-base-requires
-index-base-requires g c =
-    omega (
-      arith,
-      bases_long c.args.sources.now.family.now c.args.sources.now.bases.items c.requires.sources.bases,
-      c.args.sources.now.bases.ok.0,
-      c.loop-j.auto.j,
-      c.loop-j-test.true,
-      c.sites-j-end.ensures.sites,
-      c.from-place.ensures,
-    )
-
-pub of-here-requires : goal.of-here-requires
-of-here-requires g c =
-    let x = c.args.sources.now.family.now in
-    let bases = c.args.sources.now.bases.items in
-    let some : 0 < c.loop-j.j = omega (arith, c.loop-j.auto.j) in
-    let most : c.loop-j.j < length x.case.sites = omega (arith, c.loop-j-test.true, c.sites-j-end.ensures.sites) in
-    record {
-      depot = c.requires.depot;
-      site = (some, most);
-      base = base_read x c.loop-j.j bases c.index-base.result.now c.requires.sources.bases some most
-          (c.index-base.ensures ∙ ap (λ n. get_or bases (n - 1) c.index-base.result.now) c.from-place.ensures);
-    }
-
-pub index_mut-requires : goal.index_mut-requires
-index_mut-requires g c =
-    omega (
-      arith,
-      bases_long c.args.sources.now.family.now c.args.sources.now.bases.items c.requires.sources.bases,
-      c.loop-j.invariant.count,
-      c.loop-j.work.chains.ok.0,
-      c.loop-j.auto.j,
-      c.loop-j-test.true,
-      c.sites-j-end.ensures.sites,
-      c.from-place.ensures,
-    )
-
-pub put_curve-requires-clause-room : goal.put_curve-requires-clause-room
-put_curve-requires-clause-room g c =
-    let x = c.args.sources.now.family.now in
-    let here = c.of-here.result in
-    let room : vector_count x c.loop-j.j ≤ 65000000 =
-    omega (arith, c.requires.room, room_at x c.loop-j.j (omega (arith, c.loop-j.auto.j)) (omega (arith, c.loop-j-test.true, c.sites-j-end.ensures.sites))) in
-    subst (λ (y : FamilyBox). vector_count y here.site.0 ≤ 65000000) (sym c.of-here.ensures.family)
-    (subst (λ k. vector_count x k ≤ 65000000) (sym c.of-here.ensures.site) room)
-
-pub loop-j-preserved : goal.loop-j-preserved
-loop-j-preserved g c =
-    let x = c.args.sources.now.family.now in
-    let d = c.args.depot.now in
-    let j = c.loop-j.j in
-    let ends = g.S.Score.ends in
-    let here = c.of-here.result in
-    let chain : List Point = c.put_curve.new.chain in
-    let chains : List (List Point) = c.loop-j.work.chains.items in
-    let on : IsBase x.case j = (omega (arith, c.loop-j.auto.j), omega (arith, c.loop-j-test.true, c.sites-j-end.ensures.sites)) in
-    let inside : j - 1 < length chains =
-    omega (arith, on.0, on.1, c.loop-j.invariant.count, bases_long x c.args.sources.now.bases.items c.requires.sources.bases) in
-    let next : j + 1 - 1 ≡ j - 1 + 1 = omega (arith, on.0) in
-    let put : List (List Point) = set chains (c.from-place.result - 1) chain in
-    let made : take (j + 1 - 1) put ≡ take (j - 1) chains ++ chain ∷ [] =
-    ap (λ n. take n put) next ∙ ap (λ n. take (j - 1 + 1) (set chains (n - 1) chain)) c.from-place.ensures ∙ take_more_set chains (j - 1) chain inside in
-    let curve : IsCurve (base_points x.case x.line ends x.held x.low x.high d j) chain =
-    subst (λ k. IsCurve (base_points x.case x.line ends x.held x.low x.high d k) chain) c.of-here.ensures.site
-    (subst (λ (v : List ℕ). IsCurve (base_points x.case x.line ends x.held x.low x.high v here.site.0) chain) c.of-here.ensures.depot
-    (subst (λ (y : FamilyBox). IsCurve (base_points y.case y.line ends y.held y.low y.high here.depot.now here.site.0) chain) c.of-here.ensures.family c.in_ok-put_curve.ensures.curve)) in
-    let few : length chain ≤ vector_count x j =
-    subst (λ k. length chain ≤ vector_count x k) c.of-here.ensures.site
-    (subst (λ (y : FamilyBox). length chain ≤ vector_count y here.site.0) c.of-here.ensures.family c.in_ok-put_curve.ensures.few) in
-    record {
-      stands = base_more x c.size-size.ensures.valid ends g.met.S.Score.leaves_room d c.requires.depot c.in_ok-first.first j (take (j - 1) chains) (take (j + 1 - 1) put) chain on
-          c.loop-j.invariant.stands curve made;
-      few = omega (arith, few, over_count_more x j c.loop-j.auto.j, c.loop-j.invariant.few, ap (sum_by length) made, lengths_one_more (take (j - 1) chains) chain);
-      count = simp length-set c.loop-j.invariant.count;
-    }
 
 pub walk-requires-clause-some : goal.walk-requires-clause-some
 walk-requires-clause-some g c =
     omega (
       arith,
       ap length c.as_slice.ensures.value,
-      c.loop-j.invariant.count,
+      c.in_ok-put_curves.ensures.work,
       bases_long c.args.sources.now.family.now c.args.sources.now.bases.items c.requires.sources.bases,
-      c.sites-j-end.ensures.sites,
-      c.sites-j-end.ensures.fewest,
+      c.sites-sites.ensures.sites,
+      c.sites-sites.ensures.fewest,
     )
 
 pub walk-requires-clause-few : goal.walk-requires-clause-few
@@ -120,64 +26,40 @@ walk-requires-clause-few g c =
     omega (
       arith,
       ap length c.as_slice.ensures.value,
-      c.loop-j.invariant.count,
+      c.in_ok-put_curves.ensures.work,
       bases_long c.args.sources.now.family.now c.args.sources.now.bases.items c.requires.sources.bases,
-      c.sites-j-end.ensures.sites,
-      c.sites-j-end.ensures.most,
+      c.sites-sites.ensures.sites,
+      c.sites-sites.ensures.most,
     )
-
--- the curves that were made are those of all bases
-made_all : (x : FamilyBox) (chains : List (List Point)) (bases : List Base) (j : ℕ) → AreBases x bases → length chains ≡ length bases → j - 1 ≡ length x.case.sites - 1
-    → take (j - 1) chains ≡ chains
-made_all x chains bases j are same last = take_all (j - 1) chains (omega (arith, same, last, bases_long x bases are))
 
 pub returns-clause-stands : goal.returns-clause-stands
 returns-clause-stands g c =
     let x = c.args.sources.now.family.now in
-    let d = c.args.depot.now in
-    let ends = g.S.Score.ends in
     let below = c.args.below.now in
-    let path = c.in_ok-path.path.items in
-    let chains : List (List Point) = c.loop-j.work.chains.items in
-    let points : List Point = depot_points x.case x.line ends x.held x.low x.high d in
-    let all : List Point = sums_of_each (c.in_ok-first.first ∷ []) chains in
-    let last : c.loop-j.j - 1 ≡ length x.case.sites - 1 =
-    omega (arith, c.loop-j-test.false, c.loop-j.auto.j-end (omega (arith, c.sites-j-end.ensures.fewest)), c.sites-j-end.ensures.sites) in
+    let points : List Point = depot_points x.case x.line g.S.Score.ends x.held x.low x.high c.args.depot.now in
+    let all : List Point = sums_of_each (c.in_ok-first.first ∷ []) c.as_slice.result.now in
     let stand : StandFor points all =
-    subst (λ n. StandFor (points_over x.case x.line ends x.held x.low x.high d (range_with_len 1 n)) all) last
-    (subst (λ (ls : List (List Point)). StandFor (points_over x.case x.line ends x.held x.low x.high d (range_with_len 1 (c.loop-j.j - 1))) (sums_of_each (c.in_ok-first.first ∷ []) ls))
-    (made_all x chains c.args.sources.now.bases.items c.loop-j.j c.requires.sources.bases c.loop-j.invariant.count last) c.loop-j.invariant.stands) in
-    let passed : StandFor (below ++ all) (below ++ path) =
-    subst (λ (ls : List (List Point)). StandFor (below ++ sums_of_each (c.in_ok-first.first ∷ []) ls) (below ++ path)) c.as_slice.ensures.value c.in_ok-path.ensures.stands in
-    stand_trans (below ++ points) (below ++ all) (below ++ path) (stand_for_both below points below all (stand_self below) stand) passed
+    subst (λ (p : Point). StandFor points (sums_of_each (p ∷ []) c.as_slice.result.now)) (sym c.in_ok-first.ensures.point)
+    (subst (λ (ls : List (List Point)). StandFor points (sums_of_each (depot_point x.case x.line x.held c.args.depot.now ∷ []) ls)) (sym c.as_slice.ensures.value)
+    c.in_ok-put_curves.ensures.stands) in
+    IfOk-weaker c.walk.result (λ path. StandFor (below ++ all) (below ++ path.items)) (λ path. StandFor (below ++ points) (below ++ path.items))
+    (λ path passed. stand_trans (below ++ points) (below ++ all) (below ++ path.items) (stand_for_both below points below all (stand_self below) stand) passed) c.walk.ensures.stands
 
 pub returns-clause-among : goal.returns-clause-among
 returns-clause-among g c =
     let x = c.args.sources.now.family.now in
-    let d = c.args.depot.now in
-    let ends = g.S.Score.ends in
-    let path = c.in_ok-path.path.items in
-    let chains : List (List Point) = c.loop-j.work.chains.items in
-    let points : List Point = depot_points x.case x.line ends x.held x.low x.high d in
-    let all : List Point = sums_of_each (c.in_ok-first.first ∷ []) chains in
-    let last : c.loop-j.j - 1 ≡ length x.case.sites - 1 =
-    omega (arith, c.loop-j-test.false, c.loop-j.auto.j-end (omega (arith, c.sites-j-end.ensures.fewest)), c.sites-j-end.ensures.sites) in
+    let points : List Point = depot_points x.case x.line g.S.Score.ends x.held x.low x.high c.args.depot.now in
+    let all : List Point = sums_of_each (c.in_ok-first.first ∷ []) c.as_slice.result.now in
     let stand : StandFor points all =
-    subst (λ n. StandFor (points_over x.case x.line ends x.held x.low x.high d (range_with_len 1 n)) all) last
-    (subst (λ (ls : List (List Point)). StandFor (points_over x.case x.line ends x.held x.low x.high d (range_with_len 1 (c.loop-j.j - 1))) (sums_of_each (c.in_ok-first.first ∷ []) ls))
-    (made_all x chains c.args.sources.now.bases.items c.loop-j.j c.requires.sources.bases c.loop-j.invariant.count last) c.loop-j.invariant.stands) in
-    let among : (v : Point) → Among v path → Among v all =
-    subst (λ (ls : List (List Point)). (v : Point) → Among v path → Among v (sums_of_each (c.in_ok-first.first ∷ []) ls)) c.as_slice.ensures.value c.in_ok-path.ensures.among in
-    λ v m. stand.among v (among v m)
+    subst (λ (p : Point). StandFor points (sums_of_each (p ∷ []) c.as_slice.result.now)) (sym c.in_ok-first.ensures.point)
+    (subst (λ (ls : List (List Point)). StandFor points (sums_of_each (depot_point x.case x.line x.held c.args.depot.now ∷ []) ls)) (sym c.as_slice.ensures.value)
+    c.in_ok-put_curves.ensures.stands) in
+    IfOk-weaker c.walk.result (λ path. (v : Point) → Among v path.items → Among v all) (λ path. (v : Point) → Among v path.items → Among v points)
+    (λ path among v m. stand.among v (among v m)) c.walk.ensures.among
 
 pub returns-clause-few : goal.returns-clause-few
 returns-clause-few g c =
-    let x = c.args.sources.now.family.now in
-    let chains : List (List Point) = c.loop-j.work.chains.items in
-    let last : c.loop-j.j - 1 ≡ length x.case.sites - 1 =
-    omega (arith, c.loop-j-test.false, c.loop-j.auto.j-end (omega (arith, c.sites-j-end.ensures.fewest)), c.sites-j-end.ensures.sites) in
-    let few : 1 + sum_by length chains ≤ 1 + sum_by (vector_count x) (range_with_len 1 (length x.case.sites - 1)) =
-    subst (λ n. 1 + sum_by length chains ≤ 1 + sum_by (vector_count x) (range_with_len 1 n)) last
-    (subst (λ (ls : List (List Point)). 1 + sum_by length ls ≤ 1 + sum_by (vector_count x) (range_with_len 1 (c.loop-j.j - 1)))
-    (made_all x chains c.args.sources.now.bases.items c.loop-j.j c.requires.sources.bases c.loop-j.invariant.count last) c.loop-j.invariant.few) in
-    omega (arith, few, c.in_ok-path.ensures.few, ap (sum_by length) c.as_slice.ensures.value)
+    let most : 1 + sum_by length c.as_slice.result.now ≤ vertex_count c.args.sources.now.family.now =
+    subst (λ (ls : List (List Point)). 1 + sum_by length ls ≤ vertex_count c.args.sources.now.family.now) (sym c.as_slice.ensures.value) c.in_ok-put_curves.ensures.few in
+    IfOk-weaker c.walk.result (λ path. length path.items ≤ 1 + sum_by length c.as_slice.result.now) (λ path. length path.items ≤ vertex_count c.args.sources.now.family.now)
+    (λ path few. omega (arith, few, most)) c.walk.ensures.few

@@ -1,4 +1,4 @@
-use Rattle.std.proofs.Common.{◌≡◌, ℕ, ◌-◌, ◌*◌, ◌<◌, ◌∷◌, ◌++◌, List, [], drop, get_or, length, flat_map, sym, ap, ◌∙◌, subst, arith}
+use Rattle.std.proofs.Common.{◌≡◌, ℕ, ◌-◌, ◌*◌, ◌<◌, ◌∷◌, List, [], drop, get_or, length, flat_map, sym, ap, subst, arith}
 use Rattle.hull.specs.declared.point.Point.{Point}
 use Rattle.hull.specs.Curves.{IsCurve}
 use Rattle.family_points.specs.Separation.{depot_points}
@@ -6,6 +6,12 @@ use Rattle.family_points.specs.Inputs.{line_stocks, shop_vectors, vertex_count}
 use Rattle.family_curve.proofs.Grown.{curve_grows_back, room_for}
 use Rattle.family_points.proofs.Points.{all_depots, flat_before, flat_last, one_of, whole_room}
 use Rattle.family_curve.proofs.joining.whole_curve.Goals as goal
+
+pub with_shops-requires-clause-number : goal.with_shops-requires-clause-number
+with_shops-requires-clause-number g c = omega (arith, c.shop_count-count.ensures.some, c.shop_count-count.ensures.count)
+
+pub with_shops-requires-in-loop-n-clause-number : goal.with_shops-requires-in-loop-n-clause-number
+with_shops-requires-in-loop-n-clause-number g c = omega (arith, c.loop-n-test.true, c.shop_count-count.ensures.count)
 
 pub with_shops-requires-clause-room : goal.with_shops-requires-clause-room
 with_shops-requires-clause-room g c =
@@ -21,11 +27,11 @@ loop-n-init g c =
     let at : List ℕ → List Point = depot_points x.case x.line g.S.Score.ends x.held x.low x.high in
     let own : List ℕ → List Point = λ d. flat_map (λ s. at (s ∷ d)) (line_stocks x 0) in
     let some : 0 < length all = omega (arith, c.shop_count-count.ensures.some, c.shop_count-count.ensures.count) in
-    let last : c.in_ok-first.first.items ≡ get_or all (length all - 1) [] = c.in_ok-first.ensures.vector ∙ ap (λ n. get_or all (n - 1) []) c.shop_count-count.ensures.count in
+    let first : List ℕ = get_or all (c.shop_count-count.result - 1) [] in
+    let last : first ≡ get_or all (length all - 1) [] = ap (λ n. get_or all (n - 1) []) c.shop_count-count.ensures.count in
     record {
       few = omega (arith, c.in_ok-curve.ensures.few);
-      curve = subst (λ (ps : List Point). IsCurve ps c.in_ok-curve.curve) (ap own c.as_slice.ensures.value ∙ sym (flat_last own all c.in_ok-first.first.items some last))
-          c.in_ok-curve.ensures.curve;
+      curve = subst (λ (ps : List Point). IsCurve ps c.in_ok-curve.curve) (sym (flat_last own all first some last)) c.in_ok-curve.ensures.curve;
       work = c.in_ok-curve.ensures.work;
       widths = c.in_ok-curve.ensures.widths;
     }
@@ -44,15 +50,14 @@ loop-n-preserved g c =
     let all : List (List ℕ) = shop_vectors x 0 in
     let at : List ℕ → List Point = depot_points x.case x.line g.S.Score.ends x.held x.low x.high in
     let own : List ℕ → List Point = λ d. flat_map (λ s. at (s ∷ d)) (line_stocks x 0) in
-    let stocks = c.in_ok-stocks.stocks.items in
+    let stocks : List ℕ = get_or all (c.shop_count-count.result - 1 - n) [] in
     let made : List Point = c.in_ok-curve-2.curve in
     let within : n < length all = omega (arith, c.loop-n-test.true, c.shop_count-count.ensures.count) in
-    let is : stocks ≡ get_or all (length all - 1 - n) [] = c.in_ok-stocks.ensures.vector ∙ ap (λ k. get_or all (k - 1 - n) []) c.shop_count-count.ensures.count in
-    let here : IsCurve (c.loop-n.curve ++ own stocks) made = subst (λ (v : List ℕ). IsCurve (c.loop-n.curve ++ own v) made) c.as_slice-in-loop-n.ensures.value c.in_ok-curve-2.ensures.curve in
+    let is : stocks ≡ get_or all (length all - 1 - n) [] = ap (λ k. get_or all (k - 1 - n) []) c.shop_count-count.ensures.count in
     record {
       few = omega (arith, c.in_ok-curve-2.ensures.few, c.loop-n.invariant.few);
       curve = subst (λ (ps : List Point). IsCurve ps made) (sym (flat_before own all n stocks within is))
-          (curve_grows_back (flat_map own (drop (length all - n) all)) (own stocks) c.loop-n.curve made c.loop-n.invariant.curve here);
+          (curve_grows_back (flat_map own (drop (length all - n) all)) (own stocks) c.loop-n.curve made c.loop-n.invariant.curve c.in_ok-curve-2.ensures.curve);
       work = c.in_ok-curve-2.ensures.work;
       widths = c.in_ok-curve-2.ensures.widths;
     }

@@ -49,14 +49,14 @@ loop-j-preserved g c =
     let q = c.args.price.q in
     let ends = g.S.Score.ends in
     let here = c.of-here.result in
-    let m = c.low_at_base-low.result in
+    let m = c.lows_at_base-low.result.at_low in
     let base : AreAtLeast p q m (base_points x.case x.line ends x.held x.low x.high d j) =
     subst (λ k. AreAtLeast p q m (base_points x.case x.line ends x.held x.low x.high d k)) c.of-here.ensures.site
     (subst (λ (v : List ℕ). AreAtLeast p q m (base_points x.case x.line ends x.held x.low x.high v here.site.0)) c.of-here.ensures.depot
-    (subst (λ (y : FamilyBox). AreAtLeast p q m (base_points y.case y.line ends y.held y.low y.high here.depot.now here.site.0)) c.of-here.ensures.family c.low_at_base-low.ensures.low)) in
+    (subst (λ (y : FamilyBox). AreAtLeast p q m (base_points y.case y.line ends y.held y.low y.high here.depot.now here.site.0)) c.of-here.ensures.family c.lows_at_base-low.ensures.at_low)) in
     record {
       low = base_under_more x ends d p q j c.loop-j.low m (omega (arith, c.loop-j.auto.j)) c.loop-j.invariant.low base;
-      most = omega (arith, c.loop-j.invariant.most, c.low_at_base-low.ensures.most);
+      most = omega (arith, c.loop-j.invariant.most, c.lows_at_base-low.ensures.most.0);
     }
 
 pub returns : goal.returns

@@ -1,4 +1,4 @@
-use Rattle.std.proofs.Common.{◌≡◌, ◌++◌, ◌∷◌, [], length, ap, ◌∙◌, subst, arith, vec_len}
+use Rattle.std.proofs.Common.{◌≡◌, length, subst, arith, vec_len}
 use Rattle.gap_rules.specs.Reading.{parts_at}
 use Rattle.gap_rules.proofs.ReadingLaws.{AreParts, reads_nothing, reads_cost, reads_whole, reads_split, reads_gap, parts_of, no_parts, popped_ordered, split_ordered}
 use Rattle.gap_rules.proofs.reading.read_node.Goals as goal
@@ -10,22 +10,19 @@ returns-in_default-clause-reads c = λ nodes. (
     reads_nothing c.args.waiting.now.items c.args.node nodes (omega (arith, e, l))
     )
 
-own_parts : (c : goal.In_ok-push-in-Some-2-2) → AreParts c.in-Some.bounds c.in-Split.at c.in-Split.from c.in-Some-2.fewer c.in-Some-2.as_many
+own_parts : (c : goal.In_ok-wait-in-Some-2) → AreParts c.in-Some.bounds c.in-Split.at c.in-Split.from c.in-Some-2.fewer c.in-Some-2.as_many
 own_parts c = parts_of c.in-Some.bounds c.in-Split.at c.in-Split.from c.in_ok-fewer-in-Split.field-0 c.in-Some-2.fewer c.in-Some-2.as_many
     (subst (λ z. c.in_ok-fewer-in-Split.field-0 ≡ parts_at c.in-Some.bounds z c.in-Split.from) c.from.ensures c.in_ok-fewer-in-Split.ensures) c.in-Some-2.is
 
-both_pushed : (c : goal.In_ok-push-in-Some-2-2) → c.push-in-Some-2.new.self.items ≡ (c.pop.new.self.items ++ c.in-Some-2.as_many ∷ []) ++ c.in-Some-2.fewer ∷ []
-both_pushed c = c.in_ok-push-in-Some-2-2.ensures.items ∙ ap (λ z. z ++ c.in-Some-2.fewer ∷ []) c.in_ok-push-in-Some-2.ensures.items
+pub returns-in_ok-wait-in-Some-2-clause-reads : goal.returns-in_ok-wait-in-Some-2-clause-reads
+returns-in_ok-wait-in-Some-2-clause-reads c = λ nodes.
+    reads_split c.args.waiting.now.items c.pop.new.self.items c.wait.new.waiting.items c.in-Some.bounds c.in-Some-2.fewer c.in-Some-2.as_many c.args.node nodes c.in-Split.at c.in-Split.from c.in-Split.is
+    c.in-Some.ensures.items (own_parts c) c.in_ok-wait-in-Some-2.ensures
 
-pub returns-in_ok-push-in-Some-2-2-clause-reads : goal.returns-in_ok-push-in-Some-2-2-clause-reads
-returns-in_ok-push-in-Some-2-2-clause-reads c = λ nodes.
-    reads_split c.args.waiting.now.items c.pop.new.self.items c.push-in-Some-2.new.self.items c.in-Some.bounds c.in-Some-2.fewer c.in-Some-2.as_many c.args.node nodes c.in-Split.at c.in-Split.from c.in-Split.is
-    c.in-Some.ensures.items (own_parts c) (both_pushed c)
-
-pub returns-in_ok-push-in-Some-2-2-clause-ordered : goal.returns-in_ok-push-in-Some-2-2-clause-ordered
-returns-in_ok-push-in-Some-2-2-clause-ordered c = λ d l all. (
-  split_ordered d l c.args.waiting.now.items c.pop.new.self.items c.push-in-Some-2.new.self.items c.in-Some.bounds c.in-Some-2.fewer c.in-Some-2.as_many c.in-Split.at c.in-Split.from
-      c.in-Some.ensures.items (own_parts c) (both_pushed c) all,
+pub returns-in_ok-wait-in-Some-2-clause-ordered : goal.returns-in_ok-wait-in-Some-2-clause-ordered
+returns-in_ok-wait-in-Some-2-clause-ordered c = λ d l all. (
+  split_ordered d l c.args.waiting.now.items c.pop.new.self.items c.wait.new.waiting.items c.in-Some.bounds c.in-Some-2.fewer c.in-Some-2.as_many c.in-Split.at c.in-Split.from
+      c.in-Some.ensures.items (own_parts c) c.in_ok-wait-in-Some-2.ensures all,
   tt,
 )
 

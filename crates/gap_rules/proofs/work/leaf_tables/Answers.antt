@@ -7,6 +7,6 @@ pub returns-in-Cost : goal.returns-in-Cost
 unfolding leaf_tables
 returns-in-Cost c = sym (ap (λ x. count64 (leaf_tables c.args.case.now c.args.line.0 x)) c.in-Cost.is)
 
-pub returns-in-Whole : goal.returns-in-Whole
+pub returns : goal.returns
 unfolding leaf_tables
-returns-in-Whole c = c.tables_within.ensures ∙ sym (ap (λ x. count64 (leaf_tables c.args.case.now c.args.line.0 x)) c.in-Whole.is)
+returns c = c.tables_within.ensures ∙ sym (ap (λ x. count64 (leaf_tables c.args.case.now c.args.line.0 x)) c.in-Whole.is)

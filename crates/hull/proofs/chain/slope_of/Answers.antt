@@ -43,3 +43,18 @@ returns-clause-small g c =
     let e = c.requires.shape.ranges (f end) (among_read (map f items) (c.args.k + 1) (f end) (omega (arith, below)) (mapped_at f items (c.args.k + 1) end (f end) (omega (arith, m, below)) c.index-vertices-k-2.is)) in
     let a = s.ends in let b = s.hi in let d = e.cost in
     (omega (arith, a, b), omega (arith, d))
+
+pub overflow_add-end : goal.overflow_add-end
+overflow_add-end g c = (let k = c.ranges.k in omega (arith, k))
+
+pub bounds-vertices-k : goal.bounds-vertices-k
+bounds-vertices-k g c = (let m : length (map g.T.Spot.point c.args.vertices.now) ≡ length c.args.vertices.now = length-map c.args.vertices.now g.T.Spot.point in let below = c.requires.within in omega (arith, m, below))
+
+pub bounds-vertices-k-2 : goal.bounds-vertices-k-2
+bounds-vertices-k-2 g c = (let m : length (map g.T.Spot.point c.args.vertices.now) ≡ length c.args.vertices.now = length-map c.args.vertices.now g.T.Spot.point in let below = c.requires.within in omega (arith, m, below))
+
+pub offset_bounds-vertices-k : goal.offset_bounds-vertices-k
+offset_bounds-vertices-k g c = (let m : length (map g.T.Spot.point c.args.vertices.now) ≡ length c.args.vertices.now = length-map c.args.vertices.now g.T.Spot.point in let below = c.requires.within in omega (arith, m, below))
+
+pub offset_bounds-vertices-k-2 : goal.offset_bounds-vertices-k-2
+offset_bounds-vertices-k-2 g c = (let m : length (map g.T.Spot.point c.args.vertices.now) ≡ length c.args.vertices.now = length-map c.args.vertices.now g.T.Spot.point in let below = c.requires.within in omega (arith, m, below))

@@ -122,3 +122,28 @@ returns-clause-stands g c =
     end_stands all (map f c.loop-point.stack.items) (map f c.loop-point.left.items) (map f c.loop-point.right.items) i.joined (ap (map f) e.1) in
     stand_trans all (map f c.loop-point.stack.items ++ map f c.take_cheaper.new.left.items) (map f c.with_rest.result.items)
     (subst (λ l. StandFor all (map f c.loop-point.stack.items ++ map f l)) (sym e.0) stands) c.with_rest.ensures.stands
+
+pub grow-requires-clause-chain : goal.grow-requires-clause-chain
+grow-requires-clause-chain g c = c.loop-point.invariant.joined.chain
+
+pub with_rest-requires-clause-chain : goal.with_rest-requires-clause-chain
+with_rest-requires-clause-chain g c = c.loop-point.invariant.joined.chain
+
+pub with_rest-requires-clause-left_chain : goal.with_rest-requires-clause-left_chain
+with_rest-requires-clause-left_chain g c = subst (λ l. IsChain (map g.T.Spot.point l)) (sym c.in_default.ensures.0) c.loop-point.invariant.left_chain
+
+pub loop-point-smaller : goal.loop-point-smaller
+loop-point-smaller g c = (let fewer = taken_length c.in-Some.point c.loop-point.left.items c.loop-point.right.items c.take_cheaper.new.left.items c.take_cheaper.new.right.items (λ v. (g.T.Spot.point v).cost) c.in-Some.ensures in omega (arith, fewer))
+
+pub returns-clause-chain : goal.returns-clause-chain
+returns-clause-chain g c = c.with_rest.ensures.chain
+
+pub returns-clause-some : goal.returns-clause-some
+returns-clause-some g c = c.with_rest.ensures.some
+
+pub grow-requires-clause-room : goal.grow-requires-clause-room
+grow-requires-clause-room g c =
+    let fewer = taken_length c.in-Some.point c.loop-point.left.items c.loop-point.right.items c.take_cheaper.new.left.items c.take_cheaper.new.right.items (λ v. (g.T.Spot.point v).cost) c.in-Some.ensures in
+    let room = c.loop-point.invariant.room in
+    let capacity = c.loop-point.invariant.capacity in
+    omega (arith, fewer, room, capacity)

@@ -1,5 +1,5 @@
 -- What is left of the chain is all that is still to come.
-use Rattle.std.proofs.Common.{◌≡◌, ◌≤◌, List, [], ◌∷◌, ◌++◌, map, length, refl, sym, ap, ap₂, ◌∙◌, Bool, subst, arith, rules, IsTrue, true, false}
+use Rattle.std.proofs.Common.{◌≡◌, ◌≤◌, List, [], ◌∷◌, ◌++◌, map, length, refl, sym, ap, ap₂, ◌∙◌, subst, arith, rules, false, true, vec_len}
 use Rattle.std.proofs.lemmas.List.{append-nil, map-append}
 use Rattle.hull.specs.declared.point.Point.{Point}
 use Rattle.hull.specs.Curves.{Among, StandFor, IsChain, InRange}
@@ -52,7 +52,7 @@ loop-point-init g c =
     record {
       joined = begins (map f c.args.stack.items) (map f c.args.left.items) c.requires.chain c.requires.left_chain c.requires.order c.requires.ranges;
       left_chain = c.requires.left_chain;
-      follows = λ h. absurd (let e : IsTrue false = h in grind arith);
+      follows = λ h. absurd (let e : false ≡ true = h in cc);
       room = omega arith;
       capacity = omega (arith, q, room);
       some = some;
@@ -100,9 +100,6 @@ loop-point-preserved g c =
       some = c.grow-follows.ensures.some;
     }
 
-not_false : (b : Bool) → b ≡ true → IsTrue b
-not_false b e = grind arith
-
 pub returns-then-goes_on-clause-chain : goal.returns-then-goes_on-clause-chain
 returns-then-goes_on-clause-chain g c =
     let f = g.T.Spot.point in
@@ -114,8 +111,8 @@ returns-then-goes_on-clause-chain g c =
     let appended : c.append.new.self.items ≡ c.push.new.self.items ++ c.into_vec-rest.result.items = search rules in
     let made : c.append.new.self.items ≡ (stack ++ x ∷ []) ++ rest = appended ∙ ap₂ (λ (a b : List _). a ++ b) pushed c.into_vec-rest.ensures.items in
     all_chain f (map f c.args.stack.items ++ map f c.args.left.items) stack c.loop-point.left.items rest x c.in-Some.ensures.items i.joined c.append.new.self.items made
-    (i.follows (not_false c.loop-point.follows c.if-follows.true))
-    (subst (λ s. IsChain (map f s ++ f x ∷ [])) c.as_slice.ensures.value (c.goes_on.ensures (not_false c.goes_on.result c.if-goes_on.true)))
+    (i.follows c.if-follows.true)
+    (subst (λ s. IsChain (map f s ++ f x ∷ [])) c.as_slice.ensures.value (c.goes_on.ensures c.if-goes_on.true))
 
 pub returns-then-goes_on-clause-stands : goal.returns-then-goes_on-clause-stands
 returns-then-goes_on-clause-stands g c =
@@ -127,3 +124,26 @@ returns-then-goes_on-clause-stands g c =
     let appended : c.append.new.self.items ≡ c.push.new.self.items ++ c.into_vec-rest.result.items = search rules in
     let made : c.append.new.self.items ≡ (stack ++ x ∷ []) ++ rest = appended ∙ ap₂ (λ (a b : List _). a ++ b) pushed c.into_vec-rest.ensures.items in
     all_stand f (map f c.args.stack.items ++ map f c.args.left.items) stack c.loop-point.left.items rest x c.in-Some.ensures.items c.loop-point.invariant.joined c.append.new.self.items made
+
+pub goes_on-requires-clause-chain : goal.goes_on-requires-clause-chain
+goes_on-requires-clause-chain g c = subst (λ s. IsChain (map g.T.Spot.point s)) (sym c.as_slice.ensures.value) c.loop-point.invariant.joined.chain
+
+pub grow-follows-requires-clause-room : goal.grow-follows-requires-clause-room
+grow-follows-requires-clause-room g c =
+    let fewer : length c.loop-point.left.items ≡ length (c.in-Some.point ∷ c.pop_front.new.self.items) = ap length c.in-Some.ensures.items in
+    let len : vec_len c.loop-point.stack ≡ length c.loop-point.stack.items = c.loop-point.stack.ok.0 in
+    let room = c.loop-point.invariant.room in
+    let capacity = c.loop-point.invariant.capacity in
+    omega (arith, fewer, len, room, capacity)
+
+pub loop-point-smaller : goal.loop-point-smaller
+loop-point-smaller g c = (let fewer : length c.loop-point.left.items ≡ length (c.in-Some.point ∷ c.pop_front.new.self.items) = ap length c.in-Some.ensures.items in omega (arith, fewer))
+
+pub returns-clause-some : goal.returns-clause-some
+returns-clause-some g c = c.loop-point.invariant.some
+
+pub returns-clause-chain : goal.returns-clause-chain
+returns-clause-chain g c = c.loop-point.invariant.joined.chain
+
+pub returns-clause-len : goal.returns-clause-len
+returns-clause-len g c = (let q : length c.args.left.items ≡ _ = sym c.args.left.ok.0 in let room = c.loop-point.invariant.room in omega (arith, q, room))

@@ -67,3 +67,18 @@ returns-in-Keep-clause-stands g c =
     let f = g.T.Spot.point in
     let e : c.push.new.self.items ≡ c.pops.stack.items ++ c.args.point ∷ [] = search rules in
     subst (StandFor (map f c.args.stack.now.items ++ f c.args.point ∷ [])) (sym (ap (map f) e ∙ map-append f c.pops.stack.items (c.args.point ∷ []))) c.pops.invariant.stands
+
+pub judge-requires-clause-chain : goal.judge-requires-clause-chain
+judge-requires-clause-chain g c = subst (λ s. IsChain (map g.T.Spot.point s)) (sym c.as_slice.ensures.value) c.pops.invariant.chain
+
+pub judge-requires-clause-range : goal.judge-requires-clause-range
+judge-requires-clause-range g c = c.requires.range
+
+pub returns-in-Refuse-clause-len : goal.returns-in-Refuse-clause-len
+returns-in-Refuse-clause-len g c = (let len = c.pops.invariant.len in omega (arith, len))
+
+pub returns-in-Refuse-clause-capacity : goal.returns-in-Refuse-clause-capacity
+returns-in-Refuse-clause-capacity g c = c.pops.invariant.capacity
+
+pub returns-in-Refuse-clause-chain : goal.returns-in-Refuse-clause-chain
+returns-in-Refuse-clause-chain g c = c.pops.invariant.chain

@@ -56,3 +56,16 @@ loop-point-preserved g c =
       capacity = omega arith;
       some = inl c.grow.ensures.some;
     }
+
+pub grow-requires-clause-chain : goal.grow-requires-clause-chain
+grow-requires-clause-chain g c = c.loop-point.invariant.scanned.chain
+
+pub returns-clause-chain : goal.returns-clause-chain
+returns-clause-chain g c = c.loop-point.invariant.scanned.chain
+
+pub grow-requires-clause-room : goal.grow-requires-clause-room
+grow-requires-clause-room g c =
+    let less : length (into_iter_items c.loop-point.point-iterator) ≡ length (c.in-Some.point ∷ into_iter_items c.next.new.self) = ap length c.in-Some.ensures.steps.0 in
+    let room = c.loop-point.invariant.room in
+    let capacity = c.loop-point.invariant.capacity in
+    omega (arith, less, room, capacity)

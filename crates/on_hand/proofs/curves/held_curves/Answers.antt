@@ -8,37 +8,27 @@ use Rattle.family_items.proofs.Items.{kept_more, left_out}
 use Rattle.sum_walk.proofs.Walks.{zip_push}
 use Rattle.held_work.specs.Curves.{IsFamilyCurve}
 use Rattle.held_work.proofs.Rooms.{lines_below}
-use Rattle.held_work.proofs.Kept.{box_curve, box_few, box_ordered}
 use Rattle.on_hand.proofs.curves.held_curves.Goals as goal
-use Rattle.on_hand.proofs.curves.held_curves.Goals.{then-is_line+in_ok-bounds+in_ok-family+in_ok-push, else-is_line}
+use Rattle.on_hand.proofs.curves.held_curves.Goals.{then-is_line+in_ok-curve+in_ok-push, else-is_line}
 
 abbrev is_line_at : CaseRows → ℕ → Bool
 is_line_at c q = is_line (part_at c.parts q)
 
-pub curve_within-requires-clause-ordered : goal.curve_within-requires-clause-ordered
-curve_within-requires-clause-ordered g c =
-    box_ordered c.args.case.now c.loop-p.p c.args.held.now c.in_ok-bounds.bounds c.in_ok-bounds.ensures c.part_count-p-end.ensures.valid
-    (record { is_part = (let t = c.loop-p-test.true in let n = c.part_count-p-end.ensures.count in omega (arith, t, n)); no_parent = sym c.is_line.ensures ∙ c.if-is_line.true })
-    c.requires.held c.requires.limits
-
-pub curve_within-requires-clause-few : goal.curve_within-requires-clause-few
-curve_within-requires-clause-few g c =
-    box_few c.args.case.now c.loop-p.p c.args.held.now.list c.in_ok-bounds.bounds c.in_ok-bounds.ensures c.part_count-p-end.ensures.valid
-    (record { is_part = (let t = c.loop-p-test.true in let n = c.part_count-p-end.ensures.count in omega (arith, t, n)); no_parent = sym c.is_line.ensures ∙ c.if-is_line.true })
-    c.requires.work
+pub held_curve-requires-clause-line : goal.held_curve-requires-clause-line
+held_curve-requires-clause-line g c =
+    record { is_part = (let t = c.loop-p-test.true in let n = c.part_count-p-end.ensures.count in omega (arith, t, n)); no_parent = sym c.is_line.ensures ∙ c.if-is_line.true }
 
 pub loop-p-preserved : goal.loop-p-preserved
 loop-p-preserved g c =
     let case = c.args.case.now in
     let held = c.args.held.now.list in
     elim c.if-is_line.branch [
-      | then-is_line+in_ok-bounds+in_ok-family+in_ok-push w ↦
+      | then-is_line+in_ok-curve+in_ok-push w ↦
           rw w.curves-is
           (subst (λ (xs : List ℕ). AllZip (IsFamilyCurve g.S.Score.ends case held) xs w.push.new.self.items) (sym (kept_more (is_line_at case) c.loop-p.p (sym c.is_line.ensures ∙ w.if-is_line.true)))
           (subst (λ (ys : List (List Point)). AllZip (IsFamilyCurve g.S.Score.ends case held) (lines_below case c.loop-p.p ++ c.loop-p.p ∷ []) ys) (sym w.in_ok-push.ensures.items)
-          (zip_push (IsFamilyCurve g.S.Score.ends case held) (lines_below case c.loop-p.p) c.loop-p.curves.items c.loop-p.p w.in_ok-family.family c.loop-p.invariant
-          (box_curve g.S.Score.ends case c.loop-p.p held w.in_ok-bounds.bounds w.in_ok-family.family w.in_ok-bounds.ensures w.in_ok-family.ensures.curve w.in_ok-family.ensures.begins
-          w.in_ok-family.ensures.stocks))))
+          (zip_push (IsFamilyCurve g.S.Score.ends case held) (lines_below case c.loop-p.p) c.loop-p.curves.items c.loop-p.p w.in_ok-curve.curve c.loop-p.invariant
+          w.in_ok-curve.ensures)))
       | else-is_line w ↦
           rw w.curves-is
           (subst (λ (xs : List ℕ). AllZip (IsFamilyCurve g.S.Score.ends case held) xs c.loop-p.curves.items) (sym (left_out (is_line_at case) c.loop-p.p (sym c.is_line.ensures ∙ w.if-is_line.false)))

@@ -2,7 +2,7 @@ use Rattle.std.proofs.Common.{◌<◌, ◌*◌, ◌+◌, ◌-◌, ◌^◌, ◌�
 use Rattle.fixed_interval.specs.Ends.{Ends, InScale, IsInterval}
 use Rattle.fixed_interval.proofs.Laws.{unit_most}
 use Rattle.series_bounds.specs.Profile.{back_ends}
-use Rattle.series_bounds.proofs.Ranges.{room_over, back_room, back_most}
+use Rattle.series_bounds.proofs.Ranges.{room_over, back_room, back_most, rest_room}
 use Rattle.series_bounds.proofs.plain.back.Goals as goal
 
 pub times-above-requires : goal.times-above-requires
@@ -37,3 +37,29 @@ pub returns-clause-top : goal.returns-clause-top
 returns-clause-top g c =
     rw (c.div.ensures.ends, c.times-above.ensures.ends, c.add-below.ensures.ends, c.add.ensures.ends, c.times.ensures.ends, c.exact.ensures.ends)
     (back_most (2 ^ g.row.F) c.args.excess.hi c.args.mean.lo c.args.excess.lo c.args.x (pow_pos g.row.F) c.requires.above c.requires.depth)
+
+pub exact-requires : goal.exact-requires
+exact-requires g c = (let s : InScale g.row.F = search rules in (lit< tt, s))
+
+pub add-requires : goal.add-requires
+add-requires g c =
+    let s : InScale g.row.F = search rules in
+    let v : IsInterval g.row.F c.args.mean = search rules in
+    let a = ap (λ (z : Ends). z.hi + c.args.excess.hi) c.exact.ensures.ends in
+    (lit< tt, rw a (omega (arith, unit_most g.row.F s.1, c.requires.above, v.ordered, c.requires.mean_top)))
+
+pub overflow_sub-x : goal.overflow_sub-x
+overflow_sub-x g c = c.requires.from
+
+pub times-requires : goal.times-requires
+times-requires g c =
+    let s : InScale g.row.F = search rules in
+    let v : IsInterval g.row.F c.args.mean = search rules in
+    (lit< tt, omega (arith, unit_most g.row.F s.1, rest_room (2 ^ g.row.F) c.args.mean.hi c.args.excess.hi c.args.mean.lo c.args.x c.requires.mean_top v.ordered c.requires.above c.requires.depth))
+
+pub add-below-requires : goal.add-below-requires
+add-below-requires g c =
+    let s : InScale g.row.F = search rules in
+    let v : IsInterval g.row.F c.args.mean = search rules in
+    let a = ap (λ (z : Ends). c.args.mean.hi + z.hi) c.times.ensures.ends in
+    (lit< tt, rw a (omega (arith, unit_most g.row.F s.1, c.requires.mean_top, rest_room (2 ^ g.row.F) c.args.mean.hi c.args.excess.hi c.args.mean.lo c.args.x c.requires.mean_top v.ordered c.requires.above c.requires.depth)))

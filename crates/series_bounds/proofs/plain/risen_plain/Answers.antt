@@ -1,10 +1,10 @@
-use Rattle.std.proofs.Common.{◌≡◌, ◌+◌, ◌≤◌, ◌*◌, ◌^◌, ◌∙◌, ap, ap₂, lit<, subst, sym}
+use Rattle.std.proofs.Common.{◌≡◌, ◌+◌, ◌≤◌, ◌*◌, ◌^◌, ◌∙◌, ap, ap₂, arith, lit<, subst, sym}
 use Rattle.std.proofs.Math.Nat.{lt_trans}
 use Rattle.fixed_interval.specs.Ends.{Ends}
 use Rattle.fixed_interval.proofs.Laws.{unit_most}
 use Rattle.series_bounds.specs.Profile.{last_index, listed, weight_ends}
 use Rattle.series_bounds.proofs.Walks.{listed_more}
-use Rattle.series_bounds.proofs.Unlisted.{above_8, climb_done, climb_last, climb_next, climb_raised, climb_room, climb_start, climb_unended, climb_weight, climb_wide, raised_ordered, short_8, up_to_last, upto_8}
+use Rattle.series_bounds.proofs.Unlisted.{above_8, climb_done, climb_last, climb_next, climb_raised, climb_room, climb_start, climb_top, climb_unended, climb_weight, climb_wide, raised_ordered, short_8, up_to_last, upto_8}
 use Rattle.series_bounds.proofs.Beginnings.{begins_all}
 use Rattle.series_bounds.proofs.plain.risen_plain.Goals as goal
 
@@ -97,3 +97,11 @@ of-requires g c =
 pub returns-clause-wide : goal.returns-clause-wide
 returns-clause-wide g c =
     climb_unended g.row.F c.args.mean c.args.excess c.loop-x.last c.loop-x.sum c.loop-x.x c.loop-x.invariant.climb (subst (λ z. z ≤ 256) c.requires.place c.requires.depth) c.loop-x-test.false
+
+pub times-last-requires : goal.times-last-requires
+times-last-requires g c =
+    (lit< tt, (climb_top g.row.F c.args.mean c.args.excess c.loop-x.last c.loop-x.sum c.loop-x.x c.loop-x.invariant.climb, c.ratio.ensures.top))
+
+pub ratio-requires : goal.ratio-requires
+ratio-requires g c =
+    (lit< tt, (c.requires.mean_top, (c.requires.excess_top, (omega (arith, c.loop-x.auto.x), omega (arith, up_to_last c.loop-x.x c.loop-x-test.true)))))

@@ -1,7 +1,7 @@
-use Rattle.std.proofs.Common.{◌+◌, ◌≤◌, ◌*◌, ◌^◌, ◌∙◌, ap, ap₂, lit<, subst, sym}
+use Rattle.std.proofs.Common.{◌+◌, ◌≤◌, ◌*◌, ◌^◌, ◌∙◌, ap, ap₂, arith, lit<, subst, sym}
 use Rattle.std.proofs.Math.Nat.{lt_trans}
 use Rattle.fixed_interval.specs.Ends.{Ends}
-use Rattle.series_bounds.proofs.Unlisted.{above_8, climb_done, climb_next, climb_raised, climb_room, climb_start, climb_unended, climb_weight, climb_wide, raised_ordered, up_to_last, upto_8}
+use Rattle.series_bounds.proofs.Unlisted.{above_8, climb_done, climb_next, climb_raised, climb_room, climb_start, climb_top, climb_unended, climb_weight, climb_wide, raised_ordered, up_to_last, upto_8}
 use Rattle.series_bounds.proofs.plain.sum_past.Goals as goal
 
 pub loop-x-init : goal.loop-x-init
@@ -70,3 +70,11 @@ loop-x-preserved g c =
 pub returns-clause-wide : goal.returns-clause-wide
 returns-clause-wide g c =
     climb_unended g.row.F c.args.mean c.args.excess c.loop-x.last c.loop-x.sum c.loop-x.x c.loop-x.invariant (subst (λ z. z ≤ 256) c.requires.place c.requires.depth) c.loop-x-test.false
+
+pub times-last-requires : goal.times-last-requires
+times-last-requires g c =
+    (lit< tt, (climb_top g.row.F c.args.mean c.args.excess c.loop-x.last c.loop-x.sum c.loop-x.x c.loop-x.invariant, c.ratio.ensures.top))
+
+pub ratio-requires : goal.ratio-requires
+ratio-requires g c =
+    (lit< tt, (c.requires.mean_top, (c.requires.excess_top, (omega (arith, c.loop-x.auto.x), omega (arith, up_to_last c.loop-x.x c.loop-x-test.true)))))

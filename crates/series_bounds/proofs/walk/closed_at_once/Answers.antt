@@ -1,4 +1,5 @@
 use Rattle.std.proofs.Common.{◌≡◌, ◌+◌, ◌-◌, ◌*◌, ◌^◌, ◌≤◌, ◌∙◌, ap, ap₂, arith, lit<, rules, subst, pow-add, le_trans, mul-le-mul_right}
+use Rattle.std.proofs.lemmas.Nat.{mul-le}
 use Rattle.fixed_interval.specs.Ends.{Ends, InScale, IsInterval}
 use Rattle.fixed_interval.proofs.Laws.{unit_most}
 use Rattle.series_bounds.specs.Profile.{least_end}
@@ -44,3 +45,35 @@ returns g c =
     (subst (λ z. (c.args.mean.hi + c.args.excess.hi * z) * 2 ≤ (1 * 2 ^ g.row.F + c.args.excess.lo) * (z + 1)) c.requires.start l)
     (omega (arith, c.if-hi-unit.false, c.hi-else-hi-lo.ensures.end, c.unit.ensures))
     (c.of_ends.ensures ∙ ap₂ (λ y z. record { lo = y; hi = z + 2 }) c.lo-2.ensures.end c.hi-2.ensures.end)
+
+pub add-above-requires : goal.add-above-requires
+add-above-requires g c =
+    let s : InScale g.row.F = search rules in
+    let b : least_end g.row.F c.args.mean c.args.excess ≤ 1024 = end_most g.row.F c.args.mean c.args.excess 1024 (omega (arith, c.requires.depth)) (omega arith) in
+    let a = ap (λ (z : Ends). c.args.mean.hi + z.hi) c.times.ensures.ends in
+    (lit< tt, rw a (omega (arith, unit_most g.row.F s.1, product_most (2 ^ g.row.F) c.args.excess.hi c.args.start c.requires.excess_top (omega (arith, b, c.requires.start)), c.requires.mean_top)))
+
+pub exact-requires : goal.exact-requires
+exact-requires g c = (let s : InScale g.row.F = search rules in (lit< tt, s))
+
+pub add-step-requires : goal.add-step-requires
+add-step-requires g c =
+    let s : InScale g.row.F = search rules in
+    let a = ap (λ (z : Ends). z.hi + c.args.excess.hi) c.exact.ensures.ends in
+    (lit< tt, rw a (omega (arith, unit_most g.row.F s.1, c.requires.excess_top)))
+
+pub times-below-requires : goal.times-below-requires
+times-below-requires g c =
+    let s : InScale g.row.F = search rules in
+    let b : least_end g.row.F c.args.mean c.args.excess ≤ 1024 = end_most g.row.F c.args.mean c.args.excess 1024 (omega (arith, c.requires.depth)) (omega arith) in
+    let a = ap (λ (z : Ends). z.hi * (c.args.start + 1)) c.add-step.ensures.ends ∙ ap (λ (z : Ends). (z.hi + c.args.excess.hi) * (c.args.start + 1)) c.exact.ensures.ends in
+    let most : 1 * 2 ^ g.row.F + c.args.excess.hi ≤ 2049 * 2 ^ g.row.F = omega (arith, c.requires.excess_top) in
+    let fewer : c.args.start + 1 ≤ 1025 = omega (arith, b, c.requires.start) in
+    (lit< tt, rw a (omega (arith, unit_most g.row.F s.1, mul-le (1 * 2 ^ g.row.F + c.args.excess.hi) (c.args.start + 1) (2049 * 2 ^ g.row.F) 1025 most fewer)))
+
+pub overflow_mul-hi : goal.overflow_mul-hi
+overflow_mul-hi g c =
+    let s : InScale g.row.F = search rules in
+    let b : least_end g.row.F c.args.mean c.args.excess ≤ 1024 = end_most g.row.F c.args.mean c.args.excess 1024 (omega (arith, c.requires.depth)) (omega arith) in
+    let a = c.hi.ensures.end ∙ ap (λ (z : Ends). z.hi) c.add-above.ensures.ends ∙ ap (λ (z : Ends). c.args.mean.hi + z.hi) c.times.ensures.ends in
+    record { fits = omega (arith, a, unit_most g.row.F s.1, product_most (2 ^ g.row.F) c.args.excess.hi c.args.start c.requires.excess_top (omega (arith, b, c.requires.start)), c.requires.mean_top) }

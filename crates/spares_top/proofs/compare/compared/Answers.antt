@@ -1,4 +1,7 @@
 use Rattle.std.proofs.Common.{refl}
+use Rattle.std.proofs.lemmas.Result.{IfOk-weaker}
+use Rattle.metric_compare.specs.Shows.{ShowsComparison}
+use Rattle.spares_top.specs.Headline.{IsTrueComparison}
 use Rattle.case_figures.proofs.Shown.{can_evaluate}
 use Rattle.spares_top.proofs.Shown.{comparison_true}
 use Rattle.spares_top.proofs.compare.compared.Goals as goal
@@ -8,4 +11,6 @@ compare-requires-clause-inputs c =
     can_evaluate 48 c.args.given.now.case c.args.given.now.stocks refl c.site_count-valid.ensures.valid c.requires.rates.no_fault c.requires.whole c.requires.limits
 
 pub returns-clause-is_true : goal.returns-clause-is_true
-returns-clause-is_true c = comparison_true c.args.given.now.case c.args.given.now.stocks c.in_ok-report.report c.in_ok-report.ensures.shows
+returns-clause-is_true c =
+    IfOk-weaker c.compare.result (ShowsComparison c.args.given.now.case c.args.given.now.stocks) (IsTrueComparison c.args.given.now.case c.args.given.now.stocks)
+    (comparison_true c.args.given.now.case c.args.given.now.stocks) c.compare.ensures.shows

@@ -1,3 +1,8 @@
+use Rattle.std.proofs.Common.{List, Ok, Some, sym, subst, ℕ}
+use Rattle.spares_top.specs.Making.{Is, IsMade}
+use Rattle.spares_top.specs.Planning.{planning_on}
+use Rattle.spares_top.specs.Task.{make_plan}
+use Rattle.spares_top.specs.declared.done.Done.TheVariants.{Planned}
 use Rattle.spares_top.proofs.Planned.{have_claims, made_of}
 use Rattle.spares_top.proofs.plan.planned.Goals as goal
 
@@ -6,5 +11,7 @@ certified-requires-clause-claims c = have_claims c.args.ground c.requires c.in_o
 
 pub returns : goal.returns
 returns c =
-    rw c.of.ensures
-    (made_of c.args.ground c.requires c.in_ok-plan.plan c.in_ok-plan.ensures c.in_ok-bytes.bytes.items c.in_ok-bytes.ensures c.args.name)
+    subst (λ (name : List ℕ). IsMade (Is (Ok (make_plan (planning_on c.args.ground) c.args.name.now)))
+    (record { done = Planned c.in_ok-plan.plan.report; writes = Some (record { name = name; bytes = c.in_ok-written.written.bytes }) }))
+    (sym c.in_ok-written.ensures.name)
+    (made_of c.args.ground c.requires c.in_ok-plan.plan c.in_ok-plan.ensures c.in_ok-written.written.bytes c.in_ok-written.ensures.certified c.args.name.now)

@@ -6,5 +6,5 @@ use Rattle.spares_top.proofs.sweep.sweep.Goals as goal
 pub returns : goal.returns
 returns c =
     rw c.printed.ensures
-    (swept c.in_ok-given.given.case c.in_ok-given.ensures.given.accepted (case_within_work (bytes_of c.args.tables.now)) c.in_ok-given.ensures.answer c.in_ok-report.report
+    (swept c.in_ok-given.given.case c.in_ok-given.ensures.given.accepted (case_within_work (bytes_of c.args.tables.now)) c.in_ok-given.ensures.answer c.in_ok-report.field-0
     c.in_ok-report.ensures.sweep c.in_ok-report.ensures.fits)

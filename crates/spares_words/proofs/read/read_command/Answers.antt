@@ -12,8 +12,8 @@ parsed-requires c = ap is_simple_and_free c.in_ok-command_of.ensures ∙ each_si
 pub returns-in-Err-clause-order : goal.returns-in-Err-clause-order
 returns-in-Err-clause-order c = handed_up c.args.name _ c.in_ok-command_of.ensures c.args.words.now _ c.in-Err.ensures
 
-pub returns-clause-order : goal.returns-clause-order
-returns-clause-order c =
+pub returns-in-Ok-clause-order : goal.returns-in-Ok-clause-order
+returns-in-Ok-clause-order c =
     let is = taken c.args.name _ c.in_ok-command_of.ensures c.args.words.now c.in-Ok.matches c.in-Ok.ensures in
     let P : Result Order WordsFault → Type 0 = λ a. Gives a c.order_named.result in
     subst P (sym is) c.order_named.ensures.order

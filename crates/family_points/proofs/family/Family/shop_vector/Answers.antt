@@ -1,4 +1,5 @@
 use Rattle.std.proofs.Common.{◌≡◌, ℕ, ◌<◌, List, length, drop, sym, ap, ap₂, ◌∙◌, subst}
+use Rattle.std.proofs.lemmas.Result.{IfOk-weaker}
 use Rattle.family_points.specs.Vectors.{IsBetween}
 use Rattle.family_points.specs.Counts.{product, widths}
 use Rattle.family_points.specs.Boxes.{nth}
@@ -32,22 +33,16 @@ vector_at-requires-clause-within c =
     let box = box_shops x c.size-size.ensures.valid k c.requires.site in
     subst (λ n. c.args.number < n) (vectors_count (shop_low x k) (shop_high x k) box.ordered ∙ ap₂ (λ a b. product (widths a b)) (sym low) (sym high)) c.requires.within
 
-pub returns-clause-vector : goal.returns-clause-vector
-returns-clause-vector c =
+pub returns : goal.returns
+returns c =
     let x = c.args.self.now in
     let k = c.args.site.0 in
     let low : c.shops_of-low.result.now ≡ shop_low x k = c.shops_of-low.ensures ∙ ap (drop 1) c.low.ensures in
     let high : c.shops_of-high.result.now ≡ shop_high x k = c.shops_of-high.ensures ∙ ap (drop 1) c.high.ensures.high in
     let box = box_shops x c.size-size.ensures.valid k c.requires.site in
-    c.in_ok-vector.ensures ∙ ap₂ (λ a b. nth a b c.args.number) low high
-    ∙ sym (nth_is (shop_low x k) (shop_high x k) c.args.number box.ordered (subst (λ n. c.args.number < n) (vectors_count (shop_low x k) (shop_high x k) box.ordered) c.requires.within))
-
-pub returns-clause-within : goal.returns-clause-within
-returns-clause-within c =
-    let x = c.args.self.now in
-    let k = c.args.site.0 in
-    let low : c.shops_of-low.result.now ≡ shop_low x k = c.shops_of-low.ensures ∙ ap (drop 1) c.low.ensures in
-    let high : c.shops_of-high.result.now ≡ shop_high x k = c.shops_of-high.ensures ∙ ap (drop 1) c.high.ensures.high in
-    let box = box_shops x c.size-size.ensures.valid k c.requires.site in
-    subst (IsBetween (shop_low x k) (shop_high x k)) (sym (c.in_ok-vector.ensures ∙ ap₂ (λ a b. nth a b c.args.number) low high))
-    (nth_between (shop_low x k) (shop_high x k) c.args.number box.ordered (subst (λ n. c.args.number < n) (vectors_count (shop_low x k) (shop_high x k) box.ordered) c.requires.within))
+    let within = subst (λ n. c.args.number < n) (vectors_count (shop_low x k) (shop_high x k) box.ordered) c.requires.within in
+    record {
+      vector = IfOk-weaker c.vector_at.result _ _ (λ v made. made ∙ ap₂ (λ a b. nth a b c.args.number) low high ∙ sym (nth_is (shop_low x k) (shop_high x k) c.args.number box.ordered within)) c.vector_at.ensures;
+      within = IfOk-weaker c.vector_at.result _ _ (λ v made. subst (IsBetween (shop_low x k) (shop_high x k)) (sym (made ∙ ap₂ (λ a b. nth a b c.args.number) low high))
+          (nth_between (shop_low x k) (shop_high x k) c.args.number box.ordered within)) c.vector_at.ensures;
+    }

@@ -2,7 +2,7 @@
 use Rattle.std.proofs.Common.{◌≡◌, inl, inr, List, [], ◌∷◌, ◌++◌, length, map, sym, ap, ◌∙◌, subst, arith, vec_len}
 use Rattle.std.proofs.lemmas.List.{length-map}
 use Rattle.hull.specs.declared.point.Point.{Point}
-use Rattle.hull.specs.Curves.{Among, HaveOneWidth, InRange, IsShape, StandFor}
+use Rattle.hull.specs.Curves.{Among, HaveOneWidth, InRange, IsChain, IsShape, StandFor}
 use Rattle.hull.proofs.Stand.{among_either}
 use Rattle.hull.proofs.chain.Chain.take.Goals as goal
 
@@ -54,3 +54,14 @@ invariant_of-self-2 g c =
       ];
       widths = λ v w m n. both v w (stands.among v m) (stands.among w n);
     }
+
+pub grow-requires-clause-chain : goal.grow-requires-clause-chain
+grow-requires-clause-chain g c = subst (λ s. IsChain (map g.T.Spot.point s)) (sym c.reserve.ensures.items) c.self.invariant.chain
+
+pub grow-requires-clause-range : goal.grow-requires-clause-range
+grow-requires-clause-range g c = c.requires.range
+
+pub returns-clause-stands : goal.returns-clause-stands
+returns-clause-stands g c =
+    let f = g.T.Spot.point in
+    subst (λ s. StandFor (s ++ f c.args.point ∷ []) (map f c.grow.new.stack.items)) (ap (map f) c.reserve.ensures.items ∙ c.self.view_is) c.grow.ensures.stands

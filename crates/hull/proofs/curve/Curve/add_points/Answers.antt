@@ -1,10 +1,10 @@
 -- The vertices in two parts and the further points, these in order, are what the scan makes the curve of.
-use Rattle.std.proofs.Common.{◌≡◌, ℕ, ◌+◌, ◌≤◌, ◌++◌, inl, inr, List, [], ◌∷◌, length, get_or, take, drop, sym, ap, ap₂, ◌∙◌, subst, arith, append_assoc, vec_len}
+use Rattle.std.proofs.Common.{◌≡◌, ℕ, ◌+◌, ◌^◌, ◌≤◌, ◌++◌, inl, inr, List, [], ◌∷◌, length, get_or, take, drop, sym, ap, ap₂, ◌∙◌, subst, arith, append_assoc, vec_len}
 use Rattle.std.specs.List.Sorted.{IsNonDecreasingBy, IsPermutation}
 use Rattle.std.proofs.lemmas.List.{append-nil, nil_from_length, take-append-drop}
 use Rattle.std.proofs.lemmas.List.Sorted.{IsPermutation-append_right}
 use Rattle.hull.specs.declared.point.Point.{Point}
-use Rattle.hull.specs.Curves.{Among, InRange, IsCurve, IsShape, StandFor}
+use Rattle.hull.specs.Curves.{Among, InRange, IsChain, IsCurve, IsShape, StandFor}
 use Rattle.hull.proofs.Chains.{chain_is_curve}
 use Rattle.hull.proofs.Stand.{among_either}
 use Rattle.hull.proofs.Runs.{CostsRise, among_permuted, costs_rise, permuted_stands, added_curve, added_shape}
@@ -105,3 +105,39 @@ returns-clause-ok c =
     let stands : StandFor (a ++ b) made =
     came a c.replace-vertices.result.items c.in_ok-rest.rest.items b c.in_order-points.result.items n front rest c.in_order-points.ensures.permutation made c.chain_of_both.ensures.stands in
     subst (λ l. IsCurve (l ++ b) made) c.self.view_is (added_curve a b made c.self.invariant c.requires.ranges c.chain_of_both.ensures.chain stands)
+
+pub invariant_of-self : goal.invariant_of-self
+invariant_of-self c = subst IsShape (sym c.in_err-reserve.ensures.items) c.self.invariant
+
+pub cheaper-front-requires-clause-chain : goal.cheaper-front-requires-clause-chain
+cheaper-front-requires-clause-chain c = subst IsChain (sym (c.as_slice.ensures.value ∙ c.in_ok-reserve.ensures.items)) c.self.invariant.chain
+
+pub cheaper-front-requires-clause-few : goal.cheaper-front-requires-clause-few
+cheaper-front-requires-clause-few c =
+    subst (λ (l : List Point). length l ≤ 2 ^ 31) (sym (c.as_slice.ensures.value ∙ c.in_ok-reserve.ensures.items)) c.self.invariant.few
+
+pub chain_of_both-requires-clause-chain : goal.chain_of_both-requires-clause-chain
+chain_of_both-requires-clause-chain c =
+    let a = c.self.inside.vertices.items in
+    let kept : c.reserve.new.self.items ≡ a = c.in_ok-reserve.ensures.items in
+    let n = c.cheaper-front.result in
+    let front : c.replace-vertices.result.items ≡ take n a = ap (λ v. v.items) c.replace-vertices.ensures.value ∙ c.in_ok-rest.ensures.items ∙ ap (take n) kept in
+    let rest : c.in_ok-rest.rest.items ≡ drop n a = c.in_ok-rest.ensures.tail ∙ ap (drop n) kept in
+    subst IsChain (sym (ap₂ (λ (x y : List Point). x ++ y) front rest ∙ take-append-drop n a)) c.self.invariant.chain
+
+pub chain_of_both-requires-clause-sorted : goal.chain_of_both-requires-clause-sorted
+chain_of_both-requires-clause-sorted c = c.in_order-points.ensures.sorted
+
+pub returns-clause-few : goal.returns-clause-few
+returns-clause-few c =
+    let l0 : vec_len c.chain_of_both.result ≡ length c.chain_of_both.result.items = c.chain_of_both.result.ok.0 in
+    let l1 = c.chain_of_both.ensures.len in
+    let l2 : vec_len c.in_order-points.result ≡ vec_len c.args.points = c.in_order-points.ensures.len in
+    let l3 : vec_len c.args.points ≡ length c.args.points.items = c.args.points.ok.0 in
+    let l4 : vec_len c.replace-vertices.result ≡ vec_len c.split_off.new.self = ap vec_len c.replace-vertices.ensures.value in
+    let l5 : vec_len c.self.inside.vertices ≡ length c.self.inside.vertices.items = c.self.inside.vertices.ok.0 in
+    let l6 : length c.self.inside.vertices.items ≡ length c.args.self.now = ap length c.self.view_is in
+    let l7 : vec_len c.split_off.new.self ≡ c.cheaper-front.result = c.in_ok-rest.ensures.len in
+    let l8 : vec_len c.in_ok-rest.rest + c.cheaper-front.result ≡ vec_len c.reserve.new.self = c.in_ok-rest.ensures.tail_len in
+    let l9 : vec_len c.reserve.new.self ≡ vec_len c.self.inside.vertices = c.in_ok-reserve.ensures.len in
+    omega (arith, l0, l1, l2, l3, l4, l5, l6, l7, l8, l9)

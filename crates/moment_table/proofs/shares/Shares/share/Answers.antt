@@ -1,5 +1,5 @@
-use Rattle.std.proofs.Common.{◌≤◌, ◌^◌, arith, lit<, rules, pow_pos}
-use Rattle.fixed_interval.specs.Ends.{InScale}
+use Rattle.std.proofs.Common.{◌≤◌, ◌^◌, ◌∙◌, ap₂, arith, lit<, rules, pow_pos}
+use Rattle.fixed_interval.specs.Ends.{InScale, ends_div}
 use Rattle.fixed_interval.proofs.Laws.{unit_most}
 use Rattle.series_bounds.proofs.Ranges.{room_over}
 use Rattle.moment_table.specs.Shares.{AreEnds}
@@ -17,3 +17,6 @@ div-requires g c =
     let s : InScale g.row.F = search rules in
     let least : 2 ^ g.row.F ≤ c.self.inside.sum.lo = rw c.self.view_is c.requires.least in
     (lit< tt, (omega (arith, least, pow_pos g.row.F), rw c.open.ensures (room_over g.row.F c.args.weight.hi s.1 (omega (arith, pow_pos g.row.F, c.requires.top)))))
+
+pub returns-in-None : goal.returns-in-None
+returns-in-None g c = c.of.ensures ∙ c.div.ensures.ends ∙ ap₂ (ends_div g.row.F) c.open.ensures c.self.view_is

@@ -1,4 +1,5 @@
 use Rattle.std.proofs.Common.{◌≡◌, ◌<◌, get_or, length, sym, subst, arith}
+use Rattle.std.proofs.lemmas.Result.{IfOk-weaker}
 use Rattle.fleet_model.specs.Rows.{line_units}
 use Rattle.family_items.specs.Inputs.{IsLine}
 use Rattle.step_walk.specs.Prefix.{curve_at}
@@ -28,6 +29,7 @@ returns g c =
     let held = c.self.inside.held.now.list in
     let long = subst (λ (x : HeldCase). c.args.family < length (case_points g.S.Score.ends x.case x.held.list)) (sym c.self.view_is) c.requires.family in
     let line = subst (λ (x : HeldCase). c.line-line.result.0 ≡ get_or (line_units x.case) c.args.family 0) (sym c.self.view_is) c.line-line.ensures.line in
-    subst (λ (x : HeldCase). IsPartOf c.args.low c.args.high (curve_at (case_points g.S.Score.ends x.case x.held.list) c.args.family) c.in_ok-part.part) c.self.view_is
-    (part_held ends case held c.args.family c.line-line.result.0 c.in_ok-bounds.bounds c.args.low c.args.high c.in_ok-part.part (omega (arith, long, families_long ends case held)) line
-    c.in_ok-bounds.ensures c.in_ok-part.ensures.part)
+    IfOk-weaker c.part_within.result _ _
+    (λ part made. subst (λ (x : HeldCase). IsPartOf c.args.low c.args.high (curve_at (case_points g.S.Score.ends x.case x.held.list) c.args.family) part) c.self.view_is
+    (part_held ends case held c.args.family c.line-line.result.0 c.in_ok-bounds.bounds c.args.low c.args.high part (omega (arith, long, families_long ends case held)) line
+    c.in_ok-bounds.ensures made)) c.part_within.ensures.part

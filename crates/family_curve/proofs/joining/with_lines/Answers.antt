@@ -1,0 +1,99 @@
+use Rattle.std.proofs.Common.{◌≡◌, ℕ, suc, ◌+◌, ◌-◌, ◌*◌, ◌<◌, ◌≤◌, List, ◌∷◌, ◌++◌, length, flat_map, sym, ap, ◌∙◌, subst, arith}
+use Rattle.std.specs.List.{range_with_len}
+use Rattle.std.proofs.lemmas.List.{append-nil}
+use Rattle.hull.specs.declared.point.Point.{Point}
+use Rattle.hull.specs.Curves.{IsCurve}
+use Rattle.family_points.specs.Separation.{depot_points}
+use Rattle.family_points.specs.Inputs.{line_high, line_low, line_stocks, vertex_count}
+use Rattle.family_curve.specs.Joining.{middle, run_start, vertices_of}
+use Rattle.family_curve.proofs.Grown.{room_for, room_for_one, run_grows}
+use Rattle.family_points.proofs.Points.{stocks_count}
+use Rattle.family_curve.proofs.joining.with_lines.Goals as goal
+
+pub with_line-requires-clause-least : goal.with_line-requires-clause-least
+with_line-requires-clause-least g c = omega (arith, c.middle-first.ensures, c.line_low-low.ensures)
+
+pub with_line-requires-clause-most : goal.with_line-requires-clause-most
+with_line-requires-clause-most g c = omega (arith, c.middle-first.ensures, c.line_low-low.ensures, c.line_high-high.ensures.high, c.line_high-high.ensures.order)
+
+pub with_line-requires-clause-room : goal.with_line-requires-clause-room
+with_line-requires-clause-room g c =
+    let x = c.args.sources.now.family.now in
+    room_for_one (length (line_stocks x 0)) (vertex_count x) (length (vertices_of c.args.so_far)) 65000000
+    (omega (arith, stocks_count x c.size-size.ensures.valid 0, c.line_high-high.ensures.high, c.line_high-high.ensures.order)) c.requires.room
+
+pub loop-n-init : goal.loop-n-init
+loop-n-init g c =
+    let x = c.args.sources.now.family.now in
+    let so : List Point = vertices_of c.args.so_far in
+    let at : List ℕ → List Point = depot_points x.case x.line g.S.Score.ends x.held x.low x.high in
+    let own : ℕ → List Point = λ s. at (s ∷ c.args.shops.now) in
+    let start : ℕ = middle c.line_low-low.result c.line_high-high.result in
+    let begins : start ≡ run_start (line_low x 0) (line_high x 0) 1 =
+    omega (arith, c.line_low-low.ensures, c.line_high-high.ensures.high, c.line_high-high.ensures.order) in
+    record {
+      few = omega (arith, c.in_ok-curve.ensures.few);
+      curve = subst (λ k. IsCurve (so ++ flat_map own (range_with_len k 1)) c.in_ok-curve.curve) begins
+          (subst (λ (ps : List Point). IsCurve (so ++ ps) c.in_ok-curve.curve) (ap own c.middle-first.ensures ∙ sym (append-nil (own start))) c.in_ok-curve.ensures.curve);
+      work = c.in_ok-curve.ensures.work;
+      widths = c.in_ok-curve.ensures.widths;
+    }
+
+pub with_line-requires-in-loop-n-clause-least : goal.with_line-requires-in-loop-n-clause-least
+with_line-requires-in-loop-n-clause-least g c = omega (arith, c.line_low-low.ensures, c.behind_middle-line.ensures.least)
+
+pub with_line-requires-in-loop-n-clause-most : goal.with_line-requires-in-loop-n-clause-most
+with_line-requires-in-loop-n-clause-most g c = omega (arith, c.line_high-high.ensures.high, c.behind_middle-line.ensures.most)
+
+pub with_line-requires-in-loop-n-clause-room : goal.with_line-requires-in-loop-n-clause-room
+with_line-requires-in-loop-n-clause-room g c =
+    let x = c.args.sources.now.family.now in
+    room_for c.loop-n.n (length (line_stocks x 0)) (vertex_count x) (length c.loop-n.curve) (length (vertices_of c.args.so_far)) 65000000 c.loop-n.invariant.few
+    (omega (arith, stocks_count x c.size-size.ensures.valid 0, c.loop-n-test.true, c.line_low-low.ensures, c.line_high-high.ensures.high, c.line_high-high.ensures.order)) c.requires.room
+
+pub loop-n-preserved : goal.loop-n-preserved
+loop-n-preserved g c =
+    let x = c.args.sources.now.family.now in
+    let d = c.args.shops.now in
+    let n = c.loop-n.n in
+    let so : List Point = vertices_of c.args.so_far in
+    let at : List ℕ → List Point = depot_points x.case x.line g.S.Score.ends x.held x.low x.high in
+    let own : ℕ → List Point = λ s. at (s ∷ d) in
+    let s : ℕ = c.behind_middle-line.result in
+    let order : line_low x 0 ≤ line_high x 0 = omega (arith, c.line_high-high.ensures.high, c.line_high-high.ensures.order) in
+    let within : n ≤ line_high x 0 - line_low x 0 = omega (arith, c.loop-n-test.true, c.line_low-low.ensures, c.line_high-high.ensures.high) in
+    let up : middle (line_low x 0) (line_high x 0) + n ≤ line_high x 0 → s ≡ middle (line_low x 0) (line_high x 0) + n =
+    subst (λ a. middle a (line_high x 0) + n ≤ line_high x 0 → s ≡ middle a (line_high x 0) + n) c.line_low-low.ensures
+    (subst (λ b. middle c.line_low-low.result b + n ≤ b → s ≡ middle c.line_low-low.result b + n) c.line_high-high.ensures.high c.behind_middle-line.ensures.up) in
+    let down : line_high x 0 < middle (line_low x 0) (line_high x 0) + n → s ≡ line_high x 0 - n =
+    subst (λ a. line_high x 0 < middle a (line_high x 0) + n → s ≡ line_high x 0 - n) c.line_low-low.ensures
+    (subst (λ b. b < middle c.line_low-low.result b + n → s ≡ b - n) c.line_high-high.ensures.high c.behind_middle-line.ensures.down) in
+    let made : List Point = c.in_ok-curve-2.curve in
+    let here : IsCurve (c.loop-n.curve ++ own s) made =
+    c.in_ok-curve-2.ensures.curve in
+    record {
+      few = omega (arith, c.in_ok-curve-2.ensures.few, c.loop-n.invariant.few);
+      curve = run_grows so own (line_low x 0) (line_high x 0) n s c.loop-n.curve made order within up down c.loop-n.invariant.curve here;
+      work = c.in_ok-curve-2.ensures.work;
+      widths = c.in_ok-curve-2.ensures.widths;
+    }
+
+pub returns-clause-curve : goal.returns-clause-curve
+returns-clause-curve g c =
+    let x = c.args.sources.now.family.now in
+    let at : List ℕ → List Point = depot_points x.case x.line g.S.Score.ends x.held x.low x.high in
+    let own : ℕ → List Point = λ s. at (s ∷ c.args.shops.now) in
+    let end : c.loop-n.n ≤ c.line_high-high.result - c.line_low-low.result + 1 = c.loop-n.auto.n-end (omega arith) in
+    let last : c.loop-n.n ≡ suc (line_high x 0) - line_low x 0 =
+    omega (arith, c.loop-n-test.false, end, c.line_low-low.ensures, c.line_high-high.ensures.high, c.line_high-high.ensures.order) in
+    let first : run_start (line_low x 0) (line_high x 0) c.loop-n.n ≡ line_low x 0 = omega (arith, last, c.line_high-high.ensures.high, c.line_high-high.ensures.order) in
+    subst (λ k. IsCurve (vertices_of c.args.so_far ++ flat_map own (range_with_len (line_low x 0) k)) c.loop-n.curve) last
+    (subst (λ a. IsCurve (vertices_of c.args.so_far ++ flat_map own (range_with_len a c.loop-n.n)) c.loop-n.curve) first c.loop-n.invariant.curve)
+
+pub returns-clause-few : goal.returns-clause-few
+returns-clause-few g c =
+    let x = c.args.sources.now.family.now in
+    let end : c.loop-n.n ≤ c.line_high-high.result - c.line_low-low.result + 1 = c.loop-n.auto.n-end (omega arith) in
+    let last : c.loop-n.n ≡ length (line_stocks x 0) =
+    omega (arith, c.loop-n-test.false, end, c.line_low-low.ensures, c.line_high-high.ensures.high, c.line_high-high.ensures.order, stocks_count x c.size-size.ensures.valid 0) in
+    subst (λ n. length c.loop-n.curve ≤ length (vertices_of c.args.so_far) + n * vertex_count x) last c.loop-n.invariant.few

@@ -1,0 +1,5 @@
+use Rattle.std.proofs.Common.{◌≡◌}
+use Rattle.test_numbers.proofs.backorder_bounds_tests.first_lows.Given as goal
+
+abbrev pub invariant-loop-s : goal.invariant-loop-s
+invariant-loop-s l = l.walk.stock ≡ l.s
