@@ -4,7 +4,7 @@
 first=$room/first
 mkdir -p "$first/tools" "$first/bin" "$first/crates/low/src" "$first/crates/low/must-fail" "$first/crates/spares/src"
 cp "$here/../spares" "$first/spares"
-cp "$here/../tools/build.py" "$first/tools/"
+cp "$here/../tools/build.py" "$here/../tools/rt.py" "$first/tools/"
 printf 'Handles allowed: none.\n' >"$first/HANDLES"
 printf '# low\nlow:\nother: low\nspares: low std # the program\n' >"$first/crates.txt"
 printf 'pub fn one() {}\n' >"$first/crates/low/src/lib.rt"
@@ -66,4 +66,30 @@ spares: the program is not built: the lines above say why\n" plan
   runs_first 'a first run' 0 'new plan --budget 5\n' \
     "${proving}spares: 2 of 2 crates proved after some minutes: spares\n" plan --budget 5
   runs_first 'the run after it' 0 'new single 1 1\n' '' single 1 1
+
+  cat >"$first/bin/rt" <<SCRIPT
+#!$python
+import sys, threading, types
+BACKENDS = {"one": "", "two": ".two"}
+both = threading.Barrier(2, timeout=60)
+class Crate:
+    def below(self): return print("below") or [1]
+    def stamp(self): return print("stamp") or "sum"
+    def compile_by(self, backend, words, to): return both.wait() and None or f"{to}{BACKENDS[backend]}"
+    def ci(self, words): return [self.compile_by("one", words, "out"), self.compile_by("two", words, "out")]
+rtlib = types.SimpleNamespace(Crate=Crate)
+# both are methods of rtlib.Crate
+def in_lanes(tasks): return tasks
+def main(words):
+    crate = rtlib.Crate()
+    crate.below().append(2)
+    print(*words, crate.below(), crate.stamp(), crate.stamp())
+    print(crate.ci(words), in_lanes({"low": ([], 5, 9), "untested": ([], 0, 9)}))
+    return 3
+if __name__ == "__main__":
+    sys.exit(main(sys.argv[1:]))
+SCRIPT
+  PATH=$first/bin python3 "$first/tools/rt.py" ci --now >"$room/out" 2>"$room/err" </dev/null
+  compare 'a kit that finds things once' 3 $? \
+    "below\nstamp\nci --now [1] sum sum\n['out', 'out.two'] {'low': ([], 105, 9), 'untested': ([], 0, 9)}\n" ''
 fi

@@ -2,9 +2,9 @@
 """Proves and builds the program of this checkout: python3 tools/build.py
 
 The script `spares` calls it when the program is missing or older than its sources. It copies the crates that the program
-needs, without their wrong bodies, to a folder of its own, and has the kit's gate prove them there: as many side by side as
-there are processors and as memory holds, the longest chain of crates first. The kit keeps each crate that is proved, so an
-interrupted run goes on where it stopped, and of two runs at once each takes what the other has proved.
+needs, without their wrong bodies, to a folder of its own, and has the kit's gate (by rt.py) prove them there: as many side
+by side as there are processors and as memory holds, the longest chain of crates first. The kit keeps each crate that is
+proved, so an interrupted run goes on where it stopped, and of two runs at once each takes what the other has proved.
 
 One line on the standard error for each crate that is proved; nothing on the standard output. Ends with status 0 when the
 program is built, and else with 1, after the log of the run.
@@ -63,8 +63,9 @@ def say(text):
 def prove(folder, count):
     """Runs the gate in the folder, says how far it is, and returns its status and its log."""
     begun, log, proved = time.monotonic(), [], 0
+    words = [sys.executable, f"{TOP}/tools/rt.py", "ci"]
     how = {"stdin": subprocess.DEVNULL, "stdout": subprocess.PIPE, "stderr": subprocess.STDOUT}
-    with subprocess.Popen(["rt", "ci"], cwd=folder, text=True, errors="replace", **how) as gate:
+    with subprocess.Popen(words, cwd=folder, text=True, errors="replace", **how) as gate:
         try:
             for line in gate.stdout:
                 log.append(line)

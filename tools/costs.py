@@ -5,6 +5,8 @@
                                                  check that it starts to LOG; ends with the command's status
     python3 tools/costs.py table LOG             prints the table of a log
     python3 tools/costs.py table LOG --write     puts it between the two marks in docs/CONTRIBUTING.md
+    python3 tools/costs.py functions CRATE       prints the seconds of the crate's dearest functions and lemma files in its
+                                                 last check; the check begins with no out/incremental and has one job
 
 A check is a process of the prover. Its folder tells what it is for: a crate's own folder for its proof or, with --test, for
 its tests, and a temporary copy for a wrong body. Its seconds are read twice a second, so up to half a second of each is lost.
@@ -21,6 +23,9 @@ PAGE = f"{TOP}/docs/CONTRIBUTING.md"
 BEGIN, END = "<!-- costs: made by tools/costs.py -->", "<!-- end of costs -->"
 KINDS = ("proof", "tests", "wrong bodies")
 SHOWN = 10  # crates in the table
+DEAREST = 25  # functions in the list
+# A function's modules: its control flow, the proof of its goals, and smaller ones.
+OF_FUNCTION = re.compile(r"(.+?)\.(Lts|Proof|Tie|Layout|Reads|Goals|Named|Kinds|Code|Met|TheLink|Answers|Invariants)\b")
 TICKS = os.sysconf("SC_CLK_TCK")
 
 
@@ -111,6 +116,28 @@ def write(table):
         it.write(marked.sub(lambda _: f"{BEGIN}\n{table}\n{END}", text))
 
 
+def modules_of(crate):
+    """Returns each module that the crate's last check has written, and the seconds since the one before it."""
+    written = []
+    for at, _, names in os.walk(f"{TOP}/crates/{crate}/out/incremental"):
+        written += [(os.stat(f"{at}/{name}").st_mtime, name) for name in names if name.startswith(f"Rattle-{crate}-")]
+    written.sort()
+    modules = [name.removeprefix(f"Rattle-{crate}-").removesuffix(".oantt").removesuffix(".decls") for _, name in written]
+    return list(zip(modules[1:], (after - before for (before, _), (after, _) in zip(written, written[1:]))))
+
+
+def functions_of(crate):
+    """Returns a line for each of the dearest functions and lemma files: all its seconds, of these control flow and goals."""
+    seconds = collections.defaultdict(collections.Counter)
+    for module, spent in modules_of(crate):
+        found = OF_FUNCTION.match(module)
+        seconds[found[1] if found else module][found[2] if found else "Proof"] += spent
+    dearest = sorted(seconds.items(), key=lambda it: -sum(it[1].values()))[:DEAREST]
+    total = sum(sum(spent.values()) for spent in seconds.values())
+    head = f"{total:.0f} seconds in all; of each: all, control flow (Lts), goals or lemmas (Proof)"
+    return "\n".join([head, *(f"{sum(it.values()):6.1f} {it['Lts']:6.1f} {it['Proof']:6.1f}  {name}" for name, it in dearest)])
+
+
 def main(words):
     """Does what the words ask for, and returns the exit status."""
     if words[:1] == ["watch"] and len(words) > 2:
@@ -118,6 +145,9 @@ def main(words):
     if words[:1] == ["table"] and words[2:] in ([], ["--write"]):
         table = table_of(words[1])
         write(table) if words[2:] else print(table)
+        return 0
+    if words[:1] == ["functions"] and len(words) == 2:
+        print(functions_of(words[1]))
         return 0
     print(__doc__.strip(), file=sys.stderr)
     return 2

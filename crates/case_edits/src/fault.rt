@@ -3,7 +3,7 @@
 use demand_rates::RateFault;
 
 /// The first fault of an edits file. Line numbers count from 1 and include empty lines.
-#[derive(Clone, Copy, Drop, PartialEq, Eq)]
+#[derive(Clone, Copy, Drop)]
 pub enum EditFault {
     /// There is a line 4,001.
     TooManyLines,

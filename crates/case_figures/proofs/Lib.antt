@@ -6,5 +6,4 @@ pub mod Families
 pub mod Limits
 pub mod Enclosing
 pub mod Shown
-pub mod Alike
 pub mod HeldLines

@@ -9,7 +9,7 @@ use fixed_interval::Iv;
 use spares_input::Name;
 
 /// An interval with 32, 48 or 52 binary places.
-#[derive(Clone, Copy, Debug, PartialEq, Eq)]
+#[derive(Clone, Copy, PartialEq, Eq)]
 pub enum Span {
     Bits32(Iv<32>),
     Bits48(Iv<48>),
@@ -31,7 +31,7 @@ impl Span {
 
 /// A pair of a part and a site with its stock: the mean and the variance of its pipeline, its expected backorders
 /// and the variance of its backorders, in units.
-#[derive(Clone, Copy, PartialEq, Eq)]
+#[derive(Clone, Copy)]
 pub struct ItemLine {
     pub part: Name,
     pub site: Name,
@@ -44,14 +44,14 @@ pub struct ItemLine {
 }
 
 /// A base with its availability: the expected share of its systems that miss no line unit, 0 to 1.
-#[derive(Clone, Copy, PartialEq, Eq)]
+#[derive(Clone, Copy)]
 pub struct BaseLine {
     pub site: Name,
     pub availability: Span,
 }
 
 /// The cost and the figures of stocks.
-#[derive(Drop, PartialEq, Eq)]
+#[derive(Drop)]
 pub struct Figures {
     /// The sum of stock times cost of the part over all pairs, in whole money.
     pub cost: u64,

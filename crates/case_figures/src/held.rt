@@ -131,38 +131,3 @@ impl Items {
         }
     }
 }
-
-/// Whether two lines are the same.
-fn is_same_line(line: &ItemLine, other: &ItemLine) -> bool
-    ensures { result ≡ ⟦<ItemLine as PartialEq>⟧.eq line.now other.now }
-{
-    line == other
-}
-
-impl PartialEq for Items {
-    ghost use Rattle.std.specs.Cmp.Lexicographic.{pointwise, lists_per};
-    ghost use Rattle.case_figures.specs.contracts.figures.ItemLinePartialEq.TheImpl.Laws.{laws-law};
-
-    ghost eq = { pointwise ⟦<ItemLine as PartialEq>⟧.eq };
-
-    ghost laws = { lists_per laws-law };
-
-    fn eq(&self, other: &Items) -> bool {
-        if self.len() != other.len() {
-            return false;
-        }
-        for n in 0..self.len() {
-            if !is_same_line(&self.get(n), &other.get(n)) {
-                return false;
-            }
-        }
-        true
-    }
-}
-
-impl Eq for Items {
-    ghost use Rattle.std.specs.Cmp.Lexicographic.{lists_equiv};
-    ghost use Rattle.case_figures.specs.contracts.figures.ItemLineEq.TheImpl.Laws.{laws-law};
-
-    ghost laws = { lists_equiv laws-law };
-}

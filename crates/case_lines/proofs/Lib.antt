@@ -7,3 +7,5 @@ pub mod Pairs
 pub mod Rows
 pub mod Framed
 pub mod Again
+pub mod Taken
+pub mod Choices

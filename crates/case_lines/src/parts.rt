@@ -100,6 +100,5 @@ pub(crate) fn put_parts(out: &mut Vec<u8>, case: &Case) -> Result<(), NoMemory>
 {
     let weighted = are_weighted(case.frame().parts());
     put_parts_line(out, weighted, case.part_count() as u128)?;
-    put_each_part(out, weighted, case)?;
-    Ok(())
+    put_each_part(out, weighted, case)
 }

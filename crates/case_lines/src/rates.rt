@@ -80,6 +80,5 @@ pub(crate) fn put_rates(out: &mut Vec<u8>, case: &Case) -> Result<(), NoMemory>
 {
     let pairs = case.part_count() as u128 * case.site_count() as u128;
     put_count_line(out, b"rates", pairs)?;
-    put_each_rate(out, case)?;
-    Ok(())
+    put_each_rate(out, case)
 }

@@ -163,6 +163,5 @@ pub(crate) fn parts(alloc: Global, lines: &mut Lines<'_>) -> Result<Vec<PartRow>
     ensures { Gathers (λ v. v.items) result lines.new (parts.read lines.old) }
 {
     let (weighted, count) = parts_line(lines)?;
-    let found = each_part(alloc, lines, weighted, count as usize)?;
-    Ok(found)
+    each_part(alloc, lines, weighted, count as usize)
 }

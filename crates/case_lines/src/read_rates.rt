@@ -142,8 +142,7 @@ fn counted_rates(
 {
     let pairs = parts.len() as u128 * sites.len() as u128;
     let _count = count_line(lines, b"rates", pairs, pairs)?;
-    let found = each_rate(alloc, lines, sites, parts)?;
-    Ok(found)
+    each_rate(alloc, lines, sites, parts)
 }
 
 /// Reads the lines of the rates.

@@ -125,6 +125,5 @@ pub(crate) fn sites(alloc: Global, lines: &mut Lines<'_>) -> Result<Vec<SiteRow>
     ensures { Gathers (λ v. v.items) result lines.new (sites.read lines.old) }
 {
     let count = count_line(lines, b"sites", 2, 16)?;
-    let found = each_site(alloc, lines, count as usize)?;
-    Ok(found)
+    each_site(alloc, lines, count as usize)
 }

@@ -62,6 +62,5 @@ pub(crate) fn put_sites(out: &mut Vec<u8>, case: &Case) -> Result<(), NoMemory>
     ensures { OnOk result (out.new.items ≡ out.old.items ++ file_text sites case.now.sites) }
 {
     put_count_line(out, b"sites", case.site_count() as u128)?;
-    put_each_site(out, case)?;
-    Ok(())
+    put_each_site(out, case)
 }

@@ -17,8 +17,7 @@ fn put_case(out: &mut Vec<u8>, case: &Case) -> Result<(), NoMemory>
 {
     put_sites(out, case)?;
     put_parts(out, case)?;
-    put_rates(out, case)?;
-    Ok(())
+    put_rates(out, case)
 }
 
 /// The lines of a case: `sites,N` and a line for each site, the depot first; `parts,N` and a line for each part, with

@@ -190,6 +190,7 @@ here c valid curves picks s p f h k e widths a =
     below_most t a zero = omega arith
     below_most t a (suc m) = below_step (t a) a (filter t (range_with_len (a + 1) m)) m (below_most t (a + 1) m)
 
+-- Stocks of a case have the pair of each of its parts and sites.
 pub pair_in : (c : CaseRows) (s : StockList) (q k : ℕ) → IsFor c s → q < length c.parts → k < length c.sites → HasPair s q k
 pair_in c s q k h lq lk = record {
   site = subst (λ n. k < n) (sym h.sites) lk;

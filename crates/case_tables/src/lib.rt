@@ -171,10 +171,8 @@ pub fn accepted_of(
     ensures rates { IfOk result (λ given. AreRatesOf given.case given.rates) }
 {
     let case = case_of(alloc, sites, parts, rates)?;
-    match rates_of(alloc, &case) {
-        Ok(rates) => Ok(Accepted { case, rates }),
-        Err(stop) => Err(stop),
-    }
+    let rates = rates_of(alloc, &case)?;
+    Ok(Accepted { case, rates })
 }
 
 /// A case with its rates, which are within the limits of the model, and stocks, which are within the case's limits.
@@ -208,12 +206,10 @@ pub fn stocked_of(
 {
     let case = case_of(alloc, sites, parts, rates)?;
     let stocks = stocks_in(alloc, &case, file, stocks)?;
-    match rates_of(alloc, &case) {
-        Ok(rates) => Ok(Stocked {
-            case,
-            stocks,
-            rates,
-        }),
-        Err(stop) => Err(stop),
-    }
+    let rates = rates_of(alloc, &case)?;
+    Ok(Stocked {
+        case,
+        stocks,
+        rates,
+    })
 }

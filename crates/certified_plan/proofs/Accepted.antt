@@ -1,5 +1,5 @@
 -- No rule of the checker refuses the certificate of a plan.
-use Rattle.std.proofs.Common.{◌≡◌, ◌==◌, ℕ, zero, suc, ◌+◌, ◌*◌, ◌/◌, ◌%◌, ◌<◌, ◌≤◌, Bool, true, false, List, [], ◌∷◌, length, map, get_or, sum_by, Option, Some, None, is_none, Ok, Err, refl, sym, ap, ◌∙◌, subst, arith}
+use Rattle.std.proofs.Common.{◌≡◌, ◌==◌, ℕ, zero, suc, ◌+◌, ◌*◌, ◌/◌, ◌%◌, ◌<◌, ◌≤◌, Bool, true, false, List, [], ◌∷◌, length, map, get_or, sum_by, Some, None, is_none, Ok, Err, refl, sym, ap, ◌∙◌, subst, arith}
 use Rattle.std.specs.Prelude.{nat_le, if◌then◌else◌, unwrap_or}
 use Rattle.std.specs.Result.{IsOk}
 use Rattle.std.proofs.lemmas.Bool.{leb-true, false≢true}
@@ -12,7 +12,7 @@ use Rattle.answers.specs.Counts.{count64}
 use Rattle.hull.specs.declared.point.Point.{Point}
 use Rattle.hull.specs.declared.price.Price.{Price}
 use Rattle.hull.specs.Curves.{lagrangian, Among}
-use Rattle.spares_input.specs.First.{first, unless}
+use Rattle.spares_input.specs.First.{first}
 use Rattle.spares_input.specs.Cases.{CaseRows, frame_rows, pair_count}
 use Rattle.spares_input.specs.Stocks.{StockList, limit_at}
 use Rattle.spares_input.proofs.Standing.{first_none}
@@ -37,9 +37,9 @@ use Rattle.check_answers.specs.declared.refusal.Reject.TheVariants as reject
 use Rattle.gap_rules.specs.Covers.{leaves}
 use Rattle.gap_rules.specs.Trees.{leaves_of}
 use Rattle.gap_rules.specs.Values.{value_of, cover_tables}
-use Rattle.gap_rules.specs.Refusals.{family_count, cover_of, family_leaves, gap_at, family_tables, work_of, over_limit, too_low, below_held, cost_above, leaf_value, low_at, upper_of, largest_of, reject_of}
+use Rattle.gap_rules.specs.Refusals.{family_count, cover_of, family_leaves, gap_at, family_tables, work_of, over_limit, too_low, below_held, cost_above, leaf_value, low_at, reject_of}
 use Rattle.gap_rules.proofs.Costs.{added_is}
-use Rattle.gap_rules.proofs.Judging.{by_none}
+use Rattle.gap_rules.proofs.Acceptable.{none_broken}
 use Rattle.gap_rules.proofs.Readings.{trees_are_read}
 use Rattle.gap_rules.proofs.StockFaults.{else_none}
 use Rattle.price_certificate.specs.declared.certificate.Terms.{Terms}
@@ -57,10 +57,6 @@ use Rattle.certified_plan.proofs.Scores.{scores_enclose}
 use Rattle.certified_plan.proofs.Trees.{HasOneWhole, trimmed_whole}
 
 -- ---- general
-
-no_fault : {A E : Type 0} (o : Option E) (x y : A) → unless o x ≡ Ok y → o ≡ None
-no_fault None x y h = refl
-no_fault (Some e) x y h = absurd (cc)
 
 floor_at : (price : Price) (points : ℕ → List Point) (ls floors : List ℕ) (f : ℕ) (w : Point) → AreFloors price (map points ls) floors → f < length ls → Among w (points (get_or ls f 0))
     → get_or floors f 0 ≤ lagrangian price.p price.q w
@@ -237,13 +233,14 @@ module _ (c : CaseRows) (held : StockList) (terms : Terms) (p : CasePlan) (on : 
   pub accepted : IsWithinWork c held.list → reject_of (ends_of terms.objective) (certificate_of c held terms (claims_of c p)) held ≡ None
   accepted within =
       let few = within_work c held.list within in
-      no_fault (reject_of score cert held) _ _
-      (by_none score cert held (ap (option_map reject.Rate) on.accepted.no_fault)
-      (first_none (gap_at cert held) (family_count c) (λ f b. no_gap f b))
-      (work_of cert held) refl (work_few few)
-      (first_none (over_limit c (stock_list c p.stocks)) (pair_count (frame_rows c)) (λ i b. limited i b))
-      all_kept
-      (cost_above c held (stock_list c p.stocks)) refl cost_fits
-      (first_none (low_at score cert held) (family_count c) (λ f b. no_low f b))
-      (upper_of score cert held) refl (let u = on.plan.plan.upper in omega (arith, u))
-      (largest_of score cert) refl (let u = on.plan.plan.bound in omega (arith, u)))
+      none_broken score cert held (record {
+        rates = ap (option_map reject.Rate) on.accepted.no_fault;
+        gaps = first_none (gap_at cert held) (family_count c) (λ f b. no_gap f b);
+        work = work_few few;
+        limited = first_none (over_limit c (stock_list c p.stocks)) (pair_count (frame_rows c)) (λ i b. limited i b);
+        kept = all_kept;
+        cost = cost_fits;
+        floors = first_none (low_at score cert held) (family_count c) (λ f b. no_low f b);
+        upper = let u = on.plan.plan.upper in omega (arith, u);
+        bound = let u = on.plan.plan.bound in omega (arith, u);
+      })

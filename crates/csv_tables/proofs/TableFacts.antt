@@ -1,5 +1,5 @@
 -- The rows of a table, record by record.
-use Rattle.std.proofs.Common.{◌≡◌, ℕ, ◌+◌, ◌<◌, ◌≤◌, Bool, true, false, List, [], ◌∷◌, ◌++◌, length, Some, None, Result, Ok, Err, refl, sym, ◌∙◌, arith, append_assoc, nat_le, if◌then◌else◌, ◌&&◌, IfOk, Vec, Global}
+use Rattle.std.proofs.Common.{◌≡◌, ℕ, ◌+◌, ◌<◌, ◌≤◌, Bool, true, false, List, [], ◌∷◌, ◌++◌, length, Some, None, Result, Ok, Err, refl, sym, subst, ap, ◌∙◌, arith, append_assoc, nat_le, if◌then◌else◌, ◌&&◌, IfOk, Vec, Global}
 use Rattle.answers.specs.Answers.{Gives}
 use Rattle.answers.specs.declared.stop.Stop.{Stop}
 use Rattle.std.specs.List.{All}
@@ -64,6 +64,24 @@ module _ {A : Type 0} (row_of : ℕ → Record → Result A TableFault) (limit c
   rows_row rs rest r x e lt good h =
       let t : nat_le (limit + 2) row ≡ false = lt-leb (limit + 2) row lt in
       prepend_more front x (rows_from row_of limit columns (row + 1) rest) ∙ (sym (rw (e, t, good) refl) ∙ h)
+
+module _ {A : Type 0} (row_of : ℕ → Record → Result A TableFault) (limit least : ℕ) (header : List (List ℕ)) (rs rest : List Record) (h : Record) where
+  -- the answer of a table after its header
+  after_header : (columns : Result ℕ TableFault) → rs ≡ h ∷ rest → columns ≡ header_in least header h
+      → table_of row_of limit least header rs ≡ (columns >>= λ n. rows_from row_of limit n 2 rest)
+  after_header columns e head =
+      ap (table_of row_of limit least header) e ∙ ap (λ (n : Result ℕ TableFault). n >>= λ m. rows_from row_of limit m 2 rest) (sym head)
+
+  -- the rows after the header are the table's
+  pub rows_after : (columns : ℕ) (answer : Result (List A) (Stop TableFault)) → rs ≡ h ∷ rest → Ok columns ≡ header_in least header h
+      → Gives (rows_from row_of limit columns 2 rest) answer → Gives (table_of row_of limit least header rs) answer
+  rows_after columns answer e head given =
+      let P : Result (List A) TableFault → Type 0 = λ t. Gives t answer in
+      subst P (sym (after_header (Ok columns) e head)) given
+
+  -- the fault of the header is the table's
+  pub header_refused : (f : TableFault) → rs ≡ h ∷ rest → Err f ≡ header_in least header h → table_of row_of limit least header rs ≡ Err f
+  header_refused f e head = after_header (Err f) e head
 
 -- the header of a record with as many fields as there may be
 fits : (least n most : ℕ) → least ≤ n → n ≤ most → (nat_le least n && nat_le n most) ≡ true

@@ -1,26 +1,32 @@
 -- What shop units add, as a loop over the parts adds it up.
-use Rattle.std.proofs.Common.{◌≡◌, ◌≢◌, ℕ, zero, suc, ◌+◌, ◌*◌, ◌<◌, ◌≤◌, Bool, true, false, cond, List, [], ◌∷◌, ◌++◌, length, map, filter, get_or, replicate, sum_by, bytes_eq, Option, Some, None, inl, inr, refl, sym, ap, ◌∙◌, subst, arith, add-one, zero-add}
+use Rattle.std.proofs.Common.{◌≡◌, ◌≢◌, ℕ, zero, suc, ◌+◌, ◌-◌, ◌*◌, ◌<◌, ◌≤◌, Bool, true, false, cond, List, [], ◌∷◌, ◌++◌, length, map, filter, get_or, replicate, sum_by, bytes_eq, Option, Some, None, inl, inr, refl, sym, ap, ◌∙◌, subst, arith, add-one, zero-add, le_trans, mul-le-mul_right, mul-le-mul_left}
 use Rattle.std.specs.List.{range_with_len}
 use Rattle.std.specs.Option.{option_map_or, option_and_then}
+use Rattle.std.proofs.Math.Dec.{lit≤}
 use Rattle.std.proofs.Math.ListN.{set, length-set}
 use Rattle.std.proofs.Math.Seq.{get_or-append_seam}
 use Rattle.std.proofs.lemmas.Bool.{cases_Bool, cases_lt, cases_eq}
-use Rattle.std.proofs.lemmas.List.{get_or-map, length-map, get_or-replicate, get_or-set_same, get_or-set_other, get_or_past, get_or_append_left, map-append}
+use Rattle.std.proofs.lemmas.List.{get_or-map, length-map, length-replicate, get_or-replicate, get_or-set_same, get_or-set_other, get_or_past, get_or_append_left, map-append}
 use Rattle.std.proofs.lemmas.Grind.{get_or_default_zero}
 use Rattle.std.proofs.lemmas.List.Quantifiers.{position-Some}
 use Rattle.std.proofs.lemmas.List.Sums.{sum_by-append, sum_by-cons}
 use Rattle.std.proofs.lemmas.Slice.Eq.{bytes_eq-Decides}
+use Rattle.std.proofs.lemmas.Nat.{mul-le}
+use mir.Val.{Fits}
+use mir.Syntax.{w128}
+use Rattle.exact_ratio.specs.declared.ratio.Ratio.{Ratio}
 use Rattle.spares_input.specs.Rows.{is_line, no_part}
-use Rattle.spares_input.specs.Frames.{is_shop_of, line_of, part_at, part_names, place_of, shops_below}
+use Rattle.spares_input.specs.Frames.{is_shop_of, line_of, part_at, site_at, part_names, place_of, shops_below}
 use Rattle.spares_input.specs.Cases.{CaseRows, IsCase, rate_at}
 use Rattle.spares_input.specs.declared.rows.PartRow.{PartRow}
+use Rattle.spares_input.specs.declared.rows.RateRow.{RateRow}
 use Rattle.spares_input.proofs.Standing.{no_shop_at}
 use Rattle.fleet_model.proofs.FrameLaws.{same_part}
 use Rattle.fleet_model.specs.Rows.{shop_units}
-use Rattle.fleet_model.specs.Units.{demand_00, direct_units_00, needed_i0, zero_stock_units_00}
+use Rattle.fleet_model.specs.Units.{demand_00, demand_i0, direct_units_00, needed_i0, zero_stock_units_00, zero_stock_units_ij}
 use Rattle.demand_rates.specs.declared.kinds.PairRates.{PairRates}
-use Rattle.demand_rates.specs.Rates.{rates_of_pair}
-use Rattle.demand_rates.specs.Waits.{wait, wait_most, wait_sum, AreWaits}
+use Rattle.demand_rates.specs.Rates.{rates_of_pair, share_ratio}
+use Rattle.demand_rates.specs.Waits.{wait, wait_most, wait_sum, AreAllWaits, AreWaits}
 use Rattle.demand_rates.proofs.Sums.{later}
 
 -- ---- whose shop unit a part is
@@ -99,6 +105,45 @@ zero_at n q xs e l = elim (cases_lt q n) [
   | inr i ↦ get_or_past xs q 0 (omega (arith, l, i))
 ]
 
+nothing : (n m : ℕ) → n ≡ 0 → n ≤ m
+nothing n m e = omega (arith, e)
+
+-- before the first part there are no waits
+pub waits_none : (c : CaseRows) (k n : ℕ) (xs : List ℕ) → xs ≡ replicate n 0 → n ≡ length c.parts → AreWaitsBelow c k 0 xs
+waits_none c k n xs e count =
+    let len : length xs ≡ n = ap (λ (ys : List ℕ). length ys) e ∙ length-replicate n 0 in
+    record {
+      count = len ∙ count;
+      each = λ q l. zero_at n q xs e len;
+      small = λ q. nothing (get_or xs q 0) (0 * wait_most k) (zero_at n q xs e len);
+    }
+
+-- after the last part the waits are those of the site
+pub waits_done : (c : CaseRows) (k n p : ℕ) (xs : List ℕ) → IsCase c → n ≡ length c.parts → n ≤ p → p ≤ n → AreWaitsBelow c k p xs → AreWaits c k xs
+waits_done c k n p xs v count past within h =
+    let all : p ≡ length c.parts = omega (arith, past, within, count) in
+    record {
+      count = h.count;
+      each = λ q l. h.each q l ∙ ap (λ m. sum_by (wait c q k) (shops_below c.parts q m)) all;
+      small = λ q. le_trans (h.small q) (mul-le-mul_right (wait_most k) (subst (λ m. m ≤ 2000) (sym all) v.frame.most_parts));
+    }
+
+most_small : (k : ℕ) → wait_most k ≤ 3000000000000000000000000000
+most_small zero = lit≤ tt
+most_small (suc j) = lit≤ tt
+
+sum_small : (n m w : ℕ) → n ≤ m → m ≤ 6000000000000000000000000000000 → w ≤ 3000000000000000000000000000 → Fits w128 (n + w)
+sum_small n m w few most more = omega (arith, few, most, more)
+
+-- the sum of so many waits, with one more, fits 128 bits
+pub wait_fits : (c : CaseRows) (k p n l now w : ℕ) (xs : List ℕ) → IsCase c → n ≡ length c.parts → p < n → l < length c.parts → now ≡ get_or xs l now
+    → w ≤ wait_most k → AreWaitsBelow c k p xs → Fits w128 (now + w)
+wait_fits c k p n l now w xs v count within wl read most h =
+    let at : now ≡ get_or xs l 0 = read ∙ get_or_default_zero xs l now (subst (λ m. l < m) (sym h.count) wl) in
+    let few : p ≤ 2000 = omega (arith, within, count, v.frame.most_parts) in
+    sum_small now (p * wait_most k) w (subst (λ m. m ≤ p * wait_most k) (sym at) (h.small l))
+    (mul-le p (wait_most k) 2000 3000000000000000000000000000 few (most_small k)) (le_trans most (most_small k))
+
 -- a line unit adds nothing to the waits of the parts so far
 pub waits_same : (c : CaseRows) (k p : ℕ) (xs : List ℕ) → is_line (part_at c.parts p) ≡ true → AreWaitsBelow c k p xs → AreWaitsBelow c k (p + 1) xs
 waits_same c k p xs line h = record {
@@ -165,6 +210,36 @@ waits_pushed f c k xs ys x e n before here j l =
       | inr ne ↦ subst (λ zs. AreWaits c j zs) (sym (get_or_append_left (map f xs) (f x ∷ []) [] j (omega (arith, count, l, ne)))) (before j (omega (arith, l, ne)))
     ])
 
+module _ {V : Type 0} (f : V → List ℕ) (c : CaseRows) (xs : List V) where
+  -- after the last site all sums are there
+  pub all_waits_done : (n k : ℕ) → n ≡ length c.sites → n ≤ k → k ≤ n → length xs ≡ k → ((j : ℕ) → j < k → AreWaits c j (get_or (map f xs) j []))
+      → AreAllWaits c (map f xs)
+  all_waits_done n k count past within len each =
+      let all : k ≡ length c.sites = omega (arith, past, within, count) in
+      record { count = length-map xs f ∙ len ∙ all; each = λ j l. each j (subst (λ m. j < m) (sym all) l) }
+
+  module _ (h : AreAllWaits c (map f xs)) (k : ℕ) (site : k < length c.sites) where
+    -- the sums have an entry for each site
+    pub site_there : k < length xs
+    site_there = subst (λ n. k < n) (sym h.count ∙ length-map xs f) site
+
+    module _ (l : ℕ) (part : l < length c.parts) where
+      -- and in it one for each part
+      pub part_there : l < length (get_or (map f xs) k [])
+      part_there = subst (λ n. l < n) (sym (h.each k site).count) part
+
+      -- which is the sum of that part
+      pub wait_there : (w : ℕ) → w ≡ get_or (get_or (map f xs) k []) l 0 → w ≡ wait_sum c l k
+      wait_there w e = e ∙ (h.each k site).each l part
+
+      -- and within its limit
+      pub wait_few : (w : ℕ) → w ≡ get_or (get_or (map f xs) k []) l 0 → w ≤ 2000 * wait_most k
+      wait_few w e = subst (λ n. n ≤ 2000 * wait_most k) (sym e) ((h.each k site).small l)
+
+-- at any site
+pub base_wait_few : (w k : ℕ) → w ≤ 2000 * wait_most k → w ≤ 6000000000000000000000000000000
+base_wait_few w k h = le_trans h (mul-le-mul_left 2000 (most_small k))
+
 -- ---- the depot's line unit
 
 factored : (g h : ℕ → ℕ) (a b : ℕ) (xs : List ℕ) → ((i : ℕ) → g i ≡ a * h i * b) → sum_by g xs ≡ a * sum_by h xs * b
@@ -187,3 +262,29 @@ pub depot_line_holds : (c : CaseRows) (l direct demand wait : ℕ) → demand �
 depot_line_holds c l direct demand wait d e w =
     let mean : direct + demand * wait * 10000 ≡ zero_stock_units_00 c l = rw (d, e, w) (sym (depot_mean c l)) in
     λ i. record { demand = record { num = d i; den = 100000000 }; share = record { num = 1; den = 1 }; direct = e i; zero_stock = mean i }
+
+-- ---- a base
+
+-- the rates of a line unit at a base, as they are computed from the rows of base and depot, order and shipment, and the waits
+pub base_line_holds : (c : CaseRows) (l j demand num ship days sent depot repair depot_wait from_depot here : ℕ) (row : RateRow) (share : Ratio) → 0 < j
+    → row ≡ rate_at c l j → ship ≡ (site_at c.sites j).ship → demand ≡ row.demand → num ≡ row.demand
+    → days ≡ (10000 - row.repair_here) * ship + row.repair_here * row.repair_days → sent ≡ row.demand * (10000 - row.repair_here) → depot ≡ demand_00 c l
+    → share ≡ share_ratio sent depot → repair ≡ (rate_at c l 0).repair_days → depot_wait ≡ wait_sum c l 0
+    → from_depot ≡ sent * (repair * 10000 + depot_wait) * 10000 → here ≡ wait_sum c l j
+    → ◌≡◌ {A = PairRates} (record { demand = record { num = num; den = 10000 }; share = share; direct = demand * days * 100000000; zero_stock = demand * days * 100000000 + from_depot + here })
+    (rates_of_pair c None l j)
+base_line_holds c l zero demand num ship days sent depot repair depot_wait from_depot here row share past r o d m t s q h p v z w = absurd (omega (arith, past))
+base_line_holds c l (suc j) demand num ship days sent depot repair depot_wait from_depot here row share past r o d m t s q h p v z w =
+    rw (w, z, v, p, h, q, s, t, m, d, o, r) refl
+
+-- the rates of a shop unit at a base, from the rows of its line unit and of itself
+pub base_shop_holds : (c : CaseRows) (l i j demand ship days sent depot mean : ℕ) (line_row row : RateRow) (share : Ratio) → 0 < j
+    → line_row ≡ rate_at c l j → row ≡ rate_at c i j → ship ≡ (site_at c.sites j).ship → demand ≡ line_row.demand * line_row.repair_here * row.share
+    → days ≡ (10000 - row.repair_here) * ship + row.repair_here * row.repair_days
+    → sent ≡ line_row.demand * line_row.repair_here * row.share * (10000 - row.repair_here) → depot ≡ demand_i0 c l i → share ≡ share_ratio sent depot
+    → mean ≡ zero_stock_units_ij c l i j
+    → ◌≡◌ {A = PairRates} (record { demand = record { num = demand; den = 1000000000000 }; share = share; direct = demand * days; zero_stock = mean })
+    (rates_of_pair c (Some l) i j)
+base_shop_holds c l i zero demand ship days sent depot mean line_row row share past b r o d t s q h z = absurd (omega (arith, past))
+base_shop_holds c l i (suc j) demand ship days sent depot mean line_row row share past b r o d t s q h z =
+    rw (z, h, q, s, t, d, o, r, b) refl

@@ -1,9 +1,9 @@
 -- A plan of the demonstration case is accepted, and its summary is what is asked for.
-use Rattle.std.proofs.Common.{◌≡◌, ◌∙◌, ap, arith, refl, subst, sym, ℕ, ◌<◌, ◌≤◌, length, None, Result, Ok}
-use Rattle.std.specs.Result.{IsOk}
+use Rattle.std.proofs.Common.{◌≡◌, ◌∙◌, ap, arith, refl, subst, sym, ℕ, ◌<◌, ◌≤◌, length, None, IfOk, Result, Ok, Err}
+use Rattle.std.specs.Result.{IsOk, result_and}
 use Rattle.std.proofs.lemmas.List.{get_or-replicate, length-replicate}
 use Rattle.spares_input.specs.Cases.{CaseRows, IsCase, frame_rows, pair_count}
-use Rattle.spares_input.specs.Stocks.{StockList, IsFor, IsWithinLimits, nothing_held}
+use Rattle.spares_input.specs.Stocks.{StockList, nothing_held}
 use Rattle.case_figures.specs.Figures.{total_of}
 use Rattle.case_maker.specs.Demonstration.{made}
 use Rattle.case_maker.proofs.Valid.{made_few, made_lines, made_valid}
@@ -12,7 +12,7 @@ use Rattle.case_plan.specs.Report.{IsOutcome, IsPlanned, plain_terms}
 use Rattle.case_plan.specs.declared.outcome.Outcome.{Outcome}
 use Rattle.case_plan.proofs.Truths.{report_fits}
 use Rattle.certified_plan.specs.Certificates.{certificate_of, claims_of}
-use Rattle.certified_plan.specs.Inputs.{AreClaims, AreTerms}
+use Rattle.certified_plan.specs.Inputs.{AreClaims, AreTerms, IsHeld}
 use Rattle.certified_plan.specs.Laws.{IsPlanOn}
 use Rattle.certified_plan.proofs.Accepted.{accepted}
 use Rattle.certified_plan.proofs.Formed.{plan_claims}
@@ -57,13 +57,13 @@ demo_work number lines c held few is none =
 pub are_terms : (lines : ℕ) → lines ≤ 80 → AreTerms (demo_terms (budget_of lines))
 are_terms lines few = record { budget = omega (arith, few); fewest = omega arith; most = omega arith; first = λ e. refl }
 
-module _ (c : CaseRows) (held : StockList) (lines : ℕ) (few : lines ≤ 80) (valid : IsCase c) (no_fault : rate_fault_of c ≡ None) (whole : IsFor c held) (limits : IsWithinLimits c held)
-    (o : Outcome) (h : IsOutcome plain_ends c held.list (plain_terms (budget_of lines)) o) where
-  on_plan : IsPlanOn c held (demo_terms (budget_of lines)) h.plan
+module _ (c : CaseRows) (held : StockList) (budget : ℕ) (terms : AreTerms (demo_terms budget)) (valid : IsCase c) (no_fault : rate_fault_of c ≡ None) (is_held : IsHeld c held)
+    (o : Outcome) (h : IsOutcome plain_ends c held.list (plain_terms budget) o) where
+  on_plan : IsPlanOn c held (demo_terms budget) h.plan
   on_plan = record {
     accepted = record { valid = valid; no_fault = no_fault };
-    are_terms = are_terms lines few;
-    is_held = record { is_for = whole; limits = limits };
+    are_terms = terms;
+    is_held = is_held;
     plan = h.is_plan;
   }
 
@@ -72,58 +72,65 @@ module _ (c : CaseRows) (held : StockList) (lines : ℕ) (few : lines ≤ 80) (v
 
   -- each number that the outcome's certificate claims is in its range
   pub have_claims : AreClaims c (claims_in o)
-  have_claims = subst (AreClaims c) (sym claims_are) (plan_claims c held (demo_terms (budget_of lines)) h.plan on_plan)
+  have_claims = subst (AreClaims c) (sym claims_are) (plan_claims c held (demo_terms budget) h.plan on_plan)
 
-  report : IsPlanned plain_ends c held.list (plain_terms (budget_of lines)) o.report
+  report : IsPlanned plain_ends c held.list (plain_terms budget) o.report
   report = record { plan = h.plan; is_plan = h.is_plan; is = ap (λ (z : Outcome). z.report) h.is }
 
   pub plan_prints : FitsPlan o.report
   plan_prints =
-      report_fits plain_ends _ c held.list (plain_terms (budget_of lines)) o.report (record { valid = valid; no_fault = no_fault })
+      report_fits plain_ends _ c held.list (plain_terms budget) o.report (record { valid = valid; no_fault = no_fault })
       (scores_enclose Backorders) (scores_leave_room Backorders) report
 
   -- the numbers of the summary fit
-  pub sums_fit : (number parts : ℕ) → FitsSummary (summary_in number lines parts o)
-  sums_fit number parts =
+  pub sums_fit : (number lines parts : ℕ) → FitsSummary (summary_in number lines parts o)
+  sums_fit number lines parts =
       let p = plan_prints in
       record { total = p.figures.total; bound = p.bound; gap = p.gap }
 
   -- the summary of the outcome is the demonstration's
-  pub is_demonstrated : (number parts : ℕ) → c ≡ made number lines → held ≡ nothing_held c → parts ≡ length c.parts → IsDemonstrated number lines (summary_in number lines parts o)
-  is_demonstrated number parts is none count =
-      let told : CaseRows → Summary = λ d. record {
+  pub is_demonstrated : (number lines parts : ℕ) → c ≡ made number lines → held ≡ nothing_held c → budget ≡ budget_of lines → parts ≡ length c.parts
+      → IsDemonstrated number lines (summary_in number lines parts o)
+  is_demonstrated number lines parts is none money count =
+      let told : ℕ → CaseRows → Summary = λ b d. record {
         number = number;
         lines = lines;
         parts = length d.parts;
-        budget = budget_of lines;
+        budget = b;
         cost = h.plan.numbers.cost;
         total = total_of 48 d h.plan.stocks;
         bound = h.plan.numbers.bound;
         gap = h.plan.numbers.gap;
       } in
-      let here : summary_in number lines (length c.parts) o ≡ told c = rw h.is refl in
+      let here : summary_in number lines (length c.parts) o ≡ told budget c = rw h.is refl in
       record {
         plan = h.plan;
-        is_plan = subst (λ (d : CaseRows). IsCasePlan plain_ends d (nothing_held d).list (budget_of lines) h.plan) is
-            (subst (λ (s : StockList). IsCasePlan plain_ends c s.list (budget_of lines) h.plan) none h.is_plan);
-        is = ap (λ n. summary_in number lines n o) count ∙ here ∙ ap told is;
+        is_plan = subst (λ (b : ℕ). IsCasePlan plain_ends (made number lines) (nothing_held (made number lines)).list b h.plan) money
+            (subst (λ (d : CaseRows). IsCasePlan plain_ends d (nothing_held d).list budget h.plan) is
+            (subst (λ (s : StockList). IsCasePlan plain_ends c s.list budget h.plan) none h.is_plan));
+        is = ap (λ n. summary_in number lines n o) count ∙ here ∙ ap (told budget) is ∙ ap (λ (b : ℕ). told b (made number lines)) money;
       }
 
-  module _ (cert : Certificate) (is : cert ≡ certificate_of c held (demo_terms (budget_of lines)) (claims_in o)) (none : held ≡ nothing_held c)
+  module _ (cert : Certificate) (is : cert ≡ certificate_of c held (demo_terms budget) (claims_in o)) (none : held ≡ nothing_held c)
       (work : IsOk (held_work_of c held.list)) where
-    cert_is : cert ≡ certificate_of c held (demo_terms (budget_of lines)) (claims_of c h.plan)
-    cert_is = is ∙ ap (certificate_of c held (demo_terms (budget_of lines))) claims_are
+    cert_is : cert ≡ certificate_of c held (demo_terms budget) (claims_of c h.plan)
+    cert_is = is ∙ ap (certificate_of c held (demo_terms budget)) claims_are
 
     pub aims : cert.objective ≡ Backorders
     aims = rw is refl
 
     -- the text of the demonstration's certificate is no longer than what is read
     pub is_short : length (cert_text cert) ≤ certificate_limit
-    is_short = subst (λ (x : Certificate). length (cert_text x) ≤ certificate_limit) (sym cert_is) (text_short c held (demo_terms (budget_of lines)) h.plan on_plan)
+    is_short = subst (λ (x : Certificate). length (cert_text x) ≤ certificate_limit) (sym cert_is) (text_short c held (demo_terms budget) h.plan on_plan)
 
     -- the demonstration's certificate is accepted
     pub is_accepted : reject_of plain_ends cert (nothing_held cert.case) ≡ None
     is_accepted =
         subst (λ (x : Certificate). reject_of plain_ends x (nothing_held x.case) ≡ None) (sym cert_is)
-        (subst (λ (s : StockList). reject_of plain_ends (certificate_of c held (demo_terms (budget_of lines)) (claims_of c h.plan)) s ≡ None) none
-        (accepted c held (demo_terms (budget_of lines)) h.plan on_plan work))
+        (subst (λ (s : StockList). reject_of plain_ends (certificate_of c held (demo_terms budget) (claims_of c h.plan)) s ≡ None) none
+        (accepted c held (demo_terms budget) h.plan on_plan work))
+
+-- what holds of a value holds of it after a call that may find no memory
+pub after_call : {A E X : Type 0} (P : X → Type 0) (x : X) (r : Result A E) → P x → IfOk (result_and r (Ok x)) P
+after_call P x (Ok a) h = h
+after_call P x (Err e) h = tt

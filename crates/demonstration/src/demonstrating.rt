@@ -1,12 +1,18 @@
 //! A demonstration, from its number to its summary.
 
-ghost use Rattle.std.specs.Prelude.{◌≡◌, ◌≤◌, IfOk};
+ghost use Rattle.std.specs.Prelude.{◌≡◌, ◌≤◌, None, IfOk};
+ghost use Rattle.std.specs.Result.{IsOk};
 ghost use Rattle.case_figures.specs.Spans.{places};
+ghost use Rattle.case_plan.specs.Report.{IsOutcome, plain_terms};
 ghost use Rattle.certified_plan.specs.Certificates.{certificate_of};
 ghost use Rattle.certified_plan.specs.Inputs.{AreClaims, AreTerms, IsHeld};
+ghost use Rattle.demand_rates.specs.Limits.{rate_fault_of};
 ghost use Rattle.demonstration.specs.Demonstrations.{IsDemonstrated, claims_in, demo_terms, summary_in};
+ghost use Rattle.family_points.specs.Points.{plain_ends};
+ghost use Rattle.held_work.specs.Work.{held_work_of};
 ghost use Rattle.plan_report.specs.Fits.{FitsSummary};
 ghost use Rattle.price_certificate.specs.Certificates.{IsWellFormed};
+ghost use Rattle.spares_input.specs.Stocks.{nothing_held};
 
 use crate::confirming::confirm;
 use answers::NoMemory;
@@ -71,6 +77,26 @@ fn certificate_in(
     certificate(alloc, case, held, terms, claims)
 }
 
+/// Makes the certificate of a plan under a budget with nothing held, writes it, reads it back and checks it.
+fn confirm_plan(
+    alloc: Global,
+    case: Case,
+    held: &Stocks,
+    budget: u64,
+    plan: Outcome,
+) -> Result<(), NoMemory>
+    requires terms { AreTerms (demo_terms budget) }
+    requires rates { rate_fault_of case ≡ None }
+    requires held { IsHeld case held.now }
+    requires nothing { held.now ≡ nothing_held case }
+    requires work { IsOk (held_work_of case held.now.list) }
+    requires plan { IsOutcome plain_ends case held.now.list (plain_terms budget) plan }
+{
+    let _valid = case.site_count();
+    let certificate = certificate_in(alloc, case, held, budget, plan)?;
+    confirm(alloc, &certificate)
+}
+
 /// The summary of a demonstration. It plans the case of a number with 1 to 80 line units under 2,000 of money for each
 /// of them, writes the plan's certificate, reads it back and checks it, all in memory (no clause says so). Want of
 /// memory is the only error.
@@ -86,7 +112,5 @@ pub fn demonstrate(alloc: Global, number: u32, lines: u16) -> Result<Summary, No
     let budget = MONEY * u64::from(lines);
     let plan = plan_case(alloc, &case, &rates, &held, &Plain, budget, false, None)?;
     let summary = summary_of(number, lines, parts, &plan);
-    let certificate = certificate_in(alloc, case, &held, budget, plan)?;
-    confirm(alloc, &certificate)?;
-    Ok(summary)
+    confirm_plan(alloc, case, &held, budget, plan).and(Ok(summary))
 }

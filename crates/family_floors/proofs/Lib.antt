@@ -1,2 +1,4 @@
 pub mod LowPoints
 pub mod Uppers
+pub mod Firsts
+pub mod Moved

@@ -1,11 +1,11 @@
 //! Whether the Lagrangian of each vector of a family reaches a floor at one price, without a curve: for given stocks at
 //! the depot, the least Lagrangian is their cost at the price plus the least of each base.
 
-ghost use Rattle.std.specs.Prelude.{◌≡◌, ◌+◌, ◌-◌, ◌*◌, ◌^◌, ◌<◌, ◌≤◌, ◌∷◌, IfOk, drop, flat_map, length, map, nat_le};
+ghost use Rattle.std.specs.Prelude.{◌≡◌, ◌+◌, ◌-◌, ◌*◌, ◌^◌, ◌<◌, ◌≤◌, ◌∷◌, [], IfOk, drop, flat_map, get_or, length, map, nat_le};
 ghost use Rattle.demand_rates.specs.Rates.{AreRatesOf};
 ghost use Rattle.family_items.specs.Inputs.{IsLine};
 ghost use Rattle.hull.specs.Curves.{lagrangian};
-ghost use Rattle.family_points.specs.Inputs.{AreShopsAt, IsAt, line_stocks};
+ghost use Rattle.family_points.specs.Inputs.{AreShopsAt, IsAt, line_high, line_low, line_stocks, shop_vectors};
 ghost use Rattle.family_rows.specs.Sources.{AreSources};
 ghost use Rattle.family_points.specs.Least.{IsLeast, Decides, least};
 ghost use Rattle.family_points.specs.Points.{AreOrdered, points_within};
@@ -14,12 +14,14 @@ ghost use Rattle.family_points.specs.Choices.{IsChoice, choice_point};
 ghost use Rattle.family_rows.specs.Spots.{AreRows, IsBaseAt};
 ghost use Rattle.family_rows.specs.Tabled.{AreTables, box_numbers};
 
+use crate::bases::base_of;
 use crate::lows::low_at_depot;
+use crate::stocks::stocks_at;
 use answers::NoMemory;
 use demand_rates::kinds::Rates;
 use family_numbers::Numbers;
 use family_points::bounds::Bounds;
-use family_points::family::{Family, joined};
+use family_points::family::{Family, shops_of};
 use family_points::order::Choice;
 use family_rows::base::{put_rows, spot_at};
 use family_rows::base_at::BaseAt;
@@ -121,8 +123,7 @@ fn least_at_depot<S: Score>(
     let _size = sources.family.size();
     let mut least = price.p * u128::from(sources.family.cost(SiteId(0), depot));
     for j in 1..sources.family.sites() {
-        let base = &sources.bases[usize::from(j) - 1];
-        let here = BaseAt::of(sources.family, depot, SiteId(j), base);
+        let here = base_of(sources, depot, j);
         least += least_at_base(rows, &here, score, &sources.numbers, tables, price)?;
     }
     Ok(least)
@@ -155,41 +156,68 @@ fn depot_is_at_least<S: Score>(
     Ok(floor <= least)
 }
 
-/// Whether the Lagrangian of each vector whose shop units have these stocks at the depot reaches the floor.
+/// Whether the Lagrangian of each vector with the shop units' stocks of `stocks` at the depot reaches the floor. The
+/// line unit's stock, the first of `stocks`, is overwritten.
 fn are_at_least<S: Score>(
-    alloc: Global,
     rows: &mut Vec<Vec<Iv64<48>>>,
     sources: &Sources<'_>,
     score: &S,
-    depot: &[u8],
+    tables: &DepotTables<'_>,
+    stocks: &mut [u8],
     price: Price,
     floor: u128,
 ) -> Result<bool, NoMemory>
     requires sources { AreSources sources.now }
-    requires depot { AreShopsAt sources.now.family.now 0 depot.now }
+    requires some { 0 < length stocks.old }
+    requires shops { AreShopsAt sources.now.family.now 0 (drop 1 stocks.old) }
+    requires tables { AreTables sources.now.numbers (drop 1 stocks.old) tables.now }
     requires most_money { price.q ≤ 1000000000000 }
     requires price { price.p ≤ 2 ^ 74 }
     ensures { IfOk result (let x = sources.now.family.now in Decides price.p price.q floor
-        (flat_map (λ s. depot_points x.case x.line S.ends x.held x.low x.high (s ∷ depot.now)) (line_stocks x 0))) }
+        (flat_map (λ s. depot_points x.case x.line S.ends x.held x.low x.high (s ∷ drop 1 stocks.old))
+        (line_stocks x 0))) }
 {
-    let family = sources.family;
-    let _size = family.size();
-    let tables = depot_tables(alloc, sources, depot)?;
-    let low = family.line_low(SiteId(0));
-    let high = family.line_high(SiteId(0));
+    let _size = sources.family.size();
+    let low = sources.family.line_low(SiteId(0));
+    let high = sources.family.line_high(SiteId(0));
     for s in low..high + 1 {
-        let stocks = joined(alloc, s, depot)?;
-        let at_depot = stocks.as_slice();
-        if !depot_is_at_least(rows, sources, score, &tables, at_depot, price, floor)? {
+        stocks[0] = s;
+        if !depot_is_at_least(rows, sources, score, tables, stocks, price, floor)? {
             return Ok(false);
         }
     }
     Ok(true)
 }
 
+/// Whether the Lagrangian of each vector with the `number`-th vector of the shop units' stocks at the depot reaches the
+/// floor.
+fn shops_are_at_least<S: Score>(
+    alloc: Global,
+    rows: &mut Vec<Vec<Iv64<48>>>,
+    sources: &Sources<'_>,
+    score: &S,
+    number: u64,
+    price: Price,
+    floor: u128,
+) -> Result<bool, NoMemory>
+    requires sources { AreSources sources.now }
+    requires number { number < length (shop_vectors sources.now.family.now 0) }
+    requires most_money { price.q ≤ 1000000000000 }
+    requires price { price.p ≤ 2 ^ 74 }
+    ensures { IfOk result (let x = sources.now.family.now in Decides price.p price.q floor
+        (flat_map (λ s. depot_points x.case x.line S.ends x.held x.low x.high
+        (s ∷ get_or (shop_vectors x 0) number [])) (line_stocks x 0))) }
+{
+    let mut stocks = stocks_at(alloc, sources.family, number)?;
+    let tables = depot_tables(alloc, sources, shops_of(stocks.as_slice()))?;
+    let at_depot = stocks.as_mut_slice();
+    are_at_least(rows, sources, score, &tables, at_depot, price, floor)
+}
+
 /// Whether the Lagrangian of each vector of a family within its bounds reaches the floor.
 fn all_are_at_least<S: Score>(
     alloc: Global,
+    rows: &mut Vec<Vec<Iv64<48>>>,
     sources: &Sources<'_>,
     score: &S,
     price: Price,
@@ -201,15 +229,9 @@ fn all_are_at_least<S: Score>(
     ensures { IfOk result (let x = sources.now.family.now in
         Decides price.p price.q floor (points_within x.case x.line S.ends x.held x.low x.high)) }
 {
-    let family = sources.family;
-    let _size = family.size();
-    let mut rows = Vec::new(alloc);
-    let depot = SiteId(0);
-    let count = family.shop_count(depot);
-    for n in 0..count {
-        let stocks = family.shop_vector(alloc, depot, n)?;
-        let at_depot = stocks.as_slice();
-        if !are_at_least(alloc, &mut rows, sources, score, at_depot, price, floor)? {
+    let _size = sources.family.size();
+    for n in 0..sources.family.shop_count(SiteId(0)) {
+        if !shops_are_at_least(alloc, rows, sources, score, n, price, floor)? {
             return Ok(false);
         }
     }
@@ -240,6 +262,6 @@ pub fn is_at_least<S: Score>(
     let _sites = case.site_count();
     let family = Family::of(case, rates, line, bounds);
     let sources = Sources::of(alloc, &family)?;
-    let answer = all_are_at_least(alloc, &sources, score, price, floor)?;
-    Ok(answer)
+    let mut rows = Vec::new(alloc);
+    all_are_at_least(alloc, &mut rows, &sources, score, price, floor)
 }

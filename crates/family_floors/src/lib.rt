@@ -2,8 +2,10 @@
 //! score. Neither needs a curve.
 #![tactic(auto)]
 
+pub mod bases;
 mod least;
 pub mod lows;
+pub mod stocks;
 mod upper;
 
 pub use least::is_at_least;

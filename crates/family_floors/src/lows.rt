@@ -3,6 +3,7 @@
 
 ghost use Rattle.std.specs.Prelude.{◌≡◌, ℕ, ◌+◌, ◌-◌, ◌*◌, ◌^◌, ◌<◌, ◌≤◌, ◌∷◌, IsTrue, drop};
 ghost use Rattle.fleet_model.specs.Fleet.{family};
+ghost use Rattle.fleet_model.specs.Laws.{IsBase};
 ghost use Rattle.hull.specs.Curves.{lagrangian};
 ghost use Rattle.family_points.specs.Inputs.{AreShopsAt, IsAt, held_at, line_high, line_low};
 ghost use Rattle.family_rows.specs.Sources.{AreSources};
@@ -14,6 +15,7 @@ ghost use Rattle.family_rows.specs.Spots.{IsBaseAt};
 ghost use Rattle.family_rows.specs.Tabled.{AreTables, box_numbers, own_at};
 ghost use Rattle.family_floors.specs.Lows.{AreNoHigher, AreUnder, IsReached, IsSmallPrice, line_place, lower_of};
 
+use crate::bases::base_of;
 use backorder_bounds::Walk;
 use family_numbers::Numbers;
 use family_numbers::own_part::{OwnPart, line_walk};
@@ -183,35 +185,38 @@ fn lower_at_shops<S: Score>(
     found
 }
 
-/// Lower bounds on the Lagrangians of a base.
+/// Lower bounds on the Lagrangians of the base at site `j` with these stocks at the depot.
 pub fn lows_at_base<S: Score>(
-    here: &BaseAt<'_, '_>,
+    sources: &Sources<'_>,
     score: &S,
-    numbers: &Numbers<48>,
     tables: &DepotTables<'_>,
+    depot: &[u8],
+    j: u8,
     low: Price,
     high: Price,
 ) -> Lows
-    requires here { IsBaseAt here.now }
-    requires numbers { numbers.now ≡ box_numbers here.now.family.now }
-    requires tables { AreTables numbers.now (drop 1 here.now.depot.now) tables.now }
+    requires sources { AreSources sources.now }
+    requires depot { IsAt sources.now.family.now 0 depot.now }
+    requires tables { AreTables sources.now.numbers (drop 1 depot.now) tables.now }
+    requires base { IsBase sources.now.family.now.case j }
     requires low { IsSmallPrice low }
     requires high { IsSmallPrice high }
-    ensures at_low { let x = here.now.family.now in AreAtLeast low.p low.q result.at_low
-        (base_points x.case x.line S.ends x.held x.low x.high here.now.depot.now here.now.site.0) }
-    ensures at_high { let x = here.now.family.now in AreAtLeast high.p high.q result.at_high
-        (base_points x.case x.line S.ends x.held x.low x.high here.now.depot.now here.now.site.0) }
+    ensures at_low { let x = sources.now.family.now in AreAtLeast low.p low.q result.at_low
+        (base_points x.case x.line S.ends x.held x.low x.high depot.now j) }
+    ensures at_high { let x = sources.now.family.now in AreAtLeast high.p high.q result.at_high
+        (base_points x.case x.line S.ends x.held x.low x.high depot.now j) }
     ensures most { (result.at_low ≤ 2 ^ 115) × (result.at_high ≤ 2 ^ 115) }
 {
-    let _size = here.family.size();
-    let own = own_at(here, numbers, tables);
+    let here = base_of(sources, depot, j);
+    let numbers = &sources.numbers;
+    let own = own_at(&here, numbers, tables);
     let mut least = Lows {
         at_low: MOST,
         at_high: MOST,
     };
     for n in 0..here.base.shops.len() {
         let shops = &here.base.shops[n];
-        least = lower_at_shops(least, here, score, numbers, tables, &own, shops, low, high);
+        least = lower_at_shops(least, &here, score, numbers, tables, &own, shops, low, high);
     }
     least
 }
@@ -235,9 +240,7 @@ pub(crate) fn low_at_depot<S: Score>(
     let _size = sources.family.size();
     let mut low = price.p * u128::from(sources.family.cost(SiteId(0), depot));
     for j in 1..sources.family.sites() {
-        let base = &sources.bases[usize::from(j) - 1];
-        let here = BaseAt::of(sources.family, depot, SiteId(j), base);
-        low += lows_at_base(&here, score, &sources.numbers, tables, price, price).at_low;
+        low += lows_at_base(sources, score, tables, depot, j, price, price).at_low;
     }
     low
 }

@@ -10,6 +10,7 @@ ghost use Rattle.family_points.specs.Separation.{base_points, depot_points};
 ghost use Rattle.family_rows.specs.Spots.{IsBaseAt};
 ghost use Rattle.family_rows.specs.Tabled.{AreTables, box_numbers};
 
+use crate::bases::base_of;
 use answers::NoMemory;
 use demand_rates::kinds::Rates;
 use family_numbers::Numbers;
@@ -48,7 +49,7 @@ fn upper_at_base<S: Score>(
 
 /// The upper end of one of the vectors that have these stocks at the depot.
 fn upper_at_depot<S: Score>(
-    alloc: Global,
+    rows: &mut Vec<Vec<Iv64<48>>>,
     sources: &Sources<'_>,
     score: &S,
     tables: &DepotTables<'_>,
@@ -62,14 +63,30 @@ fn upper_at_depot<S: Score>(
     ensures most { IfOk result (λ hi. hi ≤ 16 * 2 ^ 74) }
 {
     let _size = sources.family.size();
-    let mut rows = Vec::new(alloc);
     let mut upper = 0;
     for j in 1..sources.family.sites() {
-        let base = &sources.bases[usize::from(j) - 1];
-        let here = BaseAt::of(sources.family, depot, SiteId(j), base);
-        upper += upper_at_base(&mut rows, &here, score, &sources.numbers, tables)?;
+        let here = base_of(sources, depot, j);
+        upper += upper_at_base(rows, &here, score, &sources.numbers, tables)?;
     }
     Ok(upper)
+}
+
+/// The upper end of one of the vectors that have the least stocks at the depot.
+fn upper_at_least<S: Score>(
+    alloc: Global,
+    sources: &Sources<'_>,
+    score: &S,
+) -> Result<u128, NoMemory>
+    requires sources { AreSources sources.now }
+    ensures upper { IfOk result (let x = sources.now.family.now in
+        HasUpper (points_within x.case x.line S.ends x.held x.low x.high)) }
+    ensures most { IfOk result (λ hi. hi ≤ 16 * 2 ^ 74) }
+{
+    let _size = sources.family.size();
+    let depot = sources.family.low(SiteId(0));
+    let tables = depot_tables(alloc, sources, shops_of(depot))?;
+    let mut rows = Vec::new(alloc);
+    upper_at_depot(&mut rows, sources, score, &tables, depot)
 }
 
 /// The upper end of one of the vectors of a box of the family of a line unit, in units of 2^-48. If the box has one
@@ -90,10 +107,6 @@ pub fn upper_within<S: Score>(
     ensures most { IfOk result (λ hi. hi ≤ 16 * 2 ^ 74) }
 {
     let family = Family::of(case, rates, line, bounds);
-    let _size = family.size();
     let sources = Sources::of(alloc, &family)?;
-    let depot = family.low(SiteId(0));
-    let tables = depot_tables(alloc, &sources, shops_of(depot))?;
-    let upper = upper_at_depot(alloc, &sources, score, &tables, depot)?;
-    Ok(upper)
+    upper_at_least(alloc, &sources, score)
 }

@@ -1,7 +1,8 @@
 -- Where the checks of the rates pass, a pipeline has a table.
-use Rattle.std.proofs.Common.{◌≡◌, ℕ, zero, suc, ◌+◌, ◌*◌, ◌/◌, ◌^◌, ◌<◌, ◌≤◌, ◌⊎◌, inl, inr, Option, Some, None, sym, ap, subst, arith, lit<, length, mul-le-mul_right, mul-le-mul_left, le_of_mul-le-mul_right, zero-lt-suc, List, eq-zero-or-pos}
+use Rattle.std.proofs.Common.{◌≡◌, ◌∙◌, ℕ, zero, suc, ◌+◌, ◌*◌, ◌/◌, ◌^◌, ◌<◌, ◌≤◌, ◌⊎◌, inl, inr, Option, Some, None, sym, ap, subst, arith, lit<, length, mul-le-mul_right, mul-le-mul_left, le_of_mul-le-mul_right, le_trans, zero-lt-suc, List, eq-zero-or-pos}
 use Rattle.std.proofs.Math.Nat.{pow-le-pow_right, le_refl}
-use Rattle.std.proofs.lemmas.Nat.{le-div, div-add-mod', mod_below}
+use Rattle.std.proofs.Math.Dec.{lit≤}
+use Rattle.std.proofs.lemmas.Nat.{le-div, div-add-mod', mod_below, mul-add-lt}
 use Rattle.exact_model.specs.Fraction.{Fraction, whole, ◌≈◌, ◌≤ℚ◌, ◌/ℚ◌}
 use Rattle.exact_model.proofs.Fractions.{contains_same, le_same, over, same, turned, ◌≈≈◌}
 use Rattle.fixed_interval.specs.Ends.{Ends, In, ends_ratio}
@@ -10,12 +11,16 @@ use Rattle.depot_pipeline.specs.Exact.{IsAtMost}
 use Rattle.depot_pipeline.specs.Profile.{added, capped_at}
 use Rattle.spares_input.specs.Frames.{line_of}
 use Rattle.spares_input.specs.Cases.{CaseRows, rate_at}
+use Rattle.spares_input.specs.Stocks.{HasPair, stock_at}
+use Rattle.spares_input.specs.declared.rows.PartId.{PartId}
+use Rattle.spares_input.specs.declared.rows.SiteId.{SiteId}
 use Rattle.fleet_model.specs.Rows.{stock}
 use Rattle.fleet_model.specs.Pairs.{direct, share, zero_stock}
-use Rattle.fleet_model.specs.Units.{days_at, demand_of, direct_of, zero_stock_of, in_pipeline}
-use Rattle.fleet_model.proofs.AllocationLaws.{allocation_reaches, stocks_allocation}
+use Rattle.fleet_model.specs.Units.{days_at, demand_of, direct_of, zero_stock_of, in_pipeline, pipeline_scale}
+use Rattle.fleet_model.proofs.AllocationLaws.{allocation_reaches, stock_holds, stocks_allocation}
 use Rattle.demand_rates.specs.declared.kinds.PairRates.{PairRates}
 use Rattle.demand_rates.specs.Limits.{IsAccepted}
+use Rattle.demand_rates.specs.RateLists.{HasRates, rates_at}
 use Rattle.demand_rates.specs.Rates.{pair_rates, value, ArePairRates}
 use Rattle.family_items.specs.declared.pipeline.Pipeline.{Pipeline}
 use Rattle.family_items.specs.Profile.{pipeline_from, pipeline_of, share_from, share_of}
@@ -52,6 +57,16 @@ rated c p k r h =
     subst (λ (r : PairRates). IsRated r.direct r.zero_stock) (sym h.units)
     (rated_of (pair_rates c p k).demand.num _ _ (none_of c (line_of c.parts p) p k) (most_of c (line_of c.parts p) p k)
     (subst (λ (r : PairRates). IsAccepted r.demand.num r.direct r.zero_stock) h.units h.accepted))
+
+-- both are fractions that intervals take
+pub ratios_small : (d z : ℕ) → IsRated d z → (d ≤ 4096 * 365000000000000000000) × (z ≤ 4096 * 365000000000000000000)
+ratios_small d z h =
+    let most : z ≤ 4096 * 365000000000000000000 = le_trans h.most (lit≤ tt) in
+    (le_trans h.order most, most)
+
+-- and so is a share
+pub share_small : (n d : ℕ) → n ≤ d → n ≤ 4096 * d
+share_small n d h = omega (arith, h)
 
 -- ---- the ends of a direct part and of a cap
 
@@ -127,6 +142,58 @@ stock_most c s p k h = allocation_reaches c s 62 h.valid h.allocation (le_refl 6
 pub pipeline_is : (f : ℕ) (c : CaseRows) (s : List ℕ) (p k : ℕ) → 24 ≤ f → IsSound c s → p < length c.parts → k < length c.sites → IsPipeline f (pipeline_of f c s p k)
 pipeline_is f c s p k h sound lp lk =
     pipeline_from_is f p k (stock c s p k) (pair_rates c p k) h (stock_most c s p k sound) (rated c p k (pair_rates c p k) (sound.pairs p k lp lk))
+
+-- ---- the numbers of a pair of inputs x, which are those that a contract sees as y
+
+module _ (x y : InputRows) (p : PartId) (k : SiteId) (h : AreInputs x) (e : x ≡ y) (lp : p.0 < length y.case.parts) (lk : k.0 < length y.case.sites) where
+  is_part : p.0 < length x.case.parts
+  is_part = subst (λ (z : InputRows). p.0 < length z.case.parts) (sym e) lp
+
+  is_site : k.0 < length x.case.sites
+  is_site = subst (λ (z : InputRows). k.0 < length z.case.sites) (sym e) lk
+
+  -- the pair has rates
+  pub has_rates : HasRates x.rates p.0 k.0
+  has_rates = h.are_rates.has p.0 k.0 is_part is_site
+
+  -- which are those of its case
+  pub its_rates : ArePairRates x.case p.0 k.0 (rates_at x.rates p.0 k.0)
+  its_rates = h.are_rates.pairs p.0 k.0 is_part is_site
+
+  place_within : (n m : ℕ) → n ≡ length x.case.sites → m ≡ length x.case.parts * length x.case.sites → p.0 * n + k.0 < m
+  place_within n m sites pairs =
+      rw (sites, pairs) (omega (arith, mul-add-lt p.0 (length x.case.sites) k.0 (length x.case.parts) is_part is_site))
+
+  -- the pair has a stock
+  pub has_pair : HasPair x.stocks p.0 k.0
+  has_pair = record {
+    site = subst (λ n. k.0 < n) (sym h.are_stocks.sites) is_site;
+    within = place_within x.stocks.sites (length x.stocks.list) h.are_stocks.sites h.are_stocks.pairs;
+  }
+
+  -- which is at most 63
+  pub few : (s : ℕ) → s ≡ stock_at x.stocks p.0 k.0 → s ≤ 63
+  few s at = subst (λ n. n ≤ 63) (stock_holds x.case x.stocks p.0 k.0 h.are_stocks ∙ sym at) (stock_most x.case x.stocks.list p.0 k.0 (sound_of x h))
+
+  -- stock and rates make the pair's pipeline
+  pub pipeline_made : (f s d z cap : ℕ) (direct most : Ends) → s ≡ stock_at x.stocks p.0 k.0 → d ≡ (rates_at x.rates p.0 k.0).direct
+      → z ≡ (rates_at x.rates p.0 k.0).zero_stock → direct ≡ ends_ratio f d pipeline_scale → most ≡ ends_ratio f z pipeline_scale → cap ≡ most.hi
+      → ◌≡◌ {A = Pipeline f} (record { part = p; site = k; stock = s; direct = direct; cap = cap }) (pipeline_of f y.case y.stocks.list p.0 k.0)
+  pipeline_made f s d z cap direct most at ds zs es ms top =
+      let stocked : s ≡ stock x.case x.stocks.list p.0 k.0 = at ∙ sym (stock_holds x.case x.stocks p.0 k.0 h.are_stocks) in
+      let begun : direct ≡ ends_ratio f (pair_rates x.case p.0 k.0).direct pipeline_scale =
+      es ∙ ap (λ n. ends_ratio f n pipeline_scale) (ds ∙ ap (λ (r : PairRates). r.direct) its_rates.units) in
+      let capped : cap ≡ (ends_ratio f (pair_rates x.case p.0 k.0).zero_stock pipeline_scale).hi =
+      top ∙ ap (λ (a : Ends). a.hi) (ms ∙ ap (λ n. ends_ratio f n pipeline_scale) (zs ∙ ap (λ (r : PairRates). r.zero_stock) its_rates.units)) in
+      subst (λ (z : InputRows). ◌≡◌ {A = Pipeline f} (record { part = p; site = k; stock = s; direct = direct; cap = cap }) (pipeline_of f z.case z.stocks.list p.0 k.0)) e
+      (λ i. record { part = p; site = k; stock = stocked i; direct = begun i; cap = capped i })
+
+  -- and the ratio of its share the pair's share
+  pub share_made : (f n d : ℕ) (ends : Ends) → n ≡ (rates_at x.rates p.0 k.0).share.num → d ≡ (rates_at x.rates p.0 k.0).share.den → ends ≡ ends_ratio f n d
+      → ends ≡ share_of f y.case p.0 k.0
+  share_made f n d ends ns ds es =
+      subst (λ (z : InputRows). ends ≡ share_of f z.case p.0 k.0) e
+      (es ∙ rw (ns, ds) (ap (λ (r : PairRates). share_from f r) its_rates.units))
 
 -- a share's upper end is at most 1
 pub share_most : (f : ℕ) (r : PairRates) → r.share.num ≤ r.share.den → 0 < r.share.den → (share_from f r).hi ≤ 2 ^ f

@@ -1,22 +1,25 @@
 -- How a family's part between two prices grows.
-use Rattle.std.proofs.Common.{inl, inr, List, [], ◌∷◌, ◌++◌, append_assoc, subst}
+use Rattle.std.proofs.Common.{inl, inr, List, [], ◌∷◌, ◌++◌, append_assoc, sym, subst}
+use Rattle.std.proofs.lemmas.List.{append-nil}
 use Rattle.hull.specs.declared.point.Point.{Point}
 use Rattle.hull.specs.declared.price.Price.{Price}
 use Rattle.hull.specs.Curves.{Among}
 use Rattle.hull.proofs.Stand.{among_either, among_left, among_right}
 use Rattle.sum_walk.specs.Sums.{sums_of_each}
 use Rattle.curve_parts.specs.Parts.{IsPartOf, IsPassedOver, StandForBetween}
-use Rattle.curve_parts.specs.Joins.{Joins}
-use Rattle.curve_parts.proofs.Between.{both_between, part_left_out, part_of_members, part_of_self, part_of_standing, part_stands, self_between}
+use Rattle.curve_parts.specs.Joins.{Begins, Joins}
+use Rattle.curve_parts.proofs.Between.{both_between, part_left_out, part_of_members, part_stands, self_between}
 use Rattle.family_points.specs.Inputs.{FamilyBox}
 use Rattle.family_curve.specs.Joining.{HaveWidthOf}
 use Rattle.family_parts.specs.Growing.{Grows}
 
--- the first points have a part of their own
-pub grows_from_none : (low high : Price) (more part : List Point) → IsPartOf low high more part → Grows low high more [] part
-grows_from_none low high more part h = λ points s.
-    part_of_standing low high (points ++ more) part part (both_between low high points more [] part (part_stands low high points [] s) (part_stands low high more part h))
-    (part_of_self low high more part h)
+-- no points change nothing
+pub grows_by_nothing : (low high : Price) (part : List Point) → Grows low high [] part part
+grows_by_nothing low high part = λ points s. subst (λ (ps : List Point). IsPartOf low high ps part) (sym (append-nil points)) s
+
+-- sums begin a part, where there is none
+pub begins_part : (low high : Price) (first : Point) (parts : List (List Point)) (new : List Point) → Begins low high first parts new → Joins low high first parts [] new
+begins_part low high first parts new h = λ points more s t. h (points ++ more) (both_between low high points more [] (sums_of_each (first ∷ []) parts) s t)
 
 -- points that are passed over change nothing
 pub grows_by_none : (low high : Price) (more part : List Point) → ((w : Point) → Among w more → IsPassedOver low high part w) → Grows low high more part part

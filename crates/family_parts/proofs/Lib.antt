@@ -3,3 +3,4 @@ pub mod InTurn
 pub mod Whole
 pub mod Below
 pub mod Bases
+pub mod Sums

@@ -13,6 +13,7 @@ ghost use Rattle.family_rows.specs.Tabled.{AreTables, box_numbers};
 use answers::NoMemory;
 use curve_parts::{Walking, cut};
 use family_curve::base::{chains_of, put_curve};
+use family_floors::bases::base_of;
 use family_numbers::Numbers;
 use family_rows::base::BaseSpot;
 use family_rows::base_at::BaseAt;
@@ -20,7 +21,6 @@ use family_rows::depot::DepotTables;
 use family_rows::sources::Sources;
 use hull::{Chain, Price, Score};
 use series_bounds::short::Iv64;
-use spares_input::SiteId;
 use std::alloc::Global;
 
 /// Scratch lists; contents are not kept between calls.
@@ -101,11 +101,9 @@ pub(crate) fn put_parts<'b, S: Score>(
 {
     let _size = sources.family.size();
     for j in 1..sources.family.sites() {
-        let place = usize::from(j) - 1;
-        let base = &sources.bases[place];
-        let here = BaseAt::of(sources.family, depot, SiteId(j), base);
+        let here = base_of(sources, depot, j);
         put_part(
-            &mut work.parts[place],
+            &mut work.parts[usize::from(j) - 1],
             &mut work.rows,
             &here,
             score,

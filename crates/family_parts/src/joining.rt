@@ -1,11 +1,24 @@
 //! The part of a family's curve: what each choice of stocks at the depot adds to the part so far.
 
-ghost use Rattle.std.specs.Prelude.{◌≡◌, ◌+◌, ◌-◌, ◌*◌, ◌^◌, ◌<◌, ◌≤◌, IfOk, drop, length};
+ghost use Rattle.std.specs.Prelude.{◌≡◌, ◌+◌, ◌-◌, ◌*◌, ◌^◌, ◌<◌, ◌≤◌, ◌∷◌, [], IfOk, drop, get_or, length, sum_by};
+ghost use Rattle.hull.specs.declared.point.Point.{Point};
+ghost use Rattle.hull.specs.Curves.{Among, HaveOneWidth, InRange};
+ghost use Rattle.sum_walk.specs.Sums.{sums_of_each};
 ghost use Rattle.curve_parts.specs.Parts.{IsPartOf};
 ghost use Rattle.curve_parts.specs.Cuts.{IsSmall, IsWindow};
+ghost use Rattle.curve_parts.specs.Joins.{Joins};
 ghost use Rattle.family_points.specs.Separation.{depot_points};
 ghost use Rattle.family_points.specs.Points.{points_within};
-ghost use Rattle.family_points.specs.Inputs.{AreShopsAt, IsAt, line_high, line_low, line_stocks, vector_count, vertex_count};
+ghost use Rattle.family_points.specs.Inputs.{
+  AreShopsAt,
+  IsAt,
+  line_high,
+  line_low,
+  line_stocks,
+  shop_vectors,
+  vector_count,
+  vertex_count,
+};
 ghost use Rattle.family_rows.specs.Sources.{AreSources};
 ghost use Rattle.family_rows.specs.Tabled.{AreTables};
 ghost use Rattle.family_curve.specs.Joining.{HaveWidthOf, vertices_of};
@@ -14,20 +27,65 @@ ghost use Rattle.family_parts.specs.Growing.{Grows, in_turn, shop_points};
 use crate::base::{Work, put_parts};
 use crate::lows::is_passed_over;
 use answers::NoMemory;
-use curve_parts::{join_sums, part_of_sums};
+use curve_parts::{Walking, join_sums, part_of_sums};
 use family_curve::joining::depot_point;
-use family_points::family::{Family, joined};
+use family_floors::stocks::stocks_at;
+use family_points::family::{Family, shops_of};
 use family_rows::depot::{DepotTables, depot_tables};
 use family_rows::sources::Sources;
-use hull::{Curve, Price, Score};
+use hull::{Chain, Curve, Point, Price, Score, Spot};
 use spares_input::SiteId;
 use std::alloc::Global;
 
-/// The part of the points so far and of all vectors with these stocks at the depot. The stocks are passed over if lower
-/// bounds allow it.
-fn with_depot<'b, S: Score>(
+/// The vertices of the part so far.
+fn vertices_of(part: &Option<Curve>) -> &[Point]
+    ensures vertices { result.now ≡ vertices_of part.now }
+    ensures ranges { (v : Point) → Among v result.now → InRange v }
+{
+    match part {
+        Some(part) => part.vertices(),
+        None => &[],
+    }
+}
+
+/// Joins to the part so far all sums of `first` and a vertex of each of `parts`.
+fn join_parts<T: Spot>(
     alloc: Global,
-    so_far: Option<Curve>,
+    part: &mut Option<Curve>,
+    walking: &mut Walking,
+    first: &Point,
+    parts: &[Chain<T>],
+    low: Price,
+    high: Price,
+) -> Result<(), NoMemory>
+    requires some { 0 < length parts.now }
+    requires few_parts { length parts.now ≤ 16 }
+    requires few { length (vertices_of part.old) + (1 + sum_by length parts.now) ≤ 2 ^ 31 }
+    requires first { InRange first.now }
+    requires ranges { (v : Point) → Among v (sums_of_each (first.now ∷ []) parts.now) → InRange v }
+    requires widths { HaveOneWidth (sums_of_each (first.now ∷ []) parts.now) }
+    requires width { (v w : Point) → Among v (vertices_of part.old) → Among w (sums_of_each (first.now ∷ []) parts.now)
+        → length v.stocks ≡ length w.stocks }
+    requires low { IsSmall low }
+    requires high { IsSmall high }
+    requires window { IsWindow low high }
+    ensures joins { IfOk result
+        (λ _. Joins low high first.now parts.now (vertices_of part.old) (vertices_of part.new)) }
+    ensures few { IfOk result
+        (λ _. length (vertices_of part.new) ≤ length (vertices_of part.old) + (1 + sum_by length parts.now)) }
+{
+    match part {
+        Some(curve) => join_sums(alloc, walking, first, parts, curve, low, high)?,
+        None => *part = Some(part_of_sums(alloc, walking, first, parts, low, high)?),
+    }
+    Ok(())
+}
+
+/// Adds to the part so far all vectors with these stocks at the depot. The stocks are passed over if lower bounds allow
+/// it.
+fn grow_with<'b, S: Score>(
+    alloc: Global,
+    part: &mut Option<Curve>,
     work: &mut Work<'b>,
     sources: &'b Sources<'_>,
     score: &S,
@@ -35,48 +93,34 @@ fn with_depot<'b, S: Score>(
     depot: &[u8],
     low: Price,
     high: Price,
-) -> Result<Curve, NoMemory>
+) -> Result<(), NoMemory>
     requires sources { AreSources sources.now }
     requires depot { IsAt sources.now.family.now 0 depot.now }
     requires tables { AreTables sources.now.numbers (drop 1 depot.now) tables.now }
-    requires room { length (vertices_of so_far) + vertex_count sources.now.family.now ≤ 65000000 }
-    requires widths { HaveWidthOf sources.now.family.now (vertices_of so_far) }
+    requires room { length (vertices_of part.old) + vertex_count sources.now.family.now ≤ 65000000 }
+    requires widths { HaveWidthOf sources.now.family.now (vertices_of part.old) }
     requires work { length work.old.parts.items ≡ length sources.now.bases.items }
     requires low { IsSmall low }
     requires high { IsSmall high }
     requires window { IsWindow low high }
-    ensures part { IfOk result (let x = sources.now.family.now in
-        Grows low high (depot_points x.case x.line S.ends x.held x.low x.high depot.now) (vertices_of so_far)) }
-    ensures few { IfOk result
-        (λ part. length part ≤ length (vertices_of so_far) + vertex_count sources.now.family.now) }
-    ensures widths { IfOk result (HaveWidthOf sources.now.family.now) }
+    ensures part { IfOk result (λ _. let x = sources.now.family.now in
+        Grows low high (depot_points x.case x.line S.ends x.held x.low x.high depot.now) (vertices_of part.old)
+        (vertices_of part.new)) }
+    ensures few { IfOk result (λ _. length (vertices_of part.new)
+        ≤ length (vertices_of part.old) + vertex_count sources.now.family.now) }
+    ensures widths { IfOk result (λ _. HaveWidthOf sources.now.family.now (vertices_of part.new)) }
     ensures work { IfOk result (λ _. length work.new.parts.items ≡ length sources.now.bases.items) }
 {
     let _size = sources.family.size();
-    let Some(mut part) = so_far else {
-        put_parts(work, sources, score, tables, depot, low, high)?;
-        let first = depot_point(alloc, sources.family, depot)?;
-        let parts = work.parts.as_slice();
-        let part = part_of_sums(alloc, &mut work.walking, &first, parts, low, high)?;
-        return Ok(part);
-    };
-    let vertices = part.vertices();
+    let vertices = vertices_of(part);
     if is_passed_over(vertices, sources, score, tables, depot, low, high) {
-        return Ok(part);
+        return Ok(());
     }
     put_parts(work, sources, score, tables, depot, low, high)?;
     let first = depot_point(alloc, sources.family, depot)?;
     let parts = work.parts.as_slice();
-    join_sums(
-        alloc,
-        &mut work.walking,
-        &first,
-        parts,
-        &mut part,
-        low,
-        high,
-    )?;
-    Ok(part)
+    join_parts(alloc, part, &mut work.walking, &first, parts, low, high)?;
+    Ok(())
 }
 
 /// The `n`-th of the numbers 0 to `last`, in the order from `first` up to `last` and then from the one before `first`
@@ -125,59 +169,81 @@ fn line_stock(family: &Family<'_>, first: u8, n: u8) -> u8
     low + in_turn(u64::from(first), u64::from(high - low), u64::from(n)) as u8
 }
 
-/// The part of the points so far and of all vectors with the shop units' stocks `shops` at the depot.
-fn with_shops<'b, S: Score>(
+/// Adds to the part so far all vectors with the shop units' stocks of `stocks` at the depot. The line unit's stock, the
+/// first of `stocks`, is overwritten.
+fn grow_with_lines<'b, S: Score>(
     alloc: Global,
-    so_far: Option<Curve>,
+    part: &mut Option<Curve>,
     work: &mut Work<'b>,
     sources: &'b Sources<'_>,
     score: &S,
-    shops: &[u8],
+    tables: &DepotTables<'_>,
+    stocks: &mut [u8],
     low: Price,
     high: Price,
-) -> Result<Curve, NoMemory>
+) -> Result<(), NoMemory>
     requires sources { AreSources sources.now }
-    requires shops { AreShopsAt sources.now.family.now 0 shops.now }
+    requires some { 0 < length stocks.old }
+    requires shops { AreShopsAt sources.now.family.now 0 (drop 1 stocks.old) }
+    requires tables { AreTables sources.now.numbers (drop 1 stocks.old) tables.now }
     requires room { let x = sources.now.family.now in
-        length (vertices_of so_far) + length (line_stocks x 0) * vertex_count x ≤ 65000000 }
-    requires widths { HaveWidthOf sources.now.family.now (vertices_of so_far) }
+        length (vertices_of part.old) + length (line_stocks x 0) * vertex_count x ≤ 65000000 }
+    requires widths { HaveWidthOf sources.now.family.now (vertices_of part.old) }
     requires work { length work.old.parts.items ≡ length sources.now.bases.items }
     requires low { IsSmall low }
     requires high { IsSmall high }
     requires window { IsWindow low high }
-    ensures part { IfOk result
-        (Grows low high (shop_points sources.now.family.now S.ends shops.now) (vertices_of so_far)) }
-    ensures few { IfOk result (λ part. let x = sources.now.family.now in
-        length part ≤ length (vertices_of so_far) + length (line_stocks x 0) * vertex_count x) }
-    ensures widths { IfOk result (HaveWidthOf sources.now.family.now) }
+    ensures part { IfOk result (λ _. Grows low high
+        (shop_points sources.now.family.now S.ends (drop 1 stocks.old)) (vertices_of part.old) (vertices_of part.new)) }
+    ensures few { IfOk result (λ _. let x = sources.now.family.now in length (vertices_of part.new)
+        ≤ length (vertices_of part.old) + length (line_stocks x 0) * vertex_count x) }
+    ensures widths { IfOk result (λ _. HaveWidthOf sources.now.family.now (vertices_of part.new)) }
     ensures work { IfOk result (λ _. length work.new.parts.items ≡ length sources.now.bases.items) }
 {
     let family = sources.family;
     let _size = family.size();
-    let tables = depot_tables(alloc, sources, shops)?;
     let last = family.line_high(SiteId(0)) - family.line_low(SiteId(0));
-    let begin = line_first(family, &so_far);
-    let mut stocks = joined(alloc, line_stock(family, begin, 0), shops)?;
-    let first = stocks.as_slice();
-    let mut part = with_depot(
-        alloc, so_far, work, sources, score, &tables, first, low, high,
-    )?;
-    for n in 1..last + 1 {
+    let begin = line_first(family, part);
+    for n in 0..last + 1 {
         stocks[0] = line_stock(family, begin, n);
-        let depot = stocks.as_slice();
-        part = with_depot(
-            alloc,
-            Some(part),
-            work,
-            sources,
-            score,
-            &tables,
-            depot,
-            low,
-            high,
-        )?;
+        grow_with(alloc, part, work, sources, score, tables, stocks, low, high)?;
     }
-    Ok(part)
+    Ok(())
+}
+
+/// Adds to the part so far all vectors with the `number`-th vector of the shop units' stocks at the depot.
+fn grow_with_shops<'b, S: Score>(
+    alloc: Global,
+    part: &mut Option<Curve>,
+    work: &mut Work<'b>,
+    sources: &'b Sources<'_>,
+    score: &S,
+    number: u64,
+    low: Price,
+    high: Price,
+) -> Result<(), NoMemory>
+    requires sources { AreSources sources.now }
+    requires number { number < length (shop_vectors sources.now.family.now 0) }
+    requires room { let x = sources.now.family.now in
+        length (vertices_of part.old) + length (line_stocks x 0) * vertex_count x ≤ 65000000 }
+    requires widths { HaveWidthOf sources.now.family.now (vertices_of part.old) }
+    requires work { length work.old.parts.items ≡ length sources.now.bases.items }
+    requires low { IsSmall low }
+    requires high { IsSmall high }
+    requires window { IsWindow low high }
+    ensures part { IfOk result (λ _. let x = sources.now.family.now in Grows low high
+        (shop_points x S.ends (get_or (shop_vectors x 0) number [])) (vertices_of part.old) (vertices_of part.new)) }
+    ensures few { IfOk result (λ _. let x = sources.now.family.now in length (vertices_of part.new)
+        ≤ length (vertices_of part.old) + length (line_stocks x 0) * vertex_count x) }
+    ensures widths { IfOk result (λ _. HaveWidthOf sources.now.family.now (vertices_of part.new)) }
+    ensures work { IfOk result (λ _. length work.new.parts.items ≡ length sources.now.bases.items) }
+{
+    let mut stocks = stocks_at(alloc, sources.family, number)?;
+    let tables = depot_tables(alloc, sources, shops_of(stocks.as_slice()))?;
+    let at_depot = stocks.as_mut_slice();
+    grow_with_lines(
+        alloc, part, work, sources, score, &tables, at_depot, low, high,
+    )
 }
 
 /// The part of all vectors of the family within its bounds. The shop units' stocks at the depot are taken from the
@@ -201,34 +267,34 @@ fn whole_part<'b, S: Score>(
 {
     let family = sources.family;
     let _size = family.size();
-    let depot = SiteId(0);
-    let count = family.shop_count(depot);
+    let count = family.shop_count(SiteId(0));
     let middle = (count - 1) / 2;
-    let first = family.shop_vector(alloc, depot, in_turn(middle, count - 1, 0))?;
-    let mut part = with_shops(
-        alloc,
-        None,
-        work,
-        sources,
-        score,
-        first.as_slice(),
-        low,
-        high,
-    )?;
-    for n in 1..count {
-        let shops = family.shop_vector(alloc, depot, in_turn(middle, count - 1, n))?;
-        part = with_shops(
-            alloc,
-            Some(part),
-            work,
-            sources,
-            score,
-            shops.as_slice(),
-            low,
-            high,
-        )?;
+    let mut part = None;
+    for n in 0..count {
+        let number = in_turn(middle, count - 1, n);
+        grow_with_shops(alloc, &mut part, work, sources, score, number, low, high)?;
     }
-    Ok(part)
+    Ok(part.unwrap())
+}
+
+/// The part of all vectors of the family of these sources within its bounds.
+fn part_of<S: Score>(
+    alloc: Global,
+    sources: &Sources<'_>,
+    score: &S,
+    low: Price,
+    high: Price,
+) -> Result<Curve, NoMemory>
+    requires sources { AreSources sources.now }
+    requires room { vector_count sources.now.family.now 0 * vertex_count sources.now.family.now ≤ 65000000 }
+    requires low { IsSmall low }
+    requires high { IsSmall high }
+    requires window { IsWindow low high }
+    ensures { IfOk result (let x = sources.now.family.now in
+        IsPartOf low high (points_within x.case x.line S.ends x.held x.low x.high)) }
+{
+    let mut work = Work::new(alloc, sources)?;
+    whole_part(alloc, &mut work, sources, score, low, high)
 }
 
 /// The part of all vectors of a family within its bounds.
@@ -247,7 +313,5 @@ pub(crate) fn family_part<S: Score>(
         (points_within family.now.case family.now.line S.ends family.now.held family.now.low family.now.high)) }
 {
     let sources = Sources::of(alloc, family)?;
-    let mut work = Work::new(alloc, &sources)?;
-    let part = whole_part(alloc, &mut work, &sources, score, low, high)?;
-    Ok(part)
+    part_of(alloc, &sources, score, low, high)
 }

@@ -12,7 +12,6 @@ ghost use Rattle.family_rows.specs.Tabled.{AreTables};
 
 use curve_parts::is_passed;
 use family_floors::lows::lows_at_base;
-use family_rows::base_at::BaseAt;
 use family_rows::depot::DepotTables;
 use family_rows::sources::Sources;
 use hull::{Point, Price, Score};
@@ -39,6 +38,9 @@ pub(crate) fn is_passed_over<S: Score>(
         (w : Point) → Among w (depot_points x.case x.line S.ends x.held x.low x.high depot.now)
         → IsPassedOver low high part.now w }
 {
+    if part.is_empty() {
+        return false;
+    }
     let _size = sources.family.size();
     let cost = u128::from(sources.family.cost(SiteId(0), depot));
     let mut at_low = low.p * cost;
@@ -47,9 +49,7 @@ pub(crate) fn is_passed_over<S: Score>(
         if is_passed(part, low, high, at_low, at_high) {
             return true;
         }
-        let base = &sources.bases[usize::from(j) - 1];
-        let here = BaseAt::of(sources.family, depot, SiteId(j), base);
-        let more = lows_at_base(&here, score, &sources.numbers, tables, low, high);
+        let more = lows_at_base(sources, score, tables, depot, j, low, high);
         at_low += more.at_low;
         at_high += more.at_high;
     }

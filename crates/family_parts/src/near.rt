@@ -1,11 +1,11 @@
 //! About what a family costs at a price, by lower bounds on backorders. It serves to guess a price; no clause says how
 //! near it is.
 
-ghost use Rattle.std.specs.Prelude.{◌^◌, ◌<◌, ◌≤◌, IfOk, drop};
+ghost use Rattle.std.specs.Prelude.{◌^◌, ◌<◌, ◌≤◌, IfOk, drop, length};
 ghost use Rattle.demand_rates.specs.Rates.{AreRatesOf};
 ghost use Rattle.family_items.specs.Inputs.{IsLine};
 ghost use Rattle.curve_parts.specs.Cuts.{IsSmall};
-ghost use Rattle.family_points.specs.Inputs.{AreShopsAt, IsAt};
+ghost use Rattle.family_points.specs.Inputs.{AreShopsAt, IsAt, shop_vectors};
 ghost use Rattle.family_points.specs.Points.{AreOrdered};
 ghost use Rattle.family_rows.specs.Sources.{AreSources};
 ghost use Rattle.family_rows.specs.Tabled.{AreTables};
@@ -13,9 +13,9 @@ ghost use Rattle.family_rows.specs.Tabled.{AreTables};
 use answers::NoMemory;
 use demand_rates::kinds::Rates;
 use family_floors::lows::{Lows, lows_at_base};
+use family_floors::stocks::stocks_at;
 use family_points::bounds::Bounds;
-use family_points::family::{Family, joined};
-use family_rows::base_at::BaseAt;
+use family_points::family::{Family, shops_of};
 use family_rows::depot::{DepotTables, depot_tables};
 use family_rows::sources::Sources;
 use hull::{Price, Score};
@@ -52,9 +52,7 @@ fn lower_at_depot<S: Score>(
         if least.at_low <= sums.at_low && least.at_high <= sums.at_high {
             return least;
         }
-        let base = &sources.bases[usize::from(j) - 1];
-        let here = BaseAt::of(sources.family, depot, SiteId(j), base);
-        let more = lows_at_base(&here, score, &sources.numbers, tables, low, high);
+        let more = lows_at_base(sources, score, tables, depot, j, low, high);
         sums.at_low += more.at_low;
         sums.at_high += more.at_high;
     }
@@ -64,32 +62,98 @@ fn lower_at_depot<S: Score>(
     }
 }
 
-/// The lower of `least` and of the bounds of all vectors with these stocks of the shop units at the depot.
-fn lower_at_shops<S: Score>(
-    alloc: Global,
+/// The lower of `least` and of the bounds of all vectors with the shop units' stocks of `stocks` at the depot. The line
+/// unit's stock, the first of `stocks`, is overwritten.
+fn lower_at_lines<S: Score>(
     mut least: Lows,
     sources: &Sources<'_>,
     score: &S,
-    shops: &[u8],
+    tables: &DepotTables<'_>,
+    stocks: &mut [u8],
+    low: Price,
+    high: Price,
+) -> Lows
+    requires sources { AreSources sources.now }
+    requires some { 0 < length stocks.old }
+    requires shops { AreShopsAt sources.now.family.now 0 (drop 1 stocks.old) }
+    requires tables { AreTables sources.now.numbers (drop 1 stocks.old) tables.now }
+    requires low { IsSmall low }
+    requires high { IsSmall high }
+{
+    let _size = sources.family.size();
+    let first = sources.family.line_low(SiteId(0));
+    let last = sources.family.line_high(SiteId(0));
+    for s in first..last + 1 {
+        stocks[0] = s;
+        least = lower_at_depot(least, sources, score, tables, stocks, low, high);
+    }
+    least
+}
+
+/// The lower of `least` and of the bounds of all vectors with the `number`-th vector of the shop units' stocks at the
+/// depot.
+fn lower_at_shops<S: Score>(
+    alloc: Global,
+    least: Lows,
+    sources: &Sources<'_>,
+    score: &S,
+    number: u64,
     low: Price,
     high: Price,
 ) -> Result<Lows, NoMemory>
     requires sources { AreSources sources.now }
-    requires shops { AreShopsAt sources.now.family.now 0 shops.now }
+    requires number { number < length (shop_vectors sources.now.family.now 0) }
     requires low { IsSmall low }
     requires high { IsSmall high }
 {
-    let family = sources.family;
-    let _size = family.size();
-    let tables = depot_tables(alloc, sources, shops)?;
-    let first = family.line_low(SiteId(0));
-    let last = family.line_high(SiteId(0));
-    for s in first..last + 1 {
-        let stocks = joined(alloc, s, shops)?;
-        let at_depot = stocks.as_slice();
-        least = lower_at_depot(least, sources, score, &tables, at_depot, low, high);
+    let mut stocks = stocks_at(alloc, sources.family, number)?;
+    let tables = depot_tables(alloc, sources, shops_of(stocks.as_slice()))?;
+    let at_depot = stocks.as_mut_slice();
+    Ok(lower_at_lines(least, sources, score, &tables, at_depot, low, high))
+}
+
+/// The least bounds of all vectors of the family, at each of two prices.
+fn lowest<S: Score>(
+    alloc: Global,
+    sources: &Sources<'_>,
+    score: &S,
+    low: Price,
+    high: Price,
+) -> Result<Lows, NoMemory>
+    requires sources { AreSources sources.now }
+    requires low { IsSmall low }
+    requires high { IsSmall high }
+{
+    let _size = sources.family.size();
+    let mut least = Lows {
+        at_low: 1 << 119,
+        at_high: 1 << 119,
+    };
+    for n in 0..sources.family.shop_count(SiteId(0)) {
+        least = lower_at_shops(alloc, least, sources, score, n, low, high)?;
     }
     Ok(least)
+}
+
+/// About what the vectors of the family of these sources cost that are best at the price, as in [`cost_near`].
+fn rise_near<S: Score>(
+    alloc: Global,
+    sources: &Sources<'_>,
+    score: &S,
+    price: u128,
+) -> Result<u128, NoMemory>
+    requires sources { AreSources sources.now }
+    requires price { price < 2 ^ 73 }
+    ensures { IfOk result (λ cost. cost ≤ 1000000000000) }
+{
+    let low = Price { p: price, q: 1 };
+    let high = Price {
+        p: price + price / 64 + 1,
+        q: 1,
+    };
+    let least = lowest(alloc, sources, score, low, high)?;
+    let cost = least.at_high.saturating_sub(least.at_low) / (high.p - low.p);
+    Ok(cost.min(MOST_COST))
 }
 
 /// About what the vectors of a family cost that are best at the price, in whole money: by how much the least lower
@@ -113,19 +177,5 @@ pub fn cost_near<S: Score>(
     let _sites = case.site_count();
     let family = Family::of(case, rates, line, bounds);
     let sources = Sources::of(alloc, &family)?;
-    let low = Price { p: price, q: 1 };
-    let high = Price {
-        p: price + price / 64 + 1,
-        q: 1,
-    };
-    let mut least = Lows {
-        at_low: 1 << 119,
-        at_high: 1 << 119,
-    };
-    for n in 0..family.shop_count(SiteId(0)) {
-        let shops = family.shop_vector(alloc, SiteId(0), n)?;
-        least = lower_at_shops(alloc, least, &sources, score, shops.as_slice(), low, high)?;
-    }
-    let cost = least.at_high.saturating_sub(least.at_low) / (high.p - low.p);
-    Ok(cost.min(MOST_COST))
+    rise_near(alloc, &sources, score, price)
 }

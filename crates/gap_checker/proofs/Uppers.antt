@@ -1,5 +1,8 @@
 -- The point of a box of one vector, and the sum of the upper ends.
 use Rattle.std.proofs.Common.{◌≡◌, ℕ, zero, suc, ◌+◌, ◌<◌, List, [], ◌∷◌, map, length, drop, get_or, refl, sym, ap, ap₂, ◌∙◌, subst, arith}
+use Rattle.std.specs.Prelude.{Result, Ok, Err, IfOk}
+use Rattle.answers.specs.declared.stop.NoMemory.{NoMemory}
+use Rattle.family_points.specs.declared.bounds.Bounds.{Bounds}
 use Rattle.hull.specs.declared.point.Point.{Point}
 use Rattle.hull.specs.Curves.{Among}
 use Rattle.hull.proofs.Members.{Mapped, among_mapped}
@@ -26,22 +29,26 @@ only_point c l score held v w m =
     let b : IsBetween v r.from v = between v v r.from r.there in
     r.is ∙ ap (point_at_vector c l score held) (at_most_same r.from v b.high b.low)
 
+-- the box of one vector
+abbrev one_box : List ℕ → List ℕ → Bounds
+one_box a v = record { held = a; low = v; high = v }
+
 -- the upper end of a point of a box of one vector is the vector's
-pub one_upper : (c : CaseRows) (l : ℕ) (score : ScoreEnds) (held low high a v : List ℕ) (hi : ℕ) → held ≡ a → low ≡ v → high ≡ v
-    → HasUpper (points_within c l score held low high) hi → hi ≡ (point_at_vector c l score a v).hi
-one_upper c l score held low high a v hi h e f is =
+pub one_upper : (c : CaseRows) (l : ℕ) (score : ScoreEnds) (box : Bounds) (a v : List ℕ) (upper : Result ℕ NoMemory) → box ≡ one_box a v
+    → IfOk upper (HasUpper (points_within c l score box.held box.low box.high)) → IfOk upper (λ hi. hi ≡ (point_at_vector c l score a v).hi)
+one_upper c l score box a v (Ok hi) e is =
     let own : HasUpper (points_within c l score a v v) hi =
-    subst (λ x. HasUpper (points_within c l score x v v) hi) h (subst (λ x. HasUpper (points_within c l score held x v) hi) e
-    (subst (λ x. HasUpper (points_within c l score held low x) hi) f is)) in
+    subst (λ (x : Bounds). HasUpper (points_within c l score x.held x.low x.high) hi) e is in
     sym own.2 ∙ ap (λ (z : Point). z.hi) (only_point c l score a v own.0 own.1)
+one_upper c l score box a v (Err want) e is = tt
 
 -- a box of one vector is in order where the vector lies between what is held and the limits
-pub one_ordered : (c : CaseRows) (l : ℕ) (held low high a v : List ℕ) → held ≡ a → low ≡ v → high ≡ v → AtMost a v → AtMost v (limits c l) → IsOrdered c l (record { held = held; low = low; high = high })
-one_ordered c l held low high a v h e f order limit = record {
-  held_least = subst (λ x. AtMost x low) (sym h) (subst (λ x. AtMost a x) (sym e) order);
-  low_least = subst (λ x. AtMost x high) (sym e) (subst (λ x. AtMost v x) (sym f) (at_most_self v));
-  within = subst (λ x. AtMost x (limits c l)) (sym f) limit;
-}
+pub one_ordered : (c : CaseRows) (l : ℕ) (box : Bounds) (a v : List ℕ) → box ≡ one_box a v → AtMost a v → AtMost v (limits c l) → IsOrdered c l box
+one_ordered c l box a v e order limit = subst (λ x. IsOrdered c l x) (sym e) (record {
+  held_least = order;
+  low_least = at_most_self v;
+  within = limit;
+})
 
 -- the upper ends from family f on are that of f and those behind it
 pub hi_next : (g : ℕ → Point) (ls : List ℕ) (f : ℕ) → f < length ls → hi_of (map g (drop f ls)) ≡ (g (get_or ls f 0)).hi + hi_of (map g (drop (f + 1) ls))

@@ -2,6 +2,7 @@
 
 ghost use Rattle.std.specs.Prelude.{◌≡◌, ◌<◌, ◌≤◌, true, is_some, None, IfOk, length, map};
 ghost use Rattle.spares_input.specs.First.{first};
+ghost use Rattle.spares_input.specs.Building.{StopsAt};
 ghost use Rattle.spares_input.specs.Stocks.{IsFor, IsWithinLimits};
 ghost use Rattle.fleet_model.specs.Rows.{line_units};
 ghost use Rattle.demand_rates.specs.Rates.{AreRatesOf};
@@ -11,7 +12,7 @@ ghost use Rattle.price_certificate.specs.Certificates.{IsWellFormed};
 ghost use Rattle.gap_rules.specs.Refusals.{line_at, family_count, cover_of, gap_at, family_tables, work_of, too_low, low_at};
 
 use crate::low::low_leaf;
-use answers::NoMemory;
+use answers::{NoMemory, Stop};
 use check_answers::Reject;
 use demand_rates::kinds::Rates;
 use family_points::{Bounds, place_parts};
@@ -85,15 +86,15 @@ fn family_low<S: Score>(
     }
 }
 
-/// The first leaf of all families whose value is below the claimed floor of its family.
-pub(crate) fn first_low<S: Score>(
+/// No leaf's value is below the claimed floor of its family.
+pub(crate) fn floors_kept<S: Score>(
     alloc: Global,
     cert: &Certificate,
     held: &Stocks,
     rates: &Rates,
     lines: &[PartId],
     score: &S,
-) -> Result<Option<Reject>, NoMemory>
+) -> Result<(), Stop<Reject>>
     requires formed { IsWellFormed cert.now }
     requires held { IsFor cert.now.case held.now }
     requires limits { IsWithinLimits cert.now.case held.now }
@@ -102,13 +103,12 @@ pub(crate) fn first_low<S: Score>(
     requires few { length lines.now ≤ 2000 }
     requires trees { first (gap_at cert.now held.now) (family_count cert.now.case) ≡ None }
     requires work { work_of cert.now held.now ≤ most_tables }
-    ensures { IfOk result (λ low. low ≡ first (low_at S.ends cert.now held.now) (family_count cert.now.case)) }
+    ensures { StopsAt (first (low_at S.ends cert.now held.now) (family_count cert.now.case)) result }
 {
     for f in 0..lines.len() {
-        let low = family_low(alloc, cert, held, rates, f as u32, lines[f], score)?;
-        if low.is_some() {
-            return Ok(low);
+        if let Some(reject) = family_low(alloc, cert, held, rates, f as u32, lines[f], score)? {
+            return Err(Stop::Fault(reject));
         }
     }
-    Ok(None)
+    Ok(())
 }

@@ -54,7 +54,7 @@ pub(crate) fn low_leaf<S: Score>(
             Read::Gap => return Ok(None),
             Read::Inner => {}
             Read::Leaf(leaf) => {
-                match low_value(alloc, case, rates, line, parts, price, &leaf, floor, score)? {
+                match low_value(alloc, case, rates, line, parts, price, leaf, floor, score)? {
                     Some(value) => return Ok(Some((number, value))),
                     None => number += 1,
                 }

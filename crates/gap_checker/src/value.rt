@@ -88,19 +88,19 @@ pub(crate) fn low_value<S: Score>(
     line: PartId,
     parts: &[PartId],
     price: Price,
-    leaf: &Leaf,
+    leaf: Leaf,
     floor: u128,
     score: &S,
 ) -> Result<Option<u128>, NoMemory>
     requires rates { AreRatesOf case.now rates.now }
     requires line { IsLine case.now line.0 }
     requires parts { map (λ p. p.0) parts.now ≡ map (λ x. x.part) (places case.now line.0) }
-    requires ordered { IsOrdered case.now line.0 (box_of leaf.now) }
-    requires work { leaf_tables case.now line.0 leaf.now ≤ most_tables }
+    requires ordered { IsOrdered case.now line.0 (box_of leaf) }
+    requires work { leaf_tables case.now line.0 leaf ≤ most_tables }
     requires money { 0 < price.q }
     requires most_money { price.q ≤ 1000000000000 }
     requires price { price.p ≤ 2 ^ 74 }
-    ensures { IfOk result (λ low. low ≡ below floor (value_of case.now line.0 S.ends price leaf.now)) }
+    ensures { IfOk result (λ low. low ≡ below floor (value_of case.now line.0 S.ends price leaf)) }
 {
     match leaf {
         Leaf::Cost(bounds) => {
@@ -113,6 +113,6 @@ pub(crate) fn low_value<S: Score>(
             );
             Ok(below(floor, price.p * u128::from(cost)))
         }
-        Leaf::Whole(bounds) => low_within(alloc, case, rates, line, price, bounds, floor, score),
+        Leaf::Whole(bounds) => low_within(alloc, case, rates, line, price, &bounds, floor, score),
     }
 }

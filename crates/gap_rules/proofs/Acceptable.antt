@@ -6,7 +6,7 @@ use Rattle.hull.specs.declared.point.Point.{Point}
 use Rattle.hull.specs.declared.price.Price.{Price}
 use Rattle.hull.specs.Curves.{lagrangian, Among}
 use Rattle.hull.proofs.Members.{among_map}
-use Rattle.spares_input.specs.First.{first}
+use Rattle.spares_input.specs.First.{first, or_else}
 use Rattle.spares_input.specs.Cases.{IsCase, frame_rows, pair_count}
 use Rattle.spares_input.specs.Stocks.{StockList, IsFor}
 use Rattle.spares_input.proofs.Firsts.{first_none, or_else_none}
@@ -28,6 +28,7 @@ use Rattle.gap_rules.proofs.FloorLaws.{floors_hold}
 use Rattle.gap_rules.proofs.Places.{if_none, line_part, vectors_ordered, vector_limited}
 use Rattle.gap_rules.proofs.Costs.{added_is, total_map}
 use Rattle.gap_rules.proofs.Formed.{has_floors}
+use Rattle.gap_rules.proofs.StockFaults.{else_none}
 
 -- each of the nine rules holds
 pub record BreaksNone (score : ScoreEnds) (cert : Certificate) (held : StockList) : Type 0 where
@@ -39,7 +40,7 @@ pub record BreaksNone (score : ScoreEnds) (cert : Certificate) (held : StockList
   pub cost : cost_above cert.case held cert.stocks ≤ cert.budget
   pub floors : first (low_at score cert held) (family_count cert.case) ≡ None
   pub upper : upper_of score cert held ≤ cert.upper
-  pub bound : cert.bound ≤ largest_of score cert
+  pub bound : cert.bound ≤ largest_of cert
 
 -- a certificate for which no reject is answered breaks none of the rules
 pub breaks_none : (score : ScoreEnds) (cert : Certificate) (held : StockList) → reject_of score cert held ≡ None → BreaksNone score cert held
@@ -65,6 +66,17 @@ breaks_none score cert held h =
       upper = ltb-false _ _ (if_none _ _ i.0);
       bound = ltb-false _ _ (if_none _ _ j.0);
     }
+
+neither : {A : Type 0} (o p : Option A) → o ≡ None → p ≡ None → or_else o p ≡ None
+neither o p h k = rw (h, k) refl
+
+-- for a certificate that breaks none of the rules no reject is answered
+pub none_broken : (score : ScoreEnds) (cert : Certificate) (held : StockList) → BreaksNone score cert held → reject_of score cert held ≡ None
+unfolding reject_of
+none_broken score cert held n =
+    neither _ _ n.rates (neither _ _ n.gaps (neither _ _ (else_none _ _ _ n.work)
+    (neither _ _ n.limited (neither _ _ n.kept (neither _ _ (else_none _ _ _ n.cost)
+    (neither _ _ n.floors (neither _ _ (else_none _ _ _ n.upper) (neither _ _ (else_none _ _ _ n.bound) refl))))))))
 
 -- no leaf is too low
 low_step : (value : Leaf → ℕ) (floor k : ℕ) (y : Leaf) (ls : List Leaf) (t : Bool) → nat_lt (value y) floor ≡ t → (if t then Some (k, value y) else low_leaf value floor (k + 1) ls) ≡ None

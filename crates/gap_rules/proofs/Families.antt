@@ -1,5 +1,5 @@
 -- The families of a certificate, by their numbers.
-use Rattle.std.proofs.Common.{◌≡◌, ℕ, zero, suc, ◌+◌, ◌<◌, ◌≤◌, ◌⊎◌, inl, inr, min, true, false, List, [], ◌∷◌, map, length, get_or, sum_by, Option, Some, None, is_none, refl, sym, ap, ◌∙◌, subst, arith}
+use Rattle.std.proofs.Common.{◌≡◌, ℕ, zero, suc, ◌+◌, ◌<◌, ◌≤◌, ◌⊎◌, inl, inr, min, true, nat_lt, List, [], ◌∷◌, map, length, get_or, sum_by, Option, Some, None, is_none, refl, sym, ap, ◌∙◌, subst, arith}
 use Rattle.std.specs.Prelude.{if◌then◌else◌, unwrap_or, is_some}
 use Rattle.std.specs.List.{range_with_len}
 use Rattle.std.specs.Option.{option_map}
@@ -7,7 +7,7 @@ use Rattle.std.proofs.lemmas.List.Sums.{sum_by-cons}
 use Rattle.std.proofs.lemmas.List.{length-map}
 use Rattle.answers.specs.Counts.{count64}
 use Rattle.spares_input.specs.declared.rows.PartId.{PartId}
-use Rattle.spares_input.specs.First.{first}
+use Rattle.spares_input.specs.First.{first, first_of, or_else}
 use Rattle.spares_input.specs.Cases.{CaseRows}
 use Rattle.spares_input.specs.Stocks.{StockList, IsFor, IsWithinLimits, limit_at}
 use Rattle.spares_input.proofs.Firsts.{first_none, first_found, first_more}
@@ -32,6 +32,7 @@ use Rattle.gap_rules.proofs.Places.{IsPair, place_pair, line_part, at_most_maps}
 use Rattle.gap_rules.proofs.Adding.{part_first}
 use Rattle.gap_rules.proofs.Acceptable.{some_leaves}
 use Rattle.family_points.specs.Points.{ScoreEnds}
+use Rattle.gap_rules.proofs.StockFaults.{then_some, else_none}
 
 -- ---- line units
 
@@ -128,18 +129,6 @@ work_at cert held f h b =
     let t = term_most (family_tables cert held) (family_count cert.case) 0 f (omega arith) (omega (arith, b)) in
     omega (arith, s, t)
 
--- ---- the first of all families
-
--- the first fault found, with none before it, is the first of all
-pub found_some : (at : ℕ → Option Reject) (f n : ℕ) (o : Option Reject) → o ≡ at f → is_some o ≡ true → first at f ≡ None → f < n → o ≡ first at n
-found_some at f n None e h before b = absurd (cc)
-found_some at f n (Some x) e h before b = sym (first_found at f n x before (sym e) b)
-
--- with no fault found so far and none here, there is none up to the next
-pub found_none : (at : ℕ → Option Reject) (f : ℕ) (o : Option Reject) → o ≡ at f → is_some o ≡ false → first at f ≡ None → first at (f + 1) ≡ None
-found_none at f None e h before = first_more at f before (sym e)
-found_none at f (Some x) e h before = absurd (cc)
-
 -- ---- the count
 
 cap_sum : (a b w t : ℕ) → w ≡ count64 a → t ≡ count64 b → min (w + t) 18446744073709551615 ≡ count64 (a + b)
@@ -175,3 +164,19 @@ module _ (cert : Certificate) (held : StockList) (f : ℕ) where
   pub counted_gap_at : (n : ℕ) → first (gap_at cert held) f ≡ None → None ≡ option_map (λ ls. count64 (cover_tables cert.case (line_at cert.case f) ls)) (cover_of cert held f) → f < n
       → first (gap_at cert held) n ≡ Some (reject.CoverGap f)
   counted_gap_at n before h b = first_found (gap_at cert held) f n (reject.CoverGap f) before (gap_by (cover_of cert held f) h) b
+
+-- ---- the rule of covers
+
+-- the first gap of a cover is the answer
+pub gap_stops : (gaps work : Option Reject) (x : Reject) → gaps ≡ Some x → first_of (gaps ∷ work ∷ []) ≡ Some x
+gap_stops gaps work x h = ap (λ z. or_else z (or_else work None)) h
+
+-- work over its limit is the answer, where no cover has a gap
+pub work_stops : (gaps : Option Reject) (n work : ℕ) → gaps ≡ None → n ≡ work → 1000000 < n
+    → first_of (gaps ∷ (if nat_lt 1000000 work then Some (reject.WorkTooLarge work) else None) ∷ []) ≡ Some (reject.WorkTooLarge n)
+work_stops gaps n work h e l = rw (h, sym e, then_some 1000000 n (reject.WorkTooLarge n) l) refl
+
+-- with neither a gap nor too much work there is no answer yet
+pub work_goes_on : (gaps : Option Reject) (n work : ℕ) → gaps ≡ None → n ≡ work → n ≤ 1000000
+    → first_of (gaps ∷ (if nat_lt 1000000 work then Some (reject.WorkTooLarge work) else None) ∷ []) ≡ None
+work_goes_on gaps n work h e l = rw (h, sym e, else_none 1000000 n (reject.WorkTooLarge n) l) refl

@@ -1,121 +1,131 @@
--- The first refusal, rule by rule.
-use Rattle.std.proofs.Common.{◌≡◌, ℕ, ◌<◌, ◌≤◌, Option, Some, None, refl, sym, ap, ◌∙◌, subst}
-use Rattle.spares_input.specs.First.{first, or_else, unless}
+-- The first refusal, step by step.
+use Rattle.std.proofs.Common.{◌≡◌, ℕ, ◌≤◌, List, [], ◌∷◌, ◌++◌, Option, Some, None, refl, sym, ap, ◌∙◌, subst, ltb-false}
+use Rattle.spares_input.specs.First.{first, first_of, or_else, unless}
 use Rattle.spares_input.specs.Cases.{frame_rows, pair_count}
 use Rattle.spares_input.specs.Stocks.{StockList}
 use Rattle.spares_input.specs.Building.{StopsAt}
+use Rattle.spares_input.proofs.Firsts.{or_else_none}
 use Rattle.answers.specs.Answers.{Gives}
 use Rattle.answers.specs.declared.stop.Stop.{Stop}
 use Rattle.answers.specs.declared.stop.Stop.TheVariants as halt
-use Rattle.std.specs.Prelude.{Result, Ok, Err, IsErrAnd, nat_lt, if◌then◌else◌}
+use Rattle.std.specs.Prelude.{Result, Ok, Err, IsErrAnd}
 use Rattle.std.specs.Option.{option_map}
 use Rattle.demand_rates.specs.Limits.{rate_fault_of}
 use Rattle.price_certificate.specs.declared.certificate.Certificate.{Certificate}
 use Rattle.check_answers.specs.declared.refusal.Accepted.{Accepted}
 use Rattle.check_answers.specs.declared.refusal.Reject.{Reject}
 use Rattle.check_answers.specs.declared.refusal.Reject.TheVariants as reject
-use Rattle.gap_rules.specs.Refusals.{family_count, gap_at, work_of, over_limit, below_held, cost_above, low_at, upper_of, largest_of, reject_of, judged}
-use Rattle.gap_rules.proofs.StockFaults.{then_some, else_none}
+use Rattle.gap_rules.specs.Refusals.{family_count, gap_at, work_of, too_much_work, over_limit, below_held, over_budget, cost_above, low_at, upper_too_low, bound_too_high, reject_of, judged}
 use Rattle.family_points.specs.Points.{ScoreEnds}
+use Rattle.gap_rules.proofs.Places.{if_none}
 pub use Rattle.fleet_model.proofs.FrameLaws.{few_lines}
 
-pub skip : {A : Type 0} (a rest r : Option A) → a ≡ None → rest ≡ r → or_else a rest ≡ r
-skip a rest r h k = ap (λ z. or_else z rest) h ∙ k
+-- the first of two lists of findings
+first_of_both : {A : Type 0} (xs ys : List (Option A)) → first_of (xs ++ ys) ≡ or_else (first_of xs) (first_of ys)
+first_of_both [] ys = refl
+first_of_both (None ∷ xs) ys = first_of_both xs ys
+first_of_both (Some x ∷ xs) ys = refl
 
-pub stop : {A : Type 0} (a rest : Option A) (x : A) → a ≡ Some x → or_else a rest ≡ Some x
-stop a rest x h = ap (λ z. or_else z rest) h
+-- a step that stops is the answer, after steps that go on
+stopped : (due rest : Option Reject) (x : Accepted) (s : Stop Reject) (r : Result Accepted (Stop Reject)) → IsErrAnd r (λ e. e ≡ s) → StopsAt {T = Accepted} {E = Reject} due (Err s) → Gives (unless (or_else due rest) x) r
+stopped due rest x s (Ok a) is h = absurd is
+stopped due rest x s (Err e) is h = halted e (subst (λ z. StopsAt {T = Accepted} {E = Reject} due (Err z)) (sym is) h)
+  where
+    halted : (e : Stop Reject) → StopsAt {T = Accepted} {E = Reject} due (Err e) → Gives (unless (or_else due rest) x) (Err e)
+    halted halt.NoMemory h = tt
+    halted (halt.Fault y) h = ap (λ d. unless (or_else d rest) x) h
 
--- a number over its limit, by its name
-pub over : (lim n m : ℕ) (refuse : ℕ → Reject) → n ≡ m → lim < n → (if nat_lt lim m then Some (refuse m) else None) ≡ Some (refuse n)
-over lim n m refuse e h = ap (λ z. if nat_lt lim z then Some (refuse z) else None) (sym e) ∙ then_some lim n (refuse n) h
-
-pub not_over : (lim n m : ℕ) (refuse : ℕ → Reject) → n ≡ m → n ≤ lim → (if nat_lt lim m then Some (refuse m) else None) ≡ None
-not_over lim n m refuse e h = ap (λ z. if nat_lt lim z then Some (refuse z) else None) (sym e) ∙ else_none lim n (refuse n) h
+goes_on : (due rest : Option Reject) (x : Accepted) (r : Result Accepted (Stop Reject)) → due ≡ None → Gives (unless rest x) r → Gives (unless (or_else due rest) x) r
+goes_on due rest x r h k = subst (λ d. Gives (unless (or_else d rest) x) r) (sym h) k
 
 module _ (score : ScoreEnds) (cert : Certificate) (held : StockList) where
-  refused : (r : Reject) → reject_of score cert held ≡ Some r → judged score cert held ≡ Err r
-  refused r h = ap (λ (z : Option Reject). unless z (record { bound = cert.bound; upper = cert.upper; cost = cost_above cert.case held cert.stocks })) h
+  -- the rejects of covers, of stocks, and of claims, in their order
+  abbrev pub covers : List (Option Reject)
+  covers = first (gap_at cert held) (family_count cert.case) ∷ too_much_work cert held ∷ []
 
-  -- the rule that the rates break is the answer
-  pub by_rates : (r : Reject) → option_map reject.Rate (rate_fault_of cert.case) ≡ Some r → judged score cert held ≡ Err r
+  abbrev pub stocks : List (Option Reject)
+  stocks = first (over_limit cert.case cert.stocks) (pair_count (frame_rows cert.case))
+      ∷ first (below_held cert.case held cert.stocks) (pair_count (frame_rows cert.case)) ∷ over_budget cert held ∷ []
+
+  abbrev pub claims : List (Option Reject)
+  claims = first (low_at score cert held) (family_count cert.case) ∷ upper_too_low score cert held ∷ bound_too_high cert ∷ []
+
+  abbrev answer : Accepted
+  answer = record { bound = cert.bound; upper = cert.upper; cost = cost_above cert.case held cert.stocks }
+
+  -- rates first, then covers, stocks and claims
+  by_steps : reject_of score cert held ≡ or_else (option_map reject.Rate (rate_fault_of cert.case)) (or_else (first_of covers) (or_else (first_of stocks) (first_of claims)))
   unfolding reject_of
-  by_rates r h = refused r (stop _ _ r h)
+  by_steps = ap (or_else (option_map reject.Rate (rate_fault_of cert.case)))
+      (first_of_both covers (stocks ++ claims) ∙ ap (or_else (first_of covers)) (first_of_both stocks claims))
 
-  module _ (a : option_map reject.Rate (rate_fault_of cert.case) ≡ None) where
-    -- where the rates break no rule, the first gap of a cover is the answer
-    pub by_gaps : (r : Reject) → first (gap_at cert held) (family_count cert.case) ≡ Some r → judged score cert held ≡ Err r
-    unfolding reject_of
-    by_gaps r h = refused r (skip _ _ _ a (stop _ _ r h))
+  accepts : (cost : ℕ) → cost ≡ cost_above cert.case held cert.stocks → Gives {E = Reject} (unless None answer) (Ok (record { bound = cert.bound; upper = cert.upper; cost = cost }))
+  accepts cost is = ap {B = Result Accepted Reject} (λ z. Ok (record { bound = cert.bound; upper = cert.upper; cost = z })) (sym is)
 
-    module _ (b : first (gap_at cert held) (family_count cert.case) ≡ None) where
-      -- where no cover has a gap, work over its limit is the answer
-      pub by_work : (work : ℕ) → work ≡ work_of cert held → 1000000 < work → judged score cert held ≡ Err (reject.WorkTooLarge work)
-      unfolding reject_of
-      by_work work e h = refused (reject.WorkTooLarge work) (skip _ _ _ a (skip _ _ _ b (stop _ _ _ (over 1000000 work (work_of cert held) (λ n. reject.WorkTooLarge n) e h))))
+  module _ (r : Result Accepted (Stop Reject)) where
+    judged_by : Gives (unless (or_else (option_map reject.Rate (rate_fault_of cert.case)) (or_else (first_of covers) (or_else (first_of stocks) (first_of claims)))) answer) r → Gives (judged score cert held) r
+    judged_by h = subst (λ d. Gives (unless d answer) r) (sym by_steps) h
 
-      module _ (work : ℕ) (work_is : work ≡ work_of cert held) (few : work ≤ 1000000) where
-        c_none : (if nat_lt 1000000 (work_of cert held) then Some (reject.WorkTooLarge (work_of cert held)) else None) ≡ None
-        c_none = not_over 1000000 work (work_of cert held) (λ n. reject.WorkTooLarge n) work_is few
+    -- rates that stop are the answer
+    pub by_rates : (s : Stop Reject) → IsErrAnd r (λ e. e ≡ s) → StopsAt {T = Accepted} {E = Reject} (option_map reject.Rate (rate_fault_of cert.case)) (Err s) → Gives (judged score cert held) r
+    by_rates s is h = judged_by (stopped _ _ answer s r is h)
 
-        -- where the work is within its limit, the first stock over its limit is the answer
-        pub by_limits : (r : Reject) → first (over_limit cert.case cert.stocks) (pair_count (frame_rows cert.case)) ≡ Some r → judged score cert held ≡ Err r
-        unfolding reject_of
-        by_limits r h = refused r (skip _ _ _ a (skip _ _ _ b (skip _ _ _ c_none (stop _ _ r h))))
+    module _ (a : rate_fault_of cert.case ≡ None) where
+      past_rates : Gives (unless (or_else (first_of covers) (or_else (first_of stocks) (first_of claims))) answer) r → Gives (judged score cert held) r
+      past_rates h = judged_by (goes_on _ _ answer r (ap (option_map reject.Rate) a) h)
 
-        module _ (d : first (over_limit cert.case cert.stocks) (pair_count (frame_rows cert.case)) ≡ None) where
-          -- where no stock is over its limit, the first stock below what is held is the answer
-          pub by_held : (r : Reject) → first (below_held cert.case held cert.stocks) (pair_count (frame_rows cert.case)) ≡ Some r → judged score cert held ≡ Err r
-          unfolding reject_of
-          by_held r h = refused r (skip _ _ _ a (skip _ _ _ b (skip _ _ _ c_none (skip _ _ _ d (stop _ _ r h)))))
+      -- where these don't, covers that stop are the answer
+      pub by_covers : (s : Stop Reject) → IsErrAnd r (λ e. e ≡ s) → StopsAt {T = Accepted} {E = Reject} (first_of covers) (Err s) → Gives (judged score cert held) r
+      by_covers s is h = past_rates (stopped _ _ answer s r is h)
 
-          module _ (e : first (below_held cert.case held cert.stocks) (pair_count (frame_rows cert.case)) ≡ None) (cost : ℕ) (cost_is : cost ≡ cost_above cert.case held cert.stocks) where
-            -- where no stock is below what is held, a cost over the budget is the answer
-            pub by_budget : cert.budget < cost → judged score cert held ≡ Err (reject.OverBudget cost)
-            unfolding reject_of
-            by_budget h = refused (reject.OverBudget cost) (skip _ _ _ a (skip _ _ _ b (skip _ _ _ c_none (skip _ _ _ d (skip _ _ _ e
-                (stop _ _ _ (over cert.budget cost (cost_above cert.case held cert.stocks) (λ n. reject.OverBudget n) cost_is h)))))))
+      module _ (b : first_of covers ≡ None) where
+        past_covers : Gives (unless (or_else (first_of stocks) (first_of claims)) answer) r → Gives (judged score cert held) r
+        past_covers h = past_rates (goes_on _ _ answer r b h)
 
-            module _ (fits : cost ≤ cert.budget) where
-              f_none : (if nat_lt cert.budget (cost_above cert.case held cert.stocks) then Some (reject.OverBudget (cost_above cert.case held cert.stocks)) else None) ≡ None
-              f_none = not_over cert.budget cost (cost_above cert.case held cert.stocks) (λ n. reject.OverBudget n) cost_is fits
+        -- where these don't, stocks that stop are the answer
+        pub by_stocks : (s : Stop Reject) → IsErrAnd r (λ e. e ≡ s) → StopsAt {T = Accepted} {E = Reject} (first_of stocks) (Err s) → Gives (judged score cert held) r
+        by_stocks s is h = past_covers (stopped _ _ answer s r is h)
 
-              -- where the cost is within the budget, the first floor above a leaf's value is the answer
-              pub by_floors : (r : Reject) → first (low_at score cert held) (family_count cert.case) ≡ Some r → judged score cert held ≡ Err r
-              unfolding reject_of
-              by_floors r h = refused r (skip _ _ _ a (skip _ _ _ b (skip _ _ _ c_none (skip _ _ _ d (skip _ _ _ e (skip _ _ _ f_none (stop _ _ r h)))))))
+        module _ (d : first_of stocks ≡ None) where
+          past_stocks : Gives (unless (first_of claims) answer) r → Gives (judged score cert held) r
+          past_stocks h = past_covers (goes_on _ _ answer r d h)
 
-              module _ (g : first (low_at score cert held) (family_count cert.case) ≡ None) (upper : ℕ) (upper_is : upper ≡ upper_of score cert held) where
-                -- where no floor is too high, an upper end below that of the stocks is the answer
-                pub by_upper : cert.upper < upper → judged score cert held ≡ Err (reject.UpperTooLow cert.upper upper)
-                unfolding reject_of
-                by_upper h = refused (reject.UpperTooLow cert.upper upper) (skip _ _ _ a (skip _ _ _ b (skip _ _ _ c_none (skip _ _ _ d (skip _ _ _ e (skip _ _ _ f_none (skip _ _ _ g
-                    (stop _ _ _ (over cert.upper upper (upper_of score cert held) (λ n. reject.UpperTooLow cert.upper n) upper_is h)))))))))
+          -- where these don't, floors that stop are the answer
+          pub by_floors : (s : Stop Reject) → IsErrAnd r (λ e. e ≡ s) → StopsAt {T = Accepted} {E = Reject} (first (low_at score cert held) (family_count cert.case)) (Err s) → Gives (judged score cert held) r
+          by_floors s is h = past_stocks (stopped _ _ answer s r is h)
 
-                module _ (enough : upper ≤ cert.upper) (largest : ℕ) (largest_is : largest ≡ largest_of score cert) where
-                  h_none : (if nat_lt cert.upper (upper_of score cert held) then Some (reject.UpperTooLow cert.upper (upper_of score cert held)) else None) ≡ None
-                  h_none = not_over cert.upper upper (upper_of score cert held) (λ n. reject.UpperTooLow cert.upper n) upper_is enough
+          module _ (e : first (low_at score cert held) (family_count cert.case) ≡ None) where
+            past_floors : Gives (unless (or_else (upper_too_low score cert held) (or_else (bound_too_high cert) None)) answer) r → Gives (judged score cert held) r
+            past_floors h = past_stocks (goes_on _ _ answer r e h)
 
-                  -- where the upper end is high enough, a bound above the largest is the answer
-                  pub by_bound : largest < cert.bound → judged score cert held ≡ Err (reject.BoundTooHigh cert.bound largest)
-                  unfolding reject_of
-                  by_bound h = refused (reject.BoundTooHigh cert.bound largest) (skip _ _ _ a (skip _ _ _ b (skip _ _ _ c_none (skip _ _ _ d (skip _ _ _ e (skip _ _ _ f_none (skip _ _ _ g (skip _ _ _ h_none
-                      (stop _ _ _ (ap (λ z. if nat_lt z cert.bound then Some (reject.BoundTooHigh cert.bound z) else None) (sym largest_is) ∙ then_some largest cert.bound (reject.BoundTooHigh cert.bound largest) h))))))))))
+            -- where these don't, an upper end that stops is the answer
+            pub by_upper : (s : Stop Reject) → IsErrAnd r (λ e. e ≡ s) → StopsAt {T = Accepted} {E = Reject} (upper_too_low score cert held) (Err s) → Gives (judged score cert held) r
+            by_upper s is h = past_floors (stopped _ _ answer s r is h)
 
-                  -- where the bound isn't too high either, the certificate is accepted
-                  pub by_none : cert.bound ≤ largest → judged score cert held ≡ Ok (record { bound = cert.bound; upper = cert.upper; cost = cost })
-                  unfolding reject_of
-                  by_none h =
-                      ap (λ (z : Option Reject). unless z (record { bound = cert.bound; upper = cert.upper; cost = cost_above cert.case held cert.stocks }))
-                      (skip _ _ None a (skip _ _ None b (skip _ _ None c_none (skip _ _ None d (skip _ _ None e (skip _ _ None f_none (skip _ _ None g (skip _ _ None h_none
-                      (skip _ None None (ap (λ z. if nat_lt z cert.bound then Some (reject.BoundTooHigh cert.bound z) else None) (sym largest_is) ∙ else_none largest cert.bound (reject.BoundTooHigh cert.bound largest) h) refl)))))))))
-                      ∙ ap (λ z. Ok (record { bound = cert.bound; upper = cert.upper; cost = z })) (sym cost_is)
+            module _ (f : upper_too_low score cert held ≡ None) where
+              past_upper : Gives (unless (or_else (bound_too_high cert) None) answer) r → Gives (judged score cert held) r
+              past_upper h = past_floors (goes_on _ _ answer r f h)
 
--- a step that stops
-pub gives_stop : (answer : Result Accepted Reject) (due : Option Reject) (s : Stop Reject) (r : Result Accepted (Stop Reject)) → IsErrAnd r (λ e. e ≡ s) → StopsAt {T = Accepted} {E = Reject} due (Err s)
-    → ((x : Reject) → due ≡ Some x → answer ≡ Err x) → Gives answer r
-gives_stop answer due s (Ok a) is h by = absurd is
-gives_stop answer due s (Err e) is h by = halted e (subst (λ z. StopsAt {T = Accepted} {E = Reject} due (Err z)) (sym is) h)
-  where
-    halted : (e : Stop Reject) → StopsAt {T = Accepted} {E = Reject} due (Err e) → Gives answer (Err e)
-    halted halt.NoMemory h = tt
-    halted (halt.Fault x) h = by x h
+              -- where it doesn't, a bound that stops is the answer
+              pub by_bound : (s : Stop Reject) → IsErrAnd r (λ e. e ≡ s) → StopsAt {T = Accepted} {E = Reject} (bound_too_high cert) (Err s) → Gives (judged score cert held) r
+              by_bound s is h = past_upper (stopped _ _ answer s r is h)
+
+              -- where it doesn't either, the certificate is accepted
+              pub by_none : bound_too_high cert ≡ None → (cost : ℕ) → cost ≡ cost_above cert.case held cert.stocks → r ≡ Ok (record { bound = cert.bound; upper = cert.upper; cost = cost }) → Gives (judged score cert held) r
+              by_none h cost is e = past_upper (goes_on _ _ answer r h (subst (λ z. Gives (unless None answer) z) (sym e) (accepts cost is)))
+
+  -- covers without a reject are trees
+  pub are_trees : first_of covers ≡ None → first (gap_at cert held) (family_count cert.case) ≡ None
+  are_trees h = (or_else_none _ _ h).0
+
+  -- covers without a reject take at most 1,000,000 tables
+  pub few_tables : first_of covers ≡ None → work_of cert held ≤ 1000000
+  few_tables h = ltb-false _ _ (if_none _ _ (or_else_none _ _ (or_else_none _ _ h).1).0)
+
+  -- stocks without a reject keep their limits
+  pub are_limited : first_of stocks ≡ None → first (over_limit cert.case cert.stocks) (pair_count (frame_rows cert.case)) ≡ None
+  are_limited h = (or_else_none _ _ h).0
+
+  -- stocks without a reject keep the held stocks
+  pub are_kept : first_of stocks ≡ None → first (below_held cert.case held cert.stocks) (pair_count (frame_rows cert.case)) ≡ None
+  are_kept h = (or_else_none _ _ (or_else_none _ _ h).1).0

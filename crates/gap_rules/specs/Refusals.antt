@@ -63,6 +63,11 @@ tables_of_first cert held n = sum_by (family_tables cert held) (range_with_len 0
 abbrev pub work_of : Certificate → StockList → ℕ
 work_of cert held = count64 (tables_of_first cert held (family_count cert.case))
 
+-- the reject of the work, if it is over the most tables
+abbrev pub too_much_work : Certificate → StockList → Option Reject
+too_much_work cert held =
+    if nat_lt most_tables (work_of cert held) then Some (reject.WorkTooLarge (work_of cert held)) else None
+
 -- ---- stocks
 
 -- the reject of pair i if its stock is over its limit
@@ -86,7 +91,24 @@ below_held c held s i =
 abbrev pub cost_above : CaseRows → StockList → StockList → ℕ
 cost_above c held s = cost_of c s - cost_of c held
 
--- ---- floors, upper end and bound
+-- the reject of the cost above the held stocks, if it is over the budget
+abbrev pub over_budget : Certificate → StockList → Option Reject
+over_budget cert held =
+    if nat_lt cert.budget (cost_above cert.case held cert.stocks)
+    then Some (reject.OverBudget (cost_above cert.case held cert.stocks)) else None
+
+-- ---- the bound
+
+-- the largest bound that the price and the floors allow under the budget
+abbrev pub largest_of : Certificate → ℕ
+largest_of cert = bound_of cert.price.p cert.price.q (sum cert.floors) cert.budget
+
+-- the reject of a bound above the largest
+abbrev pub bound_too_high : Certificate → Option Reject
+bound_too_high cert =
+    if nat_lt (largest_of cert) cert.bound then Some (reject.BoundTooHigh cert.bound (largest_of cert)) else None
+
+-- ---- floors and upper end
 
 -- the reject of a leaf of family f whose value is below the claimed floor; in format 1 it names the family
 abbrev pub too_low : ℕ → ℕ → ℕ → ℕ → ℕ → Reject
@@ -122,24 +144,23 @@ module _ (score : ScoreEnds) where
   abbrev pub upper_of : Certificate → StockList → ℕ
   upper_of cert held = hi_of (chosen_of cert held)
 
-  -- the largest bound that the price and the floors allow under the budget
-  abbrev pub largest_of : Certificate → ℕ
-  largest_of cert = bound_of cert.price.p cert.price.q (sum cert.floors) cert.budget
+  -- the reject of an upper end below that of the stocks
+  abbrev pub upper_too_low : Certificate → StockList → Option Reject
+  upper_too_low cert held =
+      if nat_lt cert.upper (upper_of cert held) then Some (reject.UpperTooLow cert.upper (upper_of cert held)) else None
 
   -- the first rule that is broken
   unfoldable pub reject_of : Certificate → StockList → Option Reject
   reject_of cert held = first_of (
       option_map reject.Rate (rate_fault_of cert.case)
       ∷ first (gap_at cert held) (family_count cert.case)
-      ∷ (if nat_lt most_tables (work_of cert held) then Some (reject.WorkTooLarge (work_of cert held)) else None)
+      ∷ too_much_work cert held
       ∷ first (over_limit cert.case cert.stocks) (pair_count (frame_rows cert.case))
       ∷ first (below_held cert.case held cert.stocks) (pair_count (frame_rows cert.case))
-      ∷ (if nat_lt cert.budget (cost_above cert.case held cert.stocks)
-      then Some (reject.OverBudget (cost_above cert.case held cert.stocks)) else None)
+      ∷ over_budget cert held
       ∷ first (low_at cert held) (family_count cert.case)
-      ∷ (if nat_lt cert.upper (upper_of cert held) then Some (reject.UpperTooLow cert.upper (upper_of cert held))
-      else None)
-      ∷ (if nat_lt (largest_of cert) cert.bound then Some (reject.BoundTooHigh cert.bound (largest_of cert)) else None)
+      ∷ upper_too_low cert held
+      ∷ bound_too_high cert
       ∷ [])
 
   -- the answer of a check

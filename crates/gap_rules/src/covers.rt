@@ -1,22 +1,22 @@
-//! The covers of all families: whether each is a tree, and the count of tables for their whole leaves.
+//! The rule of covers: the nodes of each family are a tree, and their whole leaves take few tables.
 
-ghost use Rattle.std.specs.Prelude.{◌≡◌, ◌<◌, ◌≤◌, IfOk, length, map};
+ghost use Rattle.std.specs.Prelude.{◌≡◌, ◌∷◌, [], ◌<◌, ◌≤◌, IfOk, length, map};
 ghost use Rattle.std.specs.Option.{option_map};
 ghost use Rattle.answers.specs.Counts.{count64};
-ghost use Rattle.spares_input.specs.First.{first};
+ghost use Rattle.spares_input.specs.First.{first, first_of};
 ghost use Rattle.spares_input.specs.Building.{StopsAt};
 ghost use Rattle.spares_input.specs.Stocks.{IsFor, IsWithinLimits};
 ghost use Rattle.fleet_model.specs.Rows.{line_units};
 ghost use Rattle.family_items.specs.Inputs.{IsLine};
 ghost use Rattle.price_certificate.specs.Certificates.{IsWellFormed};
 ghost use Rattle.gap_rules.specs.Values.{cover_tables};
-ghost use Rattle.gap_rules.specs.Refusals.{line_at, family_count, cover_of, gap_at, work_of};
+ghost use Rattle.gap_rules.specs.Refusals.{line_at, family_count, cover_of, gap_at, too_much_work};
 
 use crate::family::nodes_of;
 use crate::work::cover_tables;
 use answers::{NoMemory, Stop};
 use check_answers::Reject;
-use family_points::Bounds;
+use family_points::{Bounds, MOST_TABLES};
 use price_certificate::{Certificate, Node};
 use spares_input::{PartId, Stocks};
 use std::alloc::Global;
@@ -45,20 +45,20 @@ fn family_work(
     cover_tables(alloc, &cert.case, line, bounds, nodes)
 }
 
-/// The tables of all whole leaves, or the first family whose nodes aren't a tree.
-pub fn work_of(
+/// Each family's nodes are a tree, and all trees together take at most 1,000,000 tables.
+pub fn covers_kept(
     alloc: Global,
     cert: &Certificate,
     held: &Stocks,
     lines: &[PartId],
-) -> Result<u64, Stop<Reject>>
+) -> Result<(), Stop<Reject>>
     requires formed { IsWellFormed cert.now }
     requires held { IsFor cert.now.case held.now }
     requires limits { IsWithinLimits cert.now.case held.now }
     requires lines { map (λ p. p.0) lines.now ≡ line_units cert.now.case }
     requires few { length lines.now ≤ 2000 }
-    ensures gap { StopsAt (first (gap_at cert.now held.now) (family_count cert.now.case)) result }
-    ensures work { IfOk result (λ work. work ≡ work_of cert.now held.now) }
+    ensures { StopsAt (first_of (first (gap_at cert.now held.now) (family_count cert.now.case)
+        ∷ too_much_work cert.now held.now ∷ [])) result }
 {
     let mut work: u64 = 0;
     for f in 0..lines.len() {
@@ -68,5 +68,8 @@ pub fn work_of(
             None => return Err(Stop::Fault(Reject::CoverGap { family })),
         }
     }
-    Ok(work)
+    if MOST_TABLES < work {
+        return Err(Stop::Fault(Reject::WorkTooLarge(work)));
+    }
+    Ok(())
 }

@@ -1,13 +1,23 @@
 //! Reading a held certificate.
 
-ghost use Rattle.std.specs.Prelude.{◌≡◌, ◌*◌, ◌≤◌, ◌<◌, length, true, Ok, IfOk};
+ghost use Rattle.std.specs.Prelude.{◌≡◌, ◌*◌, ◌≤◌, ◌<◌, length, true, None, Ok, Err, IfOk, MatchResult};
 ghost use Rattle.line_text.specs.Formats.{each};
 ghost use Rattle.line_text.specs.Files.{lines_of};
 ghost use Rattle.line_text.specs.Texts.{numbers_from};
 ghost use Rattle.line_text.specs.Reading.{Reads, Gathers};
 ghost use Rattle.answers.specs.Answers.{Gives};
 ghost use Rattle.price_certificate.specs.Reading.{draft_of};
-ghost use Rattle.held_certificate.specs.Held.{held_line, held_lines, rest, rest_of, front, held_of, held_text, IsWellHeld};
+ghost use Rattle.held_certificate.specs.Held.{
+  IsWellHeld,
+  case_fault,
+  front,
+  held_line,
+  held_lines,
+  held_of,
+  held_text,
+  rest,
+  rest_of,
+};
 ghost use Rattle.price_certificate.specs.Certificates.{IsWellFormed, certificate_limit};
 ghost use Rattle.held_certificate.specs.declared.held.HeldCertificate.{HeldCertificate};
 ghost use Rattle.price_certificate.specs.Grammar.{certificate_format};
@@ -80,6 +90,36 @@ fn rest_lines(alloc: Global, lines: &mut Lines<'_>, case: &Case) -> Result<Vec<u
     Ok(found)
 }
 
+/// The held stocks after the first `end`, if the lines after it are in the grammar and nothing follows them.
+fn held_after(
+    alloc: Global,
+    bytes: &[u8],
+    lines: &mut Lines<'_>,
+    certificate: &Certificate,
+) -> Result<Stocks, Stop<CertFault>>
+    requires size { length bytes.now ≤ certificate_limit }
+    requires front { front.read (lines_of bytes.now) ≡ Ok (certificate.now, lines.old) }
+    requires no_fault { case_fault (front.read (lines_of bytes.now)) ≡ None }
+    ensures { MatchResult result
+        (λ held. held_of bytes.now ≡ Ok (record { certificate = certificate.now; held = held }))
+        (λ stop. Gives {T = HeldCertificate} (held_of bytes.now) (Err stop)) }
+{
+    let sites = certificate.case.site_count();
+    match rest_lines(alloc, lines, &certificate.case) {
+        Ok(held) => {
+            if lines.is_empty() {
+                Ok(Stocks::of(held, sites))
+            } else {
+                Err(Stop::Fault(CertFault::BadLine(line_number(bytes, lines))))
+            }
+        }
+        Err(Stop::NoMemory) => Err(Stop::NoMemory),
+        Err(Stop::Fault(BadLine)) => Err(Stop::Fault(CertFault::BadLine(line_number(
+            bytes, lines,
+        )))),
+    }
+}
+
 /// The held certificate, if the lines up to the first `end` are its certificate.
 fn after_front(
     alloc: Global,
@@ -97,22 +137,9 @@ fn after_front(
         Ok(certificate) => certificate,
         Err(stop) => return Err(stop),
     };
-    let sites = certificate.case.site_count();
-    match rest_lines(alloc, lines, &certificate.case) {
-        Ok(held) => {
-            if lines.is_empty() {
-                Ok(HeldCertificate {
-                    certificate,
-                    held: Stocks::of(held, sites),
-                })
-            } else {
-                Err(Stop::Fault(CertFault::BadLine(line_number(bytes, lines))))
-            }
-        }
-        Err(Stop::NoMemory) => Err(Stop::NoMemory),
-        Err(Stop::Fault(BadLine)) => Err(Stop::Fault(CertFault::BadLine(line_number(
-            bytes, lines,
-        )))),
+    match held_after(alloc, bytes, lines, &certificate) {
+        Ok(held) => Ok(HeldCertificate { certificate, held }),
+        Err(stop) => Err(stop),
     }
 }
 

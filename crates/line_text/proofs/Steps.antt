@@ -24,6 +24,7 @@ pub stops : {A V : Type 0} (view : V → List A) (e : Stop BadLine) (format : Li
 stops view e format found n k ts left total lt h so_far =
     ends_as view e format found k (numbers_from (k + 1) (n - (k + 1))) (numbers_from k (n - k)) ts left total (numbers_more n k lt) h so_far
 
+-- with no place left, the total is the values so far and the tokens after them
 pub done : {A : Type 0} (format : List A → ℕ → Format A) (found : List A) (n k : ℕ) (ts : List Token) (total : Result (List A × List Token) (List Token))
     → n ≤ k → read_from format found n k ts ≡ total → total ≡ Ok (found, ts)
 done format found n k ts total h so_far = is_done format found (numbers_from k (n - k)) ts total (numbers_done n k h) so_far

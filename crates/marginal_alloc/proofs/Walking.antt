@@ -1,13 +1,13 @@
 -- A walk under a budget.
-use Rattle.std.proofs.Common.{◌≡◌, ℕ, zero, suc, ◌+◌, ◌<◌, ◌≤◌, List, [], ◌∷◌, length, set, slice_index, refl, sym, ap, ◌∙◌, subst, arith}
+use Rattle.std.proofs.Common.{◌≡◌, ℕ, zero, suc, ◌+◌, ◌-◌, ◌<◌, ◌≤◌, Some, None, List, [], ◌∷◌, length, set, slice_index, refl, sym, ap, ◌∙◌, subst, arith}
 use Rattle.hull.specs.declared.point.Point.{Point}
 use Rattle.hull.specs.Curves.{point_at}
 use Rattle.step_walk.specs.declared.walk.Next.{Next}
-use Rattle.step_walk.specs.Prefix.{vertex_at, rise, picked}
-use Rattle.step_walk.specs.Walks.{Walked, TellsFirst, MovesOn}
+use Rattle.step_walk.specs.Prefix.{vertex_at, rise, picked, HaveShapes}
+use Rattle.step_walk.specs.Walks.{AllDone, IsOnWay, Walked, TellsFirst, MovesOn}
 use Rattle.step_walk.proofs.Taking.{cost_rises, steps_left, left_falls}
 use Rattle.price_bounds.specs.Sums.{cost_of}
-use Rattle.marginal_alloc.specs.Choice.{firsts}
+use Rattle.marginal_alloc.specs.Choice.{firsts, IsHullChoice}
 
 -- what the picks cost with one step more
 pub cost_taken : (curves : List (List Point)) (picks : List ℕ) (f : ℕ) → f < length curves → length picks ≡ length curves → (vertex_at curves f (slice_index picks f)).cost ≤ (vertex_at curves f (slice_index picks f + 1)).cost
@@ -60,3 +60,29 @@ stepped curves old new next cost same t on is =
       smaller = subst (λ ks. steps_left curves ks < steps_left curves old.picks) (sym are)
           (left_falls curves old.picks next.family family count (pre.vertices.below next.family family));
     }
+
+-- the curves of a walk have shapes
+pub shapes_own : (curves : List (List Point)) (w : Walked) → w.curves ≡ curves → IsOnWay w → HaveShapes curves
+shapes_own curves w same way = subst HaveShapes same way.shapes
+
+beyond : (budget cost q r : ℕ) → cost ≤ budget → budget - cost < q → q ≡ r → budget < cost + r
+beyond budget cost q r fits over e = omega (arith, fits, over, e)
+
+-- a walk that stops at a step beyond the budget has made the hull choice
+pub stopped : (curves : List (List Point)) (w : Walked) (next : Next) (budget cost : ℕ) (picks : List ℕ) → w.curves ≡ curves → TellsFirst w next
+    → cost ≡ cost_of (picked curves w.picks) → cost ≤ budget → budget - cost < next.price.q → picks ≡ w.picks
+    → IsHullChoice curves budget (record { picks = picks; cost = cost; price = next.price; critical = Some (record { family = next.family; vertex = next.vertex }) })
+stopped curves w next budget cost picks same t is fits over at =
+    let own = at_own curves w next same t in
+    subst (λ ks. IsHullChoice curves budget (record { picks = ks; cost = cost; price = next.price; critical = Some (record { family = next.family; vertex = next.vertex }) }))
+    (sym at)
+    (record { prefix = own.way.prefix; cost_is = is; fits = fits; stops = (own.first, own.vertex, own.p, own.q, beyond budget cost next.price.q _ fits over own.q) })
+
+-- and so has one that has no step left
+pub finished : (curves : List (List Point)) (w : Walked) (budget cost : ℕ) (picks : List ℕ) → w.curves ≡ curves → AllDone w
+    → cost ≡ cost_of (picked curves w.picks) → cost ≤ budget → picks ≡ w.picks
+    → IsHullChoice curves budget (record { picks = picks; cost = cost; price = record { p = 0; q = 1 }; critical = None })
+finished curves w budget cost picks same done is fits at =
+    let own = subst (λ (cs : List (List Point)). AllDone (record { curves = cs; picks = w.picks })) same done in
+    subst (λ ks. IsHullChoice curves budget (record { picks = ks; cost = cost; price = record { p = 0; q = 1 }; critical = None })) (sym at)
+    (record { prefix = own.way.prefix; cost_is = is; fits = fits; stops = (own.done, refl, refl) })

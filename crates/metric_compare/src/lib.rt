@@ -101,6 +101,25 @@ fn compared_items(
     Ok(items)
 }
 
+/// The report of a comparison, from the figures.
+fn report_of(
+    alloc: Global,
+    inputs: &Inputs<'_>,
+    figures: &Figures,
+) -> Result<CompareReport, NoMemory>
+    requires { figures.now ≡ figures_of 48 inputs.now.case inputs.now.stocks }
+    ensures { IfOk result (λ report. report ≡ comparison_of inputs.now.case inputs.now.stocks) }
+{
+    let numbers = numbers_of(alloc, inputs)?;
+    let poisson = numbers.as_slice();
+    let items = compared_items(alloc, inputs, figures, poisson)?;
+    Ok(CompareReport {
+        items: List::of(items),
+        total: figures.total.interval(),
+        poisson_total: poisson_total(inputs, poisson),
+    })
+}
+
 /// The backorders of a case at its stocks beside those with Poisson pipelines, by part and then by site, and the two
 /// weighted totals.
 ///
@@ -119,13 +138,6 @@ pub fn compare(
     ensures printed { IfOk result FitsComparison }
 {
     let inputs = Inputs::of(case, rates, stocks);
-    let numbers = numbers_of(alloc, &inputs)?;
-    let poisson = numbers.as_slice();
     let figures = figures_of(alloc, case, rates, stocks)?;
-    let items = compared_items(alloc, &inputs, &figures, poisson)?;
-    Ok(CompareReport {
-        items: List::of(items),
-        total: figures.total.interval(),
-        poisson_total: poisson_total(&inputs, poisson),
-    })
+    report_of(alloc, &inputs, &figures)
 }

@@ -162,6 +162,31 @@ fn line_at_base(
     base_line_at(alloc, inputs, line, base, depot, held.as_slice())
 }
 
+/// The backorders of a line unit by site, from its shop units and the backorders of all shop units.
+fn row_with(
+    alloc: Global,
+    inputs: &Inputs<'_>,
+    line: PartId,
+    units: &[PartId],
+    shops: &[Iv<48>],
+) -> Result<Vec<Iv<48>>, NoMemory>
+    requires line { IsLine inputs.now.case line.0 }
+    requires units { map (λ p. p.0) units.now ≡ shop_units inputs.now.case line.0 }
+    requires shops { shops.now ≡ shop_numbers inputs.now.case inputs.now.stocks.list }
+    ensures { IfOk result (λ v. v.items
+        ≡ by_site inputs.now.case (poisson_of 48 inputs.now.case inputs.now.stocks.list line.0)) }
+{
+    let _sites = inputs.sites();
+    let depot = line_at_depot(alloc, inputs, line, units, shops)?;
+    let mut row = Vec::new(alloc);
+    row.push(depot)?;
+    for j in 1..inputs.sites() {
+        let base = SiteId(j);
+        row.push(line_at_base(alloc, inputs, line, base, depot, units, shops)?)?;
+    }
+    Ok(row)
+}
+
 /// The backorders of a line unit by site, from the backorders of all shop units.
 pub(crate) fn line_row(
     alloc: Global,
@@ -174,14 +199,6 @@ pub(crate) fn line_row(
     ensures { IfOk result (λ v. v.items
         ≡ by_site inputs.now.case (poisson_of 48 inputs.now.case inputs.now.stocks.list line.0)) }
 {
-    let _sites = inputs.sites();
     let units = shop_units(alloc, inputs.case(), line)?;
-    let depot = line_at_depot(alloc, inputs, line, units.as_slice(), shops)?;
-    let mut row = Vec::new(alloc);
-    row.push(depot)?;
-    for j in 1..inputs.sites() {
-        let base = SiteId(j);
-        row.push(line_at_base(alloc, inputs, line, base, depot, units.as_slice(), shops)?)?;
-    }
-    Ok(row)
+    row_with(alloc, inputs, line, units.as_slice(), shops)
 }

@@ -15,7 +15,7 @@ use std::alloc::Global;
 
 /// A pair of a part and a site with its stock, its expected backorders, and its expected backorders with Poisson
 /// pipelines.
-#[derive(Clone, Copy, PartialEq, Eq)]
+#[derive(Clone, Copy)]
 pub struct CompareItem {
     pub part: Name,
     pub site: Name,
@@ -26,7 +26,7 @@ pub struct CompareItem {
 }
 
 /// All pairs, by part and then by site, and the weighted totals of the line units' backorders at the bases.
-#[derive(Drop, PartialEq, Eq)]
+#[derive(Drop)]
 pub struct CompareReport {
     pub items: List<CompareItem>,
     pub total: Iv<48>,

@@ -7,11 +7,13 @@ ghost use Rattle.spares_input.specs.Stocks.{IsFor, IsWithinLimits};
 ghost use Rattle.fleet_model.specs.Rows.{line_units};
 ghost use Rattle.family_items.specs.Inputs.{IsLine};
 ghost use Rattle.fleet_plan.specs.Families.{case_points};
+ghost use Rattle.held_work.specs.Curves.{IsFamilyCurve};
 ghost use Rattle.held_work.specs.Work.{held_work_of};
 ghost use Rattle.on_hand.specs.Held.{IsHeldCase};
 
 use answers::NoMemory;
 use demand_rates::kinds::Rates;
+use family_curve::curve_within;
 use family_items::line_units;
 use family_parts::{cost_near, part_within};
 use family_points::Bounds;
@@ -104,6 +106,19 @@ impl<'a, S: Score> HeldFamilies<'a, S> {
         ensures is_line { IsLine self.now.case result.0 }
     {
         self.lines[family as usize]
+    }
+
+    /// The curve of a family over its vectors from the held stocks to the limits, with the cost of the stocks above the
+    /// held ones. Want of memory is the only error.
+    pub(crate) fn curve(&self, alloc: Global, family: u32) -> Result<Curve, NoMemory>
+        requires { family < length (line_units self.now.case) }
+        ensures { IfOk result (IsFamilyCurve S.ends self.now.case self.now.held.list
+            (get_or (line_units self.now.case) family 0)) }
+    {
+        let line = self.line(family);
+        let bounds = Bounds::from_held(alloc, self.case, line, self.held)?;
+        let curve = curve_within(alloc, self.case, self.rates, line, &bounds, self.score)?;
+        Ok(curve)
     }
 
     /// About what the vectors of a family cost that are best at the price, in whole money. The price is in units of

@@ -8,8 +8,10 @@ ghost use Rattle.demand_rates.specs.Rates.{AreRatesOf};
 ghost use Rattle.part_filling.specs.Known.{IsPriceWindow};
 ghost use Rattle.held_work.specs.Work.{held_work_of};
 ghost use Rattle.case_plan.specs.Report.{IsOutcome};
+ghost use Rattle.on_hand.specs.Asked.{terms_of};
 
-use crate::curves::held_curves;
+use crate::asked::Asked;
+use crate::curves::whole_curves;
 use crate::families::HeldFamilies;
 use crate::guess::{guess, price_at};
 use crate::parts::parts_between;
@@ -42,15 +44,18 @@ fn plan_between<S: Score>(
     alloc: Global,
     families: &HeldFamilies<'_, S>,
     window: Window,
-    budget: u64,
-    loss: bool,
-    on_hand: Option<u64>,
+    asked: Asked,
 ) -> Result<Option<Outcome>, NoMemory>
     requires window { IsPriceWindow window.low window.high }
-    requires budget { budget ≤ most_budget }
-    ensures { IfOk result (λ found. IfSome found (IsOutcome S.ends families.now.case families.now.held.list
-        (record { budget = budget; loss = loss; on_hand = on_hand }))) }
+    requires budget { asked.budget ≤ most_budget }
+    ensures { IfOk result (λ found. IfSome found
+        (IsOutcome S.ends families.now.case families.now.held.list (terms_of asked))) }
 {
+    let Asked {
+        budget,
+        loss,
+        on_hand,
+    } = asked;
     let case = families.case();
     let rates = families.rates();
     let parts = parts_between(alloc, families, families.count(), window)?;
@@ -60,78 +65,49 @@ fn plan_between<S: Score>(
     )
 }
 
-/// The plan by the parts of the curves near the price at which the budget is about spent. None if nearly all is bought,
-/// or the guess of the price is wrong.
+/// The plan by the parts of the curves near the price at which the budget is about spent. None if there are few
+/// families, nearly all is bought, or the guess of the price is wrong.
 fn plan_near<S: Score>(
     alloc: Global,
     families: &HeldFamilies<'_, S>,
-    budget: u64,
-    loss: bool,
-    on_hand: Option<u64>,
+    asked: Asked,
 ) -> Result<Option<Outcome>, NoMemory>
-    requires budget { budget ≤ most_budget }
-    ensures { IfOk result (λ found. IfSome found (IsOutcome S.ends families.now.case families.now.held.list
-        (record { budget = budget; loss = loss; on_hand = on_hand }))) }
+    requires budget { asked.budget ≤ most_budget }
+    ensures { IfOk result (λ found. IfSome found
+        (IsOutcome S.ends families.now.case families.now.held.list (terms_of asked))) }
 {
-    let Some(number) = guess(alloc, families, budget)? else {
+    if families.count() < MANY {
+        return Ok(None);
+    }
+    let Some(number) = guess(alloc, families, asked.budget)? else {
         return Ok(None);
     };
     let price = price_at(number);
     let close = window_of(price * 5 / 8, price_at(number + 2) * 9 / 8);
-    if let Some(outcome) = plan_between(alloc, families, close, budget, loss, on_hand)? {
+    if let Some(outcome) = plan_between(alloc, families, close, asked)? {
         return Ok(Some(outcome));
     }
     let wide = window_of(price / 2, price * 4);
-    plan_between(alloc, families, wide, budget, loss, on_hand)
-}
-
-/// The plan by the parts of the curves near the price at which the budget is about spent. None if there are few
-/// families, nearly all is bought, or the guess of the price is wrong.
-fn plan_of_many<S: Score>(
-    alloc: Global,
-    case: &Case,
-    rates: &Rates,
-    held: &Stocks,
-    score: &S,
-    budget: u64,
-    loss: bool,
-    on_hand: Option<u64>,
-) -> Result<Option<Outcome>, NoMemory>
-    requires rates { AreRatesOf case.now rates.now }
-    requires held { IsFor case.now held.now }
-    requires limits { IsWithinLimits case.now held.now }
-    requires work { IsOk (held_work_of case.now held.now.list) }
-    requires budget { budget ≤ most_budget }
-    ensures { IfOk result (λ found. IfSome found (IsOutcome S.ends case.now held.now.list
-        (record { budget = budget; loss = loss; on_hand = on_hand }))) }
-{
-    let families = HeldFamilies::of(alloc, case, rates, held, score)?;
-    if families.count() < MANY {
-        return Ok(None);
-    }
-    plan_near(alloc, &families, budget, loss, on_hand)
+    plan_between(alloc, families, wide, asked)
 }
 
 /// The plan by the whole curves.
 fn plan_by_curves<S: Score>(
     alloc: Global,
-    case: &Case,
-    rates: &Rates,
-    held: &Stocks,
-    score: &S,
-    budget: u64,
-    loss: bool,
-    on_hand: Option<u64>,
+    families: &HeldFamilies<'_, S>,
+    asked: Asked,
 ) -> Result<Outcome, NoMemory>
-    requires rates { AreRatesOf case.now rates.now }
-    requires held { IsFor case.now held.now }
-    requires limits { IsWithinLimits case.now held.now }
-    requires work { IsOk (held_work_of case.now held.now.list) }
-    requires budget { budget ≤ most_budget }
-    ensures { IfOk result (IsOutcome S.ends case.now held.now.list
-        (record { budget = budget; loss = loss; on_hand = on_hand })) }
+    requires budget { asked.budget ≤ most_budget }
+    ensures { IfOk result (IsOutcome S.ends families.now.case families.now.held.list (terms_of asked)) }
 {
-    let curves = held_curves(alloc, case, rates, held, score)?;
+    let Asked {
+        budget,
+        loss,
+        on_hand,
+    } = asked;
+    let case = families.case();
+    let rates = families.rates();
+    let curves = whole_curves(alloc, families)?;
     plan(alloc, case, rates, curves.as_slice(), budget, loss, on_hand)
 }
 
@@ -158,8 +134,14 @@ pub fn plan_case<S: Score>(
     ensures { IfOk result (IsOutcome S.ends case.now held.now.list
         (record { budget = budget; loss = loss; on_hand = on_hand })) }
 {
-    if let Some(outcome) = plan_of_many(alloc, case, rates, held, score, budget, loss, on_hand)? {
+    let families = HeldFamilies::of(alloc, case, rates, held, score)?;
+    let asked = Asked {
+        budget,
+        loss,
+        on_hand,
+    };
+    if let Some(outcome) = plan_near(alloc, &families, asked)? {
         return Ok(outcome);
     }
-    plan_by_curves(alloc, case, rates, held, score, budget, loss, on_hand)
+    plan_by_curves(alloc, &families, asked)
 }

@@ -1,7 +1,7 @@
 //! The report of an accepted certificate.
-ghost use Rattle.std.specs.Prelude.{◌≡◌, IfOk};
+ghost use Rattle.std.specs.Prelude.{◌≡◌, ◌++◌, IfOk, OnOk, codes};
 ghost use Rattle.plan_report.specs.Fits.{FitsCheck};
-ghost use Rattle.plan_report.specs.Texts.{check_text};
+ghost use Rattle.plan_report.specs.Texts.{check_text, down_text, line, up_text};
 
 use crate::text::{put_down_line, put_number_line, put_on_hand, put_up_line};
 use answers::NoMemory;
@@ -9,7 +9,7 @@ use std::alloc::Global;
 
 /// The claims of an accepted certificate, and the cost of its stocks. The upper end and the bound are in units of 2^-48
 /// of the aim.
-#[derive(Clone, Copy, PartialEq, Eq)]
+#[derive(Clone, Copy)]
 pub struct CheckReport {
     /// 1, or 2 if covers show the floors.
     pub format: u8,
@@ -26,6 +26,28 @@ pub struct CheckReport {
 }
 
 impl CheckReport {
+    /// Appends the lines of the upper end and the bound.
+    fn put_ends(&self, text: &mut Vec<u8>) -> Result<(), NoMemory>
+        requires { FitsCheck self.now }
+        ensures { OnOk result (text.new.items ≡ text.old.items
+            ++ (line (codes "upper") (up_text self.now.upper) ++ line (codes "bound") (down_text self.now.bound))) }
+    {
+        put_up_line(text, b"upper", self.upper)?;
+        put_down_line(text, b"bound", self.bound)
+    }
+
+    /// Appends all lines of the report.
+    fn put_text(&self, text: &mut Vec<u8>) -> Result<(), NoMemory>
+        requires { FitsCheck self.now }
+        ensures { OnOk result (text.new.items ≡ text.old.items ++ check_text self.now) }
+    {
+        put_number_line(text, b"accepted", u64::from(self.format))?;
+        put_number_line(text, b"budget", self.budget)?;
+        put_number_line(text, b"cost", self.cost)?;
+        put_on_hand(text, self.on_hand)?;
+        self.put_ends(text)
+    }
+
     /// The lines `accepted,FORMAT`, `budget,BUDGET`, `cost,COST`, `upper,X` and `bound,X`. If stocks are on hand, the
     /// line `on-hand,COST` follows `cost`. The upper end is rounded up and the bound down, to 6 decimals. Want of
     /// memory is the only error.
@@ -34,12 +56,7 @@ impl CheckReport {
         ensures { IfOk result (λ text. text.items ≡ check_text self.now) }
     {
         let mut text = Vec::new(alloc);
-        put_number_line(&mut text, b"accepted", u64::from(self.format))?;
-        put_number_line(&mut text, b"budget", self.budget)?;
-        put_number_line(&mut text, b"cost", self.cost)?;
-        put_on_hand(&mut text, self.on_hand)?;
-        put_up_line(&mut text, b"upper", self.upper)?;
-        put_down_line(&mut text, b"bound", self.bound)?;
+        self.put_text(&mut text)?;
         Ok(text)
     }
 }

@@ -9,7 +9,7 @@ use case_figures::Figures;
 use std::alloc::Global;
 
 /// The figures of a case at given stocks.
-#[derive(Drop, PartialEq, Eq)]
+#[derive(Drop)]
 pub struct EvalReport {
     /// The binary places of the intervals: 32, 48 or 52.
     pub bits: u8,

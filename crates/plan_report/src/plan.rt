@@ -21,12 +21,11 @@ use answers::NoMemory;
 use case_figures::{Figures, Span};
 use fixed_interval::{Iv, ratio_down};
 use hull::Price;
-use line_text::put_number;
 use spares_input::Name;
 use std::alloc::Global;
 
 /// The line unit of the step that doesn't fit the budget, and the cost of the step, in whole money.
-#[derive(Clone, Copy, PartialEq, Eq)]
+#[derive(Clone, Copy)]
 pub struct CriticalLine {
     pub part: Name,
     pub cost: u64,
@@ -34,7 +33,7 @@ pub struct CriticalLine {
 
 /// The figures of a plan's stocks, and their distance from the best. Bound, gap and rounding are in units of 2^-48 of
 /// the aim: the total of backorders, or the loss if there is one.
-#[derive(Drop, PartialEq, Eq)]
+#[derive(Drop)]
 pub struct PlanReport {
     /// In whole money.
     pub budget: u64,
@@ -86,11 +85,7 @@ fn put_critical(text: &mut Vec<u8>, critical: Option<CriticalLine>) -> Result<()
         return put_line(text, b"critical", b"none");
     };
     text.extend_from_slice(b"critical,")?;
-    text.extend_from_slice(step.part.as_bytes())?;
-    text.push(b',')?;
-    put_number(text, u128::from(step.cost))?;
-    text.push(b'\n')?;
-    Ok(())
+    put_number_line(text, step.part.as_bytes(), step.cost)
 }
 
 impl PlanReport {

@@ -9,7 +9,7 @@ use fixed_interval::Iv;
 use std::alloc::Global;
 
 /// The expected backorders of a single pipeline and the variance of its backorders, in units.
-#[derive(Clone, Copy, PartialEq, Eq)]
+#[derive(Clone, Copy)]
 pub struct SingleReport {
     pub backorders: Iv<48>,
     pub spread: Iv<48>,

@@ -7,11 +7,11 @@ use crate::text::{put_down_line, put_number_line, put_span_line, put_up_line};
 use answers::NoMemory;
 use case_figures::Span;
 use fixed_interval::Iv;
-use line_text::put_number;
+use itoa::Buffer;
 use std::alloc::Global;
 
 /// The plan of a demonstration case whose certificate was accepted. Bound and gap are in units of 2^-48.
-#[derive(Clone, Copy, PartialEq, Eq)]
+#[derive(Clone, Copy)]
 pub struct Summary {
     /// The number from which the case is made.
     pub number: u32,
@@ -33,11 +33,10 @@ impl Summary {
     fn put_case(&self, text: &mut Vec<u8>) -> Result<(), NoMemory>
         ensures { OnOk result (text.new.items ≡ text.old.items ++ case_text self.now) }
     {
+        let mut digits = Buffer::new();
+        let number = digits.format(self.number).as_bytes();
         text.extend_from_slice(b"demo,")?;
-        put_number(text, u128::from(self.number))?;
-        text.push(b',')?;
-        put_number(text, u128::from(self.lines))?;
-        text.push(b'\n')?;
+        put_number_line(text, number, u64::from(self.lines))?;
         put_number_line(text, b"parts", u64::from(self.parts))
     }
 

@@ -113,6 +113,7 @@ module _ {X : Type 0} (IsOf : ℕ → X → Type 0) (none : X) (c : CaseRows) (b
       ]);
     }
 
+    -- and no mark was turned off
     pub later_one : AreLater before (set marks place mark)
     later_one = record {
       count = length-set marks place mark ∙ h.later.count;

@@ -2,10 +2,16 @@
 use Rattle.std.proofs.Common.{◌≡◌, ℕ, zero, suc, ◌<◌, Bool, true, false, List, [], ◌∷◌, length, get_or, replicate, All, Option, Some, None, Err, sym, ap, ◌∙◌, subst, arith}
 use Rattle.std.specs.List.{AllZip}
 use Rattle.std.proofs.lemmas.List.{get_or-replicate}
+use Rattle.answers.specs.Answers.{Gives}
+use Rattle.answers.specs.declared.stop.Stop.{Stop}
+use Rattle.answers.specs.declared.stop.Stop.TheVariants as stop
 use Rattle.spares_input.specs.First.{unless}
 use Rattle.spares_input.specs.Cases.{CaseRows}
 use Rattle.fleet_model.specs.Rows.{line_units}
 use Rattle.fleet_model.specs.Aims.{weighted_backorders}
+use Rattle.demand_rates.specs.Limits.{rate_fault_of}
+use Rattle.demand_rates.specs.RateLists.{RateList}
+use Rattle.demand_rates.specs.Rates.{rates_of}
 use Rattle.demand_rates.specs.declared.fault.RateFault.{RateFault}
 use Rattle.hull.specs.declared.point.Point.{Point}
 use Rattle.marginal_alloc.specs.Choice.{AreCurves}
@@ -21,7 +27,7 @@ use Rattle.case_plan.proofs.Truths.{report_fits}
 use Rattle.plan_report.specs.Fits.{FitsPlan}
 use Rattle.plan_report.specs.declared.plan.PlanReport.{PlanReport}
 use Rattle.case_edits.specs.Edits.{PlanDue}
-use Rattle.plan_session.specs.Sessions.{has_mark, AreKept}
+use Rattle.plan_session.specs.Sessions.{has_mark, AnswersPlan, AreKept}
 use Rattle.session_report.specs.Reports.{IsReportOf}
 use Rattle.plan_session.proofs.Keeping.{none_held}
 use Rattle.family_points.specs.Points.{plain_ends}
@@ -76,3 +82,8 @@ all_printed due plans a i e b = printed_at due plans a i e b
 refused : {A : Type 0} (o : Option RateFault) (x : A) (f : RateFault) → unless o x ≡ Err f → o ≡ Some f
 refused None x f h = cc
 refused (Some g) x f h = cc
+
+-- rates that break a rule refuse the plan that is due
+pub unrated : (d : PlanDue) (e : Stop RateFault) → Gives {T = RateList} (rates_of d.case) (Err e) → AnswersPlan d (Err e)
+unrated d stop.NoMemory h = tt
+unrated d (stop.Fault f) h = refused (rate_fault_of d.case) _ f h

@@ -1,5 +1,5 @@
 -- Marks that are turned off where stocks have changed leave what is kept at the new stocks.
-use Rattle.std.proofs.Common.{◌≡◌, ℕ, ◌+◌, ◌<◌, ◌⊎◌, inl, inr, Bool, true, List, length, get_or, replicate, unwrap_or, refl, sym, ap, ◌∙◌, subst, arith}
+use Rattle.std.proofs.Common.{◌≡◌, ℕ, ◌+◌, ◌<◌, ◌⊎◌, inl, inr, Bool, true, false, List, length, get_or, set, replicate, unwrap_or, refl, sym, ap, ◌∙◌, subst, arith, length-set}
 use Rattle.std.proofs.lemmas.List.{ext_get_or, get_or-map, length-map}
 use Rattle.spares_input.specs.Cases.{CaseRows, IsCase}
 use Rattle.spares_input.specs.Stocks.{StockList, stock_at, IsFor}
@@ -17,7 +17,7 @@ use Rattle.plan_session.specs.Sessions.{family_place, has_mark, no_family, AreMa
 use Rattle.plan_session.specs.Settling.{AreSettled}
 use Rattle.plan_session.proofs.Evaluations.{stocks_alone}
 use Rattle.plan_session.proofs.Families.{line_at, place_of_line}
-use Rattle.plan_session.proofs.Marking.{each_value, on_within}
+use Rattle.plan_session.proofs.Marking.{each_value, on_within, still_on}
 use Rattle.family_points.proofs.Local.{line_owner}
 
 -- ---- part after part
@@ -35,6 +35,19 @@ module _ (c : CaseRows) (old new : StockList) (before marks : List Bool) (n : �
       | inl l ↦ h.same p l on
       | inr e ↦ subst (λ q. (k : ℕ) → k < length c.sites → stock_at old q k ≡ stock_at new q k) (sym e) alike
     ]);
+  }
+
+  -- and the mark of part n's family is off
+  pub part_off : (place : ℕ) → place ≡ family_place c n → place < length marks → AreSettled c old new before (set marks place false) (n + 1)
+  part_off place e within = record {
+    count = length-set marks place false ∙ h.count;
+    stay = λ k on. h.stay k (still_on marks place k within on).1;
+    same = λ p b on.
+        let was = still_on marks place (family_place c p) within on in
+        (elim (below_or_last p n b) [
+          | inl l ↦ h.same p l was.1
+          | inr q ↦ absurd (was.0 (ap (family_place c) q ∙ sym e))
+        ]);
   }
 
 -- before the first part no mark was turned off

@@ -1,6 +1,6 @@
 //! An edits file: changes and plans, line by line.
 
-ghost use Rattle.std.specs.Prelude.{◌≤◌, List, All, IfOk, OnOk};
+ghost use Rattle.std.specs.Prelude.{◌≡◌, ◌≤◌, List, All, IfOk, OnOk};
 ghost use Rattle.std.specs.List.{AllZip};
 ghost use Rattle.std.specs.Result.{IsOk};
 ghost use Rattle.spares_input.specs.Cases.{frame_rows};
@@ -13,6 +13,7 @@ ghost use Rattle.demand_rates.specs.Limits.{rate_fault_of};
 ghost use Rattle.session_report.specs.Reports.{IsReportOf};
 ghost use Rattle.plan_session.specs.Answers.{AnswersEdits};
 ghost use Rattle.plan_session.specs.Following.{standing, Follows};
+ghost use Rattle.plan_session.specs.Sessions.{started};
 
 use crate::session::Session;
 use answers::{List, Stop};
@@ -40,15 +41,26 @@ pub fn run_edits(alloc: Global, case: Case, bytes: &[u8]) -> Result<SessionRepor
     ensures fits { IfOk result (λ report. All FitsPlan report.plans) }
 {
     let mut session = Session::new(alloc, case, 0)?;
+    followed(alloc, &mut session, bytes)
+}
+
+/// The plans that the lines of an edits file ask for, in a new session.
+fn followed(
+    alloc: Global,
+    session: &mut Session,
+    bytes: &[u8],
+) -> Result<SessionReport, Stop<EditFault>>
+    requires { session.old ≡ started session.old.case 0 }
+    ensures answer { AnswersEdits (session_of session.old.case bytes.now) result }
+    ensures fits { IfOk result (λ report. All FitsPlan report.plans) }
+{
     let mut plans = Vec::new(alloc);
     let mut rest = bytes;
     let mut line = 0;
     while !rest.is_empty() {
         let (text, left) = first_line(rest);
         line += 1;
-        if let Err(stop) = take(&mut session, &mut plans, line, text) {
-            return Err(stop);
-        }
+        take(session, &mut plans, line, text)?;
         rest = left;
     }
     Ok(SessionReport {

@@ -140,14 +140,9 @@ impl Session {
         ensures marks { IfOk result (λ _. self.new.marks ≡ replicate (length (line_units self.old.case)) true) }
     {
         let alloc = *self.curves.allocator();
-        let rates = match rates(alloc, &self.case) {
-            Ok(rates) => rates,
-            Err(stop) => return Err(stop),
-        };
-        match self.planned(alloc, &rates) {
-            Ok(report) => Ok(report),
-            Err(NoMemory) => Err(Stop::NoMemory),
-        }
+        let rates = rates(alloc, &self.case)?;
+        let report = self.planned(alloc, &rates)?;
+        Ok(report)
     }
 
     /// The plan of the current case under the current budget. Its rates break no rule.

@@ -40,8 +40,7 @@ pub(crate) fn floors(
     ensures { Gathers (λ v. v.items) result lines.new ((floors families).read lines.old) }
 {
     let count = count_line(lines, b"floors", families as u128, families as u128)?;
-    let found = each_floor(alloc, lines, count as usize)?;
-    Ok(found)
+    each_floor(alloc, lines, count as usize)
 }
 
 /// Reads `count` nodes.
@@ -91,8 +90,7 @@ fn all_covers(
         ((counted (codes "covers") families families (λ _. cover)).read lines.old) }
 {
     let count = count_line(lines, b"covers", families as u128, families as u128)?;
-    let found = each_cover(alloc, lines, count as usize)?;
-    Ok(found)
+    each_cover(alloc, lines, count as usize)
 }
 
 /// Reads the covers, which only format 2 has.
@@ -133,6 +131,5 @@ pub(crate) fn stocks(
     ensures { Gathers (λ v. v.items) result lines.new ((stock_lines pairs).read lines.old) }
 {
     let count = count_line(lines, b"stocks", pairs as u128, pairs as u128)?;
-    let found = each_stock(alloc, lines, count as usize)?;
-    Ok(found)
+    each_stock(alloc, lines, count as usize)
 }

@@ -89,8 +89,7 @@ fn put_floors(out: &mut Vec<u8>, list: &[u128]) -> Result<(), NoMemory>
         ++ concat ((floors families).print list.now)) }
 {
     put_count_line(out, b"floors", list.len() as u128)?;
-    put_each_floor(out, list)?;
-    Ok(())
+    put_each_floor(out, list)
 }
 
 /// Writes `split,AT,FROM`, `cost` or `whole`.
@@ -122,8 +121,7 @@ fn put_cover(out: &mut Vec<u8>, nodes: &List<Node>) -> Result<(), NoMemory>
 {
     let nodes = nodes.as_slice();
     put_count_line(out, b"cover", nodes.len() as u128)?;
-    put_each_node(out, nodes)?;
-    Ok(())
+    put_each_node(out, nodes)
 }
 
 /// Writes each cover.
@@ -143,8 +141,7 @@ fn put_covers(out: &mut Vec<u8>, list: &[List<Node>]) -> Result<(), NoMemory>
         ++ concat ((counted (codes "covers") families families (λ _. cover)).print list.now)) }
 {
     put_count_line(out, b"covers", list.len() as u128)?;
-    put_each_cover(out, list)?;
-    Ok(())
+    put_each_cover(out, list)
 }
 
 /// Writes the covers, which only format 2 has.
@@ -178,8 +175,7 @@ fn put_stocks(out: &mut Vec<u8>, case: &Case, list: &Stocks) -> Result<(), NoMem
 {
     let pairs = case.part_count() as u128 * case.site_count() as u128;
     put_count_line(out, b"stocks", pairs)?;
-    put_each_stock(out, list.as_slice())?;
-    Ok(())
+    put_each_stock(out, list.as_slice())
 }
 
 /// Writes the lines of a certificate.

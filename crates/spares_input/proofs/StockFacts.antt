@@ -1,24 +1,27 @@
 -- Which rule a row of stocks breaks, and what rows that break none give.
-use Rattle.std.proofs.Common.{◌≡◌, ℕ, ◌+◌, ◌*◌, ◌/◌, ◌<◌, ◌≤◌, ◌∷◌, [], ◌++◌, List, length, get_or, map, take, Bool, true, false, nat_lt, Option, Some, None, Result, Ok, Err, IfOk, Vec, Global, slice_get, if◌then◌else◌, unwrap_or, sum, refl, sym, ap, subst, ◌∙◌, arith, mul-le-mul, ◌%◌}
+use Rattle.std.proofs.Common.{◌≡◌, ℕ, ◌+◌, ◌*◌, ◌/◌, ◌<◌, ◌≤◌, ◌∷◌, [], ◌++◌, List, length, get_or, map, take, Bool, true, false, nat_lt, Option, Some, None, Result, Ok, Err, IfOk, Vec, Global, slice_get, if◌then◌else◌, unwrap_or, sum, replicate, refl, sym, ap, subst, ◌∙◌, arith, lt_of_lt_of_le, mul-le-mul, ◌%◌}
 use Rattle.std.specs.List.{All, range_with_len}
 use Rattle.std.specs.Option.{option_map}
 use Rattle.std.proofs.lemmas.Bool.{lt-ltb, le-ltb, ltb-false}
-use Rattle.std.proofs.lemmas.List.{take_more, map-append, length-map, get_or-map}
+use Rattle.std.proofs.lemmas.List.{take_more, map-append, length-map, length-replicate, get_or-map, get_or-replicate}
 use Rattle.std.proofs.lemmas.List.Elements.{All-from_get_or}
 use Rattle.std.proofs.lemmas.List.FromFn.{fill_by_all, length-map-range_with_len, sum_by-map-range_with_len_more}
-use Rattle.std.proofs.lemmas.Nat.{same_from_place}
+use Rattle.std.proofs.lemmas.Nat.{mul-le, same_from_place}
 use Rattle.std.proofs.lemmas.Nat.{rows as rows_fit}
 use Rattle.std.proofs.lemmas.Option.{slice_get-map, unwrap_or-slice_get}
 use Rattle.std.proofs.lemmas.Simd.{map-map}
+use mir.Val.{Fits}
+use mir.Syntax.{w64}
 use Rattle.spares_input.specs.First.{first}
 use Rattle.spares_input.specs.Rows.{no_stock}
 use Rattle.spares_input.specs.Frames.{part_at}
 use Rattle.spares_input.specs.Pairs.{has_row, row_at, rows_in_order}
 use Rattle.spares_input.specs.Cases.{CaseRows, frame_rows, pair_count}
-use Rattle.spares_input.specs.Stocks.{IsStockOf, IsWithinLimits, limit_at, missing_stock, StockList, stock_fault, stock_place, stocks_fault, stocks_in_order}
+use Rattle.spares_input.specs.Stocks.{IsFor, IsStockOf, IsWithinLimits, limit_at, missing_stock, nothing_held, StockList, stock_fault, stock_place, stocks_fault, stocks_in_order}
 use Rattle.spares_input.specs.Building.{ArePlaced, missing_stock_at}
 use Rattle.spares_input.specs.declared.rows.StockRow.{StockRow}
 use Rattle.spares_input.specs.declared.fault.StockFault.TheVariants as fault
+use Rattle.spares_input.proofs.CaseFacts.{place_fits}
 use Rattle.spares_input.proofs.Firsts.{first_none, or_else_none}
 use Rattle.spares_input.proofs.PlaceFacts.{at_place}
 use Rattle.std.proofs.Math.Nat.{mul-mod_left}
@@ -145,6 +148,34 @@ cost_bound i cost stock each before few cheap =
     let most : stock * each ≤ 255 * 100000000 = mul-le-mul {n₁ = stock} {m₁ = each} {n₂ = 255} {m₂ = 100000000} (omega arith) cheap in
     omega (arith, before, most)
 
+-- so the cost of the stocks at all places fits 64 bits
+pub cost_fits : (i a n total : ℕ) → a ≤ 2000 → n ≤ 16 → i < a * n → total ≤ (i + 1) * 25500000000 → Fits w64 total
+cost_fits i a n total few_parts few_sites within most = small i total (lt_of_lt_of_le within (mul-le a n 2000 16 few_parts few_sites)) most
+  where
+    small : (i total : ℕ) → i < 32000 → total ≤ (i + 1) * 25500000000 → Fits w64 total
+    small i total few most = omega (arith, few, most)
+
 -- as many entries as whole rows of sites leave no rest when divided by the sites
 pub whole_rows : (n a b sites : ℕ) → n ≡ a * b → b ≡ sites → n % sites ≡ 0
 whole_rows n a b sites e f = ap (λ z. z % sites) (e ∙ ap (λ z. a * z) f) ∙ mul-mod_left a sites
+
+-- ---- nothing held
+
+-- a list of as many zeros as there are pairs, with the number of sites, holds nothing
+pub none_held : (c : CaseRows) (held : StockList) (s a b : ℕ) (list : List ℕ) → held ≡ record { sites = s; list = list } → s ≡ length c.sites
+    → list ≡ replicate (a * b) 0 → a ≡ length c.parts → b ≡ length c.sites → held ≡ nothing_held c
+none_held c held s a b list e sites zeros parts same = e ∙ rw (zeros, sites, parts, same) refl
+
+-- which is a stock for each pair
+pub none_whole : (c : CaseRows) (held : StockList) → held ≡ nothing_held c → IsFor c held
+none_whole c held e = subst (IsFor c) (sym e) (record { sites = refl; pairs = length-replicate (pair_count (frame_rows c)) 0 })
+
+none_above : (n most : ℕ) → n ≡ 0 → n ≤ most
+none_above n most e = omega (arith, e)
+
+-- and over no limit
+pub none_within : (c : CaseRows) (held : StockList) → held ≡ nothing_held c → IsWithinLimits c held
+none_within c held e =
+    subst (IsWithinLimits c) (sym e)
+    (λ p k part site. none_above _ (limit_at c.parts p k)
+    (get_or-replicate (pair_count (frame_rows c)) (p * length c.sites + k) 0 0 (place_fits p k (length c.parts) (length c.sites) part site)))

@@ -1,15 +1,16 @@
 -- The refusal of one step, as the answer of a call that takes several.
-use Rattle.std.proofs.Common.{◌≡◌, ap, arith, refl, Some, Result, Ok, Err, ℕ, IsOk}
+use Rattle.std.proofs.Common.{◌≡◌, ap, arith, refl, Some, Result, Ok, Err, ℕ, IfOk, IsOk}
+use Rattle.std.specs.Result.{result_and}
 use Rattle.answers.specs.Answers.{Gives}
 use Rattle.answers.specs.Steps.{◌>>=◌}
 use Rattle.answers.specs.declared.stop.Stop.{Stop}
 use Rattle.answers.specs.declared.stop.Stop.TheVariants as stop
 use Rattle.case_tables.specs.Answers.{Tells, TellsStocked}
 use Rattle.case_tables.specs.Tables.{StockedCase}
+use Rattle.case_tables.specs.declared.Accepted.{Accepted}
 use Rattle.held_certificate.specs.declared.held.HeldCertificate.{HeldCertificate}
 use Rattle.held_work.specs.Work.{held_work_of}
 use Rattle.price_certificate.specs.declared.certificate.Certificate.{Certificate}
-use Rattle.price_certificate.specs.declared.certificate.Terms.{Terms}
 use Rattle.price_certificate.specs.declared.fault.CertFault.{CertFault}
 use Rattle.refusals.specs.Causes.{or_refuse}
 use Rattle.refusals.specs.Lines.{no_names}
@@ -21,6 +22,7 @@ use Rattle.spares_top.specs.Checking.{TellsClaim}
 use Rattle.spares_top.specs.Checks.{with_held, with_nothing}
 use Rattle.spares_top.specs.Planning.{TellsGround}
 use Rattle.spares_top.specs.Plans.{Planning}
+use Rattle.spares_top.specs.declared.plan.Ground.{Ground}
 
 -- ---- certificates
 
@@ -54,39 +56,35 @@ unstocked given next (stop.Fault failure) h = ap (λ (r : Result StockedCase Fai
 
 -- ---- work
 
--- work that isn't refused is within its limit
-pub is_few : (work : Result ℕ ℕ) (n : ℕ) → or_refuse no_names refusal.Work work ≡ Ok n → IsOk work
-is_few (Ok count) n e = refl
-is_few (Err count) n e = grind (arith, e)
+-- what follows from few enough tables holds of a value that is answered only then
+pub if_few : {T : Type 0} (P : T → Type 0) (x : T) (work : Result ℕ ℕ) (few : Result ℕ (Stop Failure)) → Gives (or_refuse no_names refusal.Work work) few
+    → (IsOk work → P x) → IfOk (result_and few (Ok x)) P
+if_few P x work (Err s) h p = tt
+if_few P x (Ok count) (Ok n) h p = p refl
+if_few P x (Err count) (Ok n) h p = grind (arith, h)
 
 module _ (c : CaseRows) (given : Result CaseRows Failure) (is_given : given ≡ Ok c) (work : CaseRows → Result ℕ ℕ) where
-  -- a case whose work is refused
-  pub too_much : (e : Stop Failure) → Gives {T = ℕ} (or_refuse no_names refusal.Work (work c)) (Err e)
-      → Tells (given >>= λ case. (or_refuse no_names refusal.Work (work case) >>= λ count. Ok case)) (Err e)
-  too_much stop.NoMemory h = tt
-  too_much (stop.Fault failure) h = rw (is_given, h) refl
+  abbrev within_work : Result CaseRows Failure
+  within_work = given >>= λ case. (or_refuse no_names refusal.Work (work case) >>= λ count. Ok case)
+
+  -- a case with its rates, if its work isn't refused
+  pub told_if_few : (few : Result ℕ (Stop Failure)) → Gives (or_refuse no_names refusal.Work (work c)) few → (x : Accepted) → c ≡ x.case
+      → Tells within_work (result_and few (Ok x))
+  told_if_few (Ok n) h x e = rw (is_given, h, e) refl
+  told_if_few (Err stop.NoMemory) h x e = tt
+  told_if_few (Err (stop.Fault failure)) h x e = rw (is_given, h) refl
 
   -- the same of a case to edit
-  pub too_much_edited : (e : Stop Failure) → Gives {T = ℕ} (or_refuse no_names refusal.Work (work c)) (Err e)
-      → Gives {T = CaseRows} (given >>= λ case. (or_refuse no_names refusal.Work (work case) >>= λ count. Ok case)) (Err e)
-  too_much_edited stop.NoMemory h = tt
-  too_much_edited (stop.Fault failure) h = rw (is_given, h) refl
+  pub given_if_few : (few : Result ℕ (Stop Failure)) → Gives (or_refuse no_names refusal.Work (work c)) few → Gives within_work (result_and few (Ok c))
+  given_if_few (Ok n) h = rw (is_given, h) refl
+  given_if_few (Err stop.NoMemory) h = tt
+  given_if_few (Err (stop.Fault failure)) h = rw (is_given, h) refl
 
-  -- a case whose work isn't
-  pub few_enough : (n : ℕ) → or_refuse no_names refusal.Work (work c) ≡ Ok n
-      → (given >>= λ case. (or_refuse no_names refusal.Work (work case) >>= λ count. Ok case)) ≡ Ok c
-  few_enough n h = rw (is_given, h) refl
-
-module _ (c : CaseRows) (stocks : StockList) (given : Result StockedCase Failure) (is_given : given ≡ Ok (record { case = c; stocks = stocks })) (terms : Terms) where
-  abbrev planning : Result Planning Failure
-  planning =
-      given >>= λ g. (or_refuse no_names refusal.Work (held_work_of g.case g.stocks.list) >>= λ count. Ok (record { case = g.case; on_hand = Some g.stocks; terms = terms }))
-
-  -- a case with stocks on hand whose work is refused
-  pub too_much_held : (e : Stop Failure) → Gives {T = ℕ} (or_refuse no_names refusal.Work (held_work_of c stocks.list)) (Err e) → TellsGround planning (Err e)
-  too_much_held stop.NoMemory h = tt
-  too_much_held (stop.Fault failure) h = rw (is_given, h) refl
-
-  -- and whose work isn't
-  pub few_enough_held : (n : ℕ) → or_refuse no_names refusal.Work (held_work_of c stocks.list) ≡ Ok n → planning ≡ Ok (record { case = c; on_hand = Some stocks; terms = terms })
-  few_enough_held n h = rw (is_given, h) refl
+-- the ground of a case with stocks on hand, if its work isn't refused
+pub ground_if_few : (g : Ground) (stocks : StockList) (given : Result StockedCase Failure) → given ≡ Ok (record { case = g.given.case; stocks = stocks })
+    → g.on_hand ≡ Some stocks → (few : Result ℕ (Stop Failure)) → Gives (or_refuse no_names refusal.Work (held_work_of g.given.case stocks.list)) few
+    → TellsGround (given >>= λ x. (or_refuse no_names refusal.Work (held_work_of x.case x.stocks.list) >>= λ count. Ok (record { case = x.case; on_hand = Some x.stocks; terms = g.terms })))
+    (result_and few (Ok g))
+ground_if_few g stocks given is_given held (Ok n) h = rw (is_given, h, held) refl
+ground_if_few g stocks given is_given held (Err stop.NoMemory) h = tt
+ground_if_few g stocks given is_given held (Err (stop.Fault failure)) h = rw (is_given, h) refl

@@ -53,8 +53,7 @@ pub(crate) fn case_within_work(
     let (sites, parts) = (tables.sites.bytes, tables.parts.bytes);
     let given = accepted_of(alloc, sites, parts, tables.rates.bytes)?;
     let _valid = given.case.site_count();
-    few_tables(work(&given.case))?;
-    Ok(given)
+    few_tables(work(&given.case)).and(Ok(given))
 }
 
 /// The case of tables, if its curves take few enough tables. Its rates may be beyond the limits of the model: edits may
@@ -65,6 +64,5 @@ pub(crate) fn case_to_edit(alloc: Global, tables: &Tables<'_>) -> Result<Case, S
 {
     let (sites, parts) = (tables.sites.bytes, tables.parts.bytes);
     let case = case_of(alloc, sites, parts, tables.rates.bytes)?;
-    few_tables(work(&case))?;
-    Ok(case)
+    few_tables(work(&case)).and(Ok(case))
 }

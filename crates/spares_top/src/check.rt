@@ -16,7 +16,6 @@ ghost use Rattle.spares_top.specs.Making.{Is, MakesBy};
 ghost use Rattle.spares_top.specs.Task.{check_task};
 
 use crate::done::{Done, Outcome};
-use crate::free::free;
 use crate::held::{cost_of, held_in};
 use answers::Stop;
 use check_answers::{Accepted, Reject};
@@ -140,6 +139,6 @@ pub(crate) fn check(alloc: Global, bytes: &[u8]) -> Result<Outcome, Stop<Failure
 {
     let claim = claim_of(alloc, bytes)?;
     let report = confirmed(alloc, &claim);
-    free(claim);
+    drop(claim);
     Ok(Outcome::printed(Done::Checked(report?)))
 }

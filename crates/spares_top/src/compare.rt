@@ -13,7 +13,6 @@ ghost use Rattle.spares_top.specs.Task.{compare_task};
 
 use crate::cases::stocked;
 use crate::done::{Done, Outcome};
-use crate::free::free;
 use crate::tables::{Table, Tables};
 use answers::{NoMemory, Stop};
 use case_tables::Stocked;
@@ -47,6 +46,6 @@ pub(crate) fn compare(
 {
     let given = stocked(alloc, tables, File::Stocks, stocks)?;
     let report = compared(alloc, &given);
-    free(given);
+    drop(given);
     Ok(Outcome::printed(Done::Compared(report?)))
 }

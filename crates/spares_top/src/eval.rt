@@ -15,7 +15,6 @@ ghost use Rattle.spares_top.specs.Task.{eval_of, eval_task};
 
 use crate::cases::stocked;
 use crate::done::{Done, Outcome};
-use crate::free::free;
 use crate::tables::{Table, Tables};
 use answers::{NoMemory, Stop};
 use case_figures::{Figures, figures_at};
@@ -82,6 +81,6 @@ pub(crate) fn eval(
 {
     let given = stocked(alloc, tables, File::Stocks, stocks)?;
     let report = evaluated(alloc, &given, bits);
-    free(given);
+    drop(given);
     Ok(Outcome::printed(Done::Evaluated(report?)))
 }

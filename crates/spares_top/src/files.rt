@@ -1,5 +1,5 @@
 //! The files that an order reads.
-ghost use Rattle.std.specs.Prelude.{◌≡◌, ◌<◌, ◌^◌, [], All, IfOk, IfErr, OnOk};
+ghost use Rattle.std.specs.Prelude.{◌≡◌, ◌<◌, ◌^◌, ◌++◌, ◌∷◌, [], All, IfOk, IfErr, OnOk};
 ghost use Rattle.std.specs.Option.{option_map};
 ghost use Rattle.spares_top.specs.Files.{Gave, Reads, StandStill, case_in, certificate_in, inputs, if_named, table_in};
 ghost use Rattle.spares_top.specs.Reading.{IsReadable, ReadsGive, ReadsMore, Unread};
@@ -21,17 +21,6 @@ pub(crate) struct Input {
 }
 
 impl Input {
-    /// The input of a table.
-    fn table(alloc: Global, file: File, name: &Text) -> Result<Input, NoMemory>
-        ensures { IfOk result (λ input. input ≡ table_in file name.now) }
-    {
-        Ok(Input {
-            file,
-            name: Text::from_str(alloc, name.as_str())?,
-            limit: TABLE_LIMIT,
-        })
-    }
-
     /// The input of a certificate.
     fn certificate(alloc: Global, name: &Text) -> Result<Input, NoMemory>
         ensures { IfOk result (λ input. input ≡ certificate_in name.now) }
@@ -44,6 +33,23 @@ impl Input {
     }
 }
 
+/// Adds the input of a table.
+fn add_table(
+    alloc: Global,
+    inputs: &mut Vec<Input>,
+    file: File,
+    name: &Text,
+) -> Result<(), NoMemory>
+    ensures { OnOk result (inputs.new.items ≡ inputs.old.items ++ table_in file name.now ∷ []) }
+{
+    inputs.push(Input {
+        file,
+        name: Text::from_str(alloc, name.as_str())?,
+        limit: TABLE_LIMIT,
+    })?;
+    Ok(())
+}
+
 /// The tables of a case.
 fn case_tables(
     alloc: Global,
@@ -54,9 +60,9 @@ fn case_tables(
     ensures { IfOk result (λ tables. tables.items ≡ case_in sites.now parts.now rates.now []) }
 {
     let mut tables = Vec::new(alloc);
-    tables.push(Input::table(alloc, File::Sites, sites)?)?;
-    tables.push(Input::table(alloc, File::Parts, parts)?)?;
-    tables.push(Input::table(alloc, File::Rates, rates)?)?;
+    add_table(alloc, &mut tables, File::Sites, sites)?;
+    add_table(alloc, &mut tables, File::Parts, parts)?;
+    add_table(alloc, &mut tables, File::Rates, rates)?;
     Ok(tables)
 }
 
@@ -74,7 +80,7 @@ fn tables_and(
 {
     let mut tables = case_tables(alloc, sites, parts, rates)?;
     if let Some(name) = more {
-        tables.push(Input::table(alloc, file, name)?)?;
+        add_table(alloc, &mut tables, file, name)?;
     }
     Ok(tables)
 }

@@ -11,7 +11,6 @@ mod done;
 mod eval;
 mod exit;
 mod files;
-mod free;
 mod given;
 mod held;
 mod plan;

@@ -68,12 +68,11 @@ fn held_ground(
         rates,
     } = stocked(alloc, tables, File::OnHand, stocks)?;
     let _valid = case.site_count();
-    few_tables(held_work(&case, &stocks))?;
-    Ok(Ground {
+    few_tables(held_work(&case, &stocks)).and(Ok(Ground {
         given: Accepted { case, rates },
         on_hand: Some(stocks),
         terms,
-    })
+    }))
 }
 
 /// The ground of a plan, if its curves take few enough tables.
@@ -138,13 +137,19 @@ fn certified(
     Written::new(alloc, name, bytes)
 }
 
-/// The plan of a ground, and the text of its certificate under this name.
-fn planned(alloc: Global, ground: Ground, name: &Text) -> Result<Outcome, NoMemory>
-    requires { IsGround ground }
+/// The outcome of a ground's plan: its report, and the text of its certificate under this name.
+fn certified_outcome(
+    alloc: Global,
+    ground: Ground,
+    held: &Stocks,
+    plan: case_plan::Outcome,
+    name: &Text,
+) -> Result<Outcome, NoMemory>
+    requires ground { IsGround ground }
+    requires held { held.now ≡ held_of (planning_on ground) }
+    requires plan { IsPlanFor ground plan }
     ensures { IfOk result (IsMade (Is (Ok (make_plan (planning_on ground) name.now)))) }
 {
-    let held = held_in(alloc, &ground.given.case, &ground.on_hand)?;
-    let plan = plan_of(alloc, &ground, &held)?;
     let claims = PlanClaims {
         stocks: plan.stocks,
         price: plan.price,
@@ -152,11 +157,21 @@ fn planned(alloc: Global, ground: Ground, name: &Text) -> Result<Outcome, NoMemo
         upper: plan.upper,
         bound: plan.report.bound,
     };
-    let written = certified(alloc, ground, &held, claims, name)?;
+    let written = certified(alloc, ground, held, claims, name)?;
     Ok(Outcome {
         done: Done::Planned(plan.report),
         writes: Some(written),
     })
+}
+
+/// The plan of a ground, and the text of its certificate under this name.
+fn planned(alloc: Global, ground: Ground, name: &Text) -> Result<Outcome, NoMemory>
+    requires { IsGround ground }
+    ensures { IfOk result (IsMade (Is (Ok (make_plan (planning_on ground) name.now)))) }
+{
+    let held = held_in(alloc, &ground.given.case, &ground.on_hand)?;
+    let plan = plan_of(alloc, &ground, &held)?;
+    certified_outcome(alloc, ground, &held, plan, name)
 }
 
 /// Carries out `plan` on the tables of a case and on the table of stocks on hand, if there is one.

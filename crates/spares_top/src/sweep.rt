@@ -15,7 +15,6 @@ ghost use Rattle.spares_top.specs.Task.{sweep_task};
 use crate::cases::case_within_work;
 use crate::curves::curves_of;
 use crate::done::{Done, Outcome};
-use crate::free::free;
 use crate::tables::Tables;
 use answers::{NoMemory, Stop};
 use budget_sweep::SweepReport;
@@ -39,6 +38,6 @@ pub(crate) fn sweep(alloc: Global, tables: &Tables<'_>) -> Result<Outcome, Stop<
 {
     let given = case_within_work(alloc, tables)?;
     let report = sweep_of(alloc, &given);
-    free(given);
+    drop(given);
     Ok(Outcome::printed(Done::Swept(report?)))
 }

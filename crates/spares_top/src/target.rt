@@ -15,7 +15,6 @@ ghost use Rattle.spares_top.specs.Task.{target_task};
 use crate::cases::case_within_work;
 use crate::curves::curves_of;
 use crate::done::{Done, Outcome};
-use crate::free::free;
 use crate::tables::Tables;
 use answers::{NoMemory, Stop};
 use budget_sweep::TargetReport;
@@ -49,6 +48,6 @@ pub(crate) fn target(
 {
     let given = case_within_work(alloc, tables)?;
     let report = target_of(alloc, &given, backorders);
-    free(given);
+    drop(given);
     Ok(Outcome::printed(Done::Priced(report?)))
 }

@@ -14,7 +14,6 @@ use crate::demo::demo;
 use crate::done::{Done, Outcome};
 use crate::eval::eval;
 use crate::files::files_of;
-use crate::free::free;
 use crate::given::{fourth_if, table_at, tables_of};
 use crate::plan::plan;
 use crate::session::session;
@@ -121,7 +120,7 @@ pub(crate) fn work<H: Shelf, W: Sink>(
     match read_words(alloc, words) {
         Ok(order) => {
             let done = perform(alloc, &order, shelf, out);
-            free(order);
+            drop(order);
             done
         }
         Err(Stop::NoMemory) => Err(Failure::of(Refusal::NoMemory)),

@@ -1,7 +1,10 @@
 -- The order of the words of a command line.
-use Rattle.std.specs.Prelude.{◌≡◌, ◌≤◌, ⊤, false, ℕ, List, [], ◌∷◌, Option, Some, None, IfSome, Result, Ok, Err, if◌then◌else◌, ◌&&◌, nat_le, codes, unwrap_or}
-use Rattle.clap.specs.Words.{App, Row, Text, first_of, found_of, rows_of, matches_of, fault_of}
+use Rattle.std.specs.Prelude.{◌≡◌, ◌≢◌, ◌≤◌, ⊤, ℕ, List, [], ◌∷◌, Option, Some, None, IfSome, MatchResult, Result, Ok, Err, if◌then◌else◌, ◌&&◌, nat_le, codes, unwrap_or}
+use Rattle.clap.specs.Words.{Row, Text, first_of, found_of, rows_of, matches_of, fault_of}
+use Rattle.clap.specs.Values.{kind_of}
 use Rattle.clap.specs.Walk.{is_empty}
+use Rattle.clap.specs.declared.error.Error.{Error}
+use Rattle.clap.specs.declared.error.kind.ErrorKind.TheVariants as kind
 use Rattle.clap.specs.declared.parser.matches.ArgMatches.{ArgMatches}
 use Rattle.exact_ratio.specs.Decimal.{decimal_of}
 use Rattle.exact_ratio.specs.declared.Decimal.{Decimal}
@@ -12,6 +15,7 @@ use Rattle.price_certificate.specs.declared.certificate.Objective.{Objective}
 use Rattle.price_certificate.specs.declared.certificate.Objective.TheVariants as objective
 use Rattle.price_certificate.specs.declared.certificate.Terms.{Terms}
 use Rattle.spares_input.specs.Money.{most_budget}
+use Rattle.answers.specs.Answers.{Gives}
 use Rattle.answers.specs.Steps.{◌>>=◌}
 use Rattle.answers.specs.declared.stop.Stop.{Stop}
 use Rattle.answers.specs.declared.stop.Stop.TheVariants as stop
@@ -236,9 +240,12 @@ IsInRange (Target sites parts rates backorders) = (backorders.places ≡ 4) × (
 IsInRange (Session sites parts rates edits) = ⊤
 IsInRange (Compare sites parts rates stocks) = ⊤
 
--- the answer of `clap` for the words of a command: its rows if the command takes them, or else the fault
-abbrev pub Parses : App → List Text → Result ArgMatches (Stop WordsFault) → Type 0
-Parses app words (Ok matches) =
-    (fault_of app words ≡ []) × (rows_of (found_of matches) ≡ matches_of app words)
-Parses app words (Err stop.NoMemory) = ⊤
-Parses app words (Err (stop.Fault fault)) = (is_empty (fault_of app words) ≡ false) × (fault ≡ Shape)
+-- the stop for an error of `clap`: a fault of the words only if there was memory
+abbrev pub StopsBy : Error → Stop WordsFault → Type 0
+StopsBy error stop.NoMemory = ⊤
+StopsBy error (stop.Fault fault) = (kind_of error ≢ kind.OutOfMemory) × (fault ≡ Shape)
+
+-- the order of a command, from the answer of `clap` for its words
+abbrev pub Follows : CommandName → Result ArgMatches Error → Result Order (Stop WordsFault) → Type 0
+Follows name (Ok matches) answer = Gives (order_named name (rows_of (found_of matches))) answer
+Follows name (Err error) answer = MatchResult answer (λ _. ⊥) (StopsBy error)

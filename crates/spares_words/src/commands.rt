@@ -4,17 +4,8 @@ ghost use Rattle.clap.specs.Words.{app_of, rule_of};
 ghost use Rattle.spares_words.specs.Commands.{
   app_named,
   bare,
-  check_app,
   command_named,
-  compare_app,
-  demo_app,
-  eval_app,
-  plan_app,
   rule_of_parameter,
-  session_app,
-  single_app,
-  sweep_app,
-  target_app,
   with_parameters,
 };
 
@@ -102,152 +93,88 @@ fn command_with<'a>(
 }
 
 /// `single MEAN STOCK [--variance V]`.
-#[tactic(auto, unfolding(crate::specs::Commands::single_app))]
-fn single_command<'a>(alloc: Global) -> Result<Command<'a>, AllocError>
-    ensures { IfOk result (λ c. app_of c ≡ single_app) }
-{
-    command_with(
-        alloc,
-        "single",
-        &[
-            Positional("mean"),
-            Positional("stock"),
-            Optional("variance"),
-        ],
-    )
-}
+static SINGLE: [Parameter<'static>; 3] = [
+    Positional("mean"),
+    Positional("stock"),
+    Optional("variance"),
+];
 
 /// `eval --sites F --parts F --rates F --stocks F [--bits N]`.
-#[tactic(auto, unfolding(crate::specs::Commands::eval_app))]
-fn eval_command<'a>(alloc: Global) -> Result<Command<'a>, AllocError>
-    ensures { IfOk result (λ c. app_of c ≡ eval_app) }
-{
-    command_with(
-        alloc,
-        "eval",
-        &[
-            Required("sites"),
-            Required("parts"),
-            Required("rates"),
-            Required("stocks"),
-            Optional("bits"),
-        ],
-    )
-}
+static EVAL: [Parameter<'static>; 5] = [
+    Required("sites"),
+    Required("parts"),
+    Required("rates"),
+    Required("stocks"),
+    Optional("bits"),
+];
 
 /// `plan --sites F --parts F --rates F [--on-hand F] --budget N [--format N] [--objective NAME] --certificate F`.
-#[tactic(auto, unfolding(crate::specs::Commands::plan_app))]
-fn plan_command<'a>(alloc: Global) -> Result<Command<'a>, AllocError>
-    ensures { IfOk result (λ c. app_of c ≡ plan_app) }
-{
-    command_with(
-        alloc,
-        "plan",
-        &[
-            Required("sites"),
-            Required("parts"),
-            Required("rates"),
-            Required("budget"),
-            Optional("on-hand"),
-            Optional("objective"),
-            Required("certificate"),
-            Optional("format"),
-        ],
-    )
-}
+static PLAN: [Parameter<'static>; 8] = [
+    Required("sites"),
+    Required("parts"),
+    Required("rates"),
+    Required("budget"),
+    Optional("on-hand"),
+    Optional("objective"),
+    Required("certificate"),
+    Optional("format"),
+];
 
 /// `check --certificate F`.
-#[tactic(auto, unfolding(crate::specs::Commands::check_app))]
-fn check_command<'a>(alloc: Global) -> Result<Command<'a>, AllocError>
-    ensures { IfOk result (λ c. app_of c ≡ check_app) }
-{
-    command_with(alloc, "check", &[Required("certificate")])
-}
+static CHECK: [Parameter<'static>; 1] = [Required("certificate")];
 
 /// `demo NUMBER LINES`.
-#[tactic(auto, unfolding(crate::specs::Commands::demo_app))]
-fn demo_command<'a>(alloc: Global) -> Result<Command<'a>, AllocError>
-    ensures { IfOk result (λ c. app_of c ≡ demo_app) }
-{
-    command_with(alloc, "demo", &[Positional("number"), Positional("lines")])
-}
+static DEMO: [Parameter<'static>; 2] = [Positional("number"), Positional("lines")];
 
 /// `sweep --sites F --parts F --rates F`.
-#[tactic(auto, unfolding(crate::specs::Commands::sweep_app))]
-fn sweep_command<'a>(alloc: Global) -> Result<Command<'a>, AllocError>
-    ensures { IfOk result (λ c. app_of c ≡ sweep_app) }
-{
-    command_with(
-        alloc,
-        "sweep",
-        &[Required("sites"), Required("parts"), Required("rates")],
-    )
-}
+static SWEEP: [Parameter<'static>; 3] = [Required("sites"), Required("parts"), Required("rates")];
 
 /// `target --sites F --parts F --rates F --backorders X`.
-#[tactic(auto, unfolding(crate::specs::Commands::target_app))]
-fn target_command<'a>(alloc: Global) -> Result<Command<'a>, AllocError>
-    ensures { IfOk result (λ c. app_of c ≡ target_app) }
-{
-    command_with(
-        alloc,
-        "target",
-        &[
-            Required("sites"),
-            Required("parts"),
-            Required("rates"),
-            Required("backorders"),
-        ],
-    )
-}
+static TARGET: [Parameter<'static>; 4] = [
+    Required("sites"),
+    Required("parts"),
+    Required("rates"),
+    Required("backorders"),
+];
 
 /// `session --sites F --parts F --rates F --edits F`.
-#[tactic(auto, unfolding(crate::specs::Commands::session_app))]
-fn session_command<'a>(alloc: Global) -> Result<Command<'a>, AllocError>
-    ensures { IfOk result (λ c. app_of c ≡ session_app) }
-{
-    command_with(
-        alloc,
-        "session",
-        &[
-            Required("sites"),
-            Required("parts"),
-            Required("rates"),
-            Required("edits"),
-        ],
-    )
-}
+static SESSION: [Parameter<'static>; 4] = [
+    Required("sites"),
+    Required("parts"),
+    Required("rates"),
+    Required("edits"),
+];
 
 /// `compare --sites F --parts F --rates F --stocks F`.
-#[tactic(auto, unfolding(crate::specs::Commands::compare_app))]
-fn compare_command<'a>(alloc: Global) -> Result<Command<'a>, AllocError>
-    ensures { IfOk result (λ c. app_of c ≡ compare_app) }
+static COMPARE: [Parameter<'static>; 4] = [
+    Required("sites"),
+    Required("parts"),
+    Required("rates"),
+    Required("stocks"),
+];
+
+/// The word for a command, and its arguments in order.
+#[tactic(auto, unfolding(crate::specs::Commands::single_app, crate::specs::Commands::eval_app, crate::specs::Commands::plan_app, crate::specs::Commands::check_app, crate::specs::Commands::demo_app, crate::specs::Commands::sweep_app, crate::specs::Commands::target_app, crate::specs::Commands::session_app, crate::specs::Commands::compare_app))]
+fn form_of<'a>(name: CommandName) -> (&'a str, &'a [Parameter<'a>])
+    ensures { with_parameters (bare result.0.now) result.1.now ≡ app_named name }
 {
-    command_with(
-        alloc,
-        "compare",
-        &[
-            Required("sites"),
-            Required("parts"),
-            Required("rates"),
-            Required("stocks"),
-        ],
-    )
+    match name {
+        CommandName::Single => ("single", SINGLE.as_slice()),
+        CommandName::Eval => ("eval", EVAL.as_slice()),
+        CommandName::Plan => ("plan", PLAN.as_slice()),
+        CommandName::Check => ("check", CHECK.as_slice()),
+        CommandName::Demo => ("demo", DEMO.as_slice()),
+        CommandName::Sweep => ("sweep", SWEEP.as_slice()),
+        CommandName::Target => ("target", TARGET.as_slice()),
+        CommandName::Session => ("session", SESSION.as_slice()),
+        CommandName::Compare => ("compare", COMPARE.as_slice()),
+    }
 }
 
 /// A command with its arguments and options.
 pub(crate) fn command_of<'a>(alloc: Global, name: CommandName) -> Result<Command<'a>, AllocError>
     ensures { IfOk result (λ c. app_of c ≡ app_named name) }
 {
-    match name {
-        CommandName::Single => single_command(alloc),
-        CommandName::Eval => eval_command(alloc),
-        CommandName::Plan => plan_command(alloc),
-        CommandName::Check => check_command(alloc),
-        CommandName::Demo => demo_command(alloc),
-        CommandName::Sweep => sweep_command(alloc),
-        CommandName::Target => target_command(alloc),
-        CommandName::Session => session_command(alloc),
-        CommandName::Compare => compare_command(alloc),
-    }
+    let (word, parameters) = form_of(name);
+    command_with(alloc, word, parameters)
 }

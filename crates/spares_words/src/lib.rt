@@ -1,6 +1,7 @@
 //! The words of the command line.
 #![tactic(auto)]
 
+mod arguments;
 mod commands;
 mod laws;
 mod number;
@@ -9,6 +10,7 @@ mod orders;
 mod read;
 mod values;
 
+pub use arguments::words;
 pub use laws::{
     refuses_other_counts, refuses_second_option, takes_any_words, takes_joined_option,
     takes_joined_plan, takes_option, takes_two_words,

@@ -40,7 +40,7 @@ pub enum WordsFault {
 }
 
 /// The order of a command line: a command with its values.
-#[derive(Drop, PartialEq, Eq)]
+#[derive(Drop)]
 pub enum Order {
     /// `single MEAN STOCK [--variance V]`: the backorders of one pipeline. Mean and variance are in units with 4
     /// decimals; the stock is at most 63 units. The default variance is the mean.

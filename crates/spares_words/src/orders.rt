@@ -92,11 +92,7 @@ fn plan_order(alloc: Global, matches: &ArgMatches<'_>) -> Result<Order, Stop<Wor
     ensures order { Gives (plan_of (rows_of (found_of matches.now))) result }
     ensures range { IfOk result IsInRange }
 {
-    let Terms {
-        budget,
-        format,
-        objective,
-    } = match plan_terms(matches) {
+    let terms = match plan_terms(matches) {
         Ok(terms) => terms,
         Err(fault) => return Err(Stop::Fault(fault)),
     };
@@ -112,9 +108,9 @@ fn plan_order(alloc: Global, matches: &ArgMatches<'_>) -> Result<Order, Stop<Wor
         parts,
         rates,
         on_hand,
-        budget,
-        format,
-        objective,
+        budget: terms.budget,
+        format: terms.format,
+        objective: terms.objective,
         certificate,
     })
 }

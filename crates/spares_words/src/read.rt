@@ -1,42 +1,49 @@
 //! From words to an order.
-ghost use Rattle.std.specs.Prelude.{◌≡◌, true, IfOk};
-ghost use Rattle.clap.specs.Words.{app_of, is_simple_and_free};
+ghost use Rattle.std.specs.Prelude.{IfOk};
 ghost use Rattle.answers.specs.Answers.{Gives};
-ghost use Rattle.spares_words.specs.Order.{IsInRange, Parses, by_command, order_of};
+ghost use Rattle.spares_words.specs.Order.{Follows, IsInRange, StopsBy, by_command, order_of};
 
 use crate::commands::{CommandName, command_named, command_of};
 use crate::orders::order_named;
 use crate::{Order, WordsFault};
 use answers::Stop;
 use clap::error::ErrorKind;
-use clap::{ArgMatches, Command};
+use clap::{ArgMatches, Error};
 use spares_io::Text;
 use std::alloc::Global;
 
-/// The matches of `clap` for the words of a command.
-fn parsed<'a>(command: Command<'a>, words: &'a [Text]) -> Result<ArgMatches<'a>, Stop<WordsFault>>
-    requires { is_simple_and_free (app_of command) ≡ true }
-    ensures { Parses (app_of command.entry) words.entry.now result }
+/// The stop for an error of `clap`.
+fn stop_of(error: &Error) -> Stop<WordsFault>
+    ensures { StopsBy error.now result }
 {
-    match command.try_get_matches_from(words) {
-        Ok(matches) => Ok(matches),
-        Err(error) => match error.kind() {
-            ErrorKind::OutOfMemory => Err(Stop::NoMemory),
-            _ => Err(Stop::Fault(WordsFault::Shape)),
-        },
+    match error.kind() {
+        ErrorKind::OutOfMemory => Stop::NoMemory,
+        _ => Stop::Fault(WordsFault::Shape),
+    }
+}
+
+/// The order of a command, from the answer of `clap` for its words.
+fn order_from(
+    alloc: Global,
+    name: CommandName,
+    parsed: &Result<ArgMatches<'_>, Error>,
+) -> Result<Order, Stop<WordsFault>>
+    ensures order { Follows name parsed.now result }
+    ensures range { IfOk result IsInRange }
+{
+    match parsed {
+        Ok(matches) => order_named(alloc, name, matches),
+        Err(error) => Err(stop_of(error)),
     }
 }
 
 /// The order of a command's words.
-#[tactic(auto, using(crate::proofs::Taken::taken, crate::proofs::Taken::handed_up))]
 fn read_command(alloc: Global, name: CommandName, words: &[Text]) -> Result<Order, Stop<WordsFault>>
     ensures order { Gives (by_command name words.now) result }
     ensures range { IfOk result IsInRange }
 {
-    match parsed(command_of(alloc, name)?, words) {
-        Ok(matches) => order_named(alloc, name, &matches),
-        Err(stop) => Err(stop),
-    }
+    let parsed = command_of(alloc, name)?.try_get_matches_from(words);
+    order_from(alloc, name, &parsed)
 }
 
 /// The order of the words after the program's name.

@@ -3,16 +3,88 @@ ghost use Rattle.std.specs.Prelude.{◌≤◌};
 ghost use Rattle.spares_input.specs.Money.{most_budget};
 
 use answers::NoMemory;
+use case_figures::{BaseLine, Figures, ItemLine, Items};
 use case_maker::make_case;
 use case_plan::plan;
 use demand_rates::rates;
 use held_work::held_work;
 use hull::Plain;
 use on_hand::{held_curves, plan_case};
+use plan_report::{CriticalLine, PlanReport};
 use spares_input::nothing_held;
 use std::alloc::Global;
 use std::process::Abort;
 use std::test::*;
+
+/// Whether two pairs have the same line.
+fn is_same_line(line: &ItemLine, other: &ItemLine) -> bool {
+    line.part == other.part
+        && line.site == other.site
+        && line.stock == other.stock
+        && line.mean == other.mean
+        && line.variance == other.variance
+        && line.backorders == other.backorders
+        && line.spread == other.spread
+}
+
+/// Whether two lists of pairs have the same lines.
+fn have_same_lines(items: &Items, others: &Items) -> bool {
+    if items.len() != others.len() {
+        return false;
+    }
+    for n in 0..items.len() {
+        if !is_same_line(&items.get(n), &others.get(n)) {
+            return false;
+        }
+    }
+    true
+}
+
+/// Whether two lists have the same bases with the same availabilities.
+fn have_same_bases(bases: &[BaseLine], others: &[BaseLine]) -> bool {
+    if bases.len() != others.len() {
+        return false;
+    }
+    for n in 0..bases.len() {
+        let (base, other) = (bases[n], others[n]);
+        if base.site != other.site || base.availability != other.availability {
+            return false;
+        }
+    }
+    true
+}
+
+/// Whether two plans have the same figures.
+fn have_same_figures(figures: &Figures, others: &Figures) -> bool {
+    figures.cost == others.cost
+        && have_same_lines(&figures.items, &others.items)
+        && have_same_bases(figures.bases.as_slice(), others.bases.as_slice())
+        && figures.fleet == others.fleet
+        && figures.total == others.total
+}
+
+/// Whether two plans have the same critical step, or neither has one.
+fn have_same_step(step: Option<CriticalLine>, other: Option<CriticalLine>) -> bool {
+    match (step, other) {
+        (Some(step), Some(other)) => step.part == other.part && step.cost == other.cost,
+        (None, None) => true,
+        _ => false,
+    }
+}
+
+/// Whether two reports say the same.
+fn are_same(report: &PlanReport, other: &PlanReport) -> bool {
+    report.budget == other.budget
+        && have_same_figures(&report.figures, &other.figures)
+        && report.on_hand == other.on_hand
+        && report.loss == other.loss
+        && report.bound == other.bound
+        && report.gap == other.gap
+        && report.rounding == other.rounding
+        && report.price == other.price
+        && report.hull == other.hull
+        && have_same_step(report.critical, other.critical)
+}
 
 /// Whether both plans of a demonstration with 56 line units have the same report and stocks, and the cost of the hull
 /// choice. None if there is no memory, or the case is refused.
@@ -30,7 +102,7 @@ fn agreement(alloc: Global, budget: u64) -> Result<Option<(bool, u64)>, NoMemory
     let curves = held_curves(alloc, &case, &rates, &held, &Plain)?;
     let whole = plan(alloc, &case, &rates, curves.as_slice(), budget, false, None)?;
     let parts = plan_case(alloc, &case, &rates, &held, &Plain, budget, false, None)?;
-    let report = whole.report == parts.report;
+    let report = are_same(&whole.report, &parts.report);
     let stocks = whole.stocks.as_slice() == parts.stocks.as_slice();
     Ok(Some((report && stocks, whole.report.hull)))
 }

@@ -74,5 +74,5 @@ fn names_the_line_of_a_fault(rt: HostRuntime) {
     let case = case(rt.alloc()).expect(&rt, "case");
     let edits = b"budget,250\r\n\nplan\nrate,L,B,x,0,,0";
     let fault = run_edits(rt.alloc(), case, edits).err();
-    assert!(&rt; fault == Some(Stop::Fault(EditFault::BadLine(4))));
+    assert!(&rt; matches!(fault, Some(Stop::Fault(EditFault::BadLine(4)))));
 }

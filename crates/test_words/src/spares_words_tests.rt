@@ -1,10 +1,10 @@
 //! Command lines with their orders and their faults.
 
-use answers::{NoMemory, Stop};
+use answers::Stop;
 use exact_ratio::Decimal;
 use exact_ratio::NumberFault::{BadByte, Empty, TooLarge, TooManyPlaces};
-use price_certificate::Objective;
 use price_certificate::Objective::{Backorders, LogAvailability};
+use price_certificate::{Objective, Terms};
 use spares_io::Text;
 use spares_words::Which::{Bits, Budget, Format, Lines, Mean, Stock, Target, Variance};
 use spares_words::WordsFault::{Number, Range, Shape};
@@ -13,8 +13,11 @@ use std::alloc::Global;
 use std::process::Abort;
 use std::test::Fail;
 
-/// The order of words separated by single spaces. Two adjacent spaces have an empty word between them.
-fn order_of_line(alloc: Global, line: &str) -> Result<Order, Stop<WordsFault>> {
+/// The answer for the words of a line.
+type Answer = Result<Order, Stop<WordsFault>>;
+
+/// The answer for words separated by single spaces. Two adjacent spaces have an empty word between them.
+fn answer_for(alloc: Global, line: &str) -> Answer {
     let mut words = Vec::new(alloc);
     for word in line.split(' ') {
         words.push(Text::from_str(alloc, word)?)?;
@@ -22,21 +25,34 @@ fn order_of_line(alloc: Global, line: &str) -> Result<Order, Stop<WordsFault>> {
     read_words(alloc, words.as_slice())
 }
 
-/// The words have this order.
-fn gives(rt: &impl Abort, alloc: Global, line: &str, want: Order) {
-    assert!(rt; order_of_line(alloc, line) == Ok(want), "at {line}");
-}
-
 /// The words are refused with this fault.
 fn refuses(rt: &impl Abort, alloc: Global, line: &str, want: WordsFault) {
     assert!(rt;
-        order_of_line(alloc, line) == Err(Stop::Fault(want)),
+        answer_for(alloc, line).err() == Some(Stop::Fault(want)),
         "at {line}"
     );
 }
 
 fn ten_thousandths(units: u64) -> Decimal {
     Decimal { units, places: 4 }
+}
+
+/// The answer is `single` with these values.
+fn is_single(answer: &Answer, of_mean: u64, of_stock: u8, of_variance: Option<u64>) -> bool {
+    match answer {
+        Ok(
+            Order::Single {
+                mean,
+                variance,
+                stock,
+            },
+        ) => {
+            *mean == ten_thousandths(of_mean)
+                && *variance == of_variance.map(ten_thousandths)
+                && *stock == of_stock
+        }
+        _ => false,
+    }
 }
 
 /// Lines of `single`, with their mean, stock and variance.
@@ -55,37 +71,41 @@ const SINGLES: [(&str, u64, u8, Option<u64>); 11] = [
     ("single --variance 2 -- 1 1", 10_000, 1, Some(20_000)),
 ];
 
-fn gives_singles(
-    rt: &impl Abort,
-    alloc: Global,
-    cases: &[(&str, u64, u8, Option<u64>)],
-) -> Result<(), Fail> {
+fn gives_singles(rt: &impl Abort, alloc: Global, cases: &[(&str, u64, u8, Option<u64>)]) {
     for (line, mean, stock, variance) in cases {
-        let want = Order::Single {
-            mean: ten_thousandths(*mean),
-            variance: variance.map(ten_thousandths),
-            stock: *stock,
-        };
-        gives(rt, alloc, line, want);
+        let answer = answer_for(alloc, line);
+        assert!(rt; is_single(&answer, *mean, *stock, *variance), "at {line}");
     }
-    Ok(())
 }
 
 #[test]
 fn takes_single_with_its_option_anywhere(rt: HostRuntime) -> Result<(), Fail> {
-    gives_singles(&rt, rt.alloc(), &SINGLES)
+    gives_singles(&rt, rt.alloc(), &SINGLES);
+    Ok(())
 }
 
-/// The order of `eval` with these names of files, separated by single spaces, and bits.
-fn eval_order(alloc: Global, names: [&str; 4], bits: u8) -> Result<Order, NoMemory> {
-    let [sites, parts, rates, stocks] = names;
-    Ok(Order::Eval {
-        sites: Text::from_str(alloc, sites)?,
-        parts: Text::from_str(alloc, parts)?,
-        rates: Text::from_str(alloc, rates)?,
-        stocks: Text::from_str(alloc, stocks)?,
-        bits,
-    })
+/// The texts are these four.
+fn are(texts: [&Text; 4], names: [&str; 4]) -> bool {
+    texts[0].as_str() == names[0]
+        && texts[1].as_str() == names[1]
+        && texts[2].as_str() == names[2]
+        && texts[3].as_str() == names[3]
+}
+
+/// The answer is `eval` with these names of files and bits.
+fn is_eval(answer: &Answer, names: [&str; 4], of_bits: u8) -> bool {
+    match answer {
+        Ok(
+            Order::Eval {
+                sites,
+                parts,
+                rates,
+                stocks,
+                bits,
+            },
+        ) => are([sites, parts, rates, stocks], names) && *bits == of_bits,
+        _ => false,
+    }
 }
 
 /// Lines of `eval`, with their names of files and their bits.
@@ -112,47 +132,51 @@ const EVALS: [(&str, [&str; 4], u8); 4] = [
     ),
 ];
 
-fn gives_evals(
-    rt: &impl Abort,
-    alloc: Global,
-    cases: &[(&str, [&str; 4], u8)],
-) -> Result<(), Fail> {
+fn gives_evals(rt: &impl Abort, alloc: Global, cases: &[(&str, [&str; 4], u8)]) {
     for (line, names, bits) in cases {
-        let want = eval_order(alloc, *names, *bits)?;
-        gives(rt, alloc, line, want);
+        let answer = answer_for(alloc, line);
+        assert!(rt; is_eval(&answer, *names, *bits), "at {line}");
     }
-    Ok(())
 }
 
 #[test]
 fn takes_eval_with_its_options_in_any_order(rt: HostRuntime) -> Result<(), Fail> {
-    gives_evals(&rt, rt.alloc(), &EVALS)
+    gives_evals(&rt, rt.alloc(), &EVALS);
+    Ok(())
 }
 
-/// The order of `plan` with these names of its tables and certificate, separated by single spaces, and the rest.
-fn plan_order(
-    alloc: Global,
-    names: [&str; 4],
-    on_hand: Option<&str>,
-    budget: u64,
-    format: u8,
-    objective: Objective,
-) -> Result<Order, NoMemory> {
-    let [sites, parts, rates, certificate] = names;
-    let on_hand = match on_hand {
-        Some(name) => Some(Text::from_str(alloc, name)?),
-        None => None,
-    };
-    Ok(Order::Plan {
-        sites: Text::from_str(alloc, sites)?,
-        parts: Text::from_str(alloc, parts)?,
-        rates: Text::from_str(alloc, rates)?,
-        on_hand,
-        budget,
-        format,
-        objective,
-        certificate: Text::from_str(alloc, certificate)?,
-    })
+/// The text is this one, if it is given.
+fn is_given(text: &Option<Text>, name: Option<&str>) -> bool {
+    match (text, name) {
+        (Some(text), Some(name)) => text.as_str() == name,
+        (None, None) => true,
+        _ => false,
+    }
+}
+
+/// The answer is `plan` with these names of its tables and certificate, these stocks on hand and these terms.
+fn is_plan(answer: &Answer, names: [&str; 4], of_on_hand: Option<&str>, terms: Terms) -> bool {
+    match answer {
+        Ok(
+            Order::Plan {
+                sites,
+                parts,
+                rates,
+                on_hand,
+                budget,
+                format,
+                objective,
+                certificate,
+            },
+        ) => {
+            are([sites, parts, rates, certificate], names)
+                && is_given(on_hand, of_on_hand)
+                && *budget == terms.budget
+                && *format == terms.format
+                && *objective == terms.objective
+        }
+        _ => false,
+    }
 }
 
 /// Lines of `plan`, with their names of files, budget and format.
@@ -177,21 +201,22 @@ const PLANS: [(&str, [&str; 4], u64, u8); 3] = [
     ),
 ];
 
-fn gives_plans(
-    rt: &impl Abort,
-    alloc: Global,
-    cases: &[(&str, [&str; 4], u64, u8)],
-) -> Result<(), Fail> {
+fn gives_plans(rt: &impl Abort, alloc: Global, cases: &[(&str, [&str; 4], u64, u8)]) {
     for (line, names, budget, format) in cases {
-        let want = plan_order(alloc, *names, None, *budget, *format, Backorders)?;
-        gives(rt, alloc, line, want);
+        let answer = answer_for(alloc, line);
+        let terms = Terms {
+            budget: *budget,
+            format: *format,
+            objective: Backorders,
+        };
+        assert!(rt; is_plan(&answer, *names, None, terms), "at {line}");
     }
-    Ok(())
 }
 
 #[test]
 fn takes_plan(rt: HostRuntime) -> Result<(), Fail> {
-    gives_plans(&rt, rt.alloc(), &PLANS)
+    gives_plans(&rt, rt.alloc(), &PLANS);
+    Ok(())
 }
 
 /// Lines of `plan` with stocks on hand or an objective, each with its stocks, format and objective.
@@ -222,41 +247,48 @@ const AIMS: [(&str, Option<&str>, u8, Objective); 4] = [
     ),
 ];
 
-fn gives_aims(
-    rt: &impl Abort,
-    alloc: Global,
-    cases: &[(&str, Option<&str>, u8, Objective)],
-) -> Result<(), Fail> {
+fn gives_aims(rt: &impl Abort, alloc: Global, cases: &[(&str, Option<&str>, u8, Objective)]) {
     for (line, on_hand, format, objective) in cases {
-        let want = plan_order(
-            alloc,
-            ["a", "b", "c", "d"],
-            *on_hand,
-            1,
-            *format,
-            *objective,
-        )?;
-        gives(rt, alloc, line, want);
+        let answer = answer_for(alloc, line);
+        let terms = Terms {
+            budget: 1,
+            format: *format,
+            objective: *objective,
+        };
+        assert!(rt;
+            is_plan(&answer, ["a", "b", "c", "d"], *on_hand, terms),
+            "at {line}"
+        );
     }
-    Ok(())
 }
 
 #[test]
 fn takes_stocks_on_hand_and_objectives(rt: HostRuntime) -> Result<(), Fail> {
-    gives_aims(&rt, rt.alloc(), &AIMS)
+    gives_aims(&rt, rt.alloc(), &AIMS);
+    Ok(())
+}
+
+/// The answer is `check` with this name.
+fn is_check(answer: &Answer, name: &str) -> bool {
+    match answer {
+        Ok(Order::Check { certificate }) => certificate.as_str() == name,
+        _ => false,
+    }
 }
 
 #[test]
 fn takes_check(rt: HostRuntime) -> Result<(), Fail> {
-    let alloc = rt.alloc();
-    let certificate = Text::from_str(alloc, "c")?;
-    gives(
-        &rt,
-        alloc,
-        "check --certificate c",
-        Order::Check { certificate },
-    );
+    let answer = answer_for(rt.alloc(), "check --certificate c");
+    assert!(rt; is_check(&answer, "c"));
     Ok(())
+}
+
+/// The answer is `demo` with these numbers.
+fn is_demo(answer: &Answer, of_number: u32, of_lines: u16) -> bool {
+    match answer {
+        Ok(Order::Demo { number, lines }) => *number == of_number && *lines == of_lines,
+        _ => false,
+    }
 }
 
 /// Lines of `demo`, with their number and their count of line units.
@@ -267,11 +299,8 @@ const DEMOS: [(&str, u32, u16); 2] = [
 
 fn gives_demos(rt: &impl Abort, alloc: Global, cases: &[(&str, u32, u16)]) {
     for (line, number, lines) in cases {
-        let want = Order::Demo {
-            number: *number,
-            lines: *lines,
-        };
-        gives(rt, alloc, line, want);
+        let answer = answer_for(alloc, line);
+        assert!(rt; is_demo(&answer, *number, *lines), "at {line}");
     }
 }
 
@@ -397,7 +426,7 @@ fn refuses_words_and_numbers(rt: HostRuntime) -> Result<(), Fail> {
 fn refuses_no_words(rt: HostRuntime) -> Result<(), Fail> {
     let none: [Text; 0] = [];
     let answer = read_words(rt.alloc(), none.as_slice());
-    assert!(rt; answer == Err(Stop::Fault(Shape)));
+    assert!(rt; answer.err() == Some(Stop::Fault(Shape)));
     Ok(())
 }
 
@@ -522,35 +551,46 @@ fn refuses_commands_over_tables(rt: HostRuntime) -> Result<(), Fail> {
     Ok(())
 }
 
-/// An order over the tables `a`, `b` and `c`, and the file `d` if it takes one.
-fn table_order(alloc: Global, command: &str) -> Result<Order, NoMemory> {
-    let (sites, parts) = (Text::from_str(alloc, "a")?, Text::from_str(alloc, "b")?);
-    let (rates, more) = (Text::from_str(alloc, "c")?, Text::from_str(alloc, "d")?);
-    Ok(match command {
-        "session" => Order::Session {
-            sites,
-            parts,
-            rates,
-            edits: more,
-        },
-        "compare" => Order::Compare {
-            sites,
-            parts,
-            rates,
-            stocks: more,
-        },
-        "target" => Order::Target {
-            sites,
-            parts,
-            rates,
-            backorders: ten_thousandths(25_000),
-        },
-        _ => Order::Sweep {
-            sites,
-            parts,
-            rates,
-        },
-    })
+/// The answer is this command over the tables `a`, `b` and `c`, and the file `d` if it takes one.
+fn is_over_tables(answer: &Answer, command: &str) -> bool {
+    match answer {
+        Ok(
+            Order::Sweep {
+                sites,
+                parts,
+                rates,
+            },
+        ) => command == "sweep" && are([sites, parts, rates, sites], ["a", "b", "c", "a"]),
+        Ok(
+            Order::Target {
+                sites,
+                parts,
+                rates,
+                backorders,
+            },
+        ) => {
+            command == "target"
+                && are([sites, parts, rates, sites], ["a", "b", "c", "a"])
+                && *backorders == ten_thousandths(25_000)
+        }
+        Ok(
+            Order::Session {
+                sites,
+                parts,
+                rates,
+                edits,
+            },
+        ) => command == "session" && are([sites, parts, rates, edits], ["a", "b", "c", "d"]),
+        Ok(
+            Order::Compare {
+                sites,
+                parts,
+                rates,
+                stocks,
+            },
+        ) => command == "compare" && are([sites, parts, rates, stocks], ["a", "b", "c", "d"]),
+        _ => false,
+    }
 }
 
 /// Lines of these commands, with their names.
@@ -567,15 +607,15 @@ const TABLES: [(&str, &str); 4] = [
     ),
 ];
 
-fn gives_orders(rt: &impl Abort, alloc: Global, cases: &[(&str, &str)]) -> Result<(), Fail> {
+fn gives_orders(rt: &impl Abort, alloc: Global, cases: &[(&str, &str)]) {
     for (line, command) in cases {
-        let want = table_order(alloc, command)?;
-        gives(rt, alloc, line, want);
+        let answer = answer_for(alloc, line);
+        assert!(rt; is_over_tables(&answer, command), "at {line}");
     }
-    Ok(())
 }
 
 #[test]
 fn takes_commands_over_tables(rt: HostRuntime) -> Result<(), Fail> {
-    gives_orders(&rt, rt.alloc(), &TABLES)
+    gives_orders(&rt, rt.alloc(), &TABLES);
+    Ok(())
 }

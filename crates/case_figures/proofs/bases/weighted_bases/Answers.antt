@@ -1,13 +1,10 @@
-use Rattle.std.proofs.Common.{ap, ◌∙◌, sym, subst, List, arith}
-use Rattle.std.specs.Prelude.{All}
-use Rattle.std.proofs.lemmas.List.Elements.{All-push}
+use Rattle.std.proofs.Common.{ap, ◌∙◌, List, arith}
 use Rattle.fixed_interval.specs.Ends.{Ends}
 use Rattle.spares_input.specs.declared.rows.SiteRow.{SiteRow}
-use Rattle.availability.specs.declared.Weighted.{Weighted}
 use Rattle.availability.specs.Profile.{base_ends}
 use Rattle.availability.specs.Exact.{IsWeighted}
 use Rattle.case_figures.specs.Gathering.{weighted_from}
-use Rattle.case_figures.proofs.Rows.{pushed, of_base}
+use Rattle.case_figures.proofs.Rows.{pushed, pushed_has, of_base}
 use Rattle.case_figures.proofs.bases.weighted_bases.Goals as goal
 
 pub loop-k-preserved : goal.loop-k-preserved
@@ -24,7 +21,6 @@ loop-k-preserved g c =
           c.in_ok-push.ensures.items c.loop-k.invariant.bases
           (λ i. record { systems = row i; value = value i });
       weighted =
-          subst (λ (xs : List (Weighted f)). All (IsWeighted f) xs) (sym c.in_ok-push.ensures.items)
-          (All-push (IsWeighted f) c.loop-k.bases.items _ c.loop-k.invariant.weighted
-          (record { some_systems = systems.0; few_systems = systems.1; value = c.base_availability.ensures.most }));
+          pushed_has (IsWeighted f) c.loop-k.bases.items c.push.new.self.items _ c.in_ok-push.ensures.items c.loop-k.invariant.weighted
+          (record { some_systems = systems.0; few_systems = systems.1; value = c.base_availability.ensures.most });
     }

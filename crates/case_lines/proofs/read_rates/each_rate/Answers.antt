@@ -6,7 +6,7 @@ use Rattle.line_text.specs.Texts.{numbers_from}
 use Rattle.answers.specs.declared.stop.Stop.TheVariants as stop
 use Rattle.spares_input.specs.declared.rows.RateRow.{RateRow}
 use Rattle.case_lines.specs.Grammar.{pair_at, rate_line}
-use Rattle.line_text.proofs.Steps.{step, stops}
+use Rattle.line_text.proofs.Steps.{done, step, stops}
 use Rattle.case_lines.proofs.read_rates.each_rate.Goals as goal
 
 pub returns-in_err-rate : goal.returns-in_err-rate
@@ -36,3 +36,9 @@ rate_at-requires-clause-few_parts c = c.requires.few_parts
 
 pub rate_at-requires-clause-within : goal.rate_at-requires-clause-within
 rate_at-requires-clause-within c = c.loop-i-test.true
+
+pub returns : goal.returns
+returns c =
+    let n = length c.args.parts.now * length c.args.sites.now in
+    done (λ _ i. rate_line (pair_at c.args.sites.now c.args.parts.now i)) c.loop-i.found.items n c.loop-i.i c.loop-i.lines ((each (numbers_from 0 n) (λ i. rate_line (pair_at c.args.sites.now c.args.parts.now i))).read c.args.lines.now)
+    c.loop-i-test.false c.loop-i.invariant

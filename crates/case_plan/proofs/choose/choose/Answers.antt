@@ -1,11 +1,11 @@
-use Rattle.std.proofs.Common.{◌+◌, ◌-◌, ◌*◌, ◌/◌, ◌<◌, IfSome, length, map, refl, sym, ap, ◌∙◌, subst}
+use Rattle.std.proofs.Common.{◌≤◌, ◌+◌, ◌-◌, ◌*◌, ◌/◌, ◌<◌, IfSome, length, map, refl, sym, ap, ◌∙◌, subst, arith}
 use Rattle.marginal_alloc.specs.declared.plans.PlanNumbers.{PlanNumbers}
 use Rattle.hull.specs.Curves.{lagrangian}
-use Rattle.price_bounds.specs.Sums.{total, width_of}
-use Rattle.step_walk.specs.Prefix.{picked}
+use Rattle.price_bounds.specs.Sums.{cost_of, total, width_of}
+use Rattle.step_walk.specs.Prefix.{AreVertices, picked}
 use Rattle.marginal_alloc.specs.Filling.{Fills}
 use Rattle.marginal_alloc.specs.Plans.{IsPlan}
-use Rattle.case_plan.specs.Parts.{slack}
+use Rattle.case_plan.specs.Parts.{IsSmallPrice, slack}
 use Rattle.case_plan.proofs.Planned.{family_some, place_at, planned_numbers}
 use Rattle.case_plan.proofs.choose.choose.Goals as goal
 
@@ -40,3 +40,35 @@ returns-clause-critical c =
     subst (λ (n : PlanNumbers). IfSome n.critical (λ family. family < length curves)) (sym c.filled_choice.ensures.numbers)
     (subst (λ o. IfSome o (λ family. family < length curves)) (sym c.hull_numbers-hull.ensures.critical)
     (family_some curves chosen.critical (place_at curves c.args.budget chosen chosen.critical refl c.in_ok-chosen.ensures.choice)))
+
+pub hull_numbers-hull-requires-clause-vertices : goal.hull_numbers-hull-requires-clause-vertices
+hull_numbers-hull-requires-clause-vertices c =
+    subst (λ l. AreVertices c.args.curves.now l) (sym (c.as_slice.ensures.value ∙ c.into_vec-picks.ensures)) c.in_ok-chosen.ensures.choice.prefix.vertices
+
+pub hull_numbers-hull-requires-clause-price : goal.hull_numbers-hull-requires-clause-price
+hull_numbers-hull-requires-clause-price c = (let h = c.in_ok-chosen.ensures.price in record { p = omega (arith, h.0); q = h.2; positive = h.1 })
+
+pub floors_at-requires-clause-vertices : goal.floors_at-requires-clause-vertices
+floors_at-requires-clause-vertices c =
+    subst (λ l. AreVertices c.args.curves.now l) (sym (c.as_slice-2.ensures.value ∙ c.into_vec-picks.ensures)) c.in_ok-chosen.ensures.choice.prefix.vertices
+
+pub floors_at-requires-clause-price : goal.floors_at-requires-clause-price
+floors_at-requires-clause-price c = (let h = c.in_ok-chosen.ensures.price in record { p = omega (arith, h.0); q = h.2; positive = h.1 })
+
+pub fill-requires-clause-vertices : goal.fill-requires-clause-vertices
+fill-requires-clause-vertices c = subst (λ l. AreVertices c.args.curves.now l) (sym c.into_vec-picks.ensures) c.in_ok-chosen.ensures.choice.prefix.vertices
+
+pub fill-requires-clause-fits : goal.fill-requires-clause-fits
+fill-requires-clause-fits c =
+    let cost = c.in_ok-chosen.ensures.choice.cost_is in
+    let fits = c.in_ok-chosen.ensures.choice.fits in
+    subst (λ l. cost_of (picked c.args.curves.now l) ≤ c.args.budget) (sym c.into_vec-picks.ensures) (omega (arith, cost, fits))
+
+pub filled_choice-requires-clause-vertices : goal.filled_choice-requires-clause-vertices
+filled_choice-requires-clause-vertices c = c.fill.ensures.vertices
+
+pub filled_choice-requires-clause-price : goal.filled_choice-requires-clause-price
+filled_choice-requires-clause-price c =
+    let h = c.in_ok-chosen.ensures.price in
+    let small : IsSmallPrice c.in_ok-chosen.chosen.price = record { p = omega (arith, h.0); q = h.2; positive = h.1 } in
+    subst IsSmallPrice (sym c.hull_numbers-hull.ensures.price) small

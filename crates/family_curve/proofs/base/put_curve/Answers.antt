@@ -54,3 +54,15 @@ returns-clause-few g c =
       c.in_ok-put_points.ensures.few,
       order_count x here.site.0 here.base.now.order.items c.requires.here.base.order g.S.Score.ends here.depot.now c.requires.here.valid g.met.S.Score.leaves_room c.requires.here.depot c.requires.here.site,
     )
+
+pub put_rows-requires-clause-here : goal.put_rows-requires-clause-here
+put_rows-requires-clause-here g c = c.requires.here
+
+pub put_rows-requires-clause-numbers : goal.put_rows-requires-clause-numbers
+put_rows-requires-clause-numbers g c = c.requires.numbers
+
+pub put_rows-requires-clause-tables : goal.put_rows-requires-clause-tables
+put_rows-requires-clause-tables g c = c.requires.tables
+
+pub put_points-requires-clause-here : goal.put_points-requires-clause-here
+put_points-requires-clause-here g c = c.requires.here

@@ -63,3 +63,33 @@ returns-clause-few g c =
     subst (λ (ls : List (List Point)). 1 + sum_by length ls ≤ vertex_count c.args.sources.now.family.now) (sym c.as_slice.ensures.value) c.in_ok-put_curves.ensures.few in
     IfOk-weaker c.walk.result (λ path. length path.items ≤ 1 + sum_by length c.as_slice.result.now) (λ path. length path.items ≤ vertex_count c.args.sources.now.family.now)
     (λ path few. omega (arith, few, most)) c.walk.ensures.few
+
+pub put_curves-requires-clause-sources : goal.put_curves-requires-clause-sources
+put_curves-requires-clause-sources g c = c.requires.sources
+
+pub put_curves-requires-clause-depot : goal.put_curves-requires-clause-depot
+put_curves-requires-clause-depot g c = c.requires.depot
+
+pub put_curves-requires-clause-tables : goal.put_curves-requires-clause-tables
+put_curves-requires-clause-tables g c = c.requires.tables
+
+pub put_curves-requires-clause-work : goal.put_curves-requires-clause-work
+put_curves-requires-clause-work g c = c.requires.work
+
+pub put_curves-requires-clause-room : goal.put_curves-requires-clause-room
+put_curves-requires-clause-room g c = omega (arith, c.requires.room)
+
+pub depot_point-requires : goal.depot_point-requires
+depot_point-requires g c = c.requires.depot
+
+pub walk-requires-clause-range : goal.walk-requires-clause-range
+walk-requires-clause-range g c = c.in_ok-first.ensures.range
+
+pub walk-requires-clause-ranges : goal.walk-requires-clause-ranges
+walk-requires-clause-ranges g c = c.requires.ranges
+
+pub walk-requires-clause-few_below : goal.walk-requires-clause-few_below
+walk-requires-clause-few_below g c = omega (arith, c.requires.room)
+
+pub returns-clause-some : goal.returns-clause-some
+returns-clause-some g c = c.walk.ensures.some

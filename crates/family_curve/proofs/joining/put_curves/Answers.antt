@@ -1,4 +1,5 @@
-use Rattle.std.proofs.Common.{◌≡◌, ℕ, ◌+◌, ◌-◌, ◌<◌, ◌≤◌, ◌∙◌, get_or, List, [], ◌∷◌, ◌++◌, length, set, sum_by, sym, take, ap, subst, arith}
+use Rattle.family_rows.specs.Tabled.{AreTables, box_numbers}
+use Rattle.std.proofs.Common.{◌≡◌, ℕ, ◌+◌, ◌-◌, ◌<◌, ◌≤◌, ◌∙◌, get_or, List, [], ◌∷◌, ◌++◌, length, set, sum_by, sym, take, ap, subst, arith, drop}
 use Rattle.std.specs.List.{range_with_len}
 use Rattle.std.proofs.lemmas.List.{take_all, take_more_set}
 use Rattle.std.proofs.Math.ListN.{length-set}
@@ -129,3 +130,18 @@ returns-clause-few g c =
     subst (λ n. 1 + sum_by length chains ≤ 1 + sum_by (vector_count x) (range_with_len 1 n)) last
     (subst (λ (ls : List (List Point)). 1 + sum_by length ls ≤ 1 + sum_by (vector_count x) (range_with_len 1 (c.loop-j.j - 1)))
     (made_all x chains c.args.sources.now.bases.items c.loop-j.j c.requires.sources.bases c.loop-j.invariant.count last) c.loop-j.invariant.few)
+
+pub put_curve-requires-clause-here : goal.put_curve-requires-clause-here
+put_curve-requires-clause-here g c = c.of-here.ensures.is
+
+pub put_curve-requires-clause-numbers : goal.put_curve-requires-clause-numbers
+put_curve-requires-clause-numbers g c = c.requires.sources.numbers ∙ sym (ap box_numbers c.of-here.ensures.family)
+
+pub put_curve-requires-clause-tables : goal.put_curve-requires-clause-tables
+put_curve-requires-clause-tables g c = subst (λ (v : List ℕ). AreTables c.args.sources.now.numbers (drop 1 v) c.args.tables.now) (sym c.of-here.ensures.depot) c.requires.tables
+
+pub overflow_sub-place : goal.overflow_sub-place
+overflow_sub-place g c = omega (arith, c.from-place.ensures, c.loop-j.auto.j)
+
+pub returns-clause-work : goal.returns-clause-work
+returns-clause-work g c = c.loop-j.invariant.count

@@ -67,3 +67,21 @@ returns g c =
     let x = c.args.sources.now.family.now in
     all_depots x c.size-size.ensures.valid g.S.Score.ends g.met.S.Score.leaves_room (length (shop_vectors x 0) - c.loop-n.n) c.loop-n.curve
     (omega (arith, c.loop-n-test.false, c.shop_count-count.ensures.count)) c.loop-n.invariant.curve
+
+pub with_shops-requires-clause-sources : goal.with_shops-requires-clause-sources
+with_shops-requires-clause-sources g c = c.requires.sources
+
+pub with_shops-requires-in-loop-n-clause-sources : goal.with_shops-requires-in-loop-n-clause-sources
+with_shops-requires-in-loop-n-clause-sources g c = c.requires.sources
+
+pub with_shops-requires-clause-work : goal.with_shops-requires-clause-work
+with_shops-requires-clause-work g c = c.requires.work
+
+pub with_shops-requires-in-loop-n-clause-widths : goal.with_shops-requires-in-loop-n-clause-widths
+with_shops-requires-in-loop-n-clause-widths g c = c.loop-n.invariant.widths
+
+pub with_shops-requires-in-loop-n-clause-work : goal.with_shops-requires-in-loop-n-clause-work
+with_shops-requires-in-loop-n-clause-work g c = c.loop-n.invariant.work
+
+pub shop_count-count-requires : goal.shop_count-count-requires
+shop_count-count-requires g c = let some = c.size-size.ensures.valid.valid.frame.fewest_sites in omega (arith, some)

@@ -1,4 +1,5 @@
-use Rattle.std.proofs.Common.{◌≡◌, List, [], Option, ◌++◌, sym, ◌∙◌, subst}
+use Rattle.std.proofs.Common.{◌≡◌, ◌+◌, ◌≤◌, List, [], Option, ◌++◌, length, refl, sym, ◌∙◌, subst, arith}
+use Rattle.family_points.specs.Inputs.{vertex_count}
 use Rattle.hull.specs.declared.point.Point.{Point}
 use Rattle.hull.specs.Curves.{Among, InRange, IsCurve, StandFor}
 use Rattle.hull.proofs.Stand.{stand_for}
@@ -109,3 +110,74 @@ returns-clause-widths g c =
     let before : HaveWidthOf x c.in-Some.curve = subst (λ (o : Option (List Point)). HaveWidthOf x (vertices_of o)) c.in-Some.is c.requires.widths in
     widths_grow x c.in-Some.curve c.in_ok-path-2.path.items c.add_points.new.self before
     (λ v m. depot_widths x valid ends room d c.requires.depot v (c.in_ok-path-2.ensures.among v m)) c.in_ok-add_points.ensures.ok
+
+pub of-requires-clause-some : goal.of-requires-clause-some
+of-requires-clause-some g c = c.in_ok-path.ensures.some refl
+
+pub of-requires-clause-few : goal.of-requires-clause-few
+of-requires-clause-few g c = omega (arith, c.in_ok-path.ensures.few, c.requires.room)
+
+pub depot_path-requires-clause-sources : goal.depot_path-requires-clause-sources
+depot_path-requires-clause-sources g c = c.requires.sources
+
+pub depot_path-requires-clause-depot : goal.depot_path-requires-clause-depot
+depot_path-requires-clause-depot g c = c.requires.depot
+
+pub depot_path-requires-clause-tables : goal.depot_path-requires-clause-tables
+depot_path-requires-clause-tables g c = c.requires.tables
+
+pub depot_path-requires-clause-room : goal.depot_path-requires-clause-room
+depot_path-requires-clause-room g c = omega (arith, c.requires.room)
+
+pub depot_path-requires-clause-ranges : goal.depot_path-requires-clause-ranges
+depot_path-requires-clause-ranges g c = λ v m. absurd m
+
+pub depot_path-requires-clause-work : goal.depot_path-requires-clause-work
+depot_path-requires-clause-work g c = c.requires.work
+
+pub depot_path-requires-2-clause-sources : goal.depot_path-requires-2-clause-sources
+depot_path-requires-2-clause-sources g c = c.requires.sources
+
+pub depot_path-requires-2-clause-depot : goal.depot_path-requires-2-clause-depot
+depot_path-requires-2-clause-depot g c = c.requires.depot
+
+pub depot_path-requires-2-clause-tables : goal.depot_path-requires-2-clause-tables
+depot_path-requires-2-clause-tables g c = c.requires.tables
+
+pub depot_path-requires-2-clause-room : goal.depot_path-requires-2-clause-room
+depot_path-requires-2-clause-room g c =
+    let most = vertex_count c.args.sources.now.family.now in
+    subst (λ (l : List Point). length l + most ≤ 65000000) (sym c.vertices-below.ensures.vertices)
+    (subst (λ (o : Option (List Point)). length (vertices_of o) + most ≤ 65000000) c.in-Some.is c.requires.room)
+
+pub depot_path-requires-2-clause-work : goal.depot_path-requires-2-clause-work
+depot_path-requires-2-clause-work g c = c.requires.work
+
+pub add_points-requires-clause-few : goal.add_points-requires-clause-few
+add_points-requires-clause-few g c =
+    let most = vertex_count c.args.sources.now.family.now in
+    let room : length c.in-Some.curve + most ≤ 65000000 = subst (λ (o : Option (List Point)). length (vertices_of o) + most ≤ 65000000) c.in-Some.is c.requires.room in
+    omega (arith, room, c.in_ok-path-2.ensures.few)
+
+pub returns-in_default-clause-few : goal.returns-in_default-clause-few
+returns-in_default-clause-few g c = omega (arith, c.in_ok-curve.ensures.few, c.in_ok-path.ensures.few)
+
+pub returns-in_default-clause-work : goal.returns-in_default-clause-work
+returns-in_default-clause-work g c = c.in_ok-path.ensures.work
+
+pub returns-then-is_empty-clause-few : goal.returns-then-is_empty-clause-few
+returns-then-is_empty-clause-few g c =
+    let most = vertex_count c.args.sources.now.family.now in
+    subst (λ (o : Option (List Point)). length c.in-Some.curve ≤ length (vertices_of o) + most) (sym c.in-Some.is) (omega arith)
+
+pub returns-then-is_empty-clause-work : goal.returns-then-is_empty-clause-work
+returns-then-is_empty-clause-work g c = c.in_ok-path-2.ensures.work
+
+pub returns-clause-few : goal.returns-clause-few
+returns-clause-few g c =
+    let most = vertex_count c.args.sources.now.family.now in
+    subst (λ (o : Option (List Point)). length c.add_points.new.self ≤ length (vertices_of o) + most) (sym c.in-Some.is)
+    (omega (arith, c.in_ok-add_points.ensures.few, c.in_ok-path-2.ensures.few))
+
+pub returns-clause-work : goal.returns-clause-work
+returns-clause-work g c = c.in_ok-path-2.ensures.work

@@ -24,3 +24,24 @@ returns-clause-curve g c =
     let x = c.args.sources.now.family.now in
     subst (λ (v : List ℕ). IfOk c.with_depot.result (IsCurve (vertices_of c.args.so_far ++ depot_points x.case x.line g.S.Score.ends x.held x.low x.high v)))
     (c.as_slice.ensures.value ∙ c.in_ok-depot.ensures) c.with_depot.ensures.curve
+
+pub with_depot-requires-clause-sources : goal.with_depot-requires-clause-sources
+with_depot-requires-clause-sources g c = c.requires.sources
+
+pub with_depot-requires-clause-room : goal.with_depot-requires-clause-room
+with_depot-requires-clause-room g c = c.requires.room
+
+pub with_depot-requires-clause-widths : goal.with_depot-requires-clause-widths
+with_depot-requires-clause-widths g c = c.requires.widths
+
+pub with_depot-requires-clause-work : goal.with_depot-requires-clause-work
+with_depot-requires-clause-work g c = c.requires.work
+
+pub returns-clause-few : goal.returns-clause-few
+returns-clause-few g c = c.with_depot.ensures.few
+
+pub returns-clause-widths : goal.returns-clause-widths
+returns-clause-widths g c = c.with_depot.ensures.widths
+
+pub returns-clause-work : goal.returns-clause-work
+returns-clause-work g c = c.with_depot.ensures.work

@@ -97,3 +97,54 @@ returns-clause-few g c =
     let last : c.loop-n.n ≡ length (line_stocks x 0) =
     omega (arith, c.loop-n-test.false, end, c.line_low-low.ensures, c.line_high-high.ensures.high, c.line_high-high.ensures.order, stocks_count x c.size-size.ensures.valid 0) in
     subst (λ n. length c.loop-n.curve ≤ length (vertices_of c.args.so_far) + n * vertex_count x) last c.loop-n.invariant.few
+
+pub with_line-requires-clause-sources : goal.with_line-requires-clause-sources
+with_line-requires-clause-sources g c = c.requires.sources
+
+pub with_line-requires-clause-shops : goal.with_line-requires-clause-shops
+with_line-requires-clause-shops g c = c.requires.shops
+
+pub with_line-requires-clause-tables : goal.with_line-requires-clause-tables
+with_line-requires-clause-tables g c = c.requires.tables
+
+pub with_line-requires-in-loop-n-clause-sources : goal.with_line-requires-in-loop-n-clause-sources
+with_line-requires-in-loop-n-clause-sources g c = c.requires.sources
+
+pub with_line-requires-in-loop-n-clause-shops : goal.with_line-requires-in-loop-n-clause-shops
+with_line-requires-in-loop-n-clause-shops g c = c.requires.shops
+
+pub with_line-requires-in-loop-n-clause-tables : goal.with_line-requires-in-loop-n-clause-tables
+with_line-requires-in-loop-n-clause-tables g c = c.requires.tables
+
+pub with_line-requires-clause-widths : goal.with_line-requires-clause-widths
+with_line-requires-clause-widths g c = c.requires.widths
+
+pub with_line-requires-clause-work : goal.with_line-requires-clause-work
+with_line-requires-clause-work g c = c.requires.work
+
+pub with_line-requires-in-loop-n-clause-widths : goal.with_line-requires-in-loop-n-clause-widths
+with_line-requires-in-loop-n-clause-widths g c = c.loop-n.invariant.widths
+
+pub with_line-requires-in-loop-n-clause-work : goal.with_line-requires-in-loop-n-clause-work
+with_line-requires-in-loop-n-clause-work g c = c.loop-n.invariant.work
+
+pub line_low-low-requires : goal.line_low-low-requires
+line_low-low-requires g c = let some = c.size-size.ensures.valid.valid.frame.fewest_sites in omega (arith, some)
+
+pub line_high-high-requires : goal.line_high-high-requires
+line_high-high-requires g c = let some = c.size-size.ensures.valid.valid.frame.fewest_sites in omega (arith, some)
+
+pub middle-first-requires : goal.middle-first-requires
+middle-first-requires g c = omega (arith, c.line_low-low.ensures, c.line_high-high.ensures.order)
+
+pub behind_middle-line-requires-clause-order : goal.behind_middle-line-requires-clause-order
+behind_middle-line-requires-clause-order g c = omega (arith, c.line_low-low.ensures, c.line_high-high.ensures.order)
+
+pub behind_middle-line-requires-clause-within : goal.behind_middle-line-requires-clause-within
+behind_middle-line-requires-clause-within g c = omega (arith, c.loop-n-test.true)
+
+pub returns-clause-widths : goal.returns-clause-widths
+returns-clause-widths g c = c.loop-n.invariant.widths
+
+pub returns-clause-work : goal.returns-clause-work
+returns-clause-work g c = c.loop-n.invariant.work

@@ -1,4 +1,4 @@
-use Rattle.std.proofs.Common.{ℕ, List, ◌∷◌, ◌++◌, IfOk, flat_map, sym, ◌∙◌, subst}
+use Rattle.std.proofs.Common.{ℕ, List, ◌∷◌, ◌++◌, IfOk, flat_map, sym, ◌∙◌, subst, arith}
 use Rattle.hull.specs.declared.point.Point.{Point}
 use Rattle.hull.specs.Curves.{IsCurve}
 use Rattle.family_points.specs.Separation.{depot_points}
@@ -18,3 +18,36 @@ returns-clause-curve g c =
     let own : List ℕ → List Point = λ d. flat_map (λ s. depot_points x.case x.line g.S.Score.ends x.held x.low x.high (s ∷ d)) (line_stocks x 0) in
     subst (λ (d : List ℕ). IfOk c.with_lines.result (IsCurve (vertices_of c.args.so_far ++ own d)))
     (c.as_slice-shops.ensures.value ∙ c.in_ok-vector.ensures.vector) c.with_lines.ensures.curve
+
+pub returns-clause-few : goal.returns-clause-few
+returns-clause-few g c = c.with_lines.ensures.few
+
+pub returns-clause-widths : goal.returns-clause-widths
+returns-clause-widths g c = c.with_lines.ensures.widths
+
+pub returns-clause-work : goal.returns-clause-work
+returns-clause-work g c = c.with_lines.ensures.work
+
+pub shop_vector-requires-clause-site : goal.shop_vector-requires-clause-site
+shop_vector-requires-clause-site g c = let some = c.size-size.ensures.valid.valid.frame.fewest_sites in omega (arith, some)
+
+pub shop_vector-requires-clause-within : goal.shop_vector-requires-clause-within
+shop_vector-requires-clause-within g c = c.requires.number
+
+pub depot_tables-requires-clause-sources : goal.depot_tables-requires-clause-sources
+depot_tables-requires-clause-sources g c = c.requires.sources
+
+pub with_lines-requires-clause-sources : goal.with_lines-requires-clause-sources
+with_lines-requires-clause-sources g c = c.requires.sources
+
+pub with_lines-requires-clause-tables : goal.with_lines-requires-clause-tables
+with_lines-requires-clause-tables g c = c.in_ok-tables.ensures
+
+pub with_lines-requires-clause-room : goal.with_lines-requires-clause-room
+with_lines-requires-clause-room g c = c.requires.room
+
+pub with_lines-requires-clause-widths : goal.with_lines-requires-clause-widths
+with_lines-requires-clause-widths g c = c.requires.widths
+
+pub with_lines-requires-clause-work : goal.with_lines-requires-clause-work
+with_lines-requires-clause-work g c = c.requires.work

@@ -1,4 +1,4 @@
-use Rattle.std.proofs.Common.{◌-◌, ◌∷◌, flat_map}
+use Rattle.std.proofs.Common.{◌≡◌, ◌-◌, ◌<◌, ◌∷◌, drop, flat_map, length}
 use Rattle.std.specs.List.{range_with_len}
 use Rattle.family_points.specs.Separation.{depot_points}
 use Rattle.family_points.specs.Inputs.{line_low}
@@ -6,4 +6,8 @@ use Rattle.family_points.specs.Least.{AreAtLeast}
 use Rattle.family_floors.proofs.least.are_at_least.Given as goal
 
 abbrev pub invariant-loop-s : goal.invariant-loop-s
-invariant-loop-s g l = AreAtLeast l.price.p l.price.q l.floor (flat_map (λ s. depot_points l.sources.family.now.case l.sources.family.now.line g.S.Score.ends l.sources.family.now.held l.sources.family.now.low l.sources.family.now.high (s ∷ l.depot)) (range_with_len (line_low l.sources.family.now 0) (l.s - line_low l.sources.family.now 0)))
+invariant-loop-s g l = record {
+  least : AreAtLeast l.price.p l.price.q l.floor (flat_map (λ s. depot_points l.sources.family.now.case l.sources.family.now.line g.S.Score.ends l.sources.family.now.held l.sources.family.now.low l.sources.family.now.high (s ∷ drop 1 l.fn.stocks)) (range_with_len (line_low l.sources.family.now 0) (l.s - line_low l.sources.family.now 0)));
+  some : 0 < length l.stocks;
+  shops : drop 1 l.stocks ≡ drop 1 l.fn.stocks;
+}

@@ -14,3 +14,33 @@ pub returns : goal.returns
 returns g c =
     let x = c.args.sources.now.family.now in
     decides_least c.args.price.p c.args.price.q c.args.floor c.in_ok-least.least (depot_points x.case x.line g.S.Score.ends x.held x.low x.high c.args.depot.now) _ c.in_ok-least.ensures refl
+
+pub low_at_depot-low-requires-clause-sources : goal.low_at_depot-low-requires-clause-sources
+low_at_depot-low-requires-clause-sources g c = c.requires.sources
+
+pub low_at_depot-low-requires-clause-depot : goal.low_at_depot-low-requires-clause-depot
+low_at_depot-low-requires-clause-depot g c = c.requires.depot
+
+pub low_at_depot-low-requires-clause-tables : goal.low_at_depot-low-requires-clause-tables
+low_at_depot-low-requires-clause-tables g c = c.requires.tables
+
+pub low_at_depot-low-requires-clause-most_money : goal.low_at_depot-low-requires-clause-most_money
+low_at_depot-low-requires-clause-most_money g c = c.requires.most_money
+
+pub low_at_depot-low-requires-clause-price : goal.low_at_depot-low-requires-clause-price
+low_at_depot-low-requires-clause-price g c = c.requires.price
+
+pub least_at_depot-requires-clause-sources : goal.least_at_depot-requires-clause-sources
+least_at_depot-requires-clause-sources g c = c.requires.sources
+
+pub least_at_depot-requires-clause-depot : goal.least_at_depot-requires-clause-depot
+least_at_depot-requires-clause-depot g c = c.requires.depot
+
+pub least_at_depot-requires-clause-tables : goal.least_at_depot-requires-clause-tables
+least_at_depot-requires-clause-tables g c = c.requires.tables
+
+pub least_at_depot-requires-clause-most_money : goal.least_at_depot-requires-clause-most_money
+least_at_depot-requires-clause-most_money g c = c.requires.most_money
+
+pub least_at_depot-requires-clause-price : goal.least_at_depot-requires-clause-price
+least_at_depot-requires-clause-price g c = c.requires.price

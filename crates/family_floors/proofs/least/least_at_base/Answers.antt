@@ -1,4 +1,8 @@
-use Rattle.std.proofs.Common.{arith}
+use Rattle.family_rows.proofs.Rows.{rows_taken}
+use Rattle.family_points.specs.Inputs.{shop_vectors}
+use Rattle.family_points.specs.declared.order.ShopVector.{ShopVector}
+use Rattle.std.proofs.lemmas.List.{length-map}
+use Rattle.std.proofs.Common.{arith, length, ap}
 use Rattle.family_points.proofs.LeastPoints.{base_least_is}
 use Rattle.family_points.proofs.Ordered.{order_count}
 use Rattle.family_points.proofs.Points.{some_vectors}
@@ -19,3 +23,32 @@ returns-clause-least g c =
     let here = c.args.here.now in
     base_least_is here.family.now c.requires.here.valid here.site.0 here.base.now.order.items c.requires.here.base.order g.S.Score.ends here.depot.now c.requires.here.site
     c.args.price.p c.args.price.q c.least_of_choices.result c.least_of_choices.ensures.least
+
+pub put_rows-requires-clause-here : goal.put_rows-requires-clause-here
+put_rows-requires-clause-here g c = c.requires.here
+
+pub put_rows-requires-clause-numbers : goal.put_rows-requires-clause-numbers
+put_rows-requires-clause-numbers g c = c.requires.numbers
+
+pub put_rows-requires-clause-tables : goal.put_rows-requires-clause-tables
+put_rows-requires-clause-tables g c = c.requires.tables
+
+pub least_of_choices-requires-clause-here : goal.least_of_choices-requires-clause-here
+least_of_choices-requires-clause-here g c = c.requires.here
+
+pub least_of_choices-requires-clause-most_money : goal.least_of_choices-requires-clause-most_money
+least_of_choices-requires-clause-most_money g c = c.requires.most_money
+
+pub least_of_choices-requires-clause-price : goal.least_of_choices-requires-clause-price
+least_of_choices-requires-clause-price g c = c.requires.price
+
+pub returns-clause-most : goal.returns-clause-most
+returns-clause-most g c = c.least_of_choices.ensures.most
+
+pub least_of_choices-requires-clause-rows : goal.least_of_choices-requires-clause-rows
+least_of_choices-requires-clause-rows g c =
+    let here = c.args.here.now in
+    let shops = here.base.now.shops.items in
+    rows_taken (λ r. r.items) here c.as_slice.result.now c.put_rows.new.rows.items c.len-count.result (length (shop_vectors here.family.now here.site.0))
+    (omega (arith, c.len-count.ensures, here.base.now.shops.ok.0, length-map shops (λ (s : ShopVector). s.stocks), ap length c.requires.here.base.stocks)) c.as_slice.ensures.value
+    c.in_ok-put_rows.ensures.rows

@@ -55,3 +55,12 @@ returns-clause-most g c =
     let a : c.from.result * c.lo.result ≤ 1000000000000 * 2 ^ 74 = mul-le c.from.result c.lo.result 1000000000000 (2 ^ 74) q lo in
     let p : c.args.price.p * c.from-2.result ≤ 2 ^ 74 * 1000000000000 = mul-le c.args.price.p c.from-2.result (2 ^ 74) 1000000000000 c.requires.price cost in
     omega (arith, a, p)
+
+pub spot_at-spot-requires-clause-here : goal.spot_at-spot-requires-clause-here
+spot_at-spot-requires-clause-here g c = c.requires.here
+
+pub spot_at-spot-requires-clause-rows : goal.spot_at-spot-requires-clause-rows
+spot_at-spot-requires-clause-rows g c = c.requires.rows
+
+pub spot_at-spot-requires-clause-choice : goal.spot_at-spot-requires-clause-choice
+spot_at-spot-requires-clause-choice g c = c.requires.choice

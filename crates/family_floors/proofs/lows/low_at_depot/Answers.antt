@@ -1,10 +1,8 @@
-use Rattle.std.proofs.Common.{◌≡◌, ℕ, ◌-◌, ◌*◌, ◌^◌, ◌<◌, ◌≤◌, ◌∙◌, get_or, List, length, ap, subst, arith}
+use Rattle.std.proofs.Common.{◌≡◌, ◌-◌, ◌*◌, ◌^◌, ◌≤◌, ◌∙◌, length, subst, arith}
 use Rattle.std.specs.List.{range_with_len}
 use Rattle.std.proofs.lemmas.Nat.{mul-le}
-use Rattle.family_points.specs.Separation.{base_points, points_over}
-use Rattle.family_points.specs.Inputs.{FamilyBox}
+use Rattle.family_points.specs.Separation.{points_over}
 use Rattle.family_points.specs.Least.{AreAtLeast}
-use Rattle.family_points.proofs.AllBases.{base_read, bases_long}
 use Rattle.family_floors.proofs.LowPoints.{base_under_more, depot_under}
 use Rattle.family_floors.proofs.lows.low_at_depot.Goals as goal
 
@@ -19,27 +17,6 @@ loop-j-init g c =
       most = omega (arith, p);
     }
 
-pub index-base-requires : goal.index-base-requires
-index-base-requires g c =
-    omega (
-      arith,
-      bases_long c.args.sources.now.family.now c.args.sources.now.bases.items c.requires.sources.bases,
-      c.args.sources.now.bases.ok.0,
-      c.loop-j.auto.j,
-      c.loop-j-test.true,
-      c.sites-j-end.ensures.sites,
-      c.from-in-loop-j.ensures,
-    )
-
-pub of-here-requires-clause-base : goal.of-here-requires-clause-base
-of-here-requires-clause-base g c =
-    let x = c.args.sources.now.family.now in
-    let bases = c.args.sources.now.bases.items in
-    let some : 0 < c.loop-j.j = omega (arith, c.loop-j.auto.j) in
-    let most : c.loop-j.j < length x.case.sites = omega (arith, c.loop-j-test.true, c.sites-j-end.ensures.sites) in
-    base_read x c.loop-j.j bases c.index-base.result.now c.requires.sources.bases some most
-    (c.index-base.ensures ∙ ap (λ n. get_or bases (n - 1) c.index-base.result.now) c.from-in-loop-j.ensures)
-
 pub loop-j-preserved : goal.loop-j-preserved
 loop-j-preserved g c =
     let x = c.args.sources.now.family.now in
@@ -48,14 +25,8 @@ loop-j-preserved g c =
     let p = c.args.price.p in
     let q = c.args.price.q in
     let ends = g.S.Score.ends in
-    let here = c.of-here.result in
-    let m = c.lows_at_base-low.result.at_low in
-    let base : AreAtLeast p q m (base_points x.case x.line ends x.held x.low x.high d j) =
-    subst (λ k. AreAtLeast p q m (base_points x.case x.line ends x.held x.low x.high d k)) c.of-here.ensures.site
-    (subst (λ (v : List ℕ). AreAtLeast p q m (base_points x.case x.line ends x.held x.low x.high v here.site.0)) c.of-here.ensures.depot
-    (subst (λ (y : FamilyBox). AreAtLeast p q m (base_points y.case y.line ends y.held y.low y.high here.depot.now here.site.0)) c.of-here.ensures.family c.lows_at_base-low.ensures.at_low)) in
     record {
-      low = base_under_more x ends d p q j c.loop-j.low m (omega (arith, c.loop-j.auto.j)) c.loop-j.invariant.low base;
+      low = base_under_more x ends d p q j c.loop-j.low c.lows_at_base-low.result.at_low (omega (arith, c.loop-j.auto.j)) c.loop-j.invariant.low c.lows_at_base-low.ensures.at_low;
       most = omega (arith, c.loop-j.invariant.most, c.lows_at_base-low.ensures.most.0);
     }
 
@@ -67,3 +38,35 @@ returns g c =
     let last : c.loop-j.j - 1 ≡ length x.case.sites - 1 =
     omega (arith, c.loop-j-test.false, c.loop-j.auto.j-end (omega (arith, c.sites-j-end.ensures.fewest)), c.sites-j-end.ensures.sites) in
     subst (λ n. AreAtLeast c.args.price.p c.args.price.q c.loop-j.low (points_over x.case x.line ends x.held x.low x.high d (range_with_len 1 n))) last c.loop-j.invariant.low
+
+pub cost-requires-clause-site : goal.cost-requires-clause-site
+cost-requires-clause-site g c = let some = c.size-size.ensures.valid.valid.frame.fewest_sites in omega (arith, some)
+
+pub cost-requires-clause-stocks : goal.cost-requires-clause-stocks
+cost-requires-clause-stocks g c = c.requires.depot
+
+pub overflow_mul-low : goal.overflow_mul-low
+overflow_mul-low g c =
+    let few : c.from.result ≤ 1000000000000 = omega (arith, c.cost.ensures.most, c.from.ensures) in
+    omega (arith, mul-le c.args.price.p c.from.result (2 ^ 74) 1000000000000 c.requires.price few)
+
+pub lows_at_base-low-requires-clause-low : goal.lows_at_base-low-requires-clause-low
+lows_at_base-low-requires-clause-low g c = record { p = c.requires.price; q = c.requires.most_money }
+
+pub lows_at_base-low-requires-clause-high : goal.lows_at_base-low-requires-clause-high
+lows_at_base-low-requires-clause-high g c = record { p = c.requires.price; q = c.requires.most_money }
+
+pub overflow_add-low : goal.overflow_add-low
+overflow_add-low g c = omega (arith, c.loop-j.invariant.most, c.lows_at_base-low.ensures.most.0, c.loop-j-test.true, c.sites-j-end.ensures.most)
+
+pub lows_at_base-low-requires-clause-sources : goal.lows_at_base-low-requires-clause-sources
+lows_at_base-low-requires-clause-sources g c = c.requires.sources
+
+pub lows_at_base-low-requires-clause-depot : goal.lows_at_base-low-requires-clause-depot
+lows_at_base-low-requires-clause-depot g c = c.requires.depot
+
+pub lows_at_base-low-requires-clause-tables : goal.lows_at_base-low-requires-clause-tables
+lows_at_base-low-requires-clause-tables g c = c.requires.tables
+
+pub lows_at_base-low-requires-clause-base : goal.lows_at_base-low-requires-clause-base
+lows_at_base-low-requires-clause-base g c = (omega (arith, c.loop-j.auto.j), omega (arith, c.loop-j-test.true, c.sites-j-end.ensures.sites))

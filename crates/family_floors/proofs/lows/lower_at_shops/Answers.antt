@@ -2,7 +2,7 @@ use Rattle.std.proofs.Common.{◌≡◌, ℕ, ◌+◌, ◌-◌, ◌*◌, ◌≤�
 use Rattle.std.proofs.lemmas.Bool.{cases_lt}
 use Rattle.backorder_bounds.specs.Places.{Place, next_place}
 use Rattle.fleet_model.specs.Fleet.{family}
-use Rattle.family_points.specs.Inputs.{held_at, line_high, line_low}
+use Rattle.family_points.specs.Inputs.{held_at, line_high, line_low, AreShopsAt}
 use Rattle.family_points.specs.Points.{cost_above}
 use Rattle.family_points.proofs.Spotted.{line_cost, line_cost_most, line_cost_small}
 use Rattle.family_floors.specs.declared.lows.Lows.{Lows}
@@ -162,3 +162,51 @@ loop-s-preserved g c =
 
 pub returns-clause-under : goal.returns-clause-under
 returns-clause-under g c s l h = c.loop-s.invariant.under s l (omega (arith, h, c.loop-s-test.false, c.line_high-last.ensures.high))
+
+pub is_reached-requires-clause-low : goal.is_reached-requires-clause-low
+is_reached-requires-clause-low g c = c.requires.low
+
+pub is_reached-requires-clause-high : goal.is_reached-requires-clause-high
+is_reached-requires-clause-high g c = c.requires.high
+
+pub walk_at-walk-requires-clause-here : goal.walk_at-walk-requires-clause-here
+walk_at-walk-requires-clause-here g c = c.requires.here
+
+pub walk_at-walk-requires-clause-numbers : goal.walk_at-walk-requires-clause-numbers
+walk_at-walk-requires-clause-numbers g c = c.requires.numbers
+
+pub walk_at-walk-requires-clause-tables : goal.walk_at-walk-requires-clause-tables
+walk_at-walk-requires-clause-tables g c = c.requires.tables
+
+pub walk_at-walk-requires-clause-own : goal.walk_at-walk-requires-clause-own
+walk_at-walk-requires-clause-own g c = c.requires.own
+
+pub is_reached-requires-in-loop-s-clause-low : goal.is_reached-requires-in-loop-s-clause-low
+is_reached-requires-in-loop-s-clause-low g c = c.requires.low
+
+pub is_reached-requires-in-loop-s-clause-high : goal.is_reached-requires-in-loop-s-clause-high
+is_reached-requires-in-loop-s-clause-high g c = c.requires.high
+
+pub line_low-first-requires : goal.line_low-first-requires
+line_low-first-requires g c = c.requires.here.site.1
+
+pub line_high-last-requires : goal.line_high-last-requires
+line_high-last-requires g c = c.requires.here.site.1
+
+pub overflow_add-s : goal.overflow_add-s
+overflow_add-s g c = omega (arith, c.loop-s-test.true, c.line_high-last.ensures.most)
+
+pub overflow_sub-s : goal.overflow_sub-s
+overflow_sub-s g c = omega (arith, c.loop-s.auto.s)
+
+pub returns-clause-lower : goal.returns-clause-lower
+returns-clause-lower g c = c.loop-s.invariant.lower
+
+pub returns-then-is_reached-2-clause-lower : goal.returns-then-is_reached-2-clause-lower
+returns-then-is_reached-2-clause-lower g c = c.loop-s.invariant.lower
+
+pub returns-then-is_reached-clause-lower : goal.returns-then-is_reached-clause-lower
+returns-then-is_reached-clause-lower g c = record { at_low = omega arith; at_high = omega arith }
+
+pub walk_at-walk-requires-clause-shops : goal.walk_at-walk-requires-clause-shops
+walk_at-walk-requires-clause-shops g c = subst (AreShopsAt c.args.here.now.family.now c.args.here.now.site.0) (sym c.as_slice.ensures) c.requires.shops.within

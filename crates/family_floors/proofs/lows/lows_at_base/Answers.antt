@@ -1,14 +1,17 @@
-use Rattle.std.proofs.Common.{◌≡◌, ℕ, ◌<◌, ◌≤◌, List, [], get_or, length, ap, arith}
+use Rattle.std.proofs.Common.{◌≡◌, ℕ, ◌<◌, ◌≤◌, ◌∙◌, List, [], drop, get_or, length, sym, ap, subst, arith}
 use Rattle.std.proofs.lemmas.List.{length-map}
 use Rattle.family_points.specs.declared.order.ShopVector.{ShopVector}
 use Rattle.family_points.specs.Inputs.{shop_vectors}
+use Rattle.family_points.specs.Least.{AreAtLeast}
+use Rattle.family_rows.specs.Tabled.{AreTables, box_numbers}
+use Rattle.family_floors.proofs.Moved.{moved}
 use Rattle.family_floors.proofs.LowPoints.{base_under, shops_more}
 use Rattle.family_points.proofs.Spotted.{stock_read}
 use Rattle.family_floors.proofs.lows.lows_at_base.Goals as goal
 
 pub loop-n-preserved : goal.loop-n-preserved
 loop-n-preserved g c =
-    let here = c.args.here.now in
+    let here = c.base_of-here.result in
     let x = here.family.now in
     let j = here.site.0 in
     let n = c.loop-n.n in
@@ -17,8 +20,8 @@ loop-n-preserved g c =
     let shops = c.index-shops.result.now in
     let after = c.lower_at_shops-least in
     let inside : n < length items = omega (arith, c.loop-n-test.true, c.len-n-end.ensures, here.base.now.shops.ok.0) in
-    let within : n < length all = omega (arith, inside, length-map items (λ (v : ShopVector). v.stocks), ap length c.requires.here.base.stocks) in
-    let is : shops.stocks ≡ get_or all n [] = stock_read items n shops shops all c.requires.here.base.stocks inside c.index-shops.ensures in
+    let within : n < length all = omega (arith, inside, length-map items (λ (v : ShopVector). v.stocks), ap length c.base_of-here.ensures.is.base.stocks) in
+    let is : shops.stocks ≡ get_or all n [] = stock_read items n shops shops all c.base_of-here.ensures.is.base.stocks inside c.index-shops.ensures in
     record {
       under = shops_more x g.S.Score.ends here.depot.now j c.args.low c.args.high all n c.loop-n.least after.result shops.stocks within is after.ensures.lower c.loop-n.invariant.under
           after.ensures.under;
@@ -28,20 +31,61 @@ loop-n-preserved g c =
 
 pub returns-clause-at_low : goal.returns-clause-at_low
 returns-clause-at_low g c =
-    let here = c.args.here.now in
+    let here = c.base_of-here.result in
     let x = here.family.now in
     let items = here.base.now.shops.items in
     let all : length (shop_vectors x here.site.0) ≤ c.loop-n.n =
-    omega (arith, c.loop-n-test.false, c.len-n-end.ensures, here.base.now.shops.ok.0, length-map items (λ (v : ShopVector). v.stocks), ap length c.requires.here.base.stocks) in
-    base_under x c.requires.here.valid g.S.Score.ends here.depot.now here.site.0 c.requires.here.site c.args.low.p c.args.low.q c.loop-n.least.at_low c.loop-n.n all
-    (λ w i s l h. (c.loop-n.invariant.under w i s l h).at_low)
+    omega (arith, c.loop-n-test.false, c.len-n-end.ensures, here.base.now.shops.ok.0, length-map items (λ (v : ShopVector). v.stocks), ap length c.base_of-here.ensures.is.base.stocks) in
+    moved (AreAtLeast c.args.low.p c.args.low.q c.loop-n.least.at_low) g.S.Score.ends x c.args.sources.now.family.now here.depot.now c.args.depot.now here.site.0 c.args.j
+    c.base_of-here.ensures.family c.base_of-here.ensures.depot c.base_of-here.ensures.site
+    (base_under x c.base_of-here.ensures.is.valid g.S.Score.ends here.depot.now here.site.0 c.base_of-here.ensures.is.site c.args.low.p c.args.low.q c.loop-n.least.at_low c.loop-n.n all
+    (λ w i s l h. (c.loop-n.invariant.under w i s l h).at_low))
 
 pub returns-clause-at_high : goal.returns-clause-at_high
 returns-clause-at_high g c =
-    let here = c.args.here.now in
+    let here = c.base_of-here.result in
     let x = here.family.now in
     let items = here.base.now.shops.items in
     let all : length (shop_vectors x here.site.0) ≤ c.loop-n.n =
-    omega (arith, c.loop-n-test.false, c.len-n-end.ensures, here.base.now.shops.ok.0, length-map items (λ (v : ShopVector). v.stocks), ap length c.requires.here.base.stocks) in
-    base_under x c.requires.here.valid g.S.Score.ends here.depot.now here.site.0 c.requires.here.site c.args.high.p c.args.high.q c.loop-n.least.at_high c.loop-n.n all
-    (λ w i s l h. (c.loop-n.invariant.under w i s l h).at_high)
+    omega (arith, c.loop-n-test.false, c.len-n-end.ensures, here.base.now.shops.ok.0, length-map items (λ (v : ShopVector). v.stocks), ap length c.base_of-here.ensures.is.base.stocks) in
+    moved (AreAtLeast c.args.high.p c.args.high.q c.loop-n.least.at_high) g.S.Score.ends x c.args.sources.now.family.now here.depot.now c.args.depot.now here.site.0 c.args.j
+    c.base_of-here.ensures.family c.base_of-here.ensures.depot c.base_of-here.ensures.site
+    (base_under x c.base_of-here.ensures.is.valid g.S.Score.ends here.depot.now here.site.0 c.base_of-here.ensures.is.site c.args.high.p c.args.high.q c.loop-n.least.at_high c.loop-n.n all
+    (λ w i s l h. (c.loop-n.invariant.under w i s l h).at_high))
+
+pub own_at-own-requires-clause-here : goal.own_at-own-requires-clause-here
+own_at-own-requires-clause-here g c = c.base_of-here.ensures.is
+
+pub own_at-own-requires-clause-numbers : goal.own_at-own-requires-clause-numbers
+own_at-own-requires-clause-numbers g c = c.requires.sources.numbers ∙ sym (ap box_numbers c.base_of-here.ensures.family)
+
+pub own_at-own-requires-clause-tables : goal.own_at-own-requires-clause-tables
+own_at-own-requires-clause-tables g c = subst (λ (v : List ℕ). AreTables c.args.sources.now.numbers (drop 1 v) c.args.tables.now) (sym c.base_of-here.ensures.depot) c.requires.tables
+
+pub lower_at_shops-least-requires-clause-here : goal.lower_at_shops-least-requires-clause-here
+lower_at_shops-least-requires-clause-here g c = c.base_of-here.ensures.is
+
+pub lower_at_shops-least-requires-clause-numbers : goal.lower_at_shops-least-requires-clause-numbers
+lower_at_shops-least-requires-clause-numbers g c = c.requires.sources.numbers ∙ sym (ap box_numbers c.base_of-here.ensures.family)
+
+pub lower_at_shops-least-requires-clause-tables : goal.lower_at_shops-least-requires-clause-tables
+lower_at_shops-least-requires-clause-tables g c =
+    subst (λ (v : List ℕ). AreTables c.args.sources.now.numbers (drop 1 v) c.args.tables.now) (sym c.base_of-here.ensures.depot) c.requires.tables
+
+pub lower_at_shops-least-requires-clause-low : goal.lower_at_shops-least-requires-clause-low
+lower_at_shops-least-requires-clause-low g c = c.requires.low
+
+pub lower_at_shops-least-requires-clause-high : goal.lower_at_shops-least-requires-clause-high
+lower_at_shops-least-requires-clause-high g c = c.requires.high
+
+pub lower_at_shops-least-requires-clause-own : goal.lower_at_shops-least-requires-clause-own
+lower_at_shops-least-requires-clause-own g c = c.own_at-own.ensures
+
+pub base_of-here-requires-clause-sources : goal.base_of-here-requires-clause-sources
+base_of-here-requires-clause-sources g c = c.requires.sources
+
+pub base_of-here-requires-clause-depot : goal.base_of-here-requires-clause-depot
+base_of-here-requires-clause-depot g c = c.requires.depot
+
+pub base_of-here-requires-clause-base : goal.base_of-here-requires-clause-base
+base_of-here-requires-clause-base g c = c.requires.base

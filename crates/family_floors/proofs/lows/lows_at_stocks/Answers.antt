@@ -33,3 +33,6 @@ returns g c =
       at_low = lagrangian_under c.args.low.p c.args.low.q c.args.cost c.low-scored.result c.lagrangian.result v c.lagrangian.ensures c.requires.cost is.low;
       at_high = lagrangian_under c.args.high.p c.args.high.q c.args.cost c.low-scored.result c.lagrangian-2.result v c.lagrangian-2.ensures c.requires.cost is.low;
     }
+
+pub low-scored-requires : goal.low-scored-requires
+low-scored-requires g c = record { is = c.requires.here }

@@ -1,3 +1,7 @@
+use Rattle.family_rows.proofs.Rows.{rows_taken}
+use Rattle.family_points.specs.Inputs.{shop_vectors}
+use Rattle.family_points.specs.declared.order.ShopVector.{ShopVector}
+use Rattle.std.proofs.lemmas.List.{length-map}
 use Rattle.std.proofs.Common.{◌<◌, ◌∙◌, length, sym, ap, subst, arith}
 use Rattle.hull.specs.declared.point.Point.{Point}
 use Rattle.hull.specs.Curves.{InRange}
@@ -55,3 +59,23 @@ returns-clause-most g c =
     let r : InRange (spot_point c.spot_at-spot.result) = subst InRange (sym c.spot_at-spot.ensures)
     (choice_range x c.requires.here.valid here.site.0 c.index-first.result.now choice c.requires.here.site g.S.Score.ends g.met.S.Score.leaves_room here.depot.now c.requires.here.depot) in
     let h = r.hi in omega (arith, c.hi.ensures, h)
+
+pub put_rows-requires-clause-here : goal.put_rows-requires-clause-here
+put_rows-requires-clause-here g c = c.requires.here
+
+pub put_rows-requires-clause-numbers : goal.put_rows-requires-clause-numbers
+put_rows-requires-clause-numbers g c = c.requires.numbers
+
+pub put_rows-requires-clause-tables : goal.put_rows-requires-clause-tables
+put_rows-requires-clause-tables g c = c.requires.tables
+
+pub spot_at-spot-requires-clause-here : goal.spot_at-spot-requires-clause-here
+spot_at-spot-requires-clause-here g c = c.requires.here
+
+pub spot_at-spot-requires-clause-rows : goal.spot_at-spot-requires-clause-rows
+spot_at-spot-requires-clause-rows g c =
+    let here = c.args.here.now in
+    let shops = here.base.now.shops.items in
+    rows_taken (λ r. r.items) here c.as_slice.result.now c.put_rows.new.rows.items c.len-count.result (length (shop_vectors here.family.now here.site.0))
+    (omega (arith, c.len-count.ensures, here.base.now.shops.ok.0, length-map shops (λ (s : ShopVector). s.stocks), ap length c.requires.here.base.stocks)) c.as_slice.ensures.value
+    c.in_ok-put_rows.ensures.rows

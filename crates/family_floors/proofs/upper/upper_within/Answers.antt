@@ -1,41 +1,24 @@
-use Rattle.std.proofs.Common.{◌≡◌, ℕ, ◌<◌, ◌∙◌, List, drop, length, sym, ap, subst, arith}
-use Rattle.family_points.specs.Inputs.{AreShopsAt, FamilyBox, IsAt, shop_low}
+use Rattle.std.proofs.Common.{IfOk, ◌∙◌, subst}
+use Rattle.family_points.specs.Inputs.{FamilyBox}
 use Rattle.family_points.specs.Points.{HasUpper, points_within}
-use Rattle.family_points.specs.Separation.{depot_points}
-use Rattle.family_points.proofs.Points.{low_some}
-use Rattle.family_floors.proofs.Uppers.{low_is_at, low_shops_at, upper_of_box}
 use Rattle.family_floors.proofs.upper.upper_within.Goals as goal
-
-pub shops_of-requires : goal.shops_of-requires
-shops_of-requires g c =
-    let x = c.of-family.result in
-    let valid = c.size-size.ensures.valid in
-    let some = valid.valid.frame.fewest_sites in
-    subst (λ (v : List ℕ). 0 < length v) (sym c.low-depot.ensures) (low_some x valid 0 (omega (arith, some)))
-
-pub depot_tables-requires-clause-depot : goal.depot_tables-requires-clause-depot
-depot_tables-requires-clause-depot g c =
-    let x = c.of-family.result in
-    let valid = c.size-size.ensures.valid in
-    let some = valid.valid.frame.fewest_sites in
-    let is : c.shops_of.result.now ≡ shop_low x 0 = c.shops_of.ensures ∙ ap (drop 1) c.low-depot.ensures in
-    subst (λ (y : FamilyBox). AreShopsAt y 0 c.shops_of.result.now) (sym c.in_ok-sources.ensures.family)
-    (subst (AreShopsAt x 0) (sym is) (low_shops_at x valid 0 (omega (arith, some))))
-
-pub upper_at_depot-requires-clause-depot : goal.upper_at_depot-requires-clause-depot
-upper_at_depot-requires-clause-depot g c =
-    let x = c.of-family.result in
-    let valid = c.size-size.ensures.valid in
-    let some = valid.valid.frame.fewest_sites in
-    subst (λ (y : FamilyBox). IsAt y 0 c.low-depot.result.now) (sym c.in_ok-sources.ensures.family)
-    (subst (IsAt x 0) (sym c.low-depot.ensures) (low_is_at x valid 0 (omega (arith, some))))
 
 pub returns-clause-upper : goal.returns-clause-upper
 returns-clause-upper g c =
-    let x = c.of-family.result in
-    let b = c.args.bounds.now in
-    let hi = c.in_ok-upper.upper in
-    subst (λ (y : FamilyBox). HasUpper (points_within y.case y.line g.S.Score.ends y.held y.low y.high) hi) c.of-family.ensures
-    (upper_of_box x c.size-size.ensures.valid g.S.Score.ends hi
-    (subst (λ (v : List ℕ). HasUpper (depot_points x.case x.line g.S.Score.ends x.held x.low x.high v) hi) c.low-depot.ensures
-    (subst (λ (y : FamilyBox). HasUpper (depot_points y.case y.line g.S.Score.ends y.held y.low y.high c.low-depot.result.now) hi) c.in_ok-sources.ensures.family c.in_ok-upper.ensures.upper)))
+    subst (λ (x : FamilyBox). IfOk c.upper_at_least.result (HasUpper (points_within x.case x.line g.S.Score.ends x.held x.low x.high)))
+    (c.in_ok-sources.ensures.family ∙ c.of-family.ensures) c.upper_at_least.ensures.upper
+
+pub of-family-requires-clause-rates : goal.of-family-requires-clause-rates
+of-family-requires-clause-rates g c = c.requires.rates
+
+pub of-family-requires-clause-line : goal.of-family-requires-clause-line
+of-family-requires-clause-line g c = c.requires.line
+
+pub of-family-requires-clause-ordered : goal.of-family-requires-clause-ordered
+of-family-requires-clause-ordered g c = c.requires.ordered
+
+pub upper_at_least-requires : goal.upper_at_least-requires
+upper_at_least-requires g c = record { sources = c.in_ok-sources.ensures.are }
+
+pub returns-clause-most : goal.returns-clause-most
+returns-clause-most g c = c.upper_at_least.ensures.most

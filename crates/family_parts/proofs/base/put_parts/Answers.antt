@@ -1,4 +1,5 @@
-use Rattle.std.proofs.Common.{◌≡◌, ℕ, ◌+◌, ◌-◌, ◌<◌, ◌≤◌, ◌∙◌, get_or, List, [], ◌∷◌, ◌++◌, length, set, sum_by, sym, take, ap, subst, arith}
+use Rattle.family_rows.specs.Tabled.{AreTables, box_numbers}
+use Rattle.std.proofs.Common.{◌≡◌, ℕ, ◌+◌, ◌-◌, ◌<◌, ◌≤◌, ◌∙◌, List, [], ◌∷◌, ◌++◌, length, set, sum_by, sym, take, ap, subst, arith, drop}
 use Rattle.std.specs.List.{range_with_len}
 use Rattle.std.proofs.lemmas.List.{take_all, take_more_set}
 use Rattle.std.proofs.Math.ListN.{length-set}
@@ -11,10 +12,11 @@ use Rattle.family_points.specs.declared.order.Base.{Base}
 use Rattle.family_points.specs.Separation.{base_points, depot_point, points_over}
 use Rattle.family_points.specs.Inputs.{FamilyBox, vector_count}
 use Rattle.family_points.specs.Choices.{AreBases}
-use Rattle.family_points.proofs.AllBases.{base_read, bases_long}
+use Rattle.family_points.proofs.AllBases.{bases_long}
 use Rattle.family_points.proofs.Points.{over_count_more, room_at}
 use Rattle.family_curve.proofs.Bases.{lengths_one_more}
 use Rattle.family_parts.proofs.Bases.{base_more}
+use Rattle.family_floors.proofs.Moved.{moved}
 use Rattle.family_parts.proofs.base.put_parts.Goals as goal
 
 pub loop-j-init : goal.loop-j-init
@@ -27,31 +29,6 @@ loop-j-init g c =
       count = c.requires.work;
     }
 
-pub index-base-requires : goal.index-base-requires
-index-base-requires g c =
-    omega (
-      arith,
-      bases_long c.args.sources.now.family.now c.args.sources.now.bases.items c.requires.sources.bases,
-      c.args.sources.now.bases.ok.0,
-      c.loop-j.auto.j,
-      c.loop-j-test.true,
-      c.sites-j-end.ensures.sites,
-      c.from-place.ensures,
-    )
-
-pub of-here-requires : goal.of-here-requires
-of-here-requires g c =
-    let x = c.args.sources.now.family.now in
-    let bases = c.args.sources.now.bases.items in
-    let some : 0 < c.loop-j.j = omega (arith, c.loop-j.auto.j) in
-    let most : c.loop-j.j < length x.case.sites = omega (arith, c.loop-j-test.true, c.sites-j-end.ensures.sites) in
-    record {
-      depot = c.requires.depot;
-      site = (some, most);
-      base = base_read x c.loop-j.j bases c.index-base.result.now c.requires.sources.bases some most
-          (c.index-base.ensures ∙ ap (λ n. get_or bases (n - 1) c.index-base.result.now) c.from-place.ensures);
-    }
-
 pub index_mut-requires : goal.index_mut-requires
 index_mut-requires g c =
     omega (
@@ -62,17 +39,17 @@ index_mut-requires g c =
       c.loop-j.auto.j,
       c.loop-j-test.true,
       c.sites-j-end.ensures.sites,
-      c.from-place.ensures,
+      c.from.ensures,
     )
 
 pub put_part-requires-clause-room : goal.put_part-requires-clause-room
 put_part-requires-clause-room g c =
     let x = c.args.sources.now.family.now in
-    let here = c.of-here.result in
+    let here = c.base_of-here.result in
     let room : vector_count x c.loop-j.j ≤ 65000000 =
     omega (arith, c.requires.room, room_at x c.loop-j.j (omega (arith, c.loop-j.auto.j)) (omega (arith, c.loop-j-test.true, c.sites-j-end.ensures.sites))) in
-    subst (λ (y : FamilyBox). vector_count y here.site.0 ≤ 65000000) (sym c.of-here.ensures.family)
-    (subst (λ k. vector_count x k ≤ 65000000) (sym c.of-here.ensures.site) room)
+    subst (λ (y : FamilyBox). vector_count y here.site.0 ≤ 65000000) (sym c.base_of-here.ensures.family)
+    (subst (λ k. vector_count x k ≤ 65000000) (sym c.base_of-here.ensures.site) room)
 
 pub loop-j-preserved : goal.loop-j-preserved
 loop-j-preserved g c =
@@ -82,7 +59,7 @@ loop-j-preserved g c =
     let ends = g.S.Score.ends in
     let low = c.args.low in
     let high = c.args.high in
-    let here = c.of-here.result in
+    let here = c.base_of-here.result in
     let part : List Point = c.put_part.new.part in
     let parts : List (List Point) = c.loop-j.work.parts.items in
     let first : Point = depot_point x.case x.line x.held d in
@@ -90,16 +67,15 @@ loop-j-preserved g c =
     let inside : j - 1 < length parts =
     omega (arith, on.0, on.1, c.loop-j.invariant.count, bases_long x c.args.sources.now.bases.items c.requires.sources.bases) in
     let next : j + 1 - 1 ≡ j - 1 + 1 = omega (arith, on.0) in
-    let put : List (List Point) = set parts (c.from-place.result - 1) part in
+    let put : List (List Point) = set parts (c.from.result - 1) part in
     let made : take (j + 1 - 1) put ≡ take (j - 1) parts ++ part ∷ [] =
-    ap (λ n. take n put) next ∙ ap (λ n. take (j - 1 + 1) (set parts (n - 1) part)) c.from-place.ensures ∙ take_more_set parts (j - 1) part inside in
+    ap (λ n. take n put) next ∙ ap (λ n. take (j - 1 + 1) (set parts (n - 1) part)) c.from.ensures ∙ take_more_set parts (j - 1) part inside in
     let is : IsPartOf low high (base_points x.case x.line ends x.held x.low x.high d j) part =
-    subst (λ k. IsPartOf low high (base_points x.case x.line ends x.held x.low x.high d k) part) c.of-here.ensures.site
-    (subst (λ (v : List ℕ). IsPartOf low high (base_points x.case x.line ends x.held x.low x.high v here.site.0) part) c.of-here.ensures.depot
-    (subst (λ (y : FamilyBox). IsPartOf low high (base_points y.case y.line ends y.held y.low y.high here.depot.now here.site.0) part) c.of-here.ensures.family c.in_ok-put_part.ensures.part)) in
+    moved (λ (ps : List Point). IsPartOf low high ps part) ends here.family.now x here.depot.now d here.site.0 j c.base_of-here.ensures.family c.base_of-here.ensures.depot c.base_of-here.ensures.site
+    c.in_ok-put_part.ensures.part in
     let few : length part ≤ vector_count x j =
-    subst (λ k. length part ≤ vector_count x k) c.of-here.ensures.site
-    (subst (λ (y : FamilyBox). length part ≤ vector_count y here.site.0) c.of-here.ensures.family c.in_ok-put_part.ensures.few) in
+    subst (λ k. length part ≤ vector_count x k) c.base_of-here.ensures.site
+    (subst (λ (y : FamilyBox). length part ≤ vector_count y here.site.0) c.base_of-here.ensures.family c.in_ok-put_part.ensures.few) in
     record {
       stands = base_more x c.size-size.ensures.valid ends g.met.S.Score.leaves_room d c.requires.depot low high first j (take (j - 1) parts) (take (j + 1 - 1) put) part on
           c.loop-j.invariant.stands is made;
@@ -136,3 +112,30 @@ returns-clause-few g c =
     subst (λ n. 1 + sum_by length parts ≤ 1 + sum_by (vector_count x) (range_with_len 1 n)) last
     (subst (λ (ls : List (List Point)). 1 + sum_by length ls ≤ 1 + sum_by (vector_count x) (range_with_len 1 (c.loop-j.j - 1)))
     (made_all x parts c.args.sources.now.bases.items c.loop-j.j c.requires.sources.bases c.loop-j.invariant.count last) c.loop-j.invariant.few)
+
+pub put_part-requires-clause-here : goal.put_part-requires-clause-here
+put_part-requires-clause-here g c = c.base_of-here.ensures.is
+
+pub put_part-requires-clause-numbers : goal.put_part-requires-clause-numbers
+put_part-requires-clause-numbers g c = c.requires.sources.numbers ∙ sym (ap box_numbers c.base_of-here.ensures.family)
+
+pub put_part-requires-clause-tables : goal.put_part-requires-clause-tables
+put_part-requires-clause-tables g c = subst (λ (v : List ℕ). AreTables c.args.sources.now.numbers (drop 1 v) c.args.tables.now) (sym c.base_of-here.ensures.depot) c.requires.tables
+
+pub put_part-requires-clause-window : goal.put_part-requires-clause-window
+put_part-requires-clause-window g c = c.requires.window
+
+pub returns-clause-work : goal.returns-clause-work
+returns-clause-work g c = c.loop-j.invariant.count
+
+pub base_of-here-requires-clause-sources : goal.base_of-here-requires-clause-sources
+base_of-here-requires-clause-sources g c = c.requires.sources
+
+pub base_of-here-requires-clause-depot : goal.base_of-here-requires-clause-depot
+base_of-here-requires-clause-depot g c = c.requires.depot
+
+pub base_of-here-requires-clause-base : goal.base_of-here-requires-clause-base
+base_of-here-requires-clause-base g c = (omega (arith, c.loop-j.auto.j), omega (arith, c.loop-j-test.true, c.sites-j-end.ensures.sites))
+
+pub overflow_sub-from : goal.overflow_sub-from
+overflow_sub-from g c = omega (arith, c.from.ensures, c.loop-j.auto.j)

@@ -1,12 +1,13 @@
-use Rattle.std.proofs.Common.{◌*◌, ◌≤◌, sym, subst}
+use Rattle.std.proofs.Common.{◌*◌, ◌≤◌, IfOk, sym, subst}
 use Rattle.curve_parts.specs.Parts.{IsPartOf}
 use Rattle.family_points.specs.Inputs.{FamilyBox, vector_count, vertex_count}
 use Rattle.family_points.specs.Points.{points_within}
 use Rattle.family_parts.proofs.joining.family_part.Goals as goal
 
-pub whole_part-requires-clause-room : goal.whole_part-requires-clause-room
-whole_part-requires-clause-room g c = subst (λ (x : FamilyBox). vector_count x 0 * vertex_count x ≤ 65000000) (sym c.in_ok-sources.ensures.family) c.requires.room
+pub part_of-requires-clause-room : goal.part_of-requires-clause-room
+part_of-requires-clause-room g c = subst (λ (x : FamilyBox). vector_count x 0 * vertex_count x ≤ 65000000) (sym c.in_ok-sources.ensures.family) c.requires.room
 
 pub returns : goal.returns
 returns g c =
-    subst (λ (x : FamilyBox). IsPartOf c.args.low c.args.high (points_within x.case x.line g.S.Score.ends x.held x.low x.high) c.in_ok-part.part) c.in_ok-sources.ensures.family c.in_ok-part.ensures
+    subst (λ (x : FamilyBox). IfOk c.part_of.result (IsPartOf c.args.low c.args.high (points_within x.case x.line g.S.Score.ends x.held x.low x.high)))
+    c.in_ok-sources.ensures.family c.part_of.ensures

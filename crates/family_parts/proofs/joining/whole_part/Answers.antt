@@ -1,25 +1,22 @@
-use Rattle.std.proofs.Common.{◌≡◌, ℕ, suc, ◌+◌, ◌-◌, ◌/◌, ◌*◌, ◌<◌, ◌≤◌, List, [], ◌++◌, get_or, length, flat_map, sym, ap, ◌∙◌, subst, arith, mul-le-mul_left}
+use Rattle.std.proofs.Common.{Option, None, Some, IsSome, refl, ◌≡◌, ℕ, suc, ◌+◌, ◌-◌, ◌/◌, ◌*◌, ◌<◌, ◌≤◌, List, [], ◌++◌, get_or, length, flat_map, sym, ap, ◌∙◌, subst, arith, mul-le-mul_left}
 use Rattle.std.specs.List.{range_with_len}
-use Rattle.std.proofs.lemmas.List.{append-nil}
 use Rattle.std.proofs.lemmas.Nat.{mul-le}
 use Rattle.hull.specs.declared.point.Point.{Point}
 use Rattle.hull.specs.declared.price.Price.{Price}
+use Rattle.curve_parts.specs.Cuts.{IsWindow}
 use Rattle.curve_parts.specs.Parts.{IsPartOf}
+use Rattle.curve_parts.proofs.Shape.{part_some}
+use Rattle.family_curve.specs.Joining.{vertices_of}
+use Rattle.family_points.specs.Points.{ScoreEnds, points_within}
+use Rattle.family_points.proofs.LeastPoints.{box_some}
 use Rattle.family_points.specs.Inputs.{FamilyBox, IsFamilyBox, line_stocks, shop_vectors, vector_count, vertex_count}
-use Rattle.family_points.proofs.Points.{box_begins, flat_stock_behind, one_of, stocks_count, whole_room}
+use Rattle.family_points.proofs.Points.{box_begins, flat_stock_behind, stocks_count, whole_room}
 use Rattle.family_curve.proofs.Grown.{room_for}
 use Rattle.family_parts.specs.Growing.{Grows, in_turn, shop_points}
-use Rattle.family_parts.proofs.Grown.{grows_members, grows_on}
+use Rattle.family_parts.proofs.Grown.{grows_by_nothing, grows_members, grows_on}
 use Rattle.family_parts.proofs.InTurn.{placed_back, placed_there, turned_back, turned_there}
 use Rattle.family_parts.proofs.Whole.{part_of_box}
 use Rattle.family_parts.proofs.joining.whole_part.Goals as goal
-
-pub with_shops-requires-clause-room : goal.with_shops-requires-clause-room
-with_shops-requires-clause-room g c =
-    let x = c.args.sources.now.family.now in
-    let one = one_of (length (shop_vectors x 0)) (length (line_stocks x 0) * vertex_count x) 65000000 (omega (arith, c.shop_count-count.ensures.some, c.shop_count-count.ensures.count))
-    (whole_room x c.size-size.ensures.valid (vertex_count x) 65000000 c.requires.room) in
-    omega (arith, one)
 
 -- one of several numbers whose product is bounded is bounded
 factor_most : (s l v m : ℕ) → 0 < l → 0 < v → s * (l * v) ≤ m → s ≤ m
@@ -36,35 +33,22 @@ few_shops x valid room =
     let lines = stocks_count x valid 0 in
     factor_most (length (shop_vectors x 0)) (length (line_stocks x 0)) (vertex_count x) 65000000 (omega (arith, order, lines)) (omega arith) (whole_room x valid (vertex_count x) 65000000 room)
 
-pub in_turn-requires-clause-small : goal.in_turn-requires-clause-small
-in_turn-requires-clause-small g c = omega (arith, few_shops c.args.sources.now.family.now c.size-size.ensures.valid c.requires.room, c.shop_count-count.ensures.count)
-
-pub in_turn-requires-in-loop-n-clause-small : goal.in_turn-requires-in-loop-n-clause-small
-in_turn-requires-in-loop-n-clause-small g c = omega (arith, few_shops c.args.sources.now.family.now c.size-size.ensures.valid c.requires.room, c.shop_count-count.ensures.count)
+pub in_turn-number-requires-clause-small : goal.in_turn-number-requires-clause-small
+in_turn-number-requires-clause-small g c = omega (arith, few_shops c.args.sources.now.family.now c.size-size.ensures.valid c.requires.room, c.shop_count-count.ensures.count)
 
 pub loop-n-init : goal.loop-n-init
-loop-n-init g c =
-    let x = c.args.sources.now.family.now in
-    let low = c.args.low in
-    let high = c.args.high in
-    let all : List (List ℕ) = shop_vectors x 0 in
-    let middle : ℕ = (c.shop_count-count.result - 1) / 2 in
-    let own : List ℕ → List Point = shop_points x g.S.Score.ends in
-    let turn : ℕ → List Point = λ k. own (get_or all (in_turn middle (length all - 1) k) []) in
-    let first : c.in_ok-first.first.items ≡ get_or all (in_turn middle (length all - 1) 0) [] =
-    c.in_ok-first.ensures.vector ∙ ap (λ n. get_or all n []) c.in_turn.ensures.is ∙ ap (λ n. get_or all (in_turn middle (n - 1) 0) []) c.shop_count-count.ensures.count in
-    record {
-      few = omega (arith, c.in_ok-part.ensures.few);
-      part = subst (λ (ps : List Point). Grows low high ps [] c.in_ok-part.part) (ap own (c.as_slice.ensures.value ∙ first) ∙ sym (append-nil (turn 0))) c.in_ok-part.ensures.part;
-      work = c.in_ok-part.ensures.work;
-      widths = c.in_ok-part.ensures.widths;
-    }
+loop-n-init g c = record {
+  few = omega arith;
+  part = grows_by_nothing c.args.low c.args.high [];
+  work = c.requires.work;
+  widths = λ v m. absurd m;
+}
 
-pub with_shops-requires-in-loop-n-clause-room : goal.with_shops-requires-in-loop-n-clause-room
-with_shops-requires-in-loop-n-clause-room g c =
+pub grow_with_shops-requires-clause-room : goal.grow_with_shops-requires-clause-room
+grow_with_shops-requires-clause-room g c =
     let x = c.args.sources.now.family.now in
     let room = whole_room x c.size-size.ensures.valid (vertex_count x) 65000000 c.requires.room in
-    room_for c.loop-n.n (length (shop_vectors x 0)) (length (line_stocks x 0) * vertex_count x) (length c.loop-n.part) 0 65000000 (omega (arith, c.loop-n.invariant.few))
+    room_for c.loop-n.n (length (shop_vectors x 0)) (length (line_stocks x 0) * vertex_count x) (length (vertices_of c.loop-n.part)) 0 65000000 (omega (arith, c.loop-n.invariant.few))
     (omega (arith, c.loop-n-test.true, c.shop_count-count.ensures.count)) (omega (arith, room))
 
 pub loop-n-preserved : goal.loop-n-preserved
@@ -77,41 +61,93 @@ loop-n-preserved g c =
     let middle : ℕ = (c.shop_count-count.result - 1) / 2 in
     let own : List ℕ → List Point = shop_points x g.S.Score.ends in
     let turn : ℕ → List Point = λ k. own (get_or all (in_turn middle (length all - 1) k) []) in
-    let made : List Point = c.in_ok-part-2.part in
-    let shops : c.in_ok-shops.shops.items ≡ get_or all (in_turn middle (length all - 1) n) [] =
-    c.in_ok-shops.ensures.vector ∙ ap (λ k. get_or all k []) c.in_turn-in-loop-n.ensures.is ∙ ap (λ k. get_or all (in_turn middle (k - 1) n) []) c.shop_count-count.ensures.count in
-    let here : Grows low high (turn n) c.loop-n.part made =
-    subst (λ (ps : List Point). Grows low high ps c.loop-n.part made) (ap own (c.as_slice-in-loop-n.ensures.value ∙ shops)) c.in_ok-part-2.ensures.part in
+    let made : List Point = vertices_of c.grow_with_shops.new.part in
+    let shops : get_or all c.in_turn-number.result [] ≡ get_or all (in_turn middle (length all - 1) n) [] =
+    ap (λ k. get_or all k []) c.in_turn-number.ensures.is ∙ ap (λ k. get_or all (in_turn middle (k - 1) n) []) c.shop_count-count.ensures.count in
+    let here : Grows low high (turn n) (vertices_of c.loop-n.part) made =
+    subst (λ (ps : List Point). Grows low high ps (vertices_of c.loop-n.part) made) (ap own shops) c.in_ok-grow_with_shops.ensures.part in
     let whole : flat_map turn (range_with_len 0 (n + 1)) ≡ flat_map turn (range_with_len 0 n) ++ turn n = flat_stock_behind turn 0 n n (omega arith) in
     record {
-      few = omega (arith, c.in_ok-part-2.ensures.few, c.loop-n.invariant.few);
+      few = omega (arith, c.in_ok-grow_with_shops.ensures.few, c.loop-n.invariant.few);
       part = subst (λ (ps : List Point). Grows low high ps [] made) (sym whole)
-          (grows_on low high (flat_map turn (range_with_len 0 n)) (turn n) [] c.loop-n.part made c.loop-n.invariant.part here);
-      work = c.in_ok-part-2.ensures.work;
-      widths = c.in_ok-part-2.ensures.widths;
+          (grows_on low high (flat_map turn (range_with_len 0 n)) (turn n) [] (vertices_of c.loop-n.part) made c.loop-n.invariant.part here);
+      work = c.in_ok-grow_with_shops.ensures.work;
+      widths = c.in_ok-grow_with_shops.ensures.widths;
     }
 
 -- no points have no part
 no_part : (low high : Price) → IsPartOf low high [] []
 no_part low high = record { rises = tt; among = λ v m. m; vertices = λ v m. absurd m; firsts = λ v w m n s. absurd m; complete = λ w m h. absurd m }
 
+-- the part of the stocks of all turns is the part of the box
+all_turns : (x : FamilyBox) → IsFamilyBox x → (ends : ScoreEnds) (low high : Price) (middle n : ℕ) → 0 < n → n ≡ length (shop_vectors x 0) → (part : List Point)
+    → Grows low high (flat_map (λ k. shop_points x ends (get_or (shop_vectors x 0) (in_turn middle (length (shop_vectors x 0) - 1) k) [])) (range_with_len 0 n)) [] part
+    → IsPartOf low high (points_within x.case x.line ends x.held x.low x.high) part
+all_turns x valid ends low high middle n some whole part grown =
+    let all : List (List ℕ) = shop_vectors x 0 in
+    let last : ℕ = length all - 1 in
+    let own : List ℕ → List Point = shop_points x ends in
+    let each : ℕ → List Point = λ i. own (get_or all i []) in
+    let turns : n ≡ suc last = omega (arith, whole, some) in
+    part_of_box x valid ends low high part
+    (grows_members low high (flat_map (λ k. each (in_turn middle last k)) (range_with_len 0 n)) (flat_map own all) [] part
+    (λ v m. placed_there own all [] n whole v (turned_there each middle last n turns v m)) (λ v m. turned_back each middle last n turns v (placed_back own all [] n whole v m))
+    grown [] (no_part low high))
+
+-- a list of vertices that has one is of a part
+some_part : (part : Option (List Point)) → 0 < length (vertices_of part) → IsSome part
+some_part None h = absurd (omega (arith, h))
+some_part (Some part) h = refl
+
+-- the part of the box has a vertex
+box_part_some : (x : FamilyBox) → IsFamilyBox x → (ends : ScoreEnds) (low high : Price) → IsWindow low high → (part : List Point)
+    → IsPartOf low high (points_within x.case x.line ends x.held x.low x.high) part → 0 < length part
+box_part_some x valid ends low high window part is = part_some low high (points_within x.case x.line ends x.held x.low x.high) part
+    (box_some x.case x.line ends 0 0 x.held x.low x.high valid.valid valid.is_line valid.ordered) window is
+
+pub unwrap-requires : goal.unwrap-requires
+unwrap-requires g c =
+    let x = c.args.sources.now.family.now in
+    let valid = c.size-size.ensures.valid in
+    let whole : c.loop-n.n ≡ length (shop_vectors x 0) = omega (arith, c.loop-n-test.false, c.loop-n.auto.n-end, c.shop_count-count.ensures.count) in
+    some_part c.loop-n.part (box_part_some x valid g.S.Score.ends c.args.low c.args.high c.requires.window (vertices_of c.loop-n.part)
+    (all_turns x valid g.S.Score.ends c.args.low c.args.high ((c.shop_count-count.result - 1) / 2) c.loop-n.n (omega (arith, whole, c.shop_count-count.ensures.some, c.shop_count-count.ensures.count)) whole
+    (vertices_of c.loop-n.part) c.loop-n.invariant.part))
+
 pub returns : goal.returns
 returns g c =
     let x = c.args.sources.now.family.now in
-    let low = c.args.low in
-    let high = c.args.high in
-    let n = c.loop-n.n in
-    let all : List (List ℕ) = shop_vectors x 0 in
-    let middle : ℕ = (c.shop_count-count.result - 1) / 2 in
-    let last : ℕ = length all - 1 in
-    let own : List ℕ → List Point = shop_points x g.S.Score.ends in
-    let each : ℕ → List Point = λ i. own (get_or all i []) in
-    let some = c.shop_count-count.ensures.some in
-    let count = c.shop_count-count.ensures.count in
-    let end : n ≤ c.shop_count-count.result = c.loop-n.auto.n-end (omega (arith, some)) in
-    let whole : n ≡ length all = omega (arith, c.loop-n-test.false, end, count) in
-    let turns : n ≡ suc last = omega (arith, whole, some, count) in
-    part_of_box x c.size-size.ensures.valid g.S.Score.ends low high c.loop-n.part
-    (grows_members low high (flat_map (λ k. each (in_turn middle last k)) (range_with_len 0 n)) (flat_map own all) [] c.loop-n.part
-    (λ v m. placed_there own all [] n whole v (turned_there each middle last n turns v m)) (λ v m. turned_back each middle last n turns v (placed_back own all [] n whole v m))
-    c.loop-n.invariant.part [] (no_part low high))
+    let whole : c.loop-n.n ≡ length (shop_vectors x 0) = omega (arith, c.loop-n-test.false, c.loop-n.auto.n-end, c.shop_count-count.ensures.count) in
+    subst (λ (o : Option (List Point)). IsPartOf c.args.low c.args.high (points_within x.case x.line g.S.Score.ends x.held x.low x.high) (vertices_of o)) c.unwrap.ensures
+    (all_turns x c.size-size.ensures.valid g.S.Score.ends c.args.low c.args.high ((c.shop_count-count.result - 1) / 2) c.loop-n.n
+    (omega (arith, whole, c.shop_count-count.ensures.some, c.shop_count-count.ensures.count)) whole (vertices_of c.loop-n.part) c.loop-n.invariant.part)
+
+pub grow_with_shops-requires-clause-sources : goal.grow_with_shops-requires-clause-sources
+grow_with_shops-requires-clause-sources g c = c.requires.sources
+
+pub grow_with_shops-requires-clause-low : goal.grow_with_shops-requires-clause-low
+grow_with_shops-requires-clause-low g c = c.requires.low
+
+pub grow_with_shops-requires-clause-high : goal.grow_with_shops-requires-clause-high
+grow_with_shops-requires-clause-high g c = c.requires.high
+
+pub grow_with_shops-requires-clause-window : goal.grow_with_shops-requires-clause-window
+grow_with_shops-requires-clause-window g c = c.requires.window
+
+pub grow_with_shops-requires-clause-work : goal.grow_with_shops-requires-clause-work
+grow_with_shops-requires-clause-work g c = c.loop-n.invariant.work
+
+pub grow_with_shops-requires-clause-widths : goal.grow_with_shops-requires-clause-widths
+grow_with_shops-requires-clause-widths g c = c.loop-n.invariant.widths
+
+pub shop_count-count-requires : goal.shop_count-count-requires
+shop_count-count-requires g c = let some = c.size-size.ensures.valid.valid.frame.fewest_sites in omega (arith, some)
+
+pub in_turn-number-requires-clause-order : goal.in_turn-number-requires-clause-order
+in_turn-number-requires-clause-order g c = omega arith
+
+pub in_turn-number-requires-clause-within : goal.in_turn-number-requires-clause-within
+in_turn-number-requires-clause-within g c = omega (arith, c.loop-n-test.true)
+
+pub grow_with_shops-requires-clause-number : goal.grow_with_shops-requires-clause-number
+grow_with_shops-requires-clause-number g c = omega (arith, c.in_turn-number.ensures.within, c.shop_count-count.ensures.some, c.shop_count-count.ensures.count)

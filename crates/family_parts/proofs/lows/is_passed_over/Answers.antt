@@ -1,9 +1,5 @@
-use Rattle.std.proofs.Common.{ℕ, ◌-◌, ◌^◌, ◌<◌, ◌≤◌, ◌∙◌, get_or, List, length, ap, subst, arith}
+use Rattle.std.proofs.Common.{◌-◌, ◌^◌, ◌≤◌, ◌∙◌, length, arith}
 use Rattle.std.proofs.lemmas.Nat.{mul-le}
-use Rattle.family_points.specs.Separation.{base_points}
-use Rattle.family_points.specs.Inputs.{FamilyBox}
-use Rattle.family_points.specs.Least.{AreAtLeast}
-use Rattle.family_points.proofs.AllBases.{base_read, bases_long}
 use Rattle.family_floors.proofs.LowPoints.{base_under_more, depot_under}
 use Rattle.family_parts.proofs.Below.{bound_stays}
 use Rattle.family_parts.proofs.lows.is_passed_over.Goals as goal
@@ -41,48 +37,18 @@ returns-then-is_passed g c = λ t w m.
     (bound_stays x ends d c.args.low.p c.args.low.q c.loop-j.at_low (c.loop-j.j - 1) (length x.case.sites - 1) within c.loop-j.invariant.low w m)
     (bound_stays x ends d c.args.high.p c.args.high.q c.loop-j.at_high (c.loop-j.j - 1) (length x.case.sites - 1) within c.loop-j.invariant.high w m)
 
-pub index-base-requires : goal.index-base-requires
-index-base-requires g c =
-    omega (
-      arith,
-      bases_long c.args.sources.now.family.now c.args.sources.now.bases.items c.requires.sources.bases,
-      c.args.sources.now.bases.ok.0,
-      c.loop-j.auto.j,
-      c.loop-j-test.true,
-      c.sites-j-end.ensures.sites,
-      c.from.ensures,
-    )
-
-pub of-here-requires-clause-base : goal.of-here-requires-clause-base
-of-here-requires-clause-base g c =
-    let x = c.args.sources.now.family.now in
-    let bases = c.args.sources.now.bases.items in
-    let some : 0 < c.loop-j.j = omega (arith, c.loop-j.auto.j) in
-    let most : c.loop-j.j < length x.case.sites = omega (arith, c.loop-j-test.true, c.sites-j-end.ensures.sites) in
-    base_read x c.loop-j.j bases c.index-base.result.now c.requires.sources.bases some most
-    (c.index-base.ensures ∙ ap (λ n. get_or bases (n - 1) c.index-base.result.now) c.from.ensures)
-
 pub loop-j-preserved : goal.loop-j-preserved
 loop-j-preserved g c =
     let x = c.args.sources.now.family.now in
     let d = c.args.depot.now in
     let j = c.loop-j.j in
     let ends = g.S.Score.ends in
-    let here = c.of-here.result in
-    let more = c.lows_at_base-more.result in
-    let low : AreAtLeast c.args.low.p c.args.low.q more.at_low (base_points x.case x.line ends x.held x.low x.high d j) =
-    subst (λ k. AreAtLeast c.args.low.p c.args.low.q more.at_low (base_points x.case x.line ends x.held x.low x.high d k)) c.of-here.ensures.site
-    (subst (λ (v : List ℕ). AreAtLeast c.args.low.p c.args.low.q more.at_low (base_points x.case x.line ends x.held x.low x.high v here.site.0)) c.of-here.ensures.depot
-    (subst (λ (y : FamilyBox). AreAtLeast c.args.low.p c.args.low.q more.at_low (base_points y.case y.line ends y.held y.low y.high here.depot.now here.site.0)) c.of-here.ensures.family c.lows_at_base-more.ensures.at_low)) in
-    let high : AreAtLeast c.args.high.p c.args.high.q more.at_high (base_points x.case x.line ends x.held x.low x.high d j) =
-    subst (λ k. AreAtLeast c.args.high.p c.args.high.q more.at_high (base_points x.case x.line ends x.held x.low x.high d k)) c.of-here.ensures.site
-    (subst (λ (v : List ℕ). AreAtLeast c.args.high.p c.args.high.q more.at_high (base_points x.case x.line ends x.held x.low x.high v here.site.0)) c.of-here.ensures.depot
-    (subst (λ (y : FamilyBox). AreAtLeast c.args.high.p c.args.high.q more.at_high (base_points y.case y.line ends y.held y.low y.high here.depot.now here.site.0)) c.of-here.ensures.family c.lows_at_base-more.ensures.at_high)) in
+    let more = c.lows_at_base-more in
     record {
-      low = base_under_more x ends d c.args.low.p c.args.low.q j c.loop-j.at_low more.at_low (omega (arith, c.loop-j.auto.j)) c.loop-j.invariant.low low;
-      high = base_under_more x ends d c.args.high.p c.args.high.q j c.loop-j.at_high more.at_high (omega (arith, c.loop-j.auto.j)) c.loop-j.invariant.high high;
-      most_low = omega (arith, c.loop-j.invariant.most_low, c.lows_at_base-more.ensures.most.0);
-      most_high = omega (arith, c.loop-j.invariant.most_high, c.lows_at_base-more.ensures.most.1);
+      low = base_under_more x ends d c.args.low.p c.args.low.q j c.loop-j.at_low more.result.at_low (omega (arith, c.loop-j.auto.j)) c.loop-j.invariant.low more.ensures.at_low;
+      high = base_under_more x ends d c.args.high.p c.args.high.q j c.loop-j.at_high more.result.at_high (omega (arith, c.loop-j.auto.j)) c.loop-j.invariant.high more.ensures.at_high;
+      most_low = omega (arith, c.loop-j.invariant.most_low, more.ensures.most.0);
+      most_high = omega (arith, c.loop-j.invariant.most_high, more.ensures.most.1);
     }
 
 pub returns : goal.returns
@@ -95,3 +61,45 @@ returns g c = λ t w m.
     c.is_passed-2.ensures t w
     (bound_stays x ends d c.args.low.p c.args.low.q c.loop-j.at_low (c.loop-j.j - 1) (length x.case.sites - 1) last c.loop-j.invariant.low w m)
     (bound_stays x ends d c.args.high.p c.args.high.q c.loop-j.at_high (c.loop-j.j - 1) (length x.case.sites - 1) last c.loop-j.invariant.high w m)
+
+pub is_passed-requires-clause-ranges : goal.is_passed-requires-clause-ranges
+is_passed-requires-clause-ranges g c = c.requires.ranges
+
+pub is_passed-requires-clause-low : goal.is_passed-requires-clause-low
+is_passed-requires-clause-low g c = c.requires.low
+
+pub is_passed-requires-clause-high : goal.is_passed-requires-clause-high
+is_passed-requires-clause-high g c = c.requires.high
+
+pub is_passed-requires-2-clause-ranges : goal.is_passed-requires-2-clause-ranges
+is_passed-requires-2-clause-ranges g c = c.requires.ranges
+
+pub is_passed-requires-2-clause-low : goal.is_passed-requires-2-clause-low
+is_passed-requires-2-clause-low g c = c.requires.low
+
+pub is_passed-requires-2-clause-high : goal.is_passed-requires-2-clause-high
+is_passed-requires-2-clause-high g c = c.requires.high
+
+pub cost-requires-clause-site : goal.cost-requires-clause-site
+cost-requires-clause-site g c = let some = c.size-size.ensures.valid.valid.frame.fewest_sites in omega (arith, some)
+
+pub cost-requires-clause-stocks : goal.cost-requires-clause-stocks
+cost-requires-clause-stocks g c = c.requires.depot
+
+pub overflow_add-at_low : goal.overflow_add-at_low
+overflow_add-at_low g c = omega (arith, c.loop-j.invariant.most_low, c.lows_at_base-more.ensures.most.0, c.loop-j-test.true, c.sites-j-end.ensures.most)
+
+pub overflow_add-at_high : goal.overflow_add-at_high
+overflow_add-at_high g c = omega (arith, c.loop-j.invariant.most_high, c.lows_at_base-more.ensures.most.1, c.loop-j-test.true, c.sites-j-end.ensures.most)
+
+pub lows_at_base-more-requires-clause-sources : goal.lows_at_base-more-requires-clause-sources
+lows_at_base-more-requires-clause-sources g c = c.requires.sources
+
+pub lows_at_base-more-requires-clause-depot : goal.lows_at_base-more-requires-clause-depot
+lows_at_base-more-requires-clause-depot g c = c.requires.depot
+
+pub lows_at_base-more-requires-clause-tables : goal.lows_at_base-more-requires-clause-tables
+lows_at_base-more-requires-clause-tables g c = c.requires.tables
+
+pub lows_at_base-more-requires-clause-base : goal.lows_at_base-more-requires-clause-base
+lows_at_base-more-requires-clause-base g c = (omega (arith, c.loop-j.auto.j), omega (arith, c.loop-j-test.true, c.sites-j-end.ensures.sites))

@@ -1,24 +1,52 @@
-use Rattle.std.proofs.Common.{◌-◌, ◌<◌, ◌∙◌, get_or, length, ap, arith}
-use Rattle.family_points.proofs.AllBases.{base_read, bases_long}
+use Rattle.std.proofs.Common.{◌^◌, ◌≤◌, arith}
+use Rattle.std.proofs.lemmas.Nat.{mul-le}
 use Rattle.family_parts.proofs.near.lower_at_depot.Goals as goal
 
-pub index-base-requires : goal.index-base-requires
-index-base-requires g c =
-    omega (
-      arith,
-      bases_long c.args.sources.now.family.now c.args.sources.now.bases.items c.requires.sources.bases,
-      c.args.sources.now.bases.ok.0,
-      c.loop-j.auto.j,
-      c.loop-j-test.true,
-      c.sites-j-end.ensures.sites,
-      c.from.ensures,
-    )
+pub cost-requires-clause-site : goal.cost-requires-clause-site
+cost-requires-clause-site g c = let some = c.size-size.ensures.valid.valid.frame.fewest_sites in omega (arith, some)
 
-pub of-here-requires-clause-base : goal.of-here-requires-clause-base
-of-here-requires-clause-base g c =
-    let x = c.args.sources.now.family.now in
-    let bases = c.args.sources.now.bases.items in
-    let some : 0 < c.loop-j.j = omega (arith, c.loop-j.auto.j) in
-    let most : c.loop-j.j < length x.case.sites = omega (arith, c.loop-j-test.true, c.sites-j-end.ensures.sites) in
-    base_read x c.loop-j.j bases c.index-base.result.now c.requires.sources.bases some most
-    (c.index-base.ensures ∙ ap (λ n. get_or bases (n - 1) c.index-base.result.now) c.from.ensures)
+pub cost-requires-clause-stocks : goal.cost-requires-clause-stocks
+cost-requires-clause-stocks g c = c.requires.depot
+
+pub overflow_mul-sums : goal.overflow_mul-sums
+overflow_mul-sums g c =
+    let few : c.from-cost.result ≤ 1000000000000 = omega (arith, c.cost.ensures.most, c.from-cost.ensures) in
+    omega (arith, mul-le c.args.low.p c.from-cost.result (2 ^ 74) 1000000000000 c.requires.low.p few)
+
+pub overflow_mul-sums-2 : goal.overflow_mul-sums-2
+overflow_mul-sums-2 g c =
+    let few : c.from-cost.result ≤ 1000000000000 = omega (arith, c.cost.ensures.most, c.from-cost.ensures) in
+    omega (arith, mul-le c.args.high.p c.from-cost.result (2 ^ 74) 1000000000000 c.requires.high.p few)
+
+pub loop-j-init : goal.loop-j-init
+loop-j-init g c =
+    let few : c.from-cost.result ≤ 1000000000000 = omega (arith, c.cost.ensures.most, c.from-cost.ensures) in
+    let p = mul-le c.args.low.p c.from-cost.result (2 ^ 74) 1000000000000 c.requires.low.p few in
+    let q = mul-le c.args.high.p c.from-cost.result (2 ^ 74) 1000000000000 c.requires.high.p few in
+    record { most_low = omega (arith, p); most_high = omega (arith, q) }
+
+pub overflow_add-sums : goal.overflow_add-sums
+overflow_add-sums g c =
+    omega (arith, c.loop-j.invariant.most_low, c.lows_at_base-more.ensures.most.0, c.loop-j-test.true, c.sites-j-end.ensures.most)
+
+pub overflow_add-sums-in-loop-j : goal.overflow_add-sums-in-loop-j
+overflow_add-sums-in-loop-j g c =
+    omega (arith, c.loop-j.invariant.most_high, c.lows_at_base-more.ensures.most.1, c.loop-j-test.true, c.sites-j-end.ensures.most)
+
+pub loop-j-preserved : goal.loop-j-preserved
+loop-j-preserved g c = record {
+  most_low = omega (arith, c.loop-j.invariant.most_low, c.lows_at_base-more.ensures.most.0);
+  most_high = omega (arith, c.loop-j.invariant.most_high, c.lows_at_base-more.ensures.most.1);
+}
+
+pub lows_at_base-more-requires-clause-sources : goal.lows_at_base-more-requires-clause-sources
+lows_at_base-more-requires-clause-sources g c = c.requires.sources
+
+pub lows_at_base-more-requires-clause-depot : goal.lows_at_base-more-requires-clause-depot
+lows_at_base-more-requires-clause-depot g c = c.requires.depot
+
+pub lows_at_base-more-requires-clause-tables : goal.lows_at_base-more-requires-clause-tables
+lows_at_base-more-requires-clause-tables g c = c.requires.tables
+
+pub lows_at_base-more-requires-clause-base : goal.lows_at_base-more-requires-clause-base
+lows_at_base-more-requires-clause-base g c = (omega (arith, c.loop-j.auto.j), omega (arith, c.loop-j-test.true, c.sites-j-end.ensures.sites))

@@ -1,14 +1,37 @@
-use Rattle.std.proofs.Common.{◌≤◌, sym, ◌∙◌, subst, arith}
-use Rattle.family_points.specs.Inputs.{IsAt, line_high, line_low}
-use Rattle.family_points.proofs.Points.{joined_at}
+use Rattle.std.proofs.Common.{ℕ, List, drop, length, sym, ap, ◌∙◌, subst, arith}
+use Rattle.family_points.specs.Inputs.{AreShopsAt}
+use Rattle.family_rows.specs.Tabled.{AreTables}
 use Rattle.family_parts.proofs.near.lower_at_shops.Goals as goal
 
-pub lower_at_depot-least-requires-clause-depot : goal.lower_at_depot-least-requires-clause-depot
-lower_at_depot-least-requires-clause-depot g c =
-    let x = c.args.sources.now.family.now in
-    let valid = c.size-size.ensures.valid in
-    let some = valid.valid.frame.fewest_sites in
-    let low : line_low x 0 ≤ c.loop-s.s = omega (arith, c.line_low-first.ensures, c.loop-s.auto.s) in
-    let high : c.loop-s.s ≤ line_high x 0 = omega (arith, c.line_high-last.ensures.high, c.loop-s-test.true) in
-    subst (IsAt x 0) (sym (c.as_slice-at_depot.ensures.value ∙ c.in_ok-stocks.ensures))
-    (joined_at x valid 0 c.loop-s.s c.args.shops.now (omega (arith, some)) c.requires.shops low high)
+pub stocks_at-requires : goal.stocks_at-requires
+stocks_at-requires g c = c.requires.number
+
+pub shops_of-requires : goal.shops_of-requires
+shops_of-requires g c = omega (arith, ap length (c.as_slice.ensures.value ∙ c.in_ok-stocks.ensures.stocks))
+
+pub depot_tables-requires-clause-sources : goal.depot_tables-requires-clause-sources
+depot_tables-requires-clause-sources g c = c.requires.sources
+
+pub depot_tables-requires-clause-depot : goal.depot_tables-requires-clause-depot
+depot_tables-requires-clause-depot g c =
+    subst (AreShopsAt c.args.sources.now.family.now 0) (sym (c.shops_of.ensures ∙ ap (drop 1) c.as_slice.ensures.value)) c.in_ok-stocks.ensures.shops
+
+pub lower_at_lines-requires-clause-sources : goal.lower_at_lines-requires-clause-sources
+lower_at_lines-requires-clause-sources g c = c.requires.sources
+
+pub lower_at_lines-requires-clause-some : goal.lower_at_lines-requires-clause-some
+lower_at_lines-requires-clause-some g c = omega (arith, ap length (c.as_mut_slice-at_depot.ensures.value ∙ c.in_ok-stocks.ensures.stocks))
+
+pub lower_at_lines-requires-clause-shops : goal.lower_at_lines-requires-clause-shops
+lower_at_lines-requires-clause-shops g c = subst (AreShopsAt c.args.sources.now.family.now 0) (sym (ap (drop 1) c.as_mut_slice-at_depot.ensures.value)) c.in_ok-stocks.ensures.shops
+
+pub lower_at_lines-requires-clause-tables : goal.lower_at_lines-requires-clause-tables
+lower_at_lines-requires-clause-tables g c =
+    subst (λ (l : List ℕ). AreTables c.args.sources.now.numbers l c.in_ok-tables.tables)
+    (c.shops_of.ensures ∙ ap (drop 1) (c.as_slice.ensures.value ∙ sym c.as_mut_slice-at_depot.ensures.value)) c.in_ok-tables.ensures
+
+pub lower_at_lines-requires-clause-low : goal.lower_at_lines-requires-clause-low
+lower_at_lines-requires-clause-low g c = c.requires.low
+
+pub lower_at_lines-requires-clause-high : goal.lower_at_lines-requires-clause-high
+lower_at_lines-requires-clause-high g c = c.requires.high

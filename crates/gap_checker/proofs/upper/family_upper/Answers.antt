@@ -5,12 +5,12 @@ use Rattle.gap_checker.proofs.upper.family_upper.Goals as goal
 
 pub upper_within-requires-clause-ordered : goal.upper_within-requires-clause-ordered
 upper_within-requires-clause-ordered g c =
-    one_ordered c.args.cert.now.case c.args.line.0 c.in_ok-vector_of.field-0 c.in_ok-vector_of-2.field-0 c.in_ok-vector_of-3.field-0 (vector_of c.args.cert.now.case c.args.line.0 c.args.held.now.list) (vector_of c.args.cert.now.case c.args.line.0 c.args.cert.now.stocks.list)
-    c.in_ok-vector_of.ensures c.in_ok-vector_of-2.ensures c.in_ok-vector_of-3.ensures
+    one_ordered c.args.cert.now.case c.args.line.0 c.in_ok-bounds.bounds (vector_of c.args.cert.now.case c.args.line.0 c.args.held.now.list) (vector_of c.args.cert.now.case c.args.line.0 c.args.cert.now.stocks.list)
+    c.in_ok-bounds.ensures
     (vectors_ordered c.args.cert.now.case c.args.line.0 c.args.held.now c.args.cert.now.stocks c.requires.is_line.is_part c.requires.kept)
     (vector_limited c.args.cert.now.case c.args.line.0 c.args.cert.now.stocks c.requires.is_line.is_part c.requires.limited)
 
 pub returns-clause-upper : goal.returns-clause-upper
 returns-clause-upper g c =
-    one_upper c.args.cert.now.case c.args.line.0 g.S.Score.ends c.in_ok-vector_of.field-0 c.in_ok-vector_of-2.field-0 c.in_ok-vector_of-3.field-0 (vector_of c.args.cert.now.case c.args.line.0 c.args.held.now.list) (vector_of c.args.cert.now.case c.args.line.0 c.args.cert.now.stocks.list)
-    c.in_ok-upper.upper c.in_ok-vector_of.ensures c.in_ok-vector_of-2.ensures c.in_ok-vector_of-3.ensures c.in_ok-upper.ensures.upper
+    one_upper c.args.cert.now.case c.args.line.0 g.S.Score.ends c.in_ok-bounds.bounds (vector_of c.args.cert.now.case c.args.line.0 c.args.held.now.list) (vector_of c.args.cert.now.case c.args.line.0 c.args.cert.now.stocks.list)
+    c.upper_within.result c.in_ok-bounds.ensures c.upper_within.ensures.upper

@@ -1,5 +1,6 @@
 -- What is left of the chain is all that is still to come.
-use Rattle.std.proofs.Common.{◌≡◌, ◌≤◌, List, [], ◌∷◌, ◌++◌, map, length, refl, sym, ap, ap₂, ◌∙◌, subst, arith, rules, false, true, vec_len}
+use Rattle.std.proofs.Common.{◌≡◌, ℕ, suc, ◌+◌, ◌<◌, ◌≤◌, List, [], ◌∷◌, ◌++◌, map, length, refl, sym, ap, ap₂, ◌∙◌, subst, arith, rules, le_refl, le_trans, vec_capacity, vec_len}
+use Rattle.std.proofs.lemmas.Bool.{false≢true}
 use Rattle.std.proofs.lemmas.List.{append-nil, map-append}
 use Rattle.hull.specs.declared.point.Point.{Point}
 use Rattle.hull.specs.Curves.{Among, StandFor, IsChain, InRange}
@@ -43,19 +44,30 @@ module _ {X : Type 0} (f : X → Point) (points : List Point) (stack left rest :
   all_chain : (made : List X) → made ≡ (stack ++ x ∷ []) ++ rest → Follows (map f stack) (map f left) → IsChain (map f stack ++ f x ∷ []) → IsChain (map f made)
   all_chain made e follows c = subst IsChain (sym (all made e)) (all_go_on (map f stack) (f x) (map f rest) (subst (λ l. Follows (map f stack) (map f l)) is follows) c)
 
+-- numbers: `n` points of the stack, `l` that are left, `r` after the next of them, and `t` in all
+
+fewer_left : (l r : ℕ) → l ≡ suc r → r < l
+fewer_left l r e = omega (arith, e)
+
+all_room : (n m l r t : ℕ) → l ≡ suc r → n + l ≤ t → m ≤ n + 1 → m + r ≤ t
+all_room n m l r t e room more = omega (arith, e, room, more)
+
+some_room : (n l r t capacity : ℕ) → l ≡ suc r → n + l ≤ t → t ≤ capacity → n < capacity
+some_room n l r t capacity e room most = omega (arith, e, room, most)
+
+within_room : (n l a t len : ℕ) → len ≡ t → n + l ≤ a + t → n ≤ a + len
+within_room n l a t len e room = omega (arith, e, room)
+
 pub loop-point-init : goal.loop-point-init
 loop-point-init g c =
     let f = g.T.Spot.point in
-    let some = c.requires.some in
-    let q : length c.args.left.items ≡ _ = sym c.args.left.ok.0 in
-    let room = c.requires.room in
     record {
       joined = begins (map f c.args.stack.items) (map f c.args.left.items) c.requires.chain c.requires.left_chain c.requires.order c.requires.ranges;
       left_chain = c.requires.left_chain;
-      follows = λ h. absurd (let e : false ≡ true = h in cc);
-      room = omega arith;
-      capacity = omega (arith, q, room);
-      some = some;
+      follows = λ h. absurd (false≢true h);
+      room = le_refl _;
+      capacity = subst (λ n. vec_len c.args.stack + n ≤ vec_capacity c.args.stack) c.args.left.ok.0 c.requires.room;
+      some = c.requires.some;
     }
 
 pub goes_on-requires-clause-order : goal.goes_on-requires-clause-order
@@ -89,14 +101,14 @@ loop-point-preserved g c =
     let f = g.T.Spot.point in
     let is = c.in-Some.ensures.items in
     let i = c.loop-point.invariant in
-    let fewer : length c.loop-point.left.items ≡ length (c.in-Some.point ∷ c.pop_front.new.self.items) = ap length is in
+    let fewer = ap length is in
     let here : IsChain (f c.in-Some.point ∷ map f c.pop_front.new.self.items) = subst (λ l. IsChain (map f l)) is i.left_chain in
     record {
       joined = goes f (map f c.args.stack.items ++ map f c.args.left.items) c.loop-point.stack.items c.loop-point.left.items c.pop_front.new.self.items c.in-Some.point is i.joined c.grow-follows.new.stack.items c.grow-follows.ensures.chain c.grow-follows.ensures.stands;
       left_chain = chain_rest (f c.in-Some.point) (map f c.pop_front.new.self.items) here;
       follows = λ h. (let l = c.grow-follows.ensures.last h in record { front = l.0; last = f c.in-Some.point; is = l.1; chain = here });
-      room = (let a = i.room in let b = c.grow-follows.ensures.len in omega (arith, fewer, a, b));
-      capacity = (let a = i.capacity in let b = c.grow-follows.ensures.capacity in omega (arith, a, b));
+      room = all_room _ _ _ _ _ fewer i.room c.grow-follows.ensures.len;
+      capacity = le_trans i.capacity c.grow-follows.ensures.capacity;
       some = c.grow-follows.ensures.some;
     }
 
@@ -130,14 +142,10 @@ goes_on-requires-clause-chain g c = subst (λ s. IsChain (map g.T.Spot.point s))
 
 pub grow-follows-requires-clause-room : goal.grow-follows-requires-clause-room
 grow-follows-requires-clause-room g c =
-    let fewer : length c.loop-point.left.items ≡ length (c.in-Some.point ∷ c.pop_front.new.self.items) = ap length c.in-Some.ensures.items in
-    let len : vec_len c.loop-point.stack ≡ length c.loop-point.stack.items = c.loop-point.stack.ok.0 in
-    let room = c.loop-point.invariant.room in
-    let capacity = c.loop-point.invariant.capacity in
-    omega (arith, fewer, len, room, capacity)
+    some_room _ _ _ _ _ (ap length c.in-Some.ensures.items) c.loop-point.invariant.room c.loop-point.invariant.capacity
 
 pub loop-point-smaller : goal.loop-point-smaller
-loop-point-smaller g c = (let fewer : length c.loop-point.left.items ≡ length (c.in-Some.point ∷ c.pop_front.new.self.items) = ap length c.in-Some.ensures.items in omega (arith, fewer))
+loop-point-smaller g c = fewer_left _ _ (ap length c.in-Some.ensures.items)
 
 pub returns-clause-some : goal.returns-clause-some
 returns-clause-some g c = c.loop-point.invariant.some
@@ -146,4 +154,4 @@ pub returns-clause-chain : goal.returns-clause-chain
 returns-clause-chain g c = c.loop-point.invariant.joined.chain
 
 pub returns-clause-len : goal.returns-clause-len
-returns-clause-len g c = (let q : length c.args.left.items ≡ _ = sym c.args.left.ok.0 in let room = c.loop-point.invariant.room in omega (arith, q, room))
+returns-clause-len g c = within_room _ _ _ _ _ c.args.left.ok.0 c.loop-point.invariant.room

@@ -1,5 +1,6 @@
 -- What a pop leaves is the front of the list, which the verdict speaks of.
-use Rattle.std.proofs.Common.{◌≡◌, ◌-◌, List, [], ◌∷◌, ◌++◌, map, length, take, sym, ap, ◌∙◌, subst, arith, rules}
+use Rattle.std.proofs.Common.{◌≡◌, ℕ, ◌+◌, ◌-◌, ◌≤◌, List, [], ◌∷◌, ◌++◌, map, length, take, sym, ap, ◌∙◌, subst, arith, rules, le_refl}
+use Rattle.std.proofs.lemmas.Bool.{false≢true}
 use Rattle.std.proofs.lemmas.List.{length-map, map-append, take-map}
 use Rattle.hull.specs.declared.point.Point.{Point}
 use Rattle.hull.specs.Curves.{Among, StandFor, IsChain}
@@ -7,14 +8,17 @@ use Rattle.hull.proofs.Stand.{among_left}
 use Rattle.hull.proofs.StepsOf.{stand_self, stand_trans, chain_prefix}
 use Rattle.hull.proofs.scan.grow.Goals as goal
 
+one_more : (n m : ℕ) → n ≤ m → n ≤ m + 1
+one_more n m h = omega (arith, h)
+
 pub pops-init : goal.pops-init
 pops-init g c = record {
   chain = c.requires.chain;
   order = c.requires.order;
   ranges = c.requires.ranges;
   stands = stand_self (map g.T.Spot.point c.args.stack.now.items ++ g.T.Spot.point c.args.point ∷ []);
-  len = omega arith;
-  capacity = omega arith;
+  len = le_refl _;
+  capacity = le_refl _;
 }
 
 pub judge-requires-clause-order : goal.judge-requires-clause-order
@@ -75,7 +79,10 @@ pub judge-requires-clause-range : goal.judge-requires-clause-range
 judge-requires-clause-range g c = c.requires.range
 
 pub returns-in-Refuse-clause-len : goal.returns-in-Refuse-clause-len
-returns-in-Refuse-clause-len g c = (let len = c.pops.invariant.len in omega (arith, len))
+returns-in-Refuse-clause-len g c = one_more _ _ c.pops.invariant.len
+
+pub returns-in-Refuse-clause-last : goal.returns-in-Refuse-clause-last
+returns-in-Refuse-clause-last g c = λ h. absurd (false≢true h)
 
 pub returns-in-Refuse-clause-capacity : goal.returns-in-Refuse-clause-capacity
 returns-in-Refuse-clause-capacity g c = c.pops.invariant.capacity

@@ -1,18 +1,6 @@
-use Rattle.std.proofs.Common.{◌∙◌, ap, arith, map}
+use Rattle.std.proofs.Common.{◌∙◌, ap, map}
 use Rattle.spares_input.specs.declared.rows.PartId.{PartId}
-use Rattle.demand_rates.proofs.Grown.{mapped_more}
-use Rattle.metric_compare.specs.Profile.{poisson_of}
-use Rattle.metric_compare.proofs.Pipes.{base_line_at_pair}
 use Rattle.metric_compare.proofs.lines.line_row.Goals as goal
 
-pub line_at_depot-requires-clause-units : goal.line_at_depot-requires-clause-units
-line_at_depot-requires-clause-units c = ap (map (λ (p : PartId). p.0)) c.as_slice.ensures.value ∙ (rw c.case.ensures at c.in_ok-units.ensures)
-
-pub line_at_base-requires-clause-units : goal.line_at_base-requires-clause-units
-line_at_base-requires-clause-units c = ap (map (λ (p : PartId). p.0)) c.as_slice-in-loop-j.ensures.value ∙ (rw c.case.ensures at c.in_ok-units.ensures)
-
-pub loop-j-preserved : goal.loop-j-preserved
-loop-j-preserved c =
-    mapped_more (poisson_of 48 c.args.inputs.now.case c.args.inputs.now.stocks.list c.args.line.0) c.loop-j.j c.loop-j.row.items c.push-in-loop-j.new.self.items c.in_ok-line_at_base.field-0
-    c.in_ok-push-2.ensures.items c.loop-j.invariant
-    (c.in_ok-line_at_base.ensures.ends ∙ base_line_at_pair c.args.inputs.now.case c.args.inputs.now.stocks.list c.args.line.0 c.loop-j.j c.requires.line (omega (arith, c.loop-j.auto.j)))
+pub row_with-requires-clause-units : goal.row_with-requires-clause-units
+row_with-requires-clause-units c = ap (map (λ (p : PartId). p.0)) c.as_slice.ensures.value ∙ (rw c.case.ensures at c.in_ok-units.ensures)

@@ -1,37 +1,12 @@
-use Rattle.std.proofs.Common.{◌+◌, length, refl, sym, subst, ◌∙◌}
-use Rattle.std.proofs.Common.{List, All}
-use Rattle.std.proofs.lemmas.Bool.{eqb-true}
-use Rattle.plan_report.specs.Fits.{FitsPlan}
-use Rattle.plan_report.specs.declared.plan.PlanReport.{PlanReport}
-use Rattle.case_edits.specs.Edits.{taken}
-use Rattle.plan_session.specs.Following.{standing}
-use Rattle.plan_session.proofs.Followed.{begun, ended, line_followed, line_refused, refused_by}
-use Rattle.plan_session.proofs.Reported.{all_printed}
+use Rattle.std.proofs.Common.{ap, subst, sym, ◌∙◌}
+use Rattle.case_edits.specs.Edits.{session_of}
+use Rattle.plan_session.specs.Answers.{AnswersEdits}
+use Rattle.plan_session.specs.Sessions.{started, SessionRows}
 use Rattle.plan_session.proofs.edits.run_edits.Goals as goal
 
-pub loop-rest-init : goal.loop-rest-init
-loop-rest-init c = begun c.args.case c.args.bytes.now c.in_ok-session.session c.new-plans.result.items c.in_ok-session.ensures c.new-plans.ensures.items
-
-pub loop-rest-preserved : goal.loop-rest-preserved
-loop-rest-preserved c =
-    let h = c.loop-rest.invariant in
-    line_followed c.args.case c.args.bytes.now c.loop-rest.session c.loop-rest.plans.items c.loop-rest.line c.loop-rest.rest.now c.first_line.result.0.now c.first_line.result.1.now
-    h c.first_line.ensures.lines (c.loop-rest.line + 1) c.take.new.session c.take.new.plans.items refl c.in_default.ensures.within (c.in_default.ensures.due h.ds h.told)
-
-pub returns-in-Err-clause-answer : goal.returns-in-Err-clause-answer
-returns-in-Err-clause-answer c =
-    let h = c.loop-rest.invariant in
-    refused_by _ (taken (c.loop-rest.line + 1) (standing c.loop-rest.session h.ds) c.first_line.result.0.now) c.take.new.session c.take.new.plans.items c.in-Err.stop
-    (λ f. line_refused c.args.case c.args.bytes.now c.loop-rest.session c.loop-rest.plans.items c.loop-rest.line c.loop-rest.rest.now c.first_line.result.0.now c.first_line.result.1.now
-    h c.first_line.ensures.lines (c.loop-rest.line + 1) f refl)
-    (c.in-Err.ensures.due h.ds h.told)
+pub followed-requires : goal.followed-requires
+followed-requires c = c.in_ok-session.ensures ∙ ap (λ (s : SessionRows). started s.case 0) (sym c.in_ok-session.ensures)
 
 pub returns-clause-answer : goal.returns-clause-answer
 returns-clause-answer c =
-    ended c.args.case c.args.bytes.now c.loop-rest.session c.loop-rest.plans.items c.loop-rest.line c.loop-rest.rest.now (record { plans = c.of.result })
-    c.loop-rest.invariant (eqb-true (length c.loop-rest.rest.now) 0 (sym c.is_empty.ensures ∙ c.loop-rest-test.false)) c.of.ensures
-
-pub returns-clause-fits : goal.returns-clause-fits
-returns-clause-fits c =
-    let h = c.loop-rest.invariant in
-    subst (λ (z : List PlanReport). All FitsPlan z) (sym c.of.ensures) (all_printed h.ds c.loop-rest.plans.items h.told)
+    subst (λ (s : SessionRows). AnswersEdits (session_of s.case c.args.bytes.now) c.followed.result) c.in_ok-session.ensures c.followed.ensures.answer

@@ -1,6 +1,6 @@
 use Rattle.std.proofs.Common.{[], arith, sym, ◌∙◌}
 use Rattle.held_work.specs.Curves.{IsFamilyCurve}
-use Rattle.plan_session.proofs.Marking.{all_marked, kept_before, kept_next, kept_one, line_here, mark_within, next_below, passed, still_below, value_within}
+use Rattle.plan_session.proofs.Marking.{all_marked, kept_before, kept_next, kept_one, later_one, line_here, mark_within, next_below, passed, still_below, value_within}
 use Rattle.plan_session.proofs.kept.keep_all.Goals as goal
 use Rattle.plan_session.proofs.kept.keep_all.Goals.{then-is_line+in_ok-keep, else-is_line}
 use Rattle.family_points.specs.Points.{plain_ends}
@@ -24,6 +24,12 @@ keep-requires-clause-kept c =
 pub returns-in_err-keep-clause-kept : goal.returns-in_err-keep-clause-kept
 returns-in_err-keep-clause-kept c =
     kept_one (IsFamilyCurve plain_ends c.args.case.now []) [] c.args.case.now c.args.marks.now c.loop-p.marks c.loop-p.curves c.loop-p.p c.loop-p.place c.loop-p.invariant.0
+    (line_here c.args.case.now c.loop-p.p _ c.loop-p-test.true c.part_count-p-end.ensures.count (sym c.is_line.ensures ∙ c.if-is_line.true))
+    c.keep.new.mark c.keep.new.kept c.keep.ensures.kept c.keep.ensures.later
+
+pub returns-in_err-keep-clause-later : goal.returns-in_err-keep-clause-later
+returns-in_err-keep-clause-later c =
+    later_one (IsFamilyCurve plain_ends c.args.case.now []) [] c.args.case.now c.args.marks.now c.loop-p.marks c.loop-p.curves c.loop-p.p c.loop-p.place c.loop-p.invariant.0
     (line_here c.args.case.now c.loop-p.p _ c.loop-p-test.true c.part_count-p-end.ensures.count (sym c.is_line.ensures ∙ c.if-is_line.true))
     c.keep.new.mark c.keep.new.kept c.keep.ensures.kept c.keep.ensures.later
 

@@ -1,16 +1,19 @@
-use Rattle.std.proofs.Common.{◌≡◌, ◌≤◌, ◌*◌, arith, mul-le-mul, refl, sym, get_or, length, take, None, replicate, rules}
+use Rattle.std.proofs.Common.{◌≡◌, ◌≤◌, ℕ, ◌*◌, subst, arith, refl, sym, get_or, length, take, None, replicate, rules}
 use Rattle.spares_input.specs.First.{first}
 use Rattle.spares_input.specs.Rows.{no_rate}
 use Rattle.spares_input.specs.Cases.{double_rate, rate_place}
+use Rattle.std.proofs.lemmas.List.{take_all}
+use Rattle.spares_input.specs.Building.{ArePlaced}
+use Rattle.spares_input.proofs.CaseFacts.{places_fit}
 use Rattle.spares_input.proofs.Firsts.{first_more, first_found}
 use Rattle.spares_input.proofs.PlaceFacts.{kept_at, has_before, few_taken, placed_none, placed_more, taken_none, taken_more}
 use Rattle.spares_input.proofs.case.place_rows.Goals as goal
 
+ended : (i n : ℕ) → n ≤ i → i ≤ n → i ≡ n
+ended i n past within = omega (arith, past, within)
+
 pub overflow_mul-parts : goal.overflow_mul-parts
-overflow_mul-parts c =
-    let pairs : c.args.parts * c.args.sites ≤ 2000 * 16 =
-    mul-le-mul {n₁ = c.args.parts} {m₁ = c.args.sites} {n₂ = 2000} {m₂ = 16} c.requires.few_parts c.requires.few_sites in
-    omega (arith, pairs)
+overflow_mul-parts c = places_fit c.args.parts c.args.sites c.requires.few_parts c.requires.few_sites
 
 pub pair_place-place-requires-clause-part : goal.pair_place-place-requires-clause-part
 pair_place-place-requires-clause-part c = (c.requires.pairs c.loop-k.k no_rate c.loop-k-test.true).0
@@ -64,3 +67,19 @@ loop-k-preserved c =
           c.pair_place-place.ensures.place c.pair_place-place.ensures.within inv.placed kept new;
       taken = taken_more place c.loop-k.places.items c.loop-k.k p row o (rw inv.placed.whole c.pair_place-place.ensures.within) c.index.ensures new inv.taken;
     }
+
+pub index-requires : goal.index-requires
+index-requires c = rw (c.loop-k.places.ok.0, c.loop-k.invariant.placed.whole) c.pair_place-place.ensures.within
+
+pub index_mut-requires : goal.index_mut-requires
+index_mut-requires c = rw (c.loop-k.places.ok.0, c.loop-k.invariant.placed.whole) c.pair_place-place.ensures.within
+
+pub returns-clause-fault : goal.returns-clause-fault
+returns-clause-fault c =
+    subst (λ n. first (double_rate c.args.sites c.args.rows.now) n ≡ None) (ended c.loop-k.k (length c.args.rows.now) c.loop-k-test.false c.loop-k.auto.k-end)
+    c.loop-k.invariant.fault
+
+pub returns-clause-placed : goal.returns-clause-placed
+returns-clause-placed c =
+    subst (λ rows. ArePlaced (rate_place c.args.sites) (c.args.parts * c.args.sites) rows c.loop-k.places.items) (take_all c.loop-k.k c.args.rows.now c.loop-k-test.false)
+    c.loop-k.invariant.placed

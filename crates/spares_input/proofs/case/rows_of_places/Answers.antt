@@ -1,4 +1,5 @@
-use Rattle.std.proofs.Common.{◌≡◌, ℕ, ◌<◌, ◌≤◌, arith, refl, get_or, length, None, Some}
+use Rattle.std.proofs.Common.{◌≡◌, ℕ, ◌<◌, ◌≤◌, arith, refl, get_or, length, None, Some, subst, ◌∙◌}
+use Rattle.std.proofs.lemmas.List.{take_all}
 use Rattle.spares_input.specs.First.{first}
 use Rattle.spares_input.specs.Building.{vacant, missing_rate_at}
 use Rattle.spares_input.proofs.Firsts.{first_more, first_found}
@@ -7,6 +8,9 @@ use Rattle.spares_input.proofs.case.rows_of_places.Goals as goal
 
 within : (i n most : ℕ) → i < n → n ≤ most → i < most
 within i n most below few = omega arith
+
+ended : (i n : ℕ) → n ≤ i → i ≤ n → i ≡ n
+ended i n past within = omega (arith, past, within)
 
 pub pair_at-requires-clause-within : goal.pair_at-requires-clause-within
 pair_at-requires-clause-within c = within c.loop-i.i _ _ c.loop-i-test.true c.requires.few
@@ -29,3 +33,17 @@ loop-i-preserved c =
           (vacant_not (missing_rate_at c.args.sites) c.args.places.now c.loop-i.i c.in-Some.row c.loop-i-test.true something);
       rows = rw c.in_ok-push-in-Some.ensures.items (found_more c.loop-i.rows.items c.args.places.now c.loop-i.i c.in-Some.row c.loop-i-test.true something c.loop-i.invariant.rows);
     }
+
+pub pair_at-requires-clause-some_sites : goal.pair_at-requires-clause-some_sites
+pair_at-requires-clause-some_sites c = c.requires.some_sites
+
+pub pair_at-requires-clause-few_sites : goal.pair_at-requires-clause-few_sites
+pair_at-requires-clause-few_sites c = c.requires.few_sites
+
+pub returns-clause-fault : goal.returns-clause-fault
+returns-clause-fault c =
+    subst (λ n. first (vacant (missing_rate_at c.args.sites) c.args.places.now) n ≡ None) (ended c.loop-i.i (length c.args.places.now) c.loop-i-test.false c.loop-i.auto.i-end)
+    c.loop-i.invariant.fault
+
+pub returns-clause-rows : goal.returns-clause-rows
+returns-clause-rows c = c.loop-i.invariant.rows ∙ take_all c.loop-i.i c.args.places.now c.loop-i-test.false

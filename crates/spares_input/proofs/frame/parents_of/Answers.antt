@@ -1,4 +1,4 @@
-use Rattle.std.proofs.Common.{◌≡◌, get_or, None, ap, ◌∙◌, arith}
+use Rattle.std.proofs.Common.{◌≡◌, ◌+◌, get_or, None, sym, ap, ◌∙◌}
 use Rattle.std.proofs.lemmas.List.{get_or_read}
 use Rattle.std.specs.Option.{option_map, option_and_then}
 use Rattle.spares_input.specs.Rows.{no_part}
@@ -18,7 +18,7 @@ loop-part-preserved c =
     c.parent_of.ensures ∙ (ap (λ keys. option_and_then (λ name. place_of name keys) c.part-item.result.parent) c.requires.numbered
     ∙ ap (λ (r : PartRow). option_and_then (λ name. place_of name (part_names parts)) r.parent) row) in
     record {
-      whole = omega (arith, c.in_ok-push.ensures.len, inv.whole);
+      whole = sym c.push.new.self.ok.0 ∙ c.in_ok-push.ensures.len ∙ ap (λ n. n + 1) (c.loop-part.parents.ok.0 ∙ inv.whole);
       each = λ p b. ap (λ xs. option_map (λ (l : PartId). l.0) (get_or xs p None)) c.in_ok-push.ensures.items
           ∙ parents_more parts c.loop-part.parents.items c.parent_of.result i inv.whole here inv.each p b;
     }

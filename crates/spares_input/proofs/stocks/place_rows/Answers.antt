@@ -1,19 +1,23 @@
-use Rattle.std.proofs.Common.{◌≡◌, ◌≤◌, ◌*◌, arith, mul-le-mul, refl, sym, get_or, length, take, None, replicate, rules}
+use Rattle.std.proofs.Common.{◌≡◌, ◌≤◌, ℕ, ◌*◌, subst, arith, refl, sym, get_or, length, take, None, replicate, rules}
 use Rattle.spares_input.specs.First.{first}
 use Rattle.spares_input.specs.Rows.{no_stock}
 use Rattle.spares_input.specs.Stocks.{stock_fault, stock_place}
+use Rattle.std.proofs.lemmas.List.{take_all}
+use Rattle.spares_input.specs.Building.{ArePlaced}
+use Rattle.spares_input.proofs.CaseFacts.{places_fit}
 use Rattle.spares_input.proofs.Firsts.{first_more, first_found}
 use Rattle.spares_input.proofs.PlaceFacts.{kept_at, has_before, few_taken, placed_none, placed_more, taken_none, taken_more}
 use Rattle.spares_input.proofs.StockFacts.{stock_fault_over, stock_fault_double, stock_fault_none}
 use Rattle.spares_input.proofs.stocks.place_rows.Goals as goal
 
+ended : (i n : ℕ) → n ≤ i → i ≤ n → i ≡ n
+ended i n past within = omega (arith, past, within)
+
 pub overflow_mul-parts : goal.overflow_mul-parts
 overflow_mul-parts c =
     let few_parts : c.part_count-parts.result ≤ 2000 = rw c.part_count-parts.ensures.count c.part_count-parts.ensures.valid.frame.most_parts in
     let few_sites : c.site_count-sites.result ≤ 16 = rw c.site_count-sites.ensures.count c.site_count-sites.ensures.valid.frame.most_sites in
-    let pairs : c.part_count-parts.result * c.site_count-sites.result ≤ 2000 * 16 =
-    mul-le-mul {n₁ = c.part_count-parts.result} {m₁ = c.site_count-sites.result} {n₂ = 2000} {m₂ = 16} few_parts few_sites in
-    omega (arith, pairs)
+    places_fit c.part_count-parts.result c.site_count-sites.result few_parts few_sites
 
 pub overflow_cast-result : goal.overflow_cast-result
 overflow_cast-result c =
@@ -109,3 +113,20 @@ loop-k-preserved c =
           c.pair_place-place.ensures.place c.pair_place-place.ensures.within inv.placed kept new;
       taken = taken_more (stock_place n) c.loop-k.places.items c.loop-k.k p row o (rw inv.placed.whole c.pair_place-place.ensures.within) c.index.ensures new inv.taken;
     }
+
+pub index-requires : goal.index-requires
+index-requires c = rw (c.loop-k.places.ok.0, c.loop-k.invariant.placed.whole) c.pair_place-place.ensures.within
+
+pub index_mut-requires : goal.index_mut-requires
+index_mut-requires c = rw (c.loop-k.places.ok.0, c.loop-k.invariant.placed.whole) c.pair_place-place.ensures.within
+
+pub returns-clause-fault : goal.returns-clause-fault
+returns-clause-fault c =
+    subst (λ n. first (stock_fault c.args.case.now c.args.rows.now) n ≡ None) (ended c.loop-k.k (length c.args.rows.now) c.loop-k-test.false c.loop-k.auto.k-end)
+    c.loop-k.invariant.fault
+
+pub returns-clause-placed : goal.returns-clause-placed
+returns-clause-placed c =
+    let placed = subst (λ rows. ArePlaced (stock_place c.site_count-sites.result) (c.part_count-parts.result * c.site_count-sites.result) rows c.loop-k.places.items)
+    (take_all c.loop-k.k c.args.rows.now c.loop-k-test.false) c.loop-k.invariant.placed in
+    rw (← c.site_count-sites.ensures.count, ← c.part_count-parts.ensures.count) placed

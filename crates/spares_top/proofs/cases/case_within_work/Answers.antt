@@ -1,4 +1,4 @@
-use Rattle.std.proofs.Common.{◌≡◌, Err, Ok, Result, subst, ℕ}
+use Rattle.std.proofs.Common.{Result, refl, subst, ℕ}
 use Rattle.std.proofs.lemmas.Result.{err_from_is_err_and}
 use Rattle.answers.specs.Answers.{Gives}
 use Rattle.case_tables.specs.Tables.{accepted_of}
@@ -6,7 +6,8 @@ use Rattle.family_points.specs.Counts.{work_of}
 use Rattle.refusals.specs.Causes.{or_refuse}
 use Rattle.refusals.specs.Lines.{no_names}
 use Rattle.refusals.specs.declared.refusal.Refusal.TheVariants as refusal
-use Rattle.spares_top.proofs.Steps.{few_enough, is_few, too_much, unrated}
+use Rattle.spares_top.specs.Given.{CanPlan}
+use Rattle.spares_top.proofs.Steps.{if_few, told_if_few, unrated}
 use Rattle.spares_top.proofs.cases.case_within_work.Goals as goal
 
 pub accepted_of-requires-clause-sites : goal.accepted_of-requires-clause-sites
@@ -26,27 +27,17 @@ returns-in_err-given-clause-answer c =
 pub returns-in_err-given-clause-given : goal.returns-in_err-given-clause-given
 returns-in_err-given-clause-given c = let p = err_from_is_err_and c.from_residual.result c.from_residual.ensures.1 in rw p.1 tt
 
-pub returns-in_err-few_tables-clause-answer : goal.returns-in_err-few_tables-clause-answer
-returns-in_err-few_tables-clause-answer c =
-    let p = err_from_is_err_and c.from_residual-in_err-few_tables.result c.from_residual-in_err-few_tables.ensures.1 in
-    rw (p.1, p.2) (too_much c.in_ok-given.given.case (accepted_of c.args.tables.now.sites.bytes.now c.args.tables.now.parts.bytes.now c.args.tables.now.rates.bytes.now)
-    c.in_ok-given.ensures.answer work_of _
-    (subst (λ (work : Result ℕ ℕ). Gives {T = ℕ} (or_refuse no_names refusal.Work work) (Err c.in_err-few_tables.field-0.0)) c.work.ensures c.in_err-few_tables.ensures))
-
-pub returns-in_err-few_tables-clause-given : goal.returns-in_err-few_tables-clause-given
-returns-in_err-few_tables-clause-given c =
-    let p = err_from_is_err_and c.from_residual-in_err-few_tables.result c.from_residual-in_err-few_tables.ensures.1 in rw p.1 tt
-
 pub returns-clause-answer : goal.returns-clause-answer
 returns-clause-answer c =
-    few_enough c.in_ok-given.given.case (accepted_of c.args.tables.now.sites.bytes.now c.args.tables.now.parts.bytes.now c.args.tables.now.rates.bytes.now)
-    c.in_ok-given.ensures.answer work_of _
-    (subst (λ (work : Result ℕ ℕ). or_refuse no_names refusal.Work work ≡ Ok c.in_ok-few_tables.field-0) c.work.ensures c.in_ok-few_tables.ensures)
+    rw c.and.ensures (told_if_few c.in_ok-given.given.case (accepted_of c.args.tables.now.sites.bytes.now c.args.tables.now.parts.bytes.now c.args.tables.now.rates.bytes.now)
+    c.in_ok-given.ensures.answer work_of c.few_tables.result
+    (subst (λ (work : Result ℕ ℕ). Gives {T = ℕ} (or_refuse no_names refusal.Work work) c.few_tables.result) c.work.ensures c.few_tables.ensures) c.in_ok-given.given refl)
 
 pub returns-clause-given : goal.returns-clause-given
-returns-clause-given c = record {
-  rates = c.in_ok-given.ensures.rates;
-  accepted = record { valid = c.site_count-valid.ensures.valid; no_fault = c.in_ok-given.ensures.rates.no_fault };
-  work = is_few (work_of c.in_ok-given.given.case) _
-      (subst (λ (work : Result ℕ ℕ). or_refuse no_names refusal.Work work ≡ Ok c.in_ok-few_tables.field-0) c.work.ensures c.in_ok-few_tables.ensures);
-}
+returns-clause-given c =
+    rw c.and.ensures (if_few CanPlan c.in_ok-given.given (work_of c.in_ok-given.given.case) c.few_tables.result
+    (subst (λ (work : Result ℕ ℕ). Gives {T = ℕ} (or_refuse no_names refusal.Work work) c.few_tables.result) c.work.ensures c.few_tables.ensures) (λ few. record {
+      rates = c.in_ok-given.ensures.rates;
+      accepted = record { valid = c.site_count-valid.ensures.valid; no_fault = c.in_ok-given.ensures.rates.no_fault };
+      work = few;
+    }))

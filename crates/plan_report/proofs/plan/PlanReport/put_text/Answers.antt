@@ -1,18 +1,8 @@
-use Rattle.std.specs.Prelude.{Result, Ok, Err, OnOk, codes}
-use Rattle.std.proofs.Common.{◌≡◌, List, ℕ, ◌++◌, ap, ◌∙◌, append_assoc}
+use Rattle.std.specs.Prelude.{codes}
 use Rattle.std.specs.Fmt.{decimal}
-use Rattle.answers.specs.declared.stop.NoMemory.{NoMemory}
 use Rattle.plan_report.specs.Texts.{bounds_text, gains_text, line, steps_text}
+use Rattle.plan_report.proofs.Chains.{after, joined}
 use Rattle.plan_report.proofs.plan.PlanReport.put_text.Goals as goal
-
-joined : (old a b c d s t u v : List ℕ) → s ≡ old ++ a → t ≡ s ++ b → u ≡ t ++ c → v ≡ u ++ d → v ≡ old ++ (a ++ (b ++ (c ++ d)))
-joined old a b c d s t u v h i j k =
-    k ∙ ap (λ z. z ++ d) (j ∙ ap (λ z. z ++ c) (i ∙ ap (λ z. z ++ b) h)) ∙ append_assoc ((old ++ a) ++ b) c d ∙ append_assoc (old ++ a) b (c ++ d)
-    ∙ append_assoc old a (b ++ (c ++ d))
-
-after : (r : Result Unit NoMemory) (P Q : Type 0) → (P → Q) → OnOk r P → OnOk r Q
-after (Ok v) P Q f h = f h
-after (Err e) P Q f h = tt
 
 pub returns : goal.returns
 returns c =

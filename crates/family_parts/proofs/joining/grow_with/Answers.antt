@@ -1,0 +1,190 @@
+use Rattle.std.proofs.Common.{◌+◌, ◌≤◌, List, [], ◌∷◌, length, sum_by, sym, ap, ◌∙◌, subst, arith}
+use Rattle.hull.specs.declared.point.Point.{Point}
+use Rattle.hull.specs.Curves.{Among}
+use Rattle.sum_walk.specs.Sums.{sums_of_each}
+use Rattle.curve_parts.specs.Parts.{IsPassedOver, StandForBetween}
+use Rattle.family_points.specs.Inputs.{vertex_count}
+use Rattle.family_points.specs.Separation.{depot_point, depot_points}
+use Rattle.family_points.proofs.AllBases.{bases_long}
+use Rattle.family_curve.specs.Joining.{HaveWidthOf, vertices_of}
+use Rattle.family_curve.proofs.Grown.{depot_ranges, depot_widths}
+use Rattle.family_parts.proofs.Grown.{grows_by_none, grows_by_sums, joined_among, widths_joined}
+use Rattle.family_parts.proofs.Sums.{standing}
+use Rattle.family_parts.proofs.joining.grow_with.Goals as goal
+
+pub is_passed_over-requires-clause-ranges : goal.is_passed_over-requires-clause-ranges
+is_passed_over-requires-clause-ranges g c = c.vertices_of-vertices.ensures.ranges
+
+pub returns-then-is_passed_over-clause-part : goal.returns-then-is_passed_over-clause-part
+returns-then-is_passed_over-clause-part g c =
+    let x = c.args.sources.now.family.now in
+    let d = c.args.depot.now in
+    let low = c.args.low in
+    let high = c.args.high in
+    let part : List Point = vertices_of c.args.part.now in
+    let points : List Point = depot_points x.case x.line g.S.Score.ends x.held x.low x.high d in
+    let passed : (w : Point) → Among w points → IsPassedOver low high part w =
+    subst (λ (l : List Point). (w : Point) → Among w points → IsPassedOver low high l w) c.vertices_of-vertices.ensures.vertices (c.is_passed_over.ensures c.if-is_passed_over.true) in
+    grows_by_none low high points part passed
+
+pub join_parts-requires-clause-some : goal.join_parts-requires-clause-some
+join_parts-requires-clause-some g c =
+    omega (
+      arith,
+      ap length c.as_slice-parts.ensures.value,
+      c.in_ok-put_parts.ensures.work,
+      bases_long c.args.sources.now.family.now c.args.sources.now.bases.items c.requires.sources.bases,
+      c.size-size.ensures.valid.valid.frame.fewest_sites,
+    )
+
+pub join_parts-requires-clause-few_parts : goal.join_parts-requires-clause-few_parts
+join_parts-requires-clause-few_parts g c =
+    omega (
+      arith,
+      ap length c.as_slice-parts.ensures.value,
+      c.in_ok-put_parts.ensures.work,
+      bases_long c.args.sources.now.family.now c.args.sources.now.bases.items c.requires.sources.bases,
+      c.size-size.ensures.valid.valid.frame.most_sites,
+    )
+
+pub join_parts-requires-clause-ranges : goal.join_parts-requires-clause-ranges
+join_parts-requires-clause-ranges g c = λ v m.
+    let x = c.args.sources.now.family.now in
+    let d = c.args.depot.now in
+    let ends = g.S.Score.ends in
+    let points : List Point = depot_points x.case x.line ends x.held x.low x.high d in
+    let stands : StandForBetween c.args.low c.args.high points (sums_of_each (c.in_ok-first.first ∷ []) c.as_slice-parts.result.now) =
+    standing c.args.low c.args.high points (depot_point x.case x.line x.held d) c.in_ok-first.first c.put_parts.new.work.parts.items c.as_slice-parts.result.now
+    c.in_ok-first.ensures.point c.as_slice-parts.ensures.value c.in_ok-put_parts.ensures.stands in
+    depot_ranges x c.size-size.ensures.valid ends g.met.S.Score.leaves_room d c.requires.depot v (stands.among v m)
+
+pub join_parts-requires-clause-width : goal.join_parts-requires-clause-width
+join_parts-requires-clause-width g c = λ v w m n.
+    let x = c.args.sources.now.family.now in
+    let d = c.args.depot.now in
+    let ends = g.S.Score.ends in
+    let points : List Point = depot_points x.case x.line ends x.held x.low x.high d in
+    let stands : StandForBetween c.args.low c.args.high points (sums_of_each (c.in_ok-first.first ∷ []) c.as_slice-parts.result.now) =
+    standing c.args.low c.args.high points (depot_point x.case x.line x.held d) c.in_ok-first.first c.put_parts.new.work.parts.items c.as_slice-parts.result.now
+    c.in_ok-first.ensures.point c.as_slice-parts.ensures.value c.in_ok-put_parts.ensures.stands in
+    c.requires.widths v m ∙ sym (depot_widths x c.size-size.ensures.valid ends g.met.S.Score.leaves_room d c.requires.depot w (stands.among w n))
+
+pub returns-clause-part : goal.returns-clause-part
+returns-clause-part g c =
+    let x = c.args.sources.now.family.now in
+    let d = c.args.depot.now in
+    let low = c.args.low in
+    let high = c.args.high in
+    let points : List Point = depot_points x.case x.line g.S.Score.ends x.held x.low x.high d in
+    let first : Point = c.in_ok-first.first in
+    let parts : List (List Point) = c.as_slice-parts.result.now in
+    let stands : StandForBetween low high points (sums_of_each (first ∷ []) parts) =
+    standing low high points (depot_point x.case x.line x.held d) first c.put_parts.new.work.parts.items parts
+    c.in_ok-first.ensures.point c.as_slice-parts.ensures.value c.in_ok-put_parts.ensures.stands in
+    grows_by_sums low high first parts points (vertices_of c.args.part.now) (vertices_of c.join_parts.new.part) c.in_ok-join_parts.ensures.joins stands
+
+pub returns-clause-widths : goal.returns-clause-widths
+returns-clause-widths g c =
+    let x = c.args.sources.now.family.now in
+    let d = c.args.depot.now in
+    let low = c.args.low in
+    let high = c.args.high in
+    let ends = g.S.Score.ends in
+    let points : List Point = depot_points x.case x.line ends x.held x.low x.high d in
+    let first : Point = c.in_ok-first.first in
+    let parts : List (List Point) = c.as_slice-parts.result.now in
+    let stands : StandForBetween low high points (sums_of_each (first ∷ []) parts) =
+    standing low high points (depot_point x.case x.line x.held d) first c.put_parts.new.work.parts.items parts
+    c.in_ok-first.ensures.point c.as_slice-parts.ensures.value c.in_ok-put_parts.ensures.stands in
+    widths_joined x (vertices_of c.args.part.now) points (vertices_of c.join_parts.new.part) c.requires.widths (depot_widths x c.size-size.ensures.valid ends g.met.S.Score.leaves_room d c.requires.depot)
+    (joined_among low high first parts points (vertices_of c.args.part.now) (vertices_of c.join_parts.new.part) c.in_ok-join_parts.ensures.joins stands)
+
+pub is_passed_over-requires-clause-sources : goal.is_passed_over-requires-clause-sources
+is_passed_over-requires-clause-sources g c = c.requires.sources
+
+pub returns-then-is_passed_over-clause-few : goal.returns-then-is_passed_over-clause-few
+returns-then-is_passed_over-clause-few g c = omega arith
+
+pub put_parts-requires-clause-sources : goal.put_parts-requires-clause-sources
+put_parts-requires-clause-sources g c = c.requires.sources
+
+pub put_parts-requires-clause-room : goal.put_parts-requires-clause-room
+put_parts-requires-clause-room g c = omega (arith, c.requires.room)
+
+pub join_parts-requires-clause-few : goal.join_parts-requires-clause-few
+join_parts-requires-clause-few g c =
+    let most : 1 + sum_by length c.as_slice-parts.result.now ≤ vertex_count c.args.sources.now.family.now =
+    subst (λ (ls : List (List Point)). 1 + sum_by length ls ≤ vertex_count c.args.sources.now.family.now) (sym c.as_slice-parts.ensures.value) c.in_ok-put_parts.ensures.few in
+    omega (arith, most, c.requires.room)
+
+pub returns-clause-few : goal.returns-clause-few
+returns-clause-few g c =
+    let most : 1 + sum_by length c.as_slice-parts.result.now ≤ vertex_count c.args.sources.now.family.now =
+    subst (λ (ls : List (List Point)). 1 + sum_by length ls ≤ vertex_count c.args.sources.now.family.now) (sym c.as_slice-parts.ensures.value) c.in_ok-put_parts.ensures.few in
+    omega (arith, most, c.in_ok-join_parts.ensures.few)
+
+pub returns-clause-work : goal.returns-clause-work
+returns-clause-work g c = c.in_ok-put_parts.ensures.work
+
+pub is_passed_over-requires-clause-depot : goal.is_passed_over-requires-clause-depot
+is_passed_over-requires-clause-depot g c = c.requires.depot
+
+pub is_passed_over-requires-clause-tables : goal.is_passed_over-requires-clause-tables
+is_passed_over-requires-clause-tables g c = c.requires.tables
+
+pub is_passed_over-requires-clause-low : goal.is_passed_over-requires-clause-low
+is_passed_over-requires-clause-low g c = c.requires.low
+
+pub is_passed_over-requires-clause-high : goal.is_passed_over-requires-clause-high
+is_passed_over-requires-clause-high g c = c.requires.high
+
+pub put_parts-requires-clause-depot : goal.put_parts-requires-clause-depot
+put_parts-requires-clause-depot g c = c.requires.depot
+
+pub put_parts-requires-clause-tables : goal.put_parts-requires-clause-tables
+put_parts-requires-clause-tables g c = c.requires.tables
+
+pub put_parts-requires-clause-low : goal.put_parts-requires-clause-low
+put_parts-requires-clause-low g c = c.requires.low
+
+pub put_parts-requires-clause-high : goal.put_parts-requires-clause-high
+put_parts-requires-clause-high g c = c.requires.high
+
+pub put_parts-requires-clause-window : goal.put_parts-requires-clause-window
+put_parts-requires-clause-window g c = c.requires.window
+
+pub put_parts-requires-clause-work : goal.put_parts-requires-clause-work
+put_parts-requires-clause-work g c = c.requires.work
+
+pub join_parts-requires-clause-low : goal.join_parts-requires-clause-low
+join_parts-requires-clause-low g c = c.requires.low
+
+pub join_parts-requires-clause-high : goal.join_parts-requires-clause-high
+join_parts-requires-clause-high g c = c.requires.high
+
+pub join_parts-requires-clause-window : goal.join_parts-requires-clause-window
+join_parts-requires-clause-window g c = c.requires.window
+
+pub depot_point-requires : goal.depot_point-requires
+depot_point-requires g c = c.requires.depot
+
+pub join_parts-requires-clause-first : goal.join_parts-requires-clause-first
+join_parts-requires-clause-first g c = c.in_ok-first.ensures.range
+
+pub returns-then-is_passed_over-clause-widths : goal.returns-then-is_passed_over-clause-widths
+returns-then-is_passed_over-clause-widths g c = c.requires.widths
+
+pub returns-then-is_passed_over-clause-work : goal.returns-then-is_passed_over-clause-work
+returns-then-is_passed_over-clause-work g c = c.requires.work
+
+pub join_parts-requires-clause-widths : goal.join_parts-requires-clause-widths
+join_parts-requires-clause-widths g c = λ v w m n.
+    let x = c.args.sources.now.family.now in
+    let d = c.args.depot.now in
+    let ends = g.S.Score.ends in
+    let points : List Point = depot_points x.case x.line ends x.held x.low x.high d in
+    let stands : StandForBetween c.args.low c.args.high points (sums_of_each (c.in_ok-first.first ∷ []) c.as_slice-parts.result.now) =
+    standing c.args.low c.args.high points (depot_point x.case x.line x.held d) c.in_ok-first.first c.put_parts.new.work.parts.items c.as_slice-parts.result.now
+    c.in_ok-first.ensures.point c.as_slice-parts.ensures.value c.in_ok-put_parts.ensures.stands in
+    let widths : HaveWidthOf x points = depot_widths x c.size-size.ensures.valid ends g.met.S.Score.leaves_room d c.requires.depot in
+    widths v (stands.among v m) ∙ sym (widths w (stands.among w n))
