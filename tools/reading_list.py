@@ -68,7 +68,7 @@ LISTS = [
             gap_rules Refusals Scores
             held_certificate Held
             held_work Work
-            certified_plan Accepted Certificates Laws
+            certified_plan Accepted Laws
         """),
     ),
     (
@@ -84,7 +84,8 @@ LISTS = [
             case_edits Lines Edits
             session_report Reports
             spares_io Causes Shelf Sink
-            spares_top Headline Files Held Plans Checks Task State Answer Promises
+            order_inputs Files Cases
+            spares_top Headline Held Plans Checks Task State Answer Promises
         """),
     ),
 ]

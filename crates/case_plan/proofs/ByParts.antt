@@ -5,7 +5,7 @@ use Rattle.std.proofs.lemmas.List.{length-replicate}
 use Rattle.hull.specs.declared.point.Point.{Point}
 use Rattle.hull.specs.declared.price.Price.{Price}
 use Rattle.hull.specs.Curves.{Among}
-use Rattle.spares_input.specs.Cases.{CaseRows}
+use Rattle.spares_input.specs.Cases.{CaseRows, IsCase}
 use Rattle.fleet_model.specs.Rows.{line_units}
 use Rattle.family_points.specs.Vectors.{limits}
 use Rattle.marginal_alloc.specs.declared.allocation.Critical.{Critical}
@@ -25,6 +25,7 @@ use Rattle.part_filling.specs.declared.window.Window.{Window}
 use Rattle.part_filling.specs.Known.{AreKnown, IsPriceWindow, window_at}
 use Rattle.case_plan.specs.Parts.{HasNoCritical, slack}
 use Rattle.case_plan.specs.Report.{HaveVectors}
+use Rattle.case_plan.proofs.Ranges.{few_lines}
 
 -- the hull choice of curves has the vertices, the cost, the price and the critical step of that of their parts
 pub record IsHullOf (curves parts : List (List Point)) (budget : ℕ) (own : Chosen) : Type 0 where
@@ -116,3 +117,7 @@ count_in c (l ∷ ls) (x ∷ xs) a = (let r = count_in c ls xs a.1 in omega (ari
 -- there are as many families as line units
 pub vectors_count : (c : CaseRows) (families : List (List Point)) → HaveVectors c families → length (line_units c) ≡ length families
 vectors_count c families a = count_in c (line_units c) families a
+
+-- at most 2,000 families have parts
+pub few_parts : (c : CaseRows) (families parts : List (List Point)) → IsCase c → HaveVectors c families → length families ≡ length parts → length parts ≤ 2000
+few_parts c families parts valid a n = (let lines = vectors_count c families a in let m = few_lines c valid in omega (arith, lines, n, m))

@@ -28,7 +28,8 @@ use Rattle.plan_report.specs.Fits.{FitsPlan, IntervalFits}
 use Rattle.plan_report.specs.Texts.{millionths_down}
 use Rattle.plan_report.specs.declared.plan.PlanReport.{PlanReport}
 use Rattle.held_work.specs.Work.{IsNothing}
-use Rattle.case_plan.specs.Report.{Terms, aim_ends, if_asked, report_of, IsPlanned}
+use Rattle.case_plan.specs.Report.{aim_ends, if_asked, report_of, IsPlanned}
+use Rattle.case_plan.specs.declared.terms.Terms.{Terms}
 use Rattle.case_plan.specs.Truth.{IsTruePlanReport, IsTrueReport}
 use Rattle.case_plan.proofs.Aimed.{aim_enclosed}
 use Rattle.case_plan.proofs.Nothing.{from_nothing}

@@ -30,11 +30,12 @@ use Rattle.fixed_interval.specs.Ends.{Ends}
 use Rattle.family_points.specs.Points.{ScoreEnds, plain_ends}
 use Rattle.plan_report.specs.declared.plan.CriticalLine.{CriticalLine}
 use Rattle.case_plan.specs.declared.outcome.Outcome.{Outcome}
-use Rattle.case_plan.specs.Report.{Terms, aim_ends, if_asked, step_line, outcome_of, IsPlanOf}
+use Rattle.case_plan.specs.Report.{aim_ends, if_asked, step_line, outcome_of, IsPlanOf}
 use Rattle.fleet_plan.specs.Families.{HasWidth}
 use Rattle.case_plan.specs.Chosen.{FitsCase, IsChosen}
 use Rattle.case_plan.specs.Outcomes.{chosen_outcome}
 use Rattle.case_plan.specs.declared.chosen.ChosenStocks.{ChosenStocks}
+use Rattle.case_plan.specs.declared.terms.Terms.{Terms}
 use Rattle.case_plan.proofs.Aimed.{aimed}
 use Rattle.fleet_plan.proofs.Ones.{chosen_of_stocks}
 

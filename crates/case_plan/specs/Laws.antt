@@ -15,8 +15,9 @@ use Rattle.plan_report.specs.Fits.{FitsPlan}
 use Rattle.plan_report.specs.declared.plan.PlanReport.{PlanReport}
 use Rattle.held_work.specs.Work.{IsNothing}
 use Rattle.choice_parts.specs.Parts.{AreFamilies}
-use Rattle.case_plan.specs.Report.{AreFamilyCurves, HaveVectors, IsPlanned, Terms}
+use Rattle.case_plan.specs.Report.{AreFamilyCurves, HaveVectors, IsPlanned}
 use Rattle.case_plan.specs.Truth.{IsTruePlanReport, IsTrueReport}
+use Rattle.case_plan.specs.declared.terms.Terms.{Terms}
 
 -- for any score whose intervals enclose its value, and any held stocks
 abbrev pub PlannedReportsAreTrue : Type 0

@@ -6,9 +6,10 @@ use Rattle.case_figures.specs.Figures.{figures_of}
 use Rattle.fleet_plan.specs.Plans.{line_of_family}
 use Rattle.plan_report.specs.declared.plan.PlanReport.{PlanReport}
 use Rattle.case_plan.specs.Chosen.{FitsCase, IsChosen}
-use Rattle.case_plan.specs.Report.{Terms, if_asked, step_line}
+use Rattle.case_plan.specs.Report.{if_asked, step_line}
 use Rattle.case_plan.specs.declared.chosen.ChosenStocks.{ChosenStocks}
 use Rattle.case_plan.specs.declared.outcome.Outcome.{Outcome}
+use Rattle.case_plan.specs.declared.terms.Terms.{Terms}
 
 -- The report of chosen stocks: their figures with the cost of the plan, the ends of the aim if they are asked for, and
 -- the numbers of the plan.

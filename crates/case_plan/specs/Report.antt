@@ -17,13 +17,7 @@ use Rattle.fleet_plan.specs.Plans.{CasePlan, critical_line, IsCasePlan}
 use Rattle.plan_report.specs.declared.plan.CriticalLine.{CriticalLine}
 use Rattle.plan_report.specs.declared.plan.PlanReport.{PlanReport}
 use Rattle.case_plan.specs.declared.outcome.Outcome.{Outcome}
-
--- The request: a plan under a budget in whole money; whether the aim is a loss, which is reported beside the total of
--- backorders; and the cost of the stocks on hand, printed if there is a table of them.
-pub record Terms : Type 0 where
-  pub budget : ℕ
-  pub loss : Bool
-  pub on_hand : Option ℕ
+use Rattle.case_plan.specs.declared.terms.Terms.{Terms}
 
 -- a plan of weighted backorders, with no stocks on hand
 abbrev pub plain_terms : ℕ → Terms

@@ -15,7 +15,8 @@ use Rattle.fleet_plan.specs.Families.{hi_at}
 use Rattle.fleet_plan.specs.Plans.{CasePlan, CaseClaims, AreAcceptable, critical_line}
 use Rattle.plan_report.specs.Texts.{millionths_down}
 use Rattle.plan_report.specs.declared.plan.PlanReport.{PlanReport}
-use Rattle.case_plan.specs.Report.{Terms, lo_at, aim_ends, if_asked, step_line}
+use Rattle.case_plan.specs.Report.{lo_at, aim_ends, if_asked, step_line}
+use Rattle.case_plan.specs.declared.terms.Terms.{Terms}
 
 -- no allocation within the budget has an aim below the printed bound
 abbrev pub NoneHasLessThanPrinted : Value → CaseRows → List ℕ → ℕ → ℕ → Type 0

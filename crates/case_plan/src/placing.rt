@@ -12,7 +12,7 @@ ghost use Rattle.fleet_plan.specs.Families.{HasWidth, vectors_at};
 ghost use Rattle.spares_input.specs.Building.{ids};
 ghost use Rattle.case_plan.specs.Placing.{IsPlacedAt, IsPlacedFamily};
 
-use crate::choose::pick_of;
+use crate::numbers::pick_of;
 use answers::NoMemory;
 use hull::Curve;
 use spares_input::{Case, PartId, SiteId, Stocks};

@@ -13,16 +13,17 @@ ghost use Rattle.case_plan.specs.Chosen.{FitsCase, IsChosen};
 ghost use Rattle.case_plan.specs.Parts.{HasNoCritical};
 ghost use Rattle.case_plan.specs.Report.{HaveVectors, IsOutcome};
 
-use crate::by_parts::{PartsChoice, choose_by_parts};
-use crate::chosen::ChosenStocks;
+use crate::chosen::{ChosenStocks, filled};
+use crate::numbers::{floors_at, hull_numbers};
 use crate::outcome::Outcome;
-use crate::placing::stocks_of;
 use crate::planning::outcome_at;
+use crate::terms::Terms;
 use answers::NoMemory;
 use demand_rates::kinds::Rates;
 use family_eval::evaluate_all;
 use hull::Curve;
-use part_filling::{Families, Window};
+use marginal_alloc::{allocate_within, first_cost};
+use part_filling::{Families, Known, Window, fill_parts};
 use spares_input::Case;
 use std::alloc::Global;
 
@@ -53,25 +54,53 @@ pub fn choose_stocks_by_parts<F: Families>(
         → IfOk result (λ found. IfSome found (IsChosen case.now curves budget)) }
 {
     let _sites = case.site_count();
-    let Some(by) = choose_by_parts(alloc, families, window, parts, budget, near)? else {
+    if first_cost(alloc, parts.as_slice())? > budget {
+        return Ok(None);
+    }
+    let chosen = allocate_within(alloc, parts.as_slice(), budget, near)?;
+    let cost = chosen.cost;
+    let price = chosen.price;
+    let Some(step) = chosen.critical else {
         return Ok(None);
     };
-    let PartsChoice { known, choice } = by;
-    let stocks = stocks_of(alloc, case, known.as_slice(), choice.picks.as_slice())?;
-    Ok(Some(ChosenStocks {
-        stocks,
-        floors: choice.floors,
-        lower: choice.lower,
-        numbers: choice.numbers,
-    }))
+    let picks = chosen.picks.into_vec();
+    let hull = hull_numbers(
+        parts.as_slice(),
+        picks.as_slice(),
+        cost,
+        price,
+        Some(step),
+        budget,
+    );
+    let floors = floors_at(alloc, parts.as_slice(), picks.as_slice(), price)?;
+    let windows = vec![in alloc; window; parts.len()]?;
+    let mut known = Known {
+        curves: parts,
+        windows,
+        picks,
+    };
+    fill_parts(alloc, families, window.low, &mut known, budget)?;
+    let Known {
+        curves,
+        windows: _,
+        picks,
+    } = known;
+    let stocks = filled(
+        alloc,
+        case,
+        curves.as_slice(),
+        picks.as_slice(),
+        floors,
+        hull,
+    )?;
+    Ok(Some(stocks))
 }
 
-/// The plan of a case under a budget in whole money, from the part between two prices of each family's curve.
+/// The plan of a case on these terms, from the part between two prices of each family's curve.
 ///
 /// The outcome is the case's plan from held stocks, if the families' points are the case's points from them, as
 /// [`plan`](crate::plan) returns it. None exactly if the parts' hull choice has no critical step. `near` guesses the
-/// plan's price and changes no answer; `loss` and `on_hand` are those of [`plan`](crate::plan). Want of memory is the
-/// only error.
+/// plan's price and changes no answer. Want of memory is the only error.
 pub fn plan_by_parts<F: Families>(
     alloc: Global,
     case: &Case,
@@ -79,37 +108,27 @@ pub fn plan_by_parts<F: Families>(
     families: &F,
     window: Window,
     parts: Vec<Curve>,
-    budget: u64,
+    terms: Terms,
     near: u128,
-    loss: bool,
-    on_hand: Option<u64>,
 ) -> Result<Option<Outcome>, NoMemory>
     requires rates { AreRatesOf case.now rates.now }
-    requires budget { budget ≤ most_budget }
+    requires budget { terms.budget ≤ most_budget }
     requires families { AreFamilies (F.points families.now) }
     requires vectors { HaveVectors case.now (F.points families.now) }
     requires window { IsPriceWindow window.low window.high }
     requires parts { ArePartsOf window.low window.high (F.points families.now) parts.items }
-    ensures none { IfOk result (λ found. IfNone found (HasNoCritical parts.items budget)) }
-    ensures some { IfOk result (λ found. IfSome found (λ _. HasNoCritical parts.items budget → ⊥)) }
+    ensures none { IfOk result (λ found. IfNone found (HasNoCritical parts.items terms.budget)) }
+    ensures some { IfOk result (λ found. IfSome found (λ _. HasNoCritical parts.items terms.budget → ⊥)) }
     ensures outcome { (ends : ScoreEnds) (held : List ℕ) → F.points families.now ≡ case_points ends case.now held
-        → IfOk result (λ found. IfSome found (IsOutcome ends case.now held
-        (record { budget = budget; loss = loss; on_hand = on_hand }))) }
+        → IfOk result (λ found. IfSome found (IsOutcome ends case.now held terms)) }
 {
     let _sites = case.site_count();
+    let budget = terms.budget;
     let Some(chosen) = choose_stocks_by_parts(alloc, case, families, window, parts, budget, near)?
     else {
         return Ok(None);
     };
     let results = evaluate_all::<48>(alloc, case, rates, &chosen.stocks)?;
-    let outcome = outcome_at(
-        alloc,
-        case,
-        chosen,
-        results.as_slice(),
-        budget,
-        loss,
-        on_hand,
-    )?;
+    let outcome = outcome_at(alloc, case, chosen, results.as_slice(), terms)?;
     Ok(Some(outcome))
 }

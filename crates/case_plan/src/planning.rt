@@ -12,10 +12,10 @@ ghost use Rattle.case_plan.specs.Chosen.{FitsCase, IsChosen};
 ghost use Rattle.case_plan.specs.Outcomes.{chosen_outcome, IsOutcomeOf};
 ghost use Rattle.case_plan.specs.Report.{if_asked, step_line, AreFamilyCurves, IsPlanOf};
 
-use crate::choose::choose;
-use crate::chosen::ChosenStocks;
+use crate::chosen::{ChosenStocks, filled};
+use crate::numbers::{floors_at, hull_numbers};
 use crate::outcome::Outcome;
-use crate::placing::stocks_of;
+use crate::terms::Terms;
 use answers::{List, NoMemory};
 use case_figures::figures_at;
 use demand_rates::kinds::Rates;
@@ -23,6 +23,7 @@ use family_eval::evaluate_all;
 use family_items::FamilyResult;
 use fixed_interval::Iv;
 use hull::{Curve, Price};
+use marginal_alloc::{allocate_near, fill};
 use plan_report::{CriticalLine, PlanReport};
 use spares_input::{Case, PartId};
 use std::alloc::Global;
@@ -92,14 +93,16 @@ pub fn choose_stocks(
     ensures chosen { IfOk result (IsChosen case.now curves.now budget) }
 {
     let _sites = case.site_count();
-    let choice = choose(alloc, curves, budget, near)?;
-    let stocks = stocks_of(alloc, case, curves, choice.picks.as_slice())?;
-    Ok(ChosenStocks {
-        stocks,
-        floors: choice.floors,
-        lower: choice.lower,
-        numbers: choice.numbers,
-    })
+    let chosen = allocate_near(alloc, curves, budget, near)?;
+    let cost = chosen.cost;
+    let price = chosen.price;
+    let critical = chosen.critical;
+    let mut picks = chosen.picks.into_vec();
+    let hull = hull_numbers(curves, picks.as_slice(), cost, price, critical, budget);
+    let floors = floors_at(alloc, curves, picks.as_slice(), price)?;
+    fill(curves, &mut picks, budget);
+    let stocks = filled(alloc, case, curves, picks.as_slice(), floors, hull)?;
+    Ok(stocks)
 }
 
 /// The outcome of chosen stocks, from the families' evaluation at these stocks.
@@ -111,27 +114,24 @@ pub fn outcome_at(
     case: &Case,
     chosen: ChosenStocks,
     families: &[FamilyResult<48>],
-    budget: u64,
-    loss: bool,
-    on_hand: Option<u64>,
+    terms: Terms,
 ) -> Result<Outcome, NoMemory>
     requires rates { rate_fault_of case.now ≡ None }
     requires fits { FitsCase case.now chosen }
     requires families { families.now ≡ families_of 48 case.now chosen.stocks }
-    ensures chosen { IfOk result (λ outcome. outcome ≡ chosen_outcome case.now
-        (record { budget = budget; loss = loss; on_hand = on_hand }) chosen) }
-    ensures case { IfOk result (λ outcome. (curves : List (List Point)) → IsChosen case.now curves budget chosen
-        → IsPlanOf case.now curves (record { budget = budget; loss = loss; on_hand = on_hand }) outcome) }
+    ensures chosen { IfOk result (λ outcome. outcome ≡ chosen_outcome case.now terms chosen) }
+    ensures case { IfOk result (λ outcome. (curves : List (List Point)) → IsChosen case.now curves terms.budget chosen
+        → IsPlanOf case.now curves terms outcome) }
 {
     let _sites = case.site_count();
     let numbers = chosen.numbers;
     let mut figures = figures_at::<48>(alloc, case, families, &chosen.stocks)?;
     figures.cost = numbers.cost;
     let report = PlanReport {
-        budget,
+        budget: terms.budget,
         figures,
-        on_hand,
-        loss: aim_of(loss, chosen.lower, numbers.upper),
+        on_hand: terms.on_hand,
+        loss: aim_of(terms.loss, chosen.lower, numbers.upper),
         bound: numbers.bound,
         gap: numbers.gap,
         rounding: numbers.rounding,
@@ -174,13 +174,10 @@ pub fn plan(
     let _sites = case.site_count();
     let chosen = choose_stocks(alloc, case, curves, budget, 0)?;
     let families = evaluate_all::<48>(alloc, case, rates, &chosen.stocks)?;
-    outcome_at(
-        alloc,
-        case,
-        chosen,
-        families.as_slice(),
+    let terms = Terms {
         budget,
         loss,
         on_hand,
-    )
+    };
+    outcome_at(alloc, case, chosen, families.as_slice(), terms)
 }

@@ -24,6 +24,7 @@ use Rattle.family_points.specs.Points.{ScoreEnds, points_within}
 use Rattle.family_points.specs.Counts.{most_tables, tables_between}
 use Rattle.fleet_plan.specs.Families.{family_points}
 use Rattle.fleet_plan.specs.Plans.{CasePlan, IsTruePlan}
+use Rattle.case_plan.specs.declared.outcome.Outcome.{Outcome}
 use Rattle.fleet_plan.proofs.Bridge.{plan_true}
 use Rattle.fleet_plan.proofs.Costs.{families_beyond}
 use Rattle.fleet_plan.proofs.Places.{length_vector}
@@ -45,13 +46,12 @@ use Rattle.gap_rules.proofs.StockFaults.{else_none}
 use Rattle.price_certificate.specs.declared.certificate.Terms.{Terms}
 use Rattle.gap_rules.specs.Scores as scores
 use Rattle.gap_rules.specs.Scores.{ends_of}
-use Rattle.certified_plan.specs.Certificates.{covers_of, certificate_of, claims_of}
+use Rattle.certified_plan.specs.Certificates.{covers_of, certificate_of}
 use Rattle.held_work.specs.Work.{tables_from}
-use Rattle.certified_plan.specs.Inputs.{IsWithinWork}
-use Rattle.certified_plan.specs.Laws.{IsPlanOn}
+use Rattle.certified_plan.specs.Inputs.{IsPlanOn, IsWithinWork}
 use Rattle.certified_plan.proofs.Corners.{Boxed, lawful_box}
 use Rattle.certified_plan.proofs.Families.{count_is, held_lists, most_lists}
-use Rattle.certified_plan.proofs.Formed.{line_is, held_line, cover_is, trims}
+use Rattle.certified_plan.proofs.Formed.{line_is, held_line, cover_is, made, trims}
 use Rattle.certified_plan.proofs.Leaves.{Leaf, none_low, leaf_floor, tables_most}
 use Rattle.certified_plan.proofs.Scores.{scores_enclose}
 use Rattle.certified_plan.proofs.Trees.{HasOneWhole, trimmed_whole}
@@ -109,15 +109,18 @@ nodes_by : (b : Bool) (covers : List (List Node)) (f p floor : ℕ) (ps : List P
 nodes_by true covers f p floor ps h = h
 nodes_by false covers f p floor ps h = refl
 
-module _ (c : CaseRows) (held : StockList) (terms : Terms) (p : CasePlan) (on : IsPlanOn c held terms p) where
+module _ (c : CaseRows) (held : StockList) (terms : Terms) (o : Outcome) (on : IsPlanOn c held terms o) where
+  abbrev p : CasePlan
+  p = on.plan
+
   abbrev score : ScoreEnds
   score = ends_of terms.objective
 
   abbrev cert : Certificate
-  cert = certificate_of c held terms (claims_of c p)
+  cert = certificate_of c held terms (made c held terms o on)
 
   true_plan : IsTruePlan (ends_of terms.objective) (scores.value_of terms.objective) c held.list terms.budget p
-  true_plan = plan_true (ends_of terms.objective) (scores.value_of terms.objective) c held.list on.accepted (scores_enclose terms.objective) terms.budget p on.plan
+  true_plan = plan_true (ends_of terms.objective) (scores.value_of terms.objective) c held.list on.accepted (scores_enclose terms.objective) terms.budget p on.is_plan
 
   -- ---- families
 
@@ -224,15 +227,16 @@ module _ (c : CaseRows) (held : StockList) (terms : Terms) (p : CasePlan) (on : 
 
   cost_fits : cost_above c held (stock_list c p.stocks) ≤ terms.budget
   cost_fits =
-      let e = added_is c held (stock_list c p.stocks) on.accepted.valid on.is_held.is_for (record { sites = refl; pairs = on.plan.count }) all_kept in
+      let e = added_is c held (stock_list c p.stocks) on.accepted.valid on.is_held.is_for (record { sites = refl; pairs = on.is_plan.count }) all_kept in
       let f = families_beyond c held.list p.stocks on.accepted.valid in
       let g = true_plan.certificate.fits in
       omega (arith, e, f, g)
 
   -- a plan's certificate is accepted, where the work is within its limit
-  pub accepted : IsWithinWork c held.list → reject_of (ends_of terms.objective) (certificate_of c held terms (claims_of c p)) held ≡ None
+  pub accepted : IsWithinWork c held.list → reject_of (ends_of terms.objective) (certificate_of c held terms o) held ≡ None
   accepted within =
       let few = within_work c held.list within in
+      subst (λ (z : Outcome). reject_of (ends_of terms.objective) (certificate_of c held terms z) held ≡ None) (sym on.is) (
       none_broken score cert held (record {
         rates = ap (option_map reject.Rate) on.accepted.no_fault;
         gaps = first_none (gap_at cert held) (family_count c) (λ f b. no_gap f b);
@@ -241,6 +245,6 @@ module _ (c : CaseRows) (held : StockList) (terms : Terms) (p : CasePlan) (on : 
         kept = all_kept;
         cost = cost_fits;
         floors = first_none (low_at score cert held) (family_count c) (λ f b. no_low f b);
-        upper = let u = on.plan.plan.upper in omega (arith, u);
-        bound = let u = on.plan.plan.bound in omega (arith, u);
-      })
+        upper = let u = on.is_plan.plan.upper in omega (arith, u);
+        bound = let u = on.is_plan.plan.bound in omega (arith, u);
+      }))

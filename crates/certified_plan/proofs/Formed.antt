@@ -1,5 +1,5 @@
 -- The certificate of a plan is well formed.
-use Rattle.std.proofs.Common.{◌≡◌, ℕ, zero, suc, ◌<◌, ◌≤◌, inl, inr, cond, List, [], ◌∷◌, length, map, get_or, All, refl, sym, ap, ◌∙◌, subst, arith, eq-eqb, ne_eqb}
+use Rattle.std.proofs.Common.{◌≡◌, ℕ, zero, suc, ◌<◌, ◌≤◌, ◌^◌, inl, inr, cond, List, [], ◌∷◌, length, map, get_or, All, refl, sym, ap, ◌∙◌, subst, arith, eq-eqb, ne_eqb}
 use Rattle.std.proofs.lemmas.List.{get_or_past}
 use Rattle.std.proofs.lemmas.List.Elements.{All-from_recursion, All-from_get_or}
 use Rattle.std.proofs.lemmas.List.FromFn.{get_or-map-range_with_len, length-map-range_with_len}
@@ -10,11 +10,13 @@ use Rattle.fleet_model.specs.Rows.{line_units}
 use Rattle.fleet_model.proofs.AllocationLaws.{limit_most}
 use Rattle.family_items.specs.Inputs.{IsLine}
 use Rattle.family_points.specs.Vectors.{Pair, places, vector_of, limits}
-use Rattle.fleet_plan.specs.Plans.{CasePlan}
 use Rattle.fleet_plan.proofs.Places.{lines_are}
 use Rattle.case_plan.specs.Laws.{FitsItsPlace}
+use Rattle.case_plan.specs.Report.{outcome_of}
+use Rattle.case_plan.specs.declared.outcome.Outcome.{Outcome}
 use Rattle.case_plan.proofs.Ranges.{plan_fits}
 use Rattle.price_certificate.specs.declared.place.Place.{Place}
+use Rattle.price_certificate.specs.declared.certificate.Certificate.{Certificate}
 use Rattle.price_certificate.specs.declared.certificate.Node.{Node}
 use Rattle.price_certificate.specs.Covers.{no_place, held_at, most_at, IsTrim, places_of, nodes_of, trimmed}
 use Rattle.price_certificate.specs.Certificates.{IsNode, IsCover, IsSecond, IsWellFormed}
@@ -28,10 +30,8 @@ use Rattle.hull.specs.Curves.{Among}
 use Rattle.hull.proofs.Runs.{among_at}
 use Rattle.price_certificate.specs.declared.certificate.Terms.{Terms}
 use Rattle.gap_rules.specs.Scores.{ends_of, value_of}
-use Rattle.certified_plan.specs.Certificates.{cover_at, covers_of, certificate_of, claims_of}
-use Rattle.certified_plan.specs.declared.terms.PlanClaims.{PlanClaims}
-use Rattle.certified_plan.specs.Inputs.{AreTerms, IsHeld, AreClaims}
-use Rattle.certified_plan.specs.Laws.{IsPlanOn}
+use Rattle.certified_plan.specs.Certificates.{cover_at, covers_of, certificate_of}
+use Rattle.certified_plan.specs.Inputs.{IsHeld, IsPlanOn}
 use Rattle.certified_plan.proofs.Scores.{scores_enclose, scores_leave_room}
 use Rattle.certified_plan.proofs.Families.{count_is, most_is, valid_places}
 use Rattle.certified_plan.proofs.Trees.{some_nodes, few_nodes, lawful_nodes}
@@ -102,48 +102,54 @@ covers_all c held p floors valid h = All-from_get_or IsCover (covers_of c held.l
 
 -- ---- the certificate
 
--- what a plan claims is in the range of a certificate's numbers
-pub plan_claims : (c : CaseRows) (held : StockList) (terms : Terms) (p : CasePlan) → IsPlanOn c held terms p → AreClaims c (claims_of c p)
-plan_claims c held terms p on =
-    let fits : FitsItsPlace c p =
-    plan_fits (ends_of terms.objective) (value_of terms.objective) c held.list terms.budget p on.accepted (scores_enclose terms.objective) (scores_leave_room terms.objective) on.plan in
-    record {
-      price = fits.price;
-      money = fits.money;
-      most_money = fits.most_money;
-      floor_count = fits.floor_count;
-      floors = fits.floors_most;
-      stocks = record { sites = refl; pairs = on.plan.count };
-      stock_numbers = fits.stocks_most;
-      upper = fits.upper;
-      bound = fits.bound;
-    }
+module _ (c : CaseRows) (held : StockList) (terms : Terms) (o : Outcome) (on : IsPlanOn c held terms o) where
+  -- the outcome, in the numbers of its plan
+  abbrev pub made : Outcome
+  made = outcome_of (ends_of terms.objective) c on.asked on.plan
 
-module _ (c : CaseRows) (held : StockList) (terms : Terms) (claims : PlanClaims) (valid : IsCase c) (had : IsHeld c held) where
+  abbrev cert : Certificate
+  cert = certificate_of c held terms made
+
+  -- the numbers of the plan are in the ranges of a certificate's numbers
+  pub fits : FitsItsPlace c on.plan
+  fits = plan_fits (ends_of terms.objective) (value_of terms.objective) c held.list terms.budget on.plan on.accepted (scores_enclose terms.objective) (scores_leave_room terms.objective) on.is_plan
+
+  -- so is the price of the outcome
+  pub price_most : o.price.p ≤ 2 ^ 74
+  price_most = subst (λ (z : Outcome). z.price.p ≤ 2 ^ 74) (sym on.is) fits.price
+
+  -- the outcome has a floor for each line unit
+  pub floor_each : length o.floors ≡ length (line_units c)
+  floor_each = subst (λ (z : Outcome). length z.floors ≡ length (line_units c)) (sym on.is) fits.floor_count
+
   abbrev own : List (List Node)
-  own = covers_of c held.list claims.price.p claims.floors
+  own = covers_of c held.list on.plan.numbers.price.p on.plan.floors
 
-  second_of : (certificate_of c held terms claims).covers ≡ covers_of c held.list claims.price.p claims.floors → IsSecond (certificate_of c held terms claims)
+  second_of : cert.covers ≡ covers_of c held.list on.plan.numbers.price.p on.plan.floors → IsSecond cert
   second_of e = record {
-    count = ap length e ∙ covers_count c held.list claims.price.p claims.floors ∙ lines_counted c;
-    covers = subst (λ z. All IsCover z) (sym e) (covers_all c held claims.price.p claims.floors valid had);
+    count = ap length e ∙ covers_count c held.list on.plan.numbers.price.p on.plan.floors ∙ lines_counted c;
+    covers = subst (λ z. All IsCover z) (sym e) (covers_all c held on.plan.numbers.price.p on.plan.floors on.accepted.valid on.is_held);
   }
 
-  -- the certificate of terms and claims in their ranges is well formed
-  pub well_formed : AreTerms terms → AreClaims c claims → IsWellFormed (certificate_of c held terms claims)
-  well_formed are fits = record {
-    fewest = are.fewest;
-    most = are.most;
-    case = valid;
-    budget = are.budget;
+  -- with the numbers of its plan the certificate is well formed
+  pub made_formed : IsWellFormed (certificate_of c held terms (outcome_of (ends_of terms.objective) c on.asked on.plan))
+  made_formed = record {
+    fewest = on.are_terms.fewest;
+    most = on.are_terms.most;
+    case = on.accepted.valid;
+    budget = on.are_terms.budget;
     price = fits.price;
     money = (fits.money, fits.most_money);
     floor_count = fits.floor_count ∙ lines_counted c;
-    floors = fits.floors;
-    first = λ e. record { objective = are.first e; covers = ap (λ b. cond b own []) (ne_eqb terms.format 2 (λ two. omega (arith, e, two))) };
+    floors = fits.floors_most;
+    first = λ e. record { objective = on.are_terms.first e; covers = ap (λ b. cond b own []) (ne_eqb terms.format 2 (λ two. omega (arith, e, two))) };
     second = λ e. second_of (ap (λ b. cond b own []) (eq-eqb terms.format 2 e));
-    stocks = fits.stocks;
-    stock_numbers = fits.stock_numbers;
+    stocks = record { sites = refl; pairs = on.is_plan.count };
+    stock_numbers = fits.stocks_most;
     upper = fits.upper;
     bound = fits.bound;
   }
+
+  -- the certificate of a plan is well formed
+  pub well_formed : IsWellFormed (certificate_of c held terms o)
+  well_formed = subst (λ (z : Outcome). IsWellFormed (certificate_of c held terms z)) (sym on.is) made_formed

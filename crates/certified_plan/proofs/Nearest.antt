@@ -1,15 +1,17 @@
 -- No certificate that the checker accepts has a bound above a plan's bound plus its rounding.
-use Rattle.std.proofs.Common.{ℕ, ◌+◌, sym, subst}
+use Rattle.std.proofs.Common.{ℕ, ◌+◌, ◌≤◌, sym, subst}
 use Rattle.spares_input.specs.Cases.{CaseRows}
 use Rattle.spares_input.specs.Stocks.{StockList, IsFor}
 use Rattle.certified_plan.specs.Accepted as bounds
-use Rattle.fleet_plan.specs.Plans.{AreAcceptable, CasePlan}
+use Rattle.fleet_plan.specs.Plans.{AreAcceptable}
 use Rattle.fleet_plan.proofs.Bridge.{from_points, plan_true}
+use Rattle.case_plan.specs.declared.outcome.Outcome.{Outcome}
 use Rattle.gap_rules.proofs.Acceptable.{accepted_are_acceptable}
 use Rattle.gap_rules.specs.Scores.{ends_of, value_of}
 use Rattle.price_certificate.specs.declared.certificate.Certificate.{Certificate}
 use Rattle.price_certificate.specs.declared.certificate.Terms.{Terms}
-use Rattle.certified_plan.specs.Laws.{IsAcceptedFor, IsPlanOn, NoCertificateShowsMore}
+use Rattle.certified_plan.specs.Inputs.{IsPlanOn}
+use Rattle.certified_plan.specs.Laws.{IsAcceptedFor, NoCertificateShowsMore}
 use Rattle.certified_plan.proofs.Scores.{scores_enclose}
 
 module _ (c : CaseRows) (held : StockList) (terms : Terms) where
@@ -23,7 +25,7 @@ module _ (c : CaseRows) (held : StockList) (terms : Terms) where
       (subst (λ (budget : ℕ). AreAcceptable (ends_of terms.objective) cert.case held.list budget (bounds.claims_of cert)) h.budget_is own)
 
   -- so their bound is at most the plan's bound plus its rounding
-  pub nearest : (p : CasePlan) → IsPlanOn c held terms p → NoCertificateShowsMore c held terms (p.numbers.bound + p.numbers.rounding)
-  nearest p on cert h =
-      let t = plan_true (ends_of terms.objective) (value_of terms.objective) c held.list on.accepted (scores_enclose terms.objective) terms.budget p on.plan in
-      t.no_claims (bounds.claims_of cert) (acceptable on.is_held.is_for cert h)
+  pub nearest : (o : Outcome) → IsPlanOn c held terms o → NoCertificateShowsMore c held terms (o.report.bound + o.report.rounding)
+  nearest o on cert h =
+      let t = plan_true (ends_of terms.objective) (value_of terms.objective) c held.list on.accepted (scores_enclose terms.objective) terms.budget on.plan on.is_plan in
+      subst (λ (z : Outcome). cert.bound ≤ z.report.bound + z.report.rounding) (sym on.is) (t.no_claims (bounds.claims_of cert) (acceptable on.is_held.is_for cert h))

@@ -9,6 +9,8 @@ use Rattle.fleet_model.proofs.AllocationLaws.{allocation_reaches, stocks_allocat
 use Rattle.fleet_model.proofs.FrameLaws.{few_lines}
 use Rattle.family_points.specs.Vectors.{vector_of}
 use Rattle.fleet_plan.specs.Plans.{CasePlan}
+use Rattle.case_plan.specs.declared.outcome.Outcome.{Outcome}
+use Rattle.price_certificate.specs.declared.certificate.Certificate.{Certificate}
 use Rattle.price_certificate.specs.declared.certificate.Node.{Node}
 use Rattle.price_certificate.specs.Covers.{places_of}
 use Rattle.price_certificate.specs.Certificates.{IsNode, cert_text, certificate_limit}
@@ -16,10 +18,9 @@ use Rattle.price_certificate.specs.Grammar.{certificate_format}
 use Rattle.held_certificate.specs.declared.held.HeldCertificate.{HeldCertificate}
 use Rattle.held_certificate.specs.Held.{held_format, held_text}
 use Rattle.price_certificate.specs.declared.certificate.Terms.{Terms}
-use Rattle.certified_plan.specs.Certificates.{cover_at, covers_of, certificate_of, claims_of}
-use Rattle.certified_plan.specs.Inputs.{IsHeld}
-use Rattle.certified_plan.specs.Laws.{IsPlanOn}
-use Rattle.certified_plan.proofs.Formed.{few_of, is_cover, line_is, held_line, cover_is, covers_count, plan_claims, well_formed}
+use Rattle.certified_plan.specs.Certificates.{cover_at, covers_of, certificate_of}
+use Rattle.certified_plan.specs.Inputs.{IsHeld, IsPlanOn}
+use Rattle.certified_plan.proofs.Formed.{few_of, is_cover, line_is, held_line, cover_is, covers_count, fits, made, made_formed}
 use Rattle.certified_plan.proofs.Sizes.{IsShort, HasFew, certificate_most, held_most}
 use Rattle.certified_plan.proofs.Trees.{few_nodes}
 use Rattle.certified_plan.proofs.Widths.{concat_most}
@@ -47,25 +48,31 @@ covers_by : (b : Bool) (covers : List (List Node)) → length covers ≤ 2000 �
 covers_by true covers few all = (few, all)
 covers_by false covers few all = (omega arith, tt)
 
-module _ (c : CaseRows) (held : StockList) (terms : Terms) (p : CasePlan) (on : IsPlanOn c held terms p) where
-  has_few : HasFew (certificate_of c held terms (claims_of c p))
+module _ (c : CaseRows) (held : StockList) (terms : Terms) (o : Outcome) (on : IsPlanOn c held terms o) where
+  abbrev p : CasePlan
+  p = on.plan
+
+  abbrev own : Certificate
+  own = certificate_of c held terms (made c held terms o on)
+
+  has_few : HasFew own
   has_few =
-      let fits = plan_claims c held terms p on in
-      let n = fits.floor_count in
+      let n = (fits c held terms o on).floor_count in
       let m = few_lines c on.accepted.valid in
       let k = covers_count c held.list p.numbers.price.p p.floors in
       let covers = covers_by (terms.format == 2) (covers_of c held.list p.numbers.price.p p.floors) (omega (arith, m, k)) (all_short c held p.numbers.price.p p.floors on.accepted.valid on.is_held) in
-      record { formed = well_formed c held terms (claims_of c p) on.accepted.valid on.is_held on.are_terms fits; floors = omega (arith, n, m); covers = covers.0; short = covers.1 }
+      record { formed = made_formed c held terms o on; floors = omega (arith, n, m); covers = covers.0; short = covers.1 }
 
   -- the text of a plan's certificate is within the most bytes that are read
-  pub text_short : length (cert_text (certificate_of c held terms (claims_of c p))) ≤ certificate_limit
+  pub text_short : length (cert_text (certificate_of c held terms o)) ≤ certificate_limit
   text_short =
-      let a = concat_most ((certificate_format 1).print (certificate_of c held terms (claims_of c p))) in
-      let b = certificate_most (certificate_of c held terms (claims_of c p)) has_few in
-      omega (arith, a, b)
+      let a = concat_most ((certificate_format 1).print own) in
+      let b = certificate_most own has_few in
+      let short : length (cert_text own) ≤ certificate_limit = omega (arith, a, b) in
+      subst (λ (z : Outcome). length (cert_text (certificate_of c held terms z)) ≤ certificate_limit) (sym on.is) short
 
   abbrev held_cert : HeldCertificate
-  held_cert = record { certificate = certificate_of c held terms (claims_of c p); held = held }
+  held_cert = record { certificate = own; held = held }
 
   held_small : AllByRecursion (λ n. n ≤ 63) held.list
   held_small =
@@ -77,8 +84,9 @@ module _ (c : CaseRows) (held : StockList) (terms : Terms) (p : CasePlan) (on : 
       first_row i n = omega arith
 
   -- the text of a plan's certificate with what is held is within the most bytes that are read
-  pub held_short : length (held_text (record { certificate = certificate_of c held terms (claims_of c p); held = held })) ≤ certificate_limit
+  pub held_short : length (held_text (record { certificate = certificate_of c held terms o; held = held })) ≤ certificate_limit
   held_short =
       let a = concat_most (held_format.print held_cert) in
       let b = held_most held_cert has_few on.is_held.is_for held_small in
-      omega (arith, a, b)
+      let short : length (held_text held_cert) ≤ certificate_limit = omega (arith, a, b) in
+      subst (λ (z : Outcome). length (held_text (record { certificate = certificate_of c held terms z; held = held })) ≤ certificate_limit) (sym on.is) short

@@ -4,15 +4,14 @@ use Rattle.std.specs.List.{range_with_len}
 use Rattle.spares_input.specs.Cases.{CaseRows}
 use Rattle.spares_input.specs.Stocks.{StockList}
 use Rattle.fleet_model.specs.Rows.{line_units}
-use Rattle.family_points.specs.Vectors.{vector_of, stock_list}
-use Rattle.fleet_plan.specs.Plans.{CasePlan}
+use Rattle.family_points.specs.Vectors.{vector_of}
+use Rattle.case_plan.specs.declared.outcome.Outcome.{Outcome}
 use Rattle.price_certificate.specs.declared.certificate.Certificate.{Certificate}
 use Rattle.price_certificate.specs.declared.certificate.Node.{Node}
 use Rattle.price_certificate.specs.Covers.{places_of, trimmed, nodes_of}
 use Rattle.price_certificate.specs.Certificates.{cert_text}
 use Rattle.held_certificate.specs.Held.{held_text}
 use Rattle.price_certificate.specs.declared.certificate.Terms.{Terms}
-use Rattle.certified_plan.specs.declared.terms.PlanClaims.{PlanClaims}
 
 -- the trimmed cover of the family of the line unit l at a price and a floor, over its vectors from the held stocks to
 -- the limits
@@ -31,29 +30,19 @@ covers_of c held p floors = map (cover_at c held p floors) (range_with_len 0 (le
 abbrev pub covers_in : CaseRows → List ℕ → ℕ → ℕ → List ℕ → List (List Node)
 covers_in c held format p floors = if format == 2 then covers_of c held p floors else []
 
--- The certificate of these claims on these terms.
-abbrev pub certificate_of : CaseRows → StockList → Terms → PlanClaims → Certificate
-certificate_of c held terms claims = record {
+-- The certificate of a plan's outcome on these terms.
+abbrev pub certificate_of : CaseRows → StockList → Terms → Outcome → Certificate
+certificate_of c held terms outcome = record {
   format = terms.format;
   objective = terms.objective;
   case = c;
   budget = terms.budget;
-  price = claims.price;
-  floors = claims.floors;
-  covers = covers_in c held.list terms.format claims.price.p claims.floors;
-  stocks = claims.stocks;
-  upper = claims.upper;
-  bound = claims.bound;
-}
-
--- the claims of a plan
-abbrev pub claims_of : CaseRows → CasePlan → PlanClaims
-claims_of c p = record {
-  stocks = stock_list c p.stocks;
-  price = p.numbers.price;
-  floors = p.floors;
-  upper = p.numbers.upper;
-  bound = p.numbers.bound;
+  price = outcome.price;
+  floors = outcome.floors;
+  covers = covers_in c held.list terms.format outcome.price.p outcome.floors;
+  stocks = outcome.stocks;
+  upper = outcome.upper;
+  bound = outcome.report.bound;
 }
 
 -- the text of a certificate, with the held stocks if there are any

@@ -1,14 +1,18 @@
 -- The inputs of a plan's certificate.
-use Rattle.std.specs.Prelude.{◌≡◌, ℕ, ◌^◌, ◌≤◌, List, length, All}
+use Rattle.std.specs.Prelude.{◌≡◌, ℕ, ◌≤◌, List}
 use Rattle.std.specs.Result.{IsOk}
 use Rattle.spares_input.specs.Cases.{CaseRows}
 use Rattle.spares_input.specs.Money.{most_budget}
 use Rattle.spares_input.specs.Stocks.{StockList, IsFor, IsWithinLimits}
-use Rattle.fleet_model.specs.Rows.{line_units}
+use Rattle.fleet_plan.specs.Plans.{CasePlan, IsCasePlan}
+use Rattle.fleet_plan.specs.Laws.{IsAcceptedCase}
 use Rattle.held_work.specs.Work.{held_work_of}
+use Rattle.case_plan.specs.Report.{outcome_of}
+use Rattle.case_plan.specs.declared.outcome.Outcome.{Outcome}
+use Rattle.case_plan.specs.declared.terms.Terms as plans
 use Rattle.price_certificate.specs.declared.certificate.Objective.TheVariants.{Backorders}
 use Rattle.price_certificate.specs.declared.certificate.Terms.{Terms}
-use Rattle.certified_plan.specs.declared.terms.PlanClaims.{PlanClaims}
+use Rattle.gap_rules.specs.Scores.{ends_of}
 
 -- the budget is in its range, and the format is 1 or 2; format 1 has only backorders
 pub record AreTerms (terms : Terms) : Type 0 where
@@ -22,18 +26,18 @@ pub record IsHeld (c : CaseRows) (held : StockList) : Type 0 where
   pub is_for : IsFor c held
   pub limits : IsWithinLimits c held
 
--- each number is in its range, with a floor for each line unit and a stock for each pair
-pub record AreClaims (c : CaseRows) (claims : PlanClaims) : Type 0 where
-  pub price : claims.price.p ≤ 2 ^ 74
-  pub money : 1 ≤ claims.price.q
-  pub most_money : claims.price.q ≤ 10 ^ 12
-  pub floor_count : length claims.floors ≡ length (line_units c)
-  pub floors : All (λ floor. floor ≤ 2 ^ 115) claims.floors
-  pub stocks : IsFor c claims.stocks
-  pub stock_numbers : All (λ stock. stock ≤ 63) claims.stocks.list
-  pub upper : claims.upper ≤ 2 ^ 85
-  pub bound : claims.bound ≤ 2 ^ 85
-
 -- the work of the curves from the held stocks is within its limit
 abbrev pub IsWithinWork : CaseRows → List ℕ → Type 0
 IsWithinWork c held = IsOk (held_work_of c held)
+
+-- the outcome of the plan of an accepted case, from the held stocks and on these terms; its report is asked for under
+-- the same budget
+pub record IsPlanOn (c : CaseRows) (held : StockList) (terms : Terms) (outcome : Outcome) : Type 0 where
+  pub accepted : IsAcceptedCase c
+  pub are_terms : AreTerms terms
+  pub is_held : IsHeld c held
+  pub plan : CasePlan
+  pub is_plan : IsCasePlan (ends_of terms.objective) c held.list terms.budget plan
+  pub asked : plans.Terms
+  pub same_budget : asked.budget ≡ terms.budget
+  pub is : outcome ≡ outcome_of (ends_of terms.objective) c asked plan

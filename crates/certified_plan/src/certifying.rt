@@ -4,17 +4,25 @@ ghost use Rattle.std.specs.Prelude.{◌≡◌, ◌+◌, ◌^◌, ◌<◌, ◌≤
 ghost use Rattle.fleet_model.specs.Rows.{line_units};
 ghost use Rattle.family_items.specs.Inputs.{IsLine};
 ghost use Rattle.price_certificate.specs.Certificates.{IsWellFormed};
-ghost use Rattle.certified_plan.specs.Inputs.{AreClaims, AreTerms, IsHeld};
+ghost use Rattle.certified_plan.specs.Inputs.{IsHeld, IsPlanOn};
 ghost use Rattle.certified_plan.specs.Certificates.{certificate_of, cover_of, covers_in, covers_of};
 
-use crate::terms::PlanClaims;
 use answers::{List, NoMemory};
+use case_plan::Outcome;
 use family_items::line_units;
 use family_points::vector_of;
 use hull::Price;
+use plan_report::PlanReport;
 use price_certificate::{Certificate, Node, Terms, trim};
 use spares_input::{Case, PartId, Stocks};
 use std::alloc::Global;
+
+/// The report of a plan with its certificate.
+#[derive(Drop)]
+pub struct Certified {
+    pub report: PlanReport,
+    pub certificate: Certificate,
+}
 
 /// The cover of a family at a price and its floor, from the held stocks.
 fn cover_of(
@@ -75,57 +83,65 @@ fn covers_of(
     covers_along(alloc, case, held, price, floors, lines.as_slice())
 }
 
-/// The covers, which only format 2 has.
+/// The covers of a plan, which only format 2 has.
 fn covers_in(
     alloc: Global,
     case: &Case,
     held: &Stocks,
-    format: u8,
-    claims: &PlanClaims,
+    terms: Terms,
+    plan: &Outcome,
 ) -> Result<List<List<Node>>, NoMemory>
-    requires held { IsHeld case.now held.now }
-    requires claims { AreClaims case.now claims.now }
-    ensures { IfOk result (λ covers. covers ≡ covers_in case.now held.now.list format claims.now.price.p
-        claims.now.floors) }
+    requires { IsPlanOn case.now held.now terms plan.now }
+    ensures { IfOk result (λ covers. covers ≡ covers_in case.now held.now.list terms.format plan.now.price.p
+        plan.now.floors) }
 {
-    if format == 2 {
-        let covers = covers_of(alloc, case, held, claims.price, claims.floors.as_slice())?;
+    if terms.format == 2 {
+        let covers = covers_of(alloc, case, held, plan.price, plan.floors.as_slice())?;
         Ok(List::of(covers))
     } else {
         Ok(List::of(Vec::new(alloc)))
     }
 }
 
-/// The certificate of a plan's claims on these terms, with these stocks held. In format 2 each cover is trimmed: it
-/// leaves to cost the boxes whose cost alone shows the floor.
+/// The report of a plan, with its certificate on these terms. In format 2 each cover is trimmed: it leaves to cost the
+/// boxes whose cost alone shows the floor.
 ///
-/// The terms and the claims are in their ranges, and `held` is a list for the case, within its limits. Want of memory
-/// is the only error.
+/// `plan` is the plan of the accepted case on these terms, from `held`: a list for the case, within its limits. The
+/// terms are in their ranges. Want of memory is the only error.
 pub fn certificate(
     alloc: Global,
     case: Case,
     held: &Stocks,
     terms: Terms,
-    claims: PlanClaims,
-) -> Result<Certificate, NoMemory>
-    requires held { IsHeld case held.now }
-    requires terms { AreTerms terms }
-    requires claims { AreClaims case claims }
-    ensures certificate { IfOk result (λ cert. cert ≡ certificate_of case held.now terms claims) }
-    ensures formed { IfOk result IsWellFormed }
+    plan: Outcome,
+) -> Result<Certified, NoMemory>
+    requires { IsPlanOn case held.now terms plan }
+    ensures report { IfOk result (λ made. made.report ≡ plan.report) }
+    ensures certificate { IfOk result (λ made. made.certificate ≡ certificate_of case held.now terms plan) }
+    ensures formed { IfOk result (λ made. IsWellFormed made.certificate) }
 {
-    let _valid = case.site_count();
-    let covers = covers_in(alloc, &case, held, terms.format, &claims)?;
-    Ok(Certificate {
-        format: terms.format,
-        objective: terms.objective,
-        case,
-        budget: terms.budget,
-        price: claims.price,
-        floors: claims.floors,
-        covers,
-        stocks: claims.stocks,
-        upper: claims.upper,
-        bound: claims.bound,
+    let covers = covers_in(alloc, &case, held, terms, &plan)?;
+    let Outcome {
+        report,
+        stocks,
+        price,
+        floors,
+        upper,
+    } = plan;
+    let bound = report.bound;
+    Ok(Certified {
+        report,
+        certificate: Certificate {
+            format: terms.format,
+            objective: terms.objective,
+            case,
+            budget: terms.budget,
+            price,
+            floors,
+            covers,
+            stocks,
+            upper,
+            bound,
+        },
     })
 }

@@ -1,7 +1,7 @@
 //! The laws of a plan's certificate, as contracts of functions with empty bodies.
 
 ghost use Rattle.certified_plan.specs.Accepted.{AcceptedAreTrue, PlainAcceptedAreTrue};
-ghost use Rattle.certified_plan.specs.Laws.{HeldTextsAreShort, PlansAreAccepted, PlansClaim, PlansComeNearest, ScoresEnclose, ScoresLeaveRoom, TextsAreShort};
+ghost use Rattle.certified_plan.specs.Laws.{HeldTextsAreShort, PlansAreAccepted, PlansAreWellFormed, PlansComeNearest, ScoresEnclose, ScoresLeaveRoom, TextsAreShort};
 
 /// The intervals of each objective enclose its values, and leave room to add up.
 pub fn scores_are_sound()
@@ -9,9 +9,9 @@ pub fn scores_are_sound()
     ensures room { ScoresLeaveRoom }
 {}
 
-/// The claims of a plan are in their ranges, so a certificate can carry them.
-pub fn plans_claim()
-    ensures { PlansClaim }
+/// The certificate of a plan is well formed: its numbers are in their ranges, and its lists have their lengths.
+pub fn plans_are_well_formed()
+    ensures { PlansAreWellFormed }
 {}
 
 /// The checker accepts the certificate of a plan, in both formats, for each objective and with any held stocks.

@@ -9,13 +9,11 @@
 
 mod certifying;
 mod laws;
-mod terms;
 mod writing;
 
-pub use certifying::certificate;
+pub use certifying::{Certified, certificate};
 pub use laws::{
-    accepted_are_true, plans_are_accepted, plans_claim, plans_come_nearest, scores_are_sound,
-    texts_are_short,
+    accepted_are_true, plans_are_accepted, plans_are_well_formed, plans_come_nearest,
+    scores_are_sound, texts_are_short,
 };
-pub use terms::PlanClaims;
 pub use writing::certificate_text;

@@ -11,29 +11,7 @@ use crate::window::cut;
 use answers::NoMemory;
 use hull::{Chain, Curve, Point, Price, Spot};
 use std::alloc::Global;
-use sum_walk::walk::{Runner, Stocks, Turn, walk};
-
-/// Scratch lists of a walk; contents are not kept between calls.
-#[derive(Drop)]
-pub struct Walking {
-    /// The walk's place on each part.
-    runners: Vec<Runner>,
-    /// The order of the walk's steps.
-    order: Vec<Turn>,
-    /// The stocks of the sum that the walk has reached.
-    stocks: Stocks,
-}
-
-impl Walking {
-    /// Empty lists.
-    pub fn new(alloc: Global) -> Walking {
-        Walking {
-            runners: Vec::new(alloc),
-            order: Vec::new(alloc),
-            stocks: Stocks::new(alloc),
-        }
-    }
-}
+use sum_walk::walk::{Walking, walk};
 
 /// The part between two prices of all points for which the sums of `first` and a vertex of each of `parts` suffice.
 /// There are 1 to 16 parts, between the same prices. Want of memory is the only error.
@@ -58,15 +36,7 @@ pub fn part_of_sums<T: Spot>(
     ensures few { IfOk result (λ part. length part ≤ 1 + sum_by length parts.now) }
 {
     let below = [];
-    let handed = walk(
-        alloc,
-        &mut walking.runners,
-        &mut walking.order,
-        &mut walking.stocks,
-        first,
-        parts,
-        &below,
-    )?;
+    let handed = walk(alloc, walking, first, parts, &below)?;
     let mut curve = Curve::of(alloc, handed)?;
     cut(&mut curve, low, high);
     Ok(curve)
@@ -126,15 +96,7 @@ pub fn join_sums<T: Spot>(
 {
     let _count = curve.len();
     let below = curve.vertices();
-    let handed = walk(
-        alloc,
-        &mut walking.runners,
-        &mut walking.order,
-        &mut walking.stocks,
-        first,
-        parts,
-        below,
-    )?;
+    let handed = walk(alloc, walking, first, parts, below)?;
     curve.add_points(handed)?;
     cut(curve, low, high);
     Ok(())

@@ -8,7 +8,7 @@ mod join;
 mod laws;
 mod window;
 
-pub use join::{Walking, is_passed, join_sums, part_of_sums};
+pub use join::{is_passed, join_sums, part_of_sums};
 pub use laws::{
     adds_parts, alone_is_between, bounds_add, cut_is_part, cut_of_standing, ends_are_least,
     has_curve, has_one_part, has_part, joins_parts, part_is_convex, part_is_cut, part_is_whole,

@@ -11,11 +11,9 @@ use Rattle.case_maker.proofs.Whole.{made_drawn}
 use Rattle.case_plan.specs.Report.{IsOutcome, IsPlanned, plain_terms}
 use Rattle.case_plan.specs.declared.outcome.Outcome.{Outcome}
 use Rattle.case_plan.proofs.Truths.{report_fits}
-use Rattle.certified_plan.specs.Certificates.{certificate_of, claims_of}
-use Rattle.certified_plan.specs.Inputs.{AreClaims, AreTerms, IsHeld}
-use Rattle.certified_plan.specs.Laws.{IsPlanOn}
+use Rattle.certified_plan.specs.Certificates.{certificate_of}
+use Rattle.certified_plan.specs.Inputs.{AreTerms, IsHeld, IsPlanOn}
 use Rattle.certified_plan.proofs.Accepted.{accepted}
-use Rattle.certified_plan.proofs.Formed.{plan_claims}
 use Rattle.certified_plan.proofs.Scores.{scores_enclose, scores_leave_room}
 use Rattle.certified_plan.proofs.Short.{text_short}
 use Rattle.demand_rates.specs.Limits.{rate_fault_of}
@@ -29,7 +27,7 @@ use Rattle.plan_report.specs.declared.summary.Summary.{Summary}
 use Rattle.price_certificate.specs.Certificates.{cert_text, certificate_limit}
 use Rattle.price_certificate.specs.declared.certificate.Certificate.{Certificate}
 use Rattle.price_certificate.specs.declared.certificate.Objective.TheVariants.{Backorders}
-use Rattle.demonstration.specs.Demonstrations.{IsDemonstrated, budget_of, claims_in, demo_terms, summary_in}
+use Rattle.demonstration.specs.Demonstrations.{IsDemonstrated, budget_of, demo_terms, summary_in}
 use Rattle.family_points.specs.Points.{plain_ends}
 
 -- ---- the work
@@ -59,20 +57,18 @@ are_terms lines few = record { budget = omega (arith, few); fewest = omega arith
 
 module _ (c : CaseRows) (held : StockList) (budget : ℕ) (terms : AreTerms (demo_terms budget)) (valid : IsCase c) (no_fault : rate_fault_of c ≡ None) (is_held : IsHeld c held)
     (o : Outcome) (h : IsOutcome plain_ends c held.list (plain_terms budget) o) where
-  on_plan : IsPlanOn c held (demo_terms budget) h.plan
+  -- the outcome is that of a plan on the demonstration's terms
+  pub on_plan : IsPlanOn c held (demo_terms budget) o
   on_plan = record {
     accepted = record { valid = valid; no_fault = no_fault };
     are_terms = terms;
     is_held = is_held;
-    plan = h.is_plan;
+    plan = h.plan;
+    is_plan = h.is_plan;
+    asked = plain_terms budget;
+    same_budget = refl;
+    is = h.is;
   }
-
-  claims_are : claims_in o ≡ claims_of c h.plan
-  claims_are = rw h.is refl
-
-  -- each number that the outcome's certificate claims is in its range
-  pub have_claims : AreClaims c (claims_in o)
-  have_claims = subst (AreClaims c) (sym claims_are) (plan_claims c held (demo_terms budget) h.plan on_plan)
 
   report : IsPlanned plain_ends c held.list (plain_terms budget) o.report
   report = record { plan = h.plan; is_plan = h.is_plan; is = ap (λ (z : Outcome). z.report) h.is }
@@ -111,24 +107,24 @@ module _ (c : CaseRows) (held : StockList) (budget : ℕ) (terms : AreTerms (dem
         is = ap (λ n. summary_in number lines n o) count ∙ here ∙ ap (told budget) is ∙ ap (λ (b : ℕ). told b (made number lines)) money;
       }
 
-  module _ (cert : Certificate) (is : cert ≡ certificate_of c held (demo_terms budget) (claims_in o)) (none : held ≡ nothing_held c)
-      (work : IsOk (held_work_of c held.list)) where
-    cert_is : cert ≡ certificate_of c held (demo_terms budget) (claims_of c h.plan)
-    cert_is = is ∙ ap (certificate_of c held (demo_terms budget)) claims_are
+-- ---- its certificate
 
-    pub aims : cert.objective ≡ Backorders
-    aims = rw is refl
+module _ (c : CaseRows) (held : StockList) (budget : ℕ) (o : Outcome) (on : IsPlanOn c held (demo_terms budget) o) (cert : Certificate)
+    (is : cert ≡ certificate_of c held (demo_terms budget) o) where
+  -- the objective of the certificate is the backorders
+  pub aims : cert.objective ≡ Backorders
+  aims = rw is refl
 
-    -- the text of the demonstration's certificate is no longer than what is read
-    pub is_short : length (cert_text cert) ≤ certificate_limit
-    is_short = subst (λ (x : Certificate). length (cert_text x) ≤ certificate_limit) (sym cert_is) (text_short c held (demo_terms budget) h.plan on_plan)
+  -- the text of the demonstration's certificate is no longer than what is read
+  pub is_short : length (cert_text cert) ≤ certificate_limit
+  is_short = subst (λ (x : Certificate). length (cert_text x) ≤ certificate_limit) (sym is) (text_short c held (demo_terms budget) o on)
 
-    -- the demonstration's certificate is accepted
-    pub is_accepted : reject_of plain_ends cert (nothing_held cert.case) ≡ None
-    is_accepted =
-        subst (λ (x : Certificate). reject_of plain_ends x (nothing_held x.case) ≡ None) (sym cert_is)
-        (subst (λ (s : StockList). reject_of plain_ends (certificate_of c held (demo_terms budget) (claims_of c h.plan)) s ≡ None) none
-        (accepted c held (demo_terms budget) h.plan on_plan work))
+  -- the demonstration's certificate is accepted
+  pub is_accepted : held ≡ nothing_held c → IsOk (held_work_of c held.list) → reject_of plain_ends cert (nothing_held cert.case) ≡ None
+  is_accepted none work =
+      subst (λ (x : Certificate). reject_of plain_ends x (nothing_held x.case) ≡ None) (sym is)
+      (subst (λ (s : StockList). reject_of plain_ends (certificate_of c held (demo_terms budget) o) s ≡ None) none
+      (accepted c held (demo_terms budget) o on work))
 
 -- what holds of a value holds of it after a call that may find no memory
 pub after_call : {A E X : Type 0} (P : X → Type 0) (x : X) (r : Result A E) → P x → IfOk (result_and r (Ok x)) P

@@ -1,28 +1,23 @@
 //! A demonstration, from its number to its summary.
 
-ghost use Rattle.std.specs.Prelude.{◌≡◌, ◌≤◌, None, IfOk};
+ghost use Rattle.std.specs.Prelude.{◌≡◌, ◌≤◌, IfOk};
 ghost use Rattle.std.specs.Result.{IsOk};
 ghost use Rattle.case_figures.specs.Spans.{places};
-ghost use Rattle.case_plan.specs.Report.{IsOutcome, plain_terms};
-ghost use Rattle.certified_plan.specs.Certificates.{certificate_of};
-ghost use Rattle.certified_plan.specs.Inputs.{AreClaims, AreTerms, IsHeld};
-ghost use Rattle.demand_rates.specs.Limits.{rate_fault_of};
-ghost use Rattle.demonstration.specs.Demonstrations.{IsDemonstrated, claims_in, demo_terms, summary_in};
-ghost use Rattle.family_points.specs.Points.{plain_ends};
+ghost use Rattle.certified_plan.specs.Inputs.{IsPlanOn};
+ghost use Rattle.demonstration.specs.Demonstrations.{IsDemonstrated, demo_terms, summary_in};
 ghost use Rattle.held_work.specs.Work.{held_work_of};
 ghost use Rattle.plan_report.specs.Fits.{FitsSummary};
-ghost use Rattle.price_certificate.specs.Certificates.{IsWellFormed};
 ghost use Rattle.spares_input.specs.Stocks.{nothing_held};
 
 use crate::confirming::confirm;
 use answers::NoMemory;
 use case_plan::Outcome;
-use certified_plan::{PlanClaims, certificate};
+use certified_plan::certificate;
 use demo_accepts::demonstration;
 use hull::Plain;
 use on_hand::plan_case;
 use plan_report::Summary;
-use price_certificate::{Certificate, Objective, Terms};
+use price_certificate::{Objective, Terms};
 use spares_input::{Case, Stocks, nothing_held};
 use std::alloc::Global;
 
@@ -47,36 +42,6 @@ fn summary_of(number: u32, lines: u16, parts: u16, plan: &Outcome) -> Summary
     }
 }
 
-/// The certificate of a plan under a budget with nothing held.
-fn certificate_in(
-    alloc: Global,
-    case: Case,
-    held: &Stocks,
-    budget: u64,
-    plan: Outcome,
-) -> Result<Certificate, NoMemory>
-    requires held { IsHeld case held.now }
-    requires terms { AreTerms (demo_terms budget) }
-    requires claims { AreClaims case (claims_in plan) }
-    ensures certificate { IfOk result (λ cert. cert ≡ certificate_of case held.now (demo_terms budget)
-        (claims_in plan)) }
-    ensures formed { IfOk result IsWellFormed }
-{
-    let terms = Terms {
-        budget,
-        format: 1,
-        objective: Objective::Backorders,
-    };
-    let claims = PlanClaims {
-        stocks: plan.stocks,
-        price: plan.price,
-        floors: plan.floors,
-        upper: plan.upper,
-        bound: plan.report.bound,
-    };
-    certificate(alloc, case, held, terms, claims)
-}
-
 /// Makes the certificate of a plan under a budget with nothing held, writes it, reads it back and checks it.
 fn confirm_plan(
     alloc: Global,
@@ -85,16 +50,17 @@ fn confirm_plan(
     budget: u64,
     plan: Outcome,
 ) -> Result<(), NoMemory>
-    requires terms { AreTerms (demo_terms budget) }
-    requires rates { rate_fault_of case ≡ None }
-    requires held { IsHeld case held.now }
+    requires plan { IsPlanOn case held.now (demo_terms budget) plan }
     requires nothing { held.now ≡ nothing_held case }
     requires work { IsOk (held_work_of case held.now.list) }
-    requires plan { IsOutcome plain_ends case held.now.list (plain_terms budget) plan }
 {
-    let _valid = case.site_count();
-    let certificate = certificate_in(alloc, case, held, budget, plan)?;
-    confirm(alloc, &certificate)
+    let terms = Terms {
+        budget,
+        format: 1,
+        objective: Objective::Backorders,
+    };
+    let made = certificate(alloc, case, held, terms, plan)?;
+    confirm(alloc, &made.certificate)
 }
 
 /// The summary of a demonstration. It plans the case of a number with 1 to 80 line units under 2,000 of money for each
@@ -110,7 +76,12 @@ pub fn demonstrate(alloc: Global, number: u32, lines: u16) -> Result<Summary, No
     let parts = case.part_count();
     let held = nothing_held(alloc, &case)?;
     let budget = MONEY * u64::from(lines);
-    let plan = plan_case(alloc, &case, &rates, &held, &Plain, budget, false, None)?;
+    let asked = case_plan::Terms {
+        budget,
+        loss: false,
+        on_hand: None,
+    };
+    let plan = plan_case(alloc, &case, &rates, &held, &Plain, asked)?;
     let summary = summary_of(number, lines, parts, &plan);
     confirm_plan(alloc, case, &held, budget, plan).and(Ok(summary))
 }

@@ -87,11 +87,11 @@ widths_grow x c qs e a b h v m = elim (among_either v c qs (h.among v m)) [ inl 
 
 module _ (x : FamilyBox) (valid : IsFamilyBox x) (ends : ScoreEnds) (room : LeavesRoom ends) (d : List ℕ) (at_depot : IsAt x 0 d) where
   -- the points with these stocks at the depot have a stock for each place of the family
-  pub depot_widths : HaveWidthOf x (depot_points x.case x.line ends x.held x.low x.high d)
+  pub depot_widths : HaveWidthOf x (depot_points ends x d)
   depot_widths v m = (depot_points_small x valid ends room d at_depot v m).width ∙ sym (low_long x valid)
 
   -- the points with these stocks at the depot are in range
-  pub depot_ranges : (v : Point) → Among v (depot_points x.case x.line ends x.held x.low x.high d) → InRange v
+  pub depot_ranges : (v : Point) → Among v (depot_points ends x d) → InRange v
   depot_ranges v m =
       let some = valid.valid.frame.fewest_sites in
       let few = valid.valid.frame.most_sites in

@@ -55,7 +55,7 @@ fn take_choice<'b, S: Score>(
         → length v.stocks ≡ length (choice_stocks here.now.family.now here.now.site.0 choice.now) }
     requires room { length chain.old + 1 ≤ 2 ^ 31 }
     ensures stands { IfOk result (λ _. StandFor (chain.old
-        ++ choice_point here.now.family.now S.ends here.now.depot.now here.now.site.0 choice.now ∷ []) chain.new) }
+        ++ choice_point S.ends here.now.family.now here.now.depot.now here.now.site.0 choice.now ∷ []) chain.new) }
     ensures few { IfOk result (λ _. length chain.new ≤ length chain.old + 1) }
 {
     let spot = spot_at(here, score, rows, choice);
@@ -74,7 +74,7 @@ fn put_points<'b, S: Score>(
     requires some { 0 < length here.now.base.now.order.items }
     requires room { length here.now.base.now.order.items ≤ 65000000 }
     ensures stands { IfOk result (λ _. StandFor
-        (map (choice_point here.now.family.now S.ends here.now.depot.now here.now.site.0)
+        (map (choice_point S.ends here.now.family.now here.now.depot.now here.now.site.0)
         here.now.base.now.order.items) chain.new) }
     ensures few { IfOk result (λ _. length chain.new ≤ length here.now.base.now.order.items) }
 {
@@ -101,8 +101,8 @@ pub fn put_curve<'b, S: Score>(
     requires numbers { numbers.now ≡ box_numbers here.now.family.now }
     requires tables { AreTables numbers.now (drop 1 here.now.depot.now) tables.now }
     requires room { vector_count here.now.family.now here.now.site.0 ≤ 65000000 }
-    ensures curve { IfOk result (λ _. let x = here.now.family.now in
-        IsCurve (base_points x.case x.line S.ends x.held x.low x.high here.now.depot.now here.now.site.0) chain.new) }
+    ensures curve { IfOk result (λ _.
+        IsCurve (base_points S.ends here.now.family.now here.now.depot.now here.now.site.0) chain.new) }
     ensures few { IfOk result (λ _. length chain.new ≤ vector_count here.now.family.now here.now.site.0) }
 {
     put_rows(rows, here, numbers, tables)?;

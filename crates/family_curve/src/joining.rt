@@ -1,10 +1,10 @@
 //! The curve of a family: what each choice of stocks at the depot adds to the curve so far.
 
-ghost use Rattle.std.specs.Prelude.{◌≡◌, ◌+◌, ◌-◌, ◌*◌, ◌<◌, ◌≤◌, ◌++◌, ◌∷◌, [], List, IfOk, drop, flat_map, get_or, length, sum_by};
+ghost use Rattle.std.specs.Prelude.{◌≡◌, ◌+◌, ◌-◌, ◌*◌, ◌<◌, ◌≤◌, ◌++◌, ◌∷◌, [], List, IfOk, drop, get_or, length, sum_by};
 ghost use Rattle.hull.specs.declared.point.Point.{Point};
 ghost use Rattle.hull.specs.Curves.{Among, InRange, IsCurve, StandFor};
-ghost use Rattle.family_points.specs.Separation.{depot_point, depot_points};
-ghost use Rattle.family_points.specs.Points.{points_within};
+ghost use Rattle.family_points.specs.Separation.{depot_point, depot_points, shop_points};
+ghost use Rattle.family_points.specs.Inputs.{box_points};
 ghost use Rattle.family_points.specs.Inputs.{
   AreShopsAt,
   IsAt,
@@ -32,7 +32,7 @@ use hull::{Chain, Curve, Point, Score};
 use series_bounds::short::Iv64;
 use spares_input::SiteId;
 use std::alloc::Global;
-use sum_walk::walk::{Runner, Stocks, Turn, walk};
+use sum_walk::walk::{Walking, walk};
 
 /// Scratch lists; contents are not kept between calls.
 #[derive(Drop)]
@@ -41,18 +41,14 @@ struct Work<'b> {
     chains: Vec<Chain<BaseSpot<'b>>>,
     /// The backorders at a base.
     rows: Vec<Vec<Iv64<48>>>,
-    /// A walk's place on each curve.
-    runners: Vec<Runner>,
-    /// The order of the walk's steps.
-    order: Vec<Turn>,
-    /// The stocks of the sum that the walk has reached.
-    stocks: Stocks,
+    /// The lists of a walk over the curves.
+    walking: Walking,
 }
 
 /// The point of stocks at the depot: their cost above the stocks held, and no score. Want of memory is the only error.
 pub fn depot_point(alloc: Global, family: &Family<'_>, stocks: &[u8]) -> Result<Point, NoMemory>
     requires { IsAt family.now 0 stocks.now }
-    ensures point { IfOk result (λ p. p ≡ depot_point family.now.case family.now.line family.now.held stocks.now) }
+    ensures point { IfOk result (λ p. p ≡ depot_point family.now stocks.now) }
     ensures range { IfOk result InRange }
 {
     let _size = family.size();
@@ -80,8 +76,8 @@ fn put_curves<'b, S: Score>(
     requires room { vertex_count sources.now.family.now ≤ 65000000 }
     requires work { length work.old.chains.items ≡ length sources.now.bases.items }
     ensures stands { IfOk result (λ _. let x = sources.now.family.now in StandFor
-        (depot_points x.case x.line S.ends x.held x.low x.high depot.now)
-        (sums_of_each (depot_point x.case x.line x.held depot.now ∷ []) work.new.chains.items)) }
+        (depot_points S.ends x depot.now)
+        (sums_of_each (depot_point x depot.now ∷ []) work.new.chains.items)) }
     ensures few { IfOk result (λ _. 1 + sum_by length work.new.chains.items ≤ vertex_count sources.now.family.now) }
     ensures work { IfOk result (λ _. length work.new.chains.items ≡ length sources.now.bases.items) }
 {
@@ -119,10 +115,10 @@ fn depot_path<'b, S: Score>(
     requires room { length below.now + vertex_count sources.now.family.now ≤ 65000000 }
     requires ranges { (v : Point) → Among v below.now → InRange v }
     requires work { length work.old.chains.items ≡ length sources.now.bases.items }
-    ensures stands { IfOk result (λ path. let x = sources.now.family.now in StandFor (below.now
-        ++ depot_points x.case x.line S.ends x.held x.low x.high depot.now) (below.now ++ path.items)) }
-    ensures among { IfOk result (λ path. let x = sources.now.family.now in (v : Point) → Among v path.items
-        → Among v (depot_points x.case x.line S.ends x.held x.low x.high depot.now)) }
+    ensures stands { IfOk result (λ path. StandFor (below.now ++ depot_points S.ends sources.now.family.now depot.now)
+        (below.now ++ path.items)) }
+    ensures among { IfOk result (λ path. (v : Point) → Among v path.items
+        → Among v (depot_points S.ends sources.now.family.now depot.now)) }
     ensures some { below.now ≡ [] → IfOk result (λ path. 0 < length path.items) }
     ensures few { IfOk result (λ path. length path.items ≤ vertex_count sources.now.family.now) }
     ensures work { IfOk result (λ _. length work.new.chains.items ≡ length sources.now.bases.items) }
@@ -130,15 +126,8 @@ fn depot_path<'b, S: Score>(
     let _sites = sources.family.sites();
     put_curves(work, sources, score, tables, depot)?;
     let first = depot_point(alloc, sources.family, depot)?;
-    walk(
-        alloc,
-        &mut work.runners,
-        &mut work.order,
-        &mut work.stocks,
-        &first,
-        work.chains.as_slice(),
-        below,
-    )
+    let chains = work.chains.as_slice();
+    walk(alloc, &mut work.walking, &first, chains, below)
 }
 
 /// The curve of the points so far and of all vectors with these stocks at the depot.
@@ -157,8 +146,8 @@ fn with_depot<'b, S: Score>(
     requires room { length (vertices_of so_far) + vertex_count sources.now.family.now ≤ 65000000 }
     requires widths { HaveWidthOf sources.now.family.now (vertices_of so_far) }
     requires work { length work.old.chains.items ≡ length sources.now.bases.items }
-    ensures curve { IfOk result (let x = sources.now.family.now in IsCurve (vertices_of so_far
-        ++ depot_points x.case x.line S.ends x.held x.low x.high depot.now)) }
+    ensures curve { IfOk result
+        (IsCurve (vertices_of so_far ++ depot_points S.ends sources.now.family.now depot.now)) }
     ensures few { IfOk result
         (λ curve. length curve ≤ length (vertices_of so_far) + vertex_count sources.now.family.now) }
     ensures widths { IfOk result (HaveWidthOf sources.now.family.now) }
@@ -225,8 +214,8 @@ fn with_line<'b, S: Score>(
     requires room { length (vertices_of so_far) + vertex_count sources.now.family.now ≤ 65000000 }
     requires widths { HaveWidthOf sources.now.family.now (vertices_of so_far) }
     requires work { length work.old.chains.items ≡ length sources.now.bases.items }
-    ensures curve { IfOk result (let x = sources.now.family.now in IsCurve (vertices_of so_far
-        ++ depot_points x.case x.line S.ends x.held x.low x.high (line ∷ shops.now))) }
+    ensures curve { IfOk result
+        (IsCurve (vertices_of so_far ++ depot_points S.ends sources.now.family.now (line ∷ shops.now))) }
     ensures few { IfOk result
         (λ curve. length curve ≤ length (vertices_of so_far) + vertex_count sources.now.family.now) }
     ensures widths { IfOk result (HaveWidthOf sources.now.family.now) }
@@ -263,8 +252,8 @@ fn with_lines<'b, S: Score>(
         length (vertices_of so_far) + length (line_stocks x 0) * vertex_count x ≤ 65000000 }
     requires widths { HaveWidthOf sources.now.family.now (vertices_of so_far) }
     requires work { length work.old.chains.items ≡ length sources.now.bases.items }
-    ensures curve { IfOk result (let x = sources.now.family.now in IsCurve (vertices_of so_far
-        ++ flat_map (λ s. depot_points x.case x.line S.ends x.held x.low x.high (s ∷ shops.now)) (line_stocks x 0))) }
+    ensures curve { IfOk result
+        (IsCurve (vertices_of so_far ++ shop_points S.ends sources.now.family.now shops.now)) }
     ensures few { IfOk result (λ curve. let x = sources.now.family.now in
         length curve ≤ length (vertices_of so_far) + length (line_stocks x 0) * vertex_count x) }
     ensures widths { IfOk result (HaveWidthOf sources.now.family.now) }
@@ -308,9 +297,8 @@ fn with_shops<'b, S: Score>(
         length (vertices_of so_far) + length (line_stocks x 0) * vertex_count x ≤ 65000000 }
     requires widths { HaveWidthOf sources.now.family.now (vertices_of so_far) }
     requires work { length work.old.chains.items ≡ length sources.now.bases.items }
-    ensures curve { IfOk result (let x = sources.now.family.now in IsCurve (vertices_of so_far
-        ++ flat_map (λ s. depot_points x.case x.line S.ends x.held x.low x.high
-        (s ∷ get_or (shop_vectors x 0) number [])) (line_stocks x 0))) }
+    ensures curve { IfOk result (let x = sources.now.family.now in
+        IsCurve (vertices_of so_far ++ shop_points S.ends x (get_or (shop_vectors x 0) number []))) }
     ensures few { IfOk result (λ curve. let x = sources.now.family.now in
         length curve ≤ length (vertices_of so_far) + length (line_stocks x 0) * vertex_count x) }
     ensures widths { IfOk result (HaveWidthOf sources.now.family.now) }
@@ -335,8 +323,7 @@ fn whole_curve<'b, S: Score>(
     requires sources { AreSources sources.now }
     requires room { vector_count sources.now.family.now 0 * vertex_count sources.now.family.now ≤ 65000000 }
     requires work { length work.old.chains.items ≡ length sources.now.bases.items }
-    ensures { IfOk result
-        (let x = sources.now.family.now in IsCurve (points_within x.case x.line S.ends x.held x.low x.high)) }
+    ensures { IfOk result (IsCurve (box_points S.ends sources.now.family.now)) }
 {
     let family = sources.family;
     let _size = family.size();
@@ -356,9 +343,7 @@ fn work_of<'b>(alloc: Global, bases: &'b [Base]) -> Result<Work<'b>, NoMemory>
     Ok(Work {
         chains,
         rows: Vec::new(alloc),
-        runners: Vec::new(alloc),
-        order: Vec::new(alloc),
-        stocks: Stocks::new(alloc),
+        walking: Walking::new(alloc),
     })
 }
 
@@ -366,8 +351,7 @@ fn work_of<'b>(alloc: Global, bases: &'b [Base]) -> Result<Work<'b>, NoMemory>
 fn curve_of<S: Score>(alloc: Global, sources: &Sources<'_>, score: &S) -> Result<Curve, NoMemory>
     requires sources { AreSources sources.now }
     requires room { vector_count sources.now.family.now 0 * vertex_count sources.now.family.now ≤ 65000000 }
-    ensures { IfOk result
-        (let x = sources.now.family.now in IsCurve (points_within x.case x.line S.ends x.held x.low x.high)) }
+    ensures { IfOk result (IsCurve (box_points S.ends sources.now.family.now)) }
 {
     let mut work = work_of(alloc, sources.bases.as_slice())?;
     whole_curve(alloc, &mut work, sources, score)
@@ -380,9 +364,7 @@ pub(crate) fn family_curve<S: Score>(
     score: &S,
 ) -> Result<Curve, NoMemory>
     requires { vector_count family.now 0 * vertex_count family.now ≤ 65000000 }
-    ensures { IfOk result
-        (IsCurve (points_within family.now.case family.now.line S.ends family.now.held family.now.low
-        family.now.high)) }
+    ensures { IfOk result (IsCurve (box_points S.ends family.now)) }
 {
     let sources = Sources::of(alloc, family)?;
     curve_of(alloc, &sources, score)

@@ -7,8 +7,8 @@ use Rattle.family_points.specs.Separation.{base_points}
 
 -- what holds of the points by one name holds by the other
 pub moved : (Is : List Point → Type 0) (ends : ScoreEnds) (y x : FamilyBox) (e d : List ℕ) (k j : ℕ) → y ≡ x → e ≡ d → k ≡ j
-    → Is (base_points y.case y.line ends y.held y.low y.high e k) → Is (base_points x.case x.line ends x.held x.low x.high d j)
+    → Is (base_points ends y e k) → Is (base_points ends x d j)
 moved Is ends y x e d k j f g h p =
-    subst (λ i. Is (base_points x.case x.line ends x.held x.low x.high d i)) h
-    (subst (λ (v : List ℕ). Is (base_points x.case x.line ends x.held x.low x.high v k)) g
-    (subst (λ (z : FamilyBox). Is (base_points z.case z.line ends z.held z.low z.high e k)) f p))
+    subst (λ i. Is (base_points ends x d i)) h
+    (subst (λ (v : List ℕ). Is (base_points ends x v k)) g
+    (subst (λ (z : FamilyBox). Is (base_points ends z e k)) f p))

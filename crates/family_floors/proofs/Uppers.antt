@@ -9,12 +9,12 @@ use Rattle.hull.proofs.Runs.{among_at, among_permuted}
 use Rattle.hull.proofs.Sums.{sum_among}
 use Rattle.family_points.specs.declared.order.Choice.{Choice}
 use Rattle.family_points.specs.Vectors.{vectors}
-use Rattle.family_points.specs.Points.{HasUpper, ScoreEnds, points_within}
+use Rattle.family_points.specs.Points.{HasUpper, ScoreEnds}
 use Rattle.family_points.specs.Separation.{base_point, base_points, depot_point, depot_points, points_over}
-use Rattle.family_points.specs.Inputs.{AreShopsAt, FamilyBox, IsAt, IsFamilyBox, high_at, line_high, line_low, low_at, shop_high, shop_low}
+use Rattle.family_points.specs.Inputs.{AreShopsAt, FamilyBox, IsAt, IsFamilyBox, box_points, high_at, low_at, shop_low}
 use Rattle.family_points.specs.Choices.{IsOrder, choice_point}
 use Rattle.family_points.specs.Turned.{turned_points}
-use Rattle.family_points.proofs.Bounded.{box_at, high_long, low_long}
+use Rattle.family_points.proofs.Bounded.{box_at}
 use Rattle.family_points.proofs.LeastPoints.{turned_among}
 use Rattle.family_points.proofs.Ordered.{points_permuted}
 use Rattle.family_points.proofs.Points.{first_vector, high_begins, low_begins, mapped_among, over_more}
@@ -23,18 +23,18 @@ use Rattle.family_points.proofs.Shops.{box_shops}
 
 -- the point of a choice is one of the base's
 pub upper_of_choice : (x : FamilyBox) (valid : IsFamilyBox x) (j : ℕ) (order : List Choice) → IsOrder x j order → (ends : ScoreEnds) (d : List ℕ) → IsBase x.case j
-    → (w : Choice) (hi : ℕ) → 0 < length order → w ≡ get_or order 0 w → hi ≡ (choice_point x ends d j w).hi
-    → HasUpper (base_points x.case x.line ends x.held x.low x.high d j) hi
+    → (w : Choice) (hi : ℕ) → 0 < length order → w ≡ get_or order 0 w → hi ≡ (choice_point ends x d j w).hi
+    → HasUpper (base_points ends x d j) hi
 upper_of_choice x valid j order is ends d base w hi some e h =
-    let turned : List Point = turned_points x.case x.line ends x.held d j (line_low x j) (line_high x j) (shop_low x j) (shop_high x j) in
-    let v = choice_point x ends d j w in
+    let turned : List Point = turned_points ends x d j in
+    let v = choice_point ends x d j w in
     let first : Among w order = subst (λ z. Among z order) (sym e) (among_at order 0 w some) in
-    let mapped : Among v (map (choice_point x ends d j) order) = mapped_among (choice_point x ends d j) w order first in
-    let back : Among v turned = among_permuted turned (map (choice_point x ends d j) order) (points_permuted x j order is ends d) v mapped in (
+    let mapped : Among v (map (choice_point ends x d j) order) = mapped_among (choice_point ends x d j) w order first in
+    let back : Among v turned = among_permuted turned (map (choice_point ends x d j) order) (points_permuted x j order is ends d) v mapped in (
       v,
       subst (λ ps. Among v ps)
-          (ap₂ (λ low high. map (base_point x.case x.line ends x.held d j) (vectors low high)) (low_begins x valid j base.1) (high_begins x valid j base.1))
-          (turned_among x.case x.line ends x.held d j (line_low x j) (line_high x j) (shop_low x j) (shop_high x j) v back),
+          (ap₂ (λ low high. map (base_point ends x d j) (vectors low high)) (low_begins x valid j base.1) (high_begins x valid j base.1))
+          (turned_among ends x d j v back),
       sym h,
     )
 
@@ -55,36 +55,36 @@ low_shops_at x valid k m = record { least = least_self (shop_low x k); most = (b
 -- ---- base by base
 
 -- nothing yet but the stocks at the depot
-pub upper_begins : (x : FamilyBox) (d : List ℕ) → HasUpper (depot_point x.case x.line x.held d ∷ []) 0
-upper_begins x d = (depot_point x.case x.line x.held d, inl refl, refl)
+pub upper_begins : (x : FamilyBox) (d : List ℕ) → HasUpper (depot_point x d ∷ []) 0
+upper_begins x d = (depot_point x d, inl refl, refl)
 
 -- one base more
 pub upper_added : (x : FamilyBox) (ends : ScoreEnds) (d : List ℕ) (j a b : ℕ) → 0 < j
-    → HasUpper (points_over x.case x.line ends x.held x.low x.high d (range_with_len 1 (j - 1))) a
-    → HasUpper (base_points x.case x.line ends x.held x.low x.high d j) b
-    → HasUpper (points_over x.case x.line ends x.held x.low x.high d (range_with_len 1 (j + 1 - 1))) (a + b)
+    → HasUpper (points_over ends x d (range_with_len 1 (j - 1))) a
+    → HasUpper (base_points ends x d j) b
+    → HasUpper (points_over ends x d (range_with_len 1 (j + 1 - 1))) (a + b)
 upper_added x ends d j a b some h k =
-    let over : ℕ → List Point = λ n. points_over x.case x.line ends x.held x.low x.high d (range_with_len 1 n) in
-    let base : ℕ → List Point = base_points x.case x.line ends x.held x.low x.high d in
+    let over : ℕ → List Point = λ n. points_over ends x d (range_with_len 1 n) in
+    let base : ℕ → List Point = base_points ends x d in
     let next : suc (j - 1) ≡ j + 1 - 1 = omega (arith, some) in
     let here : j - 1 + 1 ≡ j = omega (arith, some) in
-    let more : over (suc (j - 1)) ≡ sums (over (j - 1)) (base j) = over_more x.case x.line ends x.held x.low x.high d (j - 1) ∙ ap (λ i. sums (over (j - 1)) (base i)) here in
+    let more : over (suc (j - 1)) ≡ sums (over (j - 1)) (base j) = over_more ends x d (j - 1) ∙ ap (λ i. sums (over (j - 1)) (base i)) here in
     let both : HasUpper (sums (over (j - 1)) (base j)) (a + b) =
     (plus h.0 k.0, sum_among h.0 k.0 (over (j - 1)) (base j) h.1 k.1, ap₂ (λ m n. m + n) h.2 k.2) in
     subst (λ n. HasUpper (over n) (a + b)) next (subst (λ ps. HasUpper ps (a + b)) (sym more) both)
 
 -- a point with the least stocks at the depot is one of the box's
 pub upper_of_box : (x : FamilyBox) (valid : IsFamilyBox x) (ends : ScoreEnds) (hi : ℕ)
-    → HasUpper (depot_points x.case x.line ends x.held x.low x.high (low_at x 0)) hi
-    → HasUpper (points_within x.case x.line ends x.held x.low x.high) hi
+    → HasUpper (depot_points ends x (low_at x 0)) hi
+    → HasUpper (box_points ends x) hi
 upper_of_box x valid ends hi h =
     let some = valid.valid.frame.fewest_sites in
     let inside : 0 < length x.case.sites = omega (arith, some) in
-    let at : List ℕ → List Point = depot_points x.case x.line ends x.held x.low x.high in
+    let at : List ℕ → List Point = depot_points ends x in
     let first : Among (low_at x 0) (vectors (low_at x 0) (high_at x 0)) = first_vector (low_at x 0) (high_at x 0) (box_at x 0 valid inside).ordered in
     let flat : Among h.0 (flat_map at (vectors (low_at x 0) (high_at x 0))) = among_flat at (vectors (low_at x 0) (high_at x 0)) (low_at x 0) h.0 first h.1 in (
       h.0,
       subst (λ ps. Among h.0 ps)
-          (separated_is x.case x.line ends x.held valid.valid valid.is_line x.low x.high (low_long x valid) (high_long x valid) (length x.case.sites - 1) (omega (arith, some))) flat,
+          (separated_is ends x valid.valid valid.is_line valid.ordered) flat,
       h.2,
     )

@@ -21,10 +21,10 @@ abbrev pub line_place : FamilyBox → List ℕ → ℕ → List ℕ → ℕ → 
 line_place x d j shops s = base_line_place 48 (box_numbers x) j (get_or d 0 0) (drop 1 d) shops s
 
 -- at most the Lagrangians of these stocks at base j
-pub record AreUnder (x : FamilyBox) (ends : ScoreEnds) (d : List ℕ) (j : ℕ) (low high : Price) (shops : List ℕ) (s : ℕ)
+pub record AreUnder (ends : ScoreEnds) (x : FamilyBox) (d : List ℕ) (j : ℕ) (low high : Price) (shops : List ℕ) (s : ℕ)
     (lows : Lows) : Type 0 where
-  pub at_low : lows.at_low ≤ lagrangian low.p low.q (base_point x.case x.line ends x.held d j (s ∷ shops))
-  pub at_high : lows.at_high ≤ lagrangian high.p high.q (base_point x.case x.line ends x.held d j (s ∷ shops))
+  pub at_low : lows.at_low ≤ lagrangian low.p low.q (base_point ends x d j (s ∷ shops))
+  pub at_high : lows.at_high ≤ lagrangian high.p high.q (base_point ends x d j (s ∷ shops))
 
 -- a number is at most another at each price
 pub record AreNoHigher (lows others : Lows) : Type 0 where

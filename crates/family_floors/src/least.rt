@@ -1,15 +1,15 @@
 //! Whether the Lagrangian of each vector of a family reaches a floor at one price, without a curve: for given stocks at
 //! the depot, the least Lagrangian is their cost at the price plus the least of each base.
 
-ghost use Rattle.std.specs.Prelude.{◌≡◌, ◌+◌, ◌-◌, ◌*◌, ◌^◌, ◌<◌, ◌≤◌, ◌∷◌, [], IfOk, drop, flat_map, get_or, length, map, nat_le};
+ghost use Rattle.std.specs.Prelude.{◌≡◌, ◌+◌, ◌-◌, ◌*◌, ◌^◌, ◌<◌, ◌≤◌, [], IfOk, drop, get_or, length, map, nat_le};
 ghost use Rattle.demand_rates.specs.Rates.{AreRatesOf};
 ghost use Rattle.family_items.specs.Inputs.{IsLine};
 ghost use Rattle.hull.specs.Curves.{lagrangian};
-ghost use Rattle.family_points.specs.Inputs.{AreShopsAt, IsAt, line_high, line_low, line_stocks, shop_vectors};
+ghost use Rattle.family_points.specs.Inputs.{AreShopsAt, IsAt, box_points, shop_vectors};
 ghost use Rattle.family_rows.specs.Sources.{AreSources};
 ghost use Rattle.family_points.specs.Least.{IsLeast, Decides, least};
 ghost use Rattle.family_points.specs.Points.{AreOrdered, points_within};
-ghost use Rattle.family_points.specs.Separation.{base_points, depot_points};
+ghost use Rattle.family_points.specs.Separation.{base_points, depot_points, shop_points};
 ghost use Rattle.family_points.specs.Choices.{IsChoice, choice_point};
 ghost use Rattle.family_rows.specs.Spots.{AreRows, IsBaseAt};
 ghost use Rattle.family_rows.specs.Tabled.{AreTables, box_numbers};
@@ -46,7 +46,7 @@ fn value_at<S: Score>(
     requires most_money { price.q ≤ 1000000000000 }
     requires price { price.p ≤ 2 ^ 74 }
     ensures value { result ≡ lagrangian price.p price.q
-        (choice_point here.now.family.now S.ends here.now.depot.now here.now.site.0 choice.now) }
+        (choice_point S.ends here.now.family.now here.now.depot.now here.now.site.0 choice.now) }
     ensures most { result ≤ 2 ^ 115 }
 {
     let spot = spot_at(here, score, rows, choice);
@@ -66,7 +66,7 @@ fn least_of_choices<S: Score>(
     requires most_money { price.q ≤ 1000000000000 }
     requires price { price.p ≤ 2 ^ 74 }
     ensures least { IsLeast price.p price.q (map
-        (choice_point here.now.family.now S.ends here.now.depot.now here.now.site.0)
+        (choice_point S.ends here.now.family.now here.now.depot.now here.now.site.0)
         here.now.base.now.order.items) result }
     ensures most { result ≤ 2 ^ 115 }
 {
@@ -94,8 +94,8 @@ fn least_at_base<S: Score>(
     requires tables { AreTables numbers.now (drop 1 here.now.depot.now) tables.now }
     requires most_money { price.q ≤ 1000000000000 }
     requires price { price.p ≤ 2 ^ 74 }
-    ensures least { IfOk result (let x = here.now.family.now in IsLeast price.p price.q
-        (base_points x.case x.line S.ends x.held x.low x.high here.now.depot.now here.now.site.0)) }
+    ensures least { IfOk result (IsLeast price.p price.q
+        (base_points S.ends here.now.family.now here.now.depot.now here.now.site.0)) }
     ensures most { IfOk result (λ least. least ≤ 2 ^ 115) }
 {
     put_rows(rows, here, numbers, tables)?;
@@ -117,8 +117,7 @@ fn least_at_depot<S: Score>(
     requires tables { AreTables sources.now.numbers (drop 1 depot.now) tables.now }
     requires most_money { price.q ≤ 1000000000000 }
     requires price { price.p ≤ 2 ^ 74 }
-    ensures { IfOk result (let x = sources.now.family.now in IsLeast price.p price.q
-        (depot_points x.case x.line S.ends x.held x.low x.high depot.now)) }
+    ensures { IfOk result (IsLeast price.p price.q (depot_points S.ends sources.now.family.now depot.now)) }
 {
     let _size = sources.family.size();
     let mut least = price.p * u128::from(sources.family.cost(SiteId(0), depot));
@@ -145,8 +144,8 @@ fn depot_is_at_least<S: Score>(
     requires tables { AreTables sources.now.numbers (drop 1 depot.now) tables.now }
     requires most_money { price.q ≤ 1000000000000 }
     requires price { price.p ≤ 2 ^ 74 }
-    ensures { IfOk result (let x = sources.now.family.now in Decides price.p price.q floor
-        (depot_points x.case x.line S.ends x.held x.low x.high depot.now)) }
+    ensures { IfOk result
+        (Decides price.p price.q floor (depot_points S.ends sources.now.family.now depot.now)) }
 {
     let low = low_at_depot(sources, score, tables, depot, price);
     if floor <= low {
@@ -173,9 +172,8 @@ fn are_at_least<S: Score>(
     requires tables { AreTables sources.now.numbers (drop 1 stocks.old) tables.now }
     requires most_money { price.q ≤ 1000000000000 }
     requires price { price.p ≤ 2 ^ 74 }
-    ensures { IfOk result (let x = sources.now.family.now in Decides price.p price.q floor
-        (flat_map (λ s. depot_points x.case x.line S.ends x.held x.low x.high (s ∷ drop 1 stocks.old))
-        (line_stocks x 0))) }
+    ensures { IfOk result
+        (Decides price.p price.q floor (shop_points S.ends sources.now.family.now (drop 1 stocks.old))) }
 {
     let _size = sources.family.size();
     let low = sources.family.line_low(SiteId(0));
@@ -204,9 +202,8 @@ fn shops_are_at_least<S: Score>(
     requires number { number < length (shop_vectors sources.now.family.now 0) }
     requires most_money { price.q ≤ 1000000000000 }
     requires price { price.p ≤ 2 ^ 74 }
-    ensures { IfOk result (let x = sources.now.family.now in Decides price.p price.q floor
-        (flat_map (λ s. depot_points x.case x.line S.ends x.held x.low x.high
-        (s ∷ get_or (shop_vectors x 0) number [])) (line_stocks x 0))) }
+    ensures { IfOk result (let x = sources.now.family.now in
+        Decides price.p price.q floor (shop_points S.ends x (get_or (shop_vectors x 0) number []))) }
 {
     let mut stocks = stocks_at(alloc, sources.family, number)?;
     let tables = depot_tables(alloc, sources, shops_of(stocks.as_slice()))?;
@@ -226,8 +223,7 @@ fn all_are_at_least<S: Score>(
     requires sources { AreSources sources.now }
     requires most_money { price.q ≤ 1000000000000 }
     requires price { price.p ≤ 2 ^ 74 }
-    ensures { IfOk result (let x = sources.now.family.now in
-        Decides price.p price.q floor (points_within x.case x.line S.ends x.held x.low x.high)) }
+    ensures { IfOk result (Decides price.p price.q floor (box_points S.ends sources.now.family.now)) }
 {
     let _size = sources.family.size();
     for n in 0..sources.family.shop_count(SiteId(0)) {

@@ -129,7 +129,7 @@ fn lows_at_stocks<S: Score>(
     requires small { cost ≤ 56700000000 }
     requires low { IsSmallPrice low }
     requires high { IsSmallPrice high }
-    ensures { AreUnder here.now.family.now S.ends here.now.depot.now here.now.site.0 low high shops.now.stocks
+    ensures { AreUnder S.ends here.now.family.now here.now.depot.now here.now.site.0 low high shops.now.stocks
         walk.now.stock result }
 {
     let scored = here.low(score, walk.low());
@@ -162,7 +162,7 @@ fn lower_at_shops<S: Score>(
     ensures lower { AreNoHigher result least }
     ensures under { let x = here.now.family.now in let j = here.now.site.0 in
         (s : ℕ) → line_low x j ≤ s → s ≤ line_high x j
-        → AreUnder x S.ends here.now.depot.now j low high shops.now.stocks s result }
+        → AreUnder S.ends x here.now.depot.now j low high shops.now.stocks s result }
 {
     let family = here.family;
     let _size = family.size();
@@ -201,10 +201,9 @@ pub fn lows_at_base<S: Score>(
     requires base { IsBase sources.now.family.now.case j }
     requires low { IsSmallPrice low }
     requires high { IsSmallPrice high }
-    ensures at_low { let x = sources.now.family.now in AreAtLeast low.p low.q result.at_low
-        (base_points x.case x.line S.ends x.held x.low x.high depot.now j) }
-    ensures at_high { let x = sources.now.family.now in AreAtLeast high.p high.q result.at_high
-        (base_points x.case x.line S.ends x.held x.low x.high depot.now j) }
+    ensures at_low { AreAtLeast low.p low.q result.at_low (base_points S.ends sources.now.family.now depot.now j) }
+    ensures at_high { AreAtLeast high.p high.q result.at_high
+        (base_points S.ends sources.now.family.now depot.now j) }
     ensures most { (result.at_low ≤ 2 ^ 115) × (result.at_high ≤ 2 ^ 115) }
 {
     let here = base_of(sources, depot, j);
@@ -234,8 +233,7 @@ pub(crate) fn low_at_depot<S: Score>(
     requires tables { AreTables sources.now.numbers (drop 1 depot.now) tables.now }
     requires most_money { price.q ≤ 1000000000000 }
     requires price { price.p ≤ 2 ^ 74 }
-    ensures { let x = sources.now.family.now in AreAtLeast price.p price.q result
-        (depot_points x.case x.line S.ends x.held x.low x.high depot.now) }
+    ensures { AreAtLeast price.p price.q result (depot_points S.ends sources.now.family.now depot.now) }
 {
     let _size = sources.family.size();
     let mut low = price.p * u128::from(sources.family.cost(SiteId(0), depot));

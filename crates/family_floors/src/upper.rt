@@ -3,7 +3,7 @@
 ghost use Rattle.std.specs.Prelude.{◌≡◌, ◌*◌, ◌^◌, ◌≤◌, IfOk, drop};
 ghost use Rattle.demand_rates.specs.Rates.{AreRatesOf};
 ghost use Rattle.family_items.specs.Inputs.{IsLine};
-ghost use Rattle.family_points.specs.Inputs.{IsAt};
+ghost use Rattle.family_points.specs.Inputs.{IsAt, box_points};
 ghost use Rattle.family_rows.specs.Sources.{AreSources};
 ghost use Rattle.family_points.specs.Points.{AreOrdered, HasUpper, points_within};
 ghost use Rattle.family_points.specs.Separation.{base_points, depot_points};
@@ -36,8 +36,8 @@ fn upper_at_base<S: Score>(
     requires here { IsBaseAt here.now }
     requires numbers { numbers.now ≡ box_numbers here.now.family.now }
     requires tables { AreTables numbers.now (drop 1 here.now.depot.now) tables.now }
-    ensures upper { IfOk result (let x = here.now.family.now in
-        HasUpper (base_points x.case x.line S.ends x.held x.low x.high here.now.depot.now here.now.site.0)) }
+    ensures upper { IfOk result
+        (HasUpper (base_points S.ends here.now.family.now here.now.depot.now here.now.site.0)) }
     ensures most { IfOk result (λ hi. hi ≤ 2 ^ 74) }
 {
     put_rows(rows, here, numbers, tables)?;
@@ -58,8 +58,7 @@ fn upper_at_depot<S: Score>(
     requires sources { AreSources sources.now }
     requires depot { IsAt sources.now.family.now 0 depot.now }
     requires tables { AreTables sources.now.numbers (drop 1 depot.now) tables.now }
-    ensures upper { IfOk result (let x = sources.now.family.now in
-        HasUpper (depot_points x.case x.line S.ends x.held x.low x.high depot.now)) }
+    ensures upper { IfOk result (HasUpper (depot_points S.ends sources.now.family.now depot.now)) }
     ensures most { IfOk result (λ hi. hi ≤ 16 * 2 ^ 74) }
 {
     let _size = sources.family.size();
@@ -78,8 +77,7 @@ fn upper_at_least<S: Score>(
     score: &S,
 ) -> Result<u128, NoMemory>
     requires sources { AreSources sources.now }
-    ensures upper { IfOk result (let x = sources.now.family.now in
-        HasUpper (points_within x.case x.line S.ends x.held x.low x.high)) }
+    ensures upper { IfOk result (HasUpper (box_points S.ends sources.now.family.now)) }
     ensures most { IfOk result (λ hi. hi ≤ 16 * 2 ^ 74) }
 {
     let _size = sources.family.size();

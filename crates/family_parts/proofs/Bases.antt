@@ -7,7 +7,7 @@ use Rattle.hull.specs.declared.price.Price.{Price}
 use Rattle.hull.specs.Curves.{HaveOneWidth, sums}
 use Rattle.hull.specs.Scores.{LeavesRoom}
 use Rattle.sum_walk.specs.Sums.{sums_of_each}
-use Rattle.sum_walk.proofs.Walks.{sums_one_more}
+use Rattle.sum_walk.proofs.Parts.{sums_one_more}
 use Rattle.curve_parts.specs.Cuts.{IsCutOf}
 use Rattle.curve_parts.specs.Parts.{IsPartOf, StandForBetween}
 use Rattle.curve_parts.proofs.Between.{part_stands}
@@ -25,12 +25,12 @@ cut_no_longer low high curve part h =
 
 module _ (x : FamilyBox) (valid : IsFamilyBox x) (ends : ScoreEnds) (room : LeavesRoom ends) (d : List ℕ) (at_depot : IsAt x 0 d) (low high : Price) where
   abbrev over : ℕ → List Point
-  over n = points_over x.case x.line ends x.held x.low x.high d (range_with_len 1 n)
+  over n = points_over ends x d (range_with_len 1 n)
 
   -- with the part of one base more, the sums stand for the points over one base more
   pub base_more : (first : Point) (j : ℕ) (parts made : List (List Point)) (base : List Point) → IsBase x.case j
       → StandForBetween low high (over (j - 1)) (sums_of_each (first ∷ []) parts)
-      → IsPartOf low high (base_points x.case x.line ends x.held x.low x.high d j) base
+      → IsPartOf low high (base_points ends x d j) base
       → made ≡ parts ++ base ∷ []
       → StandForBetween low high (over (j + 1 - 1)) (sums_of_each (first ∷ []) made)
   base_more first j parts made base on s b made_is =
@@ -38,12 +38,12 @@ module _ (x : FamilyBox) (valid : IsFamilyBox x) (ends : ScoreEnds) (room : Leav
       let here : j - 1 + 1 ≡ j = omega (arith, on.0) in
       let width : HaveOneWidth (over (j - 1)) = λ v w m n. (over_small x valid ends room d at_depot (j - 1) (omega (arith, on.0, on.1)) v m).width
       ∙ sym (over_small x valid ends room d at_depot (j - 1) (omega (arith, on.0, on.1)) w n).width in
-      let both : StandForBetween low high (sums (over (j - 1)) (base_points x.case x.line ends x.held x.low x.high d j)) (sums (sums_of_each (first ∷ []) parts) base) =
-      sums_between low high (over (j - 1)) (base_points x.case x.line ends x.held x.low x.high d j) (sums_of_each (first ∷ []) parts) base s
-      (part_stands low high (base_points x.case x.line ends x.held x.low x.high d j) base b) width in
-      let more : over (suc (j - 1)) ≡ sums (over (j - 1)) (base_points x.case x.line ends x.held x.low x.high d j) =
-      over_more x.case x.line ends x.held x.low x.high d (j - 1) ∙ ap (λ k. sums (over (j - 1)) (base_points x.case x.line ends x.held x.low x.high d k)) here in
+      let both : StandForBetween low high (sums (over (j - 1)) (base_points ends x d j)) (sums (sums_of_each (first ∷ []) parts) base) =
+      sums_between low high (over (j - 1)) (base_points ends x d j) (sums_of_each (first ∷ []) parts) base s
+      (part_stands low high (base_points ends x d j) base b) width in
+      let more : over (suc (j - 1)) ≡ sums (over (j - 1)) (base_points ends x d j) =
+      over_more ends x d (j - 1) ∙ ap (λ k. sums (over (j - 1)) (base_points ends x d k)) here in
       subst (λ n. StandForBetween low high (over n) (sums_of_each (first ∷ []) made)) next
       (subst (λ ps. StandForBetween low high ps (sums_of_each (first ∷ []) made)) (sym more)
-      (subst (λ ls. StandForBetween low high (sums (over (j - 1)) (base_points x.case x.line ends x.held x.low x.high d j)) (sums_of_each (first ∷ []) ls)) (sym made_is)
-      (subst (StandForBetween low high (sums (over (j - 1)) (base_points x.case x.line ends x.held x.low x.high d j))) (sym (sums_one_more parts (first ∷ []) base)) both)))
+      (subst (λ ls. StandForBetween low high (sums (over (j - 1)) (base_points ends x d j)) (sums_of_each (first ∷ []) ls)) (sym made_is)
+      (subst (StandForBetween low high (sums (over (j - 1)) (base_points ends x d j))) (sym (sums_one_more parts (first ∷ []) base)) both)))

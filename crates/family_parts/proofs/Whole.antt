@@ -9,15 +9,13 @@ use Rattle.curve_parts.proofs.Between.{part_of_members}
 use Rattle.spares_input.specs.Cases.{CaseRows}
 use Rattle.family_points.specs.Vectors.{IsBetween, between, vectors}
 use Rattle.family_points.specs.Points.{ScoreEnds, point_at_vector, points_within}
-use Rattle.family_points.specs.Separation.{depot_points}
-use Rattle.family_points.specs.Inputs.{FamilyBox, IsFamilyBox, line_high, line_low, shop_high, shop_low, shop_vectors}
-use Rattle.family_points.proofs.Bounded.{high_long, low_long}
+use Rattle.family_points.specs.Separation.{depot_points, shop_points}
+use Rattle.family_points.specs.Inputs.{FamilyBox, IsFamilyBox, box_points, line_high, line_low, shop_high, shop_low, shop_vectors}
 use Rattle.family_points.proofs.Boxes.{each_any, each_mapped, flat_flat, same_flat}
 use Rattle.family_points.proofs.Points.{each_between, high_begins, low_begins, of_each}
 use Rattle.family_points.proofs.Separate.{separated_is}
 use Rattle.family_points.proofs.Turns.{turn_lists}
 use Rattle.std.specs.List.{AllZip}
-use Rattle.family_parts.specs.Growing.{shop_points}
 
 -- the part of all stocks at the depot, the shop units' first
 part_turned : (low high : Price) (at : List ℕ → List Point) (a b : ℕ) (least most : List ℕ) (part : List Point)
@@ -34,15 +32,15 @@ part_turned low high at a b least most part h =
     (λ v. (turn_lists back v (vectors least most) (between a b), turn_lists points v (between a b) (vectors least most))) h)
 
 -- the part of the points of all stocks of the shop units at the depot is the part of all points of the box
-pub part_of_box : (x : FamilyBox) (valid : IsFamilyBox x) (ends : ScoreEnds) (low high : Price) (part : List Point) → IsPartOf low high (flat_map (shop_points x ends) (shop_vectors x 0)) part
-    → IsPartOf low high (points_within x.case x.line ends x.held x.low x.high) part
+pub part_of_box : (x : FamilyBox) (valid : IsFamilyBox x) (ends : ScoreEnds) (low high : Price) (part : List Point) → IsPartOf low high (flat_map (shop_points ends x) (shop_vectors x 0)) part
+    → IsPartOf low high (box_points ends x) part
 part_of_box x valid ends low high part a =
     let some = valid.valid.frame.fewest_sites in
     let inside : 0 < length x.case.sites = omega (arith, some) in
-    let at : List ℕ → List Point = depot_points x.case x.line ends x.held x.low x.high in
+    let at : List ℕ → List Point = depot_points ends x in
     subst (λ ps. IsPartOf low high ps part)
     (ap₂ (λ low high. flat_map at (vectors low high)) (low_begins x valid 0 inside) (high_begins x valid 0 inside)
-    ∙ separated_is x.case x.line ends x.held valid.valid valid.is_line x.low x.high (low_long x valid) (high_long x valid) (length x.case.sites - 1) (omega (arith, some)))
+    ∙ separated_is ends x valid.valid valid.is_line valid.ordered)
     (part_turned low high at (line_low x 0) (line_high x 0) (shop_low x 0) (shop_high x 0) part a)
 
 -- each vertex of a part of a box has stocks from the least to the most

@@ -1,10 +1,10 @@
 -- The part of a family's curve so far, and the order of the stocks at the depot. No promise of the crate rests on these
 -- words.
-use Rattle.std.specs.Prelude.{ℕ, ◌+◌, ◌-◌, nat_le, List, ◌∷◌, ◌++◌, flat_map, if◌then◌else◌}
+use Rattle.std.specs.Prelude.{ℕ, ◌+◌, ◌-◌, nat_le, List, ◌∷◌, ◌++◌, if◌then◌else◌}
 use Rattle.hull.specs.declared.point.Point.{Point}
 use Rattle.hull.specs.declared.price.Price.{Price}
 use Rattle.curve_parts.specs.Parts.{IsPartOf}
-use Rattle.family_points.specs.Inputs.{FamilyBox, line_high, line_low, line_stocks}
+use Rattle.family_points.specs.Inputs.{FamilyBox, line_high, line_low}
 use Rattle.family_points.specs.Points.{ScoreEnds}
 use Rattle.family_points.specs.Separation.{depot_points}
 
@@ -17,13 +17,8 @@ Grows low high more old new =
 abbrev pub in_turn : ℕ → ℕ → ℕ → ℕ
 in_turn first last n = if nat_le (first + n) last then first + n else last - n
 
--- the points of all vectors whose shop units have the stocks `shops` at the depot
-abbrev pub shop_points : FamilyBox → ScoreEnds → List ℕ → List Point
-shop_points x ends shops =
-    flat_map (λ s. depot_points x.case x.line ends x.held x.low x.high (s ∷ shops)) (line_stocks x 0)
-
 -- the points of all vectors whose shop units have the stocks `shops` at the depot, and the line unit its k-th stock
 -- in turn from the first one on
-abbrev pub turn_points : FamilyBox → ScoreEnds → List ℕ → ℕ → ℕ → List Point
-turn_points x ends shops first k = depot_points x.case x.line ends x.held x.low x.high
-    ((line_low x 0 + in_turn first (line_high x 0 - line_low x 0) k) ∷ shops)
+abbrev pub turn_points : ScoreEnds → FamilyBox → List ℕ → ℕ → ℕ → List Point
+turn_points ends x shops first k =
+    depot_points ends x ((line_low x 0 + in_turn first (line_high x 0 - line_low x 0) k) ∷ shops)

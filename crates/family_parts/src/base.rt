@@ -11,7 +11,7 @@ ghost use Rattle.family_rows.specs.Spots.{IsBaseAt};
 ghost use Rattle.family_rows.specs.Tabled.{AreTables, box_numbers};
 
 use answers::NoMemory;
-use curve_parts::{Walking, cut};
+use curve_parts::cut;
 use family_curve::base::{chains_of, put_curve};
 use family_floors::bases::base_of;
 use family_numbers::Numbers;
@@ -22,6 +22,7 @@ use family_rows::sources::Sources;
 use hull::{Chain, Price, Score};
 use series_bounds::short::Iv64;
 use std::alloc::Global;
+use sum_walk::walk::Walking;
 
 /// Scratch lists; contents are not kept between calls.
 #[derive(Drop)]
@@ -65,8 +66,8 @@ fn put_part<'b, S: Score>(
     requires low { IsSmall low }
     requires high { IsSmall high }
     requires window { IsWindow low high }
-    ensures part { IfOk result (λ _. let x = here.now.family.now in IsPartOf low high
-        (base_points x.case x.line S.ends x.held x.low x.high here.now.depot.now here.now.site.0) part.new) }
+    ensures part { IfOk result (λ _. IsPartOf low high
+        (base_points S.ends here.now.family.now here.now.depot.now here.now.site.0) part.new) }
     ensures few { IfOk result (λ _. length part.new ≤ vector_count here.now.family.now here.now.site.0) }
 {
     put_curve(part, rows, here, score, numbers, tables)?;
@@ -93,8 +94,8 @@ pub(crate) fn put_parts<'b, S: Score>(
     requires window { IsWindow low high }
     requires work { length work.old.parts.items ≡ length sources.now.bases.items }
     ensures stands { IfOk result (λ _. let x = sources.now.family.now in StandForBetween low high
-        (depot_points x.case x.line S.ends x.held x.low x.high depot.now)
-        (sums_of_each (depot_point x.case x.line x.held depot.now ∷ []) work.new.parts.items)) }
+        (depot_points S.ends x depot.now)
+        (sums_of_each (depot_point x depot.now ∷ []) work.new.parts.items)) }
     ensures few { IfOk result
         (λ _. 1 + sum_by length work.new.parts.items ≤ vertex_count sources.now.family.now) }
     ensures work { IfOk result (λ _. length work.new.parts.items ≡ length sources.now.bases.items) }

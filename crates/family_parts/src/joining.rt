@@ -7,8 +7,8 @@ ghost use Rattle.sum_walk.specs.Sums.{sums_of_each};
 ghost use Rattle.curve_parts.specs.Parts.{IsPartOf};
 ghost use Rattle.curve_parts.specs.Cuts.{IsSmall, IsWindow};
 ghost use Rattle.curve_parts.specs.Joins.{Joins};
-ghost use Rattle.family_points.specs.Separation.{depot_points};
-ghost use Rattle.family_points.specs.Points.{points_within};
+ghost use Rattle.family_points.specs.Separation.{depot_points, shop_points};
+ghost use Rattle.family_points.specs.Inputs.{box_points};
 ghost use Rattle.family_points.specs.Inputs.{
   AreShopsAt,
   IsAt,
@@ -22,12 +22,12 @@ ghost use Rattle.family_points.specs.Inputs.{
 ghost use Rattle.family_rows.specs.Sources.{AreSources};
 ghost use Rattle.family_rows.specs.Tabled.{AreTables};
 ghost use Rattle.family_curve.specs.Joining.{HaveWidthOf, vertices_of};
-ghost use Rattle.family_parts.specs.Growing.{Grows, in_turn, shop_points};
+ghost use Rattle.family_parts.specs.Growing.{Grows, in_turn};
 
 use crate::base::{Work, put_parts};
 use crate::lows::is_passed_over;
 use answers::NoMemory;
-use curve_parts::{Walking, join_sums, part_of_sums};
+use curve_parts::{join_sums, part_of_sums};
 use family_curve::joining::depot_point;
 use family_floors::stocks::stocks_at;
 use family_points::family::{Family, shops_of};
@@ -36,6 +36,7 @@ use family_rows::sources::Sources;
 use hull::{Chain, Curve, Point, Price, Score, Spot};
 use spares_input::SiteId;
 use std::alloc::Global;
+use sum_walk::walk::Walking;
 
 /// The vertices of the part so far.
 fn vertices_of(part: &Option<Curve>) -> &[Point]
@@ -103,9 +104,8 @@ fn grow_with<'b, S: Score>(
     requires low { IsSmall low }
     requires high { IsSmall high }
     requires window { IsWindow low high }
-    ensures part { IfOk result (λ _. let x = sources.now.family.now in
-        Grows low high (depot_points x.case x.line S.ends x.held x.low x.high depot.now) (vertices_of part.old)
-        (vertices_of part.new)) }
+    ensures part { IfOk result (λ _. Grows low high (depot_points S.ends sources.now.family.now depot.now)
+        (vertices_of part.old) (vertices_of part.new)) }
     ensures few { IfOk result (λ _. length (vertices_of part.new)
         ≤ length (vertices_of part.old) + vertex_count sources.now.family.now) }
     ensures widths { IfOk result (λ _. HaveWidthOf sources.now.family.now (vertices_of part.new)) }
@@ -194,7 +194,7 @@ fn grow_with_lines<'b, S: Score>(
     requires high { IsSmall high }
     requires window { IsWindow low high }
     ensures part { IfOk result (λ _. Grows low high
-        (shop_points sources.now.family.now S.ends (drop 1 stocks.old)) (vertices_of part.old) (vertices_of part.new)) }
+        (shop_points S.ends sources.now.family.now (drop 1 stocks.old)) (vertices_of part.old) (vertices_of part.new)) }
     ensures few { IfOk result (λ _. let x = sources.now.family.now in length (vertices_of part.new)
         ≤ length (vertices_of part.old) + length (line_stocks x 0) * vertex_count x) }
     ensures widths { IfOk result (λ _. HaveWidthOf sources.now.family.now (vertices_of part.new)) }
@@ -232,7 +232,7 @@ fn grow_with_shops<'b, S: Score>(
     requires high { IsSmall high }
     requires window { IsWindow low high }
     ensures part { IfOk result (λ _. let x = sources.now.family.now in Grows low high
-        (shop_points x S.ends (get_or (shop_vectors x 0) number [])) (vertices_of part.old) (vertices_of part.new)) }
+        (shop_points S.ends x (get_or (shop_vectors x 0) number [])) (vertices_of part.old) (vertices_of part.new)) }
     ensures few { IfOk result (λ _. let x = sources.now.family.now in length (vertices_of part.new)
         ≤ length (vertices_of part.old) + length (line_stocks x 0) * vertex_count x) }
     ensures widths { IfOk result (λ _. HaveWidthOf sources.now.family.now (vertices_of part.new)) }
@@ -262,8 +262,7 @@ fn whole_part<'b, S: Score>(
     requires low { IsSmall low }
     requires high { IsSmall high }
     requires window { IsWindow low high }
-    ensures { IfOk result (let x = sources.now.family.now in
-        IsPartOf low high (points_within x.case x.line S.ends x.held x.low x.high)) }
+    ensures { IfOk result (IsPartOf low high (box_points S.ends sources.now.family.now)) }
 {
     let family = sources.family;
     let _size = family.size();
@@ -290,8 +289,7 @@ fn part_of<S: Score>(
     requires low { IsSmall low }
     requires high { IsSmall high }
     requires window { IsWindow low high }
-    ensures { IfOk result (let x = sources.now.family.now in
-        IsPartOf low high (points_within x.case x.line S.ends x.held x.low x.high)) }
+    ensures { IfOk result (IsPartOf low high (box_points S.ends sources.now.family.now)) }
 {
     let mut work = Work::new(alloc, sources)?;
     whole_part(alloc, &mut work, sources, score, low, high)
@@ -309,8 +307,7 @@ pub(crate) fn family_part<S: Score>(
     requires low { IsSmall low }
     requires high { IsSmall high }
     requires window { IsWindow low high }
-    ensures { IfOk result (IsPartOf low high
-        (points_within family.now.case family.now.line S.ends family.now.held family.now.low family.now.high)) }
+    ensures { IfOk result (IsPartOf low high (box_points S.ends family.now)) }
 {
     let sources = Sources::of(alloc, family)?;
     part_of(alloc, &sources, score, low, high)

@@ -34,8 +34,7 @@ pub(crate) fn is_passed_over<S: Score>(
     requires tables { AreTables sources.now.numbers (drop 1 depot.now) tables.now }
     requires low { IsSmall low }
     requires high { IsSmall high }
-    ensures { IsTrue result → let x = sources.now.family.now in
-        (w : Point) → Among w (depot_points x.case x.line S.ends x.held x.low x.high depot.now)
+    ensures { IsTrue result → (w : Point) → Among w (depot_points S.ends sources.now.family.now depot.now)
         → IsPassedOver low high part.now w }
 {
     if part.is_empty() {

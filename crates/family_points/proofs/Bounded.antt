@@ -293,7 +293,7 @@ module _ (x : FamilyBox) (valid : IsFamilyBox x) where
       first false e = second (k == j) refl
 
   -- the stocks at the depot and at one base, and none elsewhere, are within the case's limits
-  pub stocks_within : (j : ℕ) (d b : List ℕ) → IsAt x 0 d → IsAt x j b → IsWithinLimits x.case (stock_list x.case (base_stocks x.case x.line d j b))
+  pub stocks_within : (j : ℕ) (d b : List ℕ) → IsAt x 0 d → IsAt x j b → IsWithinLimits x.case (stock_list x.case (base_stocks x d j b))
   stocks_within j d b hd hb p k h m =
       subst (λ n. n ≤ limit_at x.case.parts p k) (sym (stock_is x.case x.line (depot_and_base d j b) p k h m)) (own_limit j p k d b m hd hb (omega (arith, m)))
 

@@ -15,6 +15,7 @@ pub mod Turns
 pub mod Local
 pub mod Single
 pub mod Products
+pub mod Rooms
 pub mod Distinct
 pub mod Spotted
 pub mod Ordered

@@ -1,7 +1,7 @@
 -- Boxes of vectors by number.
 use Rattle.std.proofs.Common.{◌≡◌, ℕ, zero, suc, ◌+◌, ◌-◌, ◌*◌, ◌/◌, ◌%◌, ◌^◌, ◌<◌, ◌≤◌, List, [], ◌∷◌, ◌++◌, length, get_or, map, flat_map, take, drop, sum, refl, sym, ap, ap₂, ◌∙◌, arith, mul-le-mul_right, length-append, add-one}
 use Rattle.std.specs.List.{range_with_len, AllZip}
-use Rattle.std.proofs.lemmas.List.{drop_all, append_assoc, get_or-map, get_or_append_left, get_or-append-add}
+use Rattle.std.proofs.lemmas.List.{append_assoc, get_or-map, get_or_append_left, get_or-append-add}
 use Rattle.std.proofs.lemmas.List.Sums.{sum_by-cons}
 use Rattle.std.proofs.Math.Nat.{mul_assoc, pow-suc, pow-le-pow_right}
 use Rattle.std.proofs.lemmas.Nat.{div-mul-add, div-add-mod', div_below, mod_below, mul-le}
@@ -255,52 +255,14 @@ widths_long [] high h = refl
 widths_long (a ∷ low) [] h = absurd h
 widths_long (a ∷ low) (b ∷ high) h = ap suc (widths_long low high h.1)
 
-sum_from : (ws : List ℕ) (i : ℕ) → i < length ws → sum (drop i ws) ≡ get_or ws i 0 + sum (drop (i + 1) ws)
+-- the sum of the numbers from the i-th on is the i-th and the sum of those behind it
+pub sum_from : (ws : List ℕ) (i : ℕ) → i < length ws → sum (drop i ws) ≡ get_or ws i 0 + sum (drop (i + 1) ws)
 sum_from [] i m = absurd (omega (arith, m))
 sum_from (w ∷ ws) zero m = sum_by-cons (λ n. n) w ws
 sum_from (w ∷ ws) (suc i) m = sum_from ws i (omega (arith, m)) ∙ ap (λ n. get_or ws i 0 + sum (drop n (w ∷ ws))) (next i)
   where
     next : (i : ℕ) → suc (i + 1) ≡ suc i + 1
     next i = omega arith
-
--- the widths of the places from 1 to i - 1 are in the total, each at most 64, and the rest is to come
-pub record Summed (low high : List ℕ) (i total : ℕ) : Type 0 where
-  pub goes_on : total + sum (drop i (widths low high)) ≡ sum (drop 1 (widths low high))
-  pub most : total ≤ i * 64
-
--- the width of one place more comes to the sum
-pub sum_step : (low high : List ℕ) (i total w : ℕ) → IsBox low high → i < length low → w ≡ get_or high i 0 - get_or low i 0 → Summed low high i total
-    → Summed low high (i + 1) (total + (w + 1))
-sum_step low high i total w valid m e h =
-    let small : w + 1 ≤ 64 = omega (arith, e, valid.small i 0 (omega (arith, m, same_length low high valid.ordered))) in
-    record {
-      goes_on = omega (arith, h.goes_on, sum_from (widths low high) i (omega (arith, m, widths_long low high valid.ordered)), width_at low high i valid.ordered m, e);
-      most = omega (arith, h.most, small);
-    }
-
--- behind the last place the sum is that of the widths of all places but the first
-pub sum_end : (low high : List ℕ) (i total : ℕ) → IsBox low high → length low ≤ i → Summed low high i total → total ≡ sum (drop 1 (widths low high))
-sum_end low high i total valid m h =
-    let none : sum (drop i (widths low high)) ≡ 0 = ap sum (drop_all i (widths low high) (omega (arith, m, widths_long low high valid.ordered))) in
-    omega (arith, h.goes_on, none)
-
--- the width at the first place, which is that of the line unit
-pub first_width : (low high : List ℕ) (w : ℕ) → IsBox low high → 0 < length low → w ≡ get_or high 0 0 - get_or low 0 0 → w + 1 ≡ get_or (widths low high) 0 0
-first_width low high w valid m e = omega (arith, e, width_at low high 0 valid.ordered m)
-
--- the number of all vectors divided by the first width is the number of vectors of the other places
-pub product_rest : (low high : List ℕ) (w n : ℕ) → IsBox low high → 0 < length low → w ≡ get_or (widths low high) 0 0 → n ≡ product (widths low high) → 0 < w
-    → n / w ≡ product (drop 1 (widths low high))
-product_rest low high w n valid m e h some = rest (widths low high) (omega (arith, m, widths_long low high valid.ordered)) e h
-  where
-    rest : (ws : List ℕ) → 0 < length ws → w ≡ get_or ws 0 0 → n ≡ product ws → n / w ≡ product (drop 1 ws)
-    rest [] g e h = absurd (omega (arith, g))
-    rest (x ∷ ws) g e h =
-        let turned : n ≡ product ws * w + 0 = h ∙ turn x (product ws) ∙ ap (λ k. product ws * k + 0) (sym e) in
-        ap (λ k. k / w) turned ∙ div-mul-add (product ws) w 0 some
-      where
-        turn : (a b : ℕ) → a * b ≡ b * a + 0
-        turn a b = omega arith
 
 widths_take : (n : ℕ) (low high : List ℕ) → AllZip (λ x y. x ≤ y) low high → widths (take n low) (take n high) ≡ take n (widths low high)
 widths_take zero low high h = refl

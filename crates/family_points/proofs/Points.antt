@@ -28,7 +28,7 @@ use Rattle.family_points.specs.Counts.{product, widths}
 use Rattle.family_points.specs.Boxes.{nth}
 use Rattle.family_points.specs.Separation.{base_point, base_points, base_stocks, depot_point, points_over, depot_points}
 use Rattle.family_points.specs.Turned.{turned_points}
-use Rattle.family_points.specs.Inputs.{AreShopsAt, FamilyBox, IsFamilyBox, IsAt, low_at, high_at, held_at, line_high, line_low, line_stocks, shop_high, shop_low, shop_vectors, vector_count, vertex_count}
+use Rattle.family_points.specs.Inputs.{AreShopsAt, FamilyBox, IsFamilyBox, IsAt, box_points, held_at, high_at, line_high, line_low, line_stocks, low_at, shop_high, shop_low, shop_vectors, vector_count, vertex_count}
 use Rattle.family_points.proofs.Boxes.{each_mapped}
 use Rattle.family_points.proofs.Numbers.{block_length, nth_is, product_some, vectors_count}
 use Rattle.family_points.proofs.Bounded.{Costs, at_long, box_at, cost_end, costs_on, few_members, low_long, high_long}
@@ -52,6 +52,7 @@ at_each P (x ∷ xs) a (suc n) d h = at_each P xs a.1 n d (omega (arith, h))
 
 -- ---- each vector of a box is within it
 
+-- what is true of all members of each row, for rows of members that have something in common, is so of the rows put one after another
 pub each_flat_in : {X Y : Type 0} (Q : X → Type 0) (P : Y → Type 0) (f : X → List Y) (xs : List X) → ((x : X) → Q x → AllByRecursion P (f x)) → AllByRecursion Q xs
     → AllByRecursion P (flat_map f xs)
 each_flat_in Q P f [] h a = tt
@@ -76,12 +77,11 @@ nth_between low high n h m =
 -- ---- one base more
 
 -- the points with given depot stocks over one base more are the sums of those so far with that base's points
-pub over_more : (c : CaseRows) (l : ℕ) (ends : ScoreEnds) (held low high d : List ℕ) (n : ℕ)
-    → points_over c l ends held low high d (range_with_len 1 (suc n))
-    ≡ sums (points_over c l ends held low high d (range_with_len 1 n)) (base_points c l ends held low high d (n + 1))
-over_more c l ends held low high d n =
-    ap (points_over c l ends held low high d) (range_more 1 n (n + 1) (omega arith))
-    ∙ fold-append (λ points j. sums points (base_points c l ends held low high d j)) (depot_point c l held d ∷ []) (range_with_len 1 n) ((n + 1) ∷ [])
+pub over_more : (ends : ScoreEnds) (x : FamilyBox) (d : List ℕ) (n : ℕ)
+    → points_over ends x d (range_with_len 1 (suc n)) ≡ sums (points_over ends x d (range_with_len 1 n)) (base_points ends x d (n + 1))
+over_more ends x d n =
+    ap (points_over ends x d) (range_more 1 n (n + 1) (omega arith))
+    ∙ fold-append (λ points j. sums points (base_points ends x d j)) (depot_point x d ∷ []) (range_with_len 1 n) ((n + 1) ∷ [])
 
 -- ---- what is true of each point
 
@@ -135,7 +135,7 @@ module _ (x : FamilyBox) (valid : IsFamilyBox x) where
         cost_end x.case (family x.case x.line) (drop w (held_at x k)) (drop w v) w (omega arith),
       )
 
-  pub depot_small : (d : List ℕ) → IsAt x 0 d → IsSmall (size x.case x.line) 1 (depot_point x.case x.line x.held d)
+  pub depot_small : (d : List ℕ) → IsAt x 0 d → IsSmall (size x.case x.line) 1 (depot_point x d)
   depot_small d h =
       let some = valid.valid.frame.fewest_sites in
       record {
@@ -165,9 +165,9 @@ module _ (x : FamilyBox) (valid : IsFamilyBox x) where
 
   module _ (ends : ScoreEnds) (room : LeavesRoom ends) (d : List ℕ) (at_depot : IsAt x 0 d) where
     -- the point of stocks within the bounds of a base is as small as that of one site
-    pub base_small : (j : ℕ) (b : List ℕ) → IsBase x.case j → IsAt x j b → IsSmall (size x.case x.line) 1 (base_point x.case x.line ends x.held d j b)
+    pub base_small : (j : ℕ) (b : List ℕ) → IsBase x.case j → IsAt x j b → IsSmall (size x.case x.line) 1 (base_point ends x d j b)
     base_small j b base h =
-        let item = item_of 48 x.case (base_stocks x.case x.line d j b) x.line j in
+        let item = item_of 48 x.case (base_stocks x d j b) x.line j in
         let r = room (systems x.case j) (per_system x.case x.line) (weight x.case x.line) item.backorders
         (limits_hold item.backorders j base (backorders_small x valid j d b at_depot h base)) (backorders_ordered x valid j d b at_depot h base) in
         record {
@@ -178,23 +178,23 @@ module _ (x : FamilyBox) (valid : IsFamilyBox x) where
         }
 
     pub each_base_small : (j : ℕ) → IsBase x.case j
-        → AllByRecursion (IsSmall (size x.case x.line) 1) (base_points x.case x.line ends x.held x.low x.high d j)
+        → AllByRecursion (IsSmall (size x.case x.line) 1) (base_points ends x d j)
     each_base_small j base =
-        each_mapped (IsAt x j) (IsSmall (size x.case x.line) 1) (base_point x.case x.line ends x.held d j) (vectors (low_at x j) (high_at x j))
+        each_mapped (IsAt x j) (IsSmall (size x.case x.line) 1) (base_point ends x d j) (vectors (low_at x j) (high_at x j))
         (λ b h. base_small j b base h) (each_between (low_at x j) (high_at x j) (box_at x j valid base.1).ordered)
 
     -- the points over the first n bases are as small as those of n + 1 sites
     pub over_small : (n : ℕ) → n < length x.case.sites → (v : Point)
-        → Among v (points_over x.case x.line ends x.held x.low x.high d (range_with_len 1 n)) → IsSmall (size x.case x.line) (n + 1) v
+        → Among v (points_over ends x d (range_with_len 1 n)) → IsSmall (size x.case x.line) (n + 1) v
     over_small zero m v h = elim h [ inl e ↦ subst (IsSmall (size x.case x.line) 1) (sym e) (depot_small d at_depot) | inr none ↦ absurd none ]
     over_small (suc n) m v h =
-        let r : Parts (points_over x.case x.line ends x.held x.low x.high d (range_with_len 1 n)) (base_points x.case x.line ends x.held x.low x.high d (n + 1)) v =
-        parts_of _ _ v (subst (Among v) (over_more x.case x.line ends x.held x.low x.high d n) h) in
+        let r : Parts (points_over ends x d (range_with_len 1 n)) (base_points ends x d (n + 1)) v =
+        parts_of _ _ v (subst (Among v) (over_more ends x d n) h) in
         let base : IsBase x.case (n + 1) = (omega arith, omega (arith, m)) in
         let both : n + 1 + 1 ≡ suc n + 1 = omega arith in
         subst (λ k. IsSmall (size x.case x.line) k v) both (subst (IsSmall (size x.case x.line) (n + 1 + 1)) (sym r.is)
         (small_plus (size x.case x.line) (n + 1) 1 r.first r.second (over_small n (omega (arith, m)) r.first r.first_in)
-        (of_each (IsSmall (size x.case x.line) 1) (base_points x.case x.line ends x.held x.low x.high d (n + 1)) (each_base_small (n + 1) base) r.second r.second_in)))
+        (of_each (IsSmall (size x.case x.line) 1) (base_points ends x d (n + 1)) (each_base_small (n + 1) base) r.second r.second_in)))
 
 -- ---- the steps of the loops
 
@@ -205,7 +205,7 @@ each_take P (suc n) (x ∷ xs) a = (a.0, each_take P n xs a.1)
 
 module _ (x : FamilyBox) (valid : IsFamilyBox x) (ends : ScoreEnds) (room : LeavesRoom ends) (d : List ℕ) (at_depot : IsAt x 0 d) where
   -- the points over all bases are as small as those of all sites
-  pub depot_points_small : (v : Point) → Among v (depot_points x.case x.line ends x.held x.low x.high d) → IsSmall (size x.case x.line) (length x.case.sites) v
+  pub depot_points_small : (v : Point) → Among v (depot_points ends x d) → IsSmall (size x.case x.line) (length x.case.sites) v
   depot_points_small v m =
       let some = valid.valid.frame.fewest_sites in
       let all : length x.case.sites - 1 + 1 ≡ length x.case.sites = omega (arith, some) in
@@ -347,7 +347,7 @@ module _ (x : FamilyBox) (valid : IsFamilyBox x) where
 
   module _ (ends : ScoreEnds) (room : LeavesRoom ends) where
     abbrev at_depots : List ℕ → List Point
-    at_depots = depot_points x.case x.line ends x.held x.low x.high
+    at_depots = depot_points ends x
 
     -- the points for stocks of the shop units at the depot, with n stocks of the line unit there
     pub own_small : (n : ℕ) (d : List ℕ) (v : Point) → AreShopsAt x 0 d → line_low x 0 + n ≤ suc (line_high x 0)
@@ -370,14 +370,14 @@ module _ (x : FamilyBox) (valid : IsFamilyBox x) where
     -- a curve of the points for all stocks of the shop units at the depot is one of all points of the box
     pub all_depots : (k : ℕ) (curve : List Point) → k ≡ 0
         → IsCurve (flat_map (λ d. flat_map (λ s. at_depots (s ∷ d)) (line_stocks x 0)) (drop k (shop_vectors x 0))) curve
-        → IsCurve (points_within x.case x.line ends x.held x.low x.high) curve
+        → IsCurve (box_points ends x) curve
     all_depots k curve h a =
         let some = valid.valid.frame.fewest_sites in
         let inside : 0 < length x.case.sites = omega (arith, some) in
         let own : List ℕ → List Point = λ d. flat_map (λ s. at_depots (s ∷ d)) (line_stocks x 0) in
         subst (λ ps. IsCurve ps curve)
         (ap₂ (λ low high. flat_map at_depots (vectors low high)) (low_begins 0 inside) (high_begins 0 inside)
-        ∙ separated_is x.case x.line ends x.held valid.valid valid.is_line x.low x.high (low_long x valid) (high_long x valid) (length x.case.sites - 1) (omega (arith, some)))
+        ∙ separated_is ends x valid.valid valid.is_line valid.ordered)
         (curve_of_turned at_depots (line_low x 0) (line_high x 0) (shop_low x 0) (shop_high x 0) curve
         (subst (λ n. IsCurve (flat_map own (drop n (shop_vectors x 0))) curve) h a))
 
@@ -385,23 +385,23 @@ module _ (x : FamilyBox) (valid : IsFamilyBox x) where
 
     module _ (d : List ℕ) (at_depot : IsAt x 0 d) (j : ℕ) (base : IsBase x.case j) where
       abbrev turned : List Point
-      turned = turned_points x.case x.line ends x.held d j (line_low x j) (line_high x j) (shop_low x j) (shop_high x j)
+      turned = turned_points ends x d j
 
       -- a curve of a base's points by the shop units' stocks is a curve of the base's points
-      pub turned_curve : (curve : List Point) → IsCurve turned curve → IsCurve (base_points x.case x.line ends x.held x.low x.high d j) curve
+      pub turned_curve : (curve : List Point) → IsCurve turned curve → IsCurve (base_points ends x d j) curve
       turned_curve curve h =
           subst (λ ps. IsCurve ps curve)
-          (ap₂ (λ low high. map (base_point x.case x.line ends x.held d j) (vectors low high)) (low_begins j base.1) (high_begins j base.1))
-          (curve_turned x.case x.line ends x.held d j (line_low x j) (line_high x j) (shop_low x j) (shop_high x j) curve h)
+          (ap₂ (λ low high. map (base_point ends x d j) (vectors low high)) (low_begins j base.1) (high_begins j base.1))
+          (curve_turned ends x d j curve h)
 
       turned_length : (vs : List (List ℕ)) (ss : List ℕ)
-          → length (flat_map (λ shops. map (λ s. base_point x.case x.line ends x.held d j (s ∷ shops)) ss) vs) ≡ length ss * length vs
+          → length (flat_map (λ shops. map (λ s. base_point ends x d j (s ∷ shops)) ss) vs) ≡ length ss * length vs
       turned_length [] ss = omega arith
       turned_length (v ∷ vs) ss =
-          let point : ℕ → Point = λ s. base_point x.case x.line ends x.held d j (s ∷ v) in
+          let point : ℕ → Point = λ s. base_point ends x d j (s ∷ v) in
           omega (
             arith,
-            length-append (map point ss) (flat_map (λ shops. map (λ s. base_point x.case x.line ends x.held d j (s ∷ shops)) ss) vs),
+            length-append (map point ss) (flat_map (λ shops. map (λ s. base_point ends x d j (s ∷ shops)) ss) vs),
             length-map ss point,
             turned_length vs ss,
           )

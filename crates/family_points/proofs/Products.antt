@@ -13,7 +13,8 @@ use Rattle.family_points.proofs.Counting.{product_split}
 use Rattle.family_points.proofs.Numbers.{vectors_count}
 use Rattle.family_points.proofs.Whole.{base_limit, limits_rows, none_zip, widths_all}
 
-product_append : (xs ys : List ℕ) → product (xs ++ ys) ≡ product xs * product ys
+-- the product of two lists together is that of their products
+pub product_append : (xs ys : List ℕ) → product (xs ++ ys) ≡ product xs * product ys
 product_append [] ys = omega arith
 product_append (x ∷ xs) ys = ap (λ n. x * n) (product_append xs ys) ∙ sym (mul_assoc x (product xs) (product ys))
 

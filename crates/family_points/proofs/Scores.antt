@@ -18,8 +18,8 @@ use Rattle.family_points.specs.Inputs.{FamilyBox, IsFamilyBox, IsAt}
 use Rattle.family_points.proofs.Bounded.{stocks_for, stocks_within}
 
 module _ (x : FamilyBox) (valid : IsFamilyBox x) (j : ℕ) (d b : List ℕ) (at_depot : IsAt x 0 d) (at_base : IsAt x j b) where
-  pub sound_at : IsSound x.case (base_stocks x.case x.line d j b)
-  sound_at = sound_of (record { case = x.case; rates = x.rates; stocks = stock_list x.case (base_stocks x.case x.line d j b) }) (record {
+  pub sound_at : IsSound x.case (base_stocks x d j b)
+  sound_at = sound_of (record { case = x.case; rates = x.rates; stocks = stock_list x.case (base_stocks x d j b) }) (record {
     valid = valid.valid;
     are_rates = valid.are_rates;
     are_stocks = stocks_for x valid (depot_and_base d j b);
@@ -27,15 +27,15 @@ module _ (x : FamilyBox) (valid : IsFamilyBox x) (j : ℕ) (d b : List ℕ) (at_
   })
 
   -- the backorders of the line unit at a base are at most 2^56 units
-  pub backorders_small : IsBase x.case j → (item_of 48 x.case (base_stocks x.case x.line d j b) x.line j).backorders.hi ≤ 2 ^ 56
-  backorders_small base = (item_small 48 x.case (base_stocks x.case x.line d j b) (omega arith) sound_at x.line j valid.is_line.is_part base.1).backorders_most
+  pub backorders_small : IsBase x.case j → (item_of 48 x.case (base_stocks x d j b) x.line j).backorders.hi ≤ 2 ^ 56
+  backorders_small base = (item_small 48 x.case (base_stocks x d j b) (omega arith) sound_at x.line j valid.is_line.is_part base.1).backorders_most
 
   -- the backorders of the line unit at a base have ends in order
   pub backorders_ordered : IsBase x.case j
-      → (item_of 48 x.case (base_stocks x.case x.line d j b) x.line j).backorders.lo ≤ (item_of 48 x.case (base_stocks x.case x.line d j b) x.line j).backorders.hi
+      → (item_of 48 x.case (base_stocks x d j b) x.line j).backorders.lo ≤ (item_of 48 x.case (base_stocks x d j b) x.line j).backorders.hi
   backorders_ordered base =
-      ends_ordered 48 (item_of 48 x.case (base_stocks x.case x.line d j b) x.line j).backorders (ebo_0j x.case (base_stocks x.case x.line d j b) 1024 x.line j)
-      (line_in 48 x.case (base_stocks x.case x.line d j b) x.line j (omega arith) sound_at valid.is_line base 1024 (omega arith))
+      ends_ordered 48 (item_of 48 x.case (base_stocks x d j b) x.line j).backorders (ebo_0j x.case (base_stocks x d j b) 1024 x.line j)
+      (line_in 48 x.case (base_stocks x d j b) x.line j (omega arith) sound_at valid.is_line base 1024 (omega arith))
 
 -- the item of a line unit in its family's list
 pub line_at : (c : CaseRows) (l j : ℕ) (s : List ℕ) (items : List (Item 48)) (e : Item 48) → items ≡ (family_of 48 c l (stock_list c s)).items → j < length c.sites

@@ -1,5 +1,5 @@
 -- The tables of a box.
-use Rattle.std.proofs.Common.{◌≡◌, ℕ, suc, ◌+◌, ◌-◌, ◌*◌, ◌^◌, ◌<◌, ◌≤◌, List, [], ◌∷◌, length, get_or, map, take, drop, sum, sum_by, sym, ap, ap₂, ◌∙◌, subst, arith, length-drop}
+use Rattle.std.proofs.Common.{◌≡◌, ℕ, suc, ◌+◌, ◌-◌, ◌*◌, ◌^◌, ◌<◌, ◌≤◌, List, [], ◌∷◌, length, get_or, map, drop, sum, sum_by, sym, ap, ap₂, ◌∙◌, subst, arith, length-drop}
 use Rattle.std.specs.List.{range_with_len}
 use Rattle.std.proofs.lemmas.List.{map_push}
 use Rattle.std.proofs.lemmas.List.FromFn.{length-map-range_with_len}
@@ -45,15 +45,13 @@ based_more c l low high j total shops some e few h =
 -- ---- a site's part
 
 module _ (c : CaseRows) (l : ℕ) (held low high : List ℕ) (valid : IsCase c) (line : IsLine c l) (ordered : AreOrdered c l held low high) where
+  -- the high bounds have one number for each part of the family at each site
   pub top_long : length high ≡ length c.sites * size c l
   top_long = sym (same_length high (limits c l) ordered.within) ∙ limits_long c l
 
+  -- the low bounds have one number for each part of the family at each site
   pub least_long : length low ≡ length c.sites * size c l
   least_long = sym (same_length low high ordered.low_least) ∙ top_long
-
-  -- the n numbers from place k n on are those of site k, where n is the family's size
-  pub part_is : (n k : ℕ) (v : List ℕ) → n ≡ size c l → take n (drop (k * n) v) ≡ site_part c l v k
-  part_is n k v e = ap (λ m. take m (drop (k * m) v)) e
 
   -- the low bounds of each site are within the list of all
   pub low_within : (n k : ℕ) → n ≡ size c l → k < length c.sites → k * n + n ≤ length low

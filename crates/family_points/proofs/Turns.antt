@@ -2,7 +2,6 @@
 use Rattle.std.proofs.Common.{ℕ, inl, inr, List, [], ◌∷◌, map, flat_map, refl, sym, ◌∙◌, subst}
 use Rattle.std.proofs.lemmas.List.Folds.{flat_map-map}
 use Rattle.std.proofs.lemmas.Simd.{map-map}
-use Rattle.spares_input.specs.Cases.{CaseRows}
 use Rattle.hull.specs.declared.point.Point.{Point}
 use Rattle.hull.specs.Curves.{Among, IsCurve}
 use Rattle.hull.proofs.Shapes.{of_members}
@@ -11,6 +10,7 @@ use Rattle.family_points.specs.Vectors.{between, vectors}
 use Rattle.family_points.specs.Points.{ScoreEnds}
 use Rattle.family_points.specs.Separation.{base_point}
 use Rattle.family_points.specs.Turned.{turned_points}
+use Rattle.family_points.specs.Inputs.{FamilyBox, line_high, line_low, line_stocks, shop_high, shop_low, shop_vectors}
 use Rattle.family_points.proofs.Boxes.{each_any, flat_flat, map_flat, same_flat}
 
 module _ {X Y : Type 0} (f : X → Y → Point) where
@@ -38,18 +38,19 @@ module _ {X Y : Type 0} (f : X → Y → Point) where
   ]
 
 -- the points of a base with the shop units' stocks first have the curve of the base
-pub curve_turned : (c : CaseRows) (l : ℕ) (ends : ScoreEnds) (held d : List ℕ) (j a b : ℕ) (low high : List ℕ) (curve : List Point)
-    → IsCurve (turned_points c l ends held d j a b low high) curve
-    → IsCurve (map (base_point c l ends held d j) (vectors (a ∷ low) (b ∷ high))) curve
-curve_turned c l ends held d j a b low high curve h =
-    let point : ℕ → List ℕ → Point = λ s shops. base_point c l ends held d j (s ∷ shops) in
-    let back : List ℕ → ℕ → Point = λ shops s. base_point c l ends held d j (s ∷ shops) in
+pub curve_turned : (ends : ScoreEnds) (x : FamilyBox) (d : List ℕ) (j : ℕ) (curve : List Point) → IsCurve (turned_points ends x d j) curve
+    → IsCurve (map (base_point ends x d j) (vectors (line_low x j ∷ shop_low x j) (line_high x j ∷ shop_high x j))) curve
+curve_turned ends x d j curve h =
+    let ss : List ℕ = line_stocks x j in
+    let vs : List (List ℕ) = shop_vectors x j in
+    let point : ℕ → List ℕ → Point = λ s shops. base_point ends x d j (s ∷ shops) in
+    let back : List ℕ → ℕ → Point = λ shops s. base_point ends x d j (s ∷ shops) in
     subst (λ ps. IsCurve ps curve)
-    (sym (map_flat (base_point c l ends held d j) (λ s. map (λ v. s ∷ v) (vectors low high)) (between a b)
-    ∙ same_flat (λ s. Unit {0}) (λ s. map (base_point c l ends held d j) (map (λ v. s ∷ v) (vectors low high))) (λ s. map (point s) (vectors low high)) (between a b)
-    (λ s _. map-map (base_point c l ends held d j) (λ v. s ∷ v) (vectors low high)) (each_any (between a b))))
-    (of_members (flat_map (λ shops. map (back shops) (between a b)) (vectors low high)) (flat_map (λ s. map (point s) (vectors low high)) (between a b)) curve
-    (λ v. (turn back v (vectors low high) (between a b), turn point v (between a b) (vectors low high))) h)
+    (sym (map_flat (base_point ends x d j) (λ s. map (λ v. s ∷ v) vs) ss
+    ∙ same_flat (λ s. Unit {0}) (λ s. map (base_point ends x d j) (map (λ v. s ∷ v) vs)) (λ s. map (point s) vs) ss
+    (λ s _. map-map (base_point ends x d j) (λ v. s ∷ v) vs) (each_any ss)))
+    (of_members (flat_map (λ shops. map (back shops) ss) vs) (flat_map (λ s. map (point s) vs) ss) curve
+    (λ v. (turn back v vs ss, turn point v ss vs)) h)
 
 -- ---- lists of points in either order
 

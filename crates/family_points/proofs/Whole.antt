@@ -91,7 +91,8 @@ zeros_are c l n e =
     let limit : Pair → ℕ = λ x. limit_at c.parts x.part x.site in
     ap (λ k. replicate k 0) (e ∙ length-map (places c l) limit) ∙ sym (replicated (places c l))
 
-same_zip : (v : List ℕ) → AllZip (λ x y. x ≤ y) v v
+-- each number is at most itself
+pub same_zip : (v : List ℕ) → AllZip (λ x y. x ≤ y) v v
 same_zip [] = tt
 same_zip (x ∷ v) = (omega arith, same_zip v)
 

@@ -26,8 +26,8 @@ abbrev pub choice_stocks : FamilyBox → ℕ → Choice → List ℕ
 choice_stocks x j v = v.line ∷ get_or (shop_vectors x j) v.shops []
 
 -- the point of a choice, if the depot has the stocks d
-abbrev pub choice_point : FamilyBox → ScoreEnds → List ℕ → ℕ → Choice → Point
-choice_point x ends d j v = base_point x.case x.line ends x.held d j (choice_stocks x j v)
+abbrev pub choice_point : ScoreEnds → FamilyBox → List ℕ → ℕ → Choice → Point
+choice_point ends x d j v = base_point ends x d j (choice_stocks x j v)
 
 -- a choice at base j, with its cost
 pub record IsChoice (x : FamilyBox) (j : ℕ) (v : Choice) : Type 0 where

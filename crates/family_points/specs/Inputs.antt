@@ -9,7 +9,7 @@ use Rattle.demand_rates.specs.RateLists.{RateList}
 use Rattle.demand_rates.specs.Rates.{AreRatesOf}
 use Rattle.family_items.specs.Inputs.{IsLine}
 use Rattle.family_points.specs.Vectors.{between, site_part, vectors, IsBetween}
-use Rattle.family_points.specs.Points.{ScoreEnds, cost_above, AreOrdered}
+use Rattle.family_points.specs.Points.{ScoreEnds, cost_above, points_within, AreOrdered}
 
 -- a family of a case, with the stocks held and the bounds of its vectors
 pub record FamilyBox : Type 0 where
@@ -26,6 +26,10 @@ pub record IsFamilyBox (x : FamilyBox) : Type 0 where
   pub are_rates : AreRatesOf x.case x.rates
   pub is_line : IsLine x.case x.line
   pub ordered : AreOrdered x.case x.line x.held x.low x.high
+
+-- the points of all its vectors
+abbrev pub box_points : ScoreEnds → FamilyBox → List Point
+box_points ends x = points_within x.case x.line ends x.held x.low x.high
 
 -- the least stock of each place of site k
 abbrev pub low_at : FamilyBox → ℕ → List ℕ
@@ -72,8 +76,8 @@ abbrev pub AreShopsAt : FamilyBox → ℕ → List ℕ → Type 0
 AreShopsAt x k v = IsBetween (shop_low x k) (shop_high x k) v
 
 -- the point of the stocks b at base j, if the line unit has these backorders there
-abbrev pub scored_point : FamilyBox → ScoreEnds → ℕ → List ℕ → Ends → Point
-scored_point x ends j b e = record {
+abbrev pub scored_point : ScoreEnds → FamilyBox → ℕ → List ℕ → Ends → Point
+scored_point ends x j b e = record {
   cost = cost_above x.case (family x.case x.line) (held_at x j) b;
   lo = (ends (systems x.case j) (per_system x.case x.line) (weight x.case x.line) e).lo;
   hi = (ends (systems x.case j) (per_system x.case x.line) (weight x.case x.line) e).hi;

@@ -2,17 +2,18 @@
 use Rattle.std.specs.Prelude.{◌≡◌, ◌≤◌, ℕ, List, length}
 use Rattle.spares_input.specs.Cases.{CaseRows, IsCase}
 use Rattle.family_items.specs.Inputs.{IsLine}
-use Rattle.family_points.specs.Points.{ScoreEnds, points_within, AreOrdered}
+use Rattle.family_points.specs.Points.{ScoreEnds, AreOrdered}
 use Rattle.family_points.specs.Vectors.{limits, places, stocks_with, vector_of, vectors, zeros}
 use Rattle.family_points.specs.Counts.{choices_of, tables_between}
+use Rattle.family_points.specs.Inputs.{FamilyBox, box_points}
 use Rattle.family_points.specs.Separation.{separated}
 
 -- the points of all vectors are the sums of the depot's point and a point of each base, for each choice at the depot
 abbrev pub Separates : Type 0
 Separates =
-    (c : CaseRows) (l : ℕ) (ends : ScoreEnds) (held low high : List ℕ) → IsCase c → IsLine c l
-    → AreOrdered c l held low high
-    → separated c l ends held low high ≡ points_within c l ends held low high
+    (ends : ScoreEnds) (x : FamilyBox) → IsCase x.case → IsLine x.case x.line
+    → AreOrdered x.case x.line x.held x.low x.high
+    → separated ends x ≡ box_points ends x
 
 -- the choices of a family count its vectors
 abbrev pub ChoicesAreVectors : Type 0

@@ -1,16 +1,16 @@
 -- The least Lagrangian of a family's points at one price. For given stocks at the depot it is their cost at the price
 -- plus the least of each base, so one price needs no curve.
 use Rattle.std.specs.Prelude.{◌≡◌, ℕ, ◌+◌, ◌*◌, ◌<◌, ◌≤◌, min, Bool, true, false, List, [], ◌∷◌, get_or, length, map, sum_by}
-use Rattle.spares_input.specs.Cases.{CaseRows, IsCase}
+use Rattle.spares_input.specs.Cases.{IsCase}
 use Rattle.fleet_model.specs.Rows.{bases}
 use Rattle.family_items.specs.Inputs.{IsLine}
 use Rattle.family_items.specs.Profile.{item_of}
 use Rattle.hull.specs.declared.point.Point.{Point}
 use Rattle.hull.specs.Curves.{lagrangian, Among}
-use Rattle.family_points.specs.Vectors.{site_part, vectors}
-use Rattle.family_points.specs.Points.{ScoreEnds, points_within, AreOrdered}
+use Rattle.family_points.specs.Vectors.{vectors}
+use Rattle.family_points.specs.Points.{ScoreEnds, AreOrdered}
 use Rattle.family_points.specs.Separation.{base_points, base_stocks, depot_point}
-use Rattle.family_points.specs.Inputs.{FamilyBox, IsAt}
+use Rattle.family_points.specs.Inputs.{FamilyBox, IsAt, box_points, high_at, low_at}
 
 -- the least of a number of each point, 0 if there is no point
 abbrev pub least : (Point → ℕ) → List Point → ℕ
@@ -42,22 +42,21 @@ pub record Decides (p q floor : ℕ) (points : List Point) (answer : Bool) : Typ
 -- base these of the shop units
 abbrev pub AreLowsAt : FamilyBox → List ℕ → ℕ → List ℕ → List ℕ → Type 0
 AreLowsAt x d j shops lows = (s : ℕ) → IsAt x j (s ∷ shops) → s < length lows
-    → get_or lows s 0 ≤ (item_of 48 x.case (base_stocks x.case x.line d j (s ∷ shops)) x.line j).backorders.lo
+    → get_or lows s 0 ≤ (item_of 48 x.case (base_stocks x d j (s ∷ shops)) x.line j).backorders.lo
 
 -- the least Lagrangian of base j at the price p/q, when the depot has the stocks d
-abbrev pub base_least : CaseRows → ℕ → ScoreEnds → ℕ → ℕ → List ℕ → List ℕ → List ℕ → List ℕ → ℕ → ℕ
-base_least c l ends p q held low high d j = least (lagrangian p q) (base_points c l ends held low high d j)
+abbrev pub base_least : ScoreEnds → FamilyBox → ℕ → ℕ → List ℕ → ℕ → ℕ
+base_least ends x p q d j = least (lagrangian p q) (base_points ends x d j)
 
 -- the cost of the depot's stocks d at the price, plus the least of each base
-abbrev pub depot_least : CaseRows → ℕ → ScoreEnds → ℕ → ℕ → List ℕ → List ℕ → List ℕ → List ℕ → ℕ
-depot_least c l ends p q held low high d =
-    p * (depot_point c l held d).cost + sum_by (base_least c l ends p q held low high d) (bases c)
+abbrev pub depot_least : ScoreEnds → FamilyBox → ℕ → ℕ → List ℕ → ℕ
+depot_least ends x p q d = p * (depot_point x d).cost + sum_by (base_least ends x p q d) (bases x.case)
 
 -- The least of a box at a price is the least, over the depot's stocks, of their cost at the price plus each base's
 -- least.
 abbrev pub LeastSeparates : Type 0
 LeastSeparates =
-    (c : CaseRows) (l : ℕ) (ends : ScoreEnds) (p q : ℕ) (held low high : List ℕ) → IsCase c → IsLine c l
-    → AreOrdered c l held low high
-    → least (lagrangian p q) (points_within c l ends held low high)
-    ≡ least_of (map (depot_least c l ends p q held low high) (vectors (site_part c l low 0) (site_part c l high 0)))
+    (ends : ScoreEnds) (x : FamilyBox) (p q : ℕ) → IsCase x.case → IsLine x.case x.line
+    → AreOrdered x.case x.line x.held x.low x.high
+    → least (lagrangian p q) (box_points ends x)
+    ≡ least_of (map (depot_least ends x p q) (vectors (low_at x 0) (high_at x 0)))

@@ -1,6 +1,7 @@
 pub mod Vectors
 pub mod Points
 pub mod Counts
+pub mod Rooms
 pub mod Separation
 pub mod Laws
 pub mod Boxes

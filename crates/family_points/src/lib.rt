@@ -18,7 +18,7 @@ mod places;
 mod vectors;
 
 pub use bounds::Bounds;
-pub use counts::{MOST_TABLES, choices, tables, tables_within, work};
+pub use counts::{MOST_TABLES, choices, held_tables, tables, tables_within, work};
 pub use family::Family;
 pub use laws::{vectors_are_counted, vectors_stand};
 pub use places::{limits_of, place_parts, vector_of};

@@ -67,24 +67,24 @@ module _ (x : FamilyBox) (valid : IsFamilyBox x) where
   -- the table's backorders at a stock of the line unit are those of the pair at these stocks
   pub tabled : (j s : ℕ) (d b : List ℕ) (list : List Ends) → IsBase x.case j → IsAt x 0 d → IsAt x j (s ∷ b)
       → AreBaseBackorders 48 (box_numbers x) j (get_or d 0 0) (drop 1 d) b list
-      → at_place list s ≡ (item_of 48 x.case (base_stocks x.case x.line d j (s ∷ b)) x.line j).backorders
+      → at_place list s ≡ (item_of 48 x.case (base_stocks x d j (s ∷ b)) x.line j).backorders
   tabled j s d b list base h g is =
       let some = valid.valid.frame.fewest_sites in
       let own : ℕ → List ℕ = depot_and_base d j (s ∷ b) in
       let depot_long = at_long x valid 0 d (omega (arith, some)) h in
       is.ends s (omega (arith, line_limit j base.1, at_limit x valid j 0 (s ∷ b) base.1 g (omega arith)))
-      ∙ sym (backorders_alone 48 x.case x.line j (base_stocks x.case x.line d j (s ∷ b)) (get_or d 0 0) (drop 1 d) s b valid.is_line base.0 base.1
+      ∙ sym (backorders_alone 48 x.case x.line j (base_stocks x d j (s ∷ b)) (get_or d 0 0) (drop 1 d) s b valid.is_line base.0 base.1
       (family_stocks_in x.case x.line own 0 valid.valid valid.is_line (omega (arith, some)) depot_long ∙ sym (begins d (omega (arith, depot_long))))
       (family_stocks_in x.case x.line own j valid.valid valid.is_line base.1 (ap length (at_base d j (s ∷ b) base.0) ∙ at_long x valid j (s ∷ b) base.1 g)
       ∙ at_base d j (s ∷ b) base.0))
 
   -- the points that are scored by such a list are those of the base
   pub points_same : (ends : ScoreEnds) (j : ℕ) (d shops : List ℕ) (list : List Ends) → IsBase x.case j → AreShopsAt x j shops
-      → ((s : ℕ) → IsAt x j (s ∷ shops) → at_place list s ≡ (item_of 48 x.case (base_stocks x.case x.line d j (s ∷ shops)) x.line j).backorders)
-      → map (λ s. scored_point x ends j (s ∷ shops) (at_place list s)) (line_stocks x j) ≡ map (λ s. base_point x.case x.line ends x.held d j (s ∷ shops)) (line_stocks x j)
+      → ((s : ℕ) → IsAt x j (s ∷ shops) → at_place list s ≡ (item_of 48 x.case (base_stocks x d j (s ∷ shops)) x.line j).backorders)
+      → map (λ s. scored_point ends x j (s ∷ shops) (at_place list s)) (line_stocks x j) ≡ map (λ s. base_point ends x d j (s ∷ shops)) (line_stocks x j)
   points_same ends j d shops list base h is =
       let order = (box_begins x valid j base.1).0 in
-      same_map (λ s. (line_low x j ≤ s) × (s ≤ line_high x j)) (λ s. scored_point x ends j (s ∷ shops) (at_place list s))
-      (λ s. base_point x.case x.line ends x.held d j (s ∷ shops)) (line_stocks x j)
-      (λ s b. ap (scored_point x ends j (s ∷ shops)) (is s (joined_at x valid j s shops base.1 h b.0 b.1)))
+      same_map (λ s. (line_low x j ≤ s) × (s ≤ line_high x j)) (λ s. scored_point ends x j (s ∷ shops) (at_place list s))
+      (λ s. base_point ends x d j (s ∷ shops)) (line_stocks x j)
+      (λ s b. ap (scored_point ends x j (s ∷ shops)) (is s (joined_at x valid j s shops base.1 h b.0 b.1)))
       (stocks_between_at x valid j (suc (line_high x j) - line_low x j) (omega (arith, order)))

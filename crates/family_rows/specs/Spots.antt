@@ -32,7 +32,7 @@ pub record IsRow (x : FamilyBox) (d : List ℕ) (j : ℕ) (shops : List ℕ) (ro
   pub long : line_high x j < length row
   pub small : All (IsWithinLimit 48) row
   pub ends : (s : ℕ) → IsAt x j (s ∷ shops)
-      → at_place row s ≡ (item_of 48 x.case (base_stocks x.case x.line d j (s ∷ shops)) x.line j).backorders
+      → at_place row s ≡ (item_of 48 x.case (base_stocks x d j (s ∷ shops)) x.line j).backorders
 
 -- one such row for each vector of the shop units' stocks at a base
 abbrev pub AreRows : BaseAt → List (List Ends) → Type 0

@@ -113,7 +113,7 @@ fn backorders_of(here: &BaseAt<'_, '_>, rows: &[Vec<Iv64<48>>], choice: &Choice)
     requires choice { IsChoice here.now.family.now here.now.site.0 choice.now }
     ensures small { IsWithinLimit 48 result }
     ensures ends { let x = here.now.family.now in let j = here.now.site.0 in result ≡ (item_of 48 x.case
-        (base_stocks x.case x.line here.now.depot.now j (choice_stocks x j choice.now)) x.line j).backorders }
+        (base_stocks x here.now.depot.now j (choice_stocks x j choice.now)) x.line j).backorders }
 {
     let count = rows.len();
     prove!(choice.shops < count);
@@ -132,7 +132,7 @@ pub fn spot_at<'b, S: Score>(
     requires rows { AreRows here.now (map (λ r. r.items) rows.now) }
     requires choice { IsChoice here.now.family.now here.now.site.0 choice.now }
     ensures { spot_point result
-        ≡ choice_point here.now.family.now S.ends here.now.depot.now here.now.site.0 choice.now }
+        ≡ choice_point S.ends here.now.family.now here.now.depot.now here.now.site.0 choice.now }
 {
     let backorders = backorders_of(here, rows, choice);
     let scored = here.score(score, backorders);

@@ -10,32 +10,21 @@ use Rattle.hull.specs.declared.point.Point.{Point}
 use Rattle.spares_input.specs.Cases.{CaseRows, IsCase}
 use Rattle.spares_input.specs.Pairs.{pair_place}
 use Rattle.spares_input.specs.Stocks.{StockList, IsFor, IsWithinLimits}
-use Rattle.fleet_model.specs.Aims.{weighted_backorders, IsHeldAllocation}
 use Rattle.fleet_model.specs.Rows.{line_units, stock}
-use Rattle.fleet_model.proofs.AllocationLaws.{stocks_allocation}
 use Rattle.fleet_model.proofs.FamilyLaws.{sum_each}
 use Rattle.family_items.specs.Inputs.{IsLine}
 use Rattle.family_points.specs.declared.bounds.Bounds.{Bounds}
 use Rattle.family_points.specs.Vectors.{IsBetween, Pair, box_from, limits, places, vector_of, zeros}
-use Rattle.family_points.specs.Points.{ScoreEnds, points_within, AreOrdered, plain_ends}
+use Rattle.family_points.specs.Points.{ScoreEnds, points_within, AreOrdered}
 use Rattle.family_points.specs.Counts.{limited, most_tables, tables_between, tables_of, work_of}
 use Rattle.family_points.proofs.Boxes.{each_any, same_map}
-use Rattle.family_points.proofs.Whole.{tables_whole, whole_ordered}
-pub use Rattle.sum_walk.proofs.Walks.{zip_push}
+use Rattle.family_points.proofs.Rooms.{held_ordered}
+use Rattle.family_points.proofs.Whole.{tables_whole}
+pub use Rattle.sum_walk.proofs.Lists.{zip_push}
 use Rattle.fleet_plan.specs.Families.{case_points, family_points}
-use Rattle.fleet_plan.proofs.Bridge.{vector_between}
 use Rattle.fleet_plan.proofs.Places.{line_among}
 use Rattle.held_work.specs.Curves.{IsFamilyCurve}
 use Rattle.held_work.specs.Work.{held_work_of, tables_from, IsNothing}
-
--- ---- the box of a family
-
-pub ordered_from : (c : CaseRows) (l : ℕ) (held : StockList) → IsCase c → IsLine c l → IsFor c held → IsWithinLimits c held
-    → AreOrdered c l (vector_of c l held.list) (vector_of c l held.list) (limits c l)
-ordered_from c l held valid line is_for within =
-    let kept : IsHeldAllocation c held.list held.list = record { allocation = stocks_allocation c held is_for within; keeps = λ p k _ _. omega arith } in
-    let between = vector_between plain_ends weighted_backorders c held.list valid held.list l line kept in
-    record { held_least = between.least; low_least = between.most; within = (whole_ordered c l).within }
 
 -- ---- the work of a family is within that of the case
 
@@ -53,7 +42,8 @@ term_most f [] x a = absurd a
 term_most f (y ∷ ys) x (inl e) = omega (arith, sum_by-cons f y ys, ap f e)
 term_most f (y ∷ ys) x (inr a) = omega (arith, sum_by-cons f y ys, term_most f ys x a)
 
-abbrev tables_at : CaseRows → List ℕ → ℕ → ℕ
+-- the tables of the family of l over its vectors from what is held to the limits
+abbrev pub tables_at : CaseRows → List ℕ → ℕ → ℕ
 tables_at c held l = tables_between c l (vector_of c l held) (limits c l)
 
 -- where the work from what is held is within the limit, so are the tables of each family
@@ -69,7 +59,7 @@ few_tables c held l valid line h =
 -- the bounds of a family from what is held to its limits are in order
 pub box_ordered : (c : CaseRows) (l : ℕ) (held : StockList) (b : Bounds) → b ≡ box_from c l held.list → IsCase c → IsLine c l → IsFor c held → IsWithinLimits c held
     → AreOrdered c l b.held b.low b.high
-box_ordered c l held b e valid line is_for within = subst (λ (x : Bounds). AreOrdered c l x.held x.low x.high) (sym e) (ordered_from c l held valid line is_for within)
+box_ordered c l held b e valid line is_for within = subst (λ (x : Bounds). AreOrdered c l x.held x.low x.high) (sym e) (held_ordered c l held valid line is_for within)
 
 -- within the work's limit, the box of each family takes few enough tables
 pub box_few : (c : CaseRows) (l : ℕ) (held : List ℕ) (b : Bounds) → b ≡ box_from c l held → IsCase c → IsLine c l → IsOk (held_work_of c held)

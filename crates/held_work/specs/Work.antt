@@ -1,9 +1,8 @@
 -- The work of the curves of a case that begin at the held stocks.
-use Rattle.std.specs.Prelude.{◌≡◌, ℕ, suc, ◌-◌, List, All, Result, sum_by}
+use Rattle.std.specs.Prelude.{◌≡◌, ℕ, List, All, Result, sum_by}
 use Rattle.answers.specs.Counts.{count64}
 use Rattle.spares_input.specs.Cases.{CaseRows}
-use Rattle.spares_input.specs.Stocks.{limit_at}
-use Rattle.fleet_model.specs.Rows.{line_units, stock}
+use Rattle.fleet_model.specs.Rows.{line_units}
 use Rattle.family_points.specs.Vectors.{limits, vector_of}
 use Rattle.family_points.specs.Counts.{limited, tables_between}
 
@@ -18,9 +17,3 @@ held_work_of c held = limited (count64 (tables_from c held))
 -- nothing is held of any pair
 abbrev pub IsNothing : List ℕ → Type 0
 IsNothing held = All (λ n. n ≡ 0) held
-
--- ---- by pairs
-
--- the count of stocks that part p can have at site k, from its held stock to its limit
-abbrev pub room : CaseRows → List ℕ → ℕ → ℕ → ℕ
-room c held k p = suc (limit_at c.parts p k) - stock c held p k

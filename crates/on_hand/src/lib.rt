@@ -2,7 +2,6 @@
 //! or by their parts near the price at which the budget is spent.
 #![tactic(auto)]
 
-mod asked;
 mod curves;
 mod families;
 mod guess;

@@ -8,15 +8,13 @@ ghost use Rattle.demand_rates.specs.Rates.{AreRatesOf};
 ghost use Rattle.part_filling.specs.Known.{IsPriceWindow};
 ghost use Rattle.held_work.specs.Work.{held_work_of};
 ghost use Rattle.case_plan.specs.Report.{IsOutcome};
-ghost use Rattle.on_hand.specs.Asked.{terms_of};
 
-use crate::asked::Asked;
 use crate::curves::whole_curves;
 use crate::families::HeldFamilies;
 use crate::guess::{guess, price_at};
 use crate::parts::parts_between;
 use answers::NoMemory;
-use case_plan::{Outcome, plan, plan_by_parts};
+use case_plan::{Outcome, Terms, plan, plan_by_parts};
 use demand_rates::kinds::Rates;
 use hull::{Price, Score};
 use part_filling::Window;
@@ -44,25 +42,18 @@ fn plan_between<S: Score>(
     alloc: Global,
     families: &HeldFamilies<'_, S>,
     window: Window,
-    asked: Asked,
+    terms: Terms,
 ) -> Result<Option<Outcome>, NoMemory>
     requires window { IsPriceWindow window.low window.high }
-    requires budget { asked.budget ≤ most_budget }
+    requires budget { terms.budget ≤ most_budget }
     ensures { IfOk result (λ found. IfSome found
-        (IsOutcome S.ends families.now.case families.now.held.list (terms_of asked))) }
+        (IsOutcome S.ends families.now.case families.now.held.list terms)) }
 {
-    let Asked {
-        budget,
-        loss,
-        on_hand,
-    } = asked;
     let case = families.case();
     let rates = families.rates();
     let parts = parts_between(alloc, families, families.count(), window)?;
     let near = window.high.p;
-    plan_by_parts(
-        alloc, case, rates, families, window, parts, budget, near, loss, on_hand,
-    )
+    plan_by_parts(alloc, case, rates, families, window, parts, terms, near)
 }
 
 /// The plan by the parts of the curves near the price at which the budget is about spent. None if there are few
@@ -70,49 +61,49 @@ fn plan_between<S: Score>(
 fn plan_near<S: Score>(
     alloc: Global,
     families: &HeldFamilies<'_, S>,
-    asked: Asked,
+    terms: Terms,
 ) -> Result<Option<Outcome>, NoMemory>
-    requires budget { asked.budget ≤ most_budget }
+    requires budget { terms.budget ≤ most_budget }
     ensures { IfOk result (λ found. IfSome found
-        (IsOutcome S.ends families.now.case families.now.held.list (terms_of asked))) }
+        (IsOutcome S.ends families.now.case families.now.held.list terms)) }
 {
     if families.count() < MANY {
         return Ok(None);
     }
-    let Some(number) = guess(alloc, families, asked.budget)? else {
+    let Some(number) = guess(alloc, families, terms.budget)? else {
         return Ok(None);
     };
     let price = price_at(number);
     let close = window_of(price * 5 / 8, price_at(number + 2) * 9 / 8);
-    if let Some(outcome) = plan_between(alloc, families, close, asked)? {
+    if let Some(outcome) = plan_between(alloc, families, close, terms)? {
         return Ok(Some(outcome));
     }
     let wide = window_of(price / 2, price * 4);
-    plan_between(alloc, families, wide, asked)
+    plan_between(alloc, families, wide, terms)
 }
 
 /// The plan by the whole curves.
 fn plan_by_curves<S: Score>(
     alloc: Global,
     families: &HeldFamilies<'_, S>,
-    asked: Asked,
+    terms: Terms,
 ) -> Result<Outcome, NoMemory>
-    requires budget { asked.budget ≤ most_budget }
-    ensures { IfOk result (IsOutcome S.ends families.now.case families.now.held.list (terms_of asked)) }
+    requires budget { terms.budget ≤ most_budget }
+    ensures { IfOk result (IsOutcome S.ends families.now.case families.now.held.list terms) }
 {
-    let Asked {
+    let Terms {
         budget,
         loss,
         on_hand,
-    } = asked;
+    } = terms;
     let case = families.case();
     let rates = families.rates();
     let curves = whole_curves(alloc, families)?;
     plan(alloc, case, rates, curves.as_slice(), budget, loss, on_hand)
 }
 
-/// The plan of a case under a budget in whole money, from held stocks: a list for the case, within the limits. If
-/// nothing is held, the list is zeros.
+/// The plan of a case on these terms, from held stocks: a list for the case, within the limits. If nothing is held, the
+/// list is zeros.
 ///
 /// It is the one plan of all vectors of the families from the held stocks to the limits, reported as [`plan`] does. The
 /// work from the held stocks is within its limit. Want of memory is the only error.
@@ -122,26 +113,18 @@ pub fn plan_case<S: Score>(
     rates: &Rates,
     held: &Stocks,
     score: &S,
-    budget: u64,
-    loss: bool,
-    on_hand: Option<u64>,
+    terms: Terms,
 ) -> Result<Outcome, NoMemory>
     requires rates { AreRatesOf case.now rates.now }
     requires held { IsFor case.now held.now }
     requires limits { IsWithinLimits case.now held.now }
     requires work { IsOk (held_work_of case.now held.now.list) }
-    requires budget { budget ≤ most_budget }
-    ensures { IfOk result (IsOutcome S.ends case.now held.now.list
-        (record { budget = budget; loss = loss; on_hand = on_hand })) }
+    requires budget { terms.budget ≤ most_budget }
+    ensures { IfOk result (IsOutcome S.ends case.now held.now.list terms) }
 {
     let families = HeldFamilies::of(alloc, case, rates, held, score)?;
-    let asked = Asked {
-        budget,
-        loss,
-        on_hand,
-    };
-    if let Some(outcome) = plan_near(alloc, &families, asked)? {
+    if let Some(outcome) = plan_near(alloc, &families, terms)? {
         return Ok(outcome);
     }
-    plan_by_curves(alloc, &families, asked)
+    plan_by_curves(alloc, &families, terms)
 }

@@ -16,7 +16,7 @@ ghost use Rattle.plan_session.specs.Sessions.{due, has_mark, started, with_budge
 use crate::evaluated::{Evaluated, evaluate_at, nothing_evaluated};
 use crate::kept::{keep_all, nothing_kept, place_of};
 use answers::{NoMemory, Stop};
-use case_plan::{Outcome, choose_stocks, outcome_at};
+use case_plan::{Outcome, Terms, choose_stocks, outcome_at};
 use demand_rates::kinds::Rates;
 use demand_rates::{RateFault, rates};
 use hull::{Curve, Price};
@@ -86,7 +86,12 @@ fn outcome_near(
     *near = above(chosen.numbers.price);
     evaluate_at(alloc, case, rates, &chosen.stocks, evaluated)?;
     let families = evaluated.families.as_slice();
-    let outcome = outcome_at(alloc, case, chosen, families, budget, false, None)?;
+    let terms = Terms {
+        budget,
+        loss: false,
+        on_hand: None,
+    };
+    let outcome = outcome_at(alloc, case, chosen, families, terms)?;
     Ok(outcome)
 }
 

@@ -6,11 +6,12 @@ use Rattle.spares_input.specs.Cases.{CaseRows}
 use Rattle.case_maker.specs.Demonstration.{made}
 use Rattle.case_maker.proofs.Valid.{made_valid}
 use Rattle.case_maker.proofs.Whole.{made_drawn}
-use Rattle.case_plan.specs.Report.{report_of, plain_terms}
+use Rattle.case_plan.specs.Report.{outcome_of, report_of, plain_terms}
+use Rattle.case_plan.specs.declared.outcome.Outcome.{Outcome}
 use Rattle.case_plan.specs.Truth.{IsTruePlanReport}
 use Rattle.case_plan.proofs.Nothing.{from_nothing}
 use Rattle.case_plan.proofs.Truths.{plain_true}
-use Rattle.certified_plan.specs.Laws.{IsPlanOn}
+use Rattle.certified_plan.specs.Inputs.{IsPlanOn}
 use Rattle.certified_plan.proofs.Accepted.{accepted}
 use Rattle.certified_plan.proofs.Zeros.{none_is_held}
 use Rattle.demo_accepts.proofs.Accepted.{faultless}
@@ -41,8 +42,20 @@ module _ (number lines : ℕ) (few : lines ≤ 80) (summary : Summary) (h : IsDe
   is_accepted : IsAcceptedCase case
   is_accepted = record { valid = made_valid number lines few; no_fault = faultless case (made_valid number lines few) (made_drawn number lines) }
 
-  on_plan : IsPlanOn case (nothing_held case) (demo_terms (budget_of lines)) plan
-  on_plan = record { accepted = is_accepted; are_terms = are_terms lines few; is_held = none_is_held case; plan = h.is_plan }
+  abbrev outcome : Outcome
+  outcome = outcome_of plain_ends case (plain_terms (budget_of lines)) plan
+
+  on_plan : IsPlanOn case (nothing_held case) (demo_terms (budget_of lines)) outcome
+  on_plan = record {
+    accepted = is_accepted;
+    are_terms = are_terms lines few;
+    is_held = none_is_held case;
+    plan = plan;
+    is_plan = h.is_plan;
+    asked = plain_terms (budget_of lines);
+    same_budget = refl;
+    is = refl;
+  }
 
   says : IsPlainPlan case (budget_of lines) plan
   says = plain_plan case (budget_of lines) plan is_accepted (from_nothing case (nothing_held case).list (zeros_hold case) plain_ends (budget_of lines) plan h.is_plan)
@@ -71,7 +84,7 @@ module _ (number lines : ℕ) (few : lines ≤ 80) (summary : Summary) (h : IsDe
     shows = shown summary.total (total case plan.stocks) encloses;
     printed = printed_bound;
     gap = gap;
-    acceptable = accepted case (nothing_held case) (demo_terms (budget_of lines)) plan on_plan (demo_work number lines case (nothing_held case) few refl refl);
+    acceptable = accepted case (nothing_held case) (demo_terms (budget_of lines)) outcome on_plan (demo_work number lines case (nothing_held case) few refl refl);
   }
 
   -- the summary of a demonstration is what its task asks for

@@ -3,7 +3,6 @@ pub mod Confirmed
 pub mod Demonstrated
 pub mod OfTask
 pub mod Planned
-pub mod ReadInputs
 pub mod Shown
 pub mod Steps
 pub mod Swept

@@ -2,10 +2,8 @@
 use Rattle.std.proofs.Common.{◌≡◌, refl, Option, Some, None, Err, ℕ, List}
 use Rattle.std.specs.Option.{option_map}
 use Rattle.case_edits.specs.Edits.{session_of}
-use Rattle.case_tables.specs.Tables.{accepted_of, case_of_tables}
-use Rattle.case_tables.proofs.Refuse.{Refuses, accepted_refuses, is_of_task, or_refuses, stocked_refuses, tables_refuse, then_refuses}
+use Rattle.case_tables.proofs.Refuse.{Refuses, is_of_task, or_refuses, then_refuses}
 use Rattle.demand_rates.specs.declared.fault.RateFault.{RateFault}
-use Rattle.family_points.specs.Counts.{work_of}
 use Rattle.held_work.specs.Work.{held_work_of}
 use Rattle.price_certificate.specs.declared.certificate.Terms.{Terms}
 use Rattle.refusals.specs.Causes.{of_task, kind_of, or_refuse}
@@ -16,28 +14,18 @@ use Rattle.refusals.specs.declared.refusal.Refusal.TheVariants as refusal
 use Rattle.spares_input.specs.Cases.{frame_rows}
 use Rattle.spares_words.specs.declared.order.Order.{Order}
 use Rattle.spares_words.specs.declared.order.Order.TheVariants as order
+use Rattle.order_inputs.specs.Cases.{case_to_edit, case_within_work, stocked_by}
+use Rattle.order_inputs.specs.Files.{CaseBytes, bytes_at, tables_in}
+use Rattle.order_inputs.proofs.Refuse.{at_stocks_refuses, to_edit_refuses, within_work_refuses}
 use Rattle.spares_top.specs.Checks.{claimed_of, form_of, judged_of}
-use Rattle.spares_top.specs.Files.{CaseBytes, bytes_at, tables_in}
-use Rattle.spares_top.specs.Plans.{case_to_edit, case_within_work, planning_of, stocked_by}
+use Rattle.spares_top.specs.Plans.{planning_of}
 use Rattle.spares_top.specs.Task.{Task, task_on, unless_refused}
-
--- what refuses a case's tables or its work
-within_work_refuses : (tables : CaseBytes) → Refuses (case_within_work tables)
-within_work_refuses t =
-    then_refuses (accepted_of t.sites t.parts t.rates) _ (accepted_refuses t.sites t.parts t.rates) (λ case.
-    then_refuses (or_refuse no_names refusal.Work (work_of case)) _ (or_refuses no_names refusal.Work (work_of case) (λ count. refl)) (λ work. tt))
-
--- a case to edit
-to_edit_refuses : (tables : CaseBytes) → Refuses (case_to_edit tables)
-to_edit_refuses t =
-    then_refuses (case_of_tables t.sites t.parts t.rates) _ (tables_refuse t.sites t.parts t.rates) (λ case.
-    then_refuses (or_refuse no_names refusal.Work (work_of case)) _ (or_refuses no_names refusal.Work (work_of case) (λ count. refl)) (λ work. tt))
 
 -- the tables of a plan, or its work
 planning_refuses : (tables : CaseBytes) (on_hand : Option (List ℕ)) (terms : Terms) → Refuses (planning_of tables on_hand terms)
 planning_refuses tables None terms = then_refuses (case_within_work tables) _ (within_work_refuses tables) (λ case. tt)
 planning_refuses t (Some stocks) terms =
-    then_refuses (stocked_by file.OnHand t stocks) _ (stocked_refuses file.OnHand t.sites t.parts t.rates stocks) (λ given.
+    then_refuses (stocked_by file.OnHand t stocks) _ (at_stocks_refuses file.OnHand t stocks) (λ given.
     then_refuses (or_refuse no_names refusal.Work (held_work_of given.case given.stocks.list)) _
     (or_refuses no_names refusal.Work (held_work_of given.case given.stocks.list) (λ count. refl)) (λ work. tt))
 
@@ -53,14 +41,10 @@ rate_refuses : (fault : Option RateFault) (task : Task) → Refuses (unless_refu
 rate_refuses None task = tt
 rate_refuses (Some fault) task = refl
 
--- a case with stocks
-at_stocks_refuses : (tables : CaseBytes) (stocks : List ℕ) → Refuses (stocked_by file.Stocks tables stocks)
-at_stocks_refuses t stocks = stocked_refuses file.Stocks t.sites t.parts t.rates stocks
-
 task_refuses : (o : Order) (bytes : List (List ℕ)) → Refuses (task_on o bytes)
 task_refuses (order.Single mean variance stock) bytes = rate_refuses _ _
 task_refuses (order.Eval sites parts rates stocks bits) bytes =
-    then_refuses (stocked_by file.Stocks (tables_in bytes) (bytes_at bytes 3)) _ (at_stocks_refuses (tables_in bytes) (bytes_at bytes 3)) (λ stocked. tt)
+    then_refuses (stocked_by file.Stocks (tables_in bytes) (bytes_at bytes 3)) _ (at_stocks_refuses file.Stocks (tables_in bytes) (bytes_at bytes 3)) (λ stocked. tt)
 task_refuses (order.Plan sites parts rates on_hand budget format objective certificate) bytes =
     then_refuses (planning_of (tables_in bytes) (option_map (λ name. bytes_at bytes 3) on_hand) _) _
     (planning_refuses (tables_in bytes) (option_map (λ name. bytes_at bytes 3) on_hand) _) (λ planning. tt)
@@ -73,7 +57,7 @@ task_refuses (order.Session sites parts rates edits) bytes =
     then_refuses (case_to_edit (tables_in bytes)) _ (to_edit_refuses (tables_in bytes)) (λ case.
     then_refuses (or_refuse no_names refusal.Edit (session_of case (bytes_at bytes 3))) _ (or_refuses no_names refusal.Edit (session_of case (bytes_at bytes 3)) (λ fault. refl)) (λ due. tt))
 task_refuses (order.Compare sites parts rates stocks) bytes =
-    then_refuses (stocked_by file.Stocks (tables_in bytes) (bytes_at bytes 3)) _ (at_stocks_refuses (tables_in bytes) (bytes_at bytes 3)) (λ stocked. tt)
+    then_refuses (stocked_by file.Stocks (tables_in bytes) (bytes_at bytes 3)) _ (at_stocks_refuses file.Stocks (tables_in bytes) (bytes_at bytes 3)) (λ stocked. tt)
 
 -- the kind of a task's own refusal
 pub task_kind : (o : Order) (bytes : List (List ℕ)) (failure : Failure) → task_on o bytes ≡ Err failure → kind_of failure.refusal ≡ of_task

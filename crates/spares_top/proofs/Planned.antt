@@ -1,24 +1,22 @@
 -- What a plan makes is what its task asks for, and it is true.
-use Rattle.std.proofs.Common.{◌≡◌, ◌∙◌, ap, refl, subst, sym, Option, Some, None, Result, Ok, Err, Vec, Global, ℕ, ◌+◌, ◌≤◌, List, length, IfSome}
+use Rattle.std.proofs.Common.{◌≡◌, ◌∙◌, ap, refl, subst, sym, Option, Some, None, Result, Ok, ℕ, ◌+◌, ◌≤◌, List, length, IfSome}
 use Rattle.spares_input.specs.Cases.{CaseRows, IsCase}
 use Rattle.spares_input.specs.Stocks.{StockList, IsFor, IsWithinLimits, cost_of, nothing_held}
 use Rattle.case_plan.specs.Report.{IsOutcome, IsPlanned, outcome_of, report_of}
 use Rattle.case_plan.specs.Truth.{IsTruePlanReport, IsTrueReport}
 use Rattle.case_plan.specs.declared.outcome.Outcome as plans
 use Rattle.case_plan.proofs.Truths.{plain_true, planned_true, report_fits}
-use Rattle.certified_plan.specs.Certificates.{certificate_of, claims_of, text_of}
-use Rattle.certified_plan.specs.Inputs.{AreClaims, IsHeld}
-use Rattle.certified_plan.specs.declared.terms.PlanClaims.{PlanClaims}
+use Rattle.certified_plan.specs.Certificates.{certificate_of, text_of}
+use Rattle.certified_plan.specs.Inputs.{IsHeld, IsPlanOn}
 use Rattle.price_certificate.specs.declared.certificate.Terms.{Terms}
-use Rattle.certified_plan.proofs.Formed.{plan_claims}
-use Rattle.case_plan.specs.Report as reports
+use Rattle.certified_plan.proofs.Formed.{well_formed}
 use Rattle.family_points.specs.Counts.{work_of}
 use Rattle.held_work.proofs.Kept.{all_work}
 use Rattle.std.specs.Option.{option_map}
 use Rattle.std.specs.Prelude.{IfOk}
 use Rattle.std.specs.Result.{IsOk}
 use Rattle.answers.specs.declared.stop.NoMemory.{NoMemory}
-use Rattle.certified_plan.specs.Laws.{IsPlanOn, NoCertificateShowsMore}
+use Rattle.certified_plan.specs.Laws.{NoCertificateShowsMore}
 use Rattle.gap_rules.specs.Scores.{ends_of, value_of}
 use Rattle.certified_plan.proofs.Accepted.{accepted}
 use Rattle.certified_plan.proofs.Nearest.{nearest}
@@ -38,14 +36,13 @@ use Rattle.price_certificate.specs.Certificates.{IsWellFormed, cert_text, certif
 use Rattle.price_certificate.specs.declared.certificate.Certificate.{Certificate}
 use Rattle.price_certificate.proofs.Inverse.{again}
 use Rattle.demonstration.proofs.Told.{zeros_hold}
-use Rattle.plan_report.specs.declared.plan.PlanReport.{PlanReport}
 use Rattle.spares_top.specs.Making.{Is, IsMade}
 use Rattle.spares_top.specs.Task.{make_plan}
 use Rattle.spares_top.specs.declared.done.Done.TheVariants.{Planned}
 use Rattle.spares_top.specs.Checks.{Claimed, claimed_of, form_of}
 use Rattle.spares_top.specs.Headline.{IsTruePlan}
 use Rattle.spares_top.specs.Held.{held_in}
-use Rattle.spares_top.specs.Planning.{HasFormat, IsCertified, IsGround, IsPlanFor, planning_on}
+use Rattle.spares_top.specs.Planning.{HasFormat, IsGround, IsPlanFor, planning_on}
 use Rattle.spares_top.specs.Plans.{Planning, certificate_text, held_of, is_loss, plan_certificate, plan_terms, planned}
 use Rattle.spares_top.specs.declared.plan.Ground.{Ground}
 use Rattle.spares_top.proofs.Shown.{span_prints}
@@ -57,11 +54,6 @@ plain_formed cert formed = rw (plain_form cert, again cert formed) refl
 
 held_formed : (k : HeldCertificate) → IsWellHeld k → form_of (held_text k) ≡ Ok (record { certificate = k.certificate; on_hand = Some k.held })
 held_formed k well = rw (held_form k, held_inverse.again k well) refl
-
--- what the outcome of a plan claims
-same_claims : (ends : ScoreEnds) (c : CaseRows) (terms : reports.Terms) (o : plans.Outcome) (p : CasePlan) → o ≡ outcome_of ends c terms p
-    → record { stocks = o.stocks; price = o.price; floors = o.floors; upper = o.upper; bound = o.report.bound } ≡ claims_of c p
-same_claims ends c terms o p h = rw h refl
 
 -- the outcome of a plan
 same_outcome : (x : Planning) (name : List ℕ) (o : plans.Outcome) (p : CasePlan) (bytes : List ℕ) → o ≡ outcome_of (ends_of x.terms.objective) x.case (plan_terms x) p
@@ -93,19 +85,10 @@ planned_by x held on_hand o r is held_is cost_is h =
     (subst (λ (n : Option ℕ). IfOk r (IsOutcome (ends_of o) x.case held.list (record { budget = x.terms.budget; loss = is_loss o; on_hand = n }))) cost_is h))
 
 -- the text of a plan's certificate is short enough to be read
-short : (c : CaseRows) (on_hand : Option StockList) (terms : Terms) (p : CasePlan) → IsPlanOn c (held_in c on_hand) terms p
-    → length (text_of (certificate_of c (held_in c on_hand) terms (claims_of c p)) on_hand) ≤ certificate_limit
+short : (c : CaseRows) (on_hand : Option StockList) (terms : Terms) (o : plans.Outcome) → IsPlanOn c (held_in c on_hand) terms o
+    → length (text_of (certificate_of c (held_in c on_hand) terms o) on_hand) ≤ certificate_limit
 short c None = text_short c (nothing_held c)
 short c (Some held) = held_short c held
-
--- the text of the certificate made of claims is what carries them
-pub certified_by : (x : Planning) (held : StockList) (claims : PlanClaims) (cert : Certificate) (r : Result (Vec ℕ Global) NoMemory) → held ≡ held_of x
-    → cert ≡ certificate_of x.case held x.terms claims → IsWellFormed cert → IfOk r (λ bytes. bytes.items ≡ text_of cert x.on_hand)
-    → IfOk r (λ bytes. IsCertified x claims bytes.items)
-certified_by x held claims cert (Ok bytes) held_is cert_is formed h =
-    let is : cert ≡ certificate_of x.case (held_of x) x.terms claims = cert_is ∙ ap (λ (s : StockList). certificate_of x.case s x.terms claims) held_is in
-    record { formed = subst IsWellFormed is formed; text_is = h ∙ ap (λ (c : Certificate). text_of c x.on_hand) is }
-certified_by x held claims cert (Err e) held_is cert_is formed h = tt
 
 -- over the stocks on hand a certificate is well held
 pub well_held : (g : Ground) → IsGround g → (cert : Certificate) → IsWellFormed cert → cert.case ≡ g.given.case × (cert.format ≡ g.terms.format)
@@ -133,18 +116,9 @@ module _ (g : Ground) (h : IsGround g) where
     abbrev plan : CasePlan
     plan = is.plan
 
-    on_plan : IsPlanOn x.case (held_of x) x.terms plan
-    on_plan = record { accepted = h.accepted; are_terms = h.terms; is_held = h.held; plan = is.is_plan }
-
-    abbrev claims_in : PlanClaims
-    claims_in = record { stocks = o.stocks; price = o.price; floors = o.floors; upper = o.upper; bound = o.report.bound }
-
-    claims_are : claims_in ≡ claims_of x.case plan
-    claims_are = same_claims (ends_of aimed) x.case (plan_terms x) o plan is.is
-
-    -- the plan's claims are in range, with a floor for each line unit and a stock for each pair
-    pub have_claims : AreClaims x.case claims_in
-    have_claims = subst (AreClaims x.case) (sym claims_are) (plan_claims x.case (held_of x) x.terms plan on_plan)
+    -- the outcome is that of a plan on the ground's terms
+    pub on_plan : IsPlanOn x.case (held_of x) x.terms o
+    on_plan = record { accepted = h.accepted; are_terms = h.terms; is_held = h.held; plan = plan; is_plan = is.is_plan; asked = plan_terms x; same_budget = refl; is = is.is }
 
     abbrev report : IsPlanned (ends_of aimed) x.case (held_of x).list (plan_terms x) o.report
     report = record { plan = plan; is_plan = is.is_plan; is = ap (λ (z : plans.Outcome). z.report) is.is }
@@ -165,62 +139,64 @@ module _ (g : Ground) (h : IsGround g) where
 
     -- no accepted certificate shows more than the report's bound and rounding
     no_certificate : NoCertificateShowsMore x.case (held_of x) x.terms (o.report.bound + o.report.rounding)
-    no_certificate =
-        subst (λ (r : PlanReport). NoCertificateShowsMore x.case (held_of x) x.terms (r.bound + r.rounding)) (sym report.is)
-        (nearest x.case (held_of x) x.terms plan on_plan)
-
-    acceptable : reject_of (ends_of aimed) (plan_certificate x plan) (held_of x) ≡ None
-    acceptable = accepted x.case (held_of x) x.terms plan on_plan h.work
+    no_certificate = nearest x.case (held_of x) x.terms o on_plan
 
     -- ---- the certificate
 
-    module _ (bytes : List ℕ) (k : IsCertified x claims_in bytes) where
-      abbrev certificate : Certificate
-      certificate = plan_certificate x plan
+    abbrev certificate : Certificate
+    certificate = plan_certificate x plan
 
-      formed : IsWellFormed certificate
-      formed = subst (λ (claims : PlanClaims). IsWellFormed (certificate_of x.case (held_of x) x.terms claims)) claims_are k.formed
+    own : certificate_of x.case (held_of x) x.terms o ≡ plan_certificate x plan
+    own = ap (certificate_of x.case (held_of x) x.terms) is.is
 
-      text_is : bytes ≡ certificate_text x plan
-      text_is = k.text_is ∙ ap (λ (claims : PlanClaims). text_of (certificate_of x.case (held_of x) x.terms claims) x.on_hand) claims_are
+    formed : IsWellFormed (plan_certificate x plan)
+    formed = subst IsWellFormed own (well_formed x.case (held_of x) x.terms o on_plan)
 
-      confirmed : claimed_of (certificate_text x plan) ≡ Ok (record { certificate = certificate; on_hand = x.on_hand })
-      confirmed =
-          claimed_by_form (certificate_text x plan) (record { certificate = certificate; on_hand = x.on_hand })
-          (form_by x.on_hand (well_held g h certificate formed (refl, refl))) acceptable
-        where
-          form_by : (on_hand : Option StockList) → IfSome on_hand (λ (s : StockList). IsWellHeld (record { certificate = certificate; held = s }))
-              → form_of (text_of certificate on_hand) ≡ Ok (record { certificate = certificate; on_hand = on_hand })
-          form_by None w = plain_formed certificate formed
-          form_by (Some s) w = held_formed (record { certificate = certificate; held = s }) w
+    acceptable : reject_of (ends_of aimed) (plan_certificate x plan) (held_of x) ≡ None
+    acceptable = subst (λ (k : Certificate). reject_of (ends_of aimed) k (held_of x) ≡ None) own (accepted x.case (held_of x) x.terms o on_plan h.work)
 
-      -- ---- the whole
+    within : length (certificate_text x plan) ≤ certificate_limit
+    within = subst (λ (k : Certificate). length (text_of k x.on_hand) ≤ certificate_limit) own (short x.case x.on_hand x.terms o on_plan)
 
-      module _ (name : List ℕ) where
-        is_true : IsTruePlan x name (Some (record { name = name; bytes = certificate_text x plan })) o.report
-        is_true = record {
-          plan = plan;
-          accepted = h.accepted;
-          says = says;
-          plainly = plainly;
-          no_certificate = no_certificate;
-          prints = span_prints 48;
-          written = refl;
-          acceptable = acceptable;
-          within = short x.case x.on_hand x.terms plan on_plan;
-          confirmed = confirmed;
-        }
+    confirmed : claimed_of (certificate_text x plan) ≡ Ok (record { certificate = certificate; on_hand = x.on_hand })
+    confirmed =
+        claimed_by_form (certificate_text x plan) (record { certificate = certificate; on_hand = x.on_hand })
+        (form_by x.on_hand (well_held g h certificate formed (refl, refl))) acceptable
+      where
+        form_by : (on_hand : Option StockList) → IfSome on_hand (λ (s : StockList). IsWellHeld (record { certificate = certificate; held = s }))
+            → form_of (text_of certificate on_hand) ≡ Ok (record { certificate = certificate; on_hand = on_hand })
+        form_by None w = plain_formed certificate formed
+        form_by (Some s) w = held_formed (record { certificate = certificate; held = s }) w
 
-        made : IsMade (Is (Ok (make_plan x name))) (record { done = Planned o.report; writes = Some (record { name = name; bytes = certificate_text x plan }) })
-        made = record {
-          task = make_plan x name;
-          is_due = refl;
-          fulfils = record { plan = plan; is_plan = is.is_plan; is = same_outcome x name o plan (certificate_text x plan) is.is refl };
-          is_true = record { report = o.report; is = refl; holds = is_true };
-          prints = report_fits (ends_of aimed) (value_of aimed) x.case (held_of x).list (plan_terms x) o.report h.accepted (scores_enclose aimed) (scores_leave_room aimed) report;
-        }
+    -- ---- the whole
 
-        -- these bytes under the name are what the task asks for
-        pub made_of : IsMade (Is (Ok (make_plan x name))) (record { done = Planned o.report; writes = Some (record { name = name; bytes = bytes }) })
-        made_of =
-            subst (λ (z : List ℕ). IsMade (Is (Ok (make_plan x name))) (record { done = Planned o.report; writes = Some (record { name = name; bytes = z }) })) (sym text_is) made
+    module _ (name : List ℕ) where
+      is_true : IsTruePlan x name (Some (record { name = name; bytes = certificate_text x plan })) o.report
+      is_true = record {
+        plan = plan;
+        accepted = h.accepted;
+        says = says;
+        plainly = plainly;
+        no_certificate = no_certificate;
+        prints = span_prints 48;
+        written = refl;
+        acceptable = acceptable;
+        within = within;
+        confirmed = confirmed;
+      }
+
+      made : IsMade (Is (Ok (make_plan x name))) (record { done = Planned o.report; writes = Some (record { name = name; bytes = certificate_text x plan }) })
+      made = record {
+        task = make_plan x name;
+        is_due = refl;
+        fulfils = record { plan = plan; is_plan = is.is_plan; is = same_outcome x name o plan (certificate_text x plan) is.is refl };
+        is_true = record { report = o.report; is = refl; holds = is_true };
+        prints = report_fits (ends_of aimed) (value_of aimed) x.case (held_of x).list (plan_terms x) o.report h.accepted (scores_enclose aimed) (scores_leave_room aimed) report;
+      }
+
+      -- the bytes of the outcome's certificate under the name are what the task asks for
+      pub made_of : (bytes : List ℕ) → bytes ≡ text_of (certificate_of x.case (held_of x) x.terms o) x.on_hand
+          → IsMade (Is (Ok (make_plan x name))) (record { done = Planned o.report; writes = Some (record { name = name; bytes = bytes }) })
+      made_of bytes text =
+          subst (λ (z : List ℕ). IsMade (Is (Ok (make_plan x name))) (record { done = Planned o.report; writes = Some (record { name = name; bytes = z }) }))
+          (sym (text ∙ ap (λ (k : Certificate). text_of k x.on_hand) own)) made

@@ -1,5 +1,5 @@
 -- What an order promises, from what is made and delivered; and what `run` promises.
-use Rattle.std.proofs.Common.{◌≡◌, ◌∙◌, [], ◌∷◌, ap, arith, inl, inr, refl, sym, subst, Option, Some, None, Result, Ok, Err, IsSomeAnd, MatchResult, List, ℕ}
+use Rattle.std.proofs.Common.{◌≡◌, ◌∙◌, [], ap, arith, inl, inr, refl, sym, subst, Option, Some, None, Result, Ok, Err, IsSomeAnd, MatchResult, List, ℕ}
 use Rattle.std.specs.Option.{option_map}
 use Rattle.std.specs.Prelude.{IfSome, ⊤}
 use Rattle.demand_rates.specs.declared.fault.RateFault.{RateFault}
@@ -12,11 +12,13 @@ use Rattle.spares_words.specs.Order.{order_of}
 use Rattle.spares_words.specs.declared.order.Order.{Order}
 use Rattle.spares_words.specs.declared.order.Order.TheVariants as order
 use Rattle.spares_words.specs.declared.order.WordsFault.{WordsFault}
+use Rattle.order_inputs.specs.Cases.{case_to_edit, case_within_work, stocked_by}
+use Rattle.order_inputs.specs.Files.{Reads, StandStill, StopsAt, bytes_at, inputs, inputs_of, output_of, reads, tables_in}
+use Rattle.order_inputs.specs.Reading.{ReadsGive}
 use Rattle.spares_top.specs.declared.done.Done.{Done}
 use Rattle.spares_top.specs.declared.done.Outcome.{Outcome}
 use Rattle.spares_top.specs.declared.done.Written.{Written}
 use Rattle.refusals.specs.declared.failure.Failure.{Failure}
-use Rattle.spares_top.specs.declared.files.Input.{Input}
 use Rattle.refusals.specs.declared.refusal.File.TheVariants as file
 use Rattle.refusals.specs.declared.refusal.Refusal.TheVariants as refusal
 use Rattle.spares_top.specs.Answer.{Answers, HaveGiven, IsDue, RefusesBy}
@@ -24,17 +26,15 @@ use Rattle.answers.specs.Steps.{◌>>=◌}
 use Rattle.refusals.specs.Causes.{Kind, of_words, of_reading, of_writing, of_memory, of_task, kind_of, or_refuse, plain_failure, stopped}
 use Rattle.refusals.specs.Lines.{no_names}
 use Rattle.spares_input.specs.Cases.{CaseRows}
-use Rattle.spares_top.specs.Files.{AllGave, Reads, StandStill, StopsAt, bytes_at, inputs, inputs_of, output_of, reads, tables_in}
-use Rattle.spares_top.specs.Making.{AreWithin, ComesOf, Is, IsMade, IsUndelivered, MakesBy}
+use Rattle.spares_top.specs.Making.{ComesOf, Is, IsMade, IsUndelivered, MakesBy}
 use Rattle.spares_top.specs.Promises.{Completes, Errors, NoneFailed, Performs, PutsLine, Runs, Serves}
-use Rattle.spares_top.specs.Reading.{ReadsGive}
 use Rattle.spares_top.specs.State.{HasDelivered, HasFailed, HasFailedToWrite, IsUntouched, Scene, after_write}
 use Rattle.spares_top.specs.Checks.{claimed_of}
-use Rattle.spares_top.specs.Plans.{case_to_edit, case_within_work, planning_of, stocked_by}
+use Rattle.spares_top.specs.Plans.{planning_of}
 use Rattle.spares_top.specs.Task.{Fulfils, Task, confirm, demonstrate, evaluate, make_plan, plan_in_turn, price_target, set_beside, show_pipeline, sweep_budgets, task_of, task_on, task_on_words, unless_refused}
 use Rattle.spares_top.specs.Texts.{text_of}
-use Rattle.spares_top.proofs.ReadInputs.{none_is, read_is, stops_kind}
 use Rattle.case_edits.specs.Edits.{session_of}
+use Rattle.order_inputs.proofs.ReadInputs.{none_is, read_is, stops_kind}
 use Rattle.spares_top.proofs.OfTask.{task_kind}
 
 -- ---- what is due
@@ -122,13 +122,6 @@ names_due : (order : Result Order WordsFault) (bytes : List (List ℕ)) (task : 
     → written_name outcome ≡ output_of order
 names_due (Ok o) bytes task outcome e f = written_as task outcome f ∙ task_named o bytes task e
 names_due (Err fault) bytes task outcome e f = grind (arith, e)
-
--- the files that were given are within the limits of their inputs
-pub within_of : (told : Option Files) (inputs : List Input) (files : List (List ℕ)) → AllGave told inputs files → AreWithin inputs files
-within_of told [] [] h = tt
-within_of told (i ∷ is) (b ∷ bs) h = (h.0.1, within_of told is bs h.1)
-within_of told [] (b ∷ bs) h = absurd h
-within_of told (i ∷ is) [] h = absurd h
 
 -- ---- an order
 

@@ -1,15 +1,12 @@
 pub mod Answer
 pub mod Checking
 pub mod Checks
-pub mod Files
-pub mod Given
 pub mod Headline
 pub mod Held
 pub mod Making
 pub mod Planning
 pub mod Plans
 pub mod Promises
-pub mod Reading
 pub mod State
 pub mod Status
 pub mod Task

@@ -1,18 +1,17 @@
 -- The answers of the calls that carry out a command, before a write. No promise of the crate rests on these words.
-use Rattle.std.specs.Prelude.{◌≡◌, ◌⊎◌, ◌≤◌, ⊤, ℕ, List, [], ◌∷◌, length, Option, IsSomeAnd, Result, Ok, Err}
+use Rattle.std.specs.Prelude.{◌≡◌, ◌⊎◌, ⊤, ℕ, List, Option, IsSomeAnd, Result, Ok, Err}
 use Rattle.spares_io.specs.Causes.{Rose}
 use Rattle.spares_io.specs.Shelf.{Files, KeepsOthers}
 use Rattle.answers.specs.declared.stop.Stop.{Stop}
 use Rattle.answers.specs.declared.stop.Stop.TheVariants as stop
 use Rattle.spares_words.specs.declared.order.Order.{Order}
+use Rattle.order_inputs.specs.Files.{Reads, inputs}
 use Rattle.spares_top.specs.declared.done.Outcome.{Outcome}
 use Rattle.spares_top.specs.declared.done.Written.{Written}
 use Rattle.refusals.specs.declared.failure.Failure.{Failure}
 use Rattle.refusals.specs.declared.refusal.Refusal.TheVariants as refusal
 use Rattle.answers.specs.Steps.{◌>>=◌}
 use Rattle.refusals.specs.Causes.{plain_failure}
-use Rattle.spares_top.specs.Files.{Reads, inputs}
-use Rattle.spares_top.specs.declared.files.Input.{Input}
 use Rattle.spares_top.specs.Headline.{IsTrue}
 use Rattle.spares_top.specs.State.{HasDelivered, HasFailed, IsUntouched, Scene}
 use Rattle.spares_top.specs.Task.{Fulfils, Task, task_on}
@@ -42,13 +41,6 @@ abbrev pub MakesBy : (Result Task Failure → Type 0) → Result Outcome (Stop F
 MakesBy IsDue (Ok outcome) = IsMade IsDue outcome
 MakesBy IsDue (Err stop.NoMemory) = ⊤
 MakesBy IsDue (Err (stop.Fault failure)) = IsDue (Err failure)
-
--- the bytes of inputs, none of them too long
-abbrev pub AreWithin : List Input → List (List ℕ) → Type 0
-AreWithin [] [] = ⊤
-AreWithin (input ∷ rest) (bytes ∷ more) = (length bytes ≤ input.limit) × AreWithin rest more
-AreWithin [] (bytes ∷ more) = ⊥
-AreWithin (input ∷ rest) [] = ⊥
 
 -- the reason why a write was refused, and the state after it: the files, and the counts of failed writes
 abbrev pub WriteRefused : Option Written → Option Files → Option Files → (List ℕ → ℕ) → (List ℕ → ℕ) → Failure → Type 0

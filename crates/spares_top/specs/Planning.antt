@@ -1,16 +1,13 @@
 -- The answers of the calls that plan, before any write. No promise of the crate rests on these words.
-use Rattle.std.specs.Prelude.{◌≡◌, ⊤, ℕ, List, Option, Some, None, Result, Ok, Err}
+use Rattle.std.specs.Prelude.{◌≡◌, ⊤, Option, Some, None, Result, Ok, Err}
 use Rattle.answers.specs.declared.stop.Stop.{Stop}
 use Rattle.answers.specs.declared.stop.Stop.TheVariants as stop
 use Rattle.case_plan.specs.Report.{IsOutcome}
 use Rattle.case_plan.specs.declared.outcome.Outcome as plans
-use Rattle.certified_plan.specs.Certificates.{certificate_of, text_of}
-use Rattle.certified_plan.specs.declared.terms.PlanClaims.{PlanClaims}
 use Rattle.certified_plan.specs.Inputs.{AreTerms, IsHeld, IsWithinWork}
 use Rattle.demand_rates.specs.Rates.{AreRatesOf}
 use Rattle.fleet_plan.specs.Laws.{IsAcceptedCase}
 use Rattle.gap_rules.specs.Scores.{ends_of}
-use Rattle.price_certificate.specs.Certificates.{IsWellFormed}
 use Rattle.price_certificate.specs.declared.certificate.Terms.{Terms}
 use Rattle.refusals.specs.declared.failure.Failure.{Failure}
 use Rattle.spares_top.specs.Plans.{Planning, held_of, plan_terms}
@@ -39,11 +36,6 @@ pub record IsGround (g : Ground) : Type 0 where
 abbrev pub IsPlanFor : Ground → plans.Outcome → Type 0
 IsPlanFor g o =
     IsOutcome (ends_of g.terms.objective) g.given.case (held_of (planning_on g)).list (plan_terms (planning_on g)) o
-
--- the bytes are the text of the certificate with these claims, which is well formed
-pub record IsCertified (x : Planning) (claims : PlanClaims) (bytes : List ℕ) : Type 0 where
-  pub formed : IsWellFormed (certificate_of x.case (held_of x) x.terms claims)
-  pub text_is : bytes ≡ text_of (certificate_of x.case (held_of x) x.terms claims) x.on_hand
 
 -- the answer is a ground of this planning, or its refusal; want of memory may always come
 abbrev pub TellsGround : Result Planning Failure → Result Ground (Stop Failure) → Type 0

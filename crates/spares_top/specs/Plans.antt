@@ -1,13 +1,12 @@
 -- Plans: the planning that the bytes of tables ask for, and the report and the certificate of its plan.
 use Rattle.std.specs.Prelude.{◌≡◌, ℕ, Bool, true, false, List, Option, Some, None, Result, Ok}
 use Rattle.std.specs.Option.{option_map}
-use Rattle.case_plan.specs.Report.{report_of}
-use Rattle.case_plan.specs.Report as reports
-use Rattle.case_tables.specs.Tables.{StockedCase, accepted_of, case_of_tables, stocked_of}
-use Rattle.certified_plan.specs.Certificates.{certificate_of, claims_of, text_of}
+use Rattle.case_plan.specs.Report.{outcome_of}
+use Rattle.case_plan.specs.declared.outcome.Outcome as plans
+use Rattle.case_plan.specs.declared.terms.Terms as reports
+use Rattle.certified_plan.specs.Certificates.{certificate_of, text_of}
 use Rattle.gap_rules.specs.Scores.{ends_of}
 use Rattle.price_certificate.specs.declared.certificate.Terms.{Terms}
-use Rattle.family_points.specs.Counts.{work_of}
 use Rattle.fleet_plan.specs.Plans.{CasePlan, IsCasePlan}
 use Rattle.held_work.specs.Work.{held_work_of}
 use Rattle.price_certificate.specs.declared.certificate.Certificate.{Certificate}
@@ -16,13 +15,13 @@ use Rattle.price_certificate.specs.declared.certificate.Objective.TheVariants.{B
 use Rattle.refusals.specs.Causes.{or_refuse}
 use Rattle.refusals.specs.Lines.{no_names}
 use Rattle.refusals.specs.declared.failure.Failure.{Failure}
-use Rattle.refusals.specs.declared.refusal.File.{File}
 use Rattle.refusals.specs.declared.refusal.File.TheVariants.{OnHand}
 use Rattle.refusals.specs.declared.refusal.Refusal.TheVariants as refusal
 use Rattle.spares_input.specs.Cases.{CaseRows}
 use Rattle.spares_input.specs.Stocks.{StockList, cost_of}
 use Rattle.answers.specs.Steps.{◌>>=◌}
-use Rattle.spares_top.specs.Files.{CaseBytes}
+use Rattle.order_inputs.specs.Cases.{case_within_work, stocked_by}
+use Rattle.order_inputs.specs.Files.{CaseBytes}
 use Rattle.spares_top.specs.Held.{held_in}
 use Rattle.spares_top.specs.declared.done.Done.TheVariants.{Planned}
 use Rattle.spares_top.specs.declared.done.Outcome.{Outcome}
@@ -34,24 +33,6 @@ pub record Planning : Type 0 where
   pub terms : Terms
 
 -- ---- the planning of tables, if the curves of their case take few enough tables
-
--- the case of tables with accepted rates, refused if its curves take too many tables
-abbrev pub case_within_work : CaseBytes → Result CaseRows Failure
-case_within_work tables = do
-  case ← accepted_of tables.sites tables.parts tables.rates
-  work ← or_refuse no_names refusal.Work (work_of case)
-  Ok case
-
--- the case of tables, refused if its curves take too many tables; its rates may be beyond the limits of the model
-abbrev pub case_to_edit : CaseBytes → Result CaseRows Failure
-case_to_edit tables = do
-  case ← case_of_tables tables.sites tables.parts tables.rates
-  work ← or_refuse no_names refusal.Work (work_of case)
-  Ok case
-
--- the case of tables and the stocks of a further table, which is this file
-abbrev pub stocked_by : File → CaseBytes → List ℕ → Result StockedCase Failure
-stocked_by file tables stocks = stocked_of file tables.sites tables.parts tables.rates stocks
 
 -- the planning of tables, from stocks on hand if there is a table of them, or the first refusal
 abbrev pub planning_of : CaseBytes → Option (List ℕ) → Terms → Result Planning Failure
@@ -69,14 +50,6 @@ planning_of tables (Some stocks) terms = do
 abbrev pub held_of : Planning → StockList
 held_of x = held_in x.case x.on_hand
 
--- the certificate of a plan
-abbrev pub plan_certificate : Planning → CasePlan → Certificate
-plan_certificate x p = certificate_of x.case (held_of x) x.terms (claims_of x.case p)
-
--- the text of a plan's certificate
-abbrev pub certificate_text : Planning → CasePlan → List ℕ
-certificate_text x p = text_of (plan_certificate x p) x.on_hand
-
 -- the objective is the loss
 abbrev pub is_loss : Objective → Bool
 is_loss Backorders = false
@@ -90,10 +63,22 @@ plan_terms x = record {
   on_hand = option_map (cost_of x.case) x.on_hand;
 }
 
+-- the outcome of a plan
+abbrev pub plan_outcome : Planning → CasePlan → plans.Outcome
+plan_outcome x p = outcome_of (ends_of x.terms.objective) x.case (plan_terms x) p
+
+-- its certificate
+abbrev pub plan_certificate : Planning → CasePlan → Certificate
+plan_certificate x p = certificate_of x.case (held_of x) x.terms (plan_outcome x p)
+
+-- the text of its certificate
+abbrev pub certificate_text : Planning → CasePlan → List ℕ
+certificate_text x p = text_of (plan_certificate x p) x.on_hand
+
 -- the report of a plan, and the text of its certificate under this name
 abbrev pub planned : Planning → List ℕ → CasePlan → Outcome
 planned x name p = record {
-  done = Planned (report_of (ends_of x.terms.objective) x.case (plan_terms x) p);
+  done = Planned (plan_outcome x p).report;
   writes = Some (record { name = name; bytes = certificate_text x p });
 }
 

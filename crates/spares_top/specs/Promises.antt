@@ -6,6 +6,7 @@ use Rattle.spares_io.specs.Sink.{Gains, GainsPart}
 use Rattle.spares_words.specs.Order.{order_of}
 use Rattle.spares_words.specs.declared.order.Order.{Order}
 use Rattle.spares_words.specs.declared.order.WordsFault.{WordsFault}
+use Rattle.order_inputs.specs.Files.{NoneRose, StandStill, inputs_of, output_of}
 use Rattle.spares_top.specs.declared.done.Done.{Done}
 use Rattle.spares_top.specs.declared.done.Outcome.{Outcome}
 use Rattle.refusals.specs.declared.failure.Failure.{Failure}
@@ -13,7 +14,6 @@ use Rattle.refusals.specs.declared.refusal.Refusal.{Refusal}
 use Rattle.refusals.specs.declared.refusal.Refusal.TheVariants as refusal
 use Rattle.spares_top.specs.Answer.{Answers}
 use Rattle.refusals.specs.Causes.{plain_failure}
-use Rattle.spares_top.specs.Files.{NoneRose, StandStill, inputs_of, output_of}
 use Rattle.spares_top.specs.State.{Scene}
 use Rattle.spares_top.specs.Task.{Fulfils, Task, task_of}
 

@@ -4,9 +4,9 @@ use Rattle.std.specs.Option.{option_map}
 use Rattle.spares_io.specs.Causes.{Rose}
 use Rattle.spares_io.specs.Shelf.{Files, KeepsOthers, with_file}
 use Rattle.spares_io.specs.Sink.{Gains, GainsPart}
+use Rattle.order_inputs.specs.Files.{StandStill}
 use Rattle.spares_top.specs.declared.done.Outcome.{Outcome}
 use Rattle.spares_top.specs.declared.done.Written.{Written}
-use Rattle.spares_top.specs.Files.{StandStill}
 use Rattle.spares_top.specs.Texts.{text_of}
 
 -- The shelf and the output at a moment: their contents, if they are known, and their counts of faults.

@@ -22,6 +22,8 @@ use Rattle.price_certificate.specs.declared.certificate.Terms.{Terms}
 use Rattle.spares_words.specs.declared.order.Order.{Order}
 use Rattle.spares_words.specs.declared.order.Order.TheVariants as order
 use Rattle.spares_words.specs.declared.order.WordsFault.{WordsFault}
+use Rattle.order_inputs.specs.Cases.{case_to_edit, case_within_work, stocked_by}
+use Rattle.order_inputs.specs.Files.{CaseBytes, bytes_at, inputs_of, reads, tables_in}
 use Rattle.spares_top.specs.declared.done.Done.{Done}
 use Rattle.spares_top.specs.declared.done.Done.TheVariants.{Single, Evaluated, Checked, Demo, Swept, Priced, Session, Compared}
 use Rattle.spares_top.specs.declared.done.Outcome.{Outcome}
@@ -31,8 +33,7 @@ use Rattle.refusals.specs.declared.refusal.Refusal.TheVariants as refusal
 use Rattle.answers.specs.Steps.{◌>>=◌}
 use Rattle.refusals.specs.Causes.{or_refuse, plain_failure}
 use Rattle.refusals.specs.Lines.{no_names}
-use Rattle.spares_top.specs.Files.{CaseBytes, bytes_at, inputs_of, reads, tables_in}
-use Rattle.spares_top.specs.Plans.{Planning, IsPlanned, case_to_edit, case_within_work, planning_of, stocked_by}
+use Rattle.spares_top.specs.Plans.{Planning, IsPlanned, planning_of}
 use Rattle.demonstration.specs.Demonstrations.{IsDemonstrated}
 use Rattle.spares_top.specs.Checks.{Claimed, claimed_of, check_of}
 use Rattle.family_points.specs.Points.{plain_ends}

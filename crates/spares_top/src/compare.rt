@@ -6,17 +6,16 @@
 ghost use Rattle.std.specs.Prelude.{◌≡◌, IfOk};
 ghost use Rattle.metric_compare.specs.Fits.{FitsComparison};
 ghost use Rattle.metric_compare.specs.Report.{comparison_of};
-ghost use Rattle.spares_top.specs.Given.{IsStocked, bytes_of};
+ghost use Rattle.order_inputs.specs.Given.{IsStocked, bytes_of};
 ghost use Rattle.spares_top.specs.Headline.{IsTrueComparison};
 ghost use Rattle.spares_top.specs.Making.{Is, MakesBy};
 ghost use Rattle.spares_top.specs.Task.{compare_task};
 
-use crate::cases::stocked;
 use crate::done::{Done, Outcome};
-use crate::tables::{Table, Tables};
 use answers::{NoMemory, Stop};
 use case_tables::Stocked;
 use metric_compare::CompareReport;
+use order_inputs::{Table, Tables, stocked};
 use refusals::{Failure, File};
 use std::alloc::Global;
 

@@ -4,7 +4,7 @@ ghost use Rattle.family_points.specs.Points.{plain_ends};
 ghost use Rattle.fleet_plan.specs.Families.{case_points};
 ghost use Rattle.marginal_alloc.specs.Choice.{AreCurves};
 ghost use Rattle.spares_input.specs.Stocks.{nothing_held};
-ghost use Rattle.spares_top.specs.Given.{CanPlan};
+ghost use Rattle.order_inputs.specs.Given.{CanPlan};
 
 use answers::NoMemory;
 use case_tables::Accepted;

@@ -4,7 +4,7 @@ ghost use Rattle.spares_io.specs.Causes.{Rose};
 ghost use Rattle.spares_io.specs.Sink.{Gains, GainsPart};
 ghost use Rattle.refusals.specs.declared.refusal.Refusal.TheVariants as refusal;
 ghost use Rattle.refusals.specs.Causes.{plain_failure};
-ghost use Rattle.spares_top.specs.Files.{StandStill};
+ghost use Rattle.order_inputs.specs.Files.{StandStill};
 ghost use Rattle.spares_top.specs.Making.{Delivers, WriteRefused};
 ghost use Rattle.spares_top.specs.State.{after_write, scene};
 ghost use Rattle.spares_top.specs.Texts.{CanPrint};

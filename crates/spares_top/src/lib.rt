@@ -1,7 +1,6 @@
 //! The whole program over a shelf and two sinks, which the caller passes in.
 #![tactic(auto)]
 
-mod cases;
 mod check;
 mod compare;
 mod curves;
@@ -10,14 +9,11 @@ mod demo;
 mod done;
 mod eval;
 mod exit;
-mod files;
-mod given;
 mod held;
 mod plan;
 mod session;
 mod single;
 mod sweep;
-mod tables;
 mod target;
 mod top;
 mod work;

@@ -4,24 +4,23 @@
 //! - Refuses, in this order: the first fault of the tables; a pipeline beyond the limits of the model; too much work.
 //! - Makes the report, and the certificate under its name.
 ghost use Rattle.std.specs.Prelude.{◌≡◌, IfOk, Some, Ok, option_map};
-ghost use Rattle.certified_plan.specs.Inputs.{AreClaims, AreTerms};
-ghost use Rattle.spares_top.specs.Given.{bytes_of};
+ghost use Rattle.certified_plan.specs.Inputs.{AreTerms};
+ghost use Rattle.order_inputs.specs.Given.{bytes_of};
 ghost use Rattle.spares_top.specs.Making.{Is, IsMade, MakesBy};
-ghost use Rattle.spares_top.specs.Planning.{HasFormat, IsCertified, IsGround, IsPlanFor, TellsGround, planning_on};
+ghost use Rattle.spares_top.specs.Planning.{HasFormat, IsGround, IsPlanFor, TellsGround, planning_on};
 ghost use Rattle.spares_top.specs.Plans.{held_of, planning_of};
 ghost use Rattle.spares_top.specs.Task.{make_plan, plan_task};
 
-use crate::cases::{case_within_work, few_tables, stocked};
 use crate::done::{Done, Outcome, Written};
 use crate::held::{cost_of, held_in};
-use crate::tables::{Table, Tables};
 use answers::{NoMemory, Stop};
 use case_tables::{Accepted, Stocked};
-use certified_plan::{PlanClaims, certificate, certificate_text};
+use certified_plan::{certificate, certificate_text};
 use held_work::held_work;
 use hull::Plain;
 use log_loss::LogLoss;
 use on_hand::plan_case;
+use order_inputs::{Table, Tables, case_within_work, few_tables, stocked};
 use price_certificate::{Objective, Terms};
 use refusals::{Failure, File};
 use spares_input::Stocks;
@@ -94,7 +93,7 @@ fn ground_of(
     }
 }
 
-/// The plan of a ground from its held stocks, with the claims of its certificate.
+/// The plan of a ground from its held stocks.
 fn plan_of(alloc: Global, ground: &Ground, held: &Stocks) -> Result<case_plan::Outcome, NoMemory>
     requires ground { IsGround ground.now }
     requires held { held.now ≡ held_of (planning_on ground.now) }
@@ -105,36 +104,22 @@ fn plan_of(alloc: Global, ground: &Ground, held: &Stocks) -> Result<case_plan::O
     let on_hand = cost_of(case, &ground.on_hand);
     match ground.terms.objective {
         Objective::Backorders => {
-            plan_case(alloc, case, rates, held, &Plain, budget, false, on_hand)
+            let asked = case_plan::Terms {
+                budget,
+                loss: false,
+                on_hand,
+            };
+            plan_case(alloc, case, rates, held, &Plain, asked)
         }
         Objective::LogAvailability => {
-            plan_case(alloc, case, rates, held, &LogLoss, budget, true, on_hand)
+            let asked = case_plan::Terms {
+                budget,
+                loss: true,
+                on_hand,
+            };
+            plan_case(alloc, case, rates, held, &LogLoss, asked)
         }
     }
-}
-
-/// The write of the certificate that carries the claims of a ground's plan, under this name.
-fn certified(
-    alloc: Global,
-    ground: Ground,
-    held: &Stocks,
-    claims: PlanClaims,
-    name: &Text,
-) -> Result<Written, NoMemory>
-    requires ground { IsGround ground }
-    requires held { held.now ≡ held_of (planning_on ground) }
-    requires claims { AreClaims ground.given.case claims }
-    ensures certified { IfOk result (λ written. IsCertified (planning_on ground) claims written.bytes) }
-    ensures name { IfOk result (λ written. written.name ≡ name.now) }
-{
-    let Ground {
-        given,
-        on_hand,
-        terms,
-    } = ground;
-    let certificate = certificate(alloc, given.case, held, terms, claims)?;
-    let bytes = certificate_text(alloc, certificate, on_hand)?;
-    Written::new(alloc, name, bytes)
 }
 
 /// The outcome of a ground's plan: its report, and the text of its certificate under this name.
@@ -150,16 +135,16 @@ fn certified_outcome(
     requires plan { IsPlanFor ground plan }
     ensures { IfOk result (IsMade (Is (Ok (make_plan (planning_on ground) name.now)))) }
 {
-    let claims = PlanClaims {
-        stocks: plan.stocks,
-        price: plan.price,
-        floors: plan.floors,
-        upper: plan.upper,
-        bound: plan.report.bound,
-    };
-    let written = certified(alloc, ground, held, claims, name)?;
+    let Ground {
+        given,
+        on_hand,
+        terms,
+    } = ground;
+    let made = certificate(alloc, given.case, held, terms, plan)?;
+    let bytes = certificate_text(alloc, made.certificate, on_hand)?;
+    let written = Written::new(alloc, name, bytes)?;
     Ok(Outcome {
-        done: Done::Planned(plan.report),
+        done: Done::Planned(made.report),
         writes: Some(written),
     })
 }

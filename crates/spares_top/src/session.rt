@@ -4,14 +4,13 @@
 //! - Refuses, in this order: the first fault of the tables; too much work; the first line of the edits that is wrong or
 //!   whose plan isn't made.
 //! - Makes the report of all plans.
-ghost use Rattle.spares_top.specs.Given.{bytes_of};
+ghost use Rattle.order_inputs.specs.Given.{bytes_of};
 ghost use Rattle.spares_top.specs.Making.{Is, MakesBy};
 ghost use Rattle.spares_top.specs.Task.{session_task};
 
-use crate::cases::case_to_edit;
 use crate::done::{Done, Outcome};
-use crate::tables::Tables;
 use answers::Stop;
+use order_inputs::{Tables, case_to_edit};
 use plan_session::run_edits;
 use refusals::{Failure, Refusal};
 use std::alloc::Global;

@@ -8,17 +8,16 @@ ghost use Rattle.budget_sweep.specs.Cases.{IsCaseSweep};
 ghost use Rattle.budget_sweep.specs.Fits.{SweepFits};
 ghost use Rattle.family_points.specs.Points.{plain_ends};
 ghost use Rattle.spares_input.specs.Stocks.{nothing_held};
-ghost use Rattle.spares_top.specs.Given.{CanPlan, bytes_of};
+ghost use Rattle.order_inputs.specs.Given.{CanPlan, bytes_of};
 ghost use Rattle.spares_top.specs.Making.{Is, MakesBy};
 ghost use Rattle.spares_top.specs.Task.{sweep_task};
 
-use crate::cases::case_within_work;
 use crate::curves::curves_of;
 use crate::done::{Done, Outcome};
-use crate::tables::Tables;
 use answers::{NoMemory, Stop};
 use budget_sweep::SweepReport;
 use case_tables::Accepted;
+use order_inputs::{Tables, case_within_work};
 use refusals::Failure;
 use std::alloc::Global;
 

@@ -8,18 +8,17 @@ ghost use Rattle.budget_sweep.specs.Cases.{IsCaseTarget};
 ghost use Rattle.budget_sweep.specs.Fits.{TargetFits};
 ghost use Rattle.family_points.specs.Points.{plain_ends};
 ghost use Rattle.spares_input.specs.Stocks.{nothing_held};
-ghost use Rattle.spares_top.specs.Given.{CanPlan, bytes_of};
+ghost use Rattle.order_inputs.specs.Given.{CanPlan, bytes_of};
 ghost use Rattle.spares_top.specs.Making.{Is, MakesBy};
 ghost use Rattle.spares_top.specs.Task.{target_task};
 
-use crate::cases::case_within_work;
 use crate::curves::curves_of;
 use crate::done::{Done, Outcome};
-use crate::tables::Tables;
 use answers::{NoMemory, Stop};
 use budget_sweep::TargetReport;
 use case_tables::Accepted;
 use exact_ratio::Decimal;
+use order_inputs::{Tables, case_within_work};
 use refusals::Failure;
 use std::alloc::Global;
 

@@ -1,8 +1,9 @@
 //! An order, from the shelf to the output.
 ghost use Rattle.std.specs.Prelude.{◌≡◌, [], Ok};
 ghost use Rattle.spares_words.specs.Order.{IsInRange, order_of};
-ghost use Rattle.spares_top.specs.Files.{StandStill, inputs};
-ghost use Rattle.spares_top.specs.Making.{AreWithin, ComesOf, Is, MakesBy};
+ghost use Rattle.order_inputs.specs.Files.{StandStill, inputs};
+ghost use Rattle.order_inputs.specs.Reading.{AreWithin};
+ghost use Rattle.spares_top.specs.Making.{ComesOf, Is, MakesBy};
 ghost use Rattle.spares_top.specs.Promises.{Performs};
 ghost use Rattle.spares_top.specs.State.{scene};
 ghost use Rattle.spares_top.specs.Task.{task_on};
@@ -13,14 +14,13 @@ use crate::deliver::deliver;
 use crate::demo::demo;
 use crate::done::{Done, Outcome};
 use crate::eval::eval;
-use crate::files::files_of;
-use crate::given::{fourth_if, table_at, tables_of};
 use crate::plan::plan;
 use crate::session::session;
 use crate::single::single;
 use crate::sweep::sweep;
 use crate::target::target;
 use answers::{List, Stop};
+use order_inputs::{files_of, fourth_if, table_at, tables_of};
 use price_certificate::Terms;
 use refusals::{Failure, Refusal, failure_of};
 use spares_io::{Shelf, Sink, Text};

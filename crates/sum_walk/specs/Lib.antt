@@ -1,2 +1,5 @@
+pub mod Lanes
+pub mod Order
+pub mod Passed
+pub mod Steps
 pub mod Sums
-pub mod Walks

@@ -4,4 +4,8 @@
 //! of each curve; a walk that always takes the steepest step passes every sum that is a vertex.
 #![tactic(auto)]
 
+mod lanes;
+mod order;
+mod passed;
+mod sums;
 pub mod walk;

@@ -1,15 +1,23 @@
-//! Certificates made again from their claims, against those of another program.
+//! Certificates of plans, against those of another program.
 
-ghost use Rattle.std.specs.Prelude.{◌≡◌, ◌≤◌, IfOk};
+ghost use Rattle.std.specs.Prelude.{◌≡◌, ◌≤◌, IfOk, IfSome};
+ghost use Rattle.demand_rates.specs.Rates.{AreRatesOf};
 ghost use Rattle.price_certificate.specs.declared.certificate.Objective.TheVariants.{Backorders};
 ghost use Rattle.price_certificate.specs.Certificates.{IsWellFormed};
-ghost use Rattle.certified_plan.specs.Inputs.{IsHeld};
+ghost use Rattle.certified_plan.specs.Inputs.{AreTerms, IsHeld, IsPlanOn, IsWithinWork};
 
 use answers::NoMemory;
-use certified_plan::{PlanClaims, certificate, certificate_text};
+use case_plan::Outcome;
+use certified_plan::{certificate, certificate_text};
+use demand_rates::kinds::Rates;
+use demand_rates::rates;
 use held_certificate::HeldCertificate;
+use held_work::held_work;
+use hull::Plain;
+use log_loss::LogLoss;
+use on_hand::plan_case;
 use price_certificate::{Certificate, Objective, Terms};
-use spares_input::{Stocks, nothing_held};
+use spares_input::{Case, Stocks, nothing_held};
 use std::alloc::Global;
 use std::test::*;
 
@@ -40,36 +48,62 @@ B,base,12,10.00\nparts,1\nL,,100,1,2,9\nrates,2\nL,D,,,,20.00\nL,B,36.5000,0.000
 price,99295395889294,100\nfloors,1\n38777727955461700\ncovers,1\ncover,3\nsplit,1,5\nwhole\ncost\nstocks,2\n0\n3\n\
 upper,189186487776046\nbound,139538789831382\nend\nheld,2\n0\n1\nend\n";
 
-/// The certificate of the same claims on the same terms, in this format.
-fn remade(
+/// The plan of a case from held stocks on these terms.
+fn plan_on(
     alloc: Global,
-    read: Certificate,
+    case: &Case,
+    rates: &Rates,
     held: &Stocks,
-    format: u8,
-) -> Result<Certificate, NoMemory>
+    terms: Terms,
+) -> Result<Outcome, NoMemory>
+    requires rates { AreRatesOf case.now rates.now }
+    requires held { IsHeld case.now held.now }
+    requires work { IsWithinWork case.now held.now.list }
+    requires terms { AreTerms terms }
+    ensures { IfOk result (IsPlanOn case.now held.now terms) }
+{
+    let _valid = case.site_count();
+    let asked = case_plan::Terms {
+        budget: terms.budget,
+        loss: false,
+        on_hand: None,
+    };
+    match terms.objective {
+        Objective::Backorders => plan_case(alloc, case, rates, held, &Plain, asked),
+        Objective::LogAvailability => plan_case(alloc, case, rates, held, &LogLoss, asked),
+    }
+}
+
+/// The certificate of the plan from held stocks of a certificate's case, under its budget and objective, in this
+/// format.
+fn remade(alloc: Global, read: Certificate, held: &Stocks, format: u8) -> Option<Certificate>
     requires formed { IsWellFormed read }
     requires held { IsHeld read.case held.now }
     requires fewest { 1 ≤ format }
     requires most { format ≤ 2 }
     requires first { format ≡ 1 → read.objective ≡ Backorders }
-    ensures formed { IfOk result IsWellFormed }
-    ensures case { IfOk result (λ cert. cert.case ≡ read.case) }
-    ensures format { IfOk result (λ cert. cert.format ≡ format) }
+    ensures formed { IfSome result IsWellFormed }
+    ensures case { IfSome result (λ cert. cert.case ≡ read.case) }
+    ensures format { IfSome result (λ cert. cert.format ≡ format) }
 {
-    let _valid = read.case.site_count();
     let terms = Terms {
         budget: read.budget,
         format,
         objective: read.objective,
     };
-    let claims = PlanClaims {
-        stocks: read.stocks,
-        price: read.price,
-        floors: read.floors,
-        upper: read.upper,
-        bound: read.bound,
+    let Ok(rates) = rates(alloc, &read.case) else {
+        return None;
     };
-    certificate(alloc, read.case, held, terms, claims)
+    if held_work(&read.case, held).is_err() {
+        return None;
+    }
+    let Ok(plan) = plan_on(alloc, &read.case, &rates, held, terms) else {
+        return None;
+    };
+    let Ok(made) = certificate(alloc, read.case, held, terms, plan) else {
+        return None;
+    };
+    Some(made.certificate)
 }
 
 /// The text of this certificate, made again in this format with nothing held.
@@ -86,7 +120,7 @@ fn again(alloc: Global, bytes: &[u8], format: u8) -> Option<Vec<u8>> {
     let Ok(held) = nothing_held(alloc, &read.case) else {
         return None;
     };
-    let Ok(certificate) = remade(alloc, read, &held, format) else {
+    let Some(certificate) = remade(alloc, read, &held, format) else {
         return None;
     };
     certificate_text(alloc, certificate, None).ok()
@@ -101,7 +135,7 @@ fn held_again(alloc: Global, bytes: &[u8]) -> Option<Vec<u8>> {
         return None;
     };
     let HeldCertificate { certificate, held } = read;
-    let Ok(certificate) = remade(alloc, certificate, &held, 2) else {
+    let Some(certificate) = remade(alloc, certificate, &held, 2) else {
         return None;
     };
     certificate_text(alloc, certificate, Some(held)).ok()

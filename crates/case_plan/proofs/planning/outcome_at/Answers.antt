@@ -1,5 +1,4 @@
 use Rattle.std.proofs.Common.{refl, arith}
-use Rattle.case_plan.specs.Report.{Terms}
 use Rattle.case_plan.proofs.ChosenFacts.{evaluable}
 use Rattle.case_plan.proofs.Whole.{case_outcome, made}
 use Rattle.case_plan.proofs.planning.outcome_at.Goals as goal
@@ -15,13 +14,11 @@ line_of-requires c = c.requires.fits.critical
 
 pub returns-clause-chosen : goal.returns-clause-chosen
 returns-clause-chosen c =
-    let terms : Terms = record { budget = c.args.budget; loss = c.args.loss; on_hand = c.args.on_hand } in
-    made c.args.case.now terms c.args.chosen c.of.result c.in_ok-figures.figures c.aim_of.result c.line_of.result
+    made c.args.case.now c.args.terms c.args.chosen c.of.result c.in_ok-figures.figures c.aim_of.result c.line_of.result
     c.of.ensures c.in_ok-figures.ensures.figures c.aim_of.ensures c.line_of.ensures
 
 pub returns-clause-case : goal.returns-clause-case
 returns-clause-case c = λ curves chosen.
-    (let terms : Terms = record { budget = c.args.budget; loss = c.args.loss; on_hand = c.args.on_hand } in
-    let is = made c.args.case.now terms c.args.chosen c.of.result c.in_ok-figures.figures c.aim_of.result c.line_of.result
+    (let is = made c.args.case.now c.args.terms c.args.chosen c.of.result c.in_ok-figures.figures c.aim_of.result c.line_of.result
     c.of.ensures c.in_ok-figures.ensures.figures c.aim_of.ensures c.line_of.ensures in
-    case_outcome c.args.case.now curves terms c.args.chosen _ c.site_count-sites.ensures.valid c.requires.fits chosen is)
+    case_outcome c.args.case.now curves c.args.terms c.args.chosen _ c.site_count-sites.ensures.valid c.requires.fits chosen is)

@@ -7,7 +7,7 @@ use Rattle.certified_plan.proofs.certifying.certificate.Goals as goal
 pub returns-clause-formed : goal.returns-clause-formed
 returns-clause-formed c =
     let terms = c.args.terms in
-    let claims = c.args.claims in
-    subst (λ (z : List (List Node)). IsWellFormed (record { format = terms.format; objective = terms.objective; case = c.args.case; budget = terms.budget; price = claims.price; floors = claims.floors; covers = z; stocks = claims.stocks; upper = claims.upper; bound = claims.bound }))
+    let plan = c.args.plan in
+    subst (λ (z : List (List Node)). IsWellFormed (record { format = terms.format; objective = terms.objective; case = c.args.case; budget = terms.budget; price = plan.price; floors = plan.floors; covers = z; stocks = plan.stocks; upper = plan.upper; bound = plan.report.bound }))
     (sym c.in_ok-covers.ensures)
-    (well_formed c.args.case c.args.held.now terms claims c.site_count-valid.ensures.valid c.requires.held c.requires.terms c.requires.claims)
+    (well_formed c.args.case c.args.held.now terms plan c.requires)

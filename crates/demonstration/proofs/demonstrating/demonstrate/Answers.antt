@@ -2,22 +2,12 @@ use Rattle.std.proofs.Common.{ℕ, ◌*◌, ap, subst, sym}
 use Rattle.certified_plan.specs.Inputs.{AreTerms}
 use Rattle.demonstration.specs.Demonstrations.{IsDemonstrated, demo_terms}
 use Rattle.plan_report.specs.Fits.{FitsSummary}
-use Rattle.demonstration.proofs.Told.{after_call, are_terms, demo_work, is_demonstrated, sums_fit}
+use Rattle.demonstration.proofs.Told.{after_call, are_terms, demo_work, is_demonstrated, on_plan, sums_fit}
 use Rattle.demonstration.proofs.demonstrating.demonstrate.Goals as goal
 
 pub plan_case-requires-clause-work : goal.plan_case-requires-clause-work
 plan_case-requires-clause-work c =
     demo_work c.args.number c.args.lines c.in_ok-case.case c.in_ok-held.held c.requires.few c.in_ok-case.ensures.case c.in_ok-held.ensures.held
-
-pub confirm_plan-requires-clause-terms : goal.confirm_plan-requires-clause-terms
-confirm_plan-requires-clause-terms c =
-    subst (λ (n : ℕ). AreTerms (demo_terms (2000 * n))) (sym c.from-budget.ensures) (are_terms c.args.lines c.requires.few)
-
-pub confirm_plan-requires-clause-rates : goal.confirm_plan-requires-clause-rates
-confirm_plan-requires-clause-rates c = c.in_ok-case.ensures.rates.no_fault
-
-pub confirm_plan-requires-clause-held : goal.confirm_plan-requires-clause-held
-confirm_plan-requires-clause-held c = record { is_for = c.in_ok-held.ensures.whole; limits = c.in_ok-held.ensures.limits }
 
 pub confirm_plan-requires-clause-nothing : goal.confirm_plan-requires-clause-nothing
 confirm_plan-requires-clause-nothing c = c.in_ok-held.ensures.held
@@ -27,7 +17,11 @@ confirm_plan-requires-clause-work c =
     demo_work c.args.number c.args.lines c.in_ok-case.case c.in_ok-held.held c.requires.few c.in_ok-case.ensures.case c.in_ok-held.ensures.held
 
 pub confirm_plan-requires-clause-plan : goal.confirm_plan-requires-clause-plan
-confirm_plan-requires-clause-plan c = c.in_ok-plan.ensures
+confirm_plan-requires-clause-plan c =
+    on_plan c.in_ok-case.case c.in_ok-held.held (2000 * c.from-budget.result)
+    (subst (λ (n : ℕ). AreTerms (demo_terms (2000 * n))) (sym c.from-budget.ensures) (are_terms c.args.lines c.requires.few))
+    c.part_count-parts.ensures.valid c.in_ok-case.ensures.rates.no_fault (record { is_for = c.in_ok-held.ensures.whole; limits = c.in_ok-held.ensures.limits })
+    c.in_ok-plan.plan c.in_ok-plan.ensures
 
 pub returns-clause-summary : goal.returns-clause-summary
 returns-clause-summary c =

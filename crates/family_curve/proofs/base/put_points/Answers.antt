@@ -28,7 +28,7 @@ loop-n-init g c =
     let here = c.args.here.now in
     let x = here.family.now in
     let first = c.index-first.result.now in
-    let p : List Point = choice_point x g.S.Score.ends here.depot.now here.site.0 first ∷ [] in
+    let p : List Point = choice_point g.S.Score.ends x here.depot.now here.site.0 first ∷ [] in
     let chain : c.begin_with.new.self ≡ p = c.begin_with.ensures ∙ ap (λ (q : Point). q ∷ []) c.spot_at.ensures in
     record {
       stands = stands_on x here.site.0 here.base.now.order.items c.requires.here.base.order g.S.Score.ends here.depot.now 0 first [] c.begin_with.new.self c.requires.some
@@ -75,5 +75,5 @@ returns-clause-stands g c =
     let here = c.args.here.now in
     let order = here.base.now.order.items in
     let all : length order ≤ c.loop-n.n = omega (arith, c.loop-n-test.false, c.len-n-end.ensures, here.base.now.order.ok.0) in
-    subst (λ (l : List Choice). StandFor (map (choice_point here.family.now g.S.Score.ends here.depot.now here.site.0) l) c.loop-n.chain) (take_all c.loop-n.n order all)
+    subst (λ (l : List Choice). StandFor (map (choice_point g.S.Score.ends here.family.now here.depot.now here.site.0) l) c.loop-n.chain) (take_all c.loop-n.n order all)
     c.loop-n.invariant.stands

@@ -14,7 +14,7 @@ pub walk-requires-clause-some : goal.walk-requires-clause-some
 walk-requires-clause-some g c =
     omega (
       arith,
-      ap length c.as_slice.ensures.value,
+      ap length c.as_slice-chains.ensures.value,
       c.in_ok-put_curves.ensures.work,
       bases_long c.args.sources.now.family.now c.args.sources.now.bases.items c.requires.sources.bases,
       c.sites-sites.ensures.sites,
@@ -25,7 +25,7 @@ pub walk-requires-clause-few : goal.walk-requires-clause-few
 walk-requires-clause-few g c =
     omega (
       arith,
-      ap length c.as_slice.ensures.value,
+      ap length c.as_slice-chains.ensures.value,
       c.in_ok-put_curves.ensures.work,
       bases_long c.args.sources.now.family.now c.args.sources.now.bases.items c.requires.sources.bases,
       c.sites-sites.ensures.sites,
@@ -36,11 +36,11 @@ pub returns-clause-stands : goal.returns-clause-stands
 returns-clause-stands g c =
     let x = c.args.sources.now.family.now in
     let below = c.args.below.now in
-    let points : List Point = depot_points x.case x.line g.S.Score.ends x.held x.low x.high c.args.depot.now in
-    let all : List Point = sums_of_each (c.in_ok-first.first ∷ []) c.as_slice.result.now in
+    let points : List Point = depot_points g.S.Score.ends x c.args.depot.now in
+    let all : List Point = sums_of_each (c.in_ok-first.first ∷ []) c.as_slice-chains.result.now in
     let stand : StandFor points all =
-    subst (λ (p : Point). StandFor points (sums_of_each (p ∷ []) c.as_slice.result.now)) (sym c.in_ok-first.ensures.point)
-    (subst (λ (ls : List (List Point)). StandFor points (sums_of_each (depot_point x.case x.line x.held c.args.depot.now ∷ []) ls)) (sym c.as_slice.ensures.value)
+    subst (λ (p : Point). StandFor points (sums_of_each (p ∷ []) c.as_slice-chains.result.now)) (sym c.in_ok-first.ensures.point)
+    (subst (λ (ls : List (List Point)). StandFor points (sums_of_each (depot_point x c.args.depot.now ∷ []) ls)) (sym c.as_slice-chains.ensures.value)
     c.in_ok-put_curves.ensures.stands) in
     IfOk-weaker c.walk.result (λ path. StandFor (below ++ all) (below ++ path.items)) (λ path. StandFor (below ++ points) (below ++ path.items))
     (λ path passed. stand_trans (below ++ points) (below ++ all) (below ++ path.items) (stand_for_both below points below all (stand_self below) stand) passed) c.walk.ensures.stands
@@ -48,20 +48,20 @@ returns-clause-stands g c =
 pub returns-clause-among : goal.returns-clause-among
 returns-clause-among g c =
     let x = c.args.sources.now.family.now in
-    let points : List Point = depot_points x.case x.line g.S.Score.ends x.held x.low x.high c.args.depot.now in
-    let all : List Point = sums_of_each (c.in_ok-first.first ∷ []) c.as_slice.result.now in
+    let points : List Point = depot_points g.S.Score.ends x c.args.depot.now in
+    let all : List Point = sums_of_each (c.in_ok-first.first ∷ []) c.as_slice-chains.result.now in
     let stand : StandFor points all =
-    subst (λ (p : Point). StandFor points (sums_of_each (p ∷ []) c.as_slice.result.now)) (sym c.in_ok-first.ensures.point)
-    (subst (λ (ls : List (List Point)). StandFor points (sums_of_each (depot_point x.case x.line x.held c.args.depot.now ∷ []) ls)) (sym c.as_slice.ensures.value)
+    subst (λ (p : Point). StandFor points (sums_of_each (p ∷ []) c.as_slice-chains.result.now)) (sym c.in_ok-first.ensures.point)
+    (subst (λ (ls : List (List Point)). StandFor points (sums_of_each (depot_point x c.args.depot.now ∷ []) ls)) (sym c.as_slice-chains.ensures.value)
     c.in_ok-put_curves.ensures.stands) in
     IfOk-weaker c.walk.result (λ path. (v : Point) → Among v path.items → Among v all) (λ path. (v : Point) → Among v path.items → Among v points)
     (λ path among v m. stand.among v (among v m)) c.walk.ensures.among
 
 pub returns-clause-few : goal.returns-clause-few
 returns-clause-few g c =
-    let most : 1 + sum_by length c.as_slice.result.now ≤ vertex_count c.args.sources.now.family.now =
-    subst (λ (ls : List (List Point)). 1 + sum_by length ls ≤ vertex_count c.args.sources.now.family.now) (sym c.as_slice.ensures.value) c.in_ok-put_curves.ensures.few in
-    IfOk-weaker c.walk.result (λ path. length path.items ≤ 1 + sum_by length c.as_slice.result.now) (λ path. length path.items ≤ vertex_count c.args.sources.now.family.now)
+    let most : 1 + sum_by length c.as_slice-chains.result.now ≤ vertex_count c.args.sources.now.family.now =
+    subst (λ (ls : List (List Point)). 1 + sum_by length ls ≤ vertex_count c.args.sources.now.family.now) (sym c.as_slice-chains.ensures.value) c.in_ok-put_curves.ensures.few in
+    IfOk-weaker c.walk.result (λ path. length path.items ≤ 1 + sum_by length c.as_slice-chains.result.now) (λ path. length path.items ≤ vertex_count c.args.sources.now.family.now)
     (λ path few. omega (arith, few, most)) c.walk.ensures.few
 
 pub put_curves-requires-clause-sources : goal.put_curves-requires-clause-sources

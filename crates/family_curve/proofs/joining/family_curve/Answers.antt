@@ -1,7 +1,6 @@
 use Rattle.std.proofs.Common.{◌*◌, ◌≤◌, IfOk, sym, subst}
 use Rattle.hull.specs.Curves.{IsCurve}
-use Rattle.family_points.specs.Inputs.{FamilyBox, vector_count, vertex_count}
-use Rattle.family_points.specs.Points.{points_within}
+use Rattle.family_points.specs.Inputs.{FamilyBox, box_points, vector_count, vertex_count}
 use Rattle.family_curve.proofs.joining.family_curve.Goals as goal
 
 pub curve_of-requires-clause-room : goal.curve_of-requires-clause-room
@@ -9,4 +8,4 @@ curve_of-requires-clause-room g c = subst (λ (x : FamilyBox). vector_count x 0 
 
 pub returns : goal.returns
 returns g c =
-    subst (λ (x : FamilyBox). IfOk c.curve_of.result (IsCurve (points_within x.case x.line g.S.Score.ends x.held x.low x.high))) c.in_ok-sources.ensures.family c.curve_of.ensures
+    subst (λ (x : FamilyBox). IfOk c.curve_of.result (IsCurve (box_points g.S.Score.ends x))) c.in_ok-sources.ensures.family c.curve_of.ensures

@@ -20,7 +20,7 @@ use Rattle.family_curve.proofs.joining.put_curves.Goals as goal
 pub loop-j-init : goal.loop-j-init
 loop-j-init g c =
     let x = c.args.sources.now.family.now in
-    let first : List Point = depot_point x.case x.line x.held c.args.depot.now ∷ [] in
+    let first : List Point = depot_point x c.args.depot.now ∷ [] in
     record {
       stands = stand_self first;
       few = omega arith;
@@ -90,15 +90,15 @@ loop-j-preserved g c =
     let put : List (List Point) = set chains (c.from-place.result - 1) chain in
     let made : take (j + 1 - 1) put ≡ take (j - 1) chains ++ chain ∷ [] =
     ap (λ n. take n put) next ∙ ap (λ n. take (j - 1 + 1) (set chains (n - 1) chain)) c.from-place.ensures ∙ take_more_set chains (j - 1) chain inside in
-    let curve : IsCurve (base_points x.case x.line ends x.held x.low x.high d j) chain =
-    subst (λ k. IsCurve (base_points x.case x.line ends x.held x.low x.high d k) chain) c.of-here.ensures.site
-    (subst (λ (v : List ℕ). IsCurve (base_points x.case x.line ends x.held x.low x.high v here.site.0) chain) c.of-here.ensures.depot
-    (subst (λ (y : FamilyBox). IsCurve (base_points y.case y.line ends y.held y.low y.high here.depot.now here.site.0) chain) c.of-here.ensures.family c.in_ok-put_curve.ensures.curve)) in
+    let curve : IsCurve (base_points ends x d j) chain =
+    subst (λ k. IsCurve (base_points ends x d k) chain) c.of-here.ensures.site
+    (subst (λ (v : List ℕ). IsCurve (base_points ends x v here.site.0) chain) c.of-here.ensures.depot
+    (subst (λ (y : FamilyBox). IsCurve (base_points ends y here.depot.now here.site.0) chain) c.of-here.ensures.family c.in_ok-put_curve.ensures.curve)) in
     let few : length chain ≤ vector_count x j =
     subst (λ k. length chain ≤ vector_count x k) c.of-here.ensures.site
     (subst (λ (y : FamilyBox). length chain ≤ vector_count y here.site.0) c.of-here.ensures.family c.in_ok-put_curve.ensures.few) in
     record {
-      stands = base_more x c.size-size.ensures.valid ends g.met.S.Score.leaves_room d c.requires.depot (depot_point x.case x.line x.held d) j (take (j - 1) chains) (take (j + 1 - 1) put) chain on
+      stands = base_more x c.size-size.ensures.valid ends g.met.S.Score.leaves_room d c.requires.depot (depot_point x d) j (take (j - 1) chains) (take (j + 1 - 1) put) chain on
           c.loop-j.invariant.stands curve made;
       few = omega (arith, few, over_count_more x j c.loop-j.auto.j, c.loop-j.invariant.few, ap (sum_by length) made, lengths_one_more (take (j - 1) chains) chain);
       count = simp length-set c.loop-j.invariant.count;
@@ -113,8 +113,8 @@ pub returns-clause-stands : goal.returns-clause-stands
 returns-clause-stands g c =
     let x = c.args.sources.now.family.now in
     let d = c.args.depot.now in
-    let first : List Point = depot_point x.case x.line x.held d ∷ [] in
-    let over : ℕ → List Point = λ n. points_over x.case x.line g.S.Score.ends x.held x.low x.high d (range_with_len 1 n) in
+    let first : List Point = depot_point x d ∷ [] in
+    let over : ℕ → List Point = λ n. points_over g.S.Score.ends x d (range_with_len 1 n) in
     let last : c.loop-j.j - 1 ≡ length x.case.sites - 1 =
     omega (arith, c.loop-j-test.false, c.loop-j.auto.j-end (omega (arith, c.sites-j-end.ensures.fewest)), c.sites-j-end.ensures.sites) in
     subst (λ n. StandFor (over n) (sums_of_each first c.loop-j.work.chains.items)) last

@@ -24,7 +24,7 @@ pub loop-n-init : goal.loop-n-init
 loop-n-init g c =
     let x = c.args.sources.now.family.now in
     let all : List (List ℕ) = shop_vectors x 0 in
-    let at : List ℕ → List Point = depot_points x.case x.line g.S.Score.ends x.held x.low x.high in
+    let at : List ℕ → List Point = depot_points g.S.Score.ends x in
     let own : List ℕ → List Point = λ d. flat_map (λ s. at (s ∷ d)) (line_stocks x 0) in
     let some : 0 < length all = omega (arith, c.shop_count-count.ensures.some, c.shop_count-count.ensures.count) in
     let first : List ℕ = get_or all (c.shop_count-count.result - 1) [] in
@@ -48,7 +48,7 @@ loop-n-preserved g c =
     let x = c.args.sources.now.family.now in
     let n = c.loop-n.n in
     let all : List (List ℕ) = shop_vectors x 0 in
-    let at : List ℕ → List Point = depot_points x.case x.line g.S.Score.ends x.held x.low x.high in
+    let at : List ℕ → List Point = depot_points g.S.Score.ends x in
     let own : List ℕ → List Point = λ d. flat_map (λ s. at (s ∷ d)) (line_stocks x 0) in
     let stocks : List ℕ = get_or all (c.shop_count-count.result - 1 - n) [] in
     let made : List Point = c.in_ok-curve-2.curve in

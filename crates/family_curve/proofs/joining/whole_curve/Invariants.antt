@@ -8,7 +8,7 @@ use Rattle.family_curve.proofs.joining.whole_curve.Given as goal
 abbrev pub invariant-loop-n : goal.invariant-loop-n
 invariant-loop-n g l = record {
   few : length l.curve ≤ l.n * (length (line_stocks l.sources.family.now 0) * vertex_count l.sources.family.now);
-  curve : IsCurve (flat_map (λ d. flat_map (λ s. depot_points l.sources.family.now.case l.sources.family.now.line g.S.Score.ends l.sources.family.now.held l.sources.family.now.low l.sources.family.now.high (s ∷ d)) (line_stocks l.sources.family.now 0)) (drop (length (shop_vectors l.sources.family.now 0) - l.n) (shop_vectors l.sources.family.now 0))) l.curve;
+  curve : IsCurve (flat_map (λ d. flat_map (λ s. depot_points g.S.Score.ends l.sources.family.now (s ∷ d)) (line_stocks l.sources.family.now 0)) (drop (length (shop_vectors l.sources.family.now 0) - l.n) (shop_vectors l.sources.family.now 0))) l.curve;
   work : length l.work.chains.items ≡ length l.sources.bases.items;
   widths : HaveWidthOf l.sources.family.now l.curve;
 }

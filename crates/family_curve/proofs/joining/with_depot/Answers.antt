@@ -33,7 +33,7 @@ returns-in_default-clause-curve g c =
     let d = c.args.depot.now in
     let ends = g.S.Score.ends in
     let room = g.met.S.Score.leaves_room in
-    let points : List Point = depot_points x.case x.line ends x.held x.low x.high d in
+    let points : List Point = depot_points ends x d in
     subst (λ (o : Option (List Point)). IsCurve (vertices_of o ++ points) c.in_ok-curve.curve) (sym c.in_default.is)
     (stand_for points c.in_ok-path.path.items c.in_ok-curve.curve c.in_ok-path.ensures.stands c.in_ok-curve.ensures.curve)
 
@@ -77,7 +77,7 @@ returns-then-is_empty-clause-curve g c =
     let ends = g.S.Score.ends in
     let room = g.met.S.Score.leaves_room in
     let curve : List Point = c.in-Some.curve in
-    let points : List Point = depot_points x.case x.line ends x.held x.low x.high d in
+    let points : List Point = depot_points ends x d in
     let stands : StandFor (curve ++ points) (curve ++ c.in_ok-path-2.path.items) =
     subst (λ (l : List Point). StandFor (l ++ points) (l ++ c.in_ok-path-2.path.items)) c.vertices-below.ensures.vertices c.in_ok-path-2.ensures.stands in
     let none : c.in_ok-path-2.path.items ≡ [] = none_of c.in_ok-path-2.path.items c.in_ok-path-2.path.len c.is_empty.result c.in_ok-path-2.path.ok.0 c.is_empty.ensures c.if-is_empty.true in
@@ -91,7 +91,7 @@ returns-clause-curve g c =
     let ends = g.S.Score.ends in
     let room = g.met.S.Score.leaves_room in
     let curve : List Point = c.in-Some.curve in
-    let points : List Point = depot_points x.case x.line ends x.held x.low x.high d in
+    let points : List Point = depot_points ends x d in
     let stands : StandFor (curve ++ points) (curve ++ c.in_ok-path-2.path.items) =
     subst (λ (l : List Point). StandFor (l ++ points) (l ++ c.in_ok-path-2.path.items)) c.vertices-below.ensures.vertices c.in_ok-path-2.ensures.stands in
     subst (λ (o : Option (List Point)). IsCurve (vertices_of o ++ points) c.add_points.new.self) (sym c.in-Some.is)

@@ -22,7 +22,7 @@ with_depot-requires-clause-tables g c =
 pub returns-clause-curve : goal.returns-clause-curve
 returns-clause-curve g c =
     let x = c.args.sources.now.family.now in
-    subst (λ (v : List ℕ). IfOk c.with_depot.result (IsCurve (vertices_of c.args.so_far ++ depot_points x.case x.line g.S.Score.ends x.held x.low x.high v)))
+    subst (λ (v : List ℕ). IfOk c.with_depot.result (IsCurve (vertices_of c.args.so_far ++ depot_points g.S.Score.ends x v)))
     (c.as_slice.ensures.value ∙ c.in_ok-depot.ensures) c.with_depot.ensures.curve
 
 pub with_depot-requires-clause-sources : goal.with_depot-requires-clause-sources

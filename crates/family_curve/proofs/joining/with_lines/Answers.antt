@@ -26,7 +26,7 @@ pub loop-n-init : goal.loop-n-init
 loop-n-init g c =
     let x = c.args.sources.now.family.now in
     let so : List Point = vertices_of c.args.so_far in
-    let at : List ℕ → List Point = depot_points x.case x.line g.S.Score.ends x.held x.low x.high in
+    let at : List ℕ → List Point = depot_points g.S.Score.ends x in
     let own : ℕ → List Point = λ s. at (s ∷ c.args.shops.now) in
     let start : ℕ = middle c.line_low-low.result c.line_high-high.result in
     let begins : start ≡ run_start (line_low x 0) (line_high x 0) 1 =
@@ -57,7 +57,7 @@ loop-n-preserved g c =
     let d = c.args.shops.now in
     let n = c.loop-n.n in
     let so : List Point = vertices_of c.args.so_far in
-    let at : List ℕ → List Point = depot_points x.case x.line g.S.Score.ends x.held x.low x.high in
+    let at : List ℕ → List Point = depot_points g.S.Score.ends x in
     let own : ℕ → List Point = λ s. at (s ∷ d) in
     let s : ℕ = c.behind_middle-line.result in
     let order : line_low x 0 ≤ line_high x 0 = omega (arith, c.line_high-high.ensures.high, c.line_high-high.ensures.order) in
@@ -81,7 +81,7 @@ loop-n-preserved g c =
 pub returns-clause-curve : goal.returns-clause-curve
 returns-clause-curve g c =
     let x = c.args.sources.now.family.now in
-    let at : List ℕ → List Point = depot_points x.case x.line g.S.Score.ends x.held x.low x.high in
+    let at : List ℕ → List Point = depot_points g.S.Score.ends x in
     let own : ℕ → List Point = λ s. at (s ∷ c.args.shops.now) in
     let end : c.loop-n.n ≤ c.line_high-high.result - c.line_low-low.result + 1 = c.loop-n.auto.n-end (omega arith) in
     let last : c.loop-n.n ≡ suc (line_high x 0) - line_low x 0 =

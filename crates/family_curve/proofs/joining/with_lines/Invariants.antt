@@ -9,7 +9,7 @@ use Rattle.family_curve.proofs.joining.with_lines.Given as goal
 abbrev pub invariant-loop-n : goal.invariant-loop-n
 invariant-loop-n g l = record {
   few : length l.curve ≤ length (vertices_of l.fn.so_far) + l.n * vertex_count l.sources.family.now;
-  curve : IsCurve (vertices_of l.fn.so_far ++ flat_map (λ s. depot_points l.sources.family.now.case l.sources.family.now.line g.S.Score.ends l.sources.family.now.held l.sources.family.now.low l.sources.family.now.high (s ∷ l.shops)) (range_with_len (run_start (line_low l.sources.family.now 0) (line_high l.sources.family.now 0) l.n) l.n)) l.curve;
+  curve : IsCurve (vertices_of l.fn.so_far ++ flat_map (λ s. depot_points g.S.Score.ends l.sources.family.now (s ∷ l.shops)) (range_with_len (run_start (line_low l.sources.family.now 0) (line_high l.sources.family.now 0) l.n) l.n)) l.curve;
   work : length l.work.chains.items ≡ length l.sources.bases.items;
   widths : HaveWidthOf l.sources.family.now l.curve;
 }

@@ -15,7 +15,7 @@ with_lines-requires-clause-shops g c = subst (AreShopsAt c.args.sources.now.fami
 pub returns-clause-curve : goal.returns-clause-curve
 returns-clause-curve g c =
     let x = c.args.sources.now.family.now in
-    let own : List ℕ → List Point = λ d. flat_map (λ s. depot_points x.case x.line g.S.Score.ends x.held x.low x.high (s ∷ d)) (line_stocks x 0) in
+    let own : List ℕ → List Point = λ d. flat_map (λ s. depot_points g.S.Score.ends x (s ∷ d)) (line_stocks x 0) in
     subst (λ (d : List ℕ). IfOk c.with_lines.result (IsCurve (vertices_of c.args.so_far ++ own d)))
     (c.as_slice-shops.ensures.value ∙ c.in_ok-vector.ensures.vector) c.with_lines.ensures.curve
 

@@ -11,7 +11,7 @@ returns-then-not-branch g c =
     let x = c.args.sources.now.family.now in
     let p = c.args.price.p in
     let q = c.args.price.q in
-    let own : List ℕ → List Point = λ d. flat_map (λ s. depot_points x.case x.line g.S.Score.ends x.held x.low x.high (s ∷ d)) (line_stocks x 0) in
+    let own : List ℕ → List Point = λ d. flat_map (λ s. depot_points g.S.Score.ends x (s ∷ d)) (line_stocks x 0) in
     let stocks : List ℕ = get_or (shop_vectors x 0) c.loop-n.n [] in
     let inside : c.loop-n.n < length (shop_vectors x 0) = omega (arith, c.loop-n-test.true, c.shop_count-n-end.ensures.count) in
     let low : Decides p q c.args.floor (own stocks) false = subst (Decides p q c.args.floor (own stocks)) c.if-not-branch.true c.in_ok-shops_are_at_least.ensures in
@@ -23,7 +23,7 @@ loop-n-preserved g c =
     let x = c.args.sources.now.family.now in
     let p = c.args.price.p in
     let q = c.args.price.q in
-    let own : List ℕ → List Point = λ d. flat_map (λ s. depot_points x.case x.line g.S.Score.ends x.held x.low x.high (s ∷ d)) (line_stocks x 0) in
+    let own : List ℕ → List Point = λ d. flat_map (λ s. depot_points g.S.Score.ends x (s ∷ d)) (line_stocks x 0) in
     let stocks : List ℕ = get_or (shop_vectors x 0) c.loop-n.n [] in
     let inside : c.loop-n.n < length (shop_vectors x 0) = omega (arith, c.loop-n-test.true, c.shop_count-n-end.ensures.count) in
     let high : Decides p q c.args.floor (own stocks) true = subst (Decides p q c.args.floor (own stocks)) c.if-not-branch.false c.in_ok-shops_are_at_least.ensures in
@@ -32,7 +32,7 @@ loop-n-preserved g c =
 pub returns : goal.returns
 returns g c =
     let x = c.args.sources.now.family.now in
-    let own : List ℕ → List Point = λ d. flat_map (λ s. depot_points x.case x.line g.S.Score.ends x.held x.low x.high (s ∷ d)) (line_stocks x 0) in
+    let own : List ℕ → List Point = λ d. flat_map (λ s. depot_points g.S.Score.ends x (s ∷ d)) (line_stocks x 0) in
     decides_all x c.size-size.ensures.valid g.S.Score.ends c.args.price.p c.args.price.q c.args.floor true
     (shops_all c.args.price.p c.args.price.q c.args.floor own (shop_vectors x 0) c.loop-n.n (omega (arith, c.loop-n-test.false, c.shop_count-n-end.ensures.count)) c.loop-n.invariant)
 

@@ -35,7 +35,7 @@ returns-then-not-branch g c =
     let p = c.args.price.p in
     let q = c.args.price.q in
     let s : ℕ = c.loop-s.s in
-    let at : List ℕ → List Point = depot_points x.case x.line g.S.Score.ends x.held x.low x.high in
+    let at : List ℕ → List Point = depot_points g.S.Score.ends x in
     let low : line_low x 0 ≤ s = omega (arith, c.line_low-low.ensures, c.loop-s.auto.s) in
     let high : s ≤ line_high x 0 = omega (arith, c.line_high-high.ensures.high, c.loop-s-test.true) in
     let made : set c.loop-s.stocks 0 s ≡ s ∷ drop 1 c.args.stocks.now =
@@ -50,7 +50,7 @@ loop-s-preserved g c =
     let p = c.args.price.p in
     let q = c.args.price.q in
     let s : ℕ = c.loop-s.s in
-    let at : List ℕ → List Point = depot_points x.case x.line g.S.Score.ends x.held x.low x.high in
+    let at : List ℕ → List Point = depot_points g.S.Score.ends x in
     let low : line_low x 0 ≤ s = omega (arith, c.line_low-low.ensures, c.loop-s.auto.s) in
     let first : set c.loop-s.stocks 0 s ≡ s ∷ drop 1 c.loop-s.stocks = set_first c.loop-s.stocks s c.loop-s.invariant.some in
     let made : set c.loop-s.stocks 0 s ≡ s ∷ drop 1 c.args.stocks.now = first ∙ ap (λ (l : List ℕ). s ∷ l) c.loop-s.invariant.shops in
@@ -65,7 +65,7 @@ loop-s-preserved g c =
 pub returns : goal.returns
 returns g c =
     let x = c.args.sources.now.family.now in
-    let f : ℕ → List Point = λ s. depot_points x.case x.line g.S.Score.ends x.held x.low x.high (s ∷ drop 1 c.args.stocks.now) in
+    let f : ℕ → List Point = λ s. depot_points g.S.Score.ends x (s ∷ drop 1 c.args.stocks.now) in
     let end : c.loop-s.s ≤ c.line_high-high.result + 1 = c.loop-s.auto.s-end (omega (arith, c.line_low-low.ensures, c.line_high-high.ensures.high, c.line_high-high.ensures.order)) in
     let last : c.loop-s.s - line_low x 0 ≡ suc (line_high x 0) - line_low x 0 = omega (arith, c.loop-s-test.false, end, c.line_high-high.ensures.high) in
     decides_true c.args.price.p c.args.price.q c.args.floor (flat_map f (range_with_len (line_low x 0) (suc (line_high x 0) - line_low x 0)))
@@ -83,7 +83,7 @@ depot_is_at_least-requires-clause-price g c = c.requires.price
 pub loop-s-init : goal.loop-s-init
 loop-s-init g c =
     let x = c.args.sources.now.family.now in
-    let at : List ℕ → List Point = depot_points x.case x.line g.S.Score.ends x.held x.low x.high in
+    let at : List ℕ → List Point = depot_points g.S.Score.ends x in
     let none : c.line_low-low.result - line_low x 0 ≡ 0 = omega (arith, c.line_low-low.ensures) in
     record {
       least = subst (λ n. AreAtLeast c.args.price.p c.args.price.q c.args.floor (flat_map (λ s. at (s ∷ drop 1 c.args.stocks.now)) (range_with_len (line_low x 0) n))) (sym none)

@@ -2,7 +2,7 @@ use Rattle.std.proofs.Common.{◌≡◌, ◌∙◌, subst}
 use Rattle.std.specs.Prelude.{nat_le}
 use Rattle.std.proofs.lemmas.Result.{IfOk-weaker}
 use Rattle.hull.specs.Curves.{lagrangian}
-use Rattle.family_points.specs.Inputs.{FamilyBox}
+use Rattle.family_points.specs.Inputs.{FamilyBox, box_points}
 use Rattle.family_points.specs.Least.{Decides, least}
 use Rattle.family_points.specs.Points.{points_within}
 use Rattle.family_points.proofs.LeastPoints.{box_some}
@@ -16,11 +16,11 @@ returns g c =
     let b = c.args.bounds.now in
     let floor = c.args.floor in
     let x = c.in_ok-sources.sources.family.now in
-    IfOk-weaker c.all_are_at_least.result (Decides p q floor (points_within x.case x.line g.S.Score.ends x.held x.low x.high))
+    IfOk-weaker c.all_are_at_least.result (Decides p q floor (box_points g.S.Score.ends x))
     (λ answer. answer ≡ nat_le floor (least (lagrangian p q) (points_within c.args.case.now c.args.line.0 g.S.Score.ends b.held b.low b.high)))
     (λ answer decides. decided p q floor (points_within c.args.case.now c.args.line.0 g.S.Score.ends b.held b.low b.high) answer
-    (box_some c.args.case.now c.args.line.0 g.S.Score.ends p q b.held b.low b.high c.site_count-sites.ensures.valid c.requires.line c.requires.ordered)
-    (subst (λ (x : FamilyBox). Decides p q floor (points_within x.case x.line g.S.Score.ends x.held x.low x.high) answer)
+    (box_some c.args.case.now c.args.line.0 g.S.Score.ends b.held b.low b.high c.requires.ordered.low_least)
+    (subst (λ (x : FamilyBox). Decides p q floor (box_points g.S.Score.ends x) answer)
     (c.in_ok-sources.ensures.family ∙ c.of-family.ensures) decides)) c.all_are_at_least.ensures
 
 pub of-family-requires-clause-rates : goal.of-family-requires-clause-rates

@@ -30,7 +30,7 @@ loop-j-preserved g c =
     let ends = g.S.Score.ends in
     let here = c.base_of-here.result in
     let m = c.in_ok-least.field-0 in
-    let base : IsLeast p q (base_points x.case x.line ends x.held x.low x.high d j) m =
+    let base : IsLeast p q (base_points ends x d j) m =
     moved (λ (ps : List Point). IsLeast p q ps m) ends here.family.now x here.depot.now d here.site.0 j c.base_of-here.ensures.family c.base_of-here.ensures.depot c.base_of-here.ensures.site
     c.in_ok-least.ensures.least in
     record {
@@ -45,7 +45,7 @@ returns g c =
     let ends = g.S.Score.ends in
     let last : c.loop-j.j - 1 ≡ length x.case.sites - 1 =
     omega (arith, c.loop-j-test.false, c.loop-j.auto.j-end (omega (arith, c.sites-j-end.ensures.fewest)), c.sites-j-end.ensures.sites) in
-    subst (λ n. IsLeast c.args.price.p c.args.price.q (points_over x.case x.line ends x.held x.low x.high d (range_with_len 1 n)) c.loop-j.least) last c.loop-j.invariant.least
+    subst (λ n. IsLeast c.args.price.p c.args.price.q (points_over ends x d (range_with_len 1 n)) c.loop-j.least) last c.loop-j.invariant.least
 
 pub least_at_base-requires-clause-here : goal.least_at_base-requires-clause-here
 least_at_base-requires-clause-here g c = c.base_of-here.ensures.is

@@ -6,6 +6,6 @@ use Rattle.family_floors.proofs.least.least_at_depot.Given as goal
 
 abbrev pub invariant-loop-j : goal.invariant-loop-j
 invariant-loop-j g l = record {
-  least : IsLeast l.price.p l.price.q (points_over l.sources.family.now.case l.sources.family.now.line g.S.Score.ends l.sources.family.now.held l.sources.family.now.low l.sources.family.now.high l.depot (range_with_len 1 (l.j - 1))) l.least;
+  least : IsLeast l.price.p l.price.q (points_over g.S.Score.ends l.sources.family.now l.depot (range_with_len 1 (l.j - 1))) l.least;
   most : l.least ≤ l.j * 2 ^ 115;
 }

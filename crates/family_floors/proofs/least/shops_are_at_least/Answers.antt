@@ -42,6 +42,6 @@ are_at_least-requires-clause-tables g c =
 pub returns : goal.returns
 returns g c =
     let x = c.args.sources.now.family.now in
-    let own : List ℕ → List Point = λ d. flat_map (λ s. depot_points x.case x.line g.S.Score.ends x.held x.low x.high (s ∷ d)) (line_stocks x 0) in
+    let own : List ℕ → List Point = λ d. flat_map (λ s. depot_points g.S.Score.ends x (s ∷ d)) (line_stocks x 0) in
     subst (λ (d : List ℕ). IfOk c.are_at_least.result (Decides c.args.price.p c.args.price.q c.args.floor (own d)))
     (ap (drop 1) (c.as_mut_slice-at_depot.ensures.value ∙ c.in_ok-stocks.ensures.stocks)) c.are_at_least.ensures

@@ -37,7 +37,7 @@ returns g c =
     let ends = g.S.Score.ends in
     let last : c.loop-j.j - 1 ≡ length x.case.sites - 1 =
     omega (arith, c.loop-j-test.false, c.loop-j.auto.j-end (omega (arith, c.sites-j-end.ensures.fewest)), c.sites-j-end.ensures.sites) in
-    subst (λ n. AreAtLeast c.args.price.p c.args.price.q c.loop-j.low (points_over x.case x.line ends x.held x.low x.high d (range_with_len 1 n))) last c.loop-j.invariant.low
+    subst (λ n. AreAtLeast c.args.price.p c.args.price.q c.loop-j.low (points_over ends x d (range_with_len 1 n))) last c.loop-j.invariant.low
 
 pub cost-requires-clause-site : goal.cost-requires-clause-site
 cost-requires-clause-site g c = let some = c.size-size.ensures.valid.valid.frame.fewest_sites in omega (arith, some)

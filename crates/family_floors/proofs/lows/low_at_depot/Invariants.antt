@@ -6,6 +6,6 @@ use Rattle.family_floors.proofs.lows.low_at_depot.Given as goal
 
 abbrev pub invariant-loop-j : goal.invariant-loop-j
 invariant-loop-j g l = record {
-  low : AreAtLeast l.price.p l.price.q l.low (points_over l.sources.family.now.case l.sources.family.now.line g.S.Score.ends l.sources.family.now.held l.sources.family.now.low l.sources.family.now.high l.depot (range_with_len 1 (l.j - 1)));
+  low : AreAtLeast l.price.p l.price.q l.low (points_over g.S.Score.ends l.sources.family.now l.depot (range_with_len 1 (l.j - 1)));
   most : l.low ≤ l.j * 2 ^ 115;
 }

@@ -53,9 +53,9 @@ loop-s-init g c =
     let j = here.site.0 in
     let stocks = c.args.shops.now.stocks in
     let low : c.walk_at-walk.result.stock ≡ c.line_low-first.result = ap (λ (p : Place). p.stock) c.walk_at-walk.ensures ∙ sym c.line_low-first.ensures in
-    let here_is = subst (λ s. AreUnder x g.S.Score.ends here.depot.now j c.args.low c.args.high stocks s c.lows_at_stocks.result) low c.lows_at_stocks.ensures in
+    let here_is = subst (λ s. AreUnder g.S.Score.ends x here.depot.now j c.args.low c.args.high stocks s c.lows_at_stocks.result) low c.lows_at_stocks.ensures in
     let under : (k : ℕ) → c.line_low-first.result ≤ k → k ≤ c.line_low-first.result
-    → AreUnder x g.S.Score.ends here.depot.now j c.args.low c.args.high stocks k (lower_of c.args.least c.lows_at_stocks.result) =
+    → AreUnder g.S.Score.ends x here.depot.now j c.args.low c.args.high stocks k (lower_of c.args.least c.lows_at_stocks.result) =
     first_stock x g.S.Score.ends here.depot.now j c.args.low c.args.high stocks c.line_low-first.result c.args.least c.lows_at_stocks.result here_is in
     record {
       walk = c.walk_at-walk.ensures ∙ ap (λ v. line_place x here.depot.now j v (line_low x j)) c.as_slice.ensures ∙ ap (λ s. line_place x here.depot.now j stocks s) (sym c.line_low-first.ensures);
@@ -63,7 +63,7 @@ loop-s-init g c =
         at_low = omega (arith, ap (λ (l : Lows). l.at_low) c.lower-found.ensures);
         at_high = omega (arith, ap (λ (l : Lows). l.at_high) c.lower-found.ensures);
       };
-      under = λ k l h. subst (λ (lows : Lows). AreUnder x g.S.Score.ends here.depot.now j c.args.low c.args.high stocks k lows) (sym c.lower-found.ensures)
+      under = λ k l h. subst (λ (lows : Lows). AreUnder g.S.Score.ends x here.depot.now j c.args.low c.args.high stocks k lows) (sym c.lower-found.ensures)
           (under k (omega (arith, l, c.line_low-first.ensures)) h);
     }
 
@@ -149,14 +149,14 @@ loop-s-preserved g c =
     let stock : c.advance.new.self.stock ≡ c.loop-s.s + 1 = ap (λ (p : Place). p.stock) moved in
     let after = c.lower-found-in-loop-s in
     let found = c.lows_at_stocks-in-loop-s in
-    let now = subst (λ s. AreUnder x g.S.Score.ends here.depot.now j c.args.low c.args.high stocks s found.result) stock found.ensures in
+    let now = subst (λ s. AreUnder g.S.Score.ends x here.depot.now j c.args.low c.args.high stocks s found.result) stock found.ensures in
     record {
       walk = moved;
       lower = record {
         at_low = omega (arith, ap (λ (l : Lows). l.at_low) after.ensures, c.loop-s.invariant.lower.at_low);
         at_high = omega (arith, ap (λ (l : Lows). l.at_high) after.ensures, c.loop-s.invariant.lower.at_high);
       };
-      under = λ k l h. subst (λ (lows : Lows). AreUnder x g.S.Score.ends here.depot.now j c.args.low c.args.high stocks k lows) (sym after.ensures)
+      under = λ k l h. subst (λ (lows : Lows). AreUnder g.S.Score.ends x here.depot.now j c.args.low c.args.high stocks k lows) (sym after.ensures)
           (stock_more x g.S.Score.ends here.depot.now j c.args.low c.args.high stocks c.loop-s.s c.loop-s.found found.result c.loop-s.invariant.under now k l h);
     }
 

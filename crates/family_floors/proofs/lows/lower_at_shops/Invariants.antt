@@ -8,5 +8,5 @@ invariant-loop-s g l = record {
   walk : l.walk ≡ line_place l.here.family.now l.here.depot.now l.here.site.0 l.shops.stocks l.s;
   lower : AreNoHigher l.found l.fn.least;
   under : (k : ℕ) → line_low l.here.family.now l.here.site.0 ≤ k → k ≤ l.s
-      → AreUnder l.here.family.now g.S.Score.ends l.here.depot.now l.here.site.0 l.low l.high l.shops.stocks k l.found;
+      → AreUnder g.S.Score.ends l.here.family.now l.here.depot.now l.here.site.0 l.low l.high l.shops.stocks k l.found;
 }

@@ -24,7 +24,7 @@ returns g c =
     let here = c.args.here.now in
     let x = here.family.now in
     let s = c.args.walk.now.stock in
-    let v = base_point x.case x.line g.S.Score.ends x.held here.depot.now here.site.0 (s ∷ c.args.shops.now.stocks) in
+    let v = base_point g.S.Score.ends x here.depot.now here.site.0 (s ∷ c.args.shops.now.stocks) in
     let below : c.low.result ≤ low_end 48 (line_place c.args.here.now.family.now c.args.here.now.depot.now c.args.here.now.site.0 c.args.shops.now.stocks c.args.walk.now.stock) = subst (λ (p : Place). c.low.result ≤ low_end 48 p) c.requires.walk c.low.ensures in
     let is : IsLowScore c.low-scored.result v =
     score_under x c.requires.here.valid g.S.Score.ends g.met.S.Score.leaves_room here.depot.now c.requires.here.depot here.site.0 s c.args.shops.now.stocks

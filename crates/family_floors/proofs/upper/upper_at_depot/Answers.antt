@@ -19,7 +19,7 @@ loop-j-preserved g c =
     let ends = g.S.Score.ends in
     let here = c.base_of-here.result in
     let hi = c.in_ok-upper.field-0 in
-    let base : HasUpper (base_points x.case x.line ends x.held x.low x.high d j) hi =
+    let base : HasUpper (base_points ends x d j) hi =
     moved (λ (ps : List Point). HasUpper ps hi) ends here.family.now x here.depot.now d here.site.0 j c.base_of-here.ensures.family c.base_of-here.ensures.depot c.base_of-here.ensures.site
     c.in_ok-upper.ensures.upper in
     record {
@@ -33,7 +33,7 @@ returns-clause-upper g c =
     let d = c.args.depot.now in
     let last : c.loop-j.j - 1 ≡ length x.case.sites - 1 =
     omega (arith, c.loop-j-test.false, c.loop-j.auto.j-end (omega (arith, c.sites-j-end.ensures.fewest)), c.sites-j-end.ensures.sites) in
-    subst (λ n. HasUpper (points_over x.case x.line g.S.Score.ends x.held x.low x.high d (range_with_len 1 n)) c.loop-j.upper) last c.loop-j.invariant.upper
+    subst (λ n. HasUpper (points_over g.S.Score.ends x d (range_with_len 1 n)) c.loop-j.upper) last c.loop-j.invariant.upper
 
 pub upper_at_base-requires-clause-here : goal.upper_at_base-requires-clause-here
 upper_at_base-requires-clause-here g c = c.base_of-here.ensures.is

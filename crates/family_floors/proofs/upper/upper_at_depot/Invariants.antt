@@ -6,6 +6,6 @@ use Rattle.family_floors.proofs.upper.upper_at_depot.Given as goal
 
 abbrev pub invariant-loop-j : goal.invariant-loop-j
 invariant-loop-j g l = record {
-  upper : HasUpper (points_over l.sources.family.now.case l.sources.family.now.line g.S.Score.ends l.sources.family.now.held l.sources.family.now.low l.sources.family.now.high l.depot (range_with_len 1 (l.j - 1))) l.upper;
+  upper : HasUpper (points_over g.S.Score.ends l.sources.family.now l.depot (range_with_len 1 (l.j - 1))) l.upper;
   most : l.upper ≤ (l.j - 1) * 2 ^ 74;
 }

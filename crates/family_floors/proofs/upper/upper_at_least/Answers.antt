@@ -1,7 +1,7 @@
 use Rattle.std.proofs.Common.{◌≡◌, ℕ, ◌<◌, ◌∙◌, List, drop, length, sym, ap, subst, arith}
 use Rattle.std.proofs.lemmas.Result.{IfOk-weaker}
-use Rattle.family_points.specs.Inputs.{AreShopsAt, IsAt, shop_low}
-use Rattle.family_points.specs.Points.{HasUpper, points_within}
+use Rattle.family_points.specs.Inputs.{AreShopsAt, IsAt, box_points, shop_low}
+use Rattle.family_points.specs.Points.{HasUpper}
 use Rattle.family_points.specs.Separation.{depot_points}
 use Rattle.family_points.proofs.Points.{low_some}
 use Rattle.family_floors.proofs.Uppers.{low_is_at, low_shops_at, upper_of_box}
@@ -32,10 +32,10 @@ upper_at_depot-requires-clause-depot g c =
 pub returns-clause-upper : goal.returns-clause-upper
 returns-clause-upper g c =
     let x = c.args.sources.now.family.now in
-    IfOk-weaker c.upper_at_depot.result (HasUpper (depot_points x.case x.line g.S.Score.ends x.held x.low x.high c.low-depot.result.now))
-    (HasUpper (points_within x.case x.line g.S.Score.ends x.held x.low x.high))
+    IfOk-weaker c.upper_at_depot.result (HasUpper (depot_points g.S.Score.ends x c.low-depot.result.now))
+    (HasUpper (box_points g.S.Score.ends x))
     (λ hi upper. upper_of_box x c.size-size.ensures.valid g.S.Score.ends hi
-    (subst (λ (v : List ℕ). HasUpper (depot_points x.case x.line g.S.Score.ends x.held x.low x.high v) hi) c.low-depot.ensures upper)) c.upper_at_depot.ensures.upper
+    (subst (λ (v : List ℕ). HasUpper (depot_points g.S.Score.ends x v) hi) c.low-depot.ensures upper)) c.upper_at_depot.ensures.upper
 
 pub low-depot-requires : goal.low-depot-requires
 low-depot-requires g c = let some = c.size-size.ensures.valid.valid.frame.fewest_sites in omega (arith, some)

@@ -1,11 +1,11 @@
 use Rattle.std.proofs.Common.{IfOk, ◌∙◌, subst}
-use Rattle.family_points.specs.Inputs.{FamilyBox}
-use Rattle.family_points.specs.Points.{HasUpper, points_within}
+use Rattle.family_points.specs.Inputs.{FamilyBox, box_points}
+use Rattle.family_points.specs.Points.{HasUpper}
 use Rattle.family_floors.proofs.upper.upper_within.Goals as goal
 
 pub returns-clause-upper : goal.returns-clause-upper
 returns-clause-upper g c =
-    subst (λ (x : FamilyBox). IfOk c.upper_at_least.result (HasUpper (points_within x.case x.line g.S.Score.ends x.held x.low x.high)))
+    subst (λ (x : FamilyBox). IfOk c.upper_at_least.result (HasUpper (box_points g.S.Score.ends x)))
     (c.in_ok-sources.ensures.family ∙ c.of-family.ensures) c.upper_at_least.ensures.upper
 
 pub of-family-requires-clause-rates : goal.of-family-requires-clause-rates

@@ -12,7 +12,7 @@ returns-clause-part g c =
     let x = here.family.now in
     let low = c.args.low in
     let high = c.args.high in
-    let points = base_points x.case x.line g.S.Score.ends x.held x.low x.high here.depot.now here.site.0 in
+    let points = base_points g.S.Score.ends x here.depot.now here.site.0 in
     let curve = c.put_curve.new.chain in
     part_of_curve low high points curve c.cut.new.chain c.in_ok-put_curve.ensures.curve
     (cut_is_part low high curve c.cut.new.chain (convex points curve c.in_ok-put_curve.ensures.curve) c.cut.ensures c.requires.window)

@@ -22,7 +22,7 @@ use Rattle.family_parts.proofs.base.put_parts.Goals as goal
 pub loop-j-init : goal.loop-j-init
 loop-j-init g c =
     let x = c.args.sources.now.family.now in
-    let first : List Point = depot_point x.case x.line x.held c.args.depot.now ∷ [] in
+    let first : List Point = depot_point x c.args.depot.now ∷ [] in
     record {
       stands = self_between c.args.low c.args.high first;
       few = omega arith;
@@ -62,7 +62,7 @@ loop-j-preserved g c =
     let here = c.base_of-here.result in
     let part : List Point = c.put_part.new.part in
     let parts : List (List Point) = c.loop-j.work.parts.items in
-    let first : Point = depot_point x.case x.line x.held d in
+    let first : Point = depot_point x d in
     let on : IsBase x.case j = (omega (arith, c.loop-j.auto.j), omega (arith, c.loop-j-test.true, c.sites-j-end.ensures.sites)) in
     let inside : j - 1 < length parts =
     omega (arith, on.0, on.1, c.loop-j.invariant.count, bases_long x c.args.sources.now.bases.items c.requires.sources.bases) in
@@ -70,7 +70,7 @@ loop-j-preserved g c =
     let put : List (List Point) = set parts (c.from.result - 1) part in
     let made : take (j + 1 - 1) put ≡ take (j - 1) parts ++ part ∷ [] =
     ap (λ n. take n put) next ∙ ap (λ n. take (j - 1 + 1) (set parts (n - 1) part)) c.from.ensures ∙ take_more_set parts (j - 1) part inside in
-    let is : IsPartOf low high (base_points x.case x.line ends x.held x.low x.high d j) part =
+    let is : IsPartOf low high (base_points ends x d j) part =
     moved (λ (ps : List Point). IsPartOf low high ps part) ends here.family.now x here.depot.now d here.site.0 j c.base_of-here.ensures.family c.base_of-here.ensures.depot c.base_of-here.ensures.site
     c.in_ok-put_part.ensures.part in
     let few : length part ≤ vector_count x j =
@@ -94,9 +94,9 @@ returns-clause-stands g c =
     let d = c.args.depot.now in
     let low = c.args.low in
     let high = c.args.high in
-    let over : ℕ → List Point = λ n. points_over x.case x.line g.S.Score.ends x.held x.low x.high d (range_with_len 1 n) in
+    let over : ℕ → List Point = λ n. points_over g.S.Score.ends x d (range_with_len 1 n) in
     let parts : List (List Point) = c.loop-j.work.parts.items in
-    let first : List Point = depot_point x.case x.line x.held d ∷ [] in
+    let first : List Point = depot_point x d ∷ [] in
     let last : c.loop-j.j - 1 ≡ length x.case.sites - 1 =
     omega (arith, c.loop-j-test.false, c.loop-j.auto.j-end (omega (arith, c.sites-j-end.ensures.fewest)), c.sites-j-end.ensures.sites) in
     subst (λ n. StandForBetween low high (over n) (sums_of_each first parts)) last

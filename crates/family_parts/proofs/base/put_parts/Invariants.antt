@@ -8,7 +8,7 @@ use Rattle.family_parts.proofs.base.put_parts.Given as goal
 
 abbrev pub invariant-loop-j : goal.invariant-loop-j
 invariant-loop-j g l = record {
-  stands : StandForBetween l.low l.high (points_over l.sources.family.now.case l.sources.family.now.line g.S.Score.ends l.sources.family.now.held l.sources.family.now.low l.sources.family.now.high l.depot (range_with_len 1 (l.j - 1))) (sums_of_each (depot_point l.sources.family.now.case l.sources.family.now.line l.sources.family.now.held l.depot ∷ []) (take (l.j - 1) l.work.parts.items));
+  stands : StandForBetween l.low l.high (points_over g.S.Score.ends l.sources.family.now l.depot (range_with_len 1 (l.j - 1))) (sums_of_each (depot_point l.sources.family.now l.depot ∷ []) (take (l.j - 1) l.work.parts.items));
   few : 1 + sum_by length (take (l.j - 1) l.work.parts.items) ≤ over_count l.sources.family.now l.j;
   count : length l.work.parts.items ≡ length l.sources.bases.items;
 }

@@ -1,7 +1,6 @@
 use Rattle.std.proofs.Common.{◌*◌, ◌≤◌, IfOk, sym, subst}
 use Rattle.curve_parts.specs.Parts.{IsPartOf}
-use Rattle.family_points.specs.Inputs.{FamilyBox, vector_count, vertex_count}
-use Rattle.family_points.specs.Points.{points_within}
+use Rattle.family_points.specs.Inputs.{FamilyBox, box_points, vector_count, vertex_count}
 use Rattle.family_parts.proofs.joining.family_part.Goals as goal
 
 pub part_of-requires-clause-room : goal.part_of-requires-clause-room
@@ -9,5 +8,5 @@ part_of-requires-clause-room g c = subst (λ (x : FamilyBox). vector_count x 0 *
 
 pub returns : goal.returns
 returns g c =
-    subst (λ (x : FamilyBox). IfOk c.part_of.result (IsPartOf c.args.low c.args.high (points_within x.case x.line g.S.Score.ends x.held x.low x.high)))
+    subst (λ (x : FamilyBox). IfOk c.part_of.result (IsPartOf c.args.low c.args.high (box_points g.S.Score.ends x)))
     c.in_ok-sources.ensures.family c.part_of.ensures

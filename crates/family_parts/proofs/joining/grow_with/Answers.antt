@@ -22,7 +22,7 @@ returns-then-is_passed_over-clause-part g c =
     let low = c.args.low in
     let high = c.args.high in
     let part : List Point = vertices_of c.args.part.now in
-    let points : List Point = depot_points x.case x.line g.S.Score.ends x.held x.low x.high d in
+    let points : List Point = depot_points g.S.Score.ends x d in
     let passed : (w : Point) → Among w points → IsPassedOver low high part w =
     subst (λ (l : List Point). (w : Point) → Among w points → IsPassedOver low high l w) c.vertices_of-vertices.ensures.vertices (c.is_passed_over.ensures c.if-is_passed_over.true) in
     grows_by_none low high points part passed
@@ -52,9 +52,9 @@ join_parts-requires-clause-ranges g c = λ v m.
     let x = c.args.sources.now.family.now in
     let d = c.args.depot.now in
     let ends = g.S.Score.ends in
-    let points : List Point = depot_points x.case x.line ends x.held x.low x.high d in
+    let points : List Point = depot_points ends x d in
     let stands : StandForBetween c.args.low c.args.high points (sums_of_each (c.in_ok-first.first ∷ []) c.as_slice-parts.result.now) =
-    standing c.args.low c.args.high points (depot_point x.case x.line x.held d) c.in_ok-first.first c.put_parts.new.work.parts.items c.as_slice-parts.result.now
+    standing c.args.low c.args.high points (depot_point x d) c.in_ok-first.first c.put_parts.new.work.parts.items c.as_slice-parts.result.now
     c.in_ok-first.ensures.point c.as_slice-parts.ensures.value c.in_ok-put_parts.ensures.stands in
     depot_ranges x c.size-size.ensures.valid ends g.met.S.Score.leaves_room d c.requires.depot v (stands.among v m)
 
@@ -63,9 +63,9 @@ join_parts-requires-clause-width g c = λ v w m n.
     let x = c.args.sources.now.family.now in
     let d = c.args.depot.now in
     let ends = g.S.Score.ends in
-    let points : List Point = depot_points x.case x.line ends x.held x.low x.high d in
+    let points : List Point = depot_points ends x d in
     let stands : StandForBetween c.args.low c.args.high points (sums_of_each (c.in_ok-first.first ∷ []) c.as_slice-parts.result.now) =
-    standing c.args.low c.args.high points (depot_point x.case x.line x.held d) c.in_ok-first.first c.put_parts.new.work.parts.items c.as_slice-parts.result.now
+    standing c.args.low c.args.high points (depot_point x d) c.in_ok-first.first c.put_parts.new.work.parts.items c.as_slice-parts.result.now
     c.in_ok-first.ensures.point c.as_slice-parts.ensures.value c.in_ok-put_parts.ensures.stands in
     c.requires.widths v m ∙ sym (depot_widths x c.size-size.ensures.valid ends g.met.S.Score.leaves_room d c.requires.depot w (stands.among w n))
 
@@ -75,11 +75,11 @@ returns-clause-part g c =
     let d = c.args.depot.now in
     let low = c.args.low in
     let high = c.args.high in
-    let points : List Point = depot_points x.case x.line g.S.Score.ends x.held x.low x.high d in
+    let points : List Point = depot_points g.S.Score.ends x d in
     let first : Point = c.in_ok-first.first in
     let parts : List (List Point) = c.as_slice-parts.result.now in
     let stands : StandForBetween low high points (sums_of_each (first ∷ []) parts) =
-    standing low high points (depot_point x.case x.line x.held d) first c.put_parts.new.work.parts.items parts
+    standing low high points (depot_point x d) first c.put_parts.new.work.parts.items parts
     c.in_ok-first.ensures.point c.as_slice-parts.ensures.value c.in_ok-put_parts.ensures.stands in
     grows_by_sums low high first parts points (vertices_of c.args.part.now) (vertices_of c.join_parts.new.part) c.in_ok-join_parts.ensures.joins stands
 
@@ -90,11 +90,11 @@ returns-clause-widths g c =
     let low = c.args.low in
     let high = c.args.high in
     let ends = g.S.Score.ends in
-    let points : List Point = depot_points x.case x.line ends x.held x.low x.high d in
+    let points : List Point = depot_points ends x d in
     let first : Point = c.in_ok-first.first in
     let parts : List (List Point) = c.as_slice-parts.result.now in
     let stands : StandForBetween low high points (sums_of_each (first ∷ []) parts) =
-    standing low high points (depot_point x.case x.line x.held d) first c.put_parts.new.work.parts.items parts
+    standing low high points (depot_point x d) first c.put_parts.new.work.parts.items parts
     c.in_ok-first.ensures.point c.as_slice-parts.ensures.value c.in_ok-put_parts.ensures.stands in
     widths_joined x (vertices_of c.args.part.now) points (vertices_of c.join_parts.new.part) c.requires.widths (depot_widths x c.size-size.ensures.valid ends g.met.S.Score.leaves_room d c.requires.depot)
     (joined_among low high first parts points (vertices_of c.args.part.now) (vertices_of c.join_parts.new.part) c.in_ok-join_parts.ensures.joins stands)
@@ -182,9 +182,9 @@ join_parts-requires-clause-widths g c = λ v w m n.
     let x = c.args.sources.now.family.now in
     let d = c.args.depot.now in
     let ends = g.S.Score.ends in
-    let points : List Point = depot_points x.case x.line ends x.held x.low x.high d in
+    let points : List Point = depot_points ends x d in
     let stands : StandForBetween c.args.low c.args.high points (sums_of_each (c.in_ok-first.first ∷ []) c.as_slice-parts.result.now) =
-    standing c.args.low c.args.high points (depot_point x.case x.line x.held d) c.in_ok-first.first c.put_parts.new.work.parts.items c.as_slice-parts.result.now
+    standing c.args.low c.args.high points (depot_point x d) c.in_ok-first.first c.put_parts.new.work.parts.items c.as_slice-parts.result.now
     c.in_ok-first.ensures.point c.as_slice-parts.ensures.value c.in_ok-put_parts.ensures.stands in
     let widths : HaveWidthOf x points = depot_widths x c.size-size.ensures.valid ends g.met.S.Score.leaves_room d c.requires.depot in
     widths v (stands.among v m) ∙ sym (widths w (stands.among w n))

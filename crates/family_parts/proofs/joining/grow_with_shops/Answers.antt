@@ -1,8 +1,9 @@
 use Rattle.std.proofs.Common.{ℕ, List, IfOk, drop, length, sym, ap, ◌∙◌, subst, arith}
 use Rattle.family_points.specs.Inputs.{AreShopsAt}
+use Rattle.family_points.specs.Separation.{shop_points}
 use Rattle.family_rows.specs.Tabled.{AreTables}
 use Rattle.family_curve.specs.Joining.{vertices_of}
-use Rattle.family_parts.specs.Growing.{Grows, shop_points}
+use Rattle.family_parts.specs.Growing.{Grows}
 use Rattle.family_parts.proofs.joining.grow_with_shops.Goals as goal
 
 pub stocks_at-requires : goal.stocks_at-requires
@@ -52,7 +53,7 @@ grow_with_lines-requires-clause-window g c = c.requires.window
 
 pub returns-clause-part : goal.returns-clause-part
 returns-clause-part g c =
-    subst (λ (shops : List ℕ). IfOk c.grow_with_lines.result (λ _. Grows c.args.low c.args.high (shop_points c.args.sources.now.family.now g.S.Score.ends shops) (vertices_of c.args.part.now)
+    subst (λ (shops : List ℕ). IfOk c.grow_with_lines.result (λ _. Grows c.args.low c.args.high (shop_points g.S.Score.ends c.args.sources.now.family.now shops) (vertices_of c.args.part.now)
     (vertices_of c.grow_with_lines.new.part)))
     (ap (drop 1) (c.as_mut_slice-at_depot.ensures.value ∙ c.in_ok-stocks.ensures.stocks)) c.grow_with_lines.ensures.part
 

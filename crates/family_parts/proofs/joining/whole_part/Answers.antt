@@ -7,12 +7,13 @@ use Rattle.curve_parts.specs.Cuts.{IsWindow}
 use Rattle.curve_parts.specs.Parts.{IsPartOf}
 use Rattle.curve_parts.proofs.Shape.{part_some}
 use Rattle.family_curve.specs.Joining.{vertices_of}
-use Rattle.family_points.specs.Points.{ScoreEnds, points_within}
+use Rattle.family_points.specs.Points.{ScoreEnds}
 use Rattle.family_points.proofs.LeastPoints.{box_some}
-use Rattle.family_points.specs.Inputs.{FamilyBox, IsFamilyBox, line_stocks, shop_vectors, vector_count, vertex_count}
+use Rattle.family_points.specs.Inputs.{FamilyBox, IsFamilyBox, box_points, line_stocks, shop_vectors, vector_count, vertex_count}
+use Rattle.family_points.specs.Separation.{shop_points}
 use Rattle.family_points.proofs.Points.{box_begins, flat_stock_behind, stocks_count, whole_room}
 use Rattle.family_curve.proofs.Grown.{room_for}
-use Rattle.family_parts.specs.Growing.{Grows, in_turn, shop_points}
+use Rattle.family_parts.specs.Growing.{Grows, in_turn}
 use Rattle.family_parts.proofs.Grown.{grows_by_nothing, grows_members, grows_on}
 use Rattle.family_parts.proofs.InTurn.{placed_back, placed_there, turned_back, turned_there}
 use Rattle.family_parts.proofs.Whole.{part_of_box}
@@ -59,7 +60,7 @@ loop-n-preserved g c =
     let n = c.loop-n.n in
     let all : List (List ℕ) = shop_vectors x 0 in
     let middle : ℕ = (c.shop_count-count.result - 1) / 2 in
-    let own : List ℕ → List Point = shop_points x g.S.Score.ends in
+    let own : List ℕ → List Point = shop_points g.S.Score.ends x in
     let turn : ℕ → List Point = λ k. own (get_or all (in_turn middle (length all - 1) k) []) in
     let made : List Point = vertices_of c.grow_with_shops.new.part in
     let shops : get_or all c.in_turn-number.result [] ≡ get_or all (in_turn middle (length all - 1) n) [] =
@@ -81,12 +82,12 @@ no_part low high = record { rises = tt; among = λ v m. m; vertices = λ v m. ab
 
 -- the part of the stocks of all turns is the part of the box
 all_turns : (x : FamilyBox) → IsFamilyBox x → (ends : ScoreEnds) (low high : Price) (middle n : ℕ) → 0 < n → n ≡ length (shop_vectors x 0) → (part : List Point)
-    → Grows low high (flat_map (λ k. shop_points x ends (get_or (shop_vectors x 0) (in_turn middle (length (shop_vectors x 0) - 1) k) [])) (range_with_len 0 n)) [] part
-    → IsPartOf low high (points_within x.case x.line ends x.held x.low x.high) part
+    → Grows low high (flat_map (λ k. shop_points ends x (get_or (shop_vectors x 0) (in_turn middle (length (shop_vectors x 0) - 1) k) [])) (range_with_len 0 n)) [] part
+    → IsPartOf low high (box_points ends x) part
 all_turns x valid ends low high middle n some whole part grown =
     let all : List (List ℕ) = shop_vectors x 0 in
     let last : ℕ = length all - 1 in
-    let own : List ℕ → List Point = shop_points x ends in
+    let own : List ℕ → List Point = shop_points ends x in
     let each : ℕ → List Point = λ i. own (get_or all i []) in
     let turns : n ≡ suc last = omega (arith, whole, some) in
     part_of_box x valid ends low high part
@@ -101,9 +102,9 @@ some_part (Some part) h = refl
 
 -- the part of the box has a vertex
 box_part_some : (x : FamilyBox) → IsFamilyBox x → (ends : ScoreEnds) (low high : Price) → IsWindow low high → (part : List Point)
-    → IsPartOf low high (points_within x.case x.line ends x.held x.low x.high) part → 0 < length part
-box_part_some x valid ends low high window part is = part_some low high (points_within x.case x.line ends x.held x.low x.high) part
-    (box_some x.case x.line ends 0 0 x.held x.low x.high valid.valid valid.is_line valid.ordered) window is
+    → IsPartOf low high (box_points ends x) part → 0 < length part
+box_part_some x valid ends low high window part is = part_some low high (box_points ends x) part
+    (box_some x.case x.line ends x.held x.low x.high valid.ordered.low_least) window is
 
 pub unwrap-requires : goal.unwrap-requires
 unwrap-requires g c =
@@ -118,7 +119,7 @@ pub returns : goal.returns
 returns g c =
     let x = c.args.sources.now.family.now in
     let whole : c.loop-n.n ≡ length (shop_vectors x 0) = omega (arith, c.loop-n-test.false, c.loop-n.auto.n-end, c.shop_count-count.ensures.count) in
-    subst (λ (o : Option (List Point)). IsPartOf c.args.low c.args.high (points_within x.case x.line g.S.Score.ends x.held x.low x.high) (vertices_of o)) c.unwrap.ensures
+    subst (λ (o : Option (List Point)). IsPartOf c.args.low c.args.high (box_points g.S.Score.ends x) (vertices_of o)) c.unwrap.ensures
     (all_turns x c.size-size.ensures.valid g.S.Score.ends c.args.low c.args.high ((c.shop_count-count.result - 1) / 2) c.loop-n.n
     (omega (arith, whole, c.shop_count-count.ensures.some, c.shop_count-count.ensures.count)) whole (vertices_of c.loop-n.part) c.loop-n.invariant.part)
 

@@ -1,14 +1,15 @@
 use Rattle.std.proofs.Common.{◌≡◌, ◌-◌, ◌*◌, ◌≤◌, [], flat_map, get_or, length}
 use Rattle.std.specs.List.{range_with_len}
 use Rattle.family_points.specs.Inputs.{line_stocks, shop_vectors, vertex_count}
+use Rattle.family_points.specs.Separation.{shop_points}
 use Rattle.family_curve.specs.Joining.{HaveWidthOf, vertices_of}
-use Rattle.family_parts.specs.Growing.{Grows, in_turn, shop_points}
+use Rattle.family_parts.specs.Growing.{Grows, in_turn}
 use Rattle.family_parts.proofs.joining.whole_part.Given as goal
 
 abbrev pub invariant-loop-n : goal.invariant-loop-n
 invariant-loop-n g l = record {
   few : length (vertices_of l.part) ≤ l.n * (length (line_stocks l.sources.family.now 0) * vertex_count l.sources.family.now);
-  part : Grows l.low l.high (flat_map (λ k. shop_points l.sources.family.now g.S.Score.ends (get_or (shop_vectors l.sources.family.now 0) (in_turn l.middle (length (shop_vectors l.sources.family.now 0) - 1) k) [])) (range_with_len 0 l.n)) [] (vertices_of l.part);
+  part : Grows l.low l.high (flat_map (λ k. shop_points g.S.Score.ends l.sources.family.now (get_or (shop_vectors l.sources.family.now 0) (in_turn l.middle (length (shop_vectors l.sources.family.now 0) - 1) k) [])) (range_with_len 0 l.n)) [] (vertices_of l.part);
   work : length l.work.parts.items ≡ length l.sources.bases.items;
   widths : HaveWidthOf l.sources.family.now (vertices_of l.part);
 }

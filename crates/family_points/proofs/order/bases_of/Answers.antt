@@ -2,7 +2,7 @@ use Rattle.std.proofs.Common.{◌≡◌, suc, ◌+◌, ◌-◌, [], ◌∷◌, �
 use Rattle.std.specs.List.{AllZip, range_with_len}
 use Rattle.spares_input.proofs.Ranges.{range_more}
 use Rattle.family_points.specs.Choices.{IsBaseOf}
-use Rattle.sum_walk.proofs.Walks.{zip_push}
+use Rattle.sum_walk.proofs.Lists.{zip_push}
 use Rattle.family_points.proofs.order.bases_of.Goals as goal
 
 pub loop-j-preserved : goal.loop-j-preserved

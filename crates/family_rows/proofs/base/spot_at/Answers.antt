@@ -31,4 +31,4 @@ returns g c =
     ∙ ap (λ (e : Ends). g.S.Score.ends (systems x.case j) (per_system x.case x.line) (weight x.case x.line) e) c.backorders_of-backorders.ensures.ends in
     let lo = c.lo.ensures.end ∙ ap (λ (e : Ends). e.lo) scored in
     let hi = c.hi.ensures.end ∙ ap (λ (e : Ends). e.hi) scored in
-    spot_is v.cost c.lo.result c.hi.result v.line c.as_slice.result.now (choice_point x g.S.Score.ends d j v) c.requires.choice.cost lo hi (ap (λ (s : List ℕ). v.line ∷ s) stocks)
+    spot_is v.cost c.lo.result c.hi.result v.line c.as_slice.result.now (choice_point g.S.Score.ends x d j v) c.requires.choice.cost lo hi (ap (λ (s : List ℕ). v.line ∷ s) stocks)

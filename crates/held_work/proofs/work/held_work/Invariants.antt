@@ -1,6 +1,7 @@
 use Rattle.std.proofs.Common.{◌≡◌, sum_by}
 use Rattle.answers.specs.Counts.{count64}
-use Rattle.held_work.proofs.Rooms.{lines_below, tables_at}
+use Rattle.family_points.proofs.Counting.{lines_below}
+use Rattle.held_work.proofs.Kept.{tables_at}
 use Rattle.held_work.proofs.work.held_work.Given as goal
 
 abbrev pub invariant-loop-p : goal.invariant-loop-p

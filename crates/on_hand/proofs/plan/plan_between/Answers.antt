@@ -3,7 +3,6 @@ use Rattle.spares_input.specs.Cases.{CaseRows}
 use Rattle.fleet_plan.specs.Families.{case_points}
 use Rattle.case_plan.specs.Report.{HaveVectors, IsOutcome}
 use Rattle.case_plan.proofs.PointsServe.{points_have_vectors}
-use Rattle.on_hand.specs.Asked.{terms_of}
 use Rattle.on_hand.proofs.HeldFacts.{held_families}
 use Rattle.on_hand.proofs.plan.plan_between.Goals as goal
 
@@ -18,6 +17,5 @@ plan_by_parts-requires-clause-vectors g c =
 pub returns : goal.returns
 returns g c =
     let held = c.args.families.now.held.list in
-    subst (λ (z : CaseRows). IfOk c.plan_by_parts.result (λ found. IfSome found (IsOutcome g.S.Score.ends z c.args.families.now.held.list
-    (terms_of c.args.asked)))) c.case-case.ensures.case
+    subst (λ (z : CaseRows). IfOk c.plan_by_parts.result (λ found. IfSome found (IsOutcome g.S.Score.ends z c.args.families.now.held.list c.args.terms))) c.case-case.ensures.case
     (c.plan_by_parts.ensures.outcome g.S.Score.ends held (ap (λ (z : CaseRows). case_points g.S.Score.ends z held) (sym c.case-case.ensures.case)))

@@ -5,7 +5,6 @@ use Rattle.marginal_alloc.specs.Choice.{AreCurves}
 use Rattle.fleet_plan.specs.Families.{case_points}
 use Rattle.case_plan.specs.Report.{AreFamilyCurves, IsOutcome, IsPlanOf}
 use Rattle.case_plan.proofs.CurveFacts.{are_curves, are_family_curves}
-use Rattle.on_hand.specs.Asked.{terms_of}
 use Rattle.on_hand.proofs.plan.plan_by_curves.Goals as goal
 
 pub plan-requires-clause-curves : goal.plan-requires-clause-curves
@@ -23,7 +22,7 @@ pub returns : goal.returns
 returns g c =
     let ends = g.S.Score.ends in
     let x = c.args.families.now in
-    let terms = terms_of c.args.asked in
+    let terms = c.args.terms in
     let curves = subst (λ (z : List (List Point)). AreCurves (case_points ends x.case x.held.list) z) (sym c.as_slice.ensures.value)
     (are_curves ends x.case x.held.list c.in_ok-curves.curves.items c.in_ok-curves.ensures) in
     if_ok (IsPlanOf c.case-case.result.now c.as_slice.result.now terms) (IsOutcome ends x.case x.held.list terms) c.plan.result

@@ -8,11 +8,12 @@ use Rattle.refusals.specs.Causes.{or_refuse}
 use Rattle.refusals.specs.Lines.{no_names}
 use Rattle.refusals.specs.declared.refusal.File.TheVariants.{OnHand}
 use Rattle.refusals.specs.declared.refusal.Refusal.TheVariants as refusal
-use Rattle.spares_top.specs.Given.{bytes_of}
+use Rattle.order_inputs.proofs.Few.{if_few}
+use Rattle.order_inputs.specs.Cases.{stocked_by}
+use Rattle.order_inputs.specs.Given.{bytes_of}
 use Rattle.spares_top.specs.Planning.{IsGround}
-use Rattle.spares_top.specs.Plans.{stocked_by}
 use Rattle.spares_top.specs.declared.plan.Ground.{Ground}
-use Rattle.spares_top.proofs.Steps.{ground_if_few, if_few, unstocked}
+use Rattle.spares_top.proofs.Steps.{ground_if_few, unstocked}
 use Rattle.spares_top.proofs.plan.held_ground.Goals as goal
 
 -- the ground of a case with stocks on hand

@@ -1,5 +1,5 @@
-use Rattle.spares_top.specs.Given.{bytes_of}
-use Rattle.spares_top.specs.Plans.{case_to_edit}
+use Rattle.order_inputs.specs.Cases.{case_to_edit}
+use Rattle.order_inputs.specs.Given.{bytes_of}
 use Rattle.spares_top.proofs.Answered.{answered}
 use Rattle.spares_top.proofs.session.session.Goals as goal
 

@@ -1,5 +1,5 @@
-use Rattle.spares_top.specs.Given.{bytes_of}
-use Rattle.spares_top.specs.Plans.{case_within_work}
+use Rattle.order_inputs.specs.Cases.{case_within_work}
+use Rattle.order_inputs.specs.Given.{bytes_of}
 use Rattle.spares_top.proofs.Swept.{priced}
 use Rattle.spares_top.proofs.target.target.Goals as goal
 

@@ -1,0 +1,3 @@
+pub mod Few
+pub mod ReadInputs
+pub mod Refuse

@@ -1,0 +1,4 @@
+pub mod Cases
+pub mod Files
+pub mod Given
+pub mod Reading
