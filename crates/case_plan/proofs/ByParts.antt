@@ -16,13 +16,14 @@ use Rattle.marginal_alloc.specs.Choice.{AreCurves, IsHullChoice, StopsWith, firs
 use Rattle.marginal_alloc.proofs.One.{choices_are_one}
 use Rattle.curve_parts.specs.Parts.{IsPartOf}
 use Rattle.curve_parts.specs.Cuts.{IsWindow}
+use Rattle.curve_parts.specs.Beyond.{LieBeyond}
 use Rattle.choice_parts.specs.Parts.{AreFamilies, ArePartsOf, shifted}
 use Rattle.choice_parts.specs.Laws.{stopped}
 use Rattle.choice_parts.proofs.Prefixes.{picks_same}
 use Rattle.choice_parts.proofs.Chosen.{chosen}
 use Rattle.choice_parts.proofs.OfCurves.{parts_of_curves}
 use Rattle.part_filling.specs.declared.window.Window.{Window}
-use Rattle.part_filling.specs.Known.{AreKnown, IsPriceWindow, window_at}
+use Rattle.part_filling.specs.Known.{AllLieBeyond, AreKnown, IsPriceWindow, window_at}
 use Rattle.case_plan.specs.Parts.{HasNoCritical, slack}
 use Rattle.case_plan.specs.Report.{HaveVectors}
 use Rattle.case_plan.proofs.Ranges.{few_lines}
@@ -86,12 +87,15 @@ window_in (suc n) zero window b = refl
 window_in (suc n) (suc f) window b = window_in n f window (omega (arith, b))
 
 -- of each family the part between the prices is known
-pub parts_known : (window : Window) (families parts : List (List Point)) → IsPriceWindow window.low window.high → ArePartsOf window.low window.high families parts → AreKnown families parts (replicate (length parts) window)
-parts_known window families parts prices of = record {
+pub parts_known : (window : Window) (families parts : List (List Point)) (beyond : List ℕ) → IsPriceWindow window.low window.high → ArePartsOf window.low window.high families parts
+    → AllLieBeyond window.low families parts beyond → AreKnown families parts (replicate (length parts) window) beyond
+parts_known window families parts beyond prices of behind = record {
   count = of.count;
   windows_count = length-replicate (length parts) window;
+  beyond_count = behind.count;
   prices = λ f b. subst (λ (w : Window). IsPriceWindow w.low w.high) (sym (window_in (length parts) f window b)) prices;
   parts = λ f b. subst (λ (w : Window). IsPartOf w.low w.high (curve_at families f) (curve_at parts f)) (sym (window_in (length parts) f window b)) (of.each f b);
+  behind = λ f b. subst (λ (w : Window). LieBeyond w.low (curve_at families f) (curve_at parts f) (slice_index beyond f)) (sym (window_in (length parts) f window b)) (behind.each f b);
 }
 
 vectors_in : (c : CaseRows) (ls : List ℕ) (families known : List (List Point)) → length families ≡ length known → ((f : ℕ) → f < length known → (v : Point) → Among v (curve_at known f) → Among v (curve_at families f))
@@ -105,8 +109,8 @@ vectors_in c (l ∷ ls) (x ∷ xs) (k ∷ ks) n h a =
     ((λ v m. a.0 v (h 0 (omega arith) v m)), vectors_in c ls xs ks (omega (arith, n)) (λ f b. h (suc f) (omega (arith, b))) a.1)
 
 -- what is known has vectors of the families, where their points have
-pub known_vectors : (c : CaseRows) (families known : List (List Point)) (windows : List Window) → AreKnown families known windows → HaveVectors c families → HaveVectors c known
-known_vectors c families known windows is a = vectors_in c (line_units c) families known is.count (λ f b v m. (is.parts f b).among v m) a
+pub known_vectors : (c : CaseRows) (families known : List (List Point)) (windows : List Window) (beyond : List ℕ) → AreKnown families known windows beyond → HaveVectors c families → HaveVectors c known
+known_vectors c families known windows beyond is a = vectors_in c (line_units c) families known is.count (λ f b v m. (is.parts f b).among v m) a
 
 count_in : (c : CaseRows) (ls : List ℕ) (families : List (List Point)) → AllZip (λ l points. (v : Point) → Among v points → AllZip (λ x y. x ≤ y) v.stocks (limits c l)) ls families → length ls ≡ length families
 count_in c [] [] a = refl

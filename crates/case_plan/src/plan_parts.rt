@@ -7,7 +7,7 @@ ghost use Rattle.hull.specs.declared.point.Point.{Point};
 ghost use Rattle.family_points.specs.Points.{ScoreEnds};
 ghost use Rattle.marginal_alloc.specs.Choice.{AreCurves};
 ghost use Rattle.choice_parts.specs.Parts.{AreFamilies, ArePartsOf};
-ghost use Rattle.part_filling.specs.Known.{IsPriceWindow};
+ghost use Rattle.part_filling.specs.Known.{AllLieBeyond, IsPriceWindow};
 ghost use Rattle.fleet_plan.specs.Families.{case_points};
 ghost use Rattle.case_plan.specs.Chosen.{FitsCase, IsChosen};
 ghost use Rattle.case_plan.specs.Parts.{HasNoCritical};
@@ -31,14 +31,16 @@ use std::alloc::Global;
 ///
 /// The choice is the one plan of all the families' points, as of [`choose_stocks`](crate::choose_stocks) by their whole
 /// curves; the filling asks for wider parts of some. None exactly if the parts' hull choice has no
-/// critical step: their first vertices exceed the budget, or all their steps are within it. `near` guesses the plan's
-/// price and changes no answer. Want of memory is the only error.
+/// critical step: their first vertices exceed the budget, or all their steps are within it. `beyond` says of each
+/// family how high all vertices behind its part lie at the low price. `near` guesses the plan's price and changes no
+/// answer. Want of memory is the only error.
 pub fn choose_stocks_by_parts<F: Families>(
     alloc: Global,
     case: &Case,
     families: &F,
     window: Window,
     parts: Vec<Curve>,
+    beyond: Vec<u128>,
     budget: u64,
     near: u128,
 ) -> Result<Option<ChosenStocks>, NoMemory>
@@ -47,6 +49,7 @@ pub fn choose_stocks_by_parts<F: Families>(
     requires vectors { HaveVectors case.now (F.points families.now) }
     requires window { IsPriceWindow window.low window.high }
     requires parts { ArePartsOf window.low window.high (F.points families.now) parts.items }
+    requires beyond { AllLieBeyond window.low (F.points families.now) parts.items beyond.items }
     ensures none { IfOk result (λ found. IfNone found (HasNoCritical parts.items budget)) }
     ensures some { IfOk result (λ found. IfSome found (λ _. HasNoCritical parts.items budget → ⊥)) }
     ensures fits { IfOk result (λ found. IfSome found (FitsCase case.now)) }
@@ -77,12 +80,14 @@ pub fn choose_stocks_by_parts<F: Families>(
     let mut known = Known {
         curves: parts,
         windows,
+        beyond,
         picks,
     };
     fill_parts(alloc, families, window.low, &mut known, budget)?;
     let Known {
         curves,
         windows: _,
+        beyond: _,
         picks,
     } = known;
     let stocks = filled(
@@ -99,8 +104,8 @@ pub fn choose_stocks_by_parts<F: Families>(
 /// The plan of a case on these terms, from the part between two prices of each family's curve.
 ///
 /// The outcome is the case's plan from held stocks, if the families' points are the case's points from them, as
-/// [`plan`](crate::plan) returns it. None exactly if the parts' hull choice has no critical step. `near` guesses the
-/// plan's price and changes no answer. Want of memory is the only error.
+/// [`plan`](crate::plan) returns it. None exactly if the parts' hull choice has no critical step. `beyond` and `near`
+/// are as of [`choose_stocks_by_parts`]. Want of memory is the only error.
 pub fn plan_by_parts<F: Families>(
     alloc: Global,
     case: &Case,
@@ -108,6 +113,7 @@ pub fn plan_by_parts<F: Families>(
     families: &F,
     window: Window,
     parts: Vec<Curve>,
+    beyond: Vec<u128>,
     terms: Terms,
     near: u128,
 ) -> Result<Option<Outcome>, NoMemory>
@@ -117,6 +123,7 @@ pub fn plan_by_parts<F: Families>(
     requires vectors { HaveVectors case.now (F.points families.now) }
     requires window { IsPriceWindow window.low window.high }
     requires parts { ArePartsOf window.low window.high (F.points families.now) parts.items }
+    requires beyond { AllLieBeyond window.low (F.points families.now) parts.items beyond.items }
     ensures none { IfOk result (λ found. IfNone found (HasNoCritical parts.items terms.budget)) }
     ensures some { IfOk result (λ found. IfSome found (λ _. HasNoCritical parts.items terms.budget → ⊥)) }
     ensures outcome { (ends : ScoreEnds) (held : List ℕ) → F.points families.now ≡ case_points ends case.now held
@@ -124,7 +131,9 @@ pub fn plan_by_parts<F: Families>(
 {
     let _sites = case.site_count();
     let budget = terms.budget;
-    let Some(chosen) = choose_stocks_by_parts(alloc, case, families, window, parts, budget, near)?
+    let Some(chosen) = choose_stocks_by_parts(
+        alloc, case, families, window, parts, beyond, budget, near,
+    )?
     else {
         return Ok(None);
     };

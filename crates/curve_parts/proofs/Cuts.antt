@@ -107,7 +107,8 @@ down_at p q hp hq ul uc wl wc q_positive to a b h = moved (ul - wl) (wc - uc) (o
         omega (arith, z, m, n)
 
 module _ (high : Price) (p q : ℕ) (q_positive : 0 < q) (to : p * high.q ≤ high.p * q) where
-  front_above : (front : List Point) (first : Point) → IsChain (front ++ first ∷ []) → AreSteeper high (front ++ first ∷ []) → (x : Point) → Among x front → lagrangian p q first < lagrangian p q x
+  -- in front of a step that is steeper than the high price all points lie higher, at each price up to it
+  pub front_above : (front : List Point) (first : Point) → IsChain (front ++ first ∷ []) → AreSteeper high (front ++ first ∷ []) → (x : Point) → Among x front → lagrangian p q first < lagrangian p q x
   front_above [] first c s x m = absurd m
   front_above (u ∷ []) first c s x m = elim m [
     | inl e ↦ subst (λ z. lagrangian p q first < lagrangian p q z) (sym e) (let t : Steps u first = c.0 in down_at p q high.p high.q u.lo u.cost first.lo first.cost q_positive to t.cost t.lo s.0)
@@ -133,7 +134,8 @@ module _ (low : Price) (p q : ℕ) (p_positive : 0 < p) (q_positive : 0 < q) (fr
           let y : d * (low.p * q) ≤ d * (p * low.q) = mul-le-mul_left d from in
           lt_of_mul-lt-mul_left low.q (let i : low.q * (f * q) < low.q * (p * d) = omega (arith, x, y) in i)
 
-  back_above : (last : Point) (back : List Point) → IsChain (last ∷ back) → AreFlatter low (last ∷ back) → (x : Point) → Among x back → lagrangian p q last < lagrangian p q x
+  -- behind one that is flatter than the low price they do at each price from it on
+  pub back_above : (last : Point) (back : List Point) → IsChain (last ∷ back) → AreFlatter low (last ∷ back) → (x : Point) → Among x back → lagrangian p q last < lagrangian p q x
   back_above last back c s x m = head_least p q last back q_positive c (flat_ahead last back s) x m
 
 -- ---- the cut
@@ -145,21 +147,25 @@ module _ (low high : Price) (curve part : List Point) (chain : IsChain curve) (k
   whole_chain : IsChain (k.front ++ (part ++ k.back))
   whole_chain = subst IsChain k.is chain
 
-  first_in : Among k.first part
+  -- the first vertex of a cut is in it
+  pub first_in : Among k.first part
   first_in = subst (Among k.first) (sym k.begins) (inl refl)
 
   last_in : Among k.last part
   last_in = subst (Among k.last) (sym k.ends) (among_right k.last k.before (k.last ∷ []) (inl refl))
 
-  in_whole : (v : Point) → Among v part → Among v (k.front ++ (part ++ k.back))
+  -- what is in a cut is in the whole
+  pub in_whole : (v : Point) → Among v part → Among v (k.front ++ (part ++ k.back))
   in_whole v m = among_right v k.front (part ++ k.back) (among_left v part k.back m)
 
-  front_chain : IsChain (k.front ++ k.first ∷ [])
+  -- what is before a cut is a chain, up to its first vertex
+  pub front_chain : IsChain (k.front ++ k.first ∷ [])
   front_chain = chain_prefix (k.front ++ k.first ∷ []) (k.after ++ k.back)
       (subst IsChain (sym (append_assoc k.front (k.first ∷ []) (k.after ++ k.back)))
       (subst (λ (l : List Point). IsChain (k.front ++ (l ++ k.back))) k.begins whole_chain))
 
-  back_chain : IsChain (k.last ∷ k.back)
+  -- what is behind it is one, from its last vertex on
+  pub back_chain : IsChain (k.last ∷ k.back)
   back_chain = chain_suffix k.before (k.last ∷ k.back)
       (subst IsChain (append_assoc k.before (k.last ∷ []) k.back)
       (subst (λ (l : List Point). IsChain (l ++ k.back)) k.ends (chain_suffix k.front (part ++ k.back) whole_chain)))

@@ -1,10 +1,11 @@
 //! The part of the points so far and of the sums of several parts.
 
-ghost use Rattle.std.specs.Prelude.{◌≡◌, ◌+◌, ◌^◌, ◌<◌, ◌≤◌, [], ◌∷◌, length, sum_by, IfOk, IsTrue, OnOk, OnErr};
+ghost use Rattle.std.specs.Prelude.{◌≡◌, ◌+◌, ◌^◌, ◌<◌, ◌≤◌, [], ◌∷◌, ◌++◌, length, sum_by, IfOk, IsTrue, OnOk, OnErr};
 ghost use Rattle.hull.specs.declared.point.Point.{Point};
 ghost use Rattle.hull.specs.Curves.{lagrangian, Among, HaveOneWidth, InRange};
 ghost use Rattle.sum_walk.specs.Sums.{sums_of_each};
 ghost use Rattle.curve_parts.specs.Cuts.{IsSmall, IsWindow};
+ghost use Rattle.curve_parts.specs.Beyond.{LieBeyond};
 ghost use Rattle.curve_parts.specs.Joins.{Begins, Joins, PassesAbove};
 
 use crate::window::cut;
@@ -14,7 +15,8 @@ use std::alloc::Global;
 use sum_walk::walk::{Walking, walk};
 
 /// The part between two prices of all points for which the sums of `first` and a vertex of each of `parts` suffice.
-/// There are 1 to 16 parts, between the same prices. Want of memory is the only error.
+/// There are 1 to 16 parts, between the same prices. Also returns how high all vertices of the sums behind it lie at
+/// the low price. Want of memory is the only error.
 pub fn part_of_sums<T: Spot>(
     alloc: Global,
     walking: &mut Walking,
@@ -22,7 +24,7 @@ pub fn part_of_sums<T: Spot>(
     parts: &[Chain<T>],
     low: Price,
     high: Price,
-) -> Result<Curve, NoMemory>
+) -> Result<(Curve, u128), NoMemory>
     requires some { 0 < length parts.now }
     requires few_parts { length parts.now ≤ 16 }
     requires few { 1 + sum_by length parts.now ≤ 2 ^ 31 }
@@ -32,14 +34,15 @@ pub fn part_of_sums<T: Spot>(
     requires low { IsSmall low }
     requires high { IsSmall high }
     requires window { IsWindow low high }
-    ensures part { IfOk result (λ part. Begins low high first.now parts.now part) }
-    ensures few { IfOk result (λ part. length part ≤ 1 + sum_by length parts.now) }
+    ensures part { IfOk result (λ made. Begins low high first.now parts.now made.0) }
+    ensures beyond { IfOk result (λ made. LieBeyond low (sums_of_each (first.now ∷ []) parts.now) made.0 made.1) }
+    ensures few { IfOk result (λ made. length made.0 ≤ 1 + sum_by length parts.now) }
 {
     let below = [];
     let handed = walk(alloc, walking, first, parts, &below)?;
     let mut curve = Curve::of(alloc, handed)?;
-    cut(&mut curve, low, high);
-    Ok(curve)
+    let beyond = cut(&mut curve, low, high);
+    Ok((curve, beyond))
 }
 
 /// Whether the Lagrangian of one of the vertices is below `at_low` at the low price and below `at_high` at the high
@@ -69,8 +72,8 @@ fn value(point: &Point, price: Price) -> u128
 }
 
 /// Joins to `curve`, which suffices for the points so far between two prices, all points for which the sums of `first`
-/// and a vertex of each of `parts` suffice there. `curve` is then the part of all these points. After `NoMemory` it is
-/// as before.
+/// and a vertex of each of `parts` suffice there. `curve` is then the part of all these points. Returns how high all
+/// vertices behind it lie at the low price, of those before and the sums. After `NoMemory` it is as before.
 pub fn join_sums<T: Spot>(
     alloc: Global,
     walking: &mut Walking,
@@ -79,7 +82,7 @@ pub fn join_sums<T: Spot>(
     curve: &mut Curve,
     low: Price,
     high: Price,
-) -> Result<(), NoMemory>
+) -> Result<u128, NoMemory>
     requires some { 0 < length parts.now }
     requires few_parts { length parts.now ≤ 16 }
     requires few { length curve.old + (1 + sum_by length parts.now) ≤ 2 ^ 31 }
@@ -91,6 +94,8 @@ pub fn join_sums<T: Spot>(
     requires high { IsSmall high }
     requires window { IsWindow low high }
     ensures ok { OnOk result (Joins low high first.now parts.now curve.old curve.new) }
+    ensures beyond { IfOk result
+        (λ beyond. LieBeyond low (curve.old ++ sums_of_each (first.now ∷ []) parts.now) curve.new beyond) }
     ensures few { OnOk result (length curve.new ≤ length curve.old + (1 + sum_by length parts.now)) }
     ensures err { OnErr result (curve.new ≡ curve.old) }
 {
@@ -98,6 +103,6 @@ pub fn join_sums<T: Spot>(
     let below = curve.vertices();
     let handed = walk(alloc, walking, first, parts, below)?;
     curve.add_points(handed)?;
-    cut(curve, low, high);
-    Ok(())
+    let beyond = cut(curve, low, high);
+    Ok(beyond)
 }

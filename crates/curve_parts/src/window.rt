@@ -3,9 +3,10 @@
 ghost use Rattle.std.specs.Prelude.{◌≡◌, ◌+◌, ◌-◌, ◌*◌, ◌^◌, ◌<◌, ◌≤◌, ℕ, List, IfOk, IsFalse, IsTrue, length, drop, take};
 ghost use Rattle.hull.specs.declared.point.Point.{Point};
 ghost use Rattle.hull.specs.declared.price.Price.{Price};
-ghost use Rattle.hull.specs.Curves.{Among, HaveOneWidth, InRange, IsBestAt, IsLeastAt, IsShape, point_at};
+ghost use Rattle.hull.specs.Curves.{lagrangian, Among, HaveOneWidth, InRange, IsBestAt, IsLeastAt, IsShape, point_at};
 ghost use Rattle.curve_parts.specs.Parts.{IsPartOf, IsPriceBetween};
 ghost use Rattle.curve_parts.specs.Cuts.{IsCutOf, IsWindow, Steeper, NoSteeper, Flatter, NoFlatter, StepAt, IsSmall};
+ghost use Rattle.curve_parts.specs.Beyond.{LieBeyond};
 
 use answers::NoMemory;
 use hull::{Chain, Curve, Point, Price, Spot};
@@ -29,6 +30,12 @@ pub trait Vertices {
         ensures rise { result.q + (point_at (list self.now) k).cost ≡ (point_at (list self.now) (k + 1)).cost }
         ensures small { IsSmall result };
 
+    /// The Lagrangian of the vertex at `k` at a price: `q` times the lower end and `p` times the cost.
+    fn value(&self, k: u32, price: Price) -> u128
+        requires place { k < length (list self.now) }
+        requires price { IsSmall price }
+        ensures { result ≡ lagrangian price.p price.q (point_at (list self.now) k) };
+
     /// Keeps only the vertices from the place `from` on and before the place `to`.
     fn keep(&mut self, from: u32, to: u32)
         requires order { from < to }
@@ -47,6 +54,12 @@ impl<T: Spot> Vertices for Chain<T> {
         self.slope(k)
     }
 
+    fn value(&self, k: u32, price: Price) -> u128 {
+        let _shape = self.len();
+        let point = self.at(k);
+        lagrangian_of(price, point.cost(), point.lo())
+    }
+
     fn keep(&mut self, from: u32, to: u32) {
         self.keep(from, to);
     }
@@ -63,9 +76,25 @@ impl Vertices for Curve {
         self.slope(k)
     }
 
+    fn value(&self, k: u32, price: Price) -> u128 {
+        let _shape = self.len();
+        let point = self.point(k);
+        lagrangian_of(price, point.cost, point.lo)
+    }
+
     fn keep(&mut self, from: u32, to: u32) {
         self.keep(from, to);
     }
+}
+
+/// The Lagrangian of a cost and a lower end at a price.
+fn lagrangian_of(price: Price, cost: u64, lo: u128) -> u128
+    requires price { IsSmall price }
+    requires cost { cost ≤ 1000000000000 }
+    requires lo { lo < 2 ^ 74 }
+    ensures { result ≡ price.q * lo + price.p * cost }
+{
+    u128::from(price.q) * lo + price.p * u128::from(cost)
 }
 
 /// Whether a step falls more per money than the price.
@@ -128,18 +157,52 @@ fn last_from<V: Vertices>(chain: &V, from: u32, low: Price) -> u32
     at
 }
 
+/// How high all vertices that are dearer than the one at the place `last` lie, where the next step is flatter than the
+/// price: the Lagrangian of the next one.
+fn next_value<V: Vertices>(chain: &V, last: u32, low: Price) -> u128
+    requires last { last < length (V.list chain.now) }
+    requires low { IsSmall low }
+    requires flatter { last + 1 < length (V.list chain.now) → StepAt (Flatter low) (V.list chain.now) last }
+    ensures { 0 < low.q → (w : Point) → Among w (V.list chain.now) → (point_at (V.list chain.now) last).cost < w.cost
+        → result ≤ lagrangian low.p low.q w }
+{
+    let count = chain.count();
+    if last + 1 < count {
+        chain.value(last + 1, low)
+    } else {
+        u128::MAX
+    }
+}
+
 /// Keeps only the part between two prices: the steps that fall as much per money as some price from `low` to `high`,
 /// with their vertices, or the one vertex that is best at all these prices. Steps before it are steeper than `high`,
-/// steps after it flatter than `low`.
-pub fn cut<V: Vertices>(chain: &mut V, low: Price, high: Price)
+/// steps after it flatter than `low`. Returns how high all vertices behind it lie: the least of their Lagrangians at
+/// the low price, the largest number if there is none.
+pub fn cut<V: Vertices>(chain: &mut V, low: Price, high: Price) -> u128
     requires low { IsSmall low }
     requires high { IsSmall high }
-    ensures { IsCutOf low high (V.list chain.old) (V.list chain.new) }
+    ensures cut { IsCutOf low high (V.list chain.old) (V.list chain.new) }
+    ensures beyond { IsWindow low high → LieBeyond low (V.list chain.old) (V.list chain.new) result }
 {
     let _shape = chain.count();
     let from = first_from(chain, high);
     let last = last_from(chain, from, low);
+    let beyond = next_value(chain, last, low);
     chain.keep(from, last + 1);
+    beyond
+}
+
+/// A number that no point has a smaller Lagrangian than at the low price, by a part that has a vertex: that of its last
+/// vertex, and 0 if the price is.
+pub fn least_at_low<V: Vertices>(part: &V, low: Price) -> u128
+    requires { IsSmall low }
+    ensures { (high : Price) (points : List Point) → IsWindow low high → IsPartOf low high points (V.list part.now)
+        → (w : Point) → Among w points → result ≤ lagrangian low.p low.q w }
+{
+    if low.p == 0 {
+        return 0;
+    }
+    part.value(part.count() - 1, low)
 }
 
 /// The part between two prices of the curve of one or more points, whose stocks have one length. Of points with the

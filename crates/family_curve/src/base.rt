@@ -95,11 +95,11 @@ pub fn put_curve<'b, S: Score>(
     here: &BaseAt<'_, 'b>,
     score: &S,
     numbers: &Numbers<48>,
-    tables: &DepotTables<'_>,
+    tables: &DepotTables,
 ) -> Result<(), NoMemory>
     requires here { IsBaseAt here.now }
     requires numbers { numbers.now ≡ box_numbers here.now.family.now }
-    requires tables { AreTables numbers.now (drop 1 here.now.depot.now) tables.now }
+    requires tables { AreTables here.now.family.now (drop 1 here.now.depot.now) tables.now }
     requires room { vector_count here.now.family.now here.now.site.0 ≤ 65000000 }
     ensures curve { IfOk result (λ _.
         IsCurve (base_points S.ends here.now.family.now here.now.depot.now here.now.site.0) chain.new) }

@@ -67,12 +67,12 @@ fn put_curves<'b, S: Score>(
     work: &mut Work<'b>,
     sources: &'b Sources<'_>,
     score: &S,
-    tables: &DepotTables<'_>,
+    tables: &DepotTables,
     depot: &[u8],
 ) -> Result<(), NoMemory>
     requires sources { AreSources sources.now }
     requires depot { IsAt sources.now.family.now 0 depot.now }
-    requires tables { AreTables sources.now.numbers (drop 1 depot.now) tables.now }
+    requires tables { AreTables sources.now.family.now (drop 1 depot.now) tables.now }
     requires room { vertex_count sources.now.family.now ≤ 65000000 }
     requires work { length work.old.chains.items ≡ length sources.now.bases.items }
     ensures stands { IfOk result (λ _. let x = sources.now.family.now in StandFor
@@ -105,13 +105,13 @@ fn depot_path<'b, S: Score>(
     work: &mut Work<'b>,
     sources: &'b Sources<'_>,
     score: &S,
-    tables: &DepotTables<'_>,
+    tables: &DepotTables,
     depot: &[u8],
     below: &[Point],
 ) -> Result<Vec<Point>, NoMemory>
     requires sources { AreSources sources.now }
     requires depot { IsAt sources.now.family.now 0 depot.now }
-    requires tables { AreTables sources.now.numbers (drop 1 depot.now) tables.now }
+    requires tables { AreTables sources.now.family.now (drop 1 depot.now) tables.now }
     requires room { length below.now + vertex_count sources.now.family.now ≤ 65000000 }
     requires ranges { (v : Point) → Among v below.now → InRange v }
     requires work { length work.old.chains.items ≡ length sources.now.bases.items }
@@ -137,12 +137,12 @@ fn with_depot<'b, S: Score>(
     work: &mut Work<'b>,
     sources: &'b Sources<'_>,
     score: &S,
-    tables: &DepotTables<'_>,
+    tables: &DepotTables,
     depot: &[u8],
 ) -> Result<Curve, NoMemory>
     requires sources { AreSources sources.now }
     requires depot { IsAt sources.now.family.now 0 depot.now }
-    requires tables { AreTables sources.now.numbers (drop 1 depot.now) tables.now }
+    requires tables { AreTables sources.now.family.now (drop 1 depot.now) tables.now }
     requires room { length (vertices_of so_far) + vertex_count sources.now.family.now ≤ 65000000 }
     requires widths { HaveWidthOf sources.now.family.now (vertices_of so_far) }
     requires work { length work.old.chains.items ≡ length sources.now.bases.items }
@@ -202,7 +202,7 @@ fn with_line<'b, S: Score>(
     work: &mut Work<'b>,
     sources: &'b Sources<'_>,
     score: &S,
-    tables: &DepotTables<'_>,
+    tables: &DepotTables,
     line: u8,
     shops: &[u8],
 ) -> Result<Curve, NoMemory>
@@ -210,7 +210,7 @@ fn with_line<'b, S: Score>(
     requires least { line_low sources.now.family.now 0 ≤ line }
     requires most { line ≤ line_high sources.now.family.now 0 }
     requires shops { AreShopsAt sources.now.family.now 0 shops.now }
-    requires tables { AreTables sources.now.numbers shops.now tables.now }
+    requires tables { AreTables sources.now.family.now shops.now tables.now }
     requires room { length (vertices_of so_far) + vertex_count sources.now.family.now ≤ 65000000 }
     requires widths { HaveWidthOf sources.now.family.now (vertices_of so_far) }
     requires work { length work.old.chains.items ≡ length sources.now.bases.items }
@@ -242,12 +242,12 @@ fn with_lines<'b, S: Score>(
     work: &mut Work<'b>,
     sources: &'b Sources<'_>,
     score: &S,
-    tables: &DepotTables<'_>,
+    tables: &DepotTables,
     shops: &[u8],
 ) -> Result<Curve, NoMemory>
     requires sources { AreSources sources.now }
     requires shops { AreShopsAt sources.now.family.now 0 shops.now }
-    requires tables { AreTables sources.now.numbers shops.now tables.now }
+    requires tables { AreTables sources.now.family.now shops.now tables.now }
     requires room { let x = sources.now.family.now in
         length (vertices_of so_far) + length (line_stocks x 0) * vertex_count x ≤ 65000000 }
     requires widths { HaveWidthOf sources.now.family.now (vertices_of so_far) }

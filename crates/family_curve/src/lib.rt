@@ -21,7 +21,7 @@ use answers::NoMemory;
 use demand_rates::kinds::Rates;
 use family_points::family::Family;
 use hull::{Curve, Score};
-use spares_input::{Case, PartId};
+use spares_input::{Case, PartId, nothing_held};
 use std::alloc::Global;
 
 pub mod base;
@@ -81,6 +81,7 @@ pub fn curve<S: Score>(
         → IsBetween (zeros case.now line.0) (limits case.now line.0) v.stocks) }
 {
     let _valid = case.site_count();
-    let bounds = Bounds::whole(alloc, case, line)?;
+    let held = nothing_held(alloc, case)?;
+    let bounds = Bounds::from_held(alloc, case, line, &held)?;
     curve_within(alloc, case, rates, line, &bounds, score)
 }

@@ -86,12 +86,12 @@ fn least_at_base<S: Score>(
     here: &BaseAt<'_, '_>,
     score: &S,
     numbers: &Numbers<48>,
-    tables: &DepotTables<'_>,
+    tables: &DepotTables,
     price: Price,
 ) -> Result<u128, NoMemory>
     requires here { IsBaseAt here.now }
     requires numbers { numbers.now ≡ box_numbers here.now.family.now }
-    requires tables { AreTables numbers.now (drop 1 here.now.depot.now) tables.now }
+    requires tables { AreTables here.now.family.now (drop 1 here.now.depot.now) tables.now }
     requires most_money { price.q ≤ 1000000000000 }
     requires price { price.p ≤ 2 ^ 74 }
     ensures least { IfOk result (IsLeast price.p price.q
@@ -108,13 +108,13 @@ fn least_at_depot<S: Score>(
     rows: &mut Vec<Vec<Iv64<48>>>,
     sources: &Sources<'_>,
     score: &S,
-    tables: &DepotTables<'_>,
+    tables: &DepotTables,
     depot: &[u8],
     price: Price,
 ) -> Result<u128, NoMemory>
     requires sources { AreSources sources.now }
     requires depot { IsAt sources.now.family.now 0 depot.now }
-    requires tables { AreTables sources.now.numbers (drop 1 depot.now) tables.now }
+    requires tables { AreTables sources.now.family.now (drop 1 depot.now) tables.now }
     requires most_money { price.q ≤ 1000000000000 }
     requires price { price.p ≤ 2 ^ 74 }
     ensures { IfOk result (IsLeast price.p price.q (depot_points S.ends sources.now.family.now depot.now)) }
@@ -134,14 +134,14 @@ fn depot_is_at_least<S: Score>(
     rows: &mut Vec<Vec<Iv64<48>>>,
     sources: &Sources<'_>,
     score: &S,
-    tables: &DepotTables<'_>,
+    tables: &DepotTables,
     depot: &[u8],
     price: Price,
     floor: u128,
 ) -> Result<bool, NoMemory>
     requires sources { AreSources sources.now }
     requires depot { IsAt sources.now.family.now 0 depot.now }
-    requires tables { AreTables sources.now.numbers (drop 1 depot.now) tables.now }
+    requires tables { AreTables sources.now.family.now (drop 1 depot.now) tables.now }
     requires most_money { price.q ≤ 1000000000000 }
     requires price { price.p ≤ 2 ^ 74 }
     ensures { IfOk result
@@ -161,7 +161,7 @@ fn are_at_least<S: Score>(
     rows: &mut Vec<Vec<Iv64<48>>>,
     sources: &Sources<'_>,
     score: &S,
-    tables: &DepotTables<'_>,
+    tables: &DepotTables,
     stocks: &mut [u8],
     price: Price,
     floor: u128,
@@ -169,7 +169,7 @@ fn are_at_least<S: Score>(
     requires sources { AreSources sources.now }
     requires some { 0 < length stocks.old }
     requires shops { AreShopsAt sources.now.family.now 0 (drop 1 stocks.old) }
-    requires tables { AreTables sources.now.numbers (drop 1 stocks.old) tables.now }
+    requires tables { AreTables sources.now.family.now (drop 1 stocks.old) tables.now }
     requires most_money { price.q ≤ 1000000000000 }
     requires price { price.p ≤ 2 ^ 74 }
     ensures { IfOk result

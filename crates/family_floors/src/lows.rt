@@ -5,6 +5,7 @@ ghost use Rattle.std.specs.Prelude.{◌≡◌, ℕ, ◌+◌, ◌-◌, ◌*◌, �
 ghost use Rattle.fleet_model.specs.Fleet.{family};
 ghost use Rattle.fleet_model.specs.Laws.{IsBase};
 ghost use Rattle.hull.specs.Curves.{lagrangian};
+ghost use Rattle.family_numbers.specs.Numbers.{shop_part};
 ghost use Rattle.family_points.specs.Inputs.{AreShopsAt, IsAt, held_at, line_high, line_low};
 ghost use Rattle.family_rows.specs.Sources.{AreSources};
 ghost use Rattle.family_points.specs.Least.{AreAtLeast};
@@ -17,12 +18,13 @@ ghost use Rattle.family_floors.specs.Lows.{AreNoHigher, AreUnder, IsReached, IsS
 
 use crate::bases::base_of;
 use backorder_bounds::Walk;
+use depot_pipeline::Moments;
 use family_numbers::Numbers;
 use family_numbers::own_part::{OwnPart, line_walk};
 use family_points::family::shops_of;
 use family_points::order::ShopVector;
 use family_rows::base_at::BaseAt;
-use family_rows::depot::{DepotTables, own_at};
+use family_rows::depot::{DepotTables, own_at, shops_at};
 use family_rows::sources::Sources;
 use hull::{Price, Score};
 use spares_input::SiteId;
@@ -78,29 +80,21 @@ fn lagrangian(price: Price, cost: u64, scored: u128) -> u128
 fn walk_at(
     here: &BaseAt<'_, '_>,
     numbers: &Numbers<48>,
-    tables: &DepotTables<'_>,
     own: &OwnPart<48>,
+    part: &Moments<48>,
     shops: &[u8],
 ) -> Walk<48>
     requires here { IsBaseAt here.now }
     requires numbers { numbers.now ≡ box_numbers here.now.family.now }
-    requires tables { AreTables numbers.now (drop 1 here.now.depot.now) tables.now }
     requires own { own.now ≡ own_at numbers.now here.now.depot.now here.now.site.0 }
+    requires part { part.now ≡ shop_part 48 numbers.now here.now.site.0 (drop 1 here.now.depot.now) shops.now }
     requires shops { AreShopsAt here.now.family.now here.now.site.0 shops.now }
     ensures { let x = here.now.family.now in let j = here.now.site.0 in
         result ≡ line_place x here.now.depot.now j shops.now (line_low x j) }
 {
     let (site, depot) = (here.site, here.depot);
     let _most = here.family.line_high(site);
-    let mut walk = line_walk(
-        numbers,
-        own,
-        depot[0],
-        shops_of(depot),
-        site,
-        tables.shops,
-        shops,
-    );
+    let mut walk = line_walk(numbers, own, depot[0], shops_of(depot), site, part, shops);
     for _k in 0..here.family.line_low(site) {
         walk.advance();
     }
@@ -108,6 +102,7 @@ fn walk_at(
 }
 
 /// Lower bounds on the Lagrangian of a base at the stock of a walk and these of the shop units, which cost `cost`.
+#[inline(always)]
 fn lows_at_stocks<S: Score>(
     here: &BaseAt<'_, '_>,
     score: &S,
@@ -146,16 +141,17 @@ fn lower_at_shops<S: Score>(
     here: &BaseAt<'_, '_>,
     score: &S,
     numbers: &Numbers<48>,
-    tables: &DepotTables<'_>,
     own: &OwnPart<48>,
+    part: &Moments<48>,
     shops: &ShopVector,
     low: Price,
     high: Price,
 ) -> Lows
     requires here { IsBaseAt here.now }
     requires numbers { numbers.now ≡ box_numbers here.now.family.now }
-    requires tables { AreTables numbers.now (drop 1 here.now.depot.now) tables.now }
     requires own { own.now ≡ own_at numbers.now here.now.depot.now here.now.site.0 }
+    requires part { part.now
+        ≡ shop_part 48 numbers.now here.now.site.0 (drop 1 here.now.depot.now) shops.now.stocks }
     requires shops { IsShopVector here.now.family.now here.now.site.0 shops.now }
     requires low { IsSmallPrice low }
     requires high { IsSmallPrice high }
@@ -172,7 +168,7 @@ fn lower_at_shops<S: Score>(
     if least.is_reached(low, high, shops.cost) {
         return least;
     }
-    let mut walk = walk_at(here, numbers, tables, own, shops.stocks.as_slice());
+    let mut walk = walk_at(here, numbers, own, part, shops.stocks.as_slice());
     let mut found = least.lower(lows_at_stocks(here, score, &walk, shops, shops.cost, low, high));
     for s in first..last {
         let cost = shops.cost + u64::from(s + 1 - first) * each;
@@ -189,7 +185,7 @@ fn lower_at_shops<S: Score>(
 pub fn lows_at_base<S: Score>(
     sources: &Sources<'_>,
     score: &S,
-    tables: &DepotTables<'_>,
+    tables: &DepotTables,
     depot: &[u8],
     j: u8,
     low: Price,
@@ -197,7 +193,7 @@ pub fn lows_at_base<S: Score>(
 ) -> Lows
     requires sources { AreSources sources.now }
     requires depot { IsAt sources.now.family.now 0 depot.now }
-    requires tables { AreTables sources.now.numbers (drop 1 depot.now) tables.now }
+    requires tables { AreTables sources.now.family.now (drop 1 depot.now) tables.now }
     requires base { IsBase sources.now.family.now.case j }
     requires low { IsSmallPrice low }
     requires high { IsSmallPrice high }
@@ -209,13 +205,16 @@ pub fn lows_at_base<S: Score>(
     let here = base_of(sources, depot, j);
     let numbers = &sources.numbers;
     let own = own_at(&here, numbers, tables);
+    let parts = shops_at(tables, &here);
     let mut least = Lows {
         at_low: MOST,
         at_high: MOST,
     };
     for n in 0..here.base.shops.len() {
         let shops = &here.base.shops[n];
-        least = lower_at_shops(least, &here, score, numbers, tables, &own, shops, low, high);
+        least = lower_at_shops(
+            least, &here, score, numbers, &own, &parts[n], shops, low, high,
+        );
     }
     least
 }
@@ -224,13 +223,13 @@ pub fn lows_at_base<S: Score>(
 pub(crate) fn low_at_depot<S: Score>(
     sources: &Sources<'_>,
     score: &S,
-    tables: &DepotTables<'_>,
+    tables: &DepotTables,
     depot: &[u8],
     price: Price,
 ) -> u128
     requires sources { AreSources sources.now }
     requires depot { IsAt sources.now.family.now 0 depot.now }
-    requires tables { AreTables sources.now.numbers (drop 1 depot.now) tables.now }
+    requires tables { AreTables sources.now.family.now (drop 1 depot.now) tables.now }
     requires most_money { price.q ≤ 1000000000000 }
     requires price { price.p ≤ 2 ^ 74 }
     ensures { AreAtLeast price.p price.q result (depot_points S.ends sources.now.family.now depot.now) }

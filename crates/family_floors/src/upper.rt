@@ -31,11 +31,11 @@ fn upper_at_base<S: Score>(
     here: &BaseAt<'_, '_>,
     score: &S,
     numbers: &Numbers<48>,
-    tables: &DepotTables<'_>,
+    tables: &DepotTables,
 ) -> Result<u128, NoMemory>
     requires here { IsBaseAt here.now }
     requires numbers { numbers.now ≡ box_numbers here.now.family.now }
-    requires tables { AreTables numbers.now (drop 1 here.now.depot.now) tables.now }
+    requires tables { AreTables here.now.family.now (drop 1 here.now.depot.now) tables.now }
     ensures upper { IfOk result
         (HasUpper (base_points S.ends here.now.family.now here.now.depot.now here.now.site.0)) }
     ensures most { IfOk result (λ hi. hi ≤ 2 ^ 74) }
@@ -52,12 +52,12 @@ fn upper_at_depot<S: Score>(
     rows: &mut Vec<Vec<Iv64<48>>>,
     sources: &Sources<'_>,
     score: &S,
-    tables: &DepotTables<'_>,
+    tables: &DepotTables,
     depot: &[u8],
 ) -> Result<u128, NoMemory>
     requires sources { AreSources sources.now }
     requires depot { IsAt sources.now.family.now 0 depot.now }
-    requires tables { AreTables sources.now.numbers (drop 1 depot.now) tables.now }
+    requires tables { AreTables sources.now.family.now (drop 1 depot.now) tables.now }
     ensures upper { IfOk result (HasUpper (depot_points S.ends sources.now.family.now depot.now)) }
     ensures most { IfOk result (λ hi. hi ≤ 16 * 2 ^ 74) }
 {

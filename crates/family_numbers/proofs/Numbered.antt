@@ -1,5 +1,5 @@
 -- The numbers that are read from a case are those of its definition, and they are a family's.
-use Rattle.std.proofs.Common.{◌≡◌, Bool, cond, not, nat_lt, position, Some, None, refl, ℕ, [], ◌∷◌, ◌+◌, ◌<◌, ◌≤◌, List, length, get_or, map, flat_map, sym, ap, ap₂, ◌∙◌, subst, arith, ◌-◌}
+use Rattle.std.proofs.Common.{◌≡◌, Bool, cond, not, nat_lt, position, Some, None, refl, ℕ, [], ◌∷◌, ◌+◌, ◌<◌, ◌≤◌, List, length, get_or, map, flat_map, sym, ap, ap₂, ◌∙◌, subst, arith}
 use Rattle.std.specs.List.{position_or_len}
 use Rattle.std.proofs.lemmas.List.{get_or-map, length-map}
 use Rattle.std.proofs.lemmas.List.Folds.{flat_map-map}

@@ -1,17 +1,20 @@
 -- A line unit at a base: what it has without its shop units there is small, and what these add is as listed.
-use Rattle.std.proofs.Common.{◌≡◌, ℕ, ◌+◌, ◌-◌, ◌*◌, ◌^◌, ◌<◌, ◌≤◌, ◌∙◌, List, length, refl, ap₂, subst, sym, arith, le_trans, lit<, mul-le-mul_right}
+use Rattle.std.proofs.Common.{◌≡◌, ℕ, zero, suc, ◌+◌, ◌-◌, ◌*◌, ◌^◌, ◌<◌, ◌≤◌, ◌∙◌, List, length, refl, ap, ap₂, subst, sym, arith, le_trans, lit<, mul-le-mul_right}
 use Rattle.std.proofs.Math.Nat.{pow-le-pow_right}
 use Rattle.std.specs.List.{All}
 use Rattle.std.proofs.lemmas.List.FromFn.{get_or-map-range_with_len, length-map-range_with_len}
-use Rattle.fixed_interval.specs.Ends.{Ends, ends_exact, ends_capped, ends_less, ends_mul}
+use Rattle.fixed_interval.specs.Ends.{Ends, ends_add, ends_exact, ends_less, ends_mul}
 use Rattle.moment_table.specs.declared.kinds.Row.{Row}
 use Rattle.moment_table.specs.Rows.{TableRows, at_stock}
 use Rattle.depot_pipeline.specs.declared.Feed.{Feed}
+use Rattle.depot_pipeline.specs.declared.Moments.{Moments}
 use Rattle.depot_pipeline.specs.Exact.{IsSmallFeed}
 use Rattle.depot_pipeline.specs.Profile.{added, capped_at, mean_part, variance_part}
 use Rattle.depot_pipeline.proofs.Laws.{part_most}
+use Rattle.base_pipeline.specs.declared.Held.{Held}
 use Rattle.base_pipeline.specs.Profile.{held_at}
-use Rattle.family_numbers.specs.Numbers.{AreNumbers, FamilyNumbers, base_helds, base_line_moments, base_shop_row, base_shop_table, depot_line_row, feed_from, held_from, nth_stock, own_part, pair_at}
+use Rattle.family_numbers.specs.declared.own_part.OwnPart.{OwnPart}
+use Rattle.family_numbers.specs.Numbers.{AreNumbers, FamilyNumbers, base_helds, base_line_moments, base_shop_row, base_shop_table, depot_line_row, feed_from, held_from, nth_stock, own_part, pair_at, shop_part}
 use Rattle.family_numbers.proofs.Served.{IsSmallRow, base_shop_small, depot_line_small, feed_is_small}
 
 part_least : (b : ℕ) (share number : Ends) → share.hi ≤ 2 ^ b → (ends_mul b share number).hi ≤ number.hi
@@ -77,13 +80,75 @@ room_for b i sum term few h s t =
     let more : (i + 1) * (768 * 2 ^ b) ≤ 8 * (768 * 2 ^ b) = mul-le-mul_right (768 * 2 ^ b) (omega (arith, h)) in
     omega (arith, unit, more, s, t)
 
--- the parts together
-pub whole_is : (f : ℕ) (x : FamilyNumbers f) (k o : ℕ) (d b : List ℕ) (cap : ℕ) (mean variance m v : Ends) → cap ≡ (pair_at x 0 k).cap
-    → mean ≡ added (own_part f x k o d).moments.mean (λ n. (held_at (base_helds f x k d b) n).backorders) (length x.parts - 1)
-    → variance ≡ added (own_part f x k o d).moments.variance (λ n. (held_at (base_helds f x k d b) n).spread) (length x.parts - 1)
-    → m ≡ ends_capped mean cap → v ≡ ends_capped variance cap → record { mean = m; variance = v } ≡ base_line_moments f x k o d b
-whole_is f x k o d b cap mean variance m v c hm hv em ev =
-    ap₂ (λ (y z : Ends). record { mean = y; variance = z }) em ev
-    ∙ ap₂ (λ (y z : Ends). capped_at f cap y z) hm hv
-    ∙ ap₂ (λ (n q : ℕ). capped_at f q (added (own_part f x k o d).moments.mean (λ i. (held_at (base_helds f x k d b) i).backorders) n)
-    (added (own_part f x k o d).moments.variance (λ i. (held_at (base_helds f x k d b) i).spread) n)) (sym (helds_count f x k d b)) c
+-- ---- the parts together
+
+same_ends : (a b : Ends) → a.lo ≡ b.lo → a.hi ≡ b.hi → a ≡ b
+same_ends a b e g = ap₂ (λ l h. record { lo = l; hi = h }) e g
+
+-- a sum from a first interval on is that interval and the sum of the parts alone
+added_apart : (f : ℕ) (first : Ends) (part : ℕ → Ends) (n : ℕ) → added first part n ≡ ends_add first (added (ends_exact f 0) part n)
+unfolding added
+added_apart f first part zero = same_ends first (ends_add first (ends_exact f 0)) (omega arith) (omega arith)
+added_apart f first part (suc n) =
+    let rest = added_apart f first part n in
+    same_ends (ends_add (added first part n) (part n)) (ends_add first (ends_add (added (ends_exact f 0) part n) (part n)))
+    (omega (arith, ap (λ (e : Ends). e.lo) rest)) (omega (arith, ap (λ (e : Ends). e.hi) rest))
+
+-- a sum of n parts, each at most `most`, is at most n times that
+added_most : (f : ℕ) (part : ℕ → Ends) (most n : ℕ) → ((k : ℕ) → k < n → (part k).hi ≤ most) → (added (ends_exact f 0) part n).hi ≤ n * most
+unfolding added
+added_most f part most zero h = omega arith
+added_most f part most (suc n) h = omega (arith, added_most f part most n (λ k l. h k (omega (arith, l))), h n (omega arith))
+
+-- the line unit's pipeline at a site is its own part and the shop units', cut at the cap
+pub line_is : (f : ℕ) (x : FamilyNumbers f) (k o : ℕ) (d b : List ℕ) (own : OwnPart f) (shops : Moments f) → own ≡ own_part f x k o d → shops ≡ shop_part f x k d b
+    → capped_at f own.cap (ends_add own.moments.mean shops.mean) (ends_add own.moments.variance shops.variance) ≡ base_line_moments f x k o d b
+line_is f x k o d b own shops e g =
+    let helds = base_helds f x k d b in
+    let part = own_part f x k o d in
+    ap₂ (λ (p : OwnPart f) (s : Moments f). capped_at f p.cap (ends_add p.moments.mean s.mean) (ends_add p.moments.variance s.variance)) e g
+    ∙ ap₂ (λ (y z : Ends). capped_at f part.cap y z) (sym (added_apart f part.moments.mean (λ n. (held_at helds n).backorders) (length helds)))
+    (sym (added_apart f part.moments.variance (λ n. (held_at helds n).spread) (length helds)))
+
+pub record HasRoom (f : ℕ) (own shops : Moments f) : Type 0 where
+  pub mean : own.mean.hi + shops.mean.hi < 2 ^ 127
+  pub variance : own.variance.hi + shops.variance.hi < 2 ^ 127
+
+sum_room : (b n own sum : ℕ) → b ≤ 52 → n ≤ 8 → own ≤ 768 * 2 ^ b → sum ≤ n * (256 * 2 ^ b) → own + sum < 2 ^ 127
+sum_room b n own sum few h s t =
+    let unit : 2 ^ b ≤ 2 ^ 52 = pow-le-pow_right (lit< tt) few in
+    let more : n * (256 * 2 ^ b) ≤ 8 * (256 * 2 ^ b) = mul-le-mul_right (256 * 2 ^ b) h in
+    omega (arith, unit, more, s, t)
+
+module _ (f : ℕ) (x : FamilyNumbers f) (are : AreNumbers f x) (k : ℕ) (d b : List ℕ) (inside : k < x.sites) (same : length b ≡ length x.parts - 1) (few : All (λ n. n ≤ 63) b) where
+  held_small : (i : ℕ) → i < length (base_helds f x k d b) → IsSmallRow f (base_shop_row f x i k (nth_stock d i) (nth_stock b i))
+  held_small i h = shop_small f x are k d b i _ inside (omega (arith, h, helds_count f x k d b)) same few refl
+
+  held_here : (i : ℕ) → i < length (base_helds f x k d b) → held_at (base_helds f x k d b) i ≡ held_from f (base_shop_row f x i k (nth_stock d i) (nth_stock b i))
+  held_here i h = held_of_shop f x k d b i (omega (arith, h, helds_count f x k d b))
+
+  -- the sums of both parts have room
+  pub line_room : (o : ℕ) (own : OwnPart f) (shops : Moments f) → f ≤ 52 → o ≤ 63 → own ≡ own_part f x k o d → shops ≡ shop_part f x k d b → HasRoom f own.moments shops
+  line_room o own shops scale small e g =
+      let helds = base_helds f x k d b in
+      let part = own_part f x k o d in
+      let first = own_small f x are k inside o d small in
+      let count : length helds ≤ 8 = omega (arith, helds_count f x k d b, are.few) in
+      subst (λ (s : Moments f). HasRoom f own.moments s) (sym g)
+      (subst (λ (p : OwnPart f). HasRoom f p.moments (shop_part f x k d b)) (sym e) (record {
+        mean = sum_room f (length helds) part.moments.mean.hi (shop_part f x k d b).mean.hi scale count first.mean_most
+            (added_most f (λ n. (held_at helds n).backorders) (256 * 2 ^ f) (length helds) (λ i h. subst (λ (y : Held f). y.backorders.hi ≤ 256 * 2 ^ f) (sym (held_here i h)) (held_small i h).ebo));
+        variance = sum_room f (length helds) part.moments.variance.hi (shop_part f x k d b).variance.hi scale count first.variance_most
+            (added_most f (λ n. (held_at helds n).spread) (256 * 2 ^ f) (length helds) (λ i h. subst (λ (y : Held f). y.spread.hi ≤ 256 * 2 ^ f) (sym (held_here i h)) (held_small i h).vbo));
+      }))
+
+-- the sums over all shop units are their part
+pub shops_made : (f : ℕ) (x : FamilyNumbers f) (k : ℕ) (d b : List ℕ) (mean variance : Ends)
+    → mean ≡ added (ends_exact f 0) (λ n. (held_at (base_helds f x k d b) n).backorders) (length x.parts - 1)
+    → variance ≡ added (ends_exact f 0) (λ n. (held_at (base_helds f x k d b) n).spread) (length x.parts - 1)
+    → record { mean = mean; variance = variance } ≡ shop_part f x k d b
+shops_made f x k d b mean variance m v =
+    let helds = base_helds f x k d b in
+    ap₂ (λ (y z : Ends). record { mean = y; variance = z }) m v
+    ∙ ap (λ n. record { mean = added (ends_exact f 0) (λ i. (held_at helds i).backorders) n; variance = added (ends_exact f 0) (λ i. (held_at helds i).spread) n })
+    (sym (helds_count f x k d b))

@@ -9,9 +9,9 @@ use Rattle.moment_table.specs.Rows.{TableRows, at_stock, AreBackorders}
 use Rattle.backorder_bounds.specs.Places.{Place}
 use Rattle.depot_pipeline.specs.declared.Moments.{Moments}
 use Rattle.depot_pipeline.specs.declared.Feed.{Feed}
-use Rattle.depot_pipeline.specs.Profile.{depot_shop_ends, depot_line_ends}
+use Rattle.depot_pipeline.specs.Profile.{added, depot_shop_ends, depot_line_ends}
 use Rattle.base_pipeline.specs.declared.Held.{Held}
-use Rattle.base_pipeline.specs.Profile.{base_shop_ends, base_own_ends, base_line_ends}
+use Rattle.base_pipeline.specs.Profile.{base_shop_ends, base_own_ends, base_line_ends, held_at}
 use Rattle.spares_input.specs.Cases.{CaseRows}
 use Rattle.spares_input.specs.Stocks.{limit_at}
 use Rattle.fleet_model.specs.Rows.{all_sites, stock, weight}
@@ -169,6 +169,13 @@ own_part f x k o d = record {
   moments = base_own_ends f (pair_at x 0 k).direct (feed_from f (pair_at x 0 k).share (depot_line_row f x d o));
   cap = (pair_at x 0 k).cap;
   limit = (pair_at x 0 k).limit;
+}
+
+-- the part of its pipeline there that the shop units make up: the sums of their backorders and of these' variances
+abbrev pub shop_part : (f : ℕ) → FamilyNumbers f → ℕ → List ℕ → List ℕ → Moments f
+shop_part f x k d b = record {
+  mean = added (ends_exact f 0) (λ i. (held_at (base_helds f x k d b) i).backorders) (length (base_helds f x k d b));
+  variance = added (ends_exact f 0) (λ i. (held_at (base_helds f x k d b) i).spread) (length (base_helds f x k d b));
 }
 
 -- its backorders at the stock s, on which its pipeline there doesn't depend

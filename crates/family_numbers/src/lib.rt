@@ -17,6 +17,7 @@ pub mod by_numbers;
 pub mod numbers;
 pub mod own_part;
 pub mod pair_tables;
+pub mod shop_part;
 
 pub use base_shops::BaseShops;
 pub use by_numbers::{depot_line, depot_shop_tables};

@@ -1,12 +1,11 @@
 //! A line unit at a base: the own part of its pipeline, which serves all stocks of its shop units there, and its
 //! backorders.
 
-ghost use Rattle.std.specs.Prelude.{◌≡◌, ◌-◌, ◌*◌, ◌^◌, ◌<◌, ◌≤◌, OnOk, length, All};
-ghost use Rattle.fixed_interval.specs.Ends.{IsWithinLimit};
-ghost use Rattle.family_numbers.specs.BaseTables.{HaveShops};
-ghost use Rattle.family_numbers.specs.Numbers.{AreBaseBackorders, base_line_moments, base_line_place, depot_line_table, own_part};
+ghost use Rattle.std.specs.Prelude.{◌≡◌, ◌+◌, ◌-◌, ◌*◌, ◌^◌, ◌<◌, ◌≤◌, OnOk, length, All};
+ghost use Rattle.fixed_interval.specs.Ends.{InScale, IsWithinLimit, ends_add};
+ghost use Rattle.depot_pipeline.specs.Profile.{capped_at};
+ghost use Rattle.family_numbers.specs.Numbers.{AreBaseBackorders, base_line_place, depot_line_table, own_part, shop_part};
 
-use crate::base_shops::{BaseShops, table_of};
 use crate::numbers::Numbers;
 use crate::pair_tables::feed_from;
 use answers::NoMemory;
@@ -53,43 +52,24 @@ pub fn own_part<const F: u32>(
     }
 }
 
-/// The pipeline of the line unit at a base, at the shop units' stocks `base` there, with these tables.
-fn line_moments<const F: u32>(
-    numbers: &Numbers<F>,
-    part: &OwnPart<F>,
-    own: u8,
-    depot: &[u8],
-    site: SiteId,
-    tables: &BaseShops<F>,
-    base: &[u8],
-) -> Moments<F>
-    requires part { part.now ≡ own_part F numbers.now site.0 own depot.now }
-    requires own { own ≤ 63 }
-    requires base { 0 < site.0 }
-    requires site { site.0 < numbers.now.sites }
-    requires tables { HaveShops F numbers.now depot.now tables.now }
-    requires count { length base.now ≡ length numbers.now.parts - 1 }
-    requires stocks { All (λ n. n ≤ 63) base.now }
-    ensures { result ≡ base_line_moments F numbers.now site.0 own depot.now base.now }
+/// The pipeline of the line unit at a base, from its own part and from the shop units'.
+fn line_moments<const F: u32>(part: &OwnPart<F>, shops: &Moments<F>) -> Moments<F>
+    requires mean { part.now.moments.mean.hi + shops.now.mean.hi < 2 ^ 127 }
+    requires variance { part.now.moments.variance.hi + shops.now.variance.hi < 2 ^ 127 }
+    ensures { result ≡ capped_at F part.now.cap
+        (ends_add part.now.moments.mean shops.now.mean)
+        (ends_add part.now.moments.variance shops.now.variance) }
 {
-    let _valid = numbers.sites();
-    let mut mean = part.moments.mean;
-    let mut variance = part.moments.variance;
-    for i in 0..numbers.shops() {
-        let table = table_of(tables, numbers, depot, site, i);
-        let stock = base[i];
-        mean = mean.add(table.ebo(stock));
-        variance = variance.add(table.vbo(stock));
-    }
+    let own = part.moments;
     Moments {
-        mean: mean.capped(part.cap),
-        variance: variance.capped(part.cap),
+        mean: own.mean.add(shops.mean).capped(part.cap),
+        variance: own.variance.add(shops.variance).capped(part.cap),
     }
 }
 
 /// Overwrites `found` with the line unit's backorders at a base, at each of its stocks there up to its limit. `part` is
-/// its own part there; the depot has `own` of it and the stocks `depot` of the shop units, and the base has their
-/// stocks `base`, with these tables.
+/// its own part there, and `shops` the shop units'; the depot has `own` of it and the stocks `depot` of the shop units,
+/// and the base has their stocks `base`.
 pub fn put_line_backorders<const F: u32>(
     found: &mut Vec<Iv64<F>>,
     numbers: &Numbers<F>,
@@ -97,21 +77,21 @@ pub fn put_line_backorders<const F: u32>(
     own: u8,
     depot: &[u8],
     site: SiteId,
-    tables: &BaseShops<F>,
+    shops: &Moments<F>,
     base: &[u8],
 ) -> Result<(), NoMemory>
+    requires scale { InScale F }
     requires part { part.now ≡ own_part F numbers.now site.0 own depot.now }
     requires own { own ≤ 63 }
-    requires base { 0 < site.0 }
     requires site { site.0 < numbers.now.sites }
-    requires tables { HaveShops F numbers.now depot.now tables.now }
+    requires shops { shops.now ≡ shop_part F numbers.now site.0 depot.now base.now }
     requires count { length base.now ≡ length numbers.now.parts - 1 }
     requires stocks { All (λ n. n ≤ 63) base.now }
     ensures ends { OnOk result (AreBaseBackorders F numbers.now site.0 own depot.now base.now found.new.items) }
     ensures most { OnOk result (All (IsWithinLimit F) found.new.items) }
 {
     let _valid = numbers.sites();
-    let moments = line_moments(numbers, part, own, depot, site, tables, base);
+    let moments = line_moments(part, shops);
     put_backorders(found, moments.mean, moments.variance, part.limit)
 }
 
@@ -123,19 +103,19 @@ pub fn line_walk<const F: u32>(
     own: u8,
     depot: &[u8],
     site: SiteId,
-    tables: &BaseShops<F>,
+    shops: &Moments<F>,
     base: &[u8],
 ) -> Walk<F>
+    requires scale { InScale F }
     requires part { part.now ≡ own_part F numbers.now site.0 own depot.now }
     requires own { own ≤ 63 }
-    requires base { 0 < site.0 }
     requires site { site.0 < numbers.now.sites }
-    requires tables { HaveShops F numbers.now depot.now tables.now }
+    requires shops { shops.now ≡ shop_part F numbers.now site.0 depot.now base.now }
     requires count { length base.now ≡ length numbers.now.parts - 1 }
     requires stocks { All (λ n. n ≤ 63) base.now }
     ensures { result ≡ base_line_place F numbers.now site.0 own depot.now base.now 0 }
 {
     let _valid = numbers.sites();
-    let moments = line_moments(numbers, part, own, depot, site, tables, base);
+    let moments = line_moments(part, shops);
     Walk::of(moments.mean, moments.variance)
 }

@@ -5,7 +5,8 @@ use Rattle.hull.specs.declared.point.Point.{Point}
 use Rattle.hull.specs.declared.price.Price.{Price}
 use Rattle.hull.specs.Curves.{Among}
 use Rattle.curve_parts.specs.Parts.{IsPartOf}
-use Rattle.curve_parts.proofs.Between.{part_of_members}
+use Rattle.curve_parts.specs.Beyond.{IsKnownPart}
+use Rattle.curve_parts.proofs.Beyond.{known_of_members}
 use Rattle.spares_input.specs.Cases.{CaseRows}
 use Rattle.family_points.specs.Vectors.{IsBetween, between, vectors}
 use Rattle.family_points.specs.Points.{ScoreEnds, point_at_vector, points_within}
@@ -18,30 +19,30 @@ use Rattle.family_points.proofs.Turns.{turn_lists}
 use Rattle.std.specs.List.{AllZip}
 
 -- the part of all stocks at the depot, the shop units' first
-part_turned : (low high : Price) (at : List ℕ → List Point) (a b : ℕ) (least most : List ℕ) (part : List Point)
-    → IsPartOf low high (flat_map (λ shops. flat_map (λ s. at (s ∷ shops)) (between a b)) (vectors least most)) part
-    → IsPartOf low high (flat_map at (vectors (a ∷ least) (b ∷ most))) part
-part_turned low high at a b least most part h =
+part_turned : (low high : Price) (at : List ℕ → List Point) (a b : ℕ) (least most : List ℕ) (part : List Point) (beyond : ℕ)
+    → IsKnownPart low high (flat_map (λ shops. flat_map (λ s. at (s ∷ shops)) (between a b)) (vectors least most)) part beyond
+    → IsKnownPart low high (flat_map at (vectors (a ∷ least) (b ∷ most))) part beyond
+part_turned low high at a b least most part beyond h =
     let points : ℕ → List ℕ → List Point = λ s shops. at (s ∷ shops) in
     let back : List ℕ → ℕ → List Point = λ shops s. at (s ∷ shops) in
-    subst (λ ps. IsPartOf low high ps part)
+    subst (λ ps. IsKnownPart low high ps part beyond)
     (sym (flat_flat at (λ s. map (λ v. s ∷ v) (vectors least most)) (between a b)
     ∙ same_flat (λ s. Unit {0}) (λ s. flat_map at (map (λ v. s ∷ v) (vectors least most))) (λ s. flat_map (points s) (vectors least most)) (between a b)
     (λ s _. flat_map-map at (λ v. s ∷ v) (vectors least most)) (each_any (between a b))))
-    (part_of_members low high (flat_map (λ shops. flat_map (back shops) (between a b)) (vectors least most)) (flat_map (λ s. flat_map (points s) (vectors least most)) (between a b)) part
+    (known_of_members low high (flat_map (λ shops. flat_map (back shops) (between a b)) (vectors least most)) (flat_map (λ s. flat_map (points s) (vectors least most)) (between a b)) part beyond
     (λ v. (turn_lists back v (vectors least most) (between a b), turn_lists points v (between a b) (vectors least most))) h)
 
 -- the part of the points of all stocks of the shop units at the depot is the part of all points of the box
-pub part_of_box : (x : FamilyBox) (valid : IsFamilyBox x) (ends : ScoreEnds) (low high : Price) (part : List Point) → IsPartOf low high (flat_map (shop_points ends x) (shop_vectors x 0)) part
-    → IsPartOf low high (box_points ends x) part
-part_of_box x valid ends low high part a =
+pub part_of_box : (x : FamilyBox) (valid : IsFamilyBox x) (ends : ScoreEnds) (low high : Price) (part : List Point) (beyond : ℕ) → IsKnownPart low high (flat_map (shop_points ends x) (shop_vectors x 0)) part beyond
+    → IsKnownPart low high (box_points ends x) part beyond
+part_of_box x valid ends low high part beyond a =
     let some = valid.valid.frame.fewest_sites in
     let inside : 0 < length x.case.sites = omega (arith, some) in
     let at : List ℕ → List Point = depot_points ends x in
-    subst (λ ps. IsPartOf low high ps part)
+    subst (λ ps. IsKnownPart low high ps part beyond)
     (ap₂ (λ low high. flat_map at (vectors low high)) (low_begins x valid 0 inside) (high_begins x valid 0 inside)
     ∙ separated_is ends x valid.valid valid.is_line valid.ordered)
-    (part_turned low high at (line_low x 0) (line_high x 0) (shop_low x 0) (shop_high x 0) part a)
+    (part_turned low high at (line_low x 0) (line_high x 0) (shop_low x 0) (shop_high x 0) part beyond a)
 
 -- each vertex of a part of a box has stocks from the least to the most
 pub part_between : (c : CaseRows) (l : ℕ) (ends : ScoreEnds) (held least most : List ℕ) (low high : Price) (part : List Point) → AllZip (λ x y. x ≤ y) least most

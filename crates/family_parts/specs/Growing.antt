@@ -3,15 +3,16 @@
 use Rattle.std.specs.Prelude.{ℕ, ◌+◌, ◌-◌, nat_le, List, ◌∷◌, ◌++◌, if◌then◌else◌}
 use Rattle.hull.specs.declared.point.Point.{Point}
 use Rattle.hull.specs.declared.price.Price.{Price}
-use Rattle.curve_parts.specs.Parts.{IsPartOf}
+use Rattle.curve_parts.specs.Beyond.{IsKnownPart}
 use Rattle.family_points.specs.Inputs.{FamilyBox, line_high, line_low}
 use Rattle.family_points.specs.Points.{ScoreEnds}
 use Rattle.family_points.specs.Separation.{depot_points}
 
--- if `old` is the part of some points, `new` is the part of these and of `more`
-abbrev pub Grows : Price → Price → List Point → List Point → List Point → Type 0
-Grows low high more old new =
-    (points : List Point) → IsPartOf low high points old → IsPartOf low high (points ++ more) new
+-- if `old` is the part of some points, and all vertices behind it lie as high as `before`, `new` is the part of these
+-- and of `more`, and all vertices behind it lie as high as `after`
+abbrev pub Grows : Price → Price → List Point → List Point → ℕ → List Point → ℕ → Type 0
+Grows low high more old before new after = (points : List Point) → IsKnownPart low high points old before
+    → IsKnownPart low high (points ++ more) new after
 
 -- the n-th of the numbers 0 to last, in the order from first up to last and then from the one before first down
 abbrev pub in_turn : ℕ → ℕ → ℕ → ℕ

@@ -1,9 +1,12 @@
 //! The part of each base's curve at given stocks of the depot.
 
 ghost use Rattle.std.specs.Prelude.{◌≡◌, ◌+◌, ◌≤◌, ◌∷◌, [], IfOk, drop, length, sum_by};
+ghost use Rattle.hull.specs.declared.point.Point.{Point};
+ghost use Rattle.hull.specs.Curves.{lagrangian, Among};
 ghost use Rattle.sum_walk.specs.Sums.{sums_of_each};
 ghost use Rattle.curve_parts.specs.Parts.{IsPartOf, StandForBetween};
 ghost use Rattle.curve_parts.specs.Cuts.{IsSmall, IsWindow};
+ghost use Rattle.curve_parts.specs.Beyond.{LieBeyond};
 ghost use Rattle.family_points.specs.Separation.{base_points, depot_point, depot_points};
 ghost use Rattle.family_points.specs.Inputs.{IsAt, vector_count, vertex_count};
 ghost use Rattle.family_rows.specs.Sources.{AreSources};
@@ -11,7 +14,7 @@ ghost use Rattle.family_rows.specs.Spots.{IsBaseAt};
 ghost use Rattle.family_rows.specs.Tabled.{AreTables, box_numbers};
 
 use answers::NoMemory;
-use curve_parts::cut;
+use curve_parts::{cut, least_at_low};
 use family_curve::base::{chains_of, put_curve};
 use family_floors::bases::base_of;
 use family_numbers::Numbers;
@@ -21,6 +24,7 @@ use family_rows::depot::DepotTables;
 use family_rows::sources::Sources;
 use hull::{Chain, Price, Score};
 use series_bounds::short::Iv64;
+use spares_input::SiteId;
 use std::alloc::Global;
 use sum_walk::walk::Walking;
 
@@ -48,6 +52,15 @@ impl<'b> Work<'b> {
     }
 }
 
+/// How high the points of a base or of several lie at the low price.
+#[derive(Clone, Copy, Drop)]
+struct Lowest {
+    /// No point is lower.
+    least: u128,
+    /// The vertices that the parts lack are higher by this.
+    gap: u128,
+}
+
 /// Sets `part` to the part of a base's curve between two prices, and `rows` to the backorders there.
 fn put_part<'b, S: Score>(
     part: &mut Chain<BaseSpot<'b>>,
@@ -55,13 +68,13 @@ fn put_part<'b, S: Score>(
     here: &BaseAt<'_, 'b>,
     score: &S,
     numbers: &Numbers<48>,
-    tables: &DepotTables<'_>,
+    tables: &DepotTables,
     low: Price,
     high: Price,
-) -> Result<(), NoMemory>
+) -> Result<Lowest, NoMemory>
     requires here { IsBaseAt here.now }
     requires numbers { numbers.now ≡ box_numbers here.now.family.now }
-    requires tables { AreTables numbers.now (drop 1 here.now.depot.now) tables.now }
+    requires tables { AreTables here.now.family.now (drop 1 here.now.depot.now) tables.now }
     requires room { vector_count here.now.family.now here.now.site.0 ≤ 65000000 }
     requires low { IsSmall low }
     requires high { IsSmall high }
@@ -69,25 +82,36 @@ fn put_part<'b, S: Score>(
     ensures part { IfOk result (λ _. IsPartOf low high
         (base_points S.ends here.now.family.now here.now.depot.now here.now.site.0) part.new) }
     ensures few { IfOk result (λ _. length part.new ≤ vector_count here.now.family.now here.now.site.0) }
+    ensures least { IfOk result (λ lowest. (w : Point)
+        → Among w (base_points S.ends here.now.family.now here.now.depot.now here.now.site.0)
+        → lowest.least ≤ lagrangian low.p low.q w) }
+    ensures beyond { IfOk result (λ lowest. LieBeyond low
+        (base_points S.ends here.now.family.now here.now.depot.now here.now.site.0) part.new
+        (lowest.least + lowest.gap)) }
 {
     put_curve(part, rows, here, score, numbers, tables)?;
-    cut(part, low, high);
-    Ok(())
+    let beyond = cut(part, low, high);
+    let least = least_at_low(part, low);
+    Ok(Lowest {
+        least,
+        gap: beyond.saturating_sub(least),
+    })
 }
 
-/// Sets the parts of all bases at these stocks of the depot.
+/// Sets the parts of all bases at these stocks of the depot. Returns how high the vertices lie at the low price that
+/// aren't sums of theirs.
 pub(crate) fn put_parts<'b, S: Score>(
     work: &mut Work<'b>,
     sources: &'b Sources<'_>,
     score: &S,
-    tables: &DepotTables<'_>,
+    tables: &DepotTables,
     depot: &[u8],
     low: Price,
     high: Price,
-) -> Result<(), NoMemory>
+) -> Result<u128, NoMemory>
     requires sources { AreSources sources.now }
     requires depot { IsAt sources.now.family.now 0 depot.now }
-    requires tables { AreTables sources.now.numbers (drop 1 depot.now) tables.now }
+    requires tables { AreTables sources.now.family.now (drop 1 depot.now) tables.now }
     requires room { vertex_count sources.now.family.now ≤ 65000000 }
     requires low { IsSmall low }
     requires high { IsSmall high }
@@ -96,14 +120,20 @@ pub(crate) fn put_parts<'b, S: Score>(
     ensures stands { IfOk result (λ _. let x = sources.now.family.now in StandForBetween low high
         (depot_points S.ends x depot.now)
         (sums_of_each (depot_point x depot.now ∷ []) work.new.parts.items)) }
+    ensures beyond { IfOk result (λ beyond. let x = sources.now.family.now in LieBeyond low
+        (depot_points S.ends x depot.now)
+        (sums_of_each (depot_point x depot.now ∷ []) work.new.parts.items) beyond) }
     ensures few { IfOk result
         (λ _. 1 + sum_by length work.new.parts.items ≤ vertex_count sources.now.family.now) }
     ensures work { IfOk result (λ _. length work.new.parts.items ≡ length sources.now.bases.items) }
 {
     let _size = sources.family.size();
+    let cost = u128::from(sources.family.cost(SiteId(0), depot));
+    let mut least = low.p * cost;
+    let mut gap = u128::MAX;
     for j in 1..sources.family.sites() {
         let here = base_of(sources, depot, j);
-        put_part(
+        let lowest = put_part(
             &mut work.parts[usize::from(j) - 1],
             &mut work.rows,
             &here,
@@ -113,6 +143,8 @@ pub(crate) fn put_parts<'b, S: Score>(
             low,
             high,
         )?;
+        least = least.saturating_add(lowest.least);
+        gap = gap.min(lowest.gap);
     }
-    Ok(())
+    Ok(least.saturating_add(gap))
 }

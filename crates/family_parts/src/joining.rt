@@ -1,12 +1,12 @@
 //! The part of a family's curve: what each choice of stocks at the depot adds to the part so far.
 
-ghost use Rattle.std.specs.Prelude.{◌≡◌, ◌+◌, ◌-◌, ◌*◌, ◌^◌, ◌<◌, ◌≤◌, ◌∷◌, [], IfOk, drop, get_or, length, sum_by};
+ghost use Rattle.std.specs.Prelude.{◌≡◌, ◌+◌, ◌-◌, ◌*◌, ◌^◌, ◌<◌, ◌≤◌, ◌∷◌, ◌++◌, [], IfOk, drop, get_or, length, sum_by};
 ghost use Rattle.hull.specs.declared.point.Point.{Point};
 ghost use Rattle.hull.specs.Curves.{Among, HaveOneWidth, InRange};
 ghost use Rattle.sum_walk.specs.Sums.{sums_of_each};
-ghost use Rattle.curve_parts.specs.Parts.{IsPartOf};
 ghost use Rattle.curve_parts.specs.Cuts.{IsSmall, IsWindow};
 ghost use Rattle.curve_parts.specs.Joins.{Joins};
+ghost use Rattle.curve_parts.specs.Beyond.{IsKnownPart, LieBeyond};
 ghost use Rattle.family_points.specs.Separation.{depot_points, shop_points};
 ghost use Rattle.family_points.specs.Inputs.{box_points};
 ghost use Rattle.family_points.specs.Inputs.{
@@ -49,7 +49,8 @@ fn vertices_of(part: &Option<Curve>) -> &[Point]
     }
 }
 
-/// Joins to the part so far all sums of `first` and a vertex of each of `parts`.
+/// Joins to the part so far all sums of `first` and a vertex of each of `parts`. Returns how high all vertices behind
+/// it lie at the low price.
 fn join_parts<T: Spot>(
     alloc: Global,
     part: &mut Option<Curve>,
@@ -58,7 +59,7 @@ fn join_parts<T: Spot>(
     parts: &[Chain<T>],
     low: Price,
     high: Price,
-) -> Result<(), NoMemory>
+) -> Result<u128, NoMemory>
     requires some { 0 < length parts.now }
     requires few_parts { length parts.now ≤ 16 }
     requires few { length (vertices_of part.old) + (1 + sum_by length parts.now) ≤ 2 ^ 31 }
@@ -72,14 +73,19 @@ fn join_parts<T: Spot>(
     requires window { IsWindow low high }
     ensures joins { IfOk result
         (λ _. Joins low high first.now parts.now (vertices_of part.old) (vertices_of part.new)) }
+    ensures beyond { IfOk result (λ beyond. LieBeyond low
+        (vertices_of part.old ++ sums_of_each (first.now ∷ []) parts.now) (vertices_of part.new) beyond) }
     ensures few { IfOk result
         (λ _. length (vertices_of part.new) ≤ length (vertices_of part.old) + (1 + sum_by length parts.now)) }
 {
     match part {
-        Some(curve) => join_sums(alloc, walking, first, parts, curve, low, high)?,
-        None => *part = Some(part_of_sums(alloc, walking, first, parts, low, high)?),
+        Some(curve) => join_sums(alloc, walking, first, parts, curve, low, high),
+        None => {
+            let (curve, beyond) = part_of_sums(alloc, walking, first, parts, low, high)?;
+            *part = Some(curve);
+            Ok(beyond)
+        }
     }
-    Ok(())
 }
 
 /// Adds to the part so far all vectors with these stocks at the depot. The stocks are passed over if lower bounds allow
@@ -87,17 +93,18 @@ fn join_parts<T: Spot>(
 fn grow_with<'b, S: Score>(
     alloc: Global,
     part: &mut Option<Curve>,
+    beyond: &mut u128,
     work: &mut Work<'b>,
     sources: &'b Sources<'_>,
     score: &S,
-    tables: &DepotTables<'_>,
+    tables: &DepotTables,
     depot: &[u8],
     low: Price,
     high: Price,
 ) -> Result<(), NoMemory>
     requires sources { AreSources sources.now }
     requires depot { IsAt sources.now.family.now 0 depot.now }
-    requires tables { AreTables sources.now.numbers (drop 1 depot.now) tables.now }
+    requires tables { AreTables sources.now.family.now (drop 1 depot.now) tables.now }
     requires room { length (vertices_of part.old) + vertex_count sources.now.family.now ≤ 65000000 }
     requires widths { HaveWidthOf sources.now.family.now (vertices_of part.old) }
     requires work { length work.old.parts.items ≡ length sources.now.bases.items }
@@ -105,7 +112,7 @@ fn grow_with<'b, S: Score>(
     requires high { IsSmall high }
     requires window { IsWindow low high }
     ensures part { IfOk result (λ _. Grows low high (depot_points S.ends sources.now.family.now depot.now)
-        (vertices_of part.old) (vertices_of part.new)) }
+        (vertices_of part.old) beyond.old (vertices_of part.new) beyond.new) }
     ensures few { IfOk result (λ _. length (vertices_of part.new)
         ≤ length (vertices_of part.old) + vertex_count sources.now.family.now) }
     ensures widths { IfOk result (λ _. HaveWidthOf sources.now.family.now (vertices_of part.new)) }
@@ -113,13 +120,15 @@ fn grow_with<'b, S: Score>(
 {
     let _size = sources.family.size();
     let vertices = vertices_of(part);
-    if is_passed_over(vertices, sources, score, tables, depot, low, high) {
+    if let Some(at_low) = is_passed_over(vertices, sources, score, tables, depot, low, high) {
+        *beyond = at_low.min(*beyond);
         return Ok(());
     }
-    put_parts(work, sources, score, tables, depot, low, high)?;
+    let made = put_parts(work, sources, score, tables, depot, low, high)?;
     let first = depot_point(alloc, sources.family, depot)?;
     let parts = work.parts.as_slice();
-    join_parts(alloc, part, &mut work.walking, &first, parts, low, high)?;
+    let behind = join_parts(alloc, part, &mut work.walking, &first, parts, low, high)?;
+    *beyond = made.min(behind).min(*beyond);
     Ok(())
 }
 
@@ -174,10 +183,11 @@ fn line_stock(family: &Family<'_>, first: u8, n: u8) -> u8
 fn grow_with_lines<'b, S: Score>(
     alloc: Global,
     part: &mut Option<Curve>,
+    beyond: &mut u128,
     work: &mut Work<'b>,
     sources: &'b Sources<'_>,
     score: &S,
-    tables: &DepotTables<'_>,
+    tables: &DepotTables,
     stocks: &mut [u8],
     low: Price,
     high: Price,
@@ -185,7 +195,7 @@ fn grow_with_lines<'b, S: Score>(
     requires sources { AreSources sources.now }
     requires some { 0 < length stocks.old }
     requires shops { AreShopsAt sources.now.family.now 0 (drop 1 stocks.old) }
-    requires tables { AreTables sources.now.numbers (drop 1 stocks.old) tables.now }
+    requires tables { AreTables sources.now.family.now (drop 1 stocks.old) tables.now }
     requires room { let x = sources.now.family.now in
         length (vertices_of part.old) + length (line_stocks x 0) * vertex_count x ≤ 65000000 }
     requires widths { HaveWidthOf sources.now.family.now (vertices_of part.old) }
@@ -194,7 +204,8 @@ fn grow_with_lines<'b, S: Score>(
     requires high { IsSmall high }
     requires window { IsWindow low high }
     ensures part { IfOk result (λ _. Grows low high
-        (shop_points S.ends sources.now.family.now (drop 1 stocks.old)) (vertices_of part.old) (vertices_of part.new)) }
+        (shop_points S.ends sources.now.family.now (drop 1 stocks.old)) (vertices_of part.old) beyond.old
+        (vertices_of part.new) beyond.new) }
     ensures few { IfOk result (λ _. let x = sources.now.family.now in length (vertices_of part.new)
         ≤ length (vertices_of part.old) + length (line_stocks x 0) * vertex_count x) }
     ensures widths { IfOk result (λ _. HaveWidthOf sources.now.family.now (vertices_of part.new)) }
@@ -206,7 +217,9 @@ fn grow_with_lines<'b, S: Score>(
     let begin = line_first(family, part);
     for n in 0..last + 1 {
         stocks[0] = line_stock(family, begin, n);
-        grow_with(alloc, part, work, sources, score, tables, stocks, low, high)?;
+        grow_with(
+            alloc, part, beyond, work, sources, score, tables, stocks, low, high,
+        )?;
     }
     Ok(())
 }
@@ -215,6 +228,7 @@ fn grow_with_lines<'b, S: Score>(
 fn grow_with_shops<'b, S: Score>(
     alloc: Global,
     part: &mut Option<Curve>,
+    beyond: &mut u128,
     work: &mut Work<'b>,
     sources: &'b Sources<'_>,
     score: &S,
@@ -232,7 +246,8 @@ fn grow_with_shops<'b, S: Score>(
     requires high { IsSmall high }
     requires window { IsWindow low high }
     ensures part { IfOk result (λ _. let x = sources.now.family.now in Grows low high
-        (shop_points S.ends x (get_or (shop_vectors x 0) number [])) (vertices_of part.old) (vertices_of part.new)) }
+        (shop_points S.ends x (get_or (shop_vectors x 0) number [])) (vertices_of part.old) beyond.old
+        (vertices_of part.new) beyond.new) }
     ensures few { IfOk result (λ _. let x = sources.now.family.now in length (vertices_of part.new)
         ≤ length (vertices_of part.old) + length (line_stocks x 0) * vertex_count x) }
     ensures widths { IfOk result (λ _. HaveWidthOf sources.now.family.now (vertices_of part.new)) }
@@ -242,12 +257,12 @@ fn grow_with_shops<'b, S: Score>(
     let tables = depot_tables(alloc, sources, shops_of(stocks.as_slice()))?;
     let at_depot = stocks.as_mut_slice();
     grow_with_lines(
-        alloc, part, work, sources, score, &tables, at_depot, low, high,
+        alloc, part, beyond, work, sources, score, &tables, at_depot, low, high,
     )
 }
 
-/// The part of all vectors of the family within its bounds. The shop units' stocks at the depot are taken from the
-/// middle ones on.
+/// The part of all vectors of the family within its bounds, and how high all vertices behind it lie at the low price.
+/// The shop units' stocks at the depot are taken from the middle ones on.
 fn whole_part<'b, S: Score>(
     alloc: Global,
     work: &mut Work<'b>,
@@ -255,25 +270,36 @@ fn whole_part<'b, S: Score>(
     score: &S,
     low: Price,
     high: Price,
-) -> Result<Curve, NoMemory>
+) -> Result<(Curve, u128), NoMemory>
     requires sources { AreSources sources.now }
     requires room { vector_count sources.now.family.now 0 * vertex_count sources.now.family.now ≤ 65000000 }
     requires work { length work.old.parts.items ≡ length sources.now.bases.items }
     requires low { IsSmall low }
     requires high { IsSmall high }
     requires window { IsWindow low high }
-    ensures { IfOk result (IsPartOf low high (box_points S.ends sources.now.family.now)) }
+    ensures { IfOk result (λ made. IsKnownPart low high (box_points S.ends sources.now.family.now) made.0 made.1) }
 {
     let family = sources.family;
     let _size = family.size();
     let count = family.shop_count(SiteId(0));
     let middle = (count - 1) / 2;
     let mut part = None;
+    let mut beyond = u128::MAX;
     for n in 0..count {
         let number = in_turn(middle, count - 1, n);
-        grow_with_shops(alloc, &mut part, work, sources, score, number, low, high)?;
+        grow_with_shops(
+            alloc,
+            &mut part,
+            &mut beyond,
+            work,
+            sources,
+            score,
+            number,
+            low,
+            high,
+        )?;
     }
-    Ok(part.unwrap())
+    Ok((part.unwrap(), beyond))
 }
 
 /// The part of all vectors of the family of these sources within its bounds.
@@ -283,13 +309,13 @@ fn part_of<S: Score>(
     score: &S,
     low: Price,
     high: Price,
-) -> Result<Curve, NoMemory>
+) -> Result<(Curve, u128), NoMemory>
     requires sources { AreSources sources.now }
     requires room { vector_count sources.now.family.now 0 * vertex_count sources.now.family.now ≤ 65000000 }
     requires low { IsSmall low }
     requires high { IsSmall high }
     requires window { IsWindow low high }
-    ensures { IfOk result (IsPartOf low high (box_points S.ends sources.now.family.now)) }
+    ensures { IfOk result (λ made. IsKnownPart low high (box_points S.ends sources.now.family.now) made.0 made.1) }
 {
     let mut work = Work::new(alloc, sources)?;
     whole_part(alloc, &mut work, sources, score, low, high)
@@ -302,12 +328,12 @@ pub(crate) fn family_part<S: Score>(
     score: &S,
     low: Price,
     high: Price,
-) -> Result<Curve, NoMemory>
+) -> Result<(Curve, u128), NoMemory>
     requires room { vector_count family.now 0 * vertex_count family.now ≤ 65000000 }
     requires low { IsSmall low }
     requires high { IsSmall high }
     requires window { IsWindow low high }
-    ensures { IfOk result (IsPartOf low high (box_points S.ends family.now)) }
+    ensures { IfOk result (λ made. IsKnownPart low high (box_points S.ends family.now) made.0 made.1) }
 {
     let sources = Sources::of(alloc, family)?;
     part_of(alloc, &sources, score, low, high)

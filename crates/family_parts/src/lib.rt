@@ -11,8 +11,8 @@ ghost use Rattle.demand_rates.specs.Rates.{AreRatesOf};
 ghost use Rattle.family_items.specs.Inputs.{IsLine};
 ghost use Rattle.hull.specs.declared.point.Point.{Point};
 ghost use Rattle.hull.specs.Curves.{Among, InRange};
-ghost use Rattle.curve_parts.specs.Parts.{IsPartOf};
 ghost use Rattle.curve_parts.specs.Cuts.{IsSmall, IsWindow};
+ghost use Rattle.curve_parts.specs.Beyond.{IsKnownPart};
 ghost use Rattle.family_points.specs.Vectors.{IsBetween};
 ghost use Rattle.family_points.specs.Points.{points_within, AreOrdered};
 ghost use Rattle.family_points.specs.Counts.{most_tables, tables_between};
@@ -34,7 +34,8 @@ mod near;
 pub use near::cost_near;
 
 /// The part between two prices of the curve of a line unit's family, over the vectors from `low` to `high` of the
-/// bounds. The cost counts stocks above `held`.
+/// bounds. The cost counts stocks above `held`. Also returns how high all vertices behind the part lie: no Lagrangian
+/// of theirs at the low price is smaller.
 ///
 /// A price is at most 2^74 units of 2^-48 for at most 10^12 of money. The high price is at least the low one and above
 /// 0; some price lies between them. The rates are those of the case, and the bounds are in order: held at most least,
@@ -49,7 +50,7 @@ pub fn part_within<S: Score>(
     low: Price,
     high: Price,
     score: &S,
-) -> Result<Curve, NoMemory>
+) -> Result<(Curve, u128), NoMemory>
     requires rates { AreRatesOf case.now rates.now }
     requires line { IsLine case.now line.0 }
     requires ordered { AreOrdered case.now line.0 bounds.now.held bounds.now.low bounds.now.high }
@@ -57,16 +58,16 @@ pub fn part_within<S: Score>(
     requires low { IsSmall low }
     requires high { IsSmall high }
     requires window { IsWindow low high }
-    ensures part { IfOk result
-        (IsPartOf low high (points_within case.now line.0 S.ends bounds.now.held bounds.now.low bounds.now.high)) }
-    ensures some { IfOk result (λ part. 0 < length part) }
-    ensures ranges { IfOk result (λ part. (v : Point) → Among v part → InRange v) }
-    ensures stocks { IfOk result (λ part. (v : Point) → Among v part
+    ensures part { IfOk result (λ made. IsKnownPart low high
+        (points_within case.now line.0 S.ends bounds.now.held bounds.now.low bounds.now.high) made.0 made.1) }
+    ensures some { IfOk result (λ made. 0 < length made.0) }
+    ensures ranges { IfOk result (λ made. (v : Point) → Among v made.0 → InRange v) }
+    ensures stocks { IfOk result (λ made. (v : Point) → Among v made.0
         → IsBetween bounds.now.low bounds.now.high v.stocks) }
 {
     let _sites = case.site_count();
     let family = Family::of(case, rates, line, bounds);
-    let part = family_part(alloc, &family, score, low, high)?;
+    let (part, beyond) = family_part(alloc, &family, score, low, high)?;
     let _vertices = part.len();
-    Ok(part)
+    Ok((part, beyond))
 }

@@ -31,14 +31,14 @@ fn lower_at_depot<S: Score>(
     least: Lows,
     sources: &Sources<'_>,
     score: &S,
-    tables: &DepotTables<'_>,
+    tables: &DepotTables,
     depot: &[u8],
     low: Price,
     high: Price,
 ) -> Lows
     requires sources { AreSources sources.now }
     requires depot { IsAt sources.now.family.now 0 depot.now }
-    requires tables { AreTables sources.now.numbers (drop 1 depot.now) tables.now }
+    requires tables { AreTables sources.now.family.now (drop 1 depot.now) tables.now }
     requires low { IsSmall low }
     requires high { IsSmall high }
 {
@@ -68,7 +68,7 @@ fn lower_at_lines<S: Score>(
     mut least: Lows,
     sources: &Sources<'_>,
     score: &S,
-    tables: &DepotTables<'_>,
+    tables: &DepotTables,
     stocks: &mut [u8],
     low: Price,
     high: Price,
@@ -76,7 +76,7 @@ fn lower_at_lines<S: Score>(
     requires sources { AreSources sources.now }
     requires some { 0 < length stocks.old }
     requires shops { AreShopsAt sources.now.family.now 0 (drop 1 stocks.old) }
-    requires tables { AreTables sources.now.numbers (drop 1 stocks.old) tables.now }
+    requires tables { AreTables sources.now.family.now (drop 1 stocks.old) tables.now }
     requires low { IsSmall low }
     requires high { IsSmall high }
 {

@@ -1,14 +1,14 @@
 -- Facts of a family and of the bounds of its vectors.
 use Rattle.std.proofs.Common.{◌≡◌, ◌==◌, ℕ, zero, suc, ◌+◌, ◌-◌, ◌*◌, ◌<◌, ◌≤◌, Bool, true, false, cond, ltb-true, List, [], ◌∷◌, ◌++◌, length, get_or, map, flat_map, take, drop, position, nat_lt, Option, Some, None, refl, sym, ap, ap₂, ◌∙◌, subst, arith, add-one, length-append}
 use Rattle.std.specs.List.{position_or_len, range_with_len, All, AllZip, AllByRecursion}
-use Rattle.std.proofs.lemmas.List.{length-map, get_or-map, drop_all, append_assoc, append-nil}
+use Rattle.std.proofs.lemmas.List.{length-map, get_or-map, drop_all, append-nil}
 use Rattle.std.proofs.lemmas.Nat.{mul-le}
 use Rattle.std.proofs.lemmas.List.Sums.{passes_at_first}
 use Rattle.std.proofs.lemmas.Simd.{map-map}
 use Rattle.std.proofs.lemmas.Bool.{eqb-true}
 use Rattle.std.proofs.Math.Seq.{take-append_seam, drop-append-add}
 use Rattle.std.specs.Option.{option_map_or}
-use Rattle.std.proofs.lemmas.List.FromFn.{length-range_with_len, map-range_with_len_more}
+use Rattle.std.proofs.lemmas.List.FromFn.{length-range_with_len}
 use Rattle.std.proofs.lemmas.List.Concat.{flat_map-append}
 use Rattle.spares_input.specs.declared.rows.PartId.{PartId}
 use Rattle.spares_input.specs.Rows.{no_part}
@@ -306,12 +306,6 @@ module _ (x : FamilyBox) (valid : IsFamilyBox x) where
   }
 
 -- ---- lists that grow
-
-pub mapped_more : (f : ℕ → ℕ) (k x : ℕ) (old list next : List ℕ) → next ≡ list ++ x ∷ [] → list ≡ old ++ map f (range_with_len 0 k) → x ≡ f k
-    → next ≡ old ++ map f (range_with_len 0 (k + 1))
-mapped_more f k x old list next e h g =
-    e ∙ ap₂ (λ (a : List ℕ) (b : ℕ). a ++ b ∷ []) h g ∙ append_assoc old (map f (range_with_len 0 k)) (f k ∷ [])
-    ∙ ap (λ (r : List ℕ). old ++ r) (sym (map-range_with_len_more f 0 k k (omega arith)))
 
 -- a list of the first p rows, with row p put behind it, has the first p + 1 rows
 pub rows_more : (f : ℕ → List ℕ) (p : ℕ) (list row next : List ℕ) → next ≡ list ++ row → list ≡ flat_map f (range_with_len 0 p) → row ≡ f p

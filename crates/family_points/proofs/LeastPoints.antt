@@ -110,9 +110,6 @@ base_added x ends d p q j a b some h k =
 -- ---- the depot's stocks in turn
 
 module _ (p q floor : ℕ) (f : ℕ → List Point) (a : ℕ) where
-  pub stock_none : (s : ℕ) → s ≡ a → AreAtLeast p q floor (flat_map f (range_with_len a (s - a)))
-  stock_none s e = let z : 0 ≡ s - a = omega (arith, e) in subst (λ n. AreAtLeast p q floor (flat_map f (range_with_len a n))) z (λ v m. absurd m)
-
   -- one stock more reaches the floor
   pub stock_more : (s : ℕ) → a ≤ s → AreAtLeast p q floor (flat_map f (range_with_len a (s - a))) → Decides p q floor (f s) true
       → AreAtLeast p q floor (flat_map f (range_with_len a (s + 1 - a)))

@@ -52,19 +52,6 @@ product_at (a ∷ low) (b ∷ high) (suc i) h m =
     next : (i : ℕ) → suc (i + 1) ≡ suc i + 1
     next i = omega arith
 
-pub product_end : (low high : List ℕ) (i : ℕ) → length low ≤ i → product (widths (drop i low) (drop i high)) ≡ 1
-product_end [] high zero h = refl
-product_end [] high (suc i) h = refl
-product_end (a ∷ low) high zero h = absurd (omega (arith, h))
-product_end (a ∷ low) [] (suc i) h = dropped low i
-  where
-    dropped : (low : List ℕ) (i : ℕ) → product (widths (drop i low) []) ≡ 1
-    dropped [] zero = refl
-    dropped [] (suc i) = refl
-    dropped (a ∷ low) zero = refl
-    dropped (a ∷ low) (suc i) = dropped low i
-product_end (a ∷ low) (b ∷ high) (suc i) h = product_end low high i (omega (arith, h))
-
 pub record Counted (low high : List ℕ) (i n : ℕ) : Type 0 where
   pub whole : n * product (widths (drop i low) (drop i high)) ≡ product (widths low high)
   pub most : n ≤ 64 ^ i
@@ -105,19 +92,6 @@ nth_at (a ∷ low) (b ∷ high) (suc i) rest h m =
   where
     next : (i : ℕ) → suc (i + 1) ≡ suc i + 1
     next i = omega arith
-
-pub nth_end : (low high : List ℕ) (i rest : ℕ) → length low ≤ i → nth (drop i low) (drop i high) rest ≡ []
-nth_end [] high zero rest h = refl
-nth_end [] high (suc i) rest h = refl
-nth_end (a ∷ low) high zero rest h = absurd (omega (arith, h))
-nth_end (a ∷ low) [] (suc i) rest h = dropped low i rest
-  where
-    dropped : (low : List ℕ) (i rest : ℕ) → nth (drop i low) [] rest ≡ []
-    dropped [] zero rest = refl
-    dropped [] (suc i) rest = refl
-    dropped (a ∷ low) zero rest = refl
-    dropped (a ∷ low) (suc i) rest = dropped low i rest
-nth_end (a ∷ low) (b ∷ high) (suc i) rest h = nth_end low high i rest (omega (arith, h))
 
 -- a walk through the places of a box stands at place i: what is made so far, and the number of the rest
 pub record Stands (low high : List ℕ) (number i size rest : ℕ) (made : List ℕ) : Type 0 where

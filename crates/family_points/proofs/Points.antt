@@ -11,7 +11,7 @@ use Rattle.hull.specs.declared.point.Point.{Point}
 use Rattle.hull.specs.Curves.{Among, InRange, IsCurve, plus, sums, point_at}
 use Rattle.hull.proofs.Shapes.{begins_cheapest}
 use Rattle.hull.specs.Scores.{InLimits, LeavesRoom}
-use Rattle.hull.proofs.Stand.{among_left, among_either}
+use Rattle.hull.proofs.Stand.{among_left}
 use Rattle.hull.proofs.Sums.{Parts, parts_of}
 use Rattle.spares_input.specs.Rows.{no_part, no_site}
 use Rattle.spares_input.specs.Frames.{part_at}
@@ -28,7 +28,7 @@ use Rattle.family_points.specs.Counts.{product, widths}
 use Rattle.family_points.specs.Boxes.{nth}
 use Rattle.family_points.specs.Separation.{base_point, base_points, base_stocks, depot_point, points_over, depot_points}
 use Rattle.family_points.specs.Turned.{turned_points}
-use Rattle.family_points.specs.Inputs.{AreShopsAt, FamilyBox, IsFamilyBox, IsAt, box_points, held_at, high_at, line_high, line_low, line_stocks, low_at, shop_high, shop_low, shop_vectors, vector_count, vertex_count}
+use Rattle.family_points.specs.Inputs.{AreShopsAt, FamilyBox, IsFamilyBox, IsAt, box_points, held_at, high_at, line_high, line_low, line_stocks, low_at, shop_high, shop_low, shop_vectors, vector_count}
 use Rattle.family_points.proofs.Boxes.{each_mapped}
 use Rattle.family_points.proofs.Numbers.{block_length, nth_is, product_some, vectors_count}
 use Rattle.family_points.proofs.Bounded.{Costs, at_long, box_at, cost_end, costs_on, few_members, low_long, high_long}
@@ -198,11 +198,6 @@ module _ (x : FamilyBox) (valid : IsFamilyBox x) where
 
 -- ---- the steps of the loops
 
-each_take : {X : Type 0} (P : X → Type 0) (n : ℕ) (xs : List X) → AllByRecursion P xs → AllByRecursion P (take n xs)
-each_take P zero xs a = tt
-each_take P (suc n) [] a = tt
-each_take P (suc n) (x ∷ xs) a = (a.0, each_take P n xs a.1)
-
 module _ (x : FamilyBox) (valid : IsFamilyBox x) (ends : ScoreEnds) (room : LeavesRoom ends) (d : List ℕ) (at_depot : IsAt x 0 d) where
   -- the points over all bases are as small as those of all sites
   pub depot_points_small : (v : Point) → Among v (depot_points ends x d) → IsSmall (size x.case x.line) (length x.case.sites) v
@@ -212,11 +207,6 @@ module _ (x : FamilyBox) (valid : IsFamilyBox x) (ends : ScoreEnds) (room : Leav
       subst (λ n. IsSmall (size x.case x.line) n v) all (over_small x valid ends room d at_depot (length x.case.sites - 1) (omega (arith, some)) v m)
 
 -- ---- all stocks at the depot
-
-pub flat_among : {X : Type 0} (Q : X → Type 0) (P : Point → Type 0) (f : X → List Point) (xs : List X) → AllByRecursion Q xs → ((x : X) → Q x → (v : Point) → Among v (f x) → P v)
-    → (v : Point) → Among v (flat_map f xs) → P v
-flat_among Q P f [] a h v m = absurd m
-flat_among Q P f (x ∷ xs) a h v m = elim (among_either v (f x) (flat_map f xs) m) [ inl k ↦ h x a.0 v k | inr k ↦ flat_among Q P f xs a.1 h v k ]
 
 -- the first n + 1 vectors are the first n and the one at n
 pub take_next : (vs : List (List ℕ)) (n : ℕ) → n < length vs → take (n + 1) vs ≡ take n vs ++ get_or vs n [] ∷ []
@@ -269,20 +259,12 @@ flat_stock_behind f a n s e =
 pub one_of : (n v m : ℕ) → 0 < n → n * v ≤ m → v ≤ m
 one_of n v m some h = let one : 1 * v ≤ n * v = mul-le-mul_right v some in omega (arith, one, h)
 
--- curves of points whose stocks have one length
-pub one_width : (w n : ℕ) (ps qs c d : List Point) → ((v : Point) → Among v ps → IsSmall w n v) → ((v : Point) → Among v qs → IsSmall w n v) → IsCurve ps c → IsCurve qs d
-    → (v u : Point) → Among v c → Among u d → length v.stocks ≡ length u.stocks
-one_width w n ps qs c d a b f g v u m k = (a v (f.among v m)).width ∙ sym (b u (g.among u k)).width
-
 -- a list that isn't empty begins with its first element
 pub begins : (xs : List ℕ) → 0 < length xs → get_or xs 0 0 ∷ drop 1 xs ≡ xs
 begins [] h = absurd (omega (arith, h))
 begins (x ∷ xs) h = refl
 
 module _ (x : FamilyBox) (valid : IsFamilyBox x) where
-  part_some : (k : ℕ) (v : List ℕ) → length v ≡ size x.case x.line → 0 < length v
-  part_some k v e = omega (arith, e)
-
   -- the low bounds of a site are the line unit's and then the shop units'
   pub low_begins : (k : ℕ) → k < length x.case.sites → line_low x k ∷ shop_low x k ≡ low_at x k
   low_begins k m = begins (low_at x k) (omega (arith, part_long x.case x.line x.low k (length x.case.sites) (low_long x valid) m))
@@ -315,11 +297,6 @@ module _ (x : FamilyBox) (valid : IsFamilyBox x) where
   pub shops_between : (k : ℕ) → k < length x.case.sites → AllByRecursion (AreShopsAt x k) (shop_vectors x k)
   shops_between k m = each_between (shop_low x k) (shop_high x k) (box_begins k m).1
 
-  -- the first n stocks from the line unit's least on are within its bounds
-  pub stocks_between_at : (k n : ℕ) → line_low x k + n ≤ suc (line_high x k)
-      → AllByRecursion (λ s. (line_low x k ≤ s) × (s ≤ line_high x k)) (range_with_len (line_low x k) n)
-  stocks_between_at k n h = each_in_range (λ s. (line_low x k ≤ s) × (s ≤ line_high x k)) n (line_low x k) (λ s a b. (a, omega (arith, b, h)))
-
   -- the line unit has a stock for each number from its least to its most
   pub stocks_count : (k : ℕ) → length (line_stocks x k) ≡ suc (line_high x k) - line_low x k
   stocks_count k = length-range_with_len (line_low x k) (suc (line_high x k) - line_low x k)
@@ -348,24 +325,6 @@ module _ (x : FamilyBox) (valid : IsFamilyBox x) where
   module _ (ends : ScoreEnds) (room : LeavesRoom ends) where
     abbrev at_depots : List ℕ → List Point
     at_depots = depot_points ends x
-
-    -- the points for stocks of the shop units at the depot, with n stocks of the line unit there
-    pub own_small : (n : ℕ) (d : List ℕ) (v : Point) → AreShopsAt x 0 d → line_low x 0 + n ≤ suc (line_high x 0)
-        → Among v (flat_map (λ s. at_depots (s ∷ d)) (range_with_len (line_low x 0) n)) → IsSmall (size x.case x.line) (length x.case.sites) v
-    own_small n d v h top m =
-        let some = valid.valid.frame.fewest_sites in
-        flat_among (λ s. (line_low x 0 ≤ s) × (s ≤ line_high x 0)) (IsSmall (size x.case x.line) (length x.case.sites)) (λ s. at_depots (s ∷ d))
-        (range_with_len (line_low x 0) n) (stocks_between_at 0 n top)
-        (λ s b w k. depot_points_small x valid ends room (s ∷ d) (joined_at 0 s d (omega (arith, some)) h b.0 b.1) w k) v m
-
-    pub all_small : (n : ℕ) (v : Point) → Among v (flat_map (λ d. flat_map (λ s. at_depots (s ∷ d)) (line_stocks x 0)) (take n (shop_vectors x 0)))
-        → IsSmall (size x.case x.line) (length x.case.sites) v
-    all_small n v m =
-        let some = valid.valid.frame.fewest_sites in
-        let order = (box_begins 0 (omega (arith, some))).0 in
-        flat_among (AreShopsAt x 0) (IsSmall (size x.case x.line) (length x.case.sites)) (λ d. flat_map (λ s. at_depots (s ∷ d)) (line_stocks x 0)) (take n (shop_vectors x 0))
-        (each_take (AreShopsAt x 0) n (shop_vectors x 0) (shops_between 0 (omega (arith, some))))
-        (λ d h w k. own_small (suc (line_high x 0) - line_low x 0) d w h (omega (arith, order)) k) v m
 
     -- a curve of the points for all stocks of the shop units at the depot is one of all points of the box
     pub all_depots : (k : ℕ) (curve : List Point) → k ≡ 0
@@ -490,7 +449,3 @@ over_count_more x j some =
   where
     one : (n y : ℕ) → 1 + (n + (0 + y)) ≡ 1 + n + y
     one n y = omega arith
-
-pub over_count_most : (x : FamilyBox) (n j : ℕ) → 1 ≤ j → j + n ≡ length x.case.sites → over_count x j ≤ vertex_count x
-over_count_most x zero j some e = let last : j - 1 ≡ length x.case.sites - 1 = omega (arith, e) in omega (arith, ap (λ k. sum_by (vector_count x) (range_with_len 1 k)) last)
-over_count_most x (suc n) j some e = omega (arith, over_count_more x j some, over_count_most x n (j + 1) (omega (arith, some)) (omega (arith, e)))

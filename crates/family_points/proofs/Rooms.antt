@@ -149,10 +149,6 @@ pub record Roomed (ws : List ℕ) (i total shops : ℕ) : Type 0 where
   pub sum_most : total ≤ i * 64
   pub product_most : shops ≤ 64 ^ i
 
--- before the first shop unit the sum is 0, the product 1
-pub roomed_begin : (ws : List ℕ) → Roomed ws 1 0 1
-roomed_begin ws = record { sum_goes_on = omega arith; product_goes_on = omega arith; sum_most = omega arith; product_most = omega arith }
-
 -- the product of the numbers from the i-th on is the i-th times the product of those behind it
 product_from : (ws : List ℕ) (i : ℕ) → i < length ws → product (drop i ws) ≡ get_or ws i 0 * product (drop (i + 1) ws)
 product_from [] i m = absurd (omega (arith, m))

@@ -82,9 +82,6 @@ members_all c l n a =
 
 -- ---- one base more
 
-at_depot : (d : List ℕ) (j : ℕ) (b : List ℕ) → depot_and_base d j b 0 ≡ d
-at_depot d j b = refl
-
 -- of the stocks of the depot and of base j, those at j are the base's
 pub at_base : (d : List ℕ) (j : ℕ) (b : List ℕ) → 0 < j → depot_and_base d j b j ≡ b
 at_base d j b h =

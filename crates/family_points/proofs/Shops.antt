@@ -1,5 +1,5 @@
 -- The shop units' part of a box, and lists that grow.
-use Rattle.std.proofs.Common.{◌≡◌, ℕ, zero, suc, ◌+◌, ◌-◌, ◌*◌, ◌<◌, ◌≤◌, List, [], ◌∷◌, ◌++◌, length, get_or, drop, map, sym, ap, ap₂, ◌∙◌, subst, arith}
+use Rattle.std.proofs.Common.{◌≡◌, ℕ, zero, suc, ◌+◌, ◌-◌, ◌*◌, ◌<◌, ◌≤◌, List, [], ◌∷◌, ◌++◌, length, get_or, drop, map, sym, ap, ap₂, ◌∙◌, arith}
 use Rattle.std.specs.List.{All, AllZip, range_with_len}
 use Rattle.std.proofs.lemmas.List.{append_assoc, get_or_default}
 use Rattle.std.proofs.lemmas.List.FromFn.{map-range_with_len_more}
@@ -7,10 +7,10 @@ use Rattle.fixed_interval.specs.Ends.{Ends}
 use Rattle.series_bounds.specs.Answer.{at_place}
 use Rattle.fleet_model.specs.Fleet.{family}
 use Rattle.family_points.specs.Boxes.{IsBox}
-use Rattle.family_points.specs.Inputs.{FamilyBox, IsFamilyBox, high_at, line_high, low_at, shop_high, shop_low}
+use Rattle.family_points.specs.Inputs.{FamilyBox, IsFamilyBox, high_at, low_at, shop_high, shop_low}
 use Rattle.family_points.proofs.Bounded.{box_at, high_long}
 use Rattle.family_points.proofs.Numbers.{same_length}
-use Rattle.family_points.proofs.Points.{high_begins, low_begins}
+use Rattle.family_points.proofs.Points.{low_begins}
 use Rattle.family_points.proofs.Sites.{part_long, size}
 
 -- ---- lists that grow
@@ -53,9 +53,6 @@ module _ (x : FamilyBox) (valid : IsFamilyBox x) where
   -- the bounds of the shop units at a site make a box
   pub box_shops : (k : ℕ) → k < length x.case.sites → IsBox (shop_low x k) (shop_high x k)
   box_shops k m = box_rest (low_at x k) (high_at x k) (box_at x k valid m)
-
-  pub line_most : (k : ℕ) → k < length x.case.sites → line_high x k ≤ 63
-  line_most k m = (box_at x k valid m).small 0 0 (subst (λ (v : List ℕ). 0 < length v) (high_begins x valid k m) (omega arith))
 
   -- the least stocks of the shop units at a site: one for each
   pub shops_low_long : (k : ℕ) → k < length x.case.sites → length (shop_low x k) ≡ length (family x.case x.line) - 1

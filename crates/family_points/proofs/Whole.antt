@@ -1,17 +1,19 @@
 -- The box of all vectors of a family, and its tables.
-use Rattle.std.proofs.Common.{◌≡◌, ℕ, zero, suc, ◌+◌, ◌-◌, ◌*◌, ◌<◌, ◌≤◌, Bool, cond, List, [], ◌∷◌, length, get_or, map, flat_map, take, drop, replicate, refl, sym, ap, ap₂, ◌∙◌, subst, arith}
-use Rattle.std.specs.List.{range_with_len, AllZip, AllByRecursion}
-use Rattle.std.proofs.lemmas.List.{length-map, get_or-map}
+use Rattle.std.proofs.Common.{◌≡◌, ℕ, zero, suc, ◌+◌, ◌-◌, ◌*◌, ◌<◌, ◌≤◌, Bool, cond, List, [], ◌∷◌, length, get_or, map, flat_map, take, drop, refl, sym, ap, ap₂, ◌∙◌, subst, arith}
+use Rattle.std.specs.List.{range_with_len, All, AllZip, AllByRecursion}
+use Rattle.std.proofs.lemmas.List.{get_or-map, get_or-replicate, length-replicate}
 use Rattle.std.proofs.lemmas.Simd.{map-map}
 use Rattle.std.proofs.lemmas.Bool.{ne_eqb}
 use Rattle.spares_input.specs.declared.rows.PartId.{PartId}
 use Rattle.spares_input.specs.Frames.{part_at}
-use Rattle.spares_input.specs.Stocks.{limit_at}
-use Rattle.spares_input.specs.Cases.{CaseRows, IsCase}
-use Rattle.fleet_model.specs.Rows.{bases, shop_units}
+use Rattle.spares_input.specs.Stocks.{StockList, limit_at, nothing_held}
+use Rattle.spares_input.specs.Pairs.{pair_place}
+use Rattle.spares_input.specs.Cases.{CaseRows, IsCase, frame_rows, pair_count}
+use Rattle.fleet_model.specs.Rows.{bases, shop_units, stock}
 use Rattle.fleet_model.specs.Fleet.{family}
 use Rattle.family_items.specs.Inputs.{IsLine}
-use Rattle.family_points.specs.Vectors.{Pair, limits, places, places_at, site_part, zeros}
+use Rattle.family_points.specs.declared.bounds.Bounds.{Bounds}
+use Rattle.family_points.specs.Vectors.{Pair, box_from, limits, places, places_at, site_part, vector_of, zeros}
 use Rattle.family_points.specs.Points.{AreOrdered}
 use Rattle.family_points.specs.Counts.{widths, base_width, tables_by, tables_of, tables_between}
 use Rattle.family_points.proofs.Boxes.{same_map, each_any, map_flat, same_flat}
@@ -81,16 +83,6 @@ limits_rows c l =
     ∙ same_flat (λ k. Unit {0}) (λ k. map limit (places_at c l k)) (λ k. map (λ p. limit_at c.parts p k) (family c l)) (range_with_len 0 (length c.sites))
     (λ k _. map-map limit (own k) (family c l)) (each_any (range_with_len 0 (length c.sites)))
 
-replicated : (xs : List Pair) → let none : Pair → ℕ = λ x. 0 in map none xs ≡ replicate (length xs) 0
-replicated [] = refl
-replicated (x ∷ xs) = ap (λ (ns : List ℕ). 0 ∷ ns) (replicated xs)
-
--- as many zeros as there are limits are no stock at any place of the family
-pub zeros_are : (c : CaseRows) (l n : ℕ) → n ≡ length (limits c l) → replicate n 0 ≡ zeros c l
-zeros_are c l n e =
-    let limit : Pair → ℕ = λ x. limit_at c.parts x.part x.site in
-    ap (λ k. replicate k 0) (e ∙ length-map (places c l) limit) ∙ sym (replicated (places c l))
-
 -- each number is at most itself
 pub same_zip : (v : List ℕ) → AllZip (λ x y. x ≤ y) v v
 same_zip [] = tt
@@ -108,6 +100,28 @@ whole_ordered c l = record {
   low_least = none_zip (λ (x : Pair). limit_at c.parts x.part x.site) (places c l);
   within = same_zip (limits c l);
 }
+
+nothing_at : (xs : List ℕ) → All (λ n. n ≡ 0) xs → (i : ℕ) → get_or xs i 0 ≡ 0
+nothing_at [] h i = refl
+nothing_at (x ∷ xs) h zero = h 0 0 (omega arith)
+nothing_at (x ∷ xs) h (suc i) = nothing_at xs (λ j d b. h (suc j) d (omega (arith, b))) i
+
+-- a list of zeros has zeros at the places of every family
+pub no_vector : (c : CaseRows) (l : ℕ) (held : List ℕ) → All (λ n. n ≡ 0) held → vector_of c l held ≡ zeros c l
+no_vector c l held h =
+    same_map (λ (x : Pair). Unit {0}) (λ (x : Pair). stock c held x.part x.site) (λ (x : Pair). 0) (places c l)
+    (λ x _. nothing_at held h (pair_place (length c.sites) x.part x.site)) (each_any (places c l))
+
+-- nothing held is a list of zeros
+pub all_zeros : (c : CaseRows) → All (λ n. n ≡ 0) (nothing_held c).list
+all_zeros c i d b = get_or-replicate (pair_count (frame_rows c)) i 0 d (subst (λ n. i < n) (length-replicate {A = ℕ} (pair_count (frame_rows c)) 0) b)
+
+-- so the bounds from nothing held have all vectors
+pub box_of_nothing : (c : CaseRows) (l : ℕ) (held : StockList) (b : Bounds) → held ≡ nothing_held c → b ≡ box_from c l held.list
+    → b ≡ record { held = zeros c l; low = zeros c l; high = limits c l }
+box_of_nothing c l held b none is =
+    let from : List ℕ → Bounds = λ v. record { held = v; low = v; high = limits c l } in
+    is ∙ ap (λ (h : StockList). box_from c l h.list) none ∙ ap from (no_vector c l (nothing_held c).list (all_zeros c))
 
 -- the members are parts
 pub ids_within : (c : CaseRows) (l : ℕ) (ids : List PartId) → IsCase c → IsLine c l → map (λ (p : PartId). p.0) ids ≡ family c l

@@ -1,7 +1,6 @@
 -- The inputs of a family's curve.
 use Rattle.std.specs.Prelude.{ℕ, List, get_or, drop, ◌+◌, length, sum_by}
-use Rattle.fixed_interval.specs.Ends.{Ends}
-use Rattle.fleet_model.specs.Rows.{bases, systems, per_system, weight}
+use Rattle.fleet_model.specs.Rows.{bases}
 use Rattle.fleet_model.specs.Fleet.{family}
 use Rattle.hull.specs.declared.point.Point.{Point}
 use Rattle.spares_input.specs.Cases.{CaseRows, IsCase}
@@ -9,7 +8,7 @@ use Rattle.demand_rates.specs.RateLists.{RateList}
 use Rattle.demand_rates.specs.Rates.{AreRatesOf}
 use Rattle.family_items.specs.Inputs.{IsLine}
 use Rattle.family_points.specs.Vectors.{between, site_part, vectors, IsBetween}
-use Rattle.family_points.specs.Points.{ScoreEnds, cost_above, points_within, AreOrdered}
+use Rattle.family_points.specs.Points.{ScoreEnds, points_within, AreOrdered}
 
 -- a family of a case, with the stocks held and the bounds of its vectors
 pub record FamilyBox : Type 0 where
@@ -74,15 +73,6 @@ shop_vectors x k = vectors (shop_low x k) (shop_high x k)
 -- these stocks of the shop units are within the bounds of site k
 abbrev pub AreShopsAt : FamilyBox → ℕ → List ℕ → Type 0
 AreShopsAt x k v = IsBetween (shop_low x k) (shop_high x k) v
-
--- the point of the stocks b at base j, if the line unit has these backorders there
-abbrev pub scored_point : ScoreEnds → FamilyBox → ℕ → List ℕ → Ends → Point
-scored_point ends x j b e = record {
-  cost = cost_above x.case (family x.case x.line) (held_at x j) b;
-  lo = (ends (systems x.case j) (per_system x.case x.line) (weight x.case x.line) e).lo;
-  hi = (ends (systems x.case j) (per_system x.case x.line) (weight x.case x.line) e).hi;
-  stocks = b;
-}
 
 -- the number of vectors of site k
 abbrev pub vector_count : FamilyBox → ℕ → ℕ

@@ -1,5 +1,5 @@
 -- Laws of families' points.
-use Rattle.std.specs.Prelude.{◌≡◌, ◌≤◌, ℕ, List, length}
+use Rattle.std.specs.Prelude.{◌≡◌, ◌≤◌, ℕ, List, All, length}
 use Rattle.spares_input.specs.Cases.{CaseRows, IsCase}
 use Rattle.family_items.specs.Inputs.{IsLine}
 use Rattle.family_points.specs.Points.{ScoreEnds, AreOrdered}
@@ -28,3 +28,7 @@ abbrev pub VectorsStand : Type 0
 VectorsStand =
     (c : CaseRows) (l : ℕ) (v : List ℕ) → IsCase c → IsLine c l → length v ≡ length (places c l)
     → vector_of c l (stocks_with c l v) ≡ v
+
+-- a list of zeros has zeros at the places of every family
+abbrev pub NothingHeld : Type 0
+NothingHeld = (c : CaseRows) (l : ℕ) (held : List ℕ) → All (λ n. n ≡ 0) held → vector_of c l held ≡ zeros c l

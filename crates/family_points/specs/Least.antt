@@ -1,16 +1,15 @@
 -- The least Lagrangian of a family's points at one price. For given stocks at the depot it is their cost at the price
 -- plus the least of each base, so one price needs no curve.
-use Rattle.std.specs.Prelude.{◌≡◌, ℕ, ◌+◌, ◌*◌, ◌<◌, ◌≤◌, min, Bool, true, false, List, [], ◌∷◌, get_or, length, map, sum_by}
+use Rattle.std.specs.Prelude.{◌≡◌, ℕ, ◌+◌, ◌*◌, ◌<◌, ◌≤◌, min, Bool, true, false, List, [], ◌∷◌, map, sum_by}
 use Rattle.spares_input.specs.Cases.{IsCase}
 use Rattle.fleet_model.specs.Rows.{bases}
 use Rattle.family_items.specs.Inputs.{IsLine}
-use Rattle.family_items.specs.Profile.{item_of}
 use Rattle.hull.specs.declared.point.Point.{Point}
 use Rattle.hull.specs.Curves.{lagrangian, Among}
 use Rattle.family_points.specs.Vectors.{vectors}
 use Rattle.family_points.specs.Points.{ScoreEnds, AreOrdered}
-use Rattle.family_points.specs.Separation.{base_points, base_stocks, depot_point}
-use Rattle.family_points.specs.Inputs.{FamilyBox, IsAt, box_points, high_at, low_at}
+use Rattle.family_points.specs.Separation.{base_points, depot_point}
+use Rattle.family_points.specs.Inputs.{FamilyBox, box_points, high_at, low_at}
 
 -- the least of a number of each point, 0 if there is no point
 abbrev pub least : (Point → ℕ) → List Point → ℕ
@@ -37,12 +36,6 @@ AreAtLeast p q floor points = (v : Point) → Among v points → floor ≤ lagra
 pub record Decides (p q floor : ℕ) (points : List Point) (answer : Bool) : Type 0 where
   pub yes : answer ≡ true → AreAtLeast p q floor points
   pub no : answer ≡ false → (v : Point) × Among v points × (lagrangian p q v < floor)
-
--- lower bounds on the line unit's backorders at base j, by its stock there, when the depot has the stocks d and the
--- base these of the shop units
-abbrev pub AreLowsAt : FamilyBox → List ℕ → ℕ → List ℕ → List ℕ → Type 0
-AreLowsAt x d j shops lows = (s : ℕ) → IsAt x j (s ∷ shops) → s < length lows
-    → get_or lows s 0 ≤ (item_of 48 x.case (base_stocks x d j (s ∷ shops)) x.line j).backorders.lo
 
 -- the least Lagrangian of base j at the price p/q, when the depot has the stocks d
 abbrev pub base_least : ScoreEnds → FamilyBox → ℕ → ℕ → List ℕ → ℕ → ℕ

@@ -3,7 +3,7 @@
 ghost use Rattle.std.specs.Prelude.{◌≡◌, IfOk};
 ghost use Rattle.spares_input.specs.Stocks.{IsFor};
 ghost use Rattle.family_items.specs.Inputs.{IsLine};
-ghost use Rattle.family_points.specs.Vectors.{box_from, limits, zeros};
+ghost use Rattle.family_points.specs.Vectors.{box_from};
 
 use crate::places::{limits_of, vector_of};
 use answers::{List, NoMemory};
@@ -24,26 +24,6 @@ pub struct Bounds {
 }
 
 impl Bounds {
-    /// All vectors of the family of a line unit, with nothing held.
-    pub fn whole(alloc: Global, case: &Case, line: PartId) -> Result<Bounds, NoMemory>
-        requires { IsLine case.now line.0 }
-        ensures { IfOk result (λ bounds. bounds ≡ record {
-          held = zeros case.now line.0;
-          low = zeros case.now line.0;
-          high = limits case.now line.0;
-        }) }
-    {
-        let high = limits_of(alloc, case, line)?;
-        let places = high.as_slice().len();
-        let held = vec![in alloc; 0; places]?;
-        let low = vec![in alloc; 0; places]?;
-        Ok(Bounds {
-            held: List::of(held),
-            low: List::of(low),
-            high,
-        })
-    }
-
     /// The vectors of the family of a line unit from the held stocks to the limits. The held stocks are a list for the
     /// case.
     pub fn from_held(

@@ -1,6 +1,6 @@
 //! Laws of vectors.
 
-ghost use Rattle.family_points.specs.Laws.{ChoicesAreVectors, OneVectorTakesFew, VectorsStand};
+ghost use Rattle.family_points.specs.Laws.{ChoicesAreVectors, NothingHeld, OneVectorTakesFew, VectorsStand};
 
 /// The choices of a family count its vectors, and the curve of a single vector takes few tables.
 pub fn vectors_are_counted()
@@ -8,7 +8,8 @@ pub fn vectors_are_counted()
     ensures few { OneVectorTakesFew }
 {}
 
-/// The stocks made of a vector have it at the places of its family.
+/// The stocks made of a vector have it at the places of its family, and stocks of nothing have zeros there.
 pub fn vectors_stand()
-    ensures { VectorsStand }
+    ensures stands { VectorsStand }
+    ensures nothing { NothingHeld }
 {}

@@ -1,10 +1,14 @@
--- The rows of backorders at a base, as the code keeps them: each row stands for its list.
+-- The rows of backorders at a base, as the code keeps them: each row stands for its list. And the shop units' parts.
 use Rattle.std.proofs.Common.{◌≡◌, ℕ, zero, suc, ◌+◌, ◌<◌, List, [], ◌∷◌, ◌++◌, length, get_or, map, set, take, sym, ap, ◌∙◌, subst, arith}
 use Rattle.std.specs.List.{AllZip}
-use Rattle.std.proofs.lemmas.List.{map-append, take_more_set}
+use Rattle.std.proofs.lemmas.List.{get_or-map, map-append, take_more_set}
 use Rattle.fixed_interval.specs.Ends.{Ends}
+use Rattle.depot_pipeline.specs.declared.Moments.{Moments}
+use Rattle.family_numbers.specs.Numbers.{shop_part}
+use Rattle.family_points.specs.Inputs.{FamilyBox, shop_vectors}
 use Rattle.family_rows.specs.declared.base_at.BaseAt.{BaseAt}
 use Rattle.family_rows.specs.Spots.{AreRows}
+use Rattle.family_rows.specs.Tabled.{box_numbers, parts_at}
 use Rattle.family_points.proofs.Ordered.{take_on}
 use Rattle.sum_walk.proofs.Lists.{zip_push}
 
@@ -29,3 +33,9 @@ row_put {X} {Y} {V} f R xs rows made n x row a h k e g r =
 pub rows_taken : {V : Type 0} (f : V → List Ends) (b : BaseAt) (rows whole : List V) (n m : ℕ) → n ≡ m → rows ≡ whole → AreRows b (map f (take m whole)) → AreRows b (map f (take n rows))
 rows_taken {V} f b rows whole n m e g h =
     subst (λ k. AreRows b (map f (take k rows))) (sym e) (subst (λ (l : List V). AreRows b (map f (take m l))) (sym g) h)
+
+-- what is read of the parts at a base is that of the vector at the same place
+pub part_read : (x : FamilyBox) (d : List ℕ) (j n : ℕ) (parts : List (Moments 48)) (part : Moments 48) → parts ≡ parts_at x d j → n < length (shop_vectors x j) → part ≡ get_or parts n part
+    → part ≡ shop_part 48 (box_numbers x) j d (get_or (shop_vectors x j) n [])
+part_read x d j n parts part e h r =
+    r ∙ ap (λ (l : List (Moments 48)). get_or l n part) e ∙ get_or-map (shop_part 48 (box_numbers x) j d) (shop_vectors x j) n [] part h

@@ -1,5 +1,5 @@
 -- What the tables of a family give is what the model's profile gives at the stocks of the case.
-use Rattle.std.proofs.Common.{◌≡◌, ℕ, suc, ◌-◌, ◌<◌, ◌≤◌, List, ◌∷◌, length, get_or, drop, map, sym, ap, ◌∙◌, subst, arith}
+use Rattle.std.proofs.Common.{◌≡◌, ℕ, ◌-◌, ◌<◌, List, ◌∷◌, length, get_or, drop, sym, ap, ◌∙◌, subst, arith}
 use Rattle.fixed_interval.specs.Ends.{Ends}
 use Rattle.series_bounds.specs.Answer.{at_place}
 use Rattle.spares_input.specs.Stocks.{limit_at}
@@ -11,15 +11,14 @@ use Rattle.family_numbers.specs.declared.base_shops.BaseShops.{BaseShops}
 use Rattle.family_numbers.specs.BaseTables.{AreBaseShops, AreShopBounds, HaveShops}
 use Rattle.family_numbers.specs.Numbers.{AreBaseBackorders, FamilyNumbers, no_numbers, pair_at, pair_numbers}
 use Rattle.family_numbers.proofs.FromNumbers.{backorders_alone}
-use Rattle.family_points.specs.Points.{ScoreEnds}
-use Rattle.family_points.specs.Separation.{base_point, base_stocks, depot_and_base}
-use Rattle.family_points.proofs.Boxes.{same_map}
-use Rattle.family_points.specs.Inputs.{AreShopsAt, FamilyBox, IsFamilyBox, IsAt, line_high, line_low, line_stocks, scored_point, shop_high, shop_low}
-use Rattle.family_rows.specs.Tabled.{AreShopStocks, box_numbers}
+use Rattle.family_points.specs.Separation.{base_stocks, depot_and_base}
+use Rattle.family_points.specs.Inputs.{AreShopsAt, FamilyBox, IsFamilyBox, IsAt, shop_high, shop_low}
+use Rattle.family_rows.specs.declared.depot.DepotTables.{DepotTables}
+use Rattle.family_rows.specs.Tabled.{AreShopStocks, AreTables, box_numbers}
 use Rattle.family_points.proofs.Bounded.{at_limit, at_long}
 use Rattle.family_points.proofs.Distinct.{family_stocks_in}
 use Rattle.family_points.proofs.Numbers.{same_length}
-use Rattle.family_points.proofs.Points.{begins, box_begins, joined_at, stocks_between_at}
+use Rattle.family_points.proofs.Points.{begins}
 use Rattle.family_points.proofs.Separate.{at_base}
 use Rattle.family_points.proofs.Shops.{all_below, box_shops, shops_low_long}
 
@@ -78,13 +77,7 @@ module _ (x : FamilyBox) (valid : IsFamilyBox x) where
       (family_stocks_in x.case x.line own j valid.valid valid.is_line base.1 (ap length (at_base d j (s ∷ b) base.0) ∙ at_long x valid j (s ∷ b) base.1 g)
       ∙ at_base d j (s ∷ b) base.0))
 
-  -- the points that are scored by such a list are those of the base
-  pub points_same : (ends : ScoreEnds) (j : ℕ) (d shops : List ℕ) (list : List Ends) → IsBase x.case j → AreShopsAt x j shops
-      → ((s : ℕ) → IsAt x j (s ∷ shops) → at_place list s ≡ (item_of 48 x.case (base_stocks x d j (s ∷ shops)) x.line j).backorders)
-      → map (λ s. scored_point ends x j (s ∷ shops) (at_place list s)) (line_stocks x j) ≡ map (λ s. base_point ends x d j (s ∷ shops)) (line_stocks x j)
-  points_same ends j d shops list base h is =
-      let order = (box_begins x valid j base.1).0 in
-      same_map (λ s. (line_low x j ≤ s) × (s ≤ line_high x j)) (λ s. scored_point ends x j (s ∷ shops) (at_place list s))
-      (λ s. base_point ends x d j (s ∷ shops)) (line_stocks x j)
-      (λ s b. ap (scored_point ends x j (s ∷ shops)) (is s (joined_at x valid j s shops base.1 h b.0 b.1)))
-      (stocks_between_at x valid j (suc (line_high x j) - line_low x j) (omega (arith, order)))
+-- the tables of a family at stocks of the depot, by whatever names these go
+pub tables_at : (x y : FamilyBox) (d v : List ℕ) (t : DepotTables) → y ≡ x → v ≡ d → AreTables x (drop 1 d) t → AreTables y (drop 1 v) t
+tables_at x y d v t e g h =
+    subst (λ (y : FamilyBox). AreTables y (drop 1 v) t) (sym e) (subst (λ (v : List ℕ). AreTables x (drop 1 v) t) (sym g) h)

@@ -10,7 +10,7 @@ ghost use Rattle.family_rows.specs.Spots.{AreRows, IsBaseAt, spot_point};
 ghost use Rattle.family_rows.specs.Tabled.{AreTables, box_numbers};
 
 use crate::base_at::BaseAt;
-use crate::depot::{DepotTables, own_at, put_backorders};
+use crate::depot::{DepotTables, own_at, put_backorders, shops_at};
 use answers::NoMemory;
 use family_numbers::Numbers;
 use family_points::order::Choice;
@@ -86,11 +86,11 @@ pub fn put_rows(
     rows: &mut Vec<Vec<Iv64<48>>>,
     here: &BaseAt<'_, '_>,
     numbers: &Numbers<48>,
-    tables: &DepotTables<'_>,
+    tables: &DepotTables,
 ) -> Result<(), NoMemory>
     requires here { IsBaseAt here.now }
     requires numbers { numbers.now ≡ box_numbers here.now.family.now }
-    requires tables { AreTables numbers.now (drop 1 here.now.depot.now) tables.now }
+    requires tables { AreTables here.now.family.now (drop 1 here.now.depot.now) tables.now }
     ensures long { IfOk result
         (λ _. length (shop_vectors here.now.family.now here.now.site.0) ≤ length rows.new.items) }
     ensures rows { IfOk result (λ _. AreRows here.now (map (λ r. r.items)
@@ -99,9 +99,10 @@ pub fn put_rows(
     let count = here.base.shops.len();
     make_rows(rows, count)?;
     let own = own_at(here, numbers, tables);
+    let parts = shops_at(tables, here);
     for n in 0..count {
         let stocks = here.base.shops[n].stocks.as_slice();
-        put_backorders(&mut rows[n], here, numbers, tables, &own, stocks)?;
+        put_backorders(&mut rows[n], here, numbers, &own, &parts[n], stocks)?;
     }
     Ok(())
 }

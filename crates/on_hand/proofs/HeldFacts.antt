@@ -14,7 +14,7 @@ use Rattle.family_points.specs.declared.bounds.Bounds.{Bounds}
 use Rattle.family_points.specs.Vectors.{box_from}
 use Rattle.family_points.specs.Points.{ScoreEnds, points_within}
 use Rattle.step_walk.specs.Prefix.{curve_at}
-use Rattle.curve_parts.specs.Parts.{IsPartOf}
+use Rattle.curve_parts.specs.Beyond.{IsKnownPart}
 use Rattle.choice_parts.specs.Parts.{AreFamilies}
 use Rattle.fleet_plan.specs.Families.{case_points, family_points}
 use Rattle.fleet_plan.proofs.Places.{at_among, lines_are}
@@ -47,13 +47,13 @@ pub families_long : (ends : ScoreEnds) (c : CaseRows) (held : List ℕ) → leng
 families_long ends c held = length-map (line_units c) (family_points ends c held)
 
 -- what is a part of the points within the bounds from what is held is a part of the family's points
-pub part_held : (ends : ScoreEnds) (c : CaseRows) (held : List ℕ) (f l : ℕ) (b : Bounds) (low high : Price) (part : List Point)
+pub part_held : (ends : ScoreEnds) (c : CaseRows) (held : List ℕ) (f l : ℕ) (b : Bounds) (low high : Price) (part : List Point) (beyond : ℕ)
     → f < length (line_units c) → l ≡ get_or (line_units c) f 0 → b ≡ box_from c l held
-    → IsPartOf low high (points_within c l ends b.held b.low b.high) part → IsPartOf low high (curve_at (case_points ends c held) f) part
-part_held ends c held f l b low high part h is e p =
-    subst (λ (ys : List Point). IsPartOf low high ys part) (sym (points_in ends c held (line_units c) f h))
-    (subst (λ (m : ℕ). IsPartOf low high (family_points ends c held m) part) is
-    (subst (λ (x : Bounds). IsPartOf low high (points_within c l ends x.held x.low x.high) part) e p))
+    → IsKnownPart low high (points_within c l ends b.held b.low b.high) part beyond → IsKnownPart low high (curve_at (case_points ends c held) f) part beyond
+part_held ends c held f l b low high part beyond h is e p =
+    subst (λ (ys : List Point). IsKnownPart low high ys part beyond) (sym (points_in ends c held (line_units c) f h))
+    (subst (λ (m : ℕ). IsKnownPart low high (family_points ends c held m) part beyond) is
+    (subst (λ (x : Bounds). IsKnownPart low high (points_within c l ends x.held x.low x.high) part beyond) e p))
 
 -- the points of a held case are such as a plan by parts takes
 pub held_families : (ends : ScoreEnds) (x : HeldCase) → IsHeldCase x → LeavesRoom ends → AreFamilies (case_points ends x.case x.held.list)

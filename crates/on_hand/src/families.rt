@@ -144,7 +144,13 @@ impl<'a, S: Score> HeldFamilies<'a, S> {
 impl<'a, S: Score> Families for HeldFamilies<'a, S> {
     ghost points = { λ x. case_points S.ends x.case x.held.list };
 
-    fn part(&self, alloc: Global, family: u32, low: Price, high: Price) -> Result<Curve, NoMemory> {
+    fn part(
+        &self,
+        alloc: Global,
+        family: u32,
+        low: Price,
+        high: Price,
+    ) -> Result<(Curve, u128), NoMemory> {
         let line = self.line(family);
         let bounds = Bounds::from_held(alloc, self.case, line, self.held)?;
         part_within(

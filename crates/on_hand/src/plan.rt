@@ -53,7 +53,10 @@ fn plan_between<S: Score>(
     let rates = families.rates();
     let parts = parts_between(alloc, families, families.count(), window)?;
     let near = window.high.p;
-    plan_by_parts(alloc, case, rates, families, window, parts, terms, near)
+    let (curves, beyond) = (parts.curves, parts.beyond);
+    plan_by_parts(
+        alloc, case, rates, families, window, curves, beyond, terms, near,
+    )
 }
 
 /// The plan by the parts of the curves near the price at which the budget is about spent. None if there are few

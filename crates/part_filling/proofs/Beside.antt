@@ -1,9 +1,9 @@
 -- Vertices that aren't known.
-use Rattle.std.proofs.Common.{◌≡◌, ℕ, zero, suc, ◌+◌, ◌-◌, ◌*◌, ◌<◌, ◌≤◌, ◌⊎◌, inl, inr, List, [], ◌∷◌, length, sym, ap, ◌∙◌, subst, arith, length-append}
-use Rattle.std.proofs.Math.Nat.{mul-le-mul_left, le_of_mul-le-mul_left, lt_of_mul-lt-mul_left}
+use Rattle.std.proofs.Common.{◌≡◌, ℕ, ◌+◌, ◌-◌, ◌*◌, ◌<◌, ◌≤◌, ◌⊎◌, inl, inr, List, [], ◌∷◌, length, sym, ap, ◌∙◌, subst, arith, length-append}
+use Rattle.std.proofs.Math.Nat.{mul-le-mul_left, mul-lt-mul_of_pos_left, le_of_mul-le-mul_left, lt_of_mul-lt-mul_left}
 use Rattle.hull.specs.declared.point.Point.{Point}
 use Rattle.hull.specs.declared.price.Price.{Price}
-use Rattle.hull.specs.Curves.{Among, InRange, IsChain, IsCurve, IsLeastAt, Steps, nowhere, point_at}
+use Rattle.hull.specs.Curves.{lagrangian, Among, InRange, IsChain, IsCurve, IsLeastAt, IsVertex, Steps, nowhere, point_at}
 use Rattle.hull.specs.Laws.{StocksTell}
 use Rattle.hull.proofs.Runs.{among_at}
 use Rattle.hull.proofs.Shapes.{convex}
@@ -11,8 +11,11 @@ use Rattle.step_walk.proofs.Taking.{own_step}
 use Rattle.marginal_alloc.proofs.Along.{costs_up}
 use Rattle.curve_parts.specs.Parts.{IsPartOf, IsPriceBetween}
 use Rattle.curve_parts.specs.Cuts.{IsCutOf}
+use Rattle.curve_parts.specs.Beyond.{LieBeyond, no_price}
+use Rattle.curve_parts.proofs.Between.{alone_between, le_or_gt}
 use Rattle.curve_parts.proofs.Ends.{first_least, last_least}
-use Rattle.curve_parts.proofs.Shape.{part_is_cut}
+use Rattle.curve_parts.proofs.Shape.{part_convex, part_is_cut}
+use Rattle.curve_parts.proofs.Behind.{none_dearer}
 use Rattle.choice_parts.proofs.Placing.{IsPlacedPart, at_right, cut_placed}
 use Rattle.part_filling.specs.Known.{HasNoBetter, IsPriceWindow}
 
@@ -47,23 +50,30 @@ before_first p q first_lo first_cost lo cost hi some least less high =
     let x : p * (cost + 1) ≤ p * first_cost = mul-le-mul_left p (omega (arith, less)) in
     le_of_mul-le-mul_left (let z : q * hi ≤ q * lo = omega (arith, least, x, high) in z) some
 
--- v is lower by less than the most, where at the low price the last one has no larger Lagrangian
-behind_last : (p q last_lo last_cost lo cost hi room most : ℕ) → q * last_lo + p * last_cost ≤ q * lo + p * cost → cost ≤ room → last_cost ≤ cost
-    → p * (room - last_cost) < q * (most + last_lo - hi) → hi < lo + most
-behind_last p q last_lo last_cost lo cost hi room most least fits more high =
-    let up : p * (cost - last_cost) ≤ p * (room - last_cost) = mul-le-mul_left p (omega (arith, fits)) in
-    let split : p * cost ≡ p * last_cost + p * (cost - last_cost) = parts (cost - last_cost) (omega (arith, more)) in
-    let x : q * last_lo < q * (lo + (most + last_lo - hi)) = omega (arith, least, up, split, high) in
-    let y : last_lo < lo + (most + last_lo - hi) = lt_of_mul-lt-mul_left q x in
-    let some : 0 < most + last_lo - hi = positive (most + last_lo - hi) high in
-    omega (arith, y, some)
-  where
-    parts : (d : ℕ) → cost ≡ last_cost + d → p * cost ≡ p * last_cost + p * d
-    parts d e = ap (λ n. p * n) e ∙ (let z : p * (last_cost + d) ≡ p * last_cost + p * d = omega arith in z)
+-- v is lower by less than the most, where at the low price it lies as high as the number
+behind_last : (p q lo cost hi room most beyond : ℕ) → beyond ≤ q * lo + p * cost → cost ≤ room → q * hi + p * room < beyond + q * most → hi < lo + most
+behind_last p q lo cost hi room most beyond least fits high =
+    let up : p * cost ≤ p * room = mul-le-mul_left p fits in
+    let x : q * hi < q * (lo + most) = omega (arith, least, up, high) in
+    lt_of_mul-lt-mul_left q x
 
-    positive : (d : ℕ) → p * (room - last_cost) < q * d → 0 < d
-    positive zero h = absurd (omega (arith, h))
-    positive (suc d) h = omega arith
+-- a point that is alone the least at a price, and dearer than one that is least at another, has a lower price
+price_below : (p q r s last_lo last_cost lo cost : ℕ) → 0 < s → s * last_lo + r * last_cost ≤ s * lo + r * cost → q * lo + p * cost < q * last_lo + p * last_cost → last_cost < cost → p * s ≤ r * q
+price_below p q r s last_lo last_cost lo cost money least alone dearer = elim (le_or_gt (p * s) (r * q)) [
+  | inl k ↦ k
+  | inr k ↦ absurd (apart (cost - last_cost) (last_lo - lo) (omega (arith, dearer)) k)
+]
+  where
+    apart : (d f : ℕ) → d + last_cost ≡ cost → r * q < p * s → ⊥
+    apart d f up k =
+        let a : p * (d + last_cost) ≡ p * cost = ap (λ n. p * n) up in
+        let b : r * (d + last_cost) ≡ r * cost = ap (λ n. r * n) up in
+        let falls : q * lo + p * d < q * last_lo = omega (arith, alone, a) in
+        let rises : s * last_lo ≤ s * lo + r * d = omega (arith, least, b) in
+        let x : s * (q * lo + p * d) < s * (q * last_lo) = mul-lt-mul_of_pos_left falls money in
+        let y : q * (s * last_lo) ≤ q * (s * lo + r * d) = mul-le-mul_left q rises in
+        let z : d * (r * q) ≤ d * (p * s) = mul-le-mul_left d (omega (arith, k)) in
+        omega (arith, x, y, z)
 
 -- a step isn't flatter than a price at which it would have to fall by less than 1
 none_flatter : (p q fall rise : ℕ) → fall * q < p * rise → rise ≤ 1000000000000 → 0 < fall → p * 1000000000000 ≤ q → ⊥
@@ -83,7 +93,8 @@ pub record HasNothingBeside (curve known : List Point) (pick : Point) (room most
       → (point_at curve k).hi < pick.hi → pick.hi - (point_at curve k).hi < most
 
 module _ (low high : Price) (points curve known : List Point) (window : IsPriceWindow low high) (tell : StocksTell points) (some : 0 < length points)
-    (ranges : (v : Point) → Among v points → InRange v) (is : IsCurve points curve) (of : IsPartOf low high points known) where
+    (ranges : (v : Point) → Among v points → InRange v) (is : IsCurve points curve) (of : IsPartOf low high points known)
+    (beyond : ℕ) (high_behind : LieBeyond low points known beyond) where
   cut : IsCutOf low high curve known
   cut = part_is_cut low high points curve known tell some window.window is of
 
@@ -125,8 +136,34 @@ module _ (low high : Price) (points curve known : List Point) (window : IsPriceW
       none_flatter low.p low.q ((point_at curve k).lo - (point_at curve (k + 1)).lo) ((point_at curve (k + 1)).cost - (point_at curve k).cost)
       (placed.behind k b late) (omega (arith, top)) (omega (arith, falls)) end
 
+  -- in what is known none is dearer than the last
+  none_behind : (v : Point) → Among v known → v.cost ≤ (point_at known (length known - 1)).cost
+  none_behind v m =
+      let c = cut in
+      let some = known_some c in
+      none_dearer known (length known - 1) (part_convex low high points known of) (omega (arith, some)) (omega (arith, some)) v m
+
+  -- a vertex that is dearer than the last known one lies as high as the number
+  lies_beyond : (k : ℕ) → k < length curve → (point_at known (length known - 1)).cost < (point_at curve k).cost → beyond ≤ lagrangian low.p low.q (point_at curve k)
+  lies_beyond k b dearer =
+      let w : Point = point_at curve k in
+      let last : Point = point_at known (length known - 1) in
+      let in_curve : Among w curve = among_at curve k nowhere b in
+      let v : IsVertex points w = is.vertices w in_curve in
+      let there : Among last points = of.among last (among_at known (length known - 1) nowhere (let some = known_some cut in omega (arith, some))) in
+      let alone : lagrangian v.p v.q w < lagrangian v.p v.q last = elim (v.at.alone last there) [
+        | inl s ↦ absurd (let e = s.cost in omega (arith, e, dearer))
+        | inr l ↦ l
+      ] in
+      let below : v.p * low.q ≤ low.p * v.q = price_below v.p v.q low.p low.q last.lo last.cost w.lo w.cost window.window.money (last_best w (member k b)) alone dearer in
+      let price : IsPriceBetween no_price low v.p v.q = record { p_positive = v.at.p_positive; q_positive = v.at.q_positive; from = omega arith; to = below } in
+      elim (high_behind w (member k b) (alone_between no_price low points w v.p v.q price v.at)) [
+        | inl s ↦ absurd (let e = s.2.cost in let l = none_behind s.0 s.1 in omega (arith, e, l, dearer))
+        | inr l ↦ l
+      ]
+
   -- a family whose part has no better vertex beside it is settled
-  pub part_settled : (pick left most : ℕ) → pick < length known → HasNoBetter low high known pick left most
+  pub part_settled : (pick left most : ℕ) → pick < length known → HasNoBetter low high beyond known pick left most
       → (from : ℕ) × HasNothingBeside curve known (point_at known pick) ((point_at known pick).cost + left) most from
   part_settled pick left most b none =
       let c = cut in
@@ -155,8 +192,8 @@ module _ (low high : Price) (points curve known : List Point) (window : IsPriceW
                   | inr rest ↦ elim rest [
                     | inl dear ↦ absurd (omega (arith, dear, at, more, fits))
                     | inr less ↦ (
-                        let r = behind_last low.p low.q (point_at known (length known - 1)).lo (point_at known (length known - 1)).cost (point_at curve j).lo (point_at curve j).cost (point_at known pick).hi
-                        ((point_at known pick).cost + left) most (last_best (point_at curve j) (member j l)) fits (omega (arith, at, more)) less in
+                        let far = lies_beyond j l (omega (arith, at, more)) in
+                        let r = behind_last low.p low.q (point_at curve j).lo (point_at curve j).cost (point_at known pick).hi ((point_at known pick).cost + left) most beyond far fits less in
                         omega (arith, r, ends, lower))
                   ]
                 ])

@@ -21,7 +21,7 @@ abbrev pub IsBestKnown : List (List Point) → ℕ → List ℕ → Option Chang
 IsBestKnown known money picks None = IsFull known money picks
 IsBestKnown known money picks (Some c) = IsBestChange known money picks c.family c.vertex × (c.gain ≡ gain known picks c.family c.vertex)
 
-module _ (families known : List (List Point)) (windows : List Window) (are : AreFamilies families) (is : AreKnown families known windows) where
+module _ (families known : List (List Point)) (windows : List Window) (beyond : List ℕ) (are : AreFamilies families) (is : AreKnown families known windows beyond) where
   -- known vertices are in range
   pub known_range : (f k : ℕ) → f < length known → k < length (curve_at known f) → InRange (vertex_at known f k)
   known_range f k b h =
@@ -38,7 +38,7 @@ module _ (families known : List (List Point)) (windows : List Window) (are : Are
       omega (arith, e, g, h)
 
   module _ (picks : List ℕ) (left most : ℕ) (vertices : AreVertices known picks)
-      (none : (f : ℕ) → f < length known → IsSettled windows known picks left most f)
+      (none : (f : ℕ) → f < length known → IsSettled windows beyond known picks left most f)
       (curves : List (List Point)) (places : List ℕ) (areas : AreCurves families curves) (at : ArePlaces curves places known picks) where
     count : length known ≡ length curves
     count = sym is.count ∙ areas.count
@@ -62,13 +62,13 @@ module _ (families known : List (List Point)) (windows : List Window) (are : Are
         let fam : f < length known = omega (arith, b, count) in
         let inside : f < length families = (let n = is.count in omega (arith, fam, n)) in
         let w = window_at windows f in
-        let s = part_settled w.low w.high (curve_at families f) (curve_at curves f) (curve_at known f) (is.prices f fam) (are.tell f inside) (are.some f inside) (are.ranges f) (areas.each f b) (is.parts f fam)
+        let s = part_settled w.low w.high (curve_at families f) (curve_at curves f) (curve_at known f) (is.prices f fam) (are.tell f inside) (are.some f inside) (are.ranges f) (areas.each f b) (is.parts f fam) (slice_index beyond f) (is.behind f fam)
         (slice_index picks f) left most (vertices.below f fam) (none f fam) in
         subst (HasNothingBeside (curve_at curves f) (curve_at known f) (vertex_at known f (slice_index picks f)) ((vertex_at known f (slice_index picks f)).cost + left) most) (placed f b s.0 s.1) s.1
 
   -- the best change of what is known is that of the curves
   pub found_known : (picks : List ℕ) (left most : ℕ) (change : Option Change) → AreVertices known picks
-      → ((f : ℕ) → f < length known → IsSettled windows known picks left most f)
+      → ((f : ℕ) → f < length known → IsSettled windows beyond known picks left most f)
       → IsBestKnown known (cost_of (picked known picks) + left) picks change → MatchOption change (most ≡ 1) (λ c. most ≡ c.gain) → IsFound families (cost_of (picked known picks) + left) known picks change
   found_known picks left most None vertices none best e = λ curves places areas at.
       full_of_known curves known places picks left most at vertices (sym is.count ∙ areas.count) (settled picks left most vertices none curves places areas at) best e

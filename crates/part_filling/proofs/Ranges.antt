@@ -12,7 +12,3 @@ range_read curve k v shape b e = subst InRange (sym e) (shape.ranges (point_at c
 -- the product of ends and money has room
 pub ends_room : (a m : ℕ) → a ≤ 2 ^ 75 → m ≤ 1000000000000 → a * m ≤ 2 ^ 75 * 1000000000000
 ends_room a m h k = (let x : a * m ≤ a * 1000000000000 = mul-le-mul_left a k in omega (arith, x, h))
-
--- so has that of a price and all money
-pub price_room : (p r : ℕ) → p ≤ 2 ^ 74 → r ≤ 1001000000000000 → p * r ≤ 2 ^ 74 * 1001000000000000
-price_room p r h k = (let x : p * r ≤ p * 1001000000000000 = mul-le-mul_left p k in omega (arith, x, h))

@@ -35,18 +35,22 @@ widened_both false true first old new h k = subst (λ ws. rooms new.windows.item
 widened_both false false first old new h k = record { curves = k.curves ∙ h.curves; windows = k.windows ∙ h.windows; picks = k.picks ∙ h.picks }
 
 -- a family that is as before is settled as before
-pub settled_stays : (old new : Known) (f g left most : ℕ) → OthersStay f old new → g ≢ f → IsSettled old.windows.items old.curves.items old.picks.items left most g → IsSettled new.windows.items new.curves.items new.picks.items left most g
+pub settled_stays : (old new : Known) (f g left most : ℕ) → OthersStay f old new → g ≢ f → IsSettled old.windows.items old.beyond.items old.curves.items old.picks.items left most g
+    → IsSettled new.windows.items new.beyond.items new.curves.items new.picks.items left most g
 settled_stays old new f g left most stay other is =
     let w = window_at new.windows.items g in
-    subst (λ k. HasNoBetter w.low w.high (curve_at new.curves.items g) k left most) (sym (stay.picks g other))
-    (subst (λ (c : List Point). HasNoBetter w.low w.high c (slice_index old.picks.items g) left most) (sym (stay.curves g other))
-    (subst (λ (w : Window). HasNoBetter w.low w.high (curve_at old.curves.items g) (slice_index old.picks.items g) left most) (sym (stay.windows g other)) is))
+    let b = slice_index new.beyond.items g in
+    subst (λ k. HasNoBetter w.low w.high b (curve_at new.curves.items g) k left most) (sym (stay.picks g other))
+    (subst (λ (c : List Point). HasNoBetter w.low w.high b c (slice_index old.picks.items g) left most) (sym (stay.curves g other))
+    (subst (λ n. HasNoBetter w.low w.high n (curve_at old.curves.items g) (slice_index old.picks.items g) left most) (sym (stay.beyond g other))
+    (subst (λ (w : Window). HasNoBetter w.low w.high (slice_index old.beyond.items g) (curve_at old.curves.items g) (slice_index old.picks.items g) left most) (sym (stay.windows g other)) is)))
 
 -- two changes of one family leave the others as they were
 pub stay_both : (f : ℕ) (first old new : Known) → OthersStay f first old → OthersStay f old new → OthersStay f first new
 stay_both f first old new h k = record {
   curves = λ g d. k.curves g d ∙ h.curves g d;
   windows = λ g d. k.windows g d ∙ h.windows g d;
+  beyond = λ g d. k.beyond g d ∙ h.beyond g d;
   picks = λ g d. k.picks g d ∙ h.picks g d;
 }
 

@@ -9,6 +9,7 @@ use Rattle.hull.proofs.Runs.{among_at}
 use Rattle.step_walk.specs.Prefix.{AreVertices, curve_at, picked, vertex_at}
 use Rattle.curve_parts.specs.Parts.{IsPartOf, IsVertexBetween}
 use Rattle.curve_parts.specs.Cuts.{IsWindow, IsWithin}
+use Rattle.curve_parts.specs.Beyond.{LieBeyond}
 use Rattle.curve_parts.proofs.Exist.{has_curve}
 use Rattle.curve_parts.proofs.Shape.{part_convex, part_has_those, price_within}
 use Rattle.choice_parts.specs.Parts.{AreFamilies}
@@ -55,9 +56,10 @@ picked_set (c ∷ cs) [] f curve place b n e = absurd (omega (arith, n))
 picked_set (c ∷ cs) (k ∷ ks) zero curve place b n e = (let here : point_at curve place ≡ point_at c k = e in ap (λ (v : Point). v ∷ picked cs ks) here)
 picked_set (c ∷ cs) (k ∷ ks) (suc f) curve place b n e = ap (λ (vs : List Point). point_at c k ∷ vs) (picked_set cs ks f curve place (omega (arith, b)) (omega (arith, n)) e)
 
-module _ (families known : List (List Point)) (windows : List Window) (picks : List ℕ) (are : AreFamilies families) (is : AreKnown families known windows) (vertices : AreVertices known picks)
+module _ (families known : List (List Point)) (windows : List Window) (beyond picks : List ℕ) (are : AreFamilies families) (is : AreKnown families known windows beyond) (vertices : AreVertices known picks)
     (f : ℕ) (fam : f < length known) (window : Window) (prices : IsPriceWindow window.low window.high) (within : IsWithin (window_at windows f).low (window_at windows f).high window.low window.high)
-    (part : List Point) (made : IsPartOf window.low window.high (curve_at families f) part) where
+    (part : List Point) (made : IsPartOf window.low window.high (curve_at families f) part)
+    (number : ℕ) (behind : LieBeyond window.low (curve_at families f) part number) where
   there : Among (vertex_at known f (slice_index picks f)) part
   there =
       let old = window_at windows f in
@@ -75,10 +77,11 @@ module _ (families known : List (List Point)) (windows : List Window) (picks : L
       ap (point_at part) (one_place part (part_convex window.low window.high (curve_at families f) part made) place p.place b p.below (e ∙ sym (ap (λ (v : Point). v.cost) p.is))) ∙ p.is
 
   -- all is known as before, and the wider part of this family
-  pub known_set : AreKnown families (set known f part) (set windows f window)
+  pub known_set : AreKnown families (set known f part) (set windows f window) (set beyond f number)
   known_set = record {
     count = is.count ∙ sym (length-set known f part);
     windows_count = length-set windows f window ∙ is.windows_count ∙ sym (length-set known f part);
+    beyond_count = length-set beyond f number ∙ is.beyond_count ∙ sym (length-set known f part);
     prices = λ g b. elim (cases_eq g f) [
       | inl e ↦ subst (λ (w : Window). IsPriceWindow w.low w.high) (sym (ap (window_at (set windows f window)) e ∙ own)) prices
       | inr d ↦ subst (λ (w : Window). IsPriceWindow w.low w.high) (sym (get_or-set_other windows f g window no_window d)) (is.prices g (subst (λ n. g < n) (length-set known f part) b))
@@ -90,6 +93,16 @@ module _ (families known : List (List Point)) (windows : List Window) (picks : L
       | inr d ↦ subst (λ (w : Window). IsPartOf w.low w.high (curve_at families g) (curve_at (set known f part) g)) (sym (get_or-set_other windows f g window no_window d))
           (subst (IsPartOf (window_at windows g).low (window_at windows g).high (curve_at families g)) (sym (get_or-set_other known f g part [] d))
           (is.parts g (subst (λ n. g < n) (length-set known f part) b)))
+    ];
+    behind = λ g b. elim (cases_eq g f) [
+      | inl e ↦ subst (λ z. LieBeyond (window_at (set windows f window) z).low (curve_at families z) (curve_at (set known f part) z) (slice_index (set beyond f number) z)) (sym e)
+          (subst (λ (w : Window). LieBeyond w.low (curve_at families f) (curve_at (set known f part) f) (slice_index (set beyond f number) f)) (sym own)
+          (subst (λ (p : List Point). LieBeyond window.low (curve_at families f) p (slice_index (set beyond f number) f)) (sym (get_or-set_same known f part [] fam))
+          (subst (LieBeyond window.low (curve_at families f) part) (sym (get_or-set_same beyond f number 0 (let m = is.beyond_count in omega (arith, m, fam)))) behind)))
+      | inr d ↦ subst (λ (w : Window). LieBeyond w.low (curve_at families g) (curve_at (set known f part) g) (slice_index (set beyond f number) g)) (sym (get_or-set_other windows f g window no_window d))
+          (subst (λ (p : List Point). LieBeyond (window_at windows g).low (curve_at families g) p (slice_index (set beyond f number) g)) (sym (get_or-set_other known f g part [] d))
+          (subst (LieBeyond (window_at windows g).low (curve_at families g) (curve_at known g)) (sym (get_or-set_other beyond f g number 0 d))
+          (is.behind g (subst (λ n. g < n) (length-set known f part) b))))
     ];
   }
     where

@@ -9,6 +9,7 @@ use Rattle.marginal_alloc.specs.Choice.{AreCurves}
 use Rattle.marginal_alloc.specs.Filling.{IsBestChange, IsFull}
 use Rattle.curve_parts.specs.Parts.{IsPartOf}
 use Rattle.curve_parts.specs.Cuts.{IsSmall, IsWindow}
+use Rattle.curve_parts.specs.Beyond.{LieBeyond}
 use Rattle.part_filling.specs.declared.window.Window.{Window}
 
 -- both prices are above 0 and finite, and their numbers are within their limits
@@ -27,13 +28,21 @@ no_window = record { low = record { p = 0; q = 0 }; high = record { p = 0; q = 0
 abbrev pub window_at : List Window → ℕ → Window
 window_at windows f = slice_index_or windows f no_window
 
--- of each family the part of its curve between its two prices is known
-pub record AreKnown (families known : List (List Point)) (windows : List Window) : Type 0 where
+-- of each family the part of its curve between its two prices is known, and how high all vertices behind it lie
+pub record AreKnown (families known : List (List Point)) (windows : List Window) (beyond : List ℕ) : Type 0 where
   pub count : length families ≡ length known
   pub windows_count : length windows ≡ length known
+  pub beyond_count : length beyond ≡ length known
   pub prices : (f : ℕ) → f < length known → IsPriceWindow (window_at windows f).low (window_at windows f).high
   pub parts : (f : ℕ) → f < length known
       → IsPartOf (window_at windows f).low (window_at windows f).high (curve_at families f) (curve_at known f)
+  pub behind : (f : ℕ) → f < length known
+      → LieBeyond (window_at windows f).low (curve_at families f) (curve_at known f) (slice_index beyond f)
+
+-- all vertices behind a part of each family lie as high as its number at the low price
+pub record AllLieBeyond (low : Price) (families parts : List (List Point)) (beyond : List ℕ) : Type 0 where
+  pub count : length beyond ≡ length parts
+  pub each : (f : ℕ) → f < length parts → LieBeyond low (curve_at families f) (curve_at parts f) (slice_index beyond f)
 
 -- the picks at these places of the curves are the picks of what is known
 pub record ArePlaces (curves : List (List Point)) (places : List ℕ) (known : List (List Point)) (picks : List ℕ) :
@@ -55,20 +64,20 @@ abbrev pub HasNoneBefore : Price → Point → Point → Type 0
 HasNoneBefore high first pick = pick.hi * high.q ≤ first.lo * high.q + high.p
 
 -- There is no vertex behind the last known one, because a step falls at least 1 for at most 10^12; or those that cost
--- at most `left` more than the pick are not lower by `most` or more: at the low price the last one is least of all.
-abbrev pub HasNoneBehind : Price → Point → Point → ℕ → ℕ → Type 0
-HasNoneBehind low last pick left most = (low.p * 1000000000000 ≤ low.q) ⊎ (pick.cost + left ≤ last.cost)
-    ⊎ (low.p * (pick.cost + left - last.cost) < low.q * (most + last.lo - pick.hi))
+-- at most `left` more than the pick are not lower by `most` or more: at the low price they lie as high as `beyond`.
+abbrev pub HasNoneBehind : Price → ℕ → Point → Point → ℕ → ℕ → Type 0
+HasNoneBehind low beyond last pick left most = (low.p * 1000000000000 ≤ low.q) ⊎ (pick.cost + left ≤ last.cost)
+    ⊎ (low.q * pick.hi + low.p * (pick.cost + left) < beyond + low.q * most)
 
 -- no vertex that isn't known can change the pick of this curve by as much
-pub record HasNoBetter (low high : Price) (known : List Point) (pick left most : ℕ) : Type 0 where
+pub record HasNoBetter (low high : Price) (beyond : ℕ) (known : List Point) (pick left most : ℕ) : Type 0 where
   pub before : HasNoneBefore high (point_at known 0) (point_at known pick)
-  pub behind : HasNoneBehind low (point_at known (length known - 1)) (point_at known pick) left most
+  pub behind : HasNoneBehind low beyond (point_at known (length known - 1)) (point_at known pick) left most
 
 -- nor the pick of family f
-abbrev pub IsSettled : List Window → List (List Point) → List ℕ → ℕ → ℕ → ℕ → Type 0
-IsSettled windows known picks left most f = HasNoBetter (window_at windows f).low (window_at windows f).high
-    (curve_at known f) (slice_index picks f) left most
+abbrev pub IsSettled : List Window → List ℕ → List (List Point) → List ℕ → ℕ → ℕ → ℕ → Type 0
+IsSettled windows beyond known picks left most f = HasNoBetter (window_at windows f).low (window_at windows f).high
+    (slice_index beyond f) (curve_at known f) (slice_index picks f) left most
 
 -- a vertex of the list has this cost
 pub record HasCost (vertices : List Point) (cost : ℕ) : Type 0 where

@@ -25,6 +25,7 @@ pub record IsWider (old new : Window) : Type 0 where
 pub record OthersStay (f : ℕ) (old new : Known) : Type 0 where
   pub curves : (g : ℕ) → g ≢ f → curve_at new.curves.items g ≡ curve_at old.curves.items g
   pub windows : (g : ℕ) → g ≢ f → window_at new.windows.items g ≡ window_at old.windows.items g
+  pub beyond : (g : ℕ) → g ≢ f → slice_index new.beyond.items g ≡ slice_index old.beyond.items g
   pub picks : (g : ℕ) → g ≢ f → slice_index new.picks.items g ≡ slice_index old.picks.items g
 
 -- all families are known as before

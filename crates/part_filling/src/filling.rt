@@ -36,10 +36,12 @@ fn next_change<F: Families>(
     requires families { AreFamilies (F.points families.now) }
     requires start { IsSmall start }
     requires few { length known.old.curves.items ≤ 2000 }
-    requires known { AreKnown (F.points families.now) known.old.curves.items known.old.windows.items }
+    requires known { AreKnown (F.points families.now) known.old.curves.items known.old.windows.items
+        known.old.beyond.items }
     requires vertices { AreVertices known.old.curves.items known.old.picks.items }
     requires money { cost_of (picked known.old.curves.items known.old.picks.items) + left ≤ 1000000000000000 }
-    ensures known { OnOk result (AreKnown (F.points families.now) known.new.curves.items known.new.windows.items) }
+    ensures known { OnOk result (AreKnown (F.points families.now) known.new.curves.items known.new.windows.items
+        known.new.beyond.items) }
     ensures vertices { OnOk result (AreVertices known.new.curves.items known.new.picks.items) }
     ensures picks { OnOk result (picked known.new.curves.items known.new.picks.items
         ≡ picked known.old.curves.items known.old.picks.items) }
@@ -72,11 +74,13 @@ pub fn fill_parts<F: Families>(
     requires families { AreFamilies (F.points families.now) }
     requires start { IsSmall start }
     requires few { length known.old.curves.items ≤ 2000 }
-    requires known { AreKnown (F.points families.now) known.old.curves.items known.old.windows.items }
+    requires known { AreKnown (F.points families.now) known.old.curves.items known.old.windows.items
+        known.old.beyond.items }
     requires vertices { AreVertices known.old.curves.items known.old.picks.items }
     requires fits { cost_of (picked known.old.curves.items known.old.picks.items) ≤ budget }
     requires budget { budget ≤ 1000000000000000 }
-    ensures known { OnOk result (AreKnown (F.points families.now) known.new.curves.items known.new.windows.items) }
+    ensures known { OnOk result (AreKnown (F.points families.now) known.new.curves.items known.new.windows.items
+        known.new.beyond.items) }
     ensures vertices { OnOk result (AreVertices known.new.curves.items known.new.picks.items) }
     ensures fills { OnOk result ((curves : List (List Point)) (starts : List ℕ)
         → AreCurves (F.points families.now) curves

@@ -10,13 +10,20 @@ use crate::window::{Window, lower};
 use hull::{Curve, Price};
 
 /// Whether no vertex behind a part can change its pick for a gain of `most` or more, with `left` money to spend.
-fn has_none_behind(curve: &Curve, pick: u32, low: Price, left: u64, most: u128) -> bool
+fn has_none_behind(
+    curve: &Curve,
+    pick: u32,
+    low: Price,
+    beyond: u128,
+    left: u64,
+    most: u128,
+) -> bool
     requires small { IsSmall low }
     requires shape { IsShape curve.now }
     requires pick { pick < length curve.now }
     requires left { left ≤ 1000000000000000 }
     requires most { most ≤ 2 ^ 74 }
-    ensures none { IsTrue result → HasNoneBehind low (point_at curve.now (length curve.now - 1))
+    ensures none { IsTrue result → HasNoneBehind low beyond (point_at curve.now (length curve.now - 1))
         (point_at curve.now pick) left most }
     ensures more { IsFalse result → low.q < low.p * 1000000000000 }
 {
@@ -29,11 +36,8 @@ fn has_none_behind(curve: &Curve, pick: u32, low: Price, left: u64, most: u128) 
     if room <= last.cost {
         return true;
     }
-    let fall = most + last.lo;
-    if fall <= here.hi {
-        return false;
-    }
-    low.p * u128::from(room - last.cost) < u128::from(low.q) * (fall - here.hi)
+    let lowest = u128::from(low.q) * here.hi + low.p * u128::from(room);
+    lowest < beyond.saturating_add(u128::from(low.q) * most)
 }
 
 /// A wider window for a part, if a vertex outside it could change its pick for a gain of `most` or more, with `left`
@@ -42,6 +46,7 @@ pub(crate) fn wider(
     curve: &Curve,
     pick: u32,
     window: Window,
+    beyond: u128,
     start: Price,
     left: u64,
     most: u128,
@@ -51,7 +56,7 @@ pub(crate) fn wider(
     requires pick { pick < length curve.now }
     requires left { left ≤ 1000000000000000 }
     requires most { most ≤ 2 ^ 74 }
-    ensures none { IfNone result (HasNoBetter window.low window.high curve.now pick left most) }
+    ensures none { IfNone result (HasNoBetter window.low window.high beyond curve.now pick left most) }
     ensures some { IfSome result (IsWider window) }
 {
     let _shape = curve.len();
@@ -68,7 +73,7 @@ pub(crate) fn wider(
             high,
         });
     }
-    if has_none_behind(curve, pick, window.low, left, most) {
+    if has_none_behind(curve, pick, window.low, beyond, left, most) {
         return None;
     }
     Some(Window {

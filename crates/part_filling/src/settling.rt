@@ -26,17 +26,19 @@ fn settle_family<F: Families>(
 ) -> Result<bool, NoMemory>
     requires families { AreFamilies (F.points families.now) }
     requires start { IsSmall start }
-    requires known { AreKnown (F.points families.now) known.old.curves.items known.old.windows.items }
+    requires known { AreKnown (F.points families.now) known.old.curves.items known.old.windows.items
+        known.old.beyond.items }
     requires vertices { AreVertices known.old.curves.items known.old.picks.items }
     requires family { family < length known.old.curves.items }
     requires left { left ≤ 1000000000000000 }
     requires most { most ≤ 2 ^ 74 }
-    ensures known { OnOk result (AreKnown (F.points families.now) known.new.curves.items known.new.windows.items) }
+    ensures known { OnOk result (AreKnown (F.points families.now) known.new.curves.items known.new.windows.items
+        known.new.beyond.items) }
     ensures vertices { OnOk result (AreVertices known.new.curves.items known.new.picks.items) }
     ensures picks { OnOk result (picked known.new.curves.items known.new.picks.items
         ≡ picked known.old.curves.items known.old.picks.items) }
-    ensures settled { OnOk result (IsSettled known.new.windows.items known.new.curves.items known.new.picks.items left
-        most family) }
+    ensures settled { OnOk result (IsSettled known.new.windows.items known.new.beyond.items
+        known.new.curves.items known.new.picks.items left most family) }
     ensures others { OnOk result (OthersStay family known.old known.new) }
     ensures widened { IfOk result (λ widened. HasWidened widened known.old known.new) }
 {
@@ -46,6 +48,7 @@ fn settle_family<F: Families>(
         &known.curves[f],
         known.picks[f],
         known.windows[f],
+        known.beyond[f],
         start,
         left,
         most,
@@ -69,16 +72,19 @@ pub(crate) fn settle<F: Families>(
     requires families { AreFamilies (F.points families.now) }
     requires start { IsSmall start }
     requires few { length known.old.curves.items ≤ 2000 }
-    requires known { AreKnown (F.points families.now) known.old.curves.items known.old.windows.items }
+    requires known { AreKnown (F.points families.now) known.old.curves.items known.old.windows.items
+        known.old.beyond.items }
     requires vertices { AreVertices known.old.curves.items known.old.picks.items }
     requires left { left ≤ 1000000000000000 }
     requires most { most ≤ 2 ^ 74 }
-    ensures known { OnOk result (AreKnown (F.points families.now) known.new.curves.items known.new.windows.items) }
+    ensures known { OnOk result (AreKnown (F.points families.now) known.new.curves.items known.new.windows.items
+        known.new.beyond.items) }
     ensures vertices { OnOk result (AreVertices known.new.curves.items known.new.picks.items) }
     ensures picks { OnOk result (picked known.new.curves.items known.new.picks.items
         ≡ picked known.old.curves.items known.old.picks.items) }
     ensures settled { OnOk result ((f : ℕ) → f < length known.new.curves.items
-        → IsSettled known.new.windows.items known.new.curves.items known.new.picks.items left most f) }
+        → IsSettled known.new.windows.items known.new.beyond.items known.new.curves.items known.new.picks.items left
+        most f) }
     ensures widened { IfOk result (λ widened. HasWidened widened known.old known.new) }
 {
     let mut widened = false;

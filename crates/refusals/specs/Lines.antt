@@ -1,5 +1,5 @@
 -- The line of a refusal. Commas (44) separate fields, and the line ends with a line feed (10).
-use Rattle.std.specs.Prelude.{◌≡◌, ℕ, List, [], ◌∷◌, ◌++◌, codes, Option, Some, None}
+use Rattle.std.specs.Prelude.{ℕ, List, [], ◌∷◌, ◌++◌, codes, Option, Some, None}
 use Rattle.std.specs.Fmt.{decimal}
 use Rattle.case_edits.specs.declared.fault.EditFault.{EditFault}
 use Rattle.case_edits.specs.declared.fault.EditFault.TheVariants as edit
@@ -173,10 +173,6 @@ refusal_text names (refusal.Rejected reject) = reject_text names reject
 refusal_text names (refusal.Edit fault) = edit_text fault
 refusal_text names refusal.WriteFault = codes "write"
 refusal_text names refusal.NoMemory = codes "memory"
-
--- a refusal that names no pair of a case: its text is the same for all names
-abbrev pub NamesNoPair : Refusal → Type 0
-NamesNoPair refusal = (names : FrameRows) → refusal_text names refusal ≡ refusal_text no_names refusal
 
 -- the line of a refusal, with these names
 unfoldable pub line_of : FrameRows → Refusal → List ℕ

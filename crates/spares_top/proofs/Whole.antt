@@ -21,7 +21,8 @@ use Rattle.spares_top.specs.declared.done.Written.{Written}
 use Rattle.refusals.specs.declared.failure.Failure.{Failure}
 use Rattle.refusals.specs.declared.refusal.File.TheVariants as file
 use Rattle.refusals.specs.declared.refusal.Refusal.TheVariants as refusal
-use Rattle.spares_top.specs.Answer.{Answers, HaveGiven, IsDue, RefusesBy}
+use Rattle.spares_top.specs.Answer.{Answers, HaveGiven, IsDue, RefusesBy, words_refusal}
+use Rattle.answers.specs.Answers.{Gives}
 use Rattle.answers.specs.Steps.{◌>>=◌}
 use Rattle.refusals.specs.Causes.{Kind, of_words, of_reading, of_writing, of_memory, of_task, kind_of, or_refuse, plain_failure, stopped}
 use Rattle.refusals.specs.Lines.{no_names}
@@ -255,6 +256,16 @@ wordless (Err f) fault scene e = record {
   reads = λ none name. refl;
   writes = λ none name. refl;
 }
+
+-- no order from the words: a fault of theirs, or want of memory
+pub refused_words : (order : Result Order WordsFault) (why : Stop WordsFault) (scene : Scene) → Gives {T = Order} order (Err why)
+    → Performs order scene scene (Err (plain_failure (words_refusal why)))
+refused_words order stop.NoMemory scene h = record {
+  answers = record { failure_is = refl; untouched = record { held = refl; out = refl; faults = refl } };
+  reads = λ none name. refl;
+  writes = λ none name. refl;
+}
+refused_words order (stop.Fault fault) scene h = wordless order fault scene h
 
 -- ---- completeness
 

@@ -1,11 +1,14 @@
 -- The answer to an order: a report or a refusal, with its cause, and the state after it.
 use Rattle.std.specs.Prelude.{◌≡◌, ℕ, List, IsOk, Result, Ok, Err}
+use Rattle.answers.specs.declared.stop.Stop.{Stop}
+use Rattle.answers.specs.declared.stop.Stop.TheVariants as stop
 use Rattle.spares_words.specs.declared.order.Order.{Order}
 use Rattle.spares_words.specs.declared.order.WordsFault.{WordsFault}
 use Rattle.order_inputs.specs.Files.{Reads, StopsAt, inputs_of}
 use Rattle.spares_top.specs.declared.done.Done.{Done}
 use Rattle.spares_top.specs.declared.done.Outcome.{Outcome}
 use Rattle.refusals.specs.declared.failure.Failure.{Failure}
+use Rattle.refusals.specs.declared.refusal.Refusal.{Refusal}
 use Rattle.refusals.specs.declared.refusal.Refusal.TheVariants as refusal
 use Rattle.refusals.specs.Causes.{Kind, of_words, of_reading, of_writing, of_memory, of_task, kind_of, plain_failure}
 use Rattle.spares_top.specs.Headline.{IsTrue}
@@ -32,6 +35,11 @@ pub record IsDone (order : Result Order WordsFault) (old new : Scene) (done : Do
   pub fulfils : Fulfils task outcome
   pub is_true : IsTrue task outcome
   pub delivered : HasDelivered outcome old new
+
+-- the refusal of words that are no order, or of want of memory for them
+abbrev pub words_refusal : Stop WordsFault → Refusal
+words_refusal stop.NoMemory = refusal.NoMemory
+words_refusal (stop.Fault fault) = refusal.Words fault
 
 -- the words are no order
 pub record IsWordless (order : Result Order WordsFault) (fault : WordsFault) (old new : Scene) (failure : Failure) :

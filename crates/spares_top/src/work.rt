@@ -3,6 +3,7 @@ ghost use Rattle.std.specs.Prelude.{◌≡◌, [], Ok};
 ghost use Rattle.spares_words.specs.Order.{IsInRange, order_of};
 ghost use Rattle.order_inputs.specs.Files.{StandStill, inputs};
 ghost use Rattle.order_inputs.specs.Reading.{AreWithin};
+ghost use Rattle.spares_top.specs.Answer.{words_refusal};
 ghost use Rattle.spares_top.specs.Making.{ComesOf, Is, MakesBy};
 ghost use Rattle.spares_top.specs.Promises.{Performs};
 ghost use Rattle.spares_top.specs.State.{scene};
@@ -24,7 +25,7 @@ use order_inputs::{files_of, fourth_if, table_at, tables_of};
 use price_certificate::Terms;
 use refusals::{Failure, Refusal, failure_of};
 use spares_io::{Shelf, Sink, Text};
-use spares_words::{Order, read_words};
+use spares_words::{Order, WordsFault, read_words};
 use std::alloc::Global;
 
 /// The outcome of an order on the bytes of its inputs.
@@ -104,6 +105,16 @@ fn perform<H: Shelf, W: Sink>(
     Ok(outcome.done)
 }
 
+/// The refusal of words that are no order.
+pub(crate) fn refusal_of(stop: Stop<WordsFault>) -> Refusal
+    ensures { result ≡ words_refusal stop }
+{
+    match stop {
+        Stop::NoMemory => Refusal::NoMemory,
+        Stop::Fault(fault) => Refusal::Words(fault),
+    }
+}
+
 /// Reads the words, and carries out their order.
 pub(crate) fn work<H: Shelf, W: Sink>(
     alloc: Global,
@@ -123,7 +134,6 @@ pub(crate) fn work<H: Shelf, W: Sink>(
             drop(order);
             done
         }
-        Err(Stop::NoMemory) => Err(Failure::of(Refusal::NoMemory)),
-        Err(Stop::Fault(fault)) => Err(Failure::of(Refusal::Words(fault))),
+        Err(stop) => Err(Failure::of(refusal_of(stop))),
     }
 }

@@ -9,4 +9,4 @@ mod Places
 mod Queued
 mod Rest
 mod Totals
-mod Turns
+mod Compared

@@ -13,7 +13,7 @@ use family_curve::curve;
 use family_parts::part_within;
 use family_points::{Bounds, tables};
 use hull::{Curve, Plain, Price};
-use spares_input::{Case, PartId};
+use spares_input::{Case, PartId, nothing_held};
 use std::alloc::Global;
 use std::test::*;
 use test_inputs::{family_of, rates_of};
@@ -32,14 +32,14 @@ const TWO: [&str; 3] = [
     "part,site,demand,repair_here,share,repair_days\nL,D,,,,10\nL,a,36.5,0.5,,5\nL,b,18.25,0.5,,5\nS,D,,,0.4,20\nS,a,,0.25,0.4,5\nS,b,,0.25,0.4,5\nR,D,,,0.4,20\nR,a,,0.25,0.4,5\nR,b,,0.25,0.4,5\n",
 ];
 
-/// The part of the curve of a case's first family between two prices.
+/// The part of the curve of a case's first family between two prices, and how high all vertices behind it lie.
 fn part(
     alloc: Global,
     case: &Case,
     rates: &Rates,
     low: Price,
     high: Price,
-) -> Result<Curve, NoMemory>
+) -> Result<(Curve, u128), NoMemory>
     requires rates { AreRatesOf case.now rates.now }
     requires line { IsLine case.now 0 }
     requires few { tables_of case.now 0 ≤ most_tables }
@@ -49,11 +49,13 @@ fn part(
 {
     let _valid = case.site_count();
     let line = PartId(0);
-    let bounds = Bounds::whole(alloc, case, line)?;
+    let held = nothing_held(alloc, case)?;
+    let bounds = Bounds::from_held(alloc, case, line, &held)?;
     part_within(alloc, case, rates, line, &bounds, low, high, &Plain)
 }
 
-/// Whether the part of the first family from `low` to `high` for this money is the whole curve cut there.
+/// Whether the part of the first family from `low` to `high` for this money is the whole curve cut there, and no vertex
+/// behind it lies lower than the part says.
 fn is_cut(
     alloc: Global,
     case: &Case,
@@ -72,10 +74,10 @@ fn is_cut(
     requires most_money { money ≤ 1000000000000 }
 {
     let (low, high) = (Price { p: low, q: money }, Price { p: high, q: money });
-    let part = part(alloc, case, rates, low, high)?;
+    let (part, beyond) = part(alloc, case, rates, low, high)?;
     let mut whole = curve(alloc, case, rates, PartId(0), &Plain)?;
-    cut(&mut whole, low, high);
-    Ok(part.vertices() == whole.vertices())
+    let behind = cut(&mut whole, low, high);
+    Ok(part.vertices() == whole.vertices() && beyond <= behind)
 }
 
 /// Whether the part is the curve cut at windows about a step's price: the price alone, a little above and below it,

@@ -1,5 +1,5 @@
 use Rattle.std.proofs.Common.{◌*◌, ◌≤◌, sym, subst}
-use Rattle.curve_parts.specs.Parts.{IsPartOf}
+use Rattle.curve_parts.specs.Beyond.{IsKnownPart}
 use Rattle.family_points.specs.Inputs.{FamilyBox, box_points, vector_count, vertex_count}
 use Rattle.family_curve.proofs.Vertices.{few_vertices}
 use Rattle.family_parts.proofs.Whole.{part_between}
@@ -14,5 +14,5 @@ family_part-requires-clause-room g c =
 pub returns-clause-stocks : goal.returns-clause-stocks
 returns-clause-stocks g c =
     let b = c.args.bounds.now in
-    let is = subst (λ (x : FamilyBox). IsPartOf c.args.low c.args.high (box_points g.S.Score.ends x) c.in_ok-part.part) c.of-family.ensures c.in_ok-part.ensures in
-    part_between c.args.case.now c.args.line.0 g.S.Score.ends b.held b.low b.high c.args.low c.args.high c.in_ok-part.part c.requires.ordered.low_least is
+    let is = subst (λ (x : FamilyBox). IsKnownPart c.args.low c.args.high (box_points g.S.Score.ends x) c.in_ok-part.part c.in_ok-part.beyond) c.of-family.ensures c.in_ok-part.ensures in
+    part_between c.args.case.now c.args.line.0 g.S.Score.ends b.held b.low b.high c.args.low c.args.high c.in_ok-part.part c.requires.ordered.low_least is.is

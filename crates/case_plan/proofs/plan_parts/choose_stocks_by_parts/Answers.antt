@@ -7,6 +7,7 @@ use Rattle.step_walk.specs.Prefix.{AreVertices, HaveShapes, picked}
 use Rattle.marginal_alloc.specs.Choice.{IsHullChoice, firsts}
 use Rattle.marginal_alloc.specs.Plans.{IsPlan}
 use Rattle.hull.specs.declared.point.Point.{Point}
+use Rattle.part_filling.specs.declared.window.Window.{Window}
 use Rattle.part_filling.specs.Known.{AreKnown}
 use Rattle.choice_parts.proofs.OfCurves.{in_shape}
 use Rattle.case_plan.specs.Parts.{IsPlace, IsSmallPrice, numbers_of, slack}
@@ -82,8 +83,8 @@ pub fill_parts-requires-clause-known : goal.fill_parts-requires-clause-known
 fill_parts-requires-clause-known g c =
     let all : c.in_ok-windows.windows.items ≡ replicate c.len.result c.args.window = search rules in
     let n : c.len.result ≡ length c.args.parts.items = search rules in
-    subst (AreKnown (g.F.Families.points c.args.families.now) c.args.parts.items) (sym (all ∙ ap (λ n. replicate n c.args.window) n))
-    (parts_known c.args.window (g.F.Families.points c.args.families.now) c.args.parts.items c.requires.window c.requires.parts)
+    subst (λ (ws : List Window). AreKnown (g.F.Families.points c.args.families.now) c.args.parts.items ws c.args.beyond.items) (sym (all ∙ ap (λ n. replicate n c.args.window) n))
+    (parts_known c.args.window (g.F.Families.points c.args.families.now) c.args.parts.items c.args.beyond.items c.requires.window c.requires.parts c.requires.beyond)
 
 pub fill_parts-requires-clause-vertices : goal.fill_parts-requires-clause-vertices
 fill_parts-requires-clause-vertices g c =
@@ -104,7 +105,7 @@ pub filled-requires-clause-vectors : goal.filled-requires-clause-vectors
 filled-requires-clause-vectors g c =
     let known = c.fill_parts.new.known in
     subst (HaveVectors c.args.case.now) (sym c.as_slice-7.ensures.value)
-    (known_vectors c.args.case.now (g.F.Families.points c.args.families.now) known.curves.items known.windows.items c.in_ok-fill_parts.ensures.known c.requires.vectors)
+    (known_vectors c.args.case.now (g.F.Families.points c.args.families.now) known.curves.items known.windows.items known.beyond.items c.in_ok-fill_parts.ensures.known c.requires.vectors)
 
 pub filled-requires-clause-vertices : goal.filled-requires-clause-vertices
 filled-requires-clause-vertices g c =

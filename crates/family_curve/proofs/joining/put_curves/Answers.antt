@@ -1,5 +1,5 @@
-use Rattle.family_rows.specs.Tabled.{AreTables, box_numbers}
-use Rattle.std.proofs.Common.{◌≡◌, ℕ, ◌+◌, ◌-◌, ◌<◌, ◌≤◌, ◌∙◌, get_or, List, [], ◌∷◌, ◌++◌, length, set, sum_by, sym, take, ap, subst, arith, drop}
+use Rattle.family_rows.specs.Tabled.{box_numbers}
+use Rattle.std.proofs.Common.{◌≡◌, ℕ, ◌+◌, ◌-◌, ◌<◌, ◌≤◌, ◌∙◌, get_or, List, [], ◌∷◌, ◌++◌, length, set, sum_by, sym, take, ap, subst, arith}
 use Rattle.std.specs.List.{range_with_len}
 use Rattle.std.proofs.lemmas.List.{take_all, take_more_set}
 use Rattle.std.proofs.Math.ListN.{length-set}
@@ -12,6 +12,7 @@ use Rattle.family_points.specs.Separation.{base_points, depot_point, points_over
 use Rattle.family_points.specs.Inputs.{FamilyBox, vector_count}
 use Rattle.family_points.specs.Choices.{AreBases}
 use Rattle.sum_walk.specs.Sums.{sums_of_each}
+use Rattle.family_rows.proofs.Tabled.{tables_at}
 use Rattle.family_curve.proofs.Bases.{base_more, lengths_one_more}
 use Rattle.family_points.proofs.AllBases.{base_read, bases_long}
 use Rattle.family_points.proofs.Points.{over_count_more, room_at}
@@ -138,7 +139,7 @@ pub put_curve-requires-clause-numbers : goal.put_curve-requires-clause-numbers
 put_curve-requires-clause-numbers g c = c.requires.sources.numbers ∙ sym (ap box_numbers c.of-here.ensures.family)
 
 pub put_curve-requires-clause-tables : goal.put_curve-requires-clause-tables
-put_curve-requires-clause-tables g c = subst (λ (v : List ℕ). AreTables c.args.sources.now.numbers (drop 1 v) c.args.tables.now) (sym c.of-here.ensures.depot) c.requires.tables
+put_curve-requires-clause-tables g c = tables_at _ _ _ _ _ c.of-here.ensures.family c.of-here.ensures.depot c.requires.tables
 
 pub overflow_sub-place : goal.overflow_sub-place
 overflow_sub-place g c = omega (arith, c.from-place.ensures, c.loop-j.auto.j)

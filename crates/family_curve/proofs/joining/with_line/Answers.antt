@@ -17,7 +17,7 @@ with_depot-requires-clause-depot g c =
 
 pub with_depot-requires-clause-tables : goal.with_depot-requires-clause-tables
 with_depot-requires-clause-tables g c =
-    subst (λ (v : List ℕ). AreTables c.args.sources.now.numbers (drop 1 v) c.args.tables.now) (sym (c.as_slice.ensures.value ∙ c.in_ok-depot.ensures)) c.requires.tables
+    subst (λ (v : List ℕ). AreTables c.args.sources.now.family.now (drop 1 v) c.args.tables.now) (sym (c.as_slice.ensures.value ∙ c.in_ok-depot.ensures)) c.requires.tables
 
 pub returns-clause-curve : goal.returns-clause-curve
 returns-clause-curve g c =

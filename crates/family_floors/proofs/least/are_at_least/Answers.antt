@@ -27,7 +27,7 @@ pub depot_is_at_least-requires-clause-tables : goal.depot_is_at_least-requires-c
 depot_is_at_least-requires-clause-tables g c =
     let made : drop 1 (set c.loop-s.stocks 0 c.loop-s.s) ≡ drop 1 c.args.stocks.now =
     ap (drop 1) (set_first c.loop-s.stocks c.loop-s.s c.loop-s.invariant.some) ∙ c.loop-s.invariant.shops in
-    subst (λ (l : List ℕ). AreTables c.args.sources.now.numbers l c.args.tables.now) (sym made) c.requires.tables
+    subst (λ (l : List ℕ). AreTables c.args.sources.now.family.now l c.args.tables.now) (sym made) c.requires.tables
 
 pub returns-then-not-branch : goal.returns-then-not-branch
 returns-then-not-branch g c =

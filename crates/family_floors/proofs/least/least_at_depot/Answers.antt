@@ -1,11 +1,12 @@
-use Rattle.family_rows.specs.Tabled.{AreTables, box_numbers}
-use Rattle.std.proofs.Common.{◌≡◌, ℕ, ◌-◌, ◌*◌, ◌^◌, ◌≤◌, ◌∙◌, List, length, ap, subst, arith, sym, drop}
+use Rattle.family_rows.specs.Tabled.{box_numbers}
+use Rattle.std.proofs.Common.{◌≡◌, ◌-◌, ◌*◌, ◌^◌, ◌≤◌, ◌∙◌, List, length, ap, subst, arith, sym}
 use Rattle.std.specs.List.{range_with_len}
 use Rattle.std.proofs.lemmas.Nat.{mul-le}
 use Rattle.family_points.specs.Separation.{base_points, points_over}
 use Rattle.hull.specs.declared.point.Point.{Point}
 use Rattle.family_points.specs.Least.{IsLeast}
 use Rattle.family_points.proofs.LeastPoints.{base_added, depot_begins}
+use Rattle.family_rows.proofs.Tabled.{tables_at}
 use Rattle.family_floors.proofs.Moved.{moved}
 use Rattle.family_floors.proofs.least.least_at_depot.Goals as goal
 
@@ -54,7 +55,7 @@ pub least_at_base-requires-clause-numbers : goal.least_at_base-requires-clause-n
 least_at_base-requires-clause-numbers g c = c.requires.sources.numbers ∙ sym (ap box_numbers c.base_of-here.ensures.family)
 
 pub least_at_base-requires-clause-tables : goal.least_at_base-requires-clause-tables
-least_at_base-requires-clause-tables g c = subst (λ (v : List ℕ). AreTables c.args.sources.now.numbers (drop 1 v) c.args.tables.now) (sym c.base_of-here.ensures.depot) c.requires.tables
+least_at_base-requires-clause-tables g c = tables_at _ _ _ _ _ c.base_of-here.ensures.family c.base_of-here.ensures.depot c.requires.tables
 
 pub cost-requires-clause-site : goal.cost-requires-clause-site
 cost-requires-clause-site g c = let some = c.size-size.ensures.valid.valid.frame.fewest_sites in omega (arith, some)

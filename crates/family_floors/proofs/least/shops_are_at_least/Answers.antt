@@ -36,7 +36,7 @@ are_at_least-requires-clause-shops g c = subst (AreShopsAt c.args.sources.now.fa
 
 pub are_at_least-requires-clause-tables : goal.are_at_least-requires-clause-tables
 are_at_least-requires-clause-tables g c =
-    subst (λ (l : List ℕ). AreTables c.args.sources.now.numbers l c.in_ok-tables.tables)
+    subst (λ (l : List ℕ). AreTables c.args.sources.now.family.now l c.in_ok-tables.tables)
     (c.shops_of.ensures ∙ ap (drop 1) (c.as_slice.ensures.value ∙ sym c.as_mut_slice-at_depot.ensures.value)) c.in_ok-tables.ensures
 
 pub returns : goal.returns

@@ -1,7 +1,8 @@
-use Rattle.std.proofs.Common.{◌≡◌, ℕ, ◌+◌, ◌-◌, ◌*◌, ◌≤◌, ◌∷◌, inl, inr, sym, ap, ◌∙◌, subst, arith}
+use Rattle.std.proofs.Common.{◌≡◌, ℕ, ◌+◌, ◌-◌, ◌*◌, ◌≤◌, ◌∷◌, drop, inl, inr, sym, ap, ◌∙◌, subst, arith}
 use Rattle.std.proofs.lemmas.Bool.{cases_lt}
 use Rattle.backorder_bounds.specs.Places.{Place, next_place}
 use Rattle.fleet_model.specs.Fleet.{family}
+use Rattle.family_numbers.specs.Numbers.{shop_part}
 use Rattle.family_points.specs.Inputs.{held_at, line_high, line_low, AreShopsAt}
 use Rattle.family_points.specs.Points.{cost_above}
 use Rattle.family_points.proofs.Spotted.{line_cost, line_cost_most, line_cost_small}
@@ -175,8 +176,10 @@ walk_at-walk-requires-clause-here g c = c.requires.here
 pub walk_at-walk-requires-clause-numbers : goal.walk_at-walk-requires-clause-numbers
 walk_at-walk-requires-clause-numbers g c = c.requires.numbers
 
-pub walk_at-walk-requires-clause-tables : goal.walk_at-walk-requires-clause-tables
-walk_at-walk-requires-clause-tables g c = c.requires.tables
+pub walk_at-walk-requires-clause-part : goal.walk_at-walk-requires-clause-part
+walk_at-walk-requires-clause-part g c =
+    let here = c.args.here.now in
+    c.requires.part ∙ ap (shop_part 48 c.args.numbers.now here.site.0 (drop 1 here.depot.now)) (sym c.as_slice.ensures)
 
 pub walk_at-walk-requires-clause-own : goal.walk_at-walk-requires-clause-own
 walk_at-walk-requires-clause-own g c = c.requires.own

@@ -1,9 +1,12 @@
-use Rattle.std.proofs.Common.{◌≡◌, ℕ, ◌<◌, ◌≤◌, ◌∙◌, List, [], drop, get_or, length, sym, ap, subst, arith}
+use Rattle.std.proofs.Common.{◌≡◌, ℕ, ◌<◌, ◌≤◌, ◌∙◌, List, [], drop, get_or, length, sym, ap, ap₂, arith}
 use Rattle.std.proofs.lemmas.List.{length-map}
 use Rattle.family_points.specs.declared.order.ShopVector.{ShopVector}
 use Rattle.family_points.specs.Inputs.{shop_vectors}
 use Rattle.family_points.specs.Least.{AreAtLeast}
-use Rattle.family_rows.specs.Tabled.{AreTables, box_numbers}
+use Rattle.family_rows.specs.Tabled.{box_numbers}
+use Rattle.family_numbers.specs.Numbers.{FamilyNumbers, shop_part}
+use Rattle.family_rows.proofs.Rows.{part_read}
+use Rattle.family_rows.proofs.Tabled.{tables_at}
 use Rattle.family_floors.proofs.Moved.{moved}
 use Rattle.family_floors.proofs.LowPoints.{base_under, shops_more}
 use Rattle.family_points.proofs.Spotted.{stock_read}
@@ -60,7 +63,7 @@ pub own_at-own-requires-clause-numbers : goal.own_at-own-requires-clause-numbers
 own_at-own-requires-clause-numbers g c = c.requires.sources.numbers ∙ sym (ap box_numbers c.base_of-here.ensures.family)
 
 pub own_at-own-requires-clause-tables : goal.own_at-own-requires-clause-tables
-own_at-own-requires-clause-tables g c = subst (λ (v : List ℕ). AreTables c.args.sources.now.numbers (drop 1 v) c.args.tables.now) (sym c.base_of-here.ensures.depot) c.requires.tables
+own_at-own-requires-clause-tables g c = tables_at _ _ _ _ _ c.base_of-here.ensures.family c.base_of-here.ensures.depot c.requires.tables
 
 pub lower_at_shops-least-requires-clause-here : goal.lower_at_shops-least-requires-clause-here
 lower_at_shops-least-requires-clause-here g c = c.base_of-here.ensures.is
@@ -68,9 +71,27 @@ lower_at_shops-least-requires-clause-here g c = c.base_of-here.ensures.is
 pub lower_at_shops-least-requires-clause-numbers : goal.lower_at_shops-least-requires-clause-numbers
 lower_at_shops-least-requires-clause-numbers g c = c.requires.sources.numbers ∙ sym (ap box_numbers c.base_of-here.ensures.family)
 
-pub lower_at_shops-least-requires-clause-tables : goal.lower_at_shops-least-requires-clause-tables
-lower_at_shops-least-requires-clause-tables g c =
-    subst (λ (v : List ℕ). AreTables c.args.sources.now.numbers (drop 1 v) c.args.tables.now) (sym c.base_of-here.ensures.depot) c.requires.tables
+pub lower_at_shops-least-requires-clause-part : goal.lower_at_shops-least-requires-clause-part
+lower_at_shops-least-requires-clause-part g c =
+    let here = c.base_of-here.result in
+    let x = here.family.now in
+    let j = here.site.0 in
+    let d = drop 1 here.depot.now in
+    let n = c.loop-n.n in
+    let items = here.base.now.shops.items in
+    let all : List (List ℕ) = shop_vectors x j in
+    let shops = c.index-shops.result.now in
+    let inside : n < length items = omega (arith, c.loop-n-test.true, c.len-n-end.ensures, here.base.now.shops.ok.0) in
+    let within : n < length all = omega (arith, inside, length-map items (λ (v : ShopVector). v.stocks), ap length c.base_of-here.ensures.is.base.stocks) in
+    let is : shops.stocks ≡ get_or all n [] = stock_read items n shops shops all c.base_of-here.ensures.is.base.stocks inside c.index-shops.ensures in
+    part_read x d j n c.shops_at-parts.result.now c.index-parts-n.result c.shops_at-parts.ensures within c.index-parts-n.is
+    ∙ ap₂ (λ (m : FamilyNumbers 48) (s : List ℕ). shop_part 48 m j d s) (sym (c.requires.sources.numbers ∙ sym (ap box_numbers c.base_of-here.ensures.family))) (sym is)
+
+pub shops_at-parts-requires-clause-here : goal.shops_at-parts-requires-clause-here
+shops_at-parts-requires-clause-here g c = c.base_of-here.ensures.is
+
+pub shops_at-parts-requires-clause-tables : goal.shops_at-parts-requires-clause-tables
+shops_at-parts-requires-clause-tables g c = tables_at _ _ _ _ _ c.base_of-here.ensures.family c.base_of-here.ensures.depot c.requires.tables
 
 pub lower_at_shops-least-requires-clause-low : goal.lower_at_shops-least-requires-clause-low
 lower_at_shops-least-requires-clause-low g c = c.requires.low

@@ -1,9 +1,10 @@
-use Rattle.family_rows.specs.Tabled.{AreTables, box_numbers}
-use Rattle.std.proofs.Common.{◌≡◌, ℕ, ◌-◌, ◌∙◌, List, length, ap, subst, arith, sym, drop}
+use Rattle.family_rows.specs.Tabled.{box_numbers}
+use Rattle.std.proofs.Common.{◌≡◌, ◌-◌, ◌∙◌, List, length, ap, subst, arith, sym}
 use Rattle.std.specs.List.{range_with_len}
 use Rattle.family_points.specs.Points.{HasUpper}
 use Rattle.family_points.specs.Separation.{base_points, points_over}
 use Rattle.hull.specs.declared.point.Point.{Point}
+use Rattle.family_rows.proofs.Tabled.{tables_at}
 use Rattle.family_floors.proofs.Uppers.{upper_added, upper_begins}
 use Rattle.family_floors.proofs.Moved.{moved}
 use Rattle.family_floors.proofs.upper.upper_at_depot.Goals as goal
@@ -42,7 +43,7 @@ pub upper_at_base-requires-clause-numbers : goal.upper_at_base-requires-clause-n
 upper_at_base-requires-clause-numbers g c = c.requires.sources.numbers ∙ sym (ap box_numbers c.base_of-here.ensures.family)
 
 pub upper_at_base-requires-clause-tables : goal.upper_at_base-requires-clause-tables
-upper_at_base-requires-clause-tables g c = subst (λ (v : List ℕ). AreTables c.args.sources.now.numbers (drop 1 v) c.args.tables.now) (sym c.base_of-here.ensures.depot) c.requires.tables
+upper_at_base-requires-clause-tables g c = tables_at _ _ _ _ _ c.base_of-here.ensures.family c.base_of-here.ensures.depot c.requires.tables
 
 pub overflow_add-upper : goal.overflow_add-upper
 overflow_add-upper g c = omega (arith, c.loop-j.invariant.most, c.in_ok-upper.ensures.most, c.loop-j-test.true, c.sites-j-end.ensures.most)

@@ -1,7 +1,10 @@
-use Rattle.std.proofs.Common.{arith}
+use Rattle.std.proofs.Common.{◌-◌, List, arith}
+use Rattle.hull.specs.declared.point.Point.{Point}
+use Rattle.hull.specs.Curves.{IsCurve}
 use Rattle.hull.proofs.Shapes.{convex}
 use Rattle.curve_parts.proofs.Between.{part_of_curve}
 use Rattle.curve_parts.proofs.Cuts.{cut_is_part}
+use Rattle.curve_parts.proofs.Beyond.{beyond_gap, curve_known}
 use Rattle.family_points.specs.Separation.{base_points}
 use Rattle.family_parts.proofs.Bases.{cut_no_longer}
 use Rattle.family_parts.proofs.base.put_part.Goals as goal
@@ -14,8 +17,27 @@ returns-clause-part g c =
     let high = c.args.high in
     let points = base_points g.S.Score.ends x here.depot.now here.site.0 in
     let curve = c.put_curve.new.chain in
-    part_of_curve low high points curve c.cut.new.chain c.in_ok-put_curve.ensures.curve
-    (cut_is_part low high curve c.cut.new.chain (convex points curve c.in_ok-put_curve.ensures.curve) c.cut.ensures c.requires.window)
+    part_of_curve low high points curve c.cut-beyond.new.chain c.in_ok-put_curve.ensures.curve
+    (cut_is_part low high curve c.cut-beyond.new.chain (convex points curve c.in_ok-put_curve.ensures.curve) c.cut-beyond.ensures.cut c.requires.window)
 
 pub returns-clause-few : goal.returns-clause-few
-returns-clause-few g c = omega (arith, c.in_ok-put_curve.ensures.few, cut_no_longer c.args.low c.args.high c.put_curve.new.chain c.cut.new.chain c.cut.ensures)
+returns-clause-few g c = omega (arith, c.in_ok-put_curve.ensures.few, cut_no_longer c.args.low c.args.high c.put_curve.new.chain c.cut-beyond.new.chain c.cut-beyond.ensures.cut)
+
+pub returns-clause-least : goal.returns-clause-least
+returns-clause-least g c =
+    let here = c.args.here.now in
+    let points : List Point = base_points g.S.Score.ends here.family.now here.depot.now here.site.0 in
+    c.least_at_low-least.ensures c.args.high points c.requires.window (returns-clause-part g c)
+
+pub returns-clause-beyond : goal.returns-clause-beyond
+returns-clause-beyond g c =
+    let here = c.args.here.now in
+    let low = c.args.low in
+    let points : List Point = base_points g.S.Score.ends here.family.now here.depot.now here.site.0 in
+    let curve : List Point = c.put_curve.new.chain in
+    let part : List Point = c.cut-beyond.new.chain in
+    let whole : IsCurve points curve = c.in_ok-put_curve.ensures.curve in
+    let beyond = c.cut-beyond.result in
+    let least = c.least_at_low-least.result in
+    beyond_gap low points part least beyond c.saturating_sub.result (returns-clause-least g c) (omega (arith, c.saturating_sub.ensures))
+    (curve_known low points curve part beyond whole (c.cut-beyond.ensures.beyond c.requires.window))

@@ -3,20 +3,21 @@ use Rattle.hull.specs.declared.point.Point.{Point}
 use Rattle.hull.specs.Curves.{Among}
 use Rattle.sum_walk.specs.Sums.{sums_of_each}
 use Rattle.curve_parts.specs.Parts.{IsPassedOver, StandForBetween}
+use Rattle.curve_parts.specs.Beyond.{LieBeyond}
 use Rattle.family_points.specs.Inputs.{vertex_count}
 use Rattle.family_points.specs.Separation.{depot_point, depot_points}
 use Rattle.family_points.proofs.AllBases.{bases_long}
 use Rattle.family_curve.specs.Joining.{HaveWidthOf, vertices_of}
 use Rattle.family_curve.proofs.Grown.{depot_ranges, depot_widths}
 use Rattle.family_parts.proofs.Grown.{grows_by_none, grows_by_sums, joined_among, widths_joined}
-use Rattle.family_parts.proofs.Sums.{standing}
+use Rattle.family_parts.proofs.Sums.{standing, standing_beyond}
 use Rattle.family_parts.proofs.joining.grow_with.Goals as goal
 
 pub is_passed_over-requires-clause-ranges : goal.is_passed_over-requires-clause-ranges
 is_passed_over-requires-clause-ranges g c = c.vertices_of-vertices.ensures.ranges
 
-pub returns-then-is_passed_over-clause-part : goal.returns-then-is_passed_over-clause-part
-returns-then-is_passed_over-clause-part g c =
+pub returns-in-Some-clause-part : goal.returns-in-Some-clause-part
+returns-in-Some-clause-part g c =
     let x = c.args.sources.now.family.now in
     let d = c.args.depot.now in
     let low = c.args.low in
@@ -24,15 +25,17 @@ returns-then-is_passed_over-clause-part g c =
     let part : List Point = vertices_of c.args.part.now in
     let points : List Point = depot_points g.S.Score.ends x d in
     let passed : (w : Point) → Among w points → IsPassedOver low high part w =
-    subst (λ (l : List Point). (w : Point) → Among w points → IsPassedOver low high l w) c.vertices_of-vertices.ensures.vertices (c.is_passed_over.ensures c.if-is_passed_over.true) in
-    grows_by_none low high points part passed
+    subst (λ (l : List Point). (w : Point) → Among w points → IsPassedOver low high l w) c.vertices_of-vertices.ensures.vertices c.in-Some.ensures.passed in
+    let after = c.min.result in
+    let less = c.min.ensures in
+    grows_by_none low high points part c.args.beyond.now after (omega (arith, less)) passed (λ w m. (let l = c.in-Some.ensures.least w m in omega (arith, l, less)))
 
 pub join_parts-requires-clause-some : goal.join_parts-requires-clause-some
 join_parts-requires-clause-some g c =
     omega (
       arith,
       ap length c.as_slice-parts.ensures.value,
-      c.in_ok-put_parts.ensures.work,
+      c.in_ok-made.ensures.work,
       bases_long c.args.sources.now.family.now c.args.sources.now.bases.items c.requires.sources.bases,
       c.size-size.ensures.valid.valid.frame.fewest_sites,
     )
@@ -42,7 +45,7 @@ join_parts-requires-clause-few_parts g c =
     omega (
       arith,
       ap length c.as_slice-parts.ensures.value,
-      c.in_ok-put_parts.ensures.work,
+      c.in_ok-made.ensures.work,
       bases_long c.args.sources.now.family.now c.args.sources.now.bases.items c.requires.sources.bases,
       c.size-size.ensures.valid.valid.frame.most_sites,
     )
@@ -55,7 +58,7 @@ join_parts-requires-clause-ranges g c = λ v m.
     let points : List Point = depot_points ends x d in
     let stands : StandForBetween c.args.low c.args.high points (sums_of_each (c.in_ok-first.first ∷ []) c.as_slice-parts.result.now) =
     standing c.args.low c.args.high points (depot_point x d) c.in_ok-first.first c.put_parts.new.work.parts.items c.as_slice-parts.result.now
-    c.in_ok-first.ensures.point c.as_slice-parts.ensures.value c.in_ok-put_parts.ensures.stands in
+    c.in_ok-first.ensures.point c.as_slice-parts.ensures.value c.in_ok-made.ensures.stands in
     depot_ranges x c.size-size.ensures.valid ends g.met.S.Score.leaves_room d c.requires.depot v (stands.among v m)
 
 pub join_parts-requires-clause-width : goal.join_parts-requires-clause-width
@@ -66,7 +69,7 @@ join_parts-requires-clause-width g c = λ v w m n.
     let points : List Point = depot_points ends x d in
     let stands : StandForBetween c.args.low c.args.high points (sums_of_each (c.in_ok-first.first ∷ []) c.as_slice-parts.result.now) =
     standing c.args.low c.args.high points (depot_point x d) c.in_ok-first.first c.put_parts.new.work.parts.items c.as_slice-parts.result.now
-    c.in_ok-first.ensures.point c.as_slice-parts.ensures.value c.in_ok-put_parts.ensures.stands in
+    c.in_ok-first.ensures.point c.as_slice-parts.ensures.value c.in_ok-made.ensures.stands in
     c.requires.widths v m ∙ sym (depot_widths x c.size-size.ensures.valid ends g.met.S.Score.leaves_room d c.requires.depot w (stands.among w n))
 
 pub returns-clause-part : goal.returns-clause-part
@@ -80,8 +83,15 @@ returns-clause-part g c =
     let parts : List (List Point) = c.as_slice-parts.result.now in
     let stands : StandForBetween low high points (sums_of_each (first ∷ []) parts) =
     standing low high points (depot_point x d) first c.put_parts.new.work.parts.items parts
-    c.in_ok-first.ensures.point c.as_slice-parts.ensures.value c.in_ok-put_parts.ensures.stands in
-    grows_by_sums low high first parts points (vertices_of c.args.part.now) (vertices_of c.join_parts.new.part) c.in_ok-join_parts.ensures.joins stands
+    c.in_ok-first.ensures.point c.as_slice-parts.ensures.value c.in_ok-made.ensures.stands in
+    let behind : LieBeyond low points (sums_of_each (first ∷ []) parts) c.in_ok-made.made =
+    standing_beyond low points (depot_point x d) first c.put_parts.new.work.parts.items parts c.in_ok-made.made
+    c.in_ok-first.ensures.point c.as_slice-parts.ensures.value c.in_ok-made.ensures.beyond in
+    let old = c.args.beyond.now in
+    let one = c.min-2.ensures in
+    let two = c.min-3.ensures in
+    grows_by_sums low high first parts points (vertices_of c.args.part.now) (vertices_of c.join_parts.new.part) old c.in_ok-made.made c.in_ok-behind.behind c.min-3.result
+    (omega (arith, one, two)) (omega (arith, one, two)) (omega (arith, one, two)) c.in_ok-behind.ensures.joins stands behind c.in_ok-behind.ensures.beyond
 
 pub returns-clause-widths : goal.returns-clause-widths
 returns-clause-widths g c =
@@ -95,15 +105,15 @@ returns-clause-widths g c =
     let parts : List (List Point) = c.as_slice-parts.result.now in
     let stands : StandForBetween low high points (sums_of_each (first ∷ []) parts) =
     standing low high points (depot_point x d) first c.put_parts.new.work.parts.items parts
-    c.in_ok-first.ensures.point c.as_slice-parts.ensures.value c.in_ok-put_parts.ensures.stands in
+    c.in_ok-first.ensures.point c.as_slice-parts.ensures.value c.in_ok-made.ensures.stands in
     widths_joined x (vertices_of c.args.part.now) points (vertices_of c.join_parts.new.part) c.requires.widths (depot_widths x c.size-size.ensures.valid ends g.met.S.Score.leaves_room d c.requires.depot)
-    (joined_among low high first parts points (vertices_of c.args.part.now) (vertices_of c.join_parts.new.part) c.in_ok-join_parts.ensures.joins stands)
+    (joined_among low high first parts points (vertices_of c.args.part.now) (vertices_of c.join_parts.new.part) c.in_ok-behind.ensures.joins stands)
 
 pub is_passed_over-requires-clause-sources : goal.is_passed_over-requires-clause-sources
 is_passed_over-requires-clause-sources g c = c.requires.sources
 
-pub returns-then-is_passed_over-clause-few : goal.returns-then-is_passed_over-clause-few
-returns-then-is_passed_over-clause-few g c = omega arith
+pub returns-in-Some-clause-few : goal.returns-in-Some-clause-few
+returns-in-Some-clause-few g c = omega arith
 
 pub put_parts-requires-clause-sources : goal.put_parts-requires-clause-sources
 put_parts-requires-clause-sources g c = c.requires.sources
@@ -114,17 +124,17 @@ put_parts-requires-clause-room g c = omega (arith, c.requires.room)
 pub join_parts-requires-clause-few : goal.join_parts-requires-clause-few
 join_parts-requires-clause-few g c =
     let most : 1 + sum_by length c.as_slice-parts.result.now ≤ vertex_count c.args.sources.now.family.now =
-    subst (λ (ls : List (List Point)). 1 + sum_by length ls ≤ vertex_count c.args.sources.now.family.now) (sym c.as_slice-parts.ensures.value) c.in_ok-put_parts.ensures.few in
+    subst (λ (ls : List (List Point)). 1 + sum_by length ls ≤ vertex_count c.args.sources.now.family.now) (sym c.as_slice-parts.ensures.value) c.in_ok-made.ensures.few in
     omega (arith, most, c.requires.room)
 
 pub returns-clause-few : goal.returns-clause-few
 returns-clause-few g c =
     let most : 1 + sum_by length c.as_slice-parts.result.now ≤ vertex_count c.args.sources.now.family.now =
-    subst (λ (ls : List (List Point)). 1 + sum_by length ls ≤ vertex_count c.args.sources.now.family.now) (sym c.as_slice-parts.ensures.value) c.in_ok-put_parts.ensures.few in
-    omega (arith, most, c.in_ok-join_parts.ensures.few)
+    subst (λ (ls : List (List Point)). 1 + sum_by length ls ≤ vertex_count c.args.sources.now.family.now) (sym c.as_slice-parts.ensures.value) c.in_ok-made.ensures.few in
+    omega (arith, most, c.in_ok-behind.ensures.few)
 
 pub returns-clause-work : goal.returns-clause-work
-returns-clause-work g c = c.in_ok-put_parts.ensures.work
+returns-clause-work g c = c.in_ok-made.ensures.work
 
 pub is_passed_over-requires-clause-depot : goal.is_passed_over-requires-clause-depot
 is_passed_over-requires-clause-depot g c = c.requires.depot
@@ -171,11 +181,11 @@ depot_point-requires g c = c.requires.depot
 pub join_parts-requires-clause-first : goal.join_parts-requires-clause-first
 join_parts-requires-clause-first g c = c.in_ok-first.ensures.range
 
-pub returns-then-is_passed_over-clause-widths : goal.returns-then-is_passed_over-clause-widths
-returns-then-is_passed_over-clause-widths g c = c.requires.widths
+pub returns-in-Some-clause-widths : goal.returns-in-Some-clause-widths
+returns-in-Some-clause-widths g c = c.requires.widths
 
-pub returns-then-is_passed_over-clause-work : goal.returns-then-is_passed_over-clause-work
-returns-then-is_passed_over-clause-work g c = c.requires.work
+pub returns-in-Some-clause-work : goal.returns-in-Some-clause-work
+returns-in-Some-clause-work g c = c.requires.work
 
 pub join_parts-requires-clause-widths : goal.join_parts-requires-clause-widths
 join_parts-requires-clause-widths g c = λ v w m n.
@@ -185,6 +195,6 @@ join_parts-requires-clause-widths g c = λ v w m n.
     let points : List Point = depot_points ends x d in
     let stands : StandForBetween c.args.low c.args.high points (sums_of_each (c.in_ok-first.first ∷ []) c.as_slice-parts.result.now) =
     standing c.args.low c.args.high points (depot_point x d) c.in_ok-first.first c.put_parts.new.work.parts.items c.as_slice-parts.result.now
-    c.in_ok-first.ensures.point c.as_slice-parts.ensures.value c.in_ok-put_parts.ensures.stands in
+    c.in_ok-first.ensures.point c.as_slice-parts.ensures.value c.in_ok-made.ensures.stands in
     let widths : HaveWidthOf x points = depot_widths x c.size-size.ensures.valid ends g.met.S.Score.leaves_room d c.requires.depot in
     widths v (stands.among v m) ∙ sym (widths w (stands.among w n))

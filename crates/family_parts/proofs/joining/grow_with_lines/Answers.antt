@@ -16,7 +16,7 @@ use Rattle.family_parts.proofs.joining.grow_with_lines.Goals as goal
 pub loop-n-init : goal.loop-n-init
 loop-n-init g c = record {
   few = omega arith;
-  part = grows_by_nothing c.args.low c.args.high (vertices_of c.args.part.now);
+  part = grows_by_nothing c.args.low c.args.high (vertices_of c.args.part.now) c.args.beyond.now;
   work = c.requires.work;
   widths = c.requires.widths;
   some = c.requires.some;
@@ -39,7 +39,7 @@ grow_with-requires-clause-tables g c =
     let s : ℕ = c.line_stock.result in
     let made : drop 1 (set c.loop-n.stocks 0 s) ≡ drop 1 c.args.stocks.now =
     ap (drop 1) (set_first c.loop-n.stocks s c.loop-n.invariant.some) ∙ c.loop-n.invariant.shops in
-    subst (λ (l : List ℕ). AreTables c.args.sources.now.numbers l c.args.tables.now) (sym made) c.requires.tables
+    subst (λ (l : List ℕ). AreTables c.args.sources.now.family.now l c.args.tables.now) (sym made) c.requires.tables
 
 pub grow_with-requires-clause-room : goal.grow_with-requires-clause-room
 grow_with-requires-clause-room g c =
@@ -62,13 +62,15 @@ loop-n-preserved g c =
     let first : set c.loop-n.stocks 0 s ≡ s ∷ drop 1 c.loop-n.stocks = set_first c.loop-n.stocks s c.loop-n.invariant.some in
     let made : set c.loop-n.stocks 0 s ≡ (line_low x 0 + in_turn c.line_first-begin.result (line_high x 0 - line_low x 0) n) ∷ drop 1 c.args.stocks.now =
     first ∙ ap (λ (l : List ℕ). s ∷ l) c.loop-n.invariant.shops ∙ ap (λ k. k ∷ drop 1 c.args.stocks.now) c.line_stock.ensures.is in
-    let here : Grows low high (turn n) old made_part =
-    subst (λ (ps : List Point). Grows low high ps old made_part) (ap at made) c.in_ok-grow_with.ensures.part in
+    let before : ℕ = c.loop-n.beyond in
+    let after : ℕ = c.grow_with.new.beyond in
+    let here : Grows low high (turn n) old before made_part after =
+    subst (λ (ps : List Point). Grows low high ps old before made_part after) (ap at made) c.in_ok-grow_with.ensures.part in
     let whole : flat_map turn (range_with_len 0 (n + 1)) ≡ flat_map turn (range_with_len 0 n) ++ turn n = flat_stock_behind turn 0 n n (omega arith) in
     record {
       few = omega (arith, c.in_ok-grow_with.ensures.few, c.loop-n.invariant.few);
-      part = subst (λ (ps : List Point). Grows low high ps so made_part) (sym whole)
-          (grows_on low high (flat_map turn (range_with_len 0 n)) (turn n) so old made_part c.loop-n.invariant.part here);
+      part = subst (λ (ps : List Point). Grows low high ps so c.args.beyond.now made_part after) (sym whole)
+          (grows_on low high (flat_map turn (range_with_len 0 n)) (turn n) so old made_part c.args.beyond.now before after c.loop-n.invariant.part here);
       work = c.in_ok-grow_with.ensures.work;
       widths = c.in_ok-grow_with.ensures.widths;
       some = omega (arith, ap length first);
@@ -89,8 +91,8 @@ returns-clause-part g c =
     let end : n ≤ c.line_high.result - c.line_low.result + 1 = c.loop-n.auto.n-end in
     let all : n ≡ suc last = omega (arith, c.loop-n-test.false, end, c.line_low.ensures, c.line_high.ensures.high) in
     let count : n ≡ suc (line_high x 0) - line_low x 0 = omega (arith, all, c.line_high.ensures.high, order) in
-    subst (λ k. Grows low high (flat_map own (range_with_len a k)) (vertices_of c.args.part.now) (vertices_of c.loop-n.part)) count
-    (grows_members low high (flat_map turn (range_with_len 0 n)) (flat_map own (range_with_len a n)) (vertices_of c.args.part.now) (vertices_of c.loop-n.part)
+    subst (λ k. Grows low high (flat_map own (range_with_len a k)) (vertices_of c.args.part.now) c.args.beyond.now (vertices_of c.loop-n.part) c.loop-n.beyond) count
+    (grows_members low high (flat_map turn (range_with_len 0 n)) (flat_map own (range_with_len a n)) (vertices_of c.args.part.now) (vertices_of c.loop-n.part) c.args.beyond.now c.loop-n.beyond
     (λ v m. moved_there own a n v (turned_there (λ i. own (a + i)) c.line_first-begin.result last n all v m)) (λ v m. turned_back (λ i. own (a + i)) c.line_first-begin.result last n all v (moved_back own a n v m))
     c.loop-n.invariant.part)
 

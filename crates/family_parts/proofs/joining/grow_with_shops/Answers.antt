@@ -30,7 +30,7 @@ grow_with_lines-requires-clause-shops g c = subst (AreShopsAt c.args.sources.now
 
 pub grow_with_lines-requires-clause-tables : goal.grow_with_lines-requires-clause-tables
 grow_with_lines-requires-clause-tables g c =
-    subst (λ (l : List ℕ). AreTables c.args.sources.now.numbers l c.in_ok-tables.tables)
+    subst (λ (l : List ℕ). AreTables c.args.sources.now.family.now l c.in_ok-tables.tables)
     (c.shops_of.ensures ∙ ap (drop 1) (c.as_slice.ensures.value ∙ sym c.as_mut_slice-at_depot.ensures.value)) c.in_ok-tables.ensures
 
 pub grow_with_lines-requires-clause-low : goal.grow_with_lines-requires-clause-low
@@ -53,8 +53,8 @@ grow_with_lines-requires-clause-window g c = c.requires.window
 
 pub returns-clause-part : goal.returns-clause-part
 returns-clause-part g c =
-    subst (λ (shops : List ℕ). IfOk c.grow_with_lines.result (λ _. Grows c.args.low c.args.high (shop_points g.S.Score.ends c.args.sources.now.family.now shops) (vertices_of c.args.part.now)
-    (vertices_of c.grow_with_lines.new.part)))
+    subst (λ (shops : List ℕ). IfOk c.grow_with_lines.result (λ _. Grows c.args.low c.args.high (shop_points g.S.Score.ends c.args.sources.now.family.now shops) (vertices_of c.args.part.now) c.args.beyond.now
+    (vertices_of c.grow_with_lines.new.part) c.grow_with_lines.new.beyond))
     (ap (drop 1) (c.as_mut_slice-at_depot.ensures.value ∙ c.in_ok-stocks.ensures.stocks)) c.grow_with_lines.ensures.part
 
 pub returns-clause-few : goal.returns-clause-few

@@ -1,10 +1,11 @@
-use Rattle.std.proofs.Common.{Option, None, Some, IsSome, refl, ◌≡◌, ℕ, suc, ◌+◌, ◌-◌, ◌/◌, ◌*◌, ◌<◌, ◌≤◌, List, [], ◌++◌, get_or, length, flat_map, sym, ap, ◌∙◌, subst, arith, mul-le-mul_left}
+use Rattle.std.proofs.Common.{Option, None, Some, IsSome, refl, ◌≡◌, ℕ, suc, ◌+◌, ◌-◌, ◌/◌, ◌*◌, ◌^◌, ◌<◌, ◌≤◌, List, [], ◌++◌, get_or, length, flat_map, sym, ap, ◌∙◌, subst, arith, mul-le-mul_left}
 use Rattle.std.specs.List.{range_with_len}
 use Rattle.std.proofs.lemmas.Nat.{mul-le}
 use Rattle.hull.specs.declared.point.Point.{Point}
 use Rattle.hull.specs.declared.price.Price.{Price}
 use Rattle.curve_parts.specs.Cuts.{IsWindow}
 use Rattle.curve_parts.specs.Parts.{IsPartOf}
+use Rattle.curve_parts.specs.Beyond.{IsKnownPart}
 use Rattle.curve_parts.proofs.Shape.{part_some}
 use Rattle.family_curve.specs.Joining.{vertices_of}
 use Rattle.family_points.specs.Points.{ScoreEnds}
@@ -40,7 +41,7 @@ in_turn-number-requires-clause-small g c = omega (arith, few_shops c.args.source
 pub loop-n-init : goal.loop-n-init
 loop-n-init g c = record {
   few = omega arith;
-  part = grows_by_nothing c.args.low c.args.high [];
+  part = grows_by_nothing c.args.low c.args.high [] (2 ^ 128 - 1);
   work = c.requires.work;
   widths = λ v m. absurd m;
 }
@@ -65,35 +66,40 @@ loop-n-preserved g c =
     let made : List Point = vertices_of c.grow_with_shops.new.part in
     let shops : get_or all c.in_turn-number.result [] ≡ get_or all (in_turn middle (length all - 1) n) [] =
     ap (λ k. get_or all k []) c.in_turn-number.ensures.is ∙ ap (λ k. get_or all (in_turn middle (k - 1) n) []) c.shop_count-count.ensures.count in
-    let here : Grows low high (turn n) (vertices_of c.loop-n.part) made =
-    subst (λ (ps : List Point). Grows low high ps (vertices_of c.loop-n.part) made) (ap own shops) c.in_ok-grow_with_shops.ensures.part in
+    let before : ℕ = c.loop-n.beyond in
+    let after : ℕ = c.grow_with_shops.new.beyond in
+    let here : Grows low high (turn n) (vertices_of c.loop-n.part) before made after =
+    subst (λ (ps : List Point). Grows low high ps (vertices_of c.loop-n.part) before made after) (ap own shops) c.in_ok-grow_with_shops.ensures.part in
     let whole : flat_map turn (range_with_len 0 (n + 1)) ≡ flat_map turn (range_with_len 0 n) ++ turn n = flat_stock_behind turn 0 n n (omega arith) in
     record {
       few = omega (arith, c.in_ok-grow_with_shops.ensures.few, c.loop-n.invariant.few);
-      part = subst (λ (ps : List Point). Grows low high ps [] made) (sym whole)
-          (grows_on low high (flat_map turn (range_with_len 0 n)) (turn n) [] (vertices_of c.loop-n.part) made c.loop-n.invariant.part here);
+      part = subst (λ (ps : List Point). Grows low high ps [] (2 ^ 128 - 1) made after) (sym whole)
+          (grows_on low high (flat_map turn (range_with_len 0 n)) (turn n) [] (vertices_of c.loop-n.part) made (2 ^ 128 - 1) before after c.loop-n.invariant.part here);
       work = c.in_ok-grow_with_shops.ensures.work;
       widths = c.in_ok-grow_with_shops.ensures.widths;
     }
 
 -- no points have no part
-no_part : (low high : Price) → IsPartOf low high [] []
-no_part low high = record { rises = tt; among = λ v m. m; vertices = λ v m. absurd m; firsts = λ v w m n s. absurd m; complete = λ w m h. absurd m }
+no_part : (low high : Price) (beyond : ℕ) → IsKnownPart low high [] [] beyond
+no_part low high beyond = record {
+  is = record { rises = tt; among = λ v m. m; vertices = λ v m. absurd m; firsts = λ v w m n s. absurd m; complete = λ w m h. absurd m };
+  behind = λ w m h. absurd m;
+}
 
 -- the part of the stocks of all turns is the part of the box
-all_turns : (x : FamilyBox) → IsFamilyBox x → (ends : ScoreEnds) (low high : Price) (middle n : ℕ) → 0 < n → n ≡ length (shop_vectors x 0) → (part : List Point)
-    → Grows low high (flat_map (λ k. shop_points ends x (get_or (shop_vectors x 0) (in_turn middle (length (shop_vectors x 0) - 1) k) [])) (range_with_len 0 n)) [] part
-    → IsPartOf low high (box_points ends x) part
-all_turns x valid ends low high middle n some whole part grown =
+all_turns : (x : FamilyBox) → IsFamilyBox x → (ends : ScoreEnds) (low high : Price) (middle n : ℕ) → 0 < n → n ≡ length (shop_vectors x 0) → (part : List Point) (beyond : ℕ)
+    → Grows low high (flat_map (λ k. shop_points ends x (get_or (shop_vectors x 0) (in_turn middle (length (shop_vectors x 0) - 1) k) [])) (range_with_len 0 n)) [] (2 ^ 128 - 1) part beyond
+    → IsKnownPart low high (box_points ends x) part beyond
+all_turns x valid ends low high middle n some whole part beyond grown =
     let all : List (List ℕ) = shop_vectors x 0 in
     let last : ℕ = length all - 1 in
     let own : List ℕ → List Point = shop_points ends x in
     let each : ℕ → List Point = λ i. own (get_or all i []) in
     let turns : n ≡ suc last = omega (arith, whole, some) in
-    part_of_box x valid ends low high part
-    (grows_members low high (flat_map (λ k. each (in_turn middle last k)) (range_with_len 0 n)) (flat_map own all) [] part
+    part_of_box x valid ends low high part beyond
+    (grows_members low high (flat_map (λ k. each (in_turn middle last k)) (range_with_len 0 n)) (flat_map own all) [] part (2 ^ 128 - 1) beyond
     (λ v m. placed_there own all [] n whole v (turned_there each middle last n turns v m)) (λ v m. turned_back each middle last n turns v (placed_back own all [] n whole v m))
-    grown [] (no_part low high))
+    grown [] (no_part low high (2 ^ 128 - 1)))
 
 -- a list of vertices that has one is of a part
 some_part : (part : Option (List Point)) → 0 < length (vertices_of part) → IsSome part
@@ -113,15 +119,15 @@ unwrap-requires g c =
     let whole : c.loop-n.n ≡ length (shop_vectors x 0) = omega (arith, c.loop-n-test.false, c.loop-n.auto.n-end, c.shop_count-count.ensures.count) in
     some_part c.loop-n.part (box_part_some x valid g.S.Score.ends c.args.low c.args.high c.requires.window (vertices_of c.loop-n.part)
     (all_turns x valid g.S.Score.ends c.args.low c.args.high ((c.shop_count-count.result - 1) / 2) c.loop-n.n (omega (arith, whole, c.shop_count-count.ensures.some, c.shop_count-count.ensures.count)) whole
-    (vertices_of c.loop-n.part) c.loop-n.invariant.part))
+    (vertices_of c.loop-n.part) c.loop-n.beyond c.loop-n.invariant.part).is)
 
 pub returns : goal.returns
 returns g c =
     let x = c.args.sources.now.family.now in
     let whole : c.loop-n.n ≡ length (shop_vectors x 0) = omega (arith, c.loop-n-test.false, c.loop-n.auto.n-end, c.shop_count-count.ensures.count) in
-    subst (λ (o : Option (List Point)). IsPartOf c.args.low c.args.high (box_points g.S.Score.ends x) (vertices_of o)) c.unwrap.ensures
+    subst (λ (o : Option (List Point)). IsKnownPart c.args.low c.args.high (box_points g.S.Score.ends x) (vertices_of o) c.loop-n.beyond) c.unwrap.ensures
     (all_turns x c.size-size.ensures.valid g.S.Score.ends c.args.low c.args.high ((c.shop_count-count.result - 1) / 2) c.loop-n.n
-    (omega (arith, whole, c.shop_count-count.ensures.some, c.shop_count-count.ensures.count)) whole (vertices_of c.loop-n.part) c.loop-n.invariant.part)
+    (omega (arith, whole, c.shop_count-count.ensures.some, c.shop_count-count.ensures.count)) whole (vertices_of c.loop-n.part) c.loop-n.beyond c.loop-n.invariant.part)
 
 pub grow_with_shops-requires-clause-sources : goal.grow_with_shops-requires-clause-sources
 grow_with_shops-requires-clause-sources g c = c.requires.sources

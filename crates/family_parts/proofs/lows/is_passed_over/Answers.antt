@@ -27,8 +27,8 @@ loop-j-init g c =
       most_high = omega (arith, q);
     }
 
-pub returns-then-is_passed : goal.returns-then-is_passed
-returns-then-is_passed g c = λ t w m.
+pub returns-then-is_passed-clause-passed : goal.returns-then-is_passed-clause-passed
+returns-then-is_passed-clause-passed g c = λ w m.
     let x = c.args.sources.now.family.now in
     let d = c.args.depot.now in
     let ends = g.S.Score.ends in
@@ -36,6 +36,12 @@ returns-then-is_passed g c = λ t w m.
     c.is_passed.ensures c.if-is_passed.true w
     (bound_stays x ends d c.args.low.p c.args.low.q c.loop-j.at_low (c.loop-j.j - 1) (length x.case.sites - 1) within c.loop-j.invariant.low w m)
     (bound_stays x ends d c.args.high.p c.args.high.q c.loop-j.at_high (c.loop-j.j - 1) (length x.case.sites - 1) within c.loop-j.invariant.high w m)
+
+pub returns-then-is_passed-clause-least : goal.returns-then-is_passed-clause-least
+returns-then-is_passed-clause-least g c = λ w m.
+    let x = c.args.sources.now.family.now in
+    let within : c.loop-j.j - 1 ≤ length x.case.sites - 1 = omega (arith, c.loop-j-test.true, c.sites-j-end.ensures.sites) in
+    bound_stays x g.S.Score.ends c.args.depot.now c.args.low.p c.args.low.q c.loop-j.at_low (c.loop-j.j - 1) (length x.case.sites - 1) within c.loop-j.invariant.low w m
 
 pub loop-j-preserved : goal.loop-j-preserved
 loop-j-preserved g c =
@@ -51,16 +57,23 @@ loop-j-preserved g c =
       most_high = omega (arith, c.loop-j.invariant.most_high, more.ensures.most.1);
     }
 
-pub returns : goal.returns
-returns g c = λ t w m.
+pub returns-then-is_passed-2-clause-passed : goal.returns-then-is_passed-2-clause-passed
+returns-then-is_passed-2-clause-passed g c = λ w m.
     let x = c.args.sources.now.family.now in
     let d = c.args.depot.now in
     let ends = g.S.Score.ends in
     let last : c.loop-j.j - 1 ≤ length x.case.sites - 1 =
     omega (arith, c.loop-j-test.false, c.loop-j.auto.j-end (omega (arith, c.sites-j-end.ensures.fewest)), c.sites-j-end.ensures.sites) in
-    c.is_passed-2.ensures t w
+    c.is_passed-2.ensures c.if-is_passed-2.true w
     (bound_stays x ends d c.args.low.p c.args.low.q c.loop-j.at_low (c.loop-j.j - 1) (length x.case.sites - 1) last c.loop-j.invariant.low w m)
     (bound_stays x ends d c.args.high.p c.args.high.q c.loop-j.at_high (c.loop-j.j - 1) (length x.case.sites - 1) last c.loop-j.invariant.high w m)
+
+pub returns-then-is_passed-2-clause-least : goal.returns-then-is_passed-2-clause-least
+returns-then-is_passed-2-clause-least g c = λ w m.
+    let x = c.args.sources.now.family.now in
+    let last : c.loop-j.j - 1 ≤ length x.case.sites - 1 =
+    omega (arith, c.loop-j-test.false, c.loop-j.auto.j-end (omega (arith, c.sites-j-end.ensures.fewest)), c.sites-j-end.ensures.sites) in
+    bound_stays x g.S.Score.ends c.args.depot.now c.args.low.p c.args.low.q c.loop-j.at_low (c.loop-j.j - 1) (length x.case.sites - 1) last c.loop-j.invariant.low w m
 
 pub is_passed-requires-clause-ranges : goal.is_passed-requires-clause-ranges
 is_passed-requires-clause-ranges g c = c.requires.ranges

@@ -21,7 +21,7 @@ pub lower_at_depot-least-requires-clause-tables : goal.lower_at_depot-least-requ
 lower_at_depot-least-requires-clause-tables g c =
     let made : drop 1 (set c.loop-s.stocks 0 c.loop-s.s) ≡ drop 1 c.args.stocks.now =
     ap (drop 1) (set_first c.loop-s.stocks c.loop-s.s c.loop-s.invariant.some) ∙ c.loop-s.invariant.shops in
-    subst (λ (l : List ℕ). AreTables c.args.sources.now.numbers l c.args.tables.now) (sym made) c.requires.tables
+    subst (λ (l : List ℕ). AreTables c.args.sources.now.family.now l c.args.tables.now) (sym made) c.requires.tables
 
 pub loop-s-preserved : goal.loop-s-preserved
 loop-s-preserved g c =

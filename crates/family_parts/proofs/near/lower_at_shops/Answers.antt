@@ -27,7 +27,7 @@ lower_at_lines-requires-clause-shops g c = subst (AreShopsAt c.args.sources.now.
 
 pub lower_at_lines-requires-clause-tables : goal.lower_at_lines-requires-clause-tables
 lower_at_lines-requires-clause-tables g c =
-    subst (λ (l : List ℕ). AreTables c.args.sources.now.numbers l c.in_ok-tables.tables)
+    subst (λ (l : List ℕ). AreTables c.args.sources.now.family.now l c.in_ok-tables.tables)
     (c.shops_of.ensures ∙ ap (drop 1) (c.as_slice.ensures.value ∙ sym c.as_mut_slice-at_depot.ensures.value)) c.in_ok-tables.ensures
 
 pub lower_at_lines-requires-clause-low : goal.lower_at_lines-requires-clause-low

@@ -1,12 +1,13 @@
-use Rattle.std.proofs.Common.{◌≡◌, ℕ, ◌<◌, List, [], get_or, length, map, set, take, refl, sym, ap, ◌∙◌, subst, arith}
+use Rattle.std.proofs.Common.{◌≡◌, ℕ, ◌<◌, List, [], drop, get_or, length, map, set, take, refl, sym, ap, ap₂, ◌∙◌, subst, arith}
 use Rattle.std.specs.List.{AllZip}
 use Rattle.std.proofs.lemmas.List.{get_or_default, length-map, take_all}
 use Rattle.std.proofs.Math.ListN.{length-set}
+use Rattle.family_numbers.specs.Numbers.{FamilyNumbers, shop_part}
 use Rattle.family_points.specs.declared.order.ShopVector.{ShopVector}
 use Rattle.family_points.specs.Inputs.{AreShopsAt, shop_vectors}
 use Rattle.family_points.specs.Choices.{IsShopVector}
 use Rattle.family_rows.specs.Spots.{IsRow}
-use Rattle.family_rows.proofs.Rows.{row_put, rows_taken}
+use Rattle.family_rows.proofs.Rows.{part_read, row_put, rows_taken}
 use Rattle.family_points.proofs.Spotted.{stock_read}
 use Rattle.family_rows.proofs.base.put_rows.Goals as goal
 
@@ -36,6 +37,22 @@ put_backorders-requires-clause-shops c =
     let inside : c.loop-n.n < length items = omega (arith, c.loop-n-test.true, c.len-count.ensures, c.args.here.now.base.now.shops.ok.0) in
     let vector : IsShopVector x j shops = subst (IsShopVector x j) (sym c.index.ensures) (c.requires.here.base.are_vectors c.loop-n.n shops inside) in
     subst (AreShopsAt x j) (sym c.as_slice-stocks.ensures) vector.within
+
+pub put_backorders-requires-clause-part : goal.put_backorders-requires-clause-part
+put_backorders-requires-clause-part c =
+    let x = c.args.here.now.family.now in
+    let j = c.args.here.now.site.0 in
+    let d = drop 1 c.args.here.now.depot.now in
+    let shops = c.index.result.now in
+    let items = c.args.here.now.base.now.shops.items in
+    let all : List (List ℕ) = shop_vectors x j in
+    let n = c.loop-n.n in
+    let inside : n < length items = omega (arith, c.loop-n-test.true, c.len-count.ensures, c.args.here.now.base.now.shops.ok.0) in
+    let within : n < length all = omega (arith, inside, length-map items (λ (v : ShopVector). v.stocks), ap length c.requires.here.base.stocks) in
+    let stocks : c.as_slice-stocks.result.now ≡ get_or all n [] =
+    c.as_slice-stocks.ensures ∙ stock_read items n shops shops all c.requires.here.base.stocks inside c.index.ensures in
+    part_read x d j n c.shops_at-parts.result.now c.index-parts-n.result c.shops_at-parts.ensures within c.index-parts-n.is
+    ∙ ap₂ (λ (m : FamilyNumbers 48) (s : List ℕ). shop_part 48 m j d s) (sym c.requires.numbers) (sym stocks)
 
 pub loop-n-preserved : goal.loop-n-preserved
 loop-n-preserved c =

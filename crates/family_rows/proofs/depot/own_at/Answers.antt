@@ -1,4 +1,4 @@
-use Rattle.std.proofs.Common.{◌≡◌, ◌<◌, length, get_or, sym, ap, ◌∙◌, subst, arith, lit<}
+use Rattle.std.proofs.Common.{◌≡◌, ℕ, ◌<◌, List, length, get_or, sym, ap, ap₂, ◌∙◌, subst, arith, lit<}
 use Rattle.family_numbers.specs.Numbers.{FamilyNumbers, depot_line_table, own_part}
 use Rattle.family_points.proofs.Bounded.{at_long, stock_small}
 use Rattle.family_rows.proofs.depot.own_at.Goals as goal
@@ -23,7 +23,7 @@ own_part-requires c =
     let some : 0 < length x.case.sites = omega (arith, c.requires.here.site.1) in
     let inside : j < n.sites = subst (λ (n : FamilyNumbers 48). j < n.sites) (sym c.requires.numbers) c.requires.here.site.1 in
     let line : c.args.tables.now.line ≡ depot_line_table 48 n c.shops_of.result.now =
-    c.requires.tables.line ∙ ap (λ d. depot_line_table 48 n d) (sym c.shops_of.ensures) in
+    c.requires.tables.line ∙ ap₂ (λ (n : FamilyNumbers 48) (d : List ℕ). depot_line_table 48 n d) (sym c.requires.numbers) (sym c.shops_of.ensures) in
     (lit< tt, (lit< tt, (lit< tt, (line, (stock_small x valid 0 0 c.args.here.now.depot.now some c.requires.here.depot (omega arith), inside)))))
 
 pub returns : goal.returns

@@ -1,6 +1,6 @@
 use Rattle.std.proofs.Common.{◌≡◌, ◌<◌, ◌∷◌, length, get_or, drop, sym, ap, ◌∙◌, subst, arith, lit<}
-use Rattle.family_numbers.specs.BaseTables.{HaveShops}
-use Rattle.family_numbers.specs.Numbers.{AreBaseBackorders, FamilyNumbers, own_part}
+use Rattle.fixed_interval.specs.Ends.{InScale}
+use Rattle.family_numbers.specs.Numbers.{AreBaseBackorders, FamilyNumbers, own_part, shop_part}
 use Rattle.family_points.specs.Inputs.{line_high}
 use Rattle.family_points.proofs.Bounded.{stock_small}
 use Rattle.family_points.proofs.Points.{box_begins, joined_at}
@@ -30,11 +30,12 @@ put_line_backorders-requires c =
     let inside : j < n.sites = subst (λ (n : FamilyNumbers 48). j < n.sites) (sym c.requires.numbers) c.requires.here.site.1 in
     let own : c.args.own.now ≡ own_part 48 n j (get_or c.args.here.now.depot.now 0 0) c.shops_of.result.now =
     c.requires.own ∙ ap (λ d. own_part 48 n j (get_or c.args.here.now.depot.now 0 0) d) (sym c.shops_of.ensures) in
-    let shops = subst (λ d. HaveShops 48 n d c.args.tables.now.shops.now) (sym c.shops_of.ensures) c.requires.tables.shops in (
+    let part = c.requires.part ∙ ap (λ d. shop_part 48 n j d c.args.shops.now) (sym c.shops_of.ensures) in
+    let scale : InScale 48 = (omega arith, omega arith) in (
       lit< tt,
       (
         lit< tt,
-        (lit< tt, (lit< tt, (own, (stock_small x valid 0 0 c.args.here.now.depot.now some c.requires.here.depot (omega arith), (c.requires.here.site.0, (inside, (shops, (base.count, base.small)))))))),
+        (lit< tt, (lit< tt, (scale, (own, (stock_small x valid 0 0 c.args.here.now.depot.now some c.requires.here.depot (omega arith), (inside, (part, (base.count, base.small)))))))),
       ),
     )
 

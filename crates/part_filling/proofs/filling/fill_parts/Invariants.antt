@@ -9,7 +9,7 @@ use Rattle.part_filling.proofs.filling.fill_parts.Given as goal
 
 abbrev pub invariant-changes : goal.invariant-changes
 invariant-changes g l = record {
-  known : AreKnown (g.F.Families.points l.families) l.known.curves.items l.known.windows.items;
+  known : AreKnown (g.F.Families.points l.families) l.known.curves.items l.known.windows.items l.known.beyond.items;
   vertices : AreVertices l.known.curves.items l.known.picks.items;
   money : cost_of (picked l.known.curves.items l.known.picks.items) + l.left ≡ l.budget;
   some : IfSome l.found (λ c. IsBestChange l.known.curves.items l.budget l.known.picks.items c.family c.vertex);

@@ -8,7 +8,7 @@ use Rattle.part_filling.proofs.filling.next_change.Given as goal
 
 abbrev pub invariant-passes : goal.invariant-passes
 invariant-passes g l = record {
-  known : AreKnown (g.F.Families.points l.families) l.known.curves.items l.known.windows.items;
+  known : AreKnown (g.F.Families.points l.families) l.known.curves.items l.known.windows.items l.known.beyond.items;
   vertices : AreVertices l.known.curves.items l.known.picks.items;
   picks : picked l.known.curves.items l.known.picks.items ≡ picked l.initial.known.curves.items l.initial.known.picks.items;
   best : IsBestKnown l.known.curves.items (cost_of (picked l.known.curves.items l.known.picks.items) + l.left) l.known.picks.items l.change;

@@ -18,12 +18,12 @@ place_at-place-requires g c =
     let here : c.point.result.now ≡ vertex_at known f (slice_index picks f) =
     vertex_is known f c.index-2.result.now c.index.result.now c.point.result.now c.index.ensures fam c.point.ensures ∙ ap (vertex_at known f) pick in
     subst (λ (v : Point). HasCost c.in_ok-part.part v.cost) (sym here)
-    (has_cost (g.F.Families.points c.args.families.now) known c.args.known.now.windows.items picks c.requires.families c.requires.known c.requires.vertices f fam c.args.window c.requires.window c.requires.within c.in_ok-part.part c.in_ok-part.ensures)
+    (has_cost (g.F.Families.points c.args.families.now) known c.args.known.now.windows.items c.args.known.now.beyond.items picks c.requires.families c.requires.known c.requires.vertices f fam c.args.window c.requires.window c.requires.within c.in_ok-part.part c.in_ok-part.ensures.is c.in_ok-part.beyond c.in_ok-part.ensures.behind)
 
 pub returns-clause-known : goal.returns-clause-known
 returns-clause-known g c =
-    known_set (g.F.Families.points c.args.families.now) c.args.known.now.curves.items c.args.known.now.windows.items c.args.known.now.picks.items
-    c.requires.families c.requires.known c.requires.vertices c.args.family c.requires.family c.args.window c.requires.window c.requires.within c.in_ok-part.part c.in_ok-part.ensures
+    known_set (g.F.Families.points c.args.families.now) c.args.known.now.curves.items c.args.known.now.windows.items c.args.known.now.beyond.items c.args.known.now.picks.items
+    c.requires.families c.requires.known c.requires.vertices c.args.family c.requires.family c.args.window c.requires.window c.requires.within c.in_ok-part.part c.in_ok-part.ensures.is c.in_ok-part.beyond c.in_ok-part.ensures.behind
 
 pub returns-clause-picks : goal.returns-clause-picks
 returns-clause-picks g c =
@@ -36,5 +36,5 @@ returns-clause-picks g c =
     let here : c.point.result.now ≡ vertex_at known f (slice_index picks f) =
     vertex_is known f c.index-2.result.now c.index.result.now c.point.result.now c.index.ensures fam c.point.ensures ∙ ap (vertex_at known f) pick in
     picked_set known picks f c.in_ok-part.part c.place_at-place.result fam n
-    (pick_found (g.F.Families.points c.args.families.now) known c.args.known.now.windows.items picks c.requires.families c.requires.known c.requires.vertices f fam c.args.window c.requires.window c.requires.within c.in_ok-part.part c.in_ok-part.ensures
+    (pick_found (g.F.Families.points c.args.families.now) known c.args.known.now.windows.items c.args.known.now.beyond.items picks c.requires.families c.requires.known c.requires.vertices f fam c.args.window c.requires.window c.requires.within c.in_ok-part.part c.in_ok-part.ensures.is c.in_ok-part.beyond c.in_ok-part.ensures.behind
     c.place_at-place.result c.place_at-place.ensures.below (c.place_at-place.ensures.cost ∙ ap (λ (v : Point). v.cost) here))

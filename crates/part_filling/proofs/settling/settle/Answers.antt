@@ -22,7 +22,7 @@ families-preserved g c =
       vertices = e.vertices;
       picks = e.picks ∙ i.picks;
       settled = λ h b. elim (cases_eq h f) [
-        | inl at ↦ subst (IsSettled new.windows.items new.curves.items new.picks.items c.args.left c.args.most) (sym at) e.settled
+        | inl at ↦ subst (IsSettled new.windows.items new.beyond.items new.curves.items new.picks.items c.args.left c.args.most) (sym at) e.settled
         | inr d ↦ settled_stays old new f h c.args.left c.args.most e.others d (i.settled h (omega (arith, b, d)))
       ];
       widened = subst (λ w. HasWidened w c.args.known.now c.settle_family.new.known) (sym is)

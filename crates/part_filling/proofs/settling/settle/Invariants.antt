@@ -6,9 +6,9 @@ use Rattle.part_filling.proofs.settling.settle.Given as goal
 
 abbrev pub invariant-families : goal.invariant-families
 invariant-families g l = record {
-  known : AreKnown (g.F.Families.points l.families) l.known.curves.items l.known.windows.items;
+  known : AreKnown (g.F.Families.points l.families) l.known.curves.items l.known.windows.items l.known.beyond.items;
   vertices : AreVertices l.known.curves.items l.known.picks.items;
   picks : picked l.known.curves.items l.known.picks.items ≡ picked l.initial.known.curves.items l.initial.known.picks.items;
-  settled : (h : ℕ) → h < l.f → IsSettled l.known.windows.items l.known.curves.items l.known.picks.items l.left l.most h;
+  settled : (h : ℕ) → h < l.f → IsSettled l.known.windows.items l.known.beyond.items l.known.curves.items l.known.picks.items l.left l.most h;
   widened : HasWidened l.widened l.initial.known l.known;
 }

@@ -6,7 +6,7 @@ use Rattle.part_filling.proofs.settling.settle_family.Given as goal
 
 abbrev pub invariant-wider : goal.invariant-wider
 invariant-wider g l = record {
-  known : AreKnown (g.F.Families.points l.families) l.known.curves.items l.known.windows.items;
+  known : AreKnown (g.F.Families.points l.families) l.known.curves.items l.known.windows.items l.known.beyond.items;
   vertices : AreVertices l.known.curves.items l.known.picks.items;
   family : l.family < length l.known.curves.items;
   picks : picked l.known.curves.items l.known.picks.items ≡ picked l.initial.known.curves.items l.initial.known.picks.items;

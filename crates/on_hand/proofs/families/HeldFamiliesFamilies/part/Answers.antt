@@ -3,7 +3,7 @@ use Rattle.std.proofs.lemmas.Result.{IfOk-weaker}
 use Rattle.fleet_model.specs.Rows.{line_units}
 use Rattle.family_items.specs.Inputs.{IsLine}
 use Rattle.step_walk.specs.Prefix.{curve_at}
-use Rattle.curve_parts.specs.Parts.{IsPartOf}
+use Rattle.curve_parts.specs.Beyond.{IsKnownPart}
 use Rattle.fleet_plan.specs.Families.{case_points}
 use Rattle.held_work.proofs.Kept.{box_few, box_ordered}
 use Rattle.on_hand.specs.Held.{HeldCase}
@@ -30,6 +30,6 @@ returns g c =
     let long = subst (λ (x : HeldCase). c.args.family < length (case_points g.S.Score.ends x.case x.held.list)) (sym c.self.view_is) c.requires.family in
     let line = subst (λ (x : HeldCase). c.line-line.result.0 ≡ get_or (line_units x.case) c.args.family 0) (sym c.self.view_is) c.line-line.ensures.line in
     IfOk-weaker c.part_within.result _ _
-    (λ part made. subst (λ (x : HeldCase). IsPartOf c.args.low c.args.high (curve_at (case_points g.S.Score.ends x.case x.held.list) c.args.family) part) c.self.view_is
-    (part_held ends case held c.args.family c.line-line.result.0 c.in_ok-bounds.bounds c.args.low c.args.high part (omega (arith, long, families_long ends case held)) line
+    (λ part made. subst (λ (x : HeldCase). IsKnownPart c.args.low c.args.high (curve_at (case_points g.S.Score.ends x.case x.held.list) c.args.family) part.0 part.1) c.self.view_is
+    (part_held ends case held c.args.family c.line-line.result.0 c.in_ok-bounds.bounds c.args.low c.args.high part.0 part.1 (omega (arith, long, families_long ends case held)) line
     c.in_ok-bounds.ensures made)) c.part_within.ensures.part

@@ -1,29 +1,22 @@
-use Rattle.std.proofs.Common.{◌≡◌, ◌-◌, ◌<◌, ◌∙◌, length, arith, refl, sym, ap, lit<, rules}
-use Rattle.fixed_interval.specs.Ends.{Ends, InScale}
+use Rattle.std.proofs.Common.{◌≡◌, ◌-◌, ◌<◌, ◌∙◌, length, arith, refl, sym, ap, lit<}
+use Rattle.fixed_interval.specs.Ends.{Ends, ends_exact}
 use Rattle.moment_table.specs.declared.kinds.Row.{Row}
 use Rattle.base_pipeline.specs.declared.Held.{Held}
 use Rattle.depot_pipeline.proofs.Walk.{summed_next, at_the_end}
 use Rattle.base_pipeline.specs.Profile.{held_at}
 use Rattle.base_pipeline.proofs.Walk.{started}
-use Rattle.family_numbers.specs.declared.own_part.OwnPart.{OwnPart}
-use Rattle.family_numbers.specs.Numbers.{base_helds, own_part}
-use Rattle.family_numbers.proofs.Own.{held_of_shop, own_small, room_for, shop_read, shop_small, whole_is}
-use Rattle.family_numbers.proofs.own_part.line_moments.Goals as goal
+use Rattle.family_numbers.specs.Numbers.{base_helds}
+use Rattle.family_numbers.proofs.Own.{held_of_shop, room_for, shop_read, shop_small, shops_made}
+use Rattle.family_numbers.proofs.shop_part.shop_part.Goals as goal
 
 pub loop-i-init : goal.loop-i-init
 loop-i-init g c =
-    let x = c.args.numbers.now in
-    let k = c.args.site.0 in
-    let own = own_part g.row.F x k c.args.own c.args.depot.now in
-    let small = own_small g.row.F x c.sites-valid.ensures.valid k c.requires.site c.args.own c.args.depot.now c.requires.own in
-    let helds = base_helds g.row.F x k c.args.depot.now c.args.base.now in
-    let mean = ap (λ (p : OwnPart g.row.F). p.moments.mean) c.requires.part in
-    let variance = ap (λ (p : OwnPart g.row.F). p.moments.variance) c.requires.part in
+    let helds = base_helds g.row.F c.args.numbers.now c.args.site.0 c.args.depot.now c.args.base.now in
     record {
-      mean = started g.row.F own.moments.mean c.args.part.now.moments.mean (λ n. (held_at helds n).backorders) mean
-          (omega (arith, small.mean_most, ap (λ (e : Ends). e.hi) mean));
-      variance = started g.row.F own.moments.variance c.args.part.now.moments.variance (λ n. (held_at helds n).spread) variance
-          (omega (arith, small.variance_most, ap (λ (e : Ends). e.hi) variance));
+      mean = started g.row.F (ends_exact g.row.F 0) c.exact-mean.result (λ n. (held_at helds n).backorders) c.exact-mean.ensures.ends
+          (omega (arith, ap (λ (e : Ends). e.hi) c.exact-mean.ensures.ends));
+      variance = started g.row.F (ends_exact g.row.F 0) c.exact-variance.result (λ n. (held_at helds n).spread) c.exact-variance.ensures.ends
+          (omega (arith, ap (λ (e : Ends). e.hi) c.exact-variance.ensures.ends));
     }
 
 pub table_of-table-requires : goal.table_of-table-requires
@@ -34,26 +27,24 @@ table_of-table-requires g c =
 pub add-mean-requires : goal.add-mean-requires
 add-mean-requires g c =
     let x = c.args.numbers.now in
-    let scale : InScale g.row.F = search rules in
     let inside : c.loop-i.i < length x.parts - 1 = rw c.shops-i-end.ensures.shops at c.loop-i-test.true in
     let row = shop_read g.row.F x c.args.site.0 c.args.depot.now c.args.base.now c.loop-i.i c.table_of-table.result.now _ c.table_of-table.ensures refl in
     let small = shop_small g.row.F x c.sites-valid.ensures.valid c.args.site.0 c.args.depot.now c.args.base.now c.loop-i.i _
     c.requires.site inside c.requires.count c.requires.stocks row in (
       lit< tt,
-      room_for g.row.F c.loop-i.i c.loop-i.mean.hi c.ebo.result.hi scale.1 (omega (arith, inside, c.sites-valid.ensures.valid.few)) c.loop-i.invariant.mean.most
+      room_for g.row.F c.loop-i.i c.loop-i.mean.hi c.ebo.result.hi c.requires.scale.1 (omega (arith, inside, c.sites-valid.ensures.valid.few)) c.loop-i.invariant.mean.most
           (omega (arith, small.ebo, ap (λ (e : Ends). e.hi) c.ebo.ensures)),
     )
 
 pub add-variance-requires : goal.add-variance-requires
 add-variance-requires g c =
     let x = c.args.numbers.now in
-    let scale : InScale g.row.F = search rules in
     let inside : c.loop-i.i < length x.parts - 1 = rw c.shops-i-end.ensures.shops at c.loop-i-test.true in
     let row = shop_read g.row.F x c.args.site.0 c.args.depot.now c.args.base.now c.loop-i.i c.table_of-table.result.now _ c.table_of-table.ensures refl in
     let small = shop_small g.row.F x c.sites-valid.ensures.valid c.args.site.0 c.args.depot.now c.args.base.now c.loop-i.i _
     c.requires.site inside c.requires.count c.requires.stocks row in (
       lit< tt,
-      room_for g.row.F c.loop-i.i c.loop-i.variance.hi c.vbo.result.hi scale.1 (omega (arith, inside, c.sites-valid.ensures.valid.few)) c.loop-i.invariant.variance.most
+      room_for g.row.F c.loop-i.i c.loop-i.variance.hi c.vbo.result.hi c.requires.scale.1 (omega (arith, inside, c.sites-valid.ensures.valid.few)) c.loop-i.invariant.variance.most
           (omega (arith, small.vbo, ap (λ (e : Ends). e.hi) c.vbo.ensures)),
     )
 
@@ -64,16 +55,15 @@ loop-i-preserved g c =
     let d = c.args.depot.now in
     let b = c.args.base.now in
     let i = c.loop-i.i in
-    let own = own_part g.row.F x k c.args.own d in
     let inside : i < length x.parts - 1 = rw c.shops-i-end.ensures.shops at c.loop-i-test.true in
     let row = shop_read g.row.F x k d b i c.table_of-table.result.now _ c.table_of-table.ensures refl in
     let small = shop_small g.row.F x c.sites-valid.ensures.valid k d b i _ c.requires.site inside c.requires.count c.requires.stocks row in
     let held = sym (held_of_shop g.row.F x k d b i inside) in
     record {
-      mean = summed_next g.row.F 768 own.moments.mean (λ n. (held_at (base_helds g.row.F x k d b) n).backorders) c.loop-i.mean c.ebo.result c.add-mean.result i
+      mean = summed_next g.row.F 768 (ends_exact g.row.F 0) (λ n. (held_at (base_helds g.row.F x k d b) n).backorders) c.loop-i.mean c.ebo.result c.add-mean.result i
           c.loop-i.invariant.mean (c.ebo.ensures ∙ ap (λ (r : Row g.row.F). r.ebo) row ∙ ap (λ (h : Held g.row.F). h.backorders) held)
           (omega (arith, small.ebo, ap (λ (e : Ends). e.hi) c.ebo.ensures)) c.add-mean.ensures.ends;
-      variance = summed_next g.row.F 768 own.moments.variance (λ n. (held_at (base_helds g.row.F x k d b) n).spread) c.loop-i.variance c.vbo.result c.add-variance.result i
+      variance = summed_next g.row.F 768 (ends_exact g.row.F 0) (λ n. (held_at (base_helds g.row.F x k d b) n).spread) c.loop-i.variance c.vbo.result c.add-variance.result i
           c.loop-i.invariant.variance (c.vbo.ensures ∙ ap (λ (r : Row g.row.F). r.vbo) row ∙ ap (λ (h : Held g.row.F). h.spread) held)
           (omega (arith, small.vbo, ap (λ (e : Ends). e.hi) c.vbo.ensures)) c.add-variance.ensures.ends;
     }
@@ -84,10 +74,7 @@ returns g c =
     let k = c.args.site.0 in
     let d = c.args.depot.now in
     let b = c.args.base.now in
-    let own = own_part g.row.F x k c.args.own d in
     let all : c.loop-i.i ≡ length x.parts - 1 = omega (arith, c.loop-i-test.false, c.loop-i.auto.i-end, c.shops-i-end.ensures.shops) in
-    whole_is g.row.F x k c.args.own d b c.args.part.now.cap c.loop-i.mean c.loop-i.variance c.capped.result c.capped-2.result
-    (ap (λ (p : OwnPart g.row.F). p.cap) c.requires.part)
-    (at_the_end g.row.F 768 own.moments.mean (λ n. (held_at (base_helds g.row.F x k d b) n).backorders) c.loop-i.mean c.loop-i.i (length x.parts - 1) c.loop-i.invariant.mean all)
-    (at_the_end g.row.F 768 own.moments.variance (λ n. (held_at (base_helds g.row.F x k d b) n).spread) c.loop-i.variance c.loop-i.i (length x.parts - 1) c.loop-i.invariant.variance all)
-    c.capped.ensures.ends c.capped-2.ensures.ends
+    shops_made g.row.F x k d b c.loop-i.mean c.loop-i.variance
+    (at_the_end g.row.F 768 (ends_exact g.row.F 0) (λ n. (held_at (base_helds g.row.F x k d b) n).backorders) c.loop-i.mean c.loop-i.i (length x.parts - 1) c.loop-i.invariant.mean all)
+    (at_the_end g.row.F 768 (ends_exact g.row.F 0) (λ n. (held_at (base_helds g.row.F x k d b) n).spread) c.loop-i.variance c.loop-i.i (length x.parts - 1) c.loop-i.invariant.variance all)
