@@ -10,7 +10,7 @@ use Rattle.fixed_interval.specs.Ends.{Ends, ends_exact, ends_add}
 use Rattle.spares_input.specs.Rows.{is_line}
 use Rattle.spares_input.specs.Frames.{part_at, part_names, site_at, site_names, is_shop_of}
 use Rattle.spares_input.specs.Cases.{CaseRows, IsCase, frame_rows, pair_count}
-use Rattle.spares_input.specs.Stocks.{StockList, cost_of}
+use Rattle.spares_input.specs.Stocks.{StockList}
 use Rattle.fleet_model.specs.Rows.{all_sites, bases, line_units, shop_units, systems, per_system}
 use Rattle.fleet_model.specs.Fleet.{family}
 use Rattle.availability.specs.declared.Weighted.{Weighted}
@@ -149,13 +149,13 @@ module _ (f : ℕ) (c : CaseRows) (t : StockList) where
   -- ---- the figures
 
   -- what the steps have given, from families and the items and bases that were made of them
-  pub record AreMade (families : List (FamilyResult f)) (held : List HeldItem) (weighted : List (Weighted f)) (fleet total : Ends) (figures : Figures) : Type 0 where
+  pub record AreMade (families : List (FamilyResult f)) (held : List HeldItem) (weighted : List (Weighted f)) (fleet total : Ends) (cost : ℕ) (figures : Figures) : Type 0 where
     pub families_are : families ≡ families_of f c t
     pub held_are : held ≡ held_by_pair c families
     pub weighted_from_families : weighted ≡ map (weighted_from f c families) (bases c)
     pub fleet_is : fleet ≡ fleet_ends f weighted
     pub total_is : total ≡ fold ends_add (ends_exact f 0) (map (λ (r : FamilyResult f). r.total) families)
-    pub cost_is : figures.cost ≡ cost_of c t
+    pub cost_is : figures.cost ≡ cost
     pub item_lines : figures.items ≡ map (line_under (part_names c.parts) (site_names c.sites) f) held
     pub base_lines : figures.bases ≡ map (base_line_from f c weighted) (bases c)
     pub fleet_span : figures.fleet ≡ span_of f fleet
@@ -177,10 +177,10 @@ module _ (f : ℕ) (c : CaseRows) (t : StockList) where
       → weighted ≡ map (weighted_from f c families) (bases c) → weighted ≡ map (weighted_at f c t.list) (bases c)
   weighted_made families weighted h e = e ∙ ap (λ (rs : List (FamilyResult f)). map (weighted_from f c rs) (bases c)) h ∙ weighted_are
 
-  -- figures made of the families step by step are those of the case at these stocks
-  pub made : AreSmall → IsCase c → (families : List (FamilyResult f)) (held : List HeldItem) (weighted : List (Weighted f)) (fleet total : Ends) (figures : Figures)
-      → AreMade families held weighted fleet total figures → figures ≡ figures_of f c t
-  made m v families held weighted fleet total figures a =
+  -- figures made of the families step by step are those of the case at these stocks, with a cost of their own
+  pub made : AreSmall → IsCase c → (families : List (FamilyResult f)) (held : List HeldItem) (weighted : List (Weighted f)) (fleet total : Ends) (cost : ℕ) (figures : Figures)
+      → AreMade families held weighted fleet total cost figures → figures ≡ record (figures_of f c t) { cost = cost }
+  made m v families held weighted fleet total cost figures a =
       let under = line_under (part_names c.parts) (site_names c.sites) f in
       let items_eq = a.item_lines ∙ ap (map under) (held_made v families held a.families_are a.held_are) ∙ lines_named f c (all_items f c t.list) (are_all_items m v) in
       let weighted_eq = weighted_made families weighted a.families_are a.weighted_from_families in

@@ -6,12 +6,14 @@ use Rattle.spares_input.specs.Rows.{is_line}
 use Rattle.spares_input.specs.Frames.{part_at, site_at}
 use Rattle.spares_input.specs.Pairs.{pair_place}
 use Rattle.spares_input.specs.Cases.{CaseRows, frame_rows, pair_count}
+use Rattle.spares_input.specs.Stocks.{StockList}
 use Rattle.fleet_model.specs.Rows.{systems, per_system}
 use Rattle.availability.specs.declared.Weighted.{Weighted}
 use Rattle.availability.specs.Profile.{factor_ends, base_ends}
 use Rattle.family_items.specs.declared.item.Item.{Item}
 use Rattle.family_items.specs.declared.item.FamilyResult.{FamilyResult}
-use Rattle.family_items.specs.Encloses.{IsSmallItem, no_item}
+use Rattle.family_items.specs.Encloses.{CanEvaluate, IsSmallItem, no_item}
+use Rattle.family_items.specs.Profile.{families_of}
 use Rattle.availability.specs.Exact.{base_at}
 use Rattle.case_figures.specs.declared.figures.BaseLine.{BaseLine}
 use Rattle.case_figures.specs.declared.held.HeldItem.{HeldItem}
@@ -23,6 +25,12 @@ pub record IsItemOf (f : ℕ) (c : CaseRows) (x : Item f) : Type 0 where
   pub part : x.part.0 < length c.parts
   pub site : x.site.0 < length c.sites
   pub most : IsSmallItem f x
+
+-- these are the evaluations of a case's families at some stocks
+pub record AreEvaluated (f : ℕ) (c : CaseRows) (families : List (FamilyResult f)) : Type 0 where
+  pub stocks : StockList
+  pub can : CanEvaluate f c stocks
+  pub are : families ≡ families_of f c stocks
 
 -- a family has the items of a line unit first, by site
 pub record IsFamilyOf (f : ℕ) (c : CaseRows) (r : FamilyResult f) : Type 0 where

@@ -9,6 +9,7 @@ ghost use Rattle.family_items.specs.Encloses.{CanEvaluate};
 ghost use Rattle.case_figures.specs.Fits.{FitsPrint};
 ghost use Rattle.fixed_interval.specs.Widths.{IsWidth};
 ghost use Rattle.case_figures.specs.Figures.{figures_of};
+ghost use Rattle.case_figures.specs.Gathering.{AreEvaluated};
 ghost use Rattle.case_figures.specs.Shows.{ShowsFigures};
 
 use crate::bases::{base_lines, weighted_bases};
@@ -44,10 +45,36 @@ fn total_of<const F: u32>(families: &[FamilyResult<F>]) -> Iv<F>
     total
 }
 
-/// The figures of a case at its stocks, from its families' evaluation at these stocks, with 32, 48 or 52 binary places.
+/// The figures of a case from its families' evaluation at its stocks, with 32, 48 or 52 binary places, and with this
+/// cost in place of the stocks' own.
 ///
 /// The items are sorted by part in file order and then by site, in whatever order the families have them. Want of
 /// memory is the only error.
+pub fn figures_with_cost<const F: u32>(
+    alloc: Global,
+    case: &Case,
+    families: &[FamilyResult<F>],
+    cost: u64,
+) -> Result<Figures, NoMemory>
+    requires width { IsWidth F }
+    requires evaluated { AreEvaluated F case.now families.now }
+    ensures { (s : StockList) → CanEvaluate F case.now s → families.now ≡ families_of F case.now s
+        → IfOk result (λ x. x ≡ record (figures_of F case.now s) { cost = cost }) }
+{
+    let parts = part_names(alloc, case)?;
+    let sites = site_names(alloc, case)?;
+    let held = held_by_pair(alloc, case, families)?;
+    let bases = weighted_bases(alloc, case, families)?;
+    Ok(Figures {
+        cost,
+        items: Items::of::<F>(parts, sites, held),
+        bases: List::of(base_lines(alloc, case, bases.as_slice())?),
+        fleet: span_of(fleet(bases.as_slice())),
+        total: span_of(total_of(families)),
+    })
+}
+
+/// The figures of a case at its stocks with the cost of these stocks, as of [`figures_with_cost`].
 pub fn figures_at<const F: u32>(
     alloc: Global,
     case: &Case,
@@ -61,15 +88,5 @@ pub fn figures_at<const F: u32>(
     ensures shows { IfOk result (ShowsFigures F case.now stocks.now) }
     ensures printed { IfOk result FitsPrint }
 {
-    let parts = part_names(alloc, case)?;
-    let sites = site_names(alloc, case)?;
-    let held = held_by_pair(alloc, case, families)?;
-    let bases = weighted_bases(alloc, case, families)?;
-    Ok(Figures {
-        cost: stocks.cost(case),
-        items: Items::of::<F>(parts, sites, held),
-        bases: List::of(base_lines(alloc, case, bases.as_slice())?),
-        fleet: span_of(fleet(bases.as_slice())),
-        total: span_of(total_of(families)),
-    })
+    figures_with_cost(alloc, case, families, stocks.cost(case))
 }

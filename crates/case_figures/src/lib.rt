@@ -9,6 +9,6 @@ mod items;
 mod narrow;
 
 pub use figures::{BaseLine, Figures, ItemLine, Span};
-pub use gathering::{figures_at, figures_enclose};
+pub use gathering::{figures_at, figures_enclose, figures_with_cost};
 pub use held::{HeldItem, ItemRef, Items};
 pub use narrow::Narrow;

@@ -29,7 +29,7 @@ use Rattle.plan_report.specs.Texts.{millionths_down}
 use Rattle.plan_report.specs.declared.plan.PlanReport.{PlanReport}
 use Rattle.held_work.specs.Work.{IsNothing}
 use Rattle.case_plan.specs.Report.{aim_ends, if_asked, report_of, IsPlanned}
-use Rattle.case_plan.specs.declared.terms.Terms.{Terms}
+use Rattle.case_plan.specs.declared.request.Request.{Request}
 use Rattle.case_plan.specs.Truth.{IsTruePlanReport, IsTrueReport}
 use Rattle.case_plan.proofs.Aimed.{aim_enclosed}
 use Rattle.case_plan.proofs.Nothing.{from_nothing}
@@ -72,13 +72,13 @@ unfolding whole ◌*ℚ◌ ◌/ℚ◌ scaled
 below_printed bound q h = record { cross = (let c = h.cross in let l = printed_step bound q.num q.den (omega (arith, c)) in omega (arith, l)) }
 
 -- for any score, whatever is held
-pub planned_true : (ends : ScoreEnds) (value : Value) (c : CaseRows) (held : List ℕ) (terms : Terms) (report : PlanReport) → IsAcceptedCase c → EnclosesValue ends value
-    → (planned : IsPlanned ends c held terms report) → IsTrueReport ends value c held terms planned.plan report
-planned_true ends value c held terms report accepted encloses h = subst (IsTrueReport ends value c held terms h.plan) (sym h.is) told
+pub planned_true : (ends : ScoreEnds) (value : Value) (c : CaseRows) (held : List ℕ) (request : Request) (report : PlanReport) → IsAcceptedCase c → EnclosesValue ends value
+    → (planned : IsPlanned ends c held request report) → IsTrueReport ends value c held request planned.plan report
+planned_true ends value c held request report accepted encloses h = subst (IsTrueReport ends value c held request h.plan) (sym h.is) told
   where
-    told : IsTrueReport ends value c held terms h.plan (report_of ends c terms h.plan)
+    told : IsTrueReport ends value c held request h.plan (report_of ends c request h.plan)
     told =
-        let t = plan_true ends value c held accepted encloses terms.budget h.plan h.is_plan in
+        let t = plan_true ends value c held accepted encloses request.budget h.plan h.is_plan in
         let s = h.plan.stocks in
         let e = can c h.plan.stocks accepted t.allocation.allocation in
         record {
@@ -103,24 +103,24 @@ planned_true ends value c held terms report accepted encloses h = subst (IsTrueR
         }
 
 -- of weighted backorders, where nothing is held
-pub plain_true : (c : CaseRows) (held : List ℕ) (terms : Terms) (report : PlanReport) → IsAcceptedCase c → IsNothing held
-    → (planned : IsPlanned plain_ends c held terms report) → IsTruePlanReport c terms.budget planned.plan.stocks report
-plain_true c held terms report accepted nothing h = subst (IsTruePlanReport c terms.budget h.plan.stocks) (sym h.is) told
+pub plain_true : (c : CaseRows) (held : List ℕ) (request : Request) (report : PlanReport) → IsAcceptedCase c → IsNothing held
+    → (planned : IsPlanned plain_ends c held request report) → IsTruePlanReport c request.budget planned.plan.stocks report
+plain_true c held request report accepted nothing h = subst (IsTruePlanReport c request.budget h.plan.stocks) (sym h.is) told
   where
-    is_plan : IsCasePlan plain_ends c [] terms.budget h.plan
-    is_plan = from_nothing c held nothing plain_ends terms.budget h.plan h.is_plan
+    is_plan : IsCasePlan plain_ends c [] request.budget h.plan
+    is_plan = from_nothing c held nothing plain_ends request.budget h.plan h.is_plan
 
     -- in the plain words
-    plain_fewer : IsPlainPlan c terms.budget h.plan → (n : ℕ) → 1024 ≤ n → (s : List ℕ) → IsAllocation c s → cost c s ≤ terms.budget → whole h.plan.numbers.bound ≤ℚ total c s n *ℚ whole (2 ^ 48)
+    plain_fewer : IsPlainPlan c request.budget h.plan → (n : ℕ) → 1024 ≤ n → (s : List ℕ) → IsAllocation c s → cost c s ≤ request.budget → whole h.plan.numbers.bound ≤ℚ total c s n *ℚ whole (2 ^ 48)
     plain_fewer k n deep s a f =
         let words = plain_words c s in
-        subst (λ z. whole h.plan.numbers.bound ≤ℚ z *ℚ whole (2 ^ 48)) (words.total_is n) (k.fewer n deep s (words.allocation.1 a) (subst (λ z. z ≤ terms.budget) (sym words.cost_is) f))
+        subst (λ z. whole h.plan.numbers.bound ≤ℚ z *ℚ whole (2 ^ 48)) (words.total_is n) (k.fewer n deep s (words.allocation.1 a) (subst (λ z. z ≤ request.budget) (sym words.cost_is) f))
 
-    told : IsTruePlanReport c terms.budget h.plan.stocks (report_of plain_ends c terms h.plan)
+    told : IsTruePlanReport c request.budget h.plan.stocks (report_of plain_ends c request h.plan)
     told =
-        let k = plain_plan c terms.budget h.plan accepted is_plan in
+        let k = plain_plan c request.budget h.plan accepted is_plan in
         let e = can c h.plan.stocks accepted k.allocation in
-        let t = plan_true plain_ends weighted_backorders c [] accepted plain_encloses terms.budget h.plan is_plan in
+        let t = plan_true plain_ends weighted_backorders c [] accepted plain_encloses request.budget h.plan is_plan in
         record {
           budget_is = refl;
           allocation = k.allocation;
@@ -134,9 +134,9 @@ plain_true c held terms report accepted nothing h = subst (IsTruePlanReport c te
         }
 
 -- a case has one report of its plan
-pub planned_one : (ends : ScoreEnds) (c : CaseRows) (held : List ℕ) (terms : Terms) (one other : PlanReport) → IsCase c
-    → IsPlanned ends c held terms one → IsPlanned ends c held terms other → one ≡ other
-planned_one ends c held terms one other valid h k = h.is ∙ ap (report_of ends c terms) (one_case_plan ends c held terms.budget h.plan k.plan valid h.is_plan k.is_plan) ∙ sym k.is
+pub planned_one : (ends : ScoreEnds) (c : CaseRows) (held : List ℕ) (request : Request) (one other : PlanReport) → IsCase c
+    → IsPlanned ends c held request one → IsPlanned ends c held request other → one ≡ other
+planned_one ends c held request one other valid h k = h.is ∙ ap (report_of ends c request) (one_case_plan ends c held request.budget h.plan k.plan valid h.is_plan k.is_plan) ∙ sym k.is
 
 -- ---- the room of a report
 
@@ -145,21 +145,21 @@ asked_fits true x h = omega (arith, h)
 asked_fits false x h = tt
 
 -- the numbers of a plan's report have room in its text
-pub report_fits : (ends : ScoreEnds) (value : Value) (c : CaseRows) (held : List ℕ) (terms : Terms) (report : PlanReport) → IsAcceptedCase c → EnclosesValue ends value → LeavesRoom ends
-    → IsPlanned ends c held terms report → FitsPlan report
-report_fits ends value c held terms report accepted encloses room h = subst FitsPlan (sym h.is) fits
+pub report_fits : (ends : ScoreEnds) (value : Value) (c : CaseRows) (held : List ℕ) (request : Request) (report : PlanReport) → IsAcceptedCase c → EnclosesValue ends value → LeavesRoom ends
+    → IsPlanned ends c held request report → FitsPlan report
+report_fits ends value c held request report accepted encloses room h = subst FitsPlan (sym h.is) fits
   where
-    fits : FitsPlan (report_of ends c terms h.plan)
+    fits : FitsPlan (report_of ends c request h.plan)
     fits =
         let s = h.plan.stocks in
-        let t = plan_true ends value c held accepted encloses terms.budget h.plan h.is_plan in
-        let f = plan_fits ends value c held terms.budget h.plan accepted encloses room h.is_plan in
+        let t = plan_true ends value c held accepted encloses request.budget h.plan h.is_plan in
+        let f = plan_fits ends value c held request.budget h.plan accepted encloses room h.is_plan in
         let e = can c h.plan.stocks accepted t.allocation.allocation in
         let print = figures_fit 48 c (stock_list c s) refl e (evaluated_as 48 c (stock_list c s) e) in
         let a = f.bound in let b = f.gap in let d = f.rounding in let p = f.price in
         record {
           figures = record { items = print.items; bases = print.bases; fleet = print.fleet; total = print.total };
-          loss = asked_fits terms.loss (aim_ends ends c s) (subst (λ n. n ≤ 2 ^ 85) t.upper_is f.upper);
+          loss = asked_fits request.loss (aim_ends ends c s) (subst (λ n. n ≤ 2 ^ 85) t.upper_is f.upper);
           bound = omega (arith, a);
           gap = omega (arith, b);
           rounding = omega (arith, d);

@@ -35,7 +35,7 @@ use Rattle.fleet_plan.specs.Families.{HasWidth}
 use Rattle.case_plan.specs.Chosen.{FitsCase, IsChosen}
 use Rattle.case_plan.specs.Outcomes.{chosen_outcome}
 use Rattle.case_plan.specs.declared.chosen.ChosenStocks.{ChosenStocks}
-use Rattle.case_plan.specs.declared.terms.Terms.{Terms}
+use Rattle.case_plan.specs.declared.request.Request.{Request}
 use Rattle.case_plan.proofs.Aimed.{aimed}
 use Rattle.fleet_plan.proofs.Ones.{chosen_of_stocks}
 
@@ -93,12 +93,12 @@ abbrev pub plan_with : StockList → List ℕ → PlanNumbers → CasePlan
 plan_with s floors f = record { stocks = s.list; floors = floors; numbers = f }
 
 -- the answer that is made of stocks, floors, a plan's numbers, figures, aim and critical line
-abbrev pub outcome : Terms → StockList → List ℕ → PlanNumbers → Figures → Option Ends → Option CriticalLine → Outcome
-outcome terms s floors f figures aim line = record {
+abbrev pub outcome : Request → StockList → List ℕ → PlanNumbers → Figures → Option Ends → Option CriticalLine → Outcome
+outcome request s floors f figures aim line = record {
   report = record {
-    budget = terms.budget;
-    figures = record figures { cost = f.cost };
-    on_hand = terms.on_hand;
+    budget = request.budget;
+    figures = figures;
+    on_hand = request.on_hand;
     loss = aim;
     bound = f.bound;
     gap = f.gap;
@@ -114,36 +114,36 @@ outcome terms s floors f figures aim line = record {
 }
 
 -- made of the figures, the aim and the critical line of chosen stocks it is their outcome
-pub made : (c : CaseRows) (terms : Terms) (x : ChosenStocks) (floors : List ℕ) (figures : Figures) (aim : Option Ends) (line : Option CriticalLine) → floors ≡ x.floors.items
-    → figures ≡ figures_of 48 c x.stocks → aim ≡ if_asked terms.loss (record { lo = x.lower; hi = x.numbers.upper })
+pub made : (c : CaseRows) (request : Request) (x : ChosenStocks) (floors : List ℕ) (figures : Figures) (aim : Option Ends) (line : Option CriticalLine) → floors ≡ x.floors.items
+    → figures ≡ record (figures_of 48 c x.stocks) { cost = x.numbers.cost } → aim ≡ if_asked request.loss (record { lo = x.lower; hi = x.numbers.upper })
     → line ≡ option_map (step_line c x.numbers.price.q) (option_map (line_of_family c) x.numbers.critical)
-    → outcome terms x.stocks floors x.numbers figures aim line ≡ chosen_outcome c terms x
-made c terms x floors figures aim line f g a l =
-    ap (λ (z : List ℕ). outcome terms x.stocks z x.numbers figures aim line) f
-    ∙ ap₂ (λ (y : Figures) (z : Option CriticalLine). outcome terms x.stocks x.floors.items x.numbers y aim z) g l
-    ∙ ap (λ (y : Option Ends). outcome terms x.stocks x.floors.items x.numbers (figures_of 48 c x.stocks) y (option_map (step_line c x.numbers.price.q) (option_map (line_of_family c) x.numbers.critical))) a
+    → outcome request x.stocks floors x.numbers figures aim line ≡ chosen_outcome c request x
+made c request x floors figures aim line f g a l =
+    ap (λ (z : List ℕ). outcome request x.stocks z x.numbers figures aim line) f
+    ∙ ap₂ (λ (y : Figures) (z : Option CriticalLine). outcome request x.stocks x.floors.items x.numbers y aim z) g l
+    ∙ ap (λ (y : Option Ends). outcome request x.stocks x.floors.items x.numbers (record (figures_of 48 c x.stocks) { cost = x.numbers.cost }) y (option_map (step_line c x.numbers.price.q) (option_map (line_of_family c) x.numbers.critical))) a
 
 -- with the case's own aim the outcome of chosen stocks is the outcome of the plan
-same_outcome : (ends : ScoreEnds) (c : CaseRows) (terms : Terms) (x : ChosenStocks) → x.stocks.sites ≡ length c.sites
+same_outcome : (ends : ScoreEnds) (c : CaseRows) (request : Request) (x : ChosenStocks) → x.stocks.sites ≡ length c.sites
     → (let y : Ends = record { lo = x.lower; hi = x.numbers.upper } in y ≡ aim_ends ends c x.stocks.list)
-    → chosen_outcome c terms x ≡ outcome_of ends c terms (plan_with x.stocks x.floors.items x.numbers)
-same_outcome ends c terms x e a =
+    → chosen_outcome c request x ≡ outcome_of ends c request (plan_with x.stocks x.floors.items x.numbers)
+same_outcome ends c request x e a =
     let line = option_map (step_line c x.numbers.price.q) (option_map (line_of_family c) x.numbers.critical) in
     let same : x.stocks ≡ stock_list c x.stocks.list = ap (λ n. let t : StockList = record { sites = n; list = x.stocks.list } in t) e in
-    ap (λ (y : Ends). outcome terms x.stocks x.floors.items x.numbers (figures_of 48 c x.stocks) (if_asked terms.loss y) line) a
-    ∙ ap (λ (t : StockList). outcome terms t x.floors.items x.numbers (figures_of 48 c t) (if_asked terms.loss (aim_ends ends c x.stocks.list)) line) same
+    ap (λ (y : Ends). outcome request x.stocks x.floors.items x.numbers (record (figures_of 48 c x.stocks) { cost = x.numbers.cost }) (if_asked request.loss y) line) a
+    ∙ ap (λ (t : StockList). outcome request t x.floors.items x.numbers (record (figures_of 48 c t) { cost = x.numbers.cost }) (if_asked request.loss (aim_ends ends c x.stocks.list)) line) same
 
 -- the outcome of stocks chosen from the curves of a case's points is the outcome of the case's plan
-pub case_outcome : (c : CaseRows) (curves : List (List Point)) (terms : Terms) (x : ChosenStocks) (o : Outcome) → IsCase c → FitsCase c x → IsChosen c curves terms.budget x
-    → o ≡ chosen_outcome c terms x → IsPlanOf c curves terms o
-case_outcome c curves terms x o valid fits is e ends held areas =
+pub case_outcome : (c : CaseRows) (curves : List (List Point)) (request : Request) (x : ChosenStocks) (o : Outcome) → IsCase c → FitsCase c x → IsChosen c curves request.budget x
+    → o ≡ chosen_outcome c request x → IsPlanOf c curves request o
+case_outcome c curves request x o valid fits is e ends held areas =
     let chosen = is.is_plan (case_points ends c held) areas in
     let p = plan_with x.stocks x.floors.items x.numbers in
     let vectors = sym is.stocks_are in
     record {
       plan = p;
-      is_plan = chosen_of_stocks ends c held terms.budget is.vertices p chosen vectors fits.is_for.pairs;
-      is = e ∙ same_outcome ends c terms x fits.is_for.sites (aimed ends c held terms.budget is.vertices p x.lower valid chosen vectors is.lower_is);
+      is_plan = chosen_of_stocks ends c held request.budget is.vertices p chosen vectors fits.is_for.pairs;
+      is = e ∙ same_outcome ends c request x fits.is_for.sites (aimed ends c held request.budget is.vertices p x.lower valid chosen vectors is.lower_is);
     }
 
 -- the line unit at place f is a part of the case

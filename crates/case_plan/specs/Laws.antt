@@ -17,27 +17,27 @@ use Rattle.held_work.specs.Work.{IsNothing}
 use Rattle.choice_parts.specs.Parts.{AreFamilies}
 use Rattle.case_plan.specs.Report.{AreFamilyCurves, HaveVectors, IsPlanned}
 use Rattle.case_plan.specs.Truth.{IsTruePlanReport, IsTrueReport}
-use Rattle.case_plan.specs.declared.terms.Terms.{Terms}
+use Rattle.case_plan.specs.declared.request.Request.{Request}
 
 -- for any score whose intervals enclose its value, and any held stocks
 abbrev pub PlannedReportsAreTrue : Type 0
 PlannedReportsAreTrue =
-    (ends : ScoreEnds) (value : Value) (c : CaseRows) (held : List ℕ) (terms : Terms) (report : PlanReport)
-    → IsAcceptedCase c → EnclosesValue ends value → (planned : IsPlanned ends c held terms report)
-    → IsTrueReport ends value c held terms planned.plan report
+    (ends : ScoreEnds) (value : Value) (c : CaseRows) (held : List ℕ) (request : Request) (report : PlanReport)
+    → IsAcceptedCase c → EnclosesValue ends value → (planned : IsPlanned ends c held request report)
+    → IsTrueReport ends value c held request planned.plan report
 
 -- for weighted backorders, if nothing is held
 abbrev pub PlainReportsAreTrue : Type 0
 PlainReportsAreTrue =
-    (c : CaseRows) (held : List ℕ) (terms : Terms) (report : PlanReport)
-    → IsAcceptedCase c → IsNothing held → (planned : IsPlanned plain_ends c held terms report)
-    → IsTruePlanReport c terms.budget planned.plan.stocks report
+    (c : CaseRows) (held : List ℕ) (request : Request) (report : PlanReport)
+    → IsAcceptedCase c → IsNothing held → (planned : IsPlanned plain_ends c held request report)
+    → IsTruePlanReport c request.budget planned.plan.stocks report
 
 -- and a case has only one
 abbrev pub PlannedReportsAreOne : Type 0
 PlannedReportsAreOne =
-    (ends : ScoreEnds) (c : CaseRows) (held : List ℕ) (terms : Terms) (one other : PlanReport)
-    → IsCase c → IsPlanned ends c held terms one → IsPlanned ends c held terms other → one ≡ other
+    (ends : ScoreEnds) (c : CaseRows) (held : List ℕ) (request : Request) (one other : PlanReport)
+    → IsCase c → IsPlanned ends c held request one → IsPlanned ends c held request other → one ≡ other
 
 -- plans from a list of zeros are plans from the empty list
 abbrev pub PlansFromNothing : Type 0
@@ -67,8 +67,8 @@ PlansFit =
 -- and into a report
 abbrev pub ReportsFit : Type 0
 ReportsFit =
-    (ends : ScoreEnds) (value : Value) (c : CaseRows) (held : List ℕ) (terms : Terms) (report : PlanReport)
-    → IsAcceptedCase c → EnclosesValue ends value → LeavesRoom ends → IsPlanned ends c held terms report
+    (ends : ScoreEnds) (value : Value) (c : CaseRows) (held : List ℕ) (request : Request) (report : PlanReport)
+    → IsAcceptedCase c → EnclosesValue ends value → LeavesRoom ends → IsPlanned ends c held request report
     → FitsPlan report
 
 -- curves of a case's points, from held stocks within the limits, meet the requirements of a plan

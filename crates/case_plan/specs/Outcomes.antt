@@ -9,16 +9,16 @@ use Rattle.case_plan.specs.Chosen.{FitsCase, IsChosen}
 use Rattle.case_plan.specs.Report.{if_asked, step_line}
 use Rattle.case_plan.specs.declared.chosen.ChosenStocks.{ChosenStocks}
 use Rattle.case_plan.specs.declared.outcome.Outcome.{Outcome}
-use Rattle.case_plan.specs.declared.terms.Terms.{Terms}
+use Rattle.case_plan.specs.declared.request.Request.{Request}
 
 -- The report of chosen stocks: their figures with the cost of the plan, the ends of the aim if they are asked for, and
 -- the numbers of the plan.
-abbrev pub chosen_report : CaseRows → Terms → ChosenStocks → PlanReport
-chosen_report c terms x = record {
-  budget = terms.budget;
+abbrev pub chosen_report : CaseRows → Request → ChosenStocks → PlanReport
+chosen_report c request x = record {
+  budget = request.budget;
   figures = record (figures_of 48 c x.stocks) { cost = x.numbers.cost };
-  on_hand = terms.on_hand;
-  loss = if_asked terms.loss (record { lo = x.lower; hi = x.numbers.upper });
+  on_hand = request.on_hand;
+  loss = if_asked request.loss (record { lo = x.lower; hi = x.numbers.upper });
   bound = x.numbers.bound;
   gap = x.numbers.gap;
   rounding = x.numbers.rounding;
@@ -28,9 +28,9 @@ chosen_report c terms x = record {
 }
 
 -- The outcome of chosen stocks: the report with the stocks, and the claims of the certificate.
-abbrev pub chosen_outcome : CaseRows → Terms → ChosenStocks → Outcome
-chosen_outcome c terms x = record {
-  report = chosen_report c terms x;
+abbrev pub chosen_outcome : CaseRows → Request → ChosenStocks → Outcome
+chosen_outcome c request x = record {
+  report = chosen_report c request x;
   stocks = x.stocks;
   price = x.numbers.price;
   floors = x.floors.items;
@@ -38,8 +38,9 @@ chosen_outcome c terms x = record {
 }
 
 -- The outcome is that of chosen stocks: the plan, under the budget, of any points with these curves.
-pub record IsOutcomeOf (c : CaseRows) (curves : List (List Point)) (terms : Terms) (outcome : Outcome) : Type 0 where
+pub record IsOutcomeOf (c : CaseRows) (curves : List (List Point)) (request : Request) (outcome : Outcome)
+    : Type 0 where
   pub chosen : ChosenStocks
   pub fits : FitsCase c chosen
-  pub is_chosen : IsChosen c curves terms.budget chosen
-  pub is : outcome ≡ chosen_outcome c terms chosen
+  pub is_chosen : IsChosen c curves request.budget chosen
+  pub is : outcome ≡ chosen_outcome c request chosen

@@ -17,11 +17,11 @@ use Rattle.fleet_plan.specs.Plans.{CasePlan, critical_line, IsCasePlan}
 use Rattle.plan_report.specs.declared.plan.CriticalLine.{CriticalLine}
 use Rattle.plan_report.specs.declared.plan.PlanReport.{PlanReport}
 use Rattle.case_plan.specs.declared.outcome.Outcome.{Outcome}
-use Rattle.case_plan.specs.declared.terms.Terms.{Terms}
+use Rattle.case_plan.specs.declared.request.Request.{Request}
 
 -- a plan of weighted backorders, with no stocks on hand
-abbrev pub plain_terms : ℕ → Terms
-plain_terms budget = record { budget = budget; loss = false; on_hand = None }
+abbrev pub plain_request : ℕ → Request
+plain_request budget = record { budget = budget; loss = false; on_hand = None }
 
 -- the lower end of the aim at the stocks s: the sum of the lower ends of all scored totals
 abbrev pub lo_at : ScoreEnds → CaseRows → List ℕ → ℕ
@@ -40,12 +40,12 @@ abbrev pub step_line : CaseRows → ℕ → ℕ → CriticalLine
 step_line c rise l = record { part = (part_at c.parts l).name; cost = rise }
 
 -- The report of a plan. Its cost is the plan's cost: if stocks are held, the cost of the stocks added to them.
-abbrev pub report_of : ScoreEnds → CaseRows → Terms → CasePlan → PlanReport
-report_of ends c terms p = record {
-  budget = terms.budget;
+abbrev pub report_of : ScoreEnds → CaseRows → Request → CasePlan → PlanReport
+report_of ends c request p = record {
+  budget = request.budget;
   figures = record (figures_of 48 c (stock_list c p.stocks)) { cost = p.numbers.cost };
-  on_hand = terms.on_hand;
-  loss = if_asked terms.loss (aim_ends ends c p.stocks);
+  on_hand = request.on_hand;
+  loss = if_asked request.loss (aim_ends ends c p.stocks);
   bound = p.numbers.bound;
   gap = p.numbers.gap;
   rounding = p.numbers.rounding;
@@ -55,9 +55,9 @@ report_of ends c terms p = record {
 }
 
 -- The outcome: the report with the stocks, and the claims of the certificate.
-abbrev pub outcome_of : ScoreEnds → CaseRows → Terms → CasePlan → Outcome
-outcome_of ends c terms p = record {
-  report = report_of ends c terms p;
+abbrev pub outcome_of : ScoreEnds → CaseRows → Request → CasePlan → Outcome
+outcome_of ends c request p = record {
+  report = report_of ends c request p;
   stocks = stock_list c p.stocks;
   price = p.numbers.price;
   floors = p.floors;
@@ -65,18 +65,18 @@ outcome_of ends c terms p = record {
 }
 
 -- The outcome is the outcome of the case's plan from the held stocks.
-pub record IsOutcome (ends : ScoreEnds) (c : CaseRows) (held : List ℕ) (terms : Terms) (outcome : Outcome)
+pub record IsOutcome (ends : ScoreEnds) (c : CaseRows) (held : List ℕ) (request : Request) (outcome : Outcome)
     : Type 0 where
   pub plan : CasePlan
-  pub is_plan : IsCasePlan ends c held terms.budget plan
-  pub is : outcome ≡ outcome_of ends c terms plan
+  pub is_plan : IsCasePlan ends c held request.budget plan
+  pub is : outcome ≡ outcome_of ends c request plan
 
 -- The report is the report of the case's plan from the held stocks.
-pub record IsPlanned (ends : ScoreEnds) (c : CaseRows) (held : List ℕ) (terms : Terms) (report : PlanReport)
+pub record IsPlanned (ends : ScoreEnds) (c : CaseRows) (held : List ℕ) (request : Request) (report : PlanReport)
     : Type 0 where
   pub plan : CasePlan
-  pub is_plan : IsCasePlan ends c held terms.budget plan
-  pub is : report ≡ report_of ends c terms plan
+  pub is_plan : IsCasePlan ends c held request.budget plan
+  pub is : report ≡ report_of ends c request plan
 
 -- there are points for each line unit, with vectors of its family within the limits
 abbrev pub HaveVectors : CaseRows → List (List Point) → Type 0
@@ -90,7 +90,7 @@ pub record AreFamilyCurves (c : CaseRows) (curves : List (List Point)) : Type 0 
   pub vectors : HaveVectors c curves
 
 -- the outcome is the outcome of the plan of all points with these curves, for any held stocks
-abbrev pub IsPlanOf : CaseRows → List (List Point) → Terms → Outcome → Type 0
-IsPlanOf c curves terms outcome =
+abbrev pub IsPlanOf : CaseRows → List (List Point) → Request → Outcome → Type 0
+IsPlanOf c curves request outcome =
     (ends : ScoreEnds) (held : List ℕ) → AreCurves (case_points ends c held) curves
-    → IsOutcome ends c held terms outcome
+    → IsOutcome ends c held request outcome

@@ -16,7 +16,7 @@ use Rattle.fleet_plan.specs.Plans.{CasePlan, CaseClaims, AreAcceptable, critical
 use Rattle.plan_report.specs.Texts.{millionths_down}
 use Rattle.plan_report.specs.declared.plan.PlanReport.{PlanReport}
 use Rattle.case_plan.specs.Report.{lo_at, aim_ends, if_asked, step_line}
-use Rattle.case_plan.specs.declared.terms.Terms.{Terms}
+use Rattle.case_plan.specs.declared.request.Request.{Request}
 
 -- no allocation within the budget has an aim below the printed bound
 abbrev pub NoneHasLessThanPrinted : Value → CaseRows → List ℕ → ℕ → ℕ → Type 0
@@ -26,37 +26,38 @@ NoneHasLessThanPrinted value c held budget bound =
 
 -- A plan's report is true, for any held stocks, any score and the value that the score encloses. The stocks are the
 -- plan's.
-pub record IsTrueReport (ends : ScoreEnds) (value : Value) (c : CaseRows) (held : List ℕ) (terms : Terms)
+pub record IsTrueReport (ends : ScoreEnds) (value : Value) (c : CaseRows) (held : List ℕ) (request : Request)
     (plan : CasePlan) (report : PlanReport) : Type 0 where
-  pub budget_is : report.budget ≡ terms.budget
-  pub on_hand_is : report.on_hand ≡ terms.on_hand
+  pub budget_is : report.budget ≡ request.budget
+  pub on_hand_is : report.on_hand ≡ request.on_hand
   -- the stocks include the held stocks and are within the limits; the added stocks cost the printed cost, which is at
   -- most the budget
   pub allocation : IsHeldAllocation c held plan.stocks
   pub cost_is : report.figures.cost ≡ cost_beyond c held plan.stocks
-  pub fits : report.figures.cost ≤ terms.budget
+  pub fits : report.figures.cost ≤ request.budget
   -- each mean, variance, backorder and availability is enclosed at these stocks; the figures are theirs, with the cost
   -- of all stocks in place of the cost of the added ones
   pub shows : ShowsFigures 48 c (stock_list c plan.stocks) (record report.figures { cost = cost c plan.stocks })
   -- no allocation within the budget has an aim below the bound or below the printed bound
-  pub none_less : NoneHasLess value c held terms.budget report.bound
-  pub printed : NoneHasLessThanPrinted value c held terms.budget report.bound
+  pub none_less : NoneHasLess value c held request.budget report.bound
+  pub printed : NoneHasLessThanPrinted value c held request.budget report.bound
   -- no price shows a bound higher by more than the rounding
-  pub no_price : NoPriceShowsMore value c held terms.budget (report.bound + report.rounding)
+  pub no_price : NoPriceShowsMore value c held request.budget (report.bound + report.rounding)
   -- nor do acceptable claims have one
-  pub no_claims : (x : CaseClaims) → AreAcceptable ends c held terms.budget x → x.bound ≤ report.bound + report.rounding
+  pub no_claims : (x : CaseClaims) → AreAcceptable ends c held request.budget x
+      → x.bound ≤ report.bound + report.rounding
   -- the bound plus the gap is the upper end of the aim, and the stocks have no more
   pub upper : report.bound + report.gap ≡ hi_at ends c plan.stocks
   pub no_more : HasNoMore value c plan.stocks (report.bound + report.gap)
   -- the loss is reported if it is asked for, and encloses the aim
-  pub loss_is : report.loss ≡ if_asked terms.loss (aim_ends ends c plan.stocks)
+  pub loss_is : report.loss ≡ if_asked request.loss (aim_ends ends c plan.stocks)
   pub encloses : Encloses 48 (lo_at ends c plan.stocks) (hi_at ends c plan.stocks) (aim value c plan.stocks)
   -- price, hull cost and critical step are the plan's, and show how small the gap is
   pub price_is : report.price ≡ plan.numbers.price
   pub hull_is : report.hull ≡ plan.numbers.hull_cost
   pub critical_is : report.critical ≡ option_map (step_line c report.price.q) (critical_line c plan)
   pub small_gap : report.price.q * report.gap
-      ≤ report.price.p * (terms.budget - report.hull) + report.price.q * report.rounding
+      ≤ report.price.p * (request.budget - report.hull) + report.price.q * report.rounding
 
 -- The same for weighted backorders if nothing is held, in the words of the model alone.
 pub record IsTruePlanReport (c : CaseRows) (budget : ℕ) (stocks : List ℕ) (report : PlanReport) : Type 0 where

@@ -7,7 +7,7 @@ ghost use Rattle.price_bounds.specs.Soundness.{stocks_of};
 ghost use Rattle.step_walk.specs.Prefix.{picked, AreVertices};
 ghost use Rattle.fleet_plan.specs.Families.{vectors_at};
 ghost use Rattle.case_plan.specs.Chosen.{FitsCase};
-ghost use Rattle.case_plan.specs.Parts.{numbers_of, IsSmallPrice};
+ghost use Rattle.case_plan.specs.Parts.{numbers_of};
 ghost use Rattle.case_plan.specs.Report.{HaveVectors};
 
 use crate::numbers::{HullNumbers, totals_of};
@@ -41,7 +41,6 @@ pub(crate) fn filled(
 ) -> Result<ChosenStocks, NoMemory>
     requires vectors { HaveVectors case.now curves.now }
     requires vertices { AreVertices curves.now picks.now }
-    requires price { IsSmallPrice hull.price }
     requires critical { IfSome hull.critical (λ family. family < length (line_units case.now)) }
     ensures fits { IfOk result (FitsCase case.now) }
     ensures vectors { IfOk result (λ x. vectors_at case.now x.stocks.list ≡ stocks_of (picked curves.now picks.now)) }
@@ -51,7 +50,7 @@ pub(crate) fn filled(
         ≡ numbers_of hull.cost hull.price hull.bound hull.rounding hull.critical (picked curves.now picks.now)) }
 {
     let _sites = case.site_count();
-    let sums = totals_of(curves, picks, hull.price);
+    let sums = totals_of(curves, picks);
     let stocks = stocks_of(alloc, case, curves, picks)?;
     Ok(ChosenStocks {
         stocks,

@@ -12,11 +12,16 @@ use hull::{Curve, Point, Price};
 use marginal_alloc::Critical;
 use std::alloc::Global;
 
-/// Sums over all picks.
+/// Sums over the picks of a hull choice.
 #[derive(Clone, Copy, Drop)]
-pub(crate) struct Totals {
+struct HullTotals {
     lagrangian: u128,
     width: u128,
+}
+
+/// Sums over the picks of a filled choice.
+#[derive(Clone, Copy, Drop)]
+pub(crate) struct Totals {
     pub cost: u64,
     pub lo: u128,
     pub hi: u128,
@@ -46,39 +51,45 @@ pub(crate) fn pick_of<'a>(curves: &'a [Curve], picks: &[u32], f: usize) -> &'a P
     curve.point(pick)
 }
 
-/// The sums over the picks, at a price.
-pub(crate) fn totals_of(curves: &[Curve], picks: &[u32], price: Price) -> Totals
+/// The sums over the picks of a hull choice, at its price.
+fn hull_totals(curves: &[Curve], picks: &[u32], price: Price) -> HullTotals
     requires vertices { AreVertices curves.now picks.now }
     requires few { length curves.now ≤ 2000 }
     requires price { IsSmallPrice price }
     ensures lagrangian { result.lagrangian ≡ total (lagrangian price.p price.q) (picked curves.now picks.now) }
     ensures width { result.width ≡ width_of (picked curves.now picks.now) }
+    ensures small { (result.lagrangian < 2 ^ 126) × (result.width < 2 ^ 86) }
+{
+    let mut lagrangian = 0;
+    let mut width = 0;
+    for f in 0..curves.len() {
+        let point = pick_of(curves, picks, f);
+        lagrangian += lagrangian_of(point, price);
+        width += point.hi - point.lo;
+    }
+    HullTotals { lagrangian, width }
+}
+
+/// The sums over the picks of a filled choice.
+pub(crate) fn totals_of(curves: &[Curve], picks: &[u32]) -> Totals
+    requires vertices { AreVertices curves.now picks.now }
+    requires few { length curves.now ≤ 2000 }
     ensures cost { result.cost ≡ cost_of (picked curves.now picks.now) }
     ensures lo { result.lo ≡ lo_of (picked curves.now picks.now) }
     ensures hi { result.hi ≡ hi_of (picked curves.now picks.now) }
     ensures ordered { result.lo ≤ result.hi }
-    ensures small { (result.lagrangian < 2 ^ 126) × ((result.width < 2 ^ 86) × (result.hi < 2 ^ 86)) }
+    ensures small { result.hi < 2 ^ 86 }
 {
-    let mut lagrangian = 0;
-    let mut width = 0;
     let mut cost = 0;
     let mut lo = 0;
     let mut hi = 0;
     for f in 0..curves.len() {
         let point = pick_of(curves, picks, f);
-        lagrangian += lagrangian_of(point, price);
-        width += point.hi - point.lo;
         cost += point.cost;
         lo += point.lo;
         hi += point.hi;
     }
-    Totals {
-        lagrangian,
-        width,
-        cost,
-        lo,
-        hi,
-    }
+    Totals { cost, lo, hi }
 }
 
 /// The Lagrangian of each pick.
@@ -158,7 +169,7 @@ pub(crate) fn hull_numbers(
     ensures rounding { result.rounding ≡ width_of (picked curves.now picks.now) + slack curves.now critical + 1 }
     ensures critical { result.critical ≡ option_map (λ c. c.family) critical }
 {
-    let hull = totals_of(curves, picks, price);
+    let hull = hull_totals(curves, picks, price);
     let slack = slack_of(curves, critical);
     let paid = price.p * u128::from(budget);
     HullNumbers {

@@ -17,7 +17,7 @@ use crate::chosen::{ChosenStocks, filled};
 use crate::numbers::{floors_at, hull_numbers};
 use crate::outcome::Outcome;
 use crate::planning::outcome_at;
-use crate::terms::Terms;
+use crate::request::Request;
 use answers::NoMemory;
 use demand_rates::kinds::Rates;
 use family_eval::evaluate_all;
@@ -101,7 +101,7 @@ pub fn choose_stocks_by_parts<F: Families>(
     Ok(Some(stocks))
 }
 
-/// The plan of a case on these terms, from the part between two prices of each family's curve.
+/// The plan of a case as it is asked for, from the part between two prices of each family's curve.
 ///
 /// The outcome is the case's plan from held stocks, if the families' points are the case's points from them, as
 /// [`plan`](crate::plan) returns it. None exactly if the parts' hull choice has no critical step. `beyond` and `near`
@@ -114,23 +114,23 @@ pub fn plan_by_parts<F: Families>(
     window: Window,
     parts: Vec<Curve>,
     beyond: Vec<u128>,
-    terms: Terms,
+    request: Request,
     near: u128,
 ) -> Result<Option<Outcome>, NoMemory>
     requires rates { AreRatesOf case.now rates.now }
-    requires budget { terms.budget ≤ most_budget }
+    requires budget { request.budget ≤ most_budget }
     requires families { AreFamilies (F.points families.now) }
     requires vectors { HaveVectors case.now (F.points families.now) }
     requires window { IsPriceWindow window.low window.high }
     requires parts { ArePartsOf window.low window.high (F.points families.now) parts.items }
     requires beyond { AllLieBeyond window.low (F.points families.now) parts.items beyond.items }
-    ensures none { IfOk result (λ found. IfNone found (HasNoCritical parts.items terms.budget)) }
-    ensures some { IfOk result (λ found. IfSome found (λ _. HasNoCritical parts.items terms.budget → ⊥)) }
+    ensures none { IfOk result (λ found. IfNone found (HasNoCritical parts.items request.budget)) }
+    ensures some { IfOk result (λ found. IfSome found (λ _. HasNoCritical parts.items request.budget → ⊥)) }
     ensures outcome { (ends : ScoreEnds) (held : List ℕ) → F.points families.now ≡ case_points ends case.now held
-        → IfOk result (λ found. IfSome found (IsOutcome ends case.now held terms)) }
+        → IfOk result (λ found. IfSome found (IsOutcome ends case.now held request)) }
 {
     let _sites = case.site_count();
-    let budget = terms.budget;
+    let budget = request.budget;
     let Some(chosen) = choose_stocks_by_parts(
         alloc, case, families, window, parts, beyond, budget, near,
     )?
@@ -138,6 +138,6 @@ pub fn plan_by_parts<F: Families>(
         return Ok(None);
     };
     let results = evaluate_all::<48>(alloc, case, rates, &chosen.stocks)?;
-    let outcome = outcome_at(alloc, case, chosen, results.as_slice(), terms)?;
+    let outcome = outcome_at(alloc, case, chosen, results.as_slice(), request)?;
     Ok(Some(outcome))
 }

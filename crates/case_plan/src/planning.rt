@@ -15,9 +15,9 @@ ghost use Rattle.case_plan.specs.Report.{if_asked, step_line, AreFamilyCurves, I
 use crate::chosen::{ChosenStocks, filled};
 use crate::numbers::{floors_at, hull_numbers};
 use crate::outcome::Outcome;
-use crate::terms::Terms;
+use crate::request::Request;
 use answers::{List, NoMemory};
-use case_figures::figures_at;
+use case_figures::figures_with_cost;
 use demand_rates::kinds::Rates;
 use family_eval::evaluate_all;
 use family_items::FamilyResult;
@@ -107,31 +107,30 @@ pub fn choose_stocks(
 
 /// The outcome of chosen stocks, from the families' evaluation at these stocks.
 ///
-/// If the stocks were chosen from curves, the outcome is their plan's, as [`plan`] returns it with these terms. Want of
+/// If the stocks were chosen from curves, the outcome is their plan's, as [`plan`] returns it for this request. Want of
 /// memory is the only error.
 pub fn outcome_at(
     alloc: Global,
     case: &Case,
     chosen: ChosenStocks,
     families: &[FamilyResult<48>],
-    terms: Terms,
+    request: Request,
 ) -> Result<Outcome, NoMemory>
     requires rates { rate_fault_of case.now ≡ None }
     requires fits { FitsCase case.now chosen }
     requires families { families.now ≡ families_of 48 case.now chosen.stocks }
-    ensures chosen { IfOk result (λ outcome. outcome ≡ chosen_outcome case.now terms chosen) }
-    ensures case { IfOk result (λ outcome. (curves : List (List Point)) → IsChosen case.now curves terms.budget chosen
-        → IsPlanOf case.now curves terms outcome) }
+    ensures chosen { IfOk result (λ outcome. outcome ≡ chosen_outcome case.now request chosen) }
+    ensures case { IfOk result (λ outcome. (curves : List (List Point)) → IsChosen case.now curves request.budget chosen
+        → IsPlanOf case.now curves request outcome) }
 {
     let _sites = case.site_count();
     let numbers = chosen.numbers;
-    let mut figures = figures_at::<48>(alloc, case, families, &chosen.stocks)?;
-    figures.cost = numbers.cost;
+    let figures = figures_with_cost(alloc, case, families, numbers.cost)?;
     let report = PlanReport {
-        budget: terms.budget,
+        budget: request.budget,
         figures,
-        on_hand: terms.on_hand,
-        loss: aim_of(terms.loss, chosen.lower, numbers.upper),
+        on_hand: request.on_hand,
+        loss: aim_of(request.loss, chosen.lower, numbers.upper),
         bound: numbers.bound,
         gap: numbers.gap,
         rounding: numbers.rounding,
@@ -174,10 +173,10 @@ pub fn plan(
     let _sites = case.site_count();
     let chosen = choose_stocks(alloc, case, curves, budget, 0)?;
     let families = evaluate_all::<48>(alloc, case, rates, &chosen.stocks)?;
-    let terms = Terms {
+    let request = Request {
         budget,
         loss,
         on_hand,
     };
-    outcome_at(alloc, case, chosen, families.as_slice(), terms)
+    outcome_at(alloc, case, chosen, families.as_slice(), request)
 }

@@ -105,7 +105,7 @@ covers_all c held p floors valid h = All-from_get_or IsCover (covers_of c held.l
 module _ (c : CaseRows) (held : StockList) (terms : Terms) (o : Outcome) (on : IsPlanOn c held terms o) where
   -- the outcome, in the numbers of its plan
   abbrev pub made : Outcome
-  made = outcome_of (ends_of terms.objective) c on.asked on.plan
+  made = outcome_of (ends_of terms.objective) c on.request on.plan
 
   abbrev cert : Certificate
   cert = certificate_of c held terms made
@@ -132,7 +132,7 @@ module _ (c : CaseRows) (held : StockList) (terms : Terms) (o : Outcome) (on : I
   }
 
   -- with the numbers of its plan the certificate is well formed
-  pub made_formed : IsWellFormed (certificate_of c held terms (outcome_of (ends_of terms.objective) c on.asked on.plan))
+  pub made_formed : IsWellFormed (certificate_of c held terms (outcome_of (ends_of terms.objective) c on.request on.plan))
   made_formed = record {
     fewest = on.are_terms.fewest;
     most = on.are_terms.most;

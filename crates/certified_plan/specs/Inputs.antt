@@ -9,7 +9,7 @@ use Rattle.fleet_plan.specs.Laws.{IsAcceptedCase}
 use Rattle.held_work.specs.Work.{held_work_of}
 use Rattle.case_plan.specs.Report.{outcome_of}
 use Rattle.case_plan.specs.declared.outcome.Outcome.{Outcome}
-use Rattle.case_plan.specs.declared.terms.Terms as plans
+use Rattle.case_plan.specs.declared.request.Request.{Request}
 use Rattle.price_certificate.specs.declared.certificate.Objective.TheVariants.{Backorders}
 use Rattle.price_certificate.specs.declared.certificate.Terms.{Terms}
 use Rattle.gap_rules.specs.Scores.{ends_of}
@@ -38,6 +38,6 @@ pub record IsPlanOn (c : CaseRows) (held : StockList) (terms : Terms) (outcome :
   pub is_held : IsHeld c held
   pub plan : CasePlan
   pub is_plan : IsCasePlan (ends_of terms.objective) c held.list terms.budget plan
-  pub asked : plans.Terms
-  pub same_budget : asked.budget ≡ terms.budget
-  pub is : outcome ≡ outcome_of (ends_of terms.objective) c asked plan
+  pub request : Request
+  pub same_budget : request.budget ≡ terms.budget
+  pub is : outcome ≡ outcome_of (ends_of terms.objective) c request plan

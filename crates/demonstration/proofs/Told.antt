@@ -8,7 +8,7 @@ use Rattle.case_figures.specs.Figures.{total_of}
 use Rattle.case_maker.specs.Demonstration.{made}
 use Rattle.case_maker.proofs.Valid.{made_few, made_lines, made_valid}
 use Rattle.case_maker.proofs.Whole.{made_drawn}
-use Rattle.case_plan.specs.Report.{IsOutcome, IsPlanned, plain_terms}
+use Rattle.case_plan.specs.Report.{IsOutcome, IsPlanned, plain_request}
 use Rattle.case_plan.specs.declared.outcome.Outcome.{Outcome}
 use Rattle.case_plan.proofs.Truths.{report_fits}
 use Rattle.certified_plan.specs.Certificates.{certificate_of}
@@ -56,7 +56,7 @@ pub are_terms : (lines : ℕ) → lines ≤ 80 → AreTerms (demo_terms (budget_
 are_terms lines few = record { budget = omega (arith, few); fewest = omega arith; most = omega arith; first = λ e. refl }
 
 module _ (c : CaseRows) (held : StockList) (budget : ℕ) (terms : AreTerms (demo_terms budget)) (valid : IsCase c) (no_fault : rate_fault_of c ≡ None) (is_held : IsHeld c held)
-    (o : Outcome) (h : IsOutcome plain_ends c held.list (plain_terms budget) o) where
+    (o : Outcome) (h : IsOutcome plain_ends c held.list (plain_request budget) o) where
   -- the outcome is that of a plan on the demonstration's terms
   pub on_plan : IsPlanOn c held (demo_terms budget) o
   on_plan = record {
@@ -65,17 +65,17 @@ module _ (c : CaseRows) (held : StockList) (budget : ℕ) (terms : AreTerms (dem
     is_held = is_held;
     plan = h.plan;
     is_plan = h.is_plan;
-    asked = plain_terms budget;
+    request = plain_request budget;
     same_budget = refl;
     is = h.is;
   }
 
-  report : IsPlanned plain_ends c held.list (plain_terms budget) o.report
+  report : IsPlanned plain_ends c held.list (plain_request budget) o.report
   report = record { plan = h.plan; is_plan = h.is_plan; is = ap (λ (z : Outcome). z.report) h.is }
 
   pub plan_prints : FitsPlan o.report
   plan_prints =
-      report_fits plain_ends _ c held.list (plain_terms budget) o.report (record { valid = valid; no_fault = no_fault })
+      report_fits plain_ends _ c held.list (plain_request budget) o.report (record { valid = valid; no_fault = no_fault })
       (scores_enclose Backorders) (scores_leave_room Backorders) report
 
   -- the numbers of the summary fit

@@ -3,7 +3,7 @@ use Rattle.std.specs.Prelude.{◌≡◌, ℕ, ◌*◌, length}
 use Rattle.case_figures.specs.Figures.{total_of}
 use Rattle.case_figures.specs.Spans.{ends}
 use Rattle.case_maker.specs.Demonstration.{made}
-use Rattle.case_plan.specs.Report.{outcome_of, plain_terms}
+use Rattle.case_plan.specs.Report.{outcome_of, plain_request}
 use Rattle.case_plan.specs.declared.outcome.Outcome.{Outcome}
 use Rattle.certified_plan.specs.Certificates.{certificate_of}
 use Rattle.price_certificate.specs.declared.certificate.Terms.{Terms}
@@ -39,7 +39,7 @@ summary_of number lines p = record {
 abbrev pub demo_certificate : ℕ → ℕ → CasePlan → Certificate
 demo_certificate number lines p =
     certificate_of (made number lines) (nothing_held (made number lines)) (demo_terms (budget_of lines))
-    (outcome_of plain_ends (made number lines) (plain_terms (budget_of lines)) p)
+    (outcome_of plain_ends (made number lines) (plain_request (budget_of lines)) p)
 
 -- The summary is the summary of the demonstration case's plan with nothing held; there is exactly one.
 pub record IsDemonstrated (number lines : ℕ) (summary : Summary) : Type 0 where

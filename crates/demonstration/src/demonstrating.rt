@@ -11,7 +11,7 @@ ghost use Rattle.spares_input.specs.Stocks.{nothing_held};
 
 use crate::confirming::confirm;
 use answers::NoMemory;
-use case_plan::Outcome;
+use case_plan::{Outcome, Request};
 use certified_plan::certificate;
 use demo_accepts::demonstration;
 use hull::Plain;
@@ -76,12 +76,12 @@ pub fn demonstrate(alloc: Global, number: u32, lines: u16) -> Result<Summary, No
     let parts = case.part_count();
     let held = nothing_held(alloc, &case)?;
     let budget = MONEY * u64::from(lines);
-    let asked = case_plan::Terms {
+    let request = Request {
         budget,
         loss: false,
         on_hand: None,
     };
-    let plan = plan_case(alloc, &case, &rates, &held, &Plain, asked)?;
+    let plan = plan_case(alloc, &case, &rates, &held, &Plain, request)?;
     let summary = summary_of(number, lines, parts, &plan);
     confirm_plan(alloc, case, &held, budget, plan).and(Ok(summary))
 }

@@ -95,7 +95,7 @@ pub fn put_curve<'b, S: Score>(
     here: &BaseAt<'_, 'b>,
     score: &S,
     numbers: &Numbers<48>,
-    tables: &DepotTables,
+    tables: &DepotTables<'_>,
 ) -> Result<(), NoMemory>
     requires here { IsBaseAt here.now }
     requires numbers { numbers.now ≡ box_numbers here.now.family.now }

@@ -16,7 +16,7 @@ ghost use Rattle.family_points.specs.Inputs.{
   vertex_count,
 };
 ghost use Rattle.family_rows.specs.Sources.{AreSources};
-ghost use Rattle.family_curve.specs.Joining.{HaveWidthOf, middle, vertices_of};
+ghost use Rattle.family_curve.specs.Joining.{HaveWidthOf, IsDepotPoint, middle, vertices_of};
 ghost use Rattle.family_rows.specs.Tabled.{AreTables};
 ghost use Rattle.sum_walk.specs.Sums.{sums_of_each};
 
@@ -26,7 +26,7 @@ use family_points::family::{Family, joined};
 use family_points::order::Base;
 use family_rows::base::BaseSpot;
 use family_rows::base_at::BaseAt;
-use family_rows::depot::{DepotTables, depot_tables};
+use family_rows::depot::{DepotTables, ShopParts, depot_tables};
 use family_rows::sources::Sources;
 use hull::{Chain, Curve, Point, Score};
 use series_bounds::short::Iv64;
@@ -45,21 +45,19 @@ struct Work<'b> {
     walking: Walking,
 }
 
-/// The point of stocks at the depot: their cost above the stocks held, and no score. Want of memory is the only error.
-pub fn depot_point(alloc: Global, family: &Family<'_>, stocks: &[u8]) -> Result<Point, NoMemory>
-    requires { IsAt family.now 0 stocks.now }
-    ensures point { IfOk result (λ p. p ≡ depot_point family.now stocks.now) }
-    ensures range { IfOk result InRange }
+/// The point of stocks at the depot: their cost above the stocks held, and no score.
+pub fn depot_point(family: &Family<'_>, stocks: Vec<u8>) -> Point
+    requires { IsAt family.now 0 stocks.items }
+    ensures point { result ≡ depot_point family.now stocks.items }
+    ensures range { InRange result }
 {
     let _size = family.size();
-    let mut copy = Vec::new(alloc);
-    copy.extend_from_slice(stocks)?;
-    Ok(Point {
-        cost: family.cost(SiteId(0), stocks),
+    Point {
+        cost: family.cost(SiteId(0), stocks.as_slice()),
         lo: 0,
         hi: 0,
-        stocks: List::of(copy),
-    })
+        stocks: List::of(stocks),
+    }
 }
 
 /// Sets the chains of `work` to the curves of all bases with these stocks at the depot.
@@ -67,7 +65,7 @@ fn put_curves<'b, S: Score>(
     work: &mut Work<'b>,
     sources: &'b Sources<'_>,
     score: &S,
-    tables: &DepotTables,
+    tables: &DepotTables<'_>,
     depot: &[u8],
 ) -> Result<(), NoMemory>
     requires sources { AreSources sources.now }
@@ -105,29 +103,29 @@ fn depot_path<'b, S: Score>(
     work: &mut Work<'b>,
     sources: &'b Sources<'_>,
     score: &S,
-    tables: &DepotTables,
-    depot: &[u8],
+    tables: &DepotTables<'_>,
+    first: &Point,
     below: &[Point],
 ) -> Result<Vec<Point>, NoMemory>
     requires sources { AreSources sources.now }
-    requires depot { IsAt sources.now.family.now 0 depot.now }
-    requires tables { AreTables sources.now.family.now (drop 1 depot.now) tables.now }
+    requires first { IsDepotPoint sources.now.family.now first.now }
+    requires tables { AreTables sources.now.family.now (drop 1 first.now.stocks) tables.now }
     requires room { length below.now + vertex_count sources.now.family.now ≤ 65000000 }
     requires ranges { (v : Point) → Among v below.now → InRange v }
     requires work { length work.old.chains.items ≡ length sources.now.bases.items }
-    ensures stands { IfOk result (λ path. StandFor (below.now ++ depot_points S.ends sources.now.family.now depot.now)
-        (below.now ++ path.items)) }
+    ensures stands { IfOk result (λ path. StandFor
+        (below.now ++ depot_points S.ends sources.now.family.now first.now.stocks) (below.now ++ path.items)) }
     ensures among { IfOk result (λ path. (v : Point) → Among v path.items
-        → Among v (depot_points S.ends sources.now.family.now depot.now)) }
+        → Among v (depot_points S.ends sources.now.family.now first.now.stocks)) }
     ensures some { below.now ≡ [] → IfOk result (λ path. 0 < length path.items) }
     ensures few { IfOk result (λ path. length path.items ≤ vertex_count sources.now.family.now) }
     ensures work { IfOk result (λ _. length work.new.chains.items ≡ length sources.now.bases.items) }
 {
     let _sites = sources.family.sites();
+    let depot = first.stocks.as_slice();
     put_curves(work, sources, score, tables, depot)?;
-    let first = depot_point(alloc, sources.family, depot)?;
     let chains = work.chains.as_slice();
-    walk(alloc, &mut work.walking, &first, chains, below)
+    walk(alloc, &mut work.walking, first, chains, below)
 }
 
 /// The curve of the points so far and of all vectors with these stocks at the depot.
@@ -137,17 +135,17 @@ fn with_depot<'b, S: Score>(
     work: &mut Work<'b>,
     sources: &'b Sources<'_>,
     score: &S,
-    tables: &DepotTables,
-    depot: &[u8],
+    tables: &DepotTables<'_>,
+    first: &Point,
 ) -> Result<Curve, NoMemory>
     requires sources { AreSources sources.now }
-    requires depot { IsAt sources.now.family.now 0 depot.now }
-    requires tables { AreTables sources.now.family.now (drop 1 depot.now) tables.now }
+    requires first { IsDepotPoint sources.now.family.now first.now }
+    requires tables { AreTables sources.now.family.now (drop 1 first.now.stocks) tables.now }
     requires room { length (vertices_of so_far) + vertex_count sources.now.family.now ≤ 65000000 }
     requires widths { HaveWidthOf sources.now.family.now (vertices_of so_far) }
     requires work { length work.old.chains.items ≡ length sources.now.bases.items }
     ensures curve { IfOk result
-        (IsCurve (vertices_of so_far ++ depot_points S.ends sources.now.family.now depot.now)) }
+        (IsCurve (vertices_of so_far ++ depot_points S.ends sources.now.family.now first.now.stocks)) }
     ensures few { IfOk result
         (λ curve. length curve ≤ length (vertices_of so_far) + vertex_count sources.now.family.now) }
     ensures widths { IfOk result (HaveWidthOf sources.now.family.now) }
@@ -156,12 +154,12 @@ fn with_depot<'b, S: Score>(
     let _size = sources.family.size();
     let Some(mut curve) = so_far else {
         let below = [];
-        let path = depot_path(alloc, work, sources, score, tables, depot, &below)?;
+        let path = depot_path(alloc, work, sources, score, tables, first, &below)?;
         let curve = Curve::of(alloc, path)?;
         return Ok(curve);
     };
     let below = curve.vertices();
-    let path = depot_path(alloc, work, sources, score, tables, depot, below)?;
+    let path = depot_path(alloc, work, sources, score, tables, first, below)?;
     if path.is_empty() {
         return Ok(curve);
     }
@@ -194,44 +192,38 @@ fn behind_middle(low: u8, high: u8, n: u8) -> u8
     }
 }
 
-/// The curve of the points so far and of all vectors with these stocks of the line unit and the shop units at the
-/// depot.
-fn with_line<'b, S: Score>(
+/// The point of the same stocks at the depot but for the line unit's.
+fn with_line(family: &Family<'_>, point: Point, line: u8) -> Point
+    requires point { IsDepotPoint family.now point }
+    requires some { 0 < length point.stocks }
+    requires shops { AreShopsAt family.now 0 (drop 1 point.stocks) }
+    requires least { line_low family.now 0 ≤ line }
+    requires most { line ≤ line_high family.now 0 }
+    ensures point { IsDepotPoint family.now result }
+    ensures stocks { result.stocks ≡ line ∷ drop 1 point.stocks }
+{
+    let _size = family.size();
+    let mut stocks = point.stocks.into_vec();
+    stocks[0] = line;
+    depot_point(family, stocks)
+}
+
+/// The point of these stocks at the depot.
+fn first_point(
     alloc: Global,
-    so_far: Option<Curve>,
-    work: &mut Work<'b>,
-    sources: &'b Sources<'_>,
-    score: &S,
-    tables: &DepotTables,
+    family: &Family<'_>,
     line: u8,
     shops: &[u8],
-) -> Result<Curve, NoMemory>
-    requires sources { AreSources sources.now }
-    requires least { line_low sources.now.family.now 0 ≤ line }
-    requires most { line ≤ line_high sources.now.family.now 0 }
-    requires shops { AreShopsAt sources.now.family.now 0 shops.now }
-    requires tables { AreTables sources.now.family.now shops.now tables.now }
-    requires room { length (vertices_of so_far) + vertex_count sources.now.family.now ≤ 65000000 }
-    requires widths { HaveWidthOf sources.now.family.now (vertices_of so_far) }
-    requires work { length work.old.chains.items ≡ length sources.now.bases.items }
-    ensures curve { IfOk result
-        (IsCurve (vertices_of so_far ++ depot_points S.ends sources.now.family.now (line ∷ shops.now))) }
-    ensures few { IfOk result
-        (λ curve. length curve ≤ length (vertices_of so_far) + vertex_count sources.now.family.now) }
-    ensures widths { IfOk result (HaveWidthOf sources.now.family.now) }
-    ensures work { IfOk result (λ _. length work.new.chains.items ≡ length sources.now.bases.items) }
+) -> Result<Point, NoMemory>
+    requires least { line_low family.now 0 ≤ line }
+    requires most { line ≤ line_high family.now 0 }
+    requires shops { AreShopsAt family.now 0 shops.now }
+    ensures point { IfOk result (IsDepotPoint family.now) }
+    ensures stocks { IfOk result (λ p. p.stocks ≡ line ∷ shops.now) }
 {
-    let _size = sources.family.size();
-    let depot = joined(alloc, line, shops)?;
-    with_depot(
-        alloc,
-        so_far,
-        work,
-        sources,
-        score,
-        tables,
-        depot.as_slice(),
-    )
+    let _size = family.size();
+    let stocks = joined(alloc, line, shops)?;
+    Ok(depot_point(family, stocks))
 }
 
 /// The curve of the points so far and of all vectors with the shop units' stocks `shops` at the depot. The line unit's
@@ -242,7 +234,7 @@ fn with_lines<'b, S: Score>(
     work: &mut Work<'b>,
     sources: &'b Sources<'_>,
     score: &S,
-    tables: &DepotTables,
+    tables: &DepotTables<'_>,
     shops: &[u8],
 ) -> Result<Curve, NoMemory>
     requires sources { AreSources sources.now }
@@ -263,20 +255,11 @@ fn with_lines<'b, S: Score>(
     let _size = family.size();
     let low = family.line_low(SiteId(0));
     let high = family.line_high(SiteId(0));
-    let first = middle(low, high);
-    let mut curve = with_line(alloc, so_far, work, sources, score, tables, first, shops)?;
+    let mut first = first_point(alloc, family, middle(low, high), shops)?;
+    let mut curve = with_depot(alloc, so_far, work, sources, score, tables, &first)?;
     for n in 1..high - low + 1 {
-        let line = behind_middle(low, high, n);
-        curve = with_line(
-            alloc,
-            Some(curve),
-            work,
-            sources,
-            score,
-            tables,
-            line,
-            shops,
-        )?;
+        first = with_line(family, first, behind_middle(low, high, n));
+        curve = with_depot(alloc, Some(curve), work, sources, score, tables, &first)?;
     }
     Ok(curve)
 }
@@ -289,6 +272,7 @@ fn with_shops<'b, S: Score>(
     work: &mut Work<'b>,
     sources: &'b Sources<'_>,
     score: &S,
+    parts: &mut ShopParts,
     number: u64,
 ) -> Result<Curve, NoMemory>
     requires sources { AreSources sources.now }
@@ -308,7 +292,8 @@ fn with_shops<'b, S: Score>(
     let _size = family.size();
     let vector = family.shop_vector(alloc, SiteId(0), number)?;
     let shops = vector.as_slice();
-    let tables = depot_tables(alloc, sources, shops)?;
+    parts.put(sources, shops)?;
+    let tables = depot_tables(alloc, sources, shops, parts)?;
     with_lines(alloc, so_far, work, sources, score, &tables, shops)
 }
 
@@ -328,9 +313,18 @@ fn whole_curve<'b, S: Score>(
     let family = sources.family;
     let _size = family.size();
     let count = family.shop_count(SiteId(0));
-    let mut curve = with_shops(alloc, None, work, sources, score, count - 1)?;
+    let mut parts = ShopParts::new(alloc);
+    let mut curve = with_shops(alloc, None, work, sources, score, &mut parts, count - 1)?;
     for n in 1..count {
-        curve = with_shops(alloc, Some(curve), work, sources, score, count - 1 - n)?;
+        curve = with_shops(
+            alloc,
+            Some(curve),
+            work,
+            sources,
+            score,
+            &mut parts,
+            count - 1 - n,
+        )?;
     }
     Ok(curve)
 }

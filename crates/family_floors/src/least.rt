@@ -25,7 +25,7 @@ use family_points::family::{Family, shops_of};
 use family_points::order::Choice;
 use family_rows::base::{put_rows, spot_at};
 use family_rows::base_at::BaseAt;
-use family_rows::depot::{DepotTables, depot_tables};
+use family_rows::depot::{DepotTables, ShopParts, depot_tables};
 use family_rows::sources::Sources;
 use hull::{Price, Score, Spot};
 use series_bounds::short::Iv64;
@@ -86,7 +86,7 @@ fn least_at_base<S: Score>(
     here: &BaseAt<'_, '_>,
     score: &S,
     numbers: &Numbers<48>,
-    tables: &DepotTables,
+    tables: &DepotTables<'_>,
     price: Price,
 ) -> Result<u128, NoMemory>
     requires here { IsBaseAt here.now }
@@ -108,7 +108,7 @@ fn least_at_depot<S: Score>(
     rows: &mut Vec<Vec<Iv64<48>>>,
     sources: &Sources<'_>,
     score: &S,
-    tables: &DepotTables,
+    tables: &DepotTables<'_>,
     depot: &[u8],
     price: Price,
 ) -> Result<u128, NoMemory>
@@ -134,7 +134,7 @@ fn depot_is_at_least<S: Score>(
     rows: &mut Vec<Vec<Iv64<48>>>,
     sources: &Sources<'_>,
     score: &S,
-    tables: &DepotTables,
+    tables: &DepotTables<'_>,
     depot: &[u8],
     price: Price,
     floor: u128,
@@ -161,7 +161,7 @@ fn are_at_least<S: Score>(
     rows: &mut Vec<Vec<Iv64<48>>>,
     sources: &Sources<'_>,
     score: &S,
-    tables: &DepotTables,
+    tables: &DepotTables<'_>,
     stocks: &mut [u8],
     price: Price,
     floor: u128,
@@ -192,6 +192,7 @@ fn are_at_least<S: Score>(
 fn shops_are_at_least<S: Score>(
     alloc: Global,
     rows: &mut Vec<Vec<Iv64<48>>>,
+    parts: &mut ShopParts,
     sources: &Sources<'_>,
     score: &S,
     number: u64,
@@ -206,7 +207,9 @@ fn shops_are_at_least<S: Score>(
         Decides price.p price.q floor (shop_points S.ends x (get_or (shop_vectors x 0) number []))) }
 {
     let mut stocks = stocks_at(alloc, sources.family, number)?;
-    let tables = depot_tables(alloc, sources, shops_of(stocks.as_slice()))?;
+    let shops = shops_of(stocks.as_slice());
+    parts.put(sources, shops)?;
+    let tables = depot_tables(alloc, sources, shops, parts)?;
     let at_depot = stocks.as_mut_slice();
     are_at_least(rows, sources, score, &tables, at_depot, price, floor)
 }
@@ -226,8 +229,9 @@ fn all_are_at_least<S: Score>(
     ensures { IfOk result (Decides price.p price.q floor (box_points S.ends sources.now.family.now)) }
 {
     let _size = sources.family.size();
+    let mut parts = ShopParts::new(alloc);
     for n in 0..sources.family.shop_count(SiteId(0)) {
-        if !shops_are_at_least(alloc, rows, sources, score, n, price, floor)? {
+        if !shops_are_at_least(alloc, rows, &mut parts, sources, score, n, price, floor)? {
             return Ok(false);
         }
     }

@@ -185,7 +185,7 @@ fn lower_at_shops<S: Score>(
 pub fn lows_at_base<S: Score>(
     sources: &Sources<'_>,
     score: &S,
-    tables: &DepotTables,
+    tables: &DepotTables<'_>,
     depot: &[u8],
     j: u8,
     low: Price,
@@ -223,7 +223,7 @@ pub fn lows_at_base<S: Score>(
 pub(crate) fn low_at_depot<S: Score>(
     sources: &Sources<'_>,
     score: &S,
-    tables: &DepotTables,
+    tables: &DepotTables<'_>,
     depot: &[u8],
     price: Price,
 ) -> u128

@@ -18,7 +18,7 @@ use family_points::bounds::Bounds;
 use family_points::family::{Family, shops_of};
 use family_rows::base::{put_rows, spot_at};
 use family_rows::base_at::BaseAt;
-use family_rows::depot::{DepotTables, depot_tables};
+use family_rows::depot::{DepotTables, ShopParts, depot_tables};
 use family_rows::sources::Sources;
 use hull::{Score, Spot};
 use series_bounds::short::Iv64;
@@ -31,7 +31,7 @@ fn upper_at_base<S: Score>(
     here: &BaseAt<'_, '_>,
     score: &S,
     numbers: &Numbers<48>,
-    tables: &DepotTables,
+    tables: &DepotTables<'_>,
 ) -> Result<u128, NoMemory>
     requires here { IsBaseAt here.now }
     requires numbers { numbers.now ≡ box_numbers here.now.family.now }
@@ -52,7 +52,7 @@ fn upper_at_depot<S: Score>(
     rows: &mut Vec<Vec<Iv64<48>>>,
     sources: &Sources<'_>,
     score: &S,
-    tables: &DepotTables,
+    tables: &DepotTables<'_>,
     depot: &[u8],
 ) -> Result<u128, NoMemory>
     requires sources { AreSources sources.now }
@@ -82,7 +82,10 @@ fn upper_at_least<S: Score>(
 {
     let _size = sources.family.size();
     let depot = sources.family.low(SiteId(0));
-    let tables = depot_tables(alloc, sources, shops_of(depot))?;
+    let mut parts = ShopParts::new(alloc);
+    let shops = shops_of(depot);
+    parts.put(sources, shops)?;
+    let tables = depot_tables(alloc, sources, shops, &parts)?;
     let mut rows = Vec::new(alloc);
     upper_at_depot(&mut rows, sources, score, &tables, depot)
 }

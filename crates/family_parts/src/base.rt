@@ -68,7 +68,7 @@ fn put_part<'b, S: Score>(
     here: &BaseAt<'_, 'b>,
     score: &S,
     numbers: &Numbers<48>,
-    tables: &DepotTables,
+    tables: &DepotTables<'_>,
     low: Price,
     high: Price,
 ) -> Result<Lowest, NoMemory>
@@ -104,7 +104,7 @@ pub(crate) fn put_parts<'b, S: Score>(
     work: &mut Work<'b>,
     sources: &'b Sources<'_>,
     score: &S,
-    tables: &DepotTables,
+    tables: &DepotTables<'_>,
     depot: &[u8],
     low: Price,
     high: Price,

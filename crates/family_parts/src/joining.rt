@@ -25,13 +25,13 @@ ghost use Rattle.family_curve.specs.Joining.{HaveWidthOf, vertices_of};
 ghost use Rattle.family_parts.specs.Growing.{Grows, in_turn};
 
 use crate::base::{Work, put_parts};
-use crate::lows::is_passed_over;
+use crate::lows::low_if_passed;
 use answers::NoMemory;
 use curve_parts::{join_sums, part_of_sums};
 use family_curve::joining::depot_point;
 use family_floors::stocks::stocks_at;
 use family_points::family::{Family, shops_of};
-use family_rows::depot::{DepotTables, depot_tables};
+use family_rows::depot::{DepotTables, ShopParts, depot_tables};
 use family_rows::sources::Sources;
 use hull::{Chain, Curve, Point, Price, Score, Spot};
 use spares_input::SiteId;
@@ -97,7 +97,7 @@ fn grow_with<'b, S: Score>(
     work: &mut Work<'b>,
     sources: &'b Sources<'_>,
     score: &S,
-    tables: &DepotTables,
+    tables: &DepotTables<'_>,
     depot: &[u8],
     low: Price,
     high: Price,
@@ -120,12 +120,12 @@ fn grow_with<'b, S: Score>(
 {
     let _size = sources.family.size();
     let vertices = vertices_of(part);
-    if let Some(at_low) = is_passed_over(vertices, sources, score, tables, depot, low, high) {
+    if let Some(at_low) = low_if_passed(vertices, sources, score, tables, depot, low, high) {
         *beyond = at_low.min(*beyond);
         return Ok(());
     }
     let made = put_parts(work, sources, score, tables, depot, low, high)?;
-    let first = depot_point(alloc, sources.family, depot)?;
+    let first = depot_point(sources.family, depot.to_vec(alloc)?);
     let parts = work.parts.as_slice();
     let behind = join_parts(alloc, part, &mut work.walking, &first, parts, low, high)?;
     *beyond = made.min(behind).min(*beyond);
@@ -187,7 +187,7 @@ fn grow_with_lines<'b, S: Score>(
     work: &mut Work<'b>,
     sources: &'b Sources<'_>,
     score: &S,
-    tables: &DepotTables,
+    tables: &DepotTables<'_>,
     stocks: &mut [u8],
     low: Price,
     high: Price,
@@ -232,6 +232,7 @@ fn grow_with_shops<'b, S: Score>(
     work: &mut Work<'b>,
     sources: &'b Sources<'_>,
     score: &S,
+    parts: &mut ShopParts,
     number: u64,
     low: Price,
     high: Price,
@@ -254,7 +255,9 @@ fn grow_with_shops<'b, S: Score>(
     ensures work { IfOk result (λ _. length work.new.parts.items ≡ length sources.now.bases.items) }
 {
     let mut stocks = stocks_at(alloc, sources.family, number)?;
-    let tables = depot_tables(alloc, sources, shops_of(stocks.as_slice()))?;
+    let shops = shops_of(stocks.as_slice());
+    parts.put(sources, shops)?;
+    let tables = depot_tables(alloc, sources, shops, parts)?;
     let at_depot = stocks.as_mut_slice();
     grow_with_lines(
         alloc, part, beyond, work, sources, score, &tables, at_depot, low, high,
@@ -285,6 +288,7 @@ fn whole_part<'b, S: Score>(
     let middle = (count - 1) / 2;
     let mut part = None;
     let mut beyond = u128::MAX;
+    let mut parts = ShopParts::new(alloc);
     for n in 0..count {
         let number = in_turn(middle, count - 1, n);
         grow_with_shops(
@@ -294,6 +298,7 @@ fn whole_part<'b, S: Score>(
             work,
             sources,
             score,
+            &mut parts,
             number,
             low,
             high,

@@ -19,11 +19,11 @@ use spares_input::SiteId;
 
 /// Whether a vertex of `part` lies below all vectors with these stocks at the depot at both prices, by lower bounds:
 /// returns that at the low price. No bounds of further bases are made once those so far decide.
-pub(crate) fn is_passed_over<S: Score>(
+pub(crate) fn low_if_passed<S: Score>(
     part: &[Point],
     sources: &Sources<'_>,
     score: &S,
-    tables: &DepotTables,
+    tables: &DepotTables<'_>,
     depot: &[u8],
     low: Price,
     high: Price,

@@ -16,7 +16,7 @@ use family_floors::lows::{Lows, lows_at_base};
 use family_floors::stocks::stocks_at;
 use family_points::bounds::Bounds;
 use family_points::family::{Family, shops_of};
-use family_rows::depot::{DepotTables, depot_tables};
+use family_rows::depot::{DepotTables, ShopParts, depot_tables};
 use family_rows::sources::Sources;
 use hull::{Price, Score};
 use spares_input::{Case, PartId, SiteId};
@@ -31,7 +31,7 @@ fn lower_at_depot<S: Score>(
     least: Lows,
     sources: &Sources<'_>,
     score: &S,
-    tables: &DepotTables,
+    tables: &DepotTables<'_>,
     depot: &[u8],
     low: Price,
     high: Price,
@@ -68,7 +68,7 @@ fn lower_at_lines<S: Score>(
     mut least: Lows,
     sources: &Sources<'_>,
     score: &S,
-    tables: &DepotTables,
+    tables: &DepotTables<'_>,
     stocks: &mut [u8],
     low: Price,
     high: Price,
@@ -95,6 +95,7 @@ fn lower_at_lines<S: Score>(
 fn lower_at_shops<S: Score>(
     alloc: Global,
     least: Lows,
+    parts: &mut ShopParts,
     sources: &Sources<'_>,
     score: &S,
     number: u64,
@@ -107,7 +108,9 @@ fn lower_at_shops<S: Score>(
     requires high { IsSmall high }
 {
     let mut stocks = stocks_at(alloc, sources.family, number)?;
-    let tables = depot_tables(alloc, sources, shops_of(stocks.as_slice()))?;
+    let shops = shops_of(stocks.as_slice());
+    parts.put(sources, shops)?;
+    let tables = depot_tables(alloc, sources, shops, parts)?;
     let at_depot = stocks.as_mut_slice();
     Ok(lower_at_lines(least, sources, score, &tables, at_depot, low, high))
 }
@@ -129,8 +132,9 @@ fn lowest<S: Score>(
         at_low: 1 << 119,
         at_high: 1 << 119,
     };
+    let mut parts = ShopParts::new(alloc);
     for n in 0..sources.family.shop_count(SiteId(0)) {
-        least = lower_at_shops(alloc, least, sources, score, n, low, high)?;
+        least = lower_at_shops(alloc, least, &mut parts, sources, score, n, low, high)?;
     }
     Ok(least)
 }

@@ -4,7 +4,6 @@ use Rattle.std.specs.List.{AllZip, range_with_len}
 use Rattle.std.proofs.lemmas.List.FromFn.{length-map-range_with_len, length-range_with_len}
 use Rattle.std.proofs.lemmas.List.Sums.{sum_by-cons}
 use Rattle.fleet_model.specs.Rows.{bases}
-use Rattle.fleet_model.specs.Fleet.{family}
 use Rattle.family_numbers.specs.BaseTables.{tables_by_shop, tables_by_stock}
 use Rattle.family_numbers.specs.Numbers.{FamilyNumbers, base_shop_table, depot_shop_table, nth_stock}
 use Rattle.family_points.specs.Counts.{widths}

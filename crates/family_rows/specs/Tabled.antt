@@ -7,6 +7,7 @@ use Rattle.fleet_model.specs.Rows.{bases}
 use Rattle.family_numbers.specs.declared.own_part.OwnPart.{OwnPart}
 use Rattle.family_numbers.specs.Numbers.{FamilyNumbers, depot_line_table, depot_shop_table, nth_stock, numbers_of, own_part, shop_numbers, shop_part}
 use Rattle.family_rows.specs.declared.depot.DepotTables.{DepotTables}
+use Rattle.family_rows.specs.declared.depot.ShopParts.{ShopParts}
 use Rattle.family_points.specs.Inputs.{FamilyBox, shop_vectors}
 
 -- the numbers of the family at 48 fraction bits, from which its tables are made
@@ -27,10 +28,14 @@ depot_shops n = map (λ i. depot_shop_table 48 n i) (shop_numbers n)
 abbrev pub parts_at : FamilyBox → List ℕ → ℕ → List (Moments 48)
 parts_at x d j = map (shop_part 48 (box_numbers x) j d) (shop_vectors x j)
 
--- the tables shared by all vectors with these stocks of the shop units at the depot, and these parts at each base
+-- these are the parts at each base
+abbrev pub AreParts : FamilyBox → List ℕ → ShopParts → Type 0
+AreParts x d p = map (λ r. r.items) p.by_base.items ≡ map (parts_at x d) (bases x.case)
+
+-- the tables shared by all vectors with these stocks of the shop units at the depot, and the parts at each base
 pub record AreTables (x : FamilyBox) (d : List ℕ) (t : DepotTables) : Type 0 where
   pub line : t.line ≡ depot_line_table 48 (box_numbers x) d
-  pub shops : t.shops ≡ map (parts_at x d) (bases x.case)
+  pub shops : AreParts x d t.shops.now
 
 -- the own part of the line unit's pipeline at base j, if the depot has the stocks d
 abbrev pub own_at : FamilyNumbers 48 → List ℕ → ℕ → OwnPart 48

@@ -86,7 +86,7 @@ pub fn put_rows(
     rows: &mut Vec<Vec<Iv64<48>>>,
     here: &BaseAt<'_, '_>,
     numbers: &Numbers<48>,
-    tables: &DepotTables,
+    tables: &DepotTables<'_>,
 ) -> Result<(), NoMemory>
     requires here { IsBaseAt here.now }
     requires numbers { numbers.now ≡ box_numbers here.now.family.now }

@@ -1,17 +1,17 @@
 //! The tables from which the points of a family are made, and the backorders computed by them.
 
-ghost use Rattle.std.specs.Prelude.{◌≡◌, IfOk, drop, map};
+ghost use Rattle.std.specs.Prelude.{◌≡◌, IfOk, drop, length, map};
 ghost use Rattle.fleet_model.specs.Laws.{IsBase};
 ghost use Rattle.fleet_model.specs.Rows.{bases};
 ghost use Rattle.family_numbers.specs.Numbers.{shop_part};
 ghost use Rattle.family_points.specs.Inputs.{AreShopsAt};
 ghost use Rattle.family_rows.specs.Sources.{AreSources};
 ghost use Rattle.family_rows.specs.Spots.{IsBaseAt, IsRow};
-ghost use Rattle.family_rows.specs.Tabled.{AreTables, box_numbers, own_at, parts_at};
+ghost use Rattle.family_rows.specs.Tabled.{AreParts, AreTables, box_numbers, own_at, parts_at};
 
 use crate::base_at::BaseAt;
 use crate::sources::Sources;
-use answers::{List, NoMemory};
+use answers::NoMemory;
 use depot_pipeline::Moments;
 use family_numbers::own_part::{OwnPart, own_part, put_line_backorders};
 use family_numbers::shop_part::shop_part;
@@ -22,86 +22,126 @@ use series_bounds::short::Iv64;
 use spares_input::SiteId;
 use std::alloc::Global;
 
-/// The tables shared by all vectors with the same stocks of the shop units at the depot, and the sums made with them.
+/// The shop units' part of the line unit's pipeline at each base. One vector of their stocks at the depot after the
+/// other has its parts here, so that the lists are made once.
 #[derive(Drop)]
-pub struct DepotTables {
-    /// The line unit's table at the depot.
-    pub line: Table<48>,
-    /// The shop units' part of the line unit's pipeline by base, and by the vector of their stocks there.
-    pub shops: List<List<Moments<48>>>,
+pub struct ShopParts {
+    /// By base, and by the vector of the shop units' stocks there.
+    by_base: Vec<Vec<Moments<48>>>,
 }
 
-/// The shop units' part of the line unit's pipeline at a base, for each vector of their stocks there.
-fn parts_at(
-    alloc: Global,
+/// The tables shared by all vectors with the same stocks of the shop units at the depot, and the sums made with them.
+#[derive(Drop)]
+pub struct DepotTables<'a> {
+    /// The line unit's table at the depot.
+    pub line: Table<48>,
+    /// The shop units' part of the line unit's pipeline at each base.
+    pub shops: &'a ShopParts,
+}
+
+/// Sets `parts` to the shop units' part of the line unit's pipeline at a base, for each vector of their stocks there.
+fn put_parts(
+    parts: &mut Vec<Moments<48>>,
     sources: &Sources<'_>,
     depot: &[u8],
     site: SiteId,
-) -> Result<List<Moments<48>>, NoMemory>
+) -> Result<(), NoMemory>
     requires sources { AreSources sources.now }
     requires depot { AreShopsAt sources.now.family.now 0 depot.now }
     requires site { IsBase sources.now.family.now.case site.0 }
-    ensures { IfOk result (λ v. v ≡ parts_at sources.now.family.now depot.now site.0) }
+    ensures { IfOk result (λ _. parts.new.items ≡ parts_at sources.now.family.now depot.now site.0) }
 {
     let _size = sources.family.size();
     let base = &sources.bases[usize::from(site.0) - 1];
-    let mut parts = Vec::new(alloc);
+    parts.clear();
     for n in 0..base.shops.len() {
         let stocks = base.shops[n].stocks.as_slice();
         let part = shop_part(&sources.numbers, &sources.base_shops, depot, site, stocks);
         parts.push(part)?;
     }
-    Ok(List::of(parts))
+    Ok(())
 }
 
-/// The shop units' parts at all bases, the first base first.
-fn all_parts(
-    alloc: Global,
-    sources: &Sources<'_>,
-    depot: &[u8],
-) -> Result<List<List<Moments<48>>>, NoMemory>
-    requires sources { AreSources sources.now }
-    requires depot { AreShopsAt sources.now.family.now 0 depot.now }
-    ensures { IfOk result
-        (λ v. let x = sources.now.family.now in v ≡ map (parts_at x depot.now) (bases x.case)) }
+/// Makes the lists as many as `count`.
+fn make_lists(lists: &mut Vec<Vec<Moments<48>>>, count: usize) -> Result<(), NoMemory>
+    ensures { IfOk result (λ _. length lists.new.items ≡ count) }
 {
-    let mut parts = Vec::new(alloc);
-    for j in 1..sources.family.sites() {
-        let here = parts_at(alloc, sources, depot, SiteId(j))?;
-        parts.push(here)?;
+    let alloc = *lists.allocator();
+    lists.truncate(count);
+    for _place in lists.len()..count {
+        lists.push(Vec::new(alloc))?;
     }
-    Ok(List::of(parts))
+    Ok(())
 }
 
-/// The tables for the shop units' stocks `depot` at the depot.
-pub fn depot_tables(
+/// Sets `parts` to the shop units' parts at all bases, the first base first.
+fn put_all_parts(
+    parts: &mut Vec<Vec<Moments<48>>>,
+    sources: &Sources<'_>,
+    depot: &[u8],
+) -> Result<(), NoMemory>
+    requires sources { AreSources sources.now }
+    requires depot { AreShopsAt sources.now.family.now 0 depot.now }
+    ensures { IfOk result (λ _. let x = sources.now.family.now in
+        map (λ r. r.items) parts.new.items ≡ map (parts_at x depot.now) (bases x.case)) }
+{
+    make_lists(parts, sources.bases.len())?;
+    for j in 1..sources.family.sites() {
+        let place = usize::from(j) - 1;
+        put_parts(&mut parts[place], sources, depot, SiteId(j))?;
+    }
+    Ok(())
+}
+
+impl ShopParts {
+    /// No parts.
+    pub fn new(alloc: Global) -> ShopParts {
+        ShopParts {
+            by_base: Vec::new(alloc),
+        }
+    }
+
+    /// Sets these to the parts for the shop units' stocks `depot` at the depot. Want of memory is the only error; some
+    /// parts may then be others.
+    pub fn put(&mut self, sources: &Sources<'_>, depot: &[u8]) -> Result<(), NoMemory>
+        requires sources { AreSources sources.now }
+        requires depot { AreShopsAt sources.now.family.now 0 depot.now }
+        ensures { IfOk result (λ _. AreParts sources.now.family.now depot.now self.new) }
+    {
+        put_all_parts(&mut self.by_base, sources, depot)
+    }
+}
+
+/// The tables for the shop units' stocks `depot` at the depot, with their parts at the bases.
+pub fn depot_tables<'a>(
     alloc: Global,
     sources: &Sources<'_>,
     depot: &[u8],
-) -> Result<DepotTables, NoMemory>
+    shops: &'a ShopParts,
+) -> Result<DepotTables<'a>, NoMemory>
     requires sources { AreSources sources.now }
     requires depot { AreShopsAt sources.now.family.now 0 depot.now }
+    requires shops { AreParts sources.now.family.now depot.now shops.now }
     ensures { IfOk result (AreTables sources.now.family.now depot.now) }
 {
     let _size = sources.family.size();
     let at_depot = sources.depot_shops.as_slice();
     let line = depot_line(alloc, &sources.numbers, at_depot, depot)?;
-    let shops = all_parts(alloc, sources, depot)?;
     Ok(DepotTables { line, shops })
 }
 
 /// The shop units' parts at a base.
-pub fn shops_at<'a>(tables: &'a DepotTables, here: &BaseAt<'_, '_>) -> &'a [Moments<48>]
+pub fn shops_at<'a>(tables: &DepotTables<'a>, here: &BaseAt<'_, '_>) -> &'a [Moments<48>]
     requires here { IsBaseAt here.now }
     requires tables { AreTables here.now.family.now (drop 1 here.now.depot.now) tables.now }
     ensures { result.now ≡ parts_at here.now.family.now (drop 1 here.now.depot.now) here.now.site.0 }
 {
-    let bases = tables.shops.as_slice();
+    let bases = tables.shops.by_base.as_slice();
     bases[usize::from(here.site.0) - 1].as_slice()
 }
 
 /// The own part of the line unit's pipeline at a base, shared by all stocks of the shop units there.
-pub fn own_at(here: &BaseAt<'_, '_>, numbers: &Numbers<48>, tables: &DepotTables) -> OwnPart<48>
+pub fn own_at(here: &BaseAt<'_, '_>, numbers: &Numbers<48>, tables: &DepotTables<'_>) -> OwnPart<48>
     requires here { IsBaseAt here.now }
     requires numbers { numbers.now ≡ box_numbers here.now.family.now }
     requires tables { AreTables here.now.family.now (drop 1 here.now.depot.now) tables.now }

@@ -1,6 +1,6 @@
 -- How the first low leaf is found, node by node.
-use Rattle.std.proofs.Common.{◌≡◌, ℕ, ◌+◌, ◌<◌, ◌≤◌, nat_lt, inl, inr, List, [], ◌∷◌, length, drop, get_or, reverse, Some, None, refl, sym, ap, ◌∙◌, arith, lt-ltb, le-ltb}
-use Rattle.std.specs.Prelude.{if◌then◌else◌, unwrap_or}
+use Rattle.std.proofs.Common.{◌≡◌, ℕ, ◌+◌, ◌<◌, ◌≤◌, nat_lt, inl, inr, List, [], ◌∷◌, length, drop, get_or, reverse, Option, Some, None, true, refl, sym, ap, subst, ◌∙◌, arith, lt-ltb, le-ltb}
+use Rattle.std.specs.Prelude.{if◌then◌else◌, is_some, unwrap_or}
 use Rattle.std.proofs.lemmas.Bool.{cases_lt}
 use Rattle.std.proofs.lemmas.List.Sums.{sum_by-cons}
 use Rattle.std.proofs.lemmas.List.{drop_all}
@@ -11,9 +11,10 @@ use Rattle.price_certificate.specs.declared.certificate.Node.TheVariants.{Split}
 use Rattle.gap_rules.specs.declared.leaf.Leaf.{Leaf}
 use Rattle.gap_rules.specs.declared.reading.Read.{Read}
 use Rattle.gap_rules.specs.declared.reading.Read.TheVariants as read
-use Rattle.gap_rules.specs.Covers.{leaves}
+use Rattle.gap_rules.specs.Boxes.{IsOrdered}
+use Rattle.gap_rules.specs.Covers.{leaves, box_of}
 use Rattle.gap_rules.specs.Values.{below, leaf_tables, cover_tables}
-use Rattle.gap_rules.specs.Reading.{joined, Reads, AllOrdered, KeepsOrder}
+use Rattle.gap_rules.specs.Reading.{joined, Reads, AllOrdered, IsOrderedRead, KeepsOrder}
 use Rattle.gap_rules.specs.Refusals.{low_leaf}
 use Rattle.gap_rules.proofs.Trees.{IsCons, cons_of}
 use Rattle.gap_rules.proofs.Counting.{advance}
@@ -63,11 +64,28 @@ below_is floor value l = sym (ap (λ t. if t then Some value else None) (lt-ltb 
 pub below_isnt : (floor value : ℕ) → floor ≤ value → None ≡ below floor value
 below_isnt floor value l = sym (ap (λ t. if t then Some value else None) (le-ltb value floor l))
 
+-- leaves that are there
+some_leaves : (found : Option (List Leaf)) → is_some found ≡ true → found ≡ Some (unwrap_or found [])
+some_leaves (Some x) h = refl
+some_leaves None h = absurd cc
+
+-- a box alone is ordered as it is
+alone : (c : CaseRows) (l : ℕ) (bounds : Bounds) → IsOrdered c l bounds → AllOrdered c l (bounds ∷ [])
+alone c l bounds o box (inl e) = subst (IsOrdered c l) (sym e) o
+alone c l bounds o box (inr m) = absurd m
+
 module _ (c : CaseRows) (l : ℕ) (value : Leaf → ℕ) (floor : ℕ) (bounds : Bounds) (nodes : List Node) where
   module _ (k : ℕ) (before after : List Bounds) (r : Read) (number : ℕ) (h : Lowering c l value floor bounds nodes k before number) (b : k < length nodes)
       (reads : Reads before (get_or nodes k (Split 0 0)) r after) (keeps : KeepsOrder before r after) where
     joined_is : joined r (leaves (drop (k + 1) nodes) (reverse after)) ≡ Some h.rest
     joined_is = sym (advance nodes k before after r b reads) ∙ h.tree
+
+    -- the nodes of a tree have no gap
+    pub lower_gap : r ≡ read.Gap → None ≡ low_leaf value floor 0 (all_leaves nodes bounds)
+    lower_gap e = absurd (none (ap (λ z. joined z (leaves (drop (k + 1) nodes) (reverse after))) (sym e) ∙ joined_is))
+      where
+        none : {rest : List Leaf} → None ≡ Some rest → ⊥
+        none h = (cc)
 
     -- behind a node that makes no leaf the next leaf has the same number
     pub lower_inner : r ≡ read.Inner → Lowering c l value floor bounds nodes (k + 1) after number
@@ -86,6 +104,10 @@ module _ (c : CaseRows) (l : ℕ) (value : Leaf → ℕ) (floor : ℕ) (bounds :
 
       tables_split : leaf_tables c l x + cover_tables c l own_cons.rest ≤ 1000000
       tables_split = (let w = h.work in let i = ap (cover_tables c l) own_cons.is ∙ sum_by-cons (leaf_tables c l) x own_cons.rest in omega (arith, w, i))
+
+      -- its box is ordered
+      pub leaf_ordered : IsOrdered c l (box_of x)
+      leaf_ordered = subst (IsOrderedRead c l) e (keeps c l h.ordered).1
 
       -- a leaf has no more tables than all work may have
       pub leaf_work : leaf_tables c l x ≤ 1000000
@@ -120,6 +142,18 @@ module _ (c : CaseRows) (l : ℕ) (value : Leaf → ℕ) (floor : ℕ) (bounds :
       -- behind a leaf of which nothing is told the next leaf has the next number
       pub lower_untold : None ≡ below floor (value x) → Lowering c l value floor bounds nodes (k + 1) after (number + 1)
       lower_untold e = lower_more (value x) refl (below_none floor (value x) e)
+
+  -- before the first node all leaves are to come
+  pub lower_start : (waiting : List Bounds) → waiting ≡ bounds ∷ [] → is_some (leaves nodes (bounds ∷ [])) ≡ true → cover_tables c l (all_leaves nodes bounds) ≤ 1000000 → IsOrdered c l bounds
+      → Lowering c l value floor bounds nodes 0 waiting 0
+  lower_start waiting w t work o = record {
+    rest = all_leaves nodes bounds;
+    tree = ap (λ z. leaves nodes (reverse z)) w ∙ some_leaves (leaves nodes (bounds ∷ [])) t;
+    low = refl;
+    work = work;
+    ordered = subst (AllOrdered c l) (sym w) (alone c l bounds o);
+    few = omega arith;
+  }
 
   none_rest : (waiting : List Bounds) (rest : List Leaf) → leaves [] waiting ≡ Some rest → [] ≡ rest
   unfolding leaves

@@ -47,6 +47,16 @@ base_line_can pipe feed shops m valid e =
     (can_mean pipe (added first (λ k. (held_at shops k).backorders) (length shops)) valid
     (omega (arith, added_least first (λ k. (held_at shops k).backorders) (length shops))))
 
+-- so does that of a shop unit at the depot
+pub depot_shop_can : (pipe : Pipeline 48) (m : Moments 48) → IsPipeline 48 pipe → m ≡ depot_shop_ends 48 pipe.direct pipe.cap → CanTable 48 m.mean m.mean
+depot_shop_can pipe m valid e = subst (λ (m : Moments 48). CanTable 48 m.mean m.mean) (sym e) (can_mean pipe pipe.direct valid (omega arith))
+
+-- and that of a shop unit at a base
+pub base_shop_can : (pipe : Pipeline 48) (feed : Feed 48) (m : Moments 48) → IsPipeline 48 pipe → m ≡ base_shop_ends 48 pipe.direct pipe.cap feed
+    → CanTable 48 m.mean m.mean
+base_shop_can pipe feed m valid e =
+    subst (λ (m : Moments 48). CanTable 48 m.mean m.mean) (sym e) (can_mean pipe (ends_add pipe.direct (mean_part 48 feed)) valid (omega arith))
+
 -- ---- what a step computed is the definition's
 
 -- what is computed of a shop unit at the depot are its Poisson backorders

@@ -14,7 +14,7 @@ use crate::families::HeldFamilies;
 use crate::guess::{guess, price_at};
 use crate::parts::parts_between;
 use answers::NoMemory;
-use case_plan::{Outcome, Terms, plan, plan_by_parts};
+use case_plan::{Outcome, Request, plan, plan_by_parts};
 use demand_rates::kinds::Rates;
 use hull::{Price, Score};
 use part_filling::Window;
@@ -42,12 +42,12 @@ fn plan_between<S: Score>(
     alloc: Global,
     families: &HeldFamilies<'_, S>,
     window: Window,
-    terms: Terms,
+    request: Request,
 ) -> Result<Option<Outcome>, NoMemory>
     requires window { IsPriceWindow window.low window.high }
-    requires budget { terms.budget ≤ most_budget }
+    requires budget { request.budget ≤ most_budget }
     ensures { IfOk result (λ found. IfSome found
-        (IsOutcome S.ends families.now.case families.now.held.list terms)) }
+        (IsOutcome S.ends families.now.case families.now.held.list request)) }
 {
     let case = families.case();
     let rates = families.rates();
@@ -55,7 +55,7 @@ fn plan_between<S: Score>(
     let near = window.high.p;
     let (curves, beyond) = (parts.curves, parts.beyond);
     plan_by_parts(
-        alloc, case, rates, families, window, curves, beyond, terms, near,
+        alloc, case, rates, families, window, curves, beyond, request, near,
     )
 }
 
@@ -64,49 +64,49 @@ fn plan_between<S: Score>(
 fn plan_near<S: Score>(
     alloc: Global,
     families: &HeldFamilies<'_, S>,
-    terms: Terms,
+    request: Request,
 ) -> Result<Option<Outcome>, NoMemory>
-    requires budget { terms.budget ≤ most_budget }
+    requires budget { request.budget ≤ most_budget }
     ensures { IfOk result (λ found. IfSome found
-        (IsOutcome S.ends families.now.case families.now.held.list terms)) }
+        (IsOutcome S.ends families.now.case families.now.held.list request)) }
 {
     if families.count() < MANY {
         return Ok(None);
     }
-    let Some(number) = guess(alloc, families, terms.budget)? else {
+    let Some(number) = guess(alloc, families, request.budget)? else {
         return Ok(None);
     };
     let price = price_at(number);
     let close = window_of(price * 5 / 8, price_at(number + 2) * 9 / 8);
-    if let Some(outcome) = plan_between(alloc, families, close, terms)? {
+    if let Some(outcome) = plan_between(alloc, families, close, request)? {
         return Ok(Some(outcome));
     }
     let wide = window_of(price / 2, price * 4);
-    plan_between(alloc, families, wide, terms)
+    plan_between(alloc, families, wide, request)
 }
 
 /// The plan by the whole curves.
 fn plan_by_curves<S: Score>(
     alloc: Global,
     families: &HeldFamilies<'_, S>,
-    terms: Terms,
+    request: Request,
 ) -> Result<Outcome, NoMemory>
-    requires budget { terms.budget ≤ most_budget }
-    ensures { IfOk result (IsOutcome S.ends families.now.case families.now.held.list terms) }
+    requires budget { request.budget ≤ most_budget }
+    ensures { IfOk result (IsOutcome S.ends families.now.case families.now.held.list request) }
 {
-    let Terms {
+    let Request {
         budget,
         loss,
         on_hand,
-    } = terms;
+    } = request;
     let case = families.case();
     let rates = families.rates();
     let curves = whole_curves(alloc, families)?;
     plan(alloc, case, rates, curves.as_slice(), budget, loss, on_hand)
 }
 
-/// The plan of a case on these terms, from held stocks: a list for the case, within the limits. If nothing is held, the
-/// list is zeros.
+/// The plan of a case as it is asked for, from held stocks: a list for the case, within the limits. If nothing is held,
+/// the list is zeros.
 ///
 /// It is the one plan of all vectors of the families from the held stocks to the limits, reported as [`plan`] does. The
 /// work from the held stocks is within its limit. Want of memory is the only error.
@@ -116,18 +116,18 @@ pub fn plan_case<S: Score>(
     rates: &Rates,
     held: &Stocks,
     score: &S,
-    terms: Terms,
+    request: Request,
 ) -> Result<Outcome, NoMemory>
     requires rates { AreRatesOf case.now rates.now }
     requires held { IsFor case.now held.now }
     requires limits { IsWithinLimits case.now held.now }
     requires work { IsOk (held_work_of case.now held.now.list) }
-    requires budget { terms.budget ≤ most_budget }
-    ensures { IfOk result (IsOutcome S.ends case.now held.now.list terms) }
+    requires budget { request.budget ≤ most_budget }
+    ensures { IfOk result (IsOutcome S.ends case.now held.now.list request) }
 {
     let families = HeldFamilies::of(alloc, case, rates, held, score)?;
-    if let Some(outcome) = plan_near(alloc, &families, terms)? {
+    if let Some(outcome) = plan_near(alloc, &families, request)? {
         return Ok(outcome);
     }
-    plan_by_curves(alloc, &families, terms)
+    plan_by_curves(alloc, &families, request)
 }

@@ -1,10 +1,11 @@
 //! The tables among the files that were read.
-ghost use Rattle.std.specs.Prelude.{◌≡◌, ◌+◌, if◌then◌else◌, Some, None, option_map};
+ghost use Rattle.std.specs.Prelude.{◌≡◌, ◌+◌, IfSome, option_map};
 ghost use Rattle.order_inputs.specs.Files.{bytes_at, tables_in};
 ghost use Rattle.order_inputs.specs.Given.{AreTables, bytes_of};
 
 use crate::tables::{Table, Tables};
 use answers::List;
+use spares_io::Text;
 
 /// The table at a place, counted from 0. `files` has one there, and each is within the limit of a table.
 pub fn table_at(files: &[List<u8>], place: usize) -> Table<'_>
@@ -16,15 +17,14 @@ pub fn table_at(files: &[List<u8>], place: usize) -> Table<'_>
     }
 }
 
-/// The fourth table, if one is given.
-pub fn fourth_if(files: &[List<u8>], given: bool) -> Option<Table<'_>>
-    requires { AreTables (if given then 4 else 3) files.now }
-    ensures { option_map (λ t. t.bytes.now) result ≡ (if given then Some (bytes_at files.now 3) else None) }
+/// The fourth table, if it has a name.
+pub fn fourth_of<'a>(files: &'a [List<u8>], name: &Option<Text>) -> Option<Table<'a>>
+    requires { IfSome name.now (λ _. AreTables 4 files.now) }
+    ensures { option_map (λ t. t.bytes.now) result ≡ option_map (λ _. bytes_at files.now 3) name.now }
 {
-    if given {
-        Some(table_at(files, 3))
-    } else {
-        None
+    match name {
+        Some(_) => Some(table_at(files, 3)),
+        None => None,
     }
 }
 

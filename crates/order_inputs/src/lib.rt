@@ -8,5 +8,5 @@ mod tables;
 
 pub use cases::{case_to_edit, case_within_work, few_tables, stocked};
 pub use files::{Input, files_of};
-pub use given::{fourth_if, table_at, tables_of};
+pub use given::{fourth_of, table_at, tables_of};
 pub use tables::{Table, Tables};

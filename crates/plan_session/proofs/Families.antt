@@ -1,5 +1,6 @@
 -- The places of the families, and what a change of a row leaves of what is kept of them.
-use Rattle.std.proofs.Common.{◌≡◌, ◌≢◌, ℕ, ◌<◌, ◌⊎◌, inl, inr, Bool, false, List, [], length, get_or, set, refl, sym, ap, ◌∙◌, subst, arith, length-set}
+use Rattle.std.proofs.Common.{◌≡◌, ◌≢◌, ℕ, ◌<◌, ◌⊎◌, inl, inr, Bool, false, List, [], length, get_or, set, Option, Some, None, is_some, refl, sym, ap, ap₂, ◌∙◌, subst, arith, length-set}
+use Rattle.std.proofs.lemmas.List.{map-set}
 use Rattle.spares_input.specs.Cases.{CaseRows, frame_rows, rate_place, IsCase, IsRateOf}
 use Rattle.spares_input.specs.Edits.{with_rate}
 use Rattle.spares_input.proofs.CaseFacts.{set_valid}
@@ -17,10 +18,10 @@ use Rattle.fleet_plan.proofs.Places.{apart_at, at_among, lines_apart, lines_are}
 use Rattle.held_work.specs.Curves.{IsFamilyCurve}
 use Rattle.case_plan.specs.Placing.{lines_below}
 use Rattle.case_plan.proofs.Families.{line_fewer, line_place}
-use Rattle.plan_session.specs.Sessions.{family_place, no_family, AreEvaluated, AreKept, AreMarked, IsEvaluation, IsSession, SessionRows}
+use Rattle.plan_session.specs.Sessions.{family_place, marks_of, with_row, AreEvaluated, AreKept, AreOfFamilies, IsEvaluation, IsSession, SessionRows}
 use Rattle.plan_session.specs.declared.evaluated.Evaluated.{Evaluated}
 use Rattle.plan_session.proofs.Evaluations.{same_with_rate}
-use Rattle.plan_session.proofs.Marking.{on_within, still_on}
+use Rattle.plan_session.proofs.Places.{if_some, kept_within, of_some, some_of, still_kept}
 use Rattle.family_points.specs.Points.{plain_ends}
 
 before_or_after : (a b : ℕ) → (a ≡ b) ⊎ ((a < b) ⊎ (b < a))
@@ -61,52 +62,59 @@ module _ (c : CaseRows) (valid : IsCase c) where
         → IsEvaluation (with_rate c r) s l family
     same_evaluation s l family line one h = h ∙ same_with_rate 48 c r l s (one.items 48 s.list)
 
-    -- with the mark of its family off, a changed row leaves all that is kept
-    kept_by_others : {X : Type 0} (IsOf IsStill : ℕ → X → Type 0) (none : X) (marks : List Bool) (values : List X) (place : ℕ)
+    -- with the value of its family forgotten, a changed row leaves all that is kept
+    kept_by_others : {X : Type 0} (IsOf IsStill : ℕ → X → Type 0) (values : List (Option X)) (place : ℕ)
         → ((l : ℕ) (v : X) → IsLine c l → HaveOneFamily c (with_rate c r) l → IsOf l v → IsStill l v)
-        → place ≡ family_place c r.part.0 → place < length (line_units c) → AreMarked IsOf none c marks values
-        → AreMarked IsStill none (with_rate c r) (set marks place false) values
-    kept_by_others IsOf IsStill none marks values place still e b h = record {
-      mark_count = length-set marks place false ∙ h.mark_count;
-      value_count = h.value_count;
-      kept = λ k on.
-          let was = still_on marks place k (omega (arith, b, h.mark_count)) on in
-          let within : k < length (line_units c) = omega (arith, on_within marks k was.1, h.mark_count) in
+        → place ≡ family_place c r.part.0 → place < length (line_units c) → AreOfFamilies IsOf c values
+        → AreOfFamilies IsStill (with_rate c r) (set values place None)
+    kept_by_others IsOf IsStill values place still e b h = record {
+      count = length-set values place None ∙ h.count;
+      each = λ k.
           let l = get_or (line_units c) k 0 in
+          if_some (get_or (set values place None) k None) (IsStill l) (λ v is.
+          let was = still_kept values place k (omega (arith, b, h.count)) (some_of (get_or (set values place None) k None) v is) in
+          let own : get_or values k None ≡ Some v = sym was.1 ∙ is in
+          let within : k < length (line_units c) = omega (arith, kept_within values k (some_of (get_or values k None) v own), h.count) in
           let line = line_at k within in
           let away = other_family r.part.0 k within (λ i. was.0 (i ∙ sym e)) in
-          still l (get_or values k none) line (local c (with_rate c r) l valid line (changed c r l valid line row away)) (h.kept k was.1);
+          still l v line (local c (with_rate c r) l valid line (changed c r l valid line row away)) (of_some (get_or values k None) (IsOf l) v own (h.each k)));
     }
 
-    pub curves_kept : (marks : List Bool) (curves : List (List Point)) (place : ℕ) → place ≡ family_place c r.part.0 → place < length (line_units c) → AreKept c marks curves
-        → AreKept (with_rate c r) (set marks place false) curves
-    curves_kept marks curves place = kept_by_others (IsFamilyCurve plain_ends c []) (IsFamilyCurve plain_ends (with_rate c r) []) [] marks curves place same_curve
+    pub curves_kept : (curves : List (Option (List Point))) (place : ℕ) → place ≡ family_place c r.part.0 → place < length (line_units c) → AreKept c curves
+        → AreKept (with_rate c r) (set curves place None)
+    curves_kept curves place = kept_by_others (IsFamilyCurve plain_ends c []) (IsFamilyCurve plain_ends (with_rate c r) []) curves place same_curve
 
-    pub evaluations_kept : (s : StockList) (marks : List Bool) (families : List (FamilyResult 48)) (place : ℕ) → place ≡ family_place c r.part.0 → place < length (line_units c)
-        → AreMarked (IsEvaluation c s) no_family c marks families → AreMarked (IsEvaluation (with_rate c r) s) no_family (with_rate c r) (set marks place false) families
-    evaluations_kept s marks families place = kept_by_others (IsEvaluation c s) (IsEvaluation (with_rate c r) s) no_family marks families place (same_evaluation s)
+    pub evaluations_kept : (s : StockList) (families : List (Option (FamilyResult 48))) (place : ℕ) → place ≡ family_place c r.part.0 → place < length (line_units c)
+        → AreOfFamilies (IsEvaluation c s) c families → AreOfFamilies (IsEvaluation (with_rate c r) s) (with_rate c r) (set families place None)
+    evaluations_kept s families place = kept_by_others (IsEvaluation c s) (IsEvaluation (with_rate c r) s) families place (same_evaluation s)
 
-    pub evaluated_after : (x y : Evaluated) (place : ℕ) → place ≡ family_place c r.part.0 → place < length (line_units c) → y.stocks ≡ x.stocks → y.families.items ≡ x.families.items
-        → y.marks.items ≡ set x.marks.items place false → AreEvaluated c x → AreEvaluated (with_rate c r) y
-    evaluated_after x y place e b stocks families marks h =
+    pub evaluated_after : (x y : Evaluated) (place : ℕ) → place ≡ family_place c r.part.0 → place < length (line_units c) → y.stocks ≡ x.stocks
+        → y.families.items ≡ set x.families.items place None → AreEvaluated c x → AreEvaluated (with_rate c r) y
+    evaluated_after x y place e b stocks families h =
         let d = with_rate c r in record {
           is_for = subst (λ (t : StockList). IsFor d t) (sym stocks) (record { sites = h.is_for.sites; pairs = h.is_for.pairs });
-          are_marked =
-              subst (λ (t : StockList). AreMarked (IsEvaluation d t) no_family d y.marks.items y.families.items) (sym stocks)
-              (subst (λ (m : List Bool). AreMarked (IsEvaluation d x.stocks) no_family d m y.families.items) (sym marks)
-              (subst (λ (fs : List (FamilyResult 48)). AreMarked (IsEvaluation d x.stocks) no_family d (set x.marks.items place false) fs) (sym families)
-              (evaluations_kept x.stocks x.marks.items x.families.items place e b h.are_marked)));
+          are_kept =
+              subst (λ (t : StockList). AreOfFamilies (IsEvaluation d t) d y.families.items) (sym stocks)
+              (subst (λ (fs : List (Option (FamilyResult 48))). AreOfFamilies (IsEvaluation d x.stocks) d fs) (sym families)
+              (evaluations_kept x.stocks x.families.items place e b h.are_kept));
         }
 
 -- the session stays one
-pub changed_session : (s : SessionRows) (curves : List (List Point)) (x y : Evaluated) (r : RateRow) (place : ℕ) (new : CaseRows) → IsSession s curves x → IsRateOf (frame_rows s.case) r
-    → place ≡ family_place s.case r.part.0 → place < length (line_units s.case) → new ≡ with_rate s.case r
-    → y.stocks ≡ x.stocks → y.families.items ≡ x.families.items → y.marks.items ≡ set x.marks.items place false
-    → IsSession (record { case = new; budget = s.budget; marks = set s.marks place false }) curves y
-changed_session s curves x y r place new h row e b is stocks families marks = rw is (record {
-  valid = set_valid s.case r (rate_place (length s.case.sites) r) h.valid row refl;
+pub changed_session : (c : CaseRows) (budget : ℕ) (curves : List (Option (List Point))) (x y : Evaluated) (r : RateRow) (place : ℕ) (new : CaseRows) → IsSession c budget curves x
+    → IsRateOf (frame_rows c) r → place ≡ family_place c r.part.0 → place < length (line_units c) → new ≡ with_rate c r
+    → y.stocks ≡ x.stocks → y.families.items ≡ set x.families.items place None → IsSession new budget (set curves place None) y
+changed_session c budget curves x y r place new h row e b is stocks families = rw is (record {
+  valid = set_valid c r (rate_place (length c.sites) r) h.valid row refl;
   work = h.work;
   budget_most = h.budget_most;
-  are_kept = curves_kept s.case h.valid r row s.marks curves place e b h.are_kept;
-  are_evaluated = evaluated_after s.case h.valid r row x y place e b stocks families marks h.are_evaluated;
+  are_kept = curves_kept c h.valid r row curves place e b h.are_kept;
+  are_evaluated = evaluated_after c h.valid r row x y place e b stocks families h.are_evaluated;
 })
+
+-- and is seen as the session with the row
+pub changed_view : (c : CaseRows) (budget : ℕ) (curves : List (Option (List Point))) (r : RateRow) (place : ℕ) (new : CaseRows) → place ≡ family_place c r.part.0 → new ≡ with_rate c r
+    → record { case = new; budget = budget; marks = marks_of (set curves place None) } ≡ with_row (record { case = c; budget = budget; marks = marks_of curves }) r
+changed_view c budget curves r place new e is =
+    let off : marks_of (set curves place None) ≡ set (marks_of curves) (family_place c r.part.0) false =
+    map-set is_some curves place None ∙ ap (λ i. set (marks_of curves) i false) e in
+    ap₂ (λ (d : CaseRows) (ms : List Bool). let s : SessionRows = record { case = d; budget = budget; marks = ms } in s) is off

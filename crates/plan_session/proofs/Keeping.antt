@@ -1,5 +1,6 @@
 -- The curves of a case's families.
-use Rattle.std.proofs.Common.{◌≡◌, ℕ, ◌<◌, ◌≤◌, Bool, true, false, List, [], length, get_or, sym, ◌∙◌, subst, arith}
+use Rattle.std.proofs.Common.{◌≡◌, ℕ, ◌<◌, ◌≤◌, List, [], length, get_or, Bor, Option, None, Some, is_some, IfSome, sym, ap, ◌∙◌, subst, arith}
+use Rattle.std.specs.Option.{option_copied}
 use Rattle.std.specs.Result.{IsOk}
 use Rattle.spares_input.specs.Cases.{CaseRows, IsCase}
 use Rattle.fleet_model.specs.Rows.{line_units}
@@ -13,9 +14,9 @@ use Rattle.hull.specs.Curves.{Among, IsCurve, point_at}
 use Rattle.held_work.specs.Curves.{IsFamilyCurve}
 use Rattle.held_work.specs.Work.{IsNothing}
 use Rattle.held_work.proofs.Kept.{all_work, few_tables}
-use Rattle.plan_session.specs.Sessions.{has_mark, IsSession, SessionRows}
+use Rattle.plan_session.specs.Sessions.{has_mark, marks_of, IsSession, SessionRows}
 use Rattle.plan_session.specs.declared.evaluated.Evaluated.{Evaluated}
-use Rattle.plan_session.proofs.Marking.{any_default}
+use Rattle.plan_session.proofs.Places.{any_default, mark_is}
 
 -- an empty list holds nothing
 pub none_held : IsNothing []
@@ -32,12 +33,24 @@ pub whole_curve : (c : CaseRows) (l : ℕ) (curve : List Point) → IsCurve (poi
 whole_curve c l curve is free within = record { is_curve = is; free = free; within = within }
 
 -- what a session lends of its curves
-pub lent : (s self : SessionRows) (curves : List (List Point)) (evaluated : Evaluated) → s ≡ self → IsSession s curves evaluated → (k : ℕ) (mark : Bool) (v : List Point)
-    → k < length (line_units self.case) → mark ≡ get_or s.marks k mark → mark ≡ true → v ≡ get_or curves k v
-    → IsFamilyCurve plain_ends self.case [] (get_or (line_units self.case) k 0) v
-lent s self curves evaluated e h k mark v b m on j =
-    let within : k < length (line_units s.case) = subst (λ (z : SessionRows). k < length (line_units z.case)) (sym e) b in
-    let lit : has_mark s.marks k ≡ true = any_default s.marks k false mark (omega (arith, within, h.are_kept.mark_count)) ∙ sym m ∙ on in
-    let own : get_or curves k [] ≡ v = any_default curves k [] v (omega (arith, within, h.are_kept.value_count)) ∙ sym j in
-    subst (λ (z : SessionRows). IsFamilyCurve plain_ends z.case [] (get_or (line_units z.case) k 0) v) e
-    (subst (λ (w : List Point). IsFamilyCurve plain_ends s.case [] (get_or (line_units s.case) k 0) w) own (h.are_kept.kept k lit))
+module _ (s self : SessionRows) (curves : List (Option (List Point))) (evaluated : Evaluated) (e : s ≡ self) (h : IsSession s.case s.budget curves evaluated) (k : ℕ)
+    (kept : Option (List Point)) (b : k < length (line_units self.case)) (is : kept ≡ get_or curves k kept) where
+  there : get_or curves k None ≡ kept
+  there =
+      let within : k < length (line_units s.case) = subst (λ (z : SessionRows). k < length (line_units z.case)) (sym e) b in
+      any_default curves k None kept (omega (arith, within, h.are_kept.count)) ∙ sym is
+
+  -- a curve that is lent is the family's
+  pub lent : IfSome kept (IsFamilyCurve plain_ends self.case [] (get_or (line_units self.case) k 0))
+  lent =
+      subst (λ (z : SessionRows). IfSome kept (IsFamilyCurve plain_ends z.case [] (get_or (line_units z.case) k 0))) e
+      (subst (λ (o : Option (List Point)). IfSome o (IsFamilyCurve plain_ends s.case [] (get_or (line_units s.case) k 0))) there (h.are_kept.each k))
+
+  -- and one is lent if the family's mark is on
+  pub lent_mark : s.marks ≡ marks_of curves → is_some kept ≡ has_mark self.marks k
+  lent_mark marks = sym (ap is_some there) ∙ sym (mark_is curves k) ∙ ap (λ m. has_mark m k) (sym marks) ∙ ap (λ (z : SessionRows). has_mark z.marks k) e
+
+-- a reference to what there is
+pub seen : {X : Type 0} (r : Option (Bor X)) (o : Option X) (P : X → Type 0) → option_copied r ≡ o → IfSome o P → IfSome r (λ x. P x.now)
+seen None o P e h = tt
+seen (Some x) o P e h = subst (λ z. IfSome z P) (sym e) h

@@ -1,4 +1,4 @@
-pub mod Marking
+pub mod Places
 pub mod Evaluations
 pub mod Families
 pub mod Keeping

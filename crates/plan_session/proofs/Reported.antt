@@ -1,7 +1,7 @@
 -- The plan of the curves that a session keeps is that of its case.
-use Rattle.std.proofs.Common.{◌≡◌, ℕ, zero, suc, ◌<◌, Bool, true, false, List, [], ◌∷◌, length, get_or, replicate, All, Option, Some, None, Err, sym, ap, ◌∙◌, subst, arith}
+use Rattle.std.proofs.Common.{◌≡◌, ℕ, zero, suc, ◌<◌, List, [], ◌∷◌, length, map, get_or, All, Option, Some, None, Err, sym, ap, ◌∙◌, subst, arith}
 use Rattle.std.specs.List.{AllZip}
-use Rattle.std.proofs.lemmas.List.{get_or-replicate}
+use Rattle.std.proofs.lemmas.List.{get_or-map, length-map}
 use Rattle.answers.specs.Answers.{Gives}
 use Rattle.answers.specs.declared.stop.Stop.{Stop}
 use Rattle.answers.specs.declared.stop.Stop.TheVariants as stop
@@ -20,16 +20,17 @@ use Rattle.fleet_plan.specs.Laws.{IsAcceptedCase}
 use Rattle.fleet_plan.proofs.Plain.{plain_encloses, plain_room}
 use Rattle.held_work.specs.Curves.{IsFamilyCurve}
 use Rattle.held_work.proofs.Kept.{all_points}
-use Rattle.case_plan.specs.Report.{AreFamilyCurves, IsPlanOf, plain_terms}
+use Rattle.case_plan.specs.Report.{AreFamilyCurves, IsPlanOf, plain_request}
 use Rattle.case_plan.specs.declared.outcome.Outcome.{Outcome}
 use Rattle.case_plan.proofs.CurveFacts.{are_curves, are_family_curves}
 use Rattle.case_plan.proofs.Truths.{report_fits}
 use Rattle.plan_report.specs.Fits.{FitsPlan}
 use Rattle.plan_report.specs.declared.plan.PlanReport.{PlanReport}
 use Rattle.case_edits.specs.Edits.{PlanDue}
-use Rattle.plan_session.specs.Sessions.{has_mark, AnswersPlan, AreKept}
+use Rattle.plan_session.specs.Sessions.{AnswersPlan, AreKept}
 use Rattle.session_report.specs.Reports.{IsReportOf}
 use Rattle.plan_session.proofs.Keeping.{none_held}
+use Rattle.plan_session.proofs.Places.{of_some}
 use Rattle.family_points.specs.Points.{plain_ends}
 
 zip_from : {X Y : Type 0} (R : X → Y → Type 0) (xs : List X) (ys : List Y) (d : X) (e : Y) → length ys ≡ length xs
@@ -39,24 +40,28 @@ zip_from R [] (y ∷ ys) d e n h = absurd (omega (arith, n))
 zip_from R (x ∷ xs) [] d e n h = absurd (omega (arith, n))
 zip_from R (x ∷ xs) (y ∷ ys) d e n h = (h 0 (omega arith), zip_from R xs ys d e (omega (arith, n)) (λ k b. h (suc k) (omega (arith, b))))
 
-module _ (c : CaseRows) (marks : List Bool) (curves : List (List Point)) (kept : AreKept c marks curves) (on : marks ≡ replicate (length (line_units c)) true) where
-  each_kept : AllZip (IsFamilyCurve plain_ends c []) (line_units c) curves
-  each_kept =
-      zip_from (IsFamilyCurve plain_ends c []) (line_units c) curves 0 [] kept.value_count
-      (λ k b. kept.kept k (ap (λ m. has_mark m k) on ∙ get_or-replicate (length (line_units c)) k true false b))
+module _ (c : CaseRows) (kept : List (Option (List Point))) (curves : List (List Point)) (are : map Some curves ≡ kept) (h : AreKept c kept) where
+  each_curve : AllZip (IsFamilyCurve plain_ends c []) (line_units c) curves
+  each_curve =
+      let some = (λ (v : List Point). Some v) in
+      let long : length curves ≡ length (line_units c) = sym (length-map curves some) ∙ ap (λ (vs : List (Option (List Point))). length vs) are ∙ h.count in
+      zip_from (IsFamilyCurve plain_ends c []) (line_units c) curves 0 [] long (λ k b.
+      let is : get_or kept k None ≡ Some (get_or curves k []) =
+      sym (ap (λ (vs : List (Option (List Point))). get_or vs k None) are) ∙ get_or-map some curves k [] None (omega (arith, b, long)) in
+      of_some (get_or kept k None) (IsFamilyCurve plain_ends c [] (get_or (line_units c) k 0)) (get_or curves k []) is (h.each k))
 
   -- the kept curves are those of the families
   pub serve : AreFamilyCurves c curves
-  serve = are_family_curves plain_ends c [] curves each_kept
+  serve = are_family_curves plain_ends c [] curves each_curve
 
   -- the report of a plan of these curves is that of the case under this budget
-  pub reported : (budget : ℕ) (outcome : Outcome) → IsAcceptedCase c → IsPlanOf c curves (plain_terms budget) outcome
+  pub reported : (budget : ℕ) (outcome : Outcome) → IsAcceptedCase c → IsPlanOf c curves (plain_request budget) outcome
       → IsReportOf (record { case = c; budget = budget }) outcome.report
   reported budget outcome accepted h = record {
     accepted = accepted;
     is_planned = λ held nothing.
         let of_case : AreCurves (case_points plain_ends c held) curves =
-        subst (λ (points : List (List Point)). AreCurves points curves) (sym (all_points plain_ends c held nothing)) (are_curves plain_ends c [] curves each_kept) in
+        subst (λ (points : List (List Point)). AreCurves points curves) (sym (all_points plain_ends c held nothing)) (are_curves plain_ends c [] curves each_curve) in
         let is = h plain_ends held of_case in
         record { plan = is.plan; is_plan = is.is_plan; is = ap (λ (o : Outcome). o.report) is.is };
   }
@@ -64,7 +69,7 @@ module _ (c : CaseRows) (marks : List Bool) (curves : List (List Point)) (kept :
 -- its text can be printed
 pub report_printed : (d : PlanDue) (report : PlanReport) → IsReportOf d report → FitsPlan report
 report_printed d report h =
-    report_fits plain_ends weighted_backorders d.case [] (plain_terms d.budget) report h.accepted plain_encloses plain_room (h.is_planned [] none_held)
+    report_fits plain_ends weighted_backorders d.case [] (plain_request d.budget) report h.accepted plain_encloses plain_room (h.is_planned [] none_held)
 
 printed_at : (due : List PlanDue) (plans : List PlanReport) → AllZip IsReportOf due plans → (i : ℕ) (e : PlanReport) → i < length plans → FitsPlan (get_or plans i e)
 printed_at [] [] a i e b = absurd (omega (arith, b))

@@ -1,12 +1,11 @@
 -- The model of a session, and the answers of its calls.
-use Rattle.std.specs.Prelude.{◌≡◌, ⊤, ℕ, ◌≤◌, Bool, true, false, List, [], length, filter, get_or, replicate, set, Some, Result, Ok, Err}
+use Rattle.std.specs.Prelude.{◌≡◌, ⊤, ℕ, ◌≤◌, Bool, true, false, List, [], length, filter, map, get_or, replicate, set, Option, Some, None, is_some, IfSome, Result, Ok, Err}
 use Rattle.std.specs.List.{range_with_len}
 use Rattle.std.specs.Result.{IsOk}
 use Rattle.answers.specs.declared.stop.Stop.{Stop}
 use Rattle.answers.specs.declared.stop.Stop.TheVariants as stop
 use Rattle.case_edits.specs.Edits.{PlanDue}
 use Rattle.spares_input.specs.Money.{most_budget}
-use Rattle.fixed_interval.specs.Ends.{ends_exact}
 use Rattle.spares_input.specs.Rows.{is_line}
 use Rattle.spares_input.specs.Frames.{part_at}
 use Rattle.spares_input.specs.Cases.{CaseRows, IsCase}
@@ -41,37 +40,36 @@ family_place c p = length (filter (λ q. is_line (part_at c.parts q)) (range_wit
 abbrev pub has_mark : List Bool → ℕ → Bool
 has_mark marks k = get_or marks k false
 
--- There is a mark and a value for each family, and if the mark is on, the value is the family's.
-pub record AreMarked {X : Type 0} (IsOf : ℕ → X → Type 0) (none : X) (c : CaseRows) (marks : List Bool)
-    (values : List X) : Type 0 where
-  pub mark_count : length marks ≡ length (line_units c)
-  pub value_count : length values ≡ length (line_units c)
-  pub kept : (k : ℕ) → has_mark marks k ≡ true → IsOf (get_or (line_units c) k 0) (get_or values k none)
+-- which of the values are kept
+abbrev pub marks_of : {X : Type 0} → List (Option X) → List Bool
+marks_of values = map is_some values
 
--- if the mark is on, the curve is the family's in this case, of its weighted backorders over all its vectors
-abbrev pub AreKept : CaseRows → List Bool → List (List Point) → Type 0
-AreKept c marks curves = AreMarked (IsFamilyCurve plain_ends c []) [] c marks curves
+-- There is a place for each family, and a value that is kept there is the family's.
+pub record AreOfFamilies {X : Type 0} (IsOf : ℕ → X → Type 0) (c : CaseRows) (values : List (Option X)) : Type 0 where
+  pub count : length values ≡ length (line_units c)
+  pub each : (k : ℕ) → IfSome (get_or values k None) (IsOf (get_or (line_units c) k 0))
+
+-- a curve that is kept is the family's in this case, of its weighted backorders over all its vectors
+abbrev pub AreKept : CaseRows → List (Option (List Point)) → Type 0
+AreKept c curves = AreOfFamilies (IsFamilyCurve plain_ends c []) c curves
 
 -- the evaluation of the family of line unit l at these stocks
 abbrev pub IsEvaluation : CaseRows → StockList → ℕ → FamilyResult 48 → Type 0
 IsEvaluation c s l family = family ≡ family_of 48 c l s
 
--- a placeholder evaluation
-abbrev pub no_family : FamilyResult 48
-no_family = record { items = []; total = ends_exact 48 0 }
-
--- The stocks are for the case, and if a mark is on, the evaluation is the family's at these stocks.
+-- The stocks are for the case, and an evaluation that is kept is the family's at these stocks.
 pub record AreEvaluated (c : CaseRows) (x : Evaluated) : Type 0 where
   pub is_for : IsFor c x.stocks
-  pub are_marked : AreMarked (IsEvaluation c x.stocks) no_family c x.marks.items x.families.items
+  pub are_kept : AreOfFamilies (IsEvaluation c x.stocks) c x.families.items
 
--- the invariant of every session with these curves and these evaluations
-pub record IsSession (s : SessionRows) (curves : List (List Point)) (evaluated : Evaluated) : Type 0 where
-  pub valid : IsCase s.case
-  pub work : IsOk (work_of s.case)
-  pub budget_most : s.budget ≤ most_budget
-  pub are_kept : AreKept s.case s.marks curves
-  pub are_evaluated : AreEvaluated s.case evaluated
+-- the invariant of every session with this case, this budget, these curves and these evaluations
+pub record IsSession (c : CaseRows) (budget : ℕ) (curves : List (Option (List Point))) (evaluated : Evaluated)
+    : Type 0 where
+  pub valid : IsCase c
+  pub work : IsOk (work_of c)
+  pub budget_most : budget ≤ most_budget
+  pub are_kept : AreKept c curves
+  pub are_evaluated : AreEvaluated c evaluated
 
 -- ---- sessions after each call
 

@@ -1,61 +1,44 @@
 //! The evaluations that a session keeps.
 
-ghost use Rattle.std.specs.Prelude.{◌≡◌, ◌<◌, ℕ, false, true, length, replicate, IfOk, OnOk};
+ghost use Rattle.std.specs.Prelude.{◌≡◌, ◌<◌, ℕ, List, None, Some, true, length, map, IfOk, IfSome, IsSome, OnOk};
 ghost use Rattle.spares_input.specs.Stocks.{stock_at, HasPair, IsFor};
 ghost use Rattle.fleet_model.specs.Rows.{line_units};
+ghost use Rattle.demand_rates.specs.Limits.{rate_fault_of};
 ghost use Rattle.demand_rates.specs.Rates.{AreRatesOf};
 ghost use Rattle.family_items.specs.Encloses.{CanEvaluate};
 ghost use Rattle.family_items.specs.Inputs.{IsLine};
 ghost use Rattle.family_items.specs.Profile.{families_of};
-ghost use Rattle.plan_session.specs.Sessions.{no_family, AreEvaluated, AreMarked, IsEvaluation};
+ghost use Rattle.hull.specs.declared.point.Point.{Point};
+ghost use Rattle.case_plan.specs.Chosen.{FitsCase, IsChosen};
+ghost use Rattle.case_plan.specs.Report.{IsPlanOf};
+ghost use Rattle.plan_session.specs.Sessions.{AreEvaluated, AreOfFamilies, IsEvaluation};
 ghost use Rattle.plan_session.specs.Settling.{AreSettled};
 
 use crate::kept::{lines_before, place_of};
-use answers::{List, NoMemory};
+use crate::values::{all_taken, no_values, put_back};
+use answers::NoMemory;
+use case_plan::{ChosenStocks, Outcome, Request, outcome_at};
 use demand_rates::kinds::Rates;
 use family_eval::evaluate;
 use family_items::FamilyResult;
-use fixed_interval::Iv;
 use spares_input::{Case, PartId, SiteId, Stocks, nothing_held};
 use std::alloc::Global;
 
-/// The stocks of a session's last plan, with an evaluation and a mark for each family.
-///
-/// If a mark is on, the evaluation is the family's at these stocks. If it is off, the evaluation is a placeholder.
+/// The stocks of a session's last plan, and the evaluation of each family at these stocks, if it is kept.
 #[derive(Drop)]
 pub(crate) struct Evaluated {
     pub stocks: Stocks,
-    pub families: Vec<FamilyResult<48>>,
-    pub marks: Vec<bool>,
+    pub families: Vec<Option<FamilyResult<48>>>,
 }
 
-/// `count` placeholder evaluations.
-fn placeholders(alloc: Global, count: usize) -> Result<Vec<FamilyResult<48>>, NoMemory>
-    ensures { IfOk result (λ families. length families.items ≡ count) }
-{
-    let mut families = Vec::new(alloc);
-    for _k in 0..count {
-        families.push(FamilyResult {
-            items: List::of(Vec::new(alloc)),
-            total: Iv::exact(0),
-        })?;
-    }
-    Ok(families)
-}
-
-/// No family is evaluated: every mark is off.
+/// No family is evaluated.
 pub(crate) fn nothing_evaluated(alloc: Global, case: &Case) -> Result<Evaluated, NoMemory>
     ensures { IfOk result (AreEvaluated case.now) }
 {
     let count = lines_before(case, case.part_count());
     let stocks = nothing_held(alloc, case)?;
-    let families = placeholders(alloc, count)?;
-    let marks = vec![in alloc; false; count]?;
-    Ok(Evaluated {
-        stocks,
-        families,
-        marks,
-    })
+    let families = no_values(alloc, count)?;
+    Ok(Evaluated { stocks, families })
 }
 
 /// A copy of stocks.
@@ -82,83 +65,72 @@ fn is_stocked_alike(old: &Stocks, new: &Stocks, part: PartId, sites: u8) -> bool
     true
 }
 
-/// Turns off the mark of each family with a part whose stocks differ.
-fn settle(case: &Case, old: &Stocks, new: &Stocks, marks: &mut [bool])
-    requires count { length marks.old ≡ length (line_units case.now) }
+/// Forgets the evaluation of each family with a part whose stocks differ.
+fn settle(case: &Case, old: &Stocks, new: &Stocks, families: &mut [Option<FamilyResult<48>>])
+    requires count { length families.old ≡ length (line_units case.now) }
     requires old { IsFor case.now old.now }
     requires new { IsFor case.now new.now }
-    ensures { AreSettled case.now old.now new.now marks.old marks.new (length case.now.parts) }
+    ensures { AreSettled case.now old.now new.now families.old families.new (length case.now.parts) }
 {
     let sites = case.site_count();
     for p in 0..case.part_count() {
         let part = PartId(p);
         if !is_stocked_alike(old, new, part, sites) {
-            marks[place_of(case, part)] = false;
+            families[place_of(case, part)] = None;
         }
     }
 }
 
-/// Evaluates a family at these stocks, if its mark is off.
+/// Evaluates a family at these stocks, unless its evaluation is kept.
 fn renew(
     alloc: Global,
     case: &Case,
     rates: &Rates,
     stocks: &Stocks,
     line: PartId,
-    family: &mut FamilyResult<48>,
-    mark: &mut bool,
+    kept: &mut Option<FamilyResult<48>>,
 ) -> Result<(), NoMemory>
     requires inputs { CanEvaluate 48 case.now stocks.now }
     requires rates { AreRatesOf case.now rates.now }
     requires line { IsLine case.now line.0 }
-    requires kept { mark.old ≡ true → IsEvaluation case.now stocks.now line.0 family.old }
-    ensures kept { mark.new ≡ true → IsEvaluation case.now stocks.now line.0 family.new }
-    ensures later { mark.old ≡ true → mark.new ≡ true }
-    ensures on { OnOk result (mark.new ≡ true) }
+    requires kept { IfSome kept.old (IsEvaluation case.now stocks.now line.0) }
+    ensures kept { IfSome kept.new (IsEvaluation case.now stocks.now line.0) }
+    ensures later { IsSome kept.old → IsSome kept.new }
+    ensures on { OnOk result (IsSome kept.new) }
 {
-    if !*mark {
+    if kept.is_none() {
         let found = evaluate::<48>(alloc, case, rates, line, stocks)?;
-        *family = found;
-        *mark = true;
+        *kept = Some(found);
     }
     Ok(())
 }
 
-/// Evaluates each unmarked family at these stocks, in order.
+/// Evaluates each family at these stocks whose evaluation isn't kept, in order.
 fn renew_all(
     alloc: Global,
     case: &Case,
     rates: &Rates,
     stocks: &Stocks,
-    families: &mut [FamilyResult<48>],
-    marks: &mut [bool],
+    families: &mut [Option<FamilyResult<48>>],
 ) -> Result<(), NoMemory>
     requires inputs { CanEvaluate 48 case.now stocks.now }
     requires rates { AreRatesOf case.now rates.now }
-    requires kept { AreMarked (IsEvaluation case.now stocks.now) no_family case.now marks.old families.old }
-    ensures kept { AreMarked (IsEvaluation case.now stocks.now) no_family case.now marks.new families.new }
-    ensures on { OnOk result (marks.new ≡ replicate (length (line_units case.now)) true) }
+    requires kept { AreOfFamilies (IsEvaluation case.now stocks.now) case.now families.old }
+    ensures kept { AreOfFamilies (IsEvaluation case.now stocks.now) case.now families.new }
+    ensures all { OnOk result (families.new ≡ map Some (families_of 48 case.now stocks.now)) }
 {
     let mut place = 0;
     for p in 0..case.part_count() {
         let line = PartId(p);
         if case.is_line(line) {
-            renew(
-                alloc,
-                case,
-                rates,
-                stocks,
-                line,
-                &mut families[place],
-                &mut marks[place],
-            )?;
+            renew(alloc, case, rates, stocks, line, &mut families[place])?;
             place += 1;
         }
     }
     Ok(())
 }
 
-/// Evaluates the case at these stocks: each family whose mark is off or whose stocks have changed.
+/// Evaluates the case at these stocks: each family whose evaluation isn't kept or whose stocks have changed.
 pub(crate) fn evaluate_at(
     alloc: Global,
     case: &Case,
@@ -170,17 +142,32 @@ pub(crate) fn evaluate_at(
     requires rates { AreRatesOf case.now rates.now }
     requires kept { AreEvaluated case.now evaluated.old }
     ensures kept { AreEvaluated case.now evaluated.new }
-    ensures families { OnOk result (evaluated.new.families.items ≡ families_of 48 case.now stocks.now) }
+    ensures all { OnOk result (evaluated.new.families.items ≡ map Some (families_of 48 case.now stocks.now)) }
 {
     let copy = copied(alloc, stocks, case.site_count())?;
-    settle(case, &evaluated.stocks, stocks, &mut evaluated.marks);
+    settle(case, &evaluated.stocks, stocks, &mut evaluated.families);
     evaluated.stocks = copy;
-    renew_all(
-        alloc,
-        case,
-        rates,
-        stocks,
-        &mut evaluated.families,
-        &mut evaluated.marks,
-    )
+    renew_all(alloc, case, rates, stocks, &mut evaluated.families)
+}
+
+/// The outcome of chosen stocks at which all families are evaluated. Each evaluation stays kept, also if memory is
+/// wanted.
+pub(crate) fn outcome_by(
+    alloc: Global,
+    case: &Case,
+    chosen: ChosenStocks,
+    kept: &mut [Option<FamilyResult<48>>],
+    request: Request,
+) -> Result<Outcome, NoMemory>
+    requires rates { rate_fault_of case.now ≡ None }
+    requires fits { FitsCase case.now chosen }
+    requires all { kept.old ≡ map Some (families_of 48 case.now chosen.stocks) }
+    ensures kept { kept.new ≡ kept.old }
+    ensures case { IfOk result (λ outcome. (curves : List (List Point)) → IsChosen case.now curves request.budget chosen
+        → IsPlanOf case.now curves request outcome) }
+{
+    let families = all_taken(alloc, kept)?;
+    let outcome = outcome_at(alloc, case, chosen, families.as_slice(), request);
+    put_back(kept, families);
+    outcome
 }

@@ -1,46 +1,28 @@
 //! The curves that a session keeps.
 
-ghost use Rattle.std.specs.Prelude.{◌≡◌, ◌<◌, ◌≤◌, [], false, true, length, replicate, IfOk, OnOk};
+ghost use Rattle.std.specs.Prelude.{◌≡◌, ◌<◌, ◌≤◌, [], None, true, length, replicate, All, IfOk, IfSome, IsSome, OnOk};
 ghost use Rattle.std.specs.Result.{IsOk};
+ghost use Rattle.spares_input.specs.Money.{most_budget};
 ghost use Rattle.fleet_model.specs.Rows.{line_units};
 ghost use Rattle.demand_rates.specs.Rates.{AreRatesOf};
 ghost use Rattle.family_items.specs.Inputs.{IsLine};
 ghost use Rattle.family_points.specs.Counts.{work_of};
 ghost use Rattle.family_points.specs.Local.{home_of};
 ghost use Rattle.held_work.specs.Curves.{IsFamilyCurve};
+ghost use Rattle.case_plan.specs.Chosen.{FitsCase, IsChosen};
 ghost use Rattle.case_plan.specs.Placing.{lines_below};
 ghost use Rattle.family_points.specs.Points.{plain_ends};
-ghost use Rattle.plan_session.specs.Sessions.{family_place, AreKept, AreLater};
+ghost use Rattle.plan_session.specs.Sessions.{family_place, marks_of, AreKept, AreLater};
+ghost use Rattle.plan_session.specs.Settling.{values_of};
 
-use answers::{List, NoMemory};
+use crate::values::{all_taken, no_values, put_back};
+use answers::NoMemory;
+use case_plan::{ChosenStocks, choose_stocks};
 use demand_rates::kinds::Rates;
 use family_curve::curve;
-use hull::{Curve, Plain, Point};
+use hull::{Curve, Plain};
 use spares_input::{Case, PartId};
 use std::alloc::Global;
-
-/// A placeholder curve.
-fn placeholder(alloc: Global) -> Result<Curve, NoMemory> {
-    let point = Point {
-        cost: 0,
-        lo: 0,
-        hi: 0,
-        stocks: List::of(Vec::new(alloc)),
-    };
-    Curve::one(alloc, point)
-}
-
-/// `count` placeholder curves.
-fn placeholders(alloc: Global, count: usize) -> Result<Vec<Curve>, NoMemory>
-    ensures { IfOk result (λ curves. length curves.items ≡ count) }
-{
-    let mut curves = Vec::new(alloc);
-    for _k in 0..count {
-        let curve = placeholder(alloc)?;
-        curves.push(curve)?;
-    }
-    Ok(curves)
-}
 
 /// The count of line units before a part.
 pub(crate) fn lines_before(case: &Case, part: u16) -> usize
@@ -57,15 +39,12 @@ pub(crate) fn lines_before(case: &Case, part: u16) -> usize
     count
 }
 
-/// A placeholder curve for each family, with its mark off.
-pub(crate) fn nothing_kept(alloc: Global, case: &Case) -> Result<(Vec<Curve>, Vec<bool>), NoMemory>
-    ensures marks { IfOk result (λ kept. kept.1.items ≡ replicate (length (line_units case.now)) false) }
-    ensures curves { IfOk result (λ kept. length kept.0.items ≡ length (line_units case.now)) }
+/// No curve is kept.
+pub(crate) fn nothing_kept(alloc: Global, case: &Case) -> Result<Vec<Option<Curve>>, NoMemory>
+    ensures { IfOk result (λ curves. curves.items ≡ replicate (length (line_units case.now)) None) }
 {
     let families = lines_before(case, case.part_count());
-    let marks = vec![in alloc; false; families]?;
-    let curves = placeholders(alloc, families)?;
-    Ok((curves, marks))
+    no_values(alloc, families)
 }
 
 /// The line unit of the family of a part.
@@ -95,55 +74,67 @@ fn keep(
     case: &Case,
     rates: &Rates,
     line: PartId,
-    kept: &mut Curve,
-    mark: &mut bool,
+    kept: &mut Option<Curve>,
 ) -> Result<(), NoMemory>
     requires rates { AreRatesOf case.now rates.now }
     requires work { IsOk (work_of case.now) }
     requires line { IsLine case.now line.0 }
-    requires kept { mark.old ≡ true → IsFamilyCurve plain_ends case.now [] line.0 kept.old }
-    ensures kept { mark.new ≡ true → IsFamilyCurve plain_ends case.now [] line.0 kept.new }
-    ensures later { mark.old ≡ true → mark.new ≡ true }
-    ensures on { OnOk result (mark.new ≡ true) }
+    requires kept { IfSome kept.old (IsFamilyCurve plain_ends case.now [] line.0) }
+    ensures kept { IfSome kept.new (IsFamilyCurve plain_ends case.now [] line.0) }
+    ensures later { IsSome kept.old → IsSome kept.new }
+    ensures on { OnOk result (IsSome kept.new) }
 {
     let _valid = case.site_count();
-    if !*mark {
+    if kept.is_none() {
         let found = curve(alloc, case, rates, line, &Plain)?;
-        *kept = found;
-        *mark = true;
+        *kept = Some(found);
     }
     Ok(())
 }
 
-/// Computes the curve of each unmarked family, in order.
+/// Computes and keeps each curve that isn't kept, in order.
 pub(crate) fn keep_all(
     alloc: Global,
     case: &Case,
     rates: &Rates,
-    curves: &mut [Curve],
-    marks: &mut [bool],
+    curves: &mut [Option<Curve>],
 ) -> Result<(), NoMemory>
     requires rates { AreRatesOf case.now rates.now }
     requires work { IsOk (work_of case.now) }
-    requires kept { AreKept case.now marks.old curves.old }
-    ensures kept { AreKept case.now marks.new curves.new }
-    ensures later { AreLater marks.old marks.new }
-    ensures on { OnOk result (marks.new ≡ replicate (length (line_units case.now)) true) }
+    requires kept { AreKept case.now curves.old }
+    ensures kept { AreKept case.now curves.new }
+    ensures later { AreLater (marks_of curves.old) (marks_of curves.new) }
+    ensures on { OnOk result (marks_of curves.new ≡ replicate (length (line_units case.now)) true) }
 {
     let mut place = 0;
     for p in 0..case.part_count() {
         let line = PartId(p);
         if case.is_line(line) {
-            keep(
-                alloc,
-                case,
-                rates,
-                line,
-                &mut curves[place],
-                &mut marks[place],
-            )?;
+            keep(alloc, case, rates, line, &mut curves[place])?;
             place += 1;
         }
     }
     Ok(())
+}
+
+/// The stocks that the curves of all families choose. `near` guesses the plan's price. Each curve stays kept, also if
+/// memory is wanted.
+pub(crate) fn chosen_by(
+    alloc: Global,
+    case: &Case,
+    kept: &mut [Option<Curve>],
+    budget: u64,
+    near: u128,
+) -> Result<ChosenStocks, NoMemory>
+    requires budget { budget ≤ most_budget }
+    requires all { All IsSome kept.old }
+    requires kept { AreKept case.now kept.old }
+    ensures kept { kept.new ≡ kept.old }
+    ensures fits { IfOk result (FitsCase case.now) }
+    ensures chosen { IfOk result (IsChosen case.now (values_of kept.old) budget) }
+{
+    let curves = all_taken(alloc, kept)?;
+    let chosen = choose_stocks(alloc, case, curves.as_slice(), budget, near);
+    put_back(kept, curves);
+    chosen
 }

@@ -11,6 +11,7 @@ mod edits;
 mod evaluated;
 mod kept;
 mod session;
+mod values;
 
 pub use case_edits::EditFault;
 pub use edits::run_edits;

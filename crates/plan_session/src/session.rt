@@ -1,6 +1,6 @@
 //! The case and the budget of a session, with the kept curves and evaluations.
 
-ghost use Rattle.std.specs.Prelude.{◌≡◌, ◌<◌, ◌≤◌, [], true, not, length, get_or, replicate, is_none, IfOk, IfSome};
+ghost use Rattle.std.specs.Prelude.{◌≡◌, ◌<◌, ◌≤◌, [], true, not, length, get_or, replicate, is_none, All, IfOk, IfSome, IsSome};
 ghost use Rattle.std.specs.Result.{IsOk};
 ghost use Rattle.spares_input.specs.Cases.{frame_rows, IsRateOf};
 ghost use Rattle.fleet_model.specs.Rows.{line_units};
@@ -9,14 +9,15 @@ ghost use Rattle.family_points.specs.Counts.{work_of};
 ghost use Rattle.held_work.specs.Curves.{IsFamilyCurve};
 ghost use Rattle.spares_input.specs.Money.{most_budget};
 ghost use Rattle.family_points.specs.Points.{plain_ends};
-ghost use Rattle.case_plan.specs.Report.{AreFamilyCurves, IsPlanOf, plain_terms};
+ghost use Rattle.case_plan.specs.Report.{IsPlanOf, plain_request};
 ghost use Rattle.session_report.specs.Reports.{IsReportOf};
-ghost use Rattle.plan_session.specs.Sessions.{due, has_mark, started, with_budget, with_row, AnswersPlan, AreEvaluated, IsLater};
+ghost use Rattle.plan_session.specs.Sessions.{due, has_mark, started, with_budget, with_row, AnswersPlan, AreEvaluated, AreKept, IsLater};
+ghost use Rattle.plan_session.specs.Settling.{values_of};
 
-use crate::evaluated::{Evaluated, evaluate_at, nothing_evaluated};
-use crate::kept::{keep_all, nothing_kept, place_of};
+use crate::evaluated::{Evaluated, evaluate_at, nothing_evaluated, outcome_by};
+use crate::kept::{chosen_by, keep_all, nothing_kept, place_of};
 use answers::{NoMemory, Stop};
-use case_plan::{Outcome, Terms, choose_stocks, outcome_at};
+use case_plan::{Outcome, Request};
 use demand_rates::kinds::Rates;
 use demand_rates::{RateFault, rates};
 use hull::{Curve, Price};
@@ -25,33 +26,27 @@ use spares_input::{Case, Frame, RateRow};
 use std::alloc::Global;
 use std::marker::Model;
 
-/// A case and a budget, with the curves of the marked families and the evaluations of the last plan. The search for the
+/// A case and a budget, with the curve of each marked family and the evaluations of the last plan. The search for the
 /// next price begins a little above that of the last plan.
 ///
-/// Its model is the case, the budget and one mark for each family. The mark is on if the family's curve is kept. If it
-/// is off, the curve is a placeholder.
+/// Its model is the case, the budget and one mark for each family. The mark is on if the family's curve is kept.
 #[derive(Drop)]
 pub struct Session {
     case: Case,
     budget: u64,
-    curves: Vec<Curve>,
-    marks: Vec<bool>,
+    curves: Vec<Option<Curve>>,
     evaluated: Evaluated,
     near: u128,
 }
 
 impl Model for Session {
-    ghost use Rattle.plan_session.specs.Sessions.{SessionRows, IsSession};
+    ghost use Rattle.plan_session.specs.Sessions.{marks_of, SessionRows, IsSession};
 
     ghost Value = { SessionRows };
 
-    ghost view = { λ s. record { case = s.case; budget = s.budget; marks = s.marks.items } };
+    ghost view = { λ s. record { case = s.case; budget = s.budget; marks = marks_of s.curves.items } };
 
-    ghost invariant = { λ s. IsSession (record {
-      case = s.case;
-      budget = s.budget;
-      marks = s.marks.items;
-    }) s.curves.items s.evaluated };
+    ghost invariant = { λ s. IsSession s.case s.budget s.curves.items s.evaluated };
 }
 
 /// A price a little above another, in units of 2^-48 for whole money.
@@ -63,35 +58,36 @@ fn above(price: Price) -> u128 {
     whole.saturating_add(whole / 32)
 }
 
-/// The outcome of the plan of these curves. The search for the price begins near the last plan's, and only the families
-/// whose stocks differ from its stocks are evaluated.
+/// The outcome of the plan of these curves, which are all there. The search for the price begins near the last plan's,
+/// and only the families whose stocks differ from its stocks are evaluated.
 fn outcome_near(
     alloc: Global,
     case: &Case,
     rates: &Rates,
-    curves: &[Curve],
+    curves: &mut [Option<Curve>],
     budget: u64,
     near: &mut u128,
     evaluated: &mut Evaluated,
 ) -> Result<Outcome, NoMemory>
     requires rates { AreRatesOf case.now rates.now }
     requires budget { budget ≤ most_budget }
-    requires curves { AreFamilyCurves case.now curves.now }
+    requires all { All IsSome curves.old }
+    requires curves { AreKept case.now curves.old }
     requires kept { AreEvaluated case.now evaluated.old }
+    ensures curves { curves.new ≡ curves.old }
     ensures kept { AreEvaluated case.now evaluated.new }
-    ensures plan { IfOk result (IsPlanOf case.now curves.now (plain_terms budget)) }
+    ensures plan { IfOk result (IsPlanOf case.now (values_of curves.old) (plain_request budget)) }
 {
     let _valid = case.site_count();
-    let chosen = choose_stocks(alloc, case, curves, budget, *near)?;
+    let chosen = chosen_by(alloc, case, curves, budget, *near)?;
     *near = above(chosen.numbers.price);
     evaluate_at(alloc, case, rates, &chosen.stocks, evaluated)?;
-    let families = evaluated.families.as_slice();
-    let terms = Terms {
+    let request = Request {
         budget,
         loss: false,
         on_hand: None,
     };
-    let outcome = outcome_at(alloc, case, chosen, families, terms)?;
+    let outcome = outcome_by(alloc, case, chosen, &mut evaluated.families, request)?;
     Ok(outcome)
 }
 
@@ -103,13 +99,12 @@ impl Session {
         requires budget { budget ≤ most_budget }
         ensures { IfOk result (λ s. s ≡ started case budget) }
     {
-        let (curves, marks) = nothing_kept(alloc, &case)?;
+        let curves = nothing_kept(alloc, &case)?;
         let evaluated = nothing_evaluated(alloc, &case)?;
         Ok(Session {
             case,
             budget,
             curves,
-            marks,
             evaluated,
             near: 0,
         })
@@ -131,8 +126,8 @@ impl Session {
     {
         let place = place_of(&self.case, row.part);
         self.case.set_rate(row);
-        self.marks[place] = false;
-        self.evaluated.marks[place] = false;
+        self.curves[place] = None;
+        self.evaluated.families[place] = None;
     }
 
     /// The plan of the current case under the current budget, or the first rule that the rates break.
@@ -157,12 +152,12 @@ impl Session {
         ensures later { IsLater self.old self.new }
         ensures marks { IfOk result (λ _. self.new.marks ≡ replicate (length (line_units self.old.case)) true) }
     {
-        keep_all(alloc, &self.case, rates, &mut self.curves, &mut self.marks)?;
+        keep_all(alloc, &self.case, rates, &mut self.curves)?;
         let outcome = outcome_near(
             alloc,
             &self.case,
             rates,
-            self.curves.as_slice(),
+            &mut self.curves,
             self.budget,
             &mut self.near,
             &mut self.evaluated,
@@ -174,7 +169,7 @@ impl Session {
     pub fn family_count(&self) -> usize
         ensures { result ≡ length (line_units self.now.case) }
     {
-        self.marks.len()
+        self.curves.len()
     }
 
     /// The curve of a family, by its index among the families: the curve of its weighted backorders, over all its
@@ -185,12 +180,7 @@ impl Session {
         ensures curve { IfSome result (λ c. IsFamilyCurve plain_ends self.now.case []
             (get_or (line_units self.now.case) family 0) c.now) }
     {
-        let place = family as usize;
-        if self.marks[place] {
-            Some(&self.curves[place])
-        } else {
-            None
-        }
+        self.curves[family as usize].as_ref()
     }
 
     /// The frame of the case.

@@ -35,13 +35,14 @@ impl Failure {
     }
 }
 
-/// The reason of a stop, as a refusal with its line.
-pub fn failure_of(stop: Stop<Failure>) -> Failure
-    ensures { result ≡ stopped stop }
-{
-    match stop {
-        Stop::NoMemory => Failure::of(Refusal::NoMemory),
-        Stop::Fault(failure) => failure,
+impl From<Stop<Failure>> for Failure {
+    ghost from_gives = { λ stop failure. failure ≡ stopped stop };
+
+    fn from(stop: Stop<Failure>) -> Self {
+        match stop {
+            Stop::NoMemory => Failure::of(Refusal::NoMemory),
+            Stop::Fault(failure) => failure,
+        }
     }
 }
 

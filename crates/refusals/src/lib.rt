@@ -9,6 +9,6 @@ mod of_edits;
 mod of_tables;
 mod refusal;
 
-pub use failure::{Failure, failure_of};
+pub use failure::Failure;
 pub use line::Line;
 pub use refusal::{File, Refusal};

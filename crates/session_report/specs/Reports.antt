@@ -3,7 +3,7 @@ use Rattle.std.specs.Prelude.{ℕ, List}
 use Rattle.case_edits.specs.Edits.{PlanDue}
 use Rattle.fleet_plan.specs.Laws.{IsAcceptedCase}
 use Rattle.held_work.specs.Work.{IsNothing}
-use Rattle.case_plan.specs.Report.{IsPlanned, plain_terms}
+use Rattle.case_plan.specs.Report.{IsPlanned, plain_request}
 use Rattle.plan_report.specs.declared.plan.PlanReport.{PlanReport}
 use Rattle.family_points.specs.Points.{plain_ends}
 
@@ -11,4 +11,4 @@ use Rattle.family_points.specs.Points.{plain_ends}
 -- zeros.
 pub record IsReportOf (d : PlanDue) (report : PlanReport) : Type 0 where
   pub accepted : IsAcceptedCase d.case
-  pub is_planned : (held : List ℕ) → IsNothing held → IsPlanned plain_ends d.case held (plain_terms d.budget) report
+  pub is_planned : (held : List ℕ) → IsNothing held → IsPlanned plain_ends d.case held (plain_request d.budget) report

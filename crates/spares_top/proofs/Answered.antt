@@ -25,7 +25,7 @@ use Rattle.spares_top.specs.Task.{Task, plan_in_turn, printed}
 use Rattle.spares_top.specs.declared.done.Done.TheVariants.{Session}
 use Rattle.spares_top.proofs.Shown.{span_prints}
 use Rattle.family_points.specs.Points.{plain_ends}
-use Rattle.case_plan.specs.Report.{plain_terms}
+use Rattle.case_plan.specs.Report.{plain_request}
 use Rattle.spares_input.specs.Stocks.{nothing_held}
 
 -- the report of a plan is true of its case and budget
@@ -36,8 +36,8 @@ answer_true d report h =
     record {
       plan = planned.plan;
       accepted = h.accepted;
-      says = planned_true plain_ends weighted_backorders d.case (nothing_held d.case).list (plain_terms d.budget) report h.accepted plain_encloses planned;
-      plainly = plain_true d.case (nothing_held d.case).list (plain_terms d.budget) report h.accepted none planned;
+      says = planned_true plain_ends weighted_backorders d.case (nothing_held d.case).list (plain_request d.budget) report h.accepted plain_encloses planned;
+      plainly = plain_true d.case (nothing_held d.case).list (plain_request d.budget) report h.accepted none planned;
       prints = span_prints 48;
     }
 

@@ -42,7 +42,7 @@ use Rattle.spares_top.specs.Making.{Is, MakesBy}
 use Rattle.spares_top.specs.Task as task
 use Rattle.spares_top.specs.Task.{check_task, confirm}
 use Rattle.spares_top.specs.declared.done.Done.TheVariants.{Checked}
-use Rattle.spares_top.specs.Checking.{IsClaim, TellsClaim, claimed_by}
+use Rattle.spares_top.specs.Checking.{IsClaim}
 use Rattle.spares_top.specs.Checks.{check_of, claimed_of, form_of, judged_of}
 use Rattle.spares_top.specs.Headline.{HasNoMoreThanPrinted}
 use Rattle.spares_top.specs.Held.{held_in}
@@ -67,7 +67,7 @@ on_hand_cost : (c : CaseRows) (on_hand : Option StockList) → IsHeld c (held_in
 on_hand_cost c (Some held) h = ap Some (sym (cost_holds c held h.is_for))
 on_hand_cost c None h = refl
 
-module _ (x : Claim) (h : IsClaim x) (bytes : List ℕ) (form : or_refuse no_names refusal.Cert (form_of bytes) ≡ Ok (claimed_by x)) where
+module _ (x : Claim) (h : IsClaim x) (bytes : List ℕ) (form : or_refuse no_names refusal.Cert (form_of bytes) ≡ Ok x) where
   abbrev aimed : Objective
   aimed = x.certificate.objective
 
@@ -78,7 +78,7 @@ module _ (x : Claim) (h : IsClaim x) (bytes : List ℕ) (form : or_refuse no_nam
   held = held_in case x.on_hand
 
   abbrev answer : Result Accepted Failure
-  answer = or_refuse (frame_rows case) refusal.Rejected (judged_of (claimed_by x))
+  answer = or_refuse (frame_rows case) refusal.Rejected (judged_of x)
 
   -- ---- accepted
 
@@ -86,7 +86,7 @@ module _ (x : Claim) (h : IsClaim x) (bytes : List ℕ) (form : or_refuse no_nam
     none : reject_of (ends_of aimed) x.certificate held ≡ None
     none = none_by _ _ _ accepted j
 
-    claimed_is : claimed_of bytes ≡ Ok (claimed_by x)
+    claimed_is : claimed_of bytes ≡ Ok x
     unfolding claimed_of
     claimed_is = rw (form, j) refl
 
@@ -110,17 +110,17 @@ module _ (x : Claim) (h : IsClaim x) (bytes : List ℕ) (form : or_refuse no_nam
         (subst (λ (on_hand : Option StockList). reject_of (ends_of Backorders) x.certificate (held_in case on_hand) ≡ None) off
         (subst (λ (o : Objective). reject_of (ends_of o) x.certificate held ≡ None) o none))
 
-    fits : FitsCheck (check_of (claimed_by x))
+    fits : FitsCheck (check_of x)
     fits = let u = h.formed.upper in let b = h.formed.bound in record { upper = omega (arith, u); bound = omega (arith, b) }
 
     -- what is told of an accepted claim is what the task of a check asks for
-    confirmed : MakesBy (Is (check_task bytes)) (Ok (task.printed (Checked (check_of (claimed_by x)))))
+    confirmed : MakesBy (Is (check_task bytes)) (Ok (task.printed (Checked (check_of x))))
     confirmed = record {
-      task = confirm (claimed_by x);
+      task = confirm x;
       is_due = rw claimed_is refl;
       fulfils = refl;
       is_true = record {
-        report = check_of (claimed_by x);
+        report = check_of x;
         is = refl;
         holds = record {
           report_is = refl;
@@ -148,14 +148,14 @@ module _ (x : Claim) (h : IsClaim x) (bytes : List ℕ) (form : or_refuse no_nam
   -- ---- either
 
   -- the report of an accepted claim is what the task of a check asks for
-  pub confirmed_by : (judged : Result Accepted Failure) → answer ≡ judged → (report : CheckReport) → (judged >>= λ accepted. Ok (check_of (claimed_by x))) ≡ Ok report
+  pub confirmed_by : (judged : Result Accepted Failure) → answer ≡ judged → (report : CheckReport) → (judged >>= λ accepted. Ok (check_of x)) ≡ Ok report
       → MakesBy (Is (check_task bytes)) (Ok (task.printed (Checked report)))
-  confirmed_by (Ok accepted) j report e = let is : check_of (claimed_by x) ≡ report = cc in rw (← is) (confirmed accepted j)
+  confirmed_by (Ok accepted) j report e = let is : check_of x ≡ report = cc in rw (← is) (confirmed accepted j)
   confirmed_by (Err failure) j report e = cc
 
   -- and the refusal of a rejected one is the refusal that it has to make
   pub rejected_by : (judged : Result Accepted Failure) → answer ≡ judged → (e : Stop Failure)
-      → Gives {T = CheckReport} (judged >>= λ accepted. Ok (check_of (claimed_by x))) (Err e) → MakesBy (Is (check_task bytes)) (Err e)
+      → Gives {T = CheckReport} (judged >>= λ accepted. Ok (check_of x)) (Err e) → MakesBy (Is (check_task bytes)) (Err e)
   rejected_by judged j stop.NoMemory g = tt
   rejected_by (Ok accepted) j (stop.Fault failure) g = cc
   rejected_by (Err broken) j (stop.Fault failure) g = rejected failure (cc)
@@ -167,6 +167,6 @@ unfolding claimed_of
 none_claimed bytes failure e = rw e refl
 
 -- bytes that are no certificate of either form are refused as the check's task says
-pub unclaimed : (bytes : List ℕ) (e : Stop Failure) → TellsClaim (or_refuse no_names refusal.Cert (form_of bytes)) (Err e) → MakesBy (Is (check_task bytes)) (Err e)
+pub unclaimed : (bytes : List ℕ) (e : Stop Failure) → Gives (or_refuse no_names refusal.Cert (form_of bytes)) (Err e) → MakesBy (Is (check_task bytes)) (Err e)
 unclaimed bytes stop.NoMemory h = tt
 unclaimed bytes (stop.Fault failure) h = rw (none_claimed bytes failure h) refl

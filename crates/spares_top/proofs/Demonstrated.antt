@@ -6,7 +6,7 @@ use Rattle.spares_input.specs.Cases.{CaseRows}
 use Rattle.case_maker.specs.Demonstration.{made}
 use Rattle.case_maker.proofs.Valid.{made_valid}
 use Rattle.case_maker.proofs.Whole.{made_drawn}
-use Rattle.case_plan.specs.Report.{outcome_of, report_of, plain_terms}
+use Rattle.case_plan.specs.Report.{outcome_of, report_of, plain_request}
 use Rattle.case_plan.specs.declared.outcome.Outcome.{Outcome}
 use Rattle.case_plan.specs.Truth.{IsTruePlanReport}
 use Rattle.case_plan.proofs.Nothing.{from_nothing}
@@ -43,7 +43,7 @@ module _ (number lines : ℕ) (few : lines ≤ 80) (summary : Summary) (h : IsDe
   is_accepted = record { valid = made_valid number lines few; no_fault = faultless case (made_valid number lines few) (made_drawn number lines) }
 
   abbrev outcome : Outcome
-  outcome = outcome_of plain_ends case (plain_terms (budget_of lines)) plan
+  outcome = outcome_of plain_ends case (plain_request (budget_of lines)) plan
 
   on_plan : IsPlanOn case (nothing_held case) (demo_terms (budget_of lines)) outcome
   on_plan = record {
@@ -52,7 +52,7 @@ module _ (number lines : ℕ) (few : lines ≤ 80) (summary : Summary) (h : IsDe
     is_held = none_is_held case;
     plan = plan;
     is_plan = h.is_plan;
-    asked = plain_terms (budget_of lines);
+    request = plain_request (budget_of lines);
     same_budget = refl;
     is = refl;
   }
@@ -60,9 +60,9 @@ module _ (number lines : ℕ) (few : lines ≤ 80) (summary : Summary) (h : IsDe
   says : IsPlainPlan case (budget_of lines) plan
   says = plain_plan case (budget_of lines) plan is_accepted (from_nothing case (nothing_held case).list (zeros_hold case) plain_ends (budget_of lines) plan h.is_plan)
 
-  report : IsTruePlanReport case (budget_of lines) plan.stocks (report_of plain_ends case (plain_terms (budget_of lines)) plan)
+  report : IsTruePlanReport case (budget_of lines) plan.stocks (report_of plain_ends case (plain_request (budget_of lines)) plan)
   report =
-      plain_true case (nothing_held case).list (plain_terms (budget_of lines)) (report_of plain_ends case (plain_terms (budget_of lines)) plan) is_accepted (zeros_hold case)
+      plain_true case (nothing_held case).list (plain_request (budget_of lines)) (report_of plain_ends case (plain_request (budget_of lines)) plan) is_accepted (zeros_hold case)
       (record { plan = plan; is_plan = h.is_plan; is = refl })
 
   encloses : Encloses 48 summary.total.lo summary.total.hi (total case plan.stocks)

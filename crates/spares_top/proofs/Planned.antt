@@ -1,10 +1,11 @@
 -- What a plan makes is what its task asks for, and it is true.
 use Rattle.std.proofs.Common.{◌≡◌, ◌∙◌, ap, refl, subst, sym, Option, Some, None, Result, Ok, ℕ, ◌+◌, ◌≤◌, List, length, IfSome}
 use Rattle.spares_input.specs.Cases.{CaseRows, IsCase}
-use Rattle.spares_input.specs.Stocks.{StockList, IsFor, IsWithinLimits, cost_of, nothing_held}
+use Rattle.spares_input.specs.Stocks.{StockList, IsFor, IsWithinLimits, nothing_held}
 use Rattle.case_plan.specs.Report.{IsOutcome, IsPlanned, outcome_of, report_of}
 use Rattle.case_plan.specs.Truth.{IsTruePlanReport, IsTrueReport}
 use Rattle.case_plan.specs.declared.outcome.Outcome as plans
+use Rattle.case_plan.specs.declared.request.Request.{Request}
 use Rattle.case_plan.proofs.Truths.{plain_true, planned_true, report_fits}
 use Rattle.certified_plan.specs.Certificates.{certificate_of, text_of}
 use Rattle.certified_plan.specs.Inputs.{IsHeld, IsPlanOn}
@@ -12,7 +13,6 @@ use Rattle.price_certificate.specs.declared.certificate.Terms.{Terms}
 use Rattle.certified_plan.proofs.Formed.{well_formed}
 use Rattle.family_points.specs.Counts.{work_of}
 use Rattle.held_work.proofs.Kept.{all_work}
-use Rattle.std.specs.Option.{option_map}
 use Rattle.std.specs.Prelude.{IfOk}
 use Rattle.std.specs.Result.{IsOk}
 use Rattle.answers.specs.declared.stop.NoMemory.{NoMemory}
@@ -38,12 +38,13 @@ use Rattle.price_certificate.proofs.Inverse.{again}
 use Rattle.demonstration.proofs.Told.{zeros_hold}
 use Rattle.spares_top.specs.Making.{Is, IsMade}
 use Rattle.spares_top.specs.Task.{make_plan}
+use Rattle.spares_top.specs.declared.check.Claim.{Claim}
 use Rattle.spares_top.specs.declared.done.Done.TheVariants.{Planned}
-use Rattle.spares_top.specs.Checks.{Claimed, claimed_of, form_of}
+use Rattle.spares_top.specs.Checks.{claimed_of, form_of}
 use Rattle.spares_top.specs.Headline.{IsTruePlan}
 use Rattle.spares_top.specs.Held.{held_in}
-use Rattle.spares_top.specs.Planning.{HasFormat, IsGround, IsPlanFor, planning_on}
-use Rattle.spares_top.specs.Plans.{Planning, certificate_text, held_of, is_loss, plan_certificate, plan_terms, planned}
+use Rattle.spares_top.specs.Planning.{IsGround, IsPlanFor, planning_on}
+use Rattle.spares_top.specs.Plans.{Planning, certificate_text, held_of, plan_certificate, plan_request, planned}
 use Rattle.spares_top.specs.declared.plan.Ground.{Ground}
 use Rattle.spares_top.proofs.Shown.{span_prints}
 
@@ -56,12 +57,12 @@ held_formed : (k : HeldCertificate) → IsWellHeld k → form_of (held_text k) �
 held_formed k well = rw (held_form k, held_inverse.again k well) refl
 
 -- the outcome of a plan
-same_outcome : (x : Planning) (name : List ℕ) (o : plans.Outcome) (p : CasePlan) (bytes : List ℕ) → o ≡ outcome_of (ends_of x.terms.objective) x.case (plan_terms x) p
+same_outcome : (x : Planning) (name : List ℕ) (o : plans.Outcome) (p : CasePlan) (bytes : List ℕ) → o ≡ outcome_of (ends_of x.terms.objective) x.case (plan_request x) p
     → bytes ≡ certificate_text x p → record { done = Planned o.report; writes = Some (record { name = name; bytes = bytes }) } ≡ planned x name p
 same_outcome x name o p bytes h e = rw (h, e) refl
 
 -- and breaks no rule
-claimed_by_form : (bytes : List ℕ) (y : Claimed) → form_of bytes ≡ Ok y
+claimed_by_form : (bytes : List ℕ) (y : Claim) → form_of bytes ≡ Ok y
     → reject_of (ends_of y.certificate.objective) y.certificate (held_in y.certificate.case y.on_hand) ≡ None → claimed_of bytes ≡ Ok y
 unfolding claimed_of
 claimed_by_form bytes y form none = rw (form, none) refl
@@ -72,17 +73,14 @@ plain_work c held valid none work =
     subst (λ (s : StockList). IsOk (held_work_of c s.list)) (sym none)
     (subst (λ (r : Result ℕ ℕ). IsOk r) (sym (all_work c (nothing_held c).list valid (zeros_hold c))) work)
 
--- the plan by the score of an objective, from held stocks and with their cost, is the planning's
-pub planned_by : (x : Planning) (held : StockList) (on_hand : Option ℕ) (o : Objective) (r : Result plans.Outcome NoMemory) → x.terms.objective ≡ o → held ≡ held_of x
-    → on_hand ≡ option_map (cost_of x.case) x.on_hand
-    → IfOk r (IsOutcome (ends_of o) x.case held.list (record { budget = x.terms.budget; loss = is_loss o; on_hand = on_hand }))
-    → IfOk r (IsOutcome (ends_of x.terms.objective) x.case (held_of x).list (plan_terms x))
-planned_by x held on_hand o r is held_is cost_is h =
-    subst (λ (o : Objective). IfOk r (IsOutcome (ends_of o) x.case (held_of x).list (record { budget = x.terms.budget; loss = is_loss o; on_hand = option_map (cost_of x.case) x.on_hand })))
-    (sym is)
-    (subst (λ (s : StockList). IfOk r (IsOutcome (ends_of o) x.case s.list (record { budget = x.terms.budget; loss = is_loss o; on_hand = option_map (cost_of x.case) x.on_hand })))
-    held_is
-    (subst (λ (n : Option ℕ). IfOk r (IsOutcome (ends_of o) x.case held.list (record { budget = x.terms.budget; loss = is_loss o; on_hand = n }))) cost_is h))
+-- the plan by the score of the objective, from the held stocks and as it is asked for, is the planning's
+pub planned_by : (x : Planning) (held : StockList) (request : Request) (o : Objective) (r : Result plans.Outcome NoMemory) → x.terms.objective ≡ o → held ≡ held_of x
+    → request ≡ plan_request x → IfOk r (IsOutcome (ends_of o) x.case held.list request)
+    → IfOk r (IsOutcome (ends_of x.terms.objective) x.case (held_of x).list (plan_request x))
+planned_by x held request o r is held_is request_is h =
+    subst (λ (o : Objective). IfOk r (IsOutcome (ends_of o) x.case (held_of x).list (plan_request x))) (sym is)
+    (subst (λ (s : StockList). IfOk r (IsOutcome (ends_of o) x.case s.list (plan_request x))) held_is
+    (subst (λ (k : Request). IfOk r (IsOutcome (ends_of o) x.case held.list k)) request_is h))
 
 -- the text of a plan's certificate is short enough to be read
 short : (c : CaseRows) (on_hand : Option StockList) (terms : Terms) (o : plans.Outcome) → IsPlanOn c (held_in c on_hand) terms o
@@ -95,7 +93,7 @@ pub well_held : (g : Ground) → IsGround g → (cert : Certificate) → IsWellF
     → IfSome g.on_hand (λ (s : StockList). IsWellHeld (record { certificate = cert; held = s }))
 well_held g h cert formed (case_is, format_is) = held_by g.on_hand h.held h.format
   where
-    held_by : (on_hand : Option StockList) → IsHeld g.given.case (held_in g.given.case on_hand) → HasFormat on_hand g.terms
+    held_by : (on_hand : Option StockList) → IsHeld g.given.case (held_in g.given.case on_hand) → IfSome on_hand (λ _. g.terms.format ≡ 2)
         → IfSome on_hand (λ (s : StockList). IsWellHeld (record { certificate = cert; held = s }))
     held_by None k two = tt
     held_by (Some s) k two = record {
@@ -118,23 +116,23 @@ module _ (g : Ground) (h : IsGround g) where
 
     -- the outcome is that of a plan on the ground's terms
     pub on_plan : IsPlanOn x.case (held_of x) x.terms o
-    on_plan = record { accepted = h.accepted; are_terms = h.terms; is_held = h.held; plan = plan; is_plan = is.is_plan; asked = plan_terms x; same_budget = refl; is = is.is }
+    on_plan = record { accepted = h.accepted; are_terms = h.terms; is_held = h.held; plan = plan; is_plan = is.is_plan; request = plan_request x; same_budget = refl; is = is.is }
 
-    abbrev report : IsPlanned (ends_of aimed) x.case (held_of x).list (plan_terms x) o.report
+    abbrev report : IsPlanned (ends_of aimed) x.case (held_of x).list (plan_request x) o.report
     report = record { plan = plan; is_plan = is.is_plan; is = ap (λ (z : plans.Outcome). z.report) is.is }
 
-    says : IsTrueReport (ends_of aimed) (value_of aimed) x.case (held_of x).list (plan_terms x) plan o.report
-    says = planned_true (ends_of aimed) (value_of aimed) x.case (held_of x).list (plan_terms x) o.report h.accepted (scores_enclose aimed) report
+    says : IsTrueReport (ends_of aimed) (value_of aimed) x.case (held_of x).list (plan_request x) plan o.report
+    says = planned_true (ends_of aimed) (value_of aimed) x.case (held_of x).list (plan_request x) o.report h.accepted (scores_enclose aimed) report
 
     -- with no stocks on hand, in the plain words
     plainly : aimed ≡ Backorders → x.on_hand ≡ None → IsTruePlanReport x.case x.terms.budget plan.stocks o.report
     plainly e off =
-        plain_true x.case (held_of x).list (plan_terms x) o.report h.accepted
+        plain_true x.case (held_of x).list (plan_request x) o.report h.accepted
         (subst (λ (on_hand : Option StockList). IsNothing (held_in x.case on_hand).list) (sym off) (zeros_hold x.case))
         (record {
           plan = plan;
           is_plan = subst (λ (ends : ScoreEnds). IsCasePlan ends x.case (held_of x).list x.terms.budget plan) (ap ends_of e) is.is_plan;
-          is = subst (λ (ends : ScoreEnds). o.report ≡ report_of ends x.case (plan_terms x) plan) (ap ends_of e) report.is;
+          is = subst (λ (ends : ScoreEnds). o.report ≡ report_of ends x.case (plan_request x) plan) (ap ends_of e) report.is;
         })
 
     -- no accepted certificate shows more than the report's bound and rounding
@@ -191,7 +189,7 @@ module _ (g : Ground) (h : IsGround g) where
         is_due = refl;
         fulfils = record { plan = plan; is_plan = is.is_plan; is = same_outcome x name o plan (certificate_text x plan) is.is refl };
         is_true = record { report = o.report; is = refl; holds = is_true };
-        prints = report_fits (ends_of aimed) (value_of aimed) x.case (held_of x).list (plan_terms x) o.report h.accepted (scores_enclose aimed) (scores_leave_room aimed) report;
+        prints = report_fits (ends_of aimed) (value_of aimed) x.case (held_of x).list (plan_request x) o.report h.accepted (scores_enclose aimed) (scores_leave_room aimed) report;
       }
 
       -- the bytes of the outcome's certificate under the name are what the task asks for

@@ -16,7 +16,6 @@ use Rattle.refusals.specs.Lines.{no_names}
 use Rattle.refusals.specs.declared.failure.Failure.{Failure}
 use Rattle.refusals.specs.declared.refusal.Refusal.TheVariants as refusal
 use Rattle.spares_input.specs.Stocks.{StockList}
-use Rattle.spares_top.specs.Checking.{TellsClaim}
 use Rattle.spares_top.specs.Checks.{with_held, with_nothing}
 use Rattle.spares_top.specs.Planning.{TellsGround}
 use Rattle.spares_top.specs.Plans.{Planning}
@@ -25,12 +24,12 @@ use Rattle.spares_top.specs.declared.plan.Ground.{Ground}
 -- ---- certificates
 
 -- a held certificate that isn't read
-pub held_unread : (given : Result HeldCertificate CertFault) (e : Stop CertFault) → Gives given (Err e) → TellsClaim (with_held given) (Err e)
+pub held_unread : (given : Result HeldCertificate CertFault) (e : Stop CertFault) → Gives given (Err e) → Gives (with_held given) (Err e)
 held_unread given stop.NoMemory h = tt
 held_unread given (stop.Fault fault) h = ap with_held h
 
 -- another certificate that isn't read
-pub plain_unread : (given : Result Certificate CertFault) (e : Stop CertFault) → Gives given (Err e) → TellsClaim (with_nothing given) (Err e)
+pub plain_unread : (given : Result Certificate CertFault) (e : Stop CertFault) → Gives given (Err e) → Gives (with_nothing given) (Err e)
 plain_unread given stop.NoMemory h = tt
 plain_unread given (stop.Fault fault) h = ap with_nothing h
 

@@ -27,7 +27,7 @@ use Rattle.answers.specs.Steps.{◌>>=◌}
 use Rattle.refusals.specs.Causes.{Kind, of_words, of_reading, of_writing, of_memory, of_task, kind_of, or_refuse, plain_failure, stopped}
 use Rattle.refusals.specs.Lines.{no_names}
 use Rattle.spares_input.specs.Cases.{CaseRows}
-use Rattle.spares_top.specs.Making.{ComesOf, Is, IsMade, IsUndelivered, MakesBy}
+use Rattle.spares_top.specs.Making.{ComesOf, HasNotDelivered, Is, IsMade, MakesBy}
 use Rattle.spares_top.specs.Promises.{Completes, Errors, NoneFailed, Performs, PutsLine, Runs, Serves}
 use Rattle.spares_top.specs.State.{HasDelivered, HasFailed, HasFailedToWrite, IsUntouched, Scene, after_write}
 use Rattle.spares_top.specs.Checks.{claimed_of}
@@ -218,7 +218,7 @@ module _ (outcome : Outcome) (old mid new : Scene) (b : IsBefore old mid new) wh
       delivered = delivered_from h;
     }
 
-    refuses : (failure : Failure) → IsUndelivered outcome mid new failure → Answers (Ok o) old new (Err failure)
+    refuses : (failure : Failure) → HasNotDelivered outcome mid new failure → Answers (Ok o) old new (Err failure)
     refuses failure (inl (is, h)) = subst (λ (f : Failure). Answers (Ok o) old new (Err f)) (sym is) (record { failure_is = refl; untouched = untouched_from h })
     refuses failure (inr (is, h)) = subst (λ (f : Failure). Answers (Ok o) old new (Err f)) (sym is) (record {
       failure_is = refl;
@@ -242,7 +242,7 @@ module _ (outcome : Outcome) (old mid new : Scene) (b : IsBefore old mid new) wh
     delivers h = performs (Ok outcome.done) (answers h)
 
     -- or its delivery fails
-    pub fails : (failure : Failure) → IsUndelivered outcome mid new failure → Performs (Ok o) old new (Err failure)
+    pub fails : (failure : Failure) → HasNotDelivered outcome mid new failure → Performs (Ok o) old new (Err failure)
     fails failure h = performs (Err failure) (refuses failure h)
 
 -- ---- the words

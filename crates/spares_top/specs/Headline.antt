@@ -38,16 +38,17 @@ use Rattle.price_certificate.specs.Certificates.{certificate_limit}
 use Rattle.price_certificate.specs.declared.certificate.Objective.TheVariants.{Backorders}
 use Rattle.spares_input.specs.Cases.{CaseRows}
 use Rattle.spares_input.specs.Stocks.{StockList, nothing_held}
-use Rattle.spares_top.specs.Checks.{Claimed, check_of, claimed_of}
+use Rattle.spares_top.specs.Checks.{check_of, claimed_of}
 use Rattle.spares_top.specs.Held.{held_in}
-use Rattle.spares_top.specs.Plans.{Planning, certificate_text, held_of, plan_certificate, plan_terms}
+use Rattle.spares_top.specs.Plans.{Planning, certificate_text, held_of, plan_certificate, plan_request}
 use Rattle.spares_top.specs.Task.{Task, confirm, demonstrate, evaluate, make_plan, plan_in_turn, price_target, set_beside, show_pipeline, sweep_budgets}
+use Rattle.spares_top.specs.declared.check.Claim.{Claim}
 use Rattle.spares_top.specs.declared.done.Done.{Done}
 use Rattle.spares_top.specs.declared.done.Done.TheVariants.{Single, Evaluated, Planned, Checked, Demo, Swept, Priced, Session, Compared}
 use Rattle.spares_top.specs.declared.done.Outcome.{Outcome}
 use Rattle.spares_top.specs.declared.done.Written.{Written}
 use Rattle.family_points.specs.Points.{plain_ends}
-use Rattle.case_plan.specs.Report.{plain_terms}
+use Rattle.case_plan.specs.Report.{plain_request}
 
 -- ---- a single pipeline
 
@@ -102,7 +103,7 @@ pub record IsTruePlan (x : Planning) (name : List ℕ) (writes : Option Written)
   pub accepted : IsAcceptedCase x.case
   -- in the words of the model, for the objective and the held stocks
   pub says : IsTrueReport (ends_of x.terms.objective) (value_of x.terms.objective) x.case (held_of x).list
-      (plan_terms x) plan report
+      (plan_request x) plan report
   -- and for weighted backorders with no stocks on hand, in its plain words
   pub plainly : x.terms.objective ≡ Backorders → x.on_hand ≡ None
       → IsTruePlanReport x.case x.terms.budget plan.stocks report
@@ -127,7 +128,7 @@ HasNoMoreThanPrinted value c s upper =
     (n : ℕ) → 1024 ≤ n → aim value c s n ≤ℚ text_value 6 (millionths_up 48 upper)
 
 -- The claims of a certificate that breaks no rule are true of its case, whoever made it.
-pub record IsTrueCheck (x : Claimed) (report : CheckReport) : Type 0 where
+pub record IsTrueCheck (x : Claim) (report : CheckReport) : Type 0 where
   pub report_is : report ≡ check_of x
   -- its stocks include the held stocks and fit the budget, their aim is at most its upper end, and no stocks within the
   -- budget have less than its bound
@@ -196,7 +197,7 @@ pub record IsTrueAnswer (d : PlanDue) (report : PlanReport) : Type 0 where
   pub accepted : IsAcceptedCase d.case
   -- in the words of the model, for weighted backorders with nothing held; and in its plain words
   pub says : IsTrueReport plain_ends weighted_backorders d.case (nothing_held d.case).list
-      (plain_terms d.budget) plan report
+      (plain_request d.budget) plan report
   pub plainly : IsTruePlanReport d.case d.budget plan.stocks report
   -- if a span encloses a value, so do its two printed numbers
   pub prints : (span : Span) (value : ℕ → Fraction) → ShowsSpan 48 value span → PrintsAround span value

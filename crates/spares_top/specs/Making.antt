@@ -50,12 +50,12 @@ WriteRefused writes old new before now failure =
     × IsSomeAnd writes (λ w. KeepsOthers w.name old new × Rose (before w.name) (now w.name)))
 
 -- the state after a delivery that failed
-abbrev pub IsUndelivered : Outcome → Scene → Scene → Failure → Type 0
-IsUndelivered outcome old new failure =
+abbrev pub HasNotDelivered : Outcome → Scene → Scene → Failure → Type 0
+HasNotDelivered outcome old new failure =
     ((failure ≡ plain_failure refusal.NoMemory) × IsUntouched old new)
     ⊎ ((failure ≡ plain_failure refusal.WriteFault) × HasFailed outcome old new)
 
 -- the state after the delivery of an outcome
 abbrev pub Delivers : {A : Type 0} → Outcome → Scene → Scene → Result A Failure → Type 0
 Delivers outcome old new (Ok done) = HasDelivered outcome old new
-Delivers outcome old new (Err failure) = IsUndelivered outcome old new failure
+Delivers outcome old new (Err failure) = HasNotDelivered outcome old new failure

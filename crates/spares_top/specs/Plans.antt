@@ -3,7 +3,7 @@ use Rattle.std.specs.Prelude.{◌≡◌, ℕ, Bool, true, false, List, Option, S
 use Rattle.std.specs.Option.{option_map}
 use Rattle.case_plan.specs.Report.{outcome_of}
 use Rattle.case_plan.specs.declared.outcome.Outcome as plans
-use Rattle.case_plan.specs.declared.terms.Terms as reports
+use Rattle.case_plan.specs.declared.request.Request.{Request}
 use Rattle.certified_plan.specs.Certificates.{certificate_of, text_of}
 use Rattle.gap_rules.specs.Scores.{ends_of}
 use Rattle.price_certificate.specs.declared.certificate.Terms.{Terms}
@@ -55,9 +55,9 @@ abbrev pub is_loss : Objective → Bool
 is_loss Backorders = false
 is_loss LogAvailability = true
 
--- the terms of the plan's report: the budget, whether the objective is the loss, and the cost of the stocks on hand
-abbrev pub plan_terms : Planning → reports.Terms
-plan_terms x = record {
+-- what is asked for: the budget, whether the objective is the loss, and the cost of the stocks on hand
+abbrev pub plan_request : Planning → Request
+plan_request x = record {
   budget = x.terms.budget;
   loss = is_loss x.terms.objective;
   on_hand = option_map (cost_of x.case) x.on_hand;
@@ -65,7 +65,7 @@ plan_terms x = record {
 
 -- the outcome of a plan
 abbrev pub plan_outcome : Planning → CasePlan → plans.Outcome
-plan_outcome x p = outcome_of (ends_of x.terms.objective) x.case (plan_terms x) p
+plan_outcome x p = outcome_of (ends_of x.terms.objective) x.case (plan_request x) p
 
 -- its certificate
 abbrev pub plan_certificate : Planning → CasePlan → Certificate

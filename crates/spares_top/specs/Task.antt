@@ -24,6 +24,7 @@ use Rattle.spares_words.specs.declared.order.Order.TheVariants as order
 use Rattle.spares_words.specs.declared.order.WordsFault.{WordsFault}
 use Rattle.order_inputs.specs.Cases.{case_to_edit, case_within_work, stocked_by}
 use Rattle.order_inputs.specs.Files.{CaseBytes, bytes_at, inputs_of, reads, tables_in}
+use Rattle.spares_top.specs.declared.check.Claim.{Claim}
 use Rattle.spares_top.specs.declared.done.Done.{Done}
 use Rattle.spares_top.specs.declared.done.Done.TheVariants.{Single, Evaluated, Checked, Demo, Swept, Priced, Session, Compared}
 use Rattle.spares_top.specs.declared.done.Outcome.{Outcome}
@@ -35,7 +36,7 @@ use Rattle.refusals.specs.Causes.{or_refuse, plain_failure}
 use Rattle.refusals.specs.Lines.{no_names}
 use Rattle.spares_top.specs.Plans.{Planning, IsPlanned, planning_of}
 use Rattle.demonstration.specs.Demonstrations.{IsDemonstrated}
-use Rattle.spares_top.specs.Checks.{Claimed, claimed_of, check_of}
+use Rattle.spares_top.specs.Checks.{claimed_of, check_of}
 use Rattle.family_points.specs.Points.{plain_ends}
 
 -- The task of an accepted order.
@@ -47,7 +48,7 @@ pub data Task : Type 0 where
   -- the plan of a case, and its certificate under this name
   make_plan : Planning → List ℕ → Task
   -- the claims of a certificate that breaks no rule
-  confirm : Claimed → Task
+  confirm : Claim → Task
   -- the plan of the demonstration case of a number and a count of line units
   demonstrate : ℕ → ℕ → Task
   -- the best backorders of a case for every budget

@@ -11,7 +11,7 @@ ghost use Rattle.refusals.specs.Causes.{or_refuse};
 ghost use Rattle.refusals.specs.Lines.{no_names};
 ghost use Rattle.refusals.specs.declared.refusal.Refusal.TheVariants as refusal;
 ghost use Rattle.spares_top.specs.Checks.{check_of, form_of, judged_of, with_held, with_nothing};
-ghost use Rattle.spares_top.specs.Checking.{IsClaim, TellsClaim, claimed_by, confirmed_of};
+ghost use Rattle.spares_top.specs.Checking.{IsClaim, confirmed_of};
 ghost use Rattle.spares_top.specs.Making.{Is, MakesBy};
 ghost use Rattle.spares_top.specs.Task.{check_task};
 
@@ -38,7 +38,7 @@ pub(crate) struct Claim {
 /// The claim of a certificate with stocks on hand.
 fn held_claim(alloc: Global, bytes: &[u8]) -> Result<Claim, Stop<CertFault>>
     requires { length bytes.now ≤ certificate_limit }
-    ensures answer { TellsClaim (with_held (held_of bytes.now)) result }
+    ensures answer { Gives (with_held (held_of bytes.now)) result }
     ensures claim { IfOk result IsClaim }
 {
     let read = held_certificate::read(alloc, bytes)?;
@@ -51,7 +51,7 @@ fn held_claim(alloc: Global, bytes: &[u8]) -> Result<Claim, Stop<CertFault>>
 /// The claim of a certificate without stocks on hand.
 fn plain_claim(alloc: Global, bytes: &[u8]) -> Result<Claim, Stop<CertFault>>
     requires { length bytes.now ≤ certificate_limit }
-    ensures answer { TellsClaim (with_nothing (cert_of bytes.now)) result }
+    ensures answer { Gives (with_nothing (cert_of bytes.now)) result }
     ensures claim { IfOk result IsClaim }
 {
     let certificate = price_certificate::read(alloc, bytes)?;
@@ -64,7 +64,7 @@ fn plain_claim(alloc: Global, bytes: &[u8]) -> Result<Claim, Stop<CertFault>>
 /// The claim of the bytes of a certificate, whose first line decides the form.
 fn read_claim(alloc: Global, bytes: &[u8]) -> Result<Claim, Stop<CertFault>>
     requires { length bytes.now ≤ certificate_limit }
-    ensures answer { TellsClaim (form_of bytes.now) result }
+    ensures answer { Gives (form_of bytes.now) result }
     ensures claim { IfOk result IsClaim }
 {
     if held_certificate::is_held_form(bytes) {
@@ -77,7 +77,7 @@ fn read_claim(alloc: Global, bytes: &[u8]) -> Result<Claim, Stop<CertFault>>
 /// The claim of the bytes of a certificate, or the refusal of bytes that are no certificate.
 fn claim_of(alloc: Global, bytes: &[u8]) -> Result<Claim, Stop<Failure>>
     requires { length bytes.now ≤ certificate_limit }
-    ensures answer { TellsClaim (or_refuse no_names refusal.Cert (form_of bytes.now)) result }
+    ensures answer { Gives (or_refuse no_names refusal.Cert (form_of bytes.now)) result }
     ensures claim { IfOk result IsClaim }
 {
     match read_claim(alloc, bytes) {
@@ -90,7 +90,7 @@ fn claim_of(alloc: Global, bytes: &[u8]) -> Result<Claim, Stop<Failure>>
 /// The answer of the checker to a claim, by the score of its objective.
 fn judged(alloc: Global, claim: &Claim) -> Result<Accepted, Stop<Reject>>
     requires { IsClaim claim.now }
-    ensures { Gives (judged_of (claimed_by claim.now)) result }
+    ensures { Gives (judged_of claim.now) result }
 {
     let certificate = &claim.certificate;
     let held = held_in(alloc, &certificate.case, &claim.on_hand)?;
@@ -103,8 +103,8 @@ fn judged(alloc: Global, claim: &Claim) -> Result<Accepted, Stop<Reject>>
 /// The report of an accepted claim.
 fn report_of(claim: &Claim, accepted: Accepted) -> CheckReport
     requires claim { IsClaim claim.now }
-    requires accepted { judged_of (claimed_by claim.now) ≡ Ok accepted }
-    ensures { result ≡ check_of (claimed_by claim.now) }
+    requires accepted { judged_of claim.now ≡ Ok accepted }
+    ensures { result ≡ check_of claim.now }
 {
     let certificate = &claim.certificate;
     CheckReport {
@@ -120,7 +120,7 @@ fn report_of(claim: &Claim, accepted: Accepted) -> CheckReport
 /// The report of a claim, or the refusal of the first rule that it breaks.
 fn confirmed(alloc: Global, claim: &Claim) -> Result<CheckReport, Stop<Failure>>
     requires { IsClaim claim.now }
-    ensures { Gives (confirmed_of (claimed_by claim.now)) result }
+    ensures { Gives (confirmed_of claim.now) result }
 {
     match judged(alloc, claim) {
         Ok(accepted) => Ok(report_of(claim, accepted)),

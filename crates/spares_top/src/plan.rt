@@ -3,17 +3,18 @@
 //! - Reads sites, parts, rates, and the stocks on hand if a table of them is named.
 //! - Refuses, in this order: the first fault of the tables; a pipeline beyond the limits of the model; too much work.
 //! - Makes the report, and the certificate under its name.
-ghost use Rattle.std.specs.Prelude.{◌≡◌, IfOk, Some, Ok, option_map};
+ghost use Rattle.std.specs.Prelude.{◌≡◌, IfOk, IfSome, Some, Ok, option_map};
 ghost use Rattle.certified_plan.specs.Inputs.{AreTerms};
 ghost use Rattle.order_inputs.specs.Given.{bytes_of};
 ghost use Rattle.spares_top.specs.Making.{Is, IsMade, MakesBy};
-ghost use Rattle.spares_top.specs.Planning.{HasFormat, IsGround, IsPlanFor, TellsGround, planning_on};
-ghost use Rattle.spares_top.specs.Plans.{held_of, planning_of};
+ghost use Rattle.spares_top.specs.Planning.{IsGround, IsPlanFor, TellsGround, planning_on};
+ghost use Rattle.spares_top.specs.Plans.{held_of, is_loss, plan_request, planning_of};
 ghost use Rattle.spares_top.specs.Task.{make_plan, plan_task};
 
 use crate::done::{Done, Outcome, Written};
 use crate::held::{cost_of, held_in};
 use answers::{NoMemory, Stop};
+use case_plan::Request;
 use case_tables::{Accepted, Stocked};
 use certified_plan::{certificate, certificate_text};
 use held_work::held_work;
@@ -82,7 +83,7 @@ fn ground_of(
     terms: Terms,
 ) -> Result<Ground, Stop<Failure>>
     requires terms { AreTerms terms }
-    requires format { HasFormat on_hand.now terms }
+    requires format { IfSome on_hand.now (λ _. terms.format ≡ 2) }
     ensures answer { TellsGround (planning_of (bytes_of tables.now) (option_map (λ t. t.bytes.now) on_hand.now) terms)
         result }
     ensures ground { IfOk result IsGround }
@@ -93,6 +94,28 @@ fn ground_of(
     }
 }
 
+/// Whether an objective is the loss.
+fn is_loss(objective: Objective) -> bool
+    ensures { result ≡ is_loss objective }
+{
+    match objective {
+        Objective::Backorders => false,
+        Objective::LogAvailability => true,
+    }
+}
+
+/// What is asked for on a ground.
+fn request_of(ground: &Ground) -> Request
+    requires { IsGround ground.now }
+    ensures { result ≡ plan_request (planning_on ground.now) }
+{
+    Request {
+        budget: ground.terms.budget,
+        loss: is_loss(ground.terms.objective),
+        on_hand: cost_of(&ground.given.case, &ground.on_hand),
+    }
+}
+
 /// The plan of a ground from its held stocks.
 fn plan_of(alloc: Global, ground: &Ground, held: &Stocks) -> Result<case_plan::Outcome, NoMemory>
     requires ground { IsGround ground.now }
@@ -100,25 +123,10 @@ fn plan_of(alloc: Global, ground: &Ground, held: &Stocks) -> Result<case_plan::O
     ensures { IfOk result (IsPlanFor ground.now) }
 {
     let Accepted { case, rates } = &ground.given;
-    let budget = ground.terms.budget;
-    let on_hand = cost_of(case, &ground.on_hand);
+    let request = request_of(ground);
     match ground.terms.objective {
-        Objective::Backorders => {
-            let asked = case_plan::Terms {
-                budget,
-                loss: false,
-                on_hand,
-            };
-            plan_case(alloc, case, rates, held, &Plain, asked)
-        }
-        Objective::LogAvailability => {
-            let asked = case_plan::Terms {
-                budget,
-                loss: true,
-                on_hand,
-            };
-            plan_case(alloc, case, rates, held, &LogLoss, asked)
-        }
+        Objective::Backorders => plan_case(alloc, case, rates, held, &Plain, request),
+        Objective::LogAvailability => plan_case(alloc, case, rates, held, &LogLoss, request),
     }
 }
 
@@ -168,7 +176,7 @@ pub(crate) fn plan(
     name: &Text,
 ) -> Result<Outcome, Stop<Failure>>
     requires terms { AreTerms terms }
-    requires format { HasFormat on_hand.now terms }
+    requires format { IfSome on_hand.now (λ _. terms.format ≡ 2) }
     ensures { MakesBy (Is (plan_task (bytes_of tables.now) (option_map (λ t. t.bytes.now) on_hand.now) terms name.now))
         result }
 {

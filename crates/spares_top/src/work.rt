@@ -21,9 +21,9 @@ use crate::single::single;
 use crate::sweep::sweep;
 use crate::target::target;
 use answers::{List, Stop};
-use order_inputs::{files_of, fourth_if, table_at, tables_of};
+use order_inputs::{files_of, fourth_of, table_at, tables_of};
 use price_certificate::Terms;
-use refusals::{Failure, Refusal, failure_of};
+use refusals::{Failure, Refusal};
 use spares_io::{Shelf, Sink, Text};
 use spares_words::{Order, WordsFault, read_words};
 use std::alloc::Global;
@@ -54,8 +54,8 @@ fn outcome_on(alloc: Global, order: &Order, files: &[List<u8>]) -> Result<Outcom
                 format: *format,
                 objective: *objective,
             };
-            let on_hand = fourth_if(files, on_hand.is_some());
-            plan(alloc, &tables_of(files), &on_hand, terms, certificate)
+            let stocks = fourth_of(files, on_hand);
+            plan(alloc, &tables_of(files), &stocks, terms, certificate)
         }
         Order::Check { .. } => check(alloc, files[0].as_slice()),
         Order::Demo { number, lines } => demo(alloc, *number, *lines),
@@ -97,10 +97,7 @@ fn perform<H: Shelf, W: Sink>(
         (scene (H.held shelf.new) (H.read_faults shelf.new) (H.write_faults shelf.new)
         (W.bytes out.new) (W.faults out.new)) result }
 {
-    let outcome = match outcome_of(alloc, order, shelf) {
-        Ok(outcome) => outcome,
-        Err(stop) => return Err(failure_of(stop)),
-    };
+    let outcome = outcome_of(alloc, order, shelf)?;
     deliver(alloc, &outcome, shelf, out)?;
     Ok(outcome.done)
 }

@@ -7,7 +7,7 @@ ghost use Rattle.price_certificate.specs.Certificates.{IsWellFormed};
 ghost use Rattle.certified_plan.specs.Inputs.{AreTerms, IsHeld, IsPlanOn, IsWithinWork};
 
 use answers::NoMemory;
-use case_plan::Outcome;
+use case_plan::{Outcome, Request};
 use certified_plan::{certificate, certificate_text};
 use demand_rates::kinds::Rates;
 use demand_rates::rates;
@@ -63,14 +63,14 @@ fn plan_on(
     ensures { IfOk result (IsPlanOn case.now held.now terms) }
 {
     let _valid = case.site_count();
-    let asked = case_plan::Terms {
+    let request = Request {
         budget: terms.budget,
         loss: false,
         on_hand: None,
     };
     match terms.objective {
-        Objective::Backorders => plan_case(alloc, case, rates, held, &Plain, asked),
-        Objective::LogAvailability => plan_case(alloc, case, rates, held, &LogLoss, asked),
+        Objective::Backorders => plan_case(alloc, case, rates, held, &Plain, request),
+        Objective::LogAvailability => plan_case(alloc, case, rates, held, &LogLoss, request),
     }
 }
 

@@ -5,7 +5,7 @@ ghost use Rattle.spares_input.specs.Money.{most_budget};
 use answers::NoMemory;
 use case_figures::{BaseLine, Figures, ItemLine, Items};
 use case_maker::make_case;
-use case_plan::{Terms, plan};
+use case_plan::{Request, plan};
 use demand_rates::rates;
 use held_work::held_work;
 use hull::Plain;
@@ -101,12 +101,12 @@ fn agreement(alloc: Global, budget: u64) -> Result<Option<(bool, u64)>, NoMemory
     }
     let curves = held_curves(alloc, &case, &rates, &held, &Plain)?;
     let whole = plan(alloc, &case, &rates, curves.as_slice(), budget, false, None)?;
-    let terms = Terms {
+    let request = Request {
         budget,
         loss: false,
         on_hand: None,
     };
-    let parts = plan_case(alloc, &case, &rates, &held, &Plain, terms)?;
+    let parts = plan_case(alloc, &case, &rates, &held, &Plain, request)?;
     let report = are_same(&whole.report, &parts.report);
     let stocks = whole.stocks.as_slice() == parts.stocks.as_slice();
     Ok(Some((report && stocks, whole.report.hull)))

@@ -65,3 +65,10 @@ returns-clause-fits c =
     c.steps.invariant.same c.in_default.ensures.none c.steps.invariant.sums c.steps.invariant.swept c.at_price-2.ensures
     (c.of.ensures ∙ m) in
     all_fit c.of.result (all_small c.args.curves.now c.of.result c.requires e.shapes e.sweep)
+
+pub returns-clause-shapes : goal.returns-clause-shapes
+returns-clause-shapes c =
+    let m : c.push-2.new.self.items ≡ c.steps.points.items ++ c.at_price-2.result ∷ [] = c.in_ok-push-2.ensures.items in
+    (ended c.args.curves.now c.steps.walk c.steps.points.items c.of.result c.at_price-2.result c.steps.sums
+    c.steps.invariant.same c.in_default.ensures.none c.steps.invariant.sums c.steps.invariant.swept c.at_price-2.ensures
+    (c.of.ensures ∙ m)).shapes

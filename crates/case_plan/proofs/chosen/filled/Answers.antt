@@ -19,6 +19,6 @@ returns-clause-fits c = record {
   limits = within c.args.case.now c.site_count-sites.ensures.valid c.args.curves.now c.args.picks.now c.requires.vectors c.requires.vertices c.in_ok-stocks.stocks
       c.in_ok-stocks.ensures.is_for c.in_ok-stocks.ensures.vectors;
   ordered = c.totals_of-sums.ensures.ordered;
-  room = c.totals_of-sums.ensures.small.1.1;
+  room = c.totals_of-sums.ensures.small;
   critical = c.requires.critical;
 }

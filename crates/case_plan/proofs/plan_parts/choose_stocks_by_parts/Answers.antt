@@ -10,7 +10,7 @@ use Rattle.hull.specs.declared.point.Point.{Point}
 use Rattle.part_filling.specs.declared.window.Window.{Window}
 use Rattle.part_filling.specs.Known.{AreKnown}
 use Rattle.choice_parts.proofs.OfCurves.{in_shape}
-use Rattle.case_plan.specs.Parts.{IsPlace, IsSmallPrice, numbers_of, slack}
+use Rattle.case_plan.specs.Parts.{IsPlace, numbers_of, slack}
 use Rattle.case_plan.specs.Report.{HaveVectors}
 use Rattle.case_plan.proofs.Planned.{family_some, place_at, planned_numbers}
 use Rattle.case_plan.proofs.ByParts.{IsHullOf, critical_one, few_parts, hull_of, known_vectors, parts_known, vectors_count}
@@ -111,12 +111,6 @@ pub filled-requires-clause-vertices : goal.filled-requires-clause-vertices
 filled-requires-clause-vertices g c =
     subst (AreVertices c.as_slice-7.result.now) (sym c.as_slice-8.ensures.value)
     (subst (λ l. AreVertices l c.fill_parts.new.known.picks.items) (sym c.as_slice-7.ensures.value) c.in_ok-fill_parts.ensures.vertices)
-
-pub filled-requires-clause-price : goal.filled-requires-clause-price
-filled-requires-clause-price g c =
-    let h = c.in_ok-chosen.ensures.price in
-    let small : IsSmallPrice c.in_ok-chosen.chosen.price = record { p = omega (arith, h.0); q = h.2; positive = h.1 } in
-    subst IsSmallPrice (sym c.hull_numbers-hull.ensures.price) small
 
 pub filled-requires-clause-critical : goal.filled-requires-clause-critical
 filled-requires-clause-critical g c =

@@ -28,5 +28,5 @@ outcome_at-requires-clause-families g c = c.as_slice.ensures.value ∙ c.in_ok-r
 pub returns-clause-outcome : goal.returns-clause-outcome
 returns-clause-outcome g c = λ ends held e.
     let cs = curves_of (g.F.Families.points c.args.families.now) in
-    c.in_ok-outcome.ensures.case cs.0 (subst (λ x. IfSome x (IsChosen c.args.case.now cs.0 c.args.terms.budget)) c.in-Some.is (c.in_ok-chosen.ensures.chosen cs.0 cs.1)) ends held
+    c.in_ok-outcome.ensures.case cs.0 (subst (λ x. IfSome x (IsChosen c.args.case.now cs.0 c.args.request.budget)) c.in-Some.is (c.in_ok-chosen.ensures.chosen cs.0 cs.1)) ends held
     (subst (λ (p : List (List Point)). AreCurves p cs.0) e cs.1)

@@ -5,7 +5,7 @@ use Rattle.price_bounds.specs.Sums.{cost_of, total, width_of}
 use Rattle.step_walk.specs.Prefix.{AreVertices, picked}
 use Rattle.marginal_alloc.specs.Filling.{Fills}
 use Rattle.marginal_alloc.specs.Plans.{IsPlan}
-use Rattle.case_plan.specs.Parts.{IsSmallPrice, slack}
+use Rattle.case_plan.specs.Parts.{slack}
 use Rattle.case_plan.proofs.Planned.{family_some, place_at, planned_numbers}
 use Rattle.case_plan.proofs.Ranges.{few_lines}
 use Rattle.case_plan.proofs.Whole.{place_some}
@@ -51,12 +51,6 @@ filled-requires-clause-vectors c = c.requires.curves.vectors
 
 pub filled-requires-clause-vertices : goal.filled-requires-clause-vertices
 filled-requires-clause-vertices c = subst (AreVertices c.args.curves.now) (sym c.as_slice-3.ensures.value) c.fill.ensures.vertices
-
-pub filled-requires-clause-price : goal.filled-requires-clause-price
-filled-requires-clause-price c =
-    let h = c.in_ok-chosen.ensures.price in
-    let small : IsSmallPrice c.in_ok-chosen.chosen.price = record { p = omega (arith, h.0); q = h.2; positive = h.1 } in
-    subst IsSmallPrice (sym c.hull_numbers-hull.ensures.price) small
 
 pub filled-requires-clause-critical : goal.filled-requires-clause-critical
 filled-requires-clause-critical c =

@@ -12,25 +12,25 @@ pub of-requires-clause-ranges : goal.of-requires-clause-ranges
 of-requires-clause-ranges g c =
     let x = c.args.sources.now.family.now in
     let valid = c.size-size.ensures.valid in
-    let d = c.args.depot.now in
+    let d = c.args.first.now.stocks in
     let ends = g.S.Score.ends in
     let room = g.met.S.Score.leaves_room in
-    λ v m. depot_ranges x valid ends room d c.requires.depot v (c.in_ok-path.ensures.among v m)
+    λ v m. depot_ranges x valid ends room d c.requires.first.at v (c.in_ok-path.ensures.among v m)
 
 pub of-requires-clause-widths : goal.of-requires-clause-widths
 of-requires-clause-widths g c =
     let x = c.args.sources.now.family.now in
     let valid = c.size-size.ensures.valid in
-    let d = c.args.depot.now in
+    let d = c.args.first.now.stocks in
     let ends = g.S.Score.ends in
     let room = g.met.S.Score.leaves_room in
-    λ v w m n. depot_widths x valid ends room d c.requires.depot v (c.in_ok-path.ensures.among v m) ∙ sym (depot_widths x valid ends room d c.requires.depot w (c.in_ok-path.ensures.among w n))
+    λ v w m n. depot_widths x valid ends room d c.requires.first.at v (c.in_ok-path.ensures.among v m) ∙ sym (depot_widths x valid ends room d c.requires.first.at w (c.in_ok-path.ensures.among w n))
 
 pub returns-in_default-clause-curve : goal.returns-in_default-clause-curve
 returns-in_default-clause-curve g c =
     let x = c.args.sources.now.family.now in
     let valid = c.size-size.ensures.valid in
-    let d = c.args.depot.now in
+    let d = c.args.first.now.stocks in
     let ends = g.S.Score.ends in
     let room = g.met.S.Score.leaves_room in
     let points : List Point = depot_points ends x d in
@@ -41,10 +41,10 @@ pub returns-in_default-clause-widths : goal.returns-in_default-clause-widths
 returns-in_default-clause-widths g c =
     let x = c.args.sources.now.family.now in
     let valid = c.size-size.ensures.valid in
-    let d = c.args.depot.now in
+    let d = c.args.first.now.stocks in
     let ends = g.S.Score.ends in
     let room = g.met.S.Score.leaves_room in
-    λ v m. depot_widths x valid ends room d c.requires.depot v (c.in_ok-path.ensures.among v (c.in_ok-curve.ensures.curve.among v m))
+    λ v m. depot_widths x valid ends room d c.requires.first.at v (c.in_ok-path.ensures.among v (c.in_ok-curve.ensures.curve.among v m))
 
 pub depot_path-requires-2-clause-ranges : goal.depot_path-requires-2-clause-ranges
 depot_path-requires-2-clause-ranges g c =
@@ -54,26 +54,26 @@ pub add_points-requires-clause-ranges : goal.add_points-requires-clause-ranges
 add_points-requires-clause-ranges g c =
     let x = c.args.sources.now.family.now in
     let valid = c.size-size.ensures.valid in
-    let d = c.args.depot.now in
+    let d = c.args.first.now.stocks in
     let ends = g.S.Score.ends in
     let room = g.met.S.Score.leaves_room in
-    λ v m. depot_ranges x valid ends room d c.requires.depot v (c.in_ok-path-2.ensures.among v m)
+    λ v m. depot_ranges x valid ends room d c.requires.first.at v (c.in_ok-path-2.ensures.among v m)
 
 pub add_points-requires-clause-widths : goal.add_points-requires-clause-widths
 add_points-requires-clause-widths g c =
     let x = c.args.sources.now.family.now in
     let valid = c.size-size.ensures.valid in
-    let d = c.args.depot.now in
+    let d = c.args.first.now.stocks in
     let ends = g.S.Score.ends in
     let room = g.met.S.Score.leaves_room in
     let before : HaveWidthOf x c.in-Some.curve = subst (λ (o : Option (List Point)). HaveWidthOf x (vertices_of o)) c.in-Some.is c.requires.widths in
-    λ v w m n. before v m ∙ sym (depot_widths x valid ends room d c.requires.depot w (c.in_ok-path-2.ensures.among w n))
+    λ v w m n. before v m ∙ sym (depot_widths x valid ends room d c.requires.first.at w (c.in_ok-path-2.ensures.among w n))
 
 pub returns-then-is_empty-clause-curve : goal.returns-then-is_empty-clause-curve
 returns-then-is_empty-clause-curve g c =
     let x = c.args.sources.now.family.now in
     let valid = c.size-size.ensures.valid in
-    let d = c.args.depot.now in
+    let d = c.args.first.now.stocks in
     let ends = g.S.Score.ends in
     let room = g.met.S.Score.leaves_room in
     let curve : List Point = c.in-Some.curve in
@@ -87,7 +87,7 @@ pub returns-clause-curve : goal.returns-clause-curve
 returns-clause-curve g c =
     let x = c.args.sources.now.family.now in
     let valid = c.size-size.ensures.valid in
-    let d = c.args.depot.now in
+    let d = c.args.first.now.stocks in
     let ends = g.S.Score.ends in
     let room = g.met.S.Score.leaves_room in
     let curve : List Point = c.in-Some.curve in
@@ -104,12 +104,12 @@ pub returns-clause-widths : goal.returns-clause-widths
 returns-clause-widths g c =
     let x = c.args.sources.now.family.now in
     let valid = c.size-size.ensures.valid in
-    let d = c.args.depot.now in
+    let d = c.args.first.now.stocks in
     let ends = g.S.Score.ends in
     let room = g.met.S.Score.leaves_room in
     let before : HaveWidthOf x c.in-Some.curve = subst (λ (o : Option (List Point)). HaveWidthOf x (vertices_of o)) c.in-Some.is c.requires.widths in
     widths_grow x c.in-Some.curve c.in_ok-path-2.path.items c.add_points.new.self before
-    (λ v m. depot_widths x valid ends room d c.requires.depot v (c.in_ok-path-2.ensures.among v m)) c.in_ok-add_points.ensures.ok
+    (λ v m. depot_widths x valid ends room d c.requires.first.at v (c.in_ok-path-2.ensures.among v m)) c.in_ok-add_points.ensures.ok
 
 pub of-requires-clause-some : goal.of-requires-clause-some
 of-requires-clause-some g c = c.in_ok-path.ensures.some refl
@@ -120,8 +120,8 @@ of-requires-clause-few g c = omega (arith, c.in_ok-path.ensures.few, c.requires.
 pub depot_path-requires-clause-sources : goal.depot_path-requires-clause-sources
 depot_path-requires-clause-sources g c = c.requires.sources
 
-pub depot_path-requires-clause-depot : goal.depot_path-requires-clause-depot
-depot_path-requires-clause-depot g c = c.requires.depot
+pub depot_path-requires-clause-first : goal.depot_path-requires-clause-first
+depot_path-requires-clause-first g c = c.requires.first
 
 pub depot_path-requires-clause-tables : goal.depot_path-requires-clause-tables
 depot_path-requires-clause-tables g c = c.requires.tables
@@ -138,8 +138,8 @@ depot_path-requires-clause-work g c = c.requires.work
 pub depot_path-requires-2-clause-sources : goal.depot_path-requires-2-clause-sources
 depot_path-requires-2-clause-sources g c = c.requires.sources
 
-pub depot_path-requires-2-clause-depot : goal.depot_path-requires-2-clause-depot
-depot_path-requires-2-clause-depot g c = c.requires.depot
+pub depot_path-requires-2-clause-first : goal.depot_path-requires-2-clause-first
+depot_path-requires-2-clause-first g c = c.requires.first
 
 pub depot_path-requires-2-clause-tables : goal.depot_path-requires-2-clause-tables
 depot_path-requires-2-clause-tables g c = c.requires.tables

@@ -1,9 +1,9 @@
-use Rattle.std.proofs.Common.{◌≡◌, ◌+◌, ◌*◌, ◌≤◌, ◌∷◌, ◌++◌, flat_map, length}
+use Rattle.std.proofs.Common.{◌≡◌, ◌+◌, ◌*◌, ◌<◌, ◌≤◌, ◌∷◌, ◌++◌, drop, flat_map, length}
 use Rattle.std.specs.List.{range_with_len}
 use Rattle.hull.specs.Curves.{IsCurve}
 use Rattle.family_points.specs.Separation.{depot_points}
 use Rattle.family_points.specs.Inputs.{line_high, line_low, vertex_count}
-use Rattle.family_curve.specs.Joining.{HaveWidthOf, run_start, vertices_of}
+use Rattle.family_curve.specs.Joining.{HaveWidthOf, IsDepotPoint, run_start, vertices_of}
 use Rattle.family_curve.proofs.joining.with_lines.Given as goal
 
 abbrev pub invariant-loop-n : goal.invariant-loop-n
@@ -12,4 +12,7 @@ invariant-loop-n g l = record {
   curve : IsCurve (vertices_of l.fn.so_far ++ flat_map (λ s. depot_points g.S.Score.ends l.sources.family.now (s ∷ l.shops)) (range_with_len (run_start (line_low l.sources.family.now 0) (line_high l.sources.family.now 0) l.n) l.n)) l.curve;
   work : length l.work.chains.items ≡ length l.sources.bases.items;
   widths : HaveWidthOf l.sources.family.now l.curve;
+  point : IsDepotPoint l.sources.family.now l.first;
+  some : 0 < length l.first.stocks;
+  shops : drop 1 l.first.stocks ≡ l.shops;
 }

@@ -9,6 +9,15 @@ use Rattle.family_curve.proofs.joining.with_shops.Goals as goal
 pub depot_tables-requires-clause-depot : goal.depot_tables-requires-clause-depot
 depot_tables-requires-clause-depot g c = subst (AreShopsAt c.args.sources.now.family.now 0) (sym c.as_slice-shops.ensures.value) c.in_ok-vector.ensures.within
 
+pub put-requires-clause-depot : goal.put-requires-clause-depot
+put-requires-clause-depot g c = subst (AreShopsAt c.args.sources.now.family.now 0) (sym c.as_slice-shops.ensures.value) c.in_ok-vector.ensures.within
+
+pub put-requires-clause-sources : goal.put-requires-clause-sources
+put-requires-clause-sources g c = c.requires.sources
+
+pub depot_tables-requires-clause-shops : goal.depot_tables-requires-clause-shops
+depot_tables-requires-clause-shops g c = c.in_ok-put.ensures
+
 pub with_lines-requires-clause-shops : goal.with_lines-requires-clause-shops
 with_lines-requires-clause-shops g c = subst (AreShopsAt c.args.sources.now.family.now 0) (sym c.as_slice-shops.ensures.value) c.in_ok-vector.ensures.within
 

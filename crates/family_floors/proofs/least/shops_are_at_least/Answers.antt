@@ -9,15 +9,25 @@ use Rattle.family_floors.proofs.least.shops_are_at_least.Goals as goal
 pub stocks_at-requires : goal.stocks_at-requires
 stocks_at-requires g c = c.requires.number
 
-pub shops_of-requires : goal.shops_of-requires
-shops_of-requires g c = omega (arith, ap length (c.as_slice.ensures.value ∙ c.in_ok-stocks.ensures.stocks))
+pub shops_of-shops-requires : goal.shops_of-shops-requires
+shops_of-shops-requires g c = omega (arith, ap length (c.as_slice.ensures.value ∙ c.in_ok-stocks.ensures.stocks))
 
 pub depot_tables-requires-clause-sources : goal.depot_tables-requires-clause-sources
 depot_tables-requires-clause-sources g c = c.requires.sources
 
 pub depot_tables-requires-clause-depot : goal.depot_tables-requires-clause-depot
 depot_tables-requires-clause-depot g c =
-    subst (AreShopsAt c.args.sources.now.family.now 0) (sym (c.shops_of.ensures ∙ ap (drop 1) c.as_slice.ensures.value)) c.in_ok-stocks.ensures.shops
+    subst (AreShopsAt c.args.sources.now.family.now 0) (sym (c.shops_of-shops.ensures ∙ ap (drop 1) c.as_slice.ensures.value)) c.in_ok-stocks.ensures.shops
+
+pub put-requires-clause-depot : goal.put-requires-clause-depot
+put-requires-clause-depot g c =
+    subst (AreShopsAt c.args.sources.now.family.now 0) (sym (c.shops_of-shops.ensures ∙ ap (drop 1) c.as_slice.ensures.value)) c.in_ok-stocks.ensures.shops
+
+pub put-requires-clause-sources : goal.put-requires-clause-sources
+put-requires-clause-sources g c = c.requires.sources
+
+pub depot_tables-requires-clause-shops : goal.depot_tables-requires-clause-shops
+depot_tables-requires-clause-shops g c = c.in_ok-put.ensures
 
 pub are_at_least-requires-clause-sources : goal.are_at_least-requires-clause-sources
 are_at_least-requires-clause-sources g c = c.requires.sources
@@ -37,7 +47,7 @@ are_at_least-requires-clause-shops g c = subst (AreShopsAt c.args.sources.now.fa
 pub are_at_least-requires-clause-tables : goal.are_at_least-requires-clause-tables
 are_at_least-requires-clause-tables g c =
     subst (λ (l : List ℕ). AreTables c.args.sources.now.family.now l c.in_ok-tables.tables)
-    (c.shops_of.ensures ∙ ap (drop 1) (c.as_slice.ensures.value ∙ sym c.as_mut_slice-at_depot.ensures.value)) c.in_ok-tables.ensures
+    (c.shops_of-shops.ensures ∙ ap (drop 1) (c.as_slice.ensures.value ∙ sym c.as_mut_slice-at_depot.ensures.value)) c.in_ok-tables.ensures
 
 pub returns : goal.returns
 returns g c =

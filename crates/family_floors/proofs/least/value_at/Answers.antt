@@ -1,6 +1,6 @@
-use Rattle.std.proofs.Common.{◌*◌, ◌^◌, ◌≤◌, sym, subst, arith}
+use Rattle.std.proofs.Common.{◌+◌, ◌*◌, ◌^◌, ◌≤◌, ◌∙◌, ap, ap₂, sym, subst, arith}
 use Rattle.std.proofs.lemmas.Nat.{mul-le}
-use Rattle.hull.specs.Curves.{InRange}
+use Rattle.hull.specs.Curves.{InRange, lagrangian}
 use Rattle.family_rows.specs.Spots.{spot_point}
 use Rattle.family_points.proofs.Ordered.{choice_range}
 use Rattle.family_floors.proofs.least.value_at.Goals as goal
@@ -64,3 +64,10 @@ spot_at-spot-requires-clause-rows g c = c.requires.rows
 
 pub spot_at-spot-requires-clause-choice : goal.spot_at-spot-requires-clause-choice
 spot_at-spot-requires-clause-choice g c = c.requires.choice
+
+pub returns-clause-value : goal.returns-clause-value
+returns-clause-value g c =
+    let p = c.args.price.p in
+    let q = c.args.price.q in
+    ap₂ (λ a b. a * b + p * c.from-2.result) c.from.ensures c.lo.ensures ∙ ap (λ k. q * c.spot_at-spot.result.lo + p * k) (c.from-2.ensures ∙ c.cost.ensures)
+    ∙ ap (lagrangian p q) c.spot_at-spot.ensures

@@ -1,4 +1,5 @@
-use Rattle.std.proofs.Common.{◌≡◌, ℕ, ◌<◌, ◌≤◌, ◌∙◌, List, [], drop, get_or, length, sym, ap, ap₂, arith}
+use Rattle.std.proofs.Common.{◌≡◌, ℕ, ◌*◌, ◌<◌, ◌≤◌, ◌∙◌, List, [], drop, get_or, length, sym, ap, ap₂, subst, arith}
+use Rattle.family_points.specs.Choices.{IsShopVector}
 use Rattle.std.proofs.lemmas.List.{length-map}
 use Rattle.family_points.specs.declared.order.ShopVector.{ShopVector}
 use Rattle.family_points.specs.Inputs.{shop_vectors}
@@ -110,3 +111,25 @@ base_of-here-requires-clause-depot g c = c.requires.depot
 
 pub base_of-here-requires-clause-base : goal.base_of-here-requires-clause-base
 base_of-here-requires-clause-base g c = c.requires.base
+
+pub bounds-parts-n : goal.bounds-parts-n
+bounds-parts-n g c =
+    let here = c.base_of-here.result in
+    let x = here.family.now in
+    let j = here.site.0 in
+    let items = here.base.now.shops.items in
+    let all : List (List ℕ) = shop_vectors x j in
+    let inside : c.loop-n.n < length items = omega (arith, c.loop-n-test.true, c.len-n-end.ensures, here.base.now.shops.ok.0) in
+    let within : c.loop-n.n < length all = omega (arith, inside, length-map items (λ (v : ShopVector). v.stocks), ap length c.base_of-here.ensures.is.base.stocks) in
+    subst (λ k. c.loop-n.n < k) (sym (ap length c.shops_at-parts.ensures ∙ length-map all (shop_part 48 (box_numbers x) j (drop 1 here.depot.now)))) within
+
+pub offset_bounds-parts-n : goal.offset_bounds-parts-n
+offset_bounds-parts-n g c =
+    let most : length c.shops_at-parts.result.now * 64 < 9223372036854775808 = c.shops_at-parts.type_inv.1 in
+    omega (arith, bounds-parts-n g c, most)
+
+pub lower_at_shops-least-requires-clause-shops : goal.lower_at_shops-least-requires-clause-shops
+lower_at_shops-least-requires-clause-shops g c =
+    let here = c.base_of-here.result in
+    let inside : c.loop-n.n < length here.base.now.shops.items = omega (arith, c.loop-n-test.true, c.len-n-end.ensures, here.base.now.shops.ok.0) in
+    subst (IsShopVector here.family.now here.site.0) (sym c.index-shops.ensures) (c.base_of-here.ensures.is.base.are_vectors c.loop-n.n c.index-shops.result.now inside)

@@ -1,8 +1,8 @@
 use Rattle.family_rows.proofs.Rows.{rows_taken}
 use Rattle.family_points.specs.Inputs.{shop_vectors}
 use Rattle.family_points.specs.declared.order.ShopVector.{ShopVector}
-use Rattle.std.proofs.lemmas.List.{length-map}
-use Rattle.std.proofs.Common.{◌<◌, ◌∙◌, length, sym, ap, subst, arith}
+use Rattle.std.proofs.lemmas.List.{length-map, length-take-le}
+use Rattle.std.proofs.Common.{◌≡◌, ◌<◌, ◌≤◌, ◌∙◌, length, sym, ap, subst, arith}
 use Rattle.hull.specs.declared.point.Point.{Point}
 use Rattle.hull.specs.Curves.{InRange}
 use Rattle.family_points.specs.Choices.{IsChoice}
@@ -79,3 +79,12 @@ spot_at-spot-requires-clause-rows g c =
     rows_taken (λ r. r.items) here c.as_slice.result.now c.put_rows.new.rows.items c.len-count.result (length (shop_vectors here.family.now here.site.0))
     (omega (arith, c.len-count.ensures, here.base.now.shops.ok.0, length-map shops (λ (s : ShopVector). s.stocks), ap length c.requires.here.base.stocks)) c.as_slice.ensures.value
     c.in_ok-put_rows.ensures.rows
+
+pub slice_bounds-spot_at-end : goal.slice_bounds-spot_at-end
+slice_bounds-spot_at-end g c =
+    let here = c.args.here.now in
+    let shops = here.base.now.shops.items in
+    let count : c.len-count.result ≡ length (shop_vectors here.family.now here.site.0) = omega (arith, c.len-count.ensures, here.base.now.shops.ok.0, length-map shops (λ (s : ShopVector). s.stocks), ap length c.requires.here.base.stocks) in
+    let long : length (shop_vectors here.family.now here.site.0) ≤ length c.as_slice.result.now =
+    subst (λ k. length (shop_vectors here.family.now here.site.0) ≤ k) (sym (ap length c.as_slice.ensures.value)) c.in_ok-put_rows.ensures.long in
+    sym (length-take-le c.len-count.result c.as_slice.result.now (subst (λ k. k ≤ length c.as_slice.result.now) (sym count) long))

@@ -4,11 +4,12 @@ use Rattle.family_points.specs.Inputs.{AreShopsAt, IsAt, box_points, shop_low}
 use Rattle.family_points.specs.Points.{HasUpper}
 use Rattle.family_points.specs.Separation.{depot_points}
 use Rattle.family_points.proofs.Points.{low_some}
+use Rattle.family_rows.specs.Tabled.{AreTables}
 use Rattle.family_floors.proofs.Uppers.{low_is_at, low_shops_at, upper_of_box}
 use Rattle.family_floors.proofs.upper.upper_at_least.Goals as goal
 
-pub shops_of-requires : goal.shops_of-requires
-shops_of-requires g c =
+pub shops_of-shops-requires : goal.shops_of-shops-requires
+shops_of-shops-requires g c =
     let x = c.args.sources.now.family.now in
     let valid = c.size-size.ensures.valid in
     let some = valid.valid.frame.fewest_sites in
@@ -19,8 +20,22 @@ depot_tables-requires-clause-depot g c =
     let x = c.args.sources.now.family.now in
     let valid = c.size-size.ensures.valid in
     let some = valid.valid.frame.fewest_sites in
-    let is : c.shops_of.result.now ≡ shop_low x 0 = c.shops_of.ensures ∙ ap (drop 1) c.low-depot.ensures in
+    let is : c.shops_of-shops.result.now ≡ shop_low x 0 = c.shops_of-shops.ensures ∙ ap (drop 1) c.low-depot.ensures in
     subst (AreShopsAt x 0) (sym is) (low_shops_at x valid 0 (omega (arith, some)))
+
+pub put-requires-clause-depot : goal.put-requires-clause-depot
+put-requires-clause-depot g c =
+    let x = c.args.sources.now.family.now in
+    let valid = c.size-size.ensures.valid in
+    let some = valid.valid.frame.fewest_sites in
+    let is : c.shops_of-shops.result.now ≡ shop_low x 0 = c.shops_of-shops.ensures ∙ ap (drop 1) c.low-depot.ensures in
+    subst (AreShopsAt x 0) (sym is) (low_shops_at x valid 0 (omega (arith, some)))
+
+pub put-requires-clause-sources : goal.put-requires-clause-sources
+put-requires-clause-sources g c = c.requires.sources
+
+pub depot_tables-requires-clause-shops : goal.depot_tables-requires-clause-shops
+depot_tables-requires-clause-shops g c = c.in_ok-put.ensures
 
 pub upper_at_depot-requires-clause-depot : goal.upper_at_depot-requires-clause-depot
 upper_at_depot-requires-clause-depot g c =
@@ -48,3 +63,7 @@ upper_at_depot-requires-clause-sources g c = c.requires.sources
 
 pub returns-clause-most : goal.returns-clause-most
 returns-clause-most g c = c.upper_at_depot.ensures.most
+
+pub upper_at_depot-requires-clause-tables : goal.upper_at_depot-requires-clause-tables
+upper_at_depot-requires-clause-tables g c =
+    subst (λ (d : List ℕ). AreTables c.args.sources.now.family.now d c.in_ok-tables.tables) c.shops_of-shops.ensures c.in_ok-tables.ensures

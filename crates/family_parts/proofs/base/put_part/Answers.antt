@@ -1,4 +1,4 @@
-use Rattle.std.proofs.Common.{◌-◌, List, arith}
+use Rattle.std.proofs.Common.{List, arith}
 use Rattle.hull.specs.declared.point.Point.{Point}
 use Rattle.hull.specs.Curves.{IsCurve}
 use Rattle.hull.proofs.Shapes.{convex}

@@ -4,7 +4,7 @@ use Rattle.hull.specs.Curves.{Among}
 use Rattle.sum_walk.specs.Sums.{sums_of_each}
 use Rattle.curve_parts.specs.Parts.{IsPassedOver, StandForBetween}
 use Rattle.curve_parts.specs.Beyond.{LieBeyond}
-use Rattle.family_points.specs.Inputs.{vertex_count}
+use Rattle.family_points.specs.Inputs.{IsAt, vertex_count}
 use Rattle.family_points.specs.Separation.{depot_point, depot_points}
 use Rattle.family_points.proofs.AllBases.{bases_long}
 use Rattle.family_curve.specs.Joining.{HaveWidthOf, vertices_of}
@@ -13,8 +13,8 @@ use Rattle.family_parts.proofs.Grown.{grows_by_none, grows_by_sums, joined_among
 use Rattle.family_parts.proofs.Sums.{standing, standing_beyond}
 use Rattle.family_parts.proofs.joining.grow_with.Goals as goal
 
-pub is_passed_over-requires-clause-ranges : goal.is_passed_over-requires-clause-ranges
-is_passed_over-requires-clause-ranges g c = c.vertices_of-vertices.ensures.ranges
+pub low_if_passed-requires-clause-ranges : goal.low_if_passed-requires-clause-ranges
+low_if_passed-requires-clause-ranges g c = c.vertices_of-vertices.ensures.ranges
 
 pub returns-in-Some-clause-part : goal.returns-in-Some-clause-part
 returns-in-Some-clause-part g c =
@@ -56,9 +56,9 @@ join_parts-requires-clause-ranges g c = λ v m.
     let d = c.args.depot.now in
     let ends = g.S.Score.ends in
     let points : List Point = depot_points ends x d in
-    let stands : StandForBetween c.args.low c.args.high points (sums_of_each (c.in_ok-first.first ∷ []) c.as_slice-parts.result.now) =
-    standing c.args.low c.args.high points (depot_point x d) c.in_ok-first.first c.put_parts.new.work.parts.items c.as_slice-parts.result.now
-    c.in_ok-first.ensures.point c.as_slice-parts.ensures.value c.in_ok-made.ensures.stands in
+    let stands : StandForBetween c.args.low c.args.high points (sums_of_each (c.depot_point-first.result ∷ []) c.as_slice-parts.result.now) =
+    standing c.args.low c.args.high points (depot_point x d) c.depot_point-first.result c.put_parts.new.work.parts.items c.as_slice-parts.result.now
+    (c.depot_point-first.ensures.point ∙ ap (depot_point x) (c.in_ok-to_vec.ensures.items_if_clones_equal (λ x y e. e))) c.as_slice-parts.ensures.value c.in_ok-made.ensures.stands in
     depot_ranges x c.size-size.ensures.valid ends g.met.S.Score.leaves_room d c.requires.depot v (stands.among v m)
 
 pub join_parts-requires-clause-width : goal.join_parts-requires-clause-width
@@ -67,9 +67,9 @@ join_parts-requires-clause-width g c = λ v w m n.
     let d = c.args.depot.now in
     let ends = g.S.Score.ends in
     let points : List Point = depot_points ends x d in
-    let stands : StandForBetween c.args.low c.args.high points (sums_of_each (c.in_ok-first.first ∷ []) c.as_slice-parts.result.now) =
-    standing c.args.low c.args.high points (depot_point x d) c.in_ok-first.first c.put_parts.new.work.parts.items c.as_slice-parts.result.now
-    c.in_ok-first.ensures.point c.as_slice-parts.ensures.value c.in_ok-made.ensures.stands in
+    let stands : StandForBetween c.args.low c.args.high points (sums_of_each (c.depot_point-first.result ∷ []) c.as_slice-parts.result.now) =
+    standing c.args.low c.args.high points (depot_point x d) c.depot_point-first.result c.put_parts.new.work.parts.items c.as_slice-parts.result.now
+    (c.depot_point-first.ensures.point ∙ ap (depot_point x) (c.in_ok-to_vec.ensures.items_if_clones_equal (λ x y e. e))) c.as_slice-parts.ensures.value c.in_ok-made.ensures.stands in
     c.requires.widths v m ∙ sym (depot_widths x c.size-size.ensures.valid ends g.met.S.Score.leaves_room d c.requires.depot w (stands.among w n))
 
 pub returns-clause-part : goal.returns-clause-part
@@ -79,14 +79,14 @@ returns-clause-part g c =
     let low = c.args.low in
     let high = c.args.high in
     let points : List Point = depot_points g.S.Score.ends x d in
-    let first : Point = c.in_ok-first.first in
+    let first : Point = c.depot_point-first.result in
     let parts : List (List Point) = c.as_slice-parts.result.now in
     let stands : StandForBetween low high points (sums_of_each (first ∷ []) parts) =
     standing low high points (depot_point x d) first c.put_parts.new.work.parts.items parts
-    c.in_ok-first.ensures.point c.as_slice-parts.ensures.value c.in_ok-made.ensures.stands in
+    (c.depot_point-first.ensures.point ∙ ap (depot_point x) (c.in_ok-to_vec.ensures.items_if_clones_equal (λ x y e. e))) c.as_slice-parts.ensures.value c.in_ok-made.ensures.stands in
     let behind : LieBeyond low points (sums_of_each (first ∷ []) parts) c.in_ok-made.made =
     standing_beyond low points (depot_point x d) first c.put_parts.new.work.parts.items parts c.in_ok-made.made
-    c.in_ok-first.ensures.point c.as_slice-parts.ensures.value c.in_ok-made.ensures.beyond in
+    (c.depot_point-first.ensures.point ∙ ap (depot_point x) (c.in_ok-to_vec.ensures.items_if_clones_equal (λ x y e. e))) c.as_slice-parts.ensures.value c.in_ok-made.ensures.beyond in
     let old = c.args.beyond.now in
     let one = c.min-2.ensures in
     let two = c.min-3.ensures in
@@ -101,16 +101,16 @@ returns-clause-widths g c =
     let high = c.args.high in
     let ends = g.S.Score.ends in
     let points : List Point = depot_points ends x d in
-    let first : Point = c.in_ok-first.first in
+    let first : Point = c.depot_point-first.result in
     let parts : List (List Point) = c.as_slice-parts.result.now in
     let stands : StandForBetween low high points (sums_of_each (first ∷ []) parts) =
     standing low high points (depot_point x d) first c.put_parts.new.work.parts.items parts
-    c.in_ok-first.ensures.point c.as_slice-parts.ensures.value c.in_ok-made.ensures.stands in
+    (c.depot_point-first.ensures.point ∙ ap (depot_point x) (c.in_ok-to_vec.ensures.items_if_clones_equal (λ x y e. e))) c.as_slice-parts.ensures.value c.in_ok-made.ensures.stands in
     widths_joined x (vertices_of c.args.part.now) points (vertices_of c.join_parts.new.part) c.requires.widths (depot_widths x c.size-size.ensures.valid ends g.met.S.Score.leaves_room d c.requires.depot)
     (joined_among low high first parts points (vertices_of c.args.part.now) (vertices_of c.join_parts.new.part) c.in_ok-behind.ensures.joins stands)
 
-pub is_passed_over-requires-clause-sources : goal.is_passed_over-requires-clause-sources
-is_passed_over-requires-clause-sources g c = c.requires.sources
+pub low_if_passed-requires-clause-sources : goal.low_if_passed-requires-clause-sources
+low_if_passed-requires-clause-sources g c = c.requires.sources
 
 pub returns-in-Some-clause-few : goal.returns-in-Some-clause-few
 returns-in-Some-clause-few g c = omega arith
@@ -136,17 +136,17 @@ returns-clause-few g c =
 pub returns-clause-work : goal.returns-clause-work
 returns-clause-work g c = c.in_ok-made.ensures.work
 
-pub is_passed_over-requires-clause-depot : goal.is_passed_over-requires-clause-depot
-is_passed_over-requires-clause-depot g c = c.requires.depot
+pub low_if_passed-requires-clause-depot : goal.low_if_passed-requires-clause-depot
+low_if_passed-requires-clause-depot g c = c.requires.depot
 
-pub is_passed_over-requires-clause-tables : goal.is_passed_over-requires-clause-tables
-is_passed_over-requires-clause-tables g c = c.requires.tables
+pub low_if_passed-requires-clause-tables : goal.low_if_passed-requires-clause-tables
+low_if_passed-requires-clause-tables g c = c.requires.tables
 
-pub is_passed_over-requires-clause-low : goal.is_passed_over-requires-clause-low
-is_passed_over-requires-clause-low g c = c.requires.low
+pub low_if_passed-requires-clause-low : goal.low_if_passed-requires-clause-low
+low_if_passed-requires-clause-low g c = c.requires.low
 
-pub is_passed_over-requires-clause-high : goal.is_passed_over-requires-clause-high
-is_passed_over-requires-clause-high g c = c.requires.high
+pub low_if_passed-requires-clause-high : goal.low_if_passed-requires-clause-high
+low_if_passed-requires-clause-high g c = c.requires.high
 
 pub put_parts-requires-clause-depot : goal.put_parts-requires-clause-depot
 put_parts-requires-clause-depot g c = c.requires.depot
@@ -175,11 +175,11 @@ join_parts-requires-clause-high g c = c.requires.high
 pub join_parts-requires-clause-window : goal.join_parts-requires-clause-window
 join_parts-requires-clause-window g c = c.requires.window
 
-pub depot_point-requires : goal.depot_point-requires
-depot_point-requires g c = c.requires.depot
+pub depot_point-first-requires : goal.depot_point-first-requires
+depot_point-first-requires g c = subst (IsAt c.args.sources.now.family.now 0) (sym (c.in_ok-to_vec.ensures.items_if_clones_equal (λ x y e. e))) c.requires.depot
 
 pub join_parts-requires-clause-first : goal.join_parts-requires-clause-first
-join_parts-requires-clause-first g c = c.in_ok-first.ensures.range
+join_parts-requires-clause-first g c = c.depot_point-first.ensures.range
 
 pub returns-in-Some-clause-widths : goal.returns-in-Some-clause-widths
 returns-in-Some-clause-widths g c = c.requires.widths
@@ -193,8 +193,8 @@ join_parts-requires-clause-widths g c = λ v w m n.
     let d = c.args.depot.now in
     let ends = g.S.Score.ends in
     let points : List Point = depot_points ends x d in
-    let stands : StandForBetween c.args.low c.args.high points (sums_of_each (c.in_ok-first.first ∷ []) c.as_slice-parts.result.now) =
-    standing c.args.low c.args.high points (depot_point x d) c.in_ok-first.first c.put_parts.new.work.parts.items c.as_slice-parts.result.now
-    c.in_ok-first.ensures.point c.as_slice-parts.ensures.value c.in_ok-made.ensures.stands in
+    let stands : StandForBetween c.args.low c.args.high points (sums_of_each (c.depot_point-first.result ∷ []) c.as_slice-parts.result.now) =
+    standing c.args.low c.args.high points (depot_point x d) c.depot_point-first.result c.put_parts.new.work.parts.items c.as_slice-parts.result.now
+    (c.depot_point-first.ensures.point ∙ ap (depot_point x) (c.in_ok-to_vec.ensures.items_if_clones_equal (λ x y e. e))) c.as_slice-parts.ensures.value c.in_ok-made.ensures.stands in
     let widths : HaveWidthOf x points = depot_widths x c.size-size.ensures.valid ends g.met.S.Score.leaves_room d c.requires.depot in
     widths v (stands.among v m) ∙ sym (widths w (stands.among w n))

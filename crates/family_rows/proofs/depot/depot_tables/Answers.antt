@@ -14,5 +14,5 @@ depot_line-requires c =
 pub returns : goal.returns
 returns c = record {
   line = c.in_ok-line.ensures ∙ ap (λ (n : FamilyNumbers 48). depot_line_table 48 n c.args.depot.now) c.requires.sources.numbers;
-  shops = c.in_ok-shops.ensures;
+  shops = c.requires.shops;
 }

@@ -62,3 +62,7 @@ family_from-requires g c =
         ),
       ),
     )
+
+pub bounds-items-last : goal.bounds-items-last
+bounds-items-last g c = let many = length_push (flat_map (part_items g.row.F c.args.case.now c.args.stocks.now.list) (shop_units c.args.case.now c.args.line.0))
+    (item_of g.row.F c.args.case.now c.args.stocks.now.list c.args.line.0 0) in omega (arith, many, ap length c.requires.items)

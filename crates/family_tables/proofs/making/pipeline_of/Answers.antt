@@ -61,3 +61,12 @@ returns-in_ok-feed g c =
     c.base_shop.ensures.ends
     ∙ base_keyed g.row.F c.args.numbers.now c.args.key.now.place c.args.key.now.site.0 c.args.key.now.stocks c.pair-pair.result c.in_ok-feed.feed _
     (omega (arith, c.if-key-eq0.false)) (omega (arith, c.if-key-eq0-2.false)) c.pair-pair.ensures.is c.in_ok-feed.ensures stock
+
+pub feed_at-requires : goal.feed_at-requires
+feed_at-requires g c =
+    let key = c.args.key.now in
+    let inside : key.place - 1 < length c.args.numbers.now.parts - 1 = omega (arith, c.requires.key.place, c.if-key-eq0.false) in
+    let one = c.requires.key.base (omega (arith, c.if-key-eq0.false)) (omega (arith, c.if-key-eq0-2.false)) in
+    let few : nth_stock c.as_slice-else-key-eq0-2.result.now 0 ≤ 63 =
+    subst (λ v. nth_stock v 0 ≤ 63) (sym c.as_slice-else-key-eq0-2.ensures) (c.requires.key.stocks 0 0 (omega (arith, one))) in
+    (lit< tt, (lit< tt, (lit< tt, (c.requires.kept, (inside, (c.requires.key.site, few))))))

@@ -1,4 +1,6 @@
-use Rattle.std.proofs.Common.{◌≡◌}
+use Rattle.spares_input.specs.Cases.{CaseRows}
+use Rattle.std.specs.List.{flat_map, range_with_len}
+use Rattle.std.proofs.Common.{◌≡◌, ◌∙◌, length, ap, arith}
 use Rattle.metric_compare.specs.Levels.{by_site}
 use Rattle.metric_compare.specs.Profile.{poisson_of}
 use Rattle.metric_compare.proofs.Pipes.{rows_more}
@@ -14,3 +16,9 @@ loop-p-preserved c =
     ] in
     rows_more (λ q. by_site c.args.inputs.now.case (poisson_of 48 c.args.inputs.now.case c.args.inputs.now.stocks.list q)) c.loop-p.p c.loop-p.all.items c.if-is_line.row.items c.append.new.self.items
     c.in_ok-append.ensures.items c.loop-p.invariant row
+
+pub returns : goal.returns
+returns c =
+    let case = c.args.inputs.now.case in
+    let all : c.loop-p.p ≡ length case.parts = omega (arith, c.loop-p-test.false, c.loop-p.auto.p-end, c.part_count-p-end.ensures.count, ap (λ (x : CaseRows). length x.parts) c.case.ensures) in
+    c.loop-p.invariant ∙ ap (λ n. flat_map (λ p. by_site case (poisson_of 48 case c.args.inputs.now.stocks.list p)) (range_with_len 0 n)) all

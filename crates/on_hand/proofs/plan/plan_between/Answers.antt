@@ -17,5 +17,5 @@ plan_by_parts-requires-clause-vectors g c =
 pub returns : goal.returns
 returns g c =
     let held = c.args.families.now.held.list in
-    subst (λ (z : CaseRows). IfOk c.plan_by_parts.result (λ found. IfSome found (IsOutcome g.S.Score.ends z c.args.families.now.held.list c.args.terms))) c.case-case.ensures.case
+    subst (λ (z : CaseRows). IfOk c.plan_by_parts.result (λ found. IfSome found (IsOutcome g.S.Score.ends z c.args.families.now.held.list c.args.request))) c.case-case.ensures.case
     (c.plan_by_parts.ensures.outcome g.S.Score.ends held (ap (λ (z : CaseRows). case_points g.S.Score.ends z held) (sym c.case-case.ensures.case)))

@@ -22,10 +22,10 @@ pub returns : goal.returns
 returns g c =
     let ends = g.S.Score.ends in
     let x = c.args.families.now in
-    let terms = c.args.terms in
+    let request = c.args.request in
     let curves = subst (λ (z : List (List Point)). AreCurves (case_points ends x.case x.held.list) z) (sym c.as_slice.ensures.value)
     (are_curves ends x.case x.held.list c.in_ok-curves.curves.items c.in_ok-curves.ensures) in
-    if_ok (IsPlanOf c.case-case.result.now c.as_slice.result.now terms) (IsOutcome ends x.case x.held.list terms) c.plan.result
-    (λ o h. subst (λ (z : CaseRows). IsOutcome ends z x.held.list terms o) c.case-case.ensures.case
+    if_ok (IsPlanOf c.case-case.result.now c.as_slice.result.now request) (IsOutcome ends x.case x.held.list request) c.plan.result
+    (λ o h. subst (λ (z : CaseRows). IsOutcome ends z x.held.list request o) c.case-case.ensures.case
     (h ends x.held.list (subst (λ (z : CaseRows). AreCurves (case_points ends z x.held.list) c.as_slice.result.now) (sym c.case-case.ensures.case) curves)))
     c.plan.ensures.case

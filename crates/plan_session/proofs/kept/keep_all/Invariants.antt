@@ -1,9 +1,9 @@
 use Rattle.std.proofs.Common.{◌≤◌, []}
 use Rattle.held_work.specs.Curves.{IsFamilyCurve}
-use Rattle.plan_session.proofs.Marking.{AreMarkedTo}
+use Rattle.plan_session.proofs.Places.{AreKeptTo}
 use Rattle.plan_session.proofs.kept.keep_all.Given as goal
 use Rattle.family_points.specs.Points.{plain_ends}
 
 abbrev pub invariant-loop-p : goal.invariant-loop-p
 invariant-loop-p l =
-    AreMarkedTo (IsFamilyCurve plain_ends l.fn.case []) [] l.fn.case l.fn.marks l.marks l.curves l.p l.place × (l.place ≤ l.p)
+    AreKeptTo (IsFamilyCurve plain_ends l.fn.case []) l.fn.case l.fn.curves l.curves l.p l.place × (l.place ≤ l.p)

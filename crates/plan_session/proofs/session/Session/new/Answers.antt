@@ -1,7 +1,9 @@
-use Rattle.std.proofs.Common.{[], subst}
+use Rattle.std.proofs.Common.{Bool, List, [], length, ap, subst}
 use Rattle.spares_input.specs.Cases.{IsCase}
+use Rattle.fleet_model.specs.Rows.{line_units}
 use Rattle.held_work.specs.Curves.{IsFamilyCurve}
-use Rattle.plan_session.proofs.Marking.{unkept}
+use Rattle.plan_session.specs.Sessions.{SessionRows}
+use Rattle.plan_session.proofs.Places.{no_marks, none_kept}
 use Rattle.plan_session.proofs.session.Session.new.Goals as goal
 use Rattle.family_points.specs.Points.{plain_ends}
 
@@ -10,7 +12,11 @@ invariant_of-result c = record {
   valid = subst IsCase c.case.view_is c.case.invariant;
   work = c.requires.work;
   budget_most = c.requires.budget;
-  are_kept = unkept (IsFamilyCurve plain_ends c.args.case []) [] c.args.case c.in_ok-curves.marks.items c.in_ok-curves.curves.items
-      c.in_ok-curves.ensures.marks c.in_ok-curves.ensures.curves;
+  are_kept = none_kept (IsFamilyCurve plain_ends c.args.case []) c.args.case c.in_ok-curves.curves.items c.in_ok-curves.ensures;
   are_evaluated = c.in_ok-evaluated.ensures;
 }
+
+pub returns : goal.returns
+returns c =
+    ap (λ (ms : List Bool). let s : SessionRows = record { case = c.args.case; budget = c.args.budget; marks = ms } in s)
+    (no_marks c.in_ok-curves.curves.items (length (line_units c.args.case)) c.in_ok-curves.ensures)

@@ -2,7 +2,7 @@ use Rattle.std.proofs.Common.{◌-◌, ◌^◌, ◌≤◌, ◌∙◌, length, ar
 use Rattle.std.proofs.lemmas.Nat.{mul-le}
 use Rattle.family_floors.proofs.LowPoints.{base_under_more, depot_under}
 use Rattle.family_parts.proofs.Below.{bound_stays}
-use Rattle.family_parts.proofs.lows.is_passed_over.Goals as goal
+use Rattle.family_parts.proofs.lows.low_if_passed.Goals as goal
 
 pub overflow_mul-at_low : goal.overflow_mul-at_low
 overflow_mul-at_low g c =

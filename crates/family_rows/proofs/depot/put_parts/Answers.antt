@@ -11,7 +11,7 @@ use Rattle.family_points.proofs.Points.{take_next}
 use Rattle.family_points.proofs.Spotted.{stock_read}
 use Rattle.family_rows.specs.Tabled.{box_numbers}
 use Rattle.family_rows.proofs.Tabled.{have_shops, shop_stocks}
-use Rattle.family_rows.proofs.depot.parts_at.Goals as goal
+use Rattle.family_rows.proofs.depot.put_parts.Goals as goal
 
 pub overflow_sub-from : goal.overflow_sub-from
 overflow_sub-from c = omega (arith, c.from.ensures, c.requires.site.0)
@@ -90,4 +90,4 @@ returns c =
       length-map items (λ (v : ShopVector). v.stocks),
       ap length base.stocks,
     ) in
-    c.of.ensures ∙ c.loop-n.invariant ∙ ap (map (shop_part 48 (box_numbers x) j c.args.depot.now)) (take_all c.loop-n.n all end)
+    c.loop-n.invariant ∙ ap (map (shop_part 48 (box_numbers x) j c.args.depot.now)) (take_all c.loop-n.n all end)

@@ -2,7 +2,7 @@
 
 /// The request: what a plan may cost, and what its report says besides.
 #[derive(Clone, Copy, Drop)]
-pub struct Terms {
+pub struct Request {
     /// The budget, in whole money.
     pub budget: u64,
     /// Whether the report has the ends of the aim as a loss, beside the total of backorders.

@@ -2,7 +2,7 @@ use Rattle.std.proofs.Common.{◌-◌, ◌*◌, ◌^◌, ◌≤◌}
 use Rattle.std.specs.List.{range_with_len}
 use Rattle.family_points.specs.Least.{AreAtLeast}
 use Rattle.family_points.specs.Separation.{points_over}
-use Rattle.family_parts.proofs.lows.is_passed_over.Given as goal
+use Rattle.family_parts.proofs.lows.low_if_passed.Given as goal
 
 abbrev pub invariant-loop-j : goal.invariant-loop-j
 invariant-loop-j g l = record {
