@@ -3,7 +3,7 @@
 # and prints one table of all.
 #   bench/all.sh PROGRAM [RUNS [PEER [NAME..]]]
 # PROGRAM is the built program. RUNS: how many times each plans a case, 5 if left out, and ten times as often if the
-# case has fewer than 10,000 tables; the least time counts. PEER: another program that takes the same words of `plan`;
+# case has fewer than 20,000 tables; the least time counts. PEER: another program that takes the same words of `plan`;
 # if left out or `-`, peers/plan.rs is built. NAME: a case of large_case.py.
 #
 # It stops if a report or a certificate of a case differs from another's. The times are the processor's for the whole

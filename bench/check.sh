@@ -3,7 +3,7 @@
 # processor, and prints one table.
 #   bench/check.sh PROGRAM [RUNS [PEER [NAME..]]]
 # PROGRAM is the built program, which makes the certificates too. RUNS: how many times each is run, 5 if left out, and
-# ten times as often if the case has fewer than 10,000 tables; the least time counts. PEER: another program that takes
+# ten times as often if the case has fewer than 20,000 tables; the least time counts. PEER: another program that takes
 # the same words of `plan` without an aim; if left out or `-`, peers/plan.rs is built. NAME: a case of large_case.py; all
 # of them if left out.
 #

@@ -45,8 +45,8 @@ take_words() {
 }
 
 # runs_of FOLDER RUNS: how many times to run a case that large_case.py wrote: RUNS, and ten times as often if it has
-# fewer than 10,000 tables
-runs_of() { echo $(($(cat "$1/tables") < 10000 ? 10 * $2 : $2)); }
+# fewer than 20,000 tables
+runs_of() { echo $(($(cat "$1/tables") < 20000 ? 10 * $2 : $2)); }
 
 # spent NAME WORDS..: runs a program once on one processor, adds its times to those of this name, and keeps its output
 # as $work/NAME.report

@@ -113,6 +113,31 @@ def unused(crates):
                     yield path, text.count('\n', 0, use.start()) + 1, name.strip()
 
 
+def foreign(crates):
+    """of another crate's lemmas a file imports only those that its proofs/Public offers"""
+    for path in [*crates.glob('*/src/**/*.rt'), *crates.glob('*/specs/**/*.antt'), *crates.glob('*/proofs/**/*.antt')]:
+        crate = path.relative_to(crates).parts[0]
+        for number, line in enumerate(lines_of(path), 1):
+            used = re.match(r'\s*(?:pub |ghost )*use Rattle\.(\w+)\.proofs\.(\w+)', line)
+            if used and used.group(1) != crate and (crates / used.group(1)).is_dir() and used.group(2) != 'Public':
+                yield path, number, '%s.%s' % used.groups()
+
+
+def untaken(crates):
+    """a lemma that proofs/Public offers is imported by another crate"""
+    taken = collections.defaultdict(set)
+    for path in [*crates.glob('*/src/**/*.rt'), *crates.glob('*/specs/**/*.antt'), *crates.glob('*/proofs/**/*.antt')]:
+        for module, names in IMPORT.findall(path.read_text()):
+            taken[module].update(name.strip().split(' as ')[0] for name in names.split(','))
+    for path in crates.glob('*/proofs/Public.antt'):
+        module = path.parts[-3] + '.proofs.Public'
+        for number, line in enumerate(lines_of(path), 1):
+            for _, names in IMPORT.findall(line):
+                for name in names.split(','):
+                    if name.strip() not in taken[module]:
+                        yield path, number, name.strip()
+
+
 def stale(crates):
     """the text that a wrong body replaces stands once in its file"""
     for path in crates.glob('*/must-fail/*.edit'):
@@ -135,7 +160,7 @@ def miscounted(crates):
 def main():
     root = pathlib.Path(sys.argv[1] if len(sys.argv) > 1 else pathlib.Path(__file__).parent.parent)
     broken = 0
-    for rule in (opening, wide, undocumented, hyphened, uncommented, unused, stale, miscounted):
+    for rule in (opening, wide, undocumented, hyphened, uncommented, unused, foreign, untaken, stale, miscounted):
         for path, number, what in rule(root / 'crates'):
             print('%s:%d: %s: %s' % (path.relative_to(root), number, what, rule.__doc__))
             broken += 1

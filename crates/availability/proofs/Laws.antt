@@ -7,9 +7,9 @@ use Rattle.std.proofs.lemmas.Nat.{mul-le}
 use Rattle.std.proofs.lemmas.List.Sums.{fold_more}
 use Rattle.exact_model.specs.Fraction.{Fraction, whole, sum_below, ◌≈◌, ◌+ℚ◌, ◌-ℚ◌, ◌*ℚ◌, ◌/ℚ◌}
 use Rattle.exact_model.specs.Sums.{power, product_below}
-use Rattle.exact_model.proofs.Fractions.{same, turned, ◌≈≈◌, add_same, div_same, contains_same, whole_plus, first_power, next_power}
+use Rattle.exact_model.proofs.Public.{same, turned, ◌≈≈◌, add_same, div_same, contains_same, whole_plus, first_power, next_power}
 use Rattle.fixed_interval.specs.Ends.{Ends, In, ends_exact, ends_add, ends_less, ends_times, ends_over, ends_mul, ends_power}
-use Rattle.fixed_interval.proofs.Laws.{add_encloses, less_encloses, exact_encloses, mul_encloses, over_encloses, times_encloses, mul_below, unit_most}
+use Rattle.fixed_interval.proofs.Public.{add_encloses, less_encloses, exact_encloses, mul_encloses, over_encloses, times_encloses, mul_below, unit_most}
 use Rattle.availability.specs.declared.Weighted.{Weighted}
 use Rattle.availability.specs.Profile.{filled_ends, factor_ends, base_ends, weighted_sum, all_systems, fleet_ends}
 use Rattle.availability.specs.Exact.{factor_of, weighted_mean, AllIn, base_at, BaseIn, BasesIn}

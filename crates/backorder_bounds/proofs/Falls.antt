@@ -3,16 +3,15 @@ use Rattle.std.proofs.Common.{◌≡◌, ℕ, zero, suc, ◌+◌, ◌-◌, ◌*�
 use Rattle.std.proofs.Math.Nat.{mul-pos, div-le_of_le-mul, div-mul-le_self}
 use Rattle.std.proofs.lemmas.Nat.{le-div}
 use Rattle.std.proofs.lemmas.Bool.{cases_lt, cases_Bool}
-use Rattle.exact_model.proofs.Whole.{total}
+use Rattle.exact_model.proofs.Public.{total}
 use Rattle.fixed_interval.specs.Ends.{Ends}
 use Rattle.series_bounds.specs.Profile.{back_ends, is_wide, last_index, pivot_at, ratio_ends, weight_ends}
 use Rattle.series_bounds.specs.Answer.{at_place}
-use Rattle.series_bounds.proofs.Enclosure.{known_answer, listed_at, sum_hi, total_most, wide_answer}
-use Rattle.series_bounds.proofs.Walks.{weight_at_pivot, weight_down, weight_up, end_from_63, last_start, pivot_below_last}
+use Rattle.series_bounds.proofs.Public.{known_answer, listed_at, sum_hi, total_most, wide_answer, weight_at_pivot, weight_down, weight_up, end_from_63, last_start, pivot_below_last}
 use Rattle.moment_table.specs.declared.kinds.Row.{Row}
 use Rattle.moment_table.specs.Profile.{below_ends, chance_ends, ebo_ends, empty_row, excess_ends, known_row, table_rows, tail_ends, wide_row}
 use Rattle.moment_table.specs.Rows.{at_stock}
-use Rattle.moment_table.proofs.Enclosure.{row_of_empty, row_of_known, row_of_wide}
+use Rattle.moment_table.proofs.Public.{row_of_empty, row_of_known, row_of_wide}
 use Rattle.backorder_bounds.specs.declared.sums.Rising.{Rising}
 use Rattle.backorder_bounds.specs.declared.falling.Falling.{Falling}
 use Rattle.backorder_bounds.specs.declared.lead.Lead.{Lead}

@@ -5,7 +5,7 @@ use Rattle.std.proofs.Math.Nat.{div-mul-le_self, lt-mul-div-succ}
 use Rattle.std.proofs.lemmas.Bool.{cases_lt}
 use Rattle.std.proofs.lemmas.Grind.{div_ceil_times}
 use Rattle.fixed_interval.specs.Ends.{Ends}
-use Rattle.fixed_interval.proofs.Laws.{floor_below_ceil}
+use Rattle.fixed_interval.proofs.Public.{floor_below_ceil}
 use Rattle.moment_table.specs.Profile.{excess_ends}
 use Rattle.backorder_bounds.specs.Lead.{IsInverse}
 use Rattle.backorder_bounds.specs.declared.scale.Coarse.{Coarse}

@@ -1,12 +1,12 @@
 -- The weight at the stock 0, from the pivot down.
 use Rattle.std.proofs.Common.{◌≡◌, ℕ, ◌+◌, ◌-◌, ◌*◌, ◌/◌, ◌<◌, ◌≤◌, ◌^◌, sym, ap, ◌∙◌, arith, lit<, pow_pos, le_trans, mul-le-mul, mul-le-mul_left, mul-le-mul_right, le_of_mul-le-mul_right}
 use Rattle.std.specs.Int.{div_ceil}
-use Rattle.std.proofs.Math.Nat.{div-le_of_le-mul, div-mul-le_self, lt-mul-div-succ}
+use Rattle.std.proofs.Math.Nat.{div-mul-le_self, lt-mul-div-succ}
 use Rattle.std.proofs.lemmas.Nat.{le-div}
 use Rattle.fixed_interval.specs.Ends.{Ends}
-use Rattle.fixed_interval.proofs.Laws.{ceil_most}
+use Rattle.fixed_interval.proofs.Public.{ceil_most}
 use Rattle.series_bounds.specs.Profile.{back_ends, pivot_at, weight_ends}
-use Rattle.series_bounds.proofs.Walks.{weight_at_pivot, weight_down}
+use Rattle.series_bounds.proofs.Public.{weight_at_pivot, weight_down}
 use Rattle.backorder_bounds.specs.declared.sums.Rising.{Rising}
 use Rattle.backorder_bounds.specs.Coarse.{coarse_unit}
 use Rattle.backorder_bounds.specs.Lead.{AreOver, AreUnder, IsStart}
@@ -88,11 +88,3 @@ start_at_once f m d n e = record {
   low = (at_pivot f m d 0 n e).0;
   high = (at_pivot f m d 0 n e).1;
 }
-
--- a square over half a unit or more
-pub squares_most : (x den r : ℕ) → x ≤ 8 → 2 ^ 28 ≤ den * 2 → r ≡ x * 2 ^ 56 / den → r ≤ 16 * 2 ^ 28
-squares_most x den r l h e = rw e (div-le_of_le-mul den (omega (arith, l, h)))
-
--- the number at an index
-pub number_most : (a b x : ℕ) → a ≤ 8 * 2 ^ 28 → b ≤ 2 ^ 28 → x ≤ 8 → a + b * (x - 1) ≤ 16 * 2 ^ 28
-number_most a b x h k l = (let c : b * (x - 1) ≤ 2 ^ 28 * 8 = mul-le-mul {n₁ = b} {m₁ = x - 1} {n₂ = 2 ^ 28} {m₂ = 8} k (omega (arith, l)) in omega (arith, c, h))

@@ -5,13 +5,11 @@ use Rattle.std.proofs.Math.Nat.{mul-pos}
 use Rattle.std.proofs.lemmas.Nat.{le-div}
 use Rattle.std.proofs.lemmas.Grind.{div_ceil_times}
 use Rattle.std.proofs.lemmas.Bool.{cases_lt}
-use Rattle.exact_model.proofs.Whole.{total}
+use Rattle.exact_model.proofs.Public.{total}
 use Rattle.fixed_interval.specs.Ends.{Ends}
-use Rattle.fixed_interval.proofs.Laws.{ceil_above, ceil_most}
+use Rattle.fixed_interval.proofs.Public.{ceil_above, ceil_most}
 use Rattle.series_bounds.specs.Profile.{ends_sum, far_ratio, is_wide, last_index, listed, pivot_at, ratio_bound, ratio_ends, remainder_at, remainder_from, weight_ends}
-use Rattle.series_bounds.proofs.Enclosure.{sum_hi, last_most}
-use Rattle.series_bounds.proofs.Walks.{narrow_from, weight_up, end_from_63, last_start}
-use Rattle.series_bounds.proofs.Bounds.{exists_is, falls_on}
+use Rattle.series_bounds.proofs.Public.{sum_hi, last_most, narrow_from, weight_up, end_from_63, last_start, exists_is, falls_on}
 use Rattle.backorder_bounds.specs.declared.sums.Rising.{Rising}
 use Rattle.backorder_bounds.specs.Coarse.{coarse_unit}
 use Rattle.backorder_bounds.specs.Lead.{AreOver, all_sum}

@@ -4,7 +4,7 @@ use Rattle.std.specs.List.{All}
 use Rattle.std.proofs.lemmas.List.{get_or_default}
 use Rattle.std.proofs.lemmas.List.Elements.{All-get_or}
 use Rattle.fixed_interval.specs.Ends.{Ends, ends_exact}
-use Rattle.depot_pipeline.proofs.Walk.{Summed, summed_start}
+use Rattle.depot_pipeline.proofs.Public.{Summed, summed_start}
 use Rattle.base_pipeline.specs.declared.Held.{Held}
 use Rattle.base_pipeline.specs.Profile.{held_at}
 use Rattle.base_pipeline.specs.Exact.{IsSmallHeld}

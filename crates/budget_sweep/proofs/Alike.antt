@@ -6,12 +6,11 @@ use Rattle.hull.specs.declared.price.Price.{Price}
 use Rattle.marginal_alloc.specs.declared.allocation.Critical.{Critical}
 use Rattle.marginal_alloc.specs.declared.allocation.Chosen.{Chosen}
 use Rattle.price_bounds.specs.Sums.{cost_of, lo_of, hi_of}
-use Rattle.price_bounds.proofs.Floors.{sum_cons}
+use Rattle.price_bounds.proofs.Public.{sum_cons}
 use Rattle.step_walk.specs.Prefix.{fall, rise, IsPrefix, picked, HaveShapes}
 use Rattle.marginal_alloc.specs.Choice.{IsHullChoice, StopsWith}
-use Rattle.marginal_alloc.proofs.Told.{told}
-use Rattle.marginal_alloc.proofs.One.{less_or, not_crossed}
-use Rattle.step_walk.proofs.Going.{one_next}
+use Rattle.marginal_alloc.proofs.Public.{told, less_or, not_crossed}
+use Rattle.step_walk.proofs.Public.{one_next}
 use Rattle.budget_sweep.specs.declared.report.SweepPoint.{SweepPoint}
 use Rattle.budget_sweep.specs.Sweep.{TellsPrice, IsStateAt, IsState, IsSweep, no_state, state_at}
 use Rattle.budget_sweep.specs.Choices.{IsPriceOf, IsChoiceAt, IsStateOf}

@@ -1,3 +1,4 @@
+pub mod Public
 pub mod StatesOf
 pub mod Together
 pub mod Taken

@@ -2,14 +2,14 @@
 use Rattle.std.proofs.Common.{◌≡◌, ℕ, ◌<◌, ◌≤◌, ◌⊎◌, inl, inr, List, [], Option, Some, None, refl, sym, ap, ◌∙◌, subst, arith}
 use Rattle.std.proofs.lemmas.List.{ext_get_or}
 use Rattle.hull.specs.declared.point.Point.{Point}
-use Rattle.hull.proofs.Shapes.{one_curve}
+use Rattle.hull.proofs.Public.{one_curve}
 use Rattle.spares_input.specs.Cases.{CaseRows}
 use Rattle.exact_ratio.specs.declared.decimal.Decimal.{Decimal}
 use Rattle.family_points.specs.Points.{ScoreEnds}
 use Rattle.step_walk.specs.Prefix.{curve_at}
 use Rattle.marginal_alloc.specs.Choice.{AreCurves}
 use Rattle.fleet_plan.specs.Families.{case_points}
-use Rattle.fleet_plan.proofs.Scores.{stocks_tell_all}
+use Rattle.fleet_plan.proofs.Public.{stocks_tell_all}
 use Rattle.budget_sweep.specs.declared.report.SweepPoint.{SweepPoint}
 use Rattle.budget_sweep.specs.declared.report.SweepReport.{SweepReport}
 use Rattle.budget_sweep.specs.declared.report.TargetReport.{TargetReport}

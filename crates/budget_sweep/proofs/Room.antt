@@ -5,15 +5,13 @@ use Rattle.std.proofs.lemmas.List.Elements.{All-from_get_or, All-weaker}
 use Rattle.hull.specs.declared.point.Point.{Point}
 use Rattle.hull.specs.declared.price.Price.{Price}
 use Rattle.hull.specs.Curves.{Steps, InRange, nowhere, point_at}
-use Rattle.hull.proofs.Stops.{least_at_stop}
-use Rattle.hull.proofs.Runs.{among_at}
+use Rattle.hull.proofs.Public.{least_at_stop, among_at}
 use Rattle.price_bounds.specs.Sums.{cost_of, lo_of, hi_of, Picks, AllLeast}
 use Rattle.step_walk.specs.Prefix.{curve_at, vertex_at, fall, rise, picked, AreVertices, IsPrefix, HaveShapes}
-use Rattle.step_walk.proofs.Taking.{own_step, rises_at}
-use Rattle.marginal_alloc.proofs.Least.{critical_stops}
-use Rattle.marginal_alloc.proofs.Bounds.{all_least, all_picked}
-use Rattle.price_bounds.proofs.Duality.{lagrangian_of_all, least_together}
-use Rattle.fixed_interval.proofs.Laws.{ceil_most}
+use Rattle.step_walk.proofs.Public.{own_step, rises_at}
+use Rattle.marginal_alloc.proofs.Public.{critical_stops, all_least, all_picked}
+use Rattle.price_bounds.proofs.Public.{lagrangian_of_all, least_together}
+use Rattle.fixed_interval.proofs.Public.{ceil_most}
 use Rattle.plan_report.specs.Fits.{PriceFits}
 use Rattle.budget_sweep.specs.declared.report.SweepPoint.{SweepPoint}
 use Rattle.budget_sweep.specs.Sweep.{TellsPrice, IsState, IsSweep, no_state, state_at, last_state}

@@ -7,15 +7,14 @@ use Rattle.exact_model.specs.Fraction.{Fraction, whole, scaled, ◌/ℚ◌, ◌�
 use Rattle.fixed_interval.specs.Text.{text_value}
 use Rattle.hull.specs.declared.point.Point.{Point}
 use Rattle.hull.specs.Curves.{nowhere}
-use Rattle.hull.proofs.Runs.{among_at}
+use Rattle.hull.proofs.Public.{among_at}
 use Rattle.price_bounds.specs.Sums.{lo_of, hi_of, Picks}
 use Rattle.price_bounds.specs.Allocations.{Family, points_of, AreEnclosed, IsAllocation, cost_at, total_at}
 use Rattle.price_bounds.specs.Soundness.{stocks_of, NoneHasFewerThan}
-use Rattle.price_bounds.proofs.Units.{sum_contains, at_least}
-use Rattle.price_bounds.proofs.Vectors.{points_at, values_at, total_is, allocation_picks, allocation_cost, allocation_values, choice_allocation, choice_cost, choice_values}
+use Rattle.price_bounds.proofs.Public.{sum_contains, at_least, points_at, values_at, total_is, allocation_picks, allocation_cost, allocation_values, choice_allocation, choice_cost, choice_values}
 use Rattle.step_walk.specs.Prefix.{curve_at, picked, AreVertices}
 use Rattle.marginal_alloc.specs.Choice.{AreCurves}
-use Rattle.marginal_alloc.proofs.Bounds.{all_picked}
+use Rattle.marginal_alloc.proofs.Public.{all_picked}
 use Rattle.budget_sweep.specs.declared.report.SweepPoint.{SweepPoint}
 use Rattle.budget_sweep.specs.Sweep.{IsState, state_at, last_state}
 use Rattle.budget_sweep.specs.Target.{units_below, units_above, least_cost}

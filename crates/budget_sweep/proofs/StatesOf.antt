@@ -9,12 +9,10 @@ use Rattle.marginal_alloc.specs.declared.allocation.Critical.{Critical}
 use Rattle.price_bounds.specs.Sums.{cost_of, lo_of, Picks}
 use Rattle.step_walk.specs.Prefix.{curve_at, vertex_at, picked, AreVertices, IsPrefix, AllTaken, HaveShapes}
 use Rattle.marginal_alloc.specs.Choice.{IsHullChoice, AreCurves}
-use Rattle.marginal_alloc.proofs.Told.{told}
-use Rattle.step_walk.proofs.Taking.{own_step, rises_at}
-use Rattle.marginal_alloc.proofs.Bounds.{choice_least}
-use Rattle.price_bounds.proofs.Duality.{lagrangian_of_all, least_together}
-use Rattle.price_bounds.proofs.Floors.{sum_cons}
-use Rattle.fixed_interval.proofs.Laws.{ceil_most}
+use Rattle.marginal_alloc.proofs.Public.{told, choice_least}
+use Rattle.step_walk.proofs.Public.{own_step, rises_at}
+use Rattle.price_bounds.proofs.Public.{lagrangian_of_all, least_together, sum_cons}
+use Rattle.fixed_interval.proofs.Public.{ceil_most}
 use Rattle.budget_sweep.specs.declared.report.SweepPoint.{SweepPoint}
 use Rattle.budget_sweep.specs.Sweep.{all_steps, TellsPrice, IsState, state_at, last_state}
 use Rattle.budget_sweep.specs.Target.{cost_floor, floor_at, least_cost}

@@ -3,11 +3,10 @@ use Rattle.std.proofs.Common.{◌≡◌, ℕ, zero, suc, ◌+◌, ◌<◌, inl, 
 use Rattle.std.proofs.lemmas.List.Sums.{sum_by-cons, sum_by-set}
 use Rattle.hull.specs.declared.point.Point.{Point}
 use Rattle.step_walk.specs.Prefix.{curve_at, IsPrefix, HaveShapes}
-use Rattle.step_walk.proofs.Taking.{steps_left, left_falls}
+use Rattle.step_walk.proofs.Public.{steps_left, left_falls, below_or}
 use Rattle.budget_sweep.specs.declared.report.SweepPoint.{SweepPoint}
 use Rattle.step_walk.specs.declared.walk.Next.{Next}
 use Rattle.step_walk.specs.Walks.{Walked, AllDone, TellsFirst, MovesOn}
-use Rattle.step_walk.proofs.Greedy.{below_or}
 use Rattle.budget_sweep.specs.declared.sums.Sums.{Sums}
 use Rattle.budget_sweep.specs.Sums.{AreSums}
 use Rattle.budget_sweep.specs.Sweep.{all_steps, IsStateAt, IsState, IsSweep, state_at}

@@ -1,18 +1,17 @@
 -- Sums of a number over the vertices at picks.
-use Rattle.std.proofs.Common.{◌≡◌, ℕ, zero, suc, ◌+◌, ◌-◌, ◌*◌, ◌^◌, ◌<◌, ◌≤◌, List, [], ◌∷◌, length, set, get_or, slice_index, refl, sym, ap, ◌∙◌, subst, arith}
+use Rattle.std.proofs.Common.{◌≡◌, ℕ, zero, suc, ◌+◌, ◌-◌, ◌*◌, ◌^◌, ◌<◌, ◌≤◌, List, [], ◌∷◌, length, set, get_or, slice_index, sym, ap, ◌∙◌, subst, arith}
 use Rattle.hull.specs.declared.point.Point.{Point}
 use Rattle.hull.specs.Curves.{Steps, InRange, nowhere, point_at}
-use Rattle.hull.proofs.Runs.{among_at}
+use Rattle.hull.proofs.Public.{among_at}
 use Rattle.price_bounds.specs.Sums.{total, cost_of, lo_of, hi_of}
 use Rattle.step_walk.specs.Prefix.{curve_at, vertex_at, fall, rise, picked, AreVertices, IsPrefix, IsNext, HaveShapes}
-use Rattle.step_walk.proofs.Taking.{own_step, taken_prefix}
-use Rattle.marginal_alloc.proofs.Bounds.{Around, around}
-use Rattle.price_bounds.proofs.Duality.{swapped}
+use Rattle.step_walk.proofs.Public.{own_step, taken_prefix, vertex_is}
+use Rattle.marginal_alloc.proofs.Public.{Around, around}
+use Rattle.price_bounds.proofs.Public.{swapped}
 use Rattle.case_plan.specs.Parts.{part}
-use Rattle.case_plan.proofs.Sums.{part_more, part_all}
+use Rattle.case_plan.proofs.Public.{part_more, part_all}
 use Rattle.budget_sweep.specs.declared.sums.Sums.{Sums}
 use Rattle.budget_sweep.specs.Sums.{AreSums}
-use Rattle.step_walk.proofs.Greedy.{vertex_is}
 use Rattle.step_walk.specs.declared.walk.Next.{Next}
 use Rattle.step_walk.specs.Walks.{Walked, TellsFirst}
 
@@ -124,17 +123,6 @@ pub record SummedTo (curves : List (List Point)) (picks : List ℕ) (f : ℕ) (s
   pub small_cost : sums.cost ≤ 1000000000000 * f
   pub small_lo : sums.lo ≤ 2 ^ 74 * f
   pub small_hi : sums.hi ≤ 2 ^ 74 * f
-
-pub summed_none : (curves : List (List Point)) (picks : List ℕ) → SummedTo curves picks 0
-    (record { cost = 0; lo = 0; hi = 0 })
-summed_none curves picks = record {
-  cost = refl;
-  lo = refl;
-  hi = refl;
-  small_cost = omega arith;
-  small_lo = omega arith;
-  small_hi = omega arith;
-}
 
 -- with the pick of one curve more, the sums are those of the first f + 1 curves
 pub summed_more : (curves : List (List Point)) (picks : List ℕ) (f : ℕ) (sums : Sums) (v : Point) → InRange v

@@ -2,7 +2,7 @@
 use Rattle.std.proofs.Common.{◌≡◌, ℕ, ◌<◌, ◌≤◌, List, Option, Some, None, length, map, sym, ap, ◌∙◌, subst}
 use Rattle.std.specs.Prelude.{IfSome, MatchOption}
 use Rattle.exact_model.specs.Fraction.{◌≤ℚ◌, Contains}
-use Rattle.fixed_interval.proofs.Laws.{down_below, up_above}
+use Rattle.fixed_interval.proofs.Public.{down_below, up_above}
 use Rattle.hull.specs.declared.point.Point.{Point}
 use Rattle.hull.specs.Scores.{EnclosesValue}
 use Rattle.spares_input.specs.Cases.{CaseRows}
@@ -12,8 +12,8 @@ use Rattle.fleet_model.specs.Aims.{Value, aim, IsHeldAllocation}
 use Rattle.fleet_model.specs.Bounds.{NoneHasLess}
 use Rattle.fleet_plan.specs.Families.{families_at, case_points, vectors_at}
 use Rattle.fleet_plan.specs.Laws.{IsAcceptedCase}
-use Rattle.fleet_plan.proofs.Bridge.{points_are, families_enclosed, same_cost, same_total, same_choice, of_stocks, none_less}
-use Rattle.case_plan.proofs.Truths.{below_printed}
+use Rattle.fleet_plan.proofs.Public.{points_are, families_enclosed, same_cost, same_total, same_choice, of_stocks, none_less}
+use Rattle.case_plan.proofs.Public.{below_printed}
 use Rattle.budget_sweep.specs.declared.report.SweepPoint.{SweepPoint}
 use Rattle.budget_sweep.specs.declared.report.TargetReport.{TargetReport}
 use Rattle.budget_sweep.specs.Sweep.{state_at, last_state}

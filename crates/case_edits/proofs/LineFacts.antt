@@ -9,8 +9,7 @@ use Rattle.std.proofs.lemmas.List.Elements.{recursion_from_All}
 use Rattle.std.proofs.lemmas.List.Sums.{fails_before_first}
 use Rattle.line_text.specs.Files.{lines_of}
 use Rattle.line_text.specs.Exact.{is_end}
-use Rattle.line_text.proofs.Cursors.{empty_lines, line_found, one_line, never_ended}
-use Rattle.line_text.proofs.LineLaws.{unended_again}
+use Rattle.line_text.proofs.Public.{empty_lines, line_found, one_line, never_ended, unended_again}
 use Rattle.case_edits.specs.Lines.{body_of, edit_lines}
 
 -- the place of the first line feed, where there is one

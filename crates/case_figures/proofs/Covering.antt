@@ -15,8 +15,7 @@ use Rattle.spares_input.specs.Cases.{CaseRows, IsCase, frame_rows, pair_count}
 use Rattle.fleet_model.specs.Rows.{line_units, shop_units, stock}
 use Rattle.fleet_model.specs.Pairs.{by_pair}
 use Rattle.fleet_model.specs.Fleet.{family}
-use Rattle.fleet_model.proofs.FamilyLaws.{HasLine}
-use Rattle.fleet_model.proofs.FrameLaws.{has_families}
+use Rattle.fleet_model.proofs.Public.{HasLine, has_families}
 use Rattle.family_items.specs.declared.item.Item.{Item}
 use Rattle.family_items.specs.declared.item.FamilyResult.{FamilyResult}
 use Rattle.family_items.specs.Profile.{stocked, depot_shop, depot_line, base_shop, base_line, item_of, part_items, family_of, families_of}

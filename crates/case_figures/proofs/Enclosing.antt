@@ -7,9 +7,9 @@ use Rattle.std.proofs.lemmas.List.Sums.{sum_by-cons}
 use Rattle.std.proofs.lemmas.List.FromFn.{get_or-map-range_with_len, length-map-range_with_len}
 use Rattle.exact_model.specs.Fraction.{Fraction, whole, ◌≈◌, ◌+ℚ◌, ◌*ℚ◌}
 use Rattle.exact_model.specs.Series.{ebo}
-use Rattle.exact_model.proofs.Fractions.{turned, div_same, positive_same, contains_same, times_assoc, nothing_more, one_times, plus_assoc, none_plus}
+use Rattle.exact_model.proofs.Public.{turned, div_same, positive_same, contains_same, times_assoc, nothing_more, one_times, plus_assoc, none_plus}
 use Rattle.fixed_interval.specs.Ends.{Ends, In, ends_exact, ends_add, ends_mul}
-use Rattle.fixed_interval.proofs.Laws.{add_encloses, mul_encloses, exact_encloses}
+use Rattle.fixed_interval.proofs.Public.{add_encloses, mul_encloses, exact_encloses}
 use Rattle.spares_input.specs.Rows.{is_line}
 use Rattle.spares_input.specs.Frames.{part_at, part_names, place_of, line_of}
 use Rattle.spares_input.specs.Cases.{CaseRows, IsCase}
@@ -19,13 +19,11 @@ use Rattle.fleet_model.specs.Pipelines.{Moments, pipeline_i0, pipeline_00, pipel
 use Rattle.fleet_model.specs.Pairs.{by_pair, pipeline, backorders}
 use Rattle.fleet_model.specs.Fleet.{factor, availability, fleet, family_total, total}
 use Rattle.fleet_model.specs.Laws.{IsBase}
-use Rattle.fleet_model.proofs.Order.{times_one}
-use Rattle.fleet_model.proofs.SumLaws.{sum_range}
-use Rattle.fleet_model.proofs.DivisorLaws.{systems_positive, per_system_positive, all_systems_positive}
+use Rattle.fleet_model.proofs.Public.{times_one, sum_range, systems_positive, per_system_positive, all_systems_positive}
 use Rattle.availability.specs.declared.Weighted.{Weighted}
 use Rattle.availability.specs.Profile.{all_systems}
 use Rattle.availability.specs.Exact.{factor_of, weighted_mean, BaseIn, BasesIn}
-use Rattle.availability.proofs.Laws.{factor_in, fleet_in}
+use Rattle.availability.proofs.Public.{factor_in, fleet_in}
 use Rattle.family_items.specs.Profile.{item_of}
 use Rattle.family_items.specs.Profile as family
 use Rattle.case_figures.specs.Figures.{factor_at, availability_at, weighted_at, fleet_of, total_of}

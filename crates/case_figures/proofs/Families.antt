@@ -20,7 +20,7 @@ use Rattle.family_items.specs.declared.item.FamilyResult.{FamilyResult}
 use Rattle.family_items.specs.Encloses.{IsSmallItem, no_item}
 use Rattle.family_items.specs.Profile.{item_of, part_items, family_of, families_of}
 use Rattle.family_items.specs.Profile as evaluated
-use Rattle.family_items.proofs.Units.{each_in_range}
+use Rattle.family_items.proofs.Public.{each_in_range}
 use Rattle.case_figures.specs.declared.figures.BaseLine.{BaseLine}
 use Rattle.case_figures.specs.declared.figures.Figures.{Figures}
 use Rattle.case_figures.specs.Spans.{span_of}

@@ -1,3 +1,4 @@
+pub mod Public
 pub mod Each
 pub mod Rows
 pub mod Placing

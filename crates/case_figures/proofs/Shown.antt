@@ -18,19 +18,17 @@ use Rattle.demand_rates.specs.Limits.{rate_fault_of}
 use Rattle.fleet_model.specs.Rows.{bases, line_units}
 use Rattle.fleet_model.specs.Fleet.{availability, fleet, family_total, total}
 use Rattle.fleet_model.specs.Laws.{IsBase}
-use Rattle.fleet_model.proofs.AllocationLaws.{cost_holds}
+use Rattle.fleet_model.proofs.Public.{cost_holds}
 use Rattle.availability.specs.declared.Weighted.{Weighted}
 use Rattle.family_items.specs.declared.item.Item.{Item}
 use Rattle.family_items.specs.Encloses.{CanEvaluate, EnclosesItem, IsSmallItem, no_item}
 use Rattle.family_items.specs.Profile.{item_of}
 use Rattle.family_items.specs.Profile as evaluated
-use Rattle.family_items.proofs.Enclosed.{item_in, item_small}
-use Rattle.family_items.proofs.Families.{evaluable, family_in, family_small}
-use Rattle.family_items.proofs.Units.{each_in_range}
+use Rattle.family_items.proofs.Public.{item_in, item_small, evaluable, family_in, family_small, each_in_range}
 use Rattle.case_figures.specs.Fits.{SpanFits, ItemFits, BaseFits, FitsPrint}
 use Rattle.case_figures.specs.Spans.{places, ends, span_of}
 use Rattle.fixed_interval.specs.Widths.{IsWidth}
-use Rattle.fixed_interval.proofs.Laws.{unit_most}
+use Rattle.fixed_interval.proofs.Public.{unit_most}
 use Rattle.case_figures.specs.Figures.{named, item_at_place, all_items, factor_at, availability_at, base_line, weighted_at, fleet_of, total_of, figures_of}
 use Rattle.case_figures.specs.Shows.{ShowsSpan, ShowsItem, ShowsBase, ShowsFigures, no_item_line, no_base_line}
 use Rattle.case_figures.proofs.Covering.{item_pair, at_place, pair_within}

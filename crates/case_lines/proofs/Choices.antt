@@ -2,7 +2,7 @@
 use Rattle.std.proofs.Common.{◌≡◌, List, [], ◌∷◌, Option, Some, None, Ok, Err, refl, sym, ap, ◌∙◌}
 use Rattle.line_text.specs.Formats.{Token, Text, one, taken}
 use Rattle.line_text.specs.Texts.{either, Left, Right}
-use Rattle.line_text.proofs.Laws.{bad}
+use Rattle.line_text.proofs.Public.{bad}
 
 refused_at : {A : Type 0} (t : Token) (ts left : List Token) (o : Option A) → taken t ts o ≡ bad left → (o ≡ None) × (t ∷ ts ≡ left)
 refused_at t ts left None h = (refl, cc)

@@ -7,10 +7,7 @@ use Rattle.line_text.specs.Formats.{Token, one, and_then}
 use Rattle.line_text.specs.Files.{line}
 use Rattle.line_text.specs.Texts.{number, fixed, plain, word, only}
 use Rattle.line_text.specs.Exact.{IsExactText, IsExact, IsField, IsPlain, IsLine}
-use Rattle.line_text.proofs.Laws.{one_is_exact, both_are_exact, as_shape_is_exact}
-use Rattle.line_text.proofs.LineLaws.{line_is_exact}
-use Rattle.line_text.proofs.FieldLaws.{number_is_exact, plain_is_exact, word_is_exact, counted_is_exact, no_field_is_exact, empty_field_is_exact, a_field}
-use Rattle.line_text.proofs.MoreFields.{fixed_is_exact, if_any_is_exact, only_is_exact}
+use Rattle.line_text.proofs.Public.{one_is_exact, both_are_exact, as_shape_is_exact, line_is_exact, number_is_exact, plain_is_exact, word_is_exact, counted_is_exact, no_field_is_exact, empty_field_is_exact, a_field, fixed_is_exact, if_any_is_exact, only_is_exact}
 use Rattle.spares_input.specs.Names.{is_name, name_byte, has_length, is_trimmed}
 use Rattle.spares_input.specs.declared.rows.SiteRow.{SiteRow}
 use Rattle.spares_input.specs.declared.rows.PartRow.{PartRow}

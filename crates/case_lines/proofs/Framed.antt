@@ -6,8 +6,7 @@ use Rattle.std.proofs.lemmas.List.Elements.{All-from_get_or}
 use Rattle.std.proofs.lemmas.Nat.{div-add-mod', div_below, mod_below}
 use Rattle.line_text.specs.Formats.{fits_after}
 use Rattle.line_text.specs.Texts.{count_line, numbers_from}
-use Rattle.line_text.proofs.FieldLaws.{length_numbers_from}
-use Rattle.line_text.proofs.Laws.{length_after}
+use Rattle.line_text.proofs.Public.{length_numbers_from, length_after}
 use Rattle.spares_input.specs.First.{unless}
 use Rattle.spares_input.specs.Rows.{is_line, IsSiteRow, IsPartRow, IsRateRow, no_site, no_rate}
 use Rattle.spares_input.specs.Frames.{FrameRows, site_at, part_at, frame_fault, frame_of, sites_in_order}
@@ -18,7 +17,7 @@ use Rattle.spares_input.specs.declared.fault.CaseFault.{CaseFault}
 use Rattle.case_lines.specs.Grammar.{site_line, part_lines, header_of, weights_in, count_in, parts_line, pair_at, rate_line, case_format}
 use Rattle.case_lines.proofs.Few.{case_parts, case_sites}
 use Rattle.case_lines.proofs.Rows.{fits_at, sites_at, part_rows, rate_row}
-use Rattle.spares_input.proofs.Standing.{Stand, case_of_standing, stand_in_order}
+use Rattle.spares_input.proofs.Public.{Stand, case_of_standing, stand_in_order}
 use Rattle.case_lines.specs.Framed.{framed}
 use Rattle.answers.specs.Answers.{Gives}
 use Rattle.answers.specs.declared.stop.Stop.{Stop}

@@ -1,3 +1,4 @@
+pub mod Public
 pub mod Exact
 pub mod Shape
 pub mod Written

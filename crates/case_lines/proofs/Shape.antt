@@ -9,10 +9,7 @@ use Rattle.line_text.specs.Formats.{Token, Format, one, and_then, fits_after}
 use Rattle.line_text.specs.Files.{line, comma, unended}
 use Rattle.line_text.specs.Texts.{number, word, count_fields, count_line, numbers_from, Either, Left, Right, only}
 use Rattle.line_text.specs.Exact.{IsExact, IsField, IsLine}
-use Rattle.line_text.proofs.Laws.{one_is_exact, both_are_exact, as_shape_is_exact, each_after_is_exact, length_after, all_are}
-use Rattle.line_text.proofs.LineLaws.{line_is_exact, split_of, unended_again}
-use Rattle.line_text.proofs.FieldLaws.{number_is_exact, word_is_exact, a_field, count_fields_are_exact, one_for_each_is_exact, length_numbers_from}
-use Rattle.line_text.proofs.MoreFields.{either_is_exact}
+use Rattle.line_text.proofs.Public.{one_is_exact, both_are_exact, as_shape_is_exact, each_after_is_exact, length_after, all_are, line_is_exact, split_of, unended_again, number_is_exact, word_is_exact, a_field, count_fields_are_exact, one_for_each_is_exact, length_numbers_from, either_is_exact}
 use Rattle.spares_input.specs.Names.{is_name}
 use Rattle.spares_input.specs.Frames.{site_at, part_at}
 use Rattle.spares_input.specs.declared.rows.SiteRow.{SiteRow}

@@ -9,7 +9,7 @@ use Rattle.std.proofs.lemmas.List.Elements.{recursion_from_All}
 use Rattle.line_text.specs.Formats.{Format, one, fits_after}
 use Rattle.line_text.specs.Files.{line}
 use Rattle.line_text.specs.Texts.{in_range, number, numbers_from}
-use Rattle.line_text.proofs.FieldLaws.{length_numbers_from}
+use Rattle.line_text.proofs.Public.{length_numbers_from}
 use Rattle.spares_input.specs.Names.{is_name}
 use Rattle.spares_input.specs.Rows.{IsField, IsSiteRow, IsPartRow, IsRateRow, is_line, no_site, no_rate}
 use Rattle.spares_input.specs.Frames.{site_at, part_at}

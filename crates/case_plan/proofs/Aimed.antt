@@ -4,7 +4,7 @@ use Rattle.std.proofs.lemmas.List.Sums.{sum_by-cons}
 use Rattle.exact_model.specs.Fraction.{Encloses, ◌+ℚ◌}
 use Rattle.exact_model.specs.Sums.{sum_over}
 use Rattle.fixed_interval.specs.Ends.{Ends, In, ends_add}
-use Rattle.fixed_interval.proofs.Laws.{add_encloses, exact_encloses}
+use Rattle.fixed_interval.proofs.Public.{add_encloses, exact_encloses}
 use Rattle.hull.specs.declared.point.Point.{Point}
 use Rattle.hull.specs.Curves.{Among}
 use Rattle.hull.specs.Scores.{EnclosesValue}
@@ -14,17 +14,14 @@ use Rattle.fleet_model.specs.Aims.{Value, aim, family_aim}
 use Rattle.family_items.specs.Inputs.{IsLine, IsSound}
 use Rattle.family_points.specs.Vectors.{vector_of, stocks_with}
 use Rattle.family_points.specs.Points.{ScoreEnds, scored_total, point_at_vector}
-use Rattle.family_points.proofs.Stands.{vector_stands}
+use Rattle.family_points.proofs.Public.{vector_stands}
 use Rattle.price_bounds.specs.Sums.{hi_of, lo_of}
 use Rattle.price_bounds.specs.Soundness.{stocks_of}
 use Rattle.marginal_alloc.specs.Plans.{IsPlan}
-use Rattle.marginal_alloc.proofs.Kept.{plan_acceptable}
+use Rattle.marginal_alloc.proofs.Public.{plan_acceptable}
 use Rattle.fleet_plan.specs.Families.{case_points, points_at, vectors_at, hi_at}
 use Rattle.fleet_plan.specs.Plans.{CasePlan}
-use Rattle.fleet_plan.proofs.Bridge.{hi_same}
-use Rattle.fleet_plan.proofs.Ones.{chosen_in}
-use Rattle.fleet_plan.proofs.Places.{agree_on, length_vector, lines_are}
-use Rattle.fleet_plan.proofs.Scores.{scored_encloses, scored_total_same}
+use Rattle.fleet_plan.proofs.Public.{hi_same, chosen_in, agree_on, length_vector, lines_are, scored_encloses, scored_total_same}
 use Rattle.case_plan.specs.Report.{lo_at, aim_ends}
 
 -- ---- the ends

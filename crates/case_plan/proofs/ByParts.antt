@@ -13,15 +13,13 @@ use Rattle.marginal_alloc.specs.declared.allocation.Chosen.{Chosen}
 use Rattle.price_bounds.specs.Sums.{cost_of}
 use Rattle.step_walk.specs.Prefix.{HaveShapes, curve_at, picked, vertex_at}
 use Rattle.marginal_alloc.specs.Choice.{AreCurves, IsHullChoice, StopsWith, firsts}
-use Rattle.marginal_alloc.proofs.One.{choices_are_one}
+use Rattle.marginal_alloc.proofs.Public.{choices_are_one}
 use Rattle.curve_parts.specs.Parts.{IsPartOf}
 use Rattle.curve_parts.specs.Cuts.{IsWindow}
 use Rattle.curve_parts.specs.Beyond.{LieBeyond}
 use Rattle.choice_parts.specs.Parts.{AreFamilies, ArePartsOf, shifted}
 use Rattle.choice_parts.specs.Laws.{stopped}
-use Rattle.choice_parts.proofs.Prefixes.{picks_same}
-use Rattle.choice_parts.proofs.Chosen.{chosen}
-use Rattle.choice_parts.proofs.OfCurves.{parts_of_curves}
+use Rattle.choice_parts.proofs.Public.{picks_same, chosen, parts_of_curves}
 use Rattle.part_filling.specs.declared.window.Window.{Window}
 use Rattle.part_filling.specs.Known.{AllLieBeyond, AreKnown, IsPriceWindow, window_at}
 use Rattle.case_plan.specs.Parts.{HasNoCritical, slack}

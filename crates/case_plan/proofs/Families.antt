@@ -5,8 +5,7 @@ use Rattle.std.proofs.lemmas.List.{map_push, ext_get_or, get_or-map, length-map,
 use Rattle.std.proofs.lemmas.Bool.{false≢true}
 use Rattle.hull.specs.declared.point.Point.{Point}
 use Rattle.hull.specs.Curves.{Among}
-use Rattle.hull.proofs.Runs.{among_at}
-use Rattle.hull.proofs.Members.{range_has}
+use Rattle.hull.proofs.Public.{among_at, range_has}
 use Rattle.spares_input.specs.Rows.{is_line}
 use Rattle.spares_input.specs.Frames.{part_at}
 use Rattle.spares_input.specs.Cases.{CaseRows, IsCase}
@@ -14,15 +13,14 @@ use Rattle.spares_input.specs.Stocks.{StockList, IsFor, HasPair}
 use Rattle.spares_input.specs.declared.rows.PartId.{PartId}
 use Rattle.fleet_model.specs.Rows.{stock, line_units}
 use Rattle.fleet_model.specs.Fleet.{family}
-use Rattle.fleet_model.proofs.AllocationLaws.{stock_holds}
+use Rattle.fleet_model.proofs.Public.{stock_holds}
 use Rattle.family_items.specs.Inputs.{IsLine}
-use Rattle.family_items.proofs.Items.{kept_more, left_out}
+use Rattle.family_items.proofs.Public.{kept_more, left_out}
 use Rattle.family_points.specs.Vectors.{Pair, places, vector_of, site_part}
 use Rattle.step_walk.specs.Prefix.{vertex_at, picked}
 use Rattle.price_bounds.specs.Soundness.{stocks_of}
 use Rattle.fleet_plan.specs.Families.{HasWidth}
-use Rattle.fleet_plan.proofs.Lists.{map_among}
-use Rattle.fleet_plan.proofs.Places.{kept, family_apart, in_case, one_family, place_has, vector_by, length_part, length_places}
+use Rattle.fleet_plan.proofs.Public.{map_among, kept, family_apart, in_case, one_family, place_has, vector_by, length_part, length_places}
 use Rattle.spares_input.specs.Building.{ids}
 use Rattle.case_plan.specs.Placing.{IsPlacedFamily, lines_below, ArePlaced}
 use Rattle.case_plan.proofs.Placed.{part_of, id_at}

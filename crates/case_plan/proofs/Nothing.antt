@@ -11,7 +11,7 @@ use Rattle.family_points.specs.Points.{ScoreEnds, point_at_vector, points_within
 use Rattle.marginal_alloc.specs.Plans.{IsPlan}
 use Rattle.fleet_plan.specs.Families.{family_points, case_points, points_at}
 use Rattle.fleet_plan.specs.Plans.{CasePlan, IsCasePlan}
-use Rattle.fleet_plan.proofs.Lists.{map_among}
+use Rattle.fleet_plan.proofs.Public.{map_among}
 use Rattle.held_work.specs.Work.{IsNothing}
 
 module _ (c : CaseRows) (held : List ℕ) (nothing : IsNothing held) where

@@ -3,7 +3,7 @@ use Rattle.std.proofs.Common.{◌≡◌, ℕ, ◌+◌, ◌-◌, ◌*◌, ◌/◌
 use Rattle.hull.specs.declared.point.Point.{Point}
 use Rattle.hull.specs.declared.price.Price.{Price}
 use Rattle.hull.specs.Curves.{lagrangian, nowhere}
-use Rattle.hull.proofs.Runs.{among_at}
+use Rattle.hull.proofs.Public.{among_at}
 use Rattle.marginal_alloc.specs.declared.allocation.Critical.{Critical}
 use Rattle.marginal_alloc.specs.declared.allocation.Chosen.{Chosen}
 use Rattle.marginal_alloc.specs.declared.plans.PlanNumbers.{PlanNumbers}
@@ -12,8 +12,8 @@ use Rattle.step_walk.specs.Prefix.{curve_at, vertex_at, picked, HaveShapes}
 use Rattle.marginal_alloc.specs.Choice.{StopsWith, IsHullChoice, AreCurves, rounding_at}
 use Rattle.marginal_alloc.specs.Filling.{Fills}
 use Rattle.price_bounds.specs.Certificates.{AreLeastFloors}
-use Rattle.marginal_alloc.proofs.Bounds.{all_picked, choice_least}
-use Rattle.price_bounds.proofs.Floors.{least_floors}
+use Rattle.marginal_alloc.proofs.Public.{all_picked, choice_least}
+use Rattle.price_bounds.proofs.Public.{least_floors}
 use Rattle.marginal_alloc.specs.Plans.{IsPlan}
 use Rattle.case_plan.specs.Parts.{numbers_of, slack, IsPlace}
 

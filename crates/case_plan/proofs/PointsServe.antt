@@ -4,7 +4,7 @@ use Rattle.std.specs.List.{AllZip}
 use Rattle.hull.specs.declared.point.Point.{Point}
 use Rattle.hull.specs.Curves.{Among, InRange}
 use Rattle.hull.specs.Scores.{LeavesRoom}
-use Rattle.hull.proofs.Members.{among_map, among_mapped}
+use Rattle.hull.proofs.Public.{among_map, among_mapped}
 use Rattle.spares_input.specs.Cases.{CaseRows}
 use Rattle.fleet_model.specs.Rows.{line_units}
 use Rattle.fleet_model.specs.Aims.{weighted_backorders, IsHeldAllocation}
@@ -15,10 +15,7 @@ use Rattle.step_walk.specs.Prefix.{curve_at}
 use Rattle.choice_parts.specs.Parts.{AreFamilies}
 use Rattle.fleet_plan.specs.Families.{case_points, family_points}
 use Rattle.fleet_plan.specs.Laws.{IsAcceptedCase}
-use Rattle.fleet_plan.proofs.Bridge.{vector_between}
-use Rattle.fleet_plan.proofs.Lists.{is_among, is_between}
-use Rattle.fleet_plan.proofs.Places.{lines_are}
-use Rattle.fleet_plan.proofs.Scores.{point_range, stocks_tell_all}
+use Rattle.fleet_plan.proofs.Public.{vector_between, is_among, is_between, lines_are, point_range, stocks_tell_all}
 use Rattle.case_plan.specs.Report.{HaveVectors}
 
 some_of : (xs : List Point) (v : Point) → Among v xs → 0 < length xs

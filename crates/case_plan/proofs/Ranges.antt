@@ -7,10 +7,10 @@ use Rattle.hull.specs.declared.point.Point.{Point}
 use Rattle.hull.specs.declared.price.Price.{Price}
 use Rattle.hull.specs.Curves.{Among, InRange, Steps, nowhere}
 use Rattle.hull.specs.Scores.{EnclosesValue, LeavesRoom}
-use Rattle.hull.proofs.Runs.{among_at}
+use Rattle.hull.proofs.Public.{among_at}
 use Rattle.spares_input.specs.Cases.{CaseRows}
 use Rattle.fleet_model.specs.Rows.{line_units}
-use Rattle.fleet_model.proofs.AllocationLaws.{allocation_reaches}
+use Rattle.fleet_model.proofs.Public.{allocation_reaches}
 use Rattle.family_items.specs.Inputs.{IsLine}
 use Rattle.family_points.specs.Points.{ScoreEnds}
 use Rattle.marginal_alloc.specs.declared.allocation.Critical.{Critical}
@@ -19,17 +19,14 @@ use Rattle.price_bounds.specs.Sums.{hi_of, width_of, Picks}
 use Rattle.step_walk.specs.Prefix.{curve_at, vertex_at, picked, HasStep, fall, rise, HaveShapes}
 use Rattle.marginal_alloc.specs.Choice.{StopsWith, IsHullChoice}
 use Rattle.price_bounds.specs.Certificates.{AreLeastFloors}
-use Rattle.step_walk.proofs.Taking.{own_step}
-use Rattle.marginal_alloc.proofs.Bounds.{all_picked}
-use Rattle.marginal_alloc.proofs.Kept.{plan_acceptable}
+use Rattle.step_walk.proofs.Public.{own_step}
+use Rattle.marginal_alloc.proofs.Public.{all_picked, plan_acceptable}
 use Rattle.fleet_model.specs.Aims.{Value}
-pub use Rattle.fleet_model.proofs.FrameLaws.{few_lines}
+pub use Rattle.fleet_model.proofs.Public.{few_lines}
 use Rattle.fleet_plan.specs.Families.{family_points, case_points, points_at}
 use Rattle.fleet_plan.specs.Plans.{CasePlan, IsCasePlan}
 use Rattle.fleet_plan.specs.Laws.{IsAcceptedCase}
-use Rattle.fleet_plan.proofs.Places.{lines_are}
-use Rattle.fleet_plan.proofs.Scores.{point_range}
-use Rattle.fleet_plan.proofs.Bridge.{plan_true}
+use Rattle.fleet_plan.proofs.Public.{lines_are, point_range, plan_true}
 use Rattle.case_plan.specs.Parts.{slack, IsPlace, IsSmallPrice}
 use Rattle.case_plan.specs.Laws.{FitsItsPlace}
 use Rattle.case_plan.proofs.Sums.{lagrangian_small}

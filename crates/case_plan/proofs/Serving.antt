@@ -4,21 +4,17 @@ use Rattle.std.specs.List.{AllZip}
 use Rattle.std.proofs.lemmas.List.{get_or-map, length-map}
 use Rattle.hull.specs.declared.point.Point.{Point}
 use Rattle.hull.specs.Curves.{Among, IsCurve, point_at}
-use Rattle.hull.proofs.Shapes.{begins_cheapest}
-use Rattle.hull.proofs.Runs.{among_at}
-use Rattle.hull.proofs.Members.{among_map, among_mapped}
+use Rattle.hull.proofs.Public.{begins_cheapest, among_at, among_map, among_mapped}
 use Rattle.spares_input.specs.Cases.{CaseRows, IsCase}
 use Rattle.fleet_model.specs.Rows.{line_units}
 use Rattle.family_points.specs.Vectors.{Pair, places, vector_of, limits, vectors}
 use Rattle.family_points.specs.Points.{ScoreEnds, point_at_vector}
-use Rattle.family_points.proofs.Points.{nothing_above}
+use Rattle.family_points.proofs.Public.{nothing_above}
 use Rattle.step_walk.specs.Prefix.{curve_at, vertex_at, HaveShapes}
 use Rattle.marginal_alloc.specs.Choice.{AreCurves}
 use Rattle.fleet_model.specs.Aims.{weighted_backorders, IsHeldAllocation}
 use Rattle.fleet_plan.specs.Families.{family_points, case_points}
-use Rattle.fleet_plan.proofs.Lists.{is_among, is_between}
-use Rattle.fleet_plan.proofs.Places.{lines_are}
-use Rattle.fleet_plan.proofs.Bridge.{vector_between}
+use Rattle.fleet_plan.proofs.Public.{is_among, is_between, lines_are, vector_between}
 use Rattle.case_plan.specs.Report.{AreFamilyCurves}
 
 begins : (points curve : List Point) (w : Point) → IsCurve points curve → 0 < length curve → Among w points → w.cost ≡ 0 → (point_at curve 0).cost ≡ 0

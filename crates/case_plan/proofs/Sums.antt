@@ -46,9 +46,6 @@ parts_all g (c ∷ cs) (k ∷ ks) zero e n = absurd (let l : 0 ≡ suc (length c
 parts_all g (c ∷ cs) (k ∷ ks) (suc i) e n =
     parts_front g c cs k ks i ∙ ap (λ z. g (vertex_at (c ∷ cs) 0 k) ∷ z) (parts_all g cs ks i (let l : suc i ≡ suc (length cs) = e in omega arith) (let l : suc (length ks) ≡ suc (length cs) = n in omega arith))
 
-pub parts_more : (g : Point → ℕ) (curves : List (List Point)) (picks : List ℕ) (i : ℕ) (v : Point) → v ≡ vertex_at curves i (slice_index picks i) → parts g curves picks i ++ g v ∷ [] ≡ parts g curves picks (i + 1)
-parts_more g curves picks i v e = ap (λ z. parts g curves picks i ++ g z ∷ []) e ∙ sym (ap (λ z. parts g curves picks z) (add-one i))
-
 -- ---- a step of the sums, over plain numbers
 
 -- what is at most so much stays so where at most so much is added

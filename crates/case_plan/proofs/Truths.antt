@@ -9,19 +9,17 @@ use Rattle.spares_input.specs.Cases.{CaseRows, IsCase}
 use Rattle.spares_input.specs.Stocks.{StockList}
 use Rattle.fleet_model.specs.Fleet.{IsAllocation, cost, total}
 use Rattle.family_items.specs.Encloses.{CanEvaluate}
-use Rattle.family_items.proofs.Families.{evaluable}
+use Rattle.family_items.proofs.Public.{evaluable}
 use Rattle.case_figures.specs.declared.figures.Figures.{Figures}
 use Rattle.case_figures.specs.Figures.{figures_of}
 use Rattle.case_figures.specs.Shows.{ShowsFigures}
-use Rattle.case_figures.proofs.Shown.{evaluated_as, figures_fit, figures_shown}
+use Rattle.case_figures.proofs.Public.{evaluated_as, figures_fit, figures_shown}
 use Rattle.family_points.specs.Vectors.{stock_list}
 use Rattle.family_points.specs.Points.{ScoreEnds, plain_ends}
-use Rattle.fleet_model.proofs.WordLaws.{plain_words}
+use Rattle.fleet_model.proofs.Public.{plain_words}
 use Rattle.fleet_plan.specs.Plans.{IsCasePlan, IsPlainPlan}
 use Rattle.fleet_plan.specs.Laws.{IsAcceptedCase}
-use Rattle.fleet_plan.proofs.Plain.{plain_plan, upper_is_total, plain_encloses}
-use Rattle.fleet_plan.proofs.Bridge.{plan_true}
-use Rattle.fleet_plan.proofs.Ones.{one_case_plan}
+use Rattle.fleet_plan.proofs.Public.{plain_plan, upper_is_total, plain_encloses, plan_true, one_case_plan}
 use Rattle.fleet_model.specs.Aims.{Value, aim, weighted_backorders}
 use Rattle.fleet_model.specs.Bounds.{HasNoMore}
 use Rattle.plan_report.specs.Fits.{FitsPlan, IntervalFits}

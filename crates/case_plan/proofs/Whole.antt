@@ -5,14 +5,13 @@ use Rattle.std.proofs.lemmas.List.{length-map}
 use Rattle.std.proofs.lemmas.List.Elements.{length_all_zip}
 use Rattle.hull.specs.declared.point.Point.{Point}
 use Rattle.hull.specs.Curves.{Among, nowhere, point_at}
-use Rattle.hull.proofs.Runs.{among_at}
-use Rattle.hull.proofs.Members.{range_has}
+use Rattle.hull.proofs.Public.{among_at, range_has}
 use Rattle.spares_input.specs.Cases.{CaseRows, IsCase}
 use Rattle.spares_input.specs.Stocks.{StockList, IsFor, IsWithinLimits, limit_at}
 use Rattle.spares_input.specs.Rows.{is_line}
 use Rattle.spares_input.specs.Frames.{part_at}
 use Rattle.fleet_model.specs.Rows.{all_parts, stock, line_units}
-use Rattle.fleet_model.proofs.AllocationLaws.{stock_holds}
+use Rattle.fleet_model.proofs.Public.{stock_holds}
 use Rattle.family_points.specs.Vectors.{Pair, places, vector_of, limits, stock_list, IsBetween}
 use Rattle.marginal_alloc.specs.declared.plans.PlanNumbers.{PlanNumbers}
 use Rattle.step_walk.specs.Prefix.{curve_at, AreVertices, picked}
@@ -23,9 +22,7 @@ use Rattle.case_figures.specs.Figures.{figures_of}
 use Rattle.fleet_model.specs.Aims.{weighted_backorders}
 use Rattle.fleet_plan.specs.Families.{case_points, family_at, families_at, vectors_at}
 use Rattle.fleet_plan.specs.Plans.{CasePlan, line_of_family}
-use Rattle.fleet_plan.proofs.Lists.{is_among}
-use Rattle.fleet_plan.proofs.Places.{kept, zip_each}
-use Rattle.fleet_plan.proofs.Bridge.{held_of}
+use Rattle.fleet_plan.proofs.Public.{is_among, kept, zip_each, held_of, chosen_of_stocks}
 use Rattle.fixed_interval.specs.Ends.{Ends}
 use Rattle.family_points.specs.Points.{ScoreEnds, plain_ends}
 use Rattle.plan_report.specs.declared.plan.CriticalLine.{CriticalLine}
@@ -37,7 +34,6 @@ use Rattle.case_plan.specs.Outcomes.{chosen_outcome}
 use Rattle.case_plan.specs.declared.chosen.ChosenStocks.{ChosenStocks}
 use Rattle.case_plan.specs.declared.request.Request.{Request}
 use Rattle.case_plan.proofs.Aimed.{aimed}
-use Rattle.fleet_plan.proofs.Ones.{chosen_of_stocks}
 
 abbrev IsLow : CaseRows → ℕ → List ℕ → Type 0
 IsLow c l v = AllZip (λ x y. x ≤ y) v (limits c l)

@@ -7,7 +7,7 @@ use Rattle.spares_input.specs.Frames.{part_at}
 use Rattle.spares_input.specs.Cases.{CaseRows}
 use Rattle.spares_input.specs.Stocks.{StockList, IsFor, stock_at}
 use Rattle.family_points.specs.Vectors.{vector_of}
-use Rattle.fleet_plan.proofs.Places.{IsApart}
+use Rattle.fleet_plan.proofs.Public.{IsApart}
 
 -- the first m of these parts have these stocks at site k, and no other pair has changed
 pub record IsPlacedAt (old new : StockList) (ps : List ℕ) (k : ℕ) (part : List ℕ) (m : ℕ) : Type 0 where

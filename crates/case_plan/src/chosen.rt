@@ -49,7 +49,7 @@ pub(crate) fn filled(
     ensures numbers { IfOk result (λ x. x.numbers
         ≡ numbers_of hull.cost hull.price hull.bound hull.rounding hull.critical (picked curves.now picks.now)) }
 {
-    let _sites = case.site_count();
+    case.invariant();
     let sums = totals_of(curves, picks);
     let stocks = stocks_of(alloc, case, curves, picks)?;
     Ok(ChosenStocks {

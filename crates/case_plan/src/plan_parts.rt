@@ -56,7 +56,7 @@ pub fn choose_stocks_by_parts<F: Families>(
     ensures chosen { (curves : List (List Point)) → AreCurves (F.points families.now) curves
         → IfOk result (λ found. IfSome found (IsChosen case.now curves budget)) }
 {
-    let _sites = case.site_count();
+    case.invariant();
     if first_cost(alloc, parts.as_slice())? > budget {
         return Ok(None);
     }
@@ -129,7 +129,7 @@ pub fn plan_by_parts<F: Families>(
     ensures outcome { (ends : ScoreEnds) (held : List ℕ) → F.points families.now ≡ case_points ends case.now held
         → IfOk result (λ found. IfSome found (IsOutcome ends case.now held request)) }
 {
-    let _sites = case.site_count();
+    case.invariant();
     let budget = request.budget;
     let Some(chosen) = choose_stocks_by_parts(
         alloc, case, families, window, parts, beyond, budget, near,

@@ -92,7 +92,7 @@ pub fn choose_stocks(
     ensures fits { IfOk result (FitsCase case.now) }
     ensures chosen { IfOk result (IsChosen case.now curves.now budget) }
 {
-    let _sites = case.site_count();
+    case.invariant();
     let chosen = allocate_near(alloc, curves, budget, near)?;
     let cost = chosen.cost;
     let price = chosen.price;
@@ -123,7 +123,7 @@ pub fn outcome_at(
     ensures case { IfOk result (λ outcome. (curves : List (List Point)) → IsChosen case.now curves request.budget chosen
         → IsPlanOf case.now curves request outcome) }
 {
-    let _sites = case.site_count();
+    case.invariant();
     let numbers = chosen.numbers;
     let figures = figures_with_cost(alloc, case, families, numbers.cost)?;
     let report = PlanReport {
@@ -170,7 +170,7 @@ pub fn plan(
     ensures case { IfOk result (IsPlanOf case.now curves.now
         (record { budget = budget; loss = loss; on_hand = on_hand })) }
 {
-    let _sites = case.site_count();
+    case.invariant();
     let chosen = choose_stocks(alloc, case, curves, budget, 0)?;
     let families = evaluate_all::<48>(alloc, case, rates, &chosen.stocks)?;
     let request = Request {

@@ -15,7 +15,7 @@ use Rattle.hull.specs.Curves.{lagrangian, Among}
 use Rattle.spares_input.specs.First.{first}
 use Rattle.spares_input.specs.Cases.{CaseRows, frame_rows, pair_count}
 use Rattle.spares_input.specs.Stocks.{StockList, limit_at}
-use Rattle.spares_input.proofs.Standing.{first_none}
+use Rattle.spares_input.proofs.Public.{no_first}
 use Rattle.fleet_model.specs.Rows.{line_units, stock}
 use Rattle.price_bounds.specs.Certificates.{AreFloors}
 use Rattle.family_items.specs.Inputs.{IsLine}
@@ -25,9 +25,7 @@ use Rattle.family_points.specs.Counts.{most_tables, tables_between}
 use Rattle.fleet_plan.specs.Families.{family_points}
 use Rattle.fleet_plan.specs.Plans.{CasePlan, IsTruePlan}
 use Rattle.case_plan.specs.declared.outcome.Outcome.{Outcome}
-use Rattle.fleet_plan.proofs.Bridge.{plan_true}
-use Rattle.fleet_plan.proofs.Costs.{families_beyond}
-use Rattle.fleet_plan.proofs.Places.{length_vector}
+use Rattle.fleet_plan.proofs.Public.{plan_true, families_beyond, length_vector}
 use Rattle.price_certificate.specs.declared.place.Place.{Place}
 use Rattle.price_certificate.specs.declared.certificate.Certificate.{Certificate}
 use Rattle.price_certificate.specs.declared.certificate.Node.{Node}
@@ -39,10 +37,7 @@ use Rattle.gap_rules.specs.Covers.{leaves}
 use Rattle.gap_rules.specs.Trees.{leaves_of}
 use Rattle.gap_rules.specs.Values.{value_of, cover_tables}
 use Rattle.gap_rules.specs.Refusals.{family_count, cover_of, family_leaves, gap_at, family_tables, work_of, over_limit, too_low, below_held, cost_above, leaf_value, low_at, reject_of}
-use Rattle.gap_rules.proofs.Costs.{added_is}
-use Rattle.gap_rules.proofs.Acceptable.{none_broken}
-use Rattle.gap_rules.proofs.Readings.{trees_are_read}
-use Rattle.gap_rules.proofs.StockFaults.{else_none}
+use Rattle.gap_rules.proofs.Public.{added_is, none_broken, trees_are_read, else_none}
 use Rattle.price_certificate.specs.declared.certificate.Terms.{Terms}
 use Rattle.gap_rules.specs.Scores as scores
 use Rattle.gap_rules.specs.Scores.{ends_of}
@@ -223,7 +218,7 @@ module _ (c : CaseRows) (held : StockList) (terms : Terms) (o : Outcome) (on : I
         (subst (λ z. z ≤ get_or p.stocks i 0) (stock_at held.list) (subst (λ z. stock c held.list part site ≤ z) (stock_at p.stocks) (true_plan.allocation.keeps part site part_in site_in)))
 
   all_kept : first (below_held c held (stock_list c p.stocks)) (pair_count (frame_rows c)) ≡ None
-  all_kept = first_none _ (pair_count (frame_rows c)) (λ i b. kept i b)
+  all_kept = no_first _ (pair_count (frame_rows c)) (λ i b. kept i b)
 
   cost_fits : cost_above c held (stock_list c p.stocks) ≤ terms.budget
   cost_fits =
@@ -239,12 +234,12 @@ module _ (c : CaseRows) (held : StockList) (terms : Terms) (o : Outcome) (on : I
       subst (λ (z : Outcome). reject_of (ends_of terms.objective) (certificate_of c held terms z) held ≡ None) (sym on.is) (
       none_broken score cert held (record {
         rates = ap (option_map reject.Rate) on.accepted.no_fault;
-        gaps = first_none (gap_at cert held) (family_count c) (λ f b. no_gap f b);
+        gaps = no_first (gap_at cert held) (family_count c) (λ f b. no_gap f b);
         work = work_few few;
-        limited = first_none (over_limit c (stock_list c p.stocks)) (pair_count (frame_rows c)) (λ i b. limited i b);
+        limited = no_first (over_limit c (stock_list c p.stocks)) (pair_count (frame_rows c)) (λ i b. limited i b);
         kept = all_kept;
         cost = cost_fits;
-        floors = first_none (low_at score cert held) (family_count c) (λ f b. no_low f b);
+        floors = no_first (low_at score cert held) (family_count c) (λ f b. no_low f b);
         upper = let u = on.is_plan.plan.upper in omega (arith, u);
         bound = let u = on.is_plan.plan.bound in omega (arith, u);
       }))

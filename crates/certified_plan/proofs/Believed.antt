@@ -8,17 +8,15 @@ use Rattle.spares_input.specs.Cases.{CaseRows, frame_rows, pair_count}
 use Rattle.spares_input.specs.Stocks.{StockList, IsFor, nothing_held}
 use Rattle.fleet_model.specs.Rows.{all_parts, all_sites, stock}
 use Rattle.fleet_model.specs.Aims.{Value, weighted_backorders, part_cost_beyond, cost_beyond}
-use Rattle.fleet_model.proofs.FamilyLaws.{sum_each}
-use Rattle.fleet_model.proofs.WordLaws.{plain_words}
+use Rattle.fleet_model.proofs.Public.{sum_each, plain_words}
 use Rattle.family_points.specs.Points.{ScoreEnds, plain_ends}
 use Rattle.fleet_plan.specs.Plans.{AreTrueClaims, ArePlainClaims}
 use Rattle.fleet_plan.specs.Laws.{IsAcceptedCase}
-use Rattle.fleet_plan.proofs.Bridge.{claims_true, from_points}
-use Rattle.fleet_plan.proofs.Plain.{plain_encloses}
+use Rattle.fleet_plan.proofs.Public.{claims_true, from_points, plain_encloses}
 use Rattle.price_certificate.specs.declared.certificate.Certificate.{Certificate}
 use Rattle.price_certificate.specs.Certificates.{IsWellFormed}
 use Rattle.gap_rules.specs.Refusals.{reject_of}
-use Rattle.gap_rules.proofs.Acceptable.{accepted_are_acceptable, breaks_none, map_none}
+use Rattle.gap_rules.proofs.Public.{accepted_are_acceptable, breaks_none, map_none}
 use Rattle.certified_plan.specs.Accepted.{claims_of}
 
 -- what a certificate claims is true of its case, where it breaks no rule and its score encloses the value

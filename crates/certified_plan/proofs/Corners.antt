@@ -5,11 +5,11 @@ use Rattle.std.proofs.lemmas.Bool.{cases_eq}
 use Rattle.family_points.specs.declared.bounds.Bounds.{Bounds}
 use Rattle.price_certificate.specs.Covers as cover
 use Rattle.price_certificate.specs.Covers.{Tree, Corner, put}
-use Rattle.price_certificate.proofs.Trims.{put_here, put_there}
+use Rattle.price_certificate.proofs.Public.{put_here, put_there}
 use Rattle.gap_rules.specs.Boxes.{AtMost}
 use Rattle.gap_rules.specs.Covers.{fewer, as_many, has_parts}
 use Rattle.gap_rules.specs.Trees.{IsLawful}
-use Rattle.gap_rules.proofs.Boxes.{at_most_set_high, at_most_set_low}
+use Rattle.gap_rules.proofs.Public.{at_most_set_high, at_most_set_low}
 
 -- the list has what the corner has at the first n places, and no more
 pub record Lists (n : ℕ) (corner : Corner) (xs : List ℕ) : Type 0 where

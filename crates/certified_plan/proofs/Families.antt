@@ -12,12 +12,12 @@ use Rattle.fleet_model.specs.Fleet.{family}
 use Rattle.family_items.specs.Inputs.{IsLine}
 use Rattle.family_points.specs.Vectors.{Pair, places, limits}
 use Rattle.family_points.specs.Points.{cost_above, added_cost}
-use Rattle.fleet_plan.proofs.Places.{length_places}
+use Rattle.fleet_plan.proofs.Public.{length_places}
 use Rattle.price_certificate.specs.declared.place.Place.{Place}
 use Rattle.price_certificate.specs.Covers.{Corner, no_place, held_at, most_at, IsPlace, IsHeld, added_from, added, place_at, place_count, places_of}
-use Rattle.price_certificate.proofs.Families.{are_places}
+use Rattle.price_certificate.proofs.Public.{are_places}
 use Rattle.gap_rules.specs.Boxes.{AtMost}
-use Rattle.gap_rules.proofs.Boxes.{at_most_at}
+use Rattle.gap_rules.proofs.Public.{at_most_at}
 use Rattle.certified_plan.proofs.Corners.{Lists}
 
 -- no pair

@@ -7,27 +7,24 @@ use Rattle.std.proofs.lemmas.Bool.{cases_lt}
 use Rattle.spares_input.specs.Stocks.{StockList, limit_at}
 use Rattle.spares_input.specs.Cases.{CaseRows, IsCase}
 use Rattle.fleet_model.specs.Rows.{line_units}
-use Rattle.fleet_model.proofs.AllocationLaws.{limit_most}
+use Rattle.fleet_model.proofs.Public.{limit_most}
 use Rattle.family_items.specs.Inputs.{IsLine}
 use Rattle.family_points.specs.Vectors.{Pair, places, vector_of, limits}
-use Rattle.fleet_plan.proofs.Places.{lines_are}
+use Rattle.fleet_plan.proofs.Public.{lines_are}
 use Rattle.case_plan.specs.Laws.{FitsItsPlace}
 use Rattle.case_plan.specs.Report.{outcome_of}
 use Rattle.case_plan.specs.declared.outcome.Outcome.{Outcome}
-use Rattle.case_plan.proofs.Ranges.{plan_fits}
+use Rattle.case_plan.proofs.Public.{plan_fits}
 use Rattle.price_certificate.specs.declared.place.Place.{Place}
 use Rattle.price_certificate.specs.declared.certificate.Certificate.{Certificate}
 use Rattle.price_certificate.specs.declared.certificate.Node.{Node}
 use Rattle.price_certificate.specs.Covers.{no_place, held_at, most_at, IsTrim, places_of, nodes_of, trimmed}
 use Rattle.price_certificate.specs.Certificates.{IsNode, IsCover, IsSecond, IsWellFormed}
-use Rattle.price_certificate.proofs.Trims.{trim_is}
+use Rattle.price_certificate.proofs.Public.{trim_is}
 use Rattle.gap_rules.specs.Boxes.{AtMost}
-use Rattle.gap_rules.proofs.Adding.{few_places}
-use Rattle.gap_rules.proofs.Families.{held_limited}
-use Rattle.gap_rules.proofs.Formed.{lines_counted}
-use Rattle.gap_rules.proofs.Places.{place_pair}
+use Rattle.gap_rules.proofs.Public.{few_places, held_limited, lines_counted, place_pair}
 use Rattle.hull.specs.Curves.{Among}
-use Rattle.hull.proofs.Runs.{among_at}
+use Rattle.hull.proofs.Public.{among_at}
 use Rattle.price_certificate.specs.declared.certificate.Terms.{Terms}
 use Rattle.gap_rules.specs.Scores.{ends_of, value_of}
 use Rattle.certified_plan.specs.Certificates.{cover_at, covers_of, certificate_of}

@@ -5,8 +5,7 @@ use Rattle.std.proofs.lemmas.List.Sums.{sum_by-cons, sum_by-append}
 use Rattle.hull.specs.declared.point.Point.{Point}
 use Rattle.hull.specs.declared.price.Price.{Price}
 use Rattle.hull.specs.Curves.{lagrangian, Among}
-use Rattle.hull.proofs.Stand.{among_either}
-use Rattle.hull.proofs.Members.{among_map, Mapped, among_mapped}
+use Rattle.hull.proofs.Public.{among_either, among_map, Mapped, among_mapped}
 use Rattle.spares_input.specs.Cases.{CaseRows}
 use Rattle.family_points.specs.declared.bounds.Bounds.{Bounds}
 use Rattle.family_points.specs.Vectors.{places, limits, vectors}
@@ -21,8 +20,7 @@ use Rattle.gap_rules.specs.Trees.{leaves_of}
 use Rattle.family_points.specs.Least.{least}
 use Rattle.gap_rules.specs.Values.{least_within, value_of, leaf_tables, cover_tables}
 use Rattle.gap_rules.specs.Refusals.{low_leaf}
-use Rattle.gap_rules.proofs.Boxes.{at_most_self, at_most_chain, at_most_unset_high}
-use Rattle.gap_rules.proofs.AmongLaws.{IsBetween, among_vectors, between}
+use Rattle.gap_rules.proofs.Public.{at_most_self, at_most_chain, at_most_unset_high, IsBetween, among_vectors, between}
 use Rattle.certified_plan.proofs.Corners.{Lists, Boxed, cut_of, fewer_boxed, as_many_boxed, below_high}
 use Rattle.certified_plan.proofs.Families.{added_is, held_is}
 use Rattle.certified_plan.proofs.Trees.{HasOneWhole}

@@ -1,3 +1,4 @@
+pub mod Public
 pub mod Scores
 pub mod Tables
 pub mod Corners

@@ -8,11 +8,11 @@ use Rattle.spares_input.specs.Stocks.{StockList}
 use Rattle.fleet_model.specs.Rows.{line_units}
 use Rattle.family_items.specs.Inputs.{IsLine}
 use Rattle.family_points.specs.Vectors.{vector_of}
-use Rattle.fleet_plan.proofs.Places.{length_places, length_vector}
+use Rattle.fleet_plan.proofs.Public.{length_places, length_vector}
 use Rattle.price_certificate.specs.declared.certificate.Node.{Node}
 use Rattle.price_certificate.specs.Covers as cover
 use Rattle.price_certificate.specs.Covers.{place_count}
-use Rattle.gap_rules.proofs.Families.{line_read_at}
+use Rattle.gap_rules.proofs.Public.{line_read_at}
 use Rattle.certified_plan.specs.Inputs.{IsHeld}
 use Rattle.certified_plan.specs.Certificates.{cover_of, cover_at}
 use Rattle.certified_plan.proofs.Families.{within_most}

@@ -4,9 +4,9 @@ use Rattle.spares_input.specs.Cases.{CaseRows}
 use Rattle.spares_input.specs.Stocks.{StockList, IsFor}
 use Rattle.certified_plan.specs.Accepted as bounds
 use Rattle.fleet_plan.specs.Plans.{AreAcceptable}
-use Rattle.fleet_plan.proofs.Bridge.{from_points, plan_true}
+use Rattle.fleet_plan.proofs.Public.{from_points, plan_true}
 use Rattle.case_plan.specs.declared.outcome.Outcome.{Outcome}
-use Rattle.gap_rules.proofs.Acceptable.{accepted_are_acceptable}
+use Rattle.gap_rules.proofs.Public.{accepted_are_acceptable}
 use Rattle.gap_rules.specs.Scores.{ends_of, value_of}
 use Rattle.price_certificate.specs.declared.certificate.Certificate.{Certificate}
 use Rattle.price_certificate.specs.declared.certificate.Terms.{Terms}

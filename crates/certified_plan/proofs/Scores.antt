@@ -1,6 +1,6 @@
 -- The scores of objectives are sound.
 use Rattle.hull.specs.Scores.{EnclosesValue, LeavesRoom}
-use Rattle.fleet_plan.proofs.Plain.{plain_encloses, plain_room}
+use Rattle.fleet_plan.proofs.Public.{plain_encloses, plain_room}
 use Rattle.log_loss.specs.Enclosing.{loss_encloses, loss_has_room}
 use Rattle.price_certificate.specs.declared.certificate.Objective.{Objective}
 use Rattle.price_certificate.specs.declared.certificate.Objective.TheVariants.{Backorders, LogAvailability}

@@ -5,8 +5,7 @@ use Rattle.std.proofs.lemmas.List.Elements.{recursion_from_All, All-from_get_or}
 use Rattle.spares_input.specs.Stocks.{StockList}
 use Rattle.spares_input.specs.Cases.{CaseRows, IsCase}
 use Rattle.fleet_model.specs.Rows.{line_units}
-use Rattle.fleet_model.proofs.AllocationLaws.{allocation_reaches, stocks_allocation}
-use Rattle.fleet_model.proofs.FrameLaws.{few_lines}
+use Rattle.fleet_model.proofs.Public.{allocation_reaches, stocks_allocation, few_lines}
 use Rattle.family_points.specs.Vectors.{vector_of}
 use Rattle.fleet_plan.specs.Plans.{CasePlan}
 use Rattle.case_plan.specs.declared.outcome.Outcome.{Outcome}

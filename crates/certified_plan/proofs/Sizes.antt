@@ -28,7 +28,7 @@ use Rattle.price_certificate.specs.declared.certificate.Node.{Node}
 use Rattle.price_certificate.specs.declared.certificate.Node.TheVariants as node
 use Rattle.price_certificate.specs.Grammar.{objective_fields, objective_line, budget_line, price_fields, price_line, family_count, floors, split_fields, node_line, cover, covers, stocks, certificate_format}
 use Rattle.price_certificate.specs.Certificates.{IsNode, IsWellFormed}
-use Rattle.price_certificate.proofs.Fits.{objective_at, covers_at}
+use Rattle.price_certificate.proofs.Public.{objective_at, covers_at}
 use Rattle.held_certificate.specs.declared.held.HeldCertificate.{HeldCertificate}
 use Rattle.held_certificate.specs.Held as held
 use Rattle.held_certificate.specs.Held.{held_format}

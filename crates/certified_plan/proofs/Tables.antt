@@ -9,7 +9,7 @@ use Rattle.fleet_model.specs.Fleet.{family}
 use Rattle.family_points.specs.Vectors.{site_part}
 use Rattle.family_points.specs.Counts.{product, tables_between, widths}
 use Rattle.gap_rules.specs.Boxes.{AtMost}
-use Rattle.gap_rules.proofs.Boxes.{at_most_at, at_most_length}
+use Rattle.gap_rules.proofs.Public.{at_most_at, at_most_length}
 
 widths_more : (low high most : List ℕ) → AtMost high most → AtMost (widths low high) (widths low most)
 widths_more [] high most h = tt

@@ -4,7 +4,7 @@ use Rattle.std.specs.Fmt.{decimal}
 use Rattle.std.specs.List.{AllByRecursion, join_with_byte, concat}
 use Rattle.std.proofs.lemmas.Fmt.{length-decimal-le_wide}
 use Rattle.fixed_interval.specs.Text.{fixed_text, last_digits}
-use Rattle.fixed_interval.proofs.Text.{length_last_digits}
+use Rattle.fixed_interval.proofs.Public.{length_last_digits}
 use Rattle.line_text.specs.Formats.{Token, Format, one, print_after}
 use Rattle.line_text.specs.Files.{line}
 use Rattle.line_text.specs.Texts.{number_line, count_line, counted}

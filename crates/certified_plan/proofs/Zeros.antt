@@ -2,7 +2,7 @@
 use Rattle.std.proofs.Common.{ℕ, refl, arith}
 use Rattle.std.proofs.lemmas.List.{length-replicate}
 use Rattle.spares_input.specs.Cases.{CaseRows, frame_rows, pair_count}
-use Rattle.fleet_model.proofs.AllocationLaws.{stock_holds}
+use Rattle.fleet_model.proofs.Public.{stock_holds}
 use Rattle.spares_input.specs.Stocks.{IsFor, nothing_held}
 use Rattle.certified_plan.proofs.Believed.{nothing_held_at}
 use Rattle.certified_plan.specs.Inputs.{IsHeld}

@@ -38,7 +38,7 @@ fn cover_of(
     requires line { IsLine case.now line.0 }
     ensures { IfOk result (λ nodes. nodes ≡ cover_of case.now held.now.list price.p floor line.0) }
 {
-    let _valid = case.site_count();
+    case.invariant();
     let vector = vector_of(alloc, case, line, held)?;
     let nodes = trim(alloc, case, line, vector.as_slice(), price, floor)?;
     Ok(List::of(nodes))

@@ -1,3 +1,4 @@
+pub mod Public
 pub mod Prefixes
 pub mod Chosen
 pub mod Placing

@@ -3,13 +3,11 @@ use Rattle.std.proofs.Common.{ℕ, zero, suc, ◌<◌, List, [], ◌∷◌, leng
 use Rattle.hull.specs.declared.point.Point.{Point}
 use Rattle.hull.specs.declared.price.Price.{Price}
 use Rattle.hull.specs.Curves.{IsCurve}
-use Rattle.hull.proofs.Shapes.{convex}
+use Rattle.hull.proofs.Public.{convex}
 use Rattle.step_walk.specs.Prefix.{HaveShapes, curve_at}
-use Rattle.step_walk.proofs.Taking.{rises_at}
+use Rattle.step_walk.proofs.Public.{rises_at}
 use Rattle.marginal_alloc.specs.Choice.{AreCurves}
-use Rattle.curve_parts.proofs.Exist.{has_curve}
-use Rattle.curve_parts.proofs.Shape.{part_is_cut, part_some}
-use Rattle.curve_parts.proofs.Bounds.{part_is_whole}
+use Rattle.curve_parts.proofs.Public.{has_curve, part_is_cut, part_some, part_is_whole}
 use Rattle.choice_parts.specs.Parts.{AreFamilies}
 use Rattle.choice_parts.specs.Laws.{CurvesExist, PartsAreOfCurves}
 use Rattle.choice_parts.proofs.Placing.{HasPlaces, places}

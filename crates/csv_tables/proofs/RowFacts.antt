@@ -11,7 +11,7 @@ use Rattle.spares_input.specs.declared.rows.SiteRow.{SiteRow}
 use Rattle.spares_input.specs.declared.rows.PartRow.{PartRow}
 use Rattle.spares_input.specs.declared.rows.RateRow.{RateRow}
 use Rattle.spares_input.specs.declared.rows.StockRow.{StockRow}
-use Rattle.spares_input.proofs.PartFacts.{part_named, site_named}
+use Rattle.spares_input.proofs.Public.{part_named, site_named}
 use Rattle.csv_tables.specs.Rest.{Record}
 use Rattle.answers.specs.Steps.{◌>>=◌}
 use Rattle.csv_tables.specs.Fields.{field, has_none, name_in, number_in, used_in}

@@ -4,7 +4,7 @@ use Rattle.std.proofs.Math.Nat.{mul-le-mul_left, le_of_mul-le-mul_left}
 use Rattle.hull.specs.declared.point.Point.{Point}
 use Rattle.hull.specs.declared.price.Price.{Price}
 use Rattle.hull.specs.Curves.{lagrangian, Among, IsChain, Steps, point_at}
-use Rattle.hull.proofs.Stand.{same_self, among_either}
+use Rattle.hull.proofs.Public.{same_self, among_either}
 use Rattle.curve_parts.specs.Cuts.{AreFlatter, Flatter, IsCutOf, IsWindow, StepAt}
 use Rattle.curve_parts.specs.Beyond.{LieBeyond}
 use Rattle.curve_parts.proofs.Cuts.{all_flatter, back_above, back_chain, first_in, front_above, front_chain, in_whole}

@@ -4,8 +4,7 @@ use Rattle.std.proofs.lemmas.List.{append-nil}
 use Rattle.hull.specs.declared.point.Point.{Point}
 use Rattle.hull.specs.declared.price.Price.{Price}
 use Rattle.hull.specs.Curves.{lagrangian, Among, IsCurve, StandFor, plus, sums}
-use Rattle.hull.proofs.Stand.{same_sym, same_trans, same_lagrangian, among_left, among_right, among_either, curve_stands}
-use Rattle.hull.proofs.Sums.{Parts, parts_of, sum_among}
+use Rattle.hull.proofs.Public.{same_sym, same_trans, same_lagrangian, among_left, among_right, among_either, curve_stands, Parts, parts_of, sum_among}
 use Rattle.curve_parts.specs.Parts.{IsVertexBetween, IsPartOf, IsPassedOver, StandForBetween}
 use Rattle.curve_parts.specs.Beyond.{HavePlaceOf, IsKnownPart, LieBeyond, no_price}
 use Rattle.curve_parts.proofs.Between.{between_at_place, between_of_part, both_between, le_or_gt, part_left_out, part_of_members, part_stands, stands_between, trans_between}
@@ -70,15 +69,6 @@ beyond_sums low ps qs c d a b gap least other s t = λ x m h. (let r : Parts ps 
             )
           ]
         ])
-
--- the sums are no lower than both
-pub least_sums : (low : Price) (ps qs : List Point) (a b : ℕ) → ((v : Point) → Among v ps → a ≤ lagrangian low.p low.q v) → ((w : Point) → Among w qs → b ≤ lagrangian low.p low.q w)
-    → (x : Point) → Among x (sums ps qs) → a + b ≤ lagrangian low.p low.q x
-least_sums low ps qs a b least other x m =
-    let r : Parts ps qs x = parts_of ps qs x m in
-    let i = least r.first r.first_in in
-    let j = other r.second r.second_in in
-    subst (λ y. a + b ≤ lagrangian low.p low.q y) (sym r.is) (omega (arith, i, j))
 
 -- a number that is above the least one leaves the gap between
 pub beyond_gap : (low : Price) (points known : List Point) (least beyond gap : ℕ) → ((v : Point) → Among v points → least ≤ lagrangian low.p low.q v) → gap ≤ beyond - least → LieBeyond low points known beyond

@@ -5,11 +5,7 @@ use Rattle.std.proofs.lemmas.Bool.{cases_lt}
 use Rattle.hull.specs.declared.point.Point.{Point}
 use Rattle.hull.specs.declared.price.Price.{Price}
 use Rattle.hull.specs.Curves.{lagrangian, Among, IsCurve, IsLeastAt, IsChain, Steps, StopsAt}
-use Rattle.hull.proofs.Stand.{same_self, among_left, among_right, among_either}
-use Rattle.hull.proofs.StepsOf.{chain_prefix}
-use Rattle.hull.proofs.Chains.{Flatter, head_least, chain_is_curve}
-use Rattle.hull.proofs.Joined.{chain_suffix}
-use Rattle.hull.proofs.Stops.{least_at_stop}
+use Rattle.hull.proofs.Public.{same_self, among_left, among_right, among_either, chain_prefix, Flatter, head_least, chain_is_curve, chain_suffix, least_at_stop}
 use Rattle.curve_parts.specs.Parts.{IsPriceBetween, IsPartOf, StandForBetween}
 use Rattle.curve_parts.specs.Cuts.{IsWindow, AreSteeper, AreFlatter, AreBetween, IsCutOf}
 use Rattle.curve_parts.proofs.Between.{beaten_between, part_of_standing}

@@ -99,7 +99,7 @@ pub fn join_sums<T: Spot>(
     ensures few { OnOk result (length curve.new ≤ length curve.old + (1 + sum_by length parts.now)) }
     ensures err { OnErr result (curve.new ≡ curve.old) }
 {
-    let _count = curve.len();
+    curve.invariant();
     let below = curve.vertices();
     let handed = walk(alloc, walking, first, parts, below)?;
     curve.add_points(handed)?;

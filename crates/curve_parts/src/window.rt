@@ -17,6 +17,10 @@ pub trait Vertices {
     /// The vertices by rising cost.
     ghost list: { Self → List Point };
 
+    /// The shape of the vertices, for a proof.
+    fn invariant(&self)
+        ensures shape { IsShape (list self.now) };
+
     /// The number of vertices. The clauses also state their shape.
     fn count(&self) -> u32
         ensures count { result ≡ length (list self.now) }
@@ -46,6 +50,10 @@ pub trait Vertices {
 impl<T: Spot> Vertices for Chain<T> {
     ghost list = { λ c. c };
 
+    fn invariant(&self) {
+        self.invariant();
+    }
+
     fn count(&self) -> u32 {
         self.len()
     }
@@ -55,7 +63,7 @@ impl<T: Spot> Vertices for Chain<T> {
     }
 
     fn value(&self, k: u32, price: Price) -> u128 {
-        let _shape = self.len();
+        self.invariant();
         let point = self.at(k);
         lagrangian_of(price, point.cost(), point.lo())
     }
@@ -68,6 +76,10 @@ impl<T: Spot> Vertices for Chain<T> {
 impl Vertices for Curve {
     ghost list = { λ c. c };
 
+    fn invariant(&self) {
+        self.invariant();
+    }
+
     fn count(&self) -> u32 {
         self.len()
     }
@@ -77,7 +89,7 @@ impl Vertices for Curve {
     }
 
     fn value(&self, k: u32, price: Price) -> u128 {
-        let _shape = self.len();
+        self.invariant();
         let point = self.point(k);
         lagrangian_of(price, point.cost, point.lo)
     }
@@ -184,7 +196,7 @@ pub fn cut<V: Vertices>(chain: &mut V, low: Price, high: Price) -> u128
     ensures cut { IsCutOf low high (V.list chain.old) (V.list chain.new) }
     ensures beyond { IsWindow low high → LieBeyond low (V.list chain.old) (V.list chain.new) result }
 {
-    let _shape = chain.count();
+    chain.invariant();
     let from = first_from(chain, high);
     let last = last_from(chain, from, low);
     let beyond = next_value(chain, last, low);

@@ -1,3 +1,4 @@
+pub mod Public
 pub mod Sums
 pub mod Grown
 pub mod Within

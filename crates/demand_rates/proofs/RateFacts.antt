@@ -5,16 +5,15 @@ use Rattle.std.proofs.lemmas.Nat.{div-mul-add, mod-mul-add}
 use Rattle.std.proofs.lemmas.List.Sums.{get_or-le-sum_by}
 use Rattle.std.proofs.lemmas.List.FromFn.{get_or-range_with_len, length-range_with_len, get_or-map-range_with_len, length-map-range_with_len}
 use Rattle.exact_model.specs.Fraction.{whole, ◌≈◌, ◌/ℚ◌, scaled}
-use Rattle.exact_model.proofs.Fractions.{same, turned, ◌≈≈◌}
-use Rattle.spares_input.proofs.Firsts.{first_none}
+use Rattle.exact_model.proofs.Public.{same, turned, ◌≈≈◌}
+use Rattle.spares_input.proofs.Public.{first_none, place_fits}
 use Rattle.spares_input.specs.Frames.{line_of}
 use Rattle.spares_input.specs.Pairs.{part_of_place, site_of_place}
 use Rattle.spares_input.specs.Cases.{CaseRows, IsCase, frame_rows, pair_count}
 use Rattle.spares_input.specs.declared.rows.PartId.{PartId}
 use Rattle.spares_input.specs.declared.rows.SiteId.{SiteId}
-use Rattle.spares_input.proofs.CaseFacts.{place_fits}
 use Rattle.fleet_model.specs.Units.{bottom_of, demand_units, direct_units, pipeline_scale, sent_0j, sent_ij, share_bottom, share_top, top_of, zero_stock_units}
-use Rattle.fleet_model.proofs.UnitLaws.{units_of_demand, share_units, units_of_direct, units_of_zero_stock}
+use Rattle.fleet_model.proofs.Public.{units_of_demand, share_units, units_of_direct, units_of_zero_stock}
 use Rattle.demand_rates.specs.declared.fault.Place.{Place}
 use Rattle.demand_rates.specs.declared.fault.Place.TheVariants.{Pair}
 use Rattle.demand_rates.specs.declared.kinds.PairRates.{PairRates}

@@ -20,8 +20,8 @@ use Rattle.spares_input.specs.Frames.{is_shop_of, line_of, part_at, site_at, par
 use Rattle.spares_input.specs.Cases.{CaseRows, IsCase, rate_at}
 use Rattle.spares_input.specs.declared.rows.PartRow.{PartRow}
 use Rattle.spares_input.specs.declared.rows.RateRow.{RateRow}
-use Rattle.spares_input.proofs.Standing.{no_shop_at}
-use Rattle.fleet_model.proofs.FrameLaws.{same_part}
+use Rattle.spares_input.proofs.Public.{no_shop_at}
+use Rattle.fleet_model.proofs.Public.{same_part}
 use Rattle.fleet_model.specs.Rows.{shop_units}
 use Rattle.fleet_model.specs.Units.{demand_00, demand_i0, direct_units_00, needed_i0, zero_stock_units_00, zero_stock_units_ij}
 use Rattle.demand_rates.specs.declared.kinds.PairRates.{PairRates}

@@ -23,7 +23,7 @@ pub(crate) fn depot_row(case: &Case, part: PartId) -> RateRow
     ensures row { result ≡ rate_at case.now part.0 0 }
     ensures within { IsRate result }
 {
-    let _sites = case.site_count();
+    case.invariant();
     rate_row(case, part, SiteId(0))
 }
 

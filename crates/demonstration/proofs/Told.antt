@@ -6,22 +6,19 @@ use Rattle.spares_input.specs.Cases.{CaseRows, IsCase, frame_rows, pair_count}
 use Rattle.spares_input.specs.Stocks.{StockList, nothing_held}
 use Rattle.case_figures.specs.Figures.{total_of}
 use Rattle.case_maker.specs.Demonstration.{made}
-use Rattle.case_maker.proofs.Valid.{made_few, made_lines, made_valid}
-use Rattle.case_maker.proofs.Whole.{made_drawn}
+use Rattle.case_maker.proofs.Public.{made_few, made_lines, made_valid, made_drawn}
 use Rattle.case_plan.specs.Report.{IsOutcome, IsPlanned, plain_request}
 use Rattle.case_plan.specs.declared.outcome.Outcome.{Outcome}
-use Rattle.case_plan.proofs.Truths.{report_fits}
+use Rattle.case_plan.proofs.Public.{report_fits}
 use Rattle.certified_plan.specs.Certificates.{certificate_of}
 use Rattle.certified_plan.specs.Inputs.{AreTerms, IsHeld, IsPlanOn}
-use Rattle.certified_plan.proofs.Accepted.{accepted}
-use Rattle.certified_plan.proofs.Scores.{scores_enclose, scores_leave_room}
-use Rattle.certified_plan.proofs.Short.{text_short}
+use Rattle.certified_plan.proofs.Public.{accepted, scores_enclose, scores_leave_room, text_short}
 use Rattle.demand_rates.specs.Limits.{rate_fault_of}
-use Rattle.demo_accepts.proofs.FewTables.{all_few, work_few}
+use Rattle.demo_accepts.proofs.Public.{all_few, work_few}
 use Rattle.fleet_plan.specs.Plans.{IsCasePlan}
 use Rattle.gap_rules.specs.Refusals.{reject_of}
 use Rattle.held_work.specs.Work.{IsNothing, held_work_of}
-use Rattle.held_work.proofs.Kept.{all_work}
+use Rattle.held_work.proofs.Public.{all_work}
 use Rattle.plan_report.specs.Fits.{FitsPlan, FitsSummary}
 use Rattle.plan_report.specs.declared.summary.Summary.{Summary}
 use Rattle.price_certificate.specs.Certificates.{cert_text, certificate_limit}

@@ -5,9 +5,9 @@ use Rattle.std.proofs.Math.Nat.{lt_of_mul-lt-mul_right}
 use Rattle.std.proofs.lemmas.Nat.{pow_pos}
 use Rattle.std.proofs.lemmas.Grind.{div_ceil_times}
 use Rattle.exact_model.specs.Fraction.{Fraction, whole, sum_below, ◌+ℚ◌, ◌-ℚ◌, ◌*ℚ◌}
-use Rattle.exact_model.proofs.Fractions.{turned, contains_same, nothing_more, plus_assoc}
+use Rattle.exact_model.proofs.Public.{turned, contains_same, nothing_more, plus_assoc}
 use Rattle.fixed_interval.specs.Ends.{Ends, In, ends_exact, ends_add, ends_less, ends_mul}
-use Rattle.fixed_interval.proofs.Laws.{add_encloses, less_encloses, exact_encloses, mul_encloses}
+use Rattle.fixed_interval.proofs.Public.{add_encloses, less_encloses, exact_encloses, mul_encloses}
 use Rattle.depot_pipeline.specs.declared.Feed.{Feed}
 use Rattle.depot_pipeline.specs.Profile.{mean_part, variance_part, added}
 use Rattle.exact_model.specs.Shares.{shared}

@@ -1,3 +1,4 @@
+pub mod Public
 pub mod Whole
 pub mod Fractions
 pub mod Cleared

@@ -6,14 +6,13 @@ use Rattle.fleet_model.specs.Laws.{IsBase}
 use Rattle.hull.specs.declared.point.Point.{Point}
 use Rattle.hull.specs.Curves.{HaveOneWidth, IsCurve, StandFor, sums}
 use Rattle.hull.specs.Scores.{LeavesRoom}
-use Rattle.hull.proofs.Stand.{curve_stands}
-use Rattle.hull.proofs.Sums.{stand_for_sums}
+use Rattle.hull.proofs.Public.{curve_stands, stand_for_sums}
 use Rattle.family_points.specs.Inputs.{FamilyBox, IsAt, IsFamilyBox}
 use Rattle.family_points.specs.Points.{ScoreEnds}
 use Rattle.family_points.specs.Separation.{base_points, points_over}
 use Rattle.sum_walk.specs.Sums.{sums_of_each}
-use Rattle.family_points.proofs.Points.{over_more, over_small}
-use Rattle.sum_walk.proofs.Parts.{sums_one_more}
+use Rattle.family_points.proofs.Public.{over_more, over_small}
+use Rattle.sum_walk.proofs.Public.{sums_one_more}
 
 -- with one list more, the lengths of all come to that list's length more
 pub lengths_one_more : (ls : List (List Point)) (l : List Point) → sum_by length (ls ++ l ∷ []) ≡ sum_by length ls + length l

@@ -7,17 +7,12 @@ use Rattle.std.proofs.Math.Nat.{mul-le-mul_right}
 use Rattle.hull.specs.declared.point.Point.{Point}
 use Rattle.hull.specs.Curves.{Among, InRange, IsChain, IsCurve, StandFor}
 use Rattle.hull.specs.Scores.{LeavesRoom}
-use Rattle.hull.proofs.Chains.{chain_is_curve}
-use Rattle.hull.proofs.Shapes.{of_members}
-use Rattle.hull.proofs.Stand.{among_either, among_left, among_right, curve_stands, stand_for, stand_for_both}
-use Rattle.hull.proofs.StepsOf.{stand_self}
+use Rattle.hull.proofs.Public.{chain_is_curve, of_members, among_either, among_left, among_right, curve_stands, stand_for, stand_for_both, stand_self}
 use Rattle.family_points.specs.Inputs.{FamilyBox, IsAt, IsFamilyBox}
 use Rattle.family_curve.specs.Joining.{HaveWidthOf, middle, run_start}
 use Rattle.family_points.specs.Points.{ScoreEnds}
 use Rattle.family_points.specs.Separation.{depot_points}
-use Rattle.family_points.proofs.Bounded.{low_long}
-use Rattle.family_points.proofs.Points.{depot_points_small, flat_stock_before, flat_stock_behind, small_range}
-use Rattle.family_points.proofs.Sites.{size}
+use Rattle.family_points.proofs.Public.{low_long, depot_points_small, flat_stock_before, flat_stock_behind, small_range, size}
 
 -- the curve of points so far, and of what comes to it
 pub curve_grows : (ps qs c e : List Point) → IsCurve ps c → IsCurve (c ++ qs) e → IsCurve (ps ++ qs) e

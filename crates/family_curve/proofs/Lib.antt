@@ -1,3 +1,4 @@
+pub mod Public
 pub mod Vertices
 pub mod Bases
 pub mod Grown

@@ -108,6 +108,6 @@ pub fn put_curve<'b, S: Score>(
     put_rows(rows, here, numbers, tables)?;
     let count = here.base.shops.len();
     put_points(chain, here, score, &rows.as_slice()[..count])?;
-    let _vertices = chain.len();
+    chain.invariant();
     Ok(())
 }

@@ -51,7 +51,7 @@ pub fn depot_point(family: &Family<'_>, stocks: Vec<u8>) -> Point
     ensures point { result ≡ depot_point family.now stocks.items }
     ensures range { InRange result }
 {
-    let _size = family.size();
+    family.invariant();
     Point {
         cost: family.cost(SiteId(0), stocks.as_slice()),
         lo: 0,
@@ -79,7 +79,7 @@ fn put_curves<'b, S: Score>(
     ensures few { IfOk result (λ _. 1 + sum_by length work.new.chains.items ≤ vertex_count sources.now.family.now) }
     ensures work { IfOk result (λ _. length work.new.chains.items ≡ length sources.now.bases.items) }
 {
-    let _size = sources.family.size();
+    sources.family.invariant();
     for j in 1..sources.family.sites() {
         let place = usize::from(j) - 1;
         let base = &sources.bases[place];
@@ -121,7 +121,7 @@ fn depot_path<'b, S: Score>(
     ensures few { IfOk result (λ path. length path.items ≤ vertex_count sources.now.family.now) }
     ensures work { IfOk result (λ _. length work.new.chains.items ≡ length sources.now.bases.items) }
 {
-    let _sites = sources.family.sites();
+    sources.family.invariant();
     let depot = first.stocks.as_slice();
     put_curves(work, sources, score, tables, depot)?;
     let chains = work.chains.as_slice();
@@ -151,7 +151,7 @@ fn with_depot<'b, S: Score>(
     ensures widths { IfOk result (HaveWidthOf sources.now.family.now) }
     ensures work { IfOk result (λ _. length work.new.chains.items ≡ length sources.now.bases.items) }
 {
-    let _size = sources.family.size();
+    sources.family.invariant();
     let Some(mut curve) = so_far else {
         let below = [];
         let path = depot_path(alloc, work, sources, score, tables, first, &below)?;
@@ -202,7 +202,7 @@ fn with_line(family: &Family<'_>, point: Point, line: u8) -> Point
     ensures point { IsDepotPoint family.now result }
     ensures stocks { result.stocks ≡ line ∷ drop 1 point.stocks }
 {
-    let _size = family.size();
+    family.invariant();
     let mut stocks = point.stocks.into_vec();
     stocks[0] = line;
     depot_point(family, stocks)
@@ -221,7 +221,7 @@ fn first_point(
     ensures point { IfOk result (IsDepotPoint family.now) }
     ensures stocks { IfOk result (λ p. p.stocks ≡ line ∷ shops.now) }
 {
-    let _size = family.size();
+    family.invariant();
     let stocks = joined(alloc, line, shops)?;
     Ok(depot_point(family, stocks))
 }
@@ -252,7 +252,7 @@ fn with_lines<'b, S: Score>(
     ensures work { IfOk result (λ _. length work.new.chains.items ≡ length sources.now.bases.items) }
 {
     let family = sources.family;
-    let _size = family.size();
+    family.invariant();
     let low = family.line_low(SiteId(0));
     let high = family.line_high(SiteId(0));
     let mut first = first_point(alloc, family, middle(low, high), shops)?;
@@ -289,7 +289,7 @@ fn with_shops<'b, S: Score>(
     ensures work { IfOk result (λ _. length work.new.chains.items ≡ length sources.now.bases.items) }
 {
     let family = sources.family;
-    let _size = family.size();
+    family.invariant();
     let vector = family.shop_vector(alloc, SiteId(0), number)?;
     let shops = vector.as_slice();
     parts.put(sources, shops)?;
@@ -311,7 +311,7 @@ fn whole_curve<'b, S: Score>(
     ensures { IfOk result (IsCurve (box_points S.ends sources.now.family.now)) }
 {
     let family = sources.family;
-    let _size = family.size();
+    family.invariant();
     let count = family.shop_count(SiteId(0));
     let mut parts = ShopParts::new(alloc);
     let mut curve = with_shops(alloc, None, work, sources, score, &mut parts, count - 1)?;

@@ -55,10 +55,10 @@ pub fn curve_within<S: Score>(
     ensures stocks { IfOk result (λ curve. (v : Point) → Among v curve
         → IsBetween bounds.now.low bounds.now.high v.stocks) }
 {
-    let _sites = case.site_count();
+    case.invariant();
     let family = Family::of(case, rates, line, bounds);
     let curve = family_curve(alloc, &family, score)?;
-    let _vertices = curve.len();
+    curve.invariant();
     Ok(curve)
 }
 
@@ -80,7 +80,7 @@ pub fn curve<S: Score>(
     ensures stocks { IfOk result (λ curve. (v : Point) → Among v curve
         → IsBetween (zeros case.now line.0) (limits case.now line.0) v.stocks) }
 {
-    let _valid = case.site_count();
+    case.invariant();
     let held = nothing_held(alloc, case)?;
     let bounds = Bounds::from_held(alloc, case, line, &held)?;
     curve_within(alloc, case, rates, line, &bounds, score)

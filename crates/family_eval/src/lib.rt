@@ -52,7 +52,7 @@ pub fn family_from<const F: u32>(
         (shop_units inputs.now.case line.0) }
     ensures { IfOk result (λ r. r ≡ family_of F inputs.now.case line.0 inputs.now.stocks) }
 {
-    let _sites = inputs.sites();
+    inputs.invariant();
     let units = shop_units(alloc, inputs.case(), line)?;
     let mut items = line_items(alloc, inputs, line, depot, units.as_slice(), shop_items)?;
     let total = total_of(items.as_slice(), inputs.weight(line));
@@ -73,7 +73,7 @@ fn evaluate_family<const F: u32>(
     requires line { IsLine inputs.now.case line.0 }
     ensures { IfOk result (λ r. r ≡ family_of F inputs.now.case line.0 inputs.now.stocks) }
 {
-    let _sites = inputs.sites();
+    inputs.invariant();
     let units = shop_units(alloc, inputs.case(), line)?;
     let shops = units.as_slice();
     let items = all_shop_items(alloc, inputs, shops)?;

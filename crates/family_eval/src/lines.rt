@@ -79,7 +79,7 @@ pub(crate) fn depot_line_at<const F: u32>(
     requires items { items.now ≡ flat_map (λ p. part_items F inputs.now.case inputs.now.stocks.list p.0) shops.now }
     ensures { IfOk result (λ x. x ≡ depot_line F inputs.now.case inputs.now.stocks.list line.0) }
 {
-    let _sites = inputs.sites();
+    inputs.invariant();
     let feeds = depot_feeds(alloc, inputs, shops, items)?;
     depot_line_item(alloc, inputs.pipeline(line, SiteId(0)), feeds.as_slice())
 }
@@ -103,7 +103,7 @@ fn base_line_at<const F: u32>(
     requires items { items.now ≡ flat_map (λ p. part_items F inputs.now.case inputs.now.stocks.list p.0) shops.now }
     ensures { IfOk result (λ x. x ≡ base_line F inputs.now.case inputs.now.stocks.list line.0 site.0) }
 {
-    let _sites = inputs.sites();
+    inputs.invariant();
     let held = held_at(alloc, inputs, site, shops, items)?;
     let feed = feed_of(inputs.share(line, site), depot);
     base_line_item(alloc, inputs.pipeline(line, site), feed, held.as_slice())

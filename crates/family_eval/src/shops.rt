@@ -22,7 +22,7 @@ fn depot_shop_at<const F: u32>(
     requires part { part.0 < length inputs.now.case.parts }
     ensures { IfOk result (λ x. x ≡ depot_shop F inputs.now.case inputs.now.stocks.list part.0) }
 {
-    let _sites = inputs.sites();
+    inputs.invariant();
     depot_shop_item(alloc, inputs.pipeline(part, SiteId(0)))
 }
 
@@ -40,7 +40,7 @@ fn base_shop_at<const F: u32>(
     requires depot { depot.now ≡ depot_shop F inputs.now.case inputs.now.stocks.list part.0 }
     ensures { IfOk result (λ x. x ≡ base_shop F inputs.now.case inputs.now.stocks.list part.0 site.0) }
 {
-    let _sites = inputs.sites();
+    inputs.invariant();
     let feed = feed_of(inputs.share(part, site), depot);
     base_shop_item(alloc, inputs.pipeline(part, site), feed)
 }

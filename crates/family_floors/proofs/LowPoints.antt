@@ -11,13 +11,12 @@ use Rattle.fleet_model.specs.Laws.{IsBase}
 use Rattle.fleet_model.specs.Rows.{systems, per_system, weight}
 use Rattle.family_items.specs.Profile.{item_of}
 use Rattle.family_numbers.specs.Numbers.{base_backorders}
-use Rattle.family_numbers.proofs.FromNumbers.{backorders_alone}
+use Rattle.family_numbers.proofs.Public.{backorders_alone}
 use Rattle.hull.specs.declared.point.Point.{Point}
 use Rattle.hull.specs.declared.price.Price.{Price}
 use Rattle.hull.specs.Curves.{lagrangian, Among, sums}
 use Rattle.hull.specs.Scores.{LeavesRoom}
-use Rattle.hull.proofs.Members.{Flattened, Mapped, among_flattened, among_mapped, range_has}
-use Rattle.hull.proofs.Stand.{among_either}
+use Rattle.hull.proofs.Public.{Flattened, Mapped, among_flattened, among_mapped, range_has, among_either}
 use Rattle.family_points.specs.Vectors.{between, vectors}
 use Rattle.family_points.specs.Points.{ScoreEnds, cost_above}
 use Rattle.family_points.specs.Separation.{base_point, base_points, base_stocks, depot_and_base, depot_point, points_over}
@@ -26,13 +25,7 @@ use Rattle.family_points.specs.Least.{AreAtLeast}
 use Rattle.family_rows.specs.Tabled.{box_numbers}
 use Rattle.family_floors.specs.declared.lows.Lows.{Lows}
 use Rattle.family_floors.specs.Lows.{AreNoHigher, AreUnder, IsReached, line_place, lower_of}
-use Rattle.family_points.proofs.Bounded.{at_long}
-use Rattle.family_points.proofs.Distinct.{family_stocks_in}
-use Rattle.family_points.proofs.Leasts.{at_least_sums}
-use Rattle.family_points.proofs.Points.{base_small, begins, high_begins, joined_at, low_begins, over_more, take_next}
-use Rattle.family_points.proofs.Scores.{backorders_small}
-use Rattle.family_points.proofs.Separate.{at_base}
-use Rattle.family_points.proofs.Spotted.{line_dearer}
+use Rattle.family_points.proofs.Public.{at_long, family_stocks_in, at_least_sums, base_small, begins, high_begins, joined_at, low_begins, over_more, take_next, backorders_small, at_base, line_dearer}
 
 -- a score that is at most the point's, and no larger than any score
 pub record IsLowScore (scored : ℕ) (v : Point) : Type 0 where
@@ -77,7 +70,7 @@ lagrangian_under p q cost scored value v e g h =
 -- lower bounds at two prices
 module _ (x : FamilyBox) (ends : ScoreEnds) (d : List ℕ) (j : ℕ) (low high : Price) where
   -- lower ones
-  lower_under : (shops : List ℕ) (s : ℕ) (lows others : Lows) → AreNoHigher lows others → AreUnder ends x d j low high shops s others → AreUnder ends x d j low high shops s lows
+  pub lower_under : (shops : List ℕ) (s : ℕ) (lows others : Lows) → AreNoHigher lows others → AreUnder ends x d j low high shops s others → AreUnder ends x d j low high shops s lows
   lower_under shops s lows others n h = record { at_low = omega (arith, n.at_low, h.at_low); at_high = omega (arith, n.at_high, h.at_high) }
 
   -- one stock more

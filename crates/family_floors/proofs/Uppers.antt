@@ -4,9 +4,7 @@ use Rattle.std.specs.List.{AllZip, range_with_len}
 use Rattle.fleet_model.specs.Laws.{IsBase}
 use Rattle.hull.specs.declared.point.Point.{Point}
 use Rattle.hull.specs.Curves.{Among, plus, sums}
-use Rattle.hull.proofs.Members.{among_flat}
-use Rattle.hull.proofs.Runs.{among_at, among_permuted}
-use Rattle.hull.proofs.Sums.{sum_among}
+use Rattle.hull.proofs.Public.{among_flat, among_at, among_permuted, sum_among}
 use Rattle.family_points.specs.declared.order.Choice.{Choice}
 use Rattle.family_points.specs.Vectors.{vectors}
 use Rattle.family_points.specs.Points.{HasUpper, ScoreEnds}
@@ -14,12 +12,7 @@ use Rattle.family_points.specs.Separation.{base_point, base_points, depot_point,
 use Rattle.family_points.specs.Inputs.{AreShopsAt, FamilyBox, IsAt, IsFamilyBox, box_points, high_at, low_at, shop_low}
 use Rattle.family_points.specs.Choices.{IsOrder, choice_point}
 use Rattle.family_points.specs.Turned.{turned_points}
-use Rattle.family_points.proofs.Bounded.{box_at}
-use Rattle.family_points.proofs.LeastPoints.{turned_among}
-use Rattle.family_points.proofs.Ordered.{points_permuted}
-use Rattle.family_points.proofs.Points.{first_vector, high_begins, low_begins, mapped_among, over_more}
-use Rattle.family_points.proofs.Separate.{separated_is}
-use Rattle.family_points.proofs.Shops.{box_shops}
+use Rattle.family_points.proofs.Public.{box_at, turned_among, points_permuted, first_vector, high_begins, low_begins, mapped_among, over_more, separated_is, box_shops}
 
 -- the point of a choice is one of the base's
 pub upper_of_choice : (x : FamilyBox) (valid : IsFamilyBox x) (j : ℕ) (order : List Choice) → IsOrder x j order → (ends : ScoreEnds) (d : List ℕ) → IsBase x.case j

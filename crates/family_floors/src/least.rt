@@ -119,7 +119,7 @@ fn least_at_depot<S: Score>(
     requires price { price.p ≤ 2 ^ 74 }
     ensures { IfOk result (IsLeast price.p price.q (depot_points S.ends sources.now.family.now depot.now)) }
 {
-    let _size = sources.family.size();
+    sources.family.invariant();
     let mut least = price.p * u128::from(sources.family.cost(SiteId(0), depot));
     for j in 1..sources.family.sites() {
         let here = base_of(sources, depot, j);
@@ -175,7 +175,7 @@ fn are_at_least<S: Score>(
     ensures { IfOk result
         (Decides price.p price.q floor (shop_points S.ends sources.now.family.now (drop 1 stocks.old))) }
 {
-    let _size = sources.family.size();
+    sources.family.invariant();
     let low = sources.family.line_low(SiteId(0));
     let high = sources.family.line_high(SiteId(0));
     for s in low..high + 1 {
@@ -228,7 +228,7 @@ fn all_are_at_least<S: Score>(
     requires price { price.p ≤ 2 ^ 74 }
     ensures { IfOk result (Decides price.p price.q floor (box_points S.ends sources.now.family.now)) }
 {
-    let _size = sources.family.size();
+    sources.family.invariant();
     let mut parts = ShopParts::new(alloc);
     for n in 0..sources.family.shop_count(SiteId(0)) {
         if !shops_are_at_least(alloc, rows, &mut parts, sources, score, n, price, floor)? {
@@ -259,7 +259,7 @@ pub fn is_at_least<S: Score>(
     ensures { IfOk result (λ answer. answer ≡ nat_le floor (least (lagrangian price.p price.q)
         (points_within case.now line.0 S.ends bounds.now.held bounds.now.low bounds.now.high))) }
 {
-    let _sites = case.site_count();
+    case.invariant();
     let family = Family::of(case, rates, line, bounds);
     let sources = Sources::of(alloc, &family)?;
     let mut rows = Vec::new(alloc);

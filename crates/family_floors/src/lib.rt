@@ -5,6 +5,7 @@
 pub mod bases;
 mod least;
 pub mod lows;
+pub mod rough;
 pub mod stocks;
 mod upper;
 

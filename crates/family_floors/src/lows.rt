@@ -30,7 +30,7 @@ use hull::{Price, Score};
 use spares_input::SiteId;
 
 /// No Lagrangian of a base is larger.
-const MOST: u128 = 1 << 115;
+pub(crate) const MOST: u128 = 1 << 115;
 
 /// Lower bounds on Lagrangians at two prices.
 #[derive(Clone, Copy, Drop)]
@@ -44,7 +44,7 @@ pub struct Lows {
 impl Lows {
     /// The lower one at each price.
     #[inline(always)]
-    fn lower(self, other: Lows) -> Lows
+    pub(crate) fn lower(self, other: Lows) -> Lows
         ensures { result ≡ lower_of self other }
     {
         Lows {
@@ -55,7 +55,7 @@ impl Lows {
 
     /// Whether a cost alone comes to no less at both prices.
     #[inline(always)]
-    fn is_reached(self, low: Price, high: Price, cost: u64) -> bool
+    pub(crate) fn is_reached(self, low: Price, high: Price, cost: u64) -> bool
         requires low { IsSmallPrice low }
         requires high { IsSmallPrice high }
         requires cost { cost ≤ 1000000000000 }
@@ -67,7 +67,7 @@ impl Lows {
 
 /// The Lagrangian of a cost and a score at a price.
 #[inline(always)]
-fn lagrangian(price: Price, cost: u64, scored: u128) -> u128
+pub(crate) fn lagrangian(price: Price, cost: u64, scored: u128) -> u128
     requires price { IsSmallPrice price }
     requires cost { cost ≤ 1000000000000 }
     requires scored { scored ≤ 2 ^ 74 }
@@ -93,7 +93,7 @@ fn walk_at(
         result ≡ line_place x here.now.depot.now j shops.now (line_low x j) }
 {
     let (site, depot) = (here.site, here.depot);
-    let _most = here.family.line_high(site);
+    here.family.invariant_at(site);
     let mut walk = line_walk(numbers, own, depot[0], shops_of(depot), site, part, shops);
     for _k in 0..here.family.line_low(site) {
         walk.advance();
@@ -161,7 +161,7 @@ fn lower_at_shops<S: Score>(
         → AreUnder S.ends x here.now.depot.now j low high shops.now.stocks s result }
 {
     let family = here.family;
-    let _size = family.size();
+    family.invariant();
     let first = family.line_low(here.site);
     let last = family.line_high(here.site);
     let each = family.line_cost();
@@ -234,7 +234,7 @@ pub(crate) fn low_at_depot<S: Score>(
     requires price { price.p ≤ 2 ^ 74 }
     ensures { AreAtLeast price.p price.q result (depot_points S.ends sources.now.family.now depot.now) }
 {
-    let _size = sources.family.size();
+    sources.family.invariant();
     let mut low = price.p * u128::from(sources.family.cost(SiteId(0), depot));
     for j in 1..sources.family.sites() {
         low += lows_at_base(sources, score, tables, depot, j, price, price).at_low;

@@ -61,7 +61,7 @@ fn upper_at_depot<S: Score>(
     ensures upper { IfOk result (HasUpper (depot_points S.ends sources.now.family.now depot.now)) }
     ensures most { IfOk result (λ hi. hi ≤ 16 * 2 ^ 74) }
 {
-    let _size = sources.family.size();
+    sources.family.invariant();
     let mut upper = 0;
     for j in 1..sources.family.sites() {
         let here = base_of(sources, depot, j);
@@ -80,7 +80,7 @@ fn upper_at_least<S: Score>(
     ensures upper { IfOk result (HasUpper (box_points S.ends sources.now.family.now)) }
     ensures most { IfOk result (λ hi. hi ≤ 16 * 2 ^ 74) }
 {
-    let _size = sources.family.size();
+    sources.family.invariant();
     let depot = sources.family.low(SiteId(0));
     let mut parts = ShopParts::new(alloc);
     let shops = shops_of(depot);

@@ -5,16 +5,16 @@ use Rattle.std.proofs.lemmas.List.{get_or-map, length-map}
 use Rattle.exact_model.specs.Fraction.{Fraction, whole, sum_below, ◌≈◌, ◌≤ℚ◌, ◌+ℚ◌, ◌*ℚ◌}
 use Rattle.exact_model.specs.Series.{ebo, vbo}
 use Rattle.exact_model.specs.Shares.{shared}
-use Rattle.exact_model.proofs.Fractions.{add_same, contains_same, same}
+use Rattle.exact_model.proofs.Public.{add_same, contains_same, same}
 use Rattle.fixed_interval.specs.Ends.{Ends, In, ends_add}
-use Rattle.fixed_interval.proofs.Laws.{add_encloses, capped_encloses}
+use Rattle.fixed_interval.proofs.Public.{add_encloses, capped_encloses}
 use Rattle.moment_table.specs.Profile.{table_rows}
-use Rattle.moment_table.proofs.Most.{rows_below}
+use Rattle.moment_table.proofs.Public.{rows_below, table_encloses}
 use Rattle.depot_pipeline.specs.declared.Moments.{Moments}
 use Rattle.depot_pipeline.specs.declared.Feed.{Feed}
 use Rattle.depot_pipeline.specs.Exact.{FeedIn, IsAtMost}
 use Rattle.depot_pipeline.specs.Profile.{added, depot_line_ends, depot_shop_ends, feed_at, mean_part, no_feed, variance_part}
-use Rattle.depot_pipeline.proofs.Laws.{added_in, mean_part_in, variance_part_in}
+use Rattle.depot_pipeline.proofs.Public.{added_in, mean_part_in, variance_part_in}
 use Rattle.base_pipeline.specs.declared.Held.{Held}
 use Rattle.base_pipeline.specs.Exact.{HeldIn}
 use Rattle.base_pipeline.specs.Profile.{base_line_ends, base_shop_ends, held_at}
@@ -28,16 +28,13 @@ use Rattle.fleet_model.specs.Pipelines.{pipeline_i0, pipeline_00, pipeline_ij, p
 use Rattle.fleet_model.specs.Pipelines as exact
 use Rattle.fleet_model.specs.Pairs.{by_pair}
 use Rattle.fleet_model.specs.Laws.{Reaches}
-use Rattle.fleet_model.proofs.SumLaws.{sum_places}
-use Rattle.fleet_model.proofs.CapLaws.{capped_i0, capped_00, capped_ij, capped_0j}
-use Rattle.fleet_model.proofs.AllocationLaws.{allocation_reaches}
-use Rattle.demand_rates.proofs.DepotFacts.{no_line_there}
+use Rattle.fleet_model.proofs.Public.{sum_places, capped_i0, capped_00, capped_ij, capped_0j, allocation_reaches}
+use Rattle.demand_rates.proofs.Public.{no_line_there}
 use Rattle.family_items.specs.declared.pipeline.Pipeline.{Pipeline}
 use Rattle.family_items.specs.declared.item.Item.{Item}
 use Rattle.family_items.specs.Profile.{base_line, base_shop, depot_feed, depot_line, depot_shop, feed_of, held_of, item_of, pipeline_of, share_of, stocked}
 use Rattle.family_items.specs.Encloses.{EnclosesItem, IsSmallItem}
 use Rattle.family_items.specs.Inputs.{HasTable, IsLine, IsPipeline, IsShop, IsSound}
-use Rattle.moment_table.proofs.Tables.{table_encloses}
 use Rattle.family_items.proofs.Ranges.{added_least, can_table, cap_in, direct_in, pipeline_is, share_in}
 use Rattle.family_items.proofs.Units.{line_at, shop_at}
 

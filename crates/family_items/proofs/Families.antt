@@ -3,11 +3,11 @@ use Rattle.std.proofs.Common.{◌≡◌, ℕ, zero, suc, ◌+◌, ◌-◌, ◌*�
 use Rattle.std.specs.List.{range_with_len, AllByRecursion, AllZip}
 use Rattle.std.proofs.lemmas.List.{map_push}
 use Rattle.exact_model.specs.Fraction.{Encloses, whole, ◌*ℚ◌}
-use Rattle.exact_model.proofs.Fractions.{contains_same, ◌≈≈◌, none_plus}
+use Rattle.exact_model.proofs.Public.{contains_same, ◌≈≈◌, none_plus}
 use Rattle.fixed_interval.specs.Ends.{Ends, In, ends_exact}
-use Rattle.fixed_interval.proofs.Laws.{exact_encloses, times_encloses}
+use Rattle.fixed_interval.proofs.Public.{exact_encloses, times_encloses}
 use Rattle.depot_pipeline.specs.Profile.{added}
-use Rattle.depot_pipeline.proofs.Laws.{added_in}
+use Rattle.depot_pipeline.proofs.Public.{added_in}
 use Rattle.spares_input.specs.Rows.{is_line, no_part}
 use Rattle.spares_input.specs.Frames.{part_at}
 use Rattle.spares_input.specs.Cases.{CaseRows, IsCase}
@@ -16,10 +16,9 @@ use Rattle.fleet_model.specs.Rows.{line_units, weight}
 use Rattle.fleet_model.specs.Pipelines.{ebo_0j}
 use Rattle.fleet_model.specs.Fleet.{family, family_total}
 use Rattle.fleet_model.specs.Laws.{IsBase}
-use Rattle.fleet_model.proofs.SumLaws.{passed, sum_range}
-use Rattle.fleet_model.proofs.DependLaws.{all_follow}
+use Rattle.fleet_model.proofs.Public.{passed, sum_range, all_follow}
 use Rattle.demand_rates.specs.Rates.{all_rates}
-use Rattle.demand_rates.proofs.RateFacts.{rates_model}
+use Rattle.demand_rates.proofs.Public.{rates_model}
 use Rattle.family_items.specs.declared.item.Item.{Item}
 use Rattle.family_items.specs.declared.item.FamilyResult.{FamilyResult}
 use Rattle.family_items.specs.Profile.{families_of, family_of, item_of, total_of, weighed}

@@ -6,7 +6,7 @@ use Rattle.std.proofs.lemmas.List.Elements.{filter-append}
 use Rattle.std.proofs.lemmas.List.Folds.{flat_map-map}
 use Rattle.std.proofs.lemmas.List.FromFn.{get_or-map-range_with_len, length-map-range_with_len}
 use Rattle.fixed_interval.specs.Ends.{Ends, ends_add, ends_exact, ends_times}
-use Rattle.fixed_interval.proofs.Laws.{unit_most}
+use Rattle.fixed_interval.proofs.Public.{unit_most}
 use Rattle.depot_pipeline.specs.declared.Feed.{Feed}
 use Rattle.depot_pipeline.specs.Exact.{IsSmallFeed}
 use Rattle.depot_pipeline.specs.Profile.{added, depot_line_ends, depot_shop_ends}
@@ -17,11 +17,11 @@ use Rattle.spares_input.specs.Frames.{line_of}
 use Rattle.spares_input.specs.Cases.{CaseRows, IsCase}
 use Rattle.spares_input.specs.Stocks.{StockList}
 use Rattle.spares_input.specs.declared.rows.PartId.{PartId}
-use Rattle.spares_input.proofs.Ranges.{range_next}
+use Rattle.spares_input.proofs.Public.{range_next}
 use Rattle.fleet_model.specs.Rows.{shop_units, weight}
 use Rattle.fleet_model.specs.Pairs.{by_pair}
 use Rattle.demand_rates.specs.Rates.{pair_rates}
-use Rattle.demand_rates.proofs.DepotFacts.{no_line_there}
+use Rattle.demand_rates.proofs.Public.{no_line_there}
 use Rattle.family_items.specs.declared.pipeline.Pipeline.{Pipeline}
 use Rattle.family_items.specs.declared.item.Item.{Item}
 use Rattle.family_items.specs.Profile.{base_line, base_shop, depot_feed, depot_line, depot_shop, family_of, feed_of, held_of, item_of, pipeline_of, part_items, share_of, stocked, total_of, weighed}

@@ -1,3 +1,4 @@
+pub mod Public
 pub mod Ranges
 pub mod Units
 pub mod Enclosed

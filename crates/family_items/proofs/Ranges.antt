@@ -4,9 +4,9 @@ use Rattle.std.proofs.Math.Nat.{pow-le-pow_right, le_refl}
 use Rattle.std.proofs.Math.Dec.{lit≤}
 use Rattle.std.proofs.lemmas.Nat.{le-div, div-add-mod', mod_below, mul-add-lt}
 use Rattle.exact_model.specs.Fraction.{Fraction, whole, ◌≈◌, ◌≤ℚ◌, ◌/ℚ◌}
-use Rattle.exact_model.proofs.Fractions.{contains_same, le_same, over, same, turned, ◌≈≈◌}
+use Rattle.exact_model.proofs.Public.{contains_same, le_same, over, same, turned, ◌≈≈◌}
 use Rattle.fixed_interval.specs.Ends.{Ends, In, ends_ratio}
-use Rattle.fixed_interval.proofs.Laws.{ceil_above, floor_below_ceil, ratio_encloses, quotient_is, ceil_most}
+use Rattle.fixed_interval.proofs.Public.{ceil_above, floor_below_ceil, ratio_encloses, quotient_is, ceil_most}
 use Rattle.depot_pipeline.specs.Exact.{IsAtMost}
 use Rattle.depot_pipeline.specs.Profile.{added, capped_at}
 use Rattle.spares_input.specs.Frames.{line_of}
@@ -17,7 +17,7 @@ use Rattle.spares_input.specs.declared.rows.SiteId.{SiteId}
 use Rattle.fleet_model.specs.Rows.{stock}
 use Rattle.fleet_model.specs.Pairs.{direct, share, zero_stock}
 use Rattle.fleet_model.specs.Units.{days_at, demand_of, direct_of, zero_stock_of, in_pipeline, pipeline_scale}
-use Rattle.fleet_model.proofs.AllocationLaws.{allocation_reaches, stock_holds, stocks_allocation}
+use Rattle.fleet_model.proofs.Public.{allocation_reaches, stock_holds, stocks_allocation}
 use Rattle.demand_rates.specs.declared.kinds.PairRates.{PairRates}
 use Rattle.demand_rates.specs.Limits.{IsAccepted}
 use Rattle.demand_rates.specs.RateLists.{HasRates, rates_at}

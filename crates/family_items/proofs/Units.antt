@@ -10,9 +10,8 @@ use Rattle.spares_input.specs.Frames.{is_shop_of, line_of, part_at, part_names, 
 use Rattle.spares_input.specs.Cases.{CaseRows, IsCase}
 use Rattle.spares_input.specs.declared.rows.PartRow.{PartRow}
 use Rattle.fleet_model.specs.Rows.{shop_units}
-use Rattle.fleet_model.proofs.SumLaws.{passed}
-use Rattle.fleet_model.proofs.DependLaws.{all_follow}
-use Rattle.demand_rates.proofs.WaitFacts.{line_of_none, other_shop}
+use Rattle.fleet_model.proofs.Public.{passed, all_follow}
+use Rattle.demand_rates.proofs.Public.{line_of_none, other_shop}
 use Rattle.family_items.specs.Inputs.{IsLine, IsShop}
 
 line_within : (c : CaseRows) (o : Option (List ℕ)) (l : ℕ) → option_and_then (λ name. place_of name (part_names c.parts)) o ≡ Some l → l < length c.parts

@@ -40,7 +40,7 @@ impl<'a> Inputs<'a> {
         requires limits { IsWithinLimits case.now stocks.now }
         ensures { result ≡ record { case = case.now; rates = rates.now; stocks = stocks.now } }
     {
-        let _valid = case.site_count();
+        case.invariant();
         Inputs {
             case,
             rates,
@@ -53,6 +53,13 @@ impl<'a> Inputs<'a> {
         ensures { result.now ≡ self.now.case }
     {
         self.case
+    }
+
+    /// The rules of these inputs, for a proof.
+    pub fn invariant(&self)
+        ensures valid { IsSound self.now.case self.now.stocks.list }
+    {
+        let _opened = &self.case;
     }
 
     /// The number of sites.

@@ -18,8 +18,7 @@ use Rattle.family_items.specs.Inputs.{HasTable, IsLine}
 use Rattle.family_numbers.specs.Numbers.{ArePairNumbers, nth_stock, base_backorders, base_helds, base_shop_moments, base_shop_row, depot_feeds, depot_line_moments, depot_line_row, depot_shop_moments, depot_shop_row, family_stocks, feed_from, held_from, numbers_of, no_numbers, pair_at, pair_numbers, rows_of}
 use Rattle.family_numbers.specs.Numbers.{moments_of}
 use Rattle.family_items.specs.Profile.{base_line, base_shop, depot_feed, depot_line, depot_shop, feed_of, held_of, item_of, share_of, stocked}
-use Rattle.family_items.proofs.Items.{base_line_item, flat_at}
-use Rattle.family_items.proofs.Ranges.{can_capped}
+use Rattle.family_items.proofs.Public.{base_line_item, flat_at, can_capped}
 
 -- a mean that begins at or above a pair's direct part has a table once it is capped
 pub can_rows : (f : ℕ) (x : PairNumbers f) (m v : Ends) → ArePairNumbers f x → x.direct.lo ≤ m.lo → HasTable f (capped_at f x.cap m v)

@@ -1,3 +1,4 @@
+pub mod Public
 pub mod FromNumbers
 pub mod BaseTables
 pub mod Served

@@ -7,16 +7,13 @@ use Rattle.spares_input.specs.Cases.{CaseRows, IsCase}
 use Rattle.spares_input.specs.declared.rows.PartId.{PartId}
 use Rattle.fleet_model.specs.Rows.{all_sites, weight}
 use Rattle.fleet_model.specs.Fleet.{family}
-use Rattle.fleet_model.proofs.AllocationLaws.{limit_most}
+use Rattle.fleet_model.proofs.Public.{limit_most}
 use Rattle.demand_rates.specs.RateLists.{RateList}
 use Rattle.demand_rates.specs.Rates.{pair_rates, ArePairRates, AreRatesOf}
 use Rattle.family_numbers.specs.declared.numbers.PairNumbers.{PairNumbers}
 use Rattle.family_items.specs.Inputs.{IsLine}
 use Rattle.family_numbers.specs.Numbers.{AreNumbers, ArePairNumbers, FamilyNumbers, numbers_of, no_numbers, pair_numbers}
-use Rattle.family_items.proofs.Families.{weight_most, member_in_case}
-use Rattle.family_items.proofs.Items.{flat_at, flat_length}
-use Rattle.family_items.proofs.Ranges.{pipeline_from_is, rated, share_most}
-use Rattle.family_items.proofs.Units.{few_shops}
+use Rattle.family_items.proofs.Public.{weight_most, member_in_case, flat_at, flat_length, pipeline_from_is, rated, share_most, few_shops}
 
 -- each id of a family is that of a part of the case
 pub member_in : (c : CaseRows) (l : ℕ) (xs ys : List PartId) (k : ℕ) (d : PartId) → IsCase c → IsLine c l → ys ≡ xs → map (λ (p : PartId). p.0) xs ≡ family c l

@@ -10,7 +10,7 @@ use Rattle.depot_pipeline.specs.declared.Feed.{Feed}
 use Rattle.depot_pipeline.specs.declared.Moments.{Moments}
 use Rattle.depot_pipeline.specs.Exact.{IsSmallFeed}
 use Rattle.depot_pipeline.specs.Profile.{added, capped_at, mean_part, variance_part}
-use Rattle.depot_pipeline.proofs.Laws.{part_most}
+use Rattle.depot_pipeline.proofs.Public.{part_most}
 use Rattle.base_pipeline.specs.declared.Held.{Held}
 use Rattle.base_pipeline.specs.Profile.{held_at}
 use Rattle.family_numbers.specs.declared.own_part.OwnPart.{OwnPart}

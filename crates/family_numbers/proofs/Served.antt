@@ -8,7 +8,7 @@ use Rattle.fixed_interval.specs.Ends.{Ends, ends_add, ends_max}
 use Rattle.moment_table.specs.declared.kinds.Row.{Row}
 use Rattle.moment_table.specs.Profile.{table_rows}
 use Rattle.moment_table.specs.Rows.{at_stock}
-use Rattle.moment_table.proofs.Most.{rows_below}
+use Rattle.moment_table.proofs.Public.{rows_below}
 use Rattle.depot_pipeline.specs.declared.Moments.{Moments}
 use Rattle.depot_pipeline.specs.declared.Feed.{Feed}
 use Rattle.depot_pipeline.specs.Exact.{IsSmallFeed}
@@ -17,7 +17,7 @@ use Rattle.base_pipeline.specs.Profile.{held_at}
 use Rattle.family_items.specs.Inputs.{HasTable}
 use Rattle.family_numbers.specs.Numbers.{AreBaseBackorders, AreNumbers, ArePairNumbers, FamilyNumbers, nth_stock, base_backorders, base_helds, base_line_moments, base_shop_moments, base_shop_row, depot_feeds, depot_line_moments, depot_line_row, depot_shop_moments, depot_shop_row, feed_from, pair_at, rows_of}
 use Rattle.family_numbers.proofs.FromNumbers.{can_rows}
-use Rattle.family_items.proofs.Ranges.{added_least}
+use Rattle.family_items.proofs.Public.{added_least}
 
 -- ---- lists by number
 

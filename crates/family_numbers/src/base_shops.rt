@@ -37,7 +37,7 @@ fn by_stock<const F: u32>(
     requires most { high ≤ 63 }
     ensures { IfOk result (λ v. v ≡ tables_by_stock F numbers.now site.0 shop low high) }
 {
-    let _valid = numbers.sites();
+    numbers.invariant();
     let mut made = Vec::new(alloc);
     for s in low..high + 1 {
         let pair = numbers.pair(shop + 1, site.0);

@@ -17,7 +17,7 @@ pub fn depot_shop_tables<const F: u32>(
 ) -> Result<Vec<Table<F>>, NoMemory>
     ensures { IfOk result (λ v. v.items ≡ map (λ i. depot_shop_table F numbers.now i) (shop_numbers numbers.now)) }
 {
-    let _valid = numbers.sites();
+    numbers.invariant();
     let mut tables = Vec::new(alloc);
     for i in 0..numbers.shops() {
         let table = depot_shop_table(alloc, numbers.pair(i + 1, 0))?;
@@ -38,7 +38,7 @@ fn feeds_at<const F: u32>(
     requires stocks { All (λ n. n ≤ 63) depot.now }
     ensures { IfOk result (λ v. v.items ≡ depot_feeds F numbers.now depot.now) }
 {
-    let _valid = numbers.sites();
+    numbers.invariant();
     let mut feeds = Vec::new(alloc);
     for i in 0..numbers.shops() {
         let share = numbers.pair(i + 1, 0).share;
@@ -59,7 +59,7 @@ pub fn depot_line<const F: u32>(
     requires stocks { All (λ n. n ≤ 63) depot.now }
     ensures { IfOk result (λ t. t ≡ depot_line_table F numbers.now depot.now) }
 {
-    let _valid = numbers.sites();
+    numbers.invariant();
     let feeds = feeds_at(alloc, numbers, tables, depot)?;
     depot_line_table(alloc, numbers.pair(0, 0), feeds.as_slice())
 }

@@ -183,6 +183,13 @@ impl<const F: u32> Numbers<F> {
         self.members.len() - 1
     }
 
+    /// The rules of a family's numbers, for a proof.
+    pub fn invariant(&self)
+        ensures valid { AreNumbers F self.now }
+    {
+        let _opened = &self.own;
+    }
+
     /// The number of sites.
     pub fn sites(&self) -> u8
         ensures sites { result ≡ self.now.sites }

@@ -42,7 +42,7 @@ pub fn own_part<const F: u32>(
     requires site { site.0 < numbers.now.sites }
     ensures { result ≡ own_part F numbers.now site.0 own depot.now }
 {
-    let _valid = numbers.sites();
+    numbers.invariant();
     let pair = numbers.pair(0, site.0);
     let feed = feed_from(pair.share, line, own);
     OwnPart {
@@ -90,7 +90,7 @@ pub fn put_line_backorders<const F: u32>(
     ensures ends { OnOk result (AreBaseBackorders F numbers.now site.0 own depot.now base.now found.new.items) }
     ensures most { OnOk result (All (IsWithinLimit F) found.new.items) }
 {
-    let _valid = numbers.sites();
+    numbers.invariant();
     let moments = line_moments(part, shops);
     put_backorders(found, moments.mean, moments.variance, part.limit)
 }
@@ -115,7 +115,7 @@ pub fn line_walk<const F: u32>(
     requires stocks { All (λ n. n ≤ 63) base.now }
     ensures { result ≡ base_line_place F numbers.now site.0 own depot.now base.now 0 }
 {
-    let _valid = numbers.sites();
+    numbers.invariant();
     let moments = line_moments(part, shops);
     Walk::of(moments.mean, moments.variance)
 }

@@ -28,7 +28,7 @@ pub fn shop_part<const F: u32>(
     requires stocks { All (λ n. n ≤ 63) base.now }
     ensures { result ≡ shop_part F numbers.now site.0 depot.now base.now }
 {
-    let _valid = numbers.sites();
+    numbers.invariant();
     let mut mean = Iv::exact(0);
     let mut variance = Iv::exact(0);
     for i in 0..numbers.shops() {

@@ -7,17 +7,15 @@ use Rattle.hull.specs.declared.price.Price.{Price}
 use Rattle.hull.specs.Curves.{lagrangian, Among, HaveOneWidth, sums}
 use Rattle.hull.specs.Scores.{LeavesRoom}
 use Rattle.sum_walk.specs.Sums.{sums_of_each}
-use Rattle.sum_walk.proofs.Parts.{sums_one_more}
+use Rattle.sum_walk.proofs.Public.{sums_one_more}
 use Rattle.curve_parts.specs.Cuts.{IsCutOf}
 use Rattle.curve_parts.specs.Parts.{IsPartOf, StandForBetween}
 use Rattle.curve_parts.specs.Beyond.{LieBeyond}
-use Rattle.curve_parts.proofs.Between.{part_stands}
-use Rattle.curve_parts.proofs.Sums.{sums_between}
-use Rattle.curve_parts.proofs.Beyond.{beyond_less, beyond_sums}
+use Rattle.curve_parts.proofs.Public.{part_stands, sums_between, beyond_less, beyond_sums}
 use Rattle.family_points.specs.Inputs.{FamilyBox, IsAt, IsFamilyBox}
 use Rattle.family_points.specs.Points.{ScoreEnds}
 use Rattle.family_points.specs.Separation.{base_points, points_over}
-use Rattle.family_points.proofs.Points.{over_more, over_small}
+use Rattle.family_points.proofs.Public.{over_more, over_small}
 
 -- a part is no longer than the curve that it is cut of
 pub cut_no_longer : (low high : Price) (curve part : List Point) → IsCutOf low high curve part → length part ≤ length curve

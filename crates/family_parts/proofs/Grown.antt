@@ -4,13 +4,12 @@ use Rattle.std.proofs.lemmas.List.{append-nil}
 use Rattle.hull.specs.declared.point.Point.{Point}
 use Rattle.hull.specs.declared.price.Price.{Price}
 use Rattle.hull.specs.Curves.{lagrangian, Among}
-use Rattle.hull.proofs.Stand.{among_either, among_left, among_right}
+use Rattle.hull.proofs.Public.{among_either, among_left, among_right}
 use Rattle.sum_walk.specs.Sums.{sums_of_each}
 use Rattle.curve_parts.specs.Parts.{IsPassedOver, StandForBetween}
 use Rattle.curve_parts.specs.Joins.{Begins, Joins}
 use Rattle.curve_parts.specs.Beyond.{IsKnownPart, LieBeyond}
-use Rattle.curve_parts.proofs.Between.{both_between, part_stands, self_between}
-use Rattle.curve_parts.proofs.Beyond.{known_joined, known_left_out, known_of_members}
+use Rattle.curve_parts.proofs.Public.{both_between, part_stands, self_between, known_joined, known_left_out, known_of_members}
 use Rattle.family_points.specs.Inputs.{FamilyBox}
 use Rattle.family_curve.specs.Joining.{HaveWidthOf}
 use Rattle.family_parts.specs.Growing.{Grows}

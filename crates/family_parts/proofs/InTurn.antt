@@ -4,8 +4,7 @@ use Rattle.std.specs.List.{range_with_len}
 use Rattle.std.proofs.lemmas.Bool.{cases_lt, le-leb, lt-leb}
 use Rattle.hull.specs.declared.point.Point.{Point}
 use Rattle.hull.specs.Curves.{Among}
-use Rattle.hull.proofs.Members.{Flattened, among_flat, among_flattened, in_range, range_has}
-use Rattle.hull.proofs.Runs.{among_at}
+use Rattle.hull.proofs.Public.{Flattened, among_flat, among_flattened, in_range, range_has, among_at}
 use Rattle.family_parts.specs.Growing.{in_turn}
 
 -- a number from the first one on is the first and as many more

@@ -1,6 +1,6 @@
 pub mod Grown
 pub mod InTurn
 pub mod Whole
-pub mod Below
+pub mod Nearer
 pub mod Bases
 pub mod Sums

@@ -6,16 +6,13 @@ use Rattle.hull.specs.declared.price.Price.{Price}
 use Rattle.hull.specs.Curves.{Among}
 use Rattle.curve_parts.specs.Parts.{IsPartOf}
 use Rattle.curve_parts.specs.Beyond.{IsKnownPart}
-use Rattle.curve_parts.proofs.Beyond.{known_of_members}
+use Rattle.curve_parts.proofs.Public.{known_of_members}
 use Rattle.spares_input.specs.Cases.{CaseRows}
 use Rattle.family_points.specs.Vectors.{IsBetween, between, vectors}
 use Rattle.family_points.specs.Points.{ScoreEnds, point_at_vector, points_within}
 use Rattle.family_points.specs.Separation.{depot_points, shop_points}
 use Rattle.family_points.specs.Inputs.{FamilyBox, IsFamilyBox, box_points, line_high, line_low, shop_high, shop_low, shop_vectors}
-use Rattle.family_points.proofs.Boxes.{each_any, each_mapped, flat_flat, same_flat}
-use Rattle.family_points.proofs.Points.{each_between, high_begins, low_begins, of_each}
-use Rattle.family_points.proofs.Separate.{separated_is}
-use Rattle.family_points.proofs.Turns.{turn_lists}
+use Rattle.family_points.proofs.Public.{each_any, each_mapped, flat_flat, same_flat, each_between, high_begins, low_begins, of_each, separated_is, turn_lists}
 use Rattle.std.specs.List.{AllZip}
 
 -- the part of all stocks at the depot, the shop units' first

@@ -127,7 +127,7 @@ pub(crate) fn put_parts<'b, S: Score>(
         (λ _. 1 + sum_by length work.new.parts.items ≤ vertex_count sources.now.family.now) }
     ensures work { IfOk result (λ _. length work.new.parts.items ≡ length sources.now.bases.items) }
 {
-    let _size = sources.family.size();
+    sources.family.invariant();
     let cost = u128::from(sources.family.cost(SiteId(0), depot));
     let mut least = low.p * cost;
     let mut gap = u128::MAX;

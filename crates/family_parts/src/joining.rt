@@ -21,6 +21,7 @@ ghost use Rattle.family_points.specs.Inputs.{
 };
 ghost use Rattle.family_rows.specs.Sources.{AreSources};
 ghost use Rattle.family_rows.specs.Tabled.{AreTables};
+ghost use Rattle.family_floors.specs.Rough.{AreRough};
 ghost use Rattle.family_curve.specs.Joining.{HaveWidthOf, vertices_of};
 ghost use Rattle.family_parts.specs.Growing.{Grows, in_turn};
 
@@ -29,6 +30,7 @@ use crate::lows::low_if_passed;
 use answers::NoMemory;
 use curve_parts::{join_sums, part_of_sums};
 use family_curve::joining::depot_point;
+use family_floors::rough::RoughLows;
 use family_floors::stocks::stocks_at;
 use family_points::family::{Family, shops_of};
 use family_rows::depot::{DepotTables, ShopParts, depot_tables};
@@ -98,6 +100,7 @@ fn grow_with<'b, S: Score>(
     sources: &'b Sources<'_>,
     score: &S,
     tables: &DepotTables<'_>,
+    rough: &RoughLows,
     depot: &[u8],
     low: Price,
     high: Price,
@@ -105,6 +108,7 @@ fn grow_with<'b, S: Score>(
     requires sources { AreSources sources.now }
     requires depot { IsAt sources.now.family.now 0 depot.now }
     requires tables { AreTables sources.now.family.now (drop 1 depot.now) tables.now }
+    requires rough { AreRough S.ends sources.now.family.now (drop 1 depot.now) low high rough.now }
     requires room { length (vertices_of part.old) + vertex_count sources.now.family.now ≤ 65000000 }
     requires widths { HaveWidthOf sources.now.family.now (vertices_of part.old) }
     requires work { length work.old.parts.items ≡ length sources.now.bases.items }
@@ -118,9 +122,9 @@ fn grow_with<'b, S: Score>(
     ensures widths { IfOk result (λ _. HaveWidthOf sources.now.family.now (vertices_of part.new)) }
     ensures work { IfOk result (λ _. length work.new.parts.items ≡ length sources.now.bases.items) }
 {
-    let _size = sources.family.size();
+    sources.family.invariant();
     let vertices = vertices_of(part);
-    if let Some(at_low) = low_if_passed(vertices, sources, score, tables, depot, low, high) {
+    if let Some(at_low) = low_if_passed(vertices, sources, score, tables, rough, depot, low, high) {
         *beyond = at_low.min(*beyond);
         return Ok(());
     }
@@ -150,14 +154,14 @@ fn in_turn(first: u64, last: u64, n: u64) -> u64
 fn line_first(family: &Family<'_>, so_far: &Option<Curve>) -> u8
     ensures { result ≤ line_high family.now 0 - line_low family.now 0 }
 {
-    let _size = family.size();
+    family.invariant();
     let low = family.line_low(SiteId(0));
     let high = family.line_high(SiteId(0));
     let third = (high - low) / 3;
     let Some(part) = so_far else {
         return third;
     };
-    let _vertices = part.len();
+    part.invariant();
     match part.point(0).stocks.as_slice().first() {
         Some(line) => (*line).max(low).min(high) - low,
         None => third,
@@ -172,7 +176,7 @@ fn line_stock(family: &Family<'_>, first: u8, n: u8) -> u8
     ensures least { line_low family.now 0 ≤ result }
     ensures most { result ≤ line_high family.now 0 }
 {
-    let _size = family.size();
+    family.invariant();
     let low = family.line_low(SiteId(0));
     let high = family.line_high(SiteId(0));
     low + in_turn(u64::from(first), u64::from(high - low), u64::from(n)) as u8
@@ -188,6 +192,7 @@ fn grow_with_lines<'b, S: Score>(
     sources: &'b Sources<'_>,
     score: &S,
     tables: &DepotTables<'_>,
+    rough: &RoughLows,
     stocks: &mut [u8],
     low: Price,
     high: Price,
@@ -196,6 +201,7 @@ fn grow_with_lines<'b, S: Score>(
     requires some { 0 < length stocks.old }
     requires shops { AreShopsAt sources.now.family.now 0 (drop 1 stocks.old) }
     requires tables { AreTables sources.now.family.now (drop 1 stocks.old) tables.now }
+    requires rough { AreRough S.ends sources.now.family.now (drop 1 stocks.old) low high rough.now }
     requires room { let x = sources.now.family.now in
         length (vertices_of part.old) + length (line_stocks x 0) * vertex_count x ≤ 65000000 }
     requires widths { HaveWidthOf sources.now.family.now (vertices_of part.old) }
@@ -212,13 +218,13 @@ fn grow_with_lines<'b, S: Score>(
     ensures work { IfOk result (λ _. length work.new.parts.items ≡ length sources.now.bases.items) }
 {
     let family = sources.family;
-    let _size = family.size();
+    family.invariant();
     let last = family.line_high(SiteId(0)) - family.line_low(SiteId(0));
     let begin = line_first(family, part);
     for n in 0..last + 1 {
         stocks[0] = line_stock(family, begin, n);
         grow_with(
-            alloc, part, beyond, work, sources, score, tables, stocks, low, high,
+            alloc, part, beyond, work, sources, score, tables, rough, stocks, low, high,
         )?;
     }
     Ok(())
@@ -233,6 +239,7 @@ fn grow_with_shops<'b, S: Score>(
     sources: &'b Sources<'_>,
     score: &S,
     parts: &mut ShopParts,
+    rough: &mut RoughLows,
     number: u64,
     low: Price,
     high: Price,
@@ -258,9 +265,10 @@ fn grow_with_shops<'b, S: Score>(
     let shops = shops_of(stocks.as_slice());
     parts.put(sources, shops)?;
     let tables = depot_tables(alloc, sources, shops, parts)?;
+    rough.put(sources, score, &tables, stocks.as_slice(), low, high)?;
     let at_depot = stocks.as_mut_slice();
     grow_with_lines(
-        alloc, part, beyond, work, sources, score, &tables, at_depot, low, high,
+        alloc, part, beyond, work, sources, score, &tables, rough, at_depot, low, high,
     )
 }
 
@@ -283,12 +291,13 @@ fn whole_part<'b, S: Score>(
     ensures { IfOk result (λ made. IsKnownPart low high (box_points S.ends sources.now.family.now) made.0 made.1) }
 {
     let family = sources.family;
-    let _size = family.size();
+    family.invariant();
     let count = family.shop_count(SiteId(0));
     let middle = (count - 1) / 2;
     let mut part = None;
     let mut beyond = u128::MAX;
     let mut parts = ShopParts::new(alloc);
+    let mut rough = RoughLows::new(alloc);
     for n in 0..count {
         let number = in_turn(middle, count - 1, n);
         grow_with_shops(
@@ -299,6 +308,7 @@ fn whole_part<'b, S: Score>(
             sources,
             score,
             &mut parts,
+            &mut rough,
             number,
             low,
             high,

@@ -65,9 +65,9 @@ pub fn part_within<S: Score>(
     ensures stocks { IfOk result (λ made. (v : Point) → Among v made.0
         → IsBetween bounds.now.low bounds.now.high v.stocks) }
 {
-    let _sites = case.site_count();
+    case.invariant();
     let family = Family::of(case, rates, line, bounds);
     let (part, beyond) = family_part(alloc, &family, score, low, high)?;
-    let _vertices = part.len();
+    part.invariant();
     Ok((part, beyond))
 }

@@ -9,21 +9,29 @@ ghost use Rattle.family_points.specs.Inputs.{IsAt};
 ghost use Rattle.family_points.specs.Separation.{depot_points};
 ghost use Rattle.family_rows.specs.Sources.{AreSources};
 ghost use Rattle.family_rows.specs.Tabled.{AreTables};
+ghost use Rattle.family_floors.specs.Rough.{AreRough};
 
 use curve_parts::is_passed;
 use family_floors::lows::lows_at_base;
+use family_floors::rough::RoughLows;
 use family_rows::depot::DepotTables;
 use family_rows::sources::Sources;
 use hull::{Point, Price, Score};
 use spares_input::SiteId;
 
+/// Bounds decide early if they do so without this part of the one at the low price.
+const SPARE: u128 = 256;
+
 /// Whether a vertex of `part` lies below all vectors with these stocks at the depot at both prices, by lower bounds:
-/// returns that at the low price. No bounds of further bases are made once those so far decide.
+/// returns that at the low price. The rough bounds of all bases come first; base by base a nearer one takes the place
+/// of the rough one, until they decide. Before all are near they must do so with some to spare, so that what is passed
+/// over is known to lie well above the vertex.
 pub(crate) fn low_if_passed<S: Score>(
     part: &[Point],
     sources: &Sources<'_>,
     score: &S,
     tables: &DepotTables<'_>,
+    rough: &RoughLows,
     depot: &[u8],
     low: Price,
     high: Price,
@@ -32,6 +40,7 @@ pub(crate) fn low_if_passed<S: Score>(
     requires sources { AreSources sources.now }
     requires depot { IsAt sources.now.family.now 0 depot.now }
     requires tables { AreTables sources.now.family.now (drop 1 depot.now) tables.now }
+    requires rough { AreRough S.ends sources.now.family.now (drop 1 depot.now) low high rough.now }
     requires low { IsSmall low }
     requires high { IsSmall high }
     ensures passed { IfSome result (λ _. (w : Point)
@@ -42,17 +51,18 @@ pub(crate) fn low_if_passed<S: Score>(
     if part.is_empty() {
         return None;
     }
-    let _size = sources.family.size();
+    sources.family.invariant();
     let cost = u128::from(sources.family.cost(SiteId(0), depot));
-    let mut at_low = low.p * cost;
-    let mut at_high = high.p * cost;
+    let mut at_low = low.p * cost + rough.sum.at_low;
+    let mut at_high = high.p * cost + rough.sum.at_high;
     for j in 1..sources.family.sites() {
-        if is_passed(part, low, high, at_low, at_high) {
+        if is_passed(part, low, high, at_low - at_low / SPARE, at_high) {
             return Some(at_low);
         }
-        let more = lows_at_base(sources, score, tables, depot, j, low, high);
-        at_low += more.at_low;
-        at_high += more.at_high;
+        let near = lows_at_base(sources, score, tables, depot, j, low, high);
+        let known = rough.bases[usize::from(j) - 1];
+        at_low += near.at_low.saturating_sub(known.at_low);
+        at_high += near.at_high.saturating_sub(known.at_high);
     }
     if is_passed(part, low, high, at_low, at_high) {
         return Some(at_low);

@@ -2,36 +2,34 @@
 //! near it is.
 
 ghost use Rattle.std.specs.Prelude.{◌^◌, ◌<◌, ◌≤◌, IfOk, drop, length};
-ghost use Rattle.demand_rates.specs.Rates.{AreRatesOf};
-ghost use Rattle.family_items.specs.Inputs.{IsLine};
 ghost use Rattle.curve_parts.specs.Cuts.{IsSmall};
 ghost use Rattle.family_points.specs.Inputs.{AreShopsAt, IsAt, shop_vectors};
-ghost use Rattle.family_points.specs.Points.{AreOrdered};
 ghost use Rattle.family_rows.specs.Sources.{AreSources};
 ghost use Rattle.family_rows.specs.Tabled.{AreTables};
+ghost use Rattle.family_floors.specs.Rough.{AreRough};
 
 use answers::NoMemory;
-use demand_rates::kinds::Rates;
 use family_floors::lows::{Lows, lows_at_base};
+use family_floors::rough::RoughLows;
 use family_floors::stocks::stocks_at;
-use family_points::bounds::Bounds;
-use family_points::family::{Family, shops_of};
+use family_points::family::shops_of;
 use family_rows::depot::{DepotTables, ShopParts, depot_tables};
 use family_rows::sources::Sources;
 use hull::{Price, Score};
-use spares_input::{Case, PartId, SiteId};
+use spares_input::SiteId;
 use std::alloc::Global;
 
 /// No vector of a family costs more, in whole money.
 const MOST_COST: u128 = 1_000_000_000_000;
 
-/// The lower, at each of two prices, of `least` and of the bounds of the vectors with these stocks at the depot. Bases
-/// are added only as long as the sums are below `least` at one of the prices.
+/// The lower, at each of two prices, of `least` and of the bounds of the vectors with these stocks at the depot. Base
+/// by base a nearer bound takes the place of the rough one, as long as the sums are below `least` at one of the prices.
 fn lower_at_depot<S: Score>(
     least: Lows,
     sources: &Sources<'_>,
     score: &S,
     tables: &DepotTables<'_>,
+    rough: &RoughLows,
     depot: &[u8],
     low: Price,
     high: Price,
@@ -39,22 +37,24 @@ fn lower_at_depot<S: Score>(
     requires sources { AreSources sources.now }
     requires depot { IsAt sources.now.family.now 0 depot.now }
     requires tables { AreTables sources.now.family.now (drop 1 depot.now) tables.now }
+    requires rough { AreRough S.ends sources.now.family.now (drop 1 depot.now) low high rough.now }
     requires low { IsSmall low }
     requires high { IsSmall high }
 {
-    let _size = sources.family.size();
+    sources.family.invariant();
     let cost = u128::from(sources.family.cost(SiteId(0), depot));
     let mut sums = Lows {
-        at_low: low.p * cost,
-        at_high: high.p * cost,
+        at_low: low.p * cost + rough.sum.at_low,
+        at_high: high.p * cost + rough.sum.at_high,
     };
     for j in 1..sources.family.sites() {
         if least.at_low <= sums.at_low && least.at_high <= sums.at_high {
             return least;
         }
-        let more = lows_at_base(sources, score, tables, depot, j, low, high);
-        sums.at_low += more.at_low;
-        sums.at_high += more.at_high;
+        let near = lows_at_base(sources, score, tables, depot, j, low, high);
+        let known = rough.bases[usize::from(j) - 1];
+        sums.at_low += near.at_low.saturating_sub(known.at_low);
+        sums.at_high += near.at_high.saturating_sub(known.at_high);
     }
     Lows {
         at_low: least.at_low.min(sums.at_low),
@@ -69,6 +69,7 @@ fn lower_at_lines<S: Score>(
     sources: &Sources<'_>,
     score: &S,
     tables: &DepotTables<'_>,
+    rough: &RoughLows,
     stocks: &mut [u8],
     low: Price,
     high: Price,
@@ -77,15 +78,16 @@ fn lower_at_lines<S: Score>(
     requires some { 0 < length stocks.old }
     requires shops { AreShopsAt sources.now.family.now 0 (drop 1 stocks.old) }
     requires tables { AreTables sources.now.family.now (drop 1 stocks.old) tables.now }
+    requires rough { AreRough S.ends sources.now.family.now (drop 1 stocks.old) low high rough.now }
     requires low { IsSmall low }
     requires high { IsSmall high }
 {
-    let _size = sources.family.size();
+    sources.family.invariant();
     let first = sources.family.line_low(SiteId(0));
     let last = sources.family.line_high(SiteId(0));
     for s in first..last + 1 {
         stocks[0] = s;
-        least = lower_at_depot(least, sources, score, tables, stocks, low, high);
+        least = lower_at_depot(least, sources, score, tables, rough, stocks, low, high);
     }
     least
 }
@@ -96,6 +98,7 @@ fn lower_at_shops<S: Score>(
     alloc: Global,
     least: Lows,
     parts: &mut ShopParts,
+    rough: &mut RoughLows,
     sources: &Sources<'_>,
     score: &S,
     number: u64,
@@ -111,8 +114,9 @@ fn lower_at_shops<S: Score>(
     let shops = shops_of(stocks.as_slice());
     parts.put(sources, shops)?;
     let tables = depot_tables(alloc, sources, shops, parts)?;
+    rough.put(sources, score, &tables, stocks.as_slice(), low, high)?;
     let at_depot = stocks.as_mut_slice();
-    Ok(lower_at_lines(least, sources, score, &tables, at_depot, low, high))
+    Ok(lower_at_lines(least, sources, score, &tables, rough, at_depot, low, high))
 }
 
 /// The least bounds of all vectors of the family, at each of two prices.
@@ -127,20 +131,25 @@ fn lowest<S: Score>(
     requires low { IsSmall low }
     requires high { IsSmall high }
 {
-    let _size = sources.family.size();
+    sources.family.invariant();
     let mut least = Lows {
         at_low: 1 << 119,
         at_high: 1 << 119,
     };
     let mut parts = ShopParts::new(alloc);
+    let mut rough = RoughLows::new(alloc);
     for n in 0..sources.family.shop_count(SiteId(0)) {
-        least = lower_at_shops(alloc, least, &mut parts, sources, score, n, low, high)?;
+        least = lower_at_shops(
+            alloc, least, &mut parts, &mut rough, sources, score, n, low, high,
+        )?;
     }
     Ok(least)
 }
 
-/// About what the vectors of the family of these sources cost that are best at the price, as in [`cost_near`].
-fn rise_near<S: Score>(
+/// About what the vectors of a family cost that are best at the price, in whole money: by how much the least lower
+/// bound rises from the price to a slightly higher one. The price is in units of 2^-48 for whole money. Want of memory
+/// is the only error.
+pub fn cost_near<S: Score>(
     alloc: Global,
     sources: &Sources<'_>,
     score: &S,
@@ -158,28 +167,4 @@ fn rise_near<S: Score>(
     let least = lowest(alloc, sources, score, low, high)?;
     let cost = least.at_high.saturating_sub(least.at_low) / (high.p - low.p);
     Ok(cost.min(MOST_COST))
-}
-
-/// About what the vectors of a family cost that are best at the price, in whole money: by how much the least lower
-/// bound rises from the price to a slightly higher one. The price is in units of 2^-48 for whole money. The other
-/// arguments are as in [`part_within`](crate::part_within). Want of memory is the only error.
-pub fn cost_near<S: Score>(
-    alloc: Global,
-    case: &Case,
-    rates: &Rates,
-    line: PartId,
-    bounds: &Bounds,
-    price: u128,
-    score: &S,
-) -> Result<u128, NoMemory>
-    requires rates { AreRatesOf case.now rates.now }
-    requires line { IsLine case.now line.0 }
-    requires ordered { AreOrdered case.now line.0 bounds.now.held bounds.now.low bounds.now.high }
-    requires price { price < 2 ^ 73 }
-    ensures most { IfOk result (λ cost. cost ≤ 1000000000000) }
-{
-    let _sites = case.site_count();
-    let family = Family::of(case, rates, line, bounds);
-    let sources = Sources::of(alloc, &family)?;
-    rise_near(alloc, &sources, score, price)
 }

@@ -17,10 +17,9 @@ use Rattle.spares_input.specs.Stocks.{limit_at, IsFor, IsWithinLimits}
 use Rattle.spares_input.specs.Cases.{CaseRows, IsCase}
 use Rattle.fleet_model.specs.Rows.{all_sites}
 use Rattle.fleet_model.specs.Fleet.{family}
-use Rattle.fleet_model.proofs.AllocationLaws.{limit_most}
+use Rattle.fleet_model.proofs.Public.{limit_most}
 use Rattle.family_items.specs.Inputs.{IsLine}
-use Rattle.family_items.proofs.Items.{flat_length}
-use Rattle.family_items.proofs.Units.{few_shops, shop_at}
+use Rattle.family_items.proofs.Public.{flat_length, few_shops, shop_at}
 use Rattle.family_points.specs.Vectors.{Pair, limits, places, places_at, site_part, stock_in, stocks_in, stock_list}
 use Rattle.family_points.specs.Points.{AreOrdered, cost_above}
 use Rattle.family_points.specs.Boxes.{IsBox}

@@ -6,7 +6,7 @@ use Rattle.std.proofs.lemmas.List.Concat.{flat_map-append}
 use Rattle.std.proofs.lemmas.List.Folds.{flat_map-map}
 use Rattle.std.proofs.lemmas.Simd.{map-map}
 use Rattle.std.proofs.Math.Seq.{take-add}
-pub use Rattle.family_items.proofs.Units.{each_append}
+pub use Rattle.family_items.proofs.Public.{each_append}
 use Rattle.family_points.specs.Vectors.{between, vectors}
 
 -- ---- something of each element

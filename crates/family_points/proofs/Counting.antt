@@ -8,7 +8,7 @@ use Rattle.answers.specs.Counts.{count64}
 use Rattle.spares_input.specs.Rows.{is_line}
 use Rattle.spares_input.specs.Frames.{part_at}
 use Rattle.spares_input.specs.Cases.{CaseRows}
-use Rattle.family_items.proofs.Items.{kept_more, left_out}
+use Rattle.family_items.proofs.Public.{kept_more, left_out}
 use Rattle.family_points.specs.Counts.{product}
 
 -- ---- the largest count

@@ -8,7 +8,7 @@ use Rattle.spares_input.specs.Cases.{CaseRows, IsCase}
 use Rattle.fleet_model.specs.Rows.{stock}
 use Rattle.fleet_model.specs.Fleet.{family}
 use Rattle.family_items.specs.Inputs.{IsLine}
-use Rattle.family_items.proofs.Units.{shop_at}
+use Rattle.family_items.proofs.Public.{shop_at}
 use Rattle.family_points.specs.Vectors.{stock_in, stocks_in}
 use Rattle.family_points.proofs.Boxes.{same_map}
 use Rattle.family_points.proofs.Sites.{members, size, stock_is}

@@ -13,7 +13,7 @@ use Rattle.family_items.specs.declared.item.Item.{Item}
 use Rattle.family_items.specs.Profile.{pipeline_from, share_of, stocked, feed_of, held_of, depot_shop, depot_feed, depot_line, base_shop, base_line, item_of}
 use Rattle.family_items.specs.Inputs.{IsLine}
 use Rattle.family_points.specs.Local.{AgreeAt}
-use Rattle.family_items.proofs.Items.{base_line_item}
+use Rattle.family_items.proofs.Public.{base_line_item}
 
 -- two lists of stocks agree on each part of a family at site k
 abbrev pub Agree : CaseRows → ℕ → List ℕ → List ℕ → ℕ → Type 0

@@ -6,13 +6,12 @@ use Rattle.std.proofs.lemmas.List.Folds.{flat_map-map}
 use Rattle.std.proofs.lemmas.List.Sums.{sum_by-append}
 use Rattle.std.proofs.lemmas.Simd.{map-map}
 use Rattle.spares_input.specs.Cases.{CaseRows, IsCase}
-use Rattle.spares_input.proofs.Ranges.{range_more}
+use Rattle.spares_input.proofs.Public.{range_more}
 use Rattle.fleet_model.specs.Laws.{IsBase}
 use Rattle.family_items.specs.Inputs.{IsLine}
 use Rattle.hull.specs.declared.point.Point.{Point}
 use Rattle.hull.specs.Curves.{lagrangian, Among, sums}
-use Rattle.hull.proofs.Members.{among_flat, in_range}
-use Rattle.hull.proofs.Runs.{among_at}
+use Rattle.hull.proofs.Public.{among_flat, in_range, among_at}
 use Rattle.family_points.specs.declared.order.Choice.{Choice}
 use Rattle.family_points.specs.Vectors.{between, vectors}
 use Rattle.family_points.specs.Points.{AreOrdered, ScoreEnds, point_at_vector, points_within}

@@ -5,9 +5,7 @@ use Rattle.std.proofs.lemmas.Bool.{cases_lt, le-leb, leb-true, leb-false}
 use Rattle.std.proofs.lemmas.List.Sorted.{IsPermutation-sym}
 use Rattle.hull.specs.declared.point.Point.{Point}
 use Rattle.hull.specs.Curves.{lagrangian, Among, plus, sums}
-use Rattle.hull.proofs.Runs.{among_permuted}
-use Rattle.hull.proofs.Stand.{among_left, among_right, among_either}
-use Rattle.hull.proofs.Sums.{Parts, parts_of, sum_among}
+use Rattle.hull.proofs.Public.{among_permuted, among_left, among_right, among_either, Parts, parts_of, sum_among}
 use Rattle.family_points.specs.Least.{AreAtLeast, IsLeast, Decides, least, least_of}
 
 -- ---- the least as a number

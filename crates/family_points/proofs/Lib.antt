@@ -1,3 +1,4 @@
+pub mod Public
 pub mod Depend
 pub mod Boxes
 pub mod Sites

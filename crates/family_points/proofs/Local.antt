@@ -18,14 +18,13 @@ use Rattle.fleet_model.specs.Rows.{bases, per_system, shop_units, stock, systems
 use Rattle.fleet_model.specs.Pairs.{by_pair}
 use Rattle.fleet_model.specs.Fleet.{family}
 use Rattle.fleet_model.specs.Units.{demand_00, demand_0j, demand_i0, demand_ij, days_at, direct_units_00, direct_units_0j, direct_units_i0, direct_units_ij, needed_i0, sent_0j, sent_ij, zero_stock_units_00, zero_stock_units_0j, zero_stock_units_ij}
-use Rattle.fleet_model.proofs.FamilyLaws.{sum_range}
-use Rattle.fleet_model.proofs.DependLaws.{all_follow, count_each}
+use Rattle.fleet_model.proofs.Public.{same_sum_range, all_follow, count_each}
 use Rattle.demand_rates.specs.declared.kinds.PairRates.{PairRates}
 use Rattle.demand_rates.specs.Rates.{pair_rates, rates_of_pair, share_ratio}
 use Rattle.family_items.specs.declared.item.Item.{Item}
 use Rattle.family_items.specs.Profile.{base_line, base_shop, depot_feed, depot_line, depot_shop, feed_of, held_of, item_of, pipeline_from, share_from, stocked}
 use Rattle.family_items.specs.Inputs.{IsLine, IsShop}
-use Rattle.family_items.proofs.Units.{shops_all}
+use Rattle.family_items.proofs.Public.{shops_all}
 use Rattle.family_points.specs.Vectors.{stocks_with, vectors}
 use Rattle.family_points.specs.Points.{ScoreEnds, added_cost, points_within, scored, scored_total}
 use Rattle.family_points.specs.Local.{home_of, HaveOneFamily, SameFamily, SameRates}
@@ -41,7 +40,7 @@ module _ (sites : List SiteRow) (parts : List PartRow) (ra rb : List RateRow) (s
   Same p = SameRates one two p
 
   sum_bases : (f g : ℕ → ℕ) → ((j : ℕ) → j < length sites → f j ≡ g j) → sum_by f (bases one) ≡ sum_by g (bases one)
-  sum_bases f g h = sum_range f g (length sites - 1) 1 (λ j l. h j (omega arith))
+  sum_bases f g h = same_sum_range f g (length sites - 1) 1 (λ j l. h j (omega arith))
 
   -- ---- the demands
 

@@ -8,10 +8,7 @@ use Rattle.fleet_model.specs.Laws.{IsBase}
 use Rattle.hull.specs.declared.point.Point.{Point}
 use Rattle.hull.specs.Curves.{Among, InRange, StandFor}
 use Rattle.hull.specs.Scores.{LeavesRoom}
-use Rattle.hull.proofs.Mapped.{Origin, origin_of}
-use Rattle.hull.proofs.Runs.{permuted_stands}
-use Rattle.hull.proofs.Stand.{stand_for_both}
-use Rattle.hull.proofs.StepsOf.{stand_self, stand_trans}
+use Rattle.hull.proofs.Public.{Origin, origin_of, permuted_stands, stand_for_both, stand_self, stand_trans}
 use Rattle.family_points.specs.declared.order.Choice.{Choice}
 use Rattle.family_points.specs.Points.{ScoreEnds}
 use Rattle.family_points.specs.Separation.{base_point}

@@ -7,7 +7,7 @@ use Rattle.spares_input.specs.Stocks.{HasPair, IsFor, StockList, stock_at}
 use Rattle.spares_input.specs.Cases.{CaseRows, IsCase}
 use Rattle.fleet_model.specs.Rows.{stock}
 use Rattle.fleet_model.specs.Fleet.{family}
-use Rattle.fleet_model.proofs.AllocationLaws.{stock_holds}
+use Rattle.fleet_model.proofs.Public.{stock_holds}
 use Rattle.family_items.specs.Inputs.{IsLine}
 use Rattle.family_points.specs.Vectors.{Pair, places, places_at, vector_of}
 use Rattle.family_points.proofs.Boxes.{each_any, map_flat, same_flat, same_map}

@@ -9,19 +9,17 @@ use Rattle.std.proofs.lemmas.List.Sums.{fold-append, sum_by-cons, sum_by-append}
 use Rattle.fixed_interval.specs.Ends.{Ends}
 use Rattle.hull.specs.declared.point.Point.{Point}
 use Rattle.hull.specs.Curves.{Among, InRange, IsCurve, plus, sums, point_at}
-use Rattle.hull.proofs.Shapes.{begins_cheapest}
+use Rattle.hull.proofs.Public.{begins_cheapest, among_left, Parts, parts_of}
 use Rattle.hull.specs.Scores.{InLimits, LeavesRoom}
-use Rattle.hull.proofs.Stand.{among_left}
-use Rattle.hull.proofs.Sums.{Parts, parts_of}
 use Rattle.spares_input.specs.Rows.{no_part, no_site}
 use Rattle.spares_input.specs.Frames.{part_at}
 use Rattle.spares_input.specs.Cases.{CaseRows}
-use Rattle.spares_input.proofs.Ranges.{range_more}
+use Rattle.spares_input.proofs.Public.{range_more}
 use Rattle.fleet_model.specs.Rows.{systems, per_system, weight, bases}
 use Rattle.fleet_model.specs.Fleet.{family}
 use Rattle.fleet_model.specs.Laws.{IsBase}
 use Rattle.family_items.specs.Profile.{item_of}
-use Rattle.family_items.proofs.Units.{each_append, each_in_range}
+use Rattle.family_items.proofs.Public.{each_append, each_in_range}
 use Rattle.family_points.specs.Vectors.{Pair, places, between, vectors, IsBetween}
 use Rattle.family_points.specs.Points.{ScoreEnds, cost_above, added_cost, point_at_vector, points_within}
 use Rattle.family_points.specs.Counts.{product, widths}

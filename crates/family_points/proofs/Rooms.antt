@@ -10,12 +10,12 @@ use Rattle.answers.specs.Counts.{count64}
 use Rattle.spares_input.specs.declared.rows.PartId.{PartId}
 use Rattle.spares_input.specs.Cases.{CaseRows, IsCase}
 use Rattle.spares_input.specs.Stocks.{StockList, IsFor, IsWithinLimits, limit_at, stock_at}
-use Rattle.spares_input.proofs.Ranges.{range_more}
+use Rattle.spares_input.proofs.Public.{range_more}
 use Rattle.fleet_model.specs.Fleet.{family}
 use Rattle.fleet_model.specs.Rows.{stock}
-use Rattle.fleet_model.proofs.AllocationLaws.{stock_holds}
+use Rattle.fleet_model.proofs.Public.{stock_holds}
 use Rattle.family_items.specs.Inputs.{IsLine}
-use Rattle.family_items.proofs.Units.{each_in_range}
+use Rattle.family_items.proofs.Public.{each_in_range}
 use Rattle.family_points.specs.declared.counts.Rooms.{Rooms}
 use Rattle.family_points.specs.declared.counts.Rooms.TheVariants.{Held, Whole, Within}
 use Rattle.family_points.specs.Counts.{choices_of, product, widths}

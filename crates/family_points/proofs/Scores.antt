@@ -1,13 +1,11 @@
 -- The items of a line unit at its bases are sound, and what they score is small.
 use Rattle.std.proofs.Common.{ℕ, ◌+◌, ◌*◌, ◌^◌, ◌<◌, ◌≤◌, List, arith}
-use Rattle.fixed_interval.proofs.Laws.{ends_ordered}
+use Rattle.fixed_interval.proofs.Public.{ends_ordered}
 use Rattle.fleet_model.specs.Laws.{IsBase}
 use Rattle.fleet_model.specs.Pipelines.{ebo_0j}
 use Rattle.family_items.specs.Profile.{item_of}
 use Rattle.family_items.specs.Inputs.{IsSound}
-use Rattle.family_items.proofs.Enclosed.{item_small}
-use Rattle.family_items.proofs.Families.{line_in}
-use Rattle.family_items.proofs.Ranges.{sound_of}
+use Rattle.family_items.proofs.Public.{item_small, line_in, sound_of}
 use Rattle.family_points.specs.Vectors.{stock_list}
 use Rattle.family_points.specs.Separation.{depot_and_base, base_stocks}
 use Rattle.family_points.specs.Inputs.{FamilyBox, IsFamilyBox, IsAt}

@@ -10,10 +10,10 @@ use Rattle.fixed_interval.specs.Ends.{Ends, ends_exact, ends_add}
 use Rattle.depot_pipeline.specs.Profile.{added}
 use Rattle.spares_input.specs.Frames.{part_at}
 use Rattle.spares_input.specs.Cases.{CaseRows, IsCase}
-use Rattle.spares_input.proofs.Ranges.{range_more}
+use Rattle.spares_input.proofs.Public.{range_more}
 use Rattle.fleet_model.specs.Fleet.{family}
 use Rattle.family_items.specs.Inputs.{IsLine}
-use Rattle.family_items.proofs.Items.{added_same}
+use Rattle.family_items.proofs.Public.{added_same}
 use Rattle.hull.specs.declared.point.Point.{Point}
 use Rattle.hull.specs.Curves.{plus, plus_each, sums}
 use Rattle.family_points.specs.Vectors.{Pair, limits, places_at, site_part, stocks_with, vectors}

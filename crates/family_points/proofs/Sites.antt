@@ -9,10 +9,9 @@ use Rattle.std.proofs.lemmas.List.{take-append-le}
 use Rattle.spares_input.specs.Cases.{CaseRows, IsCase}
 use Rattle.fleet_model.specs.Rows.{shop_units, stock}
 use Rattle.fleet_model.specs.Fleet.{family}
-use Rattle.fleet_model.proofs.DependLaws.{all_follow}
+use Rattle.fleet_model.proofs.Public.{all_follow}
 use Rattle.family_items.specs.Inputs.{IsLine, IsShop}
-use Rattle.family_items.proofs.Items.{flat_at}
-use Rattle.family_items.proofs.Units.{shops_all}
+use Rattle.family_items.proofs.Public.{flat_at, shops_all}
 use Rattle.family_points.proofs.Items.{Agree}
 use Rattle.family_points.specs.Vectors.{site_part, stock_in, stocks_in}
 use Rattle.family_points.proofs.Boxes.{parts_joined}

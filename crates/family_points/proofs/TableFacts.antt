@@ -6,7 +6,7 @@ use Rattle.std.proofs.lemmas.List.FromFn.{length-map-range_with_len}
 use Rattle.std.proofs.lemmas.List.Sums.{sum_by-append}
 use Rattle.answers.specs.Counts.{count64}
 use Rattle.spares_input.specs.Cases.{CaseRows, IsCase}
-use Rattle.spares_input.proofs.Ranges.{range_more}
+use Rattle.spares_input.proofs.Public.{range_more}
 use Rattle.fleet_model.specs.Rows.{bases, shop_units}
 use Rattle.family_items.specs.Inputs.{IsLine}
 use Rattle.family_points.specs.Vectors.{limits, site_part}

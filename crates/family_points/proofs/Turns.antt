@@ -4,8 +4,7 @@ use Rattle.std.proofs.lemmas.List.Folds.{flat_map-map}
 use Rattle.std.proofs.lemmas.Simd.{map-map}
 use Rattle.hull.specs.declared.point.Point.{Point}
 use Rattle.hull.specs.Curves.{Among, IsCurve}
-use Rattle.hull.proofs.Shapes.{of_members}
-use Rattle.hull.proofs.Stand.{among_left, among_right, among_either}
+use Rattle.hull.proofs.Public.{of_members, among_left, among_right, among_either}
 use Rattle.family_points.specs.Vectors.{between, vectors}
 use Rattle.family_points.specs.Points.{ScoreEnds}
 use Rattle.family_points.specs.Separation.{base_point}

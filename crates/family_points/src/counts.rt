@@ -37,7 +37,7 @@ fn room(case: &Case, line: PartId, rooms: Rooms<'_>, place: usize, site: SiteId)
     ensures room { result ≡ get_or (widths_at case.now line.0 rooms.entry site.0) place 0 }
     ensures most { result ≤ 64 }
 {
-    let _sites = case.site_count();
+    case.invariant();
     let members = case.family(line);
     match rooms {
         Rooms::Whole => u64::from(case.limit(members[place], site)) + 1,
@@ -74,7 +74,7 @@ fn site_rooms(case: &Case, line: PartId, rooms: Rooms<'_>, site: SiteId) -> Site
     ensures shops { result.shops ≡ product (drop 1 (widths_at case.now line.0 rooms.entry site.0)) }
     ensures few { (result.line ≤ 64) × ((result.sum ≤ 576) × (result.shops ≤ 64 ^ 9)) }
 {
-    let _sites = case.site_count();
+    case.invariant();
     let mut sum = 0;
     let mut shops = 1;
     for i in 1..case.family(line).len() {
@@ -126,7 +126,7 @@ pub fn tables(case: &Case, line: PartId) -> u64
     requires { IsLine case.now line.0 }
     ensures { result ≡ count64 (tables_of case.now line.0) }
 {
-    let _valid = case.site_count();
+    case.invariant();
     count_tables(case, line, Rooms::Whole)
 }
 

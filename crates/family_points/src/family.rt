@@ -99,7 +99,7 @@ impl<'a> Family<'a> {
           high = bounds.now.high;
         } }
     {
-        let _valid = case.site_count();
+        case.invariant();
         Family {
             case,
             rates,
@@ -107,6 +107,23 @@ impl<'a> Family<'a> {
             bounds,
             members: case.family(line),
         }
+    }
+
+    /// The rules of a family and its bounds, for a proof.
+    pub fn invariant(&self)
+        ensures few { length (family self.now.case self.now.line) ≤ 9 }
+        ensures valid { IsFamilyBox self.now }
+    {
+        let _opened = &self.case;
+    }
+
+    /// The rules of the line unit's bounds at a site, for a proof.
+    pub fn invariant_at(&self, site: SiteId)
+        requires { site.0 < length self.now.case.sites }
+        ensures order { line_low self.now site.0 ≤ line_high self.now site.0 }
+        ensures most { line_high self.now site.0 ≤ 63 }
+    {
+        let _high = self.line_high(site);
     }
 
     /// The case.
@@ -154,7 +171,7 @@ impl<'a> Family<'a> {
         requires { site.0 < length self.now.case.sites }
         ensures { result.now ≡ low_at self.now site.0 }
     {
-        let _sites = self.case.site_count();
+        self.case.invariant();
         part_of(self.bounds.low.as_slice(), site, self.members.len())
     }
 
@@ -164,7 +181,7 @@ impl<'a> Family<'a> {
         ensures high { result.now ≡ high_at self.now site.0 }
         ensures bounds { IsBox (low_at self.now site.0) (high_at self.now site.0) }
     {
-        let _sites = self.case.site_count();
+        self.case.invariant();
         part_of(self.bounds.high.as_slice(), site, self.members.len())
     }
 
@@ -173,7 +190,7 @@ impl<'a> Family<'a> {
         requires { site.0 < length self.now.case.sites }
         ensures { result ≡ line_low self.now site.0 }
     {
-        let _size = self.size();
+        self.invariant();
         self.low(site)[0]
     }
 
@@ -184,7 +201,7 @@ impl<'a> Family<'a> {
         ensures order { line_low self.now site.0 ≤ result }
         ensures most { result ≤ 63 }
     {
-        let _size = self.size();
+        self.invariant();
         self.high(site)[0]
     }
 
@@ -194,7 +211,7 @@ impl<'a> Family<'a> {
         ensures count { result ≡ length (shop_vectors self.now site.0) }
         ensures some { 0 < result }
     {
-        let _size = self.size();
+        self.invariant();
         let low = shops_of(self.low(site));
         let high = shops_of(self.high(site));
         count(low, high)
@@ -207,7 +224,7 @@ impl<'a> Family<'a> {
         ensures vector { IfOk result (λ v. v.items ≡ get_or (shop_vectors self.now site.0) number []) }
         ensures within { IfOk result (λ v. AreShopsAt self.now site.0 v.items) }
     {
-        let _size = self.size();
+        self.invariant();
         let low = shops_of(self.low(site));
         let high = shops_of(self.high(site));
         vector_at(alloc, low, high, number)
@@ -235,7 +252,7 @@ impl<'a> Family<'a> {
     pub fn line_row(&self) -> &PartRow
         ensures { result.now ≡ part_at self.now.case.parts self.now.line }
     {
-        let _sites = self.case.site_count();
+        self.case.invariant();
         self.case.part(self.line)
     }
 
@@ -251,7 +268,7 @@ impl<'a> Family<'a> {
         requires { IsBase self.now.case site.0 }
         ensures { result ≡ systems self.now.case site.0 }
     {
-        let _sites = self.case.site_count();
+        self.case.invariant();
         self.case.site(site).systems
     }
 }

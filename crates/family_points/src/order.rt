@@ -53,9 +53,9 @@ fn shops_at(
     ensures stocks { IfOk result (λ s. s.stocks ≡ get_or (shop_vectors family.now site.0) number []) }
     ensures costs { IfOk result (IsShopVector family.now site.0) }
 {
-    let _size = family.size();
+    family.invariant();
     let low = family.line_low(site);
-    let _high = family.line_high(site);
+    family.invariant_at(site);
     let stocks = family.shop_vector(alloc, site, number)?;
     let whole = joined(alloc, low, stocks.as_slice())?;
     let cost = family.cost(site, whole.as_slice());
@@ -101,7 +101,7 @@ fn put_choices(
         ++ map (λ s. s ∷ shops.now.stocks) (line_stocks family.now site.0)) }
     ensures choices { IfOk result (λ _. All (IsChoice family.now site.0) choices.new.items) }
 {
-    let _size = family.size();
+    family.invariant();
     let low = family.line_low(site);
     let high = family.line_high(site);
     let each = family.line_cost();
@@ -161,7 +161,7 @@ fn base_of(alloc: Global, family: &Family<'_>, site: SiteId) -> Result<Base, NoM
 pub fn bases_of(alloc: Global, family: &Family<'_>) -> Result<Vec<Base>, NoMemory>
     ensures { IfOk result (λ v. AreBases family.now v.items) }
 {
-    let _size = family.size();
+    family.invariant();
     let mut bases = Vec::new(alloc);
     for j in 1..family.sites() {
         let base = base_of(alloc, family, SiteId(j))?;

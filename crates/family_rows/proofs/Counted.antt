@@ -9,10 +9,7 @@ use Rattle.family_numbers.specs.Numbers.{FamilyNumbers, base_shop_table, depot_s
 use Rattle.family_points.specs.Counts.{widths}
 use Rattle.family_points.specs.Inputs.{FamilyBox, IsFamilyBox, high_at, low_at, shop_high, shop_low}
 use Rattle.family_points.specs.Vectors.{site_part}
-use Rattle.family_points.proofs.Bounded.{box_at}
-use Rattle.family_points.proofs.Numbers.{width_at, widths_long}
-use Rattle.family_points.proofs.Shops.{box_shops, shops_low_long}
-use Rattle.family_points.proofs.TableFacts.{part_widths}
+use Rattle.family_points.proofs.Public.{box_at, width_at, widths_long, box_shops, shops_low_long, part_widths}
 use Rattle.family_rows.specs.Sources.{SourcesAreCounted}
 use Rattle.family_rows.specs.Tabled.{box_numbers}
 

@@ -1,3 +1,4 @@
+pub mod Public
 pub mod Tabled
 pub mod Rows
 pub mod Counted

@@ -6,21 +6,16 @@ use Rattle.spares_input.specs.Stocks.{limit_at}
 use Rattle.fleet_model.specs.Fleet.{family}
 use Rattle.fleet_model.specs.Laws.{IsBase}
 use Rattle.family_items.specs.Profile.{item_of}
-use Rattle.family_items.proofs.Items.{flat_at}
+use Rattle.family_items.proofs.Public.{flat_at}
 use Rattle.family_numbers.specs.declared.base_shops.BaseShops.{BaseShops}
 use Rattle.family_numbers.specs.BaseTables.{AreBaseShops, AreShopBounds, HaveShops}
 use Rattle.family_numbers.specs.Numbers.{AreBaseBackorders, FamilyNumbers, no_numbers, pair_at, pair_numbers}
-use Rattle.family_numbers.proofs.FromNumbers.{backorders_alone}
+use Rattle.family_numbers.proofs.Public.{backorders_alone}
 use Rattle.family_points.specs.Separation.{base_stocks, depot_and_base}
 use Rattle.family_points.specs.Inputs.{AreShopsAt, FamilyBox, IsFamilyBox, IsAt, shop_high, shop_low}
 use Rattle.family_rows.specs.declared.depot.DepotTables.{DepotTables}
 use Rattle.family_rows.specs.Tabled.{AreShopStocks, AreTables, box_numbers}
-use Rattle.family_points.proofs.Bounded.{at_limit, at_long}
-use Rattle.family_points.proofs.Distinct.{family_stocks_in}
-use Rattle.family_points.proofs.Numbers.{same_length}
-use Rattle.family_points.proofs.Points.{begins}
-use Rattle.family_points.proofs.Separate.{at_base}
-use Rattle.family_points.proofs.Shops.{all_below, box_shops, shops_low_long}
+use Rattle.family_points.proofs.Public.{at_limit, at_long, family_stocks_in, same_length, begins, at_base, all_below, box_shops, shops_low_long}
 
 -- ---- stocks of shop units
 

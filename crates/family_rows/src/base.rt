@@ -60,13 +60,6 @@ impl<'a> Spot for BaseSpot<'a> {
         }
         Ok(())
     }
-
-    fn write_stocks(&self, to: &mut [u8]) {
-        to[0] = self.line;
-        for n in 0..self.shops.len() {
-            to[n + 1] = self.shops[n];
-        }
-    }
 }
 
 /// Makes sure that there are at least `count` rows.

@@ -49,7 +49,7 @@ impl<'f, 'b> BaseAt<'f, 'b> {
         ensures depot { result.depot.now ≡ depot.now }
         ensures site { result.site.0 ≡ site.0 }
     {
-        let _size = family.size();
+        family.invariant();
         let line = family.line_row();
         BaseAt {
             family,

@@ -51,7 +51,7 @@ fn put_parts(
     requires site { IsBase sources.now.family.now.case site.0 }
     ensures { IfOk result (λ _. parts.new.items ≡ parts_at sources.now.family.now depot.now site.0) }
 {
-    let _size = sources.family.size();
+    sources.family.invariant();
     let base = &sources.bases[usize::from(site.0) - 1];
     parts.clear();
     for n in 0..base.shops.len() {
@@ -124,7 +124,7 @@ pub fn depot_tables<'a>(
     requires shops { AreParts sources.now.family.now depot.now shops.now }
     ensures { IfOk result (AreTables sources.now.family.now depot.now) }
 {
-    let _size = sources.family.size();
+    sources.family.invariant();
     let at_depot = sources.depot_shops.as_slice();
     let line = depot_line(alloc, &sources.numbers, at_depot, depot)?;
     Ok(DepotTables { line, shops })

@@ -41,7 +41,7 @@ impl<'f> Sources<'f> {
         ensures are { IfOk result AreSources }
         ensures family { IfOk result (λ s. s.family.now ≡ family.now) }
     {
-        let _size = family.size();
+        family.invariant();
         let numbers = numbers_of(alloc, family)?;
         let bases = bases_of(alloc, family)?;
         let depot_shops = depot_shop_tables(alloc, &numbers)?;

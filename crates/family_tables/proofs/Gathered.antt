@@ -5,12 +5,12 @@ use Rattle.spares_input.specs.Stocks.{HasPair, IsFor, IsWithinLimits, StockList,
 use Rattle.std.specs.List.{All}
 use Rattle.std.proofs.lemmas.List.FromFn.{length-map-range_with_len}
 use Rattle.family_tables.specs.Kept.{HaveStocks, depot_stocks}
-use Rattle.family_numbers.proofs.Served.{all_numbered}
+use Rattle.family_numbers.proofs.Public.{all_numbered}
 use Rattle.fleet_model.specs.Fleet.{family}
-use Rattle.fleet_model.proofs.AllocationLaws.{limit_most}
+use Rattle.fleet_model.proofs.Public.{limit_most}
 use Rattle.family_items.specs.Inputs.{IsLine}
 use Rattle.family_numbers.specs.Numbers.{AreNumbers, FamilyNumbers, numbers_of}
-use Rattle.family_items.proofs.Families.{member_in_case}
+use Rattle.family_items.proofs.Public.{member_in_case}
 
 -- ---- stocks of the case
 

@@ -9,17 +9,16 @@ use Rattle.spares_input.specs.Cases.{CaseRows, IsCase}
 use Rattle.spares_input.specs.Stocks.{IsFor, StockList, stock_at}
 use Rattle.fleet_model.specs.Rows.{shop_units, stock}
 use Rattle.fleet_model.specs.Fleet.{family}
-use Rattle.fleet_model.proofs.AllocationLaws.{stock_holds}
+use Rattle.fleet_model.proofs.Public.{stock_holds}
 use Rattle.demand_rates.specs.Rates.{pair_rates}
 use Rattle.family_items.specs.declared.item.Item.{Item}
 use Rattle.family_items.specs.Inputs.{IsLine}
 use Rattle.family_items.specs.Profile.{base_shop, depot_line, depot_shop, item_of, part_items, pipeline_from, pipeline_of, stocked}
-use Rattle.family_items.proofs.Items.{base_shop_item, depot_line_item, depot_shop_item}
-use Rattle.family_items.proofs.Units.{shop_at}
+use Rattle.family_items.proofs.Public.{base_shop_item, depot_line_item, depot_shop_item, shop_at}
 use Rattle.family_numbers.specs.Numbers.{moments_of}
 use Rattle.family_tables.specs.Kept.{Evaluation, depot_stocks, key_at, key_item, key_stocks, keys_of, moments_at, shop_key, table_kept}
 use Rattle.family_numbers.specs.Numbers.{FamilyNumbers, family_stocks, numbers_of, rows_of, shop_numbers}
-use Rattle.family_numbers.proofs.FromNumbers.{base_shop_made, depot_line_made, depot_shop_made, shops_numbered}
+use Rattle.family_numbers.proofs.Public.{base_shop_made, depot_line_made, depot_shop_made, shops_numbered}
 
 module _ (f : ℕ) (c : CaseRows) (l : ℕ) (valid : IsCase c) (line : IsLine c l) (s : List ℕ) (o : ℕ) (d : List ℕ) (has : family_stocks c l s 0 ≡ o ∷ d) where
   -- the pipeline of a place at a site is that of the item there

@@ -7,7 +7,7 @@ use Rattle.base_pipeline.specs.Profile.{base_shop_ends}
 use Rattle.family_numbers.specs.declared.numbers.PairNumbers.{PairNumbers}
 use Rattle.family_items.specs.Inputs.{HasTable}
 use Rattle.family_tables.specs.Kept.{IsKey, key_at, keys_of, moments_at, shop_key}
-use Rattle.family_numbers.proofs.Served.{all_numbered, base_shop_can, depot_line_can, depot_shop_can}
+use Rattle.family_numbers.proofs.Public.{all_numbered, base_shop_can, depot_line_can, depot_shop_can}
 use Rattle.family_numbers.specs.Numbers.{AreNumbers, FamilyNumbers, depot_shop_row, feed_from, nth_stock, pair_at, shop_numbers}
 
 flat_more : {X : Type 0} (h : ℕ → List X) (a n : ℕ) → flat_map h (range_with_len a (suc n)) ≡ flat_map h (range_with_len a n) ++ h (a + n)
@@ -33,15 +33,6 @@ all_flat P h a (suc n) e =
     let first : a + 0 ≡ a = omega arith in
     All-append P (h a) (flat_map h (range_with_len (a + 1) n)) (subst (λ m. All P (h m)) first (e 0 (omega arith)))
     (all_flat P h (a + 1) n (λ k l. let next : a + suc k ≡ a + 1 + k = omega arith in subst (λ m. All P (h m)) next (e (suc k) (omega (arith, l)))))
-
--- the key of shop unit i at the depot, and at a base
-pub key_there : (d : List ℕ) (i k : ℕ) → k ≡ 0 → key_at (i + 1) k [] ≡ shop_key d i k
-key_there d i zero h = ap (λ p. key_at p 0 []) (add-one i)
-key_there d i (suc k) h = absurd (omega (arith, h))
-
-pub key_here : (d : List ℕ) (i k : ℕ) → 0 < k → key_at (i + 1) k (nth_stock d i ∷ []) ≡ shop_key d i k
-key_here d i zero h = absurd (omega (arith, h))
-key_here d i (suc k) h = ap (λ p. key_at p (suc k) (nth_stock d i ∷ [])) (add-one i)
 
 module _ (f : ℕ) (x : FamilyNumbers f) (d : List ℕ) (are : AreNumbers f x) (same : length d ≡ length x.parts - 1) (few : All (λ n. n ≤ 63) d) where
   shop_valid : (i k : ℕ) → i < length x.parts - 1 → k < x.sites → IsKey x (shop_key d i k)

@@ -86,7 +86,7 @@ pub(crate) fn kept_items<const F: u32>(
     ensures items { IfOk result (λ v. v.items ≡ map (key_item F numbers.now stocks.now)
         (keys_of numbers.now (depot_stocks numbers.now stocks.now))) }
 {
-    let _valid = numbers.sites();
+    numbers.invariant();
     let depot = depot_stocks(alloc, numbers, stocks)?;
     let keys = keys_of(alloc, numbers, depot.as_slice())?;
     keep_each(alloc, numbers, kept, keys.as_slice())?;

@@ -32,7 +32,7 @@ fn feed_at<const F: u32>(
     ensures { IfOk result (λ x. x ≡ feed_from F (pair_at numbers.now (shop + 1) site).share
         (depot_shop_row F numbers.now shop stock)) }
 {
-    let _valid = numbers.sites();
+    numbers.invariant();
     let share = numbers.pair(shop + 1, site).share;
     match kept_at(numbers, kept, shop + 1, SiteId(0), &[]) {
         Some(depot) => Ok(feed_from(share, &depot.table, stock)),
@@ -55,7 +55,7 @@ fn feeds_at<const F: u32>(
     requires stocks { All (λ n. n ≤ 63) depot.now }
     ensures { IfOk result (λ v. v.items ≡ depot_feeds F numbers.now depot.now) }
 {
-    let _valid = numbers.sites();
+    numbers.invariant();
     let mut feeds = Vec::new(alloc);
     for i in 0..numbers.shops() {
         let feed = feed_at(alloc, numbers, kept, i, 0, depot[i])?;
@@ -75,7 +75,7 @@ fn pipeline_of<const F: u32>(
     requires key { IsKey numbers.now key.now }
     ensures { IfOk result (λ m. m ≡ key_moments F numbers.now key.now) }
 {
-    let _valid = numbers.sites();
+    numbers.invariant();
     let pair = numbers.pair(key.place, key.site.0);
     if key.place == 0 {
         let feeds = feeds_at(alloc, numbers, kept, key.stocks.as_slice())?;
@@ -101,7 +101,7 @@ fn made<const F: u32>(
     ensures key { IfOk result (λ y. y.key ≡ key) }
     ensures kept { IfOk result (IsKept F numbers.now) }
 {
-    let _valid = numbers.sites();
+    numbers.invariant();
     let pair = numbers.pair(key.place, key.site.0);
     let moments = pipeline_of(alloc, numbers, kept, &key)?;
     let table = table_to(alloc, moments.mean, moments.variance, pair.limit)?;
@@ -179,7 +179,7 @@ pub(crate) fn depot_stocks<const F: u32>(
     requires { (i : ℕ) → i < length numbers.now.parts → HasPair stocks.now (get_or numbers.now.parts i 0) 0 }
     ensures { IfOk result (λ v. v.items ≡ depot_stocks numbers.now stocks.now) }
 {
-    let _valid = numbers.sites();
+    numbers.invariant();
     let mut depot = Vec::new(alloc);
     for i in 0..numbers.shops() {
         depot.push(stocks.get(numbers.part(i + 1), SiteId(0)))?;

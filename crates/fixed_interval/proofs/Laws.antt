@@ -6,7 +6,7 @@ use Rattle.std.proofs.Math.Nat.{mul-pos, le-max_left, le-max_right, mul-le-mul_l
 use Rattle.std.proofs.lemmas.Nat.{mul-le, le-div, pow_pos, shl_below, div-add-mod', mod_below}
 use Rattle.std.proofs.lemmas.Grind.{div_ceil_times}
 use Rattle.exact_model.specs.Fraction.{Fraction, whole, larger, ◌≈◌, ◌≤ℚ◌, ◌+ℚ◌, ◌-ℚ◌, ◌*ℚ◌, ◌/ℚ◌}
-use Rattle.exact_model.proofs.Fractions.{over, same, le_same, turned, ◌≈≈◌, mul_cancel, quotient, contains_same, larger_is}
+use Rattle.exact_model.proofs.Public.{over, same, le_same, turned, ◌≈≈◌, mul_cancel, quotient, contains_same, larger_is}
 use Rattle.fixed_interval.specs.Ends.{Ends, In, ends_exact, ends_add, ends_less, ends_times, ends_over, ends_mul, ends_div, ends_ratio, ends_max, ends_capped, InScale, IsInterval}
 use Rattle.fixed_interval.specs.Text.{text_value}
 
@@ -338,12 +338,6 @@ mul_below f x y a b p q =
     omega arith
 
 -- ---- for callers: a wider interval contains what a narrower one does
-
-pub wider : (f : ℕ) (a b : Ends) (q : Fraction) → b.lo ≤ a.lo → a.hi ≤ b.hi → In f a q → In f b q
-wider f a b q p r x = record {
-  low = omega (arith, mul-le-mul_right q.den p, x.low);
-  high = omega (arith, mul-le-mul_right q.den r, x.high);
-}
 
 -- ---- ends in decimals
 

@@ -4,8 +4,7 @@ use Rattle.std.specs.Prelude.{List}
 use Rattle.exact_model.specs.Fraction.{Fraction, whole, larger, ◌≤ℚ◌, ◌+ℚ◌, ◌-ℚ◌, ◌*ℚ◌}
 use Rattle.exact_model.specs.Series.{ebo, vbo}
 use Rattle.exact_model.specs.Shares.{shared}
-use Rattle.exact_model.proofs.Fractions.{same, turned, le_self, le_same, le_chain, larger_is}
-use Rattle.exact_model.proofs.Sums.{ebo_within as ebo_most, vbo_within as vbo_most}
+use Rattle.exact_model.proofs.Public.{same, turned, le_self, le_same, le_chain, larger_is, ebo_within as ebo_most, vbo_within as vbo_most}
 use Rattle.spares_input.specs.Cases.{CaseRows}
 use Rattle.exact_model.specs.Sums.{sum_over}
 use Rattle.fleet_model.specs.Rows.{shop_units, stock}

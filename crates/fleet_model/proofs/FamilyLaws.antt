@@ -70,15 +70,15 @@ sum_counted t n [] = omega arith
 sum_counted t n (x ∷ xs) = omega (arith, sum_by-cons (λ y. where_true (t y) n) x xs, ap (λ z. z * n) (sum_by-cons (λ y. where_true (t y) 1) x xs), counted_step (t x) n, sum_counted t n xs)
 
 -- sums over numbers in a row are equal where the terms are equal below the end
-pub sum_range : (f g : ℕ → ℕ) (n a : ℕ) → ((x : ℕ) → x < a + n → f x ≡ g x) → sum_by f (range_with_len a n) ≡ sum_by g (range_with_len a n)
-sum_range f g zero a h = refl
-sum_range f g (suc n) a h =
+pub same_sum_range : (f g : ℕ → ℕ) (n a : ℕ) → ((x : ℕ) → x < a + n → f x ≡ g x) → sum_by f (range_with_len a n) ≡ sum_by g (range_with_len a n)
+same_sum_range f g zero a h = refl
+same_sum_range f g (suc n) a h =
     omega (
       arith,
       sum_by-cons f a (range_with_len (a + 1) n),
       sum_by-cons g a (range_with_len (a + 1) n),
       h a (omega arith),
-      sum_range f g n (a + 1) (λ x l. h x (omega arith)),
+      same_sum_range f g n (a + 1) (λ x l. h x (omega arith)),
     )
 
 none_there : (t : ℕ → Bool) (n a : ℕ) → ((x : ℕ) → a ≤ x → x < a + n → t x ≡ false) → count_by t (range_with_len a n) ≡ 0
@@ -163,7 +163,7 @@ sum_families c g h =
     (sum_turned (λ l p. where_true (is_shop_at c p l) (g p)) (line_units c) (all_parts c)
     ∙ sum_each _ _ (all_parts c) (λ p. sum_counted (is_shop_at c p) (g p) (line_units c)))
     ∙ sym (sum_plus (λ p. where_true (is_line_at c p) (g p)) (λ p. count_by (is_shop_at c p) (line_units c) * g p) (all_parts c))
-    ∙ sum_range _ g (length c.parts) 0 (λ p l.
+    ∙ same_sum_range _ g (length c.parts) 0 (λ p l.
     in_one (is_line_at c p) (count_by (is_shop_at c p) (line_units c)) (g p) (once c p (part_at c.parts p).parent (h.parent_of p (omega (arith, l)))))
   where
     in_one : (b : Bool) (n g : ℕ) → where_true b 1 + n ≡ 1 → where_true b g + n * g ≡ g

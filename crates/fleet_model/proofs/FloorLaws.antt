@@ -4,7 +4,7 @@ use Rattle.std.proofs.Common.{◌≡◌, ℕ, ◌+◌, ◌-◌, ◌*◌, ◌^◌
 use Rattle.std.proofs.Math.Nat.{mul-pos}
 use Rattle.std.proofs.lemmas.List.Sums.{sum_by-cons}
 use Rattle.exact_model.specs.Fraction.{Fraction, whole, ◌≈◌, ◌≤ℚ◌, ◌+ℚ◌, ◌*ℚ◌}
-use Rattle.exact_model.proofs.Fractions.{same, turned, ◌≈≈◌, add_same, mul_same, le_same, le_self, le_chain, times_right_comm, whole_plus}
+use Rattle.exact_model.proofs.Public.{same, turned, ◌≈≈◌, add_same, mul_same, le_same, le_self, le_chain, times_right_comm, whole_plus}
 use Rattle.spares_input.specs.Cases.{CaseRows, IsCase}
 use Rattle.spares_input.specs.Frames.{part_at}
 use Rattle.spares_input.specs.Rows.{is_line}

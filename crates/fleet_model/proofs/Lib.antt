@@ -1,3 +1,4 @@
+pub mod Public
 pub mod Order
 pub mod SumLaws
 pub mod MeanLaws

@@ -2,7 +2,7 @@
 use Rattle.std.proofs.Common.{ℕ, ◌+◌, ◌-◌, ◌<◌, arith}
 use Rattle.std.specs.Prelude.{length}
 use Rattle.exact_model.specs.Fraction.{Fraction, whole, ◌≈◌, ◌≤ℚ◌, ◌+ℚ◌, ◌*ℚ◌}
-use Rattle.exact_model.proofs.Fractions.{same, turned, ◌≈≈◌, add_same, mul_same, times_assoc, le_chain, le_plus}
+use Rattle.exact_model.proofs.Public.{same, turned, ◌≈≈◌, add_same, mul_same, times_assoc, le_chain, le_plus}
 use Rattle.spares_input.specs.Cases.{CaseRows}
 use Rattle.exact_model.specs.Sums.{sum_over}
 use Rattle.fleet_model.specs.Rows.{bases, shop_units, sent, needed, repair}

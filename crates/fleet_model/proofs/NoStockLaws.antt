@@ -3,9 +3,8 @@ use Rattle.std.proofs.Common.{◌≡◌, ℕ, sym, subst}
 use Rattle.std.specs.Prelude.{List}
 use Rattle.exact_model.specs.Fraction.{Fraction, ◌≈◌}
 use Rattle.exact_model.specs.Series.{ebo}
-use Rattle.exact_model.proofs.Fractions.{same, turned, ◌≈≈◌, add_same, mul_same}
+use Rattle.exact_model.proofs.Public.{same, turned, ◌≈≈◌, add_same, mul_same, ebo_none}
 use Rattle.spares_input.specs.Cases.{CaseRows}
-use Rattle.exact_model.proofs.Same.{ebo_none}
 use Rattle.fleet_model.specs.Rows.{shop_units, stock}
 use Rattle.fleet_model.specs.Demand.{f_i0, f_ij, f_0j}
 use Rattle.fleet_model.specs.ZeroStock.{direct_i0, direct_00, direct_ij, direct_0j, zero_stock_i0, zero_stock_00, zero_stock_ij, zero_stock_0j}

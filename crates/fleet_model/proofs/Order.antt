@@ -2,8 +2,7 @@
 use Rattle.std.proofs.Common.{◌≡◌, ℕ, zero, suc, ◌+◌, ◌-◌, ◌*◌, ◌<◌, ◌≤◌, inl, inr, refl, ap, ◌∙◌, arith, mul-le-mul_left, le_of_mul-le-mul_right, zero-lt-suc, eq-zero-or-pos}
 use Rattle.std.proofs.Math.Nat.{mul-pos, mul-le-mul}
 use Rattle.exact_model.specs.Fraction.{Fraction, whole, ◌≈◌, ◌≤ℚ◌, ◌+ℚ◌, ◌-ℚ◌, ◌*ℚ◌, ◌/ℚ◌, scaled}
-use Rattle.exact_model.proofs.Fractions.{same, turned, ◌≈≈◌, mul_same, quotient, times_assoc, le_same, le_self, one_times}
-use Rattle.exact_model.proofs.Same.{zeros_same}
+use Rattle.exact_model.proofs.Public.{same, turned, ◌≈≈◌, mul_same, quotient, times_assoc, le_same, le_self, one_times, zeros_same}
 
 -- of two ways to write one value each is at most the other
 pub le_of_same : {q r : Fraction} → q ≈ r → q ≤ℚ r

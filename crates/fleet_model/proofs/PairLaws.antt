@@ -5,7 +5,7 @@ use Rattle.std.proofs.lemmas.List.{get_or_past}
 use Rattle.std.proofs.lemmas.Bool.{cases_lt}
 use Rattle.exact_model.specs.Fraction.{whole, ◌≈◌, ◌≤ℚ◌, ◌+ℚ◌, ◌-ℚ◌}
 use Rattle.exact_model.specs.Series.{ebo, vbo}
-use Rattle.exact_model.proofs.Fractions.{le_self}
+use Rattle.exact_model.proofs.Public.{le_self}
 use Rattle.spares_input.specs.Rows.{no_rate, IsField}
 use Rattle.spares_input.specs.Frames.{line_of}
 use Rattle.spares_input.specs.Cases.{CaseRows, IsCase}

@@ -3,11 +3,10 @@ use Rattle.std.proofs.Common.{◌≡◌, ℕ, zero, suc, ◌+◌, ◌-◌, ◌*�
 use Rattle.std.proofs.Math.Nat.{mul-pos}
 use Rattle.std.proofs.lemmas.List.Sums.{sum_by-cons}
 use Rattle.exact_model.specs.Fraction.{Fraction, whole, ◌≈◌, ◌+ℚ◌, ◌-ℚ◌, ◌*ℚ◌, ◌/ℚ◌, scaled}
-use Rattle.exact_model.proofs.Fractions.{over, same, turned, ◌≈≈◌, mul_same, mul_cancel, quotient, times_assoc}
+use Rattle.exact_model.proofs.Public.{over, same, turned, ◌≈≈◌, mul_same, mul_cancel, quotient, times_assoc, zeros_same}
 use Rattle.spares_input.specs.Cases.{CaseRows, rate_at}
 use Rattle.spares_input.specs.Frames.{line_of, site_at}
 use Rattle.exact_model.specs.Sums.{sum_over}
-use Rattle.exact_model.proofs.Same.{zeros_same}
 use Rattle.fleet_model.specs.Rows.{bases, shop_units, ten_thousandths, years, here, sent, needed, repair, ship}
 use Rattle.fleet_model.specs.Demand.{m_0j, m_00, m_ij, m_i0, f_i0, f_ij, f_0j}
 use Rattle.fleet_model.specs.ZeroStock.{direct_i0, direct_00, time_at, direct_ij, direct_0j, zero_stock_i0, zero_stock_00, zero_stock_ij, zero_stock_0j}

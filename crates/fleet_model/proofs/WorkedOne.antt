@@ -4,8 +4,7 @@ use Rattle.std.proofs.Common.{refl, zero-lt-suc, arith, ◌<◌, ◌≤◌, zero
 use Rattle.exact_model.specs.Fraction.{Fraction, whole, ◌≈◌, ◌+ℚ◌, ◌-ℚ◌, ◌*ℚ◌, ◌/ℚ◌, scaled, sum_below, larger}
 use Rattle.exact_model.specs.Series.{excess, weight, weight_sum, chance, unless_zero, ebo, second, vbo}
 use Rattle.exact_model.specs.Shares.{shared}
-use Rattle.exact_model.proofs.Fractions.{over, ◌≈≈◌}
-use Rattle.exact_model.proofs.Same.{ebo_same, vbo_same}
+use Rattle.exact_model.proofs.Public.{over, ◌≈≈◌, ebo_same, vbo_same}
 use Rattle.spares_input.specs.Cases.{CaseRows}
 use Rattle.spares_input.specs.Frames.{line_of}
 use Rattle.spares_input.specs.Stocks.{limit_at}

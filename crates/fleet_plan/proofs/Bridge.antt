@@ -6,7 +6,7 @@ use Rattle.exact_model.specs.Fraction.{Fraction, whole, ◌+ℚ◌, ◌*ℚ◌, 
 use Rattle.fixed_interval.specs.Ends.{Ends}
 use Rattle.hull.specs.Curves.{Among}
 use Rattle.hull.specs.Scores.{EnclosesValue}
-use Rattle.hull.proofs.Members.{among_map}
+use Rattle.hull.proofs.Public.{among_map}
 use Rattle.spares_input.specs.Cases.{CaseRows, IsCase, frame_rows, pair_count}
 use Rattle.spares_input.specs.Stocks.{limit_at}
 use Rattle.exact_model.specs.Sums.{sum_over}
@@ -14,7 +14,7 @@ use Rattle.fleet_model.specs.Rows.{stock, line_units}
 use Rattle.family_items.specs.Inputs.{IsLine}
 use Rattle.family_points.specs.Vectors.{Pair, places, vector_of, limits, vectors, stocks_with, IsBetween}
 use Rattle.family_points.specs.Points.{ScoreEnds, scored_total, added_cost, point_at_vector}
-use Rattle.family_points.proofs.Stands.{vector_stands}
+use Rattle.family_points.proofs.Public.{vector_stands}
 use Rattle.price_bounds.specs.Sums.{cost_of, hi_of, Picks}
 use Rattle.price_bounds.specs.Values.{IsAtLeast, IsAtMost}
 use Rattle.marginal_alloc.specs.Plans.{IsPlan}
@@ -22,15 +22,14 @@ use Rattle.price_bounds.specs.Certificates.{IsAcceptable}
 use Rattle.price_bounds.specs.Allocations.{Family, points_of, AreEnclosed, IsAllocation, cost_at, total_at, IsBoundAtPrice}
 use Rattle.price_bounds.specs.Soundness.{stocks_of, IsSoundCertificate}
 use Rattle.marginal_alloc.specs.Soundness.{IsSoundPlan}
-use Rattle.price_bounds.proofs.Vectors.{choice_allocation, certificate_sound}
-use Rattle.marginal_alloc.proofs.Sound.{plan_sound}
-use Rattle.marginal_alloc.proofs.Kept.{plan_acceptable}
+use Rattle.price_bounds.proofs.Public.{choice_allocation, certificate_sound}
+use Rattle.marginal_alloc.proofs.Public.{plan_sound, plan_acceptable}
 use Rattle.fleet_model.specs.Aims.{Value, weighted_backorders, aim, family_aim, IsHeldAllocation, cost_beyond}
 use Rattle.fleet_model.specs.Bounds.{NoneHasLess, PriceShows, HasNoMore}
 use Rattle.fleet_plan.specs.Families.{HasWidth, family_at, families_at, family_points, case_points, vectors_at, points_at, hi_at}
 use Rattle.fleet_plan.specs.Plans.{CasePlan, IsCasePlan, CaseClaims, claims_of, AreAcceptable, IsTruePlan, AreTrueClaims}
 use Rattle.fleet_plan.specs.Laws.{claims_at, IsAcceptedCase, IsSameChoice, IsOfStocks}
-use Rattle.fleet_model.proofs.DependLaws.{family_aim_same, has_sites}
+use Rattle.fleet_model.proofs.Public.{family_aim_same, has_sites}
 use Rattle.fleet_plan.proofs.Lists.{is_among, is_between, zip_maps}
 use Rattle.fleet_plan.proofs.Places.{stocks_from, length_listed, from_families, vectors_from, length_vector, agree_on, family_of_part, lines_are, line_among, place_has, in_case, zip_each}
 use Rattle.fleet_plan.proofs.Costs.{families_beyond}

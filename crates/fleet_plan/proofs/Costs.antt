@@ -6,8 +6,7 @@ use Rattle.spares_input.specs.Frames.{part_at}
 use Rattle.spares_input.specs.Cases.{CaseRows, IsCase}
 use Rattle.fleet_model.specs.Rows.{all_sites, stock, line_units}
 use Rattle.fleet_model.specs.Fleet.{family}
-use Rattle.fleet_model.proofs.FamilyLaws.{sum_turned, cost_beyond_families}
-use Rattle.fleet_model.proofs.FrameLaws.{has_families}
+use Rattle.fleet_model.proofs.Public.{sum_turned, cost_beyond_families, has_families}
 use Rattle.family_points.specs.Vectors.{Pair, places_at, places, vector_of}
 use Rattle.family_points.specs.Points.{cost_above, added_cost}
 use Rattle.fleet_model.specs.Aims.{family_cost_beyond, cost_beyond}

@@ -1,3 +1,4 @@
+pub mod Public
 pub mod Lists
 pub mod Places
 pub mod Costs

@@ -2,7 +2,7 @@
 use Rattle.std.proofs.Common.{◌≡◌, ℕ, suc, ◌-◌, inl, inr, List, [], ◌∷◌, map, refl, sym, ap, ap₂, ◌∙◌, subst, arith}
 use Rattle.std.specs.List.{AllByRecursion, AllZip}
 use Rattle.hull.specs.Curves.{Among}
-use Rattle.hull.proofs.Members.{among_map, among_mapped, among_flat, among_flattened, in_range, range_has}
+use Rattle.hull.proofs.Public.{among_map, among_mapped, among_flat, among_flattened, in_range, range_has}
 use Rattle.family_points.specs.Vectors.{between, vectors, IsBetween}
 
 -- what is true of each that is among a list is true of all of it

@@ -3,8 +3,7 @@ use Rattle.std.proofs.Common.{◌≡◌, ℕ, suc, ◌<◌, ◌≤◌, List, [],
 use Rattle.hull.specs.declared.point.Point.{Point}
 use Rattle.hull.specs.declared.price.Price.{Price}
 use Rattle.hull.specs.Curves.{Among, lagrangian, IsCurve}
-use Rattle.hull.proofs.Stops.{least_of_all}
-use Rattle.hull.proofs.Members.{among_mapped}
+use Rattle.hull.proofs.Public.{least_of_all, among_mapped}
 use Rattle.spares_input.specs.Cases.{CaseRows, IsCase, frame_rows, pair_count}
 use Rattle.fleet_model.specs.Rows.{line_units}
 use Rattle.family_points.specs.Vectors.{vector_of, limits, vectors}
@@ -14,8 +13,7 @@ use Rattle.marginal_alloc.specs.Choice.{AreCurves}
 use Rattle.marginal_alloc.specs.Plans.{IsPlan}
 use Rattle.price_bounds.specs.Certificates.{AreLeastFloors}
 use Rattle.price_bounds.specs.Soundness.{stocks_of}
-use Rattle.marginal_alloc.proofs.OnePlan.{one_plan}
-use Rattle.marginal_alloc.proofs.Kept.{plan_acceptable}
+use Rattle.marginal_alloc.proofs.Public.{one_plan, plan_acceptable}
 use Rattle.fleet_plan.specs.Families.{family_points, case_points, vectors_at, points_at}
 use Rattle.fleet_plan.specs.Plans.{CasePlan, IsCasePlan}
 use Rattle.fleet_plan.proofs.Lists.{same_first, same_rest}

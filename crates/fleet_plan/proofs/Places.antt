@@ -11,21 +11,17 @@ use Rattle.std.proofs.lemmas.Nat.{div-add-mod'}
 use Rattle.std.proofs.Math.Nat.{mod-lt, div-lt_iff_lt-mul}
 use Rattle.std.proofs.lemmas.List.FromFn.{length-range_with_len, get_or-range_with_len}
 use Rattle.hull.specs.Curves.{Among}
-use Rattle.hull.proofs.Runs.{among_at}
-use Rattle.hull.proofs.Members.{among_map, among_mapped, among_flat, among_flattened, in_range, range_has}
+use Rattle.hull.proofs.Public.{among_at, among_map, among_mapped, among_flat, among_flattened, in_range, range_has}
 use Rattle.spares_input.specs.Rows.{is_line}
 use Rattle.spares_input.specs.Frames.{part_at, is_shop_of}
 use Rattle.spares_input.specs.Cases.{CaseRows, IsCase, frame_rows, pair_count}
 use Rattle.fleet_model.specs.Rows.{all_parts, all_sites, stock, shop_units, line_units}
 use Rattle.fleet_model.specs.Fleet.{family}
-use Rattle.fleet_model.proofs.FamilyLaws.{HasLine, HasFamilies}
-use Rattle.fleet_model.proofs.FrameLaws.{has_families}
-use Rattle.demand_rates.proofs.DepotFacts.{no_line_there}
+use Rattle.fleet_model.proofs.Public.{HasLine, HasFamilies, has_families}
+use Rattle.demand_rates.proofs.Public.{no_line_there}
 use Rattle.family_items.specs.Inputs.{IsLine, IsShop}
-use Rattle.family_items.proofs.Items.{flat_at, flat_length}
-use Rattle.family_items.proofs.Units.{shops_all}
-use Rattle.family_points.proofs.Boxes.{map_flat}
-use Rattle.family_points.proofs.Sites.{all_joined, members, part_long}
+use Rattle.family_items.proofs.Public.{flat_at, flat_length, shops_all}
+use Rattle.family_points.proofs.Public.{map_flat, all_joined, members, part_long}
 use Rattle.family_points.specs.Vectors.{Pair, places_at, places, vector_of, site_part}
 use Rattle.fleet_model.specs.Laws.{AgreeOnFamily}
 use Rattle.fleet_plan.specs.Families.{HasWidth}
@@ -71,11 +67,6 @@ kept_apart t a (suc n) = apart_step t a n (t a) (kept_apart t (a + 1) n)
 -- the number at a place of a list is among its numbers
 pub at_among : (xs : List ℕ) (i : ℕ) → i < length xs → Among (get_or xs i 0) xs
 at_among xs i h = among_at xs i 0 h
-
-pub place_of : (xs : List ℕ) (x : ℕ) → Among x xs → (i : ℕ) × (i < length xs) × (get_or xs i 0 ≡ x)
-place_of [] x a = absurd a
-place_of (y ∷ ys) x (inl e) = (0, omega arith, sym e)
-place_of (y ∷ ys) x (inr a) = (let r = place_of ys x a in (suc r.0, omega (arith, r.1), r.2))
 
 -- in a list without repetitions, two places have two numbers
 pub apart_at : (xs : List ℕ) (k i : ℕ) → IsApart xs → k < i → i < length xs → get_or xs k 0 ≡ get_or xs i 0 → ⊥

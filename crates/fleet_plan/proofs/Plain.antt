@@ -3,7 +3,7 @@ use Rattle.std.proofs.Common.{◌≡◌, ℕ, ◌+◌, ◌*◌, ◌^◌, ◌≤�
 use Rattle.std.proofs.lemmas.List.Sums.{sum_by-cons}
 use Rattle.std.proofs.Math.Nat.{mul-le-mul_left}
 use Rattle.fixed_interval.specs.Ends.{Ends, ends_add, ends_exact}
-use Rattle.fixed_interval.proofs.Laws.{times_encloses}
+use Rattle.fixed_interval.proofs.Public.{times_encloses}
 use Rattle.hull.specs.Scores.{EnclosesValue, LeavesRoom}
 use Rattle.spares_input.specs.Cases.{CaseRows}
 use Rattle.fleet_model.specs.Rows.{line_units}
@@ -14,7 +14,7 @@ use Rattle.fleet_model.specs.Aims.{weighted_backorders, cost_beyond}
 use Rattle.fleet_plan.specs.Families.{hi_at}
 use Rattle.fleet_plan.specs.Plans.{CasePlan, IsCasePlan, CaseClaims, AreAcceptable, IsTruePlan, AreTrueClaims, IsPlainPlan, ArePlainClaims}
 use Rattle.fleet_plan.specs.Laws.{IsAcceptedCase}
-use Rattle.fleet_model.proofs.WordLaws.{plain_words}
+use Rattle.fleet_model.proofs.Public.{plain_words}
 use Rattle.fleet_plan.proofs.Bridge.{plan_true, claims_true}
 use Rattle.family_points.specs.Points.{plain_ends}
 

@@ -5,17 +5,16 @@ use Rattle.std.specs.Option.{option_map_or}
 use Rattle.std.proofs.lemmas.List.Quantifiers.{position-Some}
 use Rattle.std.proofs.lemmas.List.Elements.{length_all_zip}
 use Rattle.exact_model.specs.Fraction.{Encloses, whole}
-use Rattle.exact_model.proofs.Fractions.{contains_same, ◌≈≈◌, none_plus}
+use Rattle.exact_model.proofs.Public.{contains_same, ◌≈≈◌, none_plus}
 use Rattle.fixed_interval.specs.Ends.{Ends, In, ends_exact}
-use Rattle.fixed_interval.proofs.Laws.{exact_encloses}
+use Rattle.fixed_interval.proofs.Public.{exact_encloses}
 use Rattle.depot_pipeline.specs.Profile.{added}
-use Rattle.depot_pipeline.proofs.Laws.{added_in}
+use Rattle.depot_pipeline.proofs.Public.{added_in}
 use Rattle.hull.specs.declared.point.Point.{Point}
 use Rattle.hull.specs.Curves.{Among, InRange}
 use Rattle.hull.specs.Laws.{StocksTell}
 use Rattle.hull.specs.Scores.{InLimits, EnclosesValue, LeavesRoom}
-use Rattle.hull.proofs.Runs.{among_at}
-use Rattle.hull.proofs.Members.{among_mapped}
+use Rattle.hull.proofs.Public.{among_at, among_mapped}
 use Rattle.spares_input.specs.Rows.{no_site, no_part}
 use Rattle.spares_input.specs.Frames.{part_at}
 use Rattle.spares_input.specs.Cases.{CaseRows}
@@ -24,21 +23,16 @@ use Rattle.fleet_model.specs.Rows.{stock, systems, per_system, weight, line_unit
 use Rattle.fleet_model.specs.Pipelines.{ebo_0j}
 use Rattle.fleet_model.specs.Fleet.{family}
 use Rattle.fleet_model.specs.Laws.{IsBase}
-use Rattle.fleet_model.proofs.SumLaws.{sum_range}
+use Rattle.fleet_model.proofs.Public.{sum_range, chosen_most}
 use Rattle.family_items.specs.Profile.{item_of}
 use Rattle.family_items.specs.Inputs.{IsLine, IsSound}
-use Rattle.family_items.proofs.Units.{few_shops}
-use Rattle.family_items.proofs.Families.{evaluable, line_in}
-use Rattle.family_items.proofs.Enclosed.{item_small}
-use Rattle.family_items.proofs.Items.{added_same}
+use Rattle.family_items.proofs.Public.{few_shops, evaluable, line_in, item_small, added_same}
 use Rattle.family_points.specs.Vectors.{Pair, places, vector_of, limits, vectors, site_part, stock_in, stocks_with, stock_list, IsBetween}
-use Rattle.family_points.proofs.Depend.{scored_same}
+use Rattle.family_points.proofs.Public.{scored_same, vector_stands}
 use Rattle.family_points.specs.Points.{ScoreEnds, scored, scored_total, cost_above, point_at_vector}
-use Rattle.family_points.proofs.Stands.{vector_stands}
 use Rattle.fleet_model.specs.Aims.{Value, family_aim}
 use Rattle.fleet_model.specs.Laws.{AgreeOnFamily}
-use Rattle.fleet_model.proofs.AllocationLaws.{chosen_most}
-use Rattle.price_bounds.proofs.Vectors.{ends_of}
+use Rattle.price_bounds.proofs.Public.{ends_of}
 use Rattle.fleet_plan.specs.Laws.{IsAcceptedCase}
 use Rattle.marginal_alloc.specs.Promises.{StocksTellAll}
 use Rattle.fleet_plan.specs.Families.{family_points, case_points}

@@ -16,8 +16,7 @@ use Rattle.gap_rules.specs.Covers.{leaves, box_of}
 use Rattle.gap_rules.specs.Values.{below, leaf_tables, cover_tables}
 use Rattle.gap_rules.specs.Reading.{joined, Reads, AllOrdered, IsOrderedRead, KeepsOrder}
 use Rattle.gap_rules.specs.Refusals.{low_leaf}
-use Rattle.gap_rules.proofs.Trees.{IsCons, cons_of}
-use Rattle.gap_rules.proofs.Counting.{advance}
+use Rattle.gap_rules.proofs.Public.{IsCons, cons_of, advance}
 
 -- the leaves of a box's nodes
 abbrev pub all_leaves : List Node → Bounds → List Leaf

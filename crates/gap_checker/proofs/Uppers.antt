@@ -5,14 +5,13 @@ use Rattle.answers.specs.declared.stop.NoMemory.{NoMemory}
 use Rattle.family_points.specs.declared.bounds.Bounds.{Bounds}
 use Rattle.hull.specs.declared.point.Point.{Point}
 use Rattle.hull.specs.Curves.{Among}
-use Rattle.hull.proofs.Members.{Mapped, among_mapped}
+use Rattle.hull.proofs.Public.{Mapped, among_mapped}
 use Rattle.spares_input.specs.Cases.{CaseRows}
 use Rattle.price_bounds.specs.Sums.{hi_of}
 use Rattle.gap_rules.specs.Boxes.{AtMost, IsOrdered}
 use Rattle.family_points.specs.Vectors.{vectors, limits}
 use Rattle.family_points.specs.Points.{HasUpper, point_at_vector, points_within, ScoreEnds}
-use Rattle.gap_rules.proofs.AmongLaws.{IsBetween, between}
-use Rattle.gap_rules.proofs.Boxes.{at_most_self}
+use Rattle.gap_rules.proofs.Public.{IsBetween, between, at_most_self}
 
 at_most_same : (a b : List ℕ) → AtMost a b → AtMost b a → a ≡ b
 at_most_same [] [] h k = refl

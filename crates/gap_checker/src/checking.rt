@@ -87,7 +87,7 @@ pub fn check_within<S: Score>(
     requires limits { IsWithinLimits cert.now.case held.now }
     ensures { Gives (judged S.ends cert.now held.now) result }
 {
-    let _valid = cert.case.site_count();
+    cert.case.invariant();
     let rates = rates_of(alloc, &cert.case)?;
     let units = line_units(alloc, &cert.case)?;
     judge(alloc, cert, held, &rates, units.as_slice(), score)

@@ -40,7 +40,7 @@ fn least_within<S: Score>(
     ensures { IfOk result (λ least. least ≡ least_within case.now line.0 S.ends price bounds.now) }
 {
     let curve = curve_within(alloc, case, rates, line, bounds, score)?;
-    let _shape = curve.len();
+    curve.invariant();
     let vertex = curve.point(curve.best_at(price.p, price.q));
     Ok(u128::from(price.q) * vertex.lo + price.p * u128::from(vertex.cost))
 }

@@ -5,11 +5,11 @@ use Rattle.std.specs.Option.{option_map}
 use Rattle.hull.specs.declared.point.Point.{Point}
 use Rattle.hull.specs.declared.price.Price.{Price}
 use Rattle.hull.specs.Curves.{lagrangian, Among}
-use Rattle.hull.proofs.Members.{among_map}
+use Rattle.hull.proofs.Public.{among_map}
 use Rattle.spares_input.specs.First.{first, or_else}
 use Rattle.spares_input.specs.Cases.{IsCase, frame_rows, pair_count}
 use Rattle.spares_input.specs.Stocks.{StockList, IsFor}
-use Rattle.spares_input.proofs.Firsts.{first_none, or_else_none}
+use Rattle.spares_input.proofs.Public.{first_none, or_else_none}
 use Rattle.fleet_model.specs.Rows.{line_units}
 use Rattle.demand_rates.specs.Limits.{rate_fault_of}
 use Rattle.price_bounds.specs.Sums.{cost_of, Picks}

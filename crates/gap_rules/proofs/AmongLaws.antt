@@ -2,7 +2,7 @@
 use Rattle.std.proofs.Common.{ℕ, suc, ◌+◌, ◌-◌, ◌<◌, ◌≤◌, inl, inr, List, [], ◌∷◌, map, refl, sym, subst, arith}
 use Rattle.std.specs.List.{range_with_len}
 use Rattle.hull.specs.Curves.{Among}
-use Rattle.hull.proofs.Members.{among_map, Mapped, among_mapped, Flattened, among_flattened, range_has, in_range, among_flat}
+use Rattle.hull.proofs.Public.{among_map, Mapped, among_mapped, Flattened, among_flattened, range_has, in_range, among_flat}
 use Rattle.gap_rules.specs.Boxes.{AtMost}
 use Rattle.family_points.specs.Vectors.{vectors}
 

@@ -10,9 +10,7 @@ use Rattle.spares_input.specs.Cases.{CaseRows, IsCase, frame_rows, pair_count}
 use Rattle.spares_input.specs.Stocks.{StockList, IsFor}
 use Rattle.fleet_model.specs.Rows.{all_sites, line_units, stock}
 use Rattle.fleet_model.specs.Fleet.{cost, family, family_cost}
-use Rattle.fleet_model.proofs.FamilyLaws.{cost_families, sum_turned}
-use Rattle.fleet_model.proofs.FrameLaws.{has_families}
-use Rattle.fleet_model.proofs.AllocationLaws.{cost_holds}
+use Rattle.fleet_model.proofs.Public.{cost_families, sum_turned, has_families, cost_holds}
 use Rattle.price_bounds.specs.Sums.{total}
 use Rattle.family_points.specs.Vectors.{Pair, places, vector_of}
 use Rattle.gap_rules.proofs.Added.{added_at}
@@ -49,9 +47,6 @@ sum_flat f g (x ∷ xs) = omega (arith, sum_append f (g x) (flat_map g xs), sum_
 sum_each : {A : Type 0} (f g : A → ℕ) (xs : List A) → ((x : A) → f x ≡ g x) → sum_by f xs ≡ sum_by g xs
 sum_each f g [] h = refl
 sum_each f g (x ∷ xs) h = omega (arith, sum_by-cons f x xs, sum_by-cons g x xs, h x, sum_each f g xs h)
-
-pair_at : ℕ → ℕ → Pair
-pair_at p k = record { part = p; site = k }
 
 -- the cost of a family by its places
 family_places : (c : CaseRows) (l : ℕ) (s : List ℕ) → sum_by (λ x. stock c s x.part x.site * (part_at c.parts x.part).cost) (places c l) ≡ family_cost c s l

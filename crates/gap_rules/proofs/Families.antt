@@ -10,13 +10,13 @@ use Rattle.spares_input.specs.declared.rows.PartId.{PartId}
 use Rattle.spares_input.specs.First.{first, first_of, or_else}
 use Rattle.spares_input.specs.Cases.{CaseRows}
 use Rattle.spares_input.specs.Stocks.{StockList, IsFor, IsWithinLimits, limit_at}
-use Rattle.spares_input.proofs.Firsts.{first_none, first_found, first_more}
+use Rattle.spares_input.proofs.Public.{first_none, first_found, first_more}
 use Rattle.fleet_model.specs.Rows.{line_units}
-use Rattle.fleet_model.proofs.AllocationLaws.{stock_holds}
-use Rattle.demand_rates.proofs.Sums.{sum_more}
+use Rattle.fleet_model.proofs.Public.{stock_holds}
+use Rattle.demand_rates.proofs.Public.{sum_more}
 use Rattle.family_items.specs.Inputs.{IsLine}
 use Rattle.family_points.specs.declared.bounds.Bounds.{Bounds}
-use Rattle.hull.proofs.Runs.{among_at}
+use Rattle.hull.proofs.Public.{among_at}
 use Rattle.gap_rules.specs.Boxes.{AtMost, IsOrdered}
 use Rattle.family_points.specs.Vectors.{places, vector_of, limits, box_from}
 use Rattle.price_certificate.specs.declared.certificate.Node.{Node}

@@ -4,7 +4,7 @@ use Rattle.spares_input.specs.First.{first, first_of, or_else, unless}
 use Rattle.spares_input.specs.Cases.{frame_rows, pair_count}
 use Rattle.spares_input.specs.Stocks.{StockList}
 use Rattle.spares_input.specs.Building.{StopsAt}
-use Rattle.spares_input.proofs.Firsts.{or_else_none}
+use Rattle.spares_input.proofs.Public.{or_else_none}
 use Rattle.answers.specs.Answers.{Gives}
 use Rattle.answers.specs.declared.stop.Stop.{Stop}
 use Rattle.answers.specs.declared.stop.Stop.TheVariants as halt
@@ -18,7 +18,7 @@ use Rattle.check_answers.specs.declared.refusal.Reject.TheVariants as reject
 use Rattle.gap_rules.specs.Refusals.{family_count, gap_at, work_of, too_much_work, over_limit, below_held, over_budget, cost_above, low_at, upper_too_low, bound_too_high, reject_of, judged}
 use Rattle.family_points.specs.Points.{ScoreEnds}
 use Rattle.gap_rules.proofs.Places.{if_none}
-pub use Rattle.fleet_model.proofs.FrameLaws.{few_lines}
+pub use Rattle.fleet_model.proofs.Public.{few_lines}
 
 -- the first of two lists of findings
 first_of_both : {A : Type 0} (xs ys : List (Option A)) → first_of (xs ++ ys) ≡ or_else (first_of xs) (first_of ys)

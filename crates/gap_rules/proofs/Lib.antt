@@ -1,3 +1,4 @@
+pub mod Public
 pub mod Added
 pub mod Formed
 pub mod Boxes

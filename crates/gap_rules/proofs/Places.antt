@@ -3,13 +3,13 @@ use Rattle.std.proofs.Common.{◌≡◌, ℕ, suc, ◌+◌, ◌*◌, ◌/◌, �
 use Rattle.std.specs.Prelude.{if◌then◌else◌}
 use Rattle.std.proofs.lemmas.Nat.{div-mul-add, mod-mul-add}
 use Rattle.hull.specs.Curves.{Among}
-use Rattle.hull.proofs.Members.{Mapped, among_mapped, Flattened, among_flattened, range_has}
+use Rattle.hull.proofs.Public.{Mapped, among_mapped, Flattened, among_flattened, range_has}
 use Rattle.spares_input.specs.First.{first}
 use Rattle.spares_input.specs.Rows.{is_line}
 use Rattle.spares_input.specs.Frames.{part_at, is_shop_of}
 use Rattle.spares_input.specs.Cases.{CaseRows, frame_rows, pair_count}
 use Rattle.spares_input.specs.Stocks.{StockList, limit_at}
-use Rattle.spares_input.proofs.Firsts.{first_none}
+use Rattle.spares_input.proofs.Public.{first_none}
 use Rattle.fleet_model.specs.Rows.{all_sites, all_parts, line_units, stock}
 use Rattle.fleet_model.specs.Fleet.{family}
 use Rattle.gap_rules.specs.Boxes.{AtMost}

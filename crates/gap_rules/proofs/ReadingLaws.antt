@@ -4,7 +4,7 @@ use Rattle.std.specs.Prelude.{if◌then◌else◌, unwrap_or}
 use Rattle.std.specs.Option.{option_map}
 use Rattle.std.proofs.lemmas.List.{reverse-append}
 use Rattle.hull.specs.Curves.{Among}
-use Rattle.hull.proofs.Stand.{among_left, among_right, among_either}
+use Rattle.hull.proofs.Public.{among_left, among_right, among_either}
 use Rattle.spares_input.specs.Cases.{CaseRows}
 use Rattle.family_points.specs.declared.bounds.Bounds.{Bounds}
 use Rattle.gap_rules.specs.Boxes.{AtMost, IsOrdered}

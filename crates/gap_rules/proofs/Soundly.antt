@@ -6,7 +6,7 @@ use Rattle.spares_input.specs.Stocks.{StockList}
 use Rattle.fleet_model.specs.Rows.{line_units}
 use Rattle.price_bounds.specs.Allocations.{points_of}
 use Rattle.price_bounds.specs.Certificates.{IsAcceptable}
-use Rattle.price_bounds.proofs.Vectors.{certificate_sound}
+use Rattle.price_bounds.proofs.Public.{certificate_sound}
 use Rattle.family_points.specs.Vectors.{vector_of, limits}
 use Rattle.family_points.specs.Points.{points_within, ScoreEnds}
 use Rattle.gap_rules.specs.Laws.{claims_of}

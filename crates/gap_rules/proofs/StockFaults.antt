@@ -8,7 +8,7 @@ use Rattle.spares_input.specs.First.{first}
 use Rattle.spares_input.specs.Pairs.{part_of_place, site_of_place}
 use Rattle.spares_input.specs.Cases.{CaseRows}
 use Rattle.spares_input.specs.Stocks.{StockList, stock_at, limit_at}
-use Rattle.spares_input.proofs.Firsts.{first_found, first_more}
+use Rattle.spares_input.proofs.Public.{first_found, first_more}
 use Rattle.check_answers.specs.declared.refusal.Reject.{Reject}
 use Rattle.check_answers.specs.declared.refusal.Reject.TheVariants as reject
 use Rattle.gap_rules.specs.Refusals.{over_limit, below_held}

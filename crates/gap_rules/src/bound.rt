@@ -42,7 +42,7 @@ pub fn bound_kept(cert: &Certificate) -> Result<(), Stop<Reject>>
     requires { IsWellFormed cert.now }
     ensures { StopsAt (bound_too_high cert.now) result }
 {
-    let _valid = cert.case.site_count();
+    cert.case.invariant();
     let largest = largest_bound(cert.price, cert.floors.as_slice(), cert.budget);
     if largest < cert.bound {
         return Err(Stop::Fault(Reject::BoundTooHigh {

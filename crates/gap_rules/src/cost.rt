@@ -17,7 +17,7 @@ pub fn added_cost(case: &Case, line: PartId, parts: &[PartId], held: &[u8], vect
     ensures cost { result ≡ added_cost case.now line.0 held.now vector.now }
     ensures most { result ≤ 4000000000000 }
 {
-    let _valid = case.site_count();
+    case.invariant();
     let mut cost = 0;
     for i in 0..parts.len() {
         let added = u64::from(vector[i] - held[i]);

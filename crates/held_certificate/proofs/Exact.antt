@@ -6,20 +6,16 @@ use Rattle.std.proofs.lemmas.Bool.{and_parts, and_from, eqb-true, eq-eqb, leb-tr
 use Rattle.line_text.specs.Formats.{Format, and_then, fits_after}
 use Rattle.line_text.specs.Texts.{word_line, count_line, numbers_from}
 use Rattle.line_text.specs.Exact.{IsExact, IsLine}
-use Rattle.line_text.proofs.Laws.{both_are_exact, as_shape_is_exact}
-use Rattle.line_text.proofs.FieldLaws.{a_field, word_line_is_exact, number_line_is_exact, count_line_is_exact, counted_is_exact}
+use Rattle.line_text.proofs.Public.{both_are_exact, as_shape_is_exact, a_field, word_line_is_exact, number_line_is_exact, count_line_is_exact, counted_is_exact}
 use Rattle.spares_input.specs.Frames.{part_at}
 use Rattle.spares_input.specs.Rows.{IsPartRow, no_part}
 use Rattle.spares_input.specs.Cases.{CaseRows, frame_rows, pair_count}
 use Rattle.spares_input.specs.Stocks.{limit_at}
 use Rattle.spares_input.specs.declared.rows.PartRow.{PartRow}
-use Rattle.case_lines.proofs.Few.{few_pairs}
-use Rattle.case_lines.proofs.Framed.{are_part_rows}
+use Rattle.case_lines.proofs.Public.{few_pairs, are_part_rows}
 use Rattle.price_certificate.specs.declared.certificate.Certificate.{Certificate}
 use Rattle.price_certificate.specs.Grammar.{certificate_format}
-use Rattle.price_certificate.proofs.Exact.{certificate_is_exact}
-use Rattle.price_certificate.proofs.Fits.{fits_case, later_fits}
-use Rattle.price_certificate.proofs.Sequences.{with_sites}
+use Rattle.price_certificate.proofs.Public.{certificate_is_exact, fits_case, later_fits, with_sites}
 use Rattle.held_certificate.specs.Held.{held_line, held_lines, held, front, held_format}
 use lib.Chars.{codes}
 

@@ -9,14 +9,14 @@ use Rattle.answers.specs.Answers.{Gives}
 use Rattle.answers.specs.declared.stop.Stop.{Stop}
 use Rattle.spares_input.specs.Cases.{CaseRows, frame_rows, pair_count}
 use Rattle.spares_input.specs.Stocks.{StockList, limit_at, IsFor, IsWithinLimits}
-use Rattle.spares_input.proofs.CaseFacts.{place_fits}
+use Rattle.spares_input.proofs.Public.{place_fits}
 use Rattle.case_lines.specs.Grammar.{case_format}
-use Rattle.case_lines.proofs.Rows.{fits_at}
+use Rattle.case_lines.proofs.Public.{fits_at}
 use Rattle.price_certificate.specs.declared.certificate.Certificate.{Certificate}
 use Rattle.price_certificate.specs.declared.fault.CertFault.{CertFault}
 use Rattle.price_certificate.specs.Grammar.{budget_line, certificate_format, covers, family_count, floors, objective_line, price_line, stocks}
 use Rattle.price_certificate.specs.Certificates.{IsWellFormed}
-use Rattle.price_certificate.proofs.Fits.{count_within}
+use Rattle.price_certificate.proofs.Public.{count_within}
 use Rattle.held_certificate.specs.declared.held.HeldCertificate.{HeldCertificate}
 use Rattle.held_certificate.specs.Held.{rest, held_line, held_lines, held, front, held_format, IsWellHeld, held_text, held_of}
 use Rattle.held_certificate.proofs.Inverse.{again, its_text}

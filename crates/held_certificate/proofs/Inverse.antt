@@ -4,16 +4,13 @@ use Rattle.std.specs.List.{concat}
 use Rattle.std.proofs.lemmas.Bool.{and_parts, and_from, eq-eqb, le-leb}
 use Rattle.std.proofs.Math.Nat.{mul-mod_left}
 use Rattle.std.specs.Prelude.{◌==◌}
-use Rattle.case_lines.proofs.Few.{few_pairs}
-use Rattle.line_text.proofs.Laws.{both_are_exact}
-use Rattle.line_text.proofs.FieldLaws.{a_field, word_line_is_exact}
+use Rattle.case_lines.proofs.Public.{few_pairs, case_fits}
+use Rattle.line_text.proofs.Public.{both_are_exact, a_field, word_line_is_exact, lines_again, answer_again, answer_takes, answer_refuses}
 use Rattle.std.proofs.lemmas.Nat.{div-add-mod', div_below, mod_below}
 use Rattle.line_text.specs.Formats.{Token, fits_after}
 use Rattle.line_text.specs.Files.{lines_of, file_text, file_answer, IsFirstBad}
 use Rattle.line_text.specs.Texts.{word_line, count_line, numbers_from}
 use Rattle.line_text.specs.Exact.{IsLine}
-use Rattle.line_text.proofs.LineLaws.{lines_again}
-use Rattle.line_text.proofs.Files.{answer_again, answer_takes, answer_refuses}
 use Rattle.answers.specs.Answers.{Gives}
 use Rattle.answers.specs.declared.stop.Stop.{Stop}
 use Rattle.answers.specs.declared.stop.Stop.TheVariants as stop
@@ -21,8 +18,7 @@ use Rattle.spares_input.specs.Frames.{FrameRows, frame_of}
 use Rattle.spares_input.specs.Cases.{CaseRows, frame_rows, pair_count, IsCase}
 use Rattle.spares_input.specs.Stocks.{StockList, limit_at, IsFor, IsWithinLimits}
 use Rattle.spares_input.specs.declared.fault.CaseFault.{CaseFault}
-use Rattle.case_lines.proofs.Valid.{case_fits}
-use Rattle.spares_input.proofs.Standing.{own_frame}
+use Rattle.spares_input.proofs.Public.{own_frame}
 use Rattle.price_certificate.specs.declared.certificate.Certificate.{Certificate}
 use Rattle.price_certificate.specs.declared.fault.CertFault.{CertFault}
 use Rattle.price_certificate.specs.declared.fault.CertFault.TheVariants as fault
@@ -30,8 +26,7 @@ use Rattle.price_certificate.specs.Grammar.{certificate_format}
 use Rattle.line_text.specs.Texts.{number_line}
 use Rattle.price_certificate.specs.Certificates.{cert_text}
 use Rattle.price_certificate.specs.Certificates as certified
-use Rattle.price_certificate.proofs.Fits.{well_formed_fits, format_fits, count_within}
-use Rattle.price_certificate.proofs.Written.{joined}
+use Rattle.price_certificate.proofs.Public.{well_formed_fits, format_fits, count_within, joined}
 use Rattle.held_certificate.specs.declared.held.HeldCertificate.{HeldCertificate}
 use Rattle.held_certificate.specs.Held.{rest, held_line, held_lines, held, front, held_format, IsWellHeld, held_text, refusal, case_fault, judged, held_of}
 use Rattle.held_certificate.proofs.Exact.{front_is_exact, held_format_is_exact, held_is_exact, small_at, each_fits}

@@ -9,7 +9,7 @@ use Rattle.line_text.specs.Formats.{Token}
 use Rattle.line_text.specs.Files.{lines_of, file_text, file_answer}
 use Rattle.line_text.specs.Texts.{count_line}
 use Rattle.line_text.specs.Exact.{IsLine}
-use Rattle.line_text.proofs.LineLaws.{concat_lines, lines_at}
+use Rattle.line_text.proofs.Public.{concat_lines, lines_at}
 use Rattle.spares_input.specs.Frames.{FrameRows, frame_of}
 use Rattle.spares_input.specs.declared.fault.CaseFault.{CaseFault}
 use Rattle.price_certificate.specs.declared.certificate.Certificate.{Certificate}

@@ -133,14 +133,9 @@ fn after_front(
     ensures answer { Gives (held_of bytes.now) result }
     ensures well_formed { IfOk result (λ h. IsWellFormed h.certificate) }
 {
-    let certificate = match certificate_of(alloc, found) {
-        Ok(certificate) => certificate,
-        Err(stop) => return Err(stop),
-    };
-    match held_after(alloc, bytes, lines, &certificate) {
-        Ok(held) => Ok(HeldCertificate { certificate, held }),
-        Err(stop) => Err(stop),
-    }
+    let certificate = certificate_of(alloc, found)?;
+    let held = held_after(alloc, bytes, lines, &certificate)?;
+    Ok(HeldCertificate { certificate, held })
 }
 
 /// The held certificate with this text, or the reason why there is none.

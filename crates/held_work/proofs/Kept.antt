@@ -11,18 +11,16 @@ use Rattle.spares_input.specs.Cases.{CaseRows, IsCase}
 use Rattle.spares_input.specs.Pairs.{pair_place}
 use Rattle.spares_input.specs.Stocks.{StockList, IsFor, IsWithinLimits}
 use Rattle.fleet_model.specs.Rows.{line_units, stock}
-use Rattle.fleet_model.proofs.FamilyLaws.{sum_each}
+use Rattle.fleet_model.proofs.Public.{sum_each}
 use Rattle.family_items.specs.Inputs.{IsLine}
 use Rattle.family_points.specs.declared.bounds.Bounds.{Bounds}
 use Rattle.family_points.specs.Vectors.{IsBetween, Pair, box_from, limits, places, vector_of, zeros}
 use Rattle.family_points.specs.Points.{ScoreEnds, points_within, AreOrdered}
 use Rattle.family_points.specs.Counts.{limited, most_tables, tables_between, tables_of, work_of}
-use Rattle.family_points.proofs.Boxes.{each_any, same_map}
-use Rattle.family_points.proofs.Rooms.{held_ordered}
-use Rattle.family_points.proofs.Whole.{tables_whole}
-pub use Rattle.sum_walk.proofs.Lists.{zip_push}
+use Rattle.family_points.proofs.Public.{each_any, same_map, held_ordered, tables_whole}
+pub use Rattle.sum_walk.proofs.Public.{zip_push}
 use Rattle.fleet_plan.specs.Families.{case_points, family_points}
-use Rattle.fleet_plan.proofs.Places.{line_among}
+use Rattle.fleet_plan.proofs.Public.{line_among}
 use Rattle.held_work.specs.Curves.{IsFamilyCurve}
 use Rattle.held_work.specs.Work.{held_work_of, tables_from, IsNothing}
 

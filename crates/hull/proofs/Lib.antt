@@ -1,3 +1,4 @@
+pub mod Public
 pub mod Prices
 pub mod Stand
 pub mod Chains

@@ -99,6 +99,13 @@ impl<T: Spot> Chain<T> {
         self.vertices.drain(..from as usize);
     }
 
+    /// The shape of a chain, for a proof.
+    pub fn invariant(&self)
+        ensures shape { IsShape self.now }
+    {
+        let _opened = &self.vertices;
+    }
+
     /// The number of vertices. The clauses also state the shape of a chain.
     pub fn len(&self) -> u32
         ensures len { result ≡ length self.now }

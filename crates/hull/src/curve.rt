@@ -157,6 +157,13 @@ impl Curve {
         self.vertices.drain(..from as usize);
     }
 
+    /// The shape of a curve, for a proof.
+    pub fn invariant(&self)
+        ensures shape { IsShape self.now }
+    {
+        let _opened = &self.vertices;
+    }
+
     /// The number of vertices. The clauses also state the shape of a curve.
     pub fn len(&self) -> u32
         ensures len { result ≡ length self.now }

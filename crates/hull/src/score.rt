@@ -42,7 +42,7 @@ pub struct Plain;
 impl Score for Plain {
     ghost use Rattle.std.proofs.Common.{arith};
     ghost use Rattle.std.proofs.Math.Nat.{mul-le-mul_left};
-    ghost use Rattle.fixed_interval.proofs.Laws.{times_encloses};
+    ghost use Rattle.fixed_interval.proofs.Public.{times_encloses};
 
     ghost ends = { λ _ _ weight backorders. ends_times backorders weight };
 

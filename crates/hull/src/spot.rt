@@ -1,6 +1,6 @@
 //! The interface of a point, by which curves use it however it is stored.
 
-ghost use Rattle.std.specs.Prelude.{◌≡◌, ◌++◌, ◌↔◌, IsTrue, OnOk, length};
+ghost use Rattle.std.specs.Prelude.{◌≡◌, ◌++◌, ◌↔◌, IsTrue, OnOk};
 ghost use Rattle.hull.specs.declared.point.Point.{Point};
 ghost use Rattle.hull.specs.Curves.{IsFirstOf};
 
@@ -31,11 +31,6 @@ pub trait Spot: Drop {
     /// Appends the point's stocks to `to`. After `NoMemory` only some of them may be appended.
     fn put_stocks(&self, to: &mut Vec<u8>) -> Result<(), NoMemory>
         ensures { OnOk result (to.new.items ≡ to.old.items ++ (point self.now).stocks) };
-
-    /// Overwrites `to`, a list of the same length, with the point's stocks.
-    fn write_stocks(&self, to: &mut [u8])
-        requires { length to.old ≡ length (point self.now).stocks }
-        ensures { to.new ≡ (point self.now).stocks };
 }
 
 /// Whether `a` equals `b` or comes before it in dictionary order.
@@ -67,9 +62,5 @@ impl Spot for Point {
     fn put_stocks(&self, to: &mut Vec<u8>) -> Result<(), NoMemory> {
         to.extend_from_slice(self.stocks.as_slice())?;
         Ok(())
-    }
-
-    fn write_stocks(&self, to: &mut [u8]) {
-        to.copy_from_slice(self.stocks.as_slice());
     }
 }

@@ -11,7 +11,7 @@ use Rattle.std.proofs.lemmas.Str.{digit_value_digit}
 use Rattle.std.proofs.lemmas.List.{take-append-drop, length-drop}
 use Rattle.std.proofs.lemmas.Slice.Eq.{bytes_eq-Decides}
 use Rattle.fixed_interval.specs.Text.{last_digits, fixed_text}
-use Rattle.fixed_interval.proofs.Text.{length_last_digits, after_last_digits, last_digits_none}
+use Rattle.fixed_interval.proofs.Public.{length_last_digits, after_last_digits, last_digits_none}
 use Rattle.line_text.specs.Formats.{Token, Text, spelled}
 use Rattle.line_text.specs.Texts.{AreDigits, number, fixed, without_point, in_range}
 use Rattle.line_text.specs.Exact.{IsExactText, IsField}

@@ -1,3 +1,4 @@
+pub mod Public
 pub mod Laws
 pub mod LineLaws
 pub mod Files

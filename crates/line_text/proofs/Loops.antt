@@ -56,11 +56,6 @@ numbers_more n i h =
 pub numbers_done : (n i : ℕ) → n ≤ i → numbers_from i (n - i) ≡ []
 numbers_done n i h = let e : n - i ≡ 0 = omega arith in ap (numbers_from i) e
 
-pub keys_more : {K : Type 0} (keys : List K) (i : ℕ) → i < length keys → (k : K) × (drop i keys ≡ k ∷ drop (i + 1) keys)
-keys_more [] i h = absurd (omega (arith, h))
-keys_more (k ∷ ks) zero h = (k, refl)
-keys_more (k ∷ ks) (suc i) h = let p : suc (i + 1) ≡ suc i + 1 = omega arith in let q = keys_more ks i (omega (arith, h)) in (q.0, q.1 ∙ ap (λ (n : ℕ). q.0 ∷ drop n (k ∷ ks)) p)
-
 -- ---- writing
 
 -- a format of one token writes the text of that token

@@ -9,7 +9,7 @@ use Rattle.std.proofs.lemmas.Bool.{and_parts, and_from, leb-true, le-leb, ne_eqb
 use Rattle.std.proofs.lemmas.Nat.{div-add-mod', mod_below, div_below}
 use Rattle.std.proofs.lemmas.Fmt.{decimal_is_IsNumeral_wide}
 use Rattle.fixed_interval.specs.Text.{last_digits, fixed_text}
-use Rattle.fixed_interval.proofs.Text.{after_append, after_last_digits}
+use Rattle.fixed_interval.proofs.Public.{after_append, after_last_digits}
 use Rattle.line_text.specs.Formats.{Token, Text}
 use Rattle.line_text.specs.Texts.{in_range, without_point, fixed, Either, Left, Right, left_or, either, if_any, read_any, kept_by, only}
 use Rattle.line_text.specs.Exact.{IsExactText, IsField}

@@ -2,9 +2,9 @@
 use Rattle.std.proofs.Common.{ℕ, zero, suc, ◌+◌, ◌-◌, ◌*◌, ◌^◌, ◌<◌, ◌≤◌, ◌≡◌, ◌∙◌, ◌⊎◌, inl, inr, arith, refl, ap, subst, zero-lt-suc, min, mul-le-mul}
 use Rattle.std.proofs.Math.Nat.{mul-pos, mul-le-mul_left, mul-le-mul_right, le_of_mul-le-mul_right, mul-sub, lt_of_mul-lt-mul_right, le_refl}
 use Rattle.exact_model.specs.Fraction.{Fraction, whole, sum_below, scaled, Contains, Encloses, ◌≈◌, ◌≤ℚ◌, ◌+ℚ◌, ◌-ℚ◌, ◌*ℚ◌, ◌/ℚ◌}
-use Rattle.exact_model.proofs.Fractions.{over, same, turned, ◌≈≈◌, le_same, le_chain, le_self, le_plus, add_same, sub_same, contains_same, nothing_less, first_power, next_power}
+use Rattle.exact_model.proofs.Public.{over, same, turned, ◌≈≈◌, le_same, le_chain, le_self, le_plus, add_same, sub_same, contains_same, nothing_less, first_power, next_power}
 use Rattle.fixed_interval.specs.Ends.{Ends, In, ends_times, ends_over, ends_capped, ends_power}
-use Rattle.fixed_interval.proofs.Laws.{add_encloses, exact_encloses, mul_encloses, over_encloses, times_encloses, quotient_is, ceil_above, high_le, low_le, capped_encloses, min_steps, floor_below_ceil}
+use Rattle.fixed_interval.proofs.Public.{add_encloses, exact_encloses, mul_encloses, over_encloses, times_encloses, quotient_is, ceil_above, high_le, low_le, capped_encloses, min_steps, floor_below_ceil}
 use Rattle.hull.specs.Scores.{EnclosesValue, LeavesRoom}
 use Rattle.exact_model.specs.Sums.{power}
 use Rattle.log_loss.specs.Loss.{term, loss, smaller, empty_share, loss_of}

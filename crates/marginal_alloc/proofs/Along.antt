@@ -2,8 +2,8 @@
 use Rattle.std.proofs.Common.{◌≡◌, ℕ, zero, suc, ◌+◌, ◌<◌, ◌≤◌, ◌⊎◌, inl, inr, List, length, sym, subst, arith}
 use Rattle.hull.specs.declared.point.Point.{Point}
 use Rattle.hull.specs.Curves.{Steps, IsChain, IsShape, nowhere, point_at}
-use Rattle.hull.proofs.Runs.{among_at}
-use Rattle.step_walk.proofs.Taking.{own_step}
+use Rattle.hull.proofs.Public.{among_at}
+use Rattle.step_walk.proofs.Public.{own_step}
 
 up_or : (k j : ℕ) → k ≤ suc j → (k ≡ suc j) ⊎ (k ≤ j)
 up_or k j l = grind arith

@@ -10,7 +10,7 @@ use Rattle.marginal_alloc.specs.Choice.{IsHullChoice, AreCurves}
 use Rattle.marginal_alloc.specs.Filling.{Fills, full, change}
 use Rattle.marginal_alloc.proofs.Told.{told}
 use Rattle.marginal_alloc.proofs.Least.{critical_least}
-use Rattle.step_walk.proofs.Taking.{own_step, rises_at}
+use Rattle.step_walk.proofs.Public.{own_step, rises_at}
 use Rattle.marginal_alloc.proofs.Filled.{hi_falls}
 
 -- at the price of a step its two ends have the same lagrangian

@@ -7,8 +7,8 @@ use Rattle.price_bounds.specs.Sums.{cost_of}
 use Rattle.step_walk.specs.Prefix.{curve_at, vertex_at, picked}
 use Rattle.marginal_alloc.specs.Filling.{HasChange, gain}
 use Rattle.marginal_alloc.specs.Changes.{IsLower, IsLowest, IsBestAmong, IsBestBefore}
-use Rattle.step_walk.proofs.Greedy.{below_or}
-use Rattle.price_bounds.proofs.Duality.{swapped}
+use Rattle.step_walk.proofs.Public.{below_or}
+use Rattle.price_bounds.proofs.Public.{swapped}
 use Rattle.marginal_alloc.proofs.Bounds.{Around, around}
 use Rattle.marginal_alloc.proofs.Along.{lo_below}
 use Rattle.marginal_alloc.proofs.Lowest.{less_or}

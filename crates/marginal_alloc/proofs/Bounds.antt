@@ -3,16 +3,15 @@ use Rattle.std.proofs.Common.{◌≡◌, ℕ, zero, suc, ◌+◌, ◌-◌, ◌<�
 use Rattle.hull.specs.declared.point.Point.{Point}
 use Rattle.hull.specs.declared.price.Price.{Price}
 use Rattle.hull.specs.Curves.{lagrangian, Among, Steps, IsLeastAt, nowhere, point_at}
-use Rattle.hull.proofs.Stops.{least_at_stop, least_of_all}
-use Rattle.hull.proofs.Runs.{among_at}
+use Rattle.hull.proofs.Public.{least_at_stop, least_of_all, among_at}
 use Rattle.marginal_alloc.specs.declared.allocation.Critical.{Critical}
 use Rattle.price_bounds.specs.Sums.{total, cost_of, lo_of, width_of, Picks, AllLeast, bound_of, IsWithin}
 use Rattle.step_walk.specs.Prefix.{curve_at, vertex_at, HasStep, fall, rise, picked, IsPrefix, IsNext, AllTaken, HaveShapes}
 use Rattle.marginal_alloc.specs.Choice.{IsHullChoice, AreCurves, rounding_at}
 use Rattle.marginal_alloc.proofs.Told.{told, bound_at}
-use Rattle.price_bounds.proofs.Duality.{AreEnds, no_fewer, no_price, no_price_at_end}
+use Rattle.price_bounds.proofs.Public.{AreEnds, no_fewer, no_price, no_price_at_end}
 use Rattle.marginal_alloc.proofs.Least.{critical_least, stops_by_steps}
-use Rattle.step_walk.proofs.Taking.{own_step, taken_prefix}
+use Rattle.step_walk.proofs.Public.{own_step, taken_prefix}
 
 -- Some choice of one point for each family is no dearer than a sum and the budget, where a unit of the upper end
 -- costs b, and one of money a.

@@ -3,14 +3,13 @@ use Rattle.std.proofs.Common.{◌≡◌, ℕ, zero, suc, ◌+◌, ◌-◌, ◌*�
 use Rattle.std.proofs.Math.Nat.{mul-le-mul_left, le_of_mul-le-mul_left}
 use Rattle.hull.specs.declared.point.Point.{Point}
 use Rattle.hull.specs.Curves.{nowhere}
-use Rattle.hull.proofs.Runs.{among_at}
+use Rattle.hull.proofs.Public.{among_at}
 use Rattle.marginal_alloc.specs.declared.allocation.Critical.{Critical}
-use Rattle.price_bounds.proofs.Floors.{claimed, exact_floors, least_floors}
+use Rattle.price_bounds.proofs.Public.{claimed, exact_floors, least_floors, gap_within, sum_contains, at_least, at_most, bound_at_most}
 use Rattle.price_bounds.specs.Sums.{cost_of, lo_of, hi_of, width_of, Picks, AllLeast, bound_of}
 use Rattle.step_walk.specs.Prefix.{curve_at, vertex_at, AreVertices, picked}
 use Rattle.marginal_alloc.specs.Choice.{IsHullChoice, rounding_at}
 use Rattle.marginal_alloc.proofs.Bounds.{HasChoice}
-use Rattle.price_bounds.proofs.Duality.{gap_within}
 use Rattle.marginal_alloc.proofs.Bounds.{all_picked, choice_least, choice_no_fewer, choice_no_price, own_ends}
 use Rattle.marginal_alloc.proofs.Filled.{fills_cost, fills_vertices}
 use Rattle.marginal_alloc.proofs.AtCritical.{filled_hi}
@@ -20,7 +19,6 @@ use Rattle.price_bounds.specs.Values.{sum_of}
 use Rattle.marginal_alloc.specs.Plans.{IsPlan}
 use Rattle.price_bounds.specs.Certificates.{IsAcceptable}
 use Rattle.marginal_alloc.specs.Promises.{NoPriceBoundIsHigher, NoCertificateIsHigher, AreIntervals, PlanPromises}
-use Rattle.price_bounds.proofs.Units.{sum_contains, at_least, at_most, bound_at_most}
 
 -- q·N ≤ (q·l + p·c) - p·B, and q·hi + p·c ≤ q·X + p·B
 higher_step : (p q N l h c B X : ℕ) → 0 < q → q * N ≤ q * l + p * c - p * B → l ≤ h → q * h + p * c ≤ q * X + p * B → N ≤ X

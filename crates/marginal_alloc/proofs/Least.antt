@@ -2,9 +2,9 @@
 use Rattle.std.proofs.Common.{◌≡◌, ℕ, zero, suc, ◌+◌, ◌-◌, ◌*◌, ◌<◌, ◌≤◌, inl, inr, List, [], ◌∷◌, length, slice_index, sym, subst, arith}
 use Rattle.hull.specs.declared.point.Point.{Point}
 use Rattle.hull.specs.Curves.{IsChain, IsCurve, StopsAt, IsLeastAt, nowhere, point_at}
-use Rattle.hull.proofs.Stops.{least_at_stop, least_of_all}
+use Rattle.hull.proofs.Public.{least_at_stop, least_of_all}
 use Rattle.step_walk.specs.Prefix.{curve_at, vertex_at, fall, rise, IsPrefix, IsNext}
-use Rattle.step_walk.proofs.Taking.{own_fall, own_rise, before_is_steeper}
+use Rattle.step_walk.proofs.Public.{own_fall, own_rise, before_is_steeper}
 
 -- a price stops a chain by what it says of each step
 pub stops_by_steps : (p q : ℕ) (c : List Point) (m : ℕ) → m < length c → ((k : ℕ) → k < m → p * own_rise c k ≤ own_fall c k * q) → (m + 1 < length c → own_fall c m * q ≤ p * own_rise c m) → StopsAt p q c m

@@ -1,3 +1,4 @@
+pub mod Public
 pub mod Told
 pub mod Least
 pub mod Walking

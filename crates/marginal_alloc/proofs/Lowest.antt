@@ -4,7 +4,7 @@ use Rattle.std.proofs.lemmas.Bool.{cases_lt}
 use Rattle.hull.specs.declared.point.Point.{Point}
 use Rattle.hull.specs.Curves.{IsShape, point_at}
 use Rattle.marginal_alloc.specs.Changes.{hi_at, IsLowest}
-use Rattle.step_walk.proofs.Greedy.{below_or}
+use Rattle.step_walk.proofs.Public.{below_or}
 use Rattle.marginal_alloc.proofs.Along.{costs_up, lo_below}
 
 -- what is at most a number is less than it or is it

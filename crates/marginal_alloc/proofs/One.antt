@@ -11,9 +11,7 @@ use Rattle.step_walk.specs.Prefix.{curve_at, HasStep, fall, rise, picked, IsPref
 use Rattle.marginal_alloc.specs.Choice.{IsHullChoice}
 use Rattle.marginal_alloc.proofs.Told.{told}
 use Rattle.marginal_alloc.proofs.Walking.{cost_taken}
-use Rattle.step_walk.proofs.Taking.{cost_rises}
-use Rattle.step_walk.proofs.Going.{not_both, one_next}
-use Rattle.step_walk.proofs.Greedy.{below_or}
+use Rattle.step_walk.proofs.Public.{cost_rises, not_both, one_next, below_or}
 use Rattle.marginal_alloc.proofs.Along.{costs_up}
 
 -- a place below n at which xs has less than ys, or none

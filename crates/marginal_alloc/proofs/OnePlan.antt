@@ -3,7 +3,7 @@ use Rattle.std.proofs.Common.{◌≡◌, ℕ, ◌-◌, ◌≤◌, List, [], ◌�
 use Rattle.std.proofs.lemmas.List.{ext_get_or}
 use Rattle.hull.specs.declared.point.Point.{Point}
 use Rattle.hull.specs.declared.price.Price.{Price}
-use Rattle.hull.proofs.Shapes.{one_curve}
+use Rattle.hull.proofs.Public.{one_curve}
 use Rattle.marginal_alloc.specs.declared.plans.PlanNumbers.{PlanNumbers}
 use Rattle.price_bounds.specs.Sums.{cost_of, hi_of, bound_of}
 use Rattle.step_walk.specs.Prefix.{curve_at, picked}

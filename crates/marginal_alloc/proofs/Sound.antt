@@ -6,7 +6,7 @@ use Rattle.price_bounds.specs.Sums.{cost_of, Picks}
 use Rattle.price_bounds.specs.Values.{sum_of, IsAtMost}
 use Rattle.price_bounds.specs.Allocations.{Family, points_of, AreEnclosed, IsBoundAtPrice, total_at}
 use Rattle.price_bounds.specs.Soundness.{stocks_of}
-use Rattle.price_bounds.proofs.Vectors.{own, ends_of, none_fewer, values_at, total_is, choice_allocation, choice_cost, choice_values}
+use Rattle.price_bounds.proofs.Public.{own, ends_of, none_fewer, values_at, total_is, choice_allocation, choice_cost, choice_values}
 use Rattle.marginal_alloc.specs.declared.plans.PlanNumbers.{PlanNumbers}
 use Rattle.marginal_alloc.specs.Plans.{IsPlan}
 use Rattle.marginal_alloc.specs.Promises.{AreIntervals, PlanPromises}

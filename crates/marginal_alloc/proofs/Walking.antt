@@ -5,7 +5,7 @@ use Rattle.hull.specs.Curves.{point_at}
 use Rattle.step_walk.specs.declared.walk.Next.{Next}
 use Rattle.step_walk.specs.Prefix.{vertex_at, rise, picked, HaveShapes}
 use Rattle.step_walk.specs.Walks.{AllDone, IsOnWay, Walked, TellsFirst, MovesOn}
-use Rattle.step_walk.proofs.Taking.{cost_rises, steps_left, left_falls}
+use Rattle.step_walk.proofs.Public.{cost_rises, steps_left, left_falls}
 use Rattle.price_bounds.specs.Sums.{cost_of}
 use Rattle.marginal_alloc.specs.Choice.{firsts, IsHullChoice}
 

@@ -6,15 +6,14 @@ use Rattle.std.proofs.lemmas.List.Sums.{fold-append}
 use Rattle.std.proofs.lemmas.List.FromFn.{get_or-range_with_len, length-range_with_len, map-range_with_len_more}
 use Rattle.fixed_interval.specs.Ends.{Ends, IsWithinLimit, ends_add, ends_capped, ends_exact}
 use Rattle.moment_table.specs.Profile.{table_rows}
-use Rattle.moment_table.proofs.Most.{rows_below}
+use Rattle.moment_table.proofs.Public.{rows_below}
 use Rattle.spares_input.specs.Cases.{CaseRows}
 use Rattle.spares_input.specs.Frames.{line_of}
 use Rattle.fleet_model.specs.Rows.{all_parts, stock}
 use Rattle.fleet_model.specs.Pairs.{by_pair}
 use Rattle.family_items.specs.Inputs.{IsSound}
 use Rattle.family_items.specs.Profile.{pipeline_of}
-use Rattle.family_items.proofs.Items.{flat_at, flat_length, kept_more, left_out}
-use Rattle.family_items.proofs.Ranges.{pipeline_is}
+use Rattle.family_items.proofs.Public.{flat_at, flat_length, kept_more, left_out, pipeline_is}
 use Rattle.spares_input.specs.Pairs.{pair_place}
 use Rattle.metric_compare.specs.Levels.{by_part, of_shop}
 use Rattle.metric_compare.specs.Profile.{backorders_at, poisson_at, base_line, base_shop, depot_line, depot_shop, poisson_of}
@@ -79,9 +78,6 @@ read_all c g all p k i d y e lp lk hi hy =
 pub record Sums (h : ℕ → Ends) (a n most : ℕ) (x : Ends) : Type 0 where
   pub is : x ≡ fold ends_add (ends_exact 48 0) (map h (range_with_len a n))
   pub top : x.hi ≤ n * most
-
-pub sums_start : (h : ℕ → Ends) (a most : ℕ) (x : Ends) → x ≡ ends_exact 48 0 → Sums h a 0 most x
-sums_start h a most x e = record { is = e; top = omega (arith, ap (λ (y : Ends). y.hi) e) }
 
 -- with the next base's number added, the sum is that of one more base
 pub sums_next : (h : ℕ → Ends) (a n m j most : ℕ) (x y z : Ends) → Sums h a n most x → a + n ≡ j → m ≡ n + 1 → y ≡ h j → y.hi ≤ most → z ≡ ends_add x y → Sums h a m most z

@@ -4,14 +4,13 @@ use Rattle.std.proofs.Math.Nat.{le_refl}
 use Rattle.std.proofs.lemmas.List.{get_or-map, length-map}
 use Rattle.exact_model.specs.Fraction.{Encloses, Fraction, whole, ◌≤ℚ◌, ◌+ℚ◌, ◌*ℚ◌}
 use Rattle.exact_model.specs.Series.{ebo}
-use Rattle.exact_model.proofs.Fractions.{contains_same, le_chain, le_self, turned}
-use Rattle.exact_model.proofs.Sums.{ebo_within as ebo_most}
+use Rattle.exact_model.proofs.Public.{contains_same, le_chain, le_self, turned, ebo_within as ebo_most}
 use Rattle.fixed_interval.specs.Ends.{Ends, In, ends_add, ends_capped}
-use Rattle.fixed_interval.proofs.Laws.{add_encloses, capped_encloses, times_encloses}
+use Rattle.fixed_interval.proofs.Public.{add_encloses, capped_encloses, times_encloses}
 use Rattle.depot_pipeline.specs.declared.Feed.{Feed}
 use Rattle.depot_pipeline.specs.Exact.{FeedIn, IsAtMost}
 use Rattle.depot_pipeline.specs.Profile.{added, feed_at, mean_part, no_feed}
-use Rattle.depot_pipeline.proofs.Laws.{added_in, mean_part_in}
+use Rattle.depot_pipeline.proofs.Public.{added_in, mean_part_in}
 use Rattle.base_pipeline.specs.declared.Held.{Held}
 use Rattle.base_pipeline.specs.Profile.{held_at}
 use Rattle.spares_input.specs.Rows.{is_line}
@@ -22,21 +21,16 @@ use Rattle.fleet_model.specs.Demand.{f_i0, f_ij, f_0j}
 use Rattle.fleet_model.specs.ZeroStock.{direct_i0, direct_00, direct_ij, direct_0j, zero_stock_i0, zero_stock_00, zero_stock_ij, zero_stock_0j}
 use Rattle.fleet_model.specs.Pairs.{by_pair}
 use Rattle.fleet_model.specs.Laws.{IsBase, Reaches}
-use Rattle.fleet_model.proofs.Order.{le_add, le_mul, le_of_same}
-use Rattle.fleet_model.proofs.SumLaws.{passed, sum_most}
-use Rattle.fleet_model.proofs.MeanLaws as zero_mean
-use Rattle.fleet_model.proofs.AllocationLaws.{allocation_reaches}
-use Rattle.demand_rates.proofs.DepotFacts.{no_line_there}
+use Rattle.fleet_model.proofs.Public.{le_add, le_mul, le_of_same, passed, sum_most, allocation_reaches, all_follow}
+use Rattle.fleet_model.proofs.Public.{mean_00 as zero_mean_mean_00, mean_0j as zero_mean_mean_0j, mean_ij as zero_mean_mean_ij}
+use Rattle.demand_rates.proofs.Public.{no_line_there}
 use Rattle.family_items.specs.Profile.{pipeline_of, share_of}
 use Rattle.moment_table.specs.Inputs.{CanTable}
 use Rattle.family_items.specs.Inputs.{IsLine, IsPipeline, IsShop, IsSound}
-use Rattle.moment_table.proofs.Tables.{table_encloses}
-use Rattle.family_items.proofs.Ranges.{added_least, can_table, cap_in, pipeline_is}
-use Rattle.family_items.proofs.Units.{line_at, shop_at, each_in_range}
-use Rattle.family_items.proofs.Enclosed.{sum_by_places, direct_level, share_level}
+use Rattle.moment_table.proofs.Public.{table_encloses}
+use Rattle.family_items.proofs.Public.{added_least, can_table, cap_in, pipeline_is, line_at, shop_at, each_in_range, sum_by_places, direct_level, share_level}
 use Rattle.fleet_model.specs.Poisson.{mean_i0, mean_00, mean_ij, mean_0j, poisson, poisson_i0, poisson_00, poisson_ij, poisson_0j, poisson_family_total, poisson_total}
-use Rattle.fleet_model.proofs.DependLaws.{all_follow}
-use Rattle.case_figures.proofs.Enclosing.{sum_in}
+use Rattle.case_figures.proofs.Public.{sum_in}
 use Rattle.metric_compare.specs.Profile.{backorders_at, poisson_at, base_line, base_shop, depot_feed, depot_line, depot_shop, fed, held, poisson_family_total_of, poisson_of, poisson_total_of, weighed}
 
 -- ---- what caps them
@@ -53,7 +47,7 @@ module _ (c : CaseRows) (s : List ℕ) (n : ℕ) (r : Reaches c s n) where
   unfolding mean_00
   mean_00_most l =
       le_chain (le_add (le_self (direct_00 c l)) (sum_most (shop_units c l) _ _ (λ i. le_mul (le_self (f_i0 c l i)) (poisson_i0_most l i))))
-      (le_of_same (turned (zero_mean.mean_00 c l)))
+      (le_of_same (turned (zero_mean_mean_00 c l)))
 
   poisson_00_most : (l : ℕ) → poisson_00 c s n l ≤ℚ zero_stock_00 c l
   unfolding poisson_00
@@ -63,7 +57,7 @@ module _ (c : CaseRows) (s : List ℕ) (n : ℕ) (r : Reaches c s n) where
   unfolding mean_ij
   mean_ij_most l i j b =
       le_chain (le_add (le_self (direct_ij c l i j)) (le_mul (le_self (f_ij c l i j)) (poisson_i0_most l i)))
-      (le_of_same (turned (zero_mean.mean_ij c l i j b)))
+      (le_of_same (turned (zero_mean_mean_ij c l i j b)))
 
   poisson_ij_most : (l i j : ℕ) → IsBase c j → poisson_ij c s n l i j ≤ℚ zero_stock_ij c l i j
   unfolding poisson_ij
@@ -74,7 +68,7 @@ module _ (c : CaseRows) (s : List ℕ) (n : ℕ) (r : Reaches c s n) where
   mean_0j_most l j b =
       le_chain (le_add (le_add (le_self (direct_0j c l j)) (le_mul (le_self (f_0j c l j)) (poisson_00_most l)))
       (sum_most (shop_units c l) _ _ (λ i. poisson_ij_most l i j b)))
-      (le_of_same (turned (zero_mean.mean_0j c l j b)))
+      (le_of_same (turned (zero_mean_mean_0j c l j b)))
 
 -- ---- the ends
 

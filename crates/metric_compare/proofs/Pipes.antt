@@ -14,14 +14,13 @@ use Rattle.fleet_model.specs.Pairs.{by_pair}
 use Rattle.spares_input.specs.Cases.{CaseRows, IsCase}
 use Rattle.spares_input.specs.Frames.{line_of}
 use Rattle.spares_input.specs.declared.rows.PartId.{PartId}
-use Rattle.demand_rates.proofs.DepotFacts.{no_line_there}
-use Rattle.spares_input.proofs.Ranges.{range_next}
+use Rattle.demand_rates.proofs.Public.{no_line_there}
+use Rattle.spares_input.proofs.Public.{range_next}
 use Rattle.moment_table.specs.Inputs.{CanTable}
 use Rattle.family_items.specs.Inputs.{IsLine, IsPipeline, IsShopUnit}
 use Rattle.family_items.specs.declared.pipeline.Pipeline.{Pipeline}
 use Rattle.family_items.specs.Profile.{pipeline_of, share_of}
-use Rattle.family_items.proofs.Items.{ids_few, shop_of}
-use Rattle.family_items.proofs.Ranges.{added_least, can_table}
+use Rattle.family_items.proofs.Public.{ids_few, shop_of, added_least, can_table}
 use Rattle.metric_compare.specs.Levels.{of_shop}
 use Rattle.metric_compare.specs.Profile.{poisson_at, base_line, base_shop, depot_feed, depot_line, depot_shop, fed, held, poisson_of}
 

@@ -15,17 +15,11 @@ use Rattle.fleet_model.specs.Rows.{bases, line_units, weight}
 use Rattle.family_items.specs.Encloses.{CanEvaluate}
 use Rattle.family_items.specs.Encloses as evaluated
 use Rattle.family_items.specs.Inputs.{IsLine}
-use Rattle.family_items.proofs.Enclosed.{item_in, item_small}
-use Rattle.family_items.proofs.Families.{evaluable, family_in, weight_most}
-use Rattle.family_items.proofs.Units.{each_in_range}
+use Rattle.family_items.proofs.Public.{item_in, item_small, evaluable, family_in, weight_most, each_in_range}
 use Rattle.case_figures.specs.Spans.{ends, places}
 use Rattle.case_figures.specs.Figures.{all_items, item_at_place, named}
 use Rattle.case_figures.specs.declared.figures.ItemLine.{ItemLine}
-use Rattle.case_figures.proofs.Covering.{item_pair, pair_within}
-use Rattle.case_figures.proofs.Each.{all_of, each_map, each_that_passes, few_that_pass}
-use Rattle.case_figures.proofs.Enclosing.{total_at_in}
-use Rattle.case_figures.proofs.Limits.{sum_most}
-use Rattle.case_figures.proofs.Shown.{evaluated_as, figures_fit}
+use Rattle.case_figures.proofs.Public.{item_pair, pair_within, all_of, each_map, each_that_passes, few_that_pass, total_at_in, sum_most, evaluated_as, figures_fit}
 use Rattle.metric_compare.specs.declared.report.CompareItem.{CompareItem}
 use Rattle.metric_compare.specs.Profile.{poisson_family_total_of, poisson_of, poisson_total_of, weighed}
 use Rattle.metric_compare.specs.Report.{comparison_of, compared, compared_at}

@@ -85,7 +85,7 @@ fn compared_items(
     ensures { IfOk result (λ v. v.items ≡ map (compared_at inputs.now.case inputs.now.stocks.list)
         (range_with_len 0 (pair_count (frame_rows inputs.now.case)))) }
 {
-    let _sites = inputs.sites();
+    inputs.invariant();
     let lines = &figures.items;
     let mut items = Vec::new(alloc);
     for i in 0..lines.len() {

@@ -34,7 +34,7 @@ fn depot_feeds(
         ≡ map (λ p. depot_feed 48 inputs.now.case inputs.now.stocks.list p.0) units.now) }
     ensures small { IfOk result (λ v. All (IsSmallFeed 48) v.items) }
 {
-    let _sites = inputs.sites();
+    inputs.invariant();
     let mut feeds = Vec::new(alloc);
     for unit in units {
         let depot = at_depot(inputs, shops, *unit);
@@ -84,7 +84,7 @@ fn depot_line_at(
     ensures ends { IfOk result (λ x. x ≡ depot_line 48 inputs.now.case inputs.now.stocks.list line.0) }
     ensures small { IfOk result (IsWithinLimit 48) }
 {
-    let _sites = inputs.sites();
+    inputs.invariant();
     let pipe = inputs.pipeline(line, SiteId(0));
     let depot = depot_line(pipe.direct, pipe.cap, feeds);
     backorders_at(alloc, depot.mean, depot.mean, pipe.stock)
@@ -132,7 +132,7 @@ fn line_at_depot(
     ensures ends { IfOk result (λ x. x ≡ depot_line 48 inputs.now.case inputs.now.stocks.list line.0) }
     ensures small { IfOk result (IsWithinLimit 48) }
 {
-    let _sites = inputs.sites();
+    inputs.invariant();
     let feeds = depot_feeds(alloc, inputs, units, shops)?;
     depot_line_at(alloc, inputs, line, feeds.as_slice())
 }
@@ -157,7 +157,7 @@ fn line_at_base(
     ensures ends { IfOk result (λ x. x ≡ base_line 48 inputs.now.case inputs.now.stocks.list line.0 base.0) }
     ensures small { IfOk result (IsWithinLimit 48) }
 {
-    let _sites = inputs.sites();
+    inputs.invariant();
     let held = held_at(alloc, inputs, base, units, shops)?;
     base_line_at(alloc, inputs, line, base, depot, held.as_slice())
 }
@@ -176,7 +176,7 @@ fn row_with(
     ensures { IfOk result (λ v. v.items
         ≡ by_site inputs.now.case (poisson_of 48 inputs.now.case inputs.now.stocks.list line.0)) }
 {
-    let _sites = inputs.sites();
+    inputs.invariant();
     let depot = line_at_depot(alloc, inputs, line, units, shops)?;
     let mut row = Vec::new(alloc);
     row.push(depot)?;

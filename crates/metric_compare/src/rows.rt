@@ -20,7 +20,7 @@ fn all_numbers(
     requires { shops.now ≡ shop_numbers inputs.now.case inputs.now.stocks.list }
     ensures { IfOk result (λ v. v.items ≡ poisson_numbers inputs.now.case inputs.now.stocks.list) }
 {
-    let _sites = inputs.sites();
+    inputs.invariant();
     let mut all = Vec::new(alloc);
     for p in 0..inputs.case().part_count() {
         let part = PartId(p);

@@ -22,7 +22,7 @@ fn depot_shop_at(alloc: Global, inputs: &Inputs<'_>, part: PartId) -> Result<Iv<
     ensures ends { IfOk result (λ x. x ≡ depot_shop 48 inputs.now.case inputs.now.stocks.list part.0) }
     ensures small { IfOk result (IsWithinLimit 48) }
 {
-    let _sites = inputs.sites();
+    inputs.invariant();
     let pipe = inputs.pipeline(part, SiteId(0));
     let depot = depot_shop(pipe.direct, pipe.cap);
     backorders_at(alloc, depot.mean, depot.mean, pipe.stock)
@@ -79,7 +79,7 @@ fn nothing_row(alloc: Global, inputs: &Inputs<'_>, line: PartId) -> Result<Vec<I
 pub(crate) fn shop_numbers(alloc: Global, inputs: &Inputs<'_>) -> Result<Vec<Iv<48>>, NoMemory>
     ensures { IfOk result (λ v. v.items ≡ shop_numbers inputs.now.case inputs.now.stocks.list) }
 {
-    let _sites = inputs.sites();
+    inputs.invariant();
     let mut all = Vec::new(alloc);
     for p in 0..inputs.case().part_count() {
         let part = PartId(p);
@@ -113,7 +113,7 @@ pub(crate) fn at_depot(inputs: &Inputs<'_>, shops: &[Iv<48>], unit: PartId) -> I
     ensures ends { result ≡ depot_shop 48 inputs.now.case inputs.now.stocks.list unit.0 }
     ensures small { IsWithinLimit 48 result }
 {
-    let _sites = inputs.sites();
+    inputs.invariant();
     number_at(inputs, shops, unit, SiteId(0))
 }
 

@@ -44,7 +44,7 @@ pub(crate) fn poisson_total(inputs: &Inputs<'_>, all: &[Iv<48>]) -> Iv<48>
     requires { all.now ≡ poisson_numbers inputs.now.case inputs.now.stocks.list }
     ensures { result ≡ poisson_total_of 48 inputs.now.case inputs.now.stocks.list }
 {
-    let _sites = inputs.sites();
+    inputs.invariant();
     let mut total = Iv::exact(0);
     for p in 0..inputs.case().part_count() {
         let part = PartId(p);

@@ -4,7 +4,7 @@ use Rattle.exact_model.specs.Series.{ebo}
 use Rattle.fixed_interval.specs.Ends.{Ends, In}
 use Rattle.series_bounds.specs.Profile.{listed}
 use Rattle.series_bounds.specs.Answer.{at_place}
-use Rattle.series_bounds.proofs.Enclosure.{listed_at, length_listed}
+use Rattle.series_bounds.proofs.Public.{listed_at, length_listed}
 use Rattle.moment_table.specs.declared.held.Held.{Held}
 use Rattle.moment_table.specs.declared.kinds.Row.{Row}
 use Rattle.moment_table.specs.Held.{AreHeldTo}

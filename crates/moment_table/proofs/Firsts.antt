@@ -4,7 +4,7 @@ use Rattle.std.proofs.lemmas.List.{drop-drop, drop-set-lt, get_or-drop}
 use Rattle.fixed_interval.specs.Ends.{Ends, ends_add, ends_div, ends_exact, ends_less, ends_mul, ends_times}
 use Rattle.series_bounds.specs.Profile.{pivot_at}
 use Rattle.series_bounds.specs.Answer.{IsBeginning, Sized, at_place}
-use Rattle.series_bounds.proofs.Unlisted.{sum_known, weight_listed}
+use Rattle.series_bounds.proofs.Public.{sum_known, weight_listed}
 use Rattle.moment_table.specs.declared.kinds.Row.{Row}
 use Rattle.moment_table.specs.Held.{AreHeldTo, AreRowsTo, held_row}
 use Rattle.moment_table.specs.Profile.{below_ends, chance_ends, ebo_ends, excess_ends, known_row, table_rows, tail_ends, vbo_ends}

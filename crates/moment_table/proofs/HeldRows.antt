@@ -3,11 +3,10 @@ use Rattle.std.proofs.Common.{◌≡◌, ℕ, ◌+◌, ◌*◌, ◌<◌, ◌≤�
 use Rattle.std.proofs.lemmas.Bool.{cond-true, cond-false, cond_both, lt-ltb, le-ltb, cases_lt}
 use Rattle.std.proofs.Math.Nat.{max-le}
 use Rattle.fixed_interval.specs.Ends.{Ends, IsWithinLimit}
-use Rattle.fixed_interval.proofs.Laws.{unit_most}
+use Rattle.fixed_interval.proofs.Public.{unit_most}
 use Rattle.series_bounds.specs.Profile.{listed}
 use Rattle.series_bounds.specs.Answer.{at_place}
-use Rattle.series_bounds.proofs.Walks.{listed_same}
-use Rattle.series_bounds.proofs.Enclosure.{listed_at, length_listed}
+use Rattle.series_bounds.proofs.Public.{listed_same, listed_at, length_listed}
 use Rattle.moment_table.specs.declared.kinds.Row.{Row}
 use Rattle.moment_table.specs.declared.held.Held.{Held}
 use Rattle.moment_table.specs.declared.held.Rows.{Rows}

@@ -5,7 +5,7 @@ use Rattle.fixed_interval.specs.Ends.{Ends, ends_max}
 use Rattle.series_bounds.specs.Profile.{listed, weights_of}
 use Rattle.series_bounds.specs.declared.kinds.Weights.{Weights}
 use Rattle.series_bounds.specs.declared.kinds.Weights.TheVariants.{Known, Wide}
-use Rattle.series_bounds.proofs.Enclosure.{listed_at}
+use Rattle.series_bounds.proofs.Public.{listed_at}
 use Rattle.moment_table.specs.declared.kinds.Row.{Row}
 use Rattle.moment_table.specs.Profile.{ebo_ends, empty_row, excess_ends, known_row, row_from, table_rows, vbo_ends, wide_row}
 use Rattle.moment_table.specs.Rows.{IsBelow, at_stock}

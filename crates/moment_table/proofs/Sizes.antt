@@ -1,6 +1,6 @@
 -- The sizes of a weight.
 use Rattle.std.proofs.Common.{ℕ, ◌*◌, ◌<◌, ◌≤◌, ◌^◌, arith}
-use Rattle.fixed_interval.proofs.Laws.{unit_most}
+use Rattle.fixed_interval.proofs.Public.{unit_most}
 
 weight_most : (f w : ℕ) → f ≤ 52 → w ≤ 8 * 2 ^ f → w ≤ 2 ^ 55
 weight_most f w s h = omega (arith, h, unit_most f s)

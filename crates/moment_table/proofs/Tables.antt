@@ -4,11 +4,11 @@ use Rattle.std.proofs.Math.Nat.{div-le_of_le-mul, le_refl}
 use Rattle.std.proofs.lemmas.Bool.{cases_Bool}
 use Rattle.exact_model.specs.Series.{excess, relative_sum}
 use Rattle.fixed_interval.specs.Ends.{Ends}
-use Rattle.fixed_interval.proofs.Laws.{floor_below_ceil, ends_ordered}
+use Rattle.fixed_interval.proofs.Public.{floor_below_ceil, ends_ordered}
 use Rattle.series_bounds.specs.Profile.{is_wide, pivot_at, weights_of}
 use Rattle.series_bounds.specs.declared.kinds.Weights.TheVariants.{Known}
 use Rattle.series_bounds.specs.Answer.{EncloseWeights, Sized}
-use Rattle.series_bounds.proofs.Enclosure as weigh
+use Rattle.series_bounds.proofs.Public.{known_answer as weigh_known_answer, profile_encloses as weigh_profile_encloses, profile_sized as weigh_profile_sized, wide_answer as weigh_wide_answer}
 use Rattle.moment_table.specs.Profile.{empty_row, excess_ends, known_row, table_rows, wide_row}
 use Rattle.moment_table.specs.Rows.{at_stock, EncloseRows, EnclosesRow}
 use Rattle.moment_table.proofs.Enclosure as tables
@@ -26,7 +26,7 @@ pivot_most f m d h = div-le_of_le-mul (2 ^ f) (omega (arith, h))
 module _ (f : ℕ) (m v : Ends) (s : ℕ) (few : s ≤ 63) where
   wide_table : 0 < m.lo → m.lo ≤ m.hi → is_wide f m (excess_ends f m v) ≡ true → EnclosesRow f m v s (at_stock (table_rows f m v) s)
   wide_table pos mo h =
-      subst (EnclosesRow f m v s) (tables.row_of_wide f m v (wide_row f m v s) s few (omega (arith, pos, mo)) (weigh.wide_answer f m (excess_ends f m v) h) refl)
+      subst (EnclosesRow f m v s) (tables.row_of_wide f m v (wide_row f m v s) s few (omega (arith, pos, mo)) (weigh_wide_answer f m (excess_ends f m v) h) refl)
       (tables.wide_row_in f m v (wide_row f m v s) s few refl pos)
 
   known_from : (c : ℕ) (list : List Ends) (sum : Ends) → 0 < m.lo → m.lo ≤ m.hi → EncloseWeights f m (excess_ends f m v) c list sum
@@ -41,8 +41,8 @@ module _ (f : ℕ) (m v : Ends) (s : ℕ) (few : s ≤ 63) where
       → EnclosesRow f m v s (at_stock (table_rows f m v) s)
   known_table pos mo vo most h =
       let q : pivot_at f m (excess_ends f m v) ≤ 256 = pivot_most f m (excess_ends f m v) (omega (arith, mo, most)) in
-      known_from (pivot_at f m (excess_ends f m v)) _ _ pos mo (weigh.profile_encloses f m (excess_ends f m v) pos mo (excess_ordered f m v pos mo vo) q h)
-      (weigh.profile_sized f m (excess_ends f m v) _ q h refl) (weigh.known_answer f m (excess_ends f m v) h)
+      known_from (pivot_at f m (excess_ends f m v)) _ _ pos mo (weigh_profile_encloses f m (excess_ends f m v) pos mo (excess_ordered f m v pos mo vo) q h)
+      (weigh_profile_sized f m (excess_ends f m v) _ q h refl) (weigh_known_answer f m (excess_ends f m v) h)
 
   full_table : 0 < m.lo → m.lo ≤ m.hi → v.lo ≤ v.hi → m.hi ≤ 256 * 2 ^ f → EnclosesRow f m v s (at_stock (table_rows f m v) s)
   full_table pos mo vo most = elim (cases_Bool (is_wide f m (excess_ends f m v))) [

@@ -3,7 +3,7 @@ use Rattle.std.proofs.Common.{◌≡◌, ℕ, zero, suc, ◌+◌, ◌<◌, List,
 use Rattle.hull.specs.declared.point.Point.{Point}
 use Rattle.hull.specs.declared.price.Price.{Price}
 use Rattle.step_walk.specs.Prefix.{curve_at}
-use Rattle.step_walk.proofs.Greedy.{below_or}
+use Rattle.step_walk.proofs.Public.{below_or}
 use Rattle.curve_parts.specs.Beyond.{IsKnownPart}
 
 -- the curves are the parts between two prices of the first n families, and all vertices behind them lie as high as the

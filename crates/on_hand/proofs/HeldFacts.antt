@@ -7,8 +7,7 @@ use Rattle.hull.specs.Scores.{LeavesRoom}
 use Rattle.spares_input.specs.declared.rows.PartId.{PartId}
 use Rattle.spares_input.specs.Cases.{CaseRows, IsCase}
 use Rattle.fleet_model.specs.Rows.{line_units}
-use Rattle.fleet_model.proofs.FrameLaws.{few_lines}
-use Rattle.fleet_model.proofs.AllocationLaws.{stocks_allocation}
+use Rattle.fleet_model.proofs.Public.{few_lines, stocks_allocation}
 use Rattle.family_items.specs.Inputs.{IsLine}
 use Rattle.family_points.specs.declared.bounds.Bounds.{Bounds}
 use Rattle.family_points.specs.Vectors.{box_from}
@@ -17,8 +16,8 @@ use Rattle.step_walk.specs.Prefix.{curve_at}
 use Rattle.curve_parts.specs.Beyond.{IsKnownPart}
 use Rattle.choice_parts.specs.Parts.{AreFamilies}
 use Rattle.fleet_plan.specs.Families.{case_points, family_points}
-use Rattle.fleet_plan.proofs.Places.{at_among, lines_are}
-use Rattle.case_plan.proofs.PointsServe.{points_are_families}
+use Rattle.fleet_plan.proofs.Public.{at_among, lines_are}
+use Rattle.case_plan.proofs.Public.{points_are_families}
 use Rattle.on_hand.specs.Held.{HeldCase, IsHeldCase}
 
 -- the ids of the line units are at most 2,000

@@ -1,6 +1,6 @@
 //! The families of a case with stocks held, of which parts of the curves can be made.
 
-ghost use Rattle.std.specs.Prelude.{◌≡◌, ◌^◌, ◌<◌, ◌≤◌, IfOk, get_or, length, map};
+ghost use Rattle.std.specs.Prelude.{◌≡◌, ◌^◌, ◌<◌, ◌≤◌, IfOk, All, get_or, length, map};
 ghost use Rattle.std.specs.Result.{IsOk};
 ghost use Rattle.demand_rates.specs.Rates.{AreRatesOf};
 ghost use Rattle.spares_input.specs.Stocks.{IsFor, IsWithinLimits};
@@ -15,7 +15,7 @@ use answers::NoMemory;
 use demand_rates::kinds::Rates;
 use family_curve::curve_within;
 use family_items::line_units;
-use family_parts::{cost_near, part_within};
+use family_parts::part_within;
 use family_points::Bounds;
 use hull::{Curve, Price, Score};
 use part_filling::Families;
@@ -66,7 +66,7 @@ impl<'a, S: Score> HeldFamilies<'a, S> {
           held = held.now;
         }) }
     {
-        let _valid = case.site_count();
+        case.invariant();
         Ok(HeldFamilies {
             case,
             rates,
@@ -121,23 +121,31 @@ impl<'a, S: Score> HeldFamilies<'a, S> {
         Ok(curve)
     }
 
-    /// About what the vectors of a family cost that are best at the price, in whole money. The price is in units of
-    /// 2^-48 for whole money. Want of memory is the only error.
-    pub(crate) fn cost_near(
-        &self,
-        alloc: Global,
-        family: u32,
-        price: u128,
-    ) -> Result<u128, NoMemory>
-        requires family { family < length (line_units self.now.case) }
-        requires price { price < 2 ^ 73 }
-        ensures { IfOk result (λ cost. cost ≤ 1000000000000) }
+    /// The held stocks.
+    pub(crate) fn held(&self) -> &'a Stocks
+        ensures { result.now ≡ self.now.held }
     {
-        let line = self.line(family);
-        let bounds = Bounds::from_held(alloc, self.case, line, self.held)?;
-        cost_near(
-            alloc, self.case, self.rates, line, &bounds, price, self.score,
-        )
+        self.held
+    }
+
+    /// The score.
+    pub(crate) fn score(&self) -> &'a S {
+        self.score
+    }
+
+    /// The line unit of each `every`-th family, from half of that on. Want of memory is the only error.
+    pub(crate) fn sample(&self, alloc: Global, every: u32) -> Result<Vec<PartId>, NoMemory>
+        requires { 0 < every }
+        ensures lines { IfOk result (λ v. All (λ p. IsLine self.now.case p.0) v.items) }
+        ensures few { IfOk result (λ v. length v.items ≤ 2000) }
+    {
+        let mut lines = Vec::new(alloc);
+        for family in 0..self.count() {
+            if family % every == every / 2 {
+                lines.push(self.line(family))?;
+            }
+        }
+        Ok(lines)
     }
 }
 

@@ -7,6 +7,7 @@ mod families;
 mod guess;
 mod parts;
 mod plan;
+mod sample;
 
 pub use curves::held_curves;
 pub use held_certificate::{HeldCertificate, is_held_form, read, text};

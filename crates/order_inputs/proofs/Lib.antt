@@ -1,3 +1,4 @@
+pub mod Public
 pub mod Few
 pub mod ReadInputs
 pub mod Refuse

@@ -1,7 +1,7 @@
 -- What refuses a case is of the task's kind.
 use Rattle.std.proofs.Common.{refl, ℕ, List}
 use Rattle.case_tables.specs.Tables.{accepted_of, case_of_tables}
-use Rattle.case_tables.proofs.Refuse.{Refuses, accepted_refuses, or_refuses, stocked_refuses, tables_refuse, then_refuses}
+use Rattle.case_tables.proofs.Public.{Refuses, accepted_refuses, or_refuses, stocked_refuses, tables_refuse, then_refuses}
 use Rattle.family_points.specs.Counts.{work_of}
 use Rattle.refusals.specs.Causes.{or_refuse}
 use Rattle.refusals.specs.Lines.{no_names}

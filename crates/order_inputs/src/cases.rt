@@ -51,7 +51,7 @@ pub fn case_within_work(alloc: Global, tables: &Tables<'_>) -> Result<Accepted, 
 {
     let (sites, parts) = (tables.sites.bytes, tables.parts.bytes);
     let given = accepted_of(alloc, sites, parts, tables.rates.bytes)?;
-    let _valid = given.case.site_count();
+    given.case.invariant();
     few_tables(work(&given.case)).and(Ok(given))
 }
 

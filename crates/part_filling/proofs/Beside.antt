@@ -5,18 +5,14 @@ use Rattle.hull.specs.declared.point.Point.{Point}
 use Rattle.hull.specs.declared.price.Price.{Price}
 use Rattle.hull.specs.Curves.{lagrangian, Among, InRange, IsChain, IsCurve, IsLeastAt, IsVertex, Steps, nowhere, point_at}
 use Rattle.hull.specs.Laws.{StocksTell}
-use Rattle.hull.proofs.Runs.{among_at}
-use Rattle.hull.proofs.Shapes.{convex}
-use Rattle.step_walk.proofs.Taking.{own_step}
-use Rattle.marginal_alloc.proofs.Along.{costs_up}
+use Rattle.hull.proofs.Public.{among_at, convex}
+use Rattle.step_walk.proofs.Public.{own_step}
+use Rattle.marginal_alloc.proofs.Public.{costs_up}
 use Rattle.curve_parts.specs.Parts.{IsPartOf, IsPriceBetween}
 use Rattle.curve_parts.specs.Cuts.{IsCutOf}
 use Rattle.curve_parts.specs.Beyond.{LieBeyond, no_price}
-use Rattle.curve_parts.proofs.Between.{alone_between, le_or_gt}
-use Rattle.curve_parts.proofs.Ends.{first_least, last_least}
-use Rattle.curve_parts.proofs.Shape.{part_convex, part_is_cut}
-use Rattle.curve_parts.proofs.Behind.{none_dearer}
-use Rattle.choice_parts.proofs.Placing.{IsPlacedPart, at_right, cut_placed}
+use Rattle.curve_parts.proofs.Public.{alone_between, le_or_gt, first_least, last_least, part_convex, part_is_cut, none_dearer}
+use Rattle.choice_parts.proofs.Public.{IsPlacedPart, at_right, cut_placed}
 use Rattle.part_filling.specs.Known.{HasNoBetter, IsPriceWindow}
 
 -- ---- costs

@@ -2,8 +2,7 @@
 use Rattle.std.proofs.Common.{◌≡◌, ℕ, ◌+◌, ◌-◌, ◌^◌, ◌<◌, ◌≤◌, List, Option, Some, None, MatchOption, length, slice_index, sym, ap, ◌∙◌, subst, arith}
 use Rattle.hull.specs.declared.point.Point.{Point}
 use Rattle.hull.specs.Curves.{Among, InRange, nowhere}
-use Rattle.hull.proofs.Runs.{among_at}
-use Rattle.hull.proofs.Shapes.{convex}
+use Rattle.hull.proofs.Public.{among_at, convex}
 use Rattle.price_bounds.specs.Sums.{cost_of}
 use Rattle.step_walk.specs.Prefix.{AreVertices, curve_at, picked, vertex_at}
 use Rattle.marginal_alloc.specs.declared.change.Change.{Change}

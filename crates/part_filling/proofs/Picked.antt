@@ -1,5 +1,5 @@
 -- The picks of what is known and those of the curves.
-use Rattle.std.proofs.Common.{◌≡◌, ℕ, zero, suc, ◌<◌, List, [], ◌∷◌, length, set, slice_index, refl, ap₂, arith}
+use Rattle.std.proofs.Common.{◌≡◌, ℕ, zero, suc, ◌<◌, List, [], ◌∷◌, length, set, slice_index, ap₂, arith}
 use Rattle.hull.specs.declared.point.Point.{Point}
 use Rattle.hull.specs.Curves.{point_at}
 use Rattle.step_walk.specs.Prefix.{picked, vertex_at}
@@ -20,18 +20,6 @@ same_at (c ∷ cs) (p ∷ ps) (j ∷ js) [] n m l e f b = absurd (omega (arith, 
 same_at (c ∷ cs) (p ∷ ps) (j ∷ js) (k ∷ ks) n m l e zero b = head_same (point_at c j) (point_at p k) (picked cs js) (picked ps ks) e
 same_at (c ∷ cs) (p ∷ ps) (j ∷ js) (k ∷ ks) n m l e (suc f) b =
     same_at cs ps js ks (omega (arith, n)) (omega (arith, m)) (omega (arith, l)) (tail_same (point_at c j) (point_at p k) (picked cs js) (picked ps ks) e) f (omega (arith, b))
-
--- where each pick is the same, all are
-pub same_all : (curves known : List (List Point)) (places picks : List ℕ) → length places ≡ length curves → length picks ≡ length known → length known ≡ length curves
-    → ((f : ℕ) → f < length curves → vertex_at curves f (slice_index places f) ≡ vertex_at known f (slice_index picks f)) → picked curves places ≡ picked known picks
-same_all [] [] places picks n m l e = refl
-same_all [] (p ∷ ps) places picks n m l e = absurd (omega (arith, l))
-same_all (c ∷ cs) [] places picks n m l e = absurd (omega (arith, l))
-same_all (c ∷ cs) (p ∷ ps) [] picks n m l e = absurd (omega (arith, n))
-same_all (c ∷ cs) (p ∷ ps) (j ∷ js) [] n m l e = absurd (omega (arith, m))
-same_all (c ∷ cs) (p ∷ ps) (j ∷ js) (k ∷ ks) n m l e =
-    let first : point_at c j ≡ point_at p k = e 0 (omega arith) in
-    ap₂ (λ (v : Point) (vs : List Point). v ∷ vs) first (same_all cs ps js ks (omega (arith, n)) (omega (arith, m)) (omega (arith, l)) (λ f b. e (suc f) (omega (arith, b))))
 
 -- the same change of both leaves them the same
 pub same_changed : (curves known : List (List Point)) (places picks : List ℕ) (f j k : ℕ) → length places ≡ length curves → length picks ≡ length known → length known ≡ length curves

@@ -3,7 +3,7 @@ use Rattle.std.proofs.Common.{◌≡◌, ℕ, ◌*◌, ◌^◌, ◌<◌, ◌≤�
 use Rattle.std.proofs.Math.Nat.{mul-le-mul_left}
 use Rattle.hull.specs.declared.point.Point.{Point}
 use Rattle.hull.specs.Curves.{InRange, IsShape, nowhere, point_at}
-use Rattle.hull.proofs.Runs.{among_at}
+use Rattle.hull.proofs.Public.{among_at}
 
 -- a vertex that is read is in range
 pub range_read : (curve : List Point) (k : ℕ) (v : Point) → IsShape curve → k < length curve → v ≡ point_at curve k → InRange v

@@ -5,7 +5,7 @@ use Rattle.hull.specs.declared.point.Point.{Point}
 use Rattle.price_bounds.specs.Sums.{cost_of}
 use Rattle.step_walk.specs.Prefix.{AreVertices, curve_at, picked, vertex_at}
 use Rattle.marginal_alloc.specs.Filling.{HasChange, IsBestChange, IsFull, gain}
-use Rattle.marginal_alloc.proofs.Best.{changed_cost}
+use Rattle.marginal_alloc.proofs.Public.{changed_cost}
 use Rattle.part_filling.specs.Known.{ArePlaces}
 use Rattle.part_filling.proofs.Beside.{HasNothingBeside}
 use Rattle.part_filling.proofs.Picked.{same_at}

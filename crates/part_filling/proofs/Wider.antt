@@ -5,13 +5,12 @@ use Rattle.hull.specs.declared.point.Point.{Point}
 use Rattle.hull.specs.declared.price.Price.{Price}
 use Rattle.hull.specs.Curves.{Among, nowhere, point_at}
 use Rattle.hull.specs.Laws.{StocksTell}
-use Rattle.hull.proofs.Runs.{among_at}
+use Rattle.hull.proofs.Public.{among_at}
 use Rattle.step_walk.specs.Prefix.{AreVertices, curve_at, picked, vertex_at}
 use Rattle.curve_parts.specs.Parts.{IsPartOf, IsVertexBetween}
 use Rattle.curve_parts.specs.Cuts.{IsWindow, IsWithin}
 use Rattle.curve_parts.specs.Beyond.{LieBeyond}
-use Rattle.curve_parts.proofs.Exist.{has_curve}
-use Rattle.curve_parts.proofs.Shape.{part_convex, part_has_those, price_within}
+use Rattle.curve_parts.proofs.Public.{has_curve, part_convex, part_has_those, price_within}
 use Rattle.choice_parts.specs.Parts.{AreFamilies}
 use Rattle.part_filling.specs.declared.window.Window.{Window}
 use Rattle.part_filling.specs.Known.{AreKnown, HasCost, IsPriceWindow, no_window, window_at}

@@ -59,7 +59,7 @@ pub(crate) fn wider(
     ensures none { IfNone result (HasNoBetter window.low window.high beyond curve.now pick left most) }
     ensures some { IfSome result (IsWider window) }
 {
-    let _shape = curve.len();
+    curve.invariant();
     let here = curve.point(pick);
     let first = curve.point(0);
     let money = u128::from(window.high.q);

@@ -1,2 +1,3 @@
+pub mod Public
 pub mod Names
 pub mod Chains

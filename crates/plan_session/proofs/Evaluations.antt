@@ -16,15 +16,14 @@ use Rattle.fleet_model.specs.Rows.{shop_units, stock, weight}
 use Rattle.fleet_model.specs.Pairs.{by_pair}
 use Rattle.fleet_model.specs.Fleet.{family}
 use Rattle.fleet_model.specs.Laws.{AgreeOnFamily}
-use Rattle.fleet_model.proofs.DependLaws.{all_follow}
+use Rattle.fleet_model.proofs.Public.{all_follow}
 use Rattle.demand_rates.specs.Rates.{pair_rates}
 use Rattle.family_items.specs.declared.item.Item.{Item}
 use Rattle.family_items.specs.declared.item.FamilyResult.{FamilyResult}
 use Rattle.family_items.specs.Profile.{pipeline_from, share_of, stocked, feed_of, held_of, depot_shop, depot_feed, depot_line, base_shop, base_line, item_of, part_items, weighed, family_of}
 use Rattle.family_items.specs.Inputs.{IsLine, IsShop}
-use Rattle.family_items.proofs.Units.{shops_all}
-use Rattle.family_points.proofs.Local.{line_owner}
-use Rattle.family_items.proofs.Items.{added_same}
+use Rattle.family_items.proofs.Public.{shops_all, added_same}
+use Rattle.family_points.proofs.Public.{line_owner}
 
 -- ---- lists
 

@@ -3,7 +3,7 @@ use Rattle.std.proofs.Common.{◌≡◌, ◌≢◌, ℕ, ◌<◌, ◌⊎◌, inl
 use Rattle.std.proofs.lemmas.List.{map-set}
 use Rattle.spares_input.specs.Cases.{CaseRows, frame_rows, rate_place, IsCase, IsRateOf}
 use Rattle.spares_input.specs.Edits.{with_rate}
-use Rattle.spares_input.proofs.CaseFacts.{set_valid}
+use Rattle.spares_input.proofs.Public.{set_valid}
 use Rattle.spares_input.specs.Stocks.{StockList, IsFor}
 use Rattle.spares_input.specs.declared.rows.RateRow.{RateRow}
 use Rattle.fleet_model.specs.Rows.{line_units}
@@ -11,13 +11,13 @@ use Rattle.family_items.specs.Inputs.{IsLine}
 use Rattle.family_items.specs.declared.item.FamilyResult.{FamilyResult}
 use Rattle.family_points.specs.Vectors.{vector_of, limits}
 use Rattle.family_points.specs.Local.{home_of, HaveOneFamily}
-use Rattle.family_points.proofs.Local.{changed, local}
+use Rattle.family_points.proofs.Public.{changed, local}
 use Rattle.hull.specs.declared.point.Point.{Point}
 use Rattle.hull.specs.Curves.{IsCurve}
-use Rattle.fleet_plan.proofs.Places.{apart_at, at_among, lines_apart, lines_are}
+use Rattle.fleet_plan.proofs.Public.{apart_at, at_among, lines_apart, lines_are}
 use Rattle.held_work.specs.Curves.{IsFamilyCurve}
 use Rattle.case_plan.specs.Placing.{lines_below}
-use Rattle.case_plan.proofs.Families.{line_fewer, line_place}
+use Rattle.case_plan.proofs.Public.{line_fewer, line_place}
 use Rattle.plan_session.specs.Sessions.{family_place, marks_of, with_row, AreEvaluated, AreKept, AreOfFamilies, IsEvaluation, IsSession, SessionRows}
 use Rattle.plan_session.specs.declared.evaluated.Evaluated.{Evaluated}
 use Rattle.plan_session.proofs.Evaluations.{same_with_rate}

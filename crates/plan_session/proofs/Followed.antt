@@ -6,10 +6,10 @@ use Rattle.std.proofs.lemmas.Slice.Zip.{AllZip-long}
 use Rattle.answers.specs.Steps.{◌>>=◌}
 use Rattle.answers.specs.declared.stop.Stop.{Stop}
 use Rattle.answers.specs.declared.stop.Stop.TheVariants as stop
-use Rattle.spares_input.specs.Cases.{CaseRows, frame_rows}
+use Rattle.spares_input.specs.Cases.{CaseRows}
 use Rattle.demand_rates.specs.Limits.{rate_fault_of}
 use Rattle.demand_rates.specs.declared.fault.RateFault.{RateFault}
-use Rattle.held_work.proofs.Kept.{zip_push}
+use Rattle.held_work.proofs.Public.{zip_push}
 use Rattle.plan_report.specs.declared.plan.PlanReport.{PlanReport}
 use Rattle.case_edits.specs.declared.fault.EditFault.{EditFault}
 use Rattle.case_edits.specs.declared.fault.EditFault.TheVariants as fault
@@ -17,11 +17,11 @@ use Rattle.session_report.specs.declared.report.SessionReport.{SessionReport}
 use Rattle.case_edits.specs.Edits.{PlanDue}
 use Rattle.plan_session.specs.Sessions.{due, started, IsLater, SessionRows}
 use Rattle.session_report.specs.Reports.{IsReportOf}
-use Rattle.case_edits.specs.Lines.{edit_lines, edit_of}
-use Rattle.case_edits.specs.Edits.{due_at, edited, most_lines, most_plans, planned, session_from, session_of, Standing, taken}
+use Rattle.case_edits.specs.Lines.{edit_lines}
+use Rattle.case_edits.specs.Edits.{due_at, most_lines, most_plans, planned, session_from, session_of, Standing, taken}
 use Rattle.plan_session.specs.Answers.{AnswersEdits}
 use Rattle.plan_session.specs.Following.{standing, Follows, HasFollowed}
-use Rattle.case_edits.proofs.LineFacts.{no_lines}
+use Rattle.case_edits.proofs.Public.{no_lines}
 
 -- ---- a plan
 
@@ -58,10 +58,6 @@ module _ (n : ℕ) (s : SessionRows) (ds : List PlanDue) (plans : List PlanRepor
   }
 
 -- ---- a line
-
-taken_step : (b d : Bool) (n : ℕ) (at : Standing) (line : List ℕ) → nat_lt most_lines n ≡ b → (length line == 0) ≡ d
-    → taken n at line ≡ (if b then Err fault.TooManyLines else if d then Ok at else edited n at (edit_of (frame_rows at.case) line))
-taken_step b d n at line h k = rw (h, k) refl
 
 module _ (n : ℕ) (at : Standing) (line : List ℕ) (few : n ≤ most_lines) where
   within : nat_lt most_lines n ≡ false

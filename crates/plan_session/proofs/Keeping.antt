@@ -5,15 +5,13 @@ use Rattle.std.specs.Result.{IsOk}
 use Rattle.spares_input.specs.Cases.{CaseRows, IsCase}
 use Rattle.fleet_model.specs.Rows.{line_units}
 use Rattle.family_items.specs.Inputs.{IsLine}
-use Rattle.family_points.specs.Vectors.{limits, zeros, IsBetween}
-use Rattle.family_points.specs.Points.{points_within, plain_ends}
+use Rattle.family_points.specs.Points.{plain_ends}
 use Rattle.family_points.specs.Counts.{most_tables, tables_of, work_of}
-use Rattle.family_points.proofs.Whole.{tables_whole}
+use Rattle.family_points.proofs.Public.{tables_whole}
 use Rattle.hull.specs.declared.point.Point.{Point}
-use Rattle.hull.specs.Curves.{Among, IsCurve, point_at}
 use Rattle.held_work.specs.Curves.{IsFamilyCurve}
 use Rattle.held_work.specs.Work.{IsNothing}
-use Rattle.held_work.proofs.Kept.{all_work, few_tables}
+use Rattle.held_work.proofs.Public.{all_work, few_tables}
 use Rattle.plan_session.specs.Sessions.{has_mark, marks_of, IsSession, SessionRows}
 use Rattle.plan_session.specs.declared.evaluated.Evaluated.{Evaluated}
 use Rattle.plan_session.proofs.Places.{any_default, mark_is}
@@ -27,10 +25,6 @@ pub few : (c : CaseRows) (l : ℕ) → IsCase c → IsLine c l → IsOk (work_of
 few c l valid line work =
     let held = few_tables c [] l valid line (subst IsOk (sym (all_work c [] valid none_held)) work) in
     omega (arith, held, tables_whole c l valid)
-
-pub whole_curve : (c : CaseRows) (l : ℕ) (curve : List Point) → IsCurve (points_within c l plain_ends (zeros c l) (zeros c l) (limits c l)) curve → (point_at curve 0).cost ≡ 0
-    → ((v : Point) → Among v curve → IsBetween (zeros c l) (limits c l) v.stocks) → IsFamilyCurve plain_ends c [] l curve
-whole_curve c l curve is free within = record { is_curve = is; free = free; within = within }
 
 -- what a session lends of its curves
 module _ (s self : SessionRows) (curves : List (Option (List Point))) (evaluated : Evaluated) (e : s ≡ self) (h : IsSession s.case s.budget curves evaluated) (k : ℕ)

@@ -5,9 +5,9 @@ use Rattle.std.proofs.lemmas.List.{append-nil, ext_get_or, get_or-append_right, 
 use Rattle.spares_input.specs.Cases.{CaseRows}
 use Rattle.fleet_model.specs.Rows.{line_units}
 use Rattle.family_items.specs.Inputs.{IsLine}
-use Rattle.family_items.proofs.Items.{kept_more, left_out}
+use Rattle.family_items.proofs.Public.{kept_more, left_out}
 use Rattle.case_plan.specs.Placing.{lines_below}
-use Rattle.case_plan.proofs.Families.{is_line_at, line_fewer, line_place}
+use Rattle.case_plan.proofs.Public.{is_line_at, line_fewer, line_place}
 use Rattle.plan_session.specs.Sessions.{has_mark, marks_of, AreLater, AreOfFamilies}
 use Rattle.plan_session.specs.Settling.{values_of}
 

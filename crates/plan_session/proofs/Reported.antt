@@ -17,13 +17,12 @@ use Rattle.hull.specs.declared.point.Point.{Point}
 use Rattle.marginal_alloc.specs.Choice.{AreCurves}
 use Rattle.fleet_plan.specs.Families.{case_points}
 use Rattle.fleet_plan.specs.Laws.{IsAcceptedCase}
-use Rattle.fleet_plan.proofs.Plain.{plain_encloses, plain_room}
+use Rattle.fleet_plan.proofs.Public.{plain_encloses, plain_room}
 use Rattle.held_work.specs.Curves.{IsFamilyCurve}
-use Rattle.held_work.proofs.Kept.{all_points}
+use Rattle.held_work.proofs.Public.{all_points}
 use Rattle.case_plan.specs.Report.{AreFamilyCurves, IsPlanOf, plain_request}
 use Rattle.case_plan.specs.declared.outcome.Outcome.{Outcome}
-use Rattle.case_plan.proofs.CurveFacts.{are_curves, are_family_curves}
-use Rattle.case_plan.proofs.Truths.{report_fits}
+use Rattle.case_plan.proofs.Public.{are_curves, are_family_curves, report_fits}
 use Rattle.plan_report.specs.Fits.{FitsPlan}
 use Rattle.plan_report.specs.declared.plan.PlanReport.{PlanReport}
 use Rattle.case_edits.specs.Edits.{PlanDue}

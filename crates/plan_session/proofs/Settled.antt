@@ -6,20 +6,19 @@ use Rattle.spares_input.specs.Cases.{CaseRows, IsCase}
 use Rattle.spares_input.specs.Stocks.{StockList, stock_at, IsFor}
 use Rattle.fleet_model.specs.Rows.{line_units, shop_units, stock}
 use Rattle.fleet_model.specs.Laws.{AgreeOnFamily}
-use Rattle.fleet_model.proofs.AllocationLaws.{stock_holds}
+use Rattle.fleet_model.proofs.Public.{stock_holds, all_follow}
 use Rattle.family_items.specs.declared.item.FamilyResult.{FamilyResult}
 use Rattle.family_items.specs.Inputs.{IsShop}
 use Rattle.family_items.specs.Profile.{families_of, family_of}
-use Rattle.family_items.proofs.Units.{shops_all}
+use Rattle.family_items.proofs.Public.{shops_all}
 use Rattle.family_points.specs.Local.{home_of}
 use Rattle.case_plan.specs.Placing.{lines_below}
-use Rattle.fleet_model.proofs.DependLaws.{all_follow}
 use Rattle.plan_session.specs.Sessions.{family_place, AreOfFamilies, IsEvaluation}
 use Rattle.plan_session.specs.Settling.{AreSettled}
 use Rattle.plan_session.proofs.Evaluations.{stocks_alone}
 use Rattle.plan_session.proofs.Families.{line_at, place_of_line}
 use Rattle.plan_session.proofs.Places.{if_some, kept_within, of_some, some_of, still_kept}
-use Rattle.family_points.proofs.Local.{line_owner}
+use Rattle.family_points.proofs.Public.{line_owner}
 
 -- ---- part after part
 

@@ -84,7 +84,7 @@ fn keep(
     ensures later { IsSome kept.old → IsSome kept.new }
     ensures on { OnOk result (IsSome kept.new) }
 {
-    let _valid = case.site_count();
+    case.invariant();
     if kept.is_none() {
         let found = curve(alloc, case, rates, line, &Plain)?;
         *kept = Some(found);

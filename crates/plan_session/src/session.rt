@@ -78,7 +78,7 @@ fn outcome_near(
     ensures kept { AreEvaluated case.now evaluated.new }
     ensures plan { IfOk result (IsPlanOf case.now (values_of curves.old) (plain_request budget)) }
 {
-    let _valid = case.site_count();
+    case.invariant();
     let chosen = chosen_by(alloc, case, curves, budget, *near)?;
     *near = above(chosen.numbers.price);
     evaluate_at(alloc, case, rates, &chosen.stocks, evaluated)?;

@@ -1,3 +1,4 @@
+pub mod Public
 pub mod Mixture
 pub mod Duality
 pub mod Units

@@ -11,11 +11,6 @@ use Rattle.price_bounds.specs.Allocations.{Family, point_of, points_of, AreEnclo
 use Rattle.price_bounds.specs.Soundness.{stocks_of, NoneHasFewerThan, IsSoundCertificate}
 use Rattle.price_bounds.proofs.Kept.{CertificateKept, certificate_kept}
 
--- a point of a family is that of its stocks
-pub record IsOwn (family : Family) (v : Point) : Type 0 where
-  pub is : v ≡ point_of family v.stocks
-  pub vector : Among v.stocks family.vectors
-
 -- a point of a family is that of its own stocks, and these are one of the family's vectors
 pub own : (family : Family) (vectors : List (List ℕ)) (v : Point) → Among v (map (point_of family) vectors) → (v ≡ point_of family v.stocks) × Among v.stocks vectors
 own family [] v a = absurd a

@@ -2,7 +2,7 @@
 use Rattle.std.proofs.Common.{◌≡◌, ℕ, ◌^◌, ◌<◌, ◌≤◌, List, true, Ok, arith}
 use Rattle.line_text.specs.Formats.{Token}
 use Rattle.line_text.specs.Texts.{count_line}
-use Rattle.line_text.proofs.FieldLaws.{is_field, a_field, count_line_is_exact}
+use Rattle.line_text.proofs.Public.{is_field, a_field, count_line_is_exact}
 use Rattle.price_certificate.proofs.Fits.{count_within}
 
 -- the number of a line that was read is below what is above its most

@@ -7,21 +7,16 @@ use Rattle.line_text.specs.Formats.{one, and_then}
 use Rattle.line_text.specs.Files.{line}
 use Rattle.line_text.specs.Texts.{number, word, no_field, count_line, counted, Either, Left, Right, either}
 use Rattle.line_text.specs.Exact.{IsExactText, IsExact, IsField, IsLine}
-use Rattle.line_text.proofs.Laws.{one_is_exact, both_are_exact, as_shape_is_exact}
-use Rattle.line_text.proofs.LineLaws.{spelled_is_exact, line_is_exact}
-use Rattle.line_text.proofs.FieldLaws.{number_line_is_exact, a_field, word_is_exact, word_line_is_exact, count_line_is_exact, counted_is_exact, no_field_is_exact}
-use Rattle.line_text.proofs.MoreFields.{either_is_exact}
+use Rattle.line_text.proofs.Public.{one_is_exact, both_are_exact, as_shape_is_exact, spelled_is_exact, line_is_exact, number_line_is_exact, a_field, word_is_exact, word_line_is_exact, count_line_is_exact, counted_is_exact, no_field_is_exact, either_is_exact}
 use Rattle.spares_input.specs.Cases.{CaseRows, frame_rows, pair_count}
 use Rattle.case_lines.specs.Grammar.{case_format}
-use Rattle.case_lines.proofs.Shape.{case_is_exact}
+use Rattle.case_lines.proofs.Public.{case_is_exact, few_pairs, number_field}
 use Rattle.price_certificate.specs.declared.certificate.Objective.{Objective}
 use Rattle.price_certificate.specs.declared.certificate.Objective.TheVariants as objective
 use Rattle.price_certificate.specs.declared.certificate.Node.{Node}
 use Rattle.price_certificate.specs.declared.certificate.Node.TheVariants as node
 use Rattle.price_certificate.specs.Grammar.{objective_name, objective_named, objective_word, objective_fields, aims_at_backorders, objective_line, budget_line, price_fields, price_line, family_count, floors, split_fields, node_text, node_of, node_parts, node_line, cover, is_empty, stock_lines, stocks, lists, certificate_format}
 use Rattle.line_text.specs.Texts.{number_line}
-use Rattle.case_lines.proofs.Few.{few_pairs}
-use Rattle.case_lines.proofs.Exact.{number_field}
 use Rattle.price_certificate.proofs.Few.{few_families}
 use Rattle.price_certificate.proofs.Sequences.{with_sites}
 use lib.Chars.{codes}

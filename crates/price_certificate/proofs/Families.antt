@@ -11,7 +11,7 @@ use Rattle.spares_input.specs.Cases.{CaseRows, IsCase}
 use Rattle.price_certificate.specs.declared.place.Place.{Place}
 use Rattle.price_certificate.specs.Covers.{family, place_count, place_of, place_at, places_of, no_place, IsPlace, IsHeld}
 use Rattle.spares_input.specs.declared.rows.PartId.{PartId}
-use Rattle.spares_input.proofs.Ranges.{filter_next}
+use Rattle.spares_input.proofs.Public.{filter_next}
 
 -- a number that passes the test adds its part to a family's ids
 pub kept : (t : ℕ → Bool) (l n : ℕ) (xs ys : List PartId) (x : PartId) → x.0 ≡ n → t n ≡ true → ys ≡ xs ++ x ∷ []

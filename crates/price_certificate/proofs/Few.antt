@@ -4,7 +4,7 @@ use Rattle.std.proofs.lemmas.List.Sums.{count_by-le-length}
 use Rattle.spares_input.specs.Rows.{is_line}
 use Rattle.spares_input.specs.Cases.{CaseRows}
 use Rattle.case_lines.specs.Grammar.{case_format}
-use Rattle.case_lines.proofs.Few.{case_few_parts}
+use Rattle.case_lines.proofs.Public.{case_few_parts}
 use Rattle.price_certificate.specs.Grammar.{family_count}
 
 -- a case that can be written has at most 2,000 line units

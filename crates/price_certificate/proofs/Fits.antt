@@ -11,7 +11,7 @@ use Rattle.line_text.specs.Texts.{in_range, count_line, numbers_from, counted, n
 use Rattle.spares_input.specs.Cases.{CaseRows, frame_rows, pair_count, IsCase}
 use Rattle.spares_input.specs.Stocks.{StockList, IsFor}
 use Rattle.case_lines.specs.Grammar.{case_format}
-use Rattle.case_lines.proofs.Valid.{case_fits, range_parts, in_range_holds}
+use Rattle.case_lines.proofs.Public.{case_fits, range_parts, in_range_holds}
 use Rattle.price_certificate.specs.declared.certificate.Certificate.{Certificate}
 use Rattle.price_certificate.specs.declared.certificate.Objective.{Objective}
 use Rattle.price_certificate.specs.declared.certificate.Objective.TheVariants as objective

@@ -1,11 +1,11 @@
 -- Text and reading are inverse.
 use Rattle.std.proofs.Common.{◌≡◌, ◌≤◌, ℕ, suc, List, true, Result, Ok, Err, refl, ap, ◌∙◌, arith}
 use Rattle.line_text.specs.Files.{file_answer, IsFirstBad}
-use Rattle.line_text.proofs.Files.{answer_again, answer_takes, answer_refuses}
+use Rattle.line_text.proofs.Public.{answer_again, answer_takes, answer_refuses}
 use Rattle.spares_input.specs.Frames.{FrameRows, frame_of}
 use Rattle.spares_input.specs.Cases.{frame_rows}
 use Rattle.spares_input.specs.declared.fault.CaseFault.{CaseFault}
-use Rattle.spares_input.proofs.Standing.{own_frame}
+use Rattle.spares_input.proofs.Public.{own_frame}
 use Rattle.price_certificate.specs.declared.certificate.Certificate.{Certificate}
 use Rattle.price_certificate.specs.declared.fault.CertFault.TheVariants as fault
 use Rattle.price_certificate.specs.Grammar.{certificate_format}

@@ -6,7 +6,7 @@ use Rattle.line_text.specs.Formats.{Token, Format, each}
 use Rattle.line_text.specs.Files.{file_text}
 use Rattle.line_text.specs.Texts.{count_line, counted, numbers_from, word_line}
 use Rattle.case_lines.specs.Grammar.{case_format}
-use Rattle.case_lines.proofs.Written.{back}
+use Rattle.case_lines.proofs.Public.{back}
 use Rattle.price_certificate.specs.declared.certificate.Certificate.{Certificate}
 use Rattle.price_certificate.specs.Grammar.{objective_line, budget_line, price_line, family_count, floors, covers, stocks}
 use Rattle.price_certificate.specs.Certificates.{cert_text}

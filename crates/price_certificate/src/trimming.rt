@@ -135,7 +135,7 @@ fn places(
     ensures valid { IfOk result (λ v. All IsPlace v.items) }
 {
     let mut found = Vec::new(alloc);
-    let _sites = case.site_count();
+    case.invariant();
     let count = parts.len();
     for m in 0..held.len() {
         let part = parts[m % count];
@@ -162,7 +162,7 @@ fn trim_family(
     requires most { p ≤ 2 ^ 74 }
     ensures { IfOk result (λ v. v.items ≡ nodes_of (trimmed_from p floor 0 (places_of case.now line.0 held.now))) }
 {
-    let _sites = case.site_count();
+    case.invariant();
     let parts = family(alloc, case, line)?;
     let places = places(alloc, case, line, parts.as_slice(), held)?;
     trim_places(alloc, places.as_slice(), p, floor)
@@ -188,7 +188,7 @@ pub fn trim(
     ensures shown { IsTrim price.p floor (places_of case.now line.0 held.now)
         (trimmed price.p floor (places_of case.now line.0 held.now)) }
 {
-    let _sites = case.site_count();
+    case.invariant();
     if price.p == 0 {
         let mut nodes = Vec::new(alloc);
         nodes.push(Node::Whole)?;

@@ -1,3 +1,4 @@
+pub mod Public
 pub mod Products
 pub mod Rough
 pub mod Rounded

@@ -4,7 +4,7 @@ use Rattle.std.specs.Int.{div_ceil}
 use Rattle.std.proofs.Math.Nat.{mul-pos, lt_of_mul-lt-mul_right, zero-div}
 use Rattle.std.proofs.lemmas.Bool.{lt-ltb, le-ltb}
 use Rattle.fixed_interval.specs.Ends.{Ends, ends_less, ends_mul}
-use Rattle.fixed_interval.proofs.Laws.{ceil_most}
+use Rattle.fixed_interval.proofs.Public.{ceil_most}
 use Rattle.series_bounds.specs.Profile.{ratio_ends, far_ratio, ratio_bound, has_remainder, remainder_from, pivot_at}
 use Rattle.series_bounds.specs.Walk.{StaysFrom}
 use Rattle.series_bounds.proofs.Ranges.{ceil_above}

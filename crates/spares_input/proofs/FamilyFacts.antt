@@ -7,7 +7,7 @@ use Rattle.std.proofs.Math.Seq.{get_or-append_seam}
 use Rattle.std.proofs.lemmas.Bool.{cases_eq}
 use Rattle.std.proofs.lemmas.List.{get_or-map, length-map, map-set, map_push}
 use Rattle.spares_input.specs.Frames.{family, is_shop_of, line_of, part_at, part_names, place_of, shops_below}
-use Rattle.spares_input.specs.Building.{AreFamilies, AreFamiliesBelow, ids}
+use Rattle.spares_input.specs.Building.{AreFamiliesBelow, ids}
 use Rattle.spares_input.specs.declared.rows.PartId.{PartId}
 use Rattle.spares_input.specs.declared.rows.PartRow.{PartRow}
 use Rattle.spares_input.proofs.PartFacts.{part_named}
@@ -79,15 +79,6 @@ module _ (parts : List PartRow) (distinct : IsDistinct bytes_eq (part_names part
           let count = i.whole in
           ap ids more ∙ map_push (λ (q : PartId). q.0) (parts_of old) shop
           ∙ ap₂ (λ (xs : List ℕ) (q : ℕ). xs ++ q ∷ []) (sym (get_or-map (λ v. ids (parts_of v)) rows m old [] (let n = length-map rows (λ v. ids (parts_of v)) in omega (arith, count, within, n)) ∙ ap (λ v. ids (parts_of v)) (sym is))) same
-
--- the list of a part's family
-pub family_read : (parts : List PartRow) {X : Type 0} (parts_of : X → List PartId) (rows : List X) (row : X) (l : ℕ) → AreFamilies parts (map (λ v. ids (parts_of v)) rows) → l < length parts → row ≡ get_or rows l row
-    → ids (parts_of row) ≡ family parts l
-family_read parts parts_of rows row l all within is =
-    let count = all.whole in
-    ap (λ v. ids (parts_of v)) is
-    ∙ sym (get_or-map (λ v. ids (parts_of v)) rows l row [] (let n = length-map rows (λ v. ids (parts_of v)) in omega (arith, count, within, n)))
-    ∙ all.each l within
 
 -- one part alone more
 pub row_more : {X : Type 0} (f : X → List ℕ) (rows : List X) (row : X) (p : ℕ) → length rows ≡ p → ((q : ℕ) → q < p → get_or (map f rows) q [] ≡ q ∷ []) → f row ≡ p ∷ []

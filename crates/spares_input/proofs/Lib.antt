@@ -1,3 +1,4 @@
+pub mod Public
 pub mod NameFacts
 pub mod Firsts
 pub mod Outcomes

@@ -22,10 +22,10 @@ use Rattle.spares_input.specs.declared.rows.RateRow.{RateRow}
 use Rattle.spares_input.proofs.PartFacts.{length_shop_units, part_named}
 
 -- where no place has a fault, there is no first one
-pub first_none : {A : Type 0} (at : ℕ → Option A) (n : ℕ) → ((k : ℕ) → k < n → at k ≡ None) → first at n ≡ None
+pub no_first : {A : Type 0} (at : ℕ → Option A) (n : ℕ) → ((k : ℕ) → k < n → at k ≡ None) → first at n ≡ None
 unfolding first
-first_none at zero h = refl
-first_none at (suc n) h = rw (first_none at n (λ k lt. h k (omega (arith, lt))), h n (omega arith)) refl
+no_first at zero h = refl
+no_first at (suc n) h = rw (no_first at n (λ k lt. h k (omega (arith, lt))), h n (omega arith)) refl
 
 -- ---- the depot stands first
 
@@ -117,9 +117,9 @@ module _ (f : FrameRows) (v : IsFrame f) where
   -- the sites and parts of a frame break no rule
   pub no_frame_fault : frame_fault f.sites f.parts ≡ None
   no_frame_fault =
-      let a = first_none (site_fault f.sites) (length f.sites) no_site_fault in
-      let b = first_none (double_part f.parts) (length f.parts) no_double_part in
-      let c = first_none (parent_fault f.parts) (length f.parts) (λ k lt. parent_at k (is_line (part_at f.parts k)) lt refl) in
+      let a = no_first (site_fault f.sites) (length f.sites) no_site_fault in
+      let b = no_first (double_part f.parts) (length f.parts) no_double_part in
+      let c = no_first (parent_fault f.parts) (length f.parts) (λ k lt. parent_at k (is_line (part_at f.parts k)) lt refl) in
       rw (a, no_kinds_fault, b, c) refl
 
   depot_at : (i : ℕ) → i < length f.sites → (get_or f.sites i no_site).depot ≡ (i == 0)
@@ -244,8 +244,8 @@ module _ {A : Type 0} (place : A → ℕ) (rows : List A) (stand : Stand place 0
 
 pub no_rates_fault : (m n : ℕ) (rs : List RateRow) → length rs ≡ n → Stand (rate_place m) 0 rs → rates_fault m n rs ≡ None
 no_rates_fault m n rs e stand =
-    let a = first_none (double_rate m rs) (length rs) (λ k lt. rw (fresh (rate_place m) rs stand no_rate k lt) refl) in
-    let b = first_none (missing_rate m rs) n (λ i lt. rw (there (rate_place m) rs stand no_rate i (omega (arith, lt, e))) refl) in
+    let a = no_first (double_rate m rs) (length rs) (λ k lt. rw (fresh (rate_place m) rs stand no_rate k lt) refl) in
+    let b = no_first (missing_rate m rs) n (λ i lt. rw (there (rate_place m) rs stand no_rate i (omega (arith, lt, e))) refl) in
     rw (a, b) refl
 
 abbrev with_rates : CaseRows → List RateRow → CaseRows

@@ -58,6 +58,13 @@ impl Case {
         }
     }
 
+    /// The rules of a case, for a proof.
+    pub fn invariant(&self)
+        ensures valid { IsCase self.now }
+    {
+        let _opened = &self.frame;
+    }
+
     /// The frame.
     pub fn frame(&self) -> &Frame
         ensures frame { result.now ≡ frame_rows self.now }

@@ -50,6 +50,13 @@ impl Name {
         })
     }
 
+    /// The rules of a name, for a proof.
+    pub fn invariant(&self)
+        ensures name { is_name self.now ≡ true }
+    {
+        let _opened = &self.len;
+    }
+
     /// The name's bytes.
     pub fn as_bytes(&self) -> &[u8]
         ensures bytes { result.now ≡ self.now }

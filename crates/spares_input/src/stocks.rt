@@ -121,6 +121,7 @@ pub fn stocks_from(
     ensures limits { IfOk result (IsWithinLimits case.now) }
 {
     let sites = case.site_count();
+    // a `match`, so that what holds of the list is shown in the arm that has it
     match stocks_by_pair(alloc, case, rows) {
         Ok(list) => Ok(Stocks { list, sites }),
         Err(stop) => Err(stop),

@@ -4,9 +4,9 @@ use Rattle.std.specs.List.{AllZip}
 use Rattle.std.specs.Prelude.{All}
 use Rattle.case_edits.specs.Edits.{PlanDue, session_of}
 use Rattle.case_edits.specs.declared.fault.EditFault.{EditFault}
-use Rattle.case_plan.proofs.Truths.{plain_true, planned_true}
+use Rattle.case_plan.proofs.Public.{plain_true, planned_true}
 use Rattle.fleet_model.specs.Aims.{weighted_backorders}
-use Rattle.fleet_plan.proofs.Plain.{plain_encloses}
+use Rattle.fleet_plan.proofs.Public.{plain_encloses}
 use Rattle.plan_report.specs.Fits.{FitsPlan}
 use Rattle.plan_report.specs.declared.plan.PlanReport.{PlanReport}
 use Rattle.plan_session.specs.Answers.{AnswersEdits}
@@ -18,7 +18,7 @@ use Rattle.refusals.specs.declared.failure.Failure.{Failure}
 use Rattle.refusals.specs.declared.refusal.Refusal.TheVariants as refusal
 use Rattle.spares_input.specs.Cases.{CaseRows}
 use Rattle.answers.specs.Steps.{◌>>=◌}
-use Rattle.demonstration.proofs.Told.{zeros_hold}
+use Rattle.demonstration.proofs.Public.{zeros_hold}
 use Rattle.spares_top.specs.Headline.{IsTrueAnswer}
 use Rattle.spares_top.specs.Making.{Is, IsMade}
 use Rattle.spares_top.specs.Task.{Task, plan_in_turn, printed}

@@ -3,7 +3,7 @@ use Rattle.std.proofs.Common.{◌≡◌, ◌∙◌, ◌^◌, ap, arith, refl, su
 use Rattle.std.specs.Option.{option_map}
 use Rattle.exact_model.specs.Fraction.{Contains, Fraction, whole, ◌*ℚ◌, ◌≤ℚ◌}
 use Rattle.fixed_interval.specs.Text.{text_value}
-use Rattle.fixed_interval.proofs.Laws.{up_above}
+use Rattle.fixed_interval.proofs.Public.{up_above}
 use Rattle.spares_input.specs.Cases.{CaseRows, frame_rows}
 use Rattle.spares_input.specs.Frames.{FrameRows}
 use Rattle.spares_input.specs.First.{unless}
@@ -14,12 +14,11 @@ use Rattle.price_certificate.specs.declared.certificate.Objective.TheVariants.{B
 use Rattle.case_plan.specs.Truth.{NoneHasLessThanPrinted}
 use Rattle.certified_plan.specs.Accepted.{claims_of}
 use Rattle.certified_plan.specs.Inputs.{IsHeld}
-use Rattle.certified_plan.proofs.Believed.{accepted_true, plain_true}
+use Rattle.certified_plan.proofs.Public.{accepted_true, plain_true, scores_enclose}
 use Rattle.gap_rules.specs.Scores.{ends_of, value_of}
 use Rattle.fleet_plan.specs.Plans.{AreTrueClaims, ArePlainClaims}
 use Rattle.gap_rules.specs.Refusals.{cost_above, reject_of}
-use Rattle.gap_rules.proofs.Acceptable.{breaks_none}
-use Rattle.gap_rules.proofs.Costs.{added_is}
+use Rattle.gap_rules.proofs.Public.{breaks_none, added_is}
 use Rattle.check_answers.specs.declared.refusal.Accepted.{Accepted}
 use Rattle.check_answers.specs.declared.refusal.Reject.{Reject}
 use Rattle.plan_report.specs.declared.check.CheckReport.{CheckReport}
@@ -29,10 +28,9 @@ use Rattle.refusals.specs.Lines.{no_names}
 use Rattle.refusals.specs.declared.refusal.Refusal.TheVariants as refusal
 use Rattle.fleet_model.specs.Aims.{aim, cost_beyond}
 use Rattle.fleet_model.specs.Fleet.{cost}
-use Rattle.fleet_model.proofs.AllocationLaws.{cost_holds}
-use Rattle.fleet_plan.proofs.Costs.{families_beyond}
-use Rattle.case_plan.proofs.Truths.{below_printed}
-use Rattle.certified_plan.proofs.Scores.{scores_enclose}
+use Rattle.fleet_model.proofs.Public.{cost_holds}
+use Rattle.fleet_plan.proofs.Public.{families_beyond}
+use Rattle.case_plan.proofs.Public.{below_printed}
 use Rattle.answers.specs.Answers.{Gives}
 use Rattle.answers.specs.Steps.{◌>>=◌}
 use Rattle.answers.specs.declared.stop.Stop.{Stop}

@@ -4,23 +4,20 @@ use Rattle.exact_model.specs.Fraction.{Encloses, ◌≤ℚ◌}
 use Rattle.fixed_interval.specs.Text.{text_value}
 use Rattle.spares_input.specs.Cases.{CaseRows}
 use Rattle.case_maker.specs.Demonstration.{made}
-use Rattle.case_maker.proofs.Valid.{made_valid}
-use Rattle.case_maker.proofs.Whole.{made_drawn}
+use Rattle.case_maker.proofs.Public.{made_valid, made_drawn}
 use Rattle.case_plan.specs.Report.{outcome_of, report_of, plain_request}
 use Rattle.case_plan.specs.declared.outcome.Outcome.{Outcome}
 use Rattle.case_plan.specs.Truth.{IsTruePlanReport}
-use Rattle.case_plan.proofs.Nothing.{from_nothing}
-use Rattle.case_plan.proofs.Truths.{plain_true}
+use Rattle.case_plan.proofs.Public.{from_nothing, plain_true}
 use Rattle.certified_plan.specs.Inputs.{IsPlanOn}
-use Rattle.certified_plan.proofs.Accepted.{accepted}
-use Rattle.certified_plan.proofs.Zeros.{none_is_held}
-use Rattle.demo_accepts.proofs.Accepted.{faultless}
+use Rattle.certified_plan.proofs.Public.{accepted, none_is_held}
+use Rattle.demo_accepts.proofs.Public.{faultless}
 use Rattle.demonstration.specs.Demonstrations.{IsDemonstrated, budget_of, demo_terms}
-use Rattle.demonstration.proofs.Told.{are_terms, demo_work, zeros_hold}
+use Rattle.demonstration.proofs.Public.{are_terms, demo_work, zeros_hold}
 use Rattle.fleet_model.specs.Fleet.{IsAllocation, cost, total}
 use Rattle.fleet_plan.specs.Laws.{IsAcceptedCase}
 use Rattle.fleet_plan.specs.Plans.{CasePlan, IsPlainPlan}
-use Rattle.fleet_plan.proofs.Plain.{plain_plan}
+use Rattle.fleet_plan.proofs.Public.{plain_plan}
 use Rattle.plan_report.specs.Fits.{FitsSummary}
 use Rattle.plan_report.specs.Texts.{millionths_down}
 use Rattle.plan_report.specs.declared.summary.Summary.{Summary}

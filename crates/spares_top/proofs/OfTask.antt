@@ -2,7 +2,7 @@
 use Rattle.std.proofs.Common.{◌≡◌, refl, Option, Some, None, Err, ℕ, List}
 use Rattle.std.specs.Option.{option_map}
 use Rattle.case_edits.specs.Edits.{session_of}
-use Rattle.case_tables.proofs.Refuse.{Refuses, is_of_task, or_refuses, then_refuses}
+use Rattle.case_tables.proofs.Public.{Refuses, is_of_task, or_refuses, then_refuses}
 use Rattle.demand_rates.specs.declared.fault.RateFault.{RateFault}
 use Rattle.held_work.specs.Work.{held_work_of}
 use Rattle.price_certificate.specs.declared.certificate.Terms.{Terms}
@@ -16,7 +16,7 @@ use Rattle.spares_words.specs.declared.order.Order.{Order}
 use Rattle.spares_words.specs.declared.order.Order.TheVariants as order
 use Rattle.order_inputs.specs.Cases.{case_to_edit, case_within_work, stocked_by}
 use Rattle.order_inputs.specs.Files.{CaseBytes, bytes_at, tables_in}
-use Rattle.order_inputs.proofs.Refuse.{at_stocks_refuses, to_edit_refuses, within_work_refuses}
+use Rattle.order_inputs.proofs.Public.{at_stocks_refuses, to_edit_refuses, within_work_refuses}
 use Rattle.spares_top.specs.Checks.{claimed_of, form_of, judged_of}
 use Rattle.spares_top.specs.Plans.{planning_of}
 use Rattle.spares_top.specs.Task.{Task, task_on, unless_refused}

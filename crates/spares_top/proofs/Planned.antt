@@ -6,22 +6,18 @@ use Rattle.case_plan.specs.Report.{IsOutcome, IsPlanned, outcome_of, report_of}
 use Rattle.case_plan.specs.Truth.{IsTruePlanReport, IsTrueReport}
 use Rattle.case_plan.specs.declared.outcome.Outcome as plans
 use Rattle.case_plan.specs.declared.request.Request.{Request}
-use Rattle.case_plan.proofs.Truths.{plain_true, planned_true, report_fits}
+use Rattle.case_plan.proofs.Public.{plain_true, planned_true, report_fits}
 use Rattle.certified_plan.specs.Certificates.{certificate_of, text_of}
 use Rattle.certified_plan.specs.Inputs.{IsHeld, IsPlanOn}
 use Rattle.price_certificate.specs.declared.certificate.Terms.{Terms}
-use Rattle.certified_plan.proofs.Formed.{well_formed}
+use Rattle.certified_plan.proofs.Public.{well_formed, accepted, nearest, scores_enclose, scores_leave_room, held_short, text_short}
 use Rattle.family_points.specs.Counts.{work_of}
-use Rattle.held_work.proofs.Kept.{all_work}
+use Rattle.held_work.proofs.Public.{all_work}
 use Rattle.std.specs.Prelude.{IfOk}
 use Rattle.std.specs.Result.{IsOk}
 use Rattle.answers.specs.declared.stop.NoMemory.{NoMemory}
 use Rattle.certified_plan.specs.Laws.{NoCertificateShowsMore}
 use Rattle.gap_rules.specs.Scores.{ends_of, value_of}
-use Rattle.certified_plan.proofs.Accepted.{accepted}
-use Rattle.certified_plan.proofs.Nearest.{nearest}
-use Rattle.certified_plan.proofs.Scores.{scores_enclose, scores_leave_room}
-use Rattle.certified_plan.proofs.Short.{held_short, text_short}
 use Rattle.fleet_plan.specs.Plans.{CasePlan, IsCasePlan}
 use Rattle.gap_rules.specs.Refusals.{reject_of}
 use Rattle.price_certificate.specs.declared.certificate.Objective.{Objective}
@@ -30,12 +26,12 @@ use Rattle.held_work.specs.Work.{IsNothing, held_work_of}
 use Rattle.family_points.specs.Points.{ScoreEnds}
 use Rattle.held_certificate.specs.Held.{IsWellHeld, held_text}
 use Rattle.held_certificate.specs.declared.held.HeldCertificate.{HeldCertificate}
-use Rattle.held_certificate.proofs.Inverse as held_inverse
-use Rattle.held_certificate.proofs.Refused.{held_form, plain_form}
+use Rattle.held_certificate.proofs.Public.{again as held_inverse_again}
+use Rattle.held_certificate.proofs.Public.{held_form, plain_form}
 use Rattle.price_certificate.specs.Certificates.{IsWellFormed, cert_text, certificate_limit}
 use Rattle.price_certificate.specs.declared.certificate.Certificate.{Certificate}
-use Rattle.price_certificate.proofs.Inverse.{again}
-use Rattle.demonstration.proofs.Told.{zeros_hold}
+use Rattle.price_certificate.proofs.Public.{again}
+use Rattle.demonstration.proofs.Public.{zeros_hold}
 use Rattle.spares_top.specs.Making.{Is, IsMade}
 use Rattle.spares_top.specs.Task.{make_plan}
 use Rattle.spares_top.specs.declared.check.Claim.{Claim}
@@ -54,7 +50,7 @@ plain_formed : (cert : Certificate) → IsWellFormed cert → form_of (cert_text
 plain_formed cert formed = rw (plain_form cert, again cert formed) refl
 
 held_formed : (k : HeldCertificate) → IsWellHeld k → form_of (held_text k) ≡ Ok (record { certificate = k.certificate; on_hand = Some k.held })
-held_formed k well = rw (held_form k, held_inverse.again k well) refl
+held_formed k well = rw (held_form k, held_inverse_again k well) refl
 
 -- the outcome of a plan
 same_outcome : (x : Planning) (name : List ℕ) (o : plans.Outcome) (p : CasePlan) (bytes : List ℕ) → o ≡ outcome_of (ends_of x.terms.objective) x.case (plan_request x) p

@@ -2,7 +2,7 @@
 use Rattle.std.proofs.Common.{ℕ, refl, subst, sym}
 use Rattle.exact_model.specs.Fraction.{Encloses, Fraction}
 use Rattle.exact_model.specs.Series.{ebo, vbo}
-use Rattle.fixed_interval.proofs.Laws.{down_below, up_above}
+use Rattle.fixed_interval.proofs.Public.{down_below, up_above}
 use Rattle.fixed_interval.specs.Ends.{Ends, In}
 use Rattle.moment_table.specs.Rows.{EnclosesRow}
 use Rattle.moment_table.specs.declared.kinds.Row.{Row}

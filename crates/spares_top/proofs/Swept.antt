@@ -4,11 +4,11 @@ use Rattle.budget_sweep.specs.Cases.{IsCaseSweep, IsCaseTarget}
 use Rattle.budget_sweep.specs.Fits.{SweepFits, TargetFits}
 use Rattle.budget_sweep.specs.declared.report.SweepReport.{SweepReport}
 use Rattle.budget_sweep.specs.declared.report.TargetReport.{TargetReport}
-use Rattle.budget_sweep.proofs.Told.{point_true, target_true}
+use Rattle.budget_sweep.proofs.Public.{point_true, target_true}
 use Rattle.exact_ratio.specs.declared.decimal.Decimal.{Decimal}
 use Rattle.fleet_model.specs.Aims.{weighted_backorders}
 use Rattle.fleet_plan.specs.Laws.{IsAcceptedCase}
-use Rattle.fleet_plan.proofs.Plain.{plain_encloses}
+use Rattle.fleet_plan.proofs.Public.{plain_encloses}
 use Rattle.refusals.specs.declared.failure.Failure.{Failure}
 use Rattle.spares_input.specs.Cases.{CaseRows}
 use Rattle.answers.specs.Steps.{◌>>=◌}

@@ -35,7 +35,7 @@ use Rattle.spares_top.specs.Plans.{planning_of}
 use Rattle.spares_top.specs.Task.{Fulfils, Task, confirm, demonstrate, evaluate, make_plan, plan_in_turn, price_target, set_beside, show_pipeline, sweep_budgets, task_of, task_on, task_on_words, unless_refused}
 use Rattle.spares_top.specs.Texts.{text_of}
 use Rattle.case_edits.specs.Edits.{session_of}
-use Rattle.order_inputs.proofs.ReadInputs.{none_is, read_is, stops_kind}
+use Rattle.order_inputs.proofs.Public.{none_is, read_is, stops_kind}
 use Rattle.spares_top.proofs.OfTask.{task_kind}
 
 -- ---- what is due

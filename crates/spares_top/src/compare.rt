@@ -31,7 +31,7 @@ fn compared(alloc: Global, given: &Stocked) -> Result<CompareReport, NoMemory>
         stocks,
         rates,
     } = given;
-    let _valid = case.site_count();
+    case.invariant();
     metric_compare::compare(alloc, case, rates, stocks)
 }
 

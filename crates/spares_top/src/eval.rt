@@ -36,7 +36,7 @@ fn figures<const F: u32>(alloc: Global, given: &Stocked) -> Result<Figures, NoMe
         stocks,
         rates,
     } = given;
-    let _valid = case.site_count();
+    case.invariant();
     let families = evaluate_all::<F>(alloc, case, rates, stocks)?;
     figures_at(alloc, case, families.as_slice(), stocks)
 }

@@ -67,7 +67,7 @@ fn held_ground(
         stocks,
         rates,
     } = stocked(alloc, tables, File::OnHand, stocks)?;
-    let _valid = case.site_count();
+    case.invariant();
     few_tables(held_work(&case, &stocks)).and(Ok(Ground {
         given: Accepted { case, rates },
         on_hand: Some(stocks),

@@ -1,3 +1,4 @@
+pub mod Public
 pub mod Greedy
 pub mod Taking
 pub mod Waiting

@@ -2,8 +2,7 @@
 use Rattle.std.proofs.Common.{◌≡◌, ℕ, zero, suc, ◌+◌, ◌-◌, ◌*◌, ◌<◌, ◌≤◌, ◌≢◌, ◌⊎◌, inl, inr, List, [], ◌∷◌, ◌++◌, length, set, slice_index, refl, sym, ap, ◌∙◌, subst, arith, get_or-set_other, get_or-set_same, length-set}
 use Rattle.hull.specs.declared.point.Point.{Point}
 use Rattle.hull.specs.Curves.{Steps, IsChain, point_at}
-use Rattle.hull.proofs.Chains.{falls_on}
-use Rattle.hull.proofs.Stops.{falls_after}
+use Rattle.hull.proofs.Public.{falls_on, falls_after}
 use Rattle.step_walk.specs.Prefix.{curve_at, vertex_at, HasStep, fall, rise, IsBefore, IsPrefix, IsNext, HaveShapes}
 
 -- the falls and rises of one curve

@@ -1,3 +1,4 @@
+pub mod Public
 mod Curve
 pub mod Lists
 mod NoVertex

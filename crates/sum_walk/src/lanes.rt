@@ -52,7 +52,7 @@ pub(crate) fn put_lanes<T: Spot>(lanes: &mut Vec<Lane>, curves: &[Chain<T>]) -> 
     lanes.clear();
     for j in 0..curves.len() {
         let curve = &curves[j];
-        let _some = curve.len();
+        curve.invariant();
         lanes.push(lane_at(curve, 0))?;
     }
     Ok(())

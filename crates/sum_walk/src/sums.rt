@@ -24,7 +24,7 @@ pub(crate) fn place_at<T: Spot>(first: &Point, curves: &[Chain<T>], lanes: &[Lan
     let mut lo = first.lo;
     for j in 0..lanes.len() {
         let curve = &curves[j];
-        let _shape = curve.len();
+        curve.invariant();
         let vertex = curve.at(lanes[j].at);
         cost += vertex.cost();
         lo += vertex.lo();
@@ -58,7 +58,7 @@ fn upper_end<T: Spot>(first: &Point, curves: &[Chain<T>], lanes: &[Lane]) -> u12
     let mut hi = first.hi;
     for j in 0..lanes.len() {
         let curve = &curves[j];
-        let _shape = curve.len();
+        curve.invariant();
         let vertex = curve.at(lanes[j].at);
         hi += vertex.hi();
     }

@@ -20,7 +20,7 @@ struct Fields(u32, u16, u16, u32);
 fn depot(name: Name) -> SiteRow
     ensures { IsSiteRow result }
 {
-    let _name = name.as_bytes();
+    name.invariant();
     SiteRow {
         name,
         depot: true,
@@ -32,7 +32,7 @@ fn depot(name: Name) -> SiteRow
 fn base(name: Name, ship: u32) -> SiteRow
     ensures { IsSiteRow result }
 {
-    let _name = name.as_bytes();
+    name.invariant();
     SiteRow {
         name,
         depot: false,
@@ -44,7 +44,7 @@ fn base(name: Name, ship: u32) -> SiteRow
 fn line_unit(name: Name) -> PartRow
     ensures { IsPartRow result }
 {
-    let _name = name.as_bytes();
+    name.invariant();
     PartRow {
         name,
         parent: None,
@@ -59,8 +59,8 @@ fn line_unit(name: Name) -> PartRow
 fn shop_unit(name: Name, line: Name) -> PartRow
     ensures { IsPartRow result }
 {
-    let _name = name.as_bytes();
-    let _line = line.as_bytes();
+    name.invariant();
+    line.invariant();
     PartRow {
         name,
         parent: Some(line),

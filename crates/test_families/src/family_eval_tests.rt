@@ -147,7 +147,7 @@ const WEIGHED: Family = Family {
 fn site(name: Name, depot: bool) -> SiteRow
     ensures { IsSiteRow result }
 {
-    let _name = name.as_bytes();
+    name.invariant();
     SiteRow {
         name,
         depot,
@@ -159,10 +159,10 @@ fn site(name: Name, depot: bool) -> SiteRow
 fn part(name: Name, parent: Option<Name>, weight: u8) -> PartRow
     ensures { IsPartRow result }
 {
-    let _name = name.as_bytes();
+    name.invariant();
     let is_line = parent.is_none();
     if let Some(line) = &parent {
-        let _line = line.as_bytes();
+        line.invariant();
     }
     PartRow {
         name,

@@ -47,7 +47,7 @@ fn part(
     requires high { IsSmall high }
     requires window { IsWindow low high }
 {
-    let _valid = case.site_count();
+    case.invariant();
     let line = PartId(0);
     let held = nothing_held(alloc, case)?;
     let bounds = Bounds::from_held(alloc, case, line, &held)?;

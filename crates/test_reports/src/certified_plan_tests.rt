@@ -62,7 +62,7 @@ fn plan_on(
     requires terms { AreTerms terms }
     ensures { IfOk result (IsPlanOn case.now held.now terms) }
 {
-    let _valid = case.site_count();
+    case.invariant();
     let request = Request {
         budget: terms.budget,
         loss: false,

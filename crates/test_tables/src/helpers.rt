@@ -35,7 +35,7 @@ fn at_stocks(
     requires numbers { evaluator.old.numbers ≡ numbers_of 48 case.now 0 }
     ensures { evaluator.new.numbers ≡ numbers_of 48 case.now 0 }
 {
-    let _valid = case.frame();
+    case.invariant();
     evaluator.evaluate(case, rates, stocks).ok()
 }
 

@@ -17,7 +17,7 @@ struct Fields(u32, u16, u16, u32);
 fn depot(name: Name) -> SiteRow
     ensures { IsSiteRow result }
 {
-    let _name = name.as_bytes();
+    name.invariant();
     SiteRow {
         name,
         depot: true,
@@ -29,7 +29,7 @@ fn depot(name: Name) -> SiteRow
 fn base(name: Name, systems: u32, ship: u32) -> SiteRow
     ensures { IsSiteRow result }
 {
-    let _name = name.as_bytes();
+    name.invariant();
     SiteRow {
         name,
         depot: false,
@@ -41,7 +41,7 @@ fn base(name: Name, systems: u32, ship: u32) -> SiteRow
 fn line_unit(name: Name, cost: u32, per_system: u32, most: (u8, u8), weight: u8) -> PartRow
     ensures { IsPartRow result }
 {
-    let _name = name.as_bytes();
+    name.invariant();
     PartRow {
         name,
         parent: None,
@@ -56,8 +56,8 @@ fn line_unit(name: Name, cost: u32, per_system: u32, most: (u8, u8), weight: u8)
 fn shop_unit(name: Name, line: Name, cost: u32, most: (u8, u8)) -> PartRow
     ensures { IsPartRow result }
 {
-    let _name = name.as_bytes();
-    let _line = line.as_bytes();
+    name.invariant();
+    line.invariant();
     PartRow {
         name,
         parent: Some(line),

@@ -1,6 +1,6 @@
 use Rattle.std.proofs.Common.{◌≡◌, ◌*◌, ◌-◌, arith, lit<, sym, subst, rules}
 use Rattle.fixed_interval.specs.Ends.{Ends, In, InScale, ends_power}
-use Rattle.fixed_interval.proofs.Laws.{mul_room}
+use Rattle.fixed_interval.proofs.Public.{mul_room}
 use Rattle.availability.specs.Profile.{filled_ends}
 use Rattle.availability.specs.Exact.{factor_of}
 use Rattle.availability.proofs.Laws.{factor_in, filled_is, filled_most, multiplied_none, multiplied_more, product_most}

@@ -2,7 +2,7 @@ use Rattle.std.proofs.Common.{List, ◌≡◌, ◌∙◌, ◌<◌, ◌^◌, leng
 use Rattle.std.proofs.Math.Seq.{take-length}
 use Rattle.std.proofs.lemmas.List.Elements.{All-get_or}
 use Rattle.fixed_interval.specs.Ends.{Ends, In, ends_over}
-use Rattle.fixed_interval.proofs.Laws.{ceil_most}
+use Rattle.fixed_interval.proofs.Public.{ceil_most}
 use Rattle.availability.specs.declared.Weighted.{Weighted}
 use Rattle.availability.specs.Profile.{weighted_sum, all_systems}
 use Rattle.availability.specs.Exact.{weighted_mean, IsWeighted}

@@ -1,12 +1,11 @@
 use Rattle.std.proofs.Common.{◌≡◌, length, arith, sym, ap, ap₂, subst}
 use Rattle.exact_model.specs.Fraction.{sum_below, ◌+ℚ◌, ◌*ℚ◌}
 use Rattle.fixed_interval.specs.Ends.{Ends, In, ends_add}
-use Rattle.fixed_interval.proofs.Laws.{add_encloses}
+use Rattle.fixed_interval.proofs.Public.{add_encloses}
 use Rattle.depot_pipeline.specs.declared.Moments.{Moments}
 use Rattle.depot_pipeline.specs.Profile.{mean_part, variance_part}
 use Rattle.exact_model.specs.Shares.{shared}
-use Rattle.depot_pipeline.proofs.Laws.{mean_part_in, variance_part_in, added_in}
-use Rattle.depot_pipeline.proofs.Walk.{summed_next, at_the_end, capped_is}
+use Rattle.depot_pipeline.proofs.Public.{mean_part_in, variance_part_in, added_in, summed_next, at_the_end, capped_is}
 use Rattle.base_pipeline.specs.Profile.{held_at}
 use Rattle.base_pipeline.specs.declared.Held.{Held}
 use Rattle.base_pipeline.proofs.Walk.{held_is, held_small, started}

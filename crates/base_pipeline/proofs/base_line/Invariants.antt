@@ -1,6 +1,6 @@
 use Rattle.fixed_interval.specs.Ends.{ends_add}
 use Rattle.depot_pipeline.specs.Profile.{mean_part, variance_part}
-use Rattle.depot_pipeline.proofs.Walk.{Summed}
+use Rattle.depot_pipeline.proofs.Public.{Summed}
 use Rattle.base_pipeline.specs.Profile.{held_at}
 use Rattle.base_pipeline.proofs.base_line.Given as goal
 

@@ -2,7 +2,7 @@ use Rattle.std.proofs.Common.{sym, subst}
 use Rattle.exact_model.specs.Fraction.{◌+ℚ◌, ◌*ℚ◌}
 use Rattle.fixed_interval.specs.Ends.{Ends, In}
 use Rattle.exact_model.specs.Shares.{shared}
-use Rattle.depot_pipeline.proofs.Laws.{mean_part_in, variance_part_in}
+use Rattle.depot_pipeline.proofs.Public.{mean_part_in, variance_part_in}
 use Rattle.base_pipeline.proofs.base_shop.Goals as goal
 
 pub returns-clause-mean : goal.returns-clause-mean

@@ -1,6 +1,6 @@
 use Rattle.std.proofs.Common.{arith, lit<, rules}
 use Rattle.fixed_interval.specs.Ends.{InScale}
-use Rattle.fixed_interval.proofs.Laws.{mul_room}
+use Rattle.fixed_interval.proofs.Public.{mul_room}
 use Rattle.depot_pipeline.proofs.Laws.{part_most}
 use Rattle.depot_pipeline.proofs.part_of.Goals as goal
 

@@ -3,7 +3,7 @@ use Rattle.std.proofs.lemmas.Result.{IfOk-weaker}
 use Rattle.family_items.specs.Profile.{family_of}
 use Rattle.family_items.specs.Encloses.{EnclosesFamily, IsSmallFamily}
 use Rattle.family_items.specs.Inputs.{InputRows}
-use Rattle.family_items.proofs.Families.{evaluable, family_in, family_small}
+use Rattle.family_items.proofs.Public.{evaluable, family_in, family_small}
 use Rattle.family_eval.proofs.evaluate.Goals as goal
 
 pub returns-clause-encloses : goal.returns-clause-encloses

@@ -4,7 +4,7 @@ use Rattle.spares_input.specs.Rows.{is_line}
 use Rattle.spares_input.specs.Frames.{part_at}
 use Rattle.family_items.specs.Profile.{families_of, family_of}
 use Rattle.family_items.specs.Inputs.{InputRows}
-use Rattle.family_items.proofs.Families.{evaluable, families_in, families_small, family_kept, family_more}
+use Rattle.family_items.proofs.Public.{evaluable, families_in, families_small, family_kept, family_more}
 use Rattle.family_eval.proofs.evaluate_all.Goals as goal
 use Rattle.family_eval.proofs.evaluate_all.Goals.{else-is_line, then-is_line+in_ok-evaluate_family+in_ok-push}
 

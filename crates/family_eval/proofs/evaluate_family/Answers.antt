@@ -3,7 +3,7 @@ use Rattle.spares_input.specs.Cases.{CaseRows}
 use Rattle.spares_input.specs.declared.rows.PartId.{PartId}
 use Rattle.fleet_model.specs.Rows.{shop_units}
 use Rattle.family_items.specs.Profile.{part_items}
-use Rattle.family_items.proofs.Items.{by_ids, depot_line_item, shop_of}
+use Rattle.family_items.proofs.Public.{by_ids, depot_line_item, shop_of}
 use Rattle.family_eval.proofs.evaluate_family.Goals as goal
 
 pub all_shop_items-requires : goal.all_shop_items-requires
@@ -14,7 +14,7 @@ all_shop_items-requires g c =
         c.requires.scale,
         λ k d h. record {
           line = c.args.line.0;
-          is_shop = shop_of c.args.inputs.now.case c.args.line.0 c.as_slice-shops.result.now c.sites-sites.ensures.valid.valid c.requires.line ids k d h;
+          is_shop = shop_of c.args.inputs.now.case c.args.line.0 c.as_slice-shops.result.now c.invariant.ensures.valid.valid c.requires.line ids k d h;
         },
       ),
     )

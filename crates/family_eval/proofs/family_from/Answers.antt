@@ -3,7 +3,7 @@ use Rattle.spares_input.specs.Cases.{CaseRows}
 use Rattle.spares_input.specs.declared.rows.PartId.{PartId}
 use Rattle.fleet_model.specs.Rows.{shop_units}
 use Rattle.family_items.specs.Profile.{part_items}
-use Rattle.family_items.proofs.Items.{by_ids, depot_line_item, family_is, row_length, row_small, total_is}
+use Rattle.family_items.proofs.Public.{by_ids, depot_line_item, family_is, row_length, row_small, total_is}
 use Rattle.family_eval.proofs.family_from.Goals as goal
 
 pub line_items-requires : goal.line_items-requires
@@ -31,7 +31,7 @@ pub total_of-total-requires : goal.total_of-total-requires
 total_of-total-requires g c =
     let x = c.args.inputs.now in
     let n = row_length g.row.F x.case x.stocks.list c.args.line.0 c.in_ok-items.items.items c.as_slice-2.result.now c.as_slice-2.ensures.value c.in_ok-items.ensures in
-    let valid = c.sites-sites.ensures.valid in (
+    let valid = c.invariant.ensures.valid in (
       lit< tt,
       (
         lit< tt,

@@ -1,6 +1,6 @@
 use Rattle.std.proofs.Common.{mul-le-mul_left, length, ◌≡◌, ◌<◌, ap, arith, map, subst}
 use Rattle.spares_input.specs.Cases.{frame_rows, pair_count}
-use Rattle.demand_rates.proofs.Grown.{mapped_more}
+use Rattle.demand_rates.proofs.Public.{mapped_more}
 use Rattle.case_figures.specs.Figures.{all_items, named}
 use Rattle.case_figures.specs.Shows.{no_item_line}
 use Rattle.case_figures.specs.declared.figures.Figures.{Figures}
@@ -34,7 +34,7 @@ offset_bounds-poisson-i c =
     let case = c.args.inputs.now.case in
     let lines : c.args.figures.now.items ≡ map (named 48 case) (all_items 48 case c.args.inputs.now.stocks.list) = ap (λ (x : Figures). x.items) c.requires.figures in
     let within : c.loop-i.i < pair_count (frame_rows case) = omega (arith, c.loop-i-test.true, lines_length case c.args.inputs.now.stocks.list _ lines) in
-    let frame = c.sites-sites.ensures.valid.valid.frame in
+    let frame = c.invariant.ensures.valid.valid.frame in
     omega (arith, within, mul-le-mul_left (length case.parts) frame.most_sites, frame.most_parts)
 
 pub loop-i-preserved : goal.loop-i-preserved
@@ -43,7 +43,7 @@ loop-i-preserved c =
     ap (λ (x : Figures). x.items) c.requires.figures in
     let within : c.loop-i.i < pair_count (frame_rows c.args.inputs.now.case) = omega (arith, c.loop-i-test.true, lines_length c.args.inputs.now.case c.args.inputs.now.stocks.list _ lines) in
     let line = line_is c.args.inputs.now.case c.args.inputs.now.stocks.list c.loop-i.i _ no_item_line c.get-line.result lines within c.get-line.ensures in
-    let place = place_at c.args.inputs.now.case c.loop-i.i (omega (arith, c.sites-sites.ensures.valid.valid.frame.fewest_sites)) within in
+    let place = place_at c.args.inputs.now.case c.loop-i.i (omega (arith, c.invariant.ensures.valid.valid.frame.fewest_sites)) within in
     let all : c.args.poisson.now ≡ poisson_numbers c.args.inputs.now.case c.args.inputs.now.stocks.list =
     c.requires.poisson in
     let q = read_all c.args.inputs.now.case (poisson_of 48 c.args.inputs.now.case c.args.inputs.now.stocks.list) c.args.poisson.now _ _ c.loop-i.i c.index-poisson-i.result c.index-poisson-i.result

@@ -1,9 +1,9 @@
 use Rattle.std.proofs.Common.{◌≡◌, ◌/◌, ◌^◌, ◌∙◌, ap, arith, refl, sym}
 use Rattle.fixed_interval.specs.Ends.{ends_less}
 use Rattle.series_bounds.specs.Profile.{pivot_at}
-use Rattle.series_bounds.proofs.Bounds.{pivot_is}
+use Rattle.series_bounds.proofs.Public.{pivot_is}
 use Rattle.moment_table.specs.Profile.{excess_ends}
-use Rattle.moment_table.proofs.Enclosure.{excess_is}
+use Rattle.moment_table.proofs.Public.{excess_is}
 use Rattle.backorder_bounds.proofs.Parts.{pivot_first}
 use Rattle.backorder_bounds.proofs.Starts.{start_at_once}
 use Rattle.backorder_bounds.proofs.lead.start_of.Goals as goal

@@ -1,5 +1,5 @@
 use Rattle.std.proofs.Common.{◌≡◌}
-use Rattle.step_walk.proofs.Taking.{steps_left}
+use Rattle.step_walk.proofs.Public.{steps_left}
 use Rattle.budget_sweep.specs.Sums.{AreSums}
 use Rattle.budget_sweep.proofs.Taken.{Swept}
 use Rattle.budget_sweep.proofs.states.sweep.Given as goal

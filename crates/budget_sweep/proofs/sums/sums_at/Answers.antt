@@ -1,7 +1,7 @@
 use Rattle.std.proofs.Common.{slice_index, sym, subst, arith}
 use Rattle.hull.specs.Curves.{Among, InRange, nowhere}
-use Rattle.hull.proofs.Runs.{among_at}
-use Rattle.step_walk.proofs.Greedy.{vertex_is}
+use Rattle.hull.proofs.Public.{among_at}
+use Rattle.step_walk.proofs.Public.{vertex_is}
 use Rattle.budget_sweep.proofs.Together.{summed_more, summed_all}
 use Rattle.budget_sweep.proofs.sums.sums_at.Goals as goal
 

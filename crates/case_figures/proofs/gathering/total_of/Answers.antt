@@ -4,7 +4,7 @@ use Rattle.std.proofs.lemmas.Nat.{mul-le}
 use Rattle.std.proofs.lemmas.List.{map_more, take_all}
 use Rattle.std.proofs.lemmas.List.Sums.{fold_push}
 use Rattle.fixed_interval.specs.Ends.{Ends, ends_add, ends_exact}
-use Rattle.fixed_interval.proofs.Laws.{unit_most}
+use Rattle.fixed_interval.proofs.Public.{unit_most}
 use Rattle.family_items.specs.declared.item.FamilyResult.{FamilyResult}
 use Rattle.case_figures.proofs.gathering.total_of.Goals as goal
 

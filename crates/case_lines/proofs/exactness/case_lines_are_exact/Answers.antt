@@ -1,4 +1,4 @@
-use Rattle.line_text.proofs.Files.{answer_again, answer_takes, answer_refuses}
+use Rattle.line_text.proofs.Public.{answer_again, answer_takes, answer_refuses}
 use Rattle.case_lines.specs.Grammar.{case_format}
 use Rattle.case_lines.proofs.Shape.{case_is_exact}
 use Rattle.case_lines.proofs.Valid.{case_fits}

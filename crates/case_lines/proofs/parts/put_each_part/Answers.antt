@@ -1,6 +1,6 @@
 use Rattle.std.proofs.Common.{◌<◌, ◌≤◌, ◌++◌, List, ℕ, length, ap, sym, ◌∙◌, arith}
 use Rattle.line_text.specs.Files.{line}
-use Rattle.line_text.proofs.Loops.{text_from, print_step, print_end, one_text}
+use Rattle.line_text.proofs.Public.{text_from, print_step, print_end, one_text}
 use Rattle.spares_input.specs.Rows.{no_part}
 use Rattle.spares_input.specs.Frames.{part_at}
 use Rattle.case_lines.specs.Grammar.{part_line, part_fields}

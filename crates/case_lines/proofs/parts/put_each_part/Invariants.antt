@@ -1,5 +1,5 @@
 use Rattle.std.proofs.Common.{◌≡◌, ◌++◌, length}
-use Rattle.line_text.proofs.Loops.{text_from}
+use Rattle.line_text.proofs.Public.{text_from}
 use Rattle.case_lines.specs.Grammar.{part_line}
 use Rattle.case_lines.proofs.parts.put_each_part.Given as goal
 

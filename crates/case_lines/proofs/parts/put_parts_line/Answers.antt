@@ -1,4 +1,4 @@
-use Rattle.line_text.proofs.Parts.{all_put}
+use Rattle.line_text.proofs.Public.{all_put}
 use Rattle.case_lines.proofs.parts.put_parts_line.Goals as goal
 
 pub returns-else-weighted : goal.returns-else-weighted

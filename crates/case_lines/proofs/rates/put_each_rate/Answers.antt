@@ -1,7 +1,7 @@
 use Rattle.std.proofs.Common.{◌≡◌, ◌<◌, ◌≤◌, ◌*◌, ◌/◌, ◌%◌, ◌++◌, List, ℕ, length, get_or, ap, sym, ◌∙◌, arith}
 use Rattle.std.proofs.lemmas.Nat.{div-add-mod'}
 use Rattle.line_text.specs.Files.{line}
-use Rattle.line_text.proofs.Loops.{text_from, print_step, print_end, one_text}
+use Rattle.line_text.proofs.Public.{text_from, print_step, print_end, one_text}
 use Rattle.spares_input.specs.Rows.{no_rate}
 use Rattle.spares_input.specs.Frames.{part_at, site_at}
 use Rattle.spares_input.specs.Cases.{rate_at}

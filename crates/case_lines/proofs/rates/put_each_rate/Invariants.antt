@@ -1,5 +1,5 @@
 use Rattle.std.proofs.Common.{◌≡◌, ◌*◌, ◌++◌, length}
-use Rattle.line_text.proofs.Loops.{text_from}
+use Rattle.line_text.proofs.Public.{text_from}
 use Rattle.case_lines.specs.Grammar.{pair_at, rate_line}
 use Rattle.case_lines.proofs.rates.put_each_rate.Given as goal
 

@@ -7,7 +7,7 @@ use Rattle.line_text.specs.Texts.{only}
 use Rattle.answers.specs.declared.stop.Stop.TheVariants as stop
 use Rattle.spares_input.specs.declared.rows.PartRow.{PartRow}
 use Rattle.case_lines.specs.Grammar.{is_owed, may_stand, part_fields, part_line, part_lines}
-use Rattle.line_text.proofs.Steps.{step, stops}
+use Rattle.line_text.proofs.Public.{step, stops}
 use Rattle.case_lines.proofs.read_parts.each_part.Goals as goal
 
 pub returns-in_err-part : goal.returns-in_err-part

@@ -1,7 +1,7 @@
 use Rattle.std.proofs.Common.{◌≡◌, ◌-◌}
 use Rattle.line_text.specs.Formats.{read_after}
 use Rattle.line_text.specs.Texts.{numbers_from}
-use Rattle.line_text.proofs.Loops.{with_front}
+use Rattle.line_text.proofs.Public.{with_front}
 use Rattle.case_lines.specs.Grammar.{part_line, part_lines}
 use Rattle.case_lines.proofs.read_parts.each_part.Given as goal
 

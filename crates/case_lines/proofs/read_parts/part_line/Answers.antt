@@ -1,7 +1,6 @@
 use Rattle.line_text.specs.Files.{line}
-use Rattle.line_text.proofs.Cursors.{line_read}
+use Rattle.line_text.proofs.Public.{line_read, only_stands, only_falls}
 use Rattle.case_lines.specs.Grammar.{may_stand, part_fields}
-use Rattle.line_text.proofs.Steps.{only_stands, only_falls}
 use Rattle.std.proofs.Common.{sym, ◌∙◌, refl}
 use Rattle.line_text.specs.Reading.{later}
 use Rattle.case_lines.proofs.read_parts.part_line.Goals as goal

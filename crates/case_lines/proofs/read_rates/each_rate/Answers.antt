@@ -6,7 +6,7 @@ use Rattle.line_text.specs.Texts.{numbers_from}
 use Rattle.answers.specs.declared.stop.Stop.TheVariants as stop
 use Rattle.spares_input.specs.declared.rows.RateRow.{RateRow}
 use Rattle.case_lines.specs.Grammar.{pair_at, rate_line}
-use Rattle.line_text.proofs.Steps.{done, step, stops}
+use Rattle.line_text.proofs.Public.{done, step, stops}
 use Rattle.case_lines.proofs.read_rates.each_rate.Goals as goal
 
 pub returns-in_err-rate : goal.returns-in_err-rate

@@ -1,7 +1,7 @@
 use Rattle.std.proofs.Common.{◌≡◌, ◌-◌, ◌*◌, length}
 use Rattle.line_text.specs.Formats.{each, read_after}
 use Rattle.line_text.specs.Texts.{numbers_from}
-use Rattle.line_text.proofs.Loops.{with_front}
+use Rattle.line_text.proofs.Public.{with_front}
 use Rattle.case_lines.specs.Grammar.{rate_line, pair_at}
 use Rattle.case_lines.proofs.read_rates.each_rate.Given as goal
 

@@ -1,5 +1,5 @@
 use Rattle.std.proofs.lemmas.Result.{err_from_is_err_and}
-use Rattle.line_text.proofs.Cursors.{line_read, line_refused, line_missing}
+use Rattle.line_text.proofs.Public.{line_read, line_refused, line_missing}
 use Rattle.case_lines.specs.Grammar.{pair_of, rate_fields}
 use Rattle.case_lines.proofs.read_rates.rate_line.Goals as goal
 

@@ -1,6 +1,6 @@
 use Rattle.std.proofs.Common.{Vec, Global, ℕ, ◌*◌, length, subst, sym}
 use Rattle.line_text.specs.Reading.{Gathers}
-use Rattle.line_text.proofs.FieldLaws.{length_numbers_from}
+use Rattle.line_text.proofs.Public.{length_numbers_from}
 use Rattle.spares_input.specs.declared.rows.RateRow.{RateRow}
 use Rattle.case_lines.specs.Rates.{pair_rates}
 use Rattle.case_lines.proofs.read_rates.rates.Goals as goal

@@ -5,7 +5,7 @@ use Rattle.line_text.specs.Texts.{numbers_from}
 use Rattle.answers.specs.declared.stop.Stop.TheVariants as stop
 use Rattle.spares_input.specs.declared.rows.SiteRow.{SiteRow}
 use Rattle.case_lines.specs.Grammar.{site_line}
-use Rattle.line_text.proofs.Steps.{step, stops}
+use Rattle.line_text.proofs.Public.{step, stops}
 use Rattle.case_lines.proofs.read_sites.each_site.Goals as goal
 
 pub returns-in_err-site : goal.returns-in_err-site

@@ -1,7 +1,7 @@
 use Rattle.std.proofs.Common.{◌≡◌, ◌-◌}
 use Rattle.line_text.specs.Formats.{each, read_after}
 use Rattle.line_text.specs.Texts.{numbers_from}
-use Rattle.line_text.proofs.Loops.{with_front}
+use Rattle.line_text.proofs.Public.{with_front}
 use Rattle.case_lines.specs.Grammar.{site_line}
 use Rattle.case_lines.proofs.read_sites.each_site.Given as goal
 

@@ -1,6 +1,6 @@
 use Rattle.std.proofs.Common.{◌<◌, ◌≤◌, ◌++◌, length, ap, ◌∙◌, arith}
 use Rattle.std.specs.List.{concat}
-use Rattle.line_text.proofs.Loops.{text_from, print_step, print_end}
+use Rattle.line_text.proofs.Public.{text_from, print_step, print_end}
 use Rattle.spares_input.specs.Rows.{no_site}
 use Rattle.case_lines.specs.Grammar.{site_line}
 use Rattle.case_lines.proofs.sites.put_each_site.Goals as goal

@@ -1,6 +1,6 @@
 use Rattle.std.proofs.Common.{◌++◌, List, ℕ, ap, ◌∙◌}
 use Rattle.line_text.specs.Files.{file_text, file_answer}
-use Rattle.line_text.proofs.Files.{answer_again}
+use Rattle.line_text.proofs.Public.{answer_again}
 use Rattle.case_lines.specs.Grammar.{case_format}
 use Rattle.case_lines.proofs.Shape.{case_is_exact}
 use Rattle.case_lines.proofs.Valid.{case_fits}

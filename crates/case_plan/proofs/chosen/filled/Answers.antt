@@ -7,16 +7,16 @@ use Rattle.case_plan.proofs.chosen.filled.Goals as goal
 pub totals_of-sums-requires-clause-few : goal.totals_of-sums-requires-clause-few
 totals_of-sums-requires-clause-few c =
     let n = vectors_count c.args.case.now c.args.curves.now c.requires.vectors in
-    let m = few_lines c.args.case.now c.site_count-sites.ensures.valid in
+    let m = few_lines c.args.case.now c.invariant.ensures.valid in
     omega (arith, n, m)
 
 pub stocks_of-requires-clause-widths : goal.stocks_of-requires-clause-widths
-stocks_of-requires-clause-widths c = widths c.args.case.now c.site_count-sites.ensures.valid c.args.curves.now c.args.picks.now c.requires.vectors c.requires.vertices
+stocks_of-requires-clause-widths c = widths c.args.case.now c.invariant.ensures.valid c.args.curves.now c.args.picks.now c.requires.vectors c.requires.vertices
 
 pub returns-clause-fits : goal.returns-clause-fits
 returns-clause-fits c = record {
   is_for = c.in_ok-stocks.ensures.is_for;
-  limits = within c.args.case.now c.site_count-sites.ensures.valid c.args.curves.now c.args.picks.now c.requires.vectors c.requires.vertices c.in_ok-stocks.stocks
+  limits = within c.args.case.now c.invariant.ensures.valid c.args.curves.now c.args.picks.now c.requires.vectors c.requires.vertices c.in_ok-stocks.stocks
       c.in_ok-stocks.ensures.is_for c.in_ok-stocks.ensures.vectors;
   ordered = c.totals_of-sums.ensures.ordered;
   room = c.totals_of-sums.ensures.small;

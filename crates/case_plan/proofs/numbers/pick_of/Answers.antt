@@ -1,6 +1,6 @@
 use Rattle.std.proofs.Common.{sym, subst, arith}
 use Rattle.hull.specs.Curves.{Among, nowhere}
-use Rattle.hull.proofs.Runs.{among_at}
+use Rattle.hull.proofs.Public.{among_at}
 use Rattle.case_plan.proofs.numbers.pick_of.Goals as goal
 
 pub returns-clause-range : goal.returns-clause-range

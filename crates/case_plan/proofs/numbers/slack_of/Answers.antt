@@ -1,6 +1,6 @@
 use Rattle.std.proofs.Common.{sym, subst, arith}
 use Rattle.hull.specs.Curves.{Among, InRange, nowhere}
-use Rattle.hull.proofs.Runs.{among_at}
+use Rattle.hull.proofs.Public.{among_at}
 use Rattle.case_plan.proofs.numbers.slack_of.Goals as goal
 
 range : (c : goal.After-point-point) → InRange c.point-point.result.now

@@ -9,7 +9,7 @@ use Rattle.marginal_alloc.specs.Plans.{IsPlan}
 use Rattle.hull.specs.declared.point.Point.{Point}
 use Rattle.part_filling.specs.declared.window.Window.{Window}
 use Rattle.part_filling.specs.Known.{AreKnown}
-use Rattle.choice_parts.proofs.OfCurves.{in_shape}
+use Rattle.choice_parts.proofs.Public.{in_shape}
 use Rattle.case_plan.specs.Parts.{IsPlace, numbers_of, slack}
 use Rattle.case_plan.specs.Report.{HaveVectors}
 use Rattle.case_plan.proofs.Planned.{family_some, place_at, planned_numbers}
@@ -22,13 +22,13 @@ use Rattle.case_plan.proofs.plan_parts.choose_stocks_by_parts.Goals as goal
 pub first_cost-requires : goal.first_cost-requires
 first_cost-requires g c = record {
   few = subst (λ (l : List (List Point)). length l ≤ 2000) (sym c.as_slice.ensures.value)
-      (few_parts c.args.case.now (g.F.Families.points c.args.families.now) c.args.parts.items c.site_count-sites.ensures.valid c.requires.vectors c.requires.parts.count);
+      (few_parts c.args.case.now (g.F.Families.points c.args.families.now) c.args.parts.items c.invariant.ensures.valid c.requires.vectors c.requires.parts.count);
 }
 
 pub allocate_within-requires-clause-few : goal.allocate_within-requires-clause-few
 allocate_within-requires-clause-few g c =
     subst (λ (l : List (List Point)). length l ≤ 2000) (sym c.as_slice-2.ensures.value)
-    (few_parts c.args.case.now (g.F.Families.points c.args.families.now) c.args.parts.items c.site_count-sites.ensures.valid c.requires.vectors c.requires.parts.count)
+    (few_parts c.args.case.now (g.F.Families.points c.args.families.now) c.args.parts.items c.invariant.ensures.valid c.requires.vectors c.requires.parts.count)
 
 pub returns-clause-some : goal.returns-clause-some
 returns-clause-some g c =
@@ -42,7 +42,7 @@ returns-clause-some g c =
 pub hull_numbers-hull-requires-clause-few : goal.hull_numbers-hull-requires-clause-few
 hull_numbers-hull-requires-clause-few g c =
     subst (λ (l : List (List Point)). length l ≤ 2000) (sym c.as_slice-3.ensures.value)
-    (few_parts c.args.case.now (g.F.Families.points c.args.families.now) c.args.parts.items c.site_count-sites.ensures.valid c.requires.vectors c.requires.parts.count)
+    (few_parts c.args.case.now (g.F.Families.points c.args.families.now) c.args.parts.items c.invariant.ensures.valid c.requires.vectors c.requires.parts.count)
 
 pub hull_numbers-hull-requires-clause-vertices : goal.hull_numbers-hull-requires-clause-vertices
 hull_numbers-hull-requires-clause-vertices g c =
@@ -77,7 +77,7 @@ fill_parts-requires-clause-start g c = c.requires.window.low_small
 
 pub fill_parts-requires-clause-few : goal.fill_parts-requires-clause-few
 fill_parts-requires-clause-few g c =
-    few_parts c.args.case.now (g.F.Families.points c.args.families.now) c.args.parts.items c.site_count-sites.ensures.valid c.requires.vectors c.requires.parts.count
+    few_parts c.args.case.now (g.F.Families.points c.args.families.now) c.args.parts.items c.invariant.ensures.valid c.requires.vectors c.requires.parts.count
 
 pub fill_parts-requires-clause-known : goal.fill_parts-requires-clause-known
 fill_parts-requires-clause-known g c =

@@ -1,7 +1,7 @@
 use Rattle.std.proofs.Common.{IfSome, List, ◌∙◌, arith, subst}
 use Rattle.hull.specs.declared.point.Point.{Point}
 use Rattle.marginal_alloc.specs.Choice.{AreCurves}
-use Rattle.choice_parts.proofs.OfCurves.{curves_of}
+use Rattle.choice_parts.proofs.Public.{curves_of}
 use Rattle.case_plan.specs.Chosen.{FitsCase, IsChosen}
 use Rattle.case_plan.proofs.ChosenFacts.{evaluable}
 use Rattle.case_plan.proofs.plan_parts.plan_by_parts.Goals as goal
@@ -10,7 +10,7 @@ pub evaluate_all-requires : goal.evaluate_all-requires
 evaluate_all-requires g c = (
   omega arith,
   (
-    evaluable c.args.case.now c.in-Some.chosen c.site_count-sites.ensures.valid c.requires.rates.no_fault
+    evaluable c.args.case.now c.in-Some.chosen c.invariant.ensures.valid c.requires.rates.no_fault
         (subst (λ x. IfSome x (FitsCase c.args.case.now)) c.in-Some.is c.in_ok-chosen.ensures.fits),
     c.requires.rates,
   ),

@@ -12,13 +12,13 @@ use Rattle.case_plan.proofs.Whole.{place_some}
 use Rattle.case_plan.proofs.planning.choose_stocks.Goals as goal
 
 pub allocate_near-requires-clause-few : goal.allocate_near-requires-clause-few
-allocate_near-requires-clause-few c = (let n = c.requires.curves.count in let m = few_lines c.args.case.now c.site_count-sites.ensures.valid in omega (arith, n, m))
+allocate_near-requires-clause-few c = (let n = c.requires.curves.count in let m = few_lines c.args.case.now c.invariant.ensures.valid in omega (arith, n, m))
 
 pub hull_numbers-hull-requires-clause-few : goal.hull_numbers-hull-requires-clause-few
-hull_numbers-hull-requires-clause-few c = (let n = c.requires.curves.count in let m = few_lines c.args.case.now c.site_count-sites.ensures.valid in omega (arith, n, m))
+hull_numbers-hull-requires-clause-few c = (let n = c.requires.curves.count in let m = few_lines c.args.case.now c.invariant.ensures.valid in omega (arith, n, m))
 
 pub fill-requires-clause-few : goal.fill-requires-clause-few
-fill-requires-clause-few c = (let n = c.requires.curves.count in let m = few_lines c.args.case.now c.site_count-sites.ensures.valid in omega (arith, n, m))
+fill-requires-clause-few c = (let n = c.requires.curves.count in let m = few_lines c.args.case.now c.invariant.ensures.valid in omega (arith, n, m))
 
 pub hull_numbers-hull-requires-clause-critical : goal.hull_numbers-hull-requires-clause-critical
 hull_numbers-hull-requires-clause-critical c = place_at c.args.curves.now c.args.budget c.in_ok-chosen.chosen c.in_ok-chosen.chosen.critical refl c.in_ok-chosen.ensures.choice

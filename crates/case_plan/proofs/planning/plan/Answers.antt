@@ -7,7 +7,7 @@ pub evaluate_all-requires : goal.evaluate_all-requires
 evaluate_all-requires c = (
   omega arith,
   (
-    evaluable c.args.case.now c.in_ok-chosen.chosen c.site_count-sites.ensures.valid c.requires.rates.no_fault c.in_ok-chosen.ensures.fits,
+    evaluable c.args.case.now c.in_ok-chosen.chosen c.invariant.ensures.valid c.requires.rates.no_fault c.in_ok-chosen.ensures.fits,
     c.requires.rates,
   ),
 )

@@ -1,5 +1,5 @@
 use Rattle.std.proofs.Common.{get_or, refl}
-use Rattle.gap_rules.proofs.Families.{line_is}
+use Rattle.gap_rules.proofs.Public.{line_is}
 use Rattle.certified_plan.proofs.Made.{covers_more}
 use Rattle.certified_plan.proofs.certifying.covers_along.Goals as goal
 

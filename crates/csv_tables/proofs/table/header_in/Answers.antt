@@ -1,7 +1,7 @@
 use Rattle.std.proofs.Common.{◌≡◌, refl, sym, length, arith}
 use Rattle.std.proofs.lemmas.List.{length-map}
 use Rattle.spares_input.specs.First.{first}
-use Rattle.spares_input.proofs.Firsts.{first_more, first_found}
+use Rattle.spares_input.proofs.Public.{first_more, first_found}
 use Rattle.csv_tables.proofs.TableFacts.{header_fault, header_whole}
 use Rattle.csv_tables.proofs.table.header_in.Goals as goal
 

@@ -1,7 +1,7 @@
 use Rattle.std.proofs.Common.{List, [], ◌∷◌, ◌++◌, subst}
 use Rattle.hull.specs.declared.point.Point.{Point}
 use Rattle.hull.specs.Curves.{Among, IsCurve, StandFor}
-use Rattle.hull.proofs.Shapes.{convex}
+use Rattle.hull.proofs.Public.{convex}
 use Rattle.sum_walk.specs.Sums.{sums_of_each}
 use Rattle.curve_parts.specs.Parts.{StandForBetween}
 use Rattle.curve_parts.proofs.Between.{joined_between}

@@ -1,8 +1,7 @@
 use Rattle.std.proofs.Common.{◌≡◌, ◌*◌, ◌∙◌, refl, sym, ap, subst, length, map, None}
 use Rattle.std.specs.List.{range_with_len}
 use Rattle.spares_input.specs.First.{first}
-use Rattle.spares_input.proofs.CaseFacts.{all_places, few_parts, few_sites, part_within, place_few, places_fit, site_within, some_sites}
-use Rattle.spares_input.proofs.Firsts.{first_found, first_more}
+use Rattle.spares_input.proofs.Public.{all_places, few_parts, few_sites, part_within, place_few, places_fit, site_within, some_sites, first_found, first_more}
 use Rattle.demand_rates.specs.Limits.{place_fault}
 use Rattle.demand_rates.specs.Rates.{place_rates}
 use Rattle.demand_rates.proofs.Grown.{mapped_more}

@@ -1,7 +1,6 @@
 use Rattle.std.proofs.Common.{ℕ, ◌*◌, ◌≤◌}
 use Rattle.case_maker.specs.Demonstration.{made}
-use Rattle.case_maker.proofs.Valid.{made_valid, made_few, made_lines}
-use Rattle.case_maker.proofs.Whole.{made_drawn}
+use Rattle.case_maker.proofs.Public.{made_valid, made_few, made_lines, made_drawn}
 use Rattle.demo_accepts.specs.Tables.{all_tables}
 use Rattle.demo_accepts.proofs.FewTables.{family_few, all_few, work_few}
 use Rattle.demo_accepts.proofs.law.demonstrations_take_few_tables.Goals as goal

@@ -1,11 +1,10 @@
 use Rattle.std.proofs.Common.{length, ap, arith}
 use Rattle.std.proofs.lemmas.List.{length-map}
-use Rattle.hull.proofs.Runs.{curve_made}
+use Rattle.hull.proofs.Public.{curve_made}
 use Rattle.family_points.specs.declared.order.ShopVector.{ShopVector}
 use Rattle.family_points.specs.Inputs.{shop_vectors}
-use Rattle.family_points.proofs.Ordered.{order_count, ordered_stands}
-use Rattle.family_points.proofs.Points.{some_vectors, turned_curve}
-use Rattle.family_rows.proofs.Rows.{rows_taken}
+use Rattle.family_points.proofs.Public.{order_count, ordered_stands, some_vectors, turned_curve}
+use Rattle.family_rows.proofs.Public.{rows_taken}
 use Rattle.family_curve.proofs.base.put_curve.Goals as goal
 
 pub put_points-requires-clause-rows : goal.put_points-requires-clause-rows
@@ -43,7 +42,7 @@ returns-clause-curve g c =
     let chain = c.put_points.new.chain in
     turned_curve x c.requires.here.valid g.S.Score.ends g.met.S.Score.leaves_room here.depot.now c.requires.here.depot here.site.0 c.requires.here.site chain
     (curve_made _ chain (ordered_stands x here.site.0 here.base.now.order.items c.requires.here.base.order g.S.Score.ends here.depot.now chain c.in_ok-put_points.ensures.stands)
-    c.len-vertices.ensures.shape.chain)
+    c.invariant.ensures.shape.chain)
 
 pub returns-clause-few : goal.returns-clause-few
 returns-clause-few g c =

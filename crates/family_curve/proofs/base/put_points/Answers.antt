@@ -2,10 +2,10 @@ use Rattle.std.proofs.Common.{◌≡◌, ◌<◌, ◌≤◌, List, [], ◌∷◌
 use Rattle.std.proofs.lemmas.List.{take_all}
 use Rattle.hull.specs.declared.point.Point.{Point}
 use Rattle.hull.specs.Curves.{InRange, StandFor}
-use Rattle.hull.proofs.StepsOf.{stand_self}
+use Rattle.hull.proofs.Public.{stand_self}
 use Rattle.family_points.specs.declared.order.Choice.{Choice}
 use Rattle.family_points.specs.Choices.{IsChoice, choice_point}
-use Rattle.family_points.proofs.Ordered.{choice_range, earlier_cheaper, earlier_wide, stands_on}
+use Rattle.family_points.proofs.Public.{choice_range, earlier_cheaper, earlier_wide, stands_on}
 use Rattle.family_curve.proofs.base.put_points.Goals as goal
 
 pub spot_at-requires-clause-choice : goal.spot_at-requires-clause-choice

@@ -1,6 +1,6 @@
 use Rattle.std.proofs.Common.{◌≤◌, length}
 use Rattle.hull.specs.Curves.{StandFor}
-use Rattle.family_points.proofs.Ordered.{points_to}
+use Rattle.family_points.proofs.Public.{points_to}
 use Rattle.family_curve.proofs.base.put_points.Given as goal
 
 abbrev pub invariant-loop-n : goal.invariant-loop-n

@@ -1,7 +1,7 @@
 use Rattle.std.proofs.Common.{◌∷◌, ◌++◌, [], length, sym, ap, ◌∙◌, subst, arith, OnOk}
 use Rattle.hull.specs.declared.point.Point.{Point}
 use Rattle.hull.specs.Curves.{InRange, StandFor}
-use Rattle.family_points.proofs.Ordered.{choice_range}
+use Rattle.family_points.proofs.Public.{choice_range}
 use Rattle.family_curve.proofs.base.take_choice.Goals as goal
 
 pub take-requires-clause-order : goal.take-requires-clause-order

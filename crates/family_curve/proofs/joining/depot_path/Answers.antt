@@ -2,13 +2,12 @@ use Rattle.std.proofs.Common.{ℕ, ◌+◌, ◌≤◌, List, [], ◌∷◌, ◌+
 use Rattle.std.proofs.lemmas.Result.{IfOk-weaker}
 use Rattle.hull.specs.declared.point.Point.{Point}
 use Rattle.hull.specs.Curves.{Among, StandFor}
-use Rattle.hull.proofs.Stand.{stand_for_both}
-use Rattle.hull.proofs.StepsOf.{stand_self, stand_trans}
+use Rattle.hull.proofs.Public.{stand_for_both, stand_self, stand_trans}
 use Rattle.family_points.specs.Separation.{depot_point, depot_points}
 use Rattle.family_points.specs.Inputs.{IsAt, vertex_count}
 use Rattle.family_rows.specs.Tabled.{AreTables}
 use Rattle.sum_walk.specs.Sums.{sums_of_each}
-use Rattle.family_points.proofs.AllBases.{bases_long}
+use Rattle.family_points.proofs.Public.{bases_long}
 use Rattle.family_curve.proofs.joining.depot_path.Goals as goal
 
 pub walk-requires-clause-some : goal.walk-requires-clause-some
@@ -18,8 +17,7 @@ walk-requires-clause-some g c =
       ap length c.as_slice-chains.ensures.value,
       c.in_ok-put_curves.ensures.work,
       bases_long c.args.sources.now.family.now c.args.sources.now.bases.items c.requires.sources.bases,
-      c.sites-sites.ensures.sites,
-      c.sites-sites.ensures.fewest,
+      c.invariant.ensures.valid.valid.frame.fewest_sites,
     )
 
 pub walk-requires-clause-few : goal.walk-requires-clause-few
@@ -29,8 +27,7 @@ walk-requires-clause-few g c =
       ap length c.as_slice-chains.ensures.value,
       c.in_ok-put_curves.ensures.work,
       bases_long c.args.sources.now.family.now c.args.sources.now.bases.items c.requires.sources.bases,
-      c.sites-sites.ensures.sites,
-      c.sites-sites.ensures.most,
+      c.invariant.ensures.valid.valid.frame.most_sites,
     )
 
 pub returns-clause-stands : goal.returns-clause-stands

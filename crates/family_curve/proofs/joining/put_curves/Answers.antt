@@ -5,17 +5,16 @@ use Rattle.std.proofs.lemmas.List.{take_all, take_more_set}
 use Rattle.std.proofs.Math.ListN.{length-set}
 use Rattle.hull.specs.declared.point.Point.{Point}
 use Rattle.hull.specs.Curves.{IsCurve, StandFor}
-use Rattle.hull.proofs.StepsOf.{stand_self}
+use Rattle.hull.proofs.Public.{stand_self}
 use Rattle.fleet_model.specs.Laws.{IsBase}
 use Rattle.family_points.specs.declared.order.Base.{Base}
 use Rattle.family_points.specs.Separation.{base_points, depot_point, points_over}
 use Rattle.family_points.specs.Inputs.{FamilyBox, vector_count}
 use Rattle.family_points.specs.Choices.{AreBases}
 use Rattle.sum_walk.specs.Sums.{sums_of_each}
-use Rattle.family_rows.proofs.Tabled.{tables_at}
+use Rattle.family_rows.proofs.Public.{tables_at}
 use Rattle.family_curve.proofs.Bases.{base_more, lengths_one_more}
-use Rattle.family_points.proofs.AllBases.{base_read, bases_long}
-use Rattle.family_points.proofs.Points.{over_count_more, room_at}
+use Rattle.family_points.proofs.Public.{base_read, bases_long, over_count_more, room_at}
 use Rattle.family_curve.proofs.joining.put_curves.Goals as goal
 
 pub loop-j-init : goal.loop-j-init
@@ -99,7 +98,7 @@ loop-j-preserved g c =
     subst (λ k. length chain ≤ vector_count x k) c.of-here.ensures.site
     (subst (λ (y : FamilyBox). length chain ≤ vector_count y here.site.0) c.of-here.ensures.family c.in_ok-put_curve.ensures.few) in
     record {
-      stands = base_more x c.size-size.ensures.valid ends g.met.S.Score.leaves_room d c.requires.depot (depot_point x d) j (take (j - 1) chains) (take (j + 1 - 1) put) chain on
+      stands = base_more x c.invariant.ensures.valid ends g.met.S.Score.leaves_room d c.requires.depot (depot_point x d) j (take (j - 1) chains) (take (j + 1 - 1) put) chain on
           c.loop-j.invariant.stands curve made;
       few = omega (arith, few, over_count_more x j c.loop-j.auto.j, c.loop-j.invariant.few, ap (sum_by length) made, lengths_one_more (take (j - 1) chains) chain);
       count = simp length-set c.loop-j.invariant.count;

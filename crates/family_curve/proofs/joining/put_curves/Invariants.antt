@@ -3,7 +3,7 @@ use Rattle.std.specs.List.{range_with_len}
 use Rattle.hull.specs.Curves.{StandFor}
 use Rattle.family_points.specs.Separation.{depot_point, points_over}
 use Rattle.sum_walk.specs.Sums.{sums_of_each}
-use Rattle.family_points.proofs.Points.{over_count}
+use Rattle.family_points.proofs.Public.{over_count}
 use Rattle.family_curve.proofs.joining.put_curves.Given as goal
 
 abbrev pub invariant-loop-j : goal.invariant-loop-j

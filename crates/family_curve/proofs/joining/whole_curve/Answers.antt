@@ -4,7 +4,7 @@ use Rattle.hull.specs.Curves.{IsCurve}
 use Rattle.family_points.specs.Separation.{depot_points}
 use Rattle.family_points.specs.Inputs.{line_stocks, shop_vectors, vertex_count}
 use Rattle.family_curve.proofs.Grown.{curve_grows_back, room_for}
-use Rattle.family_points.proofs.Points.{all_depots, flat_before, flat_last, one_of, whole_room}
+use Rattle.family_points.proofs.Public.{all_depots, flat_before, flat_last, one_of, whole_room}
 use Rattle.family_curve.proofs.joining.whole_curve.Goals as goal
 
 pub with_shops-requires-clause-number : goal.with_shops-requires-clause-number
@@ -17,7 +17,7 @@ pub with_shops-requires-clause-room : goal.with_shops-requires-clause-room
 with_shops-requires-clause-room g c =
     let x = c.args.sources.now.family.now in
     let one = one_of (length (shop_vectors x 0)) (length (line_stocks x 0) * vertex_count x) 65000000 (omega (arith, c.shop_count-count.ensures.some, c.shop_count-count.ensures.count))
-    (whole_room x c.size-size.ensures.valid (vertex_count x) 65000000 c.requires.room) in
+    (whole_room x c.invariant.ensures.valid (vertex_count x) 65000000 c.requires.room) in
     omega (arith, one)
 
 pub loop-n-init : goal.loop-n-init
@@ -39,7 +39,7 @@ loop-n-init g c =
 pub with_shops-requires-in-loop-n-clause-room : goal.with_shops-requires-in-loop-n-clause-room
 with_shops-requires-in-loop-n-clause-room g c =
     let x = c.args.sources.now.family.now in
-    let room = whole_room x c.size-size.ensures.valid (vertex_count x) 65000000 c.requires.room in
+    let room = whole_room x c.invariant.ensures.valid (vertex_count x) 65000000 c.requires.room in
     room_for c.loop-n.n (length (shop_vectors x 0)) (length (line_stocks x 0) * vertex_count x) (length c.loop-n.curve) 0 65000000 (omega (arith, c.loop-n.invariant.few))
     (omega (arith, c.loop-n-test.true, c.shop_count-count.ensures.count)) (omega (arith, room))
 
@@ -65,7 +65,7 @@ loop-n-preserved g c =
 pub returns : goal.returns
 returns g c =
     let x = c.args.sources.now.family.now in
-    all_depots x c.size-size.ensures.valid g.S.Score.ends g.met.S.Score.leaves_room (length (shop_vectors x 0) - c.loop-n.n) c.loop-n.curve
+    all_depots x c.invariant.ensures.valid g.S.Score.ends g.met.S.Score.leaves_room (length (shop_vectors x 0) - c.loop-n.n) c.loop-n.curve
     (omega (arith, c.loop-n-test.false, c.shop_count-count.ensures.count)) c.loop-n.invariant.curve
 
 pub with_shops-requires-clause-sources : goal.with_shops-requires-clause-sources
@@ -84,4 +84,4 @@ pub with_shops-requires-in-loop-n-clause-work : goal.with_shops-requires-in-loop
 with_shops-requires-in-loop-n-clause-work g c = c.loop-n.invariant.work
 
 pub shop_count-count-requires : goal.shop_count-count-requires
-shop_count-count-requires g c = let some = c.size-size.ensures.valid.valid.frame.fewest_sites in omega (arith, some)
+shop_count-count-requires g c = let some = c.invariant.ensures.valid.valid.frame.fewest_sites in omega (arith, some)

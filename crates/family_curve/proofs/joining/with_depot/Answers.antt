@@ -2,7 +2,7 @@ use Rattle.std.proofs.Common.{◌≡◌, ◌+◌, ◌≤◌, List, [], Option, �
 use Rattle.family_points.specs.Inputs.{vertex_count}
 use Rattle.hull.specs.declared.point.Point.{Point}
 use Rattle.hull.specs.Curves.{Among, InRange, IsCurve, StandFor}
-use Rattle.hull.proofs.Stand.{stand_for}
+use Rattle.hull.proofs.Public.{stand_for}
 use Rattle.family_curve.specs.Joining.{HaveWidthOf, vertices_of}
 use Rattle.family_points.specs.Separation.{depot_points}
 use Rattle.family_curve.proofs.Grown.{curve_stays, depot_ranges, depot_widths, none_of, widths_grow}
@@ -11,7 +11,7 @@ use Rattle.family_curve.proofs.joining.with_depot.Goals as goal
 pub of-requires-clause-ranges : goal.of-requires-clause-ranges
 of-requires-clause-ranges g c =
     let x = c.args.sources.now.family.now in
-    let valid = c.size-size.ensures.valid in
+    let valid = c.invariant.ensures.valid in
     let d = c.args.first.now.stocks in
     let ends = g.S.Score.ends in
     let room = g.met.S.Score.leaves_room in
@@ -20,7 +20,7 @@ of-requires-clause-ranges g c =
 pub of-requires-clause-widths : goal.of-requires-clause-widths
 of-requires-clause-widths g c =
     let x = c.args.sources.now.family.now in
-    let valid = c.size-size.ensures.valid in
+    let valid = c.invariant.ensures.valid in
     let d = c.args.first.now.stocks in
     let ends = g.S.Score.ends in
     let room = g.met.S.Score.leaves_room in
@@ -29,7 +29,7 @@ of-requires-clause-widths g c =
 pub returns-in_default-clause-curve : goal.returns-in_default-clause-curve
 returns-in_default-clause-curve g c =
     let x = c.args.sources.now.family.now in
-    let valid = c.size-size.ensures.valid in
+    let valid = c.invariant.ensures.valid in
     let d = c.args.first.now.stocks in
     let ends = g.S.Score.ends in
     let room = g.met.S.Score.leaves_room in
@@ -40,7 +40,7 @@ returns-in_default-clause-curve g c =
 pub returns-in_default-clause-widths : goal.returns-in_default-clause-widths
 returns-in_default-clause-widths g c =
     let x = c.args.sources.now.family.now in
-    let valid = c.size-size.ensures.valid in
+    let valid = c.invariant.ensures.valid in
     let d = c.args.first.now.stocks in
     let ends = g.S.Score.ends in
     let room = g.met.S.Score.leaves_room in
@@ -53,7 +53,7 @@ depot_path-requires-2-clause-ranges g c =
 pub add_points-requires-clause-ranges : goal.add_points-requires-clause-ranges
 add_points-requires-clause-ranges g c =
     let x = c.args.sources.now.family.now in
-    let valid = c.size-size.ensures.valid in
+    let valid = c.invariant.ensures.valid in
     let d = c.args.first.now.stocks in
     let ends = g.S.Score.ends in
     let room = g.met.S.Score.leaves_room in
@@ -62,7 +62,7 @@ add_points-requires-clause-ranges g c =
 pub add_points-requires-clause-widths : goal.add_points-requires-clause-widths
 add_points-requires-clause-widths g c =
     let x = c.args.sources.now.family.now in
-    let valid = c.size-size.ensures.valid in
+    let valid = c.invariant.ensures.valid in
     let d = c.args.first.now.stocks in
     let ends = g.S.Score.ends in
     let room = g.met.S.Score.leaves_room in
@@ -72,7 +72,7 @@ add_points-requires-clause-widths g c =
 pub returns-then-is_empty-clause-curve : goal.returns-then-is_empty-clause-curve
 returns-then-is_empty-clause-curve g c =
     let x = c.args.sources.now.family.now in
-    let valid = c.size-size.ensures.valid in
+    let valid = c.invariant.ensures.valid in
     let d = c.args.first.now.stocks in
     let ends = g.S.Score.ends in
     let room = g.met.S.Score.leaves_room in
@@ -86,7 +86,7 @@ returns-then-is_empty-clause-curve g c =
 pub returns-clause-curve : goal.returns-clause-curve
 returns-clause-curve g c =
     let x = c.args.sources.now.family.now in
-    let valid = c.size-size.ensures.valid in
+    let valid = c.invariant.ensures.valid in
     let d = c.args.first.now.stocks in
     let ends = g.S.Score.ends in
     let room = g.met.S.Score.leaves_room in
@@ -103,7 +103,7 @@ returns-then-is_empty-clause-widths g c = subst (λ (o : Option (List Point)). H
 pub returns-clause-widths : goal.returns-clause-widths
 returns-clause-widths g c =
     let x = c.args.sources.now.family.now in
-    let valid = c.size-size.ensures.valid in
+    let valid = c.invariant.ensures.valid in
     let d = c.args.first.now.stocks in
     let ends = g.S.Score.ends in
     let room = g.met.S.Score.leaves_room in

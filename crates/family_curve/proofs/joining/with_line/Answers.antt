@@ -2,7 +2,7 @@ use Rattle.std.proofs.Common.{◌≡◌, ◌<◌, List, ℕ, [], ◌∷◌, drop
 use Rattle.hull.specs.declared.point.Point.{Point}
 use Rattle.family_points.specs.Separation.{depot_point}
 use Rattle.family_points.specs.Inputs.{IsAt}
-use Rattle.family_points.proofs.Points.{joined_at}
+use Rattle.family_points.proofs.Public.{joined_at}
 use Rattle.family_curve.proofs.joining.with_line.Goals as goal
 
 -- a list with another first entry
@@ -13,7 +13,7 @@ with_first (x ∷ v) s h = refl
 pub depot_point-requires : goal.depot_point-requires
 depot_point-requires c =
     let x = c.args.family.now in
-    let valid = c.size-size.ensures.valid in
+    let valid = c.invariant.ensures.valid in
     let some = valid.valid.frame.fewest_sites in
     let first = ap (λ (v : List ℕ). set v 0 c.args.line) c.into_vec-stocks.ensures ∙ with_first c.args.point.stocks c.args.line c.requires.some in
     subst (IsAt x 0) (sym first) (joined_at x valid 0 c.args.line (drop 1 c.args.point.stocks) (omega (arith, some)) c.requires.shops c.requires.least c.requires.most)
@@ -21,7 +21,7 @@ depot_point-requires c =
 pub returns-clause-point : goal.returns-clause-point
 returns-clause-point c =
     let x = c.args.family.now in
-    let valid = c.size-size.ensures.valid in
+    let valid = c.invariant.ensures.valid in
     let some = valid.valid.frame.fewest_sites in
     let first = ap (λ (v : List ℕ). set v 0 c.args.line) c.into_vec-stocks.ensures ∙ with_first c.args.point.stocks c.args.line c.requires.some in
     let stocks = ap (λ (p : Point). p.stocks) c.depot_point.ensures.point in

@@ -8,7 +8,7 @@ use Rattle.family_rows.specs.Tabled.{AreTables}
 use Rattle.family_points.specs.Inputs.{AreShopsAt, line_high, line_low, line_stocks, vertex_count}
 use Rattle.family_curve.specs.Joining.{middle, run_start, vertices_of}
 use Rattle.family_curve.proofs.Grown.{room_for, room_for_one, run_grows}
-use Rattle.family_points.proofs.Points.{stocks_count}
+use Rattle.family_points.proofs.Public.{stocks_count}
 use Rattle.family_curve.proofs.joining.with_lines.Goals as goal
 
 pub first_point-requires-clause-least : goal.first_point-requires-clause-least
@@ -24,7 +24,7 @@ pub with_depot-requires-clause-room : goal.with_depot-requires-clause-room
 with_depot-requires-clause-room g c =
     let x = c.args.sources.now.family.now in
     room_for_one (length (line_stocks x 0)) (vertex_count x) (length (vertices_of c.args.so_far)) 65000000
-    (omega (arith, stocks_count x c.size-size.ensures.valid 0, c.line_high-high.ensures.high, c.line_high-high.ensures.order)) c.requires.room
+    (omega (arith, stocks_count x c.invariant.ensures.valid 0, c.line_high-high.ensures.high, c.line_high-high.ensures.order)) c.requires.room
 
 pub loop-n-init : goal.loop-n-init
 loop-n-init g c =
@@ -56,7 +56,7 @@ pub with_depot-requires-in-loop-n-clause-room : goal.with_depot-requires-in-loop
 with_depot-requires-in-loop-n-clause-room g c =
     let x = c.args.sources.now.family.now in
     room_for c.loop-n.n (length (line_stocks x 0)) (vertex_count x) (length c.loop-n.curve) (length (vertices_of c.args.so_far)) 65000000 c.loop-n.invariant.few
-    (omega (arith, stocks_count x c.size-size.ensures.valid 0, c.loop-n-test.true, c.line_low-low.ensures, c.line_high-high.ensures.high, c.line_high-high.ensures.order)) c.requires.room
+    (omega (arith, stocks_count x c.invariant.ensures.valid 0, c.loop-n-test.true, c.line_low-low.ensures, c.line_high-high.ensures.high, c.line_high-high.ensures.order)) c.requires.room
 
 pub loop-n-preserved : goal.loop-n-preserved
 loop-n-preserved g c =
@@ -106,7 +106,7 @@ returns-clause-few g c =
     let x = c.args.sources.now.family.now in
     let end : c.loop-n.n ≤ c.line_high-high.result - c.line_low-low.result + 1 = c.loop-n.auto.n-end (omega arith) in
     let last : c.loop-n.n ≡ length (line_stocks x 0) =
-    omega (arith, c.loop-n-test.false, end, c.line_low-low.ensures, c.line_high-high.ensures.high, c.line_high-high.ensures.order, stocks_count x c.size-size.ensures.valid 0) in
+    omega (arith, c.loop-n-test.false, end, c.line_low-low.ensures, c.line_high-high.ensures.high, c.line_high-high.ensures.order, stocks_count x c.invariant.ensures.valid 0) in
     subst (λ n. length c.loop-n.curve ≤ length (vertices_of c.args.so_far) + n * vertex_count x) last c.loop-n.invariant.few
 
 pub with_depot-requires-clause-sources : goal.with_depot-requires-clause-sources
@@ -151,10 +151,10 @@ pub with_depot-requires-in-loop-n-clause-work : goal.with_depot-requires-in-loop
 with_depot-requires-in-loop-n-clause-work g c = c.loop-n.invariant.work
 
 pub line_low-low-requires : goal.line_low-low-requires
-line_low-low-requires g c = let some = c.size-size.ensures.valid.valid.frame.fewest_sites in omega (arith, some)
+line_low-low-requires g c = let some = c.invariant.ensures.valid.valid.frame.fewest_sites in omega (arith, some)
 
 pub line_high-high-requires : goal.line_high-high-requires
-line_high-high-requires g c = let some = c.size-size.ensures.valid.valid.frame.fewest_sites in omega (arith, some)
+line_high-high-requires g c = let some = c.invariant.ensures.valid.valid.frame.fewest_sites in omega (arith, some)
 
 pub middle-requires : goal.middle-requires
 middle-requires g c = omega (arith, c.line_low-low.ensures, c.line_high-high.ensures.order)

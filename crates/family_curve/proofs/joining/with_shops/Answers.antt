@@ -38,7 +38,7 @@ pub returns-clause-work : goal.returns-clause-work
 returns-clause-work g c = c.with_lines.ensures.work
 
 pub shop_vector-requires-clause-site : goal.shop_vector-requires-clause-site
-shop_vector-requires-clause-site g c = let some = c.size-size.ensures.valid.valid.frame.fewest_sites in omega (arith, some)
+shop_vector-requires-clause-site g c = let some = c.invariant.ensures.valid.valid.frame.fewest_sites in omega (arith, some)
 
 pub shop_vector-requires-clause-within : goal.shop_vector-requires-clause-within
 shop_vector-requires-clause-within g c = c.requires.number

@@ -2,7 +2,7 @@ use Rattle.std.proofs.Common.{arith, lit<, length}
 use Rattle.fixed_interval.specs.Ends.{ends_add}
 use Rattle.depot_pipeline.specs.Profile.{mean_part}
 use Rattle.base_pipeline.specs.Profile.{held_at}
-use Rattle.family_items.proofs.Ranges.{added_least, can_table}
+use Rattle.family_items.proofs.Public.{added_least, can_table}
 use Rattle.family_eval.proofs.levels.base_line_item.Goals as goal
 
 pub stocked-requires : goal.stocked-requires

@@ -1,6 +1,6 @@
 use Rattle.std.proofs.Common.{lit<, length}
 use Rattle.depot_pipeline.specs.Profile.{feed_at, mean_part}
-use Rattle.family_items.proofs.Ranges.{added_least, can_table}
+use Rattle.family_items.proofs.Public.{added_least, can_table}
 use Rattle.family_eval.proofs.levels.depot_line_item.Goals as goal
 
 pub stocked-requires : goal.stocked-requires

@@ -1,5 +1,5 @@
 use Rattle.std.proofs.Common.{arith, lit<}
-use Rattle.family_items.proofs.Ranges.{can_table}
+use Rattle.family_items.proofs.Public.{can_table}
 use Rattle.family_eval.proofs.levels.depot_shop_item.Goals as goal
 
 pub stocked-requires : goal.stocked-requires

@@ -1,13 +1,12 @@
 use Rattle.std.proofs.Common.{◌∙◌, lit<, subst, sym}
 use Rattle.std.proofs.lemmas.Result.{IfOk-weaker}
 use Rattle.family_items.specs.Encloses.{IsSmallItem}
-use Rattle.family_items.proofs.Enclosed.{small_00}
-use Rattle.family_items.proofs.Items.{all_held_small, base_line_is, feed_small, held_are, held_few, ids_few}
+use Rattle.family_items.proofs.Public.{small_00, all_held_small, base_line_is, feed_small, held_are, held_few, ids_few}
 use Rattle.family_eval.proofs.lines.base_line_at.Goals as goal
 
 pub held_at-requires : goal.held_at-requires
 held_at-requires g c =
-    let valid = c.sites-sites.ensures.valid.valid in (
+    let valid = c.invariant.ensures.valid.valid in (
       lit< tt,
       (
         lit< tt,
@@ -23,7 +22,7 @@ held_at-requires g c =
 
 pub base_line_item-requires : goal.base_line_item-requires
 base_line_item-requires g c =
-    let sound = c.sites-sites.ensures.valid in
+    let sound = c.invariant.ensures.valid in
     let small = subst (IsSmallItem g.row.F) (sym c.requires.depot)
     (small_00 g.row.F c.args.inputs.now.case c.args.inputs.now.stocks.list c.requires.scale.0 sound c.args.line.0 c.requires.line) in
     let held = c.as_slice.ensures.value ∙ c.in_ok-held.ensures
@@ -53,7 +52,7 @@ base_line_item-requires g c =
 
 pub returns : goal.returns
 returns g c =
-    let sound = c.sites-sites.ensures.valid in
+    let sound = c.invariant.ensures.valid in
     IfOk-weaker c.base_line_item.result _ _
     (λ x h. base_line_is g.row.F c.args.inputs.now.case c.args.inputs.now.stocks.list c.args.line.0 c.args.site.0 c.pipeline.result c.feed_of-feed.result c.share.result c.args.depot.now x
     _ c.as_slice.result.now c.pipeline.ensures.pipeline c.feed_of-feed.ensures c.share.ensures.share c.requires.depot (c.as_slice.ensures.value ∙ c.in_ok-held.ensures)

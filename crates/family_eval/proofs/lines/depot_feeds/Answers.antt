@@ -1,5 +1,5 @@
 use Rattle.std.proofs.Common.{◌≡◌, ◌+◌, ◌*◌, ap, ◌∙◌, arith, length}
-use Rattle.family_items.proofs.Items.{feeds_more, index_within, item_read}
+use Rattle.family_items.proofs.Public.{feeds_more, index_within, item_read}
 use Rattle.family_eval.proofs.lines.depot_feeds.Goals as goal
 
 pub bounds-items-i : goal.bounds-items-i

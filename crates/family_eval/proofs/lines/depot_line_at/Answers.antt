@@ -1,11 +1,11 @@
 use Rattle.std.proofs.Common.{◌∙◌, lit<}
 use Rattle.std.proofs.lemmas.Result.{IfOk-weaker}
-use Rattle.family_items.proofs.Items.{depot_feeds_small, depot_line_is, feeds_are, feeds_few, ids_few, shop_of}
+use Rattle.family_items.proofs.Public.{depot_feeds_small, depot_line_is, feeds_are, feeds_few, ids_few, shop_of}
 use Rattle.family_eval.proofs.lines.depot_line_at.Goals as goal
 
 pub depot_feeds-requires : goal.depot_feeds-requires
 depot_feeds-requires g c =
-    let valid = c.sites-sites.ensures.valid.valid in (
+    let valid = c.invariant.ensures.valid.valid in (
       lit< tt,
       (
         lit< tt,
@@ -24,7 +24,7 @@ depot_feeds-requires g c =
 
 pub depot_line_item-requires : goal.depot_line_item-requires
 depot_line_item-requires g c =
-    let sound = c.sites-sites.ensures.valid in
+    let sound = c.invariant.ensures.valid in
     let feeds = c.as_slice.ensures.value ∙ c.in_ok-feeds.ensures
     ∙ feeds_are g.row.F c.args.inputs.now.case c.args.inputs.now.stocks.list c.args.line.0 c.args.shops.now sound.valid c.requires.line c.requires.shops in (
       lit< tt,
@@ -45,7 +45,7 @@ depot_line_item-requires g c =
 
 pub returns : goal.returns
 returns g c =
-    let sound = c.sites-sites.ensures.valid in
+    let sound = c.invariant.ensures.valid in
     IfOk-weaker c.depot_line_item.result _ _
     (λ x h. depot_line_is g.row.F c.args.inputs.now.case c.args.inputs.now.stocks.list c.args.line.0 c.pipeline.result _ c.as_slice.result.now x c.pipeline.ensures.pipeline
     (c.as_slice.ensures.value ∙ c.in_ok-feeds.ensures)

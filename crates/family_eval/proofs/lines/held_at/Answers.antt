@@ -1,5 +1,5 @@
 use Rattle.std.proofs.Common.{◌≡◌, ◌+◌, ◌*◌, ap, ◌∙◌, arith, length}
-use Rattle.family_items.proofs.Items.{held_more, index_within, item_read}
+use Rattle.family_items.proofs.Public.{held_more, index_within, item_read}
 use Rattle.family_eval.proofs.lines.held_at.Goals as goal
 
 pub bounds-items-i : goal.bounds-items-i

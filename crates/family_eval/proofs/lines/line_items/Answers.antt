@@ -1,7 +1,7 @@
 use Rattle.std.proofs.Common.{◌∙◌, arith}
-use Rattle.demand_rates.proofs.Grown.{mapped_more}
+use Rattle.demand_rates.proofs.Public.{mapped_more}
 use Rattle.family_items.specs.Profile.{item_of}
-use Rattle.family_items.proofs.Items.{base_line_item}
+use Rattle.family_items.proofs.Public.{base_line_item}
 use Rattle.family_eval.proofs.lines.line_items.Goals as goal
 
 pub loop-j-preserved : goal.loop-j-preserved

@@ -1,8 +1,8 @@
 use Rattle.std.proofs.Common.{◌+◌, ◌-◌, ◌<◌, arith, get_or, length, lit<, subst, sym}
 use Rattle.fixed_interval.specs.Ends.{Ends, ends_exact, ends_times}
-use Rattle.depot_pipeline.proofs.Walk.{Summed, summed_next, summed_start}
+use Rattle.depot_pipeline.proofs.Public.{Summed, summed_next, summed_start}
 use Rattle.family_items.specs.Encloses.{no_item}
-use Rattle.family_items.proofs.Items.{times_most, bases_next, total_room, total_term}
+use Rattle.family_items.proofs.Public.{times_most, bases_next, total_room, total_term}
 use Rattle.family_eval.proofs.lines.total_of.Goals as goal
 
 pub loop-j-init : goal.loop-j-init

@@ -1,6 +1,6 @@
 use Rattle.std.proofs.Common.{◌+◌, ◌-◌, get_or}
 use Rattle.fixed_interval.specs.Ends.{ends_exact, ends_times}
-use Rattle.depot_pipeline.proofs.Walk.{Summed}
+use Rattle.depot_pipeline.proofs.Public.{Summed}
 use Rattle.family_items.specs.Encloses.{no_item}
 use Rattle.family_eval.proofs.lines.total_of.Given as goal
 

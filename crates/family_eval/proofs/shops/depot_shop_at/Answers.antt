@@ -1,5 +1,5 @@
 use Rattle.std.proofs.lemmas.Result.{IfOk-weaker}
-use Rattle.family_items.proofs.Items.{depot_shop_is}
+use Rattle.family_items.proofs.Public.{depot_shop_is}
 use Rattle.family_eval.proofs.shops.depot_shop_at.Goals as goal
 
 pub returns : goal.returns

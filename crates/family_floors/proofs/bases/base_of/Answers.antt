@@ -1,5 +1,5 @@
 use Rattle.std.proofs.Common.{◌-◌, ◌∙◌, get_or, ap, arith}
-use Rattle.family_points.proofs.AllBases.{base_read, bases_long}
+use Rattle.family_points.proofs.Public.{base_read, bases_long}
 use Rattle.family_floors.proofs.bases.base_of.Goals as goal
 
 pub overflow_sub-from : goal.overflow_sub-from

@@ -4,9 +4,7 @@ use Rattle.hull.specs.declared.point.Point.{Point}
 use Rattle.family_points.specs.Separation.{depot_points}
 use Rattle.family_points.specs.Inputs.{IsAt, line_high, line_low}
 use Rattle.family_points.specs.Least.{AreAtLeast, Decides}
-use Rattle.family_points.proofs.Leasts.{decides_true}
-use Rattle.family_points.proofs.LeastPoints.{stock_below, stock_more}
-use Rattle.family_points.proofs.Points.{joined_at}
+use Rattle.family_points.proofs.Public.{decides_true, stock_below, stock_more, joined_at}
 use Rattle.family_rows.specs.Tabled.{AreTables}
 use Rattle.family_floors.proofs.Firsts.{set_first}
 use Rattle.family_floors.proofs.least.are_at_least.Goals as goal
@@ -14,7 +12,7 @@ use Rattle.family_floors.proofs.least.are_at_least.Goals as goal
 pub depot_is_at_least-requires-clause-depot : goal.depot_is_at_least-requires-clause-depot
 depot_is_at_least-requires-clause-depot g c =
     let x = c.args.sources.now.family.now in
-    let valid = c.size-size.ensures.valid in
+    let valid = c.invariant.ensures.valid in
     let some = valid.valid.frame.fewest_sites in
     let s : ℕ = c.loop-s.s in
     let low : line_low x 0 ≤ s = omega (arith, c.line_low-low.ensures, c.loop-s.auto.s) in
@@ -96,10 +94,10 @@ pub bounds-stocks-0 : goal.bounds-stocks-0
 bounds-stocks-0 g c = c.loop-s.invariant.some
 
 pub line_low-low-requires : goal.line_low-low-requires
-line_low-low-requires g c = let some = c.size-size.ensures.valid.valid.frame.fewest_sites in omega (arith, some)
+line_low-low-requires g c = let some = c.invariant.ensures.valid.valid.frame.fewest_sites in omega (arith, some)
 
 pub line_high-high-requires : goal.line_high-high-requires
-line_high-high-requires g c = let some = c.size-size.ensures.valid.valid.frame.fewest_sites in omega (arith, some)
+line_high-high-requires g c = let some = c.invariant.ensures.valid.valid.frame.fewest_sites in omega (arith, some)
 
 pub overflow_add-s-end : goal.overflow_add-s-end
 overflow_add-s-end g c = omega (arith, c.line_high-high.ensures.most)

@@ -1,6 +1,6 @@
 use Rattle.std.proofs.Common.{refl, arith}
 use Rattle.family_points.specs.Separation.{depot_points}
-use Rattle.family_points.proofs.Leasts.{at_least_less, decides_least, decides_true}
+use Rattle.family_points.proofs.Public.{at_least_less, decides_least, decides_true}
 use Rattle.family_floors.proofs.least.depot_is_at_least.Goals as goal
 
 pub returns-then-floor-low : goal.returns-then-floor-low

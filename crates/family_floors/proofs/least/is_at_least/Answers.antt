@@ -5,8 +5,7 @@ use Rattle.hull.specs.Curves.{lagrangian}
 use Rattle.family_points.specs.Inputs.{FamilyBox, box_points}
 use Rattle.family_points.specs.Least.{Decides, least}
 use Rattle.family_points.specs.Points.{points_within}
-use Rattle.family_points.proofs.LeastPoints.{box_some}
-use Rattle.family_points.proofs.Leasts.{decided}
+use Rattle.family_points.proofs.Public.{box_some, decided}
 use Rattle.family_floors.proofs.least.is_at_least.Goals as goal
 
 pub returns : goal.returns

@@ -1,11 +1,9 @@
-use Rattle.family_rows.proofs.Rows.{rows_taken}
+use Rattle.family_rows.proofs.Public.{rows_taken}
 use Rattle.family_points.specs.Inputs.{shop_vectors}
 use Rattle.family_points.specs.declared.order.ShopVector.{ShopVector}
 use Rattle.std.proofs.lemmas.List.{length-map, length-take-le}
 use Rattle.std.proofs.Common.{◌≡◌, ◌≤◌, arith, length, ap, subst, sym}
-use Rattle.family_points.proofs.LeastPoints.{base_least_is}
-use Rattle.family_points.proofs.Ordered.{order_count}
-use Rattle.family_points.proofs.Points.{some_vectors}
+use Rattle.family_points.proofs.Public.{base_least_is, order_count, some_vectors}
 use Rattle.family_floors.proofs.least.least_at_base.Goals as goal
 
 pub least_of_choices-requires-clause-some : goal.least_of_choices-requires-clause-some

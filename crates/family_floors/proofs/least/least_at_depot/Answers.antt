@@ -5,8 +5,8 @@ use Rattle.std.proofs.lemmas.Nat.{mul-le}
 use Rattle.family_points.specs.Separation.{base_points, points_over}
 use Rattle.hull.specs.declared.point.Point.{Point}
 use Rattle.family_points.specs.Least.{IsLeast}
-use Rattle.family_points.proofs.LeastPoints.{base_added, depot_begins}
-use Rattle.family_rows.proofs.Tabled.{tables_at}
+use Rattle.family_points.proofs.Public.{base_added, depot_begins}
+use Rattle.family_rows.proofs.Public.{tables_at}
 use Rattle.family_floors.proofs.Moved.{moved}
 use Rattle.family_floors.proofs.least.least_at_depot.Goals as goal
 
@@ -58,7 +58,7 @@ pub least_at_base-requires-clause-tables : goal.least_at_base-requires-clause-ta
 least_at_base-requires-clause-tables g c = tables_at _ _ _ _ _ c.base_of-here.ensures.family c.base_of-here.ensures.depot c.requires.tables
 
 pub cost-requires-clause-site : goal.cost-requires-clause-site
-cost-requires-clause-site g c = let some = c.size-size.ensures.valid.valid.frame.fewest_sites in omega (arith, some)
+cost-requires-clause-site g c = let some = c.invariant.ensures.valid.valid.frame.fewest_sites in omega (arith, some)
 
 pub cost-requires-clause-stocks : goal.cost-requires-clause-stocks
 cost-requires-clause-stocks g c = c.requires.depot

@@ -1,8 +1,7 @@
 use Rattle.family_points.specs.Choices.{IsChoice}
 use Rattle.std.proofs.Common.{◌≡◌, ◌<◌, ◌≤◌, ◌+◌, length, min, subst, sym, arith}
 use Rattle.family_points.specs.Least.{IsLeast}
-use Rattle.family_points.proofs.Ordered.{points_to}
-use Rattle.family_points.proofs.LeastPoints.{choice_all, choice_first, choice_more}
+use Rattle.family_points.proofs.Public.{points_to, choice_all, choice_first, choice_more}
 use Rattle.family_floors.proofs.least.least_of_choices.Goals as goal
 
 pub loop-n-init : goal.loop-n-init

@@ -1,6 +1,6 @@
 use Rattle.std.proofs.Common.{◌^◌, ◌≤◌}
 use Rattle.family_points.specs.Least.{IsLeast}
-use Rattle.family_points.proofs.Ordered.{points_to}
+use Rattle.family_points.proofs.Public.{points_to}
 use Rattle.family_floors.proofs.least.least_of_choices.Given as goal
 
 abbrev pub invariant-loop-n : goal.invariant-loop-n

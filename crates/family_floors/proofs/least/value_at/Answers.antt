@@ -2,7 +2,7 @@ use Rattle.std.proofs.Common.{◌+◌, ◌*◌, ◌^◌, ◌≤◌, ◌∙◌, a
 use Rattle.std.proofs.lemmas.Nat.{mul-le}
 use Rattle.hull.specs.Curves.{InRange, lagrangian}
 use Rattle.family_rows.specs.Spots.{spot_point}
-use Rattle.family_points.proofs.Ordered.{choice_range}
+use Rattle.family_points.proofs.Public.{choice_range}
 use Rattle.family_floors.proofs.least.value_at.Goals as goal
 
 pub overflow_mul-result : goal.overflow_mul-result

@@ -40,7 +40,7 @@ returns g c =
     subst (λ n. AreAtLeast c.args.price.p c.args.price.q c.loop-j.low (points_over ends x d (range_with_len 1 n))) last c.loop-j.invariant.low
 
 pub cost-requires-clause-site : goal.cost-requires-clause-site
-cost-requires-clause-site g c = let some = c.size-size.ensures.valid.valid.frame.fewest_sites in omega (arith, some)
+cost-requires-clause-site g c = let some = c.invariant.ensures.valid.valid.frame.fewest_sites in omega (arith, some)
 
 pub cost-requires-clause-stocks : goal.cost-requires-clause-stocks
 cost-requires-clause-stocks g c = c.requires.depot

@@ -5,7 +5,7 @@ use Rattle.fleet_model.specs.Fleet.{family}
 use Rattle.family_numbers.specs.Numbers.{shop_part}
 use Rattle.family_points.specs.Inputs.{held_at, line_high, line_low, AreShopsAt}
 use Rattle.family_points.specs.Points.{cost_above}
-use Rattle.family_points.proofs.Spotted.{line_cost, line_cost_most, line_cost_small}
+use Rattle.family_points.proofs.Public.{line_cost, line_cost_most, line_cost_small}
 use Rattle.family_floors.specs.declared.lows.Lows.{Lows}
 use Rattle.family_floors.specs.Lows.{AreUnder, line_place, lower_of}
 use Rattle.family_floors.proofs.LowPoints.{beyond, first_stock, stock_more}

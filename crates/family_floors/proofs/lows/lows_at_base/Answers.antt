@@ -6,11 +6,10 @@ use Rattle.family_points.specs.Inputs.{shop_vectors}
 use Rattle.family_points.specs.Least.{AreAtLeast}
 use Rattle.family_rows.specs.Tabled.{box_numbers}
 use Rattle.family_numbers.specs.Numbers.{FamilyNumbers, shop_part}
-use Rattle.family_rows.proofs.Rows.{part_read}
-use Rattle.family_rows.proofs.Tabled.{tables_at}
+use Rattle.family_rows.proofs.Public.{part_read, tables_at}
 use Rattle.family_floors.proofs.Moved.{moved}
 use Rattle.family_floors.proofs.LowPoints.{base_under, shops_more}
-use Rattle.family_points.proofs.Spotted.{stock_read}
+use Rattle.family_points.proofs.Public.{stock_read}
 use Rattle.family_floors.proofs.lows.lows_at_base.Goals as goal
 
 pub loop-n-preserved : goal.loop-n-preserved

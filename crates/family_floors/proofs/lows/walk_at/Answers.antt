@@ -2,8 +2,8 @@ use Rattle.std.proofs.Common.{◌≡◌, ◌<◌, length, get_or, drop, sym, ap,
 use Rattle.fixed_interval.specs.Ends.{InScale}
 use Rattle.backorder_bounds.specs.Places.{Place, next_place}
 use Rattle.family_numbers.specs.Numbers.{FamilyNumbers, base_line_place, own_part, shop_part}
-use Rattle.family_points.proofs.Bounded.{at_long, stock_small}
-use Rattle.family_rows.proofs.Tabled.{shop_stocks}
+use Rattle.family_points.proofs.Public.{at_long, stock_small}
+use Rattle.family_rows.proofs.Public.{shop_stocks}
 use Rattle.family_points.specs.Inputs.{line_low}
 use Rattle.family_floors.specs.Lows.{line_place}
 use Rattle.family_floors.proofs.lows.walk_at.Goals as goal
@@ -57,7 +57,7 @@ loop-k-init c =
 pub advance-requires : goal.advance-requires
 advance-requires c =
     let e : c.loop-k.walk.stock ≡ c.loop-k._k = ap (λ (p : Place). p.stock) c.loop-k.invariant.walk in
-    omega (arith, e, c.loop-k-test.true, c.line_low-k-end.ensures, c.line_high-most.ensures.order, c.line_high-most.ensures.most)
+    omega (arith, e, c.loop-k-test.true, c.line_low-k-end.ensures, c.invariant_at.ensures.order, c.invariant_at.ensures.most)
 
 pub loop-k-preserved : goal.loop-k-preserved
 loop-k-preserved c = record { walk = c.advance.ensures ∙ ap next_place c.loop-k.invariant.walk }

@@ -1,4 +1,4 @@
-use Rattle.family_rows.proofs.Rows.{rows_taken}
+use Rattle.family_rows.proofs.Public.{rows_taken}
 use Rattle.family_points.specs.Inputs.{shop_vectors}
 use Rattle.family_points.specs.declared.order.ShopVector.{ShopVector}
 use Rattle.std.proofs.lemmas.List.{length-map, length-take-le}
@@ -7,8 +7,7 @@ use Rattle.hull.specs.declared.point.Point.{Point}
 use Rattle.hull.specs.Curves.{InRange}
 use Rattle.family_points.specs.Choices.{IsChoice}
 use Rattle.family_rows.specs.Spots.{spot_point}
-use Rattle.family_points.proofs.Ordered.{choice_range, order_count}
-use Rattle.family_points.proofs.Points.{some_vectors}
+use Rattle.family_points.proofs.Public.{choice_range, order_count, some_vectors}
 use Rattle.family_floors.proofs.Uppers.{upper_of_choice}
 use Rattle.family_floors.proofs.upper.upper_at_base.Goals as goal
 

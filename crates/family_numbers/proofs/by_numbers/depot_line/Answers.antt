@@ -13,7 +13,7 @@ use Rattle.family_numbers.proofs.by_numbers.depot_line.Goals as goal
 pub depot_line_table-requires : goal.depot_line_table-requires
 depot_line_table-requires g c =
     let feeds : c.as_slice.result.now ≡ depot_feeds g.row.F c.args.numbers.now c.args.depot.now = c.as_slice.ensures.value ∙ c.in_ok-feeds.ensures in
-    let are = c.sites-valid.ensures.valid in
+    let are = c.invariant.ensures.valid in
     let count = ap (λ (v : List (Feed g.row.F)). length v) feeds ∙ length-map-range_with_len _ 0 (length c.args.numbers.now.parts - 1) in (
       lit< tt,
       (

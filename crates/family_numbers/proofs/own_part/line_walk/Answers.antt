@@ -8,7 +8,7 @@ use Rattle.family_numbers.proofs.own_part.line_walk.Goals as goal
 
 pub line_moments-moments-requires : goal.line_moments-moments-requires
 line_moments-moments-requires g c =
-    let room = line_room g.row.F c.args.numbers.now c.sites-valid.ensures.valid c.args.site.0 c.args.depot.now c.args.base.now c.requires.site c.requires.count c.requires.stocks
+    let room = line_room g.row.F c.args.numbers.now c.invariant.ensures.valid c.args.site.0 c.args.depot.now c.args.base.now c.requires.site c.requires.count c.requires.stocks
     c.args.own c.args.part.now c.args.shops.now c.requires.scale.1 c.requires.own c.requires.part c.requires.shops in
     (lit< tt, (lit< tt, (room.mean, room.variance)))
 
@@ -18,7 +18,7 @@ of-requires g c =
     c.requires.part c.requires.shops in
     let x = c.args.numbers.now in
     let k = c.args.site.0 in
-    let are = c.sites-valid.ensures.valid in
+    let are = c.invariant.ensures.valid in
     let can : HasTable g.row.F c.line_moments-moments.result = subst (HasTable g.row.F) (sym made)
     (base_line_table g.row.F x are k c.args.own c.args.depot.now c.args.base.now c.requires.site) in
     (lit< tt, (lit< tt, can))

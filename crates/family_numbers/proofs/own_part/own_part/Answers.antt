@@ -18,7 +18,7 @@ base_own-requires g c =
           (
             c.pair-pair.ensures.valid.direct_most,
             feed_is_small g.row.F share _ c.feed_from-feed.result feed c.pair-pair.ensures.valid.share_most
-                (depot_line_small g.row.F x c.sites-valid.ensures.valid c.args.depot.now c.args.own c.requires.own),
+                (depot_line_small g.row.F x c.invariant.ensures.valid c.args.depot.now c.args.own c.requires.own),
           ),
         ),
       ),

@@ -11,7 +11,7 @@ use Rattle.family_numbers.proofs.own_part.put_line_backorders.Goals as goal
 
 pub line_moments-moments-requires : goal.line_moments-moments-requires
 line_moments-moments-requires g c =
-    let room = line_room g.row.F c.args.numbers.now c.sites-valid.ensures.valid c.args.site.0 c.args.depot.now c.args.base.now c.requires.site c.requires.count c.requires.stocks
+    let room = line_room g.row.F c.args.numbers.now c.invariant.ensures.valid c.args.site.0 c.args.depot.now c.args.base.now c.requires.site c.requires.count c.requires.stocks
     c.args.own c.args.part.now c.args.shops.now c.requires.scale.1 c.requires.own c.requires.part c.requires.shops in
     (lit< tt, (lit< tt, (room.mean, room.variance)))
 
@@ -21,7 +21,7 @@ put_backorders-requires g c =
     c.requires.part c.requires.shops in
     let x = c.args.numbers.now in
     let k = c.args.site.0 in
-    let are = c.sites-valid.ensures.valid in
+    let are = c.invariant.ensures.valid in
     let can : HasTable g.row.F c.line_moments-moments.result = subst (HasTable g.row.F) (sym made)
     (base_line_table g.row.F x are k c.args.own c.args.depot.now c.args.base.now c.requires.site) in
     let limit : c.args.part.now.limit ≤ 63 =
@@ -40,5 +40,5 @@ returns-clause-ends g c =
 pub returns-clause-most : goal.returns-clause-most
 returns-clause-most g c =
     on_ok_weaker c.put_backorders.result
-    (λ h. all_backorders_small g.row.F c.args.numbers.now c.sites-valid.ensures.valid c.args.site.0 c.args.own c.args.depot.now c.args.base.now c.put_backorders.new.found.items c.requires.site h)
+    (λ h. all_backorders_small g.row.F c.args.numbers.now c.invariant.ensures.valid c.args.site.0 c.args.own c.args.depot.now c.args.base.now c.put_backorders.new.found.items c.requires.site h)
     (returns-clause-ends g c)

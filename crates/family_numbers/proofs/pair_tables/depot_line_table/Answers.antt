@@ -1,7 +1,7 @@
 use Rattle.std.proofs.Common.{lit<, length}
 use Rattle.depot_pipeline.specs.Profile.{feed_at, mean_part}
 use Rattle.family_items.specs.Inputs.{HasTable}
-use Rattle.family_items.proofs.Ranges.{added_least}
+use Rattle.family_items.proofs.Public.{added_least}
 use Rattle.family_numbers.proofs.FromNumbers.{can_rows}
 use Rattle.family_numbers.proofs.pair_tables.depot_line_table.Goals as goal
 

@@ -2,9 +2,9 @@ use Rattle.std.proofs.Common.{◌≡◌, ◌-◌, ◌<◌, ◌∙◌, length, ar
 use Rattle.fixed_interval.specs.Ends.{Ends, ends_exact}
 use Rattle.moment_table.specs.declared.kinds.Row.{Row}
 use Rattle.base_pipeline.specs.declared.Held.{Held}
-use Rattle.depot_pipeline.proofs.Walk.{summed_next, at_the_end}
+use Rattle.depot_pipeline.proofs.Public.{summed_next, at_the_end}
 use Rattle.base_pipeline.specs.Profile.{held_at}
-use Rattle.base_pipeline.proofs.Walk.{started}
+use Rattle.base_pipeline.proofs.Public.{started}
 use Rattle.family_numbers.specs.Numbers.{base_helds}
 use Rattle.family_numbers.proofs.Own.{held_of_shop, room_for, shop_read, shop_small, shops_made}
 use Rattle.family_numbers.proofs.shop_part.shop_part.Goals as goal
@@ -29,10 +29,10 @@ add-mean-requires g c =
     let x = c.args.numbers.now in
     let inside : c.loop-i.i < length x.parts - 1 = rw c.shops-i-end.ensures.shops at c.loop-i-test.true in
     let row = shop_read g.row.F x c.args.site.0 c.args.depot.now c.args.base.now c.loop-i.i c.table_of-table.result.now _ c.table_of-table.ensures refl in
-    let small = shop_small g.row.F x c.sites-valid.ensures.valid c.args.site.0 c.args.depot.now c.args.base.now c.loop-i.i _
+    let small = shop_small g.row.F x c.invariant.ensures.valid c.args.site.0 c.args.depot.now c.args.base.now c.loop-i.i _
     c.requires.site inside c.requires.count c.requires.stocks row in (
       lit< tt,
-      room_for g.row.F c.loop-i.i c.loop-i.mean.hi c.ebo.result.hi c.requires.scale.1 (omega (arith, inside, c.sites-valid.ensures.valid.few)) c.loop-i.invariant.mean.most
+      room_for g.row.F c.loop-i.i c.loop-i.mean.hi c.ebo.result.hi c.requires.scale.1 (omega (arith, inside, c.invariant.ensures.valid.few)) c.loop-i.invariant.mean.most
           (omega (arith, small.ebo, ap (λ (e : Ends). e.hi) c.ebo.ensures)),
     )
 
@@ -41,10 +41,10 @@ add-variance-requires g c =
     let x = c.args.numbers.now in
     let inside : c.loop-i.i < length x.parts - 1 = rw c.shops-i-end.ensures.shops at c.loop-i-test.true in
     let row = shop_read g.row.F x c.args.site.0 c.args.depot.now c.args.base.now c.loop-i.i c.table_of-table.result.now _ c.table_of-table.ensures refl in
-    let small = shop_small g.row.F x c.sites-valid.ensures.valid c.args.site.0 c.args.depot.now c.args.base.now c.loop-i.i _
+    let small = shop_small g.row.F x c.invariant.ensures.valid c.args.site.0 c.args.depot.now c.args.base.now c.loop-i.i _
     c.requires.site inside c.requires.count c.requires.stocks row in (
       lit< tt,
-      room_for g.row.F c.loop-i.i c.loop-i.variance.hi c.vbo.result.hi c.requires.scale.1 (omega (arith, inside, c.sites-valid.ensures.valid.few)) c.loop-i.invariant.variance.most
+      room_for g.row.F c.loop-i.i c.loop-i.variance.hi c.vbo.result.hi c.requires.scale.1 (omega (arith, inside, c.invariant.ensures.valid.few)) c.loop-i.invariant.variance.most
           (omega (arith, small.vbo, ap (λ (e : Ends). e.hi) c.vbo.ensures)),
     )
 
@@ -57,7 +57,7 @@ loop-i-preserved g c =
     let i = c.loop-i.i in
     let inside : i < length x.parts - 1 = rw c.shops-i-end.ensures.shops at c.loop-i-test.true in
     let row = shop_read g.row.F x k d b i c.table_of-table.result.now _ c.table_of-table.ensures refl in
-    let small = shop_small g.row.F x c.sites-valid.ensures.valid k d b i _ c.requires.site inside c.requires.count c.requires.stocks row in
+    let small = shop_small g.row.F x c.invariant.ensures.valid k d b i _ c.requires.site inside c.requires.count c.requires.stocks row in
     let held = sym (held_of_shop g.row.F x k d b i inside) in
     record {
       mean = summed_next g.row.F 768 (ends_exact g.row.F 0) (λ n. (held_at (base_helds g.row.F x k d b) n).backorders) c.loop-i.mean c.ebo.result c.add-mean.result i

@@ -1,5 +1,5 @@
 use Rattle.fixed_interval.specs.Ends.{ends_exact}
-use Rattle.depot_pipeline.proofs.Walk.{Summed}
+use Rattle.depot_pipeline.proofs.Public.{Summed}
 use Rattle.base_pipeline.specs.Profile.{held_at}
 use Rattle.family_numbers.specs.Numbers.{base_helds}
 use Rattle.family_numbers.proofs.shop_part.shop_part.Given as goal

@@ -1,10 +1,8 @@
 use Rattle.std.proofs.Common.{List, arith}
 use Rattle.hull.specs.declared.point.Point.{Point}
 use Rattle.hull.specs.Curves.{IsCurve}
-use Rattle.hull.proofs.Shapes.{convex}
-use Rattle.curve_parts.proofs.Between.{part_of_curve}
-use Rattle.curve_parts.proofs.Cuts.{cut_is_part}
-use Rattle.curve_parts.proofs.Beyond.{beyond_gap, curve_known}
+use Rattle.hull.proofs.Public.{convex}
+use Rattle.curve_parts.proofs.Public.{part_of_curve, cut_is_part, beyond_gap, curve_known}
 use Rattle.family_points.specs.Separation.{base_points}
 use Rattle.family_parts.proofs.Bases.{cut_no_longer}
 use Rattle.family_parts.proofs.base.put_part.Goals as goal

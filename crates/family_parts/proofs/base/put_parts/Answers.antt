@@ -9,20 +9,17 @@ use Rattle.fleet_model.specs.Laws.{IsBase}
 use Rattle.sum_walk.specs.Sums.{sums_of_each}
 use Rattle.curve_parts.specs.Parts.{IsPartOf, StandForBetween}
 use Rattle.curve_parts.specs.Beyond.{LieBeyond, no_price}
-use Rattle.curve_parts.proofs.Beyond.{all_known, beyond_less}
+use Rattle.curve_parts.proofs.Public.{all_known, beyond_less, self_between}
 use Rattle.family_points.specs.Least.{AreAtLeast}
-use Rattle.family_floors.proofs.LowPoints.{base_under_more, depot_under}
-use Rattle.curve_parts.proofs.Between.{self_between}
+use Rattle.family_floors.proofs.Public.{base_under_more, depot_under, moved}
 use Rattle.family_points.specs.declared.order.Base.{Base}
 use Rattle.family_points.specs.Separation.{base_points, depot_point, points_over}
 use Rattle.family_points.specs.Inputs.{FamilyBox, vector_count}
 use Rattle.family_points.specs.Choices.{AreBases}
-use Rattle.family_points.proofs.AllBases.{bases_long}
-use Rattle.family_points.proofs.Points.{over_count_more, room_at}
-use Rattle.family_curve.proofs.Bases.{lengths_one_more}
-use Rattle.family_rows.proofs.Tabled.{tables_at}
+use Rattle.family_points.proofs.Public.{bases_long, over_count_more, room_at}
+use Rattle.family_curve.proofs.Public.{lengths_one_more}
+use Rattle.family_rows.proofs.Public.{tables_at}
 use Rattle.family_parts.proofs.Bases.{base_more, beyond_more}
-use Rattle.family_floors.proofs.Moved.{moved}
 use Rattle.family_parts.proofs.base.put_parts.Goals as goal
 
 pub loop-j-init : goal.loop-j-init
@@ -99,10 +96,10 @@ loop-j-preserved g c =
           omega (arith, l, s));
       beyond = beyond_less low over (sums_of_each (first ∷ []) (take (j + 1 - 1) put)) (sum + c.min-gap.result) (c.saturating_add-least.result + c.min-gap.result)
           (omega (arith, c.saturating_add-least.ensures))
-          (beyond_more x c.size-size.ensures.valid ends g.met.S.Score.leaves_room d c.requires.depot low high first j (take (j - 1) parts) (take (j + 1 - 1) put) part
+          (beyond_more x c.invariant.ensures.valid ends g.met.S.Score.leaves_room d c.requires.depot low high first j (take (j - 1) parts) (take (j + 1 - 1) put) part
           c.loop-j.least c.loop-j.gap c.in_ok-lowest.lowest.least c.in_ok-lowest.lowest.gap on c.loop-j.invariant.least low_of c.loop-j.invariant.beyond own made
           c.min-gap.result (omega (arith, c.min-gap.ensures)) (omega (arith, c.min-gap.ensures)));
-      stands = base_more x c.size-size.ensures.valid ends g.met.S.Score.leaves_room d c.requires.depot low high first j (take (j - 1) parts) (take (j + 1 - 1) put) part on
+      stands = base_more x c.invariant.ensures.valid ends g.met.S.Score.leaves_room d c.requires.depot low high first j (take (j - 1) parts) (take (j + 1 - 1) put) part on
           c.loop-j.invariant.stands is made;
       few = omega (arith, few, over_count_more x j c.loop-j.auto.j, c.loop-j.invariant.few, ap (sum_by length) made, lengths_one_more (take (j - 1) parts) part);
       count = simp length-set c.loop-j.invariant.count;
@@ -182,7 +179,7 @@ pub overflow_sub-from : goal.overflow_sub-from
 overflow_sub-from g c = omega (arith, c.from.ensures, c.loop-j.auto.j)
 
 pub cost-requires-clause-site : goal.cost-requires-clause-site
-cost-requires-clause-site g c = let some = c.size-size.ensures.valid.valid.frame.fewest_sites in omega (arith, some)
+cost-requires-clause-site g c = let some = c.invariant.ensures.valid.valid.frame.fewest_sites in omega (arith, some)
 
 pub cost-requires-clause-stocks : goal.cost-requires-clause-stocks
 cost-requires-clause-stocks g c = c.requires.depot

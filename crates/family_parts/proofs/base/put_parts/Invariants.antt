@@ -5,7 +5,7 @@ use Rattle.curve_parts.specs.Parts.{StandForBetween}
 use Rattle.curve_parts.specs.Beyond.{LieBeyond}
 use Rattle.family_points.specs.Least.{AreAtLeast}
 use Rattle.family_points.specs.Separation.{depot_point, points_over}
-use Rattle.family_points.proofs.Points.{over_count}
+use Rattle.family_points.proofs.Public.{over_count}
 use Rattle.family_parts.proofs.base.put_parts.Given as goal
 
 abbrev pub invariant-loop-j : goal.invariant-loop-j

@@ -6,9 +6,9 @@ use Rattle.curve_parts.specs.Parts.{IsPassedOver, StandForBetween}
 use Rattle.curve_parts.specs.Beyond.{LieBeyond}
 use Rattle.family_points.specs.Inputs.{IsAt, vertex_count}
 use Rattle.family_points.specs.Separation.{depot_point, depot_points}
-use Rattle.family_points.proofs.AllBases.{bases_long}
+use Rattle.family_points.proofs.Public.{bases_long}
 use Rattle.family_curve.specs.Joining.{HaveWidthOf, vertices_of}
-use Rattle.family_curve.proofs.Grown.{depot_ranges, depot_widths}
+use Rattle.family_curve.proofs.Public.{depot_ranges, depot_widths}
 use Rattle.family_parts.proofs.Grown.{grows_by_none, grows_by_sums, joined_among, widths_joined}
 use Rattle.family_parts.proofs.Sums.{standing, standing_beyond}
 use Rattle.family_parts.proofs.joining.grow_with.Goals as goal
@@ -37,7 +37,7 @@ join_parts-requires-clause-some g c =
       ap length c.as_slice-parts.ensures.value,
       c.in_ok-made.ensures.work,
       bases_long c.args.sources.now.family.now c.args.sources.now.bases.items c.requires.sources.bases,
-      c.size-size.ensures.valid.valid.frame.fewest_sites,
+      c.invariant.ensures.valid.valid.frame.fewest_sites,
     )
 
 pub join_parts-requires-clause-few_parts : goal.join_parts-requires-clause-few_parts
@@ -47,7 +47,7 @@ join_parts-requires-clause-few_parts g c =
       ap length c.as_slice-parts.ensures.value,
       c.in_ok-made.ensures.work,
       bases_long c.args.sources.now.family.now c.args.sources.now.bases.items c.requires.sources.bases,
-      c.size-size.ensures.valid.valid.frame.most_sites,
+      c.invariant.ensures.valid.valid.frame.most_sites,
     )
 
 pub join_parts-requires-clause-ranges : goal.join_parts-requires-clause-ranges
@@ -59,7 +59,7 @@ join_parts-requires-clause-ranges g c = λ v m.
     let stands : StandForBetween c.args.low c.args.high points (sums_of_each (c.depot_point-first.result ∷ []) c.as_slice-parts.result.now) =
     standing c.args.low c.args.high points (depot_point x d) c.depot_point-first.result c.put_parts.new.work.parts.items c.as_slice-parts.result.now
     (c.depot_point-first.ensures.point ∙ ap (depot_point x) (c.in_ok-to_vec.ensures.items_if_clones_equal (λ x y e. e))) c.as_slice-parts.ensures.value c.in_ok-made.ensures.stands in
-    depot_ranges x c.size-size.ensures.valid ends g.met.S.Score.leaves_room d c.requires.depot v (stands.among v m)
+    depot_ranges x c.invariant.ensures.valid ends g.met.S.Score.leaves_room d c.requires.depot v (stands.among v m)
 
 pub join_parts-requires-clause-width : goal.join_parts-requires-clause-width
 join_parts-requires-clause-width g c = λ v w m n.
@@ -70,7 +70,7 @@ join_parts-requires-clause-width g c = λ v w m n.
     let stands : StandForBetween c.args.low c.args.high points (sums_of_each (c.depot_point-first.result ∷ []) c.as_slice-parts.result.now) =
     standing c.args.low c.args.high points (depot_point x d) c.depot_point-first.result c.put_parts.new.work.parts.items c.as_slice-parts.result.now
     (c.depot_point-first.ensures.point ∙ ap (depot_point x) (c.in_ok-to_vec.ensures.items_if_clones_equal (λ x y e. e))) c.as_slice-parts.ensures.value c.in_ok-made.ensures.stands in
-    c.requires.widths v m ∙ sym (depot_widths x c.size-size.ensures.valid ends g.met.S.Score.leaves_room d c.requires.depot w (stands.among w n))
+    c.requires.widths v m ∙ sym (depot_widths x c.invariant.ensures.valid ends g.met.S.Score.leaves_room d c.requires.depot w (stands.among w n))
 
 pub returns-clause-part : goal.returns-clause-part
 returns-clause-part g c =
@@ -106,7 +106,7 @@ returns-clause-widths g c =
     let stands : StandForBetween low high points (sums_of_each (first ∷ []) parts) =
     standing low high points (depot_point x d) first c.put_parts.new.work.parts.items parts
     (c.depot_point-first.ensures.point ∙ ap (depot_point x) (c.in_ok-to_vec.ensures.items_if_clones_equal (λ x y e. e))) c.as_slice-parts.ensures.value c.in_ok-made.ensures.stands in
-    widths_joined x (vertices_of c.args.part.now) points (vertices_of c.join_parts.new.part) c.requires.widths (depot_widths x c.size-size.ensures.valid ends g.met.S.Score.leaves_room d c.requires.depot)
+    widths_joined x (vertices_of c.args.part.now) points (vertices_of c.join_parts.new.part) c.requires.widths (depot_widths x c.invariant.ensures.valid ends g.met.S.Score.leaves_room d c.requires.depot)
     (joined_among low high first parts points (vertices_of c.args.part.now) (vertices_of c.join_parts.new.part) c.in_ok-behind.ensures.joins stands)
 
 pub low_if_passed-requires-clause-sources : goal.low_if_passed-requires-clause-sources
@@ -196,5 +196,5 @@ join_parts-requires-clause-widths g c = λ v w m n.
     let stands : StandForBetween c.args.low c.args.high points (sums_of_each (c.depot_point-first.result ∷ []) c.as_slice-parts.result.now) =
     standing c.args.low c.args.high points (depot_point x d) c.depot_point-first.result c.put_parts.new.work.parts.items c.as_slice-parts.result.now
     (c.depot_point-first.ensures.point ∙ ap (depot_point x) (c.in_ok-to_vec.ensures.items_if_clones_equal (λ x y e. e))) c.as_slice-parts.ensures.value c.in_ok-made.ensures.stands in
-    let widths : HaveWidthOf x points = depot_widths x c.size-size.ensures.valid ends g.met.S.Score.leaves_room d c.requires.depot in
+    let widths : HaveWidthOf x points = depot_widths x c.invariant.ensures.valid ends g.met.S.Score.leaves_room d c.requires.depot in
     widths v (stands.among v m) ∙ sym (widths w (stands.among w n))

@@ -4,12 +4,13 @@ use Rattle.hull.specs.declared.point.Point.{Point}
 use Rattle.family_points.specs.Separation.{depot_points}
 use Rattle.family_points.specs.Inputs.{IsAt, line_high, line_low, line_stocks, vertex_count}
 use Rattle.family_rows.specs.Tabled.{AreTables}
-use Rattle.family_points.proofs.Points.{flat_stock_behind, joined_at, stocks_count}
+use Rattle.family_points.proofs.Public.{flat_stock_behind, joined_at, stocks_count}
 use Rattle.family_curve.specs.Joining.{vertices_of}
-use Rattle.family_curve.proofs.Grown.{room_for}
+use Rattle.family_curve.proofs.Public.{room_for}
 use Rattle.family_parts.specs.Growing.{Grows, in_turn, turn_points}
 use Rattle.family_parts.proofs.Grown.{grows_by_nothing, grows_members, grows_on}
-use Rattle.family_floors.proofs.Firsts.{set_first}
+use Rattle.family_floors.specs.Rough.{AreRough}
+use Rattle.family_floors.proofs.Public.{set_first}
 use Rattle.family_parts.proofs.InTurn.{moved_back, moved_there, turned_back, turned_there}
 use Rattle.family_parts.proofs.joining.grow_with_lines.Goals as goal
 
@@ -26,7 +27,7 @@ loop-n-init g c = record {
 pub grow_with-requires-clause-depot : goal.grow_with-requires-clause-depot
 grow_with-requires-clause-depot g c =
     let x = c.args.sources.now.family.now in
-    let valid = c.size-size.ensures.valid in
+    let valid = c.invariant.ensures.valid in
     let some = valid.valid.frame.fewest_sites in
     let s : ℕ = c.line_stock.result in
     let made : set c.loop-n.stocks 0 s ≡ s ∷ drop 1 c.args.stocks.now =
@@ -41,11 +42,18 @@ grow_with-requires-clause-tables g c =
     ap (drop 1) (set_first c.loop-n.stocks s c.loop-n.invariant.some) ∙ c.loop-n.invariant.shops in
     subst (λ (l : List ℕ). AreTables c.args.sources.now.family.now l c.args.tables.now) (sym made) c.requires.tables
 
+pub grow_with-requires-clause-rough : goal.grow_with-requires-clause-rough
+grow_with-requires-clause-rough g c =
+    let s : ℕ = c.line_stock.result in
+    let made : drop 1 (set c.loop-n.stocks 0 s) ≡ drop 1 c.args.stocks.now =
+    ap (drop 1) (set_first c.loop-n.stocks s c.loop-n.invariant.some) ∙ c.loop-n.invariant.shops in
+    subst (λ (l : List ℕ). AreRough g.S.Score.ends c.args.sources.now.family.now l c.args.low c.args.high c.args.rough.now) (sym made) c.requires.rough
+
 pub grow_with-requires-clause-room : goal.grow_with-requires-clause-room
 grow_with-requires-clause-room g c =
     let x = c.args.sources.now.family.now in
     room_for c.loop-n.n (length (line_stocks x 0)) (vertex_count x) (length (vertices_of c.loop-n.part)) (length (vertices_of c.args.part.now)) 65000000 c.loop-n.invariant.few
-    (omega (arith, stocks_count x c.size-size.ensures.valid 0, c.loop-n-test.true, c.line_low.ensures, c.line_high.ensures.high, c.line_high.ensures.order)) c.requires.room
+    (omega (arith, stocks_count x c.invariant.ensures.valid 0, c.loop-n-test.true, c.line_low.ensures, c.line_high.ensures.high, c.line_high.ensures.order)) c.requires.room
 
 pub loop-n-preserved : goal.loop-n-preserved
 loop-n-preserved g c =
@@ -101,14 +109,14 @@ returns-clause-few g c =
     let x = c.args.sources.now.family.now in
     let end : c.loop-n.n ≤ c.line_high.result - c.line_low.result + 1 = c.loop-n.auto.n-end in
     let last : c.loop-n.n ≡ length (line_stocks x 0) =
-    omega (arith, c.loop-n-test.false, end, c.line_low.ensures, c.line_high.ensures.high, c.line_high.ensures.order, stocks_count x c.size-size.ensures.valid 0) in
+    omega (arith, c.loop-n-test.false, end, c.line_low.ensures, c.line_high.ensures.high, c.line_high.ensures.order, stocks_count x c.invariant.ensures.valid 0) in
     subst (λ n. length (vertices_of c.loop-n.part) ≤ length (vertices_of c.args.part.now) + n * vertex_count x) last c.loop-n.invariant.few
 
 pub line_high-requires : goal.line_high-requires
-line_high-requires g c = let some = c.size-size.ensures.valid.valid.frame.fewest_sites in omega (arith, some)
+line_high-requires g c = let some = c.invariant.ensures.valid.valid.frame.fewest_sites in omega (arith, some)
 
 pub line_low-requires : goal.line_low-requires
-line_low-requires g c = let some = c.size-size.ensures.valid.valid.frame.fewest_sites in omega (arith, some)
+line_low-requires g c = let some = c.invariant.ensures.valid.valid.frame.fewest_sites in omega (arith, some)
 
 pub overflow_sub-last : goal.overflow_sub-last
 overflow_sub-last g c = omega (arith, c.line_low.ensures, c.line_high.ensures.order)

@@ -6,14 +6,13 @@ use Rattle.hull.specs.declared.price.Price.{Price}
 use Rattle.curve_parts.specs.Cuts.{IsWindow}
 use Rattle.curve_parts.specs.Parts.{IsPartOf}
 use Rattle.curve_parts.specs.Beyond.{IsKnownPart}
-use Rattle.curve_parts.proofs.Shape.{part_some}
+use Rattle.curve_parts.proofs.Public.{part_some}
 use Rattle.family_curve.specs.Joining.{vertices_of}
 use Rattle.family_points.specs.Points.{ScoreEnds}
-use Rattle.family_points.proofs.LeastPoints.{box_some}
+use Rattle.family_points.proofs.Public.{box_some, box_begins, flat_stock_behind, stocks_count, whole_room}
 use Rattle.family_points.specs.Inputs.{FamilyBox, IsFamilyBox, box_points, line_stocks, shop_vectors, vector_count, vertex_count}
 use Rattle.family_points.specs.Separation.{shop_points}
-use Rattle.family_points.proofs.Points.{box_begins, flat_stock_behind, stocks_count, whole_room}
-use Rattle.family_curve.proofs.Grown.{room_for}
+use Rattle.family_curve.proofs.Public.{room_for}
 use Rattle.family_parts.specs.Growing.{Grows, in_turn}
 use Rattle.family_parts.proofs.Grown.{grows_by_nothing, grows_members, grows_on}
 use Rattle.family_parts.proofs.InTurn.{placed_back, placed_there, turned_back, turned_there}
@@ -36,7 +35,7 @@ few_shops x valid room =
     factor_most (length (shop_vectors x 0)) (length (line_stocks x 0)) (vertex_count x) 65000000 (omega (arith, order, lines)) (omega arith) (whole_room x valid (vertex_count x) 65000000 room)
 
 pub in_turn-number-requires-clause-small : goal.in_turn-number-requires-clause-small
-in_turn-number-requires-clause-small g c = omega (arith, few_shops c.args.sources.now.family.now c.size-size.ensures.valid c.requires.room, c.shop_count-count.ensures.count)
+in_turn-number-requires-clause-small g c = omega (arith, few_shops c.args.sources.now.family.now c.invariant.ensures.valid c.requires.room, c.shop_count-count.ensures.count)
 
 pub loop-n-init : goal.loop-n-init
 loop-n-init g c = record {
@@ -49,7 +48,7 @@ loop-n-init g c = record {
 pub grow_with_shops-requires-clause-room : goal.grow_with_shops-requires-clause-room
 grow_with_shops-requires-clause-room g c =
     let x = c.args.sources.now.family.now in
-    let room = whole_room x c.size-size.ensures.valid (vertex_count x) 65000000 c.requires.room in
+    let room = whole_room x c.invariant.ensures.valid (vertex_count x) 65000000 c.requires.room in
     room_for c.loop-n.n (length (shop_vectors x 0)) (length (line_stocks x 0) * vertex_count x) (length (vertices_of c.loop-n.part)) 0 65000000 (omega (arith, c.loop-n.invariant.few))
     (omega (arith, c.loop-n-test.true, c.shop_count-count.ensures.count)) (omega (arith, room))
 
@@ -115,7 +114,7 @@ box_part_some x valid ends low high window part is = part_some low high (box_poi
 pub unwrap-requires : goal.unwrap-requires
 unwrap-requires g c =
     let x = c.args.sources.now.family.now in
-    let valid = c.size-size.ensures.valid in
+    let valid = c.invariant.ensures.valid in
     let whole : c.loop-n.n ≡ length (shop_vectors x 0) = omega (arith, c.loop-n-test.false, c.loop-n.auto.n-end, c.shop_count-count.ensures.count) in
     some_part c.loop-n.part (box_part_some x valid g.S.Score.ends c.args.low c.args.high c.requires.window (vertices_of c.loop-n.part)
     (all_turns x valid g.S.Score.ends c.args.low c.args.high ((c.shop_count-count.result - 1) / 2) c.loop-n.n (omega (arith, whole, c.shop_count-count.ensures.some, c.shop_count-count.ensures.count)) whole
@@ -126,7 +125,7 @@ returns g c =
     let x = c.args.sources.now.family.now in
     let whole : c.loop-n.n ≡ length (shop_vectors x 0) = omega (arith, c.loop-n-test.false, c.loop-n.auto.n-end, c.shop_count-count.ensures.count) in
     subst (λ (o : Option (List Point)). IsKnownPart c.args.low c.args.high (box_points g.S.Score.ends x) (vertices_of o) c.loop-n.beyond) c.unwrap.ensures
-    (all_turns x c.size-size.ensures.valid g.S.Score.ends c.args.low c.args.high ((c.shop_count-count.result - 1) / 2) c.loop-n.n
+    (all_turns x c.invariant.ensures.valid g.S.Score.ends c.args.low c.args.high ((c.shop_count-count.result - 1) / 2) c.loop-n.n
     (omega (arith, whole, c.shop_count-count.ensures.some, c.shop_count-count.ensures.count)) whole (vertices_of c.loop-n.part) c.loop-n.beyond c.loop-n.invariant.part)
 
 pub grow_with_shops-requires-clause-sources : goal.grow_with_shops-requires-clause-sources
@@ -148,7 +147,7 @@ pub grow_with_shops-requires-clause-widths : goal.grow_with_shops-requires-claus
 grow_with_shops-requires-clause-widths g c = c.loop-n.invariant.widths
 
 pub shop_count-count-requires : goal.shop_count-count-requires
-shop_count-count-requires g c = let some = c.size-size.ensures.valid.valid.frame.fewest_sites in omega (arith, some)
+shop_count-count-requires g c = let some = c.invariant.ensures.valid.valid.frame.fewest_sites in omega (arith, some)
 
 pub in_turn-number-requires-clause-order : goal.in_turn-number-requires-clause-order
 in_turn-number-requires-clause-order g c = omega arith

@@ -1,13 +1,12 @@
-use Rattle.std.proofs.Common.{◌-◌, ◌*◌, ◌^◌, ◌≤◌}
-use Rattle.std.specs.List.{range_with_len}
-use Rattle.family_points.specs.Least.{AreAtLeast}
-use Rattle.family_points.specs.Separation.{points_over}
+use Rattle.std.proofs.Common.{◌+◌, ◌*◌, ◌^◌, ◌≤◌}
+use Rattle.family_floors.specs.declared.lows.Lows.{Lows}
+use Rattle.family_parts.proofs.Nearer.{IsSoFar}
 use Rattle.family_parts.proofs.lows.low_if_passed.Given as goal
 
 abbrev pub invariant-loop-j : goal.invariant-loop-j
 invariant-loop-j g l = record {
-  low : AreAtLeast l.low.p l.low.q l.at_low (points_over g.S.Score.ends l.sources.family.now l.depot (range_with_len 1 (l.j - 1)));
-  high : AreAtLeast l.high.p l.high.q l.at_high (points_over g.S.Score.ends l.sources.family.now l.depot (range_with_len 1 (l.j - 1)));
-  most_low : l.at_low ≤ l.j * 2 ^ 115;
-  most_high : l.at_high ≤ l.j * 2 ^ 115;
+  low : IsSoFar g.S.Score.ends l.sources.family.now l.depot l.low.p l.low.q (λ (r : Lows). r.at_low) l.rough.bases.items l.j l.at_low;
+  high : IsSoFar g.S.Score.ends l.sources.family.now l.depot l.high.p l.high.q (λ (r : Lows). r.at_high) l.rough.bases.items l.j l.at_high;
+  most_low : l.at_low ≤ (l.j + 15) * 2 ^ 115;
+  most_high : l.at_high ≤ (l.j + 15) * 2 ^ 115;
 }

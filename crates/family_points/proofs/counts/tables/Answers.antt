@@ -4,4 +4,4 @@ use Rattle.family_points.proofs.Whole.{tables_whole}
 use Rattle.family_points.proofs.counts.tables.Goals as goal
 
 pub returns : goal.returns
-returns c = c.count_tables.ensures ∙ sym (ap count64 (tables_whole c.args.case.now c.args.line.0 c.site_count-valid.ensures.valid))
+returns c = c.count_tables.ensures ∙ sym (ap count64 (tables_whole c.args.case.now c.args.line.0 c.invariant.ensures.valid))

@@ -1,7 +1,7 @@
-use Rattle.std.proofs.Common.{◌≡◌, ℕ, ◌≤◌, ◌∷◌, List, sym, ap, ap₂, ◌∙◌, subst, arith}
+use Rattle.std.proofs.Common.{◌≡◌, ℕ, ◌∷◌, List, sym, ap, ap₂, ◌∙◌, subst, arith}
 use Rattle.fleet_model.specs.Fleet.{family}
 use Rattle.family_points.specs.Points.{cost_above}
-use Rattle.family_points.specs.Inputs.{AreShopsAt, IsAt, held_at, line_high, line_low}
+use Rattle.family_points.specs.Inputs.{AreShopsAt, IsAt, held_at, line_low}
 use Rattle.family_points.proofs.Points.{joined_at}
 use Rattle.family_points.proofs.order.shops_at.Goals as goal
 
@@ -13,8 +13,8 @@ pub cost-cost-requires-clause-stocks : goal.cost-cost-requires-clause-stocks
 cost-cost-requires-clause-stocks c =
     let x = c.args.family.now in
     let j = c.args.site.0 in
-    let top : line_low x j ≤ line_high x j = omega (arith, c.line_high-high.ensures.order, c.line_high-high.ensures.high) in
-    subst (IsAt x j) (sym (whole_is c)) (joined_at x c.size-size.ensures.valid j (line_low x j) c.in_ok-stocks.stocks.items c.requires.site.1 c.in_ok-stocks.ensures.within (omega arith) top)
+    subst (IsAt x j) (sym (whole_is c))
+    (joined_at x c.invariant.ensures.valid j (line_low x j) c.in_ok-stocks.stocks.items c.requires.site.1 c.in_ok-stocks.ensures.within (omega arith) c.invariant_at.ensures.order)
 
 pub returns : goal.returns
 returns c =

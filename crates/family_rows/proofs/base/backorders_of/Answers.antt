@@ -5,9 +5,8 @@ use Rattle.std.proofs.lemmas.Slice.Zip.{AllZip-long}
 use Rattle.fixed_interval.specs.Ends.{Ends, IsWithinLimit}
 use Rattle.family_points.specs.Inputs.{shop_vectors}
 use Rattle.family_rows.specs.Spots.{IsRow}
-use Rattle.family_points.proofs.Ordered.{choice_at}
+use Rattle.family_points.proofs.Public.{choice_at, read_place}
 use Rattle.family_rows.proofs.Rows.{row_read}
-use Rattle.family_points.proofs.Shops.{read_place}
 use Rattle.family_rows.proofs.base.backorders_of.Goals as goal
 
 pub prove-unreachable-requires : goal.prove-unreachable-requires

@@ -8,7 +8,7 @@ use Rattle.family_points.specs.Inputs.{AreShopsAt, shop_vectors}
 use Rattle.family_points.specs.Choices.{IsShopVector}
 use Rattle.family_rows.specs.Spots.{IsRow}
 use Rattle.family_rows.proofs.Rows.{part_read, row_put, rows_taken}
-use Rattle.family_points.proofs.Spotted.{stock_read}
+use Rattle.family_points.proofs.Public.{stock_read}
 use Rattle.family_rows.proofs.base.put_rows.Goals as goal
 
 pub loop-n-init : goal.loop-n-init

@@ -7,7 +7,7 @@ use Rattle.hull.specs.declared.point.Point.{Point}
 use Rattle.family_points.specs.Inputs.{shop_vectors}
 use Rattle.family_points.specs.declared.order.ShopVector.{ShopVector}
 use Rattle.family_points.specs.Choices.{choice_point}
-use Rattle.family_points.proofs.Spotted.{stock_read}
+use Rattle.family_points.proofs.Public.{stock_read}
 use Rattle.family_rows.proofs.base.spot_at.Goals as goal
 
 -- a point, part by part

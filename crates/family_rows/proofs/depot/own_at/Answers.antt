@@ -1,6 +1,6 @@
 use Rattle.std.proofs.Common.{◌≡◌, ℕ, ◌<◌, List, length, get_or, sym, ap, ap₂, ◌∙◌, subst, arith, lit<}
 use Rattle.family_numbers.specs.Numbers.{FamilyNumbers, depot_line_table, own_part}
-use Rattle.family_points.proofs.Bounded.{at_long, stock_small}
+use Rattle.family_points.proofs.Public.{at_long, stock_small}
 use Rattle.family_rows.proofs.depot.own_at.Goals as goal
 
 pub bounds-depot-0 : goal.bounds-depot-0

@@ -2,9 +2,7 @@ use Rattle.std.proofs.Common.{◌≡◌, ◌<◌, ◌∷◌, length, get_or, dro
 use Rattle.fixed_interval.specs.Ends.{InScale}
 use Rattle.family_numbers.specs.Numbers.{AreBaseBackorders, FamilyNumbers, own_part, shop_part}
 use Rattle.family_points.specs.Inputs.{line_high}
-use Rattle.family_points.proofs.Bounded.{stock_small}
-use Rattle.family_points.proofs.Points.{box_begins, joined_at}
-use Rattle.family_points.proofs.Bounded.{at_long}
+use Rattle.family_points.proofs.Public.{stock_small, box_begins, joined_at, at_long}
 use Rattle.family_rows.proofs.Tabled.{line_listed, shop_stocks, tabled}
 use Rattle.family_rows.proofs.depot.put_backorders.Goals as goal
 

@@ -6,9 +6,7 @@ use Rattle.family_points.specs.declared.order.Base.{Base}
 use Rattle.family_points.specs.declared.order.ShopVector.{ShopVector}
 use Rattle.family_points.specs.Choices.{AreBases, IsBaseOf, IsShopVector}
 use Rattle.family_points.specs.Inputs.{AreShopsAt, FamilyBox, shop_vectors}
-use Rattle.family_points.proofs.AllBases.{base_read, bases_long}
-use Rattle.family_points.proofs.Points.{take_next}
-use Rattle.family_points.proofs.Spotted.{stock_read}
+use Rattle.family_points.proofs.Public.{base_read, bases_long, take_next, stock_read}
 use Rattle.family_rows.specs.Tabled.{box_numbers}
 use Rattle.family_rows.proofs.Tabled.{have_shops, shop_stocks}
 use Rattle.family_rows.proofs.depot.put_parts.Goals as goal
@@ -43,7 +41,7 @@ shop_part-part-requires c =
     let sources = c.args.sources.now in
     let x = sources.family.now in
     let j = c.args.site.0 in
-    let valid = c.size-size.ensures.valid in
+    let valid = c.invariant.ensures.valid in
     let base = read x j c.from.result sources.bases.items c.index-base.result.now c.from.ensures c.requires.site.0 c.requires.site.1 c.requires.sources.bases c.index-base.ensures in
     let items = c.index-base.result.now.shops.items in
     let shops = c.index.result.now in

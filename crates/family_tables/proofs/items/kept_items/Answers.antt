@@ -10,7 +10,7 @@ use Rattle.family_tables.proofs.Keyed.{keys_valid}
 use Rattle.family_tables.proofs.items.kept_items.Goals as goal
 
 pub depot_stocks-requires : goal.depot_stocks-requires
-depot_stocks-requires g c = (lit< tt, λ i h. c.requires.stocks.pairs i 0 h (omega (arith, c.sites-valid.ensures.valid.fewest_sites)))
+depot_stocks-requires g c = (lit< tt, λ i h. c.requires.stocks.pairs i 0 h (omega (arith, c.invariant.ensures.valid.fewest_sites)))
 
 pub keys_of-requires : goal.keys_of-requires
 keys_of-requires g c = (lit< tt, ap (λ (v : List _). length v) (c.as_slice.ensures.value ∙ c.in_ok-depot.ensures) ∙ stocks_count g.row.F c.args.numbers.now c.args.stocks.now)
@@ -19,7 +19,7 @@ pub keep_each-requires : goal.keep_each-requires
 keep_each-requires g c =
     let x = c.args.numbers.now in
     let s = c.args.stocks.now in
-    let are = c.sites-valid.ensures.valid in
+    let are = c.invariant.ensures.valid in
     let keys : c.as_slice-2.result.now ≡ keys_of x (depot_stocks x s) =
     c.as_slice-2.ensures.value ∙ c.in_ok-keys.ensures ∙ ap (keys_of x) (c.as_slice.ensures.value ∙ c.in_ok-depot.ensures) in (
       lit< tt,
@@ -45,7 +45,7 @@ items_of-requires g c =
     let x = c.args.numbers.now in
     let s = c.args.stocks.now in
     let d = depot_stocks x s in
-    let are = c.sites-valid.ensures.valid in
+    let are = c.invariant.ensures.valid in
     let old = map (λ (y : Kept g.row.F). y.key) c.args.kept.now.items in
     let depot = c.as_slice.ensures.value ∙ c.in_ok-depot.ensures in
     let first : c.as_slice-2.result.now ≡ keys_of x d = c.as_slice-2.ensures.value ∙ c.in_ok-keys.ensures ∙ ap (keys_of x) depot in

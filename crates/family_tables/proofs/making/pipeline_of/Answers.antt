@@ -5,7 +5,7 @@ use Rattle.depot_pipeline.specs.declared.Feed.{Feed}
 use Rattle.depot_pipeline.specs.Exact.{IsSmallFeed}
 use Rattle.family_numbers.specs.Numbers.{nth_stock, depot_feeds}
 use Rattle.family_tables.proofs.Keyed.{base_keyed}
-use Rattle.family_numbers.proofs.Served.{depot_feeds_small, depot_shop_small, feed_is_small}
+use Rattle.family_numbers.proofs.Public.{depot_feeds_small, depot_shop_small, feed_is_small}
 use Rattle.family_tables.proofs.making.pipeline_of.Goals as goal
 
 pub depot_line-requires : goal.depot_line-requires
@@ -14,7 +14,7 @@ depot_line-requires g c =
     let stocks = c.args.key.now.stocks in
     let feeds : c.as_slice-then-key-eq0.result.now ≡ depot_feeds g.row.F x stocks =
     c.as_slice-then-key-eq0.ensures.value ∙ c.in_ok-feeds.ensures ∙ ap (depot_feeds g.row.F x) c.as_slice.ensures in
-    let are = c.sites-valid.ensures.valid in
+    let are = c.invariant.ensures.valid in
     let count = ap (λ (v : List (Feed g.row.F)). length v) feeds ∙ length-map-range_with_len _ 0 (length x.parts - 1) in (
       lit< tt,
       (
@@ -35,7 +35,7 @@ depot_line-requires g c =
 pub base_shop-requires : goal.base_shop-requires
 base_shop-requires g c =
     let x = c.args.numbers.now in
-    let are = c.sites-valid.ensures.valid in
+    let are = c.invariant.ensures.valid in
     let p = c.args.key.now.place in
     let inside : p - 1 < length x.parts - 1 = omega (arith, c.requires.key.place, c.if-key-eq0.false) in
     let one = c.requires.key.base (omega (arith, c.if-key-eq0.false)) (omega (arith, c.if-key-eq0-2.false)) in

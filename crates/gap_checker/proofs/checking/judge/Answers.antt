@@ -1,5 +1,5 @@
 use Rattle.std.proofs.Common.{refl}
-use Rattle.gap_rules.proofs.Judging.{by_covers, by_stocks, by_floors, by_upper, by_bound, by_none, are_trees, few_tables, are_limited, are_kept}
+use Rattle.gap_rules.proofs.Public.{by_covers, by_stocks, by_floors, by_upper, by_bound, by_none, are_trees, few_tables, are_limited, are_kept}
 use Rattle.gap_checker.proofs.checking.judge.Goals as goal
 
 pub returns-in_err-covers_kept : goal.returns-in_err-covers_kept

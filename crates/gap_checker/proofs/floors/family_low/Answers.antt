@@ -2,8 +2,7 @@ use Rattle.std.proofs.Common.{◌≤◌, length, sym, ap, ◌∙◌, subst, get_
 use Rattle.std.specs.Option.{option_map}
 use Rattle.gap_rules.specs.Boxes.{IsOrdered}
 use Rattle.gap_rules.specs.Refusals.{too_low}
-use Rattle.gap_rules.proofs.Families.{box_ordered, own_tree, own_work, own_low}
-use Rattle.gap_rules.proofs.Formed.{has_cover, has_floors, few_nodes}
+use Rattle.gap_rules.proofs.Public.{box_ordered, own_tree, own_work, own_low, has_cover, has_floors, few_nodes}
 use Rattle.gap_checker.proofs.floors.family_low.Goals as goal
 
 pub nodes_of-nodes-requires-clause-covers : goal.nodes_of-nodes-requires-clause-covers

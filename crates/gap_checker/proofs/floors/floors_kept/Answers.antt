@@ -1,8 +1,8 @@
 use Rattle.std.proofs.Common.{◌≡◌, None, sym, refl, subst, ◌∙◌, arith}
 use Rattle.spares_input.specs.First.{first}
 use Rattle.gap_rules.specs.Refusals.{low_at, family_count}
-use Rattle.spares_input.proofs.Firsts.{first_found, first_more}
-use Rattle.gap_rules.proofs.Families.{line_is, line_read_at, count_lines, tree_at, work_at}
+use Rattle.spares_input.proofs.Public.{first_found, first_more}
+use Rattle.gap_rules.proofs.Public.{line_is, line_read_at, count_lines, tree_at, work_at}
 use Rattle.gap_checker.proofs.floors.floors_kept.Goals as goal
 
 pub loop-f-init : goal.loop-f-init

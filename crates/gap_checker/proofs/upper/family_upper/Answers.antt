@@ -1,5 +1,5 @@
 use Rattle.family_points.specs.Vectors.{vector_of}
-use Rattle.gap_rules.proofs.Places.{vectors_ordered, vector_limited}
+use Rattle.gap_rules.proofs.Public.{vectors_ordered, vector_limited}
 use Rattle.gap_checker.proofs.Uppers.{one_ordered, one_upper}
 use Rattle.gap_checker.proofs.upper.family_upper.Goals as goal
 

@@ -1,7 +1,7 @@
 use Rattle.std.proofs.Common.{ap, arith}
 use Rattle.fleet_model.specs.Rows.{line_units}
 use Rattle.gap_rules.specs.Refusals.{chosen_point}
-use Rattle.gap_rules.proofs.Families.{line_is, line_read_at, count_lines}
+use Rattle.gap_rules.proofs.Public.{line_is, line_read_at, count_lines}
 use Rattle.gap_checker.proofs.Uppers.{hi_next}
 use Rattle.gap_checker.proofs.upper.upper_kept.Goals as goal
 

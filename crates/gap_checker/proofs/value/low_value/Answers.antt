@@ -5,7 +5,7 @@ use Rattle.family_points.specs.Points.{added_cost}
 use Rattle.family_points.specs.Vectors.{limits}
 use Rattle.gap_rules.specs.Covers.{box_of}
 use Rattle.gap_rules.specs.Values.{below, leaf_tables, value_of}
-use Rattle.gap_rules.proofs.Boxes.{at_most_chain}
+use Rattle.gap_rules.proofs.Public.{at_most_chain}
 use Rattle.gap_checker.proofs.value.low_value.Goals as goal
 
 pub added_cost-cost-requires-clause-limit : goal.added_cost-cost-requires-clause-limit

@@ -24,7 +24,7 @@ part-requires c = part_in c.args.case.now c.args.line.0 c.args.parts.now c.loop-
 pub overflow_add-cost : goal.overflow_add-cost
 overflow_add-cost c =
     let a = length_parts c.args.case.now c.args.line.0 c.args.held.now c.args.vector.now c.requires.order c.requires.limit c.args.parts.now c.requires.parts in
-    let b = few_places c.args.case.now c.args.line.0 c.site_count-valid.ensures.valid c.requires.line in
+    let b = few_places c.args.case.now c.args.line.0 c.invariant.ensures.valid c.requires.line in
     let most = c.loop-i.invariant.most in
     let added : c.from-added.result ≤ 255 = omega (arith, c.type_inv.vector c.loop-i.i, c.from-added.ensures) in
     let each : c.from.result ≤ 100000000 = omega (arith, c.from.ensures, c.part.ensures.fields.cost.1) in
@@ -46,7 +46,7 @@ returns-clause-cost c =
 pub returns-clause-most : goal.returns-clause-most
 returns-clause-most c =
     let a = length_parts c.args.case.now c.args.line.0 c.args.held.now c.args.vector.now c.requires.order c.requires.limit c.args.parts.now c.requires.parts in
-    let b = few_places c.args.case.now c.args.line.0 c.site_count-valid.ensures.valid c.requires.line in
+    let b = few_places c.args.case.now c.args.line.0 c.invariant.ensures.valid c.requires.line in
     let most = c.loop-i.invariant.most in
     let end = c.loop-i.auto.i-end in
     omega (arith, most, a, b, end)

@@ -1,7 +1,7 @@
 use Rattle.std.proofs.Common.{◌≡◌}
 use Rattle.line_text.specs.Formats.{each}
 use Rattle.line_text.specs.Texts.{numbers_from}
-use Rattle.line_text.proofs.Steps.{read_from}
+use Rattle.line_text.proofs.Public.{read_from}
 use Rattle.held_certificate.specs.Held.{held_line}
 use Rattle.held_certificate.proofs.reading.each_held.Given as goal
 

@@ -1,7 +1,7 @@
 use Rattle.std.proofs.Common.{◌≡◌, ◌*◌, ℕ, length, refl, ap, ◌∙◌, arith}
 use Rattle.std.proofs.lemmas.Nat.{mul-le}
-use Rattle.line_text.proofs.FieldLaws.{a_field, count_line_is_exact}
-use Rattle.price_certificate.proofs.Fits.{count_within}
+use Rattle.line_text.proofs.Public.{a_field, count_line_is_exact}
+use Rattle.price_certificate.proofs.Public.{count_within}
 use Rattle.held_certificate.proofs.reading.held_stocks.Goals as goal
 use lib.Chars.{codes}
 

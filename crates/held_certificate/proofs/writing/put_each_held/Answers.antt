@@ -1,6 +1,6 @@
 use Rattle.std.proofs.Common.{◌/◌, ◌%◌, ◌++◌, length, refl}
 use Rattle.spares_input.specs.Stocks.{limit_at}
-use Rattle.line_text.proofs.Loops.{text_from, print_step, print_end}
+use Rattle.line_text.proofs.Public.{text_from, print_step, print_end}
 use Rattle.held_certificate.specs.Held.{held_line}
 use Rattle.held_certificate.proofs.writing.put_each_held.Goals as goal
 

@@ -1,5 +1,5 @@
 use Rattle.std.proofs.Common.{◌≡◌, ◌++◌, length}
-use Rattle.line_text.proofs.Loops.{text_from}
+use Rattle.line_text.proofs.Public.{text_from}
 use Rattle.spares_input.specs.Cases.{CaseRows}
 use Rattle.held_certificate.specs.Held.{held_line}
 use Rattle.held_certificate.proofs.writing.put_each_held.Given as goal

@@ -5,7 +5,7 @@ use Rattle.line_text.specs.Formats.{each}
 use Rattle.line_text.specs.Files.{file_text}
 use Rattle.line_text.specs.Texts.{count_line, numbers_from}
 use Rattle.spares_input.specs.Cases.{frame_rows, pair_count}
-use Rattle.case_lines.proofs.Written.{back}
+use Rattle.case_lines.proofs.Public.{back}
 use Rattle.held_certificate.specs.Held.{held_line}
 use Rattle.held_certificate.proofs.writing.put_held.Goals as goal
 use lib.Chars.{codes}

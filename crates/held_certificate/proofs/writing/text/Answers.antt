@@ -2,7 +2,7 @@ use Rattle.std.proofs.Common.{◌++◌, ℕ, List, ap, sym, ◌∙◌}
 use Rattle.std.specs.List.{concat}
 use Rattle.line_text.specs.Files.{file_text}
 use Rattle.line_text.specs.Texts.{count_line}
-use Rattle.case_lines.proofs.Written.{back}
+use Rattle.case_lines.proofs.Public.{back}
 use Rattle.price_certificate.specs.Certificates.{cert_text}
 use Rattle.held_certificate.specs.Held.{held}
 use Rattle.held_certificate.proofs.Inverse.{parts_of_text}

@@ -1,5 +1,5 @@
 use Rattle.std.proofs.Common.{sym, ◌∙◌}
-use Rattle.family_points.proofs.Counting.{work_more, work_same}
+use Rattle.family_points.proofs.Public.{work_more, work_same}
 use Rattle.held_work.proofs.Kept.{tables_at}
 use Rattle.held_work.proofs.work.held_work.Goals as goal
 use Rattle.held_work.proofs.work.held_work.Goals.{then-is_line, else-is_line}

@@ -1,6 +1,6 @@
 use Rattle.std.proofs.Common.{◌≡◌, sum_by}
 use Rattle.answers.specs.Counts.{count64}
-use Rattle.family_points.proofs.Counting.{lines_below}
+use Rattle.family_points.proofs.Public.{lines_below}
 use Rattle.held_work.proofs.Kept.{tables_at}
 use Rattle.held_work.proofs.work.held_work.Given as goal
 

@@ -1,7 +1,7 @@
 use Rattle.std.proofs.Common.{◌≡◌, ◌≤◌}
 use Rattle.price_bounds.specs.Sums.{cost_of}
 use Rattle.step_walk.specs.Prefix.{picked}
-use Rattle.step_walk.proofs.Taking.{steps_left}
+use Rattle.step_walk.proofs.Public.{steps_left}
 use Rattle.marginal_alloc.proofs.allocation.allocate_within.Given as goal
 
 abbrev pub invariant-steps : goal.invariant-steps

@@ -6,7 +6,7 @@ use Rattle.price_bounds.specs.Sums.{cost_of}
 use Rattle.step_walk.specs.Prefix.{curve_at, vertex_at, picked}
 use Rattle.marginal_alloc.specs.Filling.{gain}
 use Rattle.marginal_alloc.specs.Changes.{IsBestAmong}
-use Rattle.step_walk.proofs.Greedy.{vertex_is}
+use Rattle.step_walk.proofs.Public.{vertex_is}
 use Rattle.marginal_alloc.proofs.Along.{lo_below}
 use Rattle.marginal_alloc.proofs.Best.{part_of_cost, lowest_is, bounded, no_better, better}
 use Rattle.marginal_alloc.proofs.change.better_of.Goals as goal

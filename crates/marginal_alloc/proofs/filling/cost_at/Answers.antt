@@ -1,7 +1,7 @@
 use Rattle.std.proofs.Common.{◌≤◌, slice_index, sym, ap, subst, arith}
 use Rattle.hull.specs.Curves.{Among, nowhere}
-use Rattle.hull.proofs.Runs.{among_at}
-use Rattle.step_walk.proofs.Greedy.{vertex_is}
+use Rattle.hull.proofs.Public.{among_at}
+use Rattle.step_walk.proofs.Public.{vertex_is}
 use Rattle.marginal_alloc.proofs.Costs.{from_next, from_end}
 use Rattle.marginal_alloc.proofs.filling.cost_at.Goals as goal
 

@@ -1,7 +1,7 @@
 use Rattle.std.proofs.Common.{◌≡◌, slice_index, ap, ◌∙◌, arith}
 use Rattle.std.proofs.lemmas.List.{get_or_default}
 use Rattle.step_walk.specs.Prefix.{vertex_at}
-use Rattle.step_walk.proofs.Greedy.{vertex_is}
+use Rattle.step_walk.proofs.Public.{vertex_is}
 use Rattle.marginal_alloc.proofs.Best.{part_of_cost}
 use Rattle.marginal_alloc.proofs.Costs.{left_on}
 use Rattle.marginal_alloc.proofs.filling.take_change.Goals as goal

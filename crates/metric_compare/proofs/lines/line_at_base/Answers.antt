@@ -5,12 +5,12 @@ use Rattle.metric_compare.proofs.Pipes.{by_ids, few_of, units_are}
 use Rattle.metric_compare.proofs.lines.line_at_base.Goals as goal
 
 pub held_at-requires-clause-units : goal.held_at-requires-clause-units
-held_at-requires-clause-units c = units_are c.args.inputs.now.case c.args.line.0 c.args.units.now c.sites-sites.ensures.valid.valid c.requires.line c.requires.units
+held_at-requires-clause-units c = units_are c.args.inputs.now.case c.args.line.0 c.args.units.now c.invariant.ensures.valid.valid c.requires.line c.requires.units
 
 pub base_line_at-requires-clause-few : goal.base_line_at-requires-clause-few
 base_line_at-requires-clause-few c =
     few_of c.args.inputs.now.case c.args.line.0 (λ (p : PartId). held 48 (base_shop 48 c.args.inputs.now.case c.args.inputs.now.stocks.list p.0 c.args.base.0)) c.args.units.now
-    c.as_slice.result.now c.sites-sites.ensures.valid.valid c.requires.line c.requires.units (c.as_slice.ensures.value ∙ c.in_ok-held.ensures.held)
+    c.as_slice.result.now c.invariant.ensures.valid.valid c.requires.line c.requires.units (c.as_slice.ensures.value ∙ c.in_ok-held.ensures.held)
 
 pub base_line_at-requires-clause-held : goal.base_line_at-requires-clause-held
 base_line_at-requires-clause-held c =

@@ -5,12 +5,12 @@ use Rattle.metric_compare.proofs.Pipes.{by_ids, few_of, units_are}
 use Rattle.metric_compare.proofs.lines.line_at_depot.Goals as goal
 
 pub depot_feeds-requires-clause-units : goal.depot_feeds-requires-clause-units
-depot_feeds-requires-clause-units c = units_are c.args.inputs.now.case c.args.line.0 c.args.units.now c.sites-sites.ensures.valid.valid c.requires.line c.requires.units
+depot_feeds-requires-clause-units c = units_are c.args.inputs.now.case c.args.line.0 c.args.units.now c.invariant.ensures.valid.valid c.requires.line c.requires.units
 
 pub depot_line_at-requires-clause-few : goal.depot_line_at-requires-clause-few
 depot_line_at-requires-clause-few c =
     few_of c.args.inputs.now.case c.args.line.0 (λ (p : PartId). depot_feed 48 c.args.inputs.now.case c.args.inputs.now.stocks.list p.0) c.args.units.now c.as_slice.result.now
-    c.sites-sites.ensures.valid.valid c.requires.line c.requires.units (c.as_slice.ensures.value ∙ c.in_ok-feeds.ensures.feeds)
+    c.invariant.ensures.valid.valid c.requires.line c.requires.units (c.as_slice.ensures.value ∙ c.in_ok-feeds.ensures.feeds)
 
 pub depot_line_at-requires-clause-feeds : goal.depot_line_at-requires-clause-feeds
 depot_line_at-requires-clause-feeds c =

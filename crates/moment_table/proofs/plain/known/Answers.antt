@@ -2,7 +2,7 @@ use Rattle.std.proofs.Common.{◌≡◌, ◌+◌, ◌∙◌, sym, subst, arith, 
 use Rattle.fixed_interval.specs.Ends.{Ends, InScale, IsInterval}
 use Rattle.series_bounds.specs.Answer.{IsSum}
 use Rattle.series_bounds.specs.Profile.{weight_ends, pivot_at, weights_of}
-use Rattle.series_bounds.proofs.Unlisted.{sum_known, weight_listed}
+use Rattle.series_bounds.proofs.Public.{sum_known, weight_listed}
 use Rattle.moment_table.specs.Profile.{known_row}
 use Rattle.moment_table.specs.Running.{AreSmall, IsRunning, all_weights}
 use Rattle.moment_table.proofs.Enclosure.{row_of_known}

@@ -1,5 +1,5 @@
 use Rattle.std.proofs.Common.{◌<◌, ◌∙◌, arith, ap}
-use Rattle.series_bounds.proofs.Enclosure.{wide_answer}
+use Rattle.series_bounds.proofs.Public.{wide_answer}
 use Rattle.moment_table.specs.Held.{bare_row}
 use Rattle.moment_table.specs.Profile.{excess_ends}
 use Rattle.moment_table.proofs.Enclosure.{bare_empty, bare_wide}

@@ -1,7 +1,7 @@
 use Rattle.std.proofs.Common.{◌≡◌, true, subst, ◌<◌, ◌≤◌, ◌*◌, arith, lit<, inl, inr}
 use Rattle.series_bounds.specs.Profile.{is_wide}
 use Rattle.series_bounds.specs.Answer.{IsBeginning}
-use Rattle.series_bounds.proofs.Enclosure.{wide_answer}
+use Rattle.series_bounds.proofs.Public.{wide_answer}
 use Rattle.fixed_interval.specs.Ends.{Ends}
 use Rattle.moment_table.specs.Profile.{excess_ends}
 use Rattle.moment_table.proofs.Enclosure.{bare_empty, bare_wide}

@@ -3,7 +3,7 @@ use Rattle.std.specs.List.{AllZip}
 use Rattle.std.proofs.lemmas.List.{take_all, take_more}
 use Rattle.hull.specs.declared.point.Point.{Point}
 use Rattle.fleet_model.specs.Rows.{line_units}
-use Rattle.sum_walk.proofs.Lists.{zip_push}
+use Rattle.sum_walk.proofs.Public.{zip_push}
 use Rattle.held_work.specs.Curves.{IsFamilyCurve}
 use Rattle.on_hand.proofs.curves.whole_curves.Goals as goal
 

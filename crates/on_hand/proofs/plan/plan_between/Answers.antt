@@ -2,7 +2,7 @@ use Rattle.std.proofs.Common.{IfOk, IfSome, sym, ap, subst}
 use Rattle.spares_input.specs.Cases.{CaseRows}
 use Rattle.fleet_plan.specs.Families.{case_points}
 use Rattle.case_plan.specs.Report.{HaveVectors, IsOutcome}
-use Rattle.case_plan.proofs.PointsServe.{points_have_vectors}
+use Rattle.case_plan.proofs.Public.{points_have_vectors}
 use Rattle.on_hand.proofs.HeldFacts.{held_families}
 use Rattle.on_hand.proofs.plan.plan_between.Goals as goal
 

@@ -4,7 +4,7 @@ use Rattle.spares_input.specs.Cases.{CaseRows}
 use Rattle.marginal_alloc.specs.Choice.{AreCurves}
 use Rattle.fleet_plan.specs.Families.{case_points}
 use Rattle.case_plan.specs.Report.{AreFamilyCurves, IsOutcome, IsPlanOf}
-use Rattle.case_plan.proofs.CurveFacts.{are_curves, are_family_curves}
+use Rattle.case_plan.proofs.Public.{are_curves, are_family_curves}
 use Rattle.on_hand.proofs.plan.plan_by_curves.Goals as goal
 
 pub plan-requires-clause-curves : goal.plan-requires-clause-curves

@@ -38,6 +38,6 @@ returns-clause-given c =
     rw c.and.ensures (if_few CanPlan c.in_ok-given.given (work_of c.in_ok-given.given.case) c.few_tables.result
     (subst (λ (work : Result ℕ ℕ). Gives {T = ℕ} (or_refuse no_names refusal.Work work) c.few_tables.result) c.work.ensures c.few_tables.ensures) (λ few. record {
       rates = c.in_ok-given.ensures.rates;
-      accepted = record { valid = c.site_count-valid.ensures.valid; no_fault = c.in_ok-given.ensures.rates.no_fault };
+      accepted = record { valid = c.invariant.ensures.valid; no_fault = c.in_ok-given.ensures.rates.no_fault };
       work = few;
     }))

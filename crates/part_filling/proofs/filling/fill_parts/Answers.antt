@@ -3,7 +3,7 @@ use Rattle.hull.specs.declared.point.Point.{Point}
 use Rattle.price_bounds.specs.Sums.{cost_of, hi_of}
 use Rattle.step_walk.specs.Prefix.{picked}
 use Rattle.marginal_alloc.specs.Filling.{IsBestChange, change, full}
-use Rattle.marginal_alloc.proofs.Filled.{changed_vertices, hi_falls}
+use Rattle.marginal_alloc.proofs.Public.{changed_vertices, hi_falls}
 use Rattle.part_filling.specs.Known.{IsFound}
 use Rattle.part_filling.proofs.Picked.{same_changed}
 use Rattle.part_filling.proofs.filling.fill_parts.Goals as goal

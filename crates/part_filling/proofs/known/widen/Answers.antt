@@ -2,7 +2,7 @@ use Rattle.std.proofs.Common.{◌≡◌, slice_index, sym, ap, ◌∙◌, subst,
 use Rattle.std.proofs.lemmas.List.{get_or_default}
 use Rattle.hull.specs.declared.point.Point.{Point}
 use Rattle.step_walk.specs.Prefix.{vertex_at}
-use Rattle.step_walk.proofs.Greedy.{vertex_is}
+use Rattle.step_walk.proofs.Public.{vertex_is}
 use Rattle.part_filling.specs.Known.{HasCost}
 use Rattle.part_filling.proofs.Wider.{has_cost, known_set, pick_found, picked_set}
 use Rattle.part_filling.proofs.known.widen.Goals as goal

@@ -6,7 +6,7 @@ use Rattle.part_filling.proofs.outside.wider.Goals as goal
 
 pub overflow_mul-here : goal.overflow_mul-here
 overflow_mul-here c =
-    let r : InRange c.point-here.result.now = range_read c.args.curve.now c.args.pick c.point-here.result.now c.len-shape.ensures.shape c.requires.pick c.point-here.ensures in
+    let r : InRange c.point-here.result.now = range_read c.args.curve.now c.args.pick c.point-here.result.now c.invariant.ensures.shape c.requires.pick c.point-here.ensures in
     let h = r.hi in
     let q = c.requires.window.high_small.q in
     let e = c.from-money.ensures in
@@ -15,8 +15,8 @@ overflow_mul-here c =
 
 pub overflow_mul-first : goal.overflow_mul-first
 overflow_mul-first c =
-    let s = c.len-shape.ensures.shape.some in
-    let r : InRange c.point-first.result.now = range_read c.args.curve.now 0 c.point-first.result.now c.len-shape.ensures.shape (omega (arith, s)) c.point-first.ensures in
+    let s = c.invariant.ensures.shape.some in
+    let r : InRange c.point-first.result.now = range_read c.args.curve.now 0 c.point-first.result.now c.invariant.ensures.shape (omega (arith, s)) c.point-first.ensures in
     let h = r.hi in
     let l = r.ends in
     let q = c.requires.window.high_small.q in
@@ -26,8 +26,8 @@ overflow_mul-first c =
 
 pub overflow_add-first : goal.overflow_add-first
 overflow_add-first c =
-    let s = c.len-shape.ensures.shape.some in
-    let r : InRange c.point-first.result.now = range_read c.args.curve.now 0 c.point-first.result.now c.len-shape.ensures.shape (omega (arith, s)) c.point-first.ensures in
+    let s = c.invariant.ensures.shape.some in
+    let r : InRange c.point-first.result.now = range_read c.args.curve.now 0 c.point-first.result.now c.invariant.ensures.shape (omega (arith, s)) c.point-first.ensures in
     let h = r.hi in
     let l = r.ends in
     let q = c.requires.window.high_small.q in
@@ -38,7 +38,7 @@ overflow_add-first c =
 
 pub returns-then-here-money-clause-some : goal.returns-then-here-money-clause-some
 returns-then-here-money-clause-some c =
-    let r : InRange c.point-here.result.now = range_read c.args.curve.now c.args.pick c.point-here.result.now c.len-shape.ensures.shape c.requires.pick c.point-here.ensures in
+    let r : InRange c.point-here.result.now = range_read c.args.curve.now c.args.pick c.point-here.result.now c.invariant.ensures.shape c.requires.pick c.point-here.ensures in
     let h = r.hi in
     wider_high c.args.window c.point-here.result.now.hi c.point-first.result.now.lo c.requires.window
     (subst (λ m. c.point-first.result.now.lo * m + c.args.window.high.p < c.point-here.result.now.hi * m) c.from-money.ensures c.if-here-money.true) (omega (arith, h))

@@ -1,8 +1,8 @@
 use Rattle.std.proofs.Common.{◌∷◌, [], length, sym, ap, ◌∙◌, arith}
 use Rattle.std.proofs.lemmas.List.{length-append}
-use Rattle.family_items.proofs.Items.{kept_more, left_out}
+use Rattle.family_items.proofs.Public.{kept_more, left_out}
 use Rattle.case_plan.specs.Placing.{lines_below}
-use Rattle.case_plan.proofs.Families.{is_line_at}
+use Rattle.case_plan.proofs.Public.{is_line_at}
 use Rattle.plan_session.proofs.kept.lines_before.Goals as goal
 use Rattle.plan_session.proofs.kept.lines_before.Goals.{then-is_line, else-is_line}
 

@@ -1,5 +1,5 @@
 use Rattle.std.proofs.Common.{arith}
-use Rattle.case_plan.proofs.Families.{line_fewer}
+use Rattle.case_plan.proofs.Public.{line_fewer}
 use Rattle.plan_session.proofs.kept.place_of.Goals as goal
 
 pub returns-clause-within : goal.returns-clause-within

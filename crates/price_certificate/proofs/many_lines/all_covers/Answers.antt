@@ -3,7 +3,7 @@ use Rattle.line_text.specs.Formats.{each}
 use Rattle.line_text.specs.Texts.{count_line, numbers_from}
 use Rattle.price_certificate.specs.declared.certificate.Node.{Node}
 use Rattle.price_certificate.specs.Grammar.{cover}
-use Rattle.case_lines.proofs.Taken.{gathers_next}
+use Rattle.case_lines.proofs.Public.{gathers_next}
 use Rattle.price_certificate.proofs.many_lines.all_covers.Goals as goal
 use lib.Chars.{codes}
 

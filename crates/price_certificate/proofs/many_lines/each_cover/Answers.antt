@@ -2,7 +2,7 @@ use Rattle.std.proofs.Common.{Vec, Global}
 use Rattle.std.proofs.lemmas.Result.{err_from_is_err_and}
 use Rattle.line_text.specs.Formats.{each}
 use Rattle.line_text.specs.Texts.{numbers_from}
-use Rattle.line_text.proofs.Steps.{step, stops}
+use Rattle.line_text.proofs.Public.{step, stops}
 use Rattle.price_certificate.specs.declared.certificate.Node.{Node}
 use Rattle.answers.specs.declared.list.List.{List as Kept}
 use Rattle.price_certificate.specs.Grammar.{cover}

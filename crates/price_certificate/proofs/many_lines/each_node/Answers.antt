@@ -3,7 +3,7 @@ use Rattle.std.proofs.lemmas.Result.{err_from_is_err_and}
 use Rattle.line_text.specs.Formats.{each}
 use Rattle.line_text.specs.Texts.{numbers_from}
 use Rattle.answers.specs.declared.stop.Stop.TheVariants as stop
-use Rattle.line_text.proofs.Steps.{step, stops}
+use Rattle.line_text.proofs.Public.{step, stops}
 use Rattle.price_certificate.specs.declared.certificate.Node.{Node}
 use Rattle.price_certificate.specs.Grammar.{node_line}
 use Rattle.price_certificate.proofs.many_lines.each_node.Goals as goal

@@ -1,7 +1,7 @@
 use Rattle.std.proofs.Common.{◌≡◌}
 use Rattle.line_text.specs.Formats.{each}
 use Rattle.line_text.specs.Texts.{numbers_from}
-use Rattle.line_text.proofs.Steps.{read_from}
+use Rattle.line_text.proofs.Public.{read_from}
 use Rattle.price_certificate.specs.Grammar.{node_line}
 use Rattle.price_certificate.proofs.many_lines.each_node.Given as goal
 

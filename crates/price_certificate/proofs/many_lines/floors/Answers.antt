@@ -1,7 +1,7 @@
 use Rattle.std.proofs.Common.{◌^◌, ℕ, Vec, Global}
 use Rattle.line_text.specs.Formats.{each}
 use Rattle.line_text.specs.Texts.{count_line, numbers_from, number_line}
-use Rattle.case_lines.proofs.Taken.{gathers_next}
+use Rattle.case_lines.proofs.Public.{gathers_next}
 use Rattle.price_certificate.proofs.many_lines.floors.Goals as goal
 use lib.Chars.{codes}
 

@@ -1,6 +1,5 @@
-use Rattle.case_lines.proofs.Shape.{case_is_exact}
+use Rattle.case_lines.proofs.Public.{case_is_exact, case_sites, case_few_parts}
 use Rattle.case_lines.specs.Framed.{rows_of}
-use Rattle.case_lines.proofs.Few.{case_sites, case_few_parts}
 use Rattle.price_certificate.proofs.reading.certificate_lines.Goals as goal
 
 pub later_lines-requires-clause-few_sites : goal.later_lines-requires-clause-few_sites

@@ -1,7 +1,7 @@
 use Rattle.std.proofs.lemmas.Result.{err_from_is_err_and}
 use Rattle.line_text.specs.Files.{line}
 use Rattle.line_text.specs.Texts.{word}
-use Rattle.case_lines.proofs.Choices.{first_there, second_there, neither}
+use Rattle.case_lines.proofs.Public.{first_there, second_there, neither}
 use Rattle.price_certificate.proofs.single_lines.leaf_line.Goals as goal
 use lib.Chars.{codes}
 

@@ -4,7 +4,7 @@ use Rattle.line_text.specs.Formats.{one}
 use Rattle.line_text.specs.Files.{line}
 use Rattle.price_certificate.specs.Grammar.{split_fields, node_text}
 use Rattle.price_certificate.specs.Reading.{leaf_text}
-use Rattle.case_lines.proofs.Choices.{neither}
+use Rattle.case_lines.proofs.Public.{neither}
 use Rattle.price_certificate.proofs.single_lines.node_line.Goals as goal
 
 pub returns-in_err-leaf_line-in-Err : goal.returns-in_err-leaf_line-in-Err

@@ -12,7 +12,7 @@ pub overflow_cast-site : goal.overflow_cast-site
 overflow_cast-site c =
     let lt : c.loop-m.m < place_count c.args.case.now c.args.line.0 = omega (arith, c.loop-m-test.true, c.requires.count) in
     let site = site_below c.args.case.now c.args.line.0 c.args.parts.now c.loop-m.m c.requires.parts lt in
-    grind (arith, site, c.site_count-sites.ensures.valid.frame.most_sites)
+    grind (arith, site, c.invariant.ensures.valid.frame.most_sites)
 
 pub place_of-requires-clause-held : goal.place_of-requires-clause-held
 place_of-requires-clause-held c =

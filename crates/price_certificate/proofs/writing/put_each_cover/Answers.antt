@@ -1,7 +1,7 @@
 use Rattle.std.proofs.Common.{refl, ◌++◌, List, [], length, ap, ◌∙◌}
 use Rattle.std.specs.List.{concat}
 use Rattle.std.proofs.lemmas.List.{get_or_default}
-use Rattle.line_text.proofs.Loops.{text_from, print_step, print_end}
+use Rattle.line_text.proofs.Public.{text_from, print_step, print_end}
 use Rattle.price_certificate.specs.declared.certificate.Node.{Node}
 use Rattle.price_certificate.specs.Grammar.{cover}
 use Rattle.price_certificate.proofs.writing.put_each_cover.Goals as goal

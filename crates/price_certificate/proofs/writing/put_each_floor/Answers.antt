@@ -1,5 +1,5 @@
 use Rattle.std.proofs.Common.{refl, ◌^◌, ◌++◌, length}
-use Rattle.line_text.proofs.Loops.{text_from, print_step, print_end}
+use Rattle.line_text.proofs.Public.{text_from, print_step, print_end}
 use Rattle.line_text.specs.Texts.{number_line}
 use Rattle.price_certificate.proofs.writing.put_each_floor.Goals as goal
 

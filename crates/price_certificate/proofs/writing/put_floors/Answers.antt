@@ -1,6 +1,6 @@
 use Rattle.std.proofs.Common.{◌^◌, length, refl}
 use Rattle.line_text.specs.Texts.{number_line}
-use Rattle.case_lines.proofs.Written.{after_ok}
+use Rattle.case_lines.proofs.Public.{after_ok}
 use Rattle.price_certificate.proofs.Written.{counted_written}
 use Rattle.price_certificate.proofs.writing.put_floors.Goals as goal
 use lib.Chars.{codes}

@@ -1,4 +1,4 @@
-use Rattle.spares_input.proofs.NameFacts.{is_name_fits}
+use Rattle.spares_input.proofs.Public.{is_name_fits}
 use Rattle.refusals.proofs.of_cases.part_name.Goals as goal
 
 pub returns-then-part-part_count-clause-short : goal.returns-then-part-part_count-clause-short

@@ -1,4 +1,4 @@
-use Rattle.spares_input.proofs.NameFacts.{is_name_fits}
+use Rattle.spares_input.proofs.Public.{is_name_fits}
 use Rattle.refusals.proofs.of_cases.site_name.Goals as goal
 
 pub returns-then-site-site_count-clause-short : goal.returns-then-site-site_count-clause-short

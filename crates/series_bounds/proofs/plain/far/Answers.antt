@@ -1,6 +1,6 @@
 use Rattle.std.proofs.Common.{◌^◌, arith, rules}
 use Rattle.fixed_interval.specs.Ends.{InScale}
-use Rattle.fixed_interval.proofs.Laws.{unit_most}
+use Rattle.fixed_interval.proofs.Public.{unit_most}
 use Rattle.series_bounds.proofs.Ranges.{square_most}
 use Rattle.series_bounds.proofs.plain.far.Goals as goal
 

@@ -2,7 +2,7 @@ use Rattle.std.proofs.Common.{◌<◌, ◌*◌, ◌+◌, ◌-◌, ◌^◌, ◌�
 use Rattle.std.proofs.Math.Nat.{mul-pos}
 use Rattle.std.proofs.lemmas.Nat.{mul-le}
 use Rattle.fixed_interval.specs.Ends.{Ends, InScale}
-use Rattle.fixed_interval.proofs.Laws.{unit_most}
+use Rattle.fixed_interval.proofs.Public.{unit_most}
 use Rattle.series_bounds.specs.Profile.{ratio_ends}
 use Rattle.series_bounds.proofs.Ranges.{product_most, above_most, room_over, ratio_most}
 use Rattle.series_bounds.proofs.plain.ratio.Goals as goal

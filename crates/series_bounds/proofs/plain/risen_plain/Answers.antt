@@ -1,7 +1,7 @@
 use Rattle.std.proofs.Common.{◌≡◌, ◌+◌, ◌≤◌, ◌*◌, ◌^◌, ◌∙◌, ap, ap₂, arith, lit<, subst, sym}
 use Rattle.std.proofs.Math.Nat.{lt_trans}
 use Rattle.fixed_interval.specs.Ends.{Ends}
-use Rattle.fixed_interval.proofs.Laws.{unit_most}
+use Rattle.fixed_interval.proofs.Public.{unit_most}
 use Rattle.series_bounds.specs.Profile.{last_index, listed, weight_ends}
 use Rattle.series_bounds.proofs.Walks.{listed_more}
 use Rattle.series_bounds.proofs.Unlisted.{above_8, climb_done, climb_last, climb_next, climb_raised, climb_room, climb_start, climb_top, climb_unended, climb_weight, climb_wide, raised_ordered, short_8, up_to_last, upto_8}

@@ -1,6 +1,6 @@
 use Rattle.std.proofs.Common.{◌≡◌, ◌-◌, ◌*◌, ◌≤◌, ◌^◌, ◌∙◌, arith, ap, le_trans, mul-le-mul_right, lit<, rules}
 use Rattle.fixed_interval.specs.Ends.{InScale}
-use Rattle.fixed_interval.proofs.Laws.{unit_most}
+use Rattle.fixed_interval.proofs.Public.{unit_most}
 use Rattle.series_bounds.specs.Profile.{weight_ends}
 use Rattle.series_bounds.proofs.Unlisted.{sums_start, sums_next}
 use Rattle.series_bounds.proofs.plain.sum_to_pivot.Goals as goal

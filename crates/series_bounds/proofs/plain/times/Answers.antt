@@ -1,6 +1,6 @@
 use Rattle.std.proofs.Common.{◌^◌, arith, lit<, rules}
 use Rattle.fixed_interval.specs.Ends.{InScale}
-use Rattle.fixed_interval.proofs.Laws.{unit_most}
+use Rattle.fixed_interval.proofs.Public.{unit_most}
 use Rattle.series_bounds.proofs.Ranges.{pair_room}
 use Rattle.series_bounds.proofs.plain.times.Goals as goal
 

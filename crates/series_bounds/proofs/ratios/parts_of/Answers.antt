@@ -1,5 +1,5 @@
 use Rattle.std.proofs.Common.{◌*◌, ◌^◌, ap, arith, pow_pos}
-use Rattle.fixed_interval.proofs.Laws.{unit_most}
+use Rattle.fixed_interval.proofs.Public.{unit_most}
 use Rattle.series_bounds.proofs.Carried.{scaled_room, same_parts}
 use Rattle.series_bounds.proofs.Ranges.{part_room}
 use Rattle.series_bounds.proofs.ratios.parts_of.Goals as goal

@@ -1,6 +1,6 @@
 use Rattle.std.proofs.Common.{◌<◌, ◌*◌, ◌+◌, ◌-◌, ◌^◌, ◌≡◌, arith, pow_pos, ap, ◌∙◌, lit<, rules, refl}
 use Rattle.fixed_interval.specs.Ends.{Ends, InScale, IsInterval}
-use Rattle.fixed_interval.proofs.Laws.{unit_most}
+use Rattle.fixed_interval.proofs.Public.{unit_most}
 use Rattle.series_bounds.specs.Profile.{back_ends}
 use Rattle.series_bounds.proofs.Ranges.{back_room, back_most, rest_room}
 use Rattle.series_bounds.proofs.walk.back_at.Goals as goal

@@ -1,6 +1,6 @@
 use Rattle.std.proofs.Common.{◌^◌, ◌*◌, ◌-◌, ◌≤◌, ◌≡◌, ◌∙◌, arith, ap, rules, lit<}
 use Rattle.fixed_interval.specs.Ends.{Ends, InScale}
-use Rattle.fixed_interval.proofs.Laws.{unit_most}
+use Rattle.fixed_interval.proofs.Public.{unit_most}
 use Rattle.series_bounds.specs.Profile.{back_ends, pivot_at}
 use Rattle.series_bounds.proofs.Walks.{descent_start, descent_top, descent_next, descent_wide, descent_done}
 use Rattle.series_bounds.proofs.walk.down.Goals as goal

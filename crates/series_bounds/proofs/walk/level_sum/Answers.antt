@@ -1,6 +1,6 @@
 use Rattle.std.proofs.Common.{◌≡◌, ◌+◌, ◌-◌, ◌*◌, ◌^◌, ◌≤◌, ◌∙◌, sym, ap, ap₂, subst, arith, lit<, rules, mul-le-mul, mul-le-mul_right, le_trans}
 use Rattle.fixed_interval.specs.Ends.{Ends, InScale, ends_add, ends_times}
-use Rattle.fixed_interval.proofs.Laws.{unit_most}
+use Rattle.fixed_interval.proofs.Public.{unit_most}
 use Rattle.series_bounds.specs.Walk.{SumsTo}
 use Rattle.series_bounds.proofs.Beginnings.{sums_level}
 use Rattle.series_bounds.proofs.walk.level_sum.Goals as goal

@@ -1,7 +1,7 @@
 use Rattle.std.proofs.Common.{ℕ, max, ◌+◌, ◌≡◌, ◌≤◌, ◌*◌, ◌^◌, ◌∙◌, arith, subst, rules, lit<, le_trans, mul-le-mul_right}
 use Rattle.std.proofs.Math.Nat.{le-max_left, le-max_right}
 use Rattle.fixed_interval.specs.Ends.{InScale, IsInterval}
-use Rattle.fixed_interval.proofs.Laws.{unit_most}
+use Rattle.fixed_interval.proofs.Public.{unit_most}
 use Rattle.series_bounds.specs.Profile.{pivot_at, least_end, weight_ends}
 use Rattle.series_bounds.specs.Walk.{Begins}
 use Rattle.series_bounds.proofs.Walks.{end_from_63, least_from}

@@ -1,7 +1,7 @@
 use Rattle.std.proofs.Common.{◌+◌, ◌-◌, ◌*◌, ◌^◌, ◌≤◌, ◌∙◌, ap, arith, lit<, rules}
 use Rattle.std.proofs.lemmas.Nat.{mul-le}
 use Rattle.fixed_interval.specs.Ends.{Ends, InScale}
-use Rattle.fixed_interval.proofs.Laws.{unit_most}
+use Rattle.fixed_interval.proofs.Public.{unit_most}
 use Rattle.series_bounds.proofs.Ranges.{product_most}
 use Rattle.series_bounds.proofs.walk.settles.Goals as goal
 

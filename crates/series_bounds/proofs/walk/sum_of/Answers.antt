@@ -3,7 +3,7 @@ use Rattle.std.proofs.lemmas.List.{take_all, take_more}
 use Rattle.std.proofs.lemmas.Grind.{fold-append}
 use Rattle.std.proofs.lemmas.Nat.{mul-le}
 use Rattle.fixed_interval.specs.Ends.{Ends, ends_add}
-use Rattle.fixed_interval.proofs.Laws.{unit_most}
+use Rattle.fixed_interval.proofs.Public.{unit_most}
 use Rattle.series_bounds.specs.Profile.{ends_sum}
 use Rattle.series_bounds.proofs.walk.sum_of.Goals as goal
 

@@ -1,6 +1,6 @@
 use Rattle.std.proofs.Common.{ap}
 use Rattle.std.proofs.lemmas.Result.{err_from_is_err_and}
-use Rattle.certified_plan.proofs.Zeros.{none_is_held}
+use Rattle.certified_plan.proofs.Public.{none_is_held}
 use Rattle.price_certificate.specs.Certificates.{cert_of}
 use Rattle.spares_top.specs.Checks.{with_nothing}
 use Rattle.spares_top.proofs.Steps.{plain_unread}

@@ -2,13 +2,13 @@ use Rattle.std.proofs.Common.{refl}
 use Rattle.std.proofs.lemmas.Result.{IfOk-weaker}
 use Rattle.metric_compare.specs.Shows.{ShowsComparison}
 use Rattle.spares_top.specs.Headline.{IsTrueComparison}
-use Rattle.case_figures.proofs.Shown.{can_evaluate}
+use Rattle.case_figures.proofs.Public.{can_evaluate}
 use Rattle.spares_top.proofs.Shown.{comparison_true}
 use Rattle.spares_top.proofs.compare.compared.Goals as goal
 
 pub compare-requires-clause-inputs : goal.compare-requires-clause-inputs
 compare-requires-clause-inputs c =
-    can_evaluate 48 c.args.given.now.case c.args.given.now.stocks refl c.site_count-valid.ensures.valid c.requires.rates.no_fault c.requires.whole c.requires.limits
+    can_evaluate 48 c.args.given.now.case c.args.given.now.stocks refl c.invariant.ensures.valid c.requires.rates.no_fault c.requires.whole c.requires.limits
 
 pub returns-clause-is_true : goal.returns-clause-is_true
 returns-clause-is_true c =

@@ -1,7 +1,7 @@
 use Rattle.std.proofs.Common.{arith, subst}
-use Rattle.case_plan.proofs.CurveFacts.{are_curves}
+use Rattle.case_plan.proofs.Public.{are_curves}
 use Rattle.fleet_model.specs.Rows.{line_units}
-use Rattle.fleet_model.proofs.FrameLaws.{few_lines}
+use Rattle.fleet_model.proofs.Public.{few_lines}
 use Rattle.fleet_plan.specs.Families.{case_points, family_points}
 use Rattle.marginal_alloc.specs.Choice.{AreCurves}
 use Rattle.spares_input.specs.Stocks.{StockList}

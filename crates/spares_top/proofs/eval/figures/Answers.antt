@@ -1,5 +1,5 @@
 use Rattle.std.proofs.Common.{◌∙◌, lit<}
-use Rattle.case_figures.proofs.Shown.{can_evaluate}
+use Rattle.case_figures.proofs.Public.{can_evaluate}
 use Rattle.spares_top.proofs.eval.figures.Goals as goal
 
 pub evaluate_all-requires : goal.evaluate_all-requires
@@ -7,7 +7,7 @@ evaluate_all-requires g c =
     let given = c.requires.given in (
       lit< tt,
       (
-        can_evaluate g.row.F c.args.given.now.case c.args.given.now.stocks c.requires.width c.site_count-valid.ensures.valid given.rates.no_fault given.whole given.limits,
+        can_evaluate g.row.F c.args.given.now.case c.args.given.now.stocks c.requires.width c.invariant.ensures.valid given.rates.no_fault given.whole given.limits,
         given.rates,
       ),
     )
@@ -19,7 +19,7 @@ figures_at-requires g c =
       (
         c.requires.width,
         (
-          can_evaluate g.row.F c.args.given.now.case c.args.given.now.stocks c.requires.width c.site_count-valid.ensures.valid given.rates.no_fault given.whole given.limits,
+          can_evaluate g.row.F c.args.given.now.case c.args.given.now.stocks c.requires.width c.invariant.ensures.valid given.rates.no_fault given.whole given.limits,
           c.as_slice.ensures.value ∙ c.in_ok-families.ensures.ends,
         ),
       ),

@@ -8,7 +8,7 @@ use Rattle.refusals.specs.Causes.{or_refuse}
 use Rattle.refusals.specs.Lines.{no_names}
 use Rattle.refusals.specs.declared.refusal.File.TheVariants.{OnHand}
 use Rattle.refusals.specs.declared.refusal.Refusal.TheVariants as refusal
-use Rattle.order_inputs.proofs.Few.{if_few}
+use Rattle.order_inputs.proofs.Public.{if_few}
 use Rattle.order_inputs.specs.Cases.{stocked_by}
 use Rattle.order_inputs.specs.Given.{bytes_of}
 use Rattle.spares_top.specs.Planning.{IsGround}
@@ -45,7 +45,7 @@ returns-clause-ground c =
     let given = c.in_ok-case.ensures.given in
     rw c.and.ensures (if_few IsGround (ground_at c.in_ok-case.field-0 c.args.terms) (held_work_of c.in_ok-case.field-0.case c.in_ok-case.field-0.stocks.list) c.few_tables.result
     (subst (λ (work : Result ℕ ℕ). Gives {T = ℕ} (or_refuse no_names refusal.Work work) c.few_tables.result) c.held_work.ensures c.few_tables.ensures) (λ few. record {
-      accepted = record { valid = c.site_count-valid.ensures.valid; no_fault = given.rates.no_fault };
+      accepted = record { valid = c.invariant.ensures.valid; no_fault = given.rates.no_fault };
       rates = given.rates;
       held = record { is_for = given.whole; limits = given.limits };
       work = few;

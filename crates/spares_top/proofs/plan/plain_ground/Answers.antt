@@ -1,5 +1,5 @@
 use Rattle.std.proofs.Common.{refl}
-use Rattle.certified_plan.proofs.Zeros.{none_is_held}
+use Rattle.certified_plan.proofs.Public.{none_is_held}
 use Rattle.spares_input.specs.Stocks.{nothing_held}
 use Rattle.spares_top.proofs.Planned.{plain_work}
 use Rattle.spares_top.proofs.plan.plain_ground.Goals as goal

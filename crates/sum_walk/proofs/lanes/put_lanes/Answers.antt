@@ -18,7 +18,7 @@ loop-j-preserved g c =
     record {
       on = subst (AllZip IsOn (take (j + 1) curves)) (sym made)
           (subst (λ ls. AllZip IsOn ls (c.loop-j.lanes.items ++ r ∷ [])) (sym more) (zip_push IsOn (take j curves) c.loop-j.lanes.items l r c.loop-j.invariant.on c.lane_at.ensures.on));
-      shapes = subst (AllByRecursion IsShape) (sym more) (each_push IsShape (take j curves) l c.loop-j.invariant.shapes c.len-some.ensures.shape);
+      shapes = subst (AllByRecursion IsShape) (sym more) (each_push IsShape (take j curves) l c.loop-j.invariant.shapes c.invariant.ensures.shape);
       start = subst (AllByRecursion (λ (r : Lane). r.at ≡ 0)) (sym made) (each_push (λ (r : Lane). r.at ≡ 0) c.loop-j.lanes.items r c.loop-j.invariant.start c.lane_at.ensures.at);
     }
 

@@ -33,7 +33,7 @@ at-vertex-requires g c = (zip_at c.args.curves.now c.args.lanes.now c.loop-j.j c
 pub overflow_add-cost : goal.overflow_add-cost
 overflow_add-cost g c =
     let on = zip_at c.args.curves.now c.args.lanes.now c.loop-j.j c.index-curves-j.result nothing c.requires.on c.loop-j-test.true c.index-curves-j.is in
-    let range = vertex_range c.index-curves-j.result _ (g.T.Spot.point c.at-vertex.result.now) c.len-shape.ensures.shape on.below c.at-vertex.ensures in
+    let range = vertex_range c.index-curves-j.result _ (g.T.Spot.point c.at-vertex.result.now) c.invariant.ensures.shape on.below c.at-vertex.ensures in
     let i = c.loop-j.invariant.cost in
     let few = c.requires.few in
     omega (arith, i, range.cost, c.loop-j-test.true, few, AllZip-long IsOn c.args.curves.now c.args.lanes.now c.requires.on)
@@ -41,7 +41,7 @@ overflow_add-cost g c =
 pub overflow_add-lo : goal.overflow_add-lo
 overflow_add-lo g c =
     let on = zip_at c.args.curves.now c.args.lanes.now c.loop-j.j c.index-curves-j.result nothing c.requires.on c.loop-j-test.true c.index-curves-j.is in
-    let range = vertex_range c.index-curves-j.result _ (g.T.Spot.point c.at-vertex.result.now) c.len-shape.ensures.shape on.below c.at-vertex.ensures in
+    let range = vertex_range c.index-curves-j.result _ (g.T.Spot.point c.at-vertex.result.now) c.invariant.ensures.shape on.below c.at-vertex.ensures in
     let i = c.loop-j.invariant.lo in
     let few = c.requires.few in
     omega (arith, i, range.ends, range.hi, c.loop-j-test.true, few, AllZip-long IsOn c.args.curves.now c.args.lanes.now c.requires.on)
@@ -54,7 +54,7 @@ loop-j-preserved g c =
     let l = c.index-curves-j.result in
     let v : Point = g.T.Spot.point c.at-vertex.result.now in
     let on = zip_at curves lanes j l nothing c.requires.on c.loop-j-test.true c.index-curves-j.is in
-    let range = vertex_range l _ v c.len-shape.ensures.shape on.below c.at-vertex.ensures in
+    let range = vertex_range l _ v c.invariant.ensures.shape on.below c.at-vertex.ensures in
     let i = c.loop-j.invariant in
     let ic = i.cost in
     let il = i.lo in

@@ -29,7 +29,7 @@ at-vertex-requires g c = (zip_at c.args.curves.now c.args.lanes.now c.loop-j.j c
 pub overflow_add-hi : goal.overflow_add-hi
 overflow_add-hi g c =
     let on = zip_at c.args.curves.now c.args.lanes.now c.loop-j.j c.index-curves-j.result nothing c.requires.on c.loop-j-test.true c.index-curves-j.is in
-    let range = vertex_range c.index-curves-j.result _ (g.T.Spot.point c.at-vertex.result.now) c.len-shape.ensures.shape on.below c.at-vertex.ensures in
+    let range = vertex_range c.index-curves-j.result _ (g.T.Spot.point c.at-vertex.result.now) c.invariant.ensures.shape on.below c.at-vertex.ensures in
     let i = c.loop-j.invariant.hi in
     let few = c.requires.few in
     omega (arith, i, range.hi, c.loop-j-test.true, few, AllZip-long IsOn c.args.curves.now c.args.lanes.now c.requires.on)
@@ -42,7 +42,7 @@ loop-j-preserved g c =
     let l = c.index-curves-j.result in
     let v : Point = g.T.Spot.point c.at-vertex.result.now in
     let on = zip_at curves lanes j l nothing c.requires.on c.loop-j-test.true c.index-curves-j.is in
-    let range = vertex_range l _ v c.len-shape.ensures.shape on.below c.at-vertex.ensures in
+    let range = vertex_range l _ v c.invariant.ensures.shape on.below c.at-vertex.ensures in
     let i = c.loop-j.invariant in
     let ih = i.hi in
     record {

@@ -1,6 +1,6 @@
 -- Each vertex of the new curve is one of the old ones or the new point.
 use Rattle.std.proofs.Common.{◌≡◌, ◌^◌, ◌≤◌, inl, inr, [], ◌∷◌, length, sym, subst}
-use Rattle.hull.proofs.Stand.{among_either}
+use Rattle.hull.proofs.Public.{among_either}
 use Rattle.test_curves.proofs.hull_tests.curve_of.Goals as goal
 
 pub loop-row-preserved : goal.loop-row-preserved

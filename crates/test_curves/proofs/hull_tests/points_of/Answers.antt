@@ -1,7 +1,7 @@
 -- Each point is one of the earlier ones or the new one.
 use Rattle.std.proofs.Common.{◌≡◌, ◌^◌, ◌≤◌, inl, inr, [], ◌∷◌, length, sym, subst}
 use Rattle.hull.specs.Curves.{Among}
-use Rattle.hull.proofs.Stand.{among_either}
+use Rattle.hull.proofs.Public.{among_either}
 use Rattle.test_curves.proofs.hull_tests.points_of.Goals as goal
 
 pub loop-row-preserved : goal.loop-row-preserved

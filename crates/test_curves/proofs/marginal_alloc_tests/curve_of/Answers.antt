@@ -1,6 +1,6 @@
 -- Each vertex of the new curve is one of the old ones or the new point.
 use Rattle.std.proofs.Common.{inl, inr, [], ◌∷◌, length, ◌∙◌, ap}
-use Rattle.hull.proofs.Stand.{among_either}
+use Rattle.hull.proofs.Public.{among_either}
 use Rattle.test_curves.proofs.marginal_alloc_tests.curve_of.Goals as goal
 
 pub loop-row-preserved : goal.loop-row-preserved

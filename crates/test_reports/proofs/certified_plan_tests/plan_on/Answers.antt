@@ -32,11 +32,11 @@ plan_is_on c held terms request aim o valid no_fault had are money is h = record
 pub returns-in-Backorders : goal.returns-in-Backorders
 returns-in-Backorders c =
     IfOk-weaker c.plan_case.result _ _
-    (λ o h. plan_is_on c.args.case.now c.args.held.now c.args.terms _ Backorders o c.site_count-valid.ensures.valid c.requires.rates.no_fault c.requires.held c.requires.terms refl
+    (λ o h. plan_is_on c.args.case.now c.args.held.now c.args.terms _ Backorders o c.invariant.ensures.valid c.requires.rates.no_fault c.requires.held c.requires.terms refl
     c.in-Backorders.is h) c.plan_case.ensures
 
 pub returns-in-LogAvailability : goal.returns-in-LogAvailability
 returns-in-LogAvailability c =
     IfOk-weaker c.plan_case-in-LogAvailability.result _ _
-    (λ o h. plan_is_on c.args.case.now c.args.held.now c.args.terms _ LogAvailability o c.site_count-valid.ensures.valid c.requires.rates.no_fault c.requires.held c.requires.terms refl
+    (λ o h. plan_is_on c.args.case.now c.args.held.now c.args.terms _ LogAvailability o c.invariant.ensures.valid c.requires.rates.no_fault c.requires.held c.requires.terms refl
     c.in-LogAvailability.is h) c.plan_case-in-LogAvailability.ensures

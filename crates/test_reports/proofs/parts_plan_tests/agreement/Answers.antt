@@ -2,7 +2,7 @@ use Rattle.std.proofs.Common.{List, sym, subst}
 use Rattle.hull.specs.declared.point.Point.{Point}
 use Rattle.family_points.specs.Points.{plain_ends}
 use Rattle.case_plan.specs.Report.{AreFamilyCurves}
-use Rattle.case_plan.proofs.CurveFacts.{are_family_curves}
+use Rattle.case_plan.proofs.Public.{are_family_curves}
 use Rattle.test_reports.proofs.parts_plan_tests.agreement.Goals as goal
 
 pub plan-requires-clause-curves : goal.plan-requires-clause-curves

@@ -1,6 +1,6 @@
 use Rattle.std.proofs.Common.{◌≤◌, ◌-◌, ◌/◌, ◌^◌, arith}
 use Rattle.std.proofs.Math.Nat.{div-le_of_le-mul}
-use Rattle.fixed_interval.proofs.Laws.{unit_most}
+use Rattle.fixed_interval.proofs.Public.{unit_most}
 use Rattle.backorder_bounds.proofs.Coarse.{places}
 use Rattle.backorder_bounds.proofs.scale.Coarse.of.Goals as goal
 

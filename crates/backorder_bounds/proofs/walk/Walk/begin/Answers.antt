@@ -1,5 +1,5 @@
 use Rattle.std.proofs.Common.{arith}
-use Rattle.fixed_interval.proofs.Laws.{unit_most}
+use Rattle.fixed_interval.proofs.Public.{unit_most}
 use Rattle.backorder_bounds.proofs.walk.Walk.begin.Goals as goal
 
 pub overflow_cast-mean : goal.overflow_cast-mean

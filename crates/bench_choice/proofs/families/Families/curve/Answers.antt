@@ -1,6 +1,6 @@
 -- Each vertex of the new curve is one of the old ones or the new point.
 use Rattle.std.proofs.Common.{inl, inr, [], ◌∷◌, length, ◌∙◌, ap}
-use Rattle.hull.proofs.Stand.{among_either}
+use Rattle.hull.proofs.Public.{among_either}
 use Rattle.bench_choice.proofs.families.Families.curve.Goals as goal
 
 pub loop-place-preserved : goal.loop-place-preserved

@@ -2,7 +2,7 @@ use Rattle.std.proofs.Common.{◌≡◌, ℕ, ◌∙◌, sym, ap, subst, arith}
 use Rattle.fixed_interval.specs.Ends.{Ends}
 use Rattle.fleet_model.specs.Rows.{systems, per_system, weight}
 use Rattle.hull.specs.Scores.{InLimits}
-use Rattle.family_points.proofs.Points.{limits_hold}
+use Rattle.family_points.proofs.Public.{limits_hold}
 use Rattle.family_rows.proofs.base_at.BaseAt.low.Goals as goal
 
 pub returns : goal.returns

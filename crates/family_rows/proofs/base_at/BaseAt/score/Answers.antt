@@ -1,7 +1,7 @@
 use Rattle.std.proofs.Common.{sym, ap, ◌∙◌, subst, arith}
 use Rattle.fleet_model.specs.Rows.{systems, per_system}
 use Rattle.hull.specs.Scores.{InLimits}
-use Rattle.family_points.proofs.Points.{limits_hold}
+use Rattle.family_points.proofs.Public.{limits_hold}
 use Rattle.family_rows.proofs.base_at.BaseAt.score.Goals as goal
 
 pub of-requires : goal.of-requires

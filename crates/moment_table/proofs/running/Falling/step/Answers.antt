@@ -1,6 +1,6 @@
 use Rattle.std.proofs.Common.{◌*◌, ◌≤◌, ◌^◌, ◌∙◌, arith, mul-le-mul_right, lit<, rules}
 use Rattle.fixed_interval.specs.Ends.{InScale}
-use Rattle.fixed_interval.proofs.Laws.{unit_most}
+use Rattle.fixed_interval.proofs.Public.{unit_most}
 use Rattle.moment_table.proofs.Steps.{falling_next, falling_tail, left_is, small_next, chance_small}
 use Rattle.moment_table.proofs.running.Falling.step.Goals as goal
 

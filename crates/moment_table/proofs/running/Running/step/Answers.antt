@@ -1,6 +1,6 @@
 use Rattle.std.proofs.Common.{◌∙◌, arith, ap, ap₂, lit<, rules}
 use Rattle.fixed_interval.specs.Ends.{Ends, InScale, ends_add, ends_mul}
-use Rattle.fixed_interval.proofs.Laws.{unit_most}
+use Rattle.fixed_interval.proofs.Public.{unit_most}
 use Rattle.moment_table.proofs.Steps.{spread_next, tail_known}
 use Rattle.moment_table.proofs.running.Running.step.Goals as goal
 

@@ -1,7 +1,7 @@
 use Rattle.std.proofs.Common.{◌≤◌, ◌^◌, ◌∙◌, ap₂, arith, lit<, rules, pow_pos}
 use Rattle.fixed_interval.specs.Ends.{InScale, ends_div}
-use Rattle.fixed_interval.proofs.Laws.{unit_most}
-use Rattle.series_bounds.proofs.Ranges.{room_over}
+use Rattle.fixed_interval.proofs.Public.{unit_most}
+use Rattle.series_bounds.proofs.Public.{room_over}
 use Rattle.moment_table.specs.Shares.{AreEnds}
 use Rattle.moment_table.proofs.shares.Shares.share.Goals as goal
 

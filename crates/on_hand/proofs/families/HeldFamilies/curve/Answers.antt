@@ -2,7 +2,7 @@ use Rattle.std.proofs.Common.{◌≡◌, ℕ, get_or, sym, subst}
 use Rattle.fleet_model.specs.Rows.{line_units}
 use Rattle.family_items.specs.Inputs.{IsLine}
 use Rattle.held_work.specs.Curves.{IsFamilyCurve}
-use Rattle.held_work.proofs.Kept.{box_curve, box_few, box_ordered}
+use Rattle.held_work.proofs.Public.{box_curve, box_few, box_ordered}
 use Rattle.on_hand.specs.Held.{HeldCase}
 use Rattle.on_hand.proofs.families.HeldFamilies.curve.Goals as goal
 

@@ -5,7 +5,7 @@ use Rattle.family_items.specs.Inputs.{IsLine}
 use Rattle.step_walk.specs.Prefix.{curve_at}
 use Rattle.curve_parts.specs.Beyond.{IsKnownPart}
 use Rattle.fleet_plan.specs.Families.{case_points}
-use Rattle.held_work.proofs.Kept.{box_few, box_ordered}
+use Rattle.held_work.proofs.Public.{box_few, box_ordered}
 use Rattle.on_hand.specs.Held.{HeldCase}
 use Rattle.on_hand.proofs.HeldFacts.{families_long, part_held}
 use Rattle.on_hand.proofs.families.HeldFamiliesFamilies.part.Goals as goal

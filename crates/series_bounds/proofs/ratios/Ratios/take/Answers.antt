@@ -1,7 +1,7 @@
 use Rattle.std.proofs.Common.{◌-◌, ◌^◌, ◌*◌, ◌+◌, ◌/◌, ◌≡◌, ◌≤◌, ◌∙◌, ap, arith, lit<, rules, pow_pos, mul-le-mul_right}
 use Rattle.std.specs.Int.{div_ceil}
 use Rattle.fixed_interval.specs.Ends.{Ends, InScale, IsInterval}
-use Rattle.quotients.proofs.Rounded.{floor_twice}
+use Rattle.quotients.proofs.Public.{floor_twice}
 use Rattle.series_bounds.proofs.Ranges.{ratio_near}
 use Rattle.series_bounds.proofs.Carried.{whole_room, step_room, raised_room, raised_step_room, raised_over, wholes_ordered, ends_are, next_parts, next_raised}
 use Rattle.series_bounds.proofs.ratios.Ratios.take.Goals as goal

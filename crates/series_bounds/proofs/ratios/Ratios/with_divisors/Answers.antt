@@ -1,6 +1,6 @@
 use Rattle.std.proofs.Common.{◌-◌, ◌+◌, ◌^◌, subst, ◌*◌, ◌≡◌, ap, ◌∙◌, arith, lit<, rules}
 use Rattle.fixed_interval.specs.Ends.{Ends, InScale, IsInterval, ends_add, ends_times}
-use Rattle.fixed_interval.proofs.Laws.{unit_most}
+use Rattle.fixed_interval.proofs.Public.{unit_most}
 use Rattle.series_bounds.proofs.Ranges.{product_most, part_most}
 use Rattle.quotients.specs.Parts.{AreParts}
 use Rattle.series_bounds.proofs.Carried.{same_parts, whole_room}

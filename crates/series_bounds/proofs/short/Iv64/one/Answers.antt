@@ -1,6 +1,6 @@
 use Rattle.std.proofs.Common.{ap, arith, lit<}
 use Rattle.fixed_interval.specs.Ends.{Ends}
-use Rattle.fixed_interval.proofs.Laws.{unit_most}
+use Rattle.fixed_interval.proofs.Public.{unit_most}
 use Rattle.series_bounds.proofs.short.Iv64.one.Goals as goal
 
 pub of-requires : goal.of-requires
