@@ -61,7 +61,7 @@ LISTS = [
             plan_report Texts
             case_figures Spans
             moment_table Profile Rows
-            hull Curves
+            hull Curves Limits
             price_bounds Sums Certificates
             family_points Points Vectors
             price_certificate Grammar Certificates
@@ -80,7 +80,7 @@ LISTS = [
             case_plan Report Truth
             budget_sweep Sweep Truth
             demonstration Demonstrations
-            spares_input Edits Money
+            spares_input Edits Limits Money
             case_edits Lines Edits
             session_report Reports
             spares_io Causes Shelf Sink
@@ -96,7 +96,7 @@ STOPS = [
     (
         "the texts of reports and refusals",
         "[FORMATS](FORMATS.md)",
-        [("spares_top", "Texts", "text_of"), ("refusals", "Lines", "line_of")],
+        [("spares_top", "Texts", "done_text"), ("refusals", "Lines", "line_of_refusal")],
     ),
     ("the case of `demo`", "[FORMATS](FORMATS.md)", [("case_maker", "Demonstration", "made")]),
     (
@@ -106,7 +106,7 @@ STOPS = [
             ("demand_rates", "Rates", "rates_of"),
             ("moment_table", "Profile", "table_rows"),
             ("case_figures", "Figures", "figures_of"),
-            ("case_figures", "Figures", "total_of"),
+            ("case_figures", "Figures", "case_total_of"),
             ("metric_compare", "Report", "comparison_of"),
             ("log_loss", "Profile", "loss_ends"),
             ("case_plan", "Report", "lo_at"),

@@ -6,16 +6,16 @@ use Rattle.std.proofs.lemmas.List.Elements.{All-get_or}
 use Rattle.fixed_interval.specs.Ends.{Ends, ends_exact}
 use Rattle.depot_pipeline.proofs.Public.{Summed, summed_start}
 use Rattle.base_pipeline.specs.declared.Held.{Held}
-use Rattle.base_pipeline.specs.Profile.{held_at}
-use Rattle.base_pipeline.specs.Exact.{IsSmallHeld}
+use Rattle.base_pipeline.specs.Profile.{delay_at}
+use Rattle.base_pipeline.specs.Exact.{IsSmallDelay}
 
 -- what the loop reads at a place is what the definition has there
-pub held_is : (b : ℕ) (shops : List (Held b)) (k : ℕ) (shop : Held b) → k < length shops → shop ≡ get_or shops k shop → shop ≡ held_at shops k
-held_is b shops k shop l h = h ∙ get_or_default shops k shop (record { backorders = ends_exact b 0; spread = ends_exact b 0 }) l
+pub delay_is : (b : ℕ) (shops : List (Held b)) (k : ℕ) (shop : Held b) → k < length shops → shop ≡ get_or shops k shop → shop ≡ delay_at shops k
+delay_is b shops k shop l h = h ∙ get_or_default shops k shop (record { backorders = ends_exact b 0; spread = ends_exact b 0 }) l
 
 -- what stands at a place of small entries is small
-pub held_small : (b : ℕ) (shops : List (Held b)) (k : ℕ) (shop : Held b) → k < length shops → shop ≡ get_or shops k shop → All (IsSmallHeld b) shops → IsSmallHeld b shop
-held_small b shops k shop l h a = subst (IsSmallHeld b) (sym h) (All-get_or (IsSmallHeld b) shops k shop l a)
+pub delay_small : (b : ℕ) (shops : List (Held b)) (k : ℕ) (shop : Held b) → k < length shops → shop ≡ get_or shops k shop → All (IsSmallDelay b) shops → IsSmallDelay b shop
+delay_small b shops k shop l h a = subst (IsSmallDelay b) (sym h) (All-get_or (IsSmallDelay b) shops k shop l a)
 
 -- before the first shop unit the sum is what it starts with
 pub started : (b : ℕ) (first sum : Ends) (part : ℕ → Ends) → sum ≡ first → sum.hi ≤ 768 * 2 ^ b → Summed b 768 first part sum 0

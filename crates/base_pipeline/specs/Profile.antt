@@ -7,8 +7,8 @@ use Rattle.depot_pipeline.specs.Profile.{mean_part, variance_part, added, capped
 use Rattle.base_pipeline.specs.declared.Held.{Held}
 
 -- the shop unit at a place
-abbrev pub held_at : {f : ℕ} → List (Held f) → ℕ → Held f
-held_at {f} shops k = get_or shops k (record { backorders = ends_exact f 0; spread = ends_exact f 0 })
+abbrev pub delay_at : {f : ℕ} → List (Held f) → ℕ → Held f
+delay_at {f} shops k = get_or shops k (record { backorders = ends_exact f 0; spread = ends_exact f 0 })
 
 -- the shop unit at a base: the direct part, and the depot's addition
 abbrev pub base_shop_ends : (f : ℕ) → Ends → ℕ → Feed f → Moments f
@@ -25,5 +25,5 @@ base_own_ends f direct depot = record {
 -- the line unit at a base: the direct part, the depot's addition, and the backorders of each shop unit there
 abbrev pub base_line_ends : (f : ℕ) → Ends → ℕ → Feed f → List (Held f) → Moments f
 base_line_ends f direct cap depot shops =
-    capped_at f cap (added (ends_add direct (mean_part f depot)) (λ k. (held_at shops k).backorders) (length shops))
-    (added (ends_add direct (variance_part f depot)) (λ k. (held_at shops k).spread) (length shops))
+    capped_at f cap (added (ends_add direct (mean_part f depot)) (λ k. (delay_at shops k).backorders) (length shops))
+    (added (ends_add direct (variance_part f depot)) (λ k. (delay_at shops k).spread) (length shops))

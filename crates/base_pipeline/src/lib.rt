@@ -23,7 +23,7 @@ ghost use Rattle.exact_model.specs.Shares.{shared};
 ghost use Rattle.fixed_interval.specs.Ends.{In, IsWithinLimit};
 ghost use Rattle.depot_pipeline.specs.Exact.{IsAtMost, FeedIn, IsSmallFeed};
 ghost use Rattle.base_pipeline.specs.Profile.{base_shop_ends, base_own_ends, base_line_ends};
-ghost use Rattle.base_pipeline.specs.Exact.{AllHeldIn, IsSmallHeld};
+ghost use Rattle.base_pipeline.specs.Exact.{AllDelaysIn, IsSmallDelay};
 
 use depot_pipeline::{Feed, Moments, mean_of, variance_of};
 use fixed_interval::Iv;
@@ -83,14 +83,14 @@ pub fn base_line<const F: u32>(
     requires direct { IsWithinLimit F direct }
     requires small { IsSmallFeed F depot }
     requires few { length shops.now ≤ 8 }
-    requires held { All (IsSmallHeld F) shops.now }
+    requires small_delays { All (IsSmallDelay F) shops.now }
     ensures ends { result ≡ base_line_ends F direct.entry cap depot.entry shops.now }
     ensures mean { (d f e v : Fraction) (b s : ℕ → Fraction) → In F direct.entry d → FeedIn F depot.entry f e v
-        → AllHeldIn F shops.now b s
+        → AllDelaysIn F shops.now b s
         → IsAtMost F cap (d +ℚ f *ℚ e +ℚ sum_below b (length shops.now))
         → In F result.mean (d +ℚ f *ℚ e +ℚ sum_below b (length shops.now)) }
     ensures variance { (d f e v : Fraction) (b s : ℕ → Fraction) → In F direct.entry d → FeedIn F depot.entry f e v
-        → AllHeldIn F shops.now b s
+        → AllDelaysIn F shops.now b s
         → IsAtMost F cap (d +ℚ shared f e v +ℚ sum_below s (length shops.now))
         → In F result.variance (d +ℚ shared f e v +ℚ sum_below s (length shops.now)) }
 {

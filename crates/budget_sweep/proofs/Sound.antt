@@ -9,7 +9,7 @@ use Rattle.hull.specs.declared.point.Point.{Point}
 use Rattle.hull.specs.Curves.{nowhere}
 use Rattle.hull.proofs.Public.{among_at}
 use Rattle.price_bounds.specs.Sums.{lo_of, hi_of, Picks}
-use Rattle.price_bounds.specs.Allocations.{Family, points_of, AreEnclosed, IsAllocation, cost_at, total_at}
+use Rattle.price_bounds.specs.Allocations.{Family, points_of, AreEnclosed, IsFamilyAllocation, cost_at, total_at}
 use Rattle.price_bounds.specs.Soundness.{stocks_of, NoneHasFewerThan}
 use Rattle.price_bounds.proofs.Public.{sum_contains, at_least, points_at, values_at, total_is, allocation_picks, allocation_cost, allocation_values, choice_allocation, choice_cost, choice_values}
 use Rattle.step_walk.specs.Prefix.{curve_at, picked, AreVertices}
@@ -25,7 +25,7 @@ use Rattle.budget_sweep.proofs.StatesOf.{none_lower, none_cheaper, none_reaches}
 
 -- the points of an allocation contain its total
 contained : (families : List Family) (n : ℕ) (allocation : List (List ℕ)) → AreEnclosed families → 1024 ≤ n
-    → IsAllocation families allocation
+    → IsFamilyAllocation families allocation
     → Contains 48 (lo_of (points_at families allocation)) (hi_of (points_at families allocation))
     (total_at n families allocation)
 contained families n allocation e l own =
@@ -52,7 +52,7 @@ none_fewer_at families curves points k e h l n allocation deep own fits =
 -- an allocation that costs what the point costs, with a total between its ends
 pub record Behind (families : List Family) (point : SweepPoint) : Type 0 where
   pub stocks : List (List ℕ)
-  pub allocation : IsAllocation families stocks
+  pub allocation : IsFamilyAllocation families stocks
   pub cost : point.cost ≡ cost_at families stocks
   pub within : (n : ℕ) → 1024 ≤ n → Contains 48 point.lo point.hi (total_at n families stocks)
 
@@ -125,7 +125,7 @@ comes_to target lo hi q c h =
 module _ (families : List Family) (curves : List (List Point)) (points : List SweepPoint) (target : ℕ)
     (e : AreEnclosed families) (h : IsSweepFor (map points_of families) curves points) where
   -- the lower ends of an allocation that comes to the target
-  low : (n : ℕ) (allocation : List (List ℕ)) → 1024 ≤ n → IsAllocation families allocation
+  low : (n : ℕ) (allocation : List (List ℕ)) → 1024 ≤ n → IsFamilyAllocation families allocation
       → total_at n families allocation ≤ℚ text_value 4 target
       → lo_of (points_at families allocation) ≤ units_above target
   low n allocation deep own comes =
@@ -134,7 +134,7 @@ module _ (families : List Family) (curves : List (List Point)) (points : List Sw
 
   -- where the last state's lower end is above the target, no allocation comes to the target
   pub none_come : units_above target < (last_state points).lo → (n : ℕ) (allocation : List (List ℕ)) → 1024 ≤ n
-      → IsAllocation families allocation → total_at n families allocation ≤ℚ text_value 4 target → ⊥
+      → IsFamilyAllocation families allocation → total_at n families allocation ≤ℚ text_value 4 target → ⊥
   none_come over n allocation deep own comes =
       let most = low n allocation deep own comes in
       let least = none_reaches (map points_of families) curves points h (points_at families allocation)
@@ -142,7 +142,7 @@ module _ (families : List Family) (curves : List (List Point)) (points : List Sw
       omega (arith, least, most, over)
 
   -- each allocation that comes to the target costs at least the least cost that the sweep tells of it
-  pub all_cost : (n : ℕ) (allocation : List (List ℕ)) → 1024 ≤ n → IsAllocation families allocation
+  pub all_cost : (n : ℕ) (allocation : List (List ℕ)) → 1024 ≤ n → IsFamilyAllocation families allocation
       → total_at n families allocation ≤ℚ text_value 4 target
       → least_cost (units_above target) points ≤ cost_at families allocation
   all_cost n allocation deep own comes =

@@ -1,6 +1,7 @@
 //! The report of a target, read off a sweep.
 ghost use Rattle.std.specs.Prelude.{◌≡◌, ℕ, ◌+◌, ◌^◌, ◌<◌, ◌≤◌, List, length, All, IfOk, IfSome};
 ghost use Rattle.spares_input.specs.Cases.{CaseRows};
+ghost use Rattle.hull.specs.Limits.{most_curves};
 ghost use Rattle.family_points.specs.Points.{ScoreEnds};
 ghost use Rattle.marginal_alloc.specs.Choice.{AreCurves};
 ghost use Rattle.fleet_plan.specs.Families.{case_points};
@@ -79,7 +80,7 @@ fn least_of(points: &[SweepPoint], limit: u128) -> Option<u64>
 /// If these are the curves of all families of a case, one for each line unit in order, it is the report of this case.
 /// Want of memory is the only error.
 pub fn target(alloc: Global, curves: &[Curve], target: Decimal) -> Result<TargetReport, NoMemory>
-    requires few { length curves.now ≤ 2000 }
+    requires few { length curves.now ≤ most_curves }
     requires places { target.places ≡ 4 }
     requires most { target.units ≤ 10000000000000 }
     ensures told { IfOk result (IsTargetOf curves.now target) }

@@ -1,6 +1,7 @@
 //! The sweep.
 ghost use Rattle.std.specs.Prelude.{ℕ, ◌≤◌, List, length, IfOk, OnOk};
 ghost use Rattle.spares_input.specs.Cases.{CaseRows};
+ghost use Rattle.hull.specs.Limits.{most_curves};
 ghost use Rattle.family_points.specs.Points.{ScoreEnds};
 ghost use Rattle.step_walk.specs.Prefix.{HaveShapes};
 ghost use Rattle.marginal_alloc.specs.Choice.{AreCurves};
@@ -21,7 +22,7 @@ use step_walk::Walk;
 /// If these are the curves of all families of a case, one for each line unit in order, it is the sweep of this case.
 /// Want of memory is the only error.
 pub fn sweep(alloc: Global, curves: &[Curve]) -> Result<SweepReport, NoMemory>
-    requires { length curves.now ≤ 2000 }
+    requires { length curves.now ≤ most_curves }
     ensures states { IfOk result (λ report. IsSweep curves.now report.points) }
     ensures case { (ends : ScoreEnds) (c : CaseRows) (held : List ℕ) → AreCurves (case_points ends c held) curves.now
         → IfOk result (IsCaseSweep ends c held) }

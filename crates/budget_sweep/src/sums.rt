@@ -1,5 +1,6 @@
 //! The sums over the vertices of all families.
 ghost use Rattle.std.specs.Prelude.{◌≡◌, ◌≤◌, length, set};
+ghost use Rattle.hull.specs.Limits.{most_curves};
 ghost use Rattle.step_walk.specs.Prefix.{AreVertices};
 ghost use Rattle.step_walk.specs.Walks.{TellsFirst};
 ghost use Rattle.budget_sweep.specs.Sums.{AreSums};
@@ -32,7 +33,7 @@ impl Sums {
 
 /// The sums at the picks.
 pub(crate) fn sums_at(curves: &[Curve], picks: &[u32]) -> Sums
-    requires few { length curves.now ≤ 2000 }
+    requires few { length curves.now ≤ most_curves }
     requires vertices { AreVertices curves.now picks.now }
     ensures { AreSums curves.now picks.now result }
 {
@@ -56,7 +57,7 @@ pub(crate) fn sums_at(curves: &[Curve], picks: &[u32]) -> Sums
 
 /// The sums after the next step of a walk.
 pub(crate) fn sums_after(curves: &[Curve], walk: &Walk<'_>, sums: Sums, next: Next) -> Sums
-    requires few { length curves.now ≤ 2000 }
+    requires few { length curves.now ≤ most_curves }
     requires same { walk.now.curves ≡ curves.now }
     requires next { TellsFirst walk.now next }
     requires sums { AreSums curves.now walk.now.picks sums }

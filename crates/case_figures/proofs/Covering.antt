@@ -21,7 +21,7 @@ use Rattle.family_items.specs.declared.item.FamilyResult.{FamilyResult}
 use Rattle.family_items.specs.Profile.{stocked, depot_shop, depot_line, base_shop, base_line, item_of, part_items, family_of, families_of}
 use Rattle.family_items.specs.Encloses.{no_item}
 use Rattle.case_figures.specs.Figures.{item_at_place, all_items}
-use Rattle.case_figures.specs.Gathering.{place_of, items_by_pair}
+use Rattle.case_figures.specs.Gathering.{item_place, items_by_pair}
 use Rattle.case_figures.proofs.Placing.{IsAt, Keeps, Fills, keeps_map, fills_map, keeps_both, keeps_each, fills_first, fills_later, fills_each}
 
 -- ---- an item has its pair and the pair's stock
@@ -51,7 +51,7 @@ pub at_place : (f : ℕ) (c : CaseRows) (s : List ℕ) (p k : ℕ) → k < lengt
 at_place f c s p k h =
     ap₂ (item_of f c s) (div-mul-add p (length c.sites) k h) (mod-mul-add p (length c.sites) k h)
 
-pub place_is : (f : ℕ) (c : CaseRows) (s : List ℕ) (p k : ℕ) → place_of c (item_of f c s p k) ≡ pair_place (length c.sites) p k
+pub place_is : (f : ℕ) (c : CaseRows) (s : List ℕ) (p k : ℕ) → item_place c (item_of f c s p k) ≡ pair_place (length c.sites) p k
 place_is f c s p k =
     let h = item_pair f c s p k in ap₂ (λ (a b : ℕ). a * length c.sites + b) h.part_is h.site_is
 
@@ -61,13 +61,13 @@ pair_within c p k h l = omega (arith, mul-add-lt p (length c.sites) k (length c.
 
 module _ (f : ℕ) (c : CaseRows) (s : List ℕ) (valid : IsCase c) where
   abbrev ItemIsAt : Item f → Type 0
-  ItemIsAt x = IsAt (place_of c) (item_at_place f c s) (pair_count (frame_rows c)) (no_item f) x
+  ItemIsAt x = IsAt (item_place c) (item_at_place f c s) (pair_count (frame_rows c)) (no_item f) x
 
   abbrev ItemsKeep : List (Item f) → Type 0
-  ItemsKeep xs = Keeps (place_of c) (item_at_place f c s) (pair_count (frame_rows c)) (no_item f) xs
+  ItemsKeep xs = Keeps (item_place c) (item_at_place f c s) (pair_count (frame_rows c)) (no_item f) xs
 
   abbrev ItemsFill : ℕ → List (Item f) → Type 0
-  ItemsFill i xs = Fills (place_of c) (item_at_place f c s) (pair_count (frame_rows c)) (no_item f) i xs
+  ItemsFill i xs = Fills (item_place c) (item_at_place f c s) (pair_count (frame_rows c)) (no_item f) i xs
 
   item_is_at : (p k : ℕ) → p < length c.parts → k < length c.sites → ItemIsAt (item_of f c s p k)
   item_is_at p k h l = record {
@@ -146,7 +146,7 @@ module _ (f : ℕ) (c : CaseRows) (s : List ℕ) (valid : IsCase c) where
       let start = replicate count (no_item f) in
       let sized : length start ≡ count = length-replicate count (no_item f) in
       let there = families_keep.length_is start ∙ sized in
-      ap (λ (xs : List (Item f)). fold (λ (ys : List (Item f)) (x : Item f). slice_set ys (place_of c x) x) start xs)
+      ap (λ (xs : List (Item f)). fold (λ (ys : List (Item f)) (x : Item f). slice_set ys (item_place c x) x) start xs)
       (flat_map-map (λ (r : FamilyResult f). r.items) (λ l. family_of f c l (record { sites = n; list = s })) (line_units c))
       ∙ ext_get_or (no_item f) _ (all_items f c s) (there ∙ sym (length-map-range_with_len (item_at_place f c s) 0 count))
       (λ i h. (place_fills i (omega (arith, h, there))).fills start sized

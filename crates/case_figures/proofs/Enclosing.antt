@@ -17,7 +17,7 @@ use Rattle.exact_model.specs.Sums.{sum_over, product_over}
 use Rattle.fleet_model.specs.Rows.{bases, line_units, systems, per_system, stock}
 use Rattle.fleet_model.specs.Pipelines.{Moments, pipeline_i0, pipeline_00, pipeline_ij, pipeline_0j, ebo_0j}
 use Rattle.fleet_model.specs.Pairs.{by_pair, pipeline, backorders}
-use Rattle.fleet_model.specs.Fleet.{factor, availability, fleet, family_total, total}
+use Rattle.fleet_model.specs.Fleet.{factor, availability, fleet, family_total, case_total}
 use Rattle.fleet_model.specs.Laws.{IsBase}
 use Rattle.fleet_model.proofs.Public.{times_one, sum_range, systems_positive, per_system_positive, all_systems_positive}
 use Rattle.availability.specs.declared.Weighted.{Weighted}
@@ -26,7 +26,7 @@ use Rattle.availability.specs.Exact.{factor_of, weighted_mean, BaseIn, BasesIn}
 use Rattle.availability.proofs.Public.{factor_in, fleet_in}
 use Rattle.family_items.specs.Profile.{item_of}
 use Rattle.family_items.specs.Profile as family
-use Rattle.case_figures.specs.Figures.{factor_at, availability_at, weighted_at, fleet_of, total_of}
+use Rattle.case_figures.specs.Figures.{factor_at, availability_at, weighted_at, fleet_of, case_total_of}
 use Rattle.case_figures.proofs.Each.{each_that_passes}
 
 -- ---- sums and products over a list
@@ -145,8 +145,8 @@ fleet_at_in f c s n v i =
 -- the total lies in its ends where that of each family does
 pub total_at_in : (f : ℕ) (c : CaseRows) (s : List ℕ) (n : ℕ)
     → ((l : ℕ) → l < length c.parts → is_line (part_at c.parts l) ≡ true → In f (family.total_of f c s l) (family_total c s n l))
-    → In f (total_of f c s) (total c s n)
-unfolding total
+    → In f (case_total_of f c s) (case_total c s n)
+unfolding case_total
 total_at_in f c s n i =
     sum_in f (family.total_of f c s) (family_total c s n) (line_units c)
     (each_that_passes (λ l. In f (family.total_of f c s l) (family_total c s n l)) (λ p. is_line (part_at c.parts p)) (length c.parts) 0

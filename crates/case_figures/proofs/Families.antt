@@ -24,12 +24,12 @@ use Rattle.family_items.proofs.Public.{each_in_range}
 use Rattle.case_figures.specs.declared.figures.BaseLine.{BaseLine}
 use Rattle.case_figures.specs.declared.figures.Figures.{Figures}
 use Rattle.case_figures.specs.Spans.{span_of}
-use Rattle.case_figures.specs.Figures.{item_at_place, all_items, factor_at, weighted_at, base_line, figures_of}
-use Rattle.case_figures.specs.declared.held.HeldItem.{HeldItem}
-use Rattle.case_figures.specs.Held.{IsHeldPair, held_of, line_under}
-use Rattle.case_figures.specs.Gathering.{IsItemOf, IsFamilyOf, held_by_pair, factor_from, weighted_from, base_line_from}
+use Rattle.case_figures.specs.Figures.{item_at_place, all_items, factor_at, weighted_at, availability_line, figures_of}
+use Rattle.case_figures.specs.declared.compact.CompactItem.{CompactItem}
+use Rattle.case_figures.specs.Compact.{IsNamedPair, compact_of, line_under}
+use Rattle.case_figures.specs.Gathering.{IsItemOf, IsFamilyOf, compact_by_pair, factor_from, weighted_from, base_line_from}
 use Rattle.case_figures.proofs.Covering.{item_pair, placed_all}
-use Rattle.case_figures.proofs.HeldLines.{held_items, held_pairs, lines_named}
+use Rattle.case_figures.proofs.CompactLines.{compact_items, compact_pairs, lines_named}
 use Rattle.case_figures.proofs.Each.{all_of, each_map, each_that_passes, each_flat, map_each, few_that_pass}
 
 module _ (f : ℕ) (c : CaseRows) (t : StockList) where
@@ -131,16 +131,16 @@ module _ (f : ℕ) (c : CaseRows) (t : StockList) where
       map_each (weighted_from f c (families_of f c t)) (weighted_at f c t.list) (bases c)
       (each_in_range (λ j. weighted_from f c (families_of f c t) j ≡ weighted_at f c t.list j) (length c.sites - 1) 1 (λ j a l. weighted_is j (omega arith)))
 
-  line_is : (j : ℕ) → 1 ≤ j → j < length c.sites → base_line_from f c (map (weighted_at f c t.list) (bases c)) j ≡ base_line f c t.list j
+  line_is : (j : ℕ) → 1 ≤ j → j < length c.sites → base_line_from f c (map (weighted_at f c t.list) (bases c)) j ≡ availability_line f c t.list j
   line_is j h l =
       ap (λ (base : Weighted f). let line : BaseLine = record { site = (site_at c.sites j).name; availability = span_of f base.value } in line)
       (get_or-map-range_with_len (weighted_at f c t.list) 1 (length c.sites - 1) (j - 1) j (record { systems = 0; value = ends_exact f 0 })
       (omega arith) (omega arith))
 
-  lines_are : map (base_line_from f c (map (weighted_at f c t.list) (bases c))) (bases c) ≡ map (base_line f c t.list) (bases c)
+  lines_are : map (base_line_from f c (map (weighted_at f c t.list) (bases c))) (bases c) ≡ map (availability_line f c t.list) (bases c)
   lines_are =
-      map_each (base_line_from f c (map (weighted_at f c t.list) (bases c))) (base_line f c t.list) (bases c)
-      (each_in_range (λ j. base_line_from f c (map (weighted_at f c t.list) (bases c)) j ≡ base_line f c t.list j) (length c.sites - 1) 1
+      map_each (base_line_from f c (map (weighted_at f c t.list) (bases c))) (availability_line f c t.list) (bases c)
+      (each_in_range (λ j. base_line_from f c (map (weighted_at f c t.list) (bases c)) j ≡ availability_line f c t.list j) (length c.sites - 1) 1
       (λ j a l. line_is j a (omega arith)))
 
   totals_are : map (λ (r : FamilyResult f). r.total) (families_of f c t) ≡ map (evaluated.total_of f c t.list) (line_units c)
@@ -149,40 +149,40 @@ module _ (f : ℕ) (c : CaseRows) (t : StockList) where
   -- ---- the figures
 
   -- what the steps have given, from families and the items and bases that were made of them
-  pub record AreMade (families : List (FamilyResult f)) (held : List HeldItem) (weighted : List (Weighted f)) (fleet total : Ends) (cost : ℕ) (figures : Figures) : Type 0 where
+  pub record AreMade (families : List (FamilyResult f)) (compact : List CompactItem) (weighted : List (Weighted f)) (fleet total : Ends) (cost : ℕ) (figures : Figures) : Type 0 where
     pub families_are : families ≡ families_of f c t
-    pub held_are : held ≡ held_by_pair c families
+    pub compact_are : compact ≡ compact_by_pair c families
     pub weighted_from_families : weighted ≡ map (weighted_from f c families) (bases c)
     pub fleet_is : fleet ≡ fleet_ends f weighted
     pub total_is : total ≡ fold ends_add (ends_exact f 0) (map (λ (r : FamilyResult f). r.total) families)
     pub cost_is : figures.cost ≡ cost
-    pub item_lines : figures.items ≡ map (line_under (part_names c.parts) (site_names c.sites) f) held
+    pub item_lines : figures.items ≡ map (line_under (part_names c.parts) (site_names c.sites) f) compact
     pub base_lines : figures.bases ≡ map (base_line_from f c weighted) (bases c)
     pub fleet_span : figures.fleet ≡ span_of f fleet
     pub total_span : figures.total ≡ span_of f total
 
-  held_made : IsCase c → (families : List (FamilyResult f)) (held : List HeldItem) → families ≡ families_of f c t → held ≡ held_by_pair c families
-      → held ≡ map held_of (all_items f c t.list)
-  held_made v families held h e =
-      e ∙ ap (held_by_pair c) h ∙ held_items f c (families_of f c t) ∙ ap (map held_of) (placed_all f c t.list v t.sites)
+  compact_made : IsCase c → (families : List (FamilyResult f)) (compact : List CompactItem) → families ≡ families_of f c t → compact ≡ compact_by_pair c families
+      → compact ≡ map compact_of (all_items f c t.list)
+  compact_made v families compact h e =
+      e ∙ ap (compact_by_pair c) h ∙ compact_items f c (families_of f c t) ∙ ap (map compact_of) (placed_all f c t.list v t.sites)
 
-  -- what is held has names
-  pub are_held : AreSmall → IsCase c → (families : List (FamilyResult f)) (held : List HeldItem) → families ≡ families_of f c t
-      → held ≡ held_by_pair c families → All (IsHeldPair (part_names c.parts) (site_names c.sites)) held
-  are_held m v families held h e =
-      subst (λ (xs : List HeldItem). All (IsHeldPair (part_names c.parts) (site_names c.sites)) xs) (sym (held_made v families held h e))
-      (held_pairs f c (all_items f c t.list) (all_of (IsItemOf f c) (all_items f c t.list) (are_all_items m v)))
+  -- the compact items have names
+  pub are_compact : AreSmall → IsCase c → (families : List (FamilyResult f)) (compact : List CompactItem) → families ≡ families_of f c t
+      → compact ≡ compact_by_pair c families → All (IsNamedPair (part_names c.parts) (site_names c.sites)) compact
+  are_compact m v families compact h e =
+      subst (λ (xs : List CompactItem). All (IsNamedPair (part_names c.parts) (site_names c.sites)) xs) (sym (compact_made v families compact h e))
+      (compact_pairs f c (all_items f c t.list) (all_of (IsItemOf f c) (all_items f c t.list) (are_all_items m v)))
 
   weighted_made : (families : List (FamilyResult f)) (weighted : List (Weighted f)) → families ≡ families_of f c t
       → weighted ≡ map (weighted_from f c families) (bases c) → weighted ≡ map (weighted_at f c t.list) (bases c)
   weighted_made families weighted h e = e ∙ ap (λ (rs : List (FamilyResult f)). map (weighted_from f c rs) (bases c)) h ∙ weighted_are
 
   -- figures made of the families step by step are those of the case at these stocks, with a cost of their own
-  pub made : AreSmall → IsCase c → (families : List (FamilyResult f)) (held : List HeldItem) (weighted : List (Weighted f)) (fleet total : Ends) (cost : ℕ) (figures : Figures)
-      → AreMade families held weighted fleet total cost figures → figures ≡ record (figures_of f c t) { cost = cost }
-  made m v families held weighted fleet total cost figures a =
+  pub made : AreSmall → IsCase c → (families : List (FamilyResult f)) (compact : List CompactItem) (weighted : List (Weighted f)) (fleet total : Ends) (cost : ℕ) (figures : Figures)
+      → AreMade families compact weighted fleet total cost figures → figures ≡ record (figures_of f c t) { cost = cost }
+  made m v families compact weighted fleet total cost figures a =
       let under = line_under (part_names c.parts) (site_names c.sites) f in
-      let items_eq = a.item_lines ∙ ap (map under) (held_made v families held a.families_are a.held_are) ∙ lines_named f c (all_items f c t.list) (are_all_items m v) in
+      let items_eq = a.item_lines ∙ ap (map under) (compact_made v families compact a.families_are a.compact_are) ∙ lines_named f c (all_items f c t.list) (are_all_items m v) in
       let weighted_eq = weighted_made families weighted a.families_are a.weighted_from_families in
       let bases_eq = a.base_lines ∙ ap (λ (ws : List (Weighted f)). map (base_line_from f c ws) (bases c)) weighted_eq ∙ lines_are in
       let fleet_eq = a.fleet_span ∙ ap (span_of f) (a.fleet_is ∙ ap (fleet_ends f) weighted_eq) in

@@ -7,4 +7,4 @@ pub mod Families
 pub mod Limits
 pub mod Enclosing
 pub mod Shown
-pub mod HeldLines
+pub mod CompactLines

@@ -13,10 +13,10 @@ use Rattle.spares_input.specs.Rows.{is_line}
 use Rattle.spares_input.specs.Frames.{part_at, site_at}
 use Rattle.spares_input.specs.Pairs.{pair_place}
 use Rattle.spares_input.specs.Cases.{CaseRows, IsCase, frame_rows, pair_count}
-use Rattle.spares_input.specs.Stocks.{StockList, IsFor, IsWithinLimits}
+use Rattle.spares_input.specs.Stocks.{AreStocksOf, StockList}
 use Rattle.demand_rates.specs.Limits.{rate_fault_of}
 use Rattle.fleet_model.specs.Rows.{bases, line_units}
-use Rattle.fleet_model.specs.Fleet.{availability, fleet, family_total, total}
+use Rattle.fleet_model.specs.Fleet.{availability, fleet, family_total, case_total}
 use Rattle.fleet_model.specs.Laws.{IsBase}
 use Rattle.fleet_model.proofs.Public.{cost_holds}
 use Rattle.availability.specs.declared.Weighted.{Weighted}
@@ -29,7 +29,7 @@ use Rattle.case_figures.specs.Fits.{SpanFits, ItemFits, BaseFits, FitsPrint}
 use Rattle.case_figures.specs.Spans.{places, ends, span_of}
 use Rattle.fixed_interval.specs.Widths.{IsWidth}
 use Rattle.fixed_interval.proofs.Public.{unit_most}
-use Rattle.case_figures.specs.Figures.{named, item_at_place, all_items, factor_at, availability_at, base_line, weighted_at, fleet_of, total_of, figures_of}
+use Rattle.case_figures.specs.Figures.{named, item_at_place, all_items, factor_at, availability_at, availability_line, weighted_at, fleet_of, case_total_of, figures_of}
 use Rattle.case_figures.specs.Shows.{ShowsSpan, ShowsItem, ShowsBase, ShowsFigures, no_item_line, no_base_line}
 use Rattle.case_figures.proofs.Covering.{item_pair, at_place, pair_within}
 use Rattle.case_figures.proofs.Each.{all_of, each_map, each_that_passes, few_that_pass}
@@ -115,29 +115,29 @@ module _ (f : ℕ) (c : CaseRows) (t : StockList) (has : IsWidth f) (can : CanEv
       get_or-map (named f c) (all_items f c t.list) i (no_item f) no_item_line (omega (arith, within, length-map-range_with_len (item_at_place f c t.list) 0 count))
       ∙ ap (named f c) (get_or-map-range_with_len (item_at_place f c t.list) 0 count i i (no_item f) within (omega arith) ∙ at_place f c t.list p k l)
 
-  base_shown : (j : ℕ) → IsBase c j → ShowsBase f c t.list j (base_line f c t.list j)
+  base_shown : (j : ℕ) → IsBase c j → ShowsBase f c t.list j (availability_line f c t.list j)
   base_shown j b = record {
     site_is = refl;
     availability_in = shown f (λ n. availability c t.list n j) (availability_at f c t.list j) has
         (λ n d. availability_in f c t.list n j can.valid b (λ l h e. (is.items_in l j h b.1).backorders_in n d));
   }
 
-  base_at_line : (j : ℕ) → IsBase c j → get_or (map (base_line f c t.list) (bases c)) (j - 1) no_base_line ≡ base_line f c t.list j
+  base_at_line : (j : ℕ) → IsBase c j → get_or (map (availability_line f c t.list) (bases c)) (j - 1) no_base_line ≡ availability_line f c t.list j
   base_at_line j b =
-      get_or-map-range_with_len (base_line f c t.list) 1 (length c.sites - 1) (j - 1) j no_base_line (omega (arith, b.0, b.1)) (omega (arith, b.0))
+      get_or-map-range_with_len (availability_line f c t.list) 1 (length c.sites - 1) (j - 1) j no_base_line (omega (arith, b.0, b.1)) (omega (arith, b.0))
 
   -- the figures show the case at these stocks: its cost, and an interval around each of the model's numbers
   pub figures_shown : ShowsFigures f c t (figures_of f c t)
   figures_shown = record {
-    cost_is = sym (cost_holds c t can.are_stocks);
+    cost_is = sym (cost_holds c t can.are_stocks.is_for);
     item_count = length-map (all_items f c t.list) (named f c) ∙ length-map-range_with_len (item_at_place f c t.list) 0 (pair_count (frame_rows c));
     items_in = λ p k h l. subst (ShowsItem f c t.list p k) (sym (line_at p k h l)) (item_shown p k h l);
-    base_count = length-map-range_with_len (base_line f c t.list) 1 (length c.sites - 1);
+    base_count = length-map-range_with_len (availability_line f c t.list) 1 (length c.sites - 1);
     bases_in = λ j b. subst (ShowsBase f c t.list j) (sym (base_at_line j b)) (base_shown j b);
     fleet_in = shown f (fleet c t.list) (fleet_of f c t.list) has
         (λ n d. fleet_at_in f c t.list n can.valid
         (λ j b. availability_in f c t.list n j can.valid b (λ l h e. (is.items_in l j h b.1).backorders_in n d)));
-    total_in = shown f (total c t.list) (total_of f c t.list) has (λ n d. total_at_in f c t.list n (λ l h e. is.totals_in l h e n d));
+    total_in = shown f (case_total c t.list) (case_total_of f c t.list) has (λ n d. total_at_in f c t.list n (λ l h e. is.totals_in l h e n d));
   }
 
   -- ---- what can be printed
@@ -171,7 +171,7 @@ module _ (f : ℕ) (c : CaseRows) (t : StockList) (has : IsWidth f) (can : CanEv
       (each_map (λ (x : Weighted f). x.value.hi ≤ 2 ^ f) (weighted_at f c t.list) (bases c)
       (each_in_range (λ j. (availability_at f c t.list j).hi ≤ 2 ^ f) (length c.sites - 1) 1 (λ j a l. availability_most j)))
 
-  total_most : (total_of f c t.list).hi ≤ 768000000 * 2 ^ f
+  total_most : (case_total_of f c t.list).hi ≤ 768000000 * 2 ^ f
   total_most =
       let few = few_that_pass (λ p. is_line (part_at c.parts p)) (length c.parts) 0 in
       let count = length-map (line_units c) (evaluated.total_of f c t.list) in
@@ -190,12 +190,12 @@ module _ (f : ℕ) (c : CaseRows) (t : StockList) (has : IsWidth f) (can : CanEv
         (each_map ItemFits (named f c) (all_items f c t.list)
         (each_map (λ (x : Item f). ItemFits (named f c x)) (item_at_place f c t.list) (range_with_len 0 (pair_count (frame_rows c)))
         (each_in_range (λ i. ItemFits (named f c (item_at_place f c t.list i))) (pair_count (frame_rows c)) 0 (λ i a l. place_fits i (omega arith)))));
-    bases = all_of BaseFits (map (base_line f c t.list) (bases c))
-        (each_map BaseFits (base_line f c t.list) (bases c)
-        (each_in_range (λ j. BaseFits (base_line f c t.list j)) (length c.sites - 1) 1
+    bases = all_of BaseFits (map (availability_line f c t.list) (bases c))
+        (each_map BaseFits (availability_line f c t.list) (bases c)
+        (each_in_range (λ j. BaseFits (availability_line f c t.list j)) (length c.sites - 1) 1
         (λ j a l. span_fits f (availability_at f c t.list j) 1 has (omega (arith, availability_most j)) (omega arith))));
     fleet = span_fits f (fleet_of f c t.list) 1 has (omega (arith, fleet_of_most)) (omega arith);
-    total = span_fits f (total_of f c t.list) 768000000 has total_most (omega arith);
+    total = span_fits f (case_total_of f c t.list) 768000000 has total_most (omega arith);
   }
 
 -- what can be evaluated has items and totals that enclose the model, and are small
@@ -210,5 +210,5 @@ evaluated_as f c t h =
     }
 
 -- what an evaluation takes, from what is known of a case, its rates and its stocks
-pub can_evaluate : (f : ℕ) (c : CaseRows) (t : StockList) → IsWidth f → IsCase c → rate_fault_of c ≡ None → IsFor c t → IsWithinLimits c t → CanEvaluate f c t
-can_evaluate f c t h v a s l = record { scale = width_in_scale f h; valid = v; no_fault = a; are_stocks = s; limits = l }
+pub can_evaluate : (f : ℕ) (c : CaseRows) (t : StockList) → IsWidth f → IsCase c → rate_fault_of c ≡ None → AreStocksOf c t → CanEvaluate f c t
+can_evaluate f c t h v a s = record { scale = width_in_scale f h; valid = v; no_fault = a; are_stocks = s }

@@ -5,7 +5,7 @@ use Rattle.fixed_interval.specs.Ends.{Ends, ends_exact, ends_add}
 use Rattle.spares_input.specs.Frames.{part_at, site_at}
 use Rattle.spares_input.specs.Pairs.{part_of_place, site_of_place}
 use Rattle.spares_input.specs.Cases.{CaseRows, frame_rows, pair_count}
-use Rattle.spares_input.specs.Stocks.{StockList, cost_of}
+use Rattle.spares_input.specs.Stocks.{StockList, cost_of_stocks}
 use Rattle.fleet_model.specs.Rows.{bases, line_units, systems, per_system}
 use Rattle.availability.specs.declared.Weighted.{Weighted}
 use Rattle.availability.specs.Profile.{factor_ends, base_ends, fleet_ends}
@@ -46,8 +46,9 @@ abbrev pub availability_at : ℕ → CaseRows → List ℕ → ℕ → Ends
 availability_at f c s j = base_ends f (map (factor_at f c s j) (line_units c))
 
 -- the availability of base j with the base's name
-abbrev pub base_line : ℕ → CaseRows → List ℕ → ℕ → BaseLine
-base_line f c s j = record { site = (site_at c.sites j).name; availability = span_of f (availability_at f c s j) }
+abbrev pub availability_line : ℕ → CaseRows → List ℕ → ℕ → BaseLine
+availability_line f c s j =
+    record { site = (site_at c.sites j).name; availability = span_of f (availability_at f c s j) }
 
 -- the availability of base j with its count of systems
 abbrev pub weighted_at : (f : ℕ) → CaseRows → List ℕ → ℕ → Weighted f
@@ -58,15 +59,15 @@ abbrev pub fleet_of : ℕ → CaseRows → List ℕ → Ends
 fleet_of f c s = fleet_ends f (map (weighted_at f c s) (bases c))
 
 -- the sum of the families' totals, in order
-abbrev pub total_of : ℕ → CaseRows → List ℕ → Ends
-total_of f c s = fold ends_add (ends_exact f 0) (map (family.total_of f c s) (line_units c))
+abbrev pub case_total_of : ℕ → CaseRows → List ℕ → Ends
+case_total_of f c s = fold ends_add (ends_exact f 0) (map (family.total_of f c s) (line_units c))
 
 -- the figures with f binary places
 abbrev pub figures_of : ℕ → CaseRows → StockList → Figures
 figures_of f c s = record {
-  cost = cost_of c s;
+  cost = cost_of_stocks c s;
   items = map (named f c) (all_items f c s.list);
-  bases = map (base_line f c s.list) (bases c);
+  bases = map (availability_line f c s.list) (bases c);
   fleet = span_of f (fleet_of f c s.list);
-  total = span_of f (total_of f c s.list);
+  total = span_of f (case_total_of f c s.list);
 }

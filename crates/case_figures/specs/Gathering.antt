@@ -16,8 +16,8 @@ use Rattle.family_items.specs.Encloses.{CanEvaluate, IsSmallItem, no_item}
 use Rattle.family_items.specs.Profile.{families_of}
 use Rattle.availability.specs.Exact.{base_at}
 use Rattle.case_figures.specs.declared.figures.BaseLine.{BaseLine}
-use Rattle.case_figures.specs.declared.held.HeldItem.{HeldItem}
-use Rattle.case_figures.specs.Held.{held_of}
+use Rattle.case_figures.specs.declared.compact.CompactItem.{CompactItem}
+use Rattle.case_figures.specs.Compact.{compact_of}
 use Rattle.case_figures.specs.Spans.{span_of}
 
 -- the item's pair is in the case, and none of its ends is above 256
@@ -42,25 +42,25 @@ pub record IsFamilyOf (f : ℕ) (c : CaseRows) (r : FamilyResult f) : Type 0 whe
 -- each item at the place of its pair; a later item of the same pair replaces an earlier one
 module _ {f : ℕ} (c : CaseRows) where
   -- the place of an item's pair, by part and then by site
-  abbrev pub place_of : Item f → ℕ
-  place_of x = pair_place (length c.sites) x.part.0 x.site.0
+  abbrev pub item_place : Item f → ℕ
+  item_place x = pair_place (length c.sites) x.part.0 x.site.0
 
   -- the places after the items are written to them in turn
   abbrev pub placed : List (Item f) → List (Item f) → List (Item f)
-  placed places items = fold (λ places x. slice_set places (place_of x) x) places items
+  placed places items = fold (λ places x. slice_set places (item_place x) x) places items
 
   -- the items of all families, by pair
   abbrev pub items_by_pair : List (FamilyResult f) → List (Item f)
   items_by_pair families = placed (replicate (pair_count (frame_rows c)) (no_item f)) (flat_map (λ r. r.items) families)
 
   -- the same for compact items
-  abbrev pub placed_held : List HeldItem → List (Item f) → List HeldItem
-  placed_held places items = fold (λ places x. slice_set places (place_of x) (held_of x)) places items
+  abbrev pub placed_compact : List CompactItem → List (Item f) → List CompactItem
+  placed_compact places items = fold (λ places x. slice_set places (item_place x) (compact_of x)) places items
 
   -- the compact items of all families, by pair
-  abbrev pub held_by_pair : List (FamilyResult f) → List HeldItem
-  held_by_pair families =
-      placed_held (replicate (pair_count (frame_rows c)) (held_of (no_item f))) (flat_map (λ r. r.items) families)
+  abbrev pub compact_by_pair : List (FamilyResult f) → List CompactItem
+  compact_by_pair families =
+      placed_compact (replicate (pair_count (frame_rows c)) (compact_of (no_item f))) (flat_map (λ r. r.items) families)
 
 -- the availability factor of a family's line unit at base j
 abbrev pub factor_from : (f : ℕ) → CaseRows → ℕ → FamilyResult f → Ends

@@ -1,6 +1,6 @@
 pub mod Spans
 pub mod Narrow
-pub mod Held
+pub mod Compact
 pub mod Fits
 pub mod Figures
 pub mod Shows

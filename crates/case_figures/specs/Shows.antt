@@ -8,7 +8,7 @@ use Rattle.spares_input.specs.Cases.{CaseRows, frame_rows, pair_count}
 use Rattle.spares_input.specs.Stocks.{StockList}
 use Rattle.fleet_model.specs.Rows.{stock}
 use Rattle.fleet_model.specs.Pairs.{mean, variance, backorders, spread}
-use Rattle.fleet_model.specs.Fleet.{availability, fleet, total, cost}
+use Rattle.fleet_model.specs.Fleet.{availability, fleet, case_total, cost}
 use Rattle.fleet_model.specs.Laws.{IsBase}
 use Rattle.case_figures.specs.Spans.{places, ends}
 use Rattle.case_figures.specs.declared.figures.Span.{Span}
@@ -65,4 +65,4 @@ pub record ShowsFigures (f : ℕ) (c : CaseRows) (s : StockList) (figures : Figu
   pub base_count : length figures.bases ≡ length c.sites - 1
   pub bases_in : (j : ℕ) → IsBase c j → ShowsBase f c s.list j (get_or figures.bases (j - 1) no_base_line)
   pub fleet_in : ShowsSpan f (fleet c s.list) figures.fleet
-  pub total_in : ShowsSpan f (total c s.list) figures.total
+  pub total_in : ShowsSpan f (case_total c s.list) figures.total

@@ -3,7 +3,7 @@
 ghost use Rattle.std.specs.Prelude.{◌≡◌};
 ghost use Rattle.case_figures.specs.Spans.{ends, places};
 
-use crate::held::Items;
+use crate::compact::Items;
 use answers::List;
 use fixed_interval::Iv;
 use spares_input::Name;

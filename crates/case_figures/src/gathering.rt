@@ -3,6 +3,7 @@ ghost use Rattle.std.specs.Prelude.{◌≡◌, ℕ, ◌*◌, ◌^◌, ◌≤◌,
 ghost use Rattle.std.specs.List.{fold};
 ghost use Rattle.fixed_interval.specs.Ends.{InScale, ends_add, ends_exact};
 ghost use Rattle.spares_input.specs.Cases.{CaseRows};
+ghost use Rattle.spares_input.specs.Limits.{most_parts};
 ghost use Rattle.spares_input.specs.Stocks.{StockList};
 ghost use Rattle.family_items.specs.Profile.{families_of};
 ghost use Rattle.family_items.specs.Encloses.{CanEvaluate};
@@ -13,9 +14,9 @@ ghost use Rattle.case_figures.specs.Gathering.{AreEvaluated};
 ghost use Rattle.case_figures.specs.Shows.{ShowsFigures};
 
 use crate::bases::{base_lines, weighted_bases};
+use crate::compact::Items;
 use crate::figures::Figures;
-use crate::held::Items;
-use crate::items::{held_by_pair, part_names, site_names, span_of};
+use crate::items::{compact_by_pair, part_names, site_names, span_of};
 use answers::{List, NoMemory};
 use availability::fleet;
 use family_items::FamilyResult;
@@ -35,7 +36,7 @@ pub fn figures_enclose()
 fn total_of<const F: u32>(families: &[FamilyResult<F>]) -> Iv<F>
     requires scale { InScale F }
     requires totals { All (λ r. r.total.hi ≤ 384000 * 2 ^ F) families.now }
-    requires few { length families.now ≤ 2000 }
+    requires few { length families.now ≤ most_parts }
     ensures { result ≡ fold ends_add (ends_exact F 0) (map (λ r. r.total) families.now) }
 {
     let mut total = Iv::exact(0);
@@ -63,11 +64,11 @@ pub fn figures_with_cost<const F: u32>(
 {
     let parts = part_names(alloc, case)?;
     let sites = site_names(alloc, case)?;
-    let held = held_by_pair(alloc, case, families)?;
+    let compact = compact_by_pair(alloc, case, families)?;
     let bases = weighted_bases(alloc, case, families)?;
     Ok(Figures {
         cost,
-        items: Items::of::<F>(parts, sites, held),
+        items: Items::of::<F>(parts, sites, compact),
         bases: List::of(base_lines(alloc, case, bases.as_slice())?),
         fleet: span_of(fleet(bases.as_slice())),
         total: span_of(total_of(families)),

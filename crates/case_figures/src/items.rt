@@ -4,12 +4,12 @@ ghost use Rattle.fixed_interval.specs.Ends.{InScale};
 ghost use Rattle.spares_input.specs.Frames.{part_names, site_names};
 ghost use Rattle.family_items.specs.Encloses.{no_item};
 ghost use Rattle.fixed_interval.specs.Widths.{IsWidth};
-ghost use Rattle.case_figures.specs.Gathering.{IsFamilyOf, IsItemOf, held_by_pair, placed_held};
-ghost use Rattle.case_figures.specs.Held.{held_of};
+ghost use Rattle.case_figures.specs.Gathering.{IsFamilyOf, IsItemOf, compact_by_pair, placed_compact};
+ghost use Rattle.case_figures.specs.Compact.{compact_of};
 ghost use Rattle.case_figures.specs.Spans.{span_of};
 
+use crate::compact::CompactItem;
 use crate::figures::Span;
-use crate::held::HeldItem;
 use answers::NoMemory;
 use family_items::{FamilyResult, Item};
 use fixed_interval::Iv;
@@ -32,11 +32,11 @@ pub(crate) fn span_of<const F: u32>(interval: Iv<F>) -> Span
 }
 
 /// A placeholder item.
-fn no_item<const F: u32>() -> HeldItem
+fn no_item<const F: u32>() -> CompactItem
     requires { InScale F }
-    ensures { result ≡ held_of (no_item F) }
+    ensures { result ≡ compact_of (no_item F) }
 {
-    HeldItem::of::<F>(&Item {
+    CompactItem::of::<F>(&Item {
         part: PartId(0),
         site: SiteId(0),
         stock: 0,
@@ -48,27 +48,27 @@ fn no_item<const F: u32>() -> HeldItem
 }
 
 /// Writes each item to the place of its pair.
-fn place_items<const F: u32>(places: &mut [HeldItem], case: &Case, items: &[Item<F>])
+fn place_items<const F: u32>(places: &mut [CompactItem], case: &Case, items: &[Item<F>])
     requires scale { InScale F }
     requires pairs { All (IsItemOf F case.now) items.now }
     requires room { length places.old ≡ length case.now.parts * length case.now.sites }
-    ensures { places.new ≡ placed_held case.now places.old items.now }
+    ensures { places.new ≡ placed_compact case.now places.old items.now }
 {
     let (parts, sites) = (case.part_count() as usize, case.site_count() as usize);
     for item in items {
-        places[pair_place(item.part, item.site, sites, parts)] = HeldItem::of(item);
+        places[pair_place(item.part, item.site, sites, parts)] = CompactItem::of(item);
     }
 }
 
 /// The items of all families, by part and then by site.
-pub(crate) fn held_by_pair<const F: u32>(
+pub(crate) fn compact_by_pair<const F: u32>(
     alloc: Global,
     case: &Case,
     families: &[FamilyResult<F>],
-) -> Result<Vec<HeldItem>, NoMemory>
+) -> Result<Vec<CompactItem>, NoMemory>
     requires scale { InScale F }
     requires families { All (IsFamilyOf F case.now) families.now }
-    ensures { IfOk result (λ v. v.items ≡ held_by_pair case.now families.now) }
+    ensures { IfOk result (λ v. v.items ≡ compact_by_pair case.now families.now) }
 {
     let pairs = case.part_count() as usize * case.site_count() as usize;
     let mut places = vec![in alloc; no_item::<F>(); pairs]?;

@@ -2,13 +2,13 @@
 #![tactic(auto)]
 
 mod bases;
+mod compact;
 mod figures;
 mod gathering;
-mod held;
 mod items;
 mod narrow;
 
+pub use compact::{CompactItem, ItemRef, Items};
 pub use figures::{BaseLine, Figures, ItemLine, Span};
 pub use gathering::{figures_at, figures_enclose, figures_with_cost};
-pub use held::{HeldItem, ItemRef, Items};
 pub use narrow::Narrow;

@@ -8,7 +8,7 @@ use Rattle.line_text.specs.Formats.{Format, one, fits_after}
 use Rattle.line_text.specs.Files.{line}
 use Rattle.line_text.specs.Texts.{in_range, numbers_from, only}
 use Rattle.spares_input.specs.Names.{is_name}
-use Rattle.spares_input.specs.Rows.{IsField, IsSiteRow, IsPartRow, IsRateRow, no_site, no_part}
+use Rattle.spares_input.specs.Rows.{IsNumberField, IsSiteRow, IsPartRow, IsRateRow, no_site, no_part}
 use Rattle.spares_input.specs.declared.rows.SiteRow.{SiteRow}
 use Rattle.spares_input.specs.declared.rows.PartRow.{PartRow}
 use Rattle.spares_input.specs.declared.rows.RateRow.{RateRow}
@@ -17,20 +17,20 @@ use Rattle.case_lines.proofs.Valid.{part_fields_fit, range_parts}
 
 -- ---- fields
 
-number_is : (has : Bool) (least most n : ℕ) → (number_if has least most).fits n ≡ true → IsField has least most n
+number_is : (has : Bool) (least most n : ℕ) → (number_if has least most).fits n ≡ true → IsNumberField has least most n
 number_is true least most n h = record { within = λ e. range_parts least most n h; empty = λ e. absurd (false≢true (sym e)) }
 number_is false least most n h = record { within = λ e. absurd (false≢true e); empty = λ e. eqb-true n 0 (and_parts (n == 0) true h).0 }
 
-fixed_is : (has : Bool) (places most n : ℕ) → (fixed_if has places most).fits n ≡ true → IsField has 0 most n
+fixed_is : (has : Bool) (places most n : ℕ) → (fixed_if has places most).fits n ≡ true → IsNumberField has 0 most n
 fixed_is true places most n h = record { within = λ e. range_parts 0 most n h; empty = λ e. absurd (false≢true (sym e)) }
 fixed_is false places most n h = record { within = λ e. absurd (false≢true e); empty = λ e. eqb-true n 0 (and_parts (n == 0) true h).0 }
 
 -- ---- sites
 
-unused : (n least most : ℕ) (b : Bool) → b ≡ false → n ≡ 0 → IsField b least most n
+unused : (n least most : ℕ) (b : Bool) → b ≡ false → n ≡ 0 → IsNumberField b least most n
 unused n least most b e h = record { within = λ t. absurd (false≢true (sym e ∙ t)); empty = λ t. h }
 
-used : (n least most : ℕ) (b : Bool) → b ≡ true → (least ≤ n) × (n ≤ most) → IsField b least most n
+used : (n least most : ℕ) (b : Bool) → b ≡ true → (least ≤ n) × (n ≤ most) → IsNumberField b least most n
 used n least most b e h = record { within = λ t. h; empty = λ t. absurd (false≢true (sym t ∙ e)) }
 
 depot_row : (s : SiteRow) → depot_fields.fits s ≡ true → IsSiteRow s × (s.depot ≡ true)
@@ -62,7 +62,7 @@ parent_is : (o : Option (List ℕ)) → parent_field.fits o ≡ true → (name :
 parent_is None h name e = absurd cc
 parent_is (Some x) h name e = let same : x ≡ name = cc in subst (λ (y : List ℕ). is_name y ≡ true) same h
 
-weight_is : (weighted used : Bool) (n : ℕ) → (weight_field weighted used).fits n ≡ true → IsField used 1 100 n
+weight_is : (weighted used : Bool) (n : ℕ) → (weight_field weighted used).fits n ≡ true → IsNumberField used 1 100 n
 weight_is true used n h = number_is used 1 100 n h
 weight_is false true n h = let e = eqb-true n 1 (and_parts (n == 1) true h).0 in record { within = λ t. (omega (arith, e), omega (arith, e)); empty = λ t. absurd (false≢true (sym t)) }
 weight_is false false n h = let e = eqb-true n 0 (and_parts (n == 0) true h).0 in record { within = λ t. absurd (false≢true t); empty = λ t. e }

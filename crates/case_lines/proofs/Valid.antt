@@ -11,7 +11,7 @@ use Rattle.line_text.specs.Files.{line}
 use Rattle.line_text.specs.Texts.{in_range, number, numbers_from}
 use Rattle.line_text.proofs.Public.{length_numbers_from}
 use Rattle.spares_input.specs.Names.{is_name}
-use Rattle.spares_input.specs.Rows.{IsField, IsSiteRow, IsPartRow, IsRateRow, is_line, no_site, no_rate}
+use Rattle.spares_input.specs.Rows.{IsNumberField, IsSiteRow, IsPartRow, IsRateRow, is_line, no_site, no_rate}
 use Rattle.spares_input.specs.Frames.{site_at, part_at}
 use Rattle.spares_input.specs.Cases.{CaseRows, rate_at, IsCase}
 use Rattle.spares_input.specs.declared.rows.SiteRow.{SiteRow}
@@ -57,11 +57,11 @@ part_fields_fit weighted p h =
     let g = and_parts (limit_field.fits p.max_base) weight f.1 in
     record { name = b.0; parent = c.0; cost = d.0; per_system = e.0; max_depot = f.0; max_base = g.0; weight = g.1 }
 
-number_fits : (has : Bool) (least most n : ℕ) → IsField has least most n → (number_if has least most).fits n ≡ true
+number_fits : (has : Bool) (least most n : ℕ) → IsNumberField has least most n → (number_if has least most).fits n ≡ true
 number_fits true least most n h = let p = h.within refl in in_range_holds least most n p.0 p.1
 number_fits false least most n h = and_from _ _ (eq-eqb n 0 (h.empty refl)) refl
 
-fixed_fits : (has : Bool) (places most n : ℕ) → IsField has 0 most n → (fixed_if has places most).fits n ≡ true
+fixed_fits : (has : Bool) (places most n : ℕ) → IsNumberField has 0 most n → (fixed_if has places most).fits n ≡ true
 fixed_fits true places most n h = let p = h.within refl in in_range_holds 0 most n p.0 p.1
 fixed_fits false places most n h = and_from _ _ (eq-eqb n 0 (h.empty refl)) refl
 
@@ -97,11 +97,11 @@ parent_fits (Some name) h = h name refl
 light : (n : ℕ) → nat_le 2 n ≡ false → n < 2
 light n e = leb-false 2 n e
 
-usual_is : (used : Bool) (n : ℕ) → IsField used 1 100 n → nat_le 2 n ≡ false → (n == usual used) ≡ true
+usual_is : (used : Bool) (n : ℕ) → IsNumberField used 1 100 n → nat_le 2 n ≡ false → (n == usual used) ≡ true
 usual_is true n h e = eq-eqb n 1 (omega (arith, (h.within refl).0, light n e))
 usual_is false n h e = eq-eqb n 0 (h.empty refl)
 
-weight_fits : (weighted used : Bool) (n : ℕ) → IsField used 1 100 n → (weighted ≡ false → nat_le 2 n ≡ false) → (weight_field weighted used).fits n ≡ true
+weight_fits : (weighted used : Bool) (n : ℕ) → IsNumberField used 1 100 n → (weighted ≡ false → nat_le 2 n ≡ false) → (weight_field weighted used).fits n ≡ true
 weight_fits true used n h more = number_fits used 1 100 n h
 weight_fits false used n h more = and_from _ _ (usual_is used n h (more refl)) refl
 

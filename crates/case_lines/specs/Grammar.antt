@@ -4,6 +4,7 @@ use Rattle.std.specs.List.{list_any}
 use Rattle.line_text.specs.Formats.{Format, one, and_then, as_shape, each_after}
 use Rattle.line_text.specs.Files.{line}
 use Rattle.line_text.specs.Texts.{number, fixed, plain, word, no_field, empty_field, count_fields, counted, one_for_each, numbers_from, Either, Left, Right, either, if_any, only}
+use Rattle.spares_input.specs.Limits.{most_parts}
 use Rattle.spares_input.specs.Names.{is_name}
 use Rattle.spares_input.specs.Frames.{site_at, part_at}
 use Rattle.spares_input.specs.Cases.{CaseRows}
@@ -131,14 +132,14 @@ part_lines weighted n = each_after [] (numbers_from 0 n) (part_line weighted n)
 abbrev pub weights_fields : Format ℕ
 weights_fields =
     as_shape
-    (and_then (word (codes "parts")) (λ _. and_then (one (number 1 2000)) (λ _. word (codes "weights"))))
+    (and_then (word (codes "parts")) (λ _. and_then (one (number 1 most_parts)) (λ _. word (codes "weights"))))
     (λ x. x.1.0)
     (λ n. (tt, (n, tt)))
     (λ _. true)
 
 -- parts,N or parts,N,weights
 abbrev pub parts_line : Format (Either ℕ ℕ)
-parts_line = one (either (line (count_fields (codes "parts") 0 2000)) (line weights_fields))
+parts_line = one (either (line (count_fields (codes "parts") 0 most_parts)) (line weights_fields))
 
 -- the number of parts by the first line
 abbrev pub count_in : Either ℕ ℕ → ℕ

@@ -5,6 +5,7 @@ ghost use Rattle.line_text.specs.Formats.{accepted, read_all, one};
 ghost use Rattle.line_text.specs.Files.{line};
 ghost use Rattle.line_text.specs.Texts.{only};
 ghost use Rattle.line_text.specs.Reading.{Reads, Gathers, Takes};
+ghost use Rattle.spares_input.specs.Limits.{most_parts};
 ghost use Rattle.case_lines.specs.Grammar.{weight_field, part_fields, is_owed, may_stand, part_lines, weights_fields, parts_line, header, parts};
 
 use crate::parts::are_weighted;
@@ -99,7 +100,7 @@ fn each_part(
     weighted: bool,
     count: usize,
 ) -> Result<Vec<PartRow>, Stop<BadLine>>
-    requires { count ≤ 2000 }
+    requires { count ≤ most_parts }
     ensures { Gathers (λ v. v.items) result lines.new ((part_lines weighted count).read lines.old) }
 {
     let mut found = Vec::new(alloc);
@@ -121,28 +122,14 @@ fn weights_of(fields: &mut Fields<'_>) -> Option<u128>
     Some(count)
 }
 
-/// The number of parts, if no field is left over.
-#[tactic(auto, using(line_text::proofs::Cursors::whole_read, line_text::proofs::Cursors::whole_left, line_text::proofs::Cursors::whole_refused))]
-fn weights_all(mut fields: Fields<'_>) -> Option<u128>
-    ensures { result ≡ accepted (read_all weights_fields fields.entry) }
-{
-    let count = weights_of(&mut fields)?;
-    if fields.is_empty() { Some(count) } else { None }
-}
-
 /// Reads the line `parts,N,weights`.
-#[tactic(auto, using(line_text::proofs::Cursors::line_read, line_text::proofs::Cursors::line_refused, line_text::proofs::Cursors::line_missing))]
+#[tactic(auto, using(line_text::proofs::Cursors::line_missing))]
 fn weights_line(lines: &mut Lines<'_>) -> Result<u128, BadLine>
     ensures { Reads (λ n. n) result lines.new ((one (line weights_fields)).read lines.old) }
 {
-    let fields = lines.fields()?;
-    match weights_all(fields) {
-        Some(count) => {
-            lines.pass();
-            Ok(count)
-        }
-        None => Err(BadLine),
-    }
+    let mut fields = lines.fields()?;
+    let count = weights_of(&mut fields);
+    lines.row(count, &fields)
 }
 
 /// Reads the line before the parts: whether weights are written, and the number of parts.

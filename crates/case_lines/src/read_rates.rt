@@ -1,9 +1,10 @@
 //! The lines of the rates, by part and then by site.
 
-ghost use Rattle.std.specs.Prelude.{◌≡◌, ◌≤◌, ◌<◌, ◌*◌, length};
-ghost use Rattle.line_text.specs.Formats.{accepted, read_all, each};
+ghost use Rattle.std.specs.Prelude.{◌≤◌, ◌<◌, ◌*◌, length};
+ghost use Rattle.line_text.specs.Formats.{each};
 ghost use Rattle.line_text.specs.Texts.{numbers_from};
 ghost use Rattle.line_text.specs.Reading.{Reads, Gathers, Takes};
+ghost use Rattle.spares_input.specs.Limits.{most_parts};
 ghost use Rattle.case_lines.specs.Rates.{pair_rates};
 ghost use Rattle.case_lines.specs.Grammar.{pair_of, pair_at, rate_fields, rate_line, rates};
 
@@ -42,23 +43,8 @@ fn rate_of(
     })
 }
 
-/// The rates, if no field is left over.
-#[tactic(auto, using(line_text::proofs::Cursors::whole_read, line_text::proofs::Cursors::whole_left, line_text::proofs::Cursors::whole_refused))]
-fn rate_all(
-    mut fields: Fields<'_>,
-    part: PartId,
-    row: &PartRow,
-    site: SiteId,
-    place: &SiteRow,
-) -> Option<RateRow>
-    ensures { result ≡ accepted (read_all (rate_fields (pair_of part.0 row.now site.0 place.now)) fields.entry) }
-{
-    let rate = rate_of(&mut fields, part, row, site, place)?;
-    if fields.is_empty() { Some(rate) } else { None }
-}
-
 /// Reads the line of a pair.
-#[tactic(auto, using(line_text::proofs::Cursors::line_read, line_text::proofs::Cursors::line_refused, line_text::proofs::Cursors::line_missing))]
+#[tactic(auto, using(line_text::proofs::Cursors::line_missing))]
 fn rate_line(
     lines: &mut Lines<'_>,
     part: PartId,
@@ -69,14 +55,9 @@ fn rate_line(
     ensures { Reads (λ r. r) result lines.new
         ((rate_line (pair_of part.0 row.now site.0 place.now)).read lines.old) }
 {
-    let fields = lines.fields()?;
-    match rate_all(fields, part, row, site, place) {
-        Some(rate) => {
-            lines.pass();
-            Ok(rate)
-        }
-        None => Err(BadLine),
-    }
+    let mut fields = lines.fields()?;
+    let rate = rate_of(&mut fields, part, row, site, place);
+    lines.row(rate, &fields)
 }
 
 /// Reads the line of the pair at a place.
@@ -88,7 +69,7 @@ fn rate_at(
 ) -> Result<RateRow, BadLine>
     requires some_sites { 0 < length sites.now }
     requires few_sites { length sites.now ≤ 16 }
-    requires few_parts { length parts.now ≤ 2000 }
+    requires few_parts { length parts.now ≤ most_parts }
     requires within { i < length parts.now * length sites.now }
     ensures { Reads (λ r. r) result lines.new ((rate_line (pair_at sites.now parts.now i)).read lines.old) }
 {
@@ -112,7 +93,7 @@ fn each_rate(
 ) -> Result<Vec<RateRow>, Stop<BadLine>>
     requires some_sites { 0 < length sites.now }
     requires few_sites { length sites.now ≤ 16 }
-    requires few_parts { length parts.now ≤ 2000 }
+    requires few_parts { length parts.now ≤ most_parts }
     ensures { Gathers (λ v. v.items) result lines.new
         ((each (numbers_from 0 (length parts.now * length sites.now))
         (λ i. rate_line (pair_at sites.now parts.now i))).read lines.old) }
@@ -135,7 +116,7 @@ fn counted_rates(
 ) -> Result<Vec<RateRow>, Stop<BadLine>>
     requires some_sites { 0 < length sites.now }
     requires few_sites { length sites.now ≤ 16 }
-    requires few_parts { length parts.now ≤ 2000 }
+    requires few_parts { length parts.now ≤ most_parts }
     ensures { Gathers (λ v. v.items) result lines.new
         ((pair_rates (length parts.now * length sites.now)
         (length parts.now * length sites.now) sites.now parts.now).read lines.old) }
@@ -154,7 +135,7 @@ pub(crate) fn rates(
 ) -> Result<Vec<RateRow>, Stop<BadLine>>
     requires some_sites { 0 < length sites.now }
     requires few_sites { length sites.now ≤ 16 }
-    requires few_parts { length parts.now ≤ 2000 }
+    requires few_parts { length parts.now ≤ most_parts }
     ensures { Gathers (λ v. v.items) result lines.new ((rates sites.now parts.now).read lines.old) }
 {
     counted_rates(alloc, lines, sites, parts)

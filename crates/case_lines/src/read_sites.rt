@@ -1,7 +1,6 @@
 //! The lines of the sites.
 
-ghost use Rattle.std.specs.Prelude.{◌≡◌};
-ghost use Rattle.line_text.specs.Formats.{accepted, read_all, one, each};
+ghost use Rattle.line_text.specs.Formats.{one, each};
 ghost use Rattle.line_text.specs.Files.{line};
 ghost use Rattle.line_text.specs.Texts.{numbers_from};
 ghost use Rattle.line_text.specs.Reading.{Reads, Gathers, Takes};
@@ -45,52 +44,24 @@ fn base_of(fields: &mut Fields<'_>) -> Option<SiteRow>
     })
 }
 
-/// The depot, if no field is left over.
-#[tactic(auto, using(line_text::proofs::Cursors::whole_read, line_text::proofs::Cursors::whole_left, line_text::proofs::Cursors::whole_refused))]
-fn depot_all(mut fields: Fields<'_>) -> Option<SiteRow>
-    ensures { result ≡ accepted (read_all depot_fields fields.entry) }
-{
-    let site = depot_of(&mut fields)?;
-    if fields.is_empty() { Some(site) } else { None }
-}
-
-/// The base, if no field is left over.
-#[tactic(auto, using(line_text::proofs::Cursors::whole_read, line_text::proofs::Cursors::whole_left, line_text::proofs::Cursors::whole_refused))]
-fn base_all(mut fields: Fields<'_>) -> Option<SiteRow>
-    ensures { result ≡ accepted (read_all base_fields fields.entry) }
-{
-    let site = base_of(&mut fields)?;
-    if fields.is_empty() { Some(site) } else { None }
-}
-
 /// Reads the line of the depot.
-#[tactic(auto, using(line_text::proofs::Cursors::line_read, line_text::proofs::Cursors::line_refused, line_text::proofs::Cursors::line_missing))]
+#[tactic(auto, using(line_text::proofs::Cursors::line_missing))]
 fn depot_line(lines: &mut Lines<'_>) -> Result<SiteRow, BadLine>
     ensures { Reads (λ s. s) result lines.new ((one (line depot_fields)).read lines.old) }
 {
-    let fields = lines.fields()?;
-    match depot_all(fields) {
-        Some(site) => {
-            lines.pass();
-            Ok(site)
-        }
-        None => Err(BadLine),
-    }
+    let mut fields = lines.fields()?;
+    let site = depot_of(&mut fields);
+    lines.row(site, &fields)
 }
 
 /// Reads the line of a base.
-#[tactic(auto, using(line_text::proofs::Cursors::line_read, line_text::proofs::Cursors::line_refused, line_text::proofs::Cursors::line_missing))]
+#[tactic(auto, using(line_text::proofs::Cursors::line_missing))]
 fn base_line(lines: &mut Lines<'_>) -> Result<SiteRow, BadLine>
     ensures { Reads (λ s. s) result lines.new ((one (line base_fields)).read lines.old) }
 {
-    let fields = lines.fields()?;
-    match base_all(fields) {
-        Some(site) => {
-            lines.pass();
-            Ok(site)
-        }
-        None => Err(BadLine),
-    }
+    let mut fields = lines.fields()?;
+    let site = base_of(&mut fields);
+    lines.row(site, &fields)
 }
 
 /// Reads the line of the site at a place.

@@ -12,6 +12,5 @@ evaluable c x valid accepted fits = record {
   scale = (omega arith, omega arith);
   valid = valid;
   no_fault = accepted;
-  are_stocks = fits.is_for;
-  limits = fits.limits;
+  are_stocks = fits.are_stocks;
 }

@@ -7,7 +7,7 @@ use Rattle.fixed_interval.specs.Text.{text_value}
 use Rattle.hull.specs.Scores.{EnclosesValue, LeavesRoom}
 use Rattle.spares_input.specs.Cases.{CaseRows, IsCase}
 use Rattle.spares_input.specs.Stocks.{StockList}
-use Rattle.fleet_model.specs.Fleet.{IsAllocation, cost, total}
+use Rattle.fleet_model.specs.Fleet.{IsAllocation, cost, case_total}
 use Rattle.family_items.specs.Encloses.{CanEvaluate}
 use Rattle.family_items.proofs.Public.{evaluable}
 use Rattle.case_figures.specs.declared.figures.Figures.{Figures}
@@ -38,8 +38,10 @@ can c s accepted a = record {
   scale = (omega arith, omega arith);
   valid = accepted.valid;
   no_fault = accepted.no_fault;
-  are_stocks = record { sites = refl; pairs = a.complete };
-  limits = a.within;
+  are_stocks = record {
+    is_for = record { sites = refl; pairs = a.complete };
+    limits = a.within;
+  };
 }
 
 with_cost : (c : CaseRows) (s : StockList) (figures : Figures) (money : ℕ) → money ≡ cost c s.list → ShowsFigures 48 c s figures → ShowsFigures 48 c s (record figures { cost = money })
@@ -109,7 +111,7 @@ plain_true c held request report accepted nothing h = subst (IsTruePlanReport c 
     is_plan = from_nothing c held nothing plain_ends request.budget h.plan h.is_plan
 
     -- in the plain words
-    plain_fewer : IsPlainPlan c request.budget h.plan → (n : ℕ) → 1024 ≤ n → (s : List ℕ) → IsAllocation c s → cost c s ≤ request.budget → whole h.plan.numbers.bound ≤ℚ total c s n *ℚ whole (2 ^ 48)
+    plain_fewer : IsPlainPlan c request.budget h.plan → (n : ℕ) → 1024 ≤ n → (s : List ℕ) → IsAllocation c s → cost c s ≤ request.budget → whole h.plan.numbers.bound ≤ℚ case_total c s n *ℚ whole (2 ^ 48)
     plain_fewer k n deep s a f =
         let words = plain_words c s in
         subst (λ z. whole h.plan.numbers.bound ≤ℚ z *ℚ whole (2 ^ 48)) (words.total_is n) (k.fewer n deep s (words.allocation.1 a) (subst (λ z. z ≤ request.budget) (sym words.cost_is) f))
@@ -126,7 +128,7 @@ plain_true c held request report accepted nothing h = subst (IsTruePlanReport c 
           shows = with_cost c (stock_list c h.plan.stocks) (figures_of 48 c (stock_list c h.plan.stocks)) h.plan.numbers.cost k.cost_is
               (figures_shown 48 c (stock_list c h.plan.stocks) refl e (evaluated_as 48 c (stock_list c h.plan.stocks) e));
           fewer = k.fewer;
-          printed = λ n deep s a f. below_printed h.plan.numbers.bound (total c s n) (plain_fewer k n deep s a f);
+          printed = λ n deep s a f. below_printed h.plan.numbers.bound (case_total c s n) (plain_fewer k n deep s a f);
           no_price = k.no_price;
           gap = k.gap ∙ t.upper_is ∙ sym (upper_is_total c h.plan.stocks);
         }

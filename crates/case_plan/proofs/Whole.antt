@@ -15,7 +15,7 @@ use Rattle.fleet_model.proofs.Public.{stock_holds}
 use Rattle.family_points.specs.Vectors.{Pair, places, vector_of, limits, stock_list, IsBetween}
 use Rattle.marginal_alloc.specs.declared.plans.PlanNumbers.{PlanNumbers}
 use Rattle.step_walk.specs.Prefix.{curve_at, AreVertices, picked}
-use Rattle.price_bounds.specs.Allocations.{IsAllocation}
+use Rattle.price_bounds.specs.Allocations.{IsFamilyAllocation}
 use Rattle.price_bounds.specs.Soundness.{stocks_of}
 use Rattle.case_figures.specs.declared.figures.Figures.{Figures}
 use Rattle.case_figures.specs.Figures.{figures_of}
@@ -59,7 +59,7 @@ zeros_least c (x ∷ xs) (a ∷ v) e = (omega arith, zeros_least c xs v (omega (
 low_between : (c : CaseRows) (l : ℕ) (v : List ℕ) → IsLow c l v → IsBetween (vector_of c l []) (limits c l) v
 low_between c l v a = record { least = zeros_least c (places c l) v (low_width c l v a); most = a }
 
-allocated : (c : CaseRows) (ls : List ℕ) (vs : List (List ℕ)) → AllZip (IsLow c) ls vs → IsAllocation (map (family_at plain_ends weighted_backorders c []) ls) vs
+allocated : (c : CaseRows) (ls : List ℕ) (vs : List (List ℕ)) → AllZip (IsLow c) ls vs → IsFamilyAllocation (map (family_at plain_ends weighted_backorders c []) ls) vs
 allocated c [] [] a = tt
 allocated c [] (v ∷ vs) a = absurd a
 allocated c (l ∷ ls) [] a = absurd a
@@ -76,7 +76,7 @@ module _ (c : CaseRows) (valid : IsCase c) (curves : List (List Point)) (picks :
   -- stocks with the vectors of the picked vertices are within the case's limits
   pub within : (s : StockList) → IsFor c s → vectors_at c s.list ≡ stocks_of (picked curves picks) → IsWithinLimits c s
   within s is e p k lp lk =
-      let a = held_of plain_ends weighted_backorders c [] valid s.list is.pairs (subst (IsAllocation (families_at plain_ends weighted_backorders c [])) (sym e) (allocated c (line_units c) (stocks_of (picked curves picks)) lows)) in
+      let a = held_of plain_ends weighted_backorders c [] valid s.list is.pairs (subst (IsFamilyAllocation (families_at plain_ends weighted_backorders c [])) (sym e) (allocated c (line_units c) (stocks_of (picked curves picks)) lows)) in
       subst (λ n. n ≤ limit_at c.parts p k) (stock_holds c s p k is) (a.allocation.within p k lp lk)
 
 -- the family of a critical step is one of as many as there are curves
@@ -138,8 +138,8 @@ case_outcome c curves request x o valid fits is e ends held areas =
     let vectors = sym is.stocks_are in
     record {
       plan = p;
-      is_plan = chosen_of_stocks ends c held request.budget is.vertices p chosen vectors fits.is_for.pairs;
-      is = e ∙ same_outcome ends c request x fits.is_for.sites (aimed ends c held request.budget is.vertices p x.lower valid chosen vectors is.lower_is);
+      is_plan = chosen_of_stocks ends c held request.budget is.vertices p chosen vectors fits.are_stocks.is_for.pairs;
+      is = e ∙ same_outcome ends c request x fits.are_stocks.is_for.sites (aimed ends c held request.budget is.vertices p x.lower valid chosen vectors is.lower_is);
     }
 
 -- the line unit at place f is a part of the case

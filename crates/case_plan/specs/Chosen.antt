@@ -2,7 +2,7 @@
 use Rattle.std.specs.Prelude.{◌≡◌, ◌^◌, ◌<◌, ◌≤◌, ℕ, List, IfSome, length}
 use Rattle.hull.specs.declared.point.Point.{Point}
 use Rattle.spares_input.specs.Cases.{CaseRows}
-use Rattle.spares_input.specs.Stocks.{IsFor, IsWithinLimits}
+use Rattle.spares_input.specs.Stocks.{AreStocksOf}
 use Rattle.fleet_model.specs.Rows.{line_units}
 use Rattle.price_bounds.specs.Sums.{lo_of}
 use Rattle.price_bounds.specs.Soundness.{stocks_of}
@@ -13,8 +13,7 @@ use Rattle.case_plan.specs.declared.chosen.ChosenStocks.{ChosenStocks}
 
 -- The stocks are for the case and within its limits, and the numbers fit into a report.
 pub record FitsCase (c : CaseRows) (x : ChosenStocks) : Type 0 where
-  pub is_for : IsFor c x.stocks
-  pub limits : IsWithinLimits c x.stocks
+  pub are_stocks : AreStocksOf c x.stocks
   pub ordered : x.lower ≤ x.numbers.upper
   pub room : x.numbers.upper < 2 ^ 86
   pub critical : IfSome x.numbers.critical (λ family. family < length (line_units c))

@@ -1,5 +1,6 @@
 -- The report of a plan is true of the case, whoever made it.
-use Rattle.std.specs.Prelude.{◌≡◌, ℕ, ◌^◌, ◌≤◌, ◌↔◌, [], List, length, All}
+use Rattle.std.specs.Prelude.{◌≡◌, ℕ, ◌≤◌, ◌↔◌, [], List, length, All}
+use Rattle.hull.specs.Limits.{most_price_units, most_price_money, most_floor, most_total}
 use Rattle.hull.specs.Scores.{EnclosesValue, LeavesRoom}
 use Rattle.spares_input.specs.Cases.{CaseRows, IsCase}
 use Rattle.fleet_model.specs.Rows.{line_units}
@@ -47,16 +48,16 @@ PlansFromNothing =
 
 -- the numbers of a plan fit into a certificate
 pub record FitsItsPlace (c : CaseRows) (p : CasePlan) : Type 0 where
-  pub price : p.numbers.price.p ≤ 2 ^ 74
+  pub price : p.numbers.price.p ≤ most_price_units
   pub money : 1 ≤ p.numbers.price.q
-  pub most_money : p.numbers.price.q ≤ 1000000000000
+  pub most_money : p.numbers.price.q ≤ most_price_money
   pub floor_count : length p.floors ≡ length (line_units c)
-  pub floors_most : All (λ floor. floor ≤ 2 ^ 115) p.floors
+  pub floors_most : All (λ floor. floor ≤ most_floor) p.floors
   pub stocks_most : All (λ stock. stock ≤ 63) p.stocks
-  pub upper : p.numbers.upper ≤ 2 ^ 85
-  pub bound : p.numbers.bound ≤ 2 ^ 85
-  pub gap : p.numbers.gap ≤ 2 ^ 85
-  pub rounding : p.numbers.rounding ≤ 2 ^ 85
+  pub upper : p.numbers.upper ≤ most_total
+  pub bound : p.numbers.bound ≤ most_total
+  pub gap : p.numbers.gap ≤ most_total
+  pub rounding : p.numbers.rounding ≤ most_total
 
 -- the numbers of each plan of an accepted case fit into a certificate
 abbrev pub PlansFit : Type 0

@@ -1,7 +1,8 @@
 -- The parts that make up a plan of curves.
-use Rattle.std.specs.Prelude.{ℕ, zero, suc, ◌+◌, ◌-◌, ◌^◌, ◌<◌, ◌≤◌, ◌⊎◌, List, [], ◌∷◌, ◌++◌, length, slice_index, Option, Some, None}
+use Rattle.std.specs.Prelude.{ℕ, zero, suc, ◌+◌, ◌-◌, ◌<◌, ◌≤◌, ◌⊎◌, List, [], ◌∷◌, ◌++◌, length, slice_index, Option, Some, None}
 use Rattle.hull.specs.declared.point.Point.{Point}
 use Rattle.hull.specs.declared.price.Price.{Price}
+use Rattle.hull.specs.Limits.{most_price_units, most_price_money}
 use Rattle.marginal_alloc.specs.declared.allocation.Critical.{Critical}
 use Rattle.marginal_alloc.specs.declared.plans.PlanNumbers.{PlanNumbers}
 use Rattle.price_bounds.specs.Sums.{cost_of, hi_of}
@@ -30,8 +31,8 @@ IsPlace curves (Some c) = (c.family < length curves) × (c.vertex < length (curv
 
 -- a price small enough to compute a Lagrangian
 pub record IsSmallPrice (price : Price) : Type 0 where
-  pub p : price.p ≤ 2 ^ 74
-  pub q : price.q ≤ 1000000000000
+  pub p : price.p ≤ most_price_units
+  pub q : price.q ≤ most_price_money
   pub positive : 0 < price.q
 
 -- the numbers of a plan, from those of its hull choice and from the points of the filled one

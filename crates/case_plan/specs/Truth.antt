@@ -3,7 +3,7 @@ use Rattle.std.specs.Prelude.{◌≡◌, ℕ, ◌+◌, ◌-◌, ◌*◌, ◌≤�
 use Rattle.exact_model.specs.Fraction.{Encloses, ◌≤ℚ◌}
 use Rattle.fixed_interval.specs.Text.{text_value}
 use Rattle.spares_input.specs.Cases.{CaseRows}
-use Rattle.fleet_model.specs.Fleet.{IsAllocation, cost, total}
+use Rattle.fleet_model.specs.Fleet.{IsAllocation, cost, case_total}
 use Rattle.fleet_model.specs.Headline.{NoAllocationHasFewer, NoPriceIsHigher}
 use Rattle.fleet_model.specs.Aims.{Value, aim, IsHeldAllocation, cost_beyond}
 use Rattle.fleet_model.specs.Bounds.{NoneHasLess, NoPriceShowsMore, HasNoMore}
@@ -70,7 +70,7 @@ pub record IsTruePlanReport (c : CaseRows) (budget : ℕ) (stocks : List ℕ) (r
   -- no allocation within the budget has fewer backorders than the bound or than the printed bound
   pub fewer : NoAllocationHasFewer c budget report.bound
   pub printed : (n : ℕ) → 1024 ≤ n → (s : List ℕ) → IsAllocation c s → cost c s ≤ budget
-      → text_value 6 (millionths_down 48 report.bound) ≤ℚ total c s n
+      → text_value 6 (millionths_down 48 report.bound) ≤ℚ case_total c s n
   -- no price has a bound higher by more than the rounding
   pub no_price : NoPriceIsHigher c budget (report.bound + report.rounding)
   -- and the bound plus the gap is the total's upper end

@@ -3,6 +3,7 @@
 ghost use Rattle.std.specs.Prelude.{◌≡◌, ◌+◌, ◌-◌, ◌*◌, ◌/◌, ◌^◌, ◌<◌, ◌≤◌, length, map, option_map, slice_index, IfOk};
 ghost use Rattle.spares_input.specs.Money.{most_budget};
 ghost use Rattle.hull.specs.Curves.{lagrangian, InRange};
+ghost use Rattle.hull.specs.Limits.{end_limit, most_floor, most_curves};
 ghost use Rattle.price_bounds.specs.Sums.{total, cost_of, hi_of, lo_of, width_of};
 ghost use Rattle.step_walk.specs.Prefix.{vertex_at, picked, AreVertices};
 ghost use Rattle.case_plan.specs.Parts.{slack, IsPlace, IsSmallPrice};
@@ -32,7 +33,7 @@ fn lagrangian_of(point: &Point, price: Price) -> u128
     requires price { IsSmallPrice price }
     requires range { InRange point.now }
     ensures is { result ≡ lagrangian price.p price.q point.now }
-    ensures small { result < 2 ^ 115 }
+    ensures small { result < most_floor }
 {
     u128::from(price.q) * point.lo + price.p * u128::from(point.cost)
 }
@@ -54,7 +55,7 @@ pub(crate) fn pick_of<'a>(curves: &'a [Curve], picks: &[u32], f: usize) -> &'a P
 /// The sums over the picks of a hull choice, at its price.
 fn hull_totals(curves: &[Curve], picks: &[u32], price: Price) -> HullTotals
     requires vertices { AreVertices curves.now picks.now }
-    requires few { length curves.now ≤ 2000 }
+    requires few { length curves.now ≤ most_curves }
     requires price { IsSmallPrice price }
     ensures lagrangian { result.lagrangian ≡ total (lagrangian price.p price.q) (picked curves.now picks.now) }
     ensures width { result.width ≡ width_of (picked curves.now picks.now) }
@@ -73,7 +74,7 @@ fn hull_totals(curves: &[Curve], picks: &[u32], price: Price) -> HullTotals
 /// The sums over the picks of a filled choice.
 pub(crate) fn totals_of(curves: &[Curve], picks: &[u32]) -> Totals
     requires vertices { AreVertices curves.now picks.now }
-    requires few { length curves.now ≤ 2000 }
+    requires few { length curves.now ≤ most_curves }
     ensures cost { result.cost ≡ cost_of (picked curves.now picks.now) }
     ensures lo { result.lo ≡ lo_of (picked curves.now picks.now) }
     ensures hi { result.hi ≡ hi_of (picked curves.now picks.now) }
@@ -115,7 +116,7 @@ pub(crate) fn floors_at(
 fn slack_of(curves: &[Curve], critical: Option<Critical>) -> u128
     requires { IsPlace curves.now critical }
     ensures slack { result ≡ slack curves.now critical }
-    ensures small { result < 2 ^ 74 }
+    ensures small { result < end_limit }
 {
     let Some(step) = critical else {
         return 0;
@@ -158,7 +159,7 @@ pub(crate) fn hull_numbers(
     budget: u64,
 ) -> HullNumbers
     requires vertices { AreVertices curves.now picks.now }
-    requires few { length curves.now ≤ 2000 }
+    requires few { length curves.now ≤ most_curves }
     requires price { IsSmallPrice price }
     requires critical { IsPlace curves.now critical }
     requires budget { budget ≤ most_budget }

@@ -33,17 +33,8 @@ fn line_at(case: &Case, place: u32) -> PartId
     requires { place < length (line_units case.now) }
     ensures { result.0 ≡ get_or (line_units case.now) place 0 }
 {
-    let mut before = 0;
-    for p in 0..case.part_count() {
-        let part = PartId(p);
-        if case.is_line(part) {
-            if before == place {
-                return part;
-            }
-            before += 1;
-        }
-    }
-    PartId(0)
+    let lines = case.line_units();
+    lines[place as usize]
 }
 
 /// The report line of the critical step's family, if there is one.

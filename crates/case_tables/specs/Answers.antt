@@ -8,12 +8,12 @@ use Rattle.answers.specs.declared.stop.Stop.TheVariants as stop
 use Rattle.refusals.specs.declared.failure.Failure.{Failure}
 use Rattle.refusals.specs.declared.refusal.Refusal.TheVariants as refusal
 use Rattle.refusals.specs.Causes.{failure_of}
-use Rattle.case_tables.specs.declared.Accepted.{Accepted}
+use Rattle.case_tables.specs.declared.AcceptedCase.{AcceptedCase}
 use Rattle.case_tables.specs.declared.Stocked.{Stocked}
 use Rattle.case_tables.specs.Tables.{StockedCase}
 
 -- a case with rates, by its definition
-abbrev pub Tells : Result CaseRows Failure → Result Accepted (Stop Failure) → Type 0
+abbrev pub Tells : Result CaseRows Failure → Result AcceptedCase (Stop Failure) → Type 0
 Tells given (Ok accepted) = given ≡ Ok accepted.case
 Tells given (Err stop.NoMemory) = ⊤
 Tells given (Err (stop.Fault failure)) = given ≡ Err failure

@@ -5,7 +5,7 @@
 ghost use Rattle.std.specs.Prelude.{◌≡◌, ◌≤◌, All, IfOk, length};
 ghost use Rattle.demand_rates.specs.Rates.{AreRatesOf};
 ghost use Rattle.spares_input.specs.Cases.{IsRateOf};
-ghost use Rattle.spares_input.specs.Stocks.{IsFor, IsWithinLimits};
+ghost use Rattle.spares_input.specs.Stocks.{AreStocksOf};
 ghost use Rattle.answers.specs.Answers.{Gives};
 ghost use Rattle.csv_tables.specs.Rest.{table_limit};
 ghost use Rattle.csv_tables.specs.Tables.{rows_of};
@@ -111,8 +111,7 @@ pub fn case_of(
 fn stocks_in(alloc: Global, case: &Case, file: File, bytes: &[u8]) -> Result<Stocks, Stop<Failure>>
     requires { length bytes.now ≤ table_limit }
     ensures answer { Gives (stocks_of_table file case.now bytes.now) result }
-    ensures whole { IfOk result (IsFor case.now) }
-    ensures limits { IfOk result (IsWithinLimits case.now) }
+    ensures stocks { IfOk result (AreStocksOf case.now) }
 {
     let rows = match read_stocks(alloc, bytes, case.frame()) {
         Ok(rows) => rows,
@@ -148,7 +147,7 @@ fn rates_of(alloc: Global, case: &Case) -> Result<Rates, Stop<Failure>>
 
 /// A case with its rates, which are within the limits of the model.
 #[derive(Drop)]
-pub struct Accepted {
+pub struct AcceptedCase {
     pub case: Case,
     pub rates: Rates,
 }
@@ -163,7 +162,7 @@ pub fn accepted_of(
     sites: &[u8],
     parts: &[u8],
     rates: &[u8],
-) -> Result<Accepted, Stop<Failure>>
+) -> Result<AcceptedCase, Stop<Failure>>
     requires sites { length sites.now ≤ table_limit }
     requires parts { length parts.now ≤ table_limit }
     requires rates { length rates.now ≤ table_limit }
@@ -172,7 +171,7 @@ pub fn accepted_of(
 {
     let case = case_of(alloc, sites, parts, rates)?;
     let rates = rates_of(alloc, &case)?;
-    Ok(Accepted { case, rates })
+    Ok(AcceptedCase { case, rates })
 }
 
 /// A case with its rates, which are within the limits of the model, and stocks, which are within the case's limits.
@@ -201,8 +200,7 @@ pub fn stocked_of(
     requires stocks { length stocks.now ≤ table_limit }
     ensures answer { TellsStocked (stocked_of file sites.now parts.now rates.now stocks.now) result }
     ensures rates { IfOk result (λ given. AreRatesOf given.case given.rates) }
-    ensures whole { IfOk result (λ given. IsFor given.case given.stocks) }
-    ensures limits { IfOk result (λ given. IsWithinLimits given.case given.stocks) }
+    ensures stocks { IfOk result (λ given. AreStocksOf given.case given.stocks) }
 {
     let case = case_of(alloc, sites, parts, rates)?;
     let stocks = stocks_in(alloc, &case, file, stocks)?;

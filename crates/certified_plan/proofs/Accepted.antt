@@ -31,12 +31,12 @@ use Rattle.price_certificate.specs.declared.certificate.Certificate.{Certificate
 use Rattle.price_certificate.specs.declared.certificate.Node.{Node}
 use Rattle.price_certificate.specs.declared.certificate.Node.TheVariants as node
 use Rattle.price_certificate.specs.Covers as cover
-use Rattle.price_certificate.specs.Covers.{Tree, held_at, most_at, IsTrim, places_of, trimmed}
+use Rattle.price_certificate.specs.Covers.{Tree, corner_of_held, most_at, IsTrim, places_of, trimmed}
 use Rattle.check_answers.specs.declared.refusal.Reject.TheVariants as reject
 use Rattle.gap_rules.specs.Covers.{leaves}
 use Rattle.gap_rules.specs.Trees.{leaves_of}
-use Rattle.gap_rules.specs.Values.{value_of, cover_tables}
-use Rattle.gap_rules.specs.Refusals.{family_count, cover_of, family_leaves, gap_at, family_tables, work_of, over_limit, too_low, below_held, cost_above, leaf_value, low_at, reject_of}
+use Rattle.gap_rules.specs.Values.{value_of_leaf, cover_tables}
+use Rattle.gap_rules.specs.Refusals.{case_family_count, cover_of, family_leaves, gap_at, family_tables, check_work_of, over_limit, too_low, below_held, case_cost_above, leaf_value, low_reject_at, reject_of}
 use Rattle.gap_rules.proofs.Public.{added_is, none_broken, trees_are_read, else_none}
 use Rattle.price_certificate.specs.declared.certificate.Terms.{Terms}
 use Rattle.gap_rules.specs.Scores as scores
@@ -144,18 +144,18 @@ module _ (c : CaseRows) (held : StockList) (terms : Terms) (o : Outcome) (on : I
     trim : IsTrim p.numbers.price.p floor ps tree
     trim = trim_by (terms.format == 2) p.numbers.price.p floor ps (trims c l vector on.accepted.valid line (held_line c held l line on.is_held) p.numbers.price.p floor)
 
-    boxed : Boxed (length (places c l)) (held_at ps) (most_at ps) (box_from c l held.list)
+    boxed : Boxed (length (places c l)) (corner_of_held ps) (most_at ps) (box_from c l held.list)
     boxed = record { low_is = held_lists c l vector wide; high_is = most_lists c l vector; order = held_line c held l line on.is_held }
 
-    lawful : cover.IsLawful (length (places c l)) tree (held_at ps) (most_at ps)
-    lawful = subst (λ n. cover.IsLawful n tree (held_at ps) (most_at ps)) (count_is c l vector) trim.lawful
+    lawful : cover.IsLawful (length (places c l)) tree (corner_of_held ps) (most_at ps)
+    lawful = subst (λ n. cover.IsLawful n tree (corner_of_held ps) (most_at ps)) (count_is c l vector) trim.lawful
 
     cover_some : cover_of cert held f ≡ Some (leaves_of tree (box_from c l held.list))
     unfolding cover_of
     cover_some =
         ap (λ z. leaves z (box_from c l held.list ∷ []))
         (nodes_by (terms.format == 2) (covers_of c held.list p.numbers.price.p p.floors) f p.numbers.price.p floor ps (cover_is c held.list p.numbers.price.p p.floors f b))
-        ∙ trees_are_read tree (box_from c l held.list) (lawful_box (length (places c l)) tree (held_at ps) (most_at ps) (box_from c l held.list) boxed lawful)
+        ∙ trees_are_read tree (box_from c l held.list) (lawful_box (length (places c l)) tree (corner_of_held ps) (most_at ps) (box_from c l held.list) boxed lawful)
 
     leaves_are : family_leaves cert held f ≡ leaves_of tree (box_from c l held.list)
     leaves_are = ap (λ z. unwrap_or z []) cover_some
@@ -165,16 +165,16 @@ module _ (c : CaseRows) (held : StockList) (terms : Terms) (o : Outcome) (on : I
 
     few_tables : family_tables cert held f ≤ tables_between c (get_or (line_units c) f 0) (vector_of c (get_or (line_units c) f 0) held.list) (limits c (get_or (line_units c) f 0))
     few_tables = subst (λ z. cover_tables c l z ≤ tables_between c l vector (limits c l)) (sym leaves_are)
-        (tables_most c l (length (places c l)) tree (held_at ps) (most_at ps) (box_from c l held.list) (whole_by (terms.format == 2) p.numbers.price.p floor ps) boxed lawful)
+        (tables_most c l (length (places c l)) tree (corner_of_held ps) (most_at ps) (box_from c l held.list) (whole_by (terms.format == 2) p.numbers.price.p floor ps) boxed lawful)
 
     own_floor : (w : Point) → Among w (points_within c l score vector vector (limits c l)) → floor ≤ lagrangian p.numbers.price.p p.numbers.price.q w
     own_floor w m = floor_at p.numbers.price (family_points score c held.list) (line_units c) p.floors f w true_plan.certificate.floors_are b m
 
-    leaves_high : (x : Leaf) → Among x (leaves_of tree (box_from c l held.list)) → floor ≤ value_of c l score p.numbers.price x
-    leaves_high = leaf_floor score c l p.numbers.price floor vector wide own_floor (most_lists c l vector) tree (held_at ps) (most_at ps) (box_from c l held.list) boxed refl lawful trim.cost trim.whole
+    leaves_high : (x : Leaf) → Among x (leaves_of tree (box_from c l held.list)) → floor ≤ value_of_leaf c l score p.numbers.price x
+    leaves_high = leaf_floor score c l p.numbers.price floor vector wide own_floor (most_lists c l vector) tree (corner_of_held ps) (most_at ps) (box_from c l held.list) boxed refl lawful trim.cost trim.whole
 
-    no_low : low_at score cert held f ≡ None
-    unfolding low_at
+    no_low : low_reject_at score cert held f ≡ None
+    unfolding low_reject_at
     no_low = ap (λ z. option_map (λ low. too_low terms.format f low.0 floor low.1) z) (none_low (leaf_value score cert f) floor (family_leaves cert held f) (λ x m. leaves_high x (subst (λ z. Among x z) leaves_are m)))
 
   -- ---- work
@@ -182,7 +182,7 @@ module _ (c : CaseRows) (held : StockList) (terms : Terms) (o : Outcome) (on : I
   from_zero : (k : ℕ) → k ≡ 0 + k
   from_zero k = omega arith
 
-  work_few : tables_from c held.list ≤ most_tables → work_of cert held ≤ 1000000
+  work_few : tables_from c held.list ≤ most_tables → check_work_of cert held ≤ 1000000
   work_few few =
       let s = sum_most (family_tables cert held) (λ l. tables_between c l (vector_of c l held.list) (limits c l)) (line_units c) 0
       (λ k b. subst (λ j. family_tables cert held j ≤ tables_between c (get_or (line_units c) k 0) (vector_of c (get_or (line_units c) k 0) held.list) (limits c (get_or (line_units c) k 0))) (from_zero k) (few_tables k b)) in
@@ -220,7 +220,7 @@ module _ (c : CaseRows) (held : StockList) (terms : Terms) (o : Outcome) (on : I
   all_kept : first (below_held c held (stock_list c p.stocks)) (pair_count (frame_rows c)) ≡ None
   all_kept = no_first _ (pair_count (frame_rows c)) (λ i b. kept i b)
 
-  cost_fits : cost_above c held (stock_list c p.stocks) ≤ terms.budget
+  cost_fits : case_cost_above c held (stock_list c p.stocks) ≤ terms.budget
   cost_fits =
       let e = added_is c held (stock_list c p.stocks) on.accepted.valid on.is_held.is_for (record { sites = refl; pairs = on.is_plan.count }) all_kept in
       let f = families_beyond c held.list p.stocks on.accepted.valid in
@@ -234,12 +234,12 @@ module _ (c : CaseRows) (held : StockList) (terms : Terms) (o : Outcome) (on : I
       subst (λ (z : Outcome). reject_of (ends_of terms.objective) (certificate_of c held terms z) held ≡ None) (sym on.is) (
       none_broken score cert held (record {
         rates = ap (option_map reject.Rate) on.accepted.no_fault;
-        gaps = no_first (gap_at cert held) (family_count c) (λ f b. no_gap f b);
+        gaps = no_first (gap_at cert held) (case_family_count c) (λ f b. no_gap f b);
         work = work_few few;
         limited = no_first (over_limit c (stock_list c p.stocks)) (pair_count (frame_rows c)) (λ i b. limited i b);
         kept = all_kept;
         cost = cost_fits;
-        floors = no_first (low_at score cert held) (family_count c) (λ f b. no_low f b);
+        floors = no_first (low_reject_at score cert held) (case_family_count c) (λ f b. no_low f b);
         upper = let u = on.is_plan.plan.upper in omega (arith, u);
         bound = let u = on.is_plan.plan.bound in omega (arith, u);
       }))

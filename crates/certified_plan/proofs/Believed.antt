@@ -17,15 +17,15 @@ use Rattle.price_certificate.specs.declared.certificate.Certificate.{Certificate
 use Rattle.price_certificate.specs.Certificates.{IsWellFormed}
 use Rattle.gap_rules.specs.Refusals.{reject_of}
 use Rattle.gap_rules.proofs.Public.{accepted_are_acceptable, breaks_none, map_none}
-use Rattle.certified_plan.specs.Accepted.{claims_of}
+use Rattle.certified_plan.specs.Accepted.{case_claims_of}
 
 -- what a certificate claims is true of its case, where it breaks no rule and its score encloses the value
 pub accepted_true : (ends : ScoreEnds) (value : Value) (cert : Certificate) (held : StockList) → EnclosesValue ends value → IsWellFormed cert → IsFor cert.case held
-    → reject_of ends cert held ≡ None → AreTrueClaims value cert.case held.list cert.budget (claims_of cert)
+    → reject_of ends cert held ≡ None → AreTrueClaims value cert.case held.list cert.budget (case_claims_of cert)
 accepted_true ends value cert held encloses formed is_for none =
     let accepted : IsAcceptedCase cert.case = record { valid = formed.case; no_fault = map_none _ _ (breaks_none ends cert held none).rates } in
-    claims_true ends value cert.case held.list accepted encloses cert.budget (claims_of cert)
-    (from_points ends cert.case held.list cert.budget (claims_of cert) formed.case formed.stocks.pairs (accepted_are_acceptable ends cert held formed.case formed is_for none))
+    claims_true ends value cert.case held.list accepted encloses cert.budget (case_claims_of cert)
+    (from_points ends cert.case held.list cert.budget (case_claims_of cert) formed.case formed.stocks.pairs (accepted_are_acceptable ends cert held formed.case formed is_for none))
 
 -- ---- nothing held
 
@@ -45,12 +45,12 @@ cost_same c s =
     (λ p. sum_each _ _ (all_sites c) (λ k. pay_same (stock c s p k) (stock c (nothing_held c).list p k) (part_at c.parts p).cost (nothing_held_at c p k)))
 
 -- an accepted certificate of weighted backorders, nothing held, is true in the model's plain words
-pub plain_true : (cert : Certificate) → IsWellFormed cert → reject_of plain_ends cert (nothing_held cert.case) ≡ None → ArePlainClaims cert.case cert.budget (claims_of cert)
+pub plain_true : (cert : Certificate) → IsWellFormed cert → reject_of plain_ends cert (nothing_held cert.case) ≡ None → ArePlainClaims cert.case cert.budget (case_claims_of cert)
 plain_true cert formed none =
     plain_of (accepted_true plain_ends weighted_backorders cert (nothing_held cert.case) plain_encloses formed
     (record { sites = refl; pairs = length-replicate {A = ℕ} (pair_count (frame_rows cert.case)) 0 }) none)
   where
-    plain_of : AreTrueClaims weighted_backorders cert.case (nothing_held cert.case).list cert.budget (claims_of cert) → ArePlainClaims cert.case cert.budget (claims_of cert)
+    plain_of : AreTrueClaims weighted_backorders cert.case (nothing_held cert.case).list cert.budget (case_claims_of cert) → ArePlainClaims cert.case cert.budget (case_claims_of cert)
     plain_of k =
         let c = cert.case in
         record {

@@ -8,7 +8,7 @@ use Rattle.price_certificate.specs.Covers.{Tree, Corner, put}
 use Rattle.price_certificate.proofs.Public.{put_here, put_there}
 use Rattle.gap_rules.specs.Boxes.{AtMost}
 use Rattle.gap_rules.specs.Covers.{fewer, as_many, has_parts}
-use Rattle.gap_rules.specs.Trees.{IsLawful}
+use Rattle.gap_rules.specs.Trees.{HasBothParts}
 use Rattle.gap_rules.proofs.Public.{at_most_set_high, at_most_set_low}
 
 -- the list has what the corner has at the first n places, and no more
@@ -73,8 +73,8 @@ pub cut_of : (n : ℕ) (low high : Corner) (at from : ℕ) → (at < n) × ((low
 cut_of n low high at from h = record { there = h.0; more = h.1.0; most = h.1.1 }
 
 -- a tree that is lawful for the corners is lawful for the box
-pub lawful_box : (n : ℕ) (tree : Tree) (low high : Corner) (box : Bounds) → Boxed n low high box → cover.IsLawful n tree low high → IsLawful tree box
-unfolding IsLawful
+pub lawful_box : (n : ℕ) (tree : Tree) (low high : Corner) (box : Bounds) → Boxed n low high box → cover.IsLawful n tree low high → HasBothParts tree box
+unfolding HasBothParts
 lawful_box n cover.Whole low high box b h = tt
 lawful_box n cover.Cost low high box b h = tt
 lawful_box n (cover.Cut at from one other) low high box b h =

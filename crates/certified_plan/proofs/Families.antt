@@ -14,7 +14,7 @@ use Rattle.family_points.specs.Vectors.{Pair, places, limits}
 use Rattle.family_points.specs.Points.{cost_above, added_cost}
 use Rattle.fleet_plan.proofs.Public.{length_places}
 use Rattle.price_certificate.specs.declared.place.Place.{Place}
-use Rattle.price_certificate.specs.Covers.{Corner, no_place, held_at, most_at, IsPlace, IsHeld, added_from, added, place_at, place_count, places_of}
+use Rattle.price_certificate.specs.Covers.{Corner, no_place, corner_of_held, most_at, IsPlace, AreWithinMost, added_from, added, place_at, place_count, places_of}
 use Rattle.price_certificate.proofs.Public.{are_places}
 use Rattle.gap_rules.specs.Boxes.{AtMost}
 use Rattle.gap_rules.proofs.Public.{at_most_at}
@@ -67,7 +67,7 @@ module _ (c : CaseRows) (l : ℕ) where
         get_or-map-range_with_len (place_at c l held) 0 (place_count c l) j j no_place within (omega arith)
 
     -- what is held at each place of a family is the number listed for it
-    pub held_is : (j : ℕ) → j < length (places c l) → held_at (places_of c l held) j ≡ get_or held j 0
+    pub held_is : (j : ℕ) → j < length (places c l) → corner_of_held (places_of c l held) j ≡ get_or held j 0
     held_is j h = ap (λ (x : Place). x.held) (place_in j h)
 
     pub cost_is : (j : ℕ) → j < length (places c l) → (get_or (places_of c l held) j no_place).cost ≡ (part_at c.parts (get_or (places c l) j nowhere).part).cost
@@ -85,7 +85,7 @@ module _ (c : CaseRows) (l : ℕ) where
         length-map (range_with_len 0 (place_count c l)) (place_at c l held) ∙ length-range_with_len 0 (place_count c l) ∙ sym (length_places c l)
 
     -- what is held, and the limits, as corners of the family's box
-    pub held_lists : length held ≡ length (places c l) → Lists (length (places c l)) (held_at (places_of c l held)) held
+    pub held_lists : length held ≡ length (places c l) → Lists (length (places c l)) (corner_of_held (places_of c l held)) held
     held_lists e = record { long = e; same = held_is }
 
     -- the limits list the most of each place of a family
@@ -93,7 +93,7 @@ module _ (c : CaseRows) (l : ℕ) where
     most_lists = record { long = length-map (places c l) (λ (x : Pair). limit_at c.parts x.part x.site); same = most_is }
 
     -- what is held within a family's limits is within the most of each place
-    pub within_most : AtMost held (limits c l) → IsHeld c l held
+    pub within_most : AtMost held (limits c l) → AreWithinMost c l held
     within_most within m b =
         let h : m < length (places c l) = (let e = length_places c l in omega (arith, b, e)) in
         let p = ap (λ (x : Place). x.most) (place_in m h) in
@@ -111,7 +111,7 @@ module _ (c : CaseRows) (l : ℕ) where
 record ArePlaces (c : CaseRows) (ps : List Place) (xs : List Pair) (held : List ℕ) : Type 0 where
   count : length ps ≡ length xs
   held_count : length held ≡ length xs
-  held_same : (j : ℕ) → j < length xs → held_at ps j ≡ get_or held j 0
+  held_same : (j : ℕ) → j < length xs → corner_of_held ps j ≡ get_or held j 0
   cost_same : (j : ℕ) → j < length xs → (get_or ps j no_place).cost ≡ (part_at c.parts (get_or xs j nowhere).part).cost
 
 rest_places : (c : CaseRows) (p : Place) (ps : List Place) (x : Pair) (xs : List Pair) (h : ℕ) (held : List ℕ) → ArePlaces c (p ∷ ps) (x ∷ xs) (h ∷ held) → ArePlaces c ps xs held

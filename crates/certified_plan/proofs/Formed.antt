@@ -4,7 +4,7 @@ use Rattle.std.proofs.lemmas.List.{get_or_past}
 use Rattle.std.proofs.lemmas.List.Elements.{All-from_recursion, All-from_get_or}
 use Rattle.std.proofs.lemmas.List.FromFn.{get_or-map-range_with_len, length-map-range_with_len}
 use Rattle.std.proofs.lemmas.Bool.{cases_lt}
-use Rattle.spares_input.specs.Stocks.{StockList, limit_at}
+use Rattle.spares_input.specs.Stocks.{AreStocksOf, StockList, limit_at}
 use Rattle.spares_input.specs.Cases.{CaseRows, IsCase}
 use Rattle.fleet_model.specs.Rows.{line_units}
 use Rattle.fleet_model.proofs.Public.{limit_most}
@@ -18,7 +18,7 @@ use Rattle.case_plan.proofs.Public.{plan_fits}
 use Rattle.price_certificate.specs.declared.place.Place.{Place}
 use Rattle.price_certificate.specs.declared.certificate.Certificate.{Certificate}
 use Rattle.price_certificate.specs.declared.certificate.Node.{Node}
-use Rattle.price_certificate.specs.Covers.{no_place, held_at, most_at, IsTrim, places_of, nodes_of, trimmed}
+use Rattle.price_certificate.specs.Covers.{no_place, corner_of_held, most_at, IsTrim, places_of, nodes_of, trimmed}
 use Rattle.price_certificate.specs.Certificates.{IsNode, IsCover, IsSecond, IsWellFormed}
 use Rattle.price_certificate.proofs.Public.{trim_is}
 use Rattle.gap_rules.specs.Boxes.{AtMost}
@@ -28,7 +28,7 @@ use Rattle.hull.proofs.Public.{among_at}
 use Rattle.price_certificate.specs.declared.certificate.Terms.{Terms}
 use Rattle.gap_rules.specs.Scores.{ends_of, value_of}
 use Rattle.certified_plan.specs.Certificates.{cover_at, covers_of, certificate_of}
-use Rattle.certified_plan.specs.Inputs.{IsHeld, IsPlanOn}
+use Rattle.certified_plan.specs.Inputs.{IsPlanOn}
 use Rattle.certified_plan.proofs.Scores.{scores_enclose, scores_leave_room}
 use Rattle.certified_plan.proofs.Families.{count_is, most_is, valid_places}
 use Rattle.certified_plan.proofs.Trees.{some_nodes, few_nodes, lawful_nodes}
@@ -69,7 +69,7 @@ module _ (c : CaseRows) (l : ℕ) (held : List ℕ) (valid : IsCase c) (line : I
       some = some_nodes (trimmed p floor (places_of c l held));
       few = (let f = few_nodes p floor (places_of c l held) in let m = few_of in omega (arith, f, m));
       nodes = All-from_recursion IsNode (nodes_of (trimmed p floor (places_of c l held)))
-          (lawful_nodes (length (places_of c l held)) (trimmed p floor (places_of c l held)) (held_at (places_of c l held)) (most_at (places_of c l held)) few_of places_small trims.lawful);
+          (lawful_nodes (length (places_of c l held)) (trimmed p floor (places_of c l held)) (corner_of_held (places_of c l held)) (most_at (places_of c l held)) few_of places_small trims.lawful);
     }
 
 -- ---- the line units, by their numbers
@@ -79,8 +79,8 @@ pub line_is : (c : CaseRows) (f : ℕ) → IsCase c → f < length (line_units c
 line_is c f valid h = lines_are c valid (get_or (line_units c) f 0) (among_at (line_units c) f 0 h)
 
 -- what is held is within the limits of each family
-pub held_line : (c : CaseRows) (held : StockList) (l : ℕ) → IsLine c l → IsHeld c held → AtMost (vector_of c l held.list) (limits c l)
-held_line c held l line h = held_limited c l held line.is_part h.is_for h.limits
+pub held_line : (c : CaseRows) (held : StockList) (l : ℕ) → IsLine c l → AreStocksOf c held → AtMost (vector_of c l held.list) (limits c l)
+held_line c held l line h = held_limited c l held line.is_part h
 
 -- the cover at place f is that of family f at its floor
 pub cover_is : (c : CaseRows) (held : List ℕ) (p : ℕ) (floors : List ℕ) (f : ℕ) → f < length (line_units c) → get_or (covers_of c held p floors) f [] ≡ cover_at c held p floors f
@@ -90,7 +90,7 @@ cover_is c held p floors f h = get_or-map-range_with_len (cover_at c held p floo
 pub covers_count : (c : CaseRows) (held : List ℕ) (p : ℕ) (floors : List ℕ) → length (covers_of c held p floors) ≡ length (line_units c)
 covers_count c held p floors = length-map-range_with_len (cover_at c held p floors) 0 (length (line_units c))
 
-covers_all : (c : CaseRows) (held : StockList) (p : ℕ) (floors : List ℕ) → IsCase c → IsHeld c held → All IsCover (covers_of c held.list p floors)
+covers_all : (c : CaseRows) (held : StockList) (p : ℕ) (floors : List ℕ) → IsCase c → AreStocksOf c held → All IsCover (covers_of c held.list p floors)
 covers_all c held p floors valid h = All-from_get_or IsCover (covers_of c held.list p floors) [] (λ f b.
     let k : f < length (line_units c) = (let n = covers_count c held.list p floors in omega (arith, n, b)) in
     let line = line_is c f valid k in

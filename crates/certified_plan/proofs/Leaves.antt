@@ -13,12 +13,12 @@ use Rattle.family_points.specs.Points.{ScoreEnds, added_cost, point_at_vector, p
 use Rattle.family_points.specs.Counts.{tables_between}
 use Rattle.price_certificate.specs.declared.place.Place.{Place}
 use Rattle.price_certificate.specs.Covers as cover
-use Rattle.price_certificate.specs.Covers.{Tree, Corner, put, held_at, most_at, added, places_of, AllCostLeaves, AllWholeLeaves}
+use Rattle.price_certificate.specs.Covers.{Tree, Corner, put, corner_of_held, most_at, added, places_of, AllCostLeaves, AllWholeLeaves}
 use Rattle.gap_rules.specs.Boxes.{AtMost}
 use Rattle.gap_rules.specs.Covers.{box_of, fewer, as_many}
 use Rattle.gap_rules.specs.Trees.{leaves_of}
 use Rattle.family_points.specs.Least.{least}
-use Rattle.gap_rules.specs.Values.{least_within, value_of, leaf_tables, cover_tables}
+use Rattle.gap_rules.specs.Values.{least_within, value_of_leaf, leaf_tables, cover_tables}
 use Rattle.gap_rules.specs.Refusals.{low_leaf}
 use Rattle.gap_rules.proofs.Public.{at_most_self, at_most_chain, at_most_unset_high, IsBetween, among_vectors, between}
 use Rattle.certified_plan.proofs.Corners.{Lists, Boxed, cut_of, fewer_boxed, as_many_boxed, below_high}
@@ -92,24 +92,24 @@ module _ (score : ScoreEnds) (c : CaseRows) (l : ℕ) (price : Price) (floor : �
       among_map (point_at_vector c l score held) (vectors held (limits c l)) r.from (among_vectors held (limits c l) r.from from (at_most_chain r.from box.high (limits c l) b.high most)) in
       subst (λ z. floor ≤ lagrangian price.p price.q z) (sym (r.is ∙ ap (λ z. point_at_vector c l score z r.from) h)) (floor_is (point_at_vector c l score held r.from) own))
 
-  held_corner : Lists n (held_at ps) held
+  held_corner : Lists n (corner_of_held ps) held
   held_corner = record { long = wide; same = held_is c l held }
 
   -- each leaf shows no less than the floor
   pub leaf_floor : (most : Lists (length (places c l)) (most_at (places_of c l held)) (limits c l)) (tree : Tree) (low high : Corner) (box : Bounds) → Boxed (length (places c l)) low high box → box.held ≡ held
       → cover.IsLawful (length (places c l)) tree low high
       → AllCostLeaves (λ low high. floor ≤ price.p * added (places_of c l held) low) tree low high
-      → AllWholeLeaves (λ low high. (i : ℕ) → (low i ≡ held_at (places_of c l held) i) × (high i ≤ most_at (places_of c l held) i)) tree low high
-      → (x : Leaf) → Among x (leaves_of tree box) → floor ≤ value_of c l score price x
-  unfolding leaves_of value_of
+      → AllWholeLeaves (λ low high. (i : ℕ) → (low i ≡ corner_of_held (places_of c l held) i) × (high i ≤ most_at (places_of c l held) i)) tree low high
+      → (x : Leaf) → Among x (leaves_of tree box) → floor ≤ value_of_leaf c l score price x
+  unfolding leaves_of value_of_leaf
   leaf_floor most cover.Whole low high box b h lawful pays part x (inl e) =
-      subst (λ z. floor ≤ value_of c l score price z) (sym e)
+      subst (λ z. floor ≤ value_of_leaf c l score price z) (sym e)
       (whole_floor box h
-      (list_same n (held_at ps) box.low held (record { long = b.low_is.long; same = λ i k. sym (part i).0 ∙ b.low_is.same i k }) held_corner)
+      (list_same n (corner_of_held ps) box.low held (record { long = b.low_is.long; same = λ i k. sym (part i).0 ∙ b.low_is.same i k }) held_corner)
       b.order (list_most n high (most_at ps) box.high (limits c l) b.high_is most (λ i k. (part i).1)))
   leaf_floor most cover.Whole low high box b h lawful pays part x (inr m) = absurd m
   leaf_floor most cover.Cost low high box b h lawful pays part x (inl e) =
-      subst (λ z. floor ≤ value_of c l score price z) (sym e)
+      subst (λ z. floor ≤ value_of_leaf c l score price z) (sym e)
       (subst (λ z. floor ≤ price.p * added_cost c l z box.low) (sym h)
       (subst (λ z. floor ≤ price.p * z) (added_is c l held box.low low wide b.low_is) pays))
   leaf_floor most cover.Cost low high box b h lawful pays part x (inr m) = absurd m

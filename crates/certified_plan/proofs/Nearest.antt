@@ -16,16 +16,16 @@ use Rattle.certified_plan.proofs.Scores.{scores_enclose}
 
 module _ (c : CaseRows) (held : StockList) (terms : Terms) where
   -- the claims of an accepted certificate are acceptable for the case
-  acceptable : IsFor c held → (cert : Certificate) → IsAcceptedFor c held terms cert → AreAcceptable (ends_of terms.objective) c held.list terms.budget (bounds.claims_of cert)
+  acceptable : IsFor c held → (cert : Certificate) → IsAcceptedFor c held terms cert → AreAcceptable (ends_of terms.objective) c held.list terms.budget (bounds.case_claims_of cert)
   acceptable is_for cert h =
-      let own : AreAcceptable (ends_of terms.objective) cert.case held.list cert.budget (bounds.claims_of cert) =
-      from_points (ends_of terms.objective) cert.case held.list cert.budget (bounds.claims_of cert) h.formed.case h.formed.stocks.pairs
+      let own : AreAcceptable (ends_of terms.objective) cert.case held.list cert.budget (bounds.case_claims_of cert) =
+      from_points (ends_of terms.objective) cert.case held.list cert.budget (bounds.case_claims_of cert) h.formed.case h.formed.stocks.pairs
       (accepted_are_acceptable (ends_of terms.objective) cert held h.formed.case h.formed (subst (λ (d : CaseRows). IsFor d held) (sym h.case_is) is_for) h.breaks_none) in
-      subst (λ (d : CaseRows). AreAcceptable (ends_of terms.objective) d held.list terms.budget (bounds.claims_of cert)) h.case_is
-      (subst (λ (budget : ℕ). AreAcceptable (ends_of terms.objective) cert.case held.list budget (bounds.claims_of cert)) h.budget_is own)
+      subst (λ (d : CaseRows). AreAcceptable (ends_of terms.objective) d held.list terms.budget (bounds.case_claims_of cert)) h.case_is
+      (subst (λ (budget : ℕ). AreAcceptable (ends_of terms.objective) cert.case held.list budget (bounds.case_claims_of cert)) h.budget_is own)
 
   -- so their bound is at most the plan's bound plus its rounding
   pub nearest : (o : Outcome) → IsPlanOn c held terms o → NoCertificateShowsMore c held terms (o.report.bound + o.report.rounding)
   nearest o on cert h =
       let t = plan_true (ends_of terms.objective) (value_of terms.objective) c held.list on.accepted (scores_enclose terms.objective) terms.budget on.plan on.is_plan in
-      subst (λ (z : Outcome). cert.bound ≤ z.report.bound + z.report.rounding) (sym on.is) (t.no_claims (bounds.claims_of cert) (acceptable on.is_held.is_for cert h))
+      subst (λ (z : Outcome). cert.bound ≤ z.report.bound + z.report.rounding) (sym on.is) (t.no_claims (bounds.case_claims_of cert) (acceptable on.is_held.is_for cert h))

@@ -2,7 +2,7 @@
 use Rattle.std.proofs.Common.{◌≡◌, ◌==◌, ℕ, ◌+◌, ◌*◌, ◌<◌, ◌≤◌, Bool, true, false, cond, List, [], length, get_or, sym, subst, arith}
 use Rattle.std.specs.List.{AllByRecursion}
 use Rattle.std.proofs.lemmas.List.Elements.{recursion_from_All, All-from_get_or}
-use Rattle.spares_input.specs.Stocks.{StockList}
+use Rattle.spares_input.specs.Stocks.{AreStocksOf, StockList}
 use Rattle.spares_input.specs.Cases.{CaseRows, IsCase}
 use Rattle.fleet_model.specs.Rows.{line_units}
 use Rattle.fleet_model.proofs.Public.{allocation_reaches, stocks_allocation, few_lines}
@@ -18,13 +18,13 @@ use Rattle.held_certificate.specs.declared.held.HeldCertificate.{HeldCertificate
 use Rattle.held_certificate.specs.Held.{held_format, held_text}
 use Rattle.price_certificate.specs.declared.certificate.Terms.{Terms}
 use Rattle.certified_plan.specs.Certificates.{cover_at, covers_of, certificate_of}
-use Rattle.certified_plan.specs.Inputs.{IsHeld, IsPlanOn}
+use Rattle.certified_plan.specs.Inputs.{IsPlanOn}
 use Rattle.certified_plan.proofs.Formed.{few_of, is_cover, line_is, held_line, cover_is, covers_count, fits, made, made_formed}
 use Rattle.certified_plan.proofs.Sizes.{IsShort, HasFew, certificate_most, held_most}
 use Rattle.certified_plan.proofs.Trees.{few_nodes}
 use Rattle.certified_plan.proofs.Widths.{concat_most}
 
-short_at : (c : CaseRows) (held : StockList) (p : ℕ) (floors : List ℕ) (f : ℕ) → IsCase c → IsHeld c held → f < length (line_units c) → IsShort (cover_at c held.list p floors f)
+short_at : (c : CaseRows) (held : StockList) (p : ℕ) (floors : List ℕ) (f : ℕ) → IsCase c → AreStocksOf c held → f < length (line_units c) → IsShort (cover_at c held.list p floors f)
 short_at c held p floors f valid h b =
     let l = get_or (line_units c) f 0 in
     let line = line_is c f valid b in
@@ -37,7 +37,7 @@ short_at c held p floors f valid h b =
           (is_cover c l (vector_of c l held.list) valid line (held_line c held l line h) p (get_or floors f 0)).nodes;
     }
 
-all_short : (c : CaseRows) (held : StockList) (p : ℕ) (floors : List ℕ) → IsCase c → IsHeld c held → AllByRecursion IsShort (covers_of c held.list p floors)
+all_short : (c : CaseRows) (held : StockList) (p : ℕ) (floors : List ℕ) → IsCase c → AreStocksOf c held → AllByRecursion IsShort (covers_of c held.list p floors)
 all_short c held p floors valid h =
     recursion_from_All IsShort (covers_of c held.list p floors) (All-from_get_or IsShort (covers_of c held.list p floors) [] (λ f b.
     let k : f < length (line_units c) = (let n = covers_count c held.list p floors in omega (arith, n, b)) in

@@ -12,7 +12,7 @@ use Rattle.line_text.specs.Formats.{Token, one}
 use Rattle.line_text.specs.Files.{line}
 use Rattle.line_text.specs.Texts.{word, word_line, number_line, count_fields, count_line, counted, numbers_from}
 use Rattle.spares_input.specs.Names.{is_name, has_length, is_trimmed}
-use Rattle.spares_input.specs.Rows.{IsField, IsSiteRow, IsPartRow, IsRateRow, no_part, no_site}
+use Rattle.spares_input.specs.Rows.{IsNumberField, IsSiteRow, IsPartRow, IsRateRow, no_part, no_site}
 use Rattle.spares_input.specs.Frames.{part_at, site_at}
 use Rattle.spares_input.specs.Cases.{CaseRows, IsCase, IsRateOf, frame_rows, pair_count}
 use Rattle.spares_input.specs.declared.rows.SiteRow.{SiteRow}
@@ -42,7 +42,7 @@ name_most t h =
     let b = and_parts (has_length t) (is_trimmed t) a.0 in
     leb-true (length t) 24 (and_parts _ _ b.0).1
 
-field_most : (used : Bool) (least most n : ℕ) → IsField used least most n → n ≤ most
+field_most : (used : Bool) (least most n : ℕ) → IsNumberField used least most n → n ≤ most
 field_most true least most n h = (h.within refl).1
 field_most false least most n h = (let e = h.empty refl in omega (arith, e))
 

@@ -10,8 +10,8 @@ use Rattle.price_certificate.specs.Certificates.{IsWellFormed}
 use Rattle.gap_rules.specs.Refusals.{reject_of}
 
 -- the claims of a certificate
-abbrev pub claims_of : Certificate → CaseClaims
-claims_of cert = record {
+abbrev pub case_claims_of : Certificate → CaseClaims
+case_claims_of cert = record {
   stocks = cert.stocks.list;
   price = cert.price;
   floors = cert.floors;
@@ -24,10 +24,10 @@ abbrev pub AcceptedAreTrue : Type 0
 AcceptedAreTrue =
     (ends : ScoreEnds) (value : Value) (cert : Certificate) (held : StockList)
     → EnclosesValue ends value → IsWellFormed cert → IsFor cert.case held → reject_of ends cert held ≡ None
-    → AreTrueClaims value cert.case held.list cert.budget (claims_of cert)
+    → AreTrueClaims value cert.case held.list cert.budget (case_claims_of cert)
 
 -- for weighted backorders, if nothing is held
 abbrev pub PlainAcceptedAreTrue : Type 0
 PlainAcceptedAreTrue =
     (cert : Certificate) → IsWellFormed cert → reject_of plain_ends cert (nothing_held cert.case) ≡ None
-    → ArePlainClaims cert.case cert.budget (claims_of cert)
+    → ArePlainClaims cert.case cert.budget (case_claims_of cert)

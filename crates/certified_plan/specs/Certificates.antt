@@ -15,12 +15,12 @@ use Rattle.price_certificate.specs.declared.certificate.Terms.{Terms}
 
 -- the trimmed cover of the family of the line unit l at a price and a floor, over its vectors from the held stocks to
 -- the limits
-abbrev pub cover_of : CaseRows → List ℕ → ℕ → ℕ → ℕ → List Node
-cover_of c held p floor l = nodes_of (trimmed p floor (places_of c l (vector_of c l held)))
+abbrev pub trimmed_cover : CaseRows → List ℕ → ℕ → ℕ → ℕ → List Node
+trimmed_cover c held p floor l = nodes_of (trimmed p floor (places_of c l (vector_of c l held)))
 
 -- the cover of family f, at its floor
 abbrev pub cover_at : CaseRows → List ℕ → ℕ → List ℕ → ℕ → List Node
-cover_at c held p floors f = cover_of c held p (get_or floors f 0) (get_or (line_units c) f 0)
+cover_at c held p floors f = trimmed_cover c held p (get_or floors f 0) (get_or (line_units c) f 0)
 
 -- a cover for each line unit, in order
 abbrev pub covers_of : CaseRows → List ℕ → ℕ → List ℕ → List (List Node)

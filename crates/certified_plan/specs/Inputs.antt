@@ -3,7 +3,7 @@ use Rattle.std.specs.Prelude.{◌≡◌, ℕ, ◌≤◌, List}
 use Rattle.std.specs.Result.{IsOk}
 use Rattle.spares_input.specs.Cases.{CaseRows}
 use Rattle.spares_input.specs.Money.{most_budget}
-use Rattle.spares_input.specs.Stocks.{StockList, IsFor, IsWithinLimits}
+use Rattle.spares_input.specs.Stocks.{AreStocksOf, StockList}
 use Rattle.fleet_plan.specs.Plans.{CasePlan, IsCasePlan}
 use Rattle.fleet_plan.specs.Laws.{IsAcceptedCase}
 use Rattle.held_work.specs.Work.{held_work_of}
@@ -21,11 +21,6 @@ pub record AreTerms (terms : Terms) : Type 0 where
   pub most : terms.format ≤ 2
   pub first : terms.format ≡ 1 → terms.objective ≡ Backorders
 
--- a number for each pair of the case, at most its limit
-pub record IsHeld (c : CaseRows) (held : StockList) : Type 0 where
-  pub is_for : IsFor c held
-  pub limits : IsWithinLimits c held
-
 -- the work of the curves from the held stocks is within its limit
 abbrev pub IsWithinWork : CaseRows → List ℕ → Type 0
 IsWithinWork c held = IsOk (held_work_of c held)
@@ -35,7 +30,7 @@ IsWithinWork c held = IsOk (held_work_of c held)
 pub record IsPlanOn (c : CaseRows) (held : StockList) (terms : Terms) (outcome : Outcome) : Type 0 where
   pub accepted : IsAcceptedCase c
   pub are_terms : AreTerms terms
-  pub is_held : IsHeld c held
+  pub is_held : AreStocksOf c held
   pub plan : CasePlan
   pub is_plan : IsCasePlan (ends_of terms.objective) c held.list terms.budget plan
   pub request : Request

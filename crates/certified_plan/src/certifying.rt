@@ -1,15 +1,16 @@
 //! The certificate of a plan.
 
-ghost use Rattle.std.specs.Prelude.{◌≡◌, ◌+◌, ◌^◌, ◌<◌, ◌≤◌, IfOk, length, map};
+ghost use Rattle.std.specs.Prelude.{◌≡◌, ◌+◌, ◌<◌, ◌≤◌, IfOk, length, map};
+ghost use Rattle.spares_input.specs.Stocks.{AreStocksOf};
 ghost use Rattle.fleet_model.specs.Rows.{line_units};
 ghost use Rattle.family_items.specs.Inputs.{IsLine};
+ghost use Rattle.hull.specs.Limits.{most_price_units};
 ghost use Rattle.price_certificate.specs.Certificates.{IsWellFormed};
-ghost use Rattle.certified_plan.specs.Inputs.{IsHeld, IsPlanOn};
-ghost use Rattle.certified_plan.specs.Certificates.{certificate_of, cover_of, covers_in, covers_of};
+ghost use Rattle.certified_plan.specs.Inputs.{IsPlanOn};
+ghost use Rattle.certified_plan.specs.Certificates.{certificate_of, trimmed_cover, covers_in, covers_of};
 
 use answers::{List, NoMemory};
 use case_plan::Outcome;
-use family_items::line_units;
 use family_points::vector_of;
 use hull::Price;
 use plan_report::PlanReport;
@@ -33,10 +34,10 @@ fn cover_of(
     floor: u128,
     line: PartId,
 ) -> Result<List<Node>, NoMemory>
-    requires held { IsHeld case.now held.now }
-    requires price { price.p ≤ 2 ^ 74 }
+    requires held { AreStocksOf case.now held.now }
+    requires price { price.p ≤ most_price_units }
     requires line { IsLine case.now line.0 }
-    ensures { IfOk result (λ nodes. nodes ≡ cover_of case.now held.now.list price.p floor line.0) }
+    ensures { IfOk result (λ nodes. nodes ≡ trimmed_cover case.now held.now.list price.p floor line.0) }
 {
     case.invariant();
     let vector = vector_of(alloc, case, line, held)?;
@@ -53,8 +54,8 @@ fn covers_along(
     floors: &[u128],
     lines: &[PartId],
 ) -> Result<Vec<List<Node>>, NoMemory>
-    requires held { IsHeld case.now held.now }
-    requires price { price.p ≤ 2 ^ 74 }
+    requires held { AreStocksOf case.now held.now }
+    requires price { price.p ≤ most_price_units }
     requires floors { length floors.now ≡ length (line_units case.now) }
     requires lines { map (λ p. p.0) lines.now ≡ line_units case.now }
     ensures { IfOk result (λ covers. covers.items ≡ covers_of case.now held.now.list price.p floors.now) }
@@ -74,13 +75,12 @@ fn covers_of(
     price: Price,
     floors: &[u128],
 ) -> Result<Vec<List<Node>>, NoMemory>
-    requires held { IsHeld case.now held.now }
-    requires price { price.p ≤ 2 ^ 74 }
+    requires held { AreStocksOf case.now held.now }
+    requires price { price.p ≤ most_price_units }
     requires floors { length floors.now ≡ length (line_units case.now) }
     ensures { IfOk result (λ covers. covers.items ≡ covers_of case.now held.now.list price.p floors.now) }
 {
-    let lines = line_units(alloc, case)?;
-    covers_along(alloc, case, held, price, floors, lines.as_slice())
+    covers_along(alloc, case, held, price, floors, case.line_units())
 }
 
 /// The covers of a plan, which only format 2 has.

@@ -5,7 +5,7 @@ use Rattle.exact_ratio.specs.Decimal.{decimal_of}
 use Rattle.exact_ratio.specs.declared.decimal.Decimal.{Decimal}
 use Rattle.exact_ratio.specs.declared.decimal.NumberFault.{NumberFault}
 use Rattle.spares_input.specs.Names.{is_name}
-use Rattle.spares_input.specs.Rows.{IsField}
+use Rattle.spares_input.specs.Rows.{IsNumberField}
 use Rattle.csv_tables.specs.Fields.{has_none, name_in, number_in, used_in, within}
 use Rattle.csv_tables.specs.declared.fault.TableFault.{TableFault}
 use Rattle.csv_tables.specs.declared.fault.TableFault.TheVariants as fault
@@ -41,7 +41,7 @@ number_range row column places least most text n h =
     in_range row column least most (decimal_of text places) n (missed (has_none text) (within row column least most (decimal_of text places)) n (fault.FieldEmpty row column) h)
 
 -- a field that is used is within its range, and else it is 0
-pub used_field : (used : Bool) (row column places least most : ℕ) (text : List ℕ) (n : ℕ) → used_in used row column places least most text ≡ Ok n → IsField used least most n
+pub used_field : (used : Bool) (row column places least most : ℕ) (text : List ℕ) (n : ℕ) → used_in used row column places least most text ≡ Ok n → IsNumberField used least most n
 used_field true row column places least most text n h = record { within = λ _. number_range row column places least most text n h; empty = λ e. absurd (true≢false e) }
 used_field false row column places least most text n h = record {
   within = λ e. absurd (false≢true e);

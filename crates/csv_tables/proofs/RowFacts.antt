@@ -3,7 +3,7 @@ use Rattle.std.proofs.Common.{◌≡◌, ◌==◌, ℕ, ◌<◌, Bool, true, fal
 use Rattle.std.proofs.lemmas.Bool.{false≢true, true≢false}
 use Rattle.std.proofs.lemmas.Option.{none-some, same_Some}
 use Rattle.spares_input.specs.Names.{is_name}
-use Rattle.spares_input.specs.Rows.{is_line, IsField, IsSiteRow, IsPartRow}
+use Rattle.spares_input.specs.Rows.{is_line, IsNumberField, IsSiteRow, IsPartRow}
 use Rattle.spares_input.specs.Frames.{FrameRows, part_at, part_names, place_of, site_names}
 use Rattle.spares_input.specs.Cases.{IsRateOf}
 use Rattle.spares_input.specs.Stocks.{IsStockOf}
@@ -46,12 +46,12 @@ parent_named row text false parent h name e =
     let same : a.0 ≡ name = same_Some a.0 name (same_ok (Some a.0) parent a.2 ∙ e) in
     subst (λ t. is_name t ≡ true) same (named row 2 text a.0 a.1)
 
-default_weight : (line : Bool) (n : ℕ) → ◌≡◌ {A = Result ℕ TableFault} (Ok (if line then 1 else 0)) (Ok n) → IsField line 1 100 n
+default_weight : (line : Bool) (n : ℕ) → ◌≡◌ {A = Result ℕ TableFault} (Ok (if line then 1 else 0)) (Ok n) → IsNumberField line 1 100 n
 default_weight true n h = let e : 1 ≡ n = same_ok 1 n h in record { within = λ _. (omega (arith, e), omega (arith, e)); empty = λ k. absurd (true≢false k) }
 default_weight false n h = record { within = λ k. absurd (false≢true k); empty = λ _. sym (same_ok 0 n h) }
 
 weight_field : (line : Bool) (row : ℕ) (r : Record) (n : ℕ) (b : Bool)
-    → (if b then used_in line row 7 0 1 100 (field r 6) else Ok (if line then 1 else 0)) ≡ Ok n → IsField line 1 100 n
+    → (if b then used_in line row 7 0 1 100 (field r 6) else Ok (if line then 1 else 0)) ≡ Ok n → IsNumberField line 1 100 n
 weight_field line row r n true h = used_field line row 7 0 1 100 (field r 6) n h
 weight_field line row r n false h = default_weight line n h
 

@@ -1,6 +1,7 @@
 -- The rows of the table of parts.
 use Rattle.std.specs.Prelude.{ℕ, Bool, ◌==◌, List, [], ◌∷◌, length, Option, Some, None, is_none, Result, Ok, if◌then◌else◌, codes}
 use Rattle.spares_input.specs.declared.rows.PartRow.{PartRow}
+use Rattle.spares_input.specs.Limits.{most_parts}
 use Rattle.csv_tables.specs.Rest.{Record, all_records}
 use Rattle.answers.specs.Steps.{◌>>=◌}
 use Rattle.csv_tables.specs.Fields.{field, has_none, name_in, number_in, used_in}
@@ -44,4 +45,4 @@ parts_header =
 
 -- the rows of a table of parts, with or without weights, or its first fault
 abbrev pub parts_of : List ℕ → Result (List PartRow) TableFault
-parts_of bytes = table_of part_of 2000 6 parts_header (all_records bytes)
+parts_of bytes = table_of part_of most_parts 6 parts_header (all_records bytes)

@@ -3,6 +3,7 @@
 ghost use Rattle.std.specs.Prelude.{◌≡◌, ◌≤◌, IfOk, All, length, map};
 ghost use Rattle.csv.specs.Records.{fields_of};
 ghost use Rattle.answers.specs.Answers.{Gives};
+ghost use Rattle.spares_input.specs.Limits.{most_parts};
 ghost use Rattle.spares_input.specs.Rows.{IsPartRow};
 ghost use Rattle.csv_tables.specs.Rest.{table_limit};
 ghost use Rattle.csv_tables.specs.Tables.{rows_of};
@@ -21,7 +22,7 @@ use std::alloc::Global;
 pub fn read_parts(alloc: Global, bytes: &[u8]) -> Result<Vec<PartRow>, Stop<TableFault>>
     requires { length bytes.now ≤ table_limit }
     ensures answer { Gives (parts_of bytes.now) (rows_of result) }
-    ensures few { IfOk result (λ v. length v.items ≤ 2000) }
+    ensures few { IfOk result (λ v. length v.items ≤ most_parts) }
     ensures fields { IfOk result (λ v. All IsPartRow v.items) }
 {
     read_table(alloc, bytes, &Parts, 6, header().as_slice(), 2000)

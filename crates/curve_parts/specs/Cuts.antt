@@ -1,7 +1,8 @@
 -- A curve between two prices, by its steps.
-use Rattle.std.specs.Prelude.{◌≡◌, ℕ, zero, suc, ◌-◌, ◌*◌, ◌^◌, ◌<◌, ◌≤◌, List, [], ◌∷◌, ◌++◌}
+use Rattle.std.specs.Prelude.{◌≡◌, ℕ, zero, suc, ◌-◌, ◌*◌, ◌<◌, ◌≤◌, List, [], ◌∷◌, ◌++◌}
 use Rattle.hull.specs.declared.point.Point.{Point}
 use Rattle.hull.specs.declared.price.Price.{Price}
+use Rattle.hull.specs.Limits.{most_price_units, most_price_money}
 use Rattle.curve_parts.specs.Parts.{IsPriceBetween}
 
 -- some price above 0 lies between low and high
@@ -76,5 +77,5 @@ StepAt Is (v ∷ w ∷ rest) (suc k) = StepAt Is (w ∷ rest) k
 
 -- the numbers of a price are within their limits
 pub record IsSmall (price : Price) : Type 0 where
-  pub p : price.p ≤ 2 ^ 74
-  pub q : price.q ≤ 1000000000000
+  pub p : price.p ≤ most_price_units
+  pub q : price.q ≤ most_price_money

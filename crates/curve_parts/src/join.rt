@@ -1,8 +1,9 @@
 //! The part of the points so far and of the sums of several parts.
 
-ghost use Rattle.std.specs.Prelude.{◌≡◌, ◌+◌, ◌^◌, ◌<◌, ◌≤◌, [], ◌∷◌, ◌++◌, length, sum_by, IfOk, IsTrue, OnOk, OnErr};
+ghost use Rattle.std.specs.Prelude.{◌≡◌, ◌+◌, ◌<◌, ◌≤◌, [], ◌∷◌, ◌++◌, length, sum_by, IfOk, IsTrue, OnOk, OnErr};
 ghost use Rattle.hull.specs.declared.point.Point.{Point};
 ghost use Rattle.hull.specs.Curves.{lagrangian, Among, HaveOneWidth, InRange};
+ghost use Rattle.hull.specs.Limits.{most_points};
 ghost use Rattle.sum_walk.specs.Sums.{sums_of_each};
 ghost use Rattle.curve_parts.specs.Cuts.{IsSmall, IsWindow};
 ghost use Rattle.curve_parts.specs.Beyond.{LieBeyond};
@@ -27,7 +28,7 @@ pub fn part_of_sums<T: Spot>(
 ) -> Result<(Curve, u128), NoMemory>
     requires some { 0 < length parts.now }
     requires few_parts { length parts.now ≤ 16 }
-    requires few { 1 + sum_by length parts.now ≤ 2 ^ 31 }
+    requires few { 1 + sum_by length parts.now ≤ most_points }
     requires first { InRange first.now }
     requires ranges { (v : Point) → Among v (sums_of_each (first.now ∷ []) parts.now) → InRange v }
     requires widths { HaveOneWidth (sums_of_each (first.now ∷ []) parts.now) }
@@ -85,7 +86,7 @@ pub fn join_sums<T: Spot>(
 ) -> Result<u128, NoMemory>
     requires some { 0 < length parts.now }
     requires few_parts { length parts.now ≤ 16 }
-    requires few { length curve.old + (1 + sum_by length parts.now) ≤ 2 ^ 31 }
+    requires few { length curve.old + (1 + sum_by length parts.now) ≤ most_points }
     requires first { InRange first.now }
     requires ranges { (v : Point) → Among v (sums_of_each (first.now ∷ []) parts.now) → InRange v }
     requires widths { (v w : Point) → Among v curve.old → Among w (sums_of_each (first.now ∷ []) parts.now)

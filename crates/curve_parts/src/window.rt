@@ -1,9 +1,10 @@
 //! Cutting a curve at two prices.
 
-ghost use Rattle.std.specs.Prelude.{◌≡◌, ◌+◌, ◌-◌, ◌*◌, ◌^◌, ◌<◌, ◌≤◌, ℕ, List, IfOk, IsFalse, IsTrue, length, drop, take};
+ghost use Rattle.std.specs.Prelude.{◌≡◌, ◌+◌, ◌-◌, ◌*◌, ◌<◌, ◌≤◌, ℕ, List, IfOk, IsFalse, IsTrue, length, drop, take};
 ghost use Rattle.hull.specs.declared.point.Point.{Point};
 ghost use Rattle.hull.specs.declared.price.Price.{Price};
 ghost use Rattle.hull.specs.Curves.{lagrangian, Among, HaveOneWidth, InRange, IsBestAt, IsLeastAt, IsShape, point_at};
+ghost use Rattle.hull.specs.Limits.{most_cost, end_limit, most_points};
 ghost use Rattle.curve_parts.specs.Parts.{IsPartOf, IsPriceBetween};
 ghost use Rattle.curve_parts.specs.Cuts.{IsCutOf, IsWindow, Steeper, NoSteeper, Flatter, NoFlatter, StepAt, IsSmall};
 ghost use Rattle.curve_parts.specs.Beyond.{LieBeyond};
@@ -102,8 +103,8 @@ impl Vertices for Curve {
 /// The Lagrangian of a cost and a lower end at a price.
 fn lagrangian_of(price: Price, cost: u64, lo: u128) -> u128
     requires price { IsSmall price }
-    requires cost { cost ≤ 1000000000000 }
-    requires lo { lo < 2 ^ 74 }
+    requires cost { cost ≤ most_cost }
+    requires lo { lo < end_limit }
     ensures { result ≡ price.q * lo + price.p * cost }
 {
     u128::from(price.q) * lo + price.p * u128::from(cost)
@@ -227,7 +228,7 @@ pub fn part_of(
     high: Price,
 ) -> Result<Curve, NoMemory>
     requires some { 0 < length points.items }
-    requires few { length points.items ≤ 2 ^ 31 }
+    requires few { length points.items ≤ most_points }
     requires ranges { (v : Point) → Among v points.items → InRange v }
     requires widths { HaveOneWidth points.items }
     requires low { IsSmall low }

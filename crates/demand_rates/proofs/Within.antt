@@ -3,14 +3,14 @@ use Rattle.std.proofs.Common.{ℕ, ◌+◌, ◌-◌, ◌*◌, ◌<◌, ◌≤◌
 use Rattle.std.proofs.lemmas.List.{get_or_past}
 use Rattle.std.proofs.lemmas.Bool.{cases_lt}
 use Rattle.std.proofs.lemmas.Nat.{mul-le}
-use Rattle.spares_input.specs.Rows.{no_rate, IsField}
+use Rattle.spares_input.specs.Rows.{no_rate, IsNumberField}
 use Rattle.spares_input.specs.Frames.{line_of}
 use Rattle.spares_input.specs.Cases.{CaseRows, IsCase, rate_at}
 use Rattle.fleet_model.specs.Units.{demand_00, demand_i0, demand_of, demand_units, needed_i0, sent_0j, sent_ij}
 use Rattle.demand_rates.specs.Limits.{IsRate}
 use Rattle.demand_rates.proofs.Sums.{sum_few}
 
-field_most : (used : Bool) (most n : ℕ) → IsField used 0 most n → n ≤ most
+field_most : (used : Bool) (most n : ℕ) → IsNumberField used 0 most n → n ≤ most
 field_most true most n f = (f.within refl).1
 field_most false most n f = omega (arith, f.empty refl)
 

@@ -66,3 +66,8 @@ pub record AreRatesOf (c : CaseRows) (r : RateList) : Type 0 where
   pub sites : r.sites ≡ length c.sites
   pub has : (p k : ℕ) → p < length c.parts → k < length c.sites → HasRates r p k
   pub pairs : (p k : ℕ) → p < length c.parts → k < length c.sites → ArePairRates c p k (rates_at r p k)
+
+-- a case together with its rates
+pub record RatedCase : Type 0 where
+  pub case : CaseRows
+  pub rates : RateList

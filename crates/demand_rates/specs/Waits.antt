@@ -2,6 +2,7 @@
 -- definitions.
 use Rattle.std.specs.Prelude.{◌≡◌, ℕ, zero, suc, ◌*◌, ◌<◌, ◌≤◌, List, [], length, get_or, sum_by}
 use Rattle.spares_input.specs.Cases.{CaseRows, rate_at}
+use Rattle.spares_input.specs.Limits.{most_parts}
 use Rattle.fleet_model.specs.Rows.{shop_units}
 use Rattle.fleet_model.specs.Units.{zero_stock_units_ij}
 
@@ -23,7 +24,7 @@ wait_most (suc j) = 3000000000000000000000000000
 pub record AreWaits (c : CaseRows) (k : ℕ) (sums : List ℕ) : Type 0 where
   pub count : length sums ≡ length c.parts
   pub each : (l : ℕ) → l < length c.parts → get_or sums l 0 ≡ wait_sum c l k
-  pub small : (l : ℕ) → get_or sums l 0 ≤ 2000 * wait_most k
+  pub small : (l : ℕ) → get_or sums l 0 ≤ most_parts * wait_most k
 
 -- the sums of all parts at each site
 pub record AreAllWaits (c : CaseRows) (sums : List (List ℕ)) : Type 0 where

@@ -11,10 +11,12 @@ mod fault;
 pub mod kinds;
 mod limits;
 mod pairs;
+mod rated;
 mod rows;
 mod single;
 mod waits;
 
 pub use case_rates::rates;
 pub use fault::{Place, RateFault};
+pub use rated::Rated;
 pub use single::check_single;

@@ -3,15 +3,15 @@ use Rattle.std.proofs.Common.{◌≡◌, ◌∙◌, ap, arith, refl, subst, sym,
 use Rattle.std.specs.Result.{IsOk, result_and}
 use Rattle.std.proofs.lemmas.List.{get_or-replicate, length-replicate}
 use Rattle.spares_input.specs.Cases.{CaseRows, IsCase, frame_rows, pair_count}
-use Rattle.spares_input.specs.Stocks.{StockList, nothing_held}
-use Rattle.case_figures.specs.Figures.{total_of}
+use Rattle.spares_input.specs.Stocks.{AreStocksOf, StockList, nothing_held}
+use Rattle.case_figures.specs.Figures.{case_total_of}
 use Rattle.case_maker.specs.Demonstration.{made}
 use Rattle.case_maker.proofs.Public.{made_few, made_lines, made_valid, made_drawn}
 use Rattle.case_plan.specs.Report.{IsOutcome, IsPlanned, plain_request}
 use Rattle.case_plan.specs.declared.outcome.Outcome.{Outcome}
 use Rattle.case_plan.proofs.Public.{report_fits}
 use Rattle.certified_plan.specs.Certificates.{certificate_of}
-use Rattle.certified_plan.specs.Inputs.{AreTerms, IsHeld, IsPlanOn}
+use Rattle.certified_plan.specs.Inputs.{AreTerms, IsPlanOn}
 use Rattle.certified_plan.proofs.Public.{accepted, scores_enclose, scores_leave_room, text_short}
 use Rattle.demand_rates.specs.Limits.{rate_fault_of}
 use Rattle.demo_accepts.proofs.Public.{all_few, work_few}
@@ -52,7 +52,7 @@ demo_work number lines c held few is none =
 pub are_terms : (lines : ℕ) → lines ≤ 80 → AreTerms (demo_terms (budget_of lines))
 are_terms lines few = record { budget = omega (arith, few); fewest = omega arith; most = omega arith; first = λ e. refl }
 
-module _ (c : CaseRows) (held : StockList) (budget : ℕ) (terms : AreTerms (demo_terms budget)) (valid : IsCase c) (no_fault : rate_fault_of c ≡ None) (is_held : IsHeld c held)
+module _ (c : CaseRows) (held : StockList) (budget : ℕ) (terms : AreTerms (demo_terms budget)) (valid : IsCase c) (no_fault : rate_fault_of c ≡ None) (is_held : AreStocksOf c held)
     (o : Outcome) (h : IsOutcome plain_ends c held.list (plain_request budget) o) where
   -- the outcome is that of a plan on the demonstration's terms
   pub on_plan : IsPlanOn c held (demo_terms budget) o
@@ -91,7 +91,7 @@ module _ (c : CaseRows) (held : StockList) (budget : ℕ) (terms : AreTerms (dem
         parts = length d.parts;
         budget = b;
         cost = h.plan.numbers.cost;
-        total = total_of 48 d h.plan.stocks;
+        total = case_total_of 48 d h.plan.stocks;
         bound = h.plan.numbers.bound;
         gap = h.plan.numbers.gap;
       } in

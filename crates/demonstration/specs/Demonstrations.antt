@@ -1,6 +1,6 @@
 -- A demonstration and its summary.
 use Rattle.std.specs.Prelude.{◌≡◌, ℕ, ◌*◌, length}
-use Rattle.case_figures.specs.Figures.{total_of}
+use Rattle.case_figures.specs.Figures.{case_total_of}
 use Rattle.case_figures.specs.Spans.{ends}
 use Rattle.case_maker.specs.Demonstration.{made}
 use Rattle.case_plan.specs.Report.{outcome_of, plain_request}
@@ -30,7 +30,7 @@ summary_of number lines p = record {
   parts = length (made number lines).parts;
   budget = budget_of lines;
   cost = p.numbers.cost;
-  total = total_of 48 (made number lines) p.stocks;
+  total = case_total_of 48 (made number lines) p.stocks;
   bound = p.numbers.bound;
   gap = p.numbers.gap;
 }

@@ -1,8 +1,10 @@
 //! The curve of each base at given stocks of the depot.
 
-ghost use Rattle.std.specs.Prelude.{◌≡◌, ◌+◌, ◌^◌, ◌<◌, ◌≤◌, ◌++◌, ◌∷◌, [], IfOk, drop, length, map, take, vec_len};
+ghost use Rattle.std.specs.Prelude.{◌≡◌, ◌+◌, ◌<◌, ◌≤◌, ◌++◌, ◌∷◌, [], IfOk, drop, length, map, take, vec_len};
 ghost use Rattle.hull.specs.declared.point.Point.{Point};
 ghost use Rattle.hull.specs.Curves.{Among, IsCurve, StandFor};
+ghost use Rattle.hull.specs.Limits.{most_points};
+ghost use Rattle.family_points.specs.Counts.{most_vertices};
 ghost use Rattle.family_points.specs.Separation.{base_points};
 ghost use Rattle.family_points.specs.Inputs.{vector_count};
 ghost use Rattle.family_points.specs.Choices.{IsChoice, choice_point, choice_stocks};
@@ -53,7 +55,7 @@ fn take_choice<'b, S: Score>(
     requires order { (v : Point) → Among v chain.old → v.cost ≤ choice.now.cost }
     requires width { (v : Point) → Among v chain.old
         → length v.stocks ≡ length (choice_stocks here.now.family.now here.now.site.0 choice.now) }
-    requires room { length chain.old + 1 ≤ 2 ^ 31 }
+    requires room { length chain.old + 1 ≤ most_points }
     ensures stands { IfOk result (λ _. StandFor (chain.old
         ++ choice_point S.ends here.now.family.now here.now.depot.now here.now.site.0 choice.now ∷ []) chain.new) }
     ensures few { IfOk result (λ _. length chain.new ≤ length chain.old + 1) }
@@ -72,7 +74,7 @@ fn put_points<'b, S: Score>(
     requires here { IsBaseAt here.now }
     requires rows { AreRows here.now (map (λ r. r.items) rows.now) }
     requires some { 0 < length here.now.base.now.order.items }
-    requires room { length here.now.base.now.order.items ≤ 65000000 }
+    requires room { length here.now.base.now.order.items ≤ most_vertices }
     ensures stands { IfOk result (λ _. StandFor
         (map (choice_point S.ends here.now.family.now here.now.depot.now here.now.site.0)
         here.now.base.now.order.items) chain.new) }
@@ -100,7 +102,7 @@ pub fn put_curve<'b, S: Score>(
     requires here { IsBaseAt here.now }
     requires numbers { numbers.now ≡ box_numbers here.now.family.now }
     requires tables { AreTables here.now.family.now (drop 1 here.now.depot.now) tables.now }
-    requires room { vector_count here.now.family.now here.now.site.0 ≤ 65000000 }
+    requires room { vector_count here.now.family.now here.now.site.0 ≤ most_vertices }
     ensures curve { IfOk result (λ _.
         IsCurve (base_points S.ends here.now.family.now here.now.depot.now here.now.site.0) chain.new) }
     ensures few { IfOk result (λ _. length chain.new ≤ vector_count here.now.family.now here.now.site.0) }

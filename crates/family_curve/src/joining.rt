@@ -3,6 +3,7 @@
 ghost use Rattle.std.specs.Prelude.{◌≡◌, ◌+◌, ◌-◌, ◌*◌, ◌<◌, ◌≤◌, ◌++◌, ◌∷◌, [], List, IfOk, drop, get_or, length, sum_by};
 ghost use Rattle.hull.specs.declared.point.Point.{Point};
 ghost use Rattle.hull.specs.Curves.{Among, InRange, IsCurve, StandFor};
+ghost use Rattle.family_points.specs.Counts.{most_vertices};
 ghost use Rattle.family_points.specs.Separation.{depot_point, depot_points, shop_points};
 ghost use Rattle.family_points.specs.Inputs.{box_points};
 ghost use Rattle.family_points.specs.Inputs.{
@@ -71,7 +72,7 @@ fn put_curves<'b, S: Score>(
     requires sources { AreSources sources.now }
     requires depot { IsAt sources.now.family.now 0 depot.now }
     requires tables { AreTables sources.now.family.now (drop 1 depot.now) tables.now }
-    requires room { vertex_count sources.now.family.now ≤ 65000000 }
+    requires room { vertex_count sources.now.family.now ≤ most_vertices }
     requires work { length work.old.chains.items ≡ length sources.now.bases.items }
     ensures stands { IfOk result (λ _. let x = sources.now.family.now in StandFor
         (depot_points S.ends x depot.now)
@@ -110,7 +111,7 @@ fn depot_path<'b, S: Score>(
     requires sources { AreSources sources.now }
     requires first { IsDepotPoint sources.now.family.now first.now }
     requires tables { AreTables sources.now.family.now (drop 1 first.now.stocks) tables.now }
-    requires room { length below.now + vertex_count sources.now.family.now ≤ 65000000 }
+    requires room { length below.now + vertex_count sources.now.family.now ≤ most_vertices }
     requires ranges { (v : Point) → Among v below.now → InRange v }
     requires work { length work.old.chains.items ≡ length sources.now.bases.items }
     ensures stands { IfOk result (λ path. StandFor
@@ -141,7 +142,7 @@ fn with_depot<'b, S: Score>(
     requires sources { AreSources sources.now }
     requires first { IsDepotPoint sources.now.family.now first.now }
     requires tables { AreTables sources.now.family.now (drop 1 first.now.stocks) tables.now }
-    requires room { length (vertices_of so_far) + vertex_count sources.now.family.now ≤ 65000000 }
+    requires room { length (vertices_of so_far) + vertex_count sources.now.family.now ≤ most_vertices }
     requires widths { HaveWidthOf sources.now.family.now (vertices_of so_far) }
     requires work { length work.old.chains.items ≡ length sources.now.bases.items }
     ensures curve { IfOk result
@@ -241,7 +242,7 @@ fn with_lines<'b, S: Score>(
     requires shops { AreShopsAt sources.now.family.now 0 shops.now }
     requires tables { AreTables sources.now.family.now shops.now tables.now }
     requires room { let x = sources.now.family.now in
-        length (vertices_of so_far) + length (line_stocks x 0) * vertex_count x ≤ 65000000 }
+        length (vertices_of so_far) + length (line_stocks x 0) * vertex_count x ≤ most_vertices }
     requires widths { HaveWidthOf sources.now.family.now (vertices_of so_far) }
     requires work { length work.old.chains.items ≡ length sources.now.bases.items }
     ensures curve { IfOk result
@@ -278,7 +279,7 @@ fn with_shops<'b, S: Score>(
     requires sources { AreSources sources.now }
     requires number { number < length (shop_vectors sources.now.family.now 0) }
     requires room { let x = sources.now.family.now in
-        length (vertices_of so_far) + length (line_stocks x 0) * vertex_count x ≤ 65000000 }
+        length (vertices_of so_far) + length (line_stocks x 0) * vertex_count x ≤ most_vertices }
     requires widths { HaveWidthOf sources.now.family.now (vertices_of so_far) }
     requires work { length work.old.chains.items ≡ length sources.now.bases.items }
     ensures curve { IfOk result (let x = sources.now.family.now in
@@ -306,7 +307,7 @@ fn whole_curve<'b, S: Score>(
     score: &S,
 ) -> Result<Curve, NoMemory>
     requires sources { AreSources sources.now }
-    requires room { vector_count sources.now.family.now 0 * vertex_count sources.now.family.now ≤ 65000000 }
+    requires room { vector_count sources.now.family.now 0 * vertex_count sources.now.family.now ≤ most_vertices }
     requires work { length work.old.chains.items ≡ length sources.now.bases.items }
     ensures { IfOk result (IsCurve (box_points S.ends sources.now.family.now)) }
 {
@@ -344,7 +345,7 @@ fn work_of<'b>(alloc: Global, bases: &'b [Base]) -> Result<Work<'b>, NoMemory>
 /// The curve of all vectors of the family of these sources within its bounds.
 fn curve_of<S: Score>(alloc: Global, sources: &Sources<'_>, score: &S) -> Result<Curve, NoMemory>
     requires sources { AreSources sources.now }
-    requires room { vector_count sources.now.family.now 0 * vertex_count sources.now.family.now ≤ 65000000 }
+    requires room { vector_count sources.now.family.now 0 * vertex_count sources.now.family.now ≤ most_vertices }
     ensures { IfOk result (IsCurve (box_points S.ends sources.now.family.now)) }
 {
     let mut work = work_of(alloc, sources.bases.as_slice())?;
@@ -357,7 +358,7 @@ pub(crate) fn family_curve<S: Score>(
     family: &Family<'_>,
     score: &S,
 ) -> Result<Curve, NoMemory>
-    requires { vector_count family.now 0 * vertex_count family.now ≤ 65000000 }
+    requires { vector_count family.now 0 * vertex_count family.now ≤ most_vertices }
     ensures { IfOk result (IsCurve (box_points S.ends family.now)) }
 {
     let sources = Sources::of(alloc, family)?;

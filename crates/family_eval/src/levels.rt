@@ -4,9 +4,9 @@ ghost use Rattle.std.specs.Prelude.{◌≡◌, ◌*◌, ◌^◌, ◌<◌, ◌≤
 ghost use Rattle.moment_table.specs.Inputs.{CanTable};
 ghost use Rattle.depot_pipeline.specs.Exact.{IsSmallFeed};
 ghost use Rattle.depot_pipeline.specs.Profile.{depot_shop_ends, depot_line_ends};
-ghost use Rattle.base_pipeline.specs.Exact.{IsSmallHeld};
+ghost use Rattle.base_pipeline.specs.Exact.{IsSmallDelay};
 ghost use Rattle.base_pipeline.specs.Profile.{base_shop_ends, base_line_ends};
-ghost use Rattle.family_items.specs.Profile.{stocked, feed_of, held_of};
+ghost use Rattle.family_items.specs.Profile.{stocked, feed_of, delay_of};
 ghost use Rattle.family_items.specs.Inputs.{IsPipeline};
 
 use answers::NoMemory;
@@ -52,8 +52,8 @@ pub(crate) fn feed_of<const F: u32>(share: Iv<F>, item: &Item<F>) -> Feed<F>
 }
 
 /// The backorders of a shop unit at a base, for which its line unit's repairs there wait.
-pub(crate) fn held_of<const F: u32>(item: &Item<F>) -> Held<F>
-    ensures { result ≡ held_of F item.now }
+pub(crate) fn delay_of<const F: u32>(item: &Item<F>) -> Held<F>
+    ensures { result ≡ delay_of F item.now }
 {
     Held {
         backorders: item.backorders,
@@ -111,7 +111,7 @@ pub(crate) fn base_line_item<const F: u32>(
     requires pair { IsPipeline F pair }
     requires small { IsSmallFeed F depot }
     requires few { length shops.now ≤ 8 }
-    requires held { All (IsSmallHeld F) shops.now }
+    requires delays { All (IsSmallDelay F) shops.now }
     ensures { IfOk result (λ x. x ≡ stocked F pair.entry
         (base_line_ends F pair.entry.direct pair.entry.cap depot.entry shops.now)) }
 {

@@ -34,7 +34,7 @@ mod levels;
 mod lines;
 mod shops;
 
-pub use family_items::{FamilyResult, Item, line_units, members, shop_units};
+pub use family_items::{FamilyResult, Item};
 
 /// The family of a line unit, from its item at the depot and the items of its shop units, each by site in part order.
 /// Want of memory is the only error.
@@ -53,8 +53,8 @@ pub fn family_from<const F: u32>(
     ensures { IfOk result (λ r. r ≡ family_of F inputs.now.case line.0 inputs.now.stocks) }
 {
     inputs.invariant();
-    let units = shop_units(alloc, inputs.case(), line)?;
-    let mut items = line_items(alloc, inputs, line, depot, units.as_slice(), shop_items)?;
+    let shops = inputs.shop_units(line);
+    let mut items = line_items(alloc, inputs, line, depot, shops, shop_items)?;
     let total = total_of(items.as_slice(), inputs.weight(line));
     items.extend_from_slice(shop_items)?;
     Ok(FamilyResult {
@@ -74,8 +74,7 @@ fn evaluate_family<const F: u32>(
     ensures { IfOk result (λ r. r ≡ family_of F inputs.now.case line.0 inputs.now.stocks) }
 {
     inputs.invariant();
-    let units = shop_units(alloc, inputs.case(), line)?;
-    let shops = units.as_slice();
+    let shops = inputs.shop_units(line);
     let items = all_shop_items(alloc, inputs, shops)?;
     let depot = depot_line_at(alloc, inputs, line, shops, items.as_slice())?;
     family_from(alloc, inputs, line, depot, items.as_slice())
@@ -120,11 +119,9 @@ pub fn evaluate_all<const F: u32>(
 {
     let inputs = Inputs::of(case, rates, stocks);
     let mut families = Vec::new(alloc);
-    for p in 0..case.part_count() {
-        let part = PartId(p);
-        if case.is_line(part) {
-            families.push(evaluate_family(alloc, &inputs, part)?)?;
-        }
+    let lines = case.line_units();
+    for line in lines {
+        families.push(evaluate_family(alloc, &inputs, *line)?)?;
     }
     Ok(families)
 }

@@ -4,11 +4,11 @@ ghost use Rattle.std.specs.Prelude.{◌≡◌, ◌+◌, ◌-◌, ◌<◌, ◌≤
 ghost use Rattle.fixed_interval.specs.Ends.{InScale, ends_exact, ends_times};
 ghost use Rattle.depot_pipeline.specs.Profile.{added};
 ghost use Rattle.fleet_model.specs.Rows.{shop_units};
-ghost use Rattle.family_items.specs.Profile.{base_line, depot_line, feed_of, held_of, item_of, part_items, share_of};
+ghost use Rattle.family_items.specs.Profile.{base_line, depot_line, feed_of, delay_of, item_of, part_items, share_of};
 ghost use Rattle.family_items.specs.Encloses.{IsSmallItem, no_item};
 ghost use Rattle.family_items.specs.Inputs.{IsLine};
 
-use crate::levels::{base_line_item, depot_line_item, feed_of, held_of};
+use crate::levels::{base_line_item, delay_of, depot_line_item, feed_of};
 use answers::NoMemory;
 use base_pipeline::Held;
 use depot_pipeline::Feed;
@@ -43,7 +43,7 @@ fn depot_feeds<const F: u32>(
 }
 
 /// The backorders of shop units at a base. Their items are by unit and then by site.
-fn held_at<const F: u32>(
+fn delays_at<const F: u32>(
     alloc: Global,
     inputs: &Inputs<'_>,
     site: SiteId,
@@ -55,14 +55,14 @@ fn held_at<const F: u32>(
     requires few { length shops.now ≤ 8 }
     requires items { items.now ≡ flat_map (λ p. part_items F inputs.now.case inputs.now.stocks.list p.0) shops.now }
     ensures { IfOk result (λ v. v.items ≡ map
-        (λ p. held_of F (item_of F inputs.now.case inputs.now.stocks.list p.0 site.0)) shops.now) }
+        (λ p. delay_of F (item_of F inputs.now.case inputs.now.stocks.list p.0 site.0)) shops.now) }
 {
     let sites = usize::from(inputs.sites());
-    let mut held = Vec::new(alloc);
+    let mut delays = Vec::new(alloc);
     for i in 0..shops.len() {
-        held.push(held_of(&items[i * sites + usize::from(site.0)]))?;
+        delays.push(delay_of(&items[i * sites + usize::from(site.0)]))?;
     }
-    Ok(held)
+    Ok(delays)
 }
 
 /// A line unit at the depot, from the items of its shop units.
@@ -104,9 +104,9 @@ fn base_line_at<const F: u32>(
     ensures { IfOk result (λ x. x ≡ base_line F inputs.now.case inputs.now.stocks.list line.0 site.0) }
 {
     inputs.invariant();
-    let held = held_at(alloc, inputs, site, shops, items)?;
+    let delays = delays_at(alloc, inputs, site, shops, items)?;
     let feed = feed_of(inputs.share(line, site), depot);
-    base_line_item(alloc, inputs.pipeline(line, site), feed, held.as_slice())
+    base_line_item(alloc, inputs.pipeline(line, site), feed, delays.as_slice())
 }
 
 /// The items of a line unit, by site, from its item at the depot and its shop units' items.

@@ -17,12 +17,12 @@ use Rattle.moment_table.specs.Rows.{TableRows, at_stock}
 use Rattle.moment_table.proofs.Public.{row_of_known, row_of_wide}
 use Rattle.depot_pipeline.specs.declared.Moments.{Moments}
 use Rattle.depot_pipeline.specs.Profile.{added, mean_part}
-use Rattle.base_pipeline.specs.Profile.{held_at as shop_at}
+use Rattle.base_pipeline.specs.Profile.{delay_at as shop_at}
 use Rattle.backorder_bounds.specs.Places.{low_end}
 use Rattle.fleet_model.specs.Fleet.{family}
 use Rattle.fleet_model.specs.Laws.{IsBase}
 use Rattle.fleet_model.specs.Rows.{systems, per_system, weight}
-use Rattle.family_numbers.specs.Numbers.{ArePairNumbers, FamilyNumbers, base_helds, base_line_moments, base_line_place, depot_line_row, feed_from, pair_at, shop_part, depot_line_table}
+use Rattle.family_numbers.specs.Numbers.{ArePairNumbers, FamilyNumbers, base_delays, base_line_moments, base_line_place, depot_line_row, feed_from, pair_at, shop_part, depot_line_table}
 use Rattle.family_numbers.specs.declared.numbers.PairNumbers.{PairNumbers}
 use Rattle.hull.specs.declared.price.Price.{Price}
 use Rattle.hull.specs.Scores.{LeavesRoom}
@@ -64,7 +64,7 @@ mean_under : (x : FamilyNumbers 48) (j o : ℕ) (d b : List ℕ) (part : Moments
 unfolding mean_part
 mean_under x j o d b part fewest e h =
     let pair = pair_at x 0 j in
-    let helds = base_helds 48 x j d b in
+    let helds = base_delays 48 x j d b in
     let rises = part_rises pair.share.lo fewest (depot_line_row 48 x d o).ebo.lo h in
     let whole = added_low (ends_add pair.direct (mean_part 48 (feed_from 48 pair.share (depot_line_row 48 x d o)))) (λ k. (shop_at helds k).backorders) (length helds) in
     let shops : part.mean.lo ≡ (shop_part 48 x j d b).mean.lo = ap (λ (m : Moments 48). m.mean.lo) e in
@@ -76,7 +76,7 @@ mean_empty : (x : FamilyNumbers 48) (j o : ℕ) (d b : List ℕ) → ArePairNumb
 unfolding mean_part
 mean_empty x j o d b are order z =
     let pair = pair_at x 0 j in
-    let helds = base_helds 48 x j d b in
+    let helds = base_delays 48 x j d b in
     let high = added_high (ends_add pair.direct (mean_part 48 (feed_from 48 pair.share (depot_line_row 48 x d o)))) (λ k. (shop_at helds k).backorders) (length helds) in
     elim are.some [
       | inl none ↦ omega (arith, none)

@@ -1,7 +1,8 @@
 -- Lower bounds on Lagrangians at two prices. No promise of the crate rests on these words.
-use Rattle.std.specs.Prelude.{ℕ, ◌*◌, ◌^◌, ◌≤◌, min, List, ◌∷◌, drop, get_or}
+use Rattle.std.specs.Prelude.{ℕ, ◌*◌, ◌≤◌, min, List, ◌∷◌, drop, get_or}
 use Rattle.hull.specs.declared.price.Price.{Price}
 use Rattle.hull.specs.Curves.{lagrangian}
+use Rattle.hull.specs.Limits.{most_price_units, most_price_money}
 use Rattle.backorder_bounds.specs.Places.{Place}
 use Rattle.family_numbers.specs.Numbers.{base_line_place}
 use Rattle.family_points.specs.Inputs.{FamilyBox}
@@ -12,8 +13,8 @@ use Rattle.family_floors.specs.declared.lows.Lows.{Lows}
 
 -- the numbers of a price are within their limits
 pub record IsSmallPrice (price : Price) : Type 0 where
-  pub p : price.p ≤ 2 ^ 74
-  pub q : price.q ≤ 1000000000000
+  pub p : price.p ≤ most_price_units
+  pub q : price.q ≤ most_price_money
 
 -- the line unit's stock s at base j in the table of its pipeline there, when the depot has the stocks d and the base
 -- these of the shop units

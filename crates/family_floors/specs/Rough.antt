@@ -1,7 +1,8 @@
 -- Rough lower bounds on the Lagrangians of the bases, for all stocks of the line unit at the depot at once. No promise
 -- of the crate rests on these words.
-use Rattle.std.specs.Prelude.{◌≡◌, ℕ, ◌-◌, ◌*◌, ◌^◌, ◌≤◌, List, drop, get_or, length, sum_by}
+use Rattle.std.specs.Prelude.{◌≡◌, ℕ, ◌-◌, ◌*◌, ◌≤◌, List, drop, get_or, length, sum_by}
 use Rattle.hull.specs.declared.price.Price.{Price}
+use Rattle.hull.specs.Limits.{most_floor}
 use Rattle.fleet_model.specs.Laws.{IsBase}
 use Rattle.backorder_bounds.specs.Places.{low_end}
 use Rattle.family_points.specs.Inputs.{FamilyBox, IsAt, line_high, line_low}
@@ -47,5 +48,5 @@ pub record AreRough (ends : ScoreEnds) (x : FamilyBox) (v : List ℕ) (low high 
   pub under : (j : ℕ) → IsBase x.case j → AreUnderBase ends x v j low high (lows_of r.bases.items j)
   pub sum_low : r.sum.at_low ≡ sum_by (λ (l : Lows). l.at_low) r.bases.items
   pub sum_high : r.sum.at_high ≡ sum_by (λ (l : Lows). l.at_high) r.bases.items
-  pub most_low : r.sum.at_low ≤ 15 * 2 ^ 115
-  pub most_high : r.sum.at_high ≤ 15 * 2 ^ 115
+  pub most_low : r.sum.at_low ≤ 15 * most_floor
+  pub most_high : r.sum.at_high ≤ 15 * most_floor

@@ -1,10 +1,11 @@
 //! Whether the Lagrangian of each vector of a family reaches a floor at one price, without a curve: for given stocks at
 //! the depot, the least Lagrangian is their cost at the price plus the least of each base.
 
-ghost use Rattle.std.specs.Prelude.{◌≡◌, ◌+◌, ◌-◌, ◌*◌, ◌^◌, ◌<◌, ◌≤◌, [], IfOk, drop, get_or, length, map, nat_le};
+ghost use Rattle.std.specs.Prelude.{◌≡◌, ◌+◌, ◌-◌, ◌*◌, ◌<◌, ◌≤◌, [], IfOk, drop, get_or, length, map, nat_le};
 ghost use Rattle.demand_rates.specs.Rates.{AreRatesOf};
 ghost use Rattle.family_items.specs.Inputs.{IsLine};
 ghost use Rattle.hull.specs.Curves.{lagrangian};
+ghost use Rattle.hull.specs.Limits.{most_price_units, most_price_money, most_floor};
 ghost use Rattle.family_points.specs.Inputs.{AreShopsAt, IsAt, box_points, shop_vectors};
 ghost use Rattle.family_rows.specs.Sources.{AreSources};
 ghost use Rattle.family_points.specs.Least.{IsLeast, Decides, least};
@@ -43,11 +44,11 @@ fn value_at<S: Score>(
     requires here { IsBaseAt here.now }
     requires rows { AreRows here.now (map (λ r. r.items) rows.now) }
     requires choice { IsChoice here.now.family.now here.now.site.0 choice.now }
-    requires most_money { price.q ≤ 1000000000000 }
-    requires price { price.p ≤ 2 ^ 74 }
+    requires most_money { price.q ≤ most_price_money }
+    requires price { price.p ≤ most_price_units }
     ensures value { result ≡ lagrangian price.p price.q
         (choice_point S.ends here.now.family.now here.now.depot.now here.now.site.0 choice.now) }
-    ensures most { result ≤ 2 ^ 115 }
+    ensures most { result ≤ most_floor }
 {
     let spot = spot_at(here, score, rows, choice);
     u128::from(price.q) * spot.lo() + price.p * u128::from(spot.cost())
@@ -63,12 +64,12 @@ fn least_of_choices<S: Score>(
     requires here { IsBaseAt here.now }
     requires rows { AreRows here.now (map (λ r. r.items) rows.now) }
     requires some { 0 < length here.now.base.now.order.items }
-    requires most_money { price.q ≤ 1000000000000 }
-    requires price { price.p ≤ 2 ^ 74 }
+    requires most_money { price.q ≤ most_price_money }
+    requires price { price.p ≤ most_price_units }
     ensures least { IsLeast price.p price.q (map
         (choice_point S.ends here.now.family.now here.now.depot.now here.now.site.0)
         here.now.base.now.order.items) result }
-    ensures most { result ≤ 2 ^ 115 }
+    ensures most { result ≤ most_floor }
 {
     let first = &here.base.order[0];
     let mut least = value_at(here, score, rows, first, price);
@@ -92,11 +93,11 @@ fn least_at_base<S: Score>(
     requires here { IsBaseAt here.now }
     requires numbers { numbers.now ≡ box_numbers here.now.family.now }
     requires tables { AreTables here.now.family.now (drop 1 here.now.depot.now) tables.now }
-    requires most_money { price.q ≤ 1000000000000 }
-    requires price { price.p ≤ 2 ^ 74 }
+    requires most_money { price.q ≤ most_price_money }
+    requires price { price.p ≤ most_price_units }
     ensures least { IfOk result (IsLeast price.p price.q
         (base_points S.ends here.now.family.now here.now.depot.now here.now.site.0)) }
-    ensures most { IfOk result (λ least. least ≤ 2 ^ 115) }
+    ensures most { IfOk result (λ least. least ≤ most_floor) }
 {
     put_rows(rows, here, numbers, tables)?;
     let count = here.base.shops.len();
@@ -115,8 +116,8 @@ fn least_at_depot<S: Score>(
     requires sources { AreSources sources.now }
     requires depot { IsAt sources.now.family.now 0 depot.now }
     requires tables { AreTables sources.now.family.now (drop 1 depot.now) tables.now }
-    requires most_money { price.q ≤ 1000000000000 }
-    requires price { price.p ≤ 2 ^ 74 }
+    requires most_money { price.q ≤ most_price_money }
+    requires price { price.p ≤ most_price_units }
     ensures { IfOk result (IsLeast price.p price.q (depot_points S.ends sources.now.family.now depot.now)) }
 {
     sources.family.invariant();
@@ -142,8 +143,8 @@ fn depot_is_at_least<S: Score>(
     requires sources { AreSources sources.now }
     requires depot { IsAt sources.now.family.now 0 depot.now }
     requires tables { AreTables sources.now.family.now (drop 1 depot.now) tables.now }
-    requires most_money { price.q ≤ 1000000000000 }
-    requires price { price.p ≤ 2 ^ 74 }
+    requires most_money { price.q ≤ most_price_money }
+    requires price { price.p ≤ most_price_units }
     ensures { IfOk result
         (Decides price.p price.q floor (depot_points S.ends sources.now.family.now depot.now)) }
 {
@@ -170,8 +171,8 @@ fn are_at_least<S: Score>(
     requires some { 0 < length stocks.old }
     requires shops { AreShopsAt sources.now.family.now 0 (drop 1 stocks.old) }
     requires tables { AreTables sources.now.family.now (drop 1 stocks.old) tables.now }
-    requires most_money { price.q ≤ 1000000000000 }
-    requires price { price.p ≤ 2 ^ 74 }
+    requires most_money { price.q ≤ most_price_money }
+    requires price { price.p ≤ most_price_units }
     ensures { IfOk result
         (Decides price.p price.q floor (shop_points S.ends sources.now.family.now (drop 1 stocks.old))) }
 {
@@ -201,8 +202,8 @@ fn shops_are_at_least<S: Score>(
 ) -> Result<bool, NoMemory>
     requires sources { AreSources sources.now }
     requires number { number < length (shop_vectors sources.now.family.now 0) }
-    requires most_money { price.q ≤ 1000000000000 }
-    requires price { price.p ≤ 2 ^ 74 }
+    requires most_money { price.q ≤ most_price_money }
+    requires price { price.p ≤ most_price_units }
     ensures { IfOk result (let x = sources.now.family.now in
         Decides price.p price.q floor (shop_points S.ends x (get_or (shop_vectors x 0) number []))) }
 {
@@ -224,8 +225,8 @@ fn all_are_at_least<S: Score>(
     floor: u128,
 ) -> Result<bool, NoMemory>
     requires sources { AreSources sources.now }
-    requires most_money { price.q ≤ 1000000000000 }
-    requires price { price.p ≤ 2 ^ 74 }
+    requires most_money { price.q ≤ most_price_money }
+    requires price { price.p ≤ most_price_units }
     ensures { IfOk result (Decides price.p price.q floor (box_points S.ends sources.now.family.now)) }
 {
     sources.family.invariant();
@@ -254,8 +255,8 @@ pub fn is_at_least<S: Score>(
     requires rates { AreRatesOf case.now rates.now }
     requires line { IsLine case.now line.0 }
     requires ordered { AreOrdered case.now line.0 bounds.now.held bounds.now.low bounds.now.high }
-    requires most_money { price.q ≤ 1000000000000 }
-    requires price { price.p ≤ 2 ^ 74 }
+    requires most_money { price.q ≤ most_price_money }
+    requires price { price.p ≤ most_price_units }
     ensures { IfOk result (λ answer. answer ≡ nat_le floor (least (lagrangian price.p price.q)
         (points_within case.now line.0 S.ends bounds.now.held bounds.now.low bounds.now.high))) }
 {

@@ -1,10 +1,11 @@
 //! Lower bounds on Lagrangians, of a base and of the depot's stocks, from lower bounds on backorders. They cost less
 //! work than exact backorders.
 
-ghost use Rattle.std.specs.Prelude.{◌≡◌, ℕ, ◌+◌, ◌-◌, ◌*◌, ◌^◌, ◌<◌, ◌≤◌, ◌∷◌, IsTrue, drop};
+ghost use Rattle.std.specs.Prelude.{◌≡◌, ℕ, ◌+◌, ◌-◌, ◌*◌, ◌<◌, ◌≤◌, ◌∷◌, IsTrue, drop};
 ghost use Rattle.fleet_model.specs.Fleet.{family};
 ghost use Rattle.fleet_model.specs.Laws.{IsBase};
 ghost use Rattle.hull.specs.Curves.{lagrangian};
+ghost use Rattle.hull.specs.Limits.{most_cost, end_limit, most_price_units, most_price_money, most_floor};
 ghost use Rattle.family_numbers.specs.Numbers.{shop_part};
 ghost use Rattle.family_points.specs.Inputs.{AreShopsAt, IsAt, held_at, line_high, line_low};
 ghost use Rattle.family_rows.specs.Sources.{AreSources};
@@ -58,7 +59,7 @@ impl Lows {
     pub(crate) fn is_reached(self, low: Price, high: Price, cost: u64) -> bool
         requires low { IsSmallPrice low }
         requires high { IsSmallPrice high }
-        requires cost { cost ≤ 1000000000000 }
+        requires cost { cost ≤ most_cost }
         ensures { IsTrue result → IsReached self low high cost }
     {
         self.at_low <= low.p * u128::from(cost) && self.at_high <= high.p * u128::from(cost)
@@ -69,8 +70,8 @@ impl Lows {
 #[inline(always)]
 pub(crate) fn lagrangian(price: Price, cost: u64, scored: u128) -> u128
     requires price { IsSmallPrice price }
-    requires cost { cost ≤ 1000000000000 }
-    requires scored { scored ≤ 2 ^ 74 }
+    requires cost { cost ≤ most_cost }
+    requires scored { scored ≤ end_limit }
     ensures { result ≡ price.q * scored + price.p * cost }
 {
     u128::from(price.q) * scored + price.p * u128::from(cost)
@@ -200,7 +201,7 @@ pub fn lows_at_base<S: Score>(
     ensures at_low { AreAtLeast low.p low.q result.at_low (base_points S.ends sources.now.family.now depot.now j) }
     ensures at_high { AreAtLeast high.p high.q result.at_high
         (base_points S.ends sources.now.family.now depot.now j) }
-    ensures most { (result.at_low ≤ 2 ^ 115) × (result.at_high ≤ 2 ^ 115) }
+    ensures most { (result.at_low ≤ most_floor) × (result.at_high ≤ most_floor) }
 {
     let here = base_of(sources, depot, j);
     let numbers = &sources.numbers;
@@ -230,8 +231,8 @@ pub(crate) fn low_at_depot<S: Score>(
     requires sources { AreSources sources.now }
     requires depot { IsAt sources.now.family.now 0 depot.now }
     requires tables { AreTables sources.now.family.now (drop 1 depot.now) tables.now }
-    requires most_money { price.q ≤ 1000000000000 }
-    requires price { price.p ≤ 2 ^ 74 }
+    requires most_money { price.q ≤ most_price_money }
+    requires price { price.p ≤ most_price_units }
     ensures { AreAtLeast price.p price.q result (depot_points S.ends sources.now.family.now depot.now) }
 {
     sources.family.invariant();

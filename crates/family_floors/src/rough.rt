@@ -4,6 +4,7 @@
 
 ghost use Rattle.std.specs.Prelude.{◌≡◌, ◌-◌, ◌*◌, ◌^◌, ◌<◌, ◌≤◌, IfOk, drop};
 ghost use Rattle.fleet_model.specs.Laws.{IsBase};
+ghost use Rattle.hull.specs.Limits.{most_floor};
 ghost use Rattle.family_points.specs.Inputs.{IsAt};
 ghost use Rattle.family_points.specs.Choices.{IsShopVector};
 ghost use Rattle.family_rows.specs.Sources.{AreSources};
@@ -128,7 +129,7 @@ fn rough_at_base<S: Score>(
     requires low { IsSmallPrice low }
     requires high { IsSmallPrice high }
     ensures under { AreUnderBase S.ends sources.now.family.now (drop 1 depot.now) j low high result }
-    ensures most { (result.at_low ≤ 2 ^ 115) × (result.at_high ≤ 2 ^ 115) }
+    ensures most { (result.at_low ≤ most_floor) × (result.at_high ≤ most_floor) }
 {
     let here = base_of(sources, depot, j);
     sources.numbers.invariant();

@@ -1,8 +1,9 @@
 //! The upper end of a vector's score, without a curve: the sum of its bases' upper ends.
 
-ghost use Rattle.std.specs.Prelude.{◌≡◌, ◌*◌, ◌^◌, ◌≤◌, IfOk, drop};
+ghost use Rattle.std.specs.Prelude.{◌≡◌, ◌*◌, ◌≤◌, IfOk, drop};
 ghost use Rattle.demand_rates.specs.Rates.{AreRatesOf};
 ghost use Rattle.family_items.specs.Inputs.{IsLine};
+ghost use Rattle.hull.specs.Limits.{end_limit};
 ghost use Rattle.family_points.specs.Inputs.{IsAt, box_points};
 ghost use Rattle.family_rows.specs.Sources.{AreSources};
 ghost use Rattle.family_points.specs.Points.{AreOrdered, HasUpper, points_within};
@@ -38,7 +39,7 @@ fn upper_at_base<S: Score>(
     requires tables { AreTables here.now.family.now (drop 1 here.now.depot.now) tables.now }
     ensures upper { IfOk result
         (HasUpper (base_points S.ends here.now.family.now here.now.depot.now here.now.site.0)) }
-    ensures most { IfOk result (λ hi. hi ≤ 2 ^ 74) }
+    ensures most { IfOk result (λ hi. hi ≤ end_limit) }
 {
     put_rows(rows, here, numbers, tables)?;
     let count = here.base.shops.len();
@@ -59,7 +60,7 @@ fn upper_at_depot<S: Score>(
     requires depot { IsAt sources.now.family.now 0 depot.now }
     requires tables { AreTables sources.now.family.now (drop 1 depot.now) tables.now }
     ensures upper { IfOk result (HasUpper (depot_points S.ends sources.now.family.now depot.now)) }
-    ensures most { IfOk result (λ hi. hi ≤ 16 * 2 ^ 74) }
+    ensures most { IfOk result (λ hi. hi ≤ 16 * end_limit) }
 {
     sources.family.invariant();
     let mut upper = 0;
@@ -78,7 +79,7 @@ fn upper_at_least<S: Score>(
 ) -> Result<u128, NoMemory>
     requires sources { AreSources sources.now }
     ensures upper { IfOk result (HasUpper (box_points S.ends sources.now.family.now)) }
-    ensures most { IfOk result (λ hi. hi ≤ 16 * 2 ^ 74) }
+    ensures most { IfOk result (λ hi. hi ≤ 16 * end_limit) }
 {
     sources.family.invariant();
     let depot = sources.family.low(SiteId(0));
@@ -105,7 +106,7 @@ pub fn upper_within<S: Score>(
     requires ordered { AreOrdered case.now line.0 bounds.now.held bounds.now.low bounds.now.high }
     ensures upper { IfOk result (HasUpper
         (points_within case.now line.0 S.ends bounds.now.held bounds.now.low bounds.now.high)) }
-    ensures most { IfOk result (λ hi. hi ≤ 16 * 2 ^ 74) }
+    ensures most { IfOk result (λ hi. hi ≤ 16 * end_limit) }
 {
     let family = Family::of(case, rates, line, bounds);
     let sources = Sources::of(alloc, &family)?;

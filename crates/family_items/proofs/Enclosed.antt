@@ -16,8 +16,8 @@ use Rattle.depot_pipeline.specs.Exact.{FeedIn, IsAtMost}
 use Rattle.depot_pipeline.specs.Profile.{added, depot_line_ends, depot_shop_ends, feed_at, mean_part, no_feed, variance_part}
 use Rattle.depot_pipeline.proofs.Public.{added_in, mean_part_in, variance_part_in}
 use Rattle.base_pipeline.specs.declared.Held.{Held}
-use Rattle.base_pipeline.specs.Exact.{HeldIn}
-use Rattle.base_pipeline.specs.Profile.{base_line_ends, base_shop_ends, held_at}
+use Rattle.base_pipeline.specs.Exact.{DelayIn}
+use Rattle.base_pipeline.specs.Profile.{base_line_ends, base_shop_ends, delay_at}
 use Rattle.spares_input.specs.Frames.{line_of}
 use Rattle.spares_input.specs.Cases.{CaseRows}
 use Rattle.exact_model.specs.Sums.{sum_over}
@@ -32,7 +32,7 @@ use Rattle.fleet_model.proofs.Public.{sum_places, capped_i0, capped_00, capped_i
 use Rattle.demand_rates.proofs.Public.{no_line_there}
 use Rattle.family_items.specs.declared.pipeline.Pipeline.{Pipeline}
 use Rattle.family_items.specs.declared.item.Item.{Item}
-use Rattle.family_items.specs.Profile.{base_line, base_shop, depot_feed, depot_line, depot_shop, feed_of, held_of, item_of, pipeline_of, share_of, stocked}
+use Rattle.family_items.specs.Profile.{base_line, base_shop, depot_feed, depot_line, depot_shop, feed_of, delay_of, item_of, pipeline_of, share_of, stocked}
 use Rattle.family_items.specs.Encloses.{EnclosesItem, IsSmallItem}
 use Rattle.family_items.specs.Inputs.{HasTable, IsLine, IsPipeline, IsShop, IsSound}
 use Rattle.family_items.proofs.Ranges.{added_least, can_table, cap_in, direct_in, pipeline_is, share_in}
@@ -206,25 +206,25 @@ module _ (f : ℕ) (c : CaseRows) (s : List ℕ) (least : 24 ≤ f) (sound : IsS
 
   -- ---- the line unit at base j + 1
 
-  helds_in : (l j n k : ℕ) → IsLine c l → suc j < length c.sites → 1024 ≤ n → k < length (map (λ i. held_of f (base_shop f c s i (suc j))) (shop_units c l))
-      → HeldIn f (held_at (map (λ i. held_of f (base_shop f c s i (suc j))) (shop_units c l)) k)
+  delays_in : (l j n k : ℕ) → IsLine c l → suc j < length c.sites → 1024 ≤ n → k < length (map (λ i. delay_of f (base_shop f c s i (suc j))) (shop_units c l))
+      → DelayIn f (delay_at (map (λ i. delay_of f (base_shop f c s i (suc j))) (shop_units c l)) k)
       (ebo_ij c s n l (get_or (shop_units c l) k 0) (suc j)) (vbo_ij c s n l (get_or (shop_units c l) k 0) (suc j))
-  helds_in l j n k line lj deep h =
-      let w : k < length (shop_units c l) = omega (arith, h, length-map (shop_units c l) (λ i. held_of f (base_shop f c s i (suc j)))) in
+  delays_in l j n k line lj deep h =
+      let w : k < length (shop_units c l) = omega (arith, h, length-map (shop_units c l) (λ i. delay_of f (base_shop f c s i (suc j)))) in
       let x = in_ij l (get_or (shop_units c l) k 0) j n (shop_at c l k sound.valid line w) lj deep in
-      subst (λ (z : Held f). HeldIn f z (ebo_ij c s n l (get_or (shop_units c l) k 0) (suc j)) (vbo_ij c s n l (get_or (shop_units c l) k 0) (suc j)))
-      (sym (get_or-map (λ i. held_of f (base_shop f c s i (suc j))) (shop_units c l) k 0 _ w))
+      subst (λ (z : Held f). DelayIn f z (ebo_ij c s n l (get_or (shop_units c l) k 0) (suc j)) (vbo_ij c s n l (get_or (shop_units c l) k 0) (suc j)))
+      (sym (get_or-map (λ i. delay_of f (base_shop f c s i (suc j))) (shop_units c l) k 0 _ w))
       (record { backorders = x.backorders; spread = x.spread })
 
   can_0j : (l k : ℕ) → IsLine c l → k < length c.sites
       → HasTable f (base_line_ends f (pipeline_of f c s l k).direct (pipeline_of f c s l k).cap (feed_of f (share_of f c l k) (depot_line f c s l))
-      (map (λ i. held_of f (base_shop f c s i k)) (shop_units c l)))
+      (map (λ i. delay_of f (base_shop f c s i k)) (shop_units c l)))
   can_0j l k line lk =
       can_table f (pipeline_of f c s l k) _ _ (pair l k line.is_part lk)
       (omega (
         arith,
         added_least (ends_add (pipeline_of f c s l k).direct (mean_part f (feed_of f (share_of f c l k) (depot_line f c s l))))
-            (λ n. (held_at (map (λ i. held_of f (base_shop f c s i k)) (shop_units c l)) n).backorders) (length (map (λ i. held_of f (base_shop f c s i k)) (shop_units c l))),
+            (λ n. (delay_at (map (λ i. delay_of f (base_shop f c s i k)) (shop_units c l)) n).backorders) (length (map (λ i. delay_of f (base_shop f c s i k)) (shop_units c l))),
       ))
 
   pub small_0j : (l k : ℕ) → IsLine c l → k < length c.sites → IsSmallItem f (base_line f c s l k)
@@ -238,20 +238,20 @@ module _ (f : ℕ) (c : CaseRows) (s : List ℕ) (least : 24 ≤ f) (sound : IsS
 
   mean_0j : (l j n : ℕ) → IsLine c l → suc j < length c.sites → 1024 ≤ n
       → In f (added (ends_add (pipeline_of f c s l (suc j)).direct (mean_part f (feed_of f (share_of f c l (suc j)) (depot_line f c s l))))
-      (λ k. (held_at (map (λ i. held_of f (base_shop f c s i (suc j))) (shop_units c l)) k).backorders) (length (map (λ i. held_of f (base_shop f c s i (suc j))) (shop_units c l))))
+      (λ k. (delay_at (map (λ i. delay_of f (base_shop f c s i (suc j))) (shop_units c l)) k).backorders) (length (map (λ i. delay_of f (base_shop f c s i (suc j))) (shop_units c l))))
       (pipeline_0j c s n l (suc j)).mean
   unfolding pipeline_0j
   mean_0j l j n line lj deep =
       let d = direct_level None l (suc j) (no_line_there c.parts l line.no_parent) line.is_part lj in
       let first = add_encloses f (pipeline_of f c s l (suc j)).direct _ (direct_0j c l (suc j)) (f_0j c l (suc j) *ℚ ebo_00 c s n l) d (mean_part_in f _ _ _ _ (fed_0j l j n line lj deep)) in
       contains_same (sum_by_places (shop_units c l) (λ i. ebo_ij c s n l i (suc j)) (direct_0j c l (suc j) +ℚ f_0j c l (suc j) *ℚ ebo_00 c s n l) _
-      (length-map (shop_units c l) (λ i. held_of f (base_shop f c s i (suc j)))))
+      (length-map (shop_units c l) (λ i. delay_of f (base_shop f c s i (suc j)))))
       (added_in f _ _ (direct_0j c l (suc j) +ℚ f_0j c l (suc j) *ℚ ebo_00 c s n l) (λ k. ebo_ij c s n l (get_or (shop_units c l) k 0) (suc j)) _ first
-      (λ k h. (helds_in l j n k line lj deep h).backorders))
+      (λ k h. (delays_in l j n k line lj deep h).backorders))
 
   variance_0j : (l j n : ℕ) → IsLine c l → suc j < length c.sites → 1024 ≤ n
       → In f (added (ends_add (pipeline_of f c s l (suc j)).direct (variance_part f (feed_of f (share_of f c l (suc j)) (depot_line f c s l))))
-      (λ k. (held_at (map (λ i. held_of f (base_shop f c s i (suc j))) (shop_units c l)) k).spread) (length (map (λ i. held_of f (base_shop f c s i (suc j))) (shop_units c l))))
+      (λ k. (delay_at (map (λ i. delay_of f (base_shop f c s i (suc j))) (shop_units c l)) k).spread) (length (map (λ i. delay_of f (base_shop f c s i (suc j))) (shop_units c l))))
       (pipeline_0j c s n l (suc j)).variance
   unfolding pipeline_0j
   variance_0j l j n line lj deep =
@@ -259,9 +259,9 @@ module _ (f : ℕ) (c : CaseRows) (s : List ℕ) (least : 24 ≤ f) (sound : IsS
       let first = add_encloses f (pipeline_of f c s l (suc j)).direct _ (direct_0j c l (suc j)) (shared (f_0j c l (suc j)) (ebo_00 c s n l) (vbo_00 c s n l)) d
       (variance_part_in f _ _ _ _ (fed_0j l j n line lj deep)) in
       contains_same (sum_by_places (shop_units c l) (λ i. vbo_ij c s n l i (suc j)) (direct_0j c l (suc j) +ℚ shared (f_0j c l (suc j)) (ebo_00 c s n l) (vbo_00 c s n l)) _
-      (length-map (shop_units c l) (λ i. held_of f (base_shop f c s i (suc j)))))
+      (length-map (shop_units c l) (λ i. delay_of f (base_shop f c s i (suc j)))))
       (added_in f _ _ (direct_0j c l (suc j) +ℚ shared (f_0j c l (suc j)) (ebo_00 c s n l) (vbo_00 c s n l)) (λ k. vbo_ij c s n l (get_or (shop_units c l) k 0) (suc j)) _ first
-      (λ k h. (helds_in l j n k line lj deep h).spread))
+      (λ k h. (delays_in l j n k line lj deep h).spread))
 
   -- the item of a line unit at a base contains the model's numbers at each depth from 1024 on
   pub in_0j : (l j n : ℕ) → IsLine c l → suc j < length c.sites → 1024 ≤ n

@@ -1,7 +1,8 @@
 -- A family encloses the model.
-use Rattle.std.proofs.Common.{◌≡◌, ℕ, zero, suc, ◌+◌, ◌-◌, ◌*◌, ◌^◌, ◌<◌, ◌≤◌, true, false, List, [], ◌∷◌, ◌++◌, length, get_or, map, filter, refl, sym, ap, ap₂, ◌∙◌, subst, arith, mul-le-mul_right, zero-lt-suc}
-use Rattle.std.specs.List.{range_with_len, AllByRecursion, AllZip}
-use Rattle.std.proofs.lemmas.List.{map_push}
+use Rattle.std.proofs.Common.{◌≡◌, ℕ, zero, suc, ◌+◌, ◌-◌, ◌*◌, ◌^◌, ◌<◌, ◌≤◌, true, List, [], ◌∷◌, length, get_or, map, refl, sym, ap, ◌∙◌, subst, arith, mul-le-mul_right, zero-lt-suc}
+use Rattle.std.specs.List.{AllByRecursion, AllZip}
+use Rattle.std.proofs.lemmas.List.{get_or-map, length-map}
+use Rattle.std.proofs.lemmas.Simd.{map-map}
 use Rattle.exact_model.specs.Fraction.{Encloses, whole, ◌*ℚ◌}
 use Rattle.exact_model.proofs.Public.{contains_same, ◌≈≈◌, none_plus}
 use Rattle.fixed_interval.specs.Ends.{Ends, In, ends_exact}
@@ -12,6 +13,7 @@ use Rattle.spares_input.specs.Rows.{is_line, no_part}
 use Rattle.spares_input.specs.Frames.{part_at}
 use Rattle.spares_input.specs.Cases.{CaseRows, IsCase}
 use Rattle.spares_input.specs.Stocks.{StockList}
+use Rattle.spares_input.specs.declared.rows.PartId.{PartId}
 use Rattle.fleet_model.specs.Rows.{line_units, weight}
 use Rattle.fleet_model.specs.Pipelines.{ebo_0j}
 use Rattle.fleet_model.specs.Fleet.{family, family_total}
@@ -25,9 +27,9 @@ use Rattle.family_items.specs.Profile.{families_of, family_of, item_of, total_of
 use Rattle.family_items.specs.Encloses.{CanEvaluate, EnclosesFamily, EnclosesItem, IsSmallFamily, IsSmallItem, no_item}
 use Rattle.family_items.specs.Inputs.{IsLine, IsSound}
 use Rattle.family_items.proofs.Ranges.{sound_of}
-use Rattle.family_items.proofs.Units.{shop_at}
+use Rattle.family_items.proofs.Units.{all_at, shop_at}
 use Rattle.family_items.proofs.Enclosed.{in_0j, item_in, item_small}
-use Rattle.family_items.proofs.Items.{base_line_item, flat_at, left_out, kept_more, weighed_most}
+use Rattle.family_items.proofs.Items.{base_line_item, flat_at, weighed_most}
 
 -- what can be evaluated has accepted rates at each pair, and stocks within the limits
 pub evaluable : (f : ℕ) (c : CaseRows) (s : StockList) → CanEvaluate f c s → IsSound c s.list
@@ -37,7 +39,6 @@ evaluable f c s h =
       valid = h.valid;
       are_rates = rates_model c _ (length c.sites) (all_rates c) h.valid h.no_fault refl refl refl;
       are_stocks = h.are_stocks;
-      limits = h.limits;
     })
 
 -- each member of a family is a part of the case
@@ -129,17 +130,22 @@ families_small f c s results least sound e =
     subst (AllZip (IsSmallFamily f c) (line_units c)) (sym e)
     (zip_mapped (IsLine c) (IsSmallFamily f c) (λ l. family_of f c l s) (line_units c) (λ l line. family_small f c s l least sound line) (line_all c))
 
--- one part more
-pub family_more : (f : ℕ) (c : CaseRows) (s : StockList) (p : ℕ) (xs ys : List (FamilyResult f)) (x : FamilyResult f) → is_line (part_at c.parts p) ≡ true → x ≡ family_of f c p s
-    → ys ≡ xs ++ x ∷ [] → xs ≡ map (λ l. family_of f c l s) (filter (λ q. is_line (part_at c.parts q)) (range_with_len 0 p))
-    → ys ≡ map (λ l. family_of f c l s) (filter (λ q. is_line (part_at c.parts q)) (range_with_len 0 (p + 1)))
-family_more f c s p xs ys x line hx hy h =
-    hy ∙ ap₂ (λ (a : List (FamilyResult f)) (b : FamilyResult f). a ++ b ∷ []) h hx
-    ∙ sym (map_push (λ l. family_of f c l s) (filter (λ q. is_line (part_at c.parts q)) (range_with_len 0 p)) p)
-    ∙ ap (map (λ l. family_of f c l s)) (sym (kept_more (λ q. is_line (part_at c.parts q)) p line))
+-- a list of the line units
+module _ (c : CaseRows) (units : List PartId) (all : map (λ (p : PartId). p.0) units ≡ line_units c) where
+  -- each has its place in the model's list
+  pub line_listed : (k : ℕ) (d : PartId) → k < length units → (get_or units k d).0 ≡ get_or (line_units c) k 0
+  line_listed k d h = sym (get_or-map (λ (p : PartId). p.0) units k d 0 h) ∙ ap (λ xs. get_or xs k 0) all
 
--- a part that is no line unit adds no family
-pub family_kept : (f : ℕ) (c : CaseRows) (s : StockList) (p : ℕ) (xs : List (FamilyResult f)) → is_line (part_at c.parts p) ≡ false
-    → xs ≡ map (λ l. family_of f c l s) (filter (λ q. is_line (part_at c.parts q)) (range_with_len 0 p))
-    → xs ≡ map (λ l. family_of f c l s) (filter (λ q. is_line (part_at c.parts q)) (range_with_len 0 (p + 1)))
-family_kept f c s p xs line h = h ∙ ap (map (λ l. family_of f c l s)) (sym (left_out (λ q. is_line (part_at c.parts q)) p line))
+  -- they are as many
+  pub lines_count : length units ≡ length (line_units c)
+  lines_count = sym (length-map units (λ (p : PartId). p.0)) ∙ ap (λ (xs : List ℕ). length xs) all
+
+  -- each is a line unit
+  pub listed_is_line : (k : ℕ) (d : PartId) → k < length units → IsLine c (get_or units k d).0
+  listed_is_line k d h =
+      let within : k < length (line_units c) = omega (arith, h, lines_count) in
+      subst (IsLine c) (sym (line_listed k d h)) (all_at (IsLine c) (line_units c) k (line_all c) within)
+
+  -- what is made of each is made of the model's
+  pub each_listed : {X : Type 0} (g : ℕ → X) → map (λ (p : PartId). g p.0) units ≡ map g (line_units c)
+  each_listed g = sym (map-map g (λ (p : PartId). p.0) units) ∙ ap (map g) all

@@ -1,8 +1,7 @@
 -- The lists of items that the loops make.
 use Rattle.std.proofs.Common.{◌≡◌, ℕ, zero, suc, ◌+◌, ◌-◌, ◌*◌, ◌^◌, ◌<◌, ◌≤◌, Bool, true, false, cond, List, [], ◌∷◌, ◌++◌, length, get_or, map, filter, flat_map, take, Option, Some, refl, sym, ap, ap₂, ◌∙◌, subst, arith, length-append, append-nil, mul-le-mul_left, mul-le-mul_right}
 use Rattle.std.specs.List.{range_with_len, All, AllByRecursion}
-use Rattle.std.proofs.lemmas.List.{get_or-map, get_or_default, length-map, map_more, map_push, get_or_append_left, get_or-append-add}
-use Rattle.std.proofs.lemmas.List.Elements.{filter-append}
+use Rattle.std.proofs.lemmas.List.{get_or-map, get_or_default, length-map, map_more, get_or_append_left, get_or-append-add}
 use Rattle.std.proofs.lemmas.List.Folds.{flat_map-map}
 use Rattle.std.proofs.lemmas.List.FromFn.{get_or-map-range_with_len, length-map-range_with_len}
 use Rattle.fixed_interval.specs.Ends.{Ends, ends_add, ends_exact, ends_times}
@@ -11,20 +10,20 @@ use Rattle.depot_pipeline.specs.declared.Feed.{Feed}
 use Rattle.depot_pipeline.specs.Exact.{IsSmallFeed}
 use Rattle.depot_pipeline.specs.Profile.{added, depot_line_ends, depot_shop_ends}
 use Rattle.base_pipeline.specs.declared.Held.{Held}
-use Rattle.base_pipeline.specs.Exact.{IsSmallHeld}
+use Rattle.base_pipeline.specs.Exact.{IsSmallDelay}
 use Rattle.base_pipeline.specs.Profile.{base_line_ends, base_shop_ends}
 use Rattle.spares_input.specs.Frames.{line_of}
 use Rattle.spares_input.specs.Cases.{CaseRows, IsCase}
 use Rattle.spares_input.specs.Stocks.{StockList}
 use Rattle.spares_input.specs.declared.rows.PartId.{PartId}
-use Rattle.spares_input.proofs.Public.{range_next}
+use Rattle.spares_input.proofs.Public.{filter_next}
 use Rattle.fleet_model.specs.Rows.{shop_units, weight}
 use Rattle.fleet_model.specs.Pairs.{by_pair}
 use Rattle.demand_rates.specs.Rates.{pair_rates}
 use Rattle.demand_rates.proofs.Public.{no_line_there}
 use Rattle.family_items.specs.declared.pipeline.Pipeline.{Pipeline}
 use Rattle.family_items.specs.declared.item.Item.{Item}
-use Rattle.family_items.specs.Profile.{base_line, base_shop, depot_feed, depot_line, depot_shop, family_of, feed_of, held_of, item_of, pipeline_of, part_items, share_of, stocked, total_of, weighed}
+use Rattle.family_items.specs.Profile.{base_line, base_shop, depot_feed, depot_line, depot_shop, family_of, feed_of, delay_of, item_of, pipeline_of, part_items, share_of, stocked, total_of, weighed}
 use Rattle.family_items.specs.Encloses.{IsSmallItem, no_item}
 use Rattle.family_items.specs.Inputs.{IsLine, IsShop, IsSound}
 use Rattle.family_items.proofs.Ranges.{share_most}
@@ -35,20 +34,13 @@ use Rattle.family_items.proofs.Enclosed.{item_small, small_i0, small_ij}
 
 -- one number more, by its test
 pub kept_more : (t : ℕ → Bool) (n : ℕ) → t n ≡ true → filter t (range_with_len 0 (n + 1)) ≡ filter t (range_with_len 0 n) ++ n ∷ []
-kept_more t n h =
-    ap (filter t) (range_next n) ∙ filter-append t (range_with_len 0 n) (n ∷ []) ∙ ap (λ b. filter t (range_with_len 0 n) ++ cond b (n ∷ []) []) h
+kept_more t n h = filter_next t n ∙ ap (λ b. filter t (range_with_len 0 n) ++ cond b (n ∷ []) []) h
 
 -- a number that fails the test adds nothing to those that pass it
 pub left_out : (t : ℕ → Bool) (n : ℕ) → t n ≡ false → filter t (range_with_len 0 (n + 1)) ≡ filter t (range_with_len 0 n)
 left_out t n h =
-    ap (filter t) (range_next n) ∙ filter-append t (range_with_len 0 n) (n ∷ []) ∙ ap (λ b. filter t (range_with_len 0 n) ++ cond b (n ∷ []) []) h
+    filter_next t n ∙ ap (λ b. filter t (range_with_len 0 n) ++ cond b (n ∷ []) []) h
     ∙ append-nil (filter t (range_with_len 0 n))
-
--- the ids of the same numbers
-pub kept_id : (t : ℕ → Bool) (n : ℕ) (xs ys : List PartId) (x : PartId) → x.0 ≡ n → t n ≡ true → ys ≡ xs ++ x ∷ []
-    → map (λ (p : PartId). p.0) xs ≡ filter t (range_with_len 0 n) → map (λ (p : PartId). p.0) ys ≡ filter t (range_with_len 0 (n + 1))
-kept_id t n xs ys x hx ht hy h =
-    ap (map (λ (p : PartId). p.0)) hy ∙ map_push (λ (p : PartId). p.0) xs x ∙ ap₂ (λ (a : List ℕ) (b : ℕ). a ++ b ∷ []) h hx ∙ sym (kept_more t n ht)
 
 -- the element at place k of row i, where each row has n elements
 pub flat_at : {X : Type 0} (g : ℕ → ℕ → X) (n : ℕ) (d : X) (xs : List ℕ) (i k : ℕ) → i < length xs → k < n
@@ -132,7 +124,7 @@ depot_line_is f c s l x feeds list y hx hl hf h =
 -- hold back there is its item
 pub base_line_is : (f : ℕ) (c : CaseRows) (s : List ℕ) (l k : ℕ) (x : Pipeline f) (feed : Feed f) (share : Ends) (depot y : Item f) (held list : List (Held f)) → x ≡ pipeline_of f c s l k
     → feed ≡ feed_of f share depot → share ≡ share_of f c l k → depot ≡ depot_line f c s l
-    → list ≡ held → held ≡ map (λ i. held_of f (base_shop f c s i k)) (shop_units c l)
+    → list ≡ held → held ≡ map (λ i. delay_of f (base_shop f c s i k)) (shop_units c l)
     → y ≡ stocked f x (base_line_ends f x.direct x.cap feed list) → y ≡ base_line f c s l k
 unfolding base_line
 base_line_is f c s l k x feed share depot y held list hx hf hs hd hl hh h =
@@ -147,8 +139,8 @@ pub feed_small : (f : ℕ) (share : Ends) (x : Item f) (feed : Feed f) → feed 
 feed_small f share x feed e h small =
     subst (IsSmallFeed f) (sym e) (record { share = h; backorders = small.backorders_most; spread = small.spread_most })
 
-pub held_small : (f : ℕ) (x : Item f) → IsSmallItem f x → IsSmallHeld f (held_of f x)
-held_small f x small = record { backorders = small.backorders_most; spread = small.spread_most }
+pub delay_small : (f : ℕ) (x : Item f) → IsSmallItem f x → IsSmallDelay f (delay_of f x)
+delay_small f x small = record { backorders = small.backorders_most; spread = small.spread_most }
 
 pub all_mapped : {X Y : Type 0} (Q : Y → Type 0) (g : X → Y) (xs : List X) → ((k : ℕ) (d : X) → k < length xs → Q (g (get_or xs k d))) → All Q (map g xs)
 all_mapped Q g [] h k d l = absurd (omega arith)
@@ -167,13 +159,13 @@ feeds_are f c s l xs valid line e =
     ∙ ap (map (depot_feed f c s)) e
 
 -- the items of all shop units at a base are what holds back the line unit there
-pub held_are : (f : ℕ) (c : CaseRows) (s : List ℕ) (l k : ℕ) (xs : List PartId) → 0 < k → IsCase c → IsLine c l → map (λ (p : PartId). p.0) xs ≡ shop_units c l
-    → map (λ (p : PartId). held_of f (item_of f c s p.0 k)) xs ≡ map (λ i. held_of f (base_shop f c s i k)) (shop_units c l)
-held_are f c s l k xs base valid line e =
-    same_maps (IsShop c l) (λ p. held_of f (item_of f c s p.0 k)) (λ i. held_of f (base_shop f c s i k)) xs
+pub delays_are : (f : ℕ) (c : CaseRows) (s : List ℕ) (l k : ℕ) (xs : List PartId) → 0 < k → IsCase c → IsLine c l → map (λ (p : PartId). p.0) xs ≡ shop_units c l
+    → map (λ (p : PartId). delay_of f (item_of f c s p.0 k)) xs ≡ map (λ i. delay_of f (base_shop f c s i k)) (shop_units c l)
+delays_are f c s l k xs base valid line e =
+    same_maps (IsShop c l) (λ p. delay_of f (item_of f c s p.0 k)) (λ i. delay_of f (base_shop f c s i k)) xs
     (subst (AllByRecursion (IsShop c l)) (sym e) (shops_all c l valid line))
-    (λ p shop. ap (held_of f) (sym (base_shop_item f c s l p.0 k shop.line_is base)))
-    ∙ ap (map (λ i. held_of f (base_shop f c s i k))) e
+    (λ p shop. ap (delay_of f) (sym (base_shop_item f c s l p.0 k shop.line_is base)))
+    ∙ ap (map (λ i. delay_of f (base_shop f c s i k))) e
 
 -- ---- reading the items of shop units, which stand by unit and then by site
 
@@ -215,12 +207,12 @@ feeds_more f c s xs fs gs i d share x feed l hx hs hf hg h =
     ∙ sym (map_more (λ (p : PartId). feed_of f (share_of f c p.0 0) (item_of f c s p.0 0)) xs i d l)
 
 -- with the next shop unit appended, what holds back the line unit is of one more shop unit
-pub held_more : (f : ℕ) (c : CaseRows) (s : List ℕ) (xs : List PartId) (fs gs : List (Held f)) (i k : ℕ) (d : PartId) (x : Item f) (held : Held f) → i < length xs
-    → x ≡ item_of f c s (get_or xs i d).0 k → held ≡ held_of f x → gs ≡ fs ++ held ∷ []
-    → fs ≡ map (λ (p : PartId). held_of f (item_of f c s p.0 k)) (take i xs) → gs ≡ map (λ (p : PartId). held_of f (item_of f c s p.0 k)) (take (i + 1) xs)
-held_more f c s xs fs gs i k d x held l hx hf hg h =
-    hg ∙ ap₂ (λ (a : List (Held f)) (b : Held f). a ++ b ∷ []) h (hf ∙ ap (held_of f) hx)
-    ∙ sym (map_more (λ (p : PartId). held_of f (item_of f c s p.0 k)) xs i d l)
+pub delays_more : (f : ℕ) (c : CaseRows) (s : List ℕ) (xs : List PartId) (fs gs : List (Held f)) (i k : ℕ) (d : PartId) (x : Item f) (held : Held f) → i < length xs
+    → x ≡ item_of f c s (get_or xs i d).0 k → held ≡ delay_of f x → gs ≡ fs ++ held ∷ []
+    → fs ≡ map (λ (p : PartId). delay_of f (item_of f c s p.0 k)) (take i xs) → gs ≡ map (λ (p : PartId). delay_of f (item_of f c s p.0 k)) (take (i + 1) xs)
+delays_more f c s xs fs gs i k d x held l hx hf hg h =
+    hg ∙ ap₂ (λ (a : List (Held f)) (b : Held f). a ++ b ∷ []) h (hf ∙ ap (delay_of f) hx)
+    ∙ sym (map_more (λ (p : PartId). delay_of f (item_of f c s p.0 k)) xs i d l)
 
 -- ---- shop units by their ids
 
@@ -311,10 +303,10 @@ feeds_few f c s l feeds sound line e =
     omega (arith, ap (λ (xs : List (Feed f)). length xs) e, length-map (shop_units c l) (depot_feed f c s), few_shops c l sound.valid line)
 
 -- at most 8 shop units hold back a line unit at a base
-pub held_few : (f : ℕ) (c : CaseRows) (s : List ℕ) (l k : ℕ) (held : List (Held f)) → IsSound c s → IsLine c l
-    → held ≡ map (λ i. held_of f (base_shop f c s i k)) (shop_units c l) → length held ≤ 8
-held_few f c s l k held sound line e =
-    omega (arith, ap (λ (xs : List (Held f)). length xs) e, length-map (shop_units c l) (λ i. held_of f (base_shop f c s i k)), few_shops c l sound.valid line)
+pub delays_few : (f : ℕ) (c : CaseRows) (s : List ℕ) (l k : ℕ) (held : List (Held f)) → IsSound c s → IsLine c l
+    → held ≡ map (λ i. delay_of f (base_shop f c s i k)) (shop_units c l) → length held ≤ 8
+delays_few f c s l k held sound line e =
+    omega (arith, ap (λ (xs : List (Held f)). length xs) e, length-map (shop_units c l) (λ i. delay_of f (base_shop f c s i k)), few_shops c l sound.valid line)
 
 -- an element of the shop units, whatever stands past their end
 shop_in : (c : CaseRows) (l k d : ℕ) → IsCase c → IsLine c l → k < length (shop_units c l) → get_or (shop_units c l) k d < length c.parts
@@ -333,10 +325,10 @@ depot_feeds_small f c s l feeds least sound line e =
     (small_i0 f c s least sound (get_or (shop_units c l) k d) i))))
 
 -- what holds back a line unit at a site is small
-pub all_held_small : (f : ℕ) (c : CaseRows) (s : List ℕ) (l k : ℕ) (held : List (Held f)) → 24 ≤ f → IsSound c s → IsLine c l → k < length c.sites
-    → held ≡ map (λ i. held_of f (base_shop f c s i k)) (shop_units c l) → All (IsSmallHeld f) held
-all_held_small f c s l k held least sound line lk e =
-    subst (All (IsSmallHeld f)) (sym e)
-    (all_mapped (IsSmallHeld f) (λ i. held_of f (base_shop f c s i k)) (shop_units c l)
-    (λ j d h. held_small f (base_shop f c s (get_or (shop_units c l) j d) k)
+pub all_delays_small : (f : ℕ) (c : CaseRows) (s : List ℕ) (l k : ℕ) (held : List (Held f)) → 24 ≤ f → IsSound c s → IsLine c l → k < length c.sites
+    → held ≡ map (λ i. delay_of f (base_shop f c s i k)) (shop_units c l) → All (IsSmallDelay f) held
+all_delays_small f c s l k held least sound line lk e =
+    subst (All (IsSmallDelay f)) (sym e)
+    (all_mapped (IsSmallDelay f) (λ i. delay_of f (base_shop f c s i k)) (shop_units c l)
+    (λ j d h. delay_small f (base_shop f c s (get_or (shop_units c l) j d) k)
     (small_ij f c s least sound (get_or (shop_units c l) j d) k (shop_in c l j d sound.valid line h) lk)))

@@ -118,7 +118,7 @@ pub sound_of : (x : InputRows) → AreInputs x → IsSound x.case x.stocks.list
 sound_of x h = record {
   valid = h.valid;
   pairs = λ p k l m. (let r = h.are_rates.pairs p k l m in subst (ArePairRates x.case p k) r.units r);
-  allocation = stocks_allocation x.case x.stocks h.are_stocks h.limits;
+  allocation = stocks_allocation x.case x.stocks h.are_stocks.is_for h.are_stocks.limits;
 }
 
 -- rates that pass the checks make a pipeline whose cap isn't far above its direct part
@@ -167,20 +167,20 @@ module _ (x y : InputRows) (p : PartId) (k : SiteId) (h : AreInputs x) (e : x �
   -- the pair has a stock
   pub has_pair : HasPair x.stocks p.0 k.0
   has_pair = record {
-    site = subst (λ n. k.0 < n) (sym h.are_stocks.sites) is_site;
-    within = place_within x.stocks.sites (length x.stocks.list) h.are_stocks.sites h.are_stocks.pairs;
+    site = subst (λ n. k.0 < n) (sym h.are_stocks.is_for.sites) is_site;
+    within = place_within x.stocks.sites (length x.stocks.list) h.are_stocks.is_for.sites h.are_stocks.is_for.pairs;
   }
 
   -- which is at most 63
   pub few : (s : ℕ) → s ≡ stock_at x.stocks p.0 k.0 → s ≤ 63
-  few s at = subst (λ n. n ≤ 63) (stock_holds x.case x.stocks p.0 k.0 h.are_stocks ∙ sym at) (stock_most x.case x.stocks.list p.0 k.0 (sound_of x h))
+  few s at = subst (λ n. n ≤ 63) (stock_holds x.case x.stocks p.0 k.0 h.are_stocks.is_for ∙ sym at) (stock_most x.case x.stocks.list p.0 k.0 (sound_of x h))
 
   -- stock and rates make the pair's pipeline
   pub pipeline_made : (f s d z cap : ℕ) (direct most : Ends) → s ≡ stock_at x.stocks p.0 k.0 → d ≡ (rates_at x.rates p.0 k.0).direct
       → z ≡ (rates_at x.rates p.0 k.0).zero_stock → direct ≡ ends_ratio f d pipeline_scale → most ≡ ends_ratio f z pipeline_scale → cap ≡ most.hi
       → ◌≡◌ {A = Pipeline f} (record { part = p; site = k; stock = s; direct = direct; cap = cap }) (pipeline_of f y.case y.stocks.list p.0 k.0)
   pipeline_made f s d z cap direct most at ds zs es ms top =
-      let stocked : s ≡ stock x.case x.stocks.list p.0 k.0 = at ∙ sym (stock_holds x.case x.stocks p.0 k.0 h.are_stocks) in
+      let stocked : s ≡ stock x.case x.stocks.list p.0 k.0 = at ∙ sym (stock_holds x.case x.stocks p.0 k.0 h.are_stocks.is_for) in
       let begun : direct ≡ ends_ratio f (pair_rates x.case p.0 k.0).direct pipeline_scale =
       es ∙ ap (λ n. ends_ratio f n pipeline_scale) (ds ∙ ap (λ (r : PairRates). r.direct) its_rates.units) in
       let capped : cap ≡ (ends_ratio f (pair_rates x.case p.0 k.0).zero_stock pipeline_scale).hi =

@@ -39,7 +39,8 @@ module _ (c : CaseRows) (valid : IsCase c) (l i : ℕ) (wl : l < length c.parts)
   pub owner_is : line_of c.parts i ≡ Some l
   owner_is = owner (line_of c.parts i) refl
 
-all_at : (P : ℕ → Type 0) (xs : List ℕ) (k : ℕ) → AllByRecursion P xs → k < length xs → P (get_or xs k 0)
+-- what holds of all elements of a list holds of each
+pub all_at : (P : ℕ → Type 0) (xs : List ℕ) (k : ℕ) → AllByRecursion P xs → k < length xs → P (get_or xs k 0)
 all_at P [] k a h = absurd (omega arith)
 all_at P (x ∷ xs) zero a h = a.0
 all_at P (x ∷ xs) (suc k) a h = all_at P xs k a.1 (omega arith)

@@ -4,7 +4,7 @@ use Rattle.exact_model.specs.Fraction.{Encloses}
 use Rattle.fixed_interval.specs.Ends.{InScale, IsWithinLimit, ends_exact}
 use Rattle.spares_input.specs.Pairs.{pair_place}
 use Rattle.spares_input.specs.Cases.{CaseRows, IsCase}
-use Rattle.spares_input.specs.Stocks.{StockList, IsFor, IsWithinLimits}
+use Rattle.spares_input.specs.Stocks.{AreStocksOf, StockList}
 use Rattle.fleet_model.specs.Pairs.{mean, variance, backorders, spread}
 use Rattle.fleet_model.specs.Fleet.{family, family_total}
 use Rattle.demand_rates.specs.Limits.{rate_fault_of}
@@ -16,8 +16,7 @@ pub record CanEvaluate (f : ℕ) (c : CaseRows) (s : StockList) : Type 0 where
   pub scale : InScale f
   pub valid : IsCase c
   pub no_fault : rate_fault_of c ≡ None
-  pub are_stocks : IsFor c s
-  pub limits : IsWithinLimits c s
+  pub are_stocks : AreStocksOf c s
 
 -- the item encloses mean, variance, backorders and their variance of part p at site k, at every depth
 pub record EnclosesItem (f : ℕ) (c : CaseRows) (s : List ℕ) (p k : ℕ) (x : Item f) : Type 0 where

@@ -6,7 +6,7 @@ use Rattle.depot_pipeline.specs.declared.Moments.{Moments}
 use Rattle.spares_input.specs.Rows.{is_line}
 use Rattle.spares_input.specs.Frames.{part_at, line_of}
 use Rattle.spares_input.specs.Cases.{CaseRows, IsCase}
-use Rattle.spares_input.specs.Stocks.{StockList, IsFor, IsWithinLimits}
+use Rattle.spares_input.specs.Stocks.{AreStocksOf, StockList}
 use Rattle.fleet_model.specs.Fleet.{IsAllocation}
 use Rattle.demand_rates.specs.RateLists.{RateList}
 use Rattle.demand_rates.specs.Rates.{pair_rates, ArePairRates, AreRatesOf}
@@ -22,8 +22,7 @@ pub record InputRows : Type 0 where
 pub record AreInputs (x : InputRows) : Type 0 where
   pub valid : IsCase x.case
   pub are_rates : AreRatesOf x.case x.rates
-  pub are_stocks : IsFor x.case x.stocks
-  pub limits : IsWithinLimits x.case x.stocks
+  pub are_stocks : AreStocksOf x.case x.stocks
 
 -- then the rates of each pair are within their limits, and so is each stock
 pub record IsSound (c : CaseRows) (s : List ℕ) : Type 0 where

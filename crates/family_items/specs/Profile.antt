@@ -62,8 +62,8 @@ abbrev pub feed_of : (f : ℕ) → Ends → Item f → Feed f
 feed_of f share x = record { share = share; backorders = x.backorders; spread = x.spread }
 
 -- the backorders of a shop unit at a base, for which its line unit's repairs there wait
-abbrev pub held_of : (f : ℕ) → Item f → Held f
-held_of f x = record { backorders = x.backorders; spread = x.spread }
+abbrev pub delay_of : (f : ℕ) → Item f → Held f
+delay_of f x = record { backorders = x.backorders; spread = x.spread }
 
 -- ---- the four levels, of a case c and the list s of its stocks
 
@@ -96,7 +96,7 @@ base_line f c s l j =
     stocked f (pipeline_of f c s l j)
     (base_line_ends f (pipeline_of f c s l j).direct (pipeline_of f c s l j).cap
     (feed_of f (share_of f c l j) (depot_line f c s l))
-    (map (λ i. held_of f (base_shop f c s i j)) (shop_units c l)))
+    (map (λ i. delay_of f (base_shop f c s i j)) (shop_units c l)))
 
 -- ---- families
 

@@ -1,10 +1,10 @@
 //! The numbers that pipelines are computed from.
 
-ghost use Rattle.std.specs.Prelude.{◌≡◌, ◌*◌, ◌^◌, ◌<◌, ◌≤◌, length};
+ghost use Rattle.std.specs.Prelude.{◌≡◌, ◌*◌, ◌^◌, ◌<◌, ◌≤◌, length, map};
 ghost use Rattle.fixed_interval.specs.Ends.{InScale};
-ghost use Rattle.spares_input.specs.Stocks.{IsFor, IsWithinLimits};
+ghost use Rattle.spares_input.specs.Stocks.{AreStocksOf};
 ghost use Rattle.demand_rates.specs.Rates.{AreRatesOf};
-ghost use Rattle.fleet_model.specs.Rows.{weight};
+ghost use Rattle.fleet_model.specs.Rows.{shop_units, weight};
 ghost use Rattle.family_items.specs.Profile.{pipeline_of, share_of};
 ghost use Rattle.family_items.specs.Inputs.{IsPipeline, IsSound};
 
@@ -36,8 +36,7 @@ impl<'a> Inputs<'a> {
     /// A case, rates of it, and stocks of it within its limits.
     pub fn of(case: &'a Case, rates: &'a Rates, stocks: &'a Stocks) -> Inputs<'a>
         requires rates { AreRatesOf case.now rates.now }
-        requires stocks { IsFor case.now stocks.now }
-        requires limits { IsWithinLimits case.now stocks.now }
+        requires stocks { AreStocksOf case.now stocks.now }
         ensures { result ≡ record { case = case.now; rates = rates.now; stocks = stocks.now } }
     {
         case.invariant();
@@ -68,6 +67,14 @@ impl<'a> Inputs<'a> {
         ensures valid { IsSound self.now.case self.now.stocks.list }
     {
         self.case.site_count()
+    }
+
+    /// The shop units of a line unit, in part order.
+    pub fn shop_units(&self, line: PartId) -> &[PartId]
+        requires { line.0 < length self.now.case.parts }
+        ensures { map (λ p. p.0) result.now ≡ shop_units self.now.case line.0 }
+    {
+        &self.case.family(line)[1..]
     }
 
     /// The weight of a backorder of a line unit, 1 to 100.

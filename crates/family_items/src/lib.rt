@@ -14,11 +14,9 @@ ghost use Rattle.family_items.specs.Inputs.{IsLine};
 
 pub mod inputs;
 mod item;
-mod parts;
 pub mod pipeline;
 
 pub use item::{FamilyResult, Item};
-pub use parts::{line_units, members, shop_units};
 
 /// The item of each pair encloses the model's figures at every depth from 1024 on, and none of them is above 256.
 pub fn items_enclose()

@@ -15,9 +15,9 @@ use Rattle.fleet_model.specs.Fleet.{family}
 use Rattle.family_items.specs.declared.item.Item.{Item}
 use Rattle.family_numbers.specs.declared.numbers.PairNumbers.{PairNumbers}
 use Rattle.family_items.specs.Inputs.{HasTable, IsLine}
-use Rattle.family_numbers.specs.Numbers.{ArePairNumbers, nth_stock, base_backorders, base_helds, base_shop_moments, base_shop_row, depot_feeds, depot_line_moments, depot_line_row, depot_shop_moments, depot_shop_row, family_stocks, feed_from, held_from, numbers_of, no_numbers, pair_at, pair_numbers, rows_of}
+use Rattle.family_numbers.specs.Numbers.{ArePairNumbers, nth_stock, base_backorders, base_delays, base_shop_moments, base_shop_row, depot_feeds, depot_line_moments, depot_line_row, depot_shop_moments, depot_shop_row, family_stocks, feed_from, delay_from, numbers_of, no_numbers, pair_at, pair_numbers, rows_of}
 use Rattle.family_numbers.specs.Numbers.{moments_of}
-use Rattle.family_items.specs.Profile.{base_line, base_shop, depot_feed, depot_line, depot_shop, feed_of, held_of, item_of, share_of, stocked}
+use Rattle.family_items.specs.Profile.{base_line, base_shop, depot_feed, depot_line, depot_shop, feed_of, delay_of, item_of, share_of, stocked}
 use Rattle.family_items.proofs.Public.{base_line_item, flat_at, can_capped}
 
 -- a mean that begins at or above a pair's direct part has a table once it is capped
@@ -98,23 +98,23 @@ module _ (f : ℕ) (c : CaseRows) (l : ℕ) where
       base_stock : (i : ℕ) → i < length (shop_units c l) → nth_stock b i ≡ stock c s (get_or (shop_units c l) i 0) k
       base_stock i h = ap (λ v. get_or v (suc i) 0) (sym at) ∙ get_or-map (λ p. stock c s p k) (shop_units c l) i 0 0 h
 
-      held : (i : ℕ) → i < length (shop_units c l)
-          → held_from f (base_shop_row f (numbers_of f c l) i k (nth_stock d i) (nth_stock b i)) ≡ held_of f (base_shop f c s (get_or (shop_units c l) i 0) k)
+      delay : (i : ℕ) → i < length (shop_units c l)
+          → delay_from f (base_shop_row f (numbers_of f c l) i k (nth_stock d i) (nth_stock b i)) ≡ delay_of f (base_shop f c s (get_or (shop_units c l) i 0) k)
       unfolding base_shop stocked
-      held i h =
-          ap (held_from f)
+      delay i h =
+          ap (delay_from f)
           (ap₂ (λ (y : Moments f) (n : ℕ). at_stock (rows_of f y) n)
           (ap₂ (λ (w : PairNumbers f) (z : Feed f). base_shop_ends f w.direct w.cap z) (shop_pair i k h inside) (fed i k h inside)) (base_stock i h))
 
-      helds : base_helds f (numbers_of f c l) k d b ≡ map (λ i. held_of f (base_shop f c s i k)) (shop_units c l)
-      helds = shops_numbered _ (λ i. held_of f (base_shop f c s i k)) (λ n h. held n h)
+      delays : base_delays f (numbers_of f c l) k d b ≡ map (λ i. delay_of f (base_shop f c s i k)) (shop_units c l)
+      delays = shops_numbered _ (λ i. delay_of f (base_shop f c s i k)) (λ n h. delay n h)
 
       pub line_at_base : base_backorders f (numbers_of f c l) k o d b own ≡ (base_line f c s l k).backorders
       unfolding base_line stocked
       line_at_base =
           ap₂ (λ (y : Moments f) (n : ℕ). (at_stock (rows_of f y) n).ebo)
           (ap₂ (λ (w : PairNumbers f) (z : Feed f × List (Held f)). base_line_ends f w.direct w.cap z.0 z.1) (line_pair k inside)
-          (ap₂ (λ (u : Feed f) (z : List (Held f)). (u, z)) (line_fed k inside) helds))
+          (ap₂ (λ (u : Feed f) (z : List (Held f)). (u, z)) (line_fed k inside) delays))
           base_own
 
 -- the backorders of the line unit at a base, from the numbers of the family and its stocks at the depot and at that base

@@ -12,9 +12,9 @@ use Rattle.depot_pipeline.specs.Exact.{IsSmallFeed}
 use Rattle.depot_pipeline.specs.Profile.{added, capped_at, mean_part, variance_part}
 use Rattle.depot_pipeline.proofs.Public.{part_most}
 use Rattle.base_pipeline.specs.declared.Held.{Held}
-use Rattle.base_pipeline.specs.Profile.{held_at}
+use Rattle.base_pipeline.specs.Profile.{delay_at}
 use Rattle.family_numbers.specs.declared.own_part.OwnPart.{OwnPart}
-use Rattle.family_numbers.specs.Numbers.{AreNumbers, FamilyNumbers, base_helds, base_line_moments, base_shop_row, base_shop_table, depot_line_row, feed_from, held_from, nth_stock, own_part, pair_at, shop_part}
+use Rattle.family_numbers.specs.Numbers.{AreNumbers, FamilyNumbers, base_delays, base_line_moments, base_shop_row, base_shop_table, depot_line_row, feed_from, delay_from, nth_stock, own_part, pair_at, shop_part}
 use Rattle.family_numbers.proofs.Served.{IsSmallRow, base_shop_small, depot_line_small, feed_is_small}
 
 part_least : (b : ℕ) (share number : Ends) → share.hi ≤ 2 ^ b → (ends_mul b share number).hi ≤ number.hi
@@ -55,12 +55,12 @@ module _ (f : ℕ) (x : FamilyNumbers f) (are : AreNumbers f x) (k : ℕ) (insid
       }
 
 -- the shop unit i among those that hold back repairs
-pub held_of_shop : (f : ℕ) (x : FamilyNumbers f) (k : ℕ) (d b : List ℕ) (i : ℕ) → i < length x.parts - 1
-    → held_at (base_helds f x k d b) i ≡ held_from f (base_shop_row f x i k (nth_stock d i) (nth_stock b i))
-held_of_shop f x k d b i h = get_or-map-range_with_len _ 0 (length x.parts - 1) i i _ h (omega arith)
+pub delay_of_shop : (f : ℕ) (x : FamilyNumbers f) (k : ℕ) (d b : List ℕ) (i : ℕ) → i < length x.parts - 1
+    → delay_at (base_delays f x k d b) i ≡ delay_from f (base_shop_row f x i k (nth_stock d i) (nth_stock b i))
+delay_of_shop f x k d b i h = get_or-map-range_with_len _ 0 (length x.parts - 1) i i _ h (omega arith)
 
-pub helds_count : (f : ℕ) (x : FamilyNumbers f) (k : ℕ) (d b : List ℕ) → length (base_helds f x k d b) ≡ length x.parts - 1
-helds_count f x k d b = length-map-range_with_len _ 0 (length x.parts - 1)
+pub delays_count : (f : ℕ) (x : FamilyNumbers f) (k : ℕ) (d b : List ℕ) → length (base_delays f x k d b) ≡ length x.parts - 1
+delays_count f x k d b = length-map-range_with_len _ 0 (length x.parts - 1)
 
 -- what is read of its table
 pub shop_read : (f : ℕ) (x : FamilyNumbers f) (k : ℕ) (d b : List ℕ) (i : ℕ) (table : TableRows f) (s : ℕ) → table ≡ base_shop_table f x i k (nth_stock d i) → s ≡ nth_stock b i
@@ -104,11 +104,11 @@ added_most f part most (suc n) h = omega (arith, added_most f part most n (λ k 
 pub line_is : (f : ℕ) (x : FamilyNumbers f) (k o : ℕ) (d b : List ℕ) (own : OwnPart f) (shops : Moments f) → own ≡ own_part f x k o d → shops ≡ shop_part f x k d b
     → capped_at f own.cap (ends_add own.moments.mean shops.mean) (ends_add own.moments.variance shops.variance) ≡ base_line_moments f x k o d b
 line_is f x k o d b own shops e g =
-    let helds = base_helds f x k d b in
+    let delays = base_delays f x k d b in
     let part = own_part f x k o d in
     ap₂ (λ (p : OwnPart f) (s : Moments f). capped_at f p.cap (ends_add p.moments.mean s.mean) (ends_add p.moments.variance s.variance)) e g
-    ∙ ap₂ (λ (y z : Ends). capped_at f part.cap y z) (sym (added_apart f part.moments.mean (λ n. (held_at helds n).backorders) (length helds)))
-    (sym (added_apart f part.moments.variance (λ n. (held_at helds n).spread) (length helds)))
+    ∙ ap₂ (λ (y z : Ends). capped_at f part.cap y z) (sym (added_apart f part.moments.mean (λ n. (delay_at delays n).backorders) (length delays)))
+    (sym (added_apart f part.moments.variance (λ n. (delay_at delays n).spread) (length delays)))
 
 pub record HasRoom (f : ℕ) (own shops : Moments f) : Type 0 where
   pub mean : own.mean.hi + shops.mean.hi < 2 ^ 127
@@ -121,34 +121,34 @@ sum_room b n own sum few h s t =
     omega (arith, unit, more, s, t)
 
 module _ (f : ℕ) (x : FamilyNumbers f) (are : AreNumbers f x) (k : ℕ) (d b : List ℕ) (inside : k < x.sites) (same : length b ≡ length x.parts - 1) (few : All (λ n. n ≤ 63) b) where
-  held_small : (i : ℕ) → i < length (base_helds f x k d b) → IsSmallRow f (base_shop_row f x i k (nth_stock d i) (nth_stock b i))
-  held_small i h = shop_small f x are k d b i _ inside (omega (arith, h, helds_count f x k d b)) same few refl
+  delay_small : (i : ℕ) → i < length (base_delays f x k d b) → IsSmallRow f (base_shop_row f x i k (nth_stock d i) (nth_stock b i))
+  delay_small i h = shop_small f x are k d b i _ inside (omega (arith, h, delays_count f x k d b)) same few refl
 
-  held_here : (i : ℕ) → i < length (base_helds f x k d b) → held_at (base_helds f x k d b) i ≡ held_from f (base_shop_row f x i k (nth_stock d i) (nth_stock b i))
-  held_here i h = held_of_shop f x k d b i (omega (arith, h, helds_count f x k d b))
+  delay_here : (i : ℕ) → i < length (base_delays f x k d b) → delay_at (base_delays f x k d b) i ≡ delay_from f (base_shop_row f x i k (nth_stock d i) (nth_stock b i))
+  delay_here i h = delay_of_shop f x k d b i (omega (arith, h, delays_count f x k d b))
 
   -- the sums of both parts have room
   pub line_room : (o : ℕ) (own : OwnPart f) (shops : Moments f) → f ≤ 52 → o ≤ 63 → own ≡ own_part f x k o d → shops ≡ shop_part f x k d b → HasRoom f own.moments shops
   line_room o own shops scale small e g =
-      let helds = base_helds f x k d b in
+      let delays = base_delays f x k d b in
       let part = own_part f x k o d in
       let first = own_small f x are k inside o d small in
-      let count : length helds ≤ 8 = omega (arith, helds_count f x k d b, are.few) in
+      let count : length delays ≤ 8 = omega (arith, delays_count f x k d b, are.few) in
       subst (λ (s : Moments f). HasRoom f own.moments s) (sym g)
       (subst (λ (p : OwnPart f). HasRoom f p.moments (shop_part f x k d b)) (sym e) (record {
-        mean = sum_room f (length helds) part.moments.mean.hi (shop_part f x k d b).mean.hi scale count first.mean_most
-            (added_most f (λ n. (held_at helds n).backorders) (256 * 2 ^ f) (length helds) (λ i h. subst (λ (y : Held f). y.backorders.hi ≤ 256 * 2 ^ f) (sym (held_here i h)) (held_small i h).ebo));
-        variance = sum_room f (length helds) part.moments.variance.hi (shop_part f x k d b).variance.hi scale count first.variance_most
-            (added_most f (λ n. (held_at helds n).spread) (256 * 2 ^ f) (length helds) (λ i h. subst (λ (y : Held f). y.spread.hi ≤ 256 * 2 ^ f) (sym (held_here i h)) (held_small i h).vbo));
+        mean = sum_room f (length delays) part.moments.mean.hi (shop_part f x k d b).mean.hi scale count first.mean_most
+            (added_most f (λ n. (delay_at delays n).backorders) (256 * 2 ^ f) (length delays) (λ i h. subst (λ (y : Held f). y.backorders.hi ≤ 256 * 2 ^ f) (sym (delay_here i h)) (delay_small i h).ebo));
+        variance = sum_room f (length delays) part.moments.variance.hi (shop_part f x k d b).variance.hi scale count first.variance_most
+            (added_most f (λ n. (delay_at delays n).spread) (256 * 2 ^ f) (length delays) (λ i h. subst (λ (y : Held f). y.spread.hi ≤ 256 * 2 ^ f) (sym (delay_here i h)) (delay_small i h).vbo));
       }))
 
 -- the sums over all shop units are their part
 pub shops_made : (f : ℕ) (x : FamilyNumbers f) (k : ℕ) (d b : List ℕ) (mean variance : Ends)
-    → mean ≡ added (ends_exact f 0) (λ n. (held_at (base_helds f x k d b) n).backorders) (length x.parts - 1)
-    → variance ≡ added (ends_exact f 0) (λ n. (held_at (base_helds f x k d b) n).spread) (length x.parts - 1)
+    → mean ≡ added (ends_exact f 0) (λ n. (delay_at (base_delays f x k d b) n).backorders) (length x.parts - 1)
+    → variance ≡ added (ends_exact f 0) (λ n. (delay_at (base_delays f x k d b) n).spread) (length x.parts - 1)
     → record { mean = mean; variance = variance } ≡ shop_part f x k d b
 shops_made f x k d b mean variance m v =
-    let helds = base_helds f x k d b in
+    let delays = base_delays f x k d b in
     ap₂ (λ (y z : Ends). record { mean = y; variance = z }) m v
-    ∙ ap (λ n. record { mean = added (ends_exact f 0) (λ i. (held_at helds i).backorders) n; variance = added (ends_exact f 0) (λ i. (held_at helds i).spread) n })
-    (sym (helds_count f x k d b))
+    ∙ ap (λ n. record { mean = added (ends_exact f 0) (λ i. (delay_at delays i).backorders) n; variance = added (ends_exact f 0) (λ i. (delay_at delays i).spread) n })
+    (sym (delays_count f x k d b))

@@ -13,9 +13,9 @@ use Rattle.depot_pipeline.specs.declared.Moments.{Moments}
 use Rattle.depot_pipeline.specs.declared.Feed.{Feed}
 use Rattle.depot_pipeline.specs.Exact.{IsSmallFeed}
 use Rattle.depot_pipeline.specs.Profile.{feed_at, mean_part}
-use Rattle.base_pipeline.specs.Profile.{held_at}
+use Rattle.base_pipeline.specs.Profile.{delay_at}
 use Rattle.family_items.specs.Inputs.{HasTable}
-use Rattle.family_numbers.specs.Numbers.{AreBaseBackorders, AreNumbers, ArePairNumbers, FamilyNumbers, nth_stock, base_backorders, base_helds, base_line_moments, base_shop_moments, base_shop_row, depot_feeds, depot_line_moments, depot_line_row, depot_shop_moments, depot_shop_row, feed_from, pair_at, rows_of}
+use Rattle.family_numbers.specs.Numbers.{AreBaseBackorders, AreNumbers, ArePairNumbers, FamilyNumbers, nth_stock, base_backorders, base_delays, base_line_moments, base_shop_moments, base_shop_row, depot_feeds, depot_line_moments, depot_line_row, depot_shop_moments, depot_shop_row, feed_from, pair_at, rows_of}
 use Rattle.family_numbers.proofs.FromNumbers.{can_rows}
 use Rattle.family_items.proofs.Public.{added_least}
 
@@ -104,7 +104,7 @@ module _ (f : ℕ) (x : FamilyNumbers f) (are : AreNumbers f x) where
       (omega (
         arith,
         added_least (ends_add (pair_at x 0 k).direct (mean_part f (feed_from f (pair_at x 0 k).share (depot_line_row f x d o))))
-            (λ n. (held_at (base_helds f x k d b) n).backorders) (length (base_helds f x k d b)),
+            (λ n. (delay_at (base_delays f x k d b) n).backorders) (length (base_delays f x k d b)),
       ))
 
   pub base_line_small : (k o : ℕ) (d b : List ℕ) (s : ℕ) → k < x.sites → s ≤ 63 → (base_backorders f x k o d b s).hi ≤ 256 * 2 ^ f

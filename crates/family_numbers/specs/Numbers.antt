@@ -11,7 +11,7 @@ use Rattle.depot_pipeline.specs.declared.Moments.{Moments}
 use Rattle.depot_pipeline.specs.declared.Feed.{Feed}
 use Rattle.depot_pipeline.specs.Profile.{added, depot_shop_ends, depot_line_ends}
 use Rattle.base_pipeline.specs.declared.Held.{Held}
-use Rattle.base_pipeline.specs.Profile.{base_shop_ends, base_own_ends, base_line_ends, held_at}
+use Rattle.base_pipeline.specs.Profile.{base_shop_ends, base_own_ends, base_line_ends, delay_at}
 use Rattle.spares_input.specs.Cases.{CaseRows}
 use Rattle.spares_input.specs.Stocks.{limit_at}
 use Rattle.fleet_model.specs.Rows.{all_sites, stock, weight}
@@ -99,8 +99,8 @@ abbrev pub feed_from : (f : ℕ) → Ends → Row f → Feed f
 feed_from f share row = record { share = share; backorders = row.ebo; spread = row.vbo }
 
 -- the backorders of a pair with this row, as its line unit's repairs wait for them
-abbrev pub held_from : (f : ℕ) → Row f → Held f
-held_from f row = record { backorders = row.ebo; spread = row.vbo }
+abbrev pub delay_from : (f : ℕ) → Row f → Held f
+delay_from f row = record { backorders = row.ebo; spread = row.vbo }
 
 -- the shop units by number, from 0 on
 abbrev pub shop_numbers : {f : ℕ} → FamilyNumbers f → List ℕ
@@ -154,14 +154,14 @@ abbrev pub base_shop_row : (f : ℕ) → FamilyNumbers f → ℕ → ℕ → ℕ
 base_shop_row f x i k n s = at_stock (rows_of f (base_shop_moments f x i k n)) s
 
 -- the backorders of each shop unit at base k, with the stocks d at the depot and b at the base
-abbrev pub base_helds : (f : ℕ) → FamilyNumbers f → ℕ → List ℕ → List ℕ → List (Held f)
-base_helds f x k d b = map (λ i. held_from f (base_shop_row f x i k (nth_stock d i) (nth_stock b i))) (shop_numbers x)
+abbrev pub base_delays : (f : ℕ) → FamilyNumbers f → ℕ → List ℕ → List ℕ → List (Held f)
+base_delays f x k d b = map (λ i. delay_from f (base_shop_row f x i k (nth_stock d i) (nth_stock b i))) (shop_numbers x)
 
 -- the pipeline of the line unit at base k, with these stocks
 abbrev pub base_line_moments : (f : ℕ) → FamilyNumbers f → ℕ → ℕ → List ℕ → List ℕ → Moments f
 base_line_moments f x k o d b =
     base_line_ends f (pair_at x 0 k).direct (pair_at x 0 k).cap
-    (feed_from f (pair_at x 0 k).share (depot_line_row f x d o)) (base_helds f x k d b)
+    (feed_from f (pair_at x 0 k).share (depot_line_row f x d o)) (base_delays f x k d b)
 
 -- the own part of the line unit's pipeline at base k, which doesn't depend on the shop units' stocks there
 abbrev pub own_part : (f : ℕ) → FamilyNumbers f → ℕ → ℕ → List ℕ → OwnPart f
@@ -174,8 +174,8 @@ own_part f x k o d = record {
 -- the part of its pipeline there that the shop units make up: the sums of their backorders and of these' variances
 abbrev pub shop_part : (f : ℕ) → FamilyNumbers f → ℕ → List ℕ → List ℕ → Moments f
 shop_part f x k d b = record {
-  mean = added (ends_exact f 0) (λ i. (held_at (base_helds f x k d b) i).backorders) (length (base_helds f x k d b));
-  variance = added (ends_exact f 0) (λ i. (held_at (base_helds f x k d b) i).spread) (length (base_helds f x k d b));
+  mean = added (ends_exact f 0) (λ i. (delay_at (base_delays f x k d b) i).backorders) (length (base_delays f x k d b));
+  variance = added (ends_exact f 0) (λ i. (delay_at (base_delays f x k d b) i).spread) (length (base_delays f x k d b));
 }
 
 -- its backorders at the stock s, on which its pipeline there doesn't depend

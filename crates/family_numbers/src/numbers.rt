@@ -9,8 +9,8 @@ ghost use Rattle.family_items.specs.Inputs.{IsLine};
 ghost use Rattle.family_numbers.specs.Numbers.{AreNumbers, ArePairNumbers, numbers_of, pair_at, pair_numbers};
 
 use answers::NoMemory;
+use demand_rates::Rated;
 use demand_rates::kinds::{PIPELINE_SCALE, Rates};
-use family_items::members;
 use fixed_interval::Iv;
 use spares_input::{Case, PartId, SiteId};
 use std::alloc::Global;
@@ -67,42 +67,36 @@ fn place_in(members: &[PartId], part: PartId) -> Option<usize>
 }
 
 /// The numbers of a pair of a case.
-fn pair_numbers<const F: u32>(
-    case: &Case,
-    rates: &Rates,
-    part: PartId,
-    site: SiteId,
-) -> PairNumbers<F>
+fn pair_numbers<const F: u32>(rated: &Rated<'_>, part: PartId, site: SiteId) -> PairNumbers<F>
     requires scale { InScale F }
-    requires rates { AreRatesOf case.now rates.now }
-    requires part { part.0 < length case.now.parts }
-    requires site { site.0 < length case.now.sites }
-    ensures { result ≡ pair_numbers F case.now part.0 site.0 }
+    requires part { part.0 < length rated.now.case.parts }
+    requires site { site.0 < length rated.now.case.sites }
+    ensures { result ≡ pair_numbers F rated.now.case part.0 site.0 }
 {
+    rated.invariant();
+    let rates = rated.rates();
     let share = rates.share(part, site);
     PairNumbers {
         direct: Iv::of_ratio(rates.direct(part, site), PIPELINE_SCALE),
         cap: Iv::<F>::of_ratio(rates.zero_stock(part, site), PIPELINE_SCALE).hi(),
         share: Iv::of_ratio(share.num, share.den),
-        limit: case.limit(part, site),
+        limit: rated.case().limit(part, site),
     }
 }
 
 /// The numbers of a part at each site.
 fn part_numbers<const F: u32>(
     alloc: Global,
-    case: &Case,
-    rates: &Rates,
+    rated: &Rated<'_>,
     part: PartId,
 ) -> Result<Vec<PairNumbers<F>>, NoMemory>
     requires scale { InScale F }
-    requires rates { AreRatesOf case.now rates.now }
-    requires part { part.0 < length case.now.parts }
-    ensures { IfOk result (λ v. v.items ≡ map (pair_numbers F case.now part.0) (all_sites case.now)) }
+    requires part { part.0 < length rated.now.case.parts }
+    ensures { IfOk result (λ v. v.items ≡ map (pair_numbers F rated.now.case part.0) (all_sites rated.now.case)) }
 {
     let mut numbers = Vec::new(alloc);
-    for k in 0..case.site_count() {
-        numbers.push(pair_numbers(case, rates, part, SiteId(k)))?;
+    for k in 0..rated.case().site_count() {
+        numbers.push(pair_numbers(rated, part, SiteId(k)))?;
     }
     Ok(numbers)
 }
@@ -110,19 +104,17 @@ fn part_numbers<const F: u32>(
 /// The numbers of these parts, by part and then by site.
 fn all_numbers<const F: u32>(
     alloc: Global,
-    case: &Case,
-    rates: &Rates,
+    rated: &Rated<'_>,
     parts: &[PartId],
 ) -> Result<Vec<PairNumbers<F>>, NoMemory>
     requires scale { InScale F }
-    requires rates { AreRatesOf case.now rates.now }
-    requires parts { All (λ p. p.0 < length case.now.parts) parts.now }
+    requires parts { All (λ p. p.0 < length rated.now.case.parts) parts.now }
     ensures { IfOk result (λ v. v.items ≡ flat_map
-        (λ p. map (pair_numbers F case.now p.0) (all_sites case.now)) parts.now) }
+        (λ p. map (pair_numbers F rated.now.case p.0) (all_sites rated.now.case)) parts.now) }
 {
     let mut numbers = Vec::new(alloc);
     for part in parts {
-        let mut row = part_numbers(alloc, case, rates, *part)?;
+        let mut row = part_numbers(alloc, rated, *part)?;
         numbers.append(&mut row)?;
     }
     Ok(numbers)
@@ -142,8 +134,9 @@ impl<const F: u32> Numbers<F> {
         ensures { IfOk result (λ x. x ≡ numbers_of F case.now line.0) }
     {
         let site_count = case.site_count();
-        let members = members(alloc, case, line)?;
-        let own = all_numbers(alloc, case, rates, members.as_slice())?;
+        let members = case.family(line).to_vec(alloc)?;
+        let rated = Rated::of(case, rates);
+        let own = all_numbers(alloc, &rated, members.as_slice())?;
         Ok(Numbers {
             members,
             site_count,

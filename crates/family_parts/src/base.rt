@@ -7,6 +7,7 @@ ghost use Rattle.sum_walk.specs.Sums.{sums_of_each};
 ghost use Rattle.curve_parts.specs.Parts.{IsPartOf, StandForBetween};
 ghost use Rattle.curve_parts.specs.Cuts.{IsSmall, IsWindow};
 ghost use Rattle.curve_parts.specs.Beyond.{LieBeyond};
+ghost use Rattle.family_points.specs.Counts.{most_vertices};
 ghost use Rattle.family_points.specs.Separation.{base_points, depot_point, depot_points};
 ghost use Rattle.family_points.specs.Inputs.{IsAt, vector_count, vertex_count};
 ghost use Rattle.family_rows.specs.Sources.{AreSources};
@@ -75,7 +76,7 @@ fn put_part<'b, S: Score>(
     requires here { IsBaseAt here.now }
     requires numbers { numbers.now ≡ box_numbers here.now.family.now }
     requires tables { AreTables here.now.family.now (drop 1 here.now.depot.now) tables.now }
-    requires room { vector_count here.now.family.now here.now.site.0 ≤ 65000000 }
+    requires room { vector_count here.now.family.now here.now.site.0 ≤ most_vertices }
     requires low { IsSmall low }
     requires high { IsSmall high }
     requires window { IsWindow low high }
@@ -112,7 +113,7 @@ pub(crate) fn put_parts<'b, S: Score>(
     requires sources { AreSources sources.now }
     requires depot { IsAt sources.now.family.now 0 depot.now }
     requires tables { AreTables sources.now.family.now (drop 1 depot.now) tables.now }
-    requires room { vertex_count sources.now.family.now ≤ 65000000 }
+    requires room { vertex_count sources.now.family.now ≤ most_vertices }
     requires low { IsSmall low }
     requires high { IsSmall high }
     requires window { IsWindow low high }

@@ -3,10 +3,12 @@
 ghost use Rattle.std.specs.Prelude.{◌≡◌, ◌+◌, ◌-◌, ◌*◌, ◌^◌, ◌<◌, ◌≤◌, ◌∷◌, ◌++◌, [], IfOk, drop, get_or, length, sum_by};
 ghost use Rattle.hull.specs.declared.point.Point.{Point};
 ghost use Rattle.hull.specs.Curves.{Among, HaveOneWidth, InRange};
+ghost use Rattle.hull.specs.Limits.{most_points};
 ghost use Rattle.sum_walk.specs.Sums.{sums_of_each};
 ghost use Rattle.curve_parts.specs.Cuts.{IsSmall, IsWindow};
 ghost use Rattle.curve_parts.specs.Joins.{Joins};
 ghost use Rattle.curve_parts.specs.Beyond.{IsKnownPart, LieBeyond};
+ghost use Rattle.family_points.specs.Counts.{most_vertices};
 ghost use Rattle.family_points.specs.Separation.{depot_points, shop_points};
 ghost use Rattle.family_points.specs.Inputs.{box_points};
 ghost use Rattle.family_points.specs.Inputs.{
@@ -64,7 +66,7 @@ fn join_parts<T: Spot>(
 ) -> Result<u128, NoMemory>
     requires some { 0 < length parts.now }
     requires few_parts { length parts.now ≤ 16 }
-    requires few { length (vertices_of part.old) + (1 + sum_by length parts.now) ≤ 2 ^ 31 }
+    requires few { length (vertices_of part.old) + (1 + sum_by length parts.now) ≤ most_points }
     requires first { InRange first.now }
     requires ranges { (v : Point) → Among v (sums_of_each (first.now ∷ []) parts.now) → InRange v }
     requires widths { HaveOneWidth (sums_of_each (first.now ∷ []) parts.now) }
@@ -109,7 +111,7 @@ fn grow_with<'b, S: Score>(
     requires depot { IsAt sources.now.family.now 0 depot.now }
     requires tables { AreTables sources.now.family.now (drop 1 depot.now) tables.now }
     requires rough { AreRough S.ends sources.now.family.now (drop 1 depot.now) low high rough.now }
-    requires room { length (vertices_of part.old) + vertex_count sources.now.family.now ≤ 65000000 }
+    requires room { length (vertices_of part.old) + vertex_count sources.now.family.now ≤ most_vertices }
     requires widths { HaveWidthOf sources.now.family.now (vertices_of part.old) }
     requires work { length work.old.parts.items ≡ length sources.now.bases.items }
     requires low { IsSmall low }
@@ -203,7 +205,7 @@ fn grow_with_lines<'b, S: Score>(
     requires tables { AreTables sources.now.family.now (drop 1 stocks.old) tables.now }
     requires rough { AreRough S.ends sources.now.family.now (drop 1 stocks.old) low high rough.now }
     requires room { let x = sources.now.family.now in
-        length (vertices_of part.old) + length (line_stocks x 0) * vertex_count x ≤ 65000000 }
+        length (vertices_of part.old) + length (line_stocks x 0) * vertex_count x ≤ most_vertices }
     requires widths { HaveWidthOf sources.now.family.now (vertices_of part.old) }
     requires work { length work.old.parts.items ≡ length sources.now.bases.items }
     requires low { IsSmall low }
@@ -247,7 +249,7 @@ fn grow_with_shops<'b, S: Score>(
     requires sources { AreSources sources.now }
     requires number { number < length (shop_vectors sources.now.family.now 0) }
     requires room { let x = sources.now.family.now in
-        length (vertices_of part.old) + length (line_stocks x 0) * vertex_count x ≤ 65000000 }
+        length (vertices_of part.old) + length (line_stocks x 0) * vertex_count x ≤ most_vertices }
     requires widths { HaveWidthOf sources.now.family.now (vertices_of part.old) }
     requires work { length work.old.parts.items ≡ length sources.now.bases.items }
     requires low { IsSmall low }
@@ -283,7 +285,7 @@ fn whole_part<'b, S: Score>(
     high: Price,
 ) -> Result<(Curve, u128), NoMemory>
     requires sources { AreSources sources.now }
-    requires room { vector_count sources.now.family.now 0 * vertex_count sources.now.family.now ≤ 65000000 }
+    requires room { vector_count sources.now.family.now 0 * vertex_count sources.now.family.now ≤ most_vertices }
     requires work { length work.old.parts.items ≡ length sources.now.bases.items }
     requires low { IsSmall low }
     requires high { IsSmall high }
@@ -326,7 +328,7 @@ fn part_of<S: Score>(
     high: Price,
 ) -> Result<(Curve, u128), NoMemory>
     requires sources { AreSources sources.now }
-    requires room { vector_count sources.now.family.now 0 * vertex_count sources.now.family.now ≤ 65000000 }
+    requires room { vector_count sources.now.family.now 0 * vertex_count sources.now.family.now ≤ most_vertices }
     requires low { IsSmall low }
     requires high { IsSmall high }
     requires window { IsWindow low high }
@@ -344,7 +346,7 @@ pub(crate) fn family_part<S: Score>(
     low: Price,
     high: Price,
 ) -> Result<(Curve, u128), NoMemory>
-    requires room { vector_count family.now 0 * vertex_count family.now ≤ 65000000 }
+    requires room { vector_count family.now 0 * vertex_count family.now ≤ most_vertices }
     requires low { IsSmall low }
     requires high { IsSmall high }
     requires window { IsWindow low high }

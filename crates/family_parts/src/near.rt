@@ -2,6 +2,7 @@
 //! near it is.
 
 ghost use Rattle.std.specs.Prelude.{◌^◌, ◌<◌, ◌≤◌, IfOk, drop, length};
+ghost use Rattle.hull.specs.Limits.{most_cost};
 ghost use Rattle.curve_parts.specs.Cuts.{IsSmall};
 ghost use Rattle.family_points.specs.Inputs.{AreShopsAt, IsAt, shop_vectors};
 ghost use Rattle.family_rows.specs.Sources.{AreSources};
@@ -157,7 +158,7 @@ pub fn cost_near<S: Score>(
 ) -> Result<u128, NoMemory>
     requires sources { AreSources sources.now }
     requires price { price < 2 ^ 73 }
-    ensures { IfOk result (λ cost. cost ≤ 1000000000000) }
+    ensures { IfOk result (λ cost. cost ≤ most_cost) }
 {
     let low = Price { p: price, q: 1 };
     let high = Price {

@@ -1,14 +1,11 @@
 -- Counts that stay at the largest number.
-use Rattle.std.proofs.Common.{◌≡◌, ℕ, zero, suc, ◌+◌, ◌-◌, ◌*◌, ◌^◌, ◌≤◌, ◌⊎◌, inl, inr, true, false, List, [], ◌∷◌, map, filter, sum_by, refl, sym, ap, ap₂, ◌∙◌, arith, mul-le-mul_left}
-use Rattle.std.specs.List.{range_with_len}
+use Rattle.std.proofs.Common.{◌≡◌, ℕ, zero, suc, ◌+◌, ◌-◌, ◌*◌, ◌^◌, ◌<◌, ◌≤◌, ◌⊎◌, inl, inr, List, [], ◌∷◌, length, get_or, map, take, sum_by, refl, sym, ap, ap₂, ◌∙◌, arith, mul-le-mul_left}
+use Rattle.std.proofs.lemmas.List.{map_more}
 use Rattle.std.proofs.lemmas.List.Sums.{sum_by-append}
 use Rattle.std.proofs.Math.Nat.{mul_assoc, mul_comm, pow-suc}
 use Rattle.std.proofs.lemmas.Nat.{mul-pow}
 use Rattle.answers.specs.Counts.{count64}
-use Rattle.spares_input.specs.Rows.{is_line}
-use Rattle.spares_input.specs.Frames.{part_at}
-use Rattle.spares_input.specs.Cases.{CaseRows}
-use Rattle.family_items.proofs.Public.{kept_more, left_out}
+use Rattle.spares_input.specs.declared.rows.PartId.{PartId}
 use Rattle.family_points.specs.Counts.{product}
 
 -- ---- the largest count
@@ -57,25 +54,21 @@ product_split f g n (x ∷ xs) =
 
 -- ---- all families
 
--- the line units before part p
-abbrev pub lines_below : CaseRows → ℕ → List ℕ
-lines_below c p = filter (λ q. is_line (part_at c.parts q)) (range_with_len 0 p)
+-- the numbers of the first units
+abbrev pub first_units : List PartId → ℕ → List ℕ
+first_units units i = map (λ (p : PartId). p.0) (take i units)
 
 -- a line unit more adds its tables to those of the families before it
-pub work_more : (tables : ℕ → ℕ) (c : CaseRows) (p total own next : ℕ) → is_line (part_at c.parts p) ≡ true → own ≡ count64 (tables p) → next ≡ count64 (total + own)
-    → total ≡ count64 (sum_by tables (lines_below c p)) → next ≡ count64 (sum_by tables (lines_below c (p + 1)))
-work_more tables c p total own next line own_is e h =
-    let xs : List ℕ = lines_below c p in
+pub work_more : (tables : ℕ → ℕ) (units : List PartId) (i total own next : ℕ) → i < length units → own ≡ count64 (tables (get_or units i (record { 0 = 0 })).0)
+    → next ≡ count64 (total + own) → total ≡ count64 (sum_by tables (first_units units i)) → next ≡ count64 (sum_by tables (first_units units (i + 1)))
+work_more tables units i total own next within own_is e h =
+    let xs : List ℕ = first_units units i in
+    let p = (get_or units i (record { 0 = 0 })).0 in
     e ∙ ap₂ (λ m n. count64 (m + n)) h own_is ∙ both (sum_by tables xs) (tables p)
-    ∙ ap count64 (sym (ap (sum_by tables) (kept_more (λ q. is_line (part_at c.parts q)) p line) ∙ sum_by-append tables xs (p ∷ []) ∙ one (sum_by tables xs) (tables p)))
+    ∙ ap count64 (sym (ap (sum_by tables) (map_more (λ (q : PartId). q.0) units i (record { 0 = 0 }) within) ∙ sum_by-append tables xs (p ∷ []) ∙ one (sum_by tables xs) (tables p)))
   where
     both : (x y : ℕ) → count64 (count64 x + count64 y) ≡ count64 (x + y)
     both x y = omega arith
 
     one : (n x : ℕ) → n + (0 + x) ≡ n + x
     one n x = omega arith
-
--- a part that is no line unit adds no tables
-pub work_same : (tables : ℕ → ℕ) (c : CaseRows) (p total : ℕ) → is_line (part_at c.parts p) ≡ false
-    → total ≡ count64 (sum_by tables (lines_below c p)) → total ≡ count64 (sum_by tables (lines_below c (p + 1)))
-work_same tables c p total other h = h ∙ ap (λ (xs : List ℕ). count64 (sum_by tables xs)) (sym (left_out (λ q. is_line (part_at c.parts q)) p other))

@@ -10,7 +10,7 @@ use Rattle.fleet_model.specs.Rows.{shop_units, stock}
 use Rattle.fleet_model.specs.Fleet.{family}
 use Rattle.demand_rates.specs.Rates.{pair_rates}
 use Rattle.family_items.specs.declared.item.Item.{Item}
-use Rattle.family_items.specs.Profile.{pipeline_from, share_of, stocked, feed_of, held_of, depot_shop, depot_feed, depot_line, base_shop, base_line, item_of}
+use Rattle.family_items.specs.Profile.{pipeline_from, share_of, stocked, feed_of, delay_of, depot_shop, depot_feed, depot_line, base_shop, base_line, item_of}
 use Rattle.family_items.specs.Inputs.{IsLine}
 use Rattle.family_points.specs.Local.{AgreeAt}
 use Rattle.family_items.proofs.Public.{base_line_item}
@@ -60,8 +60,8 @@ module _ (f : ℕ) (c : CaseRows) (s t : List ℕ) where
       (base_line_ends f (pipeline_from f l j (pair_rates c l j) n).direct (pipeline_from f l j (pair_rates c l j) n).cap (feed_of f (share_of f c l j) rest.0) rest.1))
       a.0
       (ap₂ (λ (y : Item f) (held : List (Held f)). (y, held)) (depot_line_same l d)
-      (map_same (λ i. (stock c s i 0 ≡ stock c t i 0) × (stock c s i j ≡ stock c t i j)) (λ i. held_of f (base_shop f c s i j)) (λ i. held_of f (base_shop f c t i j))
-      (shop_units c l) (λ i e. ap (held_of f) (base_shop_same i j e.0 e.1)) (both _ _ (shop_units c l) d.1 a.1)))
+      (map_same (λ i. (stock c s i 0 ≡ stock c t i 0) × (stock c s i j ≡ stock c t i j)) (λ i. delay_of f (base_shop f c s i j)) (λ i. delay_of f (base_shop f c t i j))
+      (shop_units c l) (λ i e. ap (delay_of f) (base_shop_same i j e.0 e.1)) (both _ _ (shop_units c l) d.1 a.1)))
 
 -- stocks that agree on each part of a family at the depot and at a base give its line unit the same item there
 pub item_agrees : (f : ℕ) (c : CaseRows) (s t : List ℕ) (l j : ℕ) → IsLine c l → 0 < j → Agree c l s t 0 → Agree c l s t j

@@ -22,7 +22,7 @@ use Rattle.fleet_model.proofs.Public.{same_sum_range, all_follow, count_each}
 use Rattle.demand_rates.specs.declared.kinds.PairRates.{PairRates}
 use Rattle.demand_rates.specs.Rates.{pair_rates, rates_of_pair, share_ratio}
 use Rattle.family_items.specs.declared.item.Item.{Item}
-use Rattle.family_items.specs.Profile.{base_line, base_shop, depot_feed, depot_line, depot_shop, feed_of, held_of, item_of, pipeline_from, share_from, stocked}
+use Rattle.family_items.specs.Profile.{base_line, base_shop, depot_feed, depot_line, depot_shop, feed_of, delay_of, item_of, pipeline_from, share_from, stocked}
 use Rattle.family_items.specs.Inputs.{IsLine, IsShop}
 use Rattle.family_items.proofs.Public.{shops_all}
 use Rattle.family_points.specs.Vectors.{stocks_with, vectors}
@@ -225,8 +225,8 @@ module _ (sites : List SiteRow) (parts : List PartRow) (ra rb : List RateRow) (s
     base_line_same l j lj h all =
         let r = h j lj in
         let x = depot_line_same l h all in
-        let helds = map_each (shop_units one l) (λ i. held_of f (base_shop f one s i j)) (λ i. held_of f (base_shop f two s i j))
-        (all_follow Alike _ (shop_units one l) (λ i a. ap (λ (y : Item f). held_of f y) (base_shop_same i j lj a)) all) in
+        let helds = map_each (shop_units one l) (λ i. delay_of f (base_shop f one s i j)) (λ i. delay_of f (base_shop f two s i j))
+        (all_follow Alike _ (shop_units one l) (λ i a. ap (λ (y : Item f). delay_of f y) (base_shop_same i j lj a)) all) in
         λ t. stocked f (pipeline_from f l j (r t) (stock one s l j))
         (base_line_ends f (pipeline_from f l j (r t) (stock one s l j)).direct (pipeline_from f l j (r t) (stock one s l j)).cap
         (feed_of f (share_from f (r t)) (x t)) (helds t))

@@ -2,7 +2,7 @@
 pub use Rattle.family_points.proofs.AllBases.{base_read, bases_long}
 pub use Rattle.family_points.proofs.Bounded.{at_limit, at_long, box_at, box_of, low_long, stock_small}
 pub use Rattle.family_points.proofs.Boxes.{each_any, each_mapped, flat_flat, map_flat, same_flat, same_map}
-pub use Rattle.family_points.proofs.Counting.{lines_below, work_more, work_same}
+pub use Rattle.family_points.proofs.Counting.{first_units, work_more}
 pub use Rattle.family_points.proofs.Depend.{scored_same}
 pub use Rattle.family_points.proofs.Distinct.{family_stocks_in}
 pub use Rattle.family_points.proofs.LeastPoints.{base_added, base_least_is, box_some, choice_all, choice_first, choice_more, decides_all, depot_begins, shops_all, shops_below, shops_more, stock_below, stock_more, turned_among}

@@ -62,7 +62,7 @@ held_ordered c l held valid line is_for within = record {
 pub rooms_ordered : (c : CaseRows) (l : ℕ) (rooms : Rooms) → IsCase c → IsLine c l → AreRooms c l rooms
     → AreOrdered c l (bounds_of c l rooms).held (bounds_of c l rooms).low (bounds_of c l rooms).high
 rooms_ordered c l Whole valid line h = whole_ordered c l
-rooms_ordered c l (Held s) valid line h = held_ordered c l s.now valid line h.0 h.1
+rooms_ordered c l (Held s) valid line h = held_ordered c l s.now valid line h.is_for h.limits
 rooms_ordered c l (Within b) valid line h = h
 
 -- ---- the number of a part

@@ -1,5 +1,5 @@
 -- The items of a line unit at its bases are sound, and what they score is small.
-use Rattle.std.proofs.Common.{ℕ, ◌+◌, ◌*◌, ◌^◌, ◌<◌, ◌≤◌, List, arith}
+use Rattle.std.proofs.Common.{ℕ, ◌^◌, ◌≤◌, List, arith}
 use Rattle.fixed_interval.proofs.Public.{ends_ordered}
 use Rattle.fleet_model.specs.Laws.{IsBase}
 use Rattle.fleet_model.specs.Pipelines.{ebo_0j}
@@ -16,8 +16,10 @@ module _ (x : FamilyBox) (valid : IsFamilyBox x) (j : ℕ) (d b : List ℕ) (at_
   sound_at = sound_of (record { case = x.case; rates = x.rates; stocks = stock_list x.case (base_stocks x d j b) }) (record {
     valid = valid.valid;
     are_rates = valid.are_rates;
-    are_stocks = stocks_for x valid (depot_and_base d j b);
-    limits = stocks_within x valid j d b at_depot at_base;
+    are_stocks = record {
+      is_for = stocks_for x valid (depot_and_base d j b);
+      limits = stocks_within x valid j d b at_depot at_base;
+    };
   })
 
   -- the backorders of the line unit at a base are at most 2^56 units

@@ -56,6 +56,10 @@ tables_of c l =
 abbrev pub most_tables : ℕ
 most_tables = 1000000
 
+-- the most vertices that a family's curves of bases have, over all vectors of the depot: 65 for each table
+abbrev pub most_vertices : ℕ
+most_vertices = 65000000
+
 -- a number of tables, refused if it is above the limit
 abbrev pub limited : ℕ → Result ℕ ℕ
 limited n = if nat_le n most_tables then Ok n else Err n

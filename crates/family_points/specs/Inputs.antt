@@ -1,7 +1,6 @@
 -- The inputs of a family's curve.
 use Rattle.std.specs.Prelude.{ℕ, List, get_or, drop, ◌+◌, length, sum_by}
 use Rattle.fleet_model.specs.Rows.{bases}
-use Rattle.fleet_model.specs.Fleet.{family}
 use Rattle.hull.specs.declared.point.Point.{Point}
 use Rattle.spares_input.specs.Cases.{CaseRows, IsCase}
 use Rattle.demand_rates.specs.RateLists.{RateList}

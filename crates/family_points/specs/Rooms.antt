@@ -1,7 +1,7 @@
 -- The vectors of a family that are counted. No promise of the crate rests on these words.
 use Rattle.std.specs.Prelude.{ℕ, List}
 use Rattle.spares_input.specs.Cases.{CaseRows}
-use Rattle.spares_input.specs.Stocks.{IsFor, IsWithinLimits}
+use Rattle.spares_input.specs.Stocks.{AreStocksOf}
 use Rattle.family_points.specs.declared.bounds.Bounds.{Bounds}
 use Rattle.family_points.specs.declared.counts.Rooms.{Rooms}
 use Rattle.family_points.specs.declared.counts.Rooms.TheVariants.{Held, Whole, Within}
@@ -18,7 +18,7 @@ bounds_of c l (Within b) = b.now
 -- the held stocks are a list for the case, within its limits; bounds are in order
 abbrev pub AreRooms : CaseRows → ℕ → Rooms → Type 0
 AreRooms c l Whole = Unit {0}
-AreRooms c l (Held s) = IsFor c s.now × IsWithinLimits c s.now
+AreRooms c l (Held s) = AreStocksOf c s.now
 AreRooms c l (Within b) = AreOrdered c l b.now.held b.now.low b.now.high
 
 -- the number of stocks that each part of the family can have at site k

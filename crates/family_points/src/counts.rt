@@ -2,7 +2,7 @@
 
 ghost use Rattle.std.specs.Prelude.{◌≡◌, ◌^◌, ◌<◌, ◌≤◌, length, get_or, sum, drop};
 ghost use Rattle.answers.specs.Counts.{count64};
-ghost use Rattle.spares_input.specs.Stocks.{IsFor, IsWithinLimits};
+ghost use Rattle.spares_input.specs.Stocks.{AreStocksOf};
 ghost use Rattle.fleet_model.specs.Fleet.{family};
 ghost use Rattle.family_items.specs.Inputs.{IsLine};
 ghost use Rattle.family_points.specs.Counts.{product, choices_of, tables_of, tables_between, work_of};
@@ -134,8 +134,7 @@ pub fn tables(case: &Case, line: PartId) -> u64
 /// The held stocks are a list for the case, within its limits.
 pub fn held_tables(case: &Case, line: PartId, held: &Stocks) -> u64
     requires line { IsLine case.now line.0 }
-    requires held { IsFor case.now held.now }
-    requires limits { IsWithinLimits case.now held.now }
+    requires held { AreStocksOf case.now held.now }
     ensures { result ≡ count64 (tables_between case.now line.0
         (vector_of case.now line.0 held.now.list) (limits case.now line.0)) }
 {
@@ -156,11 +155,9 @@ pub fn work(case: &Case) -> Result<u64, u64>
     ensures { result ≡ work_of case.now }
 {
     let mut work: u64 = 0;
-    for p in 0..case.part_count() {
-        let part = PartId(p);
-        if case.is_line(part) {
-            work = work.saturating_add(tables(case, part));
-        }
+    let lines = case.line_units();
+    for line in lines {
+        work = work.saturating_add(tables(case, *line));
     }
     if work <= MOST_TABLES {
         Ok(work)

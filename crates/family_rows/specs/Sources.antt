@@ -19,8 +19,8 @@ pub record AreSources (s : Sources) : Type 0 where
 -- ---- the tables that they hold
 
 -- those of the shop units at the depot and at the bases
-abbrev pub tables_held : Sources → ℕ
-tables_held s = length s.depot_shops.items + sum_by (sum_by length) s.base_shops.tables
+abbrev pub tables_kept : Sources → ℕ
+tables_kept s = length s.depot_shops.items + sum_by (sum_by length) s.base_shops.tables
 
 -- They are those that the count of a family's tables names: one for each shop unit at the depot, and one for each shop
 -- unit at each base with each of its stocks at the depot.
@@ -29,4 +29,4 @@ SourcesAreCounted =
     (s : Sources) → IsFamilyBox s.family.now → AreSources s
     → let x = s.family.now in
     let stocks = drop 1 (site_part x.case x.line (widths x.low x.high) 0) in
-    tables_held s ≡ length stocks + length (bases x.case) * sum stocks
+    tables_kept s ≡ length stocks + length (bases x.case) * sum stocks

@@ -10,7 +10,7 @@ use Rattle.std.proofs.lemmas.Bool.{cases_lt}
 use Rattle.spares_input.specs.Rows.{no_part}
 use Rattle.spares_input.specs.Frames.{part_at}
 use Rattle.spares_input.specs.Cases.{CaseRows, IsCase}
-use Rattle.spares_input.specs.Stocks.{StockList, IsFor, IsWithinLimits, cost_of, limit_at, stock_at}
+use Rattle.spares_input.specs.Stocks.{StockList, IsFor, IsWithinLimits, cost_of_stocks, limit_at, stock_at}
 use Rattle.spares_input.specs.declared.rows.PartRow.{PartRow}
 use Rattle.fleet_model.specs.Rows.{stock}
 use Rattle.fleet_model.specs.Fleet.{IsAllocation, cost, part_cost}
@@ -132,7 +132,7 @@ cost_of_its_part c s n p e =
     ∙ ap (λ m. sum_by (λ k. get_or s.list (p * m + k) 0 * (part_at c.parts p).cost) (range_with_len 0 m)) e
 
 -- stocks of a case cost as much as an allocation as they do as stocks
-pub cost_holds : (c : CaseRows) (s : StockList) → IsFor c s → cost c s.list ≡ cost_of c s
+pub cost_holds : (c : CaseRows) (s : StockList) → IsFor c s → cost c s.list ≡ cost_of_stocks c s
 cost_holds c s h =
     let pairs : length s.list ≡ length c.parts * s.sites = h.pairs ∙ ap (λ n. length c.parts * n) (sym h.sites) in
     sym (

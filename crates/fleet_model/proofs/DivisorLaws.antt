@@ -1,7 +1,7 @@
 -- In a valid case no divisor of the availabilities is 0.
 use Rattle.std.proofs.Common.{◌≡◌, ℕ, ◌-◌, ◌<◌, true, Bool, not, length, arith, ap, eq-zero-or-pos, inl, inr}
 use Rattle.exact_model.specs.Fraction.{Fraction, whole, ◌≤ℚ◌}
-use Rattle.spares_input.specs.Rows.{is_line, no_site, no_part, IsField}
+use Rattle.spares_input.specs.Rows.{is_line, no_site, no_part, IsNumberField}
 use Rattle.spares_input.specs.Frames.{site_at, part_at}
 use Rattle.spares_input.specs.Cases.{CaseRows, IsCase}
 use Rattle.exact_model.specs.Sums.{sum_over}
@@ -10,7 +10,7 @@ use Rattle.fleet_model.specs.Laws.{IsBase}
 use Rattle.fleet_model.proofs.Order.{none_below}
 use Rattle.fleet_model.proofs.SumLaws.{term_most}
 
-some_used : (used : Bool) (most n : ℕ) → IsField used 1 most n → used ≡ true → 0 < n
+some_used : (used : Bool) (most n : ℕ) → IsNumberField used 1 most n → used ≡ true → 0 < n
 some_used used most n f e = omega (arith, (f.within e).0)
 
 -- each base of a valid case has a system

@@ -6,7 +6,7 @@ use Rattle.std.proofs.lemmas.Bool.{cases_lt}
 use Rattle.exact_model.specs.Fraction.{whole, ◌≈◌, ◌≤ℚ◌, ◌+ℚ◌, ◌-ℚ◌}
 use Rattle.exact_model.specs.Series.{ebo, vbo}
 use Rattle.exact_model.proofs.Public.{le_self}
-use Rattle.spares_input.specs.Rows.{no_rate, IsField}
+use Rattle.spares_input.specs.Rows.{no_rate, IsNumberField}
 use Rattle.spares_input.specs.Frames.{line_of}
 use Rattle.spares_input.specs.Cases.{CaseRows, IsCase}
 use Rattle.spares_input.specs.declared.rows.RateRow.{RateRow}
@@ -75,7 +75,7 @@ here_step r h = omega arith
 few_here : (c : CaseRows) (i : ℕ) → IsCase c → i < length c.rates → (get_or c.rates i no_rate).repair_here ≤ 10000
 few_here c i h l = let row = h.rate_rows i no_rate l in most_field _ _ row.fields.repair_here
   where
-    most_field : (used : Bool) (n : ℕ) → IsField used 0 10000 n → n ≤ 10000
+    most_field : (used : Bool) (n : ℕ) → IsNumberField used 0 10000 n → n ≤ 10000
     most_field true n f = (f.within refl).1
     most_field false n f = omega (arith, f.empty refl)
 

@@ -3,7 +3,7 @@ use Rattle.std.proofs.Common.{◌≡◌, ℕ, ◌+◌, ◌-◌, ◌*◌, ◌≤�
 use Rattle.spares_input.specs.Frames.{part_at}
 use Rattle.spares_input.specs.Cases.{CaseRows}
 use Rattle.fleet_model.specs.Rows.{all_parts, all_sites, stock}
-use Rattle.fleet_model.specs.Fleet.{cost, family_total, total, part_cost}
+use Rattle.fleet_model.specs.Fleet.{cost, family_total, case_total, part_cost}
 use Rattle.fleet_model.specs.Aims.{weighted_backorders, family_aim, aim, IsHeldAllocation, part_cost_beyond, cost_beyond}
 use Rattle.fleet_model.specs.Laws.{ArePlainWords}
 use Rattle.fleet_model.proofs.FamilyLaws.{sum_each, sum_plus}
@@ -13,8 +13,8 @@ family_plain : (c : CaseRows) (s : List ℕ) (n l : ℕ) → family_aim weighted
 unfolding family_aim family_total
 family_plain c s n l = refl
 
-aim_plain : (c : CaseRows) (s : List ℕ) (n : ℕ) → aim weighted_backorders c s n ≡ total c s n
-unfolding aim family_aim total family_total
+aim_plain : (c : CaseRows) (s : List ℕ) (n : ℕ) → aim weighted_backorders c s n ≡ case_total c s n
+unfolding aim family_aim case_total family_total
 aim_plain c s n = refl
 
 nothing_less : (n : ℕ) → n - 0 ≡ n

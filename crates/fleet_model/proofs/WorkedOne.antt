@@ -13,7 +13,7 @@ use Rattle.fleet_model.specs.Rows.{ten_thousandths, years, here, sent, needed, r
 use Rattle.fleet_model.specs.Demand.{m_0j, m_00, m_ij, m_i0, f_i0, f_ij, f_0j}
 use Rattle.fleet_model.specs.ZeroStock.{direct_i0, direct_00, time_at, direct_ij, direct_0j, zero_stock_i0, zero_stock_00, zero_stock_ij, zero_stock_0j}
 use Rattle.fleet_model.specs.Pipelines.{pipeline_i0, pipeline_00, pipeline_ij, pipeline_0j, ebo_i0, ebo_00, ebo_ij, ebo_0j, vbo_i0, vbo_00, vbo_ij, vbo_0j}
-use Rattle.fleet_model.specs.Fleet.{factor, availability, fleet, family_total, total, cost, IsAllocation}
+use Rattle.fleet_model.specs.Fleet.{factor, availability, fleet, family_total, case_total, cost, IsAllocation}
 
 -- a fraction is n / d
 abbrev IsRatio : Fraction → ℕ → ℕ → Type 0
@@ -66,14 +66,14 @@ demands :
     × IsRatio (m_00 small 0) 73 4
     × IsRatio (m_ij small 0 1 1) 73 10
     × IsRatio (m_i0 small 0 1) 511 40
-unfolding small sum_over product_over power ten_thousandths years here sent needed repair ship m_0j m_00 m_ij m_i0 f_i0 f_ij f_0j direct_i0 direct_00 time_at direct_ij direct_0j zero_stock_i0 zero_stock_00 zero_stock_ij zero_stock_0j shared pipeline_i0 ebo_i0 vbo_i0 pipeline_00 ebo_00 vbo_00 pipeline_ij ebo_ij vbo_ij pipeline_0j ebo_0j vbo_0j factor availability fleet family_total total ebo vbo second larger unless_zero sum_below chance weight_sum weight excess ◌/ℚ◌ scaled ◌+ℚ◌ ◌-ℚ◌ ◌*ℚ◌ whole
+unfolding small sum_over product_over power ten_thousandths years here sent needed repair ship m_0j m_00 m_ij m_i0 f_i0 f_ij f_0j direct_i0 direct_00 time_at direct_ij direct_0j zero_stock_i0 zero_stock_00 zero_stock_ij zero_stock_0j shared pipeline_i0 ebo_i0 vbo_i0 pipeline_00 ebo_00 vbo_00 pipeline_ij ebo_ij vbo_ij pipeline_0j ebo_0j vbo_0j factor availability fleet family_total case_total ebo vbo second larger unless_zero sum_below chance weight_sum weight excess ◌/ℚ◌ scaled ◌+ℚ◌ ◌-ℚ◌ ◌*ℚ◌ whole
 demands = (refl, refl, refl, refl)
 
 shares :
     IsRatio (f_i0 small 0 1) 4 7
     × IsRatio (f_ij small 0 1 1) 3 7
     × IsRatio (f_0j small 0 1) 1 1
-unfolding small sum_over product_over power ten_thousandths years here sent needed repair ship m_0j m_00 m_ij m_i0 f_i0 f_ij f_0j direct_i0 direct_00 time_at direct_ij direct_0j zero_stock_i0 zero_stock_00 zero_stock_ij zero_stock_0j shared pipeline_i0 ebo_i0 vbo_i0 pipeline_00 ebo_00 vbo_00 pipeline_ij ebo_ij vbo_ij pipeline_0j ebo_0j vbo_0j factor availability fleet family_total total ebo vbo second larger unless_zero sum_below chance weight_sum weight excess ◌/ℚ◌ scaled ◌+ℚ◌ ◌-ℚ◌ ◌*ℚ◌ whole
+unfolding small sum_over product_over power ten_thousandths years here sent needed repair ship m_0j m_00 m_ij m_i0 f_i0 f_ij f_0j direct_i0 direct_00 time_at direct_ij direct_0j zero_stock_i0 zero_stock_00 zero_stock_ij zero_stock_0j shared pipeline_i0 ebo_i0 vbo_i0 pipeline_00 ebo_00 vbo_00 pipeline_ij ebo_ij vbo_ij pipeline_0j ebo_0j vbo_0j factor availability fleet family_total case_total ebo vbo second larger unless_zero sum_below chance weight_sum weight excess ◌/ℚ◌ scaled ◌+ℚ◌ ◌-ℚ◌ ◌*ℚ◌ whole
 shares = (refl, refl, refl)
 
 directs :
@@ -81,7 +81,7 @@ directs :
     × IsRatio (direct_00 small 0) 1 2
     × IsRatio (direct_ij small 0 1 1) 1 10
     × IsRatio (direct_0j small 0 1) 1 2
-unfolding small sum_over product_over power ten_thousandths years here sent needed repair ship m_0j m_00 m_ij m_i0 f_i0 f_ij f_0j direct_i0 direct_00 time_at direct_ij direct_0j zero_stock_i0 zero_stock_00 zero_stock_ij zero_stock_0j shared pipeline_i0 ebo_i0 vbo_i0 pipeline_00 ebo_00 vbo_00 pipeline_ij ebo_ij vbo_ij pipeline_0j ebo_0j vbo_0j factor availability fleet family_total total ebo vbo second larger unless_zero sum_below chance weight_sum weight excess ◌/ℚ◌ scaled ◌+ℚ◌ ◌-ℚ◌ ◌*ℚ◌ whole
+unfolding small sum_over product_over power ten_thousandths years here sent needed repair ship m_0j m_00 m_ij m_i0 f_i0 f_ij f_0j direct_i0 direct_00 time_at direct_ij direct_0j zero_stock_i0 zero_stock_00 zero_stock_ij zero_stock_0j shared pipeline_i0 ebo_i0 vbo_i0 pipeline_00 ebo_00 vbo_00 pipeline_ij ebo_ij vbo_ij pipeline_0j ebo_0j vbo_0j factor availability fleet family_total case_total ebo vbo second larger unless_zero sum_below chance weight_sum weight excess ◌/ℚ◌ scaled ◌+ℚ◌ ◌-ℚ◌ ◌*ℚ◌ whole
 directs = (refl, refl, refl, refl)
 
 zero_stocks :
@@ -89,7 +89,7 @@ zero_stocks :
     × IsRatio (zero_stock_00 small 0) 9 10
     × IsRatio (zero_stock_ij small 0 1 1) 2 5
     × IsRatio (zero_stock_0j small 0 1) 9 5
-unfolding small sum_over product_over power ten_thousandths years here sent needed repair ship m_0j m_00 m_ij m_i0 f_i0 f_ij f_0j direct_i0 direct_00 time_at direct_ij direct_0j zero_stock_i0 zero_stock_00 zero_stock_ij zero_stock_0j shared pipeline_i0 ebo_i0 vbo_i0 pipeline_00 ebo_00 vbo_00 pipeline_ij ebo_ij vbo_ij pipeline_0j ebo_0j vbo_0j factor availability fleet family_total total ebo vbo second larger unless_zero sum_below chance weight_sum weight excess ◌/ℚ◌ scaled ◌+ℚ◌ ◌-ℚ◌ ◌*ℚ◌ whole
+unfolding small sum_over product_over power ten_thousandths years here sent needed repair ship m_0j m_00 m_ij m_i0 f_i0 f_ij f_0j direct_i0 direct_00 time_at direct_ij direct_0j zero_stock_i0 zero_stock_00 zero_stock_ij zero_stock_0j shared pipeline_i0 ebo_i0 vbo_i0 pipeline_00 ebo_00 vbo_00 pipeline_ij ebo_ij vbo_ij pipeline_0j ebo_0j vbo_0j factor availability fleet family_total case_total ebo vbo second larger unless_zero sum_below chance weight_sum weight excess ◌/ℚ◌ scaled ◌+ℚ◌ ◌-ℚ◌ ◌*ℚ◌ whole
 zero_stocks = (refl, refl, refl, refl)
 
 -- at these stocks and depth 3
@@ -98,7 +98,7 @@ depot_shop :
     × IsRatio ((pipeline_i0 small 0 1).variance) 7 10
     × IsRatio (ebo_i0 small stocks 3 0 1) 23961 120130
     × IsRatio (vbo_i0 small stocks 3 0 1) 361873183 1443121690
-unfolding small stocks sum_over product_over power ten_thousandths years here sent needed repair ship m_0j m_00 m_ij m_i0 f_i0 f_ij f_0j direct_i0 direct_00 time_at direct_ij direct_0j zero_stock_i0 zero_stock_00 zero_stock_ij zero_stock_0j shared pipeline_i0 ebo_i0 vbo_i0 pipeline_00 ebo_00 vbo_00 pipeline_ij ebo_ij vbo_ij pipeline_0j ebo_0j vbo_0j factor availability fleet family_total total ebo vbo second larger unless_zero sum_below chance weight_sum weight excess ◌/ℚ◌ scaled ◌+ℚ◌ ◌-ℚ◌ ◌*ℚ◌ whole
+unfolding small stocks sum_over product_over power ten_thousandths years here sent needed repair ship m_0j m_00 m_ij m_i0 f_i0 f_ij f_0j direct_i0 direct_00 time_at direct_ij direct_0j zero_stock_i0 zero_stock_00 zero_stock_ij zero_stock_0j shared pipeline_i0 ebo_i0 vbo_i0 pipeline_00 ebo_00 vbo_00 pipeline_ij ebo_ij vbo_ij pipeline_0j ebo_0j vbo_0j factor availability fleet family_total case_total ebo vbo second larger unless_zero sum_below chance weight_sum weight excess ◌/ℚ◌ scaled ◌+ℚ◌ ◌-ℚ◌ ◌*ℚ◌ whole
 depot_shop = (refl, refl, refl, refl)
 
 depot_line :
@@ -106,7 +106,7 @@ depot_line :
     × IsRatio ((pipeline_00 small stocks 3 0).variance) 910215801 1443121690
     × IsRatio (ebo_00 small stocks 3 0) 73757 120130
     × IsRatio (vbo_00 small stocks 3 0) 910215801 1443121690
-unfolding small stocks sum_over product_over power ten_thousandths years here sent needed repair ship m_0j m_00 m_ij m_i0 f_i0 f_ij f_0j direct_i0 direct_00 time_at direct_ij direct_0j zero_stock_i0 zero_stock_00 zero_stock_ij zero_stock_0j shared pipeline_i0 ebo_i0 vbo_i0 pipeline_00 ebo_00 vbo_00 pipeline_ij ebo_ij vbo_ij pipeline_0j ebo_0j vbo_0j factor availability fleet family_total total ebo vbo second larger unless_zero sum_below chance weight_sum weight excess ◌/ℚ◌ scaled ◌+ℚ◌ ◌-ℚ◌ ◌*ℚ◌ whole
+unfolding small stocks sum_over product_over power ten_thousandths years here sent needed repair ship m_0j m_00 m_ij m_i0 f_i0 f_ij f_0j direct_i0 direct_00 time_at direct_ij direct_0j zero_stock_i0 zero_stock_00 zero_stock_ij zero_stock_0j shared pipeline_i0 ebo_i0 vbo_i0 pipeline_00 ebo_00 vbo_00 pipeline_ij ebo_ij vbo_ij pipeline_0j ebo_0j vbo_0j factor availability fleet family_total case_total ebo vbo second larger unless_zero sum_below chance weight_sum weight excess ◌/ℚ◌ scaled ◌+ℚ◌ ◌-ℚ◌ ◌*ℚ◌ whole
 depot_line = (refl, refl, refl, refl)
 
 base_shop :
@@ -114,17 +114,17 @@ base_shop :
     × IsRatio ((pipeline_ij small stocks 3 0 1 1).variance) 140635478 721560845
     × IsRatio (ebo_ij small stocks 3 0 1 1) 11141 60065
     × IsRatio (vbo_ij small stocks 3 0 1 1) 140635478 721560845
-unfolding small stocks sum_over product_over power ten_thousandths years here sent needed repair ship m_0j m_00 m_ij m_i0 f_i0 f_ij f_0j direct_i0 direct_00 time_at direct_ij direct_0j zero_stock_i0 zero_stock_00 zero_stock_ij zero_stock_0j shared pipeline_i0 ebo_i0 vbo_i0 pipeline_00 ebo_00 vbo_00 pipeline_ij ebo_ij vbo_ij pipeline_0j ebo_0j vbo_0j factor availability fleet family_total total ebo vbo second larger unless_zero sum_below chance weight_sum weight excess ◌/ℚ◌ scaled ◌+ℚ◌ ◌-ℚ◌ ◌*ℚ◌ whole
+unfolding small stocks sum_over product_over power ten_thousandths years here sent needed repair ship m_0j m_00 m_ij m_i0 f_i0 f_ij f_0j direct_i0 direct_00 time_at direct_ij direct_0j zero_stock_i0 zero_stock_00 zero_stock_ij zero_stock_0j shared pipeline_i0 ebo_i0 vbo_i0 pipeline_00 ebo_00 vbo_00 pipeline_ij ebo_ij vbo_ij pipeline_0j ebo_0j vbo_0j factor availability fleet family_total case_total ebo vbo second larger unless_zero sum_below chance weight_sum weight excess ◌/ℚ◌ scaled ◌+ℚ◌ ◌-ℚ◌ ◌*ℚ◌ whole
 base_shop = (refl, refl, refl, refl)
 
 base_line_mean :
     IsRatio ((pipeline_0j small stocks 3 0 1).mean) 78052 60065
-unfolding small stocks sum_over product_over power ten_thousandths years here sent needed repair ship m_0j m_00 m_ij m_i0 f_i0 f_ij f_0j direct_i0 direct_00 time_at direct_ij direct_0j zero_stock_i0 zero_stock_00 zero_stock_ij zero_stock_0j shared pipeline_i0 ebo_i0 vbo_i0 pipeline_00 ebo_00 vbo_00 pipeline_ij ebo_ij vbo_ij pipeline_0j ebo_0j vbo_0j factor availability fleet family_total total ebo vbo second larger unless_zero sum_below chance weight_sum weight excess ◌/ℚ◌ scaled ◌+ℚ◌ ◌-ℚ◌ ◌*ℚ◌ whole
+unfolding small stocks sum_over product_over power ten_thousandths years here sent needed repair ship m_0j m_00 m_ij m_i0 f_i0 f_ij f_0j direct_i0 direct_00 time_at direct_ij direct_0j zero_stock_i0 zero_stock_00 zero_stock_ij zero_stock_0j shared pipeline_i0 ebo_i0 vbo_i0 pipeline_00 ebo_00 vbo_00 pipeline_ij ebo_ij vbo_ij pipeline_0j ebo_0j vbo_0j factor availability fleet family_total case_total ebo vbo second larger unless_zero sum_below chance weight_sum weight excess ◌/ℚ◌ scaled ◌+ℚ◌ ◌-ℚ◌ ◌*ℚ◌ whole
 base_line_mean = refl
 
 base_line_variance :
     IsRatio ((pipeline_0j small stocks 3 0 1).variance) 956523801 721560845
-unfolding small stocks sum_over product_over power ten_thousandths years here sent needed repair ship m_0j m_00 m_ij m_i0 f_i0 f_ij f_0j direct_i0 direct_00 time_at direct_ij direct_0j zero_stock_i0 zero_stock_00 zero_stock_ij zero_stock_0j shared pipeline_i0 ebo_i0 vbo_i0 pipeline_00 ebo_00 vbo_00 pipeline_ij ebo_ij vbo_ij pipeline_0j ebo_0j vbo_0j factor availability fleet family_total total ebo vbo second larger unless_zero sum_below chance weight_sum weight excess ◌/ℚ◌ scaled ◌+ℚ◌ ◌-ℚ◌ ◌*ℚ◌ whole
+unfolding small stocks sum_over product_over power ten_thousandths years here sent needed repair ship m_0j m_00 m_ij m_i0 f_i0 f_ij f_0j direct_i0 direct_00 time_at direct_ij direct_0j zero_stock_i0 zero_stock_00 zero_stock_ij zero_stock_0j shared pipeline_i0 ebo_i0 vbo_i0 pipeline_00 ebo_00 vbo_00 pipeline_ij ebo_ij vbo_ij pipeline_0j ebo_0j vbo_0j factor availability fleet family_total case_total ebo vbo second larger unless_zero sum_below chance weight_sum weight excess ◌/ℚ◌ scaled ◌+ℚ◌ ◌-ℚ◌ ◌*ℚ◌ whole
 base_line_variance = refl
 
 ebo_number : IsRatio (ebo 3 (over 78052 60065 (zero-lt-suc 60064)) (over 956523801 721560845 (zero-lt-suc 721560844)) 1) 4458567993844280578414430682689636 7574656187348142946277338322223695
@@ -149,20 +149,20 @@ stocks_at_depot = 0 ∷ 0 ∷ 1 ∷ 0 ∷ []
 
 base_line_without_stock :
     IsRatio (ebo_0j small stocks_at_depot 3 0 1) 78052 60065
-unfolding small stocks_at_depot sum_over product_over power ten_thousandths years here sent needed repair ship m_0j m_00 m_ij m_i0 f_i0 f_ij f_0j direct_i0 direct_00 time_at direct_ij direct_0j zero_stock_i0 zero_stock_00 zero_stock_ij zero_stock_0j shared pipeline_i0 ebo_i0 vbo_i0 pipeline_00 ebo_00 vbo_00 pipeline_ij ebo_ij vbo_ij pipeline_0j ebo_0j vbo_0j factor availability fleet family_total total ebo vbo second larger unless_zero sum_below chance weight_sum weight excess ◌/ℚ◌ scaled ◌+ℚ◌ ◌-ℚ◌ ◌*ℚ◌ whole
+unfolding small stocks_at_depot sum_over product_over power ten_thousandths years here sent needed repair ship m_0j m_00 m_ij m_i0 f_i0 f_ij f_0j direct_i0 direct_00 time_at direct_ij direct_0j zero_stock_i0 zero_stock_00 zero_stock_ij zero_stock_0j shared pipeline_i0 ebo_i0 vbo_i0 pipeline_00 ebo_00 vbo_00 pipeline_ij ebo_ij vbo_ij pipeline_0j ebo_0j vbo_0j factor availability fleet family_total case_total ebo vbo second larger unless_zero sum_below chance weight_sum weight excess ◌/ℚ◌ scaled ◌+ℚ◌ ◌-ℚ◌ ◌*ℚ◌ whole
 base_line_without_stock = refl
 
 availabilities :
     IsRatio (availability small stocks_at_depot 3 1) 78855379344 90195105625
     × IsRatio (fleet small stocks_at_depot 3) 78855379344 90195105625
-unfolding small stocks_at_depot sum_over product_over power ten_thousandths years here sent needed repair ship m_0j m_00 m_ij m_i0 f_i0 f_ij f_0j direct_i0 direct_00 time_at direct_ij direct_0j zero_stock_i0 zero_stock_00 zero_stock_ij zero_stock_0j shared pipeline_i0 ebo_i0 vbo_i0 pipeline_00 ebo_00 vbo_00 pipeline_ij ebo_ij vbo_ij pipeline_0j ebo_0j vbo_0j factor availability fleet family_total total ebo vbo second larger unless_zero sum_below chance weight_sum weight excess ◌/ℚ◌ scaled ◌+ℚ◌ ◌-ℚ◌ ◌*ℚ◌ whole
+unfolding small stocks_at_depot sum_over product_over power ten_thousandths years here sent needed repair ship m_0j m_00 m_ij m_i0 f_i0 f_ij f_0j direct_i0 direct_00 time_at direct_ij direct_0j zero_stock_i0 zero_stock_00 zero_stock_ij zero_stock_0j shared pipeline_i0 ebo_i0 vbo_i0 pipeline_00 ebo_00 vbo_00 pipeline_ij ebo_ij vbo_ij pipeline_0j ebo_0j vbo_0j factor availability fleet family_total case_total ebo vbo second larger unless_zero sum_below chance weight_sum weight excess ◌/ℚ◌ scaled ◌+ℚ◌ ◌-ℚ◌ ◌*ℚ◌ whole
 availabilities = (refl, refl)
 
 -- three times the backorders
 totals :
     IsRatio (family_total small stocks_at_depot 3 0) 234156 60065
-    × IsRatio (total small stocks_at_depot 3) 234156 60065
-unfolding small stocks_at_depot sum_over product_over power ten_thousandths years here sent needed repair ship m_0j m_00 m_ij m_i0 f_i0 f_ij f_0j direct_i0 direct_00 time_at direct_ij direct_0j zero_stock_i0 zero_stock_00 zero_stock_ij zero_stock_0j shared pipeline_i0 ebo_i0 vbo_i0 pipeline_00 ebo_00 vbo_00 pipeline_ij ebo_ij vbo_ij pipeline_0j ebo_0j vbo_0j factor availability fleet family_total total ebo vbo second larger unless_zero sum_below chance weight_sum weight excess ◌/ℚ◌ scaled ◌+ℚ◌ ◌-ℚ◌ ◌*ℚ◌ whole
+    × IsRatio (case_total small stocks_at_depot 3) 234156 60065
+unfolding small stocks_at_depot sum_over product_over power ten_thousandths years here sent needed repair ship m_0j m_00 m_ij m_i0 f_i0 f_ij f_0j direct_i0 direct_00 time_at direct_ij direct_0j zero_stock_i0 zero_stock_00 zero_stock_ij zero_stock_0j shared pipeline_i0 ebo_i0 vbo_i0 pipeline_00 ebo_00 vbo_00 pipeline_ij ebo_ij vbo_ij pipeline_0j ebo_0j vbo_0j factor availability fleet family_total case_total ebo vbo second larger unless_zero sum_below chance weight_sum weight excess ◌/ℚ◌ scaled ◌+ℚ◌ ◌-ℚ◌ ◌*ℚ◌ whole
 totals = (refl, refl)
 
 stocks_everywhere : List ℕ
@@ -173,13 +173,13 @@ depot_line_stocked :
     × IsRatio ((pipeline_00 small stocks_everywhere 2 0).variance) 949609 1513210
     × IsRatio (ebo_00 small stocks_everywhere 2 0) 570601075643019 3264828620260610
     × IsRatio (vbo_00 small stocks_everywhere 2 0) 199540427319002072685147799609 1065910591967279837338431757210
-unfolding small stocks_everywhere sum_over product_over power ten_thousandths years here sent needed repair ship m_0j m_00 m_ij m_i0 f_i0 f_ij f_0j direct_i0 direct_00 time_at direct_ij direct_0j zero_stock_i0 zero_stock_00 zero_stock_ij zero_stock_0j shared pipeline_i0 ebo_i0 vbo_i0 pipeline_00 ebo_00 vbo_00 pipeline_ij ebo_ij vbo_ij pipeline_0j ebo_0j vbo_0j factor availability fleet family_total total ebo vbo second larger unless_zero sum_below chance weight_sum weight excess ◌/ℚ◌ scaled ◌+ℚ◌ ◌-ℚ◌ ◌*ℚ◌ whole
+unfolding small stocks_everywhere sum_over product_over power ten_thousandths years here sent needed repair ship m_0j m_00 m_ij m_i0 f_i0 f_ij f_0j direct_i0 direct_00 time_at direct_ij direct_0j zero_stock_i0 zero_stock_00 zero_stock_ij zero_stock_0j shared pipeline_i0 ebo_i0 vbo_i0 pipeline_00 ebo_00 vbo_00 pipeline_ij ebo_ij vbo_ij pipeline_0j ebo_0j vbo_0j factor availability fleet family_total case_total ebo vbo second larger unless_zero sum_below chance weight_sum weight excess ◌/ℚ◌ scaled ◌+ℚ◌ ◌-ℚ◌ ◌*ℚ◌ whole
 depot_line_stocked = (refl, refl, refl, refl)
 
 base_shop_stocked :
     IsRatio (ebo_ij small stocks_everywhere 2 0 1 1) 63830054696 3276811339115
     × IsRatio (vbo_ij small stocks_everywhere 2 0 1 1) 42590808433068939762298 2147498510430527905796645
-unfolding small stocks_everywhere sum_over product_over power ten_thousandths years here sent needed repair ship m_0j m_00 m_ij m_i0 f_i0 f_ij f_0j direct_i0 direct_00 time_at direct_ij direct_0j zero_stock_i0 zero_stock_00 zero_stock_ij zero_stock_0j shared pipeline_i0 ebo_i0 vbo_i0 pipeline_00 ebo_00 vbo_00 pipeline_ij ebo_ij vbo_ij pipeline_0j ebo_0j vbo_0j factor availability fleet family_total total ebo vbo second larger unless_zero sum_below chance weight_sum weight excess ◌/ℚ◌ scaled ◌+ℚ◌ ◌-ℚ◌ ◌*ℚ◌ whole
+unfolding small stocks_everywhere sum_over product_over power ten_thousandths years here sent needed repair ship m_0j m_00 m_ij m_i0 f_i0 f_ij f_0j direct_i0 direct_00 time_at direct_ij direct_0j zero_stock_i0 zero_stock_00 zero_stock_ij zero_stock_0j shared pipeline_i0 ebo_i0 vbo_i0 pipeline_00 ebo_00 vbo_00 pipeline_ij ebo_ij vbo_ij pipeline_0j ebo_0j vbo_0j factor availability fleet family_total case_total ebo vbo second larger unless_zero sum_below chance weight_sum weight excess ◌/ℚ◌ scaled ◌+ℚ◌ ◌-ℚ◌ ◌*ℚ◌ whole
 base_shop_stocked = (refl, refl)
 
 -- the first stocks are an allocation

@@ -28,8 +28,8 @@ unfoldable pub family_total : CaseRows → List ℕ → ℕ → ℕ → Fraction
 family_total c s n l = sum_over (bases c) (λ j. whole (weight c l) *ℚ ebo_0j c s n l j)
 
 -- the sum of the families' totals over all line units
-unfoldable pub total : CaseRows → List ℕ → ℕ → Fraction
-total c s n = sum_over (line_units c) (family_total c s n)
+unfoldable pub case_total : CaseRows → List ℕ → ℕ → Fraction
+case_total c s n = sum_over (line_units c) (family_total c s n)
 
 -- a stock for each pair, each within its limit
 pub record IsAllocation (c : CaseRows) (s : List ℕ) : Type 0 where
@@ -46,7 +46,7 @@ cost c s = sum_by (part_cost c s) (all_parts c)
 
 -- a family: the line unit l and its shop units
 abbrev pub family : CaseRows → ℕ → List ℕ
-family c l = frames.family c.parts l
+family c l = frames.family_of_line c.parts l
 
 -- the cost of the stocks of the family of the line unit l
 abbrev pub family_cost : CaseRows → List ℕ → ℕ → ℕ

@@ -4,7 +4,7 @@ use Rattle.std.specs.List.{AllByRecursion}
 use Rattle.exact_model.specs.Fraction.{Fraction, ◌≤ℚ◌}
 use Rattle.spares_input.specs.Cases.{CaseRows}
 use Rattle.fleet_model.specs.Rows.{stock}
-use Rattle.fleet_model.specs.Fleet.{IsAllocation, cost, family, family_total, total}
+use Rattle.fleet_model.specs.Fleet.{IsAllocation, cost, family, family_total, case_total}
 use Rattle.fleet_model.specs.Aims.{weighted_backorders, family_aim, aim, IsHeldAllocation, cost_beyond}
 
 -- j is a base
@@ -35,4 +35,4 @@ pub record ArePlainWords (c : CaseRows) (s : List ℕ) : Type 0 where
   pub allocation : IsHeldAllocation c [] s ↔ IsAllocation c s
   pub cost_is : cost_beyond c [] s ≡ cost c s
   pub family_is : (n l : ℕ) → family_aim weighted_backorders c s n l ≡ family_total c s n l
-  pub total_is : (n : ℕ) → aim weighted_backorders c s n ≡ total c s n
+  pub total_is : (n : ℕ) → aim weighted_backorders c s n ≡ case_total c s n

@@ -1,10 +1,9 @@
 -- The inputs of a case by part p and site k. Site 0 is the depot, and sites 1 to J are the bases. A look-up past the
 -- case's rows finds zeros.
-use Rattle.std.specs.Prelude.{ℕ, ◌-◌, List, length, get_or, filter}
+use Rattle.std.specs.Prelude.{ℕ, ◌-◌, List, length, get_or}
 use Rattle.std.specs.List.{range_with_len}
 use Rattle.std.proofs.Common.{zero-lt-suc}
 use Rattle.exact_model.specs.Fraction.{Fraction, whole, ◌-ℚ◌}
-use Rattle.spares_input.specs.Rows.{is_line}
 use Rattle.spares_input.specs.Frames as frames
 use Rattle.spares_input.specs.Frames.{site_at, part_at}
 use Rattle.spares_input.specs.Pairs.{pair_place}
@@ -24,11 +23,11 @@ all_parts c = range_with_len 0 (length c.parts)
 
 -- the line units, in part order
 abbrev pub line_units : CaseRows → List ℕ
-line_units c = filter (λ p. is_line (part_at c.parts p)) (all_parts c)
+line_units c = frames.line_units c.parts
 
 -- the shop units of the line unit l, in part order
 abbrev pub shop_units : CaseRows → ℕ → List ℕ
-shop_units c l = frames.shop_units c.parts l
+shop_units c l = frames.shop_units_among c.parts l
 
 -- n ten-thousandths
 unfoldable pub ten_thousandths : ℕ → Fraction

@@ -2,7 +2,7 @@
 
 ghost use Rattle.std.specs.Prelude.{◌≡◌, ℕ, ◌+◌, List, sum_by};
 ghost use Rattle.spares_input.specs.Cases.{CaseRows, IsCase};
-ghost use Rattle.spares_input.specs.Stocks.{StockList, stock_at, cost_of, IsFor, IsWithinLimits};
+ghost use Rattle.spares_input.specs.Stocks.{StockList, stock_at, cost_of_stocks, IsFor, IsWithinLimits};
 ghost use Rattle.fleet_model.specs.Rows.{line_units, stock};
 ghost use Rattle.fleet_model.specs.Fleet.{cost, IsAllocation};
 ghost use Rattle.fleet_model.specs.Aims.{Value, family_aim, IsHeldAllocation, family_cost_beyond, cost_beyond};
@@ -12,7 +12,7 @@ ghost use Rattle.fleet_model.specs.Laws.{AgreeOnFamily, ArePlainWords};
 pub fn stocks_allocate()
     ensures stocks { (c : CaseRows) (s : StockList) → IsFor c s → IsWithinLimits c s → IsAllocation c s.list }
     ensures stock { (c : CaseRows) (s : StockList) (p k : ℕ) → IsFor c s → stock c s.list p k ≡ stock_at s p k }
-    ensures cost { (c : CaseRows) (s : StockList) → IsFor c s → cost c s.list ≡ cost_of c s }
+    ensures cost { (c : CaseRows) (s : StockList) → IsFor c s → cost c s.list ≡ cost_of_stocks c s }
 {}
 
 /// With nothing held and backorders weighted, the definitions for held stocks and an aim agree with the plain ones:

@@ -19,7 +19,7 @@ use Rattle.price_bounds.specs.Sums.{cost_of, hi_of, Picks}
 use Rattle.price_bounds.specs.Values.{IsAtLeast, IsAtMost}
 use Rattle.marginal_alloc.specs.Plans.{IsPlan}
 use Rattle.price_bounds.specs.Certificates.{IsAcceptable}
-use Rattle.price_bounds.specs.Allocations.{Family, points_of, AreEnclosed, IsAllocation, cost_at, total_at, IsBoundAtPrice}
+use Rattle.price_bounds.specs.Allocations.{Family, points_of, AreEnclosed, IsFamilyAllocation, cost_at, total_at, IsBoundAtPrice}
 use Rattle.price_bounds.specs.Soundness.{stocks_of, IsSoundCertificate}
 use Rattle.marginal_alloc.specs.Soundness.{IsSoundPlan}
 use Rattle.price_bounds.proofs.Public.{choice_allocation, certificate_sound}
@@ -27,7 +27,7 @@ use Rattle.marginal_alloc.proofs.Public.{plan_sound, plan_acceptable}
 use Rattle.fleet_model.specs.Aims.{Value, weighted_backorders, aim, family_aim, IsHeldAllocation, cost_beyond}
 use Rattle.fleet_model.specs.Bounds.{NoneHasLess, PriceShows, HasNoMore}
 use Rattle.fleet_plan.specs.Families.{HasWidth, family_at, families_at, family_points, case_points, vectors_at, points_at, hi_at}
-use Rattle.fleet_plan.specs.Plans.{CasePlan, IsCasePlan, CaseClaims, claims_of, AreAcceptable, IsTruePlan, AreTrueClaims}
+use Rattle.fleet_plan.specs.Plans.{CasePlan, IsCasePlan, CaseClaims, plan_claims_of, AreAcceptable, IsTruePlan, AreTrueClaims}
 use Rattle.fleet_plan.specs.Laws.{claims_at, IsAcceptedCase, IsSameChoice, IsOfStocks}
 use Rattle.fleet_model.proofs.Public.{family_aim_same, has_sites}
 use Rattle.fleet_plan.proofs.Lists.{is_among, is_between, zip_maps}
@@ -79,7 +79,7 @@ module _ (ends : ScoreEnds) (value : Value) (c : CaseRows) (held : List ℕ) (va
         (λ x m. let h = place_has c l x m in a.allocation.within x.part x.site (in_case c valid l x.part line h.0) h.1);
   }
 
-  allocation_in : (s ls : List ℕ) → ((l : ℕ) → Among l ls → IsLine c l) → IsHeldAllocation c held s → IsAllocation (map (family_at ends value c held) ls) (map (λ l. vector_of c l s) ls)
+  allocation_in : (s ls : List ℕ) → ((l : ℕ) → Among l ls → IsLine c l) → IsHeldAllocation c held s → IsFamilyAllocation (map (family_at ends value c held) ls) (map (λ l. vector_of c l s) ls)
   allocation_in s [] lines a = tt
   allocation_in s (l ∷ ls) lines a =
       (is_among (vector_of c l held) (limits c l) (vector_of c l s) (vector_between s l (lines l (inl refl)) a), allocation_in s ls (λ m b. lines m (inr b)) a)
@@ -115,7 +115,7 @@ module _ (ends : ScoreEnds) (value : Value) (c : CaseRows) (held : List ℕ) (va
 
   -- ---- and back
 
-  betweens : (ls : List ℕ) (vs : List (List ℕ)) → IsAllocation (map (family_at ends value c held) ls) vs → AllZip (λ l v. IsBetween (vector_of c l held) (limits c l) v) ls vs
+  betweens : (ls : List ℕ) (vs : List (List ℕ)) → IsFamilyAllocation (map (family_at ends value c held) ls) vs → AllZip (λ l v. IsBetween (vector_of c l held) (limits c l) v) ls vs
   betweens [] [] a = tt
   betweens [] (v ∷ vs) a = absurd a
   betweens (l ∷ ls) [] a = absurd a
@@ -127,7 +127,7 @@ module _ (ends : ScoreEnds) (value : Value) (c : CaseRows) (held : List ℕ) (va
   zipped_self g (m ∷ ms) h l (inr a) = zipped_self g ms h.1 l a
 
   -- stocks whose vectors are an allocation of the families are an allocation that keeps what is held
-  pub held_of : (s : List ℕ) → length s ≡ pair_count (frame_rows c) → IsAllocation (families_at ends value c held) (vectors_at c s) → IsHeldAllocation c held s
+  pub held_of : (s : List ℕ) → length s ≡ pair_count (frame_rows c) → IsFamilyAllocation (families_at ends value c held) (vectors_at c s) → IsHeldAllocation c held s
   held_of s e a = record { allocation = record { complete = e; within = λ p k lp lk. (at p k lp lk).1 }; keeps = λ p k lp lk. (at p k lp lk).0 }
     where
       at : (p k : ℕ) → p < length c.parts → k < length c.sites → (stock c held p k ≤ stock c s p k) × (stock c s p k ≤ limit_at c.parts p k)
@@ -136,13 +136,13 @@ module _ (ends : ScoreEnds) (value : Value) (c : CaseRows) (held : List ℕ) (va
           within_family c f.0 s held (vector_of c f.0 s) (zipped_self (λ l. vector_of c l s) (line_units c) (betweens (line_units c) (vectors_at c s) a) f.0 (line_among c valid f.0 f.1)) refl p k f.2 lk
 
   -- each allocation of the families is that of an allocation of the case
-  pub of_stocks : (allocation : List (List ℕ)) → IsAllocation (families_at ends value c held) allocation → IsOfStocks c held allocation
+  pub of_stocks : (allocation : List (List ℕ)) → IsFamilyAllocation (families_at ends value c held) allocation → IsOfStocks c held allocation
   of_stocks allocation a =
       let widths : AllZip (HasWidth c) (line_units c) allocation = zip_each (λ l v. IsBetween (vector_of c l held) (limits c l) v) (HasWidth c) (line_units c) allocation (λ l v m b. width_of c l held v b) (betweens (line_units c) allocation a) in
       let same : vectors_at c (stocks_from c allocation) ≡ allocation = vectors_from c valid allocation widths in
       record {
         stocks = stocks_from c allocation;
-        is_allocation = held_of (stocks_from c allocation) (length_listed c (from_families c (line_units c) allocation)) (subst (IsAllocation (families_at ends value c held)) (sym same) a);
+        is_allocation = held_of (stocks_from c allocation) (length_listed c (from_families c (line_units c) allocation)) (subst (IsFamilyAllocation (families_at ends value c held)) (sym same) a);
         vectors = same;
       }
 
@@ -200,7 +200,7 @@ pub from_points : (ends : ScoreEnds) (c : CaseRows) (held : List ℕ) (budget : 
 from_points ends c held budget x valid count h = record {
   money = h.money;
   allocation = held_of ends weighted_backorders c held valid x.stocks count
-      (subst (IsAllocation (families_at ends weighted_backorders c held)) (stocks_are ends c held x.stocks)
+      (subst (IsFamilyAllocation (families_at ends weighted_backorders c held)) (stocks_are ends c held x.stocks)
       (choice_allocation (families_at ends weighted_backorders c held) (points_at ends c held x.stocks)
       (subst (λ z. Picks z (points_at ends c held x.stocks)) (sym (points_are ends weighted_backorders c held)) h.within)));
   fits = subst (λ z. z ≤ budget) (cost_same ends c held x.stocks valid) h.fits;
@@ -226,7 +226,7 @@ module _ (ends : ScoreEnds) (value : Value) (c : CaseRows) (held : List ℕ) (ac
   own = families_at ends value c held
 
   -- where no allocation of the families within the budget has less than a bound, no stocks within it have less
-  pub none_less : (budget bound : ℕ) → ((n : ℕ) (allocation : List (List ℕ)) → 1024 ≤ n → IsAllocation own allocation → cost_at own allocation ≤ budget → IsAtLeast bound (total_at n own allocation))
+  pub none_less : (budget bound : ℕ) → ((n : ℕ) (allocation : List (List ℕ)) → 1024 ≤ n → IsFamilyAllocation own allocation → cost_at own allocation ≤ budget → IsAtLeast bound (total_at n own allocation))
       → NoneHasLess value c held budget bound
   none_less budget bound h n deep s a fits =
       at_least bound (aim value c s n) (subst (IsAtLeast bound) (same_total ends value c held accepted.valid s n)
@@ -264,7 +264,7 @@ module _ (ends : ScoreEnds) (value : Value) (c : CaseRows) (held : List ℕ) (ac
     where
       true_of : IsSoundPlan own budget (stocks_of (points_at ends c held p.stocks)) p.numbers → IsTruePlan ends value c held budget p
       true_of k = record {
-        allocation = held_of ends value c held accepted.valid p.stocks h.count (subst (IsAllocation own) (stocks_are ends c held p.stocks) k.allocation);
+        allocation = held_of ends value c held accepted.valid p.stocks h.count (subst (IsFamilyAllocation own) (stocks_are ends c held p.stocks) k.allocation);
         cost_is = k.cost ∙ ap (cost_at own) (stocks_are ends c held p.stocks) ∙ same_cost ends value c held accepted.valid p.stocks;
         fits = k.fits;
         none_less = none_less budget p.numbers.bound k.fewer;
@@ -273,6 +273,6 @@ module _ (ends : ScoreEnds) (value : Value) (c : CaseRows) (held : List ℕ) (ac
         upper_is = h.plan.upper ∙ hi_same ends c held p.stocks accepted.valid;
         no_more = no_more p.stocks p.numbers.upper (λ n deep. subst (λ z. IsAtMost p.numbers.upper (total_at n own z)) (stocks_are ends c held p.stocks) (k.upper n deep));
         small_gap = k.small_gap;
-        certificate = from_points ends c held budget (claims_of p) accepted.valid h.count (plan_acceptable (case_points ends c held) budget (points_at ends c held p.stocks) p.floors p.numbers h.plan);
+        certificate = from_points ends c held budget (plan_claims_of p) accepted.valid h.count (plan_acceptable (case_points ends c held) budget (points_at ends c held p.stocks) p.floors p.numbers h.plan);
         no_claims = λ x a. k.certificate (claims_at ends c held x) (subst (λ z. IsAcceptable z budget (claims_at ends c held x)) (sym (points_are ends value c held)) (over_points ends c held budget x accepted.valid a));
       }

@@ -147,8 +147,10 @@ module _ (c : CaseRows) (accepted : IsAcceptedCase c) (l : ℕ) (line : IsLine c
         scale = (omega arith, omega arith);
         valid = accepted.valid;
         no_fault = accepted.no_fault;
-        are_stocks = record { sites = refl; pairs = length_listed c (stock_in c l (site_part c l v)) };
-        limits = with_limits held v b;
+        are_stocks = record {
+          is_for = record { sites = refl; pairs = length_listed c (stock_in c l (site_part c l v)) };
+          limits = with_limits held v b;
+        };
       })
 
 -- ---- the points of a family

@@ -49,14 +49,14 @@ PointsAreInRange =
     → IsAcceptedCase c → IsLine c l → LeavesRoom ends → Among v (family_points ends c held l) → InRange v
 
 -- no two points of a family have the same stocks
-abbrev pub StocksTell : Type 0
-StocksTell = (ends : ScoreEnds) (c : CaseRows) (held : List ℕ) → StocksTellAll (case_points ends c held)
+abbrev pub CaseStocksTell : Type 0
+CaseStocksTell = (ends : ScoreEnds) (c : CaseRows) (held : List ℕ) → StocksTellAll (case_points ends c held)
 
 -- ---- allocations
 
 -- an allocation of the case is an allocation of its families, with the same cost and the same aim
 pub record IsSameChoice (ends : ScoreEnds) (value : Value) (c : CaseRows) (held s : List ℕ) : Type 0 where
-  pub allocation : families.IsAllocation (families_at ends value c held) (vectors_at c s)
+  pub allocation : families.IsFamilyAllocation (families_at ends value c held) (vectors_at c s)
   pub cost : cost_at (families_at ends value c held) (vectors_at c s) ≡ cost_beyond c held s
   pub total : (n : ℕ) → total_at n (families_at ends value c held) (vectors_at c s) ≡ aim value c s n
 
@@ -76,7 +76,7 @@ pub record IsOfStocks (c : CaseRows) (held : List ℕ) (allocation : List (List 
 abbrev pub ChoicesAreAllocations : Type 0
 ChoicesAreAllocations =
     (ends : ScoreEnds) (value : Value) (c : CaseRows) (held : List ℕ) (allocation : List (List ℕ))
-    → IsCase c → families.IsAllocation (families_at ends value c held) allocation → IsOfStocks c held allocation
+    → IsCase c → families.IsFamilyAllocation (families_at ends value c held) allocation → IsOfStocks c held allocation
 
 -- ---- plans
 

@@ -42,8 +42,8 @@ pub record CaseClaims : Type 0 where
   pub bound : ℕ
 
 -- the claims of a plan's certificate
-abbrev pub claims_of : CasePlan → CaseClaims
-claims_of p = record {
+abbrev pub plan_claims_of : CasePlan → CaseClaims
+plan_claims_of p = record {
   stocks = p.stocks;
   price = p.numbers.price;
   floors = p.floors;
@@ -83,7 +83,7 @@ pub record IsTruePlan (ends : ScoreEnds) (value : Value) (c : CaseRows) (held : 
   pub small_gap : p.numbers.price.q * p.numbers.gap
       ≤ p.numbers.price.p * (budget - p.numbers.hull_cost) + p.numbers.price.q * p.numbers.rounding
   -- the claims of its certificate are acceptable
-  pub certificate : AreAcceptable ends c held budget (claims_of p)
+  pub certificate : AreAcceptable ends c held budget (plan_claims_of p)
   -- and no acceptable claims for this case and this budget have a bound more than the rounding above its own
   pub no_claims : (x : CaseClaims) → AreAcceptable ends c held budget x
       → x.bound ≤ p.numbers.bound + p.numbers.rounding

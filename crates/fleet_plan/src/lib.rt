@@ -20,7 +20,7 @@ ghost use Rattle.fleet_plan.specs.Laws.{
   PlansAreTrue,
   PointsAreInRange,
   PointsAreTheFamilies,
-  StocksTell,
+  CaseStocksTell,
   UpperIsTotal,
 };
 
@@ -33,7 +33,7 @@ pub fn families_are_enclosed()
 /// The points of a family meet the requirements of a curve, and no two have the same stocks.
 pub fn points_are_sound()
     ensures range { PointsAreInRange }
-    ensures tell { StocksTell }
+    ensures tell { CaseStocksTell }
 {}
 
 /// The allocations of a case are the allocations of its families, with the same cost and the same aim, and the families

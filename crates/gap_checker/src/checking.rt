@@ -4,7 +4,8 @@ ghost use Rattle.std.specs.Prelude.{◌≡◌, ◌≤◌, IfOk, length, map};
 ghost use Rattle.std.specs.Option.{option_map};
 ghost use Rattle.answers.specs.Answers.{Gives};
 ghost use Rattle.spares_input.specs.Building.{StopsAt};
-ghost use Rattle.spares_input.specs.Stocks.{IsFor, IsWithinLimits, nothing_held};
+ghost use Rattle.spares_input.specs.Limits.{most_parts};
+ghost use Rattle.spares_input.specs.Stocks.{AreStocksOf, nothing_held};
 ghost use Rattle.fleet_model.specs.Rows.{line_units};
 ghost use Rattle.demand_rates.specs.Limits.{rate_fault_of};
 ghost use Rattle.demand_rates.specs.Rates.{AreRatesOf};
@@ -19,7 +20,6 @@ use answers::Stop;
 use check_answers::{Accepted, Reject};
 use demand_rates::kinds::Rates;
 use demand_rates::rates;
-use family_items::line_units;
 use gap_rules::bound::bound_kept;
 use gap_rules::covers::covers_kept;
 use gap_rules::stocks::stocks_kept;
@@ -51,11 +51,10 @@ fn judge<S: Score>(
     score: &S,
 ) -> Result<Accepted, Stop<Reject>>
     requires formed { IsWellFormed cert.now }
-    requires held { IsFor cert.now.case held.now }
-    requires limits { IsWithinLimits cert.now.case held.now }
+    requires held { AreStocksOf cert.now.case held.now }
     requires rates { AreRatesOf cert.now.case rates.now }
     requires lines { map (λ p. p.0) lines.now ≡ line_units cert.now.case }
-    requires few { length lines.now ≤ 2000 }
+    requires few { length lines.now ≤ most_parts }
     ensures { Gives (judged S.ends cert.now held.now) result }
 {
     covers_kept(alloc, cert, held, lines)?;
@@ -83,14 +82,12 @@ pub fn check_within<S: Score>(
     score: &S,
 ) -> Result<Accepted, Stop<Reject>>
     requires formed { IsWellFormed cert.now }
-    requires held { IsFor cert.now.case held.now }
-    requires limits { IsWithinLimits cert.now.case held.now }
+    requires held { AreStocksOf cert.now.case held.now }
     ensures { Gives (judged S.ends cert.now held.now) result }
 {
     cert.case.invariant();
     let rates = rates_of(alloc, &cert.case)?;
-    let units = line_units(alloc, &cert.case)?;
-    judge(alloc, cert, held, &rates, units.as_slice(), score)
+    judge(alloc, cert, held, &rates, cert.case.line_units(), score)
 }
 
 /// Checks a certificate that has no stocks on hand, by the score of its objective, as [`check_within`] does.

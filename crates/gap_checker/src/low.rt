@@ -1,30 +1,29 @@
 //! The first leaf of a cover whose value is below the claimed floor.
 
-ghost use Rattle.std.specs.Prelude.{◌≡◌, ◌∷◌, [], ◌^◌, ◌<◌, ◌≤◌, true, is_some, unwrap_or, IfOk, length, map};
-ghost use Rattle.demand_rates.specs.Rates.{AreRatesOf};
+ghost use Rattle.std.specs.Prelude.{◌≡◌, ◌∷◌, [], ◌<◌, ◌≤◌, true, is_some, unwrap_or, IfOk, length, map};
 ghost use Rattle.family_items.specs.Inputs.{IsLine};
+ghost use Rattle.hull.specs.Limits.{most_price_units, most_price_money};
 ghost use Rattle.gap_rules.specs.Boxes.{IsOrdered};
 ghost use Rattle.family_points.specs.Counts.{most_tables};
 ghost use Rattle.family_points.specs.Vectors.{places};
 ghost use Rattle.gap_rules.specs.Covers.{leaves};
-ghost use Rattle.gap_rules.specs.Values.{cover_tables, value_of};
+ghost use Rattle.gap_rules.specs.Values.{cover_tables, value_of_leaf};
 ghost use Rattle.gap_rules.specs.Refusals.{low_leaf};
 
 use crate::value::low_value;
 use answers::NoMemory;
-use demand_rates::kinds::Rates;
+use demand_rates::Rated;
 use family_points::Bounds;
 use gap_rules::reading::{Read, read_node};
 use hull::{Price, Score};
 use price_certificate::Node;
-use spares_input::{Case, PartId};
+use spares_input::PartId;
 use std::alloc::Global;
 
 /// The first leaf whose value is below the floor: its number and its value. The nodes are a tree of the box.
 pub(crate) fn low_leaf<S: Score>(
     alloc: Global,
-    case: &Case,
-    rates: &Rates,
+    rated: &Rated<'_>,
     line: PartId,
     parts: &[PartId],
     price: Price,
@@ -33,17 +32,16 @@ pub(crate) fn low_leaf<S: Score>(
     floor: u128,
     score: &S,
 ) -> Result<Option<(u32, u128)>, NoMemory>
-    requires rates { AreRatesOf case.now rates.now }
-    requires line { IsLine case.now line.0 }
-    requires parts { map (λ p. p.0) parts.now ≡ map (λ x. x.part) (places case.now line.0) }
-    requires ordered { IsOrdered case.now line.0 bounds }
+    requires line { IsLine rated.now.case line.0 }
+    requires parts { map (λ p. p.0) parts.now ≡ map (λ x. x.part) (places rated.now.case line.0) }
+    requires ordered { IsOrdered rated.now.case line.0 bounds }
     requires few { length nodes.now ≤ 100000 }
     requires tree { is_some (leaves nodes.now (bounds ∷ [])) ≡ true }
-    requires work { cover_tables case.now line.0 (unwrap_or (leaves nodes.now (bounds ∷ [])) []) ≤ most_tables }
+    requires work { cover_tables rated.now.case line.0 (unwrap_or (leaves nodes.now (bounds ∷ [])) []) ≤ most_tables }
     requires money { 0 < price.q }
-    requires most_money { price.q ≤ 1000000000000 }
-    requires price { price.p ≤ 2 ^ 74 }
-    ensures { IfOk result (λ low. low ≡ low_leaf (value_of case.now line.0 S.ends price) floor 0
+    requires most_money { price.q ≤ most_price_money }
+    requires price { price.p ≤ most_price_units }
+    ensures { IfOk result (λ low. low ≡ low_leaf (value_of_leaf rated.now.case line.0 S.ends price) floor 0
         (unwrap_or (leaves nodes.now (bounds ∷ [])) [])) }
 {
     let mut waiting = Vec::new(alloc);
@@ -54,7 +52,7 @@ pub(crate) fn low_leaf<S: Score>(
             Read::Gap => return Ok(None),
             Read::Inner => {}
             Read::Leaf(leaf) => {
-                match low_value(alloc, case, rates, line, parts, price, leaf, floor, score)? {
+                match low_value(alloc, rated, line, parts, price, leaf, floor, score)? {
                     Some(value) => return Ok(Some((number, value))),
                     None => number += 1,
                 }

@@ -4,6 +4,7 @@ ghost use Rattle.std.specs.Prelude.{◌≡◌, ◌^◌, ◌<◌, ◌≤◌, None
 ghost use Rattle.spares_input.specs.First.{first};
 ghost use Rattle.spares_input.specs.Building.{StopsAt};
 ghost use Rattle.spares_input.specs.Cases.{frame_rows, pair_count};
+ghost use Rattle.spares_input.specs.Limits.{most_parts};
 ghost use Rattle.spares_input.specs.Stocks.{IsFor};
 ghost use Rattle.fleet_model.specs.Rows.{line_units};
 ghost use Rattle.demand_rates.specs.Rates.{AreRatesOf};
@@ -80,7 +81,7 @@ pub(crate) fn upper_kept<S: Score>(
     requires held { IsFor cert.now.case held.now }
     requires rates { AreRatesOf cert.now.case rates.now }
     requires lines { map (λ p. p.0) lines.now ≡ line_units cert.now.case }
-    requires few { length lines.now ≤ 2000 }
+    requires few { length lines.now ≤ most_parts }
     requires limited { first (over_limit cert.now.case cert.now.stocks) (pair_count (frame_rows cert.now.case)) ≡ None }
     requires kept { first (below_held cert.now.case held.now cert.now.stocks) (pair_count (frame_rows cert.now.case))
         ≡ None }

@@ -21,8 +21,8 @@ use Rattle.price_certificate.specs.Certificates.{IsWellFormed}
 use Rattle.gap_rules.specs.declared.leaf.Leaf.{Leaf}
 use Rattle.check_answers.specs.declared.refusal.Reject.{Reject}
 use Rattle.check_answers.specs.declared.refusal.Reject.TheVariants as reject
-use Rattle.gap_rules.specs.Refusals.{line_at, family_count, nodes_of, cover_of, family_leaves, gap_at, over_limit, below_held, cost_above, work_of, low_leaf, leaf_value, low_at, chosen_point, chosen_of, upper_of, largest_of, reject_of}
-use Rattle.gap_rules.specs.Laws.{AcceptedAreAcceptable, families_of, claims_of}
+use Rattle.gap_rules.specs.Refusals.{line_at, case_family_count, cover_nodes, cover_of, family_leaves, gap_at, over_limit, below_held, case_cost_above, check_work_of, low_leaf, leaf_value, low_reject_at, chosen_point, chosen_of, upper_of, largest_of, reject_of}
+use Rattle.gap_rules.specs.Laws.{AcceptedAreAcceptable, family_points_of, claims_of}
 use Rattle.gap_rules.proofs.AmongLaws.{among_vectors}
 use Rattle.gap_rules.proofs.FloorLaws.{floors_hold}
 use Rattle.gap_rules.proofs.Places.{if_none, line_part, vectors_ordered, vector_limited}
@@ -33,12 +33,12 @@ use Rattle.gap_rules.proofs.StockFaults.{else_none}
 -- each of the nine rules holds
 pub record BreaksNone (score : ScoreEnds) (cert : Certificate) (held : StockList) : Type 0 where
   pub rates : option_map reject.Rate (rate_fault_of cert.case) ≡ None
-  pub gaps : first (gap_at cert held) (family_count cert.case) ≡ None
-  pub work : work_of cert held ≤ 1000000
+  pub gaps : first (gap_at cert held) (case_family_count cert.case) ≡ None
+  pub work : check_work_of cert held ≤ 1000000
   pub limited : first (over_limit cert.case cert.stocks) (pair_count (frame_rows cert.case)) ≡ None
   pub kept : first (below_held cert.case held cert.stocks) (pair_count (frame_rows cert.case)) ≡ None
-  pub cost : cost_above cert.case held cert.stocks ≤ cert.budget
-  pub floors : first (low_at score cert held) (family_count cert.case) ≡ None
+  pub cost : case_cost_above cert.case held cert.stocks ≤ cert.budget
+  pub floors : first (low_reject_at score cert held) (case_family_count cert.case) ≡ None
   pub upper : upper_of score cert held ≤ cert.upper
   pub bound : cert.bound ≤ largest_of cert
 
@@ -127,11 +127,11 @@ module _ (score : ScoreEnds) (cert : Certificate) (held : StockList) (valid : Is
   own_floor : (f : ℕ) → f < length (line_units cert.case) → (w : Point)
       → Among w (points_within cert.case (line_at cert.case f) score (vector_of cert.case (line_at cert.case f) held.list) (vector_of cert.case (line_at cert.case f) held.list) (limits cert.case (line_at cert.case f)))
       → get_or cert.floors f 0 ≤ lagrangian cert.price.p cert.price.q w
-  unfolding cover_of low_at
+  unfolding cover_of low_reject_at
   own_floor f b w m =
-      let tree = some_leaves (cover_of cert held f) (reject.CoverGap f) (first_none (gap_at cert held) (family_count cert.case) f none.gaps b) in
-      let low = map_none _ _ (first_none (low_at score cert held) (family_count cert.case) f none.floors b) in
-      floors_hold score cert.case (line_at cert.case f) cert.price (nodes_of cert f) (box_from cert.case (line_at cert.case f) held.list) (family_leaves cert held f) (get_or cert.floors f 0) tree
+      let tree = some_leaves (cover_of cert held f) (reject.CoverGap f) (first_none (gap_at cert held) (case_family_count cert.case) f none.gaps b) in
+      let low = map_none _ _ (first_none (low_reject_at score cert held) (case_family_count cert.case) f none.floors b) in
+      floors_hold score cert.case (line_at cert.case f) cert.price (cover_nodes cert f) (box_from cert.case (line_at cert.case f) held.list) (family_leaves cert held f) (get_or cert.floors f 0) tree
       (none_low (leaf_value score cert f) (get_or cert.floors f 0) 0 (family_leaves cert held f) low) w m
 
   own_cost : cost_of (chosen_of score cert held) ≤ cert.budget
@@ -141,7 +141,7 @@ module _ (score : ScoreEnds) (cert : Certificate) (held : StockList) (valid : Is
       let g = none.cost in
       omega (arith, e, f, g)
 
-  pub acceptable : IsAcceptable (families_of score cert.case held) cert.budget (claims_of score cert held)
+  pub acceptable : IsAcceptable (family_points_of score cert.case held) cert.budget (claims_of score cert held)
   acceptable = record {
     money = formed.money.0;
     within = picks_map _ (chosen_point score cert held) (line_units cert.case) own_point;

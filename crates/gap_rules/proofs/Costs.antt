@@ -15,7 +15,7 @@ use Rattle.price_bounds.specs.Sums.{total}
 use Rattle.family_points.specs.Vectors.{Pair, places, vector_of}
 use Rattle.gap_rules.proofs.Added.{added_at}
 use Rattle.family_points.specs.Points.{added_cost}
-use Rattle.gap_rules.specs.Refusals.{below_held, cost_above}
+use Rattle.gap_rules.specs.Refusals.{below_held, case_cost_above}
 use Rattle.gap_rules.proofs.Places.{place_pair, held_most, line_part}
 
 add_step : (a b cost rest less more : ℕ) → a ≤ b → rest + less ≡ more → (b - a) * cost + rest + (a * cost + less) ≡ b * cost + more
@@ -74,7 +74,7 @@ total_map f g (l ∷ ls) = omega (arith, sum_by-cons (λ y. f (g y)) l ls, total
 
 -- where no stock is below what is held, the families' added costs come to the cost above it
 pub added_is : (c : CaseRows) (held s : StockList) → IsCase c → IsFor c held → IsFor c s → first (below_held c held s) (pair_count (frame_rows c)) ≡ None
-    → sum_by (λ l. added_cost c l (vector_of c l held.list) (vector_of c l s.list)) (line_units c) ≡ cost_above c held s
+    → sum_by (λ l. added_cost c l (vector_of c l held.list) (vector_of c l s.list)) (line_units c) ≡ case_cost_above c held s
 added_is c held s valid h k none =
     let e = lines_added (λ l. added_cost c l (vector_of c l held.list) (vector_of c l s.list)) (family_cost c held.list) (family_cost c s.list) (line_units c) (λ l m. family_added c l held s (line_part c l m).0 none) in
     let a = cost_families c held.list (has_families c valid) in

@@ -9,7 +9,7 @@ use Rattle.answers.specs.Counts.{count64}
 use Rattle.spares_input.specs.declared.rows.PartId.{PartId}
 use Rattle.spares_input.specs.First.{first, first_of, or_else}
 use Rattle.spares_input.specs.Cases.{CaseRows}
-use Rattle.spares_input.specs.Stocks.{StockList, IsFor, IsWithinLimits, limit_at}
+use Rattle.spares_input.specs.Stocks.{AreStocksOf, StockList, limit_at}
 use Rattle.spares_input.proofs.Public.{first_none, first_found, first_more}
 use Rattle.fleet_model.specs.Rows.{line_units}
 use Rattle.fleet_model.proofs.Public.{stock_holds}
@@ -25,8 +25,8 @@ use Rattle.gap_rules.specs.declared.leaf.Leaf.{Leaf}
 use Rattle.check_answers.specs.declared.refusal.Reject.{Reject}
 use Rattle.check_answers.specs.declared.refusal.Reject.TheVariants as reject
 use Rattle.gap_rules.specs.Covers.{leaves}
-use Rattle.gap_rules.specs.Values.{cover_tables, value_of}
-use Rattle.gap_rules.specs.Refusals.{line_at, family_count, nodes_of, cover_of, family_leaves, gap_at, family_tables, tables_of_first, work_of, too_low, low_leaf, low_at}
+use Rattle.gap_rules.specs.Values.{cover_tables, value_of_leaf}
+use Rattle.gap_rules.specs.Refusals.{line_at, case_family_count, cover_nodes, cover_of, family_leaves, gap_at, family_tables, tables_of_first, check_work_of, too_low, low_leaf, low_reject_at}
 use Rattle.gap_rules.proofs.Boxes.{at_most_self}
 use Rattle.gap_rules.proofs.Places.{IsPair, place_pair, line_part, at_most_maps}
 use Rattle.gap_rules.proofs.Adding.{part_first}
@@ -41,7 +41,7 @@ pub line_read_at : (c : CaseRows) (lines : List PartId) (f : ℕ) → map (λ (p
 line_read_at c lines f h = part_first lines f ∙ ap (λ xs. get_or xs f 0) h
 
 -- there are as many ids of line units as families
-pub count_lines : (c : CaseRows) (lines : List PartId) → map (λ (p : PartId). p.0) lines ≡ line_units c → length lines ≡ family_count c
+pub count_lines : (c : CaseRows) (lines : List PartId) → map (λ (p : PartId). p.0) lines ≡ line_units c → length lines ≡ case_family_count c
 count_lines c lines h = sym (length-map lines (λ (p : PartId). p.0)) ∙ ap length h
 
 -- what is read there is a line unit of the case
@@ -55,25 +55,27 @@ line_is c lines f h b =
 -- ---- boxes
 
 -- stocks held within their limits are within those of each family
-pub held_limited : (c : CaseRows) (l : ℕ) (held : StockList) → l < length c.parts → IsFor c held → IsWithinLimits c held → AtMost (vector_of c l held.list) (limits c l)
-held_limited c l held b is_for within =
-    at_most_maps _ _ (places c l) (λ x m. (let p : IsPair c x = place_pair c l x b m in subst (λ z. z ≤ limit_at c.parts x.part x.site) (sym (stock_holds c held x.part x.site is_for)) (within x.part x.site p.part p.site)))
+pub held_limited : (c : CaseRows) (l : ℕ) (held : StockList) → l < length c.parts → AreStocksOf c held → AtMost (vector_of c l held.list) (limits c l)
+held_limited c l held b h =
+    at_most_maps _ _ (places c l) (λ x m. (let p : IsPair c x = place_pair c l x b m in subst (λ z. z ≤ limit_at c.parts x.part x.site) (sym (stock_holds c held x.part x.site h.is_for)) (h.limits x.part x.site p.part p.site)))
 
 -- the box from what is held to the limits is in order
-pub box_ordered : (c : CaseRows) (l : ℕ) (held : StockList) → l < length c.parts → IsFor c held → IsWithinLimits c held → IsOrdered c l (box_from c l held.list)
-box_ordered c l held b is_for within =
-    let h = held_limited c l held b is_for within in
-    record { held_least = at_most_self (vector_of c l held.list); low_least = h; within = at_most_self (limits c l) }
+pub box_ordered : (c : CaseRows) (l : ℕ) (held : StockList) → l < length c.parts → AreStocksOf c held → IsOrdered c l (box_from c l held.list)
+box_ordered c l held b h = record {
+  held_least = at_most_self (vector_of c l held.list);
+  low_least = held_limited c l held b h;
+  within = at_most_self (limits c l);
+}
 
 -- ---- covers
 
-module _ (cert : Certificate) (held : StockList) (f l : ℕ) (nodes : List Node) (bounds : Bounds) (line : l ≡ line_at cert.case f) (own_nodes : nodes ≡ nodes_of cert f) (own_box : bounds ≡ box_from cert.case l held.list) where
+module _ (cert : Certificate) (held : StockList) (f l : ℕ) (nodes : List Node) (bounds : Bounds) (line : l ≡ line_at cert.case f) (own_nodes : nodes ≡ cover_nodes cert f) (own_box : bounds ≡ box_from cert.case l held.list) where
   pub cover_same : leaves nodes (bounds ∷ []) ≡ cover_of cert held f
   unfolding cover_of
   cover_same =
       ap (λ z. leaves z (bounds ∷ [])) own_nodes
-      ∙ ap (λ z. leaves (nodes_of cert f) (z ∷ [])) own_box
-      ∙ ap (λ z. leaves (nodes_of cert f) (box_from cert.case z held.list ∷ [])) line
+      ∙ ap (λ z. leaves (cover_nodes cert f) (z ∷ [])) own_box
+      ∙ ap (λ z. leaves (cover_nodes cert f) (box_from cert.case z held.list ∷ [])) line
 
   -- where the cover of family f is a tree, so are the nodes that are read
   pub own_tree : is_some (cover_of cert held f) ≡ true → is_some (leaves nodes (bounds ∷ [])) ≡ true
@@ -91,23 +93,23 @@ module _ (cert : Certificate) (held : StockList) (f l : ℕ) (nodes : List Node)
       ∙ ap (λ z. option_map (λ ls. count64 (cover_tables cert.case z ls)) (cover_of cert held f)) line
 
   module _ (score : ScoreEnds) (floor : ℕ) (own_floor : floor ≡ get_or cert.floors f 0) (low : Option (ℕ × ℕ))
-      (is : low ≡ low_leaf (value_of cert.case l score cert.price) floor 0 (unwrap_or (leaves nodes (bounds ∷ [])) [])) where
+      (is : low ≡ low_leaf (value_of_leaf cert.case l score cert.price) floor 0 (unwrap_or (leaves nodes (bounds ∷ [])) [])) where
     -- the reject of the low leaf that was found is that of family f
-    pub own_low : option_map (λ x. too_low cert.format f x.0 floor x.1) low ≡ low_at score cert held f
-    unfolding low_at
+    pub own_low : option_map (λ x. too_low cert.format f x.0 floor x.1) low ≡ low_reject_at score cert held f
+    unfolding low_reject_at
     own_low =
         ap (λ z. option_map (λ x. too_low cert.format f x.0 floor x.1) z)
         (is
-        ∙ ap (λ z. low_leaf (value_of cert.case l score cert.price) floor 0 (unwrap_or z [])) cover_same
-        ∙ ap (λ z. low_leaf (value_of cert.case z score cert.price) floor 0 (family_leaves cert held f)) line)
-        ∙ ap (λ z. option_map (λ x. too_low cert.format f x.0 z x.1) (low_leaf (value_of cert.case (line_at cert.case f) score cert.price) z 0 (family_leaves cert held f))) own_floor
+        ∙ ap (λ z. low_leaf (value_of_leaf cert.case l score cert.price) floor 0 (unwrap_or z [])) cover_same
+        ∙ ap (λ z. low_leaf (value_of_leaf cert.case z score cert.price) floor 0 (family_leaves cert held f)) line)
+        ∙ ap (λ z. option_map (λ x. too_low cert.format f x.0 z x.1) (low_leaf (value_of_leaf cert.case (line_at cert.case f) score cert.price) z 0 (family_leaves cert held f))) own_floor
 
 some_is : {A : Type 0} (o : Option A) (x : A) → o ≡ Some x → is_some o ≡ true
 some_is o x e = ap (λ z. is_some z) e
 
 -- where no family has a gap, each family's nodes are a tree
-pub tree_at : (cert : Certificate) (held : StockList) (f : ℕ) → first (gap_at cert held) (family_count cert.case) ≡ None → f < family_count cert.case → is_some (cover_of cert held f) ≡ true
-tree_at cert held f none b = some_is (cover_of cert held f) _ (some_leaves (cover_of cert held f) (reject.CoverGap f) (first_none (gap_at cert held) (family_count cert.case) f none b))
+pub tree_at : (cert : Certificate) (held : StockList) (f : ℕ) → first (gap_at cert held) (case_family_count cert.case) ≡ None → f < case_family_count cert.case → is_some (cover_of cert held f) ≡ true
+tree_at cert held f none b = some_is (cover_of cert held f) _ (some_leaves (cover_of cert held f) (reject.CoverGap f) (first_none (gap_at cert held) (case_family_count cert.case) f none b))
 
 term_most : (g : ℕ → ℕ) (n a j : ℕ) → a ≤ j → j < a + n → g j ≤ sum_by g (range_with_len a n)
 term_most g zero a j h k = absurd (omega arith)
@@ -123,10 +125,10 @@ uncounted : (n : ℕ) → count64 n ≤ 1000000 → n ≤ 1000000
 uncounted n h = omega arith
 
 -- where the work of all families is within the limit, so are the tables of each
-pub work_at : (cert : Certificate) (held : StockList) (f : ℕ) → work_of cert held ≤ 1000000 → f < family_count cert.case → family_tables cert held f ≤ 1000000
+pub work_at : (cert : Certificate) (held : StockList) (f : ℕ) → check_work_of cert held ≤ 1000000 → f < case_family_count cert.case → family_tables cert held f ≤ 1000000
 work_at cert held f h b =
-    let s = uncounted (tables_of_first cert held (family_count cert.case)) h in
-    let t = term_most (family_tables cert held) (family_count cert.case) 0 f (omega arith) (omega (arith, b)) in
+    let s = uncounted (tables_of_first cert held (case_family_count cert.case)) h in
+    let t = term_most (family_tables cert held) (case_family_count cert.case) 0 f (omega arith) (omega (arith, b)) in
     omega (arith, s, t)
 
 -- ---- the count

@@ -12,7 +12,7 @@ use Rattle.gap_rules.specs.declared.leaf.Leaf.{Leaf}
 use Rattle.gap_rules.specs.declared.leaf.Leaf.TheVariants as leaf
 use Rattle.gap_rules.specs.Covers.{box_of, IsIn}
 use Rattle.family_points.specs.Least.{least}
-use Rattle.gap_rules.specs.Values.{least_within, value_of}
+use Rattle.gap_rules.specs.Values.{least_within, value_of_leaf}
 use Rattle.gap_rules.specs.Laws.{FloorsHold}
 use Rattle.gap_rules.proofs.Boxes.{added_more}
 use Rattle.gap_rules.proofs.AmongLaws.{IsBetween, among_vectors, between}
@@ -36,8 +36,8 @@ module _ (score : ScoreEnds) (c : CaseRows) (l : ℕ) (price : Price) where
   whole_most box v i = least_most (lagrangian price.p price.q) (map (point_at_vector c l score box.held) (vectors box.low box.high)) (point_at_vector c l score box.held v) (among_map (point_at_vector c l score box.held) (vectors box.low box.high) v (among_vectors box.low box.high v i.low i.high))
 
   -- a leaf's value is at most the Lagrangian of each of its vectors
-  pub value_most : (x : Leaf) (v held : List ℕ) → IsIn v (box_of x) → (box_of x).held ≡ held → value_of c l score price x ≤ lagrangian price.p price.q (point_at_vector c l score held v)
-  unfolding value_of
+  pub value_most : (x : Leaf) (v held : List ℕ) → IsIn v (box_of x) → (box_of x).held ≡ held → value_of_leaf c l score price x ≤ lagrangian price.p price.q (point_at_vector c l score held v)
+  unfolding value_of_leaf
   value_most (leaf.Cost box) v held i k =
       subst (λ h. price.p * added_cost c l box.held box.low ≤ price.q * (point_at_vector c l score h v).lo + price.p * added_cost c l h v) k
       (by_cost price.p price.q (point_at_vector c l score box.held v).lo (added_cost c l box.held box.low) (added_cost c l box.held v) (added_more c (places c l) box.held box.low v i.low))

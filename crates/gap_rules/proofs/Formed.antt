@@ -14,7 +14,7 @@ use Rattle.price_certificate.specs.declared.certificate.Certificate.{Certificate
 use Rattle.price_certificate.specs.declared.certificate.Node.{Node}
 use Rattle.price_certificate.specs.declared.certificate.Node.TheVariants.{Whole}
 use Rattle.price_certificate.specs.Certificates.{IsCover, IsWellFormed}
-use Rattle.gap_rules.specs.Refusals.{family_count, nodes_of}
+use Rattle.gap_rules.specs.Refusals.{case_family_count, cover_nodes}
 
 equal : (a b : ℕ) → a == b ≡ true → a ≡ b
 equal a b h = grind (arith, nat_tests)
@@ -58,16 +58,16 @@ pub has_floors : (cert : Certificate) → IsWellFormed cert → length cert.floo
 has_floors cert h = h.floor_count ∙ sym (lines_counted cert.case)
 
 -- a well formed certificate of format 2 has a cover for each family
-pub has_cover : (cert : Certificate) (f : ℕ) → IsWellFormed cert → f < family_count cert.case → cert.format ≡ 2 → f < length cert.covers
+pub has_cover : (cert : Certificate) (f : ℕ) → IsWellFormed cert → f < case_family_count cert.case → cert.format ≡ 2 → f < length cert.covers
 has_cover cert f h b two = (let s = (h.second two).count in let n = lines_counted cert.case in omega (arith, b, s, n))
 
 few_in : (covers : List (List Node)) (f : ℕ) → All IsCover covers → f < length covers → length (get_or covers f []) ≤ 100000
 few_in covers f h b = (All-get_or IsCover covers f [] b h).few
 
 -- no family of a well formed certificate has more than 100,000 nodes
-pub few_nodes : (cert : Certificate) (f : ℕ) → IsWellFormed cert → f < family_count cert.case → length (nodes_of cert f) ≤ 100000
+pub few_nodes : (cert : Certificate) (f : ℕ) → IsWellFormed cert → f < case_family_count cert.case → length (cover_nodes cert f) ≤ 100000
 few_nodes cert f h b = by_format (cert.format == 2) refl
   where
-    by_format : (t : Bool) → cert.format == 2 ≡ t → length (nodes_of cert f) ≤ 100000
+    by_format : (t : Bool) → cert.format == 2 ≡ t → length (cover_nodes cert f) ≤ 100000
     by_format true e = subst (λ z. length (if z then get_or cert.covers f [] else Whole ∷ []) ≤ 100000) (sym e) (let two : cert.format ≡ 2 = equal cert.format 2 e in few_in cert.covers f (h.second two).covers (has_cover cert f h b two))
     by_format false e = subst (λ z. length (if z then get_or cert.covers f [] else Whole ∷ []) ≤ 100000) (sym e) (omega arith)

@@ -15,7 +15,7 @@ use Rattle.price_certificate.specs.declared.certificate.Certificate.{Certificate
 use Rattle.check_answers.specs.declared.refusal.Accepted.{Accepted}
 use Rattle.check_answers.specs.declared.refusal.Reject.{Reject}
 use Rattle.check_answers.specs.declared.refusal.Reject.TheVariants as reject
-use Rattle.gap_rules.specs.Refusals.{family_count, gap_at, work_of, too_much_work, over_limit, below_held, over_budget, cost_above, low_at, upper_too_low, bound_too_high, reject_of, judged}
+use Rattle.gap_rules.specs.Refusals.{case_family_count, gap_at, check_work_of, too_much_work, over_limit, below_held, over_budget, case_cost_above, low_reject_at, upper_too_low, bound_too_high, reject_of, judged}
 use Rattle.family_points.specs.Points.{ScoreEnds}
 use Rattle.gap_rules.proofs.Places.{if_none}
 pub use Rattle.fleet_model.proofs.Public.{few_lines}
@@ -41,17 +41,17 @@ goes_on due rest x r h k = subst (λ d. Gives (unless (or_else d rest) x) r) (sy
 module _ (score : ScoreEnds) (cert : Certificate) (held : StockList) where
   -- the rejects of covers, of stocks, and of claims, in their order
   abbrev pub covers : List (Option Reject)
-  covers = first (gap_at cert held) (family_count cert.case) ∷ too_much_work cert held ∷ []
+  covers = first (gap_at cert held) (case_family_count cert.case) ∷ too_much_work cert held ∷ []
 
   abbrev pub stocks : List (Option Reject)
   stocks = first (over_limit cert.case cert.stocks) (pair_count (frame_rows cert.case))
       ∷ first (below_held cert.case held cert.stocks) (pair_count (frame_rows cert.case)) ∷ over_budget cert held ∷ []
 
   abbrev pub claims : List (Option Reject)
-  claims = first (low_at score cert held) (family_count cert.case) ∷ upper_too_low score cert held ∷ bound_too_high cert ∷ []
+  claims = first (low_reject_at score cert held) (case_family_count cert.case) ∷ upper_too_low score cert held ∷ bound_too_high cert ∷ []
 
   abbrev answer : Accepted
-  answer = record { bound = cert.bound; upper = cert.upper; cost = cost_above cert.case held cert.stocks }
+  answer = record { bound = cert.bound; upper = cert.upper; cost = case_cost_above cert.case held cert.stocks }
 
   -- rates first, then covers, stocks and claims
   by_steps : reject_of score cert held ≡ or_else (option_map reject.Rate (rate_fault_of cert.case)) (or_else (first_of covers) (or_else (first_of stocks) (first_of claims)))
@@ -59,7 +59,7 @@ module _ (score : ScoreEnds) (cert : Certificate) (held : StockList) where
   by_steps = ap (or_else (option_map reject.Rate (rate_fault_of cert.case)))
       (first_of_both covers (stocks ++ claims) ∙ ap (or_else (first_of covers)) (first_of_both stocks claims))
 
-  accepts : (cost : ℕ) → cost ≡ cost_above cert.case held cert.stocks → Gives {E = Reject} (unless None answer) (Ok (record { bound = cert.bound; upper = cert.upper; cost = cost }))
+  accepts : (cost : ℕ) → cost ≡ case_cost_above cert.case held cert.stocks → Gives {E = Reject} (unless None answer) (Ok (record { bound = cert.bound; upper = cert.upper; cost = cost }))
   accepts cost is = ap {B = Result Accepted Reject} (λ z. Ok (record { bound = cert.bound; upper = cert.upper; cost = z })) (sym is)
 
   module _ (r : Result Accepted (Stop Reject)) where
@@ -91,10 +91,10 @@ module _ (score : ScoreEnds) (cert : Certificate) (held : StockList) where
           past_stocks h = past_covers (goes_on _ _ answer r d h)
 
           -- where these don't, floors that stop are the answer
-          pub by_floors : (s : Stop Reject) → IsErrAnd r (λ e. e ≡ s) → StopsAt {T = Accepted} {E = Reject} (first (low_at score cert held) (family_count cert.case)) (Err s) → Gives (judged score cert held) r
+          pub by_floors : (s : Stop Reject) → IsErrAnd r (λ e. e ≡ s) → StopsAt {T = Accepted} {E = Reject} (first (low_reject_at score cert held) (case_family_count cert.case)) (Err s) → Gives (judged score cert held) r
           by_floors s is h = past_stocks (stopped _ _ answer s r is h)
 
-          module _ (e : first (low_at score cert held) (family_count cert.case) ≡ None) where
+          module _ (e : first (low_reject_at score cert held) (case_family_count cert.case) ≡ None) where
             past_floors : Gives (unless (or_else (upper_too_low score cert held) (or_else (bound_too_high cert) None)) answer) r → Gives (judged score cert held) r
             past_floors h = past_stocks (goes_on _ _ answer r e h)
 
@@ -111,15 +111,15 @@ module _ (score : ScoreEnds) (cert : Certificate) (held : StockList) where
               by_bound s is h = past_upper (stopped _ _ answer s r is h)
 
               -- where it doesn't either, the certificate is accepted
-              pub by_none : bound_too_high cert ≡ None → (cost : ℕ) → cost ≡ cost_above cert.case held cert.stocks → r ≡ Ok (record { bound = cert.bound; upper = cert.upper; cost = cost }) → Gives (judged score cert held) r
+              pub by_none : bound_too_high cert ≡ None → (cost : ℕ) → cost ≡ case_cost_above cert.case held cert.stocks → r ≡ Ok (record { bound = cert.bound; upper = cert.upper; cost = cost }) → Gives (judged score cert held) r
               by_none h cost is e = past_upper (goes_on _ _ answer r h (subst (λ z. Gives (unless None answer) z) (sym e) (accepts cost is)))
 
   -- covers without a reject are trees
-  pub are_trees : first_of covers ≡ None → first (gap_at cert held) (family_count cert.case) ≡ None
+  pub are_trees : first_of covers ≡ None → first (gap_at cert held) (case_family_count cert.case) ≡ None
   are_trees h = (or_else_none _ _ h).0
 
   -- covers without a reject take at most 1,000,000 tables
-  pub few_tables : first_of covers ≡ None → work_of cert held ≤ 1000000
+  pub few_tables : first_of covers ≡ None → check_work_of cert held ≤ 1000000
   few_tables h = ltb-false _ _ (if_none _ _ (or_else_none _ _ (or_else_none _ _ h).1).0)
 
   -- stocks without a reject keep their limits

@@ -11,15 +11,15 @@ use Rattle.gap_rules.specs.declared.leaf.Leaf.TheVariants as leaf
 use Rattle.gap_rules.specs.Covers.{leaves, fewer, as_many, has_parts}
 use Rattle.price_certificate.specs.Covers as cover
 use Rattle.price_certificate.specs.Covers.{Tree, nodes_of}
-use Rattle.gap_rules.specs.Trees.{IsLawful, leaves_of, IsTreeOf, TreesAreRead, OnlyTreesAreRead}
+use Rattle.gap_rules.specs.Trees.{HasBothParts, leaves_of, IsTreeOf, TreesAreRead, OnlyTreesAreRead}
 use Rattle.gap_rules.proofs.Trees.{IsCons, cons_of, then_of}
 
 front_twice : (xs ys : List Leaf) (o : Option (List Leaf)) → option_map (λ ls. xs ++ ls) (option_map (λ ls. ys ++ ls) o) ≡ option_map (λ ls. (xs ++ ys) ++ ls) o
 front_twice xs ys None = refl
 front_twice xs ys (Some ls) = ap (λ z. Some z) (sym (append_assoc xs ys ls))
 
-read_then : (tree : Tree) (box : Bounds) (rest : List Node) (boxes : List Bounds) → IsLawful tree box → leaves (nodes_of tree ++ rest) (box ∷ boxes) ≡ option_map (λ ls. leaves_of tree box ++ ls) (leaves rest boxes)
-unfolding leaves IsLawful leaves_of
+read_then : (tree : Tree) (box : Bounds) (rest : List Node) (boxes : List Bounds) → HasBothParts tree box → leaves (nodes_of tree ++ rest) (box ∷ boxes) ≡ option_map (λ ls. leaves_of tree box ++ ls) (leaves rest boxes)
+unfolding leaves HasBothParts leaves_of
 read_then cover.Cost box rest boxes h = refl
 read_then cover.Whole box rest boxes h = refl
 read_then (cover.Cut at from one other) box rest boxes h =
@@ -42,16 +42,16 @@ trees_are_read tree box h =
 abbrev Grows : List Bounds → List Node → List Leaf → Type 0
 Grows [] nodes ls = (nodes ≡ []) × (ls ≡ [])
 Grows (box ∷ boxes) nodes ls =
-    (tree : Tree) × (rest : List Node) × (more : List Leaf) × IsLawful tree box × (nodes ≡ nodes_of tree ++ rest) × (ls ≡ leaves_of tree box ++ more) × Grows boxes rest more
+    (tree : Tree) × (rest : List Node) × (more : List Leaf) × HasBothParts tree box × (nodes ≡ nodes_of tree ++ rest) × (ls ≡ leaves_of tree box ++ more) × Grows boxes rest more
 
-leaf_grows : (x : Leaf) (node : Node) (tree : Tree) (box : Bounds) (boxes : List Bounds) (nodes : List Node) (ls : List Leaf) (o : Option (List Leaf)) → IsLawful tree box → nodes_of tree ≡ node ∷ [] → leaves_of tree box ≡ x ∷ []
+leaf_grows : (x : Leaf) (node : Node) (tree : Tree) (box : Bounds) (boxes : List Bounds) (nodes : List Node) (ls : List Leaf) (o : Option (List Leaf)) → HasBothParts tree box → nodes_of tree ≡ node ∷ [] → leaves_of tree box ≡ x ∷ []
     → option_map (λ r. x ∷ r) o ≡ Some ls → ((rest : List Leaf) → o ≡ Some rest → Grows boxes nodes rest) → Grows (box ∷ boxes) (node ∷ nodes) ls
 leaf_grows x node tree box boxes nodes ls o lawful p q h further =
     let r : IsCons x o ls = cons_of x o ls h in
     (tree, nodes, r.rest, lawful, sym (ap (λ z. z ++ nodes) p), r.is ∙ sym (ap (λ z. z ++ r.rest) q), further r.rest r.some)
 
 split_grows : (at from : ℕ) (box : Bounds) (boxes : List Bounds) (nodes : List Node) (ls : List Leaf) → has_parts box at from ≡ true → Grows (fewer box at from ∷ as_many box at from ∷ boxes) nodes ls → Grows (box ∷ boxes) (Split at from ∷ nodes) ls
-unfolding IsLawful leaves_of
+unfolding HasBothParts leaves_of
 split_grows at from box boxes nodes ls h g =
     let k = g.6 in (
       cover.Cut at from g.0 k.0,
@@ -67,7 +67,7 @@ split_grows at from box boxes nodes ls h g =
     back xs ys zs = sym (append_assoc xs ys zs)
 
 grows : (nodes : List Node) (boxes : List Bounds) (ls : List Leaf) → leaves nodes boxes ≡ Some ls → Grows boxes nodes ls
-unfolding leaves IsLawful leaves_of
+unfolding leaves HasBothParts leaves_of
 grows [] [] ls h = (refl, nothing ls h)
   where
     nothing : (ls : List Leaf) → Some [] ≡ Some ls → ls ≡ []

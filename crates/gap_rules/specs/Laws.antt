@@ -15,7 +15,7 @@ use Rattle.price_certificate.specs.declared.certificate.Certificate.{Certificate
 use Rattle.price_certificate.specs.Certificates.{IsWellFormed}
 use Rattle.gap_rules.specs.declared.leaf.Leaf.{Leaf}
 use Rattle.gap_rules.specs.Covers.{leaves, box_of, IsIn}
-use Rattle.gap_rules.specs.Values.{value_of}
+use Rattle.gap_rules.specs.Values.{value_of_leaf}
 use Rattle.gap_rules.specs.Refusals.{reject_of, chosen_of}
 
 -- a leaf with the vector
@@ -44,12 +44,12 @@ LeavesAreApart = (nodes : List Node) (box : Bounds) (ls : List Leaf) → leaves 
 abbrev pub FloorsHold : Type 0
 FloorsHold = (score : ScoreEnds) (c : CaseRows) (l : ℕ) (price : Price) (nodes : List Node) (box : Bounds)
     (ls : List Leaf) (floor : ℕ)
-    → leaves nodes (box ∷ []) ≡ Some ls → ((x : Leaf) → Among x ls → floor ≤ value_of c l score price x)
+    → leaves nodes (box ∷ []) ≡ Some ls → ((x : Leaf) → Among x ls → floor ≤ value_of_leaf c l score price x)
     → (w : Point) → Among w (points_within c l score box.held box.low box.high) → floor ≤ lagrangian price.p price.q w
 
 -- the points of all families, from the held stocks to the limits
-abbrev pub families_of : ScoreEnds → CaseRows → StockList → List (List Point)
-families_of score c held = map (λ l. points_within c l score (vector_of c l held.list) (vector_of c l held.list)
+abbrev pub family_points_of : ScoreEnds → CaseRows → StockList → List (List Point)
+family_points_of score c held = map (λ l. points_within c l score (vector_of c l held.list) (vector_of c l held.list)
     (limits c l)) (line_units c)
 
 -- the claims of a certificate: its chosen points, price, floors, upper end and bound
@@ -67,4 +67,4 @@ abbrev pub AcceptedAreAcceptable : Type 0
 AcceptedAreAcceptable = (score : ScoreEnds) (cert : Certificate) (held : StockList) → IsCase cert.case
     → IsWellFormed cert
     → IsFor cert.case held → reject_of score cert held ≡ None
-    → IsAcceptable (families_of score cert.case held) cert.budget (claims_of score cert held)
+    → IsAcceptable (family_points_of score cert.case held) cert.budget (claims_of score cert held)

@@ -8,7 +8,7 @@ use Rattle.hull.specs.declared.point.Point.{Point}
 use Rattle.spares_input.specs.First.{first, first_of, unless}
 use Rattle.spares_input.specs.Pairs.{part_of_place, site_of_place}
 use Rattle.spares_input.specs.Cases.{CaseRows, frame_rows, pair_count}
-use Rattle.spares_input.specs.Stocks.{StockList, limit_at, cost_of}
+use Rattle.spares_input.specs.Stocks.{StockList, limit_at, cost_of_stocks}
 use Rattle.fleet_model.specs.Rows.{line_units}
 use Rattle.demand_rates.specs.Limits.{rate_fault_of}
 use Rattle.price_bounds.specs.Sums.{hi_of, bound_of}
@@ -23,25 +23,25 @@ use Rattle.check_answers.specs.declared.refusal.Accepted.{Accepted}
 use Rattle.check_answers.specs.declared.refusal.Reject.{Reject}
 use Rattle.check_answers.specs.declared.refusal.Reject.TheVariants as reject
 use Rattle.gap_rules.specs.Covers.{leaves}
-use Rattle.gap_rules.specs.Values.{value_of, cover_tables}
+use Rattle.gap_rules.specs.Values.{value_of_leaf, cover_tables}
 
 -- ---- covers
 
 -- the count of families of a case
-abbrev pub family_count : CaseRows → ℕ
-family_count c = length (line_units c)
+abbrev pub case_family_count : CaseRows → ℕ
+case_family_count c = length (line_units c)
 
 -- the line unit of family f
 abbrev pub line_at : CaseRows → ℕ → ℕ
 line_at c f = get_or (line_units c) f 0
 
 -- the nodes of a family's cover; format 1 has none, and each family is one whole leaf
-abbrev pub nodes_of : Certificate → ℕ → List Node
-nodes_of cert f = if cert.format == 2 then get_or cert.covers f [] else Whole ∷ []
+abbrev pub cover_nodes : Certificate → ℕ → List Node
+cover_nodes cert f = if cert.format == 2 then get_or cert.covers f [] else Whole ∷ []
 
 -- the leaves of family f, if its nodes are a tree
 unfoldable pub cover_of : Certificate → StockList → ℕ → Option (List Leaf)
-cover_of cert held f = leaves (nodes_of cert f) (box_from cert.case (line_at cert.case f) held.list ∷ [])
+cover_of cert held f = leaves (cover_nodes cert f) (box_from cert.case (line_at cert.case f) held.list ∷ [])
 
 -- the leaves of family f, or none if its nodes aren't a tree
 abbrev pub family_leaves : Certificate → StockList → ℕ → List Leaf
@@ -60,13 +60,13 @@ abbrev pub tables_of_first : Certificate → StockList → ℕ → ℕ
 tables_of_first cert held n = sum_by (family_tables cert held) (range_with_len 0 n)
 
 -- the tables of the whole leaves of all families, as a count
-abbrev pub work_of : Certificate → StockList → ℕ
-work_of cert held = count64 (tables_of_first cert held (family_count cert.case))
+abbrev pub check_work_of : Certificate → StockList → ℕ
+check_work_of cert held = count64 (tables_of_first cert held (case_family_count cert.case))
 
 -- the reject of the work, if it is over the most tables
 abbrev pub too_much_work : Certificate → StockList → Option Reject
 too_much_work cert held =
-    if nat_lt most_tables (work_of cert held) then Some (reject.WorkTooLarge (work_of cert held)) else None
+    if nat_lt most_tables (check_work_of cert held) then Some (reject.WorkTooLarge (check_work_of cert held)) else None
 
 -- ---- stocks
 
@@ -88,14 +88,14 @@ below_held c held s i =
     else None
 
 -- the cost of stocks above the cost of the held ones
-abbrev pub cost_above : CaseRows → StockList → StockList → ℕ
-cost_above c held s = cost_of c s - cost_of c held
+abbrev pub case_cost_above : CaseRows → StockList → StockList → ℕ
+case_cost_above c held s = cost_of_stocks c s - cost_of_stocks c held
 
 -- the reject of the cost above the held stocks, if it is over the budget
 abbrev pub over_budget : Certificate → StockList → Option Reject
 over_budget cert held =
-    if nat_lt cert.budget (cost_above cert.case held cert.stocks)
-    then Some (reject.OverBudget (cost_above cert.case held cert.stocks)) else None
+    if nat_lt cert.budget (case_cost_above cert.case held cert.stocks)
+    then Some (reject.OverBudget (case_cost_above cert.case held cert.stocks)) else None
 
 -- ---- the bound
 
@@ -123,11 +123,11 @@ low_leaf value floor k (x ∷ xs) = if nat_lt (value x) floor then Some (k, valu
 module _ (score : ScoreEnds) where
   -- the value of a leaf of family f at the certificate's price
   abbrev pub leaf_value : Certificate → ℕ → Leaf → ℕ
-  leaf_value cert f x = value_of cert.case (line_at cert.case f) score cert.price x
+  leaf_value cert f x = value_of_leaf cert.case (line_at cert.case f) score cert.price x
 
   -- the reject of family f, of its first leaf whose value is below the claimed floor
-  unfoldable pub low_at : Certificate → StockList → ℕ → Option Reject
-  low_at cert held f =
+  unfoldable pub low_reject_at : Certificate → StockList → ℕ → Option Reject
+  low_reject_at cert held f =
       option_map (λ low. too_low cert.format f low.0 (get_or cert.floors f 0) low.1)
       (low_leaf (leaf_value cert f) (get_or cert.floors f 0) 0 (family_leaves cert held f))
 
@@ -153,12 +153,12 @@ module _ (score : ScoreEnds) where
   unfoldable pub reject_of : Certificate → StockList → Option Reject
   reject_of cert held = first_of (
       option_map reject.Rate (rate_fault_of cert.case)
-      ∷ first (gap_at cert held) (family_count cert.case)
+      ∷ first (gap_at cert held) (case_family_count cert.case)
       ∷ too_much_work cert held
       ∷ first (over_limit cert.case cert.stocks) (pair_count (frame_rows cert.case))
       ∷ first (below_held cert.case held cert.stocks) (pair_count (frame_rows cert.case))
       ∷ over_budget cert held
-      ∷ first (low_at cert held) (family_count cert.case)
+      ∷ first (low_reject_at cert held) (case_family_count cert.case)
       ∷ upper_too_low cert held
       ∷ bound_too_high cert
       ∷ [])
@@ -166,4 +166,4 @@ module _ (score : ScoreEnds) where
   -- the answer of a check
   abbrev pub judged : Certificate → StockList → Result Accepted Reject
   judged cert held = unless (reject_of cert held)
-      (record { bound = cert.bound; upper = cert.upper; cost = cost_above cert.case held cert.stocks })
+      (record { bound = cert.bound; upper = cert.upper; cost = case_cost_above cert.case held cert.stocks })

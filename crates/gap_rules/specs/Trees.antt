@@ -9,11 +9,11 @@ use Rattle.gap_rules.specs.declared.leaf.Leaf.TheVariants as leaf
 use Rattle.gap_rules.specs.Covers.{leaves, fewer, as_many, has_parts}
 
 -- each split has both of its parts
-unfoldable pub IsLawful : Tree → Bounds → Type 0
-IsLawful cover.Cost box = Unit {0}
-IsLawful cover.Whole box = Unit {0}
-IsLawful (cover.Cut at from one other) box = (has_parts box at from ≡ true) × IsLawful one (fewer box at from)
-    × IsLawful other (as_many box at from)
+unfoldable pub HasBothParts : Tree → Bounds → Type 0
+HasBothParts cover.Cost box = Unit {0}
+HasBothParts cover.Whole box = Unit {0}
+HasBothParts (cover.Cut at from one other) box = (has_parts box at from ≡ true) × HasBothParts one (fewer box at from)
+    × HasBothParts other (as_many box at from)
 
 -- the leaves of a box's tree, in the same order
 unfoldable pub leaves_of : Tree → Bounds → List Leaf
@@ -24,13 +24,13 @@ leaves_of (cover.Cut at from one other) box = leaves_of one (fewer box at from) 
 -- the nodes are the preorder of a lawful tree of the box, with these leaves
 pub record IsTreeOf (nodes : List Node) (box : Bounds) (ls : List Leaf) : Type 0 where
   pub tree : Tree
-  pub lawful : IsLawful tree box
+  pub lawful : HasBothParts tree box
   pub nodes_are : nodes ≡ nodes_of tree
   pub leaves_are : ls ≡ leaves_of tree box
 
 -- The nodes of a lawful tree are read as its leaves,
 abbrev pub TreesAreRead : Type 0
-TreesAreRead = (tree : Tree) (box : Bounds) → IsLawful tree box
+TreesAreRead = (tree : Tree) (box : Bounds) → HasBothParts tree box
     → leaves (nodes_of tree) (box ∷ []) ≡ Some (leaves_of tree box)
 
 -- and no other nodes are read.

@@ -16,9 +16,9 @@ least_within c l score price box = least (lagrangian price.p price.q)
     (points_within c l score box.held box.low box.high)
 
 -- The value of a leaf: by cost alone the price of its low corner, or else the least Lagrangian of its vectors.
-unfoldable pub value_of : CaseRows → ℕ → ScoreEnds → Price → Leaf → ℕ
-value_of c l score price (leaf.Cost box) = price.p * added_cost c l box.held box.low
-value_of c l score price (leaf.Whole box) = least_within c l score price box
+unfoldable pub value_of_leaf : CaseRows → ℕ → ScoreEnds → Price → Leaf → ℕ
+value_of_leaf c l score price (leaf.Cost box) = price.p * added_cost c l box.held box.low
+value_of_leaf c l score price (leaf.Whole box) = least_within c l score price box
 
 -- a value, where it is below the floor
 abbrev pub below : ℕ → ℕ → Option ℕ

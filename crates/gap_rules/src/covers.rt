@@ -5,12 +5,13 @@ ghost use Rattle.std.specs.Option.{option_map};
 ghost use Rattle.answers.specs.Counts.{count64};
 ghost use Rattle.spares_input.specs.First.{first, first_of};
 ghost use Rattle.spares_input.specs.Building.{StopsAt};
-ghost use Rattle.spares_input.specs.Stocks.{IsFor, IsWithinLimits};
+ghost use Rattle.spares_input.specs.Limits.{most_parts};
+ghost use Rattle.spares_input.specs.Stocks.{AreStocksOf};
 ghost use Rattle.fleet_model.specs.Rows.{line_units};
 ghost use Rattle.family_items.specs.Inputs.{IsLine};
 ghost use Rattle.price_certificate.specs.Certificates.{IsWellFormed};
 ghost use Rattle.gap_rules.specs.Values.{cover_tables};
-ghost use Rattle.gap_rules.specs.Refusals.{line_at, family_count, cover_of, gap_at, too_much_work};
+ghost use Rattle.gap_rules.specs.Refusals.{line_at, case_family_count, cover_of, gap_at, too_much_work};
 
 use crate::family::nodes_of;
 use crate::work::cover_tables;
@@ -30,9 +31,8 @@ fn family_work(
     line: PartId,
 ) -> Result<Option<u64>, NoMemory>
     requires formed { IsWellFormed cert.now }
-    requires held { IsFor cert.now.case held.now }
-    requires limits { IsWithinLimits cert.now.case held.now }
-    requires family { family < family_count cert.now.case }
+    requires held { AreStocksOf cert.now.case held.now }
+    requires family { family < case_family_count cert.now.case }
     requires line { line.0 ≡ line_at cert.now.case family }
     requires is_line { IsLine cert.now.case line.0 }
     ensures { IfOk result (λ work. work ≡ option_map
@@ -53,11 +53,10 @@ pub fn covers_kept(
     lines: &[PartId],
 ) -> Result<(), Stop<Reject>>
     requires formed { IsWellFormed cert.now }
-    requires held { IsFor cert.now.case held.now }
-    requires limits { IsWithinLimits cert.now.case held.now }
+    requires held { AreStocksOf cert.now.case held.now }
     requires lines { map (λ p. p.0) lines.now ≡ line_units cert.now.case }
-    requires few { length lines.now ≤ 2000 }
-    ensures { StopsAt (first_of (first (gap_at cert.now held.now) (family_count cert.now.case)
+    requires few { length lines.now ≤ most_parts }
+    ensures { StopsAt (first_of (first (gap_at cert.now held.now) (case_family_count cert.now.case)
         ∷ too_much_work cert.now held.now ∷ [])) result }
 {
     let mut work: u64 = 0;

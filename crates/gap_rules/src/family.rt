@@ -2,7 +2,7 @@
 
 ghost use Rattle.std.specs.Prelude.{◌≡◌, ◌∷◌, [], ◌<◌, length};
 ghost use Rattle.price_certificate.specs.declared.certificate.Node.TheVariants.{Whole};
-ghost use Rattle.gap_rules.specs.Refusals.{nodes_of};
+ghost use Rattle.gap_rules.specs.Refusals.{cover_nodes};
 
 use price_certificate::{Certificate, Node};
 
@@ -10,7 +10,7 @@ use price_certificate::{Certificate, Node};
 pub fn nodes_of<'a>(cert: &'a Certificate, family: usize, one: &'a [Node]) -> &'a [Node]
     requires one { one.now ≡ Whole ∷ [] }
     requires covers { cert.now.format ≡ 2 → family < length cert.now.covers }
-    ensures { result.now ≡ nodes_of cert.now family }
+    ensures { result.now ≡ cover_nodes cert.now family }
 {
     if cert.format == 2 {
         cert.covers.as_slice()[family].as_slice()

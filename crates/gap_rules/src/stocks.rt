@@ -5,7 +5,7 @@ ghost use Rattle.spares_input.specs.Building.{StopsAt};
 ghost use Rattle.spares_input.specs.First.{first, first_of};
 ghost use Rattle.spares_input.specs.Cases.{frame_rows, pair_count};
 ghost use Rattle.spares_input.specs.Stocks.{IsFor};
-ghost use Rattle.gap_rules.specs.Refusals.{over_limit, below_held, over_budget, cost_above};
+ghost use Rattle.gap_rules.specs.Refusals.{over_limit, below_held, over_budget, case_cost_above};
 
 use answers::Stop;
 use check_answers::Reject;
@@ -55,7 +55,7 @@ pub fn stocks_kept(cert: &Certificate, held: &Stocks) -> Result<u64, Stop<Reject
         first (over_limit cert.now.case cert.now.stocks) (pair_count (frame_rows cert.now.case))
         ∷ first (below_held cert.now.case held.now cert.now.stocks) (pair_count (frame_rows cert.now.case))
         ∷ over_budget cert.now held.now ∷ [])) result }
-    ensures cost { IfOk result (λ cost. cost ≡ cost_above cert.now.case held.now cert.now.stocks) }
+    ensures cost { IfOk result (λ cost. cost ≡ case_cost_above cert.now.case held.now cert.now.stocks) }
 {
     let case = &cert.case;
     if let Some(reject) = over_limit(case, &cert.stocks) {

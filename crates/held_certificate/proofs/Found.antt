@@ -8,7 +8,7 @@ use Rattle.line_text.specs.Texts.{count_line, number_line, numbers_from}
 use Rattle.answers.specs.Answers.{Gives}
 use Rattle.answers.specs.declared.stop.Stop.{Stop}
 use Rattle.spares_input.specs.Cases.{CaseRows, frame_rows, pair_count}
-use Rattle.spares_input.specs.Stocks.{StockList, limit_at, IsFor, IsWithinLimits}
+use Rattle.spares_input.specs.Stocks.{AreStocksOf, StockList, limit_at}
 use Rattle.spares_input.proofs.Public.{place_fits}
 use Rattle.case_lines.specs.Grammar.{case_format}
 use Rattle.case_lines.proofs.Public.{fits_at}
@@ -34,7 +34,7 @@ is_second c h =
 up_to : (most n : ℕ) → (number_line most).fits n ≡ true → n ≤ most
 up_to most n h = leb-true n most (and_parts (nat_le 0 n) (nat_le n most) h).1
 
-held_are : (c : CaseRows) (s : StockList) → (held c).fits s ≡ true → IsFor c s × IsWithinLimits c s
+held_are : (c : CaseRows) (s : StockList) → (held c).fits s ≡ true → AreStocksOf c s
 held_are c s h =
     let n = length c.sites in
     let pairs = pair_count (frame_rows c) in
@@ -45,17 +45,17 @@ held_are c s h =
     let q = and_parts count each (and_parts true (count && each) p.1).1 in
     let w = count_within (codes "held") pairs pairs (length s.list) q.0 in
     let same : s.sites ≡ n = eqb-true s.sites n p.0 in
-    let long : length s.list ≡ pairs = omega (arith, w.0, w.1) in (
-      record { sites = same; pairs = long },
-      λ a k part site.
+    let long : length s.list ≡ pairs = omega (arith, w.0, w.1) in record {
+      is_for = record { sites = same; pairs = long };
+      limits = λ a k part site.
           let i = a * n + k in
           let z : 0 + i ≡ i = omega arith in
           let within : i < length s.list = subst (λ (m : ℕ). i < m) (sym long) (place_fits a k (length c.parts) n part site) in
           let at : (held_line c i).fits (get_or s.list i 0) ≡ true = subst (λ (j : ℕ). (held_line c j).fits (get_or s.list i 0) ≡ true) z (fits_at (held_line c) [] 0 (length s.list) s.list 0 q.1 i within) in
           let le : get_or s.list i 0 ≤ limit_at c.parts (i / n) (i % n) = up_to (limit_at c.parts (i / n) (i % n)) (get_or s.list i 0) at in
           let pair : get_or s.list i 0 ≤ limit_at c.parts a k = subst (λ (x : ℕ). get_or s.list i 0 ≤ limit_at c.parts a x) (mod-mul-add a n k site) (subst (λ (x : ℕ). get_or s.list i 0 ≤ limit_at c.parts x (i % n)) (div-mul-add a n k site) le) in
-          subst (λ (m : ℕ). get_or s.list (a * m + k) 0 ≤ limit_at c.parts a k) (sym same) pair,
-    )
+          subst (λ (m : ℕ). get_or s.list (a * m + k) 0 ≤ limit_at c.parts a k) (sym same) pair;
+    }
 
 pub well_held : (h : HeldCertificate) → held_format.fits h ≡ true → IsWellFormed h.certificate → IsWellHeld h
 well_held h f w =
@@ -66,8 +66,11 @@ well_held h f w =
     let form = (count_line (codes "spares-held") 1 1).fits 1 in
     let inner = (certificate_format 2).fits c in
     let b = and_parts form inner (and_parts true (form && inner) a.0).1 in
-    let d = held_are c.case h.held (and_parts ((held c.case).fits h.held) true a.1).0 in
-    record { certificate = w; format = is_second c b.1; held = d.0; limits = d.1 }
+    record {
+      certificate = w;
+      format = is_second c b.1;
+      held = held_are c.case h.held (and_parts ((held c.case).fits h.held) true a.1).0;
+    }
 
 -- ---- what reading answers
 

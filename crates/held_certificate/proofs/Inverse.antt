@@ -16,7 +16,7 @@ use Rattle.answers.specs.declared.stop.Stop.{Stop}
 use Rattle.answers.specs.declared.stop.Stop.TheVariants as stop
 use Rattle.spares_input.specs.Frames.{FrameRows, frame_of}
 use Rattle.spares_input.specs.Cases.{CaseRows, frame_rows, pair_count, IsCase}
-use Rattle.spares_input.specs.Stocks.{StockList, limit_at, IsFor, IsWithinLimits}
+use Rattle.spares_input.specs.Stocks.{AreStocksOf, StockList, limit_at}
 use Rattle.spares_input.specs.declared.fault.CaseFault.{CaseFault}
 use Rattle.spares_input.proofs.Public.{own_frame}
 use Rattle.price_certificate.specs.declared.certificate.Certificate.{Certificate}
@@ -28,16 +28,16 @@ use Rattle.price_certificate.specs.Certificates.{cert_text}
 use Rattle.price_certificate.specs.Certificates as certified
 use Rattle.price_certificate.proofs.Public.{well_formed_fits, format_fits, count_within, joined}
 use Rattle.held_certificate.specs.declared.held.HeldCertificate.{HeldCertificate}
-use Rattle.held_certificate.specs.Held.{rest, held_line, held_lines, held, front, held_format, IsWellHeld, held_text, refusal, case_fault, judged, held_of}
+use Rattle.held_certificate.specs.Held.{rest, held_line, held_lines, held, front, held_format, IsWellHeld, held_text, refusal, case_fault, held_judged, held_of}
 use Rattle.held_certificate.proofs.Exact.{front_is_exact, held_format_is_exact, held_is_exact, small_at, each_fits}
 use lib.Chars.{codes}
 
-judged_ok : (o : Option CaseFault) (r : Result HeldCertificate ℕ) (h : HeldCertificate) → judged o r ≡ Ok h → (o ≡ None) × (r ≡ Ok h)
+judged_ok : (o : Option CaseFault) (r : Result HeldCertificate ℕ) (h : HeldCertificate) → held_judged o r ≡ Ok h → (o ≡ None) × (r ≡ Ok h)
 judged_ok None (Ok x) h e = (refl, let s : x ≡ h = cc in ap (λ (y : HeldCertificate). Ok y) s)
 judged_ok None (Err n) h e = absurd cc
 judged_ok (Some f) r h e = absurd cc
 
-judged_line : (o : Option CaseFault) (r : Result HeldCertificate ℕ) (n : ℕ) → judged o r ≡ Err (fault.BadLine n) → r ≡ Err n
+judged_line : (o : Option CaseFault) (r : Result HeldCertificate ℕ) (n : ℕ) → held_judged o r ≡ Err (fault.BadLine n) → r ≡ Err n
 judged_line None (Ok x) n e = absurd cc
 judged_line None (Err m) n e = let s : m ≡ n = cc in ap (λ (k : ℕ). Err k) s
 judged_line (Some f) r n e = absurd cc
@@ -55,8 +55,9 @@ bad_line bytes n e = answer_refuses held_format held_format_is_exact bytes n (ju
 range : (most n : ℕ) → n ≤ most → (number_line most).fits n ≡ true
 range most n h = and_from _ _ (le-leb 0 n (omega arith)) (le-leb n most h)
 
-held_fits : (c : CaseRows) (s : StockList) → 2 ≤ length c.sites → IsFor c s → IsWithinLimits c s → (held c).fits s ≡ true
-held_fits c s two is within =
+held_fits : (c : CaseRows) (s : StockList) → 2 ≤ length c.sites → AreStocksOf c s → (held c).fits s ≡ true
+held_fits c s two h =
+    let is = h.is_for in
     let n = length c.sites in
     let pairs = pair_count (frame_rows c) in
     let some : 0 < n = omega (arith, two) in
@@ -69,7 +70,7 @@ held_fits c s two is within =
     let p = div_below j n (length c.parts) some below in
     let k = mod_below j n some in
     let place : (j / n) * s.sites + j % n ≡ j = ap (λ (m : ℕ). (j / n) * m + j % n) is.sites ∙ div-add-mod' j n in
-    let le : get_or s.list j 0 ≤ limit_at c.parts (j / n) (j % n) = subst (λ (i : ℕ). get_or s.list i 0 ≤ limit_at c.parts (j / n) (j % n)) place (within (j / n) (j % n) p k) in
+    let le : get_or s.list j 0 ≤ limit_at c.parts (j / n) (j % n) = subst (λ (i : ℕ). get_or s.list i 0 ≤ limit_at c.parts (j / n) (j % n)) place (h.limits (j / n) (j % n) p k) in
     subst (λ (i : ℕ). (held_line c i).fits (get_or s.list j 0) ≡ true) z (range (limit_at c.parts (j / n) (j % n)) (get_or s.list j 0) le)))))
 
 pub fits : (h : HeldCertificate) → IsWellHeld h → held_format.fits h ≡ true
@@ -77,7 +78,7 @@ fits h w =
     let c = h.certificate in
     and_from _ _ refl
     (and_from _ _ (and_from _ _ refl (and_from _ _ refl (format_fits c w.format (well_formed_fits c w.certificate))))
-    (and_from _ _ (held_fits c.case h.held w.certificate.case.frame.fewest_sites w.held w.limits) refl))
+    (and_from _ _ (held_fits c.case h.held w.certificate.case.frame.fewest_sites w.held) refl))
 
 no_refusal : (c : Certificate) (ts rest : List Token) → front.read ts ≡ Ok (c, rest) → frame_of c.case.sites c.case.parts ≡ Ok (frame_rows c.case) → case_fault (front.read ts) ≡ None
 no_refusal c ts rest h e = ap case_fault h ∙ ap refusal e
@@ -91,8 +92,8 @@ again h w =
     let whole = (and_from _ _ refl (format_fits c w.format (well_formed_fits c w.certificate))) in
     let first = front_is_exact.again c (and_from _ _ refl whole) ((held c.case).print h.held ++ (codes "end\n" ∷ [])) in
     let free : case_fault (front.read (lines_of (held_text h))) ≡ None = no_refusal c (lines_of (held_text h)) ((held c.case).print h.held ++ (codes "end\n" ∷ [])) (ap front.read lines ∙ first) (own_frame (frame_rows c.case) w.certificate.case.frame) in
-    ap (λ (o : Option CaseFault). judged o (file_answer held_format (held_text h))) free
-    ∙ ap (judged None) (answer_again held_format held_format_is_exact h f)
+    ap (λ (o : Option CaseFault). held_judged o (file_answer held_format (held_text h))) free
+    ∙ ap (held_judged None) (answer_again held_format held_format_is_exact h f)
 
 -- the parts of a held certificate's text
 pub parts_of_text : (h : HeldCertificate) → held_text h ≡ file_text (count_line (codes "spares-held") 1 1) 1 ++ (cert_text h.certificate ++ (concat ((held h.certificate.case).print h.held) ++ codes "end\n"))
@@ -109,7 +110,7 @@ parts_of_text h =
 module _ (bytes : List ℕ) (c : Certificate) (middle : List Token) (first : front.read (lines_of bytes) ≡ Ok (c, middle)) where
   -- a rule that the sites and parts in front break is the answer
   pub fault_at : (x : CaseFault) → frame_of c.case.sites c.case.parts ≡ Err x → held_of bytes ≡ Err (fault.BadCase x)
-  fault_at x e = ap (λ (o : Option CaseFault). judged o (file_answer held_format bytes)) (ap case_fault first ∙ ap refusal e)
+  fault_at x e = ap (λ (o : Option CaseFault). held_judged o (file_answer held_format bytes)) (ap case_fault first ∙ ap refusal e)
 
   case_at : (d : CertFault) → certified.judged (Ok c) ≡ Err d → held_of bytes ≡ Err d
   case_at d h = by_frame (frame_of c.case.sites c.case.parts) refl h

@@ -17,7 +17,7 @@ use Rattle.price_certificate.specs.declared.fault.CertFault.TheVariants as fault
 use Rattle.price_certificate.specs.Grammar.{certificate_format}
 use Rattle.price_certificate.specs.Certificates.{cert_text}
 use Rattle.held_certificate.specs.declared.held.HeldCertificate.{HeldCertificate}
-use Rattle.held_certificate.specs.Held.{first_line, front, held, held_format, held_of, held_text, is_held_form, HasCaseFault, case_fault, judged, refusal}
+use Rattle.held_certificate.specs.Held.{first_line, front, held, held_format, held_of, held_text, is_held_form, HasCaseFault, case_fault, held_judged, refusal}
 use Rattle.held_certificate.proofs.Exact.{front_is_exact}
 use Rattle.held_certificate.proofs.Inverse.{fault_at, parts_of_text}
 use lib.Chars.{codes}
@@ -54,7 +54,7 @@ lines_then (l ∷ ls) rest h =
 
 -- ---- the fault of a case
 
-judged_case : (o : Option CaseFault) (r : Result HeldCertificate ℕ) (f : CaseFault) → judged o r ≡ Err (fault.BadCase f) → o ≡ Some f
+judged_case : (o : Option CaseFault) (r : Result HeldCertificate ℕ) (f : CaseFault) → held_judged o r ≡ Err (fault.BadCase f) → o ≡ Some f
 judged_case None (Ok h) f e = absurd cc
 judged_case None (Err n) f e = absurd cc
 judged_case (Some g) r f e = let s : g ≡ f = cc in ap (λ (x : CaseFault). Some x) s

@@ -6,7 +6,7 @@ use Rattle.line_text.specs.Files.{lines_of, file_text, file_answer}
 use Rattle.line_text.specs.Texts.{word_line, count_line, counted}
 use Rattle.spares_input.specs.Frames.{FrameRows, frame_of}
 use Rattle.spares_input.specs.Cases.{CaseRows, frame_rows, pair_count}
-use Rattle.spares_input.specs.Stocks.{StockList, limit_at, IsFor, IsWithinLimits}
+use Rattle.spares_input.specs.Stocks.{AreStocksOf, StockList, limit_at}
 use Rattle.spares_input.specs.declared.fault.CaseFault.{CaseFault}
 use Rattle.price_certificate.specs.declared.certificate.Certificate.{Certificate}
 use Rattle.price_certificate.specs.declared.fault.CertFault.{CertFault}
@@ -60,8 +60,7 @@ held_format =
 pub record IsWellHeld (h : HeldCertificate) : Type 0 where
   pub certificate : IsWellFormed h.certificate
   pub format : h.certificate.format ≡ 2
-  pub held : IsFor h.certificate.case h.held
-  pub limits : IsWithinLimits h.certificate.case h.held
+  pub held : AreStocksOf h.certificate.case h.held
 
 -- the text of a held certificate
 abbrev pub held_text : HeldCertificate → List ℕ
@@ -78,15 +77,15 @@ case_fault (Ok x) = refusal (frame_of x.0.case.sites x.0.case.parts)
 case_fault (Err left) = None
 
 -- this fault if there is one, or else the reading of the lines
-abbrev pub judged : Option CaseFault → Result HeldCertificate ℕ → Result HeldCertificate CertFault
-judged (Some f) answer = Err (fault.BadCase f)
-judged None (Ok h) = Ok h
-judged None (Err n) = Err (fault.BadLine n)
+abbrev pub held_judged : Option CaseFault → Result HeldCertificate ℕ → Result HeldCertificate CertFault
+held_judged (Some f) answer = Err (fault.BadCase f)
+held_judged None (Ok h) = Ok h
+held_judged None (Err n) = Err (fault.BadLine n)
 
 -- The held certificate with this text, or the case fault of the lines up to the first `end`, or the first bad line. The
 -- case fault comes before a bad line after this `end`.
 abbrev pub held_of : List ℕ → Result HeldCertificate CertFault
-held_of bytes = judged (case_fault (front.read (lines_of bytes))) (file_answer held_format bytes)
+held_of bytes = held_judged (case_fault (front.read (lines_of bytes))) (file_answer held_format bytes)
 
 -- ---- first lines
 

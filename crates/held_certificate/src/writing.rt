@@ -1,30 +1,16 @@
 //! The text of a held certificate.
 
-ghost use Rattle.std.specs.Prelude.{◌≡◌, ◌++◌, length, OnOk, IfOk};
+ghost use Rattle.std.specs.Prelude.{◌≡◌, ◌++◌, OnOk, IfOk};
 ghost use Rattle.std.specs.List.{concat};
-ghost use Rattle.line_text.specs.Formats.{each};
-ghost use Rattle.line_text.specs.Texts.{numbers_from};
-ghost use Rattle.spares_input.specs.Cases.{CaseRows};
 ghost use Rattle.spares_input.specs.Stocks.{IsFor};
-ghost use Rattle.held_certificate.specs.Held.{held_line, held, IsWellHeld, held_text};
+ghost use Rattle.held_certificate.specs.Held.{held, IsWellHeld, held_text};
 
 use crate::held::HeldCertificate;
 use answers::NoMemory;
-use line_text::{put_count_line, put_number_line};
-use price_certificate::text as certificate_text;
+use line_text::put_count_line;
+use price_certificate::{put_each_stock, text as certificate_text};
 use spares_input::{Case, Stocks};
 use std::alloc::Global;
-
-/// Writes a line for each pair.
-fn put_each_held(out: &mut Vec<u8>, list: &[u8]) -> Result<(), NoMemory>
-    ensures { OnOk result ((c : CaseRows) → out.new.items ≡ out.old.items
-        ++ concat ((each (numbers_from 0 (length list.now)) (held_line c)).print list.now)) }
-{
-    for k in 0..list.len() {
-        put_number_line(out, list[k] as u128)?;
-    }
-    Ok(())
-}
 
 /// Writes the lines of the held stocks.
 fn put_held(out: &mut Vec<u8>, case: &Case, list: &Stocks) -> Result<(), NoMemory>
@@ -33,7 +19,7 @@ fn put_held(out: &mut Vec<u8>, case: &Case, list: &Stocks) -> Result<(), NoMemor
 {
     let pairs = case.part_count() as u128 * case.site_count() as u128;
     put_count_line(out, b"held", pairs)?;
-    put_each_held(out, list.as_slice())?;
+    put_each_stock(out, list.as_slice())?;
     Ok(())
 }
 

@@ -9,7 +9,7 @@ use Rattle.hull.specs.Curves.{Among, IsCurve, point_at}
 use Rattle.hull.specs.declared.point.Point.{Point}
 use Rattle.spares_input.specs.Cases.{CaseRows, IsCase}
 use Rattle.spares_input.specs.Pairs.{pair_place}
-use Rattle.spares_input.specs.Stocks.{StockList, IsFor, IsWithinLimits}
+use Rattle.spares_input.specs.Stocks.{AreStocksOf, StockList}
 use Rattle.fleet_model.specs.Rows.{line_units, stock}
 use Rattle.fleet_model.proofs.Public.{sum_each}
 use Rattle.family_items.specs.Inputs.{IsLine}
@@ -55,9 +55,9 @@ few_tables c held l valid line h =
 -- ---- curves
 
 -- the bounds of a family from what is held to its limits are in order
-pub box_ordered : (c : CaseRows) (l : ℕ) (held : StockList) (b : Bounds) → b ≡ box_from c l held.list → IsCase c → IsLine c l → IsFor c held → IsWithinLimits c held
+pub box_ordered : (c : CaseRows) (l : ℕ) (held : StockList) (b : Bounds) → b ≡ box_from c l held.list → IsCase c → IsLine c l → AreStocksOf c held
     → AreOrdered c l b.held b.low b.high
-box_ordered c l held b e valid line is_for within = subst (λ (x : Bounds). AreOrdered c l x.held x.low x.high) (sym e) (held_ordered c l held valid line is_for within)
+box_ordered c l held b e valid line h = subst (λ (x : Bounds). AreOrdered c l x.held x.low x.high) (sym e) (held_ordered c l held valid line h.is_for h.limits)
 
 -- within the work's limit, the box of each family takes few enough tables
 pub box_few : (c : CaseRows) (l : ℕ) (held : List ℕ) (b : Bounds) → b ≡ box_from c l held → IsCase c → IsLine c l → IsOk (held_work_of c held)

@@ -1,6 +1,7 @@
 -- The curve of a list of points.
-use Rattle.std.specs.Prelude.{◌≡◌, ℕ, zero, suc, ◌+◌, ◌-◌, ◌*◌, ◌^◌, ◌<◌, ◌≤◌, ◌⊎◌, List, [], ◌∷◌, ◌++◌, length, slice_index_or}
+use Rattle.std.specs.Prelude.{◌≡◌, ℕ, zero, suc, ◌+◌, ◌-◌, ◌*◌, ◌<◌, ◌≤◌, ◌⊎◌, List, [], ◌∷◌, ◌++◌, length, slice_index_or}
 use Rattle.hull.specs.declared.point.Point.{Point}
+use Rattle.hull.specs.Limits.{most_cost, end_limit, most_points}
 
 -- q times the lower end and p times the cost of a point
 abbrev pub lagrangian : ℕ → ℕ → Point → ℕ
@@ -76,9 +77,9 @@ IsChain (u ∷ v ∷ rest) = Steps u v × TurnsInto u v rest × IsChain (v ∷ r
 
 -- the numbers of a point are within their limits
 pub record InRange (v : Point) : Type 0 where
-  pub cost : v.cost ≤ 1000000000000
+  pub cost : v.cost ≤ most_cost
   pub ends : v.lo ≤ v.hi
-  pub hi : v.hi < 2 ^ 74
+  pub hi : v.hi < end_limit
 
 -- all points have stocks of one length
 abbrev pub HaveOneWidth : List Point → Type 0
@@ -87,7 +88,7 @@ HaveOneWidth points = (v w : Point) → Among v points → Among w points → le
 -- the shape of the vertices of each curve
 pub record IsShape (vertices : List Point) : Type 0 where
   pub some : 0 < length vertices
-  pub few : length vertices ≤ 2 ^ 31
+  pub few : length vertices ≤ most_points
   pub chain : IsChain vertices
   pub ranges : (v : Point) → Among v vertices → InRange v
   pub widths : HaveOneWidth vertices

@@ -1,8 +1,9 @@
 //! Chains: curves whose points arrive by rising cost, and need not store their stocks.
 
-ghost use Rattle.std.specs.Prelude.{◌≡◌, ◌+◌, ◌-◌, ◌^◌, ◌<◌, ◌≤◌, [], ◌∷◌, ◌++◌, List, drop, length, map, take, IfOk, OnOk, OnErr};
+ghost use Rattle.std.specs.Prelude.{◌≡◌, ◌+◌, ◌-◌, ◌<◌, ◌≤◌, [], ◌∷◌, ◌++◌, List, drop, length, map, take, IfOk, OnOk, OnErr};
 ghost use Rattle.hull.specs.declared.point.Point.{Point};
 ghost use Rattle.hull.specs.Curves.{Among, InRange, IsShape, StandFor, point_at};
+ghost use Rattle.hull.specs.Limits.{most_price_units, most_price_money, most_points};
 
 use crate::scan::grow;
 use crate::{Price, Spot};
@@ -40,7 +41,7 @@ pub(crate) fn slope_of<T: Spot>(vertices: &[T], k: u32) -> Price
     ensures rise { result.q + (point_at (map T.point vertices.now) k).cost
         ≡ (point_at (map T.point vertices.now) (k + 1)).cost }
     ensures positive { (0 < result.p) × (0 < result.q) }
-    ensures small { (result.p < 2 ^ 74) × (result.q ≤ 1000000000000) }
+    ensures small { (result.p < most_price_units) × (result.q ≤ most_price_money) }
 {
     let start = &vertices[k as usize];
     let end = &vertices[k as usize + 1];
@@ -74,11 +75,12 @@ impl<T: Spot> Chain<T> {
     /// same cost and the same lower end, the one whose stocks come first in dictionary order is kept.
     ///
     /// After `NoMemory` the chain is as before.
+    #[inline(always)]
     pub fn take(&mut self, point: T) -> Result<(), NoMemory>
         requires order { (v : Point) → Among v self.old → v.cost ≤ (T.point point).cost }
         requires range { InRange (T.point point) }
         requires width { (v : Point) → Among v self.old → length v.stocks ≡ length (T.point point).stocks }
-        requires few { length self.old + 1 ≤ 2 ^ 31 }
+        requires few { length self.old + 1 ≤ most_points }
         ensures stands { OnOk result (StandFor (self.old ++ T.point point ∷ []) self.new) }
         ensures few { OnOk result (length self.new ≤ length self.old + 1) }
         ensures err { OnErr result (self.new ≡ self.old) }
@@ -129,7 +131,7 @@ impl<T: Spot> Chain<T> {
         ensures fall { result.p + (point_at self.now (k + 1)).lo ≡ (point_at self.now k).lo }
         ensures rise { result.q + (point_at self.now k).cost ≡ (point_at self.now (k + 1)).cost }
         ensures positive { (0 < result.p) × (0 < result.q) }
-        ensures small { (result.p < 2 ^ 74) × (result.q ≤ 1000000000000) }
+        ensures small { (result.p < most_price_units) × (result.q ≤ most_price_money) }
     {
         slope_of(self.vertices.as_slice(), k)
     }

@@ -1,8 +1,9 @@
 //! Curves, seen as their vertices in order of cost.
 
-ghost use Rattle.std.specs.Prelude.{◌≡◌, ◌+◌, ◌-◌, ◌^◌, ◌<◌, ◌≤◌, ◌∷◌, [], ◌++◌, List, drop, length, take, IfOk, OnOk, OnErr};
+ghost use Rattle.std.specs.Prelude.{◌≡◌, ◌+◌, ◌-◌, ◌<◌, ◌≤◌, ◌∷◌, [], ◌++◌, List, drop, length, take, IfOk, OnOk, OnErr};
 ghost use Rattle.hull.specs.declared.point.Point.{Point};
 ghost use Rattle.hull.specs.Curves.{Among, InRange, HaveOneWidth, IsChain, IsCurve, IsShape, IsBestAt, IsLeastAt, point_at, plus, sums};
+ghost use Rattle.hull.specs.Limits.{most_price_units, most_price_money, most_points};
 
 use crate::chain::slope_of;
 use crate::joins::{chain_of, chain_of_both};
@@ -38,7 +39,7 @@ impl Model for Curve {
 /// The number of vertices that cost less than `cost`.
 fn cheaper(vertices: &[Point], cost: u64) -> usize
     requires chain { IsChain vertices.now }
-    requires few { length vertices.now ≤ 2 ^ 31 }
+    requires few { length vertices.now ≤ most_points }
     ensures within { result ≤ length vertices.now }
     ensures below { (v : Point) → Among v (take result vertices.now) → v.cost ≤ cost }
 {
@@ -67,7 +68,7 @@ impl Curve {
     /// end, the one whose stocks come first in dictionary order is kept. Want of memory is the only error.
     pub fn of(alloc: Global, points: Vec<Point>) -> Result<Curve, NoMemory>
         requires some { 0 < length points.items }
-        requires few { length points.items ≤ 2 ^ 31 }
+        requires few { length points.items ≤ most_points }
         requires ranges { (v : Point) → Among v points.items → InRange v }
         requires widths { HaveOneWidth points.items }
         ensures curve { IfOk result (λ curve. IsCurve points.items curve) }
@@ -84,7 +85,7 @@ impl Curve {
     ///
     /// After `NoMemory` the curve is as before.
     pub fn add_point(&mut self, point: Point) -> Result<(), NoMemory>
-        requires few { length self.old + 1 ≤ 2 ^ 31 }
+        requires few { length self.old + 1 ≤ most_points }
         requires range { InRange point }
         requires widths { (v : Point) → Among v self.old → length v.stocks ≡ length point.stocks }
         ensures ok { OnOk result (IsCurve (self.old ++ point ∷ []) self.new) }
@@ -101,7 +102,7 @@ impl Curve {
     ///
     /// After `NoMemory` the curve is as before.
     pub fn add_points(&mut self, points: Vec<Point>) -> Result<(), NoMemory>
-        requires few { length self.old + length points.items ≤ 2 ^ 31 }
+        requires few { length self.old + length points.items ≤ most_points }
         requires ranges { (v : Point) → Among v points.items → InRange v }
         requires widths { (v w : Point) → Among v self.old → Among w points.items → length v.stocks ≡ length w.stocks }
         ensures ok { OnOk result (IsCurve (self.old ++ points.items) self.new) }
@@ -125,7 +126,7 @@ impl Curve {
     ///
     /// After `NoMemory` the curve is as before.
     pub fn merge(&mut self, other: Curve) -> Result<(), NoMemory>
-        requires few { length self.old + length other ≤ 2 ^ 31 }
+        requires few { length self.old + length other ≤ most_points }
         requires widths { (v w : Point) → Among v self.old → Among w other → length v.stocks ≡ length w.stocks }
         ensures ok { OnOk result (IsCurve (self.old ++ other) self.new) }
         ensures few { OnOk result (length self.new ≤ length self.old + length other) }
@@ -137,7 +138,7 @@ impl Curve {
     /// The curve of all sums of a point of `a` and a point of `b`. The stocks of a sum are those of `a`, then of `b`.
     /// Ties are broken as in [`Curve::add_point`]. Want of memory is the only error.
     pub fn sum(alloc: Global, a: &Curve, b: &Curve) -> Result<Curve, NoMemory>
-        requires few { length a.now + length b.now ≤ 2 ^ 31 }
+        requires few { length a.now + length b.now ≤ most_points }
         requires ranges { (v w : Point) → Among v a.now → Among w b.now → InRange (plus v w) }
         ensures curve { IfOk result (λ curve. IsCurve (sums a.now b.now) curve) }
         ensures few { IfOk result (λ curve. length curve ≤ length a.now + length b.now) }
@@ -191,8 +192,8 @@ impl Curve {
     /// The place of the first vertex with the least Lagrangian `q * lo + p * cost`, with `p` at most 2^74 and `q` at
     /// most 10^12. If `q` is above 0, no point of the curve's set has a smaller one.
     pub fn best_at(&self, p: u128, q: u64) -> u32
-        requires p_range { p ≤ 2 ^ 74 }
-        requires q_range { q ≤ 1000000000000 }
+        requires p_range { p ≤ most_price_units }
+        requires q_range { q ≤ most_price_money }
         ensures first { IsBestAt p q self.now result }
         ensures reaches { (points : List Point) → IsCurve points self.now → 0 < q
             → IsLeastAt p q points (point_at self.now result) }
@@ -216,7 +217,7 @@ impl Curve {
         ensures fall { result.p + (point_at self.now (k + 1)).lo ≡ (point_at self.now k).lo }
         ensures rise { result.q + (point_at self.now k).cost ≡ (point_at self.now (k + 1)).cost }
         ensures positive { (0 < result.p) × (0 < result.q) }
-        ensures small { (result.p < 2 ^ 74) × (result.q ≤ 1000000000000) }
+        ensures small { (result.p < most_price_units) × (result.q ≤ most_price_money) }
     {
         slope_of(self.vertices.as_slice(), k)
     }

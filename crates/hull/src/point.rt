@@ -1,7 +1,8 @@
 //! Points: stocks with their cost and the ends of their backorders.
 
-ghost use Rattle.std.specs.Prelude.{◌≡◌, ◌^◌, ◌≤◌, ◌++◌, IfOk};
+ghost use Rattle.std.specs.Prelude.{◌≡◌, ◌≤◌, ◌++◌, IfOk};
 ghost use Rattle.hull.specs.Curves.{lagrangian, InRange, plus};
+ghost use Rattle.hull.specs.Limits.{most_price_units, most_price_money};
 
 use answers::{List, NoMemory};
 use std::alloc::Global;
@@ -47,8 +48,8 @@ impl Point {
 
     /// The Lagrangian at the price `p / q`: `q` times the lower end and `p` times the cost.
     pub(crate) fn lagrangian_at(&self, p: u128, q: u64) -> u128
-        requires p_range { p ≤ 2 ^ 74 }
-        requires q_range { q ≤ 1000000000000 }
+        requires p_range { p ≤ most_price_units }
+        requires q_range { q ≤ most_price_money }
         requires range { InRange self.now }
         ensures { result ≡ lagrangian p q self.now }
     {

@@ -1,7 +1,8 @@
 //! The walk through two curves that passes the vertices of their sums.
 
-ghost use Rattle.std.specs.Prelude.{◌+◌, ◌-◌, ◌*◌, ◌^◌, ◌<◌, ◌≤◌, ◌↔◌, length, IsTrue, IfOk, vec_len};
+ghost use Rattle.std.specs.Prelude.{◌+◌, ◌-◌, ◌*◌, ◌<◌, ◌≤◌, ◌↔◌, length, IsTrue, IfOk, vec_len};
 ghost use Rattle.hull.specs.Curves.{Among, StandFor, Steps, IsChain, InRange, plus, sums};
+ghost use Rattle.hull.specs.Limits.{most_points};
 ghost use Rattle.hull.specs.Verdicts.{LeadsTo};
 
 use crate::Point;
@@ -64,7 +65,7 @@ pub(crate) fn path(alloc: Global, a: &[Point], b: &[Point]) -> Result<Vec<Point>
     requires a_ranges { (v : Point) → Among v a.now → InRange v }
     requires b_ranges { (v : Point) → Among v b.now → InRange v }
     requires ranges { (v w : Point) → Among v a.now → Among w b.now → InRange (plus v w) }
-    requires few { length a.now + length b.now ≤ 2 ^ 31 }
+    requires few { length a.now + length b.now ≤ most_points }
     ensures stands { IfOk result (λ path. StandFor (sums a.now b.now) path.items) }
     ensures some { IfOk result (λ path. 0 < vec_len path) }
     ensures few { IfOk result (λ path. vec_len path ≤ length a.now + length b.now) }

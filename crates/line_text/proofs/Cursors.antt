@@ -173,6 +173,20 @@ refused_at (Err e) h = refl
 pub whole_refused : {A : Type 0} (format : Format A) (fs : List Token) → accepted (format.read fs) ≡ None → None ≡ accepted (read_all format fs)
 whole_refused format fs h = refused_at (format.read fs) h
 
+-- where the fields of the first line make a row and none is left, reading a line gives the row and what follows
+pub row_read : {A : Type 0} (format : Format A) (ts fs : List Token) (a : A) (left rest : List Token) → first_fields ts ≡ Some fs → format.read fs ≡ Ok (a, left) → left ≡ []
+    → rest ≡ later ts → (one (line format)).read ts ≡ Ok (a, rest)
+row_read format ts fs a left rest h k e l = line_read format ts fs a rest h (whole_read format fs a left k e) l
+
+-- where a field is left, the line is the first bad one
+pub row_left : {A : Type 0} (format : Format A) (ts fs : List Token) (a : A) (left : List Token) → first_fields ts ≡ Some fs → format.read fs ≡ Ok (a, left) → left ≢ []
+    → (one (line format)).read ts ≡ Err ts
+row_left format ts fs a left h k n = line_refused format ts fs h (whole_left format fs a left k n)
+
+-- where they make no row, too
+pub row_refused : {A : Type 0} (format : Format A) (ts fs : List Token) → first_fields ts ≡ Some fs → accepted (format.read fs) ≡ None → (one (line format)).read ts ≡ Err ts
+row_refused format ts fs h k = line_refused format ts fs h (whole_refused format fs k)
+
 -- ---- counting lines
 
 length_onto : (b : ℕ) (ls : List Token) → length (onto_line b ls) ≤ suc (length ls)

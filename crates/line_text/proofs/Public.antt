@@ -1,5 +1,5 @@
 -- The lemmas of this crate that crates above may cite, by the files that prove them.
-pub use Rattle.line_text.proofs.Cursors.{empty_lines, line_found, line_missing, line_read, line_refused, never_ended, one_line}
+pub use Rattle.line_text.proofs.Cursors.{empty_lines, line_found, line_missing, line_read, never_ended, one_line}
 pub use Rattle.line_text.proofs.FieldLaws.{a_field, count_fields_are_exact, count_line_is_exact, counted_is_exact, empty_field_is_exact, is_field, length_numbers_from, no_field_is_exact, number_is_exact, number_line_is_exact, one_for_each_is_exact, plain_is_exact, word_is_exact, word_line_is_exact}
 pub use Rattle.line_text.proofs.Files.{answer_again, answer_refuses, answer_takes}
 pub use Rattle.line_text.proofs.Laws.{all_are, as_shape_is_exact, bad, both_are_exact, each_after_is_exact, length_after, one_is_exact}

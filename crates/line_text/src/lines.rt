@@ -1,12 +1,12 @@
 //! Cursors: bytes as lines, and lines as fields.
 
-ghost use Rattle.std.specs.Prelude.{◌≡◌, ◌≤◌, ◌∷◌, ◌↔◌, [], length, Some, None, IsTrue, MatchOption, MatchResult};
+ghost use Rattle.std.specs.Prelude.{ℕ, ◌≡◌, ◌≤◌, ◌∷◌, ◌↔◌, List, [], length, Some, None, IsTrue, MatchOption, MatchResult};
 ghost use Rattle.std.specs.List.{position_or_len, slice_split};
-ghost use Rattle.line_text.specs.Formats.{one};
+ghost use Rattle.line_text.specs.Formats.{Format, one};
 ghost use Rattle.line_text.specs.Texts.{word, number, fixed};
-ghost use Rattle.line_text.specs.Files.{lines_of, comma};
+ghost use Rattle.line_text.specs.Files.{line, lines_of, comma};
 ghost use Rattle.line_text.specs.Exact.{is_end};
-ghost use Rattle.line_text.specs.Reading.{first_fields, later, fields_left, Takes};
+ghost use Rattle.line_text.specs.Reading.{first_fields, later, fields_left, Reads, Takes};
 
 use crate::bad_line::BadLine;
 use crate::decimals::fixed;
@@ -148,6 +148,23 @@ impl<'a> Lines<'a> {
         ensures { self.new ≡ later self.old }
     {
         self.rest = after_line(self.rest);
+    }
+
+    /// Passes the next line, whose fields made `row` and had `left` left over. `BadLine`, without passing the line, if
+    /// they made no row or a field is left.
+    #[tactic(auto, using(crate::proofs::Cursors::row_read, crate::proofs::Cursors::row_left, crate::proofs::Cursors::row_refused))]
+    pub fn row<T: Drop>(&mut self, row: Option<T>, left: &Fields<'_>) -> Result<T, BadLine>
+        ensures { (format : Format T) (fields : List (List ℕ)) → first_fields self.old ≡ Some fields
+            → Takes (λ r. r) row left.now (format.read fields)
+            → Reads (λ r. r) result self.new ((one (line format)).read self.old) }
+    {
+        match row {
+            Some(row) if left.is_empty() => {
+                self.pass();
+                Ok(row)
+            }
+            _ => Err(BadLine),
+        }
     }
 }
 

@@ -3,14 +3,14 @@ use Rattle.std.specs.Prelude.{◌≡◌, ℕ, ◌+◌, ◌-◌, ◌*◌, ◌≤�
 use Rattle.hull.specs.declared.point.Point.{Point}
 use Rattle.marginal_alloc.specs.declared.plans.PlanNumbers.{PlanNumbers}
 use Rattle.price_bounds.specs.Values.{IsAtMost}
-use Rattle.price_bounds.specs.Allocations.{Family, points_of, AreEnclosed, IsAllocation, cost_at, total_at}
+use Rattle.price_bounds.specs.Allocations.{Family, points_of, AreEnclosed, IsFamilyAllocation, cost_at, total_at}
 use Rattle.price_bounds.specs.Soundness.{stocks_of, NoneHasFewerThan, NoPriceGivesMoreThan, NoCertificateHasMoreThan}
 use Rattle.marginal_alloc.specs.Plans.{IsPlan}
 
 -- The promises of a plan's stocks and numbers.
 pub record IsSoundPlan (families : List Family) (budget : ℕ) (stocks : List (List ℕ)) (numbers : PlanNumbers) :
     Type 0 where
-  pub allocation : IsAllocation families stocks
+  pub allocation : IsFamilyAllocation families stocks
   pub cost : numbers.cost ≡ cost_at families stocks
   pub fits : numbers.cost ≤ budget
   pub upper : (n : ℕ) → 1024 ≤ n → IsAtMost numbers.upper (total_at n families stocks)

@@ -1,5 +1,6 @@
 //! The hull choice: the steps of all curves by falling slope, within the budget.
-ghost use Rattle.std.specs.Prelude.{◌≡◌, ℕ, ◌^◌, ◌<◌, ◌≤◌, length, IfOk, OnOk};
+ghost use Rattle.std.specs.Prelude.{◌≡◌, ℕ, ◌<◌, ◌≤◌, length, IfOk, OnOk};
+ghost use Rattle.hull.specs.Limits.{most_price_units, most_price_money, most_curves};
 ghost use Rattle.step_walk.specs.Prefix.{vertex_at, HaveShapes};
 ghost use Rattle.price_bounds.specs.Sums.{cost_of};
 ghost use Rattle.marginal_alloc.specs.Choice.{IsHullChoice, firsts};
@@ -33,12 +34,12 @@ pub struct Chosen {
 /// The steps of all curves are taken by falling slope, of equal slopes by family and then by place, until one would
 /// exceed the budget. There are at most 2,000 curves, and each begins at cost 0. Want of memory is the only error.
 pub fn allocate(alloc: Global, curves: &[Curve], budget: u64) -> Result<Chosen, NoMemory>
-    requires few { length curves.now ≤ 2000 }
+    requires few { length curves.now ≤ most_curves }
     requires free { (f : ℕ) → f < length curves.now → (vertex_at curves.now f 0).cost ≡ 0 }
     ensures choice { IfOk result (λ chosen. IsHullChoice curves.now budget chosen) }
     ensures shapes { OnOk result (HaveShapes curves.now) }
-    ensures price { IfOk result (λ chosen. (chosen.price.p < 2 ^ 74) × (0 < chosen.price.q)
-        × (chosen.price.q ≤ 1000000000000)) }
+    ensures price { IfOk result (λ chosen. (chosen.price.p < most_price_units) × (0 < chosen.price.q)
+        × (chosen.price.q ≤ most_price_money)) }
 {
     allocate_near(alloc, curves, budget, 0)
 }
@@ -52,12 +53,12 @@ pub fn allocate_near(
     budget: u64,
     near: u128,
 ) -> Result<Chosen, NoMemory>
-    requires few { length curves.now ≤ 2000 }
+    requires few { length curves.now ≤ most_curves }
     requires free { (f : ℕ) → f < length curves.now → (vertex_at curves.now f 0).cost ≡ 0 }
     ensures choice { IfOk result (λ chosen. IsHullChoice curves.now budget chosen) }
     ensures shapes { OnOk result (HaveShapes curves.now) }
-    ensures price { IfOk result (λ chosen. (chosen.price.p < 2 ^ 74) × (0 < chosen.price.q)
-        × (chosen.price.q ≤ 1000000000000)) }
+    ensures price { IfOk result (λ chosen. (chosen.price.p < most_price_units) × (0 < chosen.price.q)
+        × (chosen.price.q ≤ most_price_money)) }
 {
     allocate_within(alloc, curves, budget, near)
 }
@@ -70,12 +71,12 @@ pub fn allocate_within(
     budget: u64,
     near: u128,
 ) -> Result<Chosen, NoMemory>
-    requires few { length curves.now ≤ 2000 }
+    requires few { length curves.now ≤ most_curves }
     requires firsts { cost_of (firsts curves.now) ≤ budget }
     ensures choice { IfOk result (λ chosen. IsHullChoice curves.now budget chosen) }
     ensures shapes { OnOk result (HaveShapes curves.now) }
-    ensures price { IfOk result (λ chosen. (chosen.price.p < 2 ^ 74) × (0 < chosen.price.q)
-        × (chosen.price.q ≤ 1000000000000)) }
+    ensures price { IfOk result (λ chosen. (chosen.price.p < most_price_units) × (0 < chosen.price.q)
+        × (chosen.price.q ≤ most_price_money)) }
 {
     let (mut walk, mut cost) = start(alloc, curves, budget, near)?;
     'steps: while let Some(next) = walk.next() {

@@ -1,6 +1,7 @@
 //! The best change of one family to another vertex of its curve.
 ghost use Rattle.std.specs.Prelude.{◌≡◌, ℕ, ◌+◌, ◌^◌, ◌<◌, ◌≤◌, length, slice_index, IfNone, IfSome, MatchOption};
 ghost use Rattle.hull.specs.Curves.{IsShape};
+ghost use Rattle.hull.specs.Limits.{most_curves};
 ghost use Rattle.price_bounds.specs.Sums.{cost_of};
 ghost use Rattle.step_walk.specs.Prefix.{curve_at, AreVertices, picked};
 ghost use Rattle.marginal_alloc.specs.Filling.{IsFull, IsBestChange, gain};
@@ -98,7 +99,7 @@ fn better_of(
 /// The best change of the picks with `left` money to spend, if there is one: it lowers its family's upper end most, and
 /// of equal ones it is the first by family and then by vertex.
 pub fn best_change(curves: &[Curve], picks: &[u32], left: u64) -> Option<Change>
-    requires few { length curves.now ≤ 2000 }
+    requires few { length curves.now ≤ most_curves }
     requires vertices { AreVertices curves.now picks.now }
     requires money { cost_of (picked curves.now picks.now) + left < 2 ^ 64 }
     ensures none { IfNone result (IsFull curves.now (cost_of (picked curves.now picks.now) + left) picks.now) }

@@ -1,5 +1,6 @@
 //! The filling: the best change of one family at a time, until no change is left.
 ghost use Rattle.std.specs.Prelude.{◌≡◌, ◌+◌, ◌^◌, ◌<◌, ◌≤◌, length, set};
+ghost use Rattle.hull.specs.Limits.{most_curves};
 ghost use Rattle.price_bounds.specs.Sums.{cost_of};
 ghost use Rattle.step_walk.specs.Prefix.{AreVertices, picked};
 ghost use Rattle.marginal_alloc.specs.Filling.{Fills, IsBestChange};
@@ -9,7 +10,7 @@ use hull::Curve;
 
 /// The total cost of the picks, one vertex of each of at most 2,000 curves.
 pub fn cost_at(curves: &[Curve], picks: &[u32]) -> u64
-    requires few { length curves.now ≤ 2000 }
+    requires few { length curves.now ≤ most_curves }
     requires vertices { AreVertices curves.now picks.now }
     ensures { result ≡ cost_of (picked curves.now picks.now) }
 {
@@ -48,7 +49,7 @@ pub fn take_change(curves: &[Curve], picks: &mut Vec<u32>, change: Change, left:
 /// most 2,000 curves, with one pick for each, below its curve's `len`, and together the picks fit the budget. Allocates
 /// no memory.
 pub fn fill(curves: &[Curve], picks: &mut Vec<u32>, budget: u64)
-    requires few { length curves.now ≤ 2000 }
+    requires few { length curves.now ≤ most_curves }
     requires vertices { AreVertices curves.now picks.old.items }
     requires fits { cost_of (picked curves.now picks.old.items) ≤ budget }
     ensures fills { Fills curves.now budget picks.old.items picks.new.items }

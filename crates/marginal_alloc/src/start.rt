@@ -1,5 +1,6 @@
 //! The start of the walk of a hull choice: after all steps above a price, many of which fit the budget at once.
-ghost use Rattle.std.specs.Prelude.{◌≡◌, ◌^◌, ◌≤◌, length, IfOk};
+ghost use Rattle.std.specs.Prelude.{◌≡◌, ◌≤◌, length, IfOk};
+ghost use Rattle.hull.specs.Limits.{most_price_units, most_curves};
 ghost use Rattle.price_bounds.specs.Sums.{cost_of};
 ghost use Rattle.step_walk.specs.Prefix.{picked};
 ghost use Rattle.marginal_alloc.specs.Choice.{firsts};
@@ -15,8 +16,8 @@ const MOST: u128 = 1 << 74;
 
 /// The cost after the steps above a price. No clause says so.
 fn cost_after(alloc: Global, curves: &[Curve], price: u128) -> Result<u64, NoMemory>
-    requires few { length curves.now ≤ 2000 }
-    requires price { price ≤ 2 ^ 74 }
+    requires few { length curves.now ≤ most_curves }
+    requires price { price ≤ most_price_units }
 {
     let picks = all_after_steep(alloc, curves, price)?;
     Ok(cost_at(curves, picks.as_slice()))
@@ -30,10 +31,10 @@ fn lower_within(
     price: u128,
     lower: u128,
 ) -> Result<u128, NoMemory>
-    requires few { length curves.now ≤ 2000 }
-    requires price { price ≤ 2 ^ 74 }
-    requires lower { lower ≤ 2 ^ 74 }
-    ensures { IfOk result (λ p. p ≤ 2 ^ 74) }
+    requires few { length curves.now ≤ most_curves }
+    requires price { price ≤ most_price_units }
+    requires lower { lower ≤ most_price_units }
+    ensures { IfOk result (λ p. p ≤ most_price_units) }
 {
     if cost_after(alloc, curves, lower)? <= budget {
         return Ok(lower);
@@ -43,8 +44,8 @@ fn lower_within(
 
 /// A price at which the steps above it fit the budget; at a price about a fifth lower they don't.
 fn price_found(alloc: Global, curves: &[Curve], budget: u64) -> Result<u128, NoMemory>
-    requires few { length curves.now ≤ 2000 }
-    ensures { IfOk result (λ p. p ≤ 2 ^ 74) }
+    requires few { length curves.now ≤ most_curves }
+    ensures { IfOk result (λ p. p ≤ most_price_units) }
 {
     let mut price = MOST;
     let mut halves: u32 = 32;
@@ -59,8 +60,8 @@ fn price_found(alloc: Global, curves: &[Curve], budget: u64) -> Result<u128, NoM
 
 /// The guessed price if the steps above it fit the budget, otherwise one that is searched.
 fn price_within(alloc: Global, curves: &[Curve], budget: u64, near: u128) -> Result<u128, NoMemory>
-    requires few { length curves.now ≤ 2000 }
-    ensures { IfOk result (λ p. p ≤ 2 ^ 74) }
+    requires few { length curves.now ≤ most_curves }
+    ensures { IfOk result (λ p. p ≤ most_price_units) }
 {
     if near <= MOST && cost_after(alloc, curves, near)? <= budget {
         return Ok(near);
@@ -70,7 +71,7 @@ fn price_within(alloc: Global, curves: &[Curve], budget: u64, near: u128) -> Res
 
 /// The cost of the first vertices of at most 2,000 curves. Want of memory is the only error.
 pub fn first_cost(alloc: Global, curves: &[Curve]) -> Result<u64, NoMemory>
-    requires few { length curves.now ≤ 2000 }
+    requires few { length curves.now ≤ most_curves }
     ensures { IfOk result (λ cost. cost ≡ cost_of (firsts curves.now)) }
 {
     let walk = Walk::begin(alloc, curves)?;
@@ -84,7 +85,7 @@ pub(crate) fn start<'a>(
     budget: u64,
     near: u128,
 ) -> Result<(Walk<'a>, u64), NoMemory>
-    requires few { length curves.now ≤ 2000 }
+    requires few { length curves.now ≤ most_curves }
     requires firsts { cost_of (firsts curves.now) ≤ budget }
     ensures same { IfOk result (λ s. s.0.curves ≡ curves.now) }
     ensures cost { IfOk result (λ s. s.1 ≡ cost_of (picked curves.now s.0.picks)) }

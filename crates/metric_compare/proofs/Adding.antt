@@ -16,7 +16,7 @@ use Rattle.family_items.specs.Profile.{pipeline_of}
 use Rattle.family_items.proofs.Public.{flat_at, flat_length, kept_more, left_out, pipeline_is}
 use Rattle.spares_input.specs.Pairs.{pair_place}
 use Rattle.metric_compare.specs.Levels.{by_part, of_shop}
-use Rattle.metric_compare.specs.Profile.{backorders_at, poisson_at, base_line, base_shop, depot_line, depot_shop, poisson_of}
+use Rattle.metric_compare.specs.Profile.{backorders_at, poisson_at, poisson_base_line, poisson_base_shop, poisson_depot_line, poisson_depot_shop, poisson_of}
 
 -- ---- backorders are small
 
@@ -31,8 +31,8 @@ module _ (c : CaseRows) (s : List ℕ) (sound : IsSound c s) where
       omega (arith, below, pair.cap_most)
 
   small_by : (o : Option ℕ) (p k : ℕ) → p < length c.parts → k < length c.sites
-      → IsWithinLimit 48 (by_pair (λ l i. depot_shop 48 c s i) (depot_line 48 c s) (λ l i j. base_shop 48 c s i j) (base_line 48 c s) o p k)
-  unfolding depot_shop depot_line base_shop base_line
+      → IsWithinLimit 48 (by_pair (λ l i. poisson_depot_shop 48 c s i) (poisson_depot_line 48 c s) (λ l i j. poisson_base_shop 48 c s i j) (poisson_base_line 48 c s) o p k)
+  unfolding poisson_depot_shop poisson_depot_line poisson_base_shop poisson_base_line
   small_by (Some l) p zero lp lk = capped_small p 0 _ lp lk
   small_by None p zero lp lk = capped_small p 0 _ lp lk
   small_by (Some l) p (suc j) lp lk = capped_small p (suc j) _ lp lk
@@ -43,8 +43,8 @@ module _ (c : CaseRows) (s : List ℕ) (sound : IsSound c s) where
   pair_small p k lp lk = small_by (line_of c.parts p) p k lp lk
 
   small_of : (o : Option ℕ) (p k : ℕ) → p < length c.parts → k < length c.sites
-      → IsWithinLimit 48 (by_pair (λ l i. depot_shop 48 c s i) (λ l. ends_exact 48 0) (λ l i j. base_shop 48 c s i j) (λ l j. ends_exact 48 0) o p k)
-  unfolding depot_shop base_shop
+      → IsWithinLimit 48 (by_pair (λ l i. poisson_depot_shop 48 c s i) (λ l. ends_exact 48 0) (λ l i j. poisson_base_shop 48 c s i j) (λ l j. ends_exact 48 0) o p k)
+  unfolding poisson_depot_shop poisson_base_shop
   small_of (Some l) p zero lp lk = capped_small p 0 _ lp lk
   small_of None p zero lp lk = omega arith
   small_of (Some l) p (suc j) lp lk = capped_small p (suc j) _ lp lk

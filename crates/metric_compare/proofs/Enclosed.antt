@@ -12,7 +12,7 @@ use Rattle.depot_pipeline.specs.Exact.{FeedIn, IsAtMost}
 use Rattle.depot_pipeline.specs.Profile.{added, feed_at, mean_part, no_feed}
 use Rattle.depot_pipeline.proofs.Public.{added_in, mean_part_in}
 use Rattle.base_pipeline.specs.declared.Held.{Held}
-use Rattle.base_pipeline.specs.Profile.{held_at}
+use Rattle.base_pipeline.specs.Profile.{delay_at}
 use Rattle.spares_input.specs.Rows.{is_line}
 use Rattle.spares_input.specs.Frames.{line_of, part_at}
 use Rattle.spares_input.specs.Cases.{CaseRows}
@@ -31,7 +31,7 @@ use Rattle.moment_table.proofs.Public.{table_encloses}
 use Rattle.family_items.proofs.Public.{added_least, can_table, cap_in, pipeline_is, line_at, shop_at, each_in_range, sum_by_places, direct_level, share_level}
 use Rattle.fleet_model.specs.Poisson.{mean_i0, mean_00, mean_ij, mean_0j, poisson, poisson_i0, poisson_00, poisson_ij, poisson_0j, poisson_family_total, poisson_total}
 use Rattle.case_figures.proofs.Public.{sum_in}
-use Rattle.metric_compare.specs.Profile.{backorders_at, poisson_at, base_line, base_shop, depot_feed, depot_line, depot_shop, fed, held, poisson_family_total_of, poisson_of, poisson_total_of, weighed}
+use Rattle.metric_compare.specs.Profile.{backorders_at, poisson_at, poisson_base_line, poisson_base_shop, poisson_depot_feed, poisson_depot_line, poisson_depot_shop, fed, delay, poisson_family_total_of, poisson_of, poisson_total_of, poisson_weighed}
 
 -- ---- what caps them
 
@@ -102,33 +102,33 @@ module _ (f : ℕ) (c : CaseRows) (s : List ℕ) (least : 24 ≤ f) (sound : IsS
 
   -- ---- the shop unit at the depot
 
-  in_i0 : (l i n : ℕ) → IsShop c l i → 1024 ≤ n → In f (depot_shop f c s i) (poisson_i0 c s n l i)
-  unfolding depot_shop poisson_i0 mean_i0 zero_stock_i0
+  in_i0 : (l i n : ℕ) → IsShop c l i → 1024 ≤ n → In f (poisson_depot_shop f c s i) (poisson_i0 c s n l i)
+  unfolding poisson_depot_shop poisson_i0 mean_i0 zero_stock_i0
   in_i0 l i n shop deep =
       level (Some l) i 0 n (pipeline_of f c s i 0).direct (direct_i0 c l i) shop.line_is shop.is_part some_sites deep (le_refl (pipeline_of f c s i 0).direct.lo)
       (direct_level f c s least sound (Some l) i 0 shop.line_is shop.is_part some_sites) (le_self (direct_i0 c l i))
 
   -- ---- the line unit at the depot
 
-  feeds_in : (l n k : ℕ) → IsLine c l → 1024 ≤ n → k < length (map (depot_feed f c s) (shop_units c l))
-      → FeedIn f (feed_at (map (depot_feed f c s) (shop_units c l)) k) (f_i0 c l (get_or (shop_units c l) k 0))
+  feeds_in : (l n k : ℕ) → IsLine c l → 1024 ≤ n → k < length (map (poisson_depot_feed f c s) (shop_units c l))
+      → FeedIn f (feed_at (map (poisson_depot_feed f c s) (shop_units c l)) k) (f_i0 c l (get_or (shop_units c l) k 0))
       (poisson_i0 c s n l (get_or (shop_units c l) k 0)) (poisson_i0 c s n l (get_or (shop_units c l) k 0))
   feeds_in l n k line deep h =
-      let w : k < length (shop_units c l) = omega (arith, h, length-map (shop_units c l) (depot_feed f c s)) in
+      let w : k < length (shop_units c l) = omega (arith, h, length-map (shop_units c l) (poisson_depot_feed f c s)) in
       let i = get_or (shop_units c l) k 0 in
       let shop = shop_at c l k sound.valid line w in
       subst (λ (z : Feed f). FeedIn f z (f_i0 c l i) (poisson_i0 c s n l i) (poisson_i0 c s n l i))
-      (sym (get_or-map (depot_feed f c s) (shop_units c l) k 0 (no_feed f) w))
-      (fed_in f (share_of f c i 0) (depot_shop f c s i) (f_i0 c l i) _ (share_level f c s least sound (Some l) i 0 shop.line_is shop.is_part some_sites) (in_i0 l i n shop deep))
+      (sym (get_or-map (poisson_depot_feed f c s) (shop_units c l) k 0 (no_feed f) w))
+      (fed_in f (share_of f c i 0) (poisson_depot_shop f c s i) (f_i0 c l i) _ (share_level f c s least sound (Some l) i 0 shop.line_is shop.is_part some_sites) (in_i0 l i n shop deep))
 
-  in_00 : (l n : ℕ) → IsLine c l → 1024 ≤ n → In f (depot_line f c s l) (poisson_00 c s n l)
-  unfolding depot_line poisson_00 mean_00
+  in_00 : (l n : ℕ) → IsLine c l → 1024 ≤ n → In f (poisson_depot_line f c s l) (poisson_00 c s n l)
+  unfolding poisson_depot_line poisson_00 mean_00
   in_00 l n line deep =
       let e = no_line_there c.parts l line.no_parent in
-      let feeds = map (depot_feed f c s) (shop_units c l) in
+      let feeds = map (poisson_depot_feed f c s) (shop_units c l) in
       level None l 0 n (added (pipeline_of f c s l 0).direct (λ k. mean_part f (feed_at feeds k)) (length feeds)) (mean_00 c s n l) e line.is_part some_sites deep
       (added_least (pipeline_of f c s l 0).direct (λ k. mean_part f (feed_at feeds k)) (length feeds))
-      (contains_same (sum_by_places (shop_units c l) (λ i. f_i0 c l i *ℚ poisson_i0 c s n l i) (direct_00 c l) _ (length-map (shop_units c l) (depot_feed f c s)))
+      (contains_same (sum_by_places (shop_units c l) (λ i. f_i0 c l i *ℚ poisson_i0 c s n l i) (direct_00 c l) _ (length-map (shop_units c l) (poisson_depot_feed f c s)))
       (added_in f (pipeline_of f c s l 0).direct _ (direct_00 c l) (λ k. f_i0 c l (get_or (shop_units c l) k 0) *ℚ poisson_i0 c s n l (get_or (shop_units c l) k 0)) _
       (direct_level f c s least sound None l 0 e line.is_part some_sites)
       (λ k h. mean_part_in f (feed_at feeds k) _ _ _ (feeds_in l n k line deep h))))
@@ -136,12 +136,12 @@ module _ (f : ℕ) (c : CaseRows) (s : List ℕ) (least : 24 ≤ f) (sound : IsS
 
   -- ---- the shop unit at base j + 1
 
-  in_ij : (l i j n : ℕ) → IsShop c l i → suc j < length c.sites → 1024 ≤ n → In f (base_shop f c s i (suc j)) (poisson_ij c s n l i (suc j))
-  unfolding base_shop poisson_ij mean_ij
+  in_ij : (l i j n : ℕ) → IsShop c l i → suc j < length c.sites → 1024 ≤ n → In f (poisson_base_shop f c s i (suc j)) (poisson_ij c s n l i (suc j))
+  unfolding poisson_base_shop poisson_ij mean_ij
   in_ij l i j n shop lj deep =
-      let feed = fed f (share_of f c i (suc j)) (depot_shop f c s i) in
+      let feed = fed f (share_of f c i (suc j)) (poisson_depot_shop f c s i) in
       let d : In f (pipeline_of f c s i (suc j)).direct (direct_ij c l i (suc j)) = direct_level f c s least sound (Some l) i (suc j) shop.line_is shop.is_part lj in
-      let part = fed_in f (share_of f c i (suc j)) (depot_shop f c s i) (f_ij c l i (suc j)) (poisson_i0 c s n l i)
+      let part = fed_in f (share_of f c i (suc j)) (poisson_depot_shop f c s i) (f_ij c l i (suc j)) (poisson_i0 c s n l i)
       (share_level f c s least sound (Some l) i (suc j) shop.line_is shop.is_part lj) (in_i0 l i n shop deep) in
       level (Some l) i (suc j) n (ends_add (pipeline_of f c s i (suc j)).direct (mean_part f feed)) (mean_ij c s n l i (suc j)) shop.line_is shop.is_part lj deep
       (omega arith)
@@ -150,36 +150,36 @@ module _ (f : ℕ) (c : CaseRows) (s : List ℕ) (least : 24 ≤ f) (sound : IsS
 
   -- ---- the line unit at base j + 1
 
-  helds_in : (l j n k : ℕ) → IsLine c l → suc j < length c.sites → 1024 ≤ n → k < length (map (λ i. held f (base_shop f c s i (suc j))) (shop_units c l))
-      → In f (held_at (map (λ i. held f (base_shop f c s i (suc j))) (shop_units c l)) k).backorders (poisson_ij c s n l (get_or (shop_units c l) k 0) (suc j))
-  helds_in l j n k line lj deep h =
-      let w : k < length (shop_units c l) = omega (arith, h, length-map (shop_units c l) (λ i. held f (base_shop f c s i (suc j)))) in
+  delays_in : (l j n k : ℕ) → IsLine c l → suc j < length c.sites → 1024 ≤ n → k < length (map (λ i. delay f (poisson_base_shop f c s i (suc j))) (shop_units c l))
+      → In f (delay_at (map (λ i. delay f (poisson_base_shop f c s i (suc j))) (shop_units c l)) k).backorders (poisson_ij c s n l (get_or (shop_units c l) k 0) (suc j))
+  delays_in l j n k line lj deep h =
+      let w : k < length (shop_units c l) = omega (arith, h, length-map (shop_units c l) (λ i. delay f (poisson_base_shop f c s i (suc j)))) in
       subst (λ (z : Held f). In f z.backorders (poisson_ij c s n l (get_or (shop_units c l) k 0) (suc j)))
-      (sym (get_or-map (λ i. held f (base_shop f c s i (suc j))) (shop_units c l) k 0 _ w))
+      (sym (get_or-map (λ i. delay f (poisson_base_shop f c s i (suc j))) (shop_units c l) k 0 _ w))
       (in_ij l (get_or (shop_units c l) k 0) j n (shop_at c l k sound.valid line w) lj deep)
 
-  in_0j : (l j n : ℕ) → IsLine c l → suc j < length c.sites → 1024 ≤ n → In f (base_line f c s l (suc j)) (poisson_0j c s n l (suc j))
-  unfolding base_line poisson_0j mean_0j
+  in_0j : (l j n : ℕ) → IsLine c l → suc j < length c.sites → 1024 ≤ n → In f (poisson_base_line f c s l (suc j)) (poisson_0j c s n l (suc j))
+  unfolding poisson_base_line poisson_0j mean_0j
   in_0j l j n line lj deep =
       let e = no_line_there c.parts l line.no_parent in
-      let feed = fed f (share_of f c l (suc j)) (depot_line f c s l) in
-      let shops = map (λ i. held f (base_shop f c s i (suc j))) (shop_units c l) in
+      let feed = fed f (share_of f c l (suc j)) (poisson_depot_line f c s l) in
+      let shops = map (λ i. delay f (poisson_base_shop f c s i (suc j))) (shop_units c l) in
       let d = direct_level f c s least sound None l (suc j) e line.is_part lj in
-      let part = fed_in f (share_of f c l (suc j)) (depot_line f c s l) (f_0j c l (suc j)) (poisson_00 c s n l) (share_level f c s least sound None l (suc j) e line.is_part lj) (in_00 l n line deep) in
+      let part = fed_in f (share_of f c l (suc j)) (poisson_depot_line f c s l) (f_0j c l (suc j)) (poisson_00 c s n l) (share_level f c s least sound None l (suc j) e line.is_part lj) (in_00 l n line deep) in
       let first = add_encloses f (pipeline_of f c s l (suc j)).direct _ (direct_0j c l (suc j)) (f_0j c l (suc j) *ℚ poisson_00 c s n l) d (mean_part_in f _ _ _ _ part) in
-      level None l (suc j) n (added (ends_add (pipeline_of f c s l (suc j)).direct (mean_part f feed)) (λ k. (held_at shops k).backorders) (length shops)) (mean_0j c s n l (suc j))
+      level None l (suc j) n (added (ends_add (pipeline_of f c s l (suc j)).direct (mean_part f feed)) (λ k. (delay_at shops k).backorders) (length shops)) (mean_0j c s n l (suc j))
       e line.is_part lj deep
-      (omega (arith, added_least (ends_add (pipeline_of f c s l (suc j)).direct (mean_part f feed)) (λ k. (held_at shops k).backorders) (length shops)))
+      (omega (arith, added_least (ends_add (pipeline_of f c s l (suc j)).direct (mean_part f feed)) (λ k. (delay_at shops k).backorders) (length shops)))
       (contains_same (sum_by_places (shop_units c l) (λ i. poisson_ij c s n l i (suc j)) (direct_0j c l (suc j) +ℚ f_0j c l (suc j) *ℚ poisson_00 c s n l) _
-      (length-map (shop_units c l) (λ i. held f (base_shop f c s i (suc j)))))
+      (length-map (shop_units c l) (λ i. delay f (poisson_base_shop f c s i (suc j)))))
       (added_in f _ _ (direct_0j c l (suc j) +ℚ f_0j c l (suc j) *ℚ poisson_00 c s n l) (λ k. poisson_ij c s n l (get_or (shop_units c l) k 0) (suc j)) _ first
-      (λ k h. helds_in l j n k line lj deep h)))
+      (λ k h. delays_in l j n k line lj deep h)))
       (mean_0j_most c s n (reach n deep) l (suc j) (zero-lt-suc j, lj))
 
   -- ---- by pair
 
   at_pair : (o : Option ℕ) (p k n : ℕ) → line_of c.parts p ≡ o → p < length c.parts → k < length c.sites → 1024 ≤ n
-      → In f (by_pair (λ l i. depot_shop f c s i) (depot_line f c s) (λ l i j. base_shop f c s i j) (base_line f c s) o p k)
+      → In f (by_pair (λ l i. poisson_depot_shop f c s i) (poisson_depot_line f c s) (λ l i j. poisson_base_shop f c s i j) (poisson_base_line f c s) o p k)
       (by_pair (poisson_i0 c s n) (poisson_00 c s n) (poisson_ij c s n) (poisson_0j c s n) o p k)
   at_pair (Some l) p zero n e lp lk deep = in_i0 l p n (record { is_part = lp; line_is = e }) deep
   at_pair None p zero n e lp lk deep = in_00 p n (line_at c p sound.valid lp e) deep
@@ -196,13 +196,13 @@ module _ (f : ℕ) (c : CaseRows) (s : List ℕ) (least : 24 ≤ f) (sound : IsS
   line_in : (l j n : ℕ) → IsLine c l → 1 ≤ j → j < length c.sites → 1024 ≤ n → In f (poisson_of f c s l j) (poisson_0j c s n l j)
   line_in l zero n line h lj deep = absurd (omega (arith, h))
   line_in l (suc j) n line h lj deep =
-      subst (λ o. In f (by_pair (λ l i. depot_shop f c s i) (depot_line f c s) (λ l i j. base_shop f c s i j) (base_line f c s) o l (suc j)) (poisson_0j c s n l (suc j)))
+      subst (λ o. In f (by_pair (λ l i. poisson_depot_shop f c s i) (poisson_depot_line f c s) (λ l i j. poisson_base_shop f c s i j) (poisson_base_line f c s) o l (suc j)) (poisson_0j c s n l (suc j)))
       (sym (no_line_there c.parts l line.no_parent)) (in_0j f c s least sound l j n line lj deep)
 
   family_in : (l n : ℕ) → IsLine c l → 1024 ≤ n → In f (poisson_family_total_of f c s l) (poisson_family_total c s n l)
   unfolding poisson_family_total
   family_in l n line deep =
-      sum_in f (weighed f c s l) (λ j. whole (weight c l) *ℚ poisson_0j c s n l j) (bases c)
+      sum_in f (poisson_weighed f c s l) (λ j. whole (weight c l) *ℚ poisson_0j c s n l j) (bases c)
       (each_in_range _ (length c.sites - 1) 1 (λ j h k. times_encloses f (poisson_of f c s l j) (weight c l) (poisson_0j c s n l j) (line_in l j n line h (omega (arith, k)) deep)))
 
   -- the ends of the Poisson total enclose it

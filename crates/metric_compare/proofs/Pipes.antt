@@ -8,7 +8,7 @@ use Rattle.depot_pipeline.specs.declared.Moments.{Moments}
 use Rattle.depot_pipeline.specs.declared.Feed.{Feed}
 use Rattle.depot_pipeline.specs.Profile.{added, depot_line_ends, depot_shop_ends, feed_at, mean_part}
 use Rattle.base_pipeline.specs.declared.Held.{Held}
-use Rattle.base_pipeline.specs.Profile.{base_line_ends, base_shop_ends, held_at}
+use Rattle.base_pipeline.specs.Profile.{base_line_ends, base_shop_ends, delay_at}
 use Rattle.fleet_model.specs.Rows.{shop_units, stock}
 use Rattle.fleet_model.specs.Pairs.{by_pair}
 use Rattle.spares_input.specs.Cases.{CaseRows, IsCase}
@@ -22,7 +22,7 @@ use Rattle.family_items.specs.declared.pipeline.Pipeline.{Pipeline}
 use Rattle.family_items.specs.Profile.{pipeline_of, share_of}
 use Rattle.family_items.proofs.Public.{ids_few, shop_of, added_least, can_table}
 use Rattle.metric_compare.specs.Levels.{of_shop}
-use Rattle.metric_compare.specs.Profile.{poisson_at, base_line, base_shop, depot_feed, depot_line, depot_shop, fed, held, poisson_of}
+use Rattle.metric_compare.specs.Profile.{poisson_at, poisson_base_line, poisson_base_shop, poisson_depot_feed, poisson_depot_line, poisson_depot_shop, fed, delay, poisson_of}
 
 -- ---- tables
 
@@ -43,8 +43,8 @@ pub base_line_can : (pipe : Pipeline 48) (feed : Feed 48) (shops : List (Held 48
 base_line_can pipe feed shops m valid e =
     let first = ends_add pipe.direct (mean_part 48 feed) in
     subst (λ (m : Moments 48). CanTable 48 m.mean m.mean) (sym e)
-    (can_mean pipe (added first (λ k. (held_at shops k).backorders) (length shops)) valid
-    (omega (arith, added_least first (λ k. (held_at shops k).backorders) (length shops))))
+    (can_mean pipe (added first (λ k. (delay_at shops k).backorders) (length shops)) valid
+    (omega (arith, added_least first (λ k. (delay_at shops k).backorders) (length shops))))
 
 -- so does that of a shop unit at the depot
 pub depot_shop_can : (pipe : Pipeline 48) (m : Moments 48) → IsPipeline 48 pipe → m ≡ depot_shop_ends 48 pipe.direct pipe.cap → CanTable 48 m.mean m.mean
@@ -60,17 +60,17 @@ base_shop_can pipe feed m valid e =
 
 -- what is computed of a shop unit at the depot are its Poisson backorders
 pub depot_shop_is : (c : CaseRows) (s : List ℕ) (p : ℕ) (pipe : Pipeline 48) (m : Moments 48) (x : Ends) → pipe ≡ pipeline_of 48 c s p 0
-    → m ≡ depot_shop_ends 48 pipe.direct pipe.cap → x ≡ poisson_at 48 m.mean pipe.stock → x ≡ depot_shop 48 c s p
-unfolding depot_shop
+    → m ≡ depot_shop_ends 48 pipe.direct pipe.cap → x ≡ poisson_at 48 m.mean pipe.stock → x ≡ poisson_depot_shop 48 c s p
+unfolding poisson_depot_shop
 depot_shop_is c s p pipe m x hp e h =
     h ∙ (λ t. poisson_at 48 (e t).mean pipe.stock)
     ∙ (λ t. poisson_at 48 (depot_shop_ends 48 (hp t).direct (hp t).cap).mean (hp t).stock)
 
 -- what is computed of a shop unit at a base and the depot's feed are its Poisson backorders
 pub base_shop_is : (c : CaseRows) (s : List ℕ) (p k : ℕ) (pipe : Pipeline 48) (share depot : Ends) (feed : Feed 48) (m : Moments 48) (x : Ends)
-    → pipe ≡ pipeline_of 48 c s p k → share ≡ share_of 48 c p k → depot ≡ depot_shop 48 c s p → feed ≡ fed 48 share depot
-    → m ≡ base_shop_ends 48 pipe.direct pipe.cap feed → x ≡ poisson_at 48 m.mean pipe.stock → x ≡ base_shop 48 c s p k
-unfolding base_shop
+    → pipe ≡ pipeline_of 48 c s p k → share ≡ share_of 48 c p k → depot ≡ poisson_depot_shop 48 c s p → feed ≡ fed 48 share depot
+    → m ≡ base_shop_ends 48 pipe.direct pipe.cap feed → x ≡ poisson_at 48 m.mean pipe.stock → x ≡ poisson_base_shop 48 c s p k
+unfolding poisson_base_shop
 base_shop_is c s p k pipe share depot feed m x hp hs hd hf e h =
     h ∙ (λ t. poisson_at 48 (e t).mean pipe.stock)
     ∙ (λ t. poisson_at 48 (base_shop_ends 48 (hp t).direct (hp t).cap (hf t)).mean (hp t).stock)
@@ -78,9 +78,9 @@ base_shop_is c s p k pipe share depot feed m x hp hs hd hf e h =
 
 -- what is computed of a line unit at the depot and the feeds of its shop units are its Poisson backorders
 pub depot_line_is : (c : CaseRows) (s : List ℕ) (p : ℕ) (pipe : Pipeline 48) (feeds : List (Feed 48)) (m : Moments 48) (x : Ends)
-    → pipe ≡ pipeline_of 48 c s p 0 → feeds ≡ map (depot_feed 48 c s) (shop_units c p) → m ≡ depot_line_ends 48 pipe.direct pipe.cap feeds
-    → x ≡ poisson_at 48 m.mean pipe.stock → x ≡ depot_line 48 c s p
-unfolding depot_line
+    → pipe ≡ pipeline_of 48 c s p 0 → feeds ≡ map (poisson_depot_feed 48 c s) (shop_units c p) → m ≡ depot_line_ends 48 pipe.direct pipe.cap feeds
+    → x ≡ poisson_at 48 m.mean pipe.stock → x ≡ poisson_depot_line 48 c s p
+unfolding poisson_depot_line
 depot_line_is c s p pipe feeds m x hp hf e h =
     h ∙ (λ t. poisson_at 48 (e t).mean pipe.stock)
     ∙ (λ t. poisson_at 48 (depot_line_ends 48 (hp t).direct (hp t).cap (hf t)).mean (hp t).stock)
@@ -88,26 +88,26 @@ depot_line_is c s p pipe feeds m x hp hf e h =
 -- what is computed of a line unit at a base, the depot's feed and what its shop units hold back there
 -- are its Poisson backorders
 pub base_line_is : (c : CaseRows) (s : List ℕ) (p k : ℕ) (pipe : Pipeline 48) (share depot : Ends) (feed : Feed 48) (shops : List (Held 48)) (m : Moments 48) (x : Ends)
-    → pipe ≡ pipeline_of 48 c s p k → share ≡ share_of 48 c p k → depot ≡ depot_line 48 c s p → feed ≡ fed 48 share depot
-    → shops ≡ map (λ i. held 48 (base_shop 48 c s i k)) (shop_units c p) → m ≡ base_line_ends 48 pipe.direct pipe.cap feed shops
-    → x ≡ poisson_at 48 m.mean pipe.stock → x ≡ base_line 48 c s p k
-unfolding base_line
+    → pipe ≡ pipeline_of 48 c s p k → share ≡ share_of 48 c p k → depot ≡ poisson_depot_line 48 c s p → feed ≡ fed 48 share depot
+    → shops ≡ map (λ i. delay 48 (poisson_base_shop 48 c s i k)) (shop_units c p) → m ≡ base_line_ends 48 pipe.direct pipe.cap feed shops
+    → x ≡ poisson_at 48 m.mean pipe.stock → x ≡ poisson_base_line 48 c s p k
+unfolding poisson_base_line
 base_line_is c s p k pipe share depot feed shops m x hp hs hd hf hl e h =
     h ∙ (λ t. poisson_at 48 (e t).mean pipe.stock)
     ∙ (λ t. poisson_at 48 (base_line_ends 48 (hp t).direct (hp t).cap (hf t) (hl t)).mean (hp t).stock)
     ∙ (λ t. poisson_at 48 (base_line_ends 48 (pipeline_of 48 c s p k).direct (pipeline_of 48 c s p k).cap (fed 48 (hs t) (hd t))
-    (map (λ i. held 48 (base_shop 48 c s i k)) (shop_units c p))).mean (stock c s p k))
+    (map (λ i. delay 48 (poisson_base_shop 48 c s i k)) (shop_units c p))).mean (stock c s p k))
 
 -- ---- which level a pair has
 
 abbrev poisson_by : CaseRows → List ℕ → Option ℕ → ℕ → ℕ → Ends
-poisson_by c s o p k = by_pair (λ l i. depot_shop 48 c s i) (depot_line 48 c s) (λ l i j. base_shop 48 c s i j) (base_line 48 c s) o p k
+poisson_by c s o p k = by_pair (λ l i. poisson_depot_shop 48 c s i) (poisson_depot_line 48 c s) (λ l i j. poisson_base_shop 48 c s i j) (poisson_base_line 48 c s) o p k
 
 abbrev shop_by : CaseRows → List ℕ → Option ℕ → ℕ → ℕ → Ends
-shop_by c s o p k = by_pair (λ l i. depot_shop 48 c s i) (λ l. ends_exact 48 0) (λ l i j. base_shop 48 c s i j) (λ l j. ends_exact 48 0) o p k
+shop_by c s o p k = by_pair (λ l i. poisson_depot_shop 48 c s i) (λ l. ends_exact 48 0) (λ l i j. poisson_base_shop 48 c s i j) (λ l j. ends_exact 48 0) o p k
 
 -- the number of a shop unit at a base is that of the third level
-pub base_of_shop : (c : CaseRows) (s : List ℕ) (l p k : ℕ) → line_of c.parts p ≡ Some l → 0 < k → of_shop c s p k ≡ base_shop 48 c s p k
+pub base_of_shop : (c : CaseRows) (s : List ℕ) (l p k : ℕ) → line_of c.parts p ≡ Some l → 0 < k → of_shop c s p k ≡ poisson_base_shop 48 c s p k
 base_of_shop c s l p zero e h = absurd (omega arith)
 base_of_shop c s l p (suc j) e h = ap (λ o. shop_by c s o p (suc j)) e
 
@@ -131,7 +131,7 @@ nothing_row c s l n x line hx hn =
     ap₂ (λ (m : ℕ) (y : Ends). replicate m y) hn hx ∙ same_all (of_shop c s l) (ends_exact 48 0) 0 (length c.sites) (λ k. line_none c s l k line)
 
 -- the Poisson backorders of a line unit at a base are those of the fourth level
-pub base_line_at_pair : (c : CaseRows) (s : List ℕ) (l k : ℕ) → IsLine c l → 0 < k → base_line 48 c s l k ≡ poisson_of 48 c s l k
+pub base_line_at_pair : (c : CaseRows) (s : List ℕ) (l k : ℕ) → IsLine c l → 0 < k → poisson_base_line 48 c s l k ≡ poisson_of 48 c s l k
 base_line_at_pair c s l zero line h = absurd (omega arith)
 base_line_at_pair c s l (suc j) line h = ap (λ o. poisson_by c s o l (suc j)) (sym (no_line_there c.parts l line.no_parent))
 

@@ -21,7 +21,7 @@ use Rattle.case_figures.specs.Figures.{all_items, item_at_place, named}
 use Rattle.case_figures.specs.declared.figures.ItemLine.{ItemLine}
 use Rattle.case_figures.proofs.Public.{item_pair, pair_within, all_of, each_map, each_that_passes, few_that_pass, total_at_in, sum_most, evaluated_as, figures_fit}
 use Rattle.metric_compare.specs.declared.report.CompareItem.{CompareItem}
-use Rattle.metric_compare.specs.Profile.{poisson_family_total_of, poisson_of, poisson_total_of, weighed}
+use Rattle.metric_compare.specs.Profile.{poisson_family_total_of, poisson_of, poisson_total_of, poisson_weighed}
 use Rattle.metric_compare.specs.Report.{comparison_of, compared, compared_at}
 use Rattle.metric_compare.specs.Shows.{ShowsComparison, ShowsCompared, no_compared}
 use Rattle.metric_compare.specs.Fits.{ComparedFits, FitsComparison}
@@ -74,11 +74,11 @@ module _ (c : CaseRows) (s : StockList) (can : CanEvaluate 48 c s) where
       let sound = evaluable 48 c s can in
       let line : IsLine c l = record { is_part = lp; no_parent = e } in
       let few = weight_most c l can.valid line in
-      let sum = sum_most (ends_exact 48 0) (25600 * 2 ^ 48) (map (weighed 48 c s.list l) (bases c))
-      (each_map (λ (x : Ends). x.hi ≤ 25600 * 2 ^ 48) (weighed 48 c s.list l) (bases c)
-      (each_in_range (λ j. (weighed 48 c s.list l j).hi ≤ 25600 * 2 ^ 48) (length c.sites - 1) 1
+      let sum = sum_most (ends_exact 48 0) (25600 * 2 ^ 48) (map (poisson_weighed 48 c s.list l) (bases c))
+      (each_map (λ (x : Ends). x.hi ≤ 25600 * 2 ^ 48) (poisson_weighed 48 c s.list l) (bases c)
+      (each_in_range (λ j. (poisson_weighed 48 c s.list l j).hi ≤ 25600 * 2 ^ 48) (length c.sites - 1) 1
       (λ j a b. times_small (poisson_of 48 c s.list l j) (weight c l) (pair_small c s.list sound l j lp (omega (arith, b))) few))) in
-      let count = length-map (bases c) (weighed 48 c s.list l) ∙ length-range_with_len 1 (length c.sites - 1) in
+      let count = length-map (bases c) (poisson_weighed 48 c s.list l) ∙ length-range_with_len 1 (length c.sites - 1) in
       omega (arith, sum, count, can.valid.frame.most_sites)
 
   total_most : (poisson_total_of 48 c s.list).hi ≤ 768000000 * 2 ^ 48

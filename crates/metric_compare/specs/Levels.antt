@@ -5,12 +5,13 @@ use Rattle.spares_input.specs.Cases.{CaseRows}
 use Rattle.spares_input.specs.Frames.{line_of}
 use Rattle.fleet_model.specs.Rows.{all_parts, all_sites}
 use Rattle.fleet_model.specs.Pairs.{by_pair}
-use Rattle.metric_compare.specs.Profile.{base_shop, depot_shop, poisson_of}
+use Rattle.metric_compare.specs.Profile.{poisson_base_shop, poisson_depot_shop, poisson_of}
 
 -- the backorders of part p at site k if it is a shop unit, and 0 if it is a line unit
 abbrev pub of_shop : CaseRows → List ℕ → ℕ → ℕ → Ends
 of_shop c s p k =
-    by_pair (λ l i. depot_shop 48 c s i) (λ l. ends_exact 48 0) (λ l i j. base_shop 48 c s i j) (λ l j. ends_exact 48 0)
+    by_pair (λ l i. poisson_depot_shop 48 c s i) (λ l. ends_exact 48 0) (λ l i j. poisson_base_shop 48 c s i j)
+    (λ l j. ends_exact 48 0)
     (line_of c.parts p) p k
 
 -- a number for each site

@@ -7,7 +7,7 @@ use Rattle.spares_input.specs.Cases.{CaseRows, frame_rows, pair_count}
 use Rattle.spares_input.specs.Stocks.{StockList}
 use Rattle.fleet_model.specs.Rows.{stock}
 use Rattle.family_items.specs.Profile.{item_of}
-use Rattle.case_figures.specs.Figures.{total_of}
+use Rattle.case_figures.specs.Figures.{case_total_of}
 use Rattle.metric_compare.specs.Profile.{poisson_of, poisson_total_of}
 use Rattle.metric_compare.specs.declared.report.CompareItem.{CompareItem}
 use Rattle.metric_compare.specs.declared.report.CompareReport.{CompareReport}
@@ -30,6 +30,6 @@ compared_at c s i = compared c s (part_of_place (length c.sites) i).0 (site_of_p
 abbrev pub comparison_of : CaseRows → StockList → CompareReport
 comparison_of c s = record {
   items = map (compared_at c s.list) (range_with_len 0 (pair_count (frame_rows c)));
-  total = total_of 48 c s.list;
+  total = case_total_of 48 c s.list;
   poisson_total = poisson_total_of 48 c s.list;
 }

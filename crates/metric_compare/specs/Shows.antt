@@ -9,7 +9,7 @@ use Rattle.spares_input.specs.Stocks.{StockList}
 use Rattle.fleet_model.specs.Rows.{stock}
 use Rattle.fleet_model.specs.Pairs.{backorders}
 use Rattle.fleet_model.specs.Poisson.{poisson, poisson_total}
-use Rattle.fleet_model.specs.Fleet.{total}
+use Rattle.fleet_model.specs.Fleet.{case_total}
 use Rattle.metric_compare.specs.declared.report.CompareItem.{CompareItem}
 use Rattle.metric_compare.specs.declared.report.CompareReport.{CompareReport}
 
@@ -30,5 +30,5 @@ pub record ShowsComparison (c : CaseRows) (s : StockList) (report : CompareRepor
   pub item_count : length report.items ≡ pair_count (frame_rows c)
   pub items_in : (p k : ℕ) → p < length c.parts → k < length c.sites
       → ShowsCompared c s.list p k (get_or report.items (pair_place (length c.sites) p k) no_compared)
-  pub total_in : Encloses 48 report.total.lo report.total.hi (total c s.list)
+  pub total_in : Encloses 48 report.total.lo report.total.hi (case_total c s.list)
   pub poisson_total_in : Encloses 48 report.poisson_total.lo report.poisson_total.hi (poisson_total c s.list)

@@ -12,12 +12,12 @@ abbrev pub columns_text : Ends → Ends → List ℕ
 columns_text model poisson = interval_text 48 model ++ (44 ∷ interval_text 48 poisson)
 
 -- the names and the stock of a pair
-abbrev pub pair_text : CompareItem → List ℕ
-pair_text item = item.part ++ (44 ∷ item.site ++ (44 ∷ decimal item.stock))
+abbrev pub compare_pair_text : CompareItem → List ℕ
+compare_pair_text item = item.part ++ (44 ∷ item.site ++ (44 ∷ decimal item.stock))
 
 -- the line of a pair
 abbrev pub compared_text : CompareItem → List ℕ
-compared_text item = line (codes "item") (pair_text item ++ (44 ∷ columns_text item.backorders item.poisson))
+compared_text item = line (codes "item") (compare_pair_text item ++ (44 ∷ columns_text item.backorders item.poisson))
 
 -- the line of the totals
 abbrev pub totals_text : CompareReport → List ℕ

@@ -3,12 +3,12 @@
 ghost use Rattle.std.specs.Prelude.{◌≡◌, ◌<◌, ◌≤◌, IfOk, length, map, All};
 ghost use Rattle.fixed_interval.specs.Ends.{IsWithinLimit};
 ghost use Rattle.depot_pipeline.specs.Exact.{IsSmallFeed};
-ghost use Rattle.base_pipeline.specs.Exact.{IsSmallHeld};
+ghost use Rattle.base_pipeline.specs.Exact.{IsSmallDelay};
 ghost use Rattle.fleet_model.specs.Rows.{shop_units};
 ghost use Rattle.fleet_model.specs.Laws.{IsBase};
 ghost use Rattle.family_items.specs.Inputs.{IsLine, IsShopUnit};
 ghost use Rattle.metric_compare.specs.Levels.{by_site, shop_numbers};
-ghost use Rattle.metric_compare.specs.Profile.{base_line, base_shop, depot_feed, depot_line, held, poisson_of};
+ghost use Rattle.metric_compare.specs.Profile.{poisson_base_line, poisson_base_shop, poisson_depot_feed, poisson_depot_line, delay, poisson_of};
 
 use crate::levels::{backorders_at, fed};
 use crate::shops::{at_base, at_depot};
@@ -16,7 +16,6 @@ use answers::NoMemory;
 use base_pipeline::{Held, base_line};
 use depot_pipeline::{Feed, depot_line};
 use family_items::inputs::Inputs;
-use family_items::shop_units;
 use fixed_interval::Iv;
 use spares_input::{PartId, SiteId};
 use std::alloc::Global;
@@ -31,7 +30,7 @@ fn depot_feeds(
     requires units { All (λ p. IsShopUnit inputs.now.case p.0) units.now }
     requires shops { shops.now ≡ shop_numbers inputs.now.case inputs.now.stocks.list }
     ensures feeds { IfOk result (λ v. v.items
-        ≡ map (λ p. depot_feed 48 inputs.now.case inputs.now.stocks.list p.0) units.now) }
+        ≡ map (λ p. poisson_depot_feed 48 inputs.now.case inputs.now.stocks.list p.0) units.now) }
     ensures small { IfOk result (λ v. All (IsSmallFeed 48) v.items) }
 {
     inputs.invariant();
@@ -44,7 +43,7 @@ fn depot_feeds(
 }
 
 /// The backorders of shop units that hold back their line unit at a base.
-fn held_at(
+fn delays_at(
     alloc: Global,
     inputs: &Inputs<'_>,
     base: SiteId,
@@ -54,9 +53,9 @@ fn held_at(
     requires base { IsBase inputs.now.case base.0 }
     requires units { All (λ p. IsShopUnit inputs.now.case p.0) units.now }
     requires shops { shops.now ≡ shop_numbers inputs.now.case inputs.now.stocks.list }
-    ensures held { IfOk result (λ v. v.items
-        ≡ map (λ p. held 48 (base_shop 48 inputs.now.case inputs.now.stocks.list p.0 base.0)) units.now) }
-    ensures small { IfOk result (λ v. All (IsSmallHeld 48) v.items) }
+    ensures delay { IfOk result (λ v. v.items
+        ≡ map (λ p. delay 48 (poisson_base_shop 48 inputs.now.case inputs.now.stocks.list p.0 base.0)) units.now) }
+    ensures small { IfOk result (λ v. All (IsSmallDelay 48) v.items) }
 {
     let mut all = Vec::new(alloc);
     for unit in units {
@@ -80,8 +79,8 @@ fn depot_line_at(
     requires few { length feeds.now ≤ 8 }
     requires small { All (IsSmallFeed 48) feeds.now }
     requires feeds { feeds.now
-        ≡ map (depot_feed 48 inputs.now.case inputs.now.stocks.list) (shop_units inputs.now.case line.0) }
-    ensures ends { IfOk result (λ x. x ≡ depot_line 48 inputs.now.case inputs.now.stocks.list line.0) }
+        ≡ map (poisson_depot_feed 48 inputs.now.case inputs.now.stocks.list) (shop_units inputs.now.case line.0) }
+    ensures ends { IfOk result (λ x. x ≡ poisson_depot_line 48 inputs.now.case inputs.now.stocks.list line.0) }
     ensures small { IfOk result (IsWithinLimit 48) }
 {
     inputs.invariant();
@@ -98,23 +97,23 @@ fn base_line_at(
     line: PartId,
     site: SiteId,
     depot: Iv<48>,
-    held_back: &[Held<48>],
+    delays: &[Held<48>],
 ) -> Result<Iv<48>, NoMemory>
     requires line { line.0 < length inputs.now.case.parts }
     requires site { site.0 < length inputs.now.case.sites }
-    requires depot { depot ≡ depot_line 48 inputs.now.case inputs.now.stocks.list line.0 }
+    requires depot { depot ≡ poisson_depot_line 48 inputs.now.case inputs.now.stocks.list line.0 }
     requires small { IsWithinLimit 48 depot }
-    requires few { length held_back.now ≤ 8 }
-    requires most { All (IsSmallHeld 48) held_back.now }
-    requires held { held_back.now
-        ≡ map (λ i. held 48 (base_shop 48 inputs.now.case inputs.now.stocks.list i site.0))
+    requires few { length delays.now ≤ 8 }
+    requires most { All (IsSmallDelay 48) delays.now }
+    requires delay { delays.now
+        ≡ map (λ i. delay 48 (poisson_base_shop 48 inputs.now.case inputs.now.stocks.list i site.0))
         (shop_units inputs.now.case line.0) }
-    ensures ends { IfOk result (λ x. x ≡ base_line 48 inputs.now.case inputs.now.stocks.list line.0 site.0) }
+    ensures ends { IfOk result (λ x. x ≡ poisson_base_line 48 inputs.now.case inputs.now.stocks.list line.0 site.0) }
     ensures small { IfOk result (IsWithinLimit 48) }
 {
     let pipe = inputs.pipeline(line, site);
     let feed = fed(inputs.share(line, site), depot);
-    let base = base_line(pipe.direct, pipe.cap, feed, held_back);
+    let base = base_line(pipe.direct, pipe.cap, feed, delays);
     backorders_at(alloc, base.mean, base.mean, pipe.stock)
 }
 
@@ -129,7 +128,7 @@ fn line_at_depot(
     requires line { IsLine inputs.now.case line.0 }
     requires units { map (λ p. p.0) units.now ≡ shop_units inputs.now.case line.0 }
     requires shops { shops.now ≡ shop_numbers inputs.now.case inputs.now.stocks.list }
-    ensures ends { IfOk result (λ x. x ≡ depot_line 48 inputs.now.case inputs.now.stocks.list line.0) }
+    ensures ends { IfOk result (λ x. x ≡ poisson_depot_line 48 inputs.now.case inputs.now.stocks.list line.0) }
     ensures small { IfOk result (IsWithinLimit 48) }
 {
     inputs.invariant();
@@ -150,16 +149,16 @@ fn line_at_base(
 ) -> Result<Iv<48>, NoMemory>
     requires line { IsLine inputs.now.case line.0 }
     requires base { IsBase inputs.now.case base.0 }
-    requires depot { depot ≡ depot_line 48 inputs.now.case inputs.now.stocks.list line.0 }
+    requires depot { depot ≡ poisson_depot_line 48 inputs.now.case inputs.now.stocks.list line.0 }
     requires small { IsWithinLimit 48 depot }
     requires units { map (λ p. p.0) units.now ≡ shop_units inputs.now.case line.0 }
     requires shops { shops.now ≡ shop_numbers inputs.now.case inputs.now.stocks.list }
-    ensures ends { IfOk result (λ x. x ≡ base_line 48 inputs.now.case inputs.now.stocks.list line.0 base.0) }
+    ensures ends { IfOk result (λ x. x ≡ poisson_base_line 48 inputs.now.case inputs.now.stocks.list line.0 base.0) }
     ensures small { IfOk result (IsWithinLimit 48) }
 {
     inputs.invariant();
-    let held = held_at(alloc, inputs, base, units, shops)?;
-    base_line_at(alloc, inputs, line, base, depot, held.as_slice())
+    let delay = delays_at(alloc, inputs, base, units, shops)?;
+    base_line_at(alloc, inputs, line, base, depot, delay.as_slice())
 }
 
 /// The backorders of a line unit by site, from its shop units and the backorders of all shop units.
@@ -199,6 +198,5 @@ pub(crate) fn line_row(
     ensures { IfOk result (λ v. v.items
         ≡ by_site inputs.now.case (poisson_of 48 inputs.now.case inputs.now.stocks.list line.0)) }
 {
-    let units = shop_units(alloc, inputs.case(), line)?;
-    row_with(alloc, inputs, line, units.as_slice(), shops)
+    row_with(alloc, inputs, line, inputs.shop_units(line), shops)
 }

@@ -4,7 +4,7 @@ ghost use Rattle.std.specs.Prelude.{◌≡◌, ◌++◌, All, IfOk, OnOk};
 ghost use Rattle.std.specs.List.{flat_map};
 ghost use Rattle.plan_report.specs.Fits.{IntervalFits};
 ghost use Rattle.metric_compare.specs.Fits.{ComparedFits, FitsComparison};
-ghost use Rattle.metric_compare.specs.Texts.{columns_text, compare_text, compared_text, pair_text, totals_text};
+ghost use Rattle.metric_compare.specs.Texts.{columns_text, compare_text, compared_text, compare_pair_text, totals_text};
 
 use answers::{List, NoMemory};
 use fixed_interval::Iv;
@@ -62,7 +62,7 @@ fn put_columns(text: &mut Vec<u8>, model: &Iv<48>, poisson: &Iv<48>) -> Result<(
 
 /// Appends the names and the stock of a pair.
 fn put_pair(text: &mut Vec<u8>, item: &CompareItem) -> Result<(), NoMemory>
-    ensures { OnOk result (text.new.items ≡ text.old.items ++ pair_text item.now) }
+    ensures { OnOk result (text.new.items ≡ text.old.items ++ compare_pair_text item.now) }
 {
     text.extend_from_slice(item.part.as_bytes())?;
     text.push(b',')?;

@@ -5,7 +5,7 @@ ghost use Rattle.fixed_interval.specs.Ends.{IsWithinLimit};
 ghost use Rattle.fleet_model.specs.Laws.{IsBase};
 ghost use Rattle.family_items.specs.Inputs.{IsLine, IsShopUnit};
 ghost use Rattle.metric_compare.specs.Levels.{by_site, of_shop, shop_numbers};
-ghost use Rattle.metric_compare.specs.Profile.{base_shop, depot_shop, poisson_of};
+ghost use Rattle.metric_compare.specs.Profile.{poisson_base_shop, poisson_depot_shop, poisson_of};
 
 use crate::levels::{backorders_at, fed};
 use answers::NoMemory;
@@ -19,7 +19,7 @@ use std::alloc::Global;
 /// The backorders of a shop unit at the depot. As at every level, the variance is the mean.
 fn depot_shop_at(alloc: Global, inputs: &Inputs<'_>, part: PartId) -> Result<Iv<48>, NoMemory>
     requires part { part.0 < length inputs.now.case.parts }
-    ensures ends { IfOk result (λ x. x ≡ depot_shop 48 inputs.now.case inputs.now.stocks.list part.0) }
+    ensures ends { IfOk result (λ x. x ≡ poisson_depot_shop 48 inputs.now.case inputs.now.stocks.list part.0) }
     ensures small { IfOk result (IsWithinLimit 48) }
 {
     inputs.invariant();
@@ -38,9 +38,9 @@ fn base_shop_at(
 ) -> Result<Iv<48>, NoMemory>
     requires part { part.0 < length inputs.now.case.parts }
     requires site { site.0 < length inputs.now.case.sites }
-    requires depot { depot ≡ depot_shop 48 inputs.now.case inputs.now.stocks.list part.0 }
+    requires depot { depot ≡ poisson_depot_shop 48 inputs.now.case inputs.now.stocks.list part.0 }
     requires small { IsWithinLimit 48 depot }
-    ensures ends { IfOk result (λ x. x ≡ base_shop 48 inputs.now.case inputs.now.stocks.list part.0 site.0) }
+    ensures ends { IfOk result (λ x. x ≡ poisson_base_shop 48 inputs.now.case inputs.now.stocks.list part.0 site.0) }
     ensures small { IfOk result (IsWithinLimit 48) }
 {
     let pipe = inputs.pipeline(part, site);
@@ -110,7 +110,7 @@ fn number_at(inputs: &Inputs<'_>, shops: &[Iv<48>], part: PartId, site: SiteId) 
 pub(crate) fn at_depot(inputs: &Inputs<'_>, shops: &[Iv<48>], unit: PartId) -> Iv<48>
     requires unit { IsShopUnit inputs.now.case unit.0 }
     requires shops { shops.now ≡ shop_numbers inputs.now.case inputs.now.stocks.list }
-    ensures ends { result ≡ depot_shop 48 inputs.now.case inputs.now.stocks.list unit.0 }
+    ensures ends { result ≡ poisson_depot_shop 48 inputs.now.case inputs.now.stocks.list unit.0 }
     ensures small { IsWithinLimit 48 result }
 {
     inputs.invariant();
@@ -122,7 +122,7 @@ pub(crate) fn at_base(inputs: &Inputs<'_>, shops: &[Iv<48>], unit: PartId, base:
     requires unit { IsShopUnit inputs.now.case unit.0 }
     requires base { IsBase inputs.now.case base.0 }
     requires shops { shops.now ≡ shop_numbers inputs.now.case inputs.now.stocks.list }
-    ensures ends { result ≡ base_shop 48 inputs.now.case inputs.now.stocks.list unit.0 base.0 }
+    ensures ends { result ≡ poisson_base_shop 48 inputs.now.case inputs.now.stocks.list unit.0 base.0 }
     ensures small { IsWithinLimit 48 result }
 {
     number_at(inputs, shops, unit, base)

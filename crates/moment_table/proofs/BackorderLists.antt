@@ -5,9 +5,9 @@ use Rattle.fixed_interval.specs.Ends.{Ends, In}
 use Rattle.series_bounds.specs.Profile.{listed}
 use Rattle.series_bounds.specs.Answer.{at_place}
 use Rattle.series_bounds.proofs.Public.{listed_at, length_listed}
-use Rattle.moment_table.specs.declared.held.Held.{Held}
+use Rattle.moment_table.specs.declared.stored.StoredRow.{StoredRow}
 use Rattle.moment_table.specs.declared.kinds.Row.{Row}
-use Rattle.moment_table.specs.Held.{AreHeldTo}
+use Rattle.moment_table.specs.Stored.{AreStoredTo}
 use Rattle.moment_table.specs.Inputs.{CanTable}
 use Rattle.moment_table.specs.Profile.{ebo_ends, known_row}
 use Rattle.moment_table.specs.Rows.{AreBackorders, EncloseBackorders}
@@ -18,10 +18,10 @@ entry f g list n s e l = ap (λ z. at_place z s) e ∙ listed_at (λ s. (g s).eb
 
 -- the backorders of the first rows of a table are those at the stocks 0 to limit
 pub are_backorders : (f : ℕ) (m v : Ends) (g : ℕ → Row f) (list : List Ends) (n limit : ℕ) → n ≡ limit + 1 → list ≡ listed (λ s. (g s).ebo) n
-    → AreHeldTo f m v limit g → AreBackorders f m v limit list
+    → AreStoredTo f m v limit g → AreBackorders f m v limit list
 are_backorders f m v g list n limit en e h = record {
   count = ap length e ∙ length_listed (λ s. (g s).ebo) n ∙ en;
-  ends = λ s i. entry f g list n s e (omega (arith, i, en)) ∙ ap (λ (r : Held f). r.ebo) (h s i);
+  ends = λ s i. entry f g list n s e (omega (arith, i, en)) ∙ ap (λ (r : StoredRow f). r.ebo) (h s i);
 }
 
 -- backorders from known weights are those of the rows

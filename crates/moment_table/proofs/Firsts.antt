@@ -6,7 +6,7 @@ use Rattle.series_bounds.specs.Profile.{pivot_at}
 use Rattle.series_bounds.specs.Answer.{IsBeginning, Sized, at_place}
 use Rattle.series_bounds.proofs.Public.{sum_known, weight_listed}
 use Rattle.moment_table.specs.declared.kinds.Row.{Row}
-use Rattle.moment_table.specs.Held.{AreHeldTo, AreRowsTo, held_row}
+use Rattle.moment_table.specs.Stored.{AreStoredTo, AreRowsTo, stored_row}
 use Rattle.moment_table.specs.Profile.{below_ends, chance_ends, ebo_ends, excess_ends, known_row, table_rows, tail_ends, vbo_ends}
 use Rattle.moment_table.specs.Rows.{at_stock}
 use Rattle.moment_table.specs.Running.{AreFirst, all_weights}
@@ -40,9 +40,9 @@ module _ (f : ℕ) (m v : Ends) (a b : List Ends) (sum : Ends) where
       ap₂ ends_less (vbo_same s (λ x l. h x (omega (arith, l))))
       (ap₂ (λ (y t : Ends). ends_mul f (ends_add (ends_times y 2) t) (ends_less (ends_exact f 1) t)) (ebo_same (suc s) h) (tail_same s h))
 
-  held_same : (s : ℕ) → Agree s → held_row (known_row f m v a sum s) ≡ held_row (known_row f m v b sum s)
+  stored_same : (s : ℕ) → Agree s → stored_row (known_row f m v a sum s) ≡ stored_row (known_row f m v b sum s)
   unfolding known_row
-  held_same s h = rw (ebo_same s h, vbo_same s h) refl
+  stored_same s h = rw (ebo_same s h, vbo_same s h) refl
 
   row_same : (s : ℕ) → Agree (suc s) → known_row f m v a sum s ≡ known_row f m v b sum s
   unfolding known_row
@@ -69,9 +69,9 @@ module _ (f : ℕ) (m v : Ends) (n : ℕ) (list : List Ends) (sum : Ends) (h : I
   first_rows s l = row_same f m v list all sum s (λ x i. agree x (omega (arith, i, l))) ∙ all_rows s (omega (arith, l))
 
   -- the next one too, but for its tail
-  pub first_held : AreHeldTo f m v n (known_row f m v list sum)
-  first_held s l =
-      held_same f m v list all sum s (λ x i. agree x (omega (arith, i, l))) ∙ ap (λ (z : Row f). held_row z) (all_rows s l)
+  pub first_stored : AreStoredTo f m v n (known_row f m v list sum)
+  first_stored s l =
+      stored_same f m v list all sum s (λ x i. agree x (omega (arith, i, l))) ∙ ap (λ (z : Row f). stored_row z) (all_rows s l)
 
 -- the weights of a beginning are at most 8
 pub first_weights : (f : ℕ) (m d : Ends) (n : ℕ) (list : List Ends) (sum : Ends) → IsBeginning f m d n list sum → AreFirst f n list

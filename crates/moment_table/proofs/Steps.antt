@@ -5,11 +5,11 @@ use Rattle.fixed_interval.specs.Ends.{Ends, ends_exact, ends_add, ends_capped, e
 use Rattle.fixed_interval.proofs.Public.{ceil_most}
 use Rattle.series_bounds.specs.Profile.{listed}
 use Rattle.series_bounds.specs.Answer.{at_place}
-use Rattle.moment_table.specs.declared.held.Held.{Held}
+use Rattle.moment_table.specs.declared.stored.StoredRow.{StoredRow}
 use Rattle.moment_table.specs.declared.kinds.Row.{Row}
 use Rattle.moment_table.specs.declared.running.Falling.{Falling}
 use Rattle.moment_table.specs.declared.running.Running.{Running}
-use Rattle.moment_table.specs.Held.{held_row}
+use Rattle.moment_table.specs.Stored.{stored_row}
 use Rattle.moment_table.specs.Running.{AreFirst, AreSmall, IsFalling, IsRunning}
 use Rattle.moment_table.specs.Profile.{chance_ends, below_ends, tail_ends, ebo_ends, vbo_ends, known_row, wide_row, empty_row}
 
@@ -103,21 +103,21 @@ falling_next f m list sum s falling h e p below tail expected he hp hb ht hx =
       shares = h.shares;
     }
 
--- what runs along is what is held of the row from known weights
-pub held_known : (f : ℕ) (m v : Ends) (list : List Ends) (sum : Ends) (s : ℕ) (running : Running f) → IsRunning f m v list sum s running
-    → (ebo : Ends) → ebo ≡ running.falling.expected → record { ebo = ebo; vbo = running.spread } ≡ held_row (known_row f m v list sum s)
+-- what runs along is what is stored of the row from known weights
+pub stored_known : (f : ℕ) (m v : Ends) (list : List Ends) (sum : Ends) (s : ℕ) (running : Running f) → IsRunning f m v list sum s running
+    → (ebo : Ends) → ebo ≡ running.falling.expected → record { ebo = ebo; vbo = running.spread } ≡ stored_row (known_row f m v list sum s)
 unfolding known_row
-held_known f m v list sum s running h ebo he = rw (he, h.falling.expected, h.spread) refl
+stored_known f m v list sum s running h ebo he = rw (he, h.falling.expected, h.spread) refl
 
 -- the tail is that of the row from known weights
 pub tail_known : (f : ℕ) (m v : Ends) (list : List Ends) (sum tail : Ends) (s : ℕ) → tail ≡ tail_ends f list sum s → tail ≡ (known_row f m v list sum s).tail
 unfolding known_row
 tail_known f m v list sum tail s h = h
 
--- a row by what is held of it, and its tail
-pub row_known : (f : ℕ) (row : Row f) (held : Held f) (ebo vbo tail : Ends) → held ≡ held_row row → ebo ≡ held.ebo → vbo ≡ held.vbo → tail ≡ row.tail
+-- a row by what is stored of it, and its tail
+pub row_known : (f : ℕ) (row : Row f) (stored : StoredRow f) (ebo vbo tail : Ends) → stored ≡ stored_row row → ebo ≡ stored.ebo → vbo ≡ stored.vbo → tail ≡ row.tail
     → record { ebo = ebo; vbo = vbo; tail = tail } ≡ row
-row_known f row held ebo vbo tail h he hv ht = rw (he, hv, ht, h) refl
+row_known f row stored ebo vbo tail h he hv ht = rw (he, hv, ht, h) refl
 
 -- what runs along does so for the sum whose shares it takes
 pub own_sum : (f : ℕ) (m v : Ends) (list : List Ends) (sum : Ends) (s : ℕ) (running : Running f) → IsRunning f m v list sum s running

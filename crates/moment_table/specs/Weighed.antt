@@ -2,7 +2,7 @@
 use Rattle.std.specs.Prelude.{ℕ, ◌^◌, ◌≤◌}
 use Rattle.fixed_interval.specs.Ends.{Ends}
 use Rattle.moment_table.specs.declared.weighed.Weighed.{Weighed}
-use Rattle.moment_table.specs.Held.{AreRowsTo}
+use Rattle.moment_table.specs.Stored.{AreRowsTo}
 use Rattle.moment_table.specs.Profile.{known_row}
 use Rattle.moment_table.specs.Running.{AreFirst}
 

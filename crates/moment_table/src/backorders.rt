@@ -4,7 +4,7 @@ ghost use Rattle.std.specs.Prelude.{◌≡◌, ◌+◌, ◌*◌, ◌^◌, ◌<�
 ghost use Rattle.series_bounds.specs.Profile.{listed};
 ghost use Rattle.fixed_interval.specs.Ends.{IsWithinLimit};
 ghost use Rattle.moment_table.specs.Inputs.{CanTable};
-ghost use Rattle.moment_table.specs.Held.{bare_row};
+ghost use Rattle.moment_table.specs.Stored.{bare_row};
 ghost use Rattle.moment_table.specs.Profile.{ebo_ends};
 ghost use Rattle.moment_table.specs.Running.{AreFirst};
 ghost use Rattle.moment_table.specs.Rows.{AreBackorders, EncloseBackorders};

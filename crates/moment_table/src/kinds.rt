@@ -1,12 +1,12 @@
 //! A table and its rows.
 
 ghost use Rattle.std.specs.Prelude.{◌≡◌, ◌≤◌, length};
-ghost use Rattle.moment_table.specs.Held.{IsHeld};
+ghost use Rattle.moment_table.specs.Stored.{IsStored};
 ghost use Rattle.moment_table.specs.Profile.{table_rows};
 ghost use Rattle.moment_table.specs.Rows.{at_stock};
 
-use crate::held::Rows;
 use crate::plain::plain_row;
+use crate::stored::Rows;
 use fixed_interval::Iv;
 use series_bounds::short::Iv64;
 use std::marker::Model;
@@ -35,24 +35,24 @@ pub struct Table<const F: u32> {
 
 impl<const F: u32> Model for Table<F> {
     ghost use Rattle.std.specs.Prelude.{length};
-    ghost use Rattle.moment_table.specs.Held.{IsHeld};
+    ghost use Rattle.moment_table.specs.Stored.{IsStored};
     ghost use Rattle.moment_table.specs.Profile.{table_rows};
     ghost use Rattle.moment_table.specs.Rows.{TableRows};
 
     ghost Value = { TableRows F };
 
-    ghost view = { λ t. record { rows = table_rows F t.mean t.variance; stored = length t.rows.held.items } };
+    ghost view = { λ t. record { rows = table_rows F t.mean t.variance; stored = length t.rows.stored.items } };
 
     // the stored rows are the first of the table
-    ghost invariant = { λ t. IsHeld F t.mean t.variance t.rows };
+    ghost invariant = { λ t. IsStored F t.mean t.variance t.rows };
 }
 
 impl<const F: u32> Table<F> {
     /// The table of this mean and variance, with these rows stored.
     pub(crate) fn of(mean: Iv<F>, variance: Iv<F>, rows: Rows<F>) -> Self
-        requires { IsHeld F mean variance rows }
+        requires { IsStored F mean variance rows }
         ensures rows { result.rows ≡ table_rows F mean.entry variance.entry }
-        ensures stored { result.stored ≡ length rows.entry.held.items }
+        ensures stored { result.stored ≡ length rows.entry.stored.items }
     {
         Table {
             mean: Iv64::of(mean),
@@ -74,8 +74,8 @@ impl<const F: u32> Table<F> {
         requires { s ≤ 63 }
         ensures { result ≡ (at_stock self.now.rows s).ebo }
     {
-        if usize::from(s) < self.rows.held.len() {
-            self.rows.held[usize::from(s)].ebo.open()
+        if usize::from(s) < self.rows.stored.len() {
+            self.rows.stored[usize::from(s)].ebo.open()
         } else {
             self.row(s).ebo
         }
@@ -86,8 +86,8 @@ impl<const F: u32> Table<F> {
         requires { s ≤ 63 }
         ensures { result ≡ (at_stock self.now.rows s).vbo }
     {
-        if usize::from(s) < self.rows.held.len() {
-            self.rows.held[usize::from(s)].vbo.open()
+        if usize::from(s) < self.rows.stored.len() {
+            self.rows.stored[usize::from(s)].vbo.open()
         } else {
             self.row(s).vbo
         }

@@ -21,12 +21,12 @@ use fixed_interval::Iv;
 use std::alloc::Global;
 
 mod backorders;
-mod held;
 pub mod kinds;
 mod plain;
 mod rows;
 mod running;
 mod shares;
+mod stored;
 mod weighed;
 
 pub use backorders::put_backorders;

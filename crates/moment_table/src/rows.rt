@@ -2,15 +2,15 @@
 
 ghost use Rattle.std.specs.Prelude.{◌≡◌, ◌+◌, ◌^◌, ◌≤◌, IfOk};
 ghost use Rattle.fixed_interval.specs.Ends.{InScale, IsWithinLimit};
-ghost use Rattle.moment_table.specs.Held.{HasRows, bare_row};
+ghost use Rattle.moment_table.specs.Stored.{HasRows, bare_row};
 ghost use Rattle.moment_table.specs.Inputs.{CanTable};
 ghost use Rattle.moment_table.specs.Profile.{known_row, wide_row, empty_row, table_rows};
 ghost use Rattle.moment_table.specs.Rows.{at_stock};
 ghost use Rattle.moment_table.specs.Running.{AreFirst};
 
-use crate::held::{Held, Rows};
 use crate::kinds::Row;
 use crate::running::Running;
+use crate::stored::{Rows, StoredRow};
 use crate::weighed::weigh_to;
 use answers::NoMemory;
 use fixed_interval::Iv;
@@ -97,11 +97,11 @@ fn known_to<const F: u32>(
     let mut running = Running::first(mean, variance, sum);
     let mut rows = Rows::with_room(alloc, last + 1, tails)?;
     for s in 0..last {
-        let held = running.held();
+        let stored = running.stored();
         let tail = running.step(list[s as usize], s);
-        rows.push(held, tail, s, tails)?;
+        rows.push(stored, tail, s, tails)?;
     }
-    rows.push_held(running.held())?;
+    rows.push_stored(running.stored())?;
     Ok(rows)
 }
 
@@ -121,7 +121,7 @@ fn bare_to<const F: u32>(
     for s in 0..stocks {
         let row = bare_row(mean, variance, s);
         let tail = Iv64::of(row.tail);
-        rows.push(Held::of(row), tail, s, tails)?;
+        rows.push(StoredRow::of(row), tail, s, tails)?;
     }
     Ok(rows)
 }

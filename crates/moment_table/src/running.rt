@@ -3,13 +3,13 @@
 ghost use Rattle.std.specs.Prelude.{◌≡◌, ℕ, ◌+◌, ◌*◌, ◌^◌, ◌<◌, ◌≤◌, List};
 ghost use Rattle.fixed_interval.specs.Ends.{Ends, IsWithinLimit};
 ghost use Rattle.series_bounds.specs.Answer.{at_place};
-ghost use Rattle.moment_table.specs.Held.{held_row};
+ghost use Rattle.moment_table.specs.Stored.{stored_row};
 ghost use Rattle.moment_table.specs.Profile.{known_row, tail_ends};
 ghost use Rattle.moment_table.specs.Running.{AreSmall, IsFalling, IsRunning};
 
-use crate::held::Held;
 use crate::kinds::Row;
 use crate::shares::Shares;
+use crate::stored::StoredRow;
 use fixed_interval::Iv;
 use series_bounds::short::Iv64;
 
@@ -94,11 +94,11 @@ impl<const F: u32> Running<F> {
 
     /// The stored row at the stock, which doesn't depend on its weight.
     #[inline(always)]
-    pub(crate) fn held(&self) -> Held<F>
+    pub(crate) fn stored(&self) -> StoredRow<F>
         ensures { (m v sum : Ends) (list : List Ends) (s : ℕ) → IsRunning F m v list sum s self.now
-            → result ≡ held_row (known_row F m v list sum s) }
+            → result ≡ stored_row (known_row F m v list sum s) }
     {
-        Held {
+        StoredRow {
             ebo: self.falling.expected(),
             vbo: self.spread,
         }
@@ -131,11 +131,11 @@ impl<const F: u32> Running<F> {
         ensures { (m v sum : Ends) (list : List Ends) → weight.entry ≡ at_place list s
             → IsRunning F m v list sum s self.old → result ≡ known_row F m v list sum s }
     {
-        let held = self.held();
+        let stored = self.stored();
         let tail = self.step(weight, s);
         Row {
-            ebo: held.ebo.open(),
-            vbo: held.vbo.open(),
+            ebo: stored.ebo.open(),
+            vbo: stored.vbo.open(),
             tail: tail.open(),
         }
     }

@@ -2,7 +2,7 @@
 
 ghost use Rattle.std.specs.Prelude.{◌≡◌, ◌*◌, ◌^◌, ◌<◌, ◌≤◌, IfOk, IfSome, IfNone};
 ghost use Rattle.fixed_interval.specs.Ends.{IsWithinLimit};
-ghost use Rattle.moment_table.specs.Held.{AreHeldTo, AreRowsTo, bare_row};
+ghost use Rattle.moment_table.specs.Stored.{AreStoredTo, AreRowsTo, bare_row};
 ghost use Rattle.moment_table.specs.Inputs.{CanTable};
 ghost use Rattle.moment_table.specs.Profile.{known_row, excess_ends};
 ghost use Rattle.moment_table.specs.Running.{AreFirst};
@@ -78,7 +78,7 @@ pub(crate) fn weigh_to<const F: u32>(
         (AreRowsTo F mean.entry variance.entry 64 (bare_row F mean.entry variance.entry))) }
     ensures rows { IfOk result (λ found. IfSome found (λ sum. AreRowsTo F mean.entry variance.entry wanted
         (known_row F mean.entry variance.entry list.new.items sum))) }
-    ensures held { IfOk result (λ found. IfSome found (λ sum. AreHeldTo F mean.entry variance.entry wanted
+    ensures stored { IfOk result (λ found. IfSome found (λ sum. AreStoredTo F mean.entry variance.entry wanted
         (known_row F mean.entry variance.entry list.new.items sum))) }
     ensures first { IfOk result (λ found. IfSome found (λ sum. AreFirst F wanted list.new.items)) }
     ensures least { IfOk result (λ found. IfSome found (λ sum. 2 ^ F ≤ sum.lo)) }

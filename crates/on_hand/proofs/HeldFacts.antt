@@ -1,14 +1,12 @@
 -- A held case: its families, their bounds, and the points of which a plan is made.
-use Rattle.std.proofs.Common.{◌≡◌, ℕ, zero, suc, ◌≤◌, ◌<◌, List, [], ◌∷◌, length, map, get_or, refl, sym, ap, ◌∙◌, subst, arith}
-use Rattle.std.proofs.lemmas.List.{get_or-map, length-map}
+use Rattle.std.proofs.Common.{◌≡◌, ℕ, zero, suc, ◌<◌, List, [], ◌∷◌, length, map, get_or, refl, sym, subst, arith}
+use Rattle.std.proofs.lemmas.List.{length-map}
 use Rattle.hull.specs.declared.point.Point.{Point}
 use Rattle.hull.specs.declared.price.Price.{Price}
 use Rattle.hull.specs.Scores.{LeavesRoom}
-use Rattle.spares_input.specs.declared.rows.PartId.{PartId}
-use Rattle.spares_input.specs.Cases.{CaseRows, IsCase}
+use Rattle.spares_input.specs.Cases.{CaseRows}
 use Rattle.fleet_model.specs.Rows.{line_units}
-use Rattle.fleet_model.proofs.Public.{few_lines, stocks_allocation}
-use Rattle.family_items.specs.Inputs.{IsLine}
+use Rattle.fleet_model.proofs.Public.{stocks_allocation}
 use Rattle.family_points.specs.declared.bounds.Bounds.{Bounds}
 use Rattle.family_points.specs.Vectors.{box_from}
 use Rattle.family_points.specs.Points.{ScoreEnds, points_within}
@@ -16,24 +14,8 @@ use Rattle.step_walk.specs.Prefix.{curve_at}
 use Rattle.curve_parts.specs.Beyond.{IsKnownPart}
 use Rattle.choice_parts.specs.Parts.{AreFamilies}
 use Rattle.fleet_plan.specs.Families.{case_points, family_points}
-use Rattle.fleet_plan.proofs.Public.{at_among, lines_are}
 use Rattle.case_plan.proofs.Public.{points_are_families}
 use Rattle.on_hand.specs.Held.{HeldCase, IsHeldCase}
-
--- the ids of the line units are at most 2,000
-pub few_ids : (c : CaseRows) (ids : List PartId) → IsCase c → map (λ (p : PartId). p.0) ids ≡ line_units c → length ids ≤ 2000
-few_ids c ids valid e = omega (arith, length-map ids (λ (p : PartId). p.0), ap length e, few_lines c valid)
-
--- the line unit of an id that is read at a place
-pub id_at : (c : CaseRows) (ids : List PartId) (f : ℕ) (x : PartId) → map (λ (p : PartId). p.0) ids ≡ line_units c → x ≡ get_or ids f x
-    → f < length (line_units c) → x.0 ≡ get_or (line_units c) f 0
-id_at c ids f x e is h =
-    ap (λ (p : PartId). p.0) is ∙ sym (get_or-map (λ (p : PartId). p.0) ids f x 0 (omega (arith, length-map ids (λ (p : PartId). p.0), ap length e, h)))
-    ∙ ap (λ (l : List ℕ). get_or l f 0) e
-
--- each place of the line units has a line unit
-pub line_at : (c : CaseRows) (f : ℕ) → IsCase c → f < length (line_units c) → IsLine c (get_or (line_units c) f 0)
-line_at c f valid h = lines_are c valid (get_or (line_units c) f 0) (at_among (line_units c) f h)
 
 points_in : (ends : ScoreEnds) (c : CaseRows) (held ls : List ℕ) (f : ℕ) → f < length ls
     → curve_at (map (family_points ends c held) ls) f ≡ family_points ends c held (get_or ls f 0)
@@ -58,4 +40,4 @@ part_held ends c held f l b low high part beyond h is e p =
 pub held_families : (ends : ScoreEnds) (x : HeldCase) → IsHeldCase x → LeavesRoom ends → AreFamilies (case_points ends x.case x.held.list)
 held_families ends x h room =
     points_are_families ends x.case x.held.list (record { valid = h.valid; no_fault = h.rates.no_fault }) room
-    (record { allocation = stocks_allocation x.case x.held h.held h.limits; keeps = λ p k _ _. omega arith })
+    (record { allocation = stocks_allocation x.case x.held h.held.is_for h.held.limits; keeps = λ p k _ _. omega arith })

@@ -1,7 +1,7 @@
 -- A case with the stocks held.
 use Rattle.std.specs.Result.{IsOk}
 use Rattle.spares_input.specs.Cases.{CaseRows, IsCase}
-use Rattle.spares_input.specs.Stocks.{StockList, IsFor, IsWithinLimits}
+use Rattle.spares_input.specs.Stocks.{AreStocksOf, StockList}
 use Rattle.demand_rates.specs.RateLists.{RateList}
 use Rattle.demand_rates.specs.Rates.{AreRatesOf}
 use Rattle.held_work.specs.Work.{held_work_of}
@@ -17,6 +17,5 @@ pub record HeldCase : Type 0 where
 pub record IsHeldCase (x : HeldCase) : Type 0 where
   pub valid : IsCase x.case
   pub rates : AreRatesOf x.case x.rates
-  pub held : IsFor x.case x.held
-  pub limits : IsWithinLimits x.case x.held
+  pub held : AreStocksOf x.case x.held
   pub work : IsOk (held_work_of x.case x.held.list)

@@ -4,7 +4,7 @@ ghost use Rattle.std.specs.Prelude.{IfOk};
 ghost use Rattle.std.specs.List.{AllZip};
 ghost use Rattle.std.specs.Result.{IsOk};
 ghost use Rattle.demand_rates.specs.Rates.{AreRatesOf};
-ghost use Rattle.spares_input.specs.Stocks.{IsFor, IsWithinLimits};
+ghost use Rattle.spares_input.specs.Stocks.{AreStocksOf};
 ghost use Rattle.fleet_model.specs.Rows.{line_units};
 ghost use Rattle.held_work.specs.Work.{held_work_of};
 ghost use Rattle.held_work.specs.Curves.{IsFamilyCurve};
@@ -43,12 +43,11 @@ pub fn held_curves<S: Score>(
     score: &S,
 ) -> Result<Vec<Curve>, NoMemory>
     requires rates { AreRatesOf case.now rates.now }
-    requires held { IsFor case.now held.now }
-    requires limits { IsWithinLimits case.now held.now }
+    requires held { AreStocksOf case.now held.now }
     requires work { IsOk (held_work_of case.now held.now.list) }
     ensures { IfOk result (λ curves. AllZip (IsFamilyCurve S.ends case.now held.now.list)
         (line_units case.now) curves.items) }
 {
-    let families = HeldFamilies::of(alloc, case, rates, held, score)?;
+    let families = HeldFamilies::of(case, rates, held, score);
     whole_curves(alloc, &families)
 }

@@ -1,9 +1,10 @@
 //! The families of a case with stocks held, of which parts of the curves can be made.
 
-ghost use Rattle.std.specs.Prelude.{◌≡◌, ◌^◌, ◌<◌, ◌≤◌, IfOk, All, get_or, length, map};
+ghost use Rattle.std.specs.Prelude.{◌≡◌, ◌<◌, ◌≤◌, IfOk, All, get_or, length};
 ghost use Rattle.std.specs.Result.{IsOk};
 ghost use Rattle.demand_rates.specs.Rates.{AreRatesOf};
-ghost use Rattle.spares_input.specs.Stocks.{IsFor, IsWithinLimits};
+ghost use Rattle.spares_input.specs.Limits.{most_parts};
+ghost use Rattle.spares_input.specs.Stocks.{AreStocksOf};
 ghost use Rattle.fleet_model.specs.Rows.{line_units};
 ghost use Rattle.family_items.specs.Inputs.{IsLine};
 ghost use Rattle.fleet_plan.specs.Families.{case_points};
@@ -14,7 +15,6 @@ ghost use Rattle.on_hand.specs.Held.{IsHeldCase};
 use answers::NoMemory;
 use demand_rates::kinds::Rates;
 use family_curve::curve_within;
-use family_items::line_units;
 use family_parts::part_within;
 use family_points::Bounds;
 use hull::{Curve, Price, Score};
@@ -30,50 +30,39 @@ pub(crate) struct HeldFamilies<'a, S: Score> {
     rates: &'a Rates,
     held: &'a Stocks,
     score: &'a S,
-    lines: Vec<PartId>,
 }
 
 impl<'a, S: Score> Model for HeldFamilies<'a, S> {
-    ghost use Rattle.std.specs.Prelude.{◌≡◌, map};
-    ghost use Rattle.fleet_model.specs.Rows.{line_units};
     ghost use Rattle.on_hand.specs.Held.{HeldCase, IsHeldCase};
 
     ghost Value = { HeldCase };
 
     ghost view = { λ x. record { case = x.case.now; rates = x.rates.now; held = x.held.now } };
 
-    ghost invariant = { λ x. IsHeldCase (record { case = x.case.now; rates = x.rates.now; held = x.held.now })
-        × (map (λ p. p.0) x.lines.items ≡ line_units x.case.now) };
+    ghost invariant = { λ x. IsHeldCase (record { case = x.case.now; rates = x.rates.now; held = x.held.now }) };
 }
 
 impl<'a, S: Score> HeldFamilies<'a, S> {
     /// The families of a case. The rates are the case's; the held stocks are for the case and within its limits, and
-    /// the work from them is within its limit. Want of memory is the only error.
+    /// the work from them is within its limit.
     pub(crate) fn of(
-        alloc: Global,
         case: &'a Case,
         rates: &'a Rates,
         held: &'a Stocks,
         score: &'a S,
-    ) -> Result<HeldFamilies<'a, S>, NoMemory>
+    ) -> HeldFamilies<'a, S>
         requires rates { AreRatesOf case.now rates.now }
-        requires held { IsFor case.now held.now }
-        requires limits { IsWithinLimits case.now held.now }
+        requires held { AreStocksOf case.now held.now }
         requires work { IsOk (held_work_of case.now held.now.list) }
-        ensures { IfOk result (λ families. families ≡ record {
-          case = case.now;
-          rates = rates.now;
-          held = held.now;
-        }) }
+        ensures { result ≡ record { case = case.now; rates = rates.now; held = held.now } }
     {
         case.invariant();
-        Ok(HeldFamilies {
+        HeldFamilies {
             case,
             rates,
             held,
             score,
-            lines: line_units(alloc, case)?,
-        })
+        }
     }
 
     /// The case.
@@ -94,9 +83,10 @@ impl<'a, S: Score> HeldFamilies<'a, S> {
     /// The number of families, at most 2,000.
     pub(crate) fn count(&self) -> u32
         ensures count { result ≡ length (line_units self.now.case) }
-        ensures few { result ≤ 2000 }
+        ensures few { result ≤ most_parts }
     {
-        self.lines.len() as u32
+        let lines = self.case.line_units();
+        lines.len() as u32
     }
 
     /// The line unit of a family.
@@ -105,7 +95,8 @@ impl<'a, S: Score> HeldFamilies<'a, S> {
         ensures line { result.0 ≡ get_or (line_units self.now.case) family 0 }
         ensures is_line { IsLine self.now.case result.0 }
     {
-        self.lines[family as usize]
+        let lines = self.case.line_units();
+        lines[family as usize]
     }
 
     /// The curve of a family over its vectors from the held stocks to the limits, with the cost of the stocks above the
@@ -137,7 +128,7 @@ impl<'a, S: Score> HeldFamilies<'a, S> {
     pub(crate) fn sample(&self, alloc: Global, every: u32) -> Result<Vec<PartId>, NoMemory>
         requires { 0 < every }
         ensures lines { IfOk result (λ v. All (λ p. IsLine self.now.case p.0) v.items) }
-        ensures few { IfOk result (λ v. length v.items ≤ 2000) }
+        ensures few { IfOk result (λ v. length v.items ≤ most_parts) }
     {
         let mut lines = Vec::new(alloc);
         for family in 0..self.count() {

@@ -3,6 +3,7 @@
 //! Prices are numbered, each about a fifth above the one before.
 
 ghost use Rattle.std.specs.Prelude.{◌≡◌, ◌+◌, ◌*◌, ◌/◌, ◌%◌, ◌^◌, ◌<◌, ◌≤◌, All, IfOk, IfSome, length};
+ghost use Rattle.spares_input.specs.Limits.{most_parts};
 ghost use Rattle.spares_input.specs.Money.{most_budget};
 ghost use Rattle.family_rows.specs.Sources.{AreSources};
 
@@ -43,12 +44,12 @@ fn is_dear<S: Score>(
     count: u32,
 ) -> Result<bool, NoMemory>
     requires sources { All AreSources sources.now }
-    requires few { length sources.now ≤ 2000 }
+    requires few { length sources.now ≤ most_parts }
     requires every { 0 < every }
     requires first { 24 ≤ number }
     requires last { number ≤ 277 }
     requires budget { budget ≤ most_budget }
-    requires count { count ≤ 2000 }
+    requires count { count ≤ most_parts }
 {
     let price = price_at(number);
     let mut cost = 0;
@@ -71,9 +72,9 @@ fn guess_by_few<S: Score>(
     count: u32,
 ) -> Result<u32, NoMemory>
     requires sources { All AreSources sources.now }
-    requires few { length sources.now ≤ 2000 }
+    requires few { length sources.now ≤ most_parts }
     requires budget { budget ≤ most_budget }
-    requires count { count ≤ 2000 }
+    requires count { count ≤ most_parts }
     ensures first { IfOk result (λ number. 24 ≤ number) }
     ensures last { IfOk result (λ number. number ≤ 276) }
 {
@@ -101,11 +102,11 @@ fn step_up<S: Score>(
     count: u32,
 ) -> Result<u32, NoMemory>
     requires sources { All AreSources sources.now }
-    requires few { length sources.now ≤ 2000 }
+    requires few { length sources.now ≤ most_parts }
     requires first { 24 ≤ number }
     requires last { number ≤ 276 }
     requires budget { budget ≤ most_budget }
-    requires count { count ≤ 2000 }
+    requires count { count ≤ most_parts }
     ensures first { IfOk result (λ number. 24 ≤ number) }
     ensures last { IfOk result (λ number. number ≤ 276) }
 {
@@ -127,11 +128,11 @@ fn step_down<S: Score>(
     count: u32,
 ) -> Result<u32, NoMemory>
     requires sources { All AreSources sources.now }
-    requires few { length sources.now ≤ 2000 }
+    requires few { length sources.now ≤ most_parts }
     requires first { 24 ≤ number }
     requires last { number ≤ 276 }
     requires budget { budget ≤ most_budget }
-    requires count { count ≤ 2000 }
+    requires count { count ≤ most_parts }
     ensures first { IfOk result (λ number. 24 ≤ number) }
     ensures last { IfOk result (λ number. number ≤ 276) }
 {
@@ -154,9 +155,9 @@ fn guess_by<S: Score>(
     count: u32,
 ) -> Result<Option<u32>, NoMemory>
     requires sources { All AreSources sources.now }
-    requires few { length sources.now ≤ 2000 }
+    requires few { length sources.now ≤ most_parts }
     requires budget { budget ≤ most_budget }
-    requires count { count ≤ 2000 }
+    requires count { count ≤ most_parts }
     ensures first { IfOk result (λ found. IfSome found (λ number. 24 ≤ number)) }
     ensures last { IfOk result (λ found. IfSome found (λ number. number ≤ 276)) }
 {

@@ -1,10 +1,11 @@
 //! The plan of a case, with no curves passed in.
 
-ghost use Rattle.std.specs.Prelude.{◌^◌, ◌<◌, ◌≤◌, IfOk, IfSome};
+ghost use Rattle.std.specs.Prelude.{◌<◌, ◌≤◌, IfOk, IfSome};
 ghost use Rattle.std.specs.Result.{IsOk};
 ghost use Rattle.spares_input.specs.Money.{most_budget};
-ghost use Rattle.spares_input.specs.Stocks.{IsFor, IsWithinLimits};
+ghost use Rattle.spares_input.specs.Stocks.{AreStocksOf};
 ghost use Rattle.demand_rates.specs.Rates.{AreRatesOf};
+ghost use Rattle.hull.specs.Limits.{most_price_units};
 ghost use Rattle.part_filling.specs.Known.{IsPriceWindow};
 ghost use Rattle.held_work.specs.Work.{held_work_of};
 ghost use Rattle.case_plan.specs.Report.{IsOutcome};
@@ -28,7 +29,7 @@ const MANY: u32 = 48;
 fn window_of(low: u128, high: u128) -> Window
     requires positive { 0 < low }
     requires order { low ≤ high }
-    requires most { high ≤ 2 ^ 74 }
+    requires most { high ≤ most_price_units }
     ensures { IsPriceWindow result.low result.high }
 {
     Window {
@@ -119,13 +120,12 @@ pub fn plan_case<S: Score>(
     request: Request,
 ) -> Result<Outcome, NoMemory>
     requires rates { AreRatesOf case.now rates.now }
-    requires held { IsFor case.now held.now }
-    requires limits { IsWithinLimits case.now held.now }
+    requires held { AreStocksOf case.now held.now }
     requires work { IsOk (held_work_of case.now held.now.list) }
     requires budget { request.budget ≤ most_budget }
     ensures { IfOk result (IsOutcome S.ends case.now held.now.list request) }
 {
-    let families = HeldFamilies::of(alloc, case, rates, held, score)?;
+    let families = HeldFamilies::of(case, rates, held, score);
     if let Some(outcome) = plan_near(alloc, &families, request)? {
         return Ok(outcome);
     }

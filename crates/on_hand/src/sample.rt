@@ -2,7 +2,7 @@
 
 ghost use Rattle.std.specs.Prelude.{◌≡◌, IfOk, All, length, map};
 ghost use Rattle.demand_rates.specs.Rates.{AreRatesOf};
-ghost use Rattle.spares_input.specs.Stocks.{IsFor, IsWithinLimits};
+ghost use Rattle.spares_input.specs.Stocks.{AreStocksOf, IsFor};
 ghost use Rattle.family_items.specs.Inputs.{IsLine};
 ghost use Rattle.family_points.specs.Vectors.{box_from};
 ghost use Rattle.family_rows.specs.Sources.{AreSources};
@@ -44,8 +44,7 @@ pub(crate) fn families_of<'b>(
     bounds: &'b [Bounds],
 ) -> Result<Vec<Family<'b>>, NoMemory>
     requires rates { AreRatesOf case.now rates.now }
-    requires held { IsFor case.now held.now }
-    requires limits { IsWithinLimits case.now held.now }
+    requires held { AreStocksOf case.now held.now }
     requires lines { All (λ p. IsLine case.now p.0) lines.now }
     requires bounds { bounds.now ≡ map (λ p. box_from case.now p.0 held.now.list) lines.now }
     ensures { IfOk result (λ v. length v.items ≡ length lines.now) }

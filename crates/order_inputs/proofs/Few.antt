@@ -6,7 +6,7 @@ use Rattle.answers.specs.Steps.{◌>>=◌}
 use Rattle.answers.specs.declared.stop.Stop.{Stop}
 use Rattle.answers.specs.declared.stop.Stop.TheVariants as stop
 use Rattle.case_tables.specs.Answers.{Tells}
-use Rattle.case_tables.specs.declared.Accepted.{Accepted}
+use Rattle.case_tables.specs.declared.AcceptedCase.{AcceptedCase}
 use Rattle.refusals.specs.Causes.{or_refuse}
 use Rattle.refusals.specs.Lines.{no_names}
 use Rattle.refusals.specs.declared.failure.Failure.{Failure}
@@ -35,7 +35,7 @@ module _ (c : CaseRows) (given : Result CaseRows Failure) (is_given : given ≡ 
   within_work = given >>= λ case. (or_refuse no_names refusal.Work (work case) >>= λ count. Ok case)
 
   -- a case with its rates, if its work isn't refused
-  pub told_if_few : (few : Result ℕ (Stop Failure)) → Gives (or_refuse no_names refusal.Work (work c)) few → (x : Accepted) → c ≡ x.case
+  pub told_if_few : (few : Result ℕ (Stop Failure)) → Gives (or_refuse no_names refusal.Work (work c)) few → (x : AcceptedCase) → c ≡ x.case
       → Tells within_work (result_and few (Ok x))
   told_if_few (Ok n) h x e = rw (is_given, h, e) refl
   told_if_few (Err stop.NoMemory) h x e = tt

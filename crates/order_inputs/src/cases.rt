@@ -12,7 +12,7 @@ ghost use Rattle.order_inputs.specs.Given.{CanPlan, IsStocked, bytes_of};
 
 use crate::tables::{Table, Tables};
 use answers::Stop;
-use case_tables::{Accepted, Stocked, accepted_of, case_of, stocked_of};
+use case_tables::{AcceptedCase, Stocked, accepted_of, case_of, stocked_of};
 use family_points::work;
 use refusals::{Failure, File, Refusal};
 use spares_input::Case;
@@ -45,7 +45,7 @@ pub fn stocked(
 
 /// The case of tables. The first fault of the tables is refused, then `Rate` if a pipeline is beyond the limits of the
 /// model, and then `Work` if its curves take too many tables.
-pub fn case_within_work(alloc: Global, tables: &Tables<'_>) -> Result<Accepted, Stop<Failure>>
+pub fn case_within_work(alloc: Global, tables: &Tables<'_>) -> Result<AcceptedCase, Stop<Failure>>
     ensures answer { Tells (case_within_work (bytes_of tables.now)) result }
     ensures given { IfOk result CanPlan }
 {

@@ -3,6 +3,7 @@ use Rattle.std.specs.Prelude.{◌≡◌, ℕ, ◌+◌, ◌-◌, ◌*◌, ◌<◌
 use Rattle.hull.specs.declared.point.Point.{Point}
 use Rattle.hull.specs.declared.price.Price.{Price}
 use Rattle.hull.specs.Curves.{point_at}
+use Rattle.hull.specs.Limits.{most_price_money}
 use Rattle.step_walk.specs.Prefix.{AreVertices, curve_at, picked, vertex_at}
 use Rattle.marginal_alloc.specs.declared.change.Change.{Change}
 use Rattle.marginal_alloc.specs.Choice.{AreCurves}
@@ -66,7 +67,7 @@ HasNoneBefore high first pick = pick.hi * high.q ≤ first.lo * high.q + high.p
 -- There is no vertex behind the last known one, because a step falls at least 1 for at most 10^12; or those that cost
 -- at most `left` more than the pick are not lower by `most` or more: at the low price they lie as high as `beyond`.
 abbrev pub HasNoneBehind : Price → ℕ → Point → Point → ℕ → ℕ → Type 0
-HasNoneBehind low beyond last pick left most = (low.p * 1000000000000 ≤ low.q) ⊎ (pick.cost + left ≤ last.cost)
+HasNoneBehind low beyond last pick left most = (low.p * most_price_money ≤ low.q) ⊎ (pick.cost + left ≤ last.cost)
     ⊎ (low.q * pick.hi + low.p * (pick.cost + left) < beyond + low.q * most)
 
 -- no vertex that isn't known can change the pick of this curve by as much

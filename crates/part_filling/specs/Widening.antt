@@ -1,5 +1,6 @@
 -- How far the parts that are known can widen, and what a widening leaves as it was.
-use Rattle.std.specs.Prelude.{◌≡◌, ◌≢◌, ℕ, ◌+◌, ◌-◌, ◌/◌, ◌^◌, ◌<◌, Bool, true, false, List, [], ◌∷◌, slice_index}
+use Rattle.std.specs.Prelude.{◌≡◌, ◌≢◌, ℕ, ◌+◌, ◌-◌, ◌/◌, ◌<◌, Bool, true, false, List, [], ◌∷◌, slice_index}
+use Rattle.hull.specs.Limits.{most_price_units, most_price_money}
 use Rattle.step_walk.specs.Prefix.{curve_at}
 use Rattle.curve_parts.specs.Cuts.{IsWithin}
 use Rattle.part_filling.specs.declared.known.Known.{Known}
@@ -8,7 +9,7 @@ use Rattle.part_filling.specs.Known.{IsPriceWindow, window_at}
 
 -- how far a window can widen: its low price down to 1/10^12, its high price up to 2^74
 abbrev pub room : Window → ℕ
-room w = w.low.p + (1000000000000 - w.low.q) + (2 ^ 74 - w.high.p / w.high.q)
+room w = w.low.p + (most_price_money - w.low.q) + (most_price_units - w.high.p / w.high.q)
 
 -- and several windows
 abbrev pub rooms : List Window → ℕ

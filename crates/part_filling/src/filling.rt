@@ -1,7 +1,9 @@
 //! The filling of picks by what is known.
 
 ghost use Rattle.std.specs.Prelude.{◌≡◌, ℕ, ◌+◌, ◌≤◌, List, IfOk, IfSome, MatchOption, OnOk, length};
+ghost use Rattle.spares_input.specs.Money.{most_budget};
 ghost use Rattle.hull.specs.declared.point.Point.{Point};
+ghost use Rattle.hull.specs.Limits.{most_curves};
 ghost use Rattle.price_bounds.specs.Sums.{cost_of};
 ghost use Rattle.step_walk.specs.Prefix.{AreVertices, picked};
 ghost use Rattle.marginal_alloc.specs.Choice.{AreCurves};
@@ -35,11 +37,11 @@ fn next_change<F: Families>(
 ) -> Result<Option<Change>, NoMemory>
     requires families { AreFamilies (F.points families.now) }
     requires start { IsSmall start }
-    requires few { length known.old.curves.items ≤ 2000 }
+    requires few { length known.old.curves.items ≤ most_curves }
     requires known { AreKnown (F.points families.now) known.old.curves.items known.old.windows.items
         known.old.beyond.items }
     requires vertices { AreVertices known.old.curves.items known.old.picks.items }
-    requires money { cost_of (picked known.old.curves.items known.old.picks.items) + left ≤ 1000000000000000 }
+    requires money { cost_of (picked known.old.curves.items known.old.picks.items) + left ≤ most_budget }
     ensures known { OnOk result (AreKnown (F.points families.now) known.new.curves.items known.new.windows.items
         known.new.beyond.items) }
     ensures vertices { OnOk result (AreVertices known.new.curves.items known.new.picks.items) }
@@ -73,12 +75,12 @@ pub fn fill_parts<F: Families>(
 ) -> Result<(), NoMemory>
     requires families { AreFamilies (F.points families.now) }
     requires start { IsSmall start }
-    requires few { length known.old.curves.items ≤ 2000 }
+    requires few { length known.old.curves.items ≤ most_curves }
     requires known { AreKnown (F.points families.now) known.old.curves.items known.old.windows.items
         known.old.beyond.items }
     requires vertices { AreVertices known.old.curves.items known.old.picks.items }
     requires fits { cost_of (picked known.old.curves.items known.old.picks.items) ≤ budget }
-    requires budget { budget ≤ 1000000000000000 }
+    requires budget { budget ≤ most_budget }
     ensures known { OnOk result (AreKnown (F.points families.now) known.new.curves.items known.new.windows.items
         known.new.beyond.items) }
     ensures vertices { OnOk result (AreVertices known.new.curves.items known.new.picks.items) }

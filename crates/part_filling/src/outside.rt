@@ -1,7 +1,9 @@
 //! Vertices of a curve that aren't known.
 
-ghost use Rattle.std.specs.Prelude.{◌*◌, ◌^◌, ◌-◌, ◌<◌, ◌≤◌, length, IfNone, IfSome, IsFalse, IsTrue};
+ghost use Rattle.std.specs.Prelude.{◌*◌, ◌-◌, ◌<◌, ◌≤◌, length, IfNone, IfSome, IsFalse, IsTrue};
+ghost use Rattle.spares_input.specs.Money.{most_budget};
 ghost use Rattle.hull.specs.Curves.{IsShape, point_at};
+ghost use Rattle.hull.specs.Limits.{end_limit, most_price_money};
 ghost use Rattle.curve_parts.specs.Cuts.{IsSmall};
 ghost use Rattle.part_filling.specs.Known.{HasNoBetter, HasNoneBehind, IsPriceWindow};
 ghost use Rattle.part_filling.specs.Widening.{IsWider};
@@ -21,11 +23,11 @@ fn has_none_behind(
     requires small { IsSmall low }
     requires shape { IsShape curve.now }
     requires pick { pick < length curve.now }
-    requires left { left ≤ 1000000000000000 }
-    requires most { most ≤ 2 ^ 74 }
+    requires left { left ≤ most_budget }
+    requires most { most ≤ end_limit }
     ensures none { IsTrue result → HasNoneBehind low beyond (point_at curve.now (length curve.now - 1))
         (point_at curve.now pick) left most }
-    ensures more { IsFalse result → low.q < low.p * 1000000000000 }
+    ensures more { IsFalse result → low.q < low.p * most_price_money }
 {
     if low.p * 1_000_000_000_000 <= u128::from(low.q) {
         return true;
@@ -54,8 +56,8 @@ pub(crate) fn wider(
     requires window { IsPriceWindow window.low window.high }
     requires start { IsSmall start }
     requires pick { pick < length curve.now }
-    requires left { left ≤ 1000000000000000 }
-    requires most { most ≤ 2 ^ 74 }
+    requires left { left ≤ most_budget }
+    requires most { most ≤ end_limit }
     ensures none { IfNone result (HasNoBetter window.low window.high beyond curve.now pick left most) }
     ensures some { IfSome result (IsWider window) }
 {

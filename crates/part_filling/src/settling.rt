@@ -1,6 +1,8 @@
 //! Parts are widened until no vertex outside them could be as good as a change.
 
-ghost use Rattle.std.specs.Prelude.{◌≡◌, ℕ, ◌^◌, ◌<◌, ◌≤◌, IfOk, OnOk, length};
+ghost use Rattle.std.specs.Prelude.{◌≡◌, ℕ, ◌<◌, ◌≤◌, IfOk, OnOk, length};
+ghost use Rattle.spares_input.specs.Money.{most_budget};
+ghost use Rattle.hull.specs.Limits.{end_limit, most_curves};
 ghost use Rattle.step_walk.specs.Prefix.{AreVertices, picked};
 ghost use Rattle.curve_parts.specs.Cuts.{IsSmall};
 ghost use Rattle.choice_parts.specs.Parts.{AreFamilies};
@@ -30,8 +32,8 @@ fn settle_family<F: Families>(
         known.old.beyond.items }
     requires vertices { AreVertices known.old.curves.items known.old.picks.items }
     requires family { family < length known.old.curves.items }
-    requires left { left ≤ 1000000000000000 }
-    requires most { most ≤ 2 ^ 74 }
+    requires left { left ≤ most_budget }
+    requires most { most ≤ end_limit }
     ensures known { OnOk result (AreKnown (F.points families.now) known.new.curves.items known.new.windows.items
         known.new.beyond.items) }
     ensures vertices { OnOk result (AreVertices known.new.curves.items known.new.picks.items) }
@@ -71,12 +73,12 @@ pub(crate) fn settle<F: Families>(
 ) -> Result<bool, NoMemory>
     requires families { AreFamilies (F.points families.now) }
     requires start { IsSmall start }
-    requires few { length known.old.curves.items ≤ 2000 }
+    requires few { length known.old.curves.items ≤ most_curves }
     requires known { AreKnown (F.points families.now) known.old.curves.items known.old.windows.items
         known.old.beyond.items }
     requires vertices { AreVertices known.old.curves.items known.old.picks.items }
-    requires left { left ≤ 1000000000000000 }
-    requires most { most ≤ 2 ^ 74 }
+    requires left { left ≤ most_budget }
+    requires most { most ≤ end_limit }
     ensures known { OnOk result (AreKnown (F.points families.now) known.new.curves.items known.new.windows.items
         known.new.beyond.items) }
     ensures vertices { OnOk result (AreVertices known.new.curves.items known.new.picks.items) }

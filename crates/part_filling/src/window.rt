@@ -1,6 +1,7 @@
 //! The prices between which a part of a curve is known.
 
 ghost use Rattle.std.specs.Prelude.{◌+◌, ◌-◌, ◌*◌, ◌<◌, ◌≤◌};
+ghost use Rattle.hull.specs.Limits.{most_price_money};
 ghost use Rattle.curve_parts.specs.Cuts.{IsSmall};
 
 use hull::Price;
@@ -24,12 +25,12 @@ pub(crate) fn lower(low: Price, start: Price) -> Price
     requires money { 0 < low.q }
     requires small { IsSmall low }
     requires start { IsSmall start }
-    requires more { low.q < low.p * 1000000000000 }
+    requires more { low.q < low.p * most_price_money }
     ensures steep { 0 < result.p }
     ensures money { 0 < result.q }
     ensures small { IsSmall result }
     ensures below { result.p * low.q ≤ low.p * result.q }
-    ensures less { result.p + (1000000000000 - result.q) < low.p + (1000000000000 - low.q) }
+    ensures less { result.p + (most_price_money - result.q) < low.p + (most_price_money - low.q) }
 {
     let near = low.p * u128::from(start.q) * 8 >= start.p * u128::from(low.q);
     if near && low.p >= 65_536 {

@@ -2,6 +2,7 @@
 use Rattle.std.specs.Prelude.{ℕ, ◌^◌, ◌<◌, ◌≤◌, IfSome}
 use Rattle.fixed_interval.specs.Ends.{Ends}
 use Rattle.hull.specs.declared.price.Price.{Price}
+use Rattle.hull.specs.Limits.{most_price_money}
 use Rattle.case_figures.specs.Fits.{FitsPrint}
 use Rattle.plan_report.specs.declared.plan.PlanReport.{PlanReport}
 use Rattle.plan_report.specs.declared.check.CheckReport.{CheckReport}
@@ -19,7 +20,7 @@ IntervalFits x = UnitsFit x.hi
 pub record PriceFits (price : Price) : Type 0 where
   pub p : price.p < 2 ^ 75
   pub money : 0 < price.q
-  pub most_money : price.q ≤ 1000000000000
+  pub most_money : price.q ≤ most_price_money
 
 -- the numbers of a plan's report can be printed
 pub record FitsPlan (report : PlanReport) : Type 0 where

@@ -1,3 +1,3 @@
 pub mod Texts
 pub mod Fits
-pub mod Held
+pub mod Compact

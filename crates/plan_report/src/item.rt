@@ -3,8 +3,8 @@ ghost use Rattle.std.specs.Prelude.{◌≡◌, ◌+◌, ◌<◌, ◌≤◌, ◌^
 ghost use Rattle.std.specs.Fmt.{decimal};
 ghost use Rattle.fixed_interval.specs.Text.{fixed_text};
 ghost use Rattle.fixed_interval.specs.Widths.{IsWidth};
-ghost use Rattle.case_figures.specs.Held.{held_line};
-ghost use Rattle.plan_report.specs.Held.{held_text, names_text};
+ghost use Rattle.case_figures.specs.Compact.{compact_line};
+ghost use Rattle.plan_report.specs.Compact.{compact_text, names_text};
 ghost use Rattle.plan_report.specs.Texts.{
   interval_text,
   item_text,
@@ -13,7 +13,7 @@ ghost use Rattle.plan_report.specs.Texts.{
 };
 
 use crate::text::decimals;
-use case_figures::{HeldItem, ItemRef, Narrow};
+use case_figures::{CompactItem, ItemRef, Narrow};
 use itoa::Buffer;
 use line_text::ShortLine;
 use spares_input::Name;
@@ -76,16 +76,16 @@ fn put_ends<const F: u32>(line: &mut ItemLine, interval: &Narrow)
 }
 
 /// Puts the four intervals of a pair, each after a comma.
-fn put_intervals<const F: u32>(line: &mut ItemLine, held: &HeldItem)
+fn put_intervals<const F: u32>(line: &mut ItemLine, compact: &CompactItem)
     requires width { IsWidth F }
     requires room { length line.old ≤ 96 }
-    ensures text { line.new ≡ line.old ++ held_text F held.now }
+    ensures text { line.new ≡ line.old ++ compact_text F compact.now }
     ensures short { length line.new ≤ length line.old + 224 }
 {
-    put_ends::<F>(line, &held.mean);
-    put_ends::<F>(line, &held.variance);
-    put_ends::<F>(line, &held.backorders);
-    put_ends::<F>(line, &held.spread);
+    put_ends::<F>(line, &compact.mean);
+    put_ends::<F>(line, &compact.variance);
+    put_ends::<F>(line, &compact.backorders);
+    put_ends::<F>(line, &compact.spread);
 }
 
 /// Puts a name and a comma.
@@ -114,15 +114,15 @@ fn put_names(line: &mut ItemLine, part: &Name, site: &Name, stock: u8)
 pub(crate) fn put_item(line: &mut ItemLine, item: &ItemRef<'_>)
     requires { IsWidth item.now.bits }
     ensures { line.new
-        ≡ item_text (held_line item.now.part.now item.now.site.now item.now.bits item.now.held.now) }
+        ≡ item_text (compact_line item.now.part.now item.now.site.now item.now.bits item.now.compact.now) }
 {
-    put_names(line, item.part, item.site, item.held.stock);
+    put_names(line, item.part, item.site, item.compact.stock);
     if item.bits == 32 {
-        put_intervals::<32>(line, item.held);
+        put_intervals::<32>(line, item.compact);
     } else if item.bits == 48 {
-        put_intervals::<48>(line, item.held);
+        put_intervals::<48>(line, item.compact);
     } else {
-        put_intervals::<52>(line, item.held);
+        put_intervals::<52>(line, item.compact);
     }
     line.push(b'\n');
 }

@@ -196,7 +196,7 @@ fn put_items(text: &mut Vec<u8>, items: &Items) -> Result<(), NoMemory>
 {
     let mut line = ItemLine::new();
     for n in 0..items.len() {
-        put_item(&mut line, &items.held(n));
+        put_item(&mut line, &items.compact(n));
         text.extend_from_slice(line.as_slice())?;
     }
     Ok(())

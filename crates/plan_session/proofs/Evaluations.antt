@@ -20,7 +20,7 @@ use Rattle.fleet_model.proofs.Public.{all_follow}
 use Rattle.demand_rates.specs.Rates.{pair_rates}
 use Rattle.family_items.specs.declared.item.Item.{Item}
 use Rattle.family_items.specs.declared.item.FamilyResult.{FamilyResult}
-use Rattle.family_items.specs.Profile.{pipeline_from, share_of, stocked, feed_of, held_of, depot_shop, depot_feed, depot_line, base_shop, base_line, item_of, part_items, weighed, family_of}
+use Rattle.family_items.specs.Profile.{pipeline_from, share_of, stocked, feed_of, delay_of, depot_shop, depot_feed, depot_line, base_shop, base_line, item_of, part_items, weighed, family_of}
 use Rattle.family_items.specs.Inputs.{IsLine, IsShop}
 use Rattle.family_items.proofs.Public.{shops_all, added_same}
 use Rattle.family_points.proofs.Public.{line_owner}
@@ -98,8 +98,8 @@ module _ (f : ℕ) (c : CaseRows) (s t : List ℕ) (some : 0 < length c.sites) w
       (base_line_ends f (pipeline_from f l j (pair_rates c l j) n).direct (pipeline_from f l j (pair_rates c l j) n).cap (feed_of f (share_of f c l j) rest.0) rest.1))
       (h j lj)
       (ap₂ (λ (y : Item f) (held : List (Held f)). (y, held)) (depot_line_same l h all)
-      (map_each (shop_units c l) (λ i. held_of f (base_shop f c s i j)) (λ i. held_of f (base_shop f c t i j))
-      (all_follow Alike _ (shop_units c l) (λ i a. ap (held_of f) (base_shop_same i j lj a)) all)))
+      (map_each (shop_units c l) (λ i. delay_of f (base_shop f c s i j)) (λ i. delay_of f (base_shop f c t i j))
+      (all_follow Alike _ (shop_units c l) (λ i a. ap (delay_of f) (base_shop_same i j lj a)) all)))
 
   -- of part p, whose line unit is o
   abbrev item_by : List ℕ → Option ℕ → ℕ → ℕ → Item f

@@ -1,13 +1,19 @@
 -- The places of the families, and what a change of a row leaves of what is kept of them.
-use Rattle.std.proofs.Common.{◌≡◌, ◌≢◌, ℕ, ◌<◌, ◌⊎◌, inl, inr, Bool, false, List, [], length, get_or, set, Option, Some, None, is_some, refl, sym, ap, ap₂, ◌∙◌, subst, arith, length-set}
+use Rattle.std.proofs.Common.{◌≡◌, ◌≢◌, ℕ, ◌<◌, ◌≤◌, ◌⊎◌, inl, inr, ◌==◌, Bool, true, false, cond, nat_lt, List, [], length, get_or, map, position, set, Option, Some, None, is_some, refl, sym, ap, ap₂, ◌∙◌, subst, arith, length-set}
+use Rattle.std.specs.List.{position_or_len}
+use Rattle.std.proofs.lemmas.Bool.{false≢true, ltb-false}
 use Rattle.std.proofs.lemmas.List.{map-set}
+use Rattle.std.proofs.lemmas.List.Sums.{fails_before_first}
+use Rattle.std.proofs.lemmas.List.Quantifiers.{position-Some}
 use Rattle.spares_input.specs.Cases.{CaseRows, frame_rows, rate_place, IsCase, IsRateOf}
 use Rattle.spares_input.specs.Edits.{with_rate}
 use Rattle.spares_input.proofs.Public.{set_valid}
 use Rattle.spares_input.specs.Stocks.{StockList, IsFor}
+use Rattle.spares_input.specs.declared.rows.PartId.{PartId}
 use Rattle.spares_input.specs.declared.rows.RateRow.{RateRow}
 use Rattle.fleet_model.specs.Rows.{line_units}
 use Rattle.family_items.specs.Inputs.{IsLine}
+use Rattle.family_items.proofs.Public.{line_listed, lines_count}
 use Rattle.family_items.specs.declared.item.FamilyResult.{FamilyResult}
 use Rattle.family_points.specs.Vectors.{vector_of, limits}
 use Rattle.family_points.specs.Local.{home_of, HaveOneFamily}
@@ -27,6 +33,22 @@ use Rattle.family_points.specs.Points.{plain_ends}
 before_or_after : (a b : ℕ) → (a ≡ b) ⊎ ((a < b) ⊎ (b < a))
 before_or_after a b = grind arith
 
+same_number : (a b : ℕ) → (a == b) ≡ true → a ≡ b
+same_number a b h = grind arith
+
+number_same : (a b : ℕ) → a ≡ b → (a == b) ≡ true
+number_same a b h = grind arith
+
+-- what a search passes over fails its test
+not_found : {X : Type 0} (t : X → Bool) (xs : List X) (k : ℕ) (d : X) → position t xs ≡ None → k < length xs → t (get_or xs k d) ≡ false
+not_found t xs k d none b =
+    let past : length xs ≤ position_or_len t xs = ltb-false (position_or_len t xs) (length xs) (unfound (nat_lt (position_or_len t xs) (length xs)) (position_or_len t xs) none) in
+    fails_before_first t xs k d (omega (arith, b, past))
+  where
+    unfound : (t : Bool) (x : ℕ) → ◌≡◌ {A = Option ℕ} (cond t (Some x) None) None → t ≡ false
+    unfound true x h = cc
+    unfound false x h = refl
+
 module _ (c : CaseRows) (valid : IsCase c) where
   -- what stands at a place of the line units is a line unit of the case
   pub line_at : (k : ℕ) → k < length (line_units c) → IsLine c (get_or (line_units c) k 0)
@@ -44,6 +66,23 @@ module _ (c : CaseRows) (valid : IsCase c) where
         | inr (inl h) ↦ absurd (apart_at (line_units c) (length (lines_below c l)) k (lines_apart c valid) h b same)
         | inr (inr h) ↦ absurd (apart_at (line_units c) k (length (lines_below c l)) (lines_apart c valid) h below (sym same))
       ]
+
+  -- the place where the line unit of a part's family is found is that of the family
+  pub place_found : (units : List PartId) → map (λ (q : PartId). q.0) units ≡ line_units c → (p l k : ℕ) → l ≡ home_of c p → position (λ (q : PartId). q.0 == l) units ≡ Some k
+      → (k ≡ family_place c p) × (k < length (line_units c))
+  place_found units all p l k home at =
+      let found = position-Some (λ (q : PartId). q.0 == l) units k (record { 0 = 0 }) at in
+      let within : k < length (line_units c) = omega (arith, found.0, lines_count c units all) in
+      let is : get_or (line_units c) k 0 ≡ l = sym (line_listed c units all k (record { 0 = 0 }) found.0) ∙ same_number _ l found.1 in
+      (sym (place_of_line k within) ∙ ap (λ m. length (lines_below c m)) (is ∙ home), within)
+
+  -- and it is found
+  pub place_there : (units : List PartId) → map (λ (q : PartId). q.0) units ≡ line_units c → (l : ℕ) → IsLine c l → position (λ (q : PartId). q.0 == l) units ≡ None → ⊥
+  place_there units all l line none =
+      let k = length (lines_below c l) in
+      let within : k < length units = omega (arith, line_fewer c l line.is_part line.no_parent, lines_count c units all) in
+      let is : (get_or units k (record { 0 = 0 })).0 ≡ l = line_listed c units all k (record { 0 = 0 }) within ∙ line_place c l line.is_part line.no_parent in
+      false≢true (sym (not_found (λ (q : PartId). q.0 == l) units k (record { 0 = 0 }) none within) ∙ number_same _ l is)
 
   -- the family at another place isn't that of part p
   pub other_family : (p k : ℕ) → k < length (line_units c) → k ≢ family_place c p → home_of c p ≢ get_or (line_units c) k 0

@@ -1,13 +1,11 @@
 -- Values that are kept of families, one family after another.
 use Rattle.std.proofs.Common.{◌≡◌, ◌≢◌, ℕ, zero, suc, ◌+◌, ◌-◌, ◌<◌, ◌≤◌, ◌⊎◌, inl, inr, Bool, true, false, List, [], ◌∷◌, ◌++◌, length, map, take, drop, get_or, set, replicate, All, Option, Some, None, is_some, IfSome, IsSome, refl, sym, ap, ◌∙◌, subst, arith, get_or-set_other, get_or-set_same, length-set}
 use Rattle.std.proofs.lemmas.Bool.{false≢true}
-use Rattle.std.proofs.lemmas.List.{append-nil, ext_get_or, get_or-append_right, get_or-drop, get_or-map, get_or-replicate, get_or_past, length-append, length-map, length-replicate, take_all}
+use Rattle.std.proofs.lemmas.List.{append-nil, ext_get_or, get_or-append_right, get_or-drop, get_or-map, get_or-replicate, get_or_past, length-map, length-replicate, take_all}
 use Rattle.spares_input.specs.Cases.{CaseRows}
+use Rattle.spares_input.specs.declared.rows.PartId.{PartId}
 use Rattle.fleet_model.specs.Rows.{line_units}
-use Rattle.family_items.specs.Inputs.{IsLine}
-use Rattle.family_items.proofs.Public.{kept_more, left_out}
-use Rattle.case_plan.specs.Placing.{lines_below}
-use Rattle.case_plan.proofs.Public.{is_line_at, line_fewer, line_place}
+use Rattle.family_items.proofs.Public.{line_listed, lines_count}
 use Rattle.plan_session.specs.Sessions.{has_mark, marks_of, AreLater, AreOfFamilies}
 use Rattle.plan_session.specs.Settling.{values_of}
 
@@ -135,51 +133,34 @@ not_taken {X} xs kept before k d e n =
 
 -- ---- family after family
 
--- a part that a loop over all parts comes to is a line unit where it is found to be one
-pub line_here : (c : CaseRows) (p n : ℕ) → p < n → n ≡ length c.parts → is_line_at c p ≡ true → IsLine c p
-line_here c p n b e is = record { is_part = subst (λ m. p < m) e b; no_parent = is }
+-- the number of the unit at a place
+abbrev pub number_at : List PartId → ℕ → ℕ
+number_at units k = (get_or units k (record { 0 = 0 })).0
 
--- a place that is at most the part stays so behind the part
-pub next_below : (place p : ℕ) → place ≤ p → place + 1 ≤ p + 1
-next_below place p h = omega (arith, h)
-
--- and so does one that stays itself
-pub still_below : (place p : ℕ) → place ≤ p → place ≤ p + 1
-still_below place p h = omega (arith, h)
-
--- The values of the families below part p are kept, the next family has this place, and no mark was turned off.
-pub record AreKeptTo {X : Type 0} (IsOf : ℕ → X → Type 0) (c : CaseRows) (before values : List (Option X)) (p place : ℕ) : Type 0 where
-  pub place_is : place ≡ length (lines_below c p)
+-- The values of the families before this place are kept, and no mark was turned off.
+pub record AreKeptTo {X : Type 0} (IsOf : ℕ → X → Type 0) (c : CaseRows) (before values : List (Option X)) (place : ℕ) : Type 0 where
   pub are_kept : AreOfFamilies IsOf c values
   pub later : AreLater (marks_of before) (marks_of values)
   pub on : (k : ℕ) → k < place → IsSome (get_or values k None)
 
-module _ {X : Type 0} (IsOf : ℕ → X → Type 0) (c : CaseRows) (before values : List (Option X)) (p place : ℕ) (h : AreKeptTo IsOf c before values p place) where
-  -- where part p is a line unit, there is a family at the place
-  pub place_within : IsLine c p → place < length values
-  place_within line = omega (arith, line_fewer c p line.is_part line.no_parent, h.place_is, h.are_kept.count)
+module _ {X : Type 0} (IsOf : ℕ → X → Type 0) (c : CaseRows) (units : List PartId) (all : map (λ (p : PartId). p.0) units ≡ line_units c) (before values : List (Option X)) (place : ℕ)
+    (inside : place < length units) (h : AreKeptTo IsOf c before values place) where
+  -- there is a family at the place
+  pub place_within : place < length values
+  place_within = omega (arith, inside, lines_count c units all, h.are_kept.count)
 
-  at_place : IsLine c p → get_or (line_units c) place 0 ≡ p
-  at_place line = ap (λ k. get_or (line_units c) k 0) h.place_is ∙ line_place c p line.is_part line.no_parent
+  at_place : get_or (line_units c) place 0 ≡ number_at units place
+  at_place = sym (line_listed c units all place (record { 0 = 0 }) inside)
 
   -- a value that is kept at the place is that of the family
-  pub kept_before : IsLine c p → (other : Option X) → IfSome (get_or values place other) (IsOf p)
-  kept_before line other =
-      subst (λ (v : Option X). IfSome v (IsOf p)) (any_default values place None other (place_within line))
-      (subst (λ l. IfSome (get_or values place None) (IsOf l)) (at_place line) (h.are_kept.each place))
+  pub kept_before : (other : Option X) → IfSome (get_or values place other) (IsOf (number_at units place))
+  kept_before other =
+      subst (λ (v : Option X). IfSome v (IsOf (number_at units place))) (any_default values place None other place_within)
+      (subst (λ l. IfSome (get_or values place None) (IsOf l)) at_place (h.are_kept.each place))
 
-  -- behind a part that is no line unit the place is still the next one
-  pub passed : is_line_at c p ≡ false → AreKeptTo IsOf c before values (p + 1) place
-  passed off = record {
-    place_is = h.place_is ∙ ap length (sym (left_out (is_line_at c) p off));
-    are_kept = h.are_kept;
-    later = h.later;
-    on = h.on;
-  }
-
-  module _ (line : IsLine c p) (other value : Option X) (is : IfSome value (IsOf p)) (stays : IsSome (get_or values place other) → IsSome value) where
+  module _ (other value : Option X) (is : IfSome value (IsOf (number_at units place))) (stays : IsSome (get_or values place other) → IsSome value) where
     value_here : get_or (set values place value) place None ≡ value
-    value_here = get_or-set_same values place value None (place_within line)
+    value_here = get_or-set_same values place value None place_within
 
     -- the value of the family may stand at the place
     pub kept_one : AreOfFamilies IsOf c (set values place value)
@@ -189,7 +170,7 @@ module _ {X : Type 0} (IsOf : ℕ → X → Type 0) (c : CaseRows) (before value
         | inl here ↦
             subst (λ i. IfSome (get_or (set values place value) i None) (IsOf (get_or (line_units c) i 0))) (sym here)
             (subst (λ (v : Option X). IfSome v (IsOf (get_or (line_units c) place 0))) (sym value_here)
-            (subst (λ l. IfSome value (IsOf l)) (sym (at_place line)) is))
+            (subst (λ l. IfSome value (IsOf l)) (sym at_place) is))
         | inr away ↦
             subst (λ (v : Option X). IfSome v (IsOf (get_or (line_units c) k 0))) (sym (get_or-set_other values place k value None away)) (h.are_kept.each k)
       ]);
@@ -203,19 +184,15 @@ module _ {X : Type 0} (IsOf : ℕ → X → Type 0) (c : CaseRows) (before value
           let was : IsSome (get_or values k None) = sym (mark_is values k) ∙ h.later.stay k on in
           mark_is (set values place value) k ∙ (elim (here_or_not k place) [
             | inl here ↦
-                let there = ap is_some (any_default values place other None (place_within line)) ∙ ap (λ i. is_some (get_or values i None)) (sym here) ∙ was in
+                let there = ap is_some (any_default values place other None place_within) ∙ ap (λ i. is_some (get_or values i None)) (sym here) ∙ was in
                 ap (λ i. is_some (get_or (set values place value) i None)) here ∙ ap is_some value_here ∙ stays there
             | inr away ↦ ap is_some (get_or-set_other values place k value None away) ∙ was
           ]);
     }
 
-    one_more : place + 1 ≡ length (lines_below c (p + 1))
-    one_more = (let more = ap length (kept_more (is_line_at c) p line.no_parent) ∙ length-append (lines_below c p) (p ∷ []) in omega (arith, more, h.place_is))
-
-    -- with the value of line unit p kept, the next family is at the place behind
-    pub kept_next : IsSome value → AreKeptTo IsOf c before (set values place value) (p + 1) (place + 1)
+    -- with this value kept, those before the next place are
+    pub kept_next : IsSome value → AreKeptTo IsOf c before (set values place value) (place + 1)
     kept_next some = record {
-      place_is = one_more;
       are_kept = kept_one;
       later = later_one;
       on = λ k b. (elim (here_or_not k place) [
@@ -227,22 +204,20 @@ module _ {X : Type 0} (IsOf : ℕ → X → Type 0) (c : CaseRows) (before value
         below : (i n : ℕ) → i < n + 1 → i ≢ n → i < n
         below i n b ne = grind arith
 
--- after the last part each value is kept
-pub each_kept : {X : Type 0} (IsOf : ℕ → X → Type 0) (c : CaseRows) (before values : List (Option X)) (p place : ℕ) → p ≡ length c.parts
-    → AreKeptTo IsOf c before values p place → (k : ℕ) → k < length (line_units c) → IsSome (get_or values k None)
-each_kept IsOf c before values p place e h k b =
-    let count : place ≡ length (line_units c) = h.place_is ∙ ap (λ n. length (lines_below c n)) e in
-    h.on k (omega (arith, b, count))
+module _ {X : Type 0} (IsOf : ℕ → X → Type 0) (c : CaseRows) (units : List PartId) (all : map (λ (p : PartId). p.0) units ≡ line_units c) (before values : List (Option X)) (place : ℕ)
+    (past : length units ≤ place) (h : AreKeptTo IsOf c before values place) where
+  -- after the last family each value is kept
+  pub each_kept : (k : ℕ) → k < length (line_units c) → IsSome (get_or values k None)
+  each_kept k b = h.on k (omega (arith, b, past, lines_count c units all))
 
--- and so every mark is on
-pub all_marked : {X : Type 0} (IsOf : ℕ → X → Type 0) (c : CaseRows) (before values : List (Option X)) (p place : ℕ) → p ≡ length c.parts
-    → AreKeptTo IsOf c before values p place → marks_of values ≡ replicate (length (line_units c)) true
-all_marked {X} IsOf c before values p place e h =
-    let n = length (line_units c) in
-    let long : length (marks_of values) ≡ n = length-map values (is_some {T = X}) ∙ h.are_kept.count in
-    ext_get_or false (marks_of values) (replicate n true) (long ∙ sym (length-replicate n true)) (λ k b.
-    let within : k < n = omega (arith, b, long) in
-    mark_is values k ∙ each_kept IsOf c before values p place e h k within ∙ sym (get_or-replicate n k true false within))
+  -- and so every mark is on
+  pub all_marked : marks_of values ≡ replicate (length (line_units c)) true
+  all_marked =
+      let n = length (line_units c) in
+      let long : length (marks_of values) ≡ n = length-map values (is_some {T = X}) ∙ h.are_kept.count in
+      ext_get_or false (marks_of values) (replicate n true) (long ∙ sym (length-replicate n true)) (λ k b.
+      let within : k < n = omega (arith, b, long) in
+      mark_is values k ∙ each_kept k within ∙ sym (get_or-replicate n k true false within))
 
 -- ---- a vector whose slice was written
 

@@ -14,7 +14,7 @@ ghost use Rattle.case_plan.specs.Report.{IsPlanOf};
 ghost use Rattle.plan_session.specs.Sessions.{AreEvaluated, AreOfFamilies, IsEvaluation};
 ghost use Rattle.plan_session.specs.Settling.{AreSettled};
 
-use crate::kept::{lines_before, place_of};
+use crate::kept::place_of;
 use crate::values::{all_taken, no_values, put_back};
 use answers::NoMemory;
 use case_plan::{ChosenStocks, Outcome, Request, outcome_at};
@@ -35,9 +35,9 @@ pub(crate) struct Evaluated {
 pub(crate) fn nothing_evaluated(alloc: Global, case: &Case) -> Result<Evaluated, NoMemory>
     ensures { IfOk result (AreEvaluated case.now) }
 {
-    let count = lines_before(case, case.part_count());
+    let lines = case.line_units();
     let stocks = nothing_held(alloc, case)?;
-    let families = no_values(alloc, count)?;
+    let families = no_values(alloc, lines.len())?;
     Ok(Evaluated { stocks, families })
 }
 
@@ -119,13 +119,16 @@ fn renew_all(
     ensures kept { AreOfFamilies (IsEvaluation case.now stocks.now) case.now families.new }
     ensures all { OnOk result (families.new ≡ map Some (families_of 48 case.now stocks.now)) }
 {
-    let mut place = 0;
-    for p in 0..case.part_count() {
-        let line = PartId(p);
-        if case.is_line(line) {
-            renew(alloc, case, rates, stocks, line, &mut families[place])?;
-            place += 1;
-        }
+    let lines = case.line_units();
+    for place in 0..lines.len() {
+        renew(
+            alloc,
+            case,
+            rates,
+            stocks,
+            lines[place],
+            &mut families[place],
+        )?;
     }
     Ok(())
 }

@@ -1,6 +1,6 @@
 //! The curves that a session keeps.
 
-ghost use Rattle.std.specs.Prelude.{◌≡◌, ◌<◌, ◌≤◌, [], None, true, length, replicate, All, IfOk, IfSome, IsSome, OnOk};
+ghost use Rattle.std.specs.Prelude.{◌≡◌, ◌==◌, ◌<◌, ◌≤◌, [], None, true, length, position, replicate, All, IfOk, IfSome, IsSome, OnOk};
 ghost use Rattle.std.specs.Result.{IsOk};
 ghost use Rattle.spares_input.specs.Money.{most_budget};
 ghost use Rattle.fleet_model.specs.Rows.{line_units};
@@ -10,7 +10,6 @@ ghost use Rattle.family_points.specs.Counts.{work_of};
 ghost use Rattle.family_points.specs.Local.{home_of};
 ghost use Rattle.held_work.specs.Curves.{IsFamilyCurve};
 ghost use Rattle.case_plan.specs.Chosen.{FitsCase, IsChosen};
-ghost use Rattle.case_plan.specs.Placing.{lines_below};
 ghost use Rattle.family_points.specs.Points.{plain_ends};
 ghost use Rattle.plan_session.specs.Sessions.{family_place, marks_of, AreKept, AreLater};
 ghost use Rattle.plan_session.specs.Settling.{values_of};
@@ -24,27 +23,12 @@ use hull::{Curve, Plain};
 use spares_input::{Case, PartId};
 use std::alloc::Global;
 
-/// The count of line units before a part.
-pub(crate) fn lines_before(case: &Case, part: u16) -> usize
-    requires { part ≤ length case.now.parts }
-    ensures count { result ≡ length (lines_below case.now part) }
-    ensures few { result ≤ part }
-{
-    let mut count = 0;
-    for p in 0..part {
-        if case.is_line(PartId(p)) {
-            count += 1;
-        }
-    }
-    count
-}
-
 /// No curve is kept.
 pub(crate) fn nothing_kept(alloc: Global, case: &Case) -> Result<Vec<Option<Curve>>, NoMemory>
     ensures { IfOk result (λ curves. curves.items ≡ replicate (length (line_units case.now)) None) }
 {
-    let families = lines_before(case, case.part_count());
-    no_values(alloc, families)
+    let lines = case.line_units();
+    no_values(alloc, lines.len())
 }
 
 /// The line unit of the family of a part.
@@ -59,13 +43,24 @@ fn home_of(case: &Case, part: PartId) -> PartId
     }
 }
 
+/// The place of a line unit among these.
+fn place_in(lines: &[PartId], line: PartId) -> Option<usize>
+    ensures { result ≡ position (λ q. q.0 == line.0) lines.now }
+{
+    lines.iter().position(|q| q.0 == line.0)
+}
+
 /// The index of the family of a part.
 pub(crate) fn place_of(case: &Case, part: PartId) -> usize
     requires { part.0 < length case.now.parts }
     ensures place { result ≡ family_place case.now part.0 }
     ensures within { result < length (line_units case.now) }
 {
-    lines_before(case, home_of(case, part).0)
+    case.invariant();
+    match place_in(case.line_units(), home_of(case, part)) {
+        Some(place) => place,
+        None => 0,
+    }
 }
 
 /// Computes and keeps the curve of a family, unless it is kept.
@@ -106,13 +101,9 @@ pub(crate) fn keep_all(
     ensures later { AreLater (marks_of curves.old) (marks_of curves.new) }
     ensures on { OnOk result (marks_of curves.new ≡ replicate (length (line_units case.now)) true) }
 {
-    let mut place = 0;
-    for p in 0..case.part_count() {
-        let line = PartId(p);
-        if case.is_line(line) {
-            keep(alloc, case, rates, line, &mut curves[place])?;
-            place += 1;
-        }
+    let lines = case.line_units();
+    for place in 0..lines.len() {
+        keep(alloc, case, rates, lines[place], &mut curves[place])?;
     }
     Ok(())
 }

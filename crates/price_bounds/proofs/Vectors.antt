@@ -7,7 +7,7 @@ use Rattle.hull.specs.Curves.{Among}
 use Rattle.price_bounds.specs.Sums.{cost_of, Picks}
 use Rattle.price_bounds.specs.Values.{sum_of, AllContain, IsAtLeast, IsAtMost}
 use Rattle.price_bounds.specs.Certificates.{Claims, IsAcceptable}
-use Rattle.price_bounds.specs.Allocations.{Family, point_of, points_of, AreEnclosed, IsAllocation, cost_at, total_at}
+use Rattle.price_bounds.specs.Allocations.{Family, point_of, points_of, AreEnclosed, IsFamilyAllocation, cost_at, total_at}
 use Rattle.price_bounds.specs.Soundness.{stocks_of, NoneHasFewerThan, IsSoundCertificate}
 use Rattle.price_bounds.proofs.Kept.{CertificateKept, certificate_kept}
 
@@ -42,7 +42,7 @@ total_is n (family ∷ families) [] = refl
 total_is n (family ∷ families) (stocks ∷ rest) = ap (λ z. family.backorders n stocks +ℚ z) (total_is n families rest)
 
 -- the points of an allocation are one of each family
-pub allocation_picks : (families : List Family) (allocation : List (List ℕ)) → IsAllocation families allocation → Picks (map points_of families) (points_at families allocation)
+pub allocation_picks : (families : List Family) (allocation : List (List ℕ)) → IsFamilyAllocation families allocation → Picks (map points_of families) (points_at families allocation)
 allocation_picks [] [] a = tt
 allocation_picks [] (s ∷ rest) a = absurd a
 allocation_picks (family ∷ families) [] a = absurd a
@@ -55,14 +55,14 @@ allocation_cost (family ∷ families) [] = refl
 allocation_cost (family ∷ families) (s ∷ rest) = ap (λ z. family.cost s + z) (allocation_cost families rest)
 
 -- the intervals of an allocation's points contain its backorders at each depth from 1024 on
-pub allocation_values : (n : ℕ) (families : List Family) (allocation : List (List ℕ)) → 1024 ≤ n → AreEnclosed families → IsAllocation families allocation → AllContain (points_at families allocation) (values_at n families allocation)
+pub allocation_values : (n : ℕ) (families : List Family) (allocation : List (List ℕ)) → 1024 ≤ n → AreEnclosed families → IsFamilyAllocation families allocation → AllContain (points_at families allocation) (values_at n families allocation)
 allocation_values n [] [] l e a = tt
 allocation_values n [] (s ∷ rest) l e a = absurd a
 allocation_values n (family ∷ families) [] l e a = absurd a
 allocation_values n (family ∷ families) (s ∷ rest) l e a = (e.0 s a.0 n l, allocation_values n families rest l e.1 a.1)
 
 -- and the other way round
-pub choice_allocation : (families : List Family) (points : List Point) → Picks (map points_of families) points → IsAllocation families (stocks_of points)
+pub choice_allocation : (families : List Family) (points : List Point) → Picks (map points_of families) points → IsFamilyAllocation families (stocks_of points)
 choice_allocation [] [] p = tt
 choice_allocation [] (v ∷ vs) p = absurd p
 choice_allocation (family ∷ families) [] p = absurd p

@@ -34,11 +34,11 @@ AreEnclosed (family ∷ families) = ((stocks : List ℕ) → Among stocks family
     × AreEnclosed families
 
 -- one vector of each family
-abbrev pub IsAllocation : List Family → List (List ℕ) → Type 0
-IsAllocation [] [] = Unit {0}
-IsAllocation [] (stocks ∷ rest) = ⊥
-IsAllocation (family ∷ families) [] = ⊥
-IsAllocation (family ∷ families) (stocks ∷ rest) = Among stocks family.vectors × IsAllocation families rest
+abbrev pub IsFamilyAllocation : List Family → List (List ℕ) → Type 0
+IsFamilyAllocation [] [] = Unit {0}
+IsFamilyAllocation [] (stocks ∷ rest) = ⊥
+IsFamilyAllocation (family ∷ families) [] = ⊥
+IsFamilyAllocation (family ∷ families) (stocks ∷ rest) = Among stocks family.vectors × IsFamilyAllocation families rest
 
 -- the cost of an allocation
 abbrev pub cost_at : List Family → List (List ℕ) → ℕ
@@ -54,5 +54,5 @@ total_at n (family ∷ families) (stocks ∷ rest) = family.backorders n stocks 
 
 -- For every allocation, the backorders and the price of the money above the budget sum to at least this.
 abbrev pub IsBoundAtPrice : List Family → ℕ → ℕ → Fraction → Fraction → Type 0
-IsBoundAtPrice families budget n price bound = (allocation : List (List ℕ)) → IsAllocation families allocation
+IsBoundAtPrice families budget n price bound = (allocation : List (List ℕ)) → IsFamilyAllocation families allocation
     → bound +ℚ price *ℚ whole budget ≤ℚ total_at n families allocation +ℚ price *ℚ whole (cost_at families allocation)

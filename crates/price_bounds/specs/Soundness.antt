@@ -4,7 +4,7 @@ use Rattle.exact_model.specs.Fraction.{Fraction}
 use Rattle.hull.specs.declared.point.Point.{Point}
 use Rattle.price_bounds.specs.Values.{IsAtLeast, IsAtMost}
 use Rattle.price_bounds.specs.Certificates.{Claims, IsAcceptable}
-use Rattle.price_bounds.specs.Allocations.{Family, points_of, AreEnclosed, IsAllocation, cost_at, total_at, IsBoundAtPrice}
+use Rattle.price_bounds.specs.Allocations.{Family, points_of, AreEnclosed, IsFamilyAllocation, cost_at, total_at, IsBoundAtPrice}
 
 -- the stocks of points, a vector for each
 abbrev pub stocks_of : List Point → List (List ℕ)
@@ -13,7 +13,7 @@ stocks_of points = map (λ v. v.stocks) points
 -- no allocation within the budget has fewer backorders than the bound
 abbrev pub NoneHasFewerThan : ℕ → List Family → ℕ → Type 0
 NoneHasFewerThan bound families budget = (n : ℕ) (allocation : List (List ℕ)) → 1024 ≤ n
-    → IsAllocation families allocation
+    → IsFamilyAllocation families allocation
     → cost_at families allocation ≤ budget → IsAtLeast bound (total_at n families allocation)
 
 -- no price has a bound above the limit
@@ -28,7 +28,7 @@ NoCertificateHasMoreThan limit families budget = (claims : Claims) → IsAccepta
 
 -- The promises of an acceptable certificate.
 pub record IsSoundCertificate (families : List Family) (budget : ℕ) (claims : Claims) : Type 0 where
-  pub allocation : IsAllocation families (stocks_of claims.chosen)
+  pub allocation : IsFamilyAllocation families (stocks_of claims.chosen)
   pub fits : cost_at families (stocks_of claims.chosen) ≤ budget
   pub upper : (n : ℕ) → 1024 ≤ n → IsAtMost claims.upper (total_at n families (stocks_of claims.chosen))
   pub fewer : NoneHasFewerThan claims.bound families budget

@@ -10,7 +10,7 @@ use Rattle.line_text.proofs.Public.{item_more}
 use Rattle.price_certificate.specs.declared.certificate.Node.{Node}
 use Rattle.price_certificate.specs.declared.certificate.Node.TheVariants as node
 use Rattle.price_certificate.specs.declared.place.Place.{Place}
-use Rattle.price_certificate.specs.Covers.{nodes_of, CutsAt, Tree, Whole, Cost, Cut, Corner, put, IsLawful, AllCostLeaves, AllWholeLeaves, no_place, held_at, most_at, IsPlace, added_from, added, reach, trimmed_from, trimmed, IsTrim}
+use Rattle.price_certificate.specs.Covers.{nodes_of, CutsAt, Tree, Whole, Cost, Cut, Corner, put, IsLawful, AllCostLeaves, AllWholeLeaves, no_place, corner_of_held, most_at, IsPlace, added_from, added, reach, trimmed_from, trimmed, IsTrim}
 
 -- a corner with a place put holds there what was put
 pub put_here : (at v : ℕ) (f : Corner) → put at v f at ≡ v
@@ -24,7 +24,7 @@ put_there at v f i h = rw (ne_eqb i at h) refl
 
 -- the box has what is held and the most at the places from this one on
 record Box (at : ℕ) (xs : List Place) (low high : Corner) : Type 0 where
-  low_is : (j : ℕ) → j < length xs → low (at + j) ≡ held_at xs j
+  low_is : (j : ℕ) → j < length xs → low (at + j) ≡ corner_of_held xs j
   high_is : (j : ℕ) → j < length xs → high (at + j) ≡ most_at xs j
 
 here : (at : ℕ) → at + 0 ≡ at
@@ -76,14 +76,14 @@ swap p m c = grind arith
 -- ---- boxes that cost the floor
 
 -- a corner costs at least what stands at one place
-one_place : (i j : ℕ) (xs : List Place) (corner : Corner) → j < length xs → (corner (i + j) - held_at xs j) * (get_or xs j no_place).cost ≤ added_from i xs corner
+one_place : (i j : ℕ) (xs : List Place) (corner : Corner) → j < length xs → (corner (i + j) - corner_of_held xs j) * (get_or xs j no_place).cost ≤ added_from i xs corner
 one_place i j [] corner lt = absurd (omega (arith, lt))
 one_place i zero (x ∷ xs) corner lt =
     let e : (corner (i + 0) - x.held) * x.cost ≡ (corner i - x.held) * x.cost = ap (λ (k : ℕ). (corner k - x.held) * x.cost) (here i) in
     omega (arith, e)
 one_place i (suc j) (x ∷ xs) corner lt =
     let rest = one_place (suc i) j xs corner (omega (arith, lt)) in
-    let e : (corner (suc i + j) - held_at xs j) * (get_or xs j no_place).cost ≡ (corner (i + suc j) - held_at xs j) * (get_or xs j no_place).cost = ap (λ (k : ℕ). (corner k - held_at xs j) * (get_or xs j no_place).cost) (later i j) in
+    let e : (corner (suc i + j) - corner_of_held xs j) * (get_or xs j no_place).cost ≡ (corner (i + suc j) - corner_of_held xs j) * (get_or xs j no_place).cost = ap (λ (k : ℕ). (corner k - corner_of_held xs j) * (get_or xs j no_place).cost) (later i j) in
     omega (arith, rest, e)
 
 -- the stock that a place alone costs the floor with
@@ -98,14 +98,14 @@ pays p floor held cost a b =
     let same : p * ((held + m - held) * cost) ≡ m * (p * cost) = ap (λ (x : ℕ). p * (x * cost)) step ∙ swap p m cost in
     omega (arith, up, more, same)
 
-cut_pays : (p floor at : ℕ) (all : List Place) (x : Place) → 1 ≤ p → at < length all → x ≡ get_or all at no_place → IsPlace x → floor ≤ p * added all (put at (reach p floor x) (held_at all))
+cut_pays : (p floor at : ℕ) (all : List Place) (x : Place) → 1 ≤ p → at < length all → x ≡ get_or all at no_place → IsPlace x → floor ≤ p * added all (put at (reach p floor x) (corner_of_held all))
 cut_pays p floor at all x some lt e v =
-    let corner = put at (reach p floor x) (held_at all) in
+    let corner = put at (reach p floor x) (corner_of_held all) in
     let zero_at : 0 + at ≡ at = omega arith in
-    let stands : corner (0 + at) ≡ reach p floor x = ap corner zero_at ∙ put_here at (reach p floor x) (held_at all) in
+    let stands : corner (0 + at) ≡ reach p floor x = ap corner zero_at ∙ put_here at (reach p floor x) (corner_of_held all) in
     let there : (reach p floor x - x.held) * x.cost ≤ added all corner =
     subst (λ (y : Place). (reach p floor x - y.held) * y.cost ≤ added all corner) (sym e)
-    (subst (λ (k : ℕ). (k - held_at all at) * (get_or all at no_place).cost ≤ added all corner) stands (one_place 0 at all corner lt)) in
+    (subst (λ (k : ℕ). (k - corner_of_held all at) * (get_or all at no_place).cost ≤ added all corner) stands (one_place 0 at all corner lt)) in
     let enough = pays p floor x.held x.cost some v.cost in
     let times = mul-le p ((reach p floor x - x.held) * x.cost) p (added all corner) (omega arith) there in
     omega (arith, enough, times)
@@ -115,7 +115,7 @@ module _ (p floor : ℕ) (all : List Place) (some : 1 ≤ p) (valid : All IsPlac
   Paid low high = floor ≤ p * added all low
 
   abbrev Left : Corner → Corner → Type 0
-  Left low high = (i : ℕ) → (low i ≡ held_at all i) × (high i ≤ most_at all i)
+  Left low high = (i : ℕ) → (low i ≡ corner_of_held all i) × (high i ≤ most_at all i)
 
   -- these are the places from this one on
   record Rest (at : ℕ) (xs : List Place) : Type 0 where
@@ -128,15 +128,15 @@ module _ (p floor : ℕ) (all : List Place) (some : 1 ≤ p) (valid : All IsPlac
     whole = omega (arith, r.whole);
   }
 
-  paid_at : (at : ℕ) (x : Place) (xs : List Place) (high : Corner) (b : Bool) → Rest at (x ∷ xs) → ((top : Corner) → AllCostLeaves Paid (trimmed_from p floor (suc at) xs) (held_at all) top)
-      → AllCostLeaves Paid (split p floor at x xs b) (held_at all) high
+  paid_at : (at : ℕ) (x : Place) (xs : List Place) (high : Corner) (b : Bool) → Rest at (x ∷ xs) → ((top : Corner) → AllCostLeaves Paid (trimmed_from p floor (suc at) xs) (corner_of_held all) top)
+      → AllCostLeaves Paid (split p floor at x xs b) (corner_of_held all) high
   paid_at at x xs high true r rest =
       let e : x ≡ get_or all at no_place = r.each 0 (omega arith) ∙ ap (λ (k : ℕ). get_or all k no_place) (here at) in
       let lt : at < length all = omega (arith, r.whole) in
       (rest (put at (reach p floor x - 1) high), cut_pays p floor at all x some lt e (subst (λ (y : Place). IsPlace y) (sym e) (valid at no_place lt)))
   paid_at at x xs high false r rest = rest high
 
-  paid_from : (at : ℕ) (xs : List Place) (high : Corner) → Rest at xs → AllCostLeaves Paid (trimmed_from p floor at xs) (held_at all) high
+  paid_from : (at : ℕ) (xs : List Place) (high : Corner) → Rest at xs → AllCostLeaves Paid (trimmed_from p floor at xs) (corner_of_held all) high
   paid_from at [] high r = tt
   paid_from at (x ∷ xs) high r = paid_at at x xs high (nat_le (reach p floor x) x.most) r (λ top. paid_from (suc at) xs top (rest_of at x xs r))
 
@@ -148,14 +148,14 @@ module _ (p floor : ℕ) (all : List Place) (some : 1 ≤ p) (valid : All IsPlac
       below false e = h i
 
   left_at : (at : ℕ) (x : Place) (xs : List Place) (high : Corner) (b : Bool) → nat_le (reach p floor x) x.most ≡ b → Rest at (x ∷ xs) → ((i : ℕ) → high i ≤ most_at all i)
-      → ((top : Corner) → ((i : ℕ) → top i ≤ most_at all i) → AllWholeLeaves Left (trimmed_from p floor (suc at) xs) (held_at all) top) → AllWholeLeaves Left (split p floor at x xs b) (held_at all) high
+      → ((top : Corner) → ((i : ℕ) → top i ≤ most_at all i) → AllWholeLeaves Left (trimmed_from p floor (suc at) xs) (corner_of_held all) top) → AllWholeLeaves Left (split p floor at x xs b) (corner_of_held all) high
   left_at at x xs high true h r most rest =
       let e : x ≡ get_or all at no_place = r.each 0 (omega arith) ∙ ap (λ (k : ℕ). get_or all k no_place) (here at) in
       let le : reach p floor x - 1 ≤ most_at all at = omega (arith, leb-true (reach p floor x) x.most h, ap (λ (y : Place). y.most) e) in
       (rest (put at (reach p floor x - 1) high) (lower at (reach p floor x - 1) high le most), tt)
   left_at at x xs high false h r most rest = rest high most
 
-  left_from : (at : ℕ) (xs : List Place) (high : Corner) → Rest at xs → ((i : ℕ) → high i ≤ most_at all i) → AllWholeLeaves Left (trimmed_from p floor at xs) (held_at all) high
+  left_from : (at : ℕ) (xs : List Place) (high : Corner) → Rest at xs → ((i : ℕ) → high i ≤ most_at all i) → AllWholeLeaves Left (trimmed_from p floor at xs) (corner_of_held all) high
   left_from at [] high r most = λ i. (refl, most i)
   left_from at (x ∷ xs) high r most = left_at at x xs high (nat_le (reach p floor x) x.most) refl r most (λ top m. left_from (suc at) xs top (rest_of at x xs r) m)
 
@@ -163,8 +163,8 @@ module _ (p floor : ℕ) (all : List Place) (some : 1 ≤ p) (valid : All IsPlac
   trim_from =
       let start : Rest 0 all = record { each = λ j lt. ap (λ (k : ℕ). get_or all k no_place) (let z : j ≡ 0 + j = omega arith in z); whole = omega arith } in
       record {
-        lawful = lawful_from p floor (length all) 0 all (held_at all) (most_at all) (omega arith)
-            (record { low_is = λ j lt. ap (held_at all) (let z : 0 + j ≡ j = omega arith in z); high_is = λ j lt. ap (most_at all) (let z : 0 + j ≡ j = omega arith in z) });
+        lawful = lawful_from p floor (length all) 0 all (corner_of_held all) (most_at all) (omega arith)
+            (record { low_is = λ j lt. ap (corner_of_held all) (let z : 0 + j ≡ j = omega arith in z); high_is = λ j lt. ap (most_at all) (let z : 0 + j ≡ j = omega arith in z) });
         cost = paid_from 0 all (most_at all) start;
         whole = left_from 0 all (most_at all) start (λ i. omega arith);
       }

@@ -1,11 +1,12 @@
 -- Well formed certificates, their text, and their reading.
-use Rattle.std.specs.Prelude.{◌≡◌, ⊤, ℕ, ◌^◌, ◌≤◌, List, [], length, All, Result, Ok, Err}
+use Rattle.std.specs.Prelude.{◌≡◌, ⊤, ℕ, ◌≤◌, List, [], length, All, Result, Ok, Err}
 use Rattle.line_text.specs.Files.{file_text, file_answer}
 use Rattle.spares_input.specs.Frames.{FrameRows, frame_of}
 use Rattle.spares_input.specs.Cases.{IsCase}
 use Rattle.spares_input.specs.Money.{most_budget}
 use Rattle.spares_input.specs.Stocks.{IsFor}
 use Rattle.spares_input.specs.declared.fault.CaseFault.{CaseFault}
+use Rattle.hull.specs.Limits.{most_price_units, most_price_money, most_floor, most_total}
 use Rattle.price_certificate.specs.declared.certificate.Certificate.{Certificate}
 use Rattle.price_certificate.specs.declared.certificate.Objective.TheVariants as objective
 use Rattle.price_certificate.specs.declared.certificate.Node.{Node}
@@ -52,16 +53,16 @@ pub record IsWellFormed (c : Certificate) : Type 0 where
   pub most : c.format ≤ 2
   pub case : IsCase c.case
   pub budget : c.budget ≤ most_budget
-  pub price : c.price.p ≤ 2 ^ 74
-  pub money : (1 ≤ c.price.q) × (c.price.q ≤ 10 ^ 12)
+  pub price : c.price.p ≤ most_price_units
+  pub money : (1 ≤ c.price.q) × (c.price.q ≤ most_price_money)
   pub floor_count : length c.floors ≡ family_count c.case.parts
-  pub floors : AreUpTo (2 ^ 115) c.floors
+  pub floors : AreUpTo most_floor c.floors
   pub first : c.format ≡ 1 → IsFirst c
   pub second : c.format ≡ 2 → IsSecond c
   pub stocks : IsFor c.case c.stocks
   pub stock_numbers : AreUpTo 63 c.stocks.list
-  pub upper : c.upper ≤ 2 ^ 85
-  pub bound : c.bound ≤ 2 ^ 85
+  pub upper : c.upper ≤ most_total
+  pub bound : c.bound ≤ most_total
 
 -- ---- text and reading
 

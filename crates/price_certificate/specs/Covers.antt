@@ -3,7 +3,7 @@ use Rattle.std.specs.Prelude.{◌≡◌, ⊤, ℕ, suc, ◌+◌, ◌-◌, ◌*�
 use Rattle.std.proofs.Common.{◌⊎◌}
 use Rattle.std.specs.Int.{div_ceil}
 use Rattle.std.specs.List.{range_with_len}
-use Rattle.spares_input.specs.Frames.{part_at, shop_units}
+use Rattle.spares_input.specs.Frames.{part_at, shop_units_among}
 use Rattle.spares_input.specs.Stocks.{limit_at}
 use Rattle.spares_input.specs.Cases.{CaseRows}
 use Rattle.price_certificate.specs.declared.place.Place.{Place}
@@ -62,8 +62,8 @@ abbrev pub no_place : Place
 no_place = record { held = 0; most = 0; cost = 0 }
 
 -- the corner of the held stock at each place
-abbrev pub held_at : List Place → Corner
-held_at places i = (get_or places i no_place).held
+abbrev pub corner_of_held : List Place → Corner
+corner_of_held places i = (get_or places i no_place).held
 
 -- the corner of the largest stock allowed at each place
 abbrev pub most_at : List Place → Corner
@@ -103,10 +103,13 @@ trimmed p floor places = if p == 0 then Whole else trimmed_from p floor 0 places
 -- The tree is lawful, each box shown by its cost costs at least the floor, and the others begin at the held stocks and
 -- are within the largest stocks allowed.
 pub record IsTrim (p floor : ℕ) (places : List Place) (tree : Tree) : Type 0 where
-  pub lawful : IsLawful (length places) tree (held_at places) (most_at places)
-  pub cost : AllCostLeaves (λ low high. floor ≤ p * added places low) tree (held_at places) (most_at places)
-  pub whole : AllWholeLeaves (λ low high. (i : ℕ) → (low i ≡ held_at places i) × (high i ≤ most_at places i)) tree
-      (held_at places) (most_at places)
+  pub lawful : IsLawful (length places) tree (corner_of_held places)
+      (most_at places)
+  pub cost : AllCostLeaves (λ low high. floor ≤ p * added places low) tree (corner_of_held places)
+      (most_at places)
+  pub whole : AllWholeLeaves (λ low high. (i : ℕ) → (low i ≡ corner_of_held places i) × (high i ≤ most_at places i))
+      tree
+      (corner_of_held places) (most_at places)
 
 -- the nodes after place `at`: one cut is added, or none because the place may not have the stock
 abbrev pub CutsAt : ℕ → ℕ → ℕ → Place → List Node → List Node → ℕ → Type 0
@@ -117,20 +120,21 @@ CutsAt p floor at x before after n =
 -- ---- the places of a case's family
 
 -- a line unit and its shop units
-abbrev pub family : CaseRows → ℕ → List ℕ
-family c l = l ∷ shop_units c.parts l
+abbrev pub parts_of_family : CaseRows → ℕ → List ℕ
+parts_of_family c l = l ∷ shop_units_among c.parts l
 
 -- the count of places in a vector of the family
 abbrev pub place_count : CaseRows → ℕ → ℕ
-place_count c l = length c.sites * length (family c l)
+place_count c l = length c.sites * length (parts_of_family c l)
 
 -- part p at site k with this held stock
-abbrev pub place_of : CaseRows → ℕ → ℕ → ℕ → Place
-place_of c p k held = record { held = held; most = limit_at c.parts p k; cost = (part_at c.parts p).cost }
+abbrev pub place_for : CaseRows → ℕ → ℕ → ℕ → Place
+place_for c p k held = record { held = held; most = limit_at c.parts p k; cost = (part_at c.parts p).cost }
 
 -- place m of the vectors: site by site the line unit and its shop units
 abbrev pub place_at : CaseRows → ℕ → List ℕ → ℕ → Place
-place_at c l held m = place_of c (get_or (family c l) (m % length (family c l)) 0) (m / length (family c l))
+place_at c l held m =
+    place_for c (get_or (parts_of_family c l) (m % length (parts_of_family c l)) 0) (m / length (parts_of_family c l))
     (get_or held m 0)
 
 -- the places of the vectors of a case's family, with these held stocks
@@ -138,5 +142,5 @@ abbrev pub places_of : CaseRows → ℕ → List ℕ → List Place
 places_of c l held = map (place_at c l held) (range_with_len 0 (place_count c l))
 
 -- no place holds more than its largest stock allowed
-abbrev pub IsHeld : CaseRows → ℕ → List ℕ → Type 0
-IsHeld c l held = (m : ℕ) → m < place_count c l → (place_at c l held m).held ≤ (place_at c l held m).most
+abbrev pub AreWithinMost : CaseRows → ℕ → List ℕ → Type 0
+AreWithinMost c l held = (m : ℕ) → m < place_count c l → (place_at c l held m).held ≤ (place_at c l held m).most

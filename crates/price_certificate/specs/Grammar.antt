@@ -1,9 +1,10 @@
 -- The lines of a certificate.
-use Rattle.std.specs.Prelude.{ℕ, ◌^◌, Bool, true, false, ◌==◌, List, [], count_by, length, if◌then◌else◌, bytes_eq}
+use Rattle.std.specs.Prelude.{ℕ, Bool, true, false, ◌==◌, List, [], count_by, length, if◌then◌else◌, bytes_eq}
 use Rattle.line_text.specs.Formats.{Token, Text, Format, spelled, one, and_then, as_shape}
 use Rattle.line_text.specs.Files.{line}
 use Rattle.line_text.specs.Texts.{number, word, no_field, word_line, number_line, count_line, counted, Either, Left, Right, either}
 use Rattle.hull.specs.declared.price.Price.{Price}
+use Rattle.hull.specs.Limits.{most_price_units, most_price_money, most_floor, most_total}
 use Rattle.spares_input.specs.Rows.{is_line}
 use Rattle.spares_input.specs.Cases.{CaseRows, frame_rows, pair_count}
 use Rattle.spares_input.specs.Money.{most_budget}
@@ -57,7 +58,8 @@ budget_line = count_line (codes "budget") 0 most_budget
 -- price,P,Q
 abbrev pub price_fields : Format Price
 price_fields =
-    as_shape (and_then (word (codes "price")) (λ _. and_then (one (number 0 (2 ^ 74))) (λ _. one (number 1 (10 ^ 12)))))
+    as_shape (and_then (word (codes "price"))
+    (λ _. and_then (one (number 0 most_price_units)) (λ _. one (number 1 most_price_money))))
     (λ x. record { p = x.1.0; q = x.1.1 })
     (λ price. (tt, (price.p, price.q)))
     (λ _. true)
@@ -74,7 +76,7 @@ family_count parts = count_by is_line parts
 
 -- the count of families, and then the floor of each
 abbrev pub floors : ℕ → Format (List ℕ)
-floors families = counted (codes "floors") families families (λ _. number_line (2 ^ 115))
+floors families = counted (codes "floors") families families (λ _. number_line most_floor)
 
 -- ---- covers, one for each line unit, only in format 2
 
@@ -133,8 +135,8 @@ stocks c =
 
 -- upper,U, the upper end, bound,B, and then the word end
 abbrev pub ending : Format (ℕ × (ℕ × Unit {0}))
-ending = and_then (count_line (codes "upper") 0 (2 ^ 85))
-    (λ _. and_then (count_line (codes "bound") 0 (2 ^ 85)) (λ _. word_line (codes "end")))
+ending = and_then (count_line (codes "upper") 0 most_total)
+    (λ _. and_then (count_line (codes "bound") 0 most_total) (λ _. word_line (codes "end")))
 
 -- floors, covers, stocks, and the last three lines
 abbrev pub lists : ℕ → CaseRows → Format (List ℕ × (List (List Node) × (StockList × (ℕ × (ℕ × Unit {0})))))

@@ -22,7 +22,7 @@ pub use reading::{
     CertificateLines, Ending, Lists, certificate_lines, certificate_of, line_number, read,
 };
 pub use trimming::{trim, trimmed_covers};
-pub use writing::text;
+pub use writing::{put_each_stock, text};
 
 /// The most bytes of a certificate.
 pub const CERTIFICATE_LIMIT: usize = 16_777_216;

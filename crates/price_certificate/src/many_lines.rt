@@ -4,6 +4,7 @@ ghost use Rattle.std.specs.Prelude.{◌^◌};
 ghost use Rattle.line_text.specs.Formats.{each};
 ghost use Rattle.line_text.specs.Texts.{counted, numbers_from};
 ghost use Rattle.line_text.specs.Reading.{Gathers};
+ghost use Rattle.hull.specs.Limits.{most_floor};
 ghost use Rattle.price_certificate.specs.Grammar.{floors, node_line, cover, covers, stock_lines};
 ghost use Rattle.line_text.specs.Texts.{number_line};
 ghost use lib.Chars.{codes};
@@ -21,7 +22,7 @@ fn each_floor(
     count: usize,
 ) -> Result<Vec<u128>, Stop<BadLine>>
     ensures { Gathers (λ v. v.items) result lines.new
-        ((each (numbers_from 0 count) (λ _. number_line (2 ^ 115))).read lines.old) }
+        ((each (numbers_from 0 count) (λ _. number_line most_floor)).read lines.old) }
 {
     let mut found = Vec::new(alloc);
     for k in 0..count {

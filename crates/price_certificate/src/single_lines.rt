@@ -1,7 +1,7 @@
 //! Reading single lines.
 
-ghost use Rattle.std.specs.Prelude.{◌≡◌, ◌^◌, ◌<◌};
-ghost use Rattle.line_text.specs.Formats.{accepted, read_all, one};
+ghost use Rattle.std.specs.Prelude.{◌^◌, ◌<◌};
+ghost use Rattle.line_text.specs.Formats.{one};
 ghost use Rattle.line_text.specs.Files.{line};
 ghost use Rattle.line_text.specs.Texts.{number};
 ghost use Rattle.line_text.specs.Reading.{Reads, Takes};
@@ -31,32 +31,14 @@ fn aim_of(fields: &mut Fields<'_>) -> Option<Objective>
     objective_in(fields)
 }
 
-/// The objective of all of these fields.
-#[tactic(auto, using(line_text::proofs::Cursors::whole_read, line_text::proofs::Cursors::whole_left, line_text::proofs::Cursors::whole_refused))]
-fn aim_all(mut fields: Fields<'_>) -> Option<Objective>
-    ensures { result ≡ accepted (read_all objective_fields fields.entry) }
-{
-    let objective = aim_of(&mut fields)?;
-    if fields.is_empty() {
-        Some(objective)
-    } else {
-        None
-    }
-}
-
 /// Reads the line of the objective.
-#[tactic(auto, using(line_text::proofs::Cursors::line_read, line_text::proofs::Cursors::line_refused, line_text::proofs::Cursors::line_missing))]
+#[tactic(auto, using(line_text::proofs::Cursors::line_missing))]
 fn aim_line(lines: &mut Lines<'_>) -> Result<Objective, BadLine>
     ensures { Reads (λ o. o) result lines.new ((one (line objective_fields)).read lines.old) }
 {
-    let fields = lines.fields()?;
-    match aim_all(fields) {
-        Some(objective) => {
-            lines.pass();
-            Ok(objective)
-        }
-        None => Err(BadLine),
-    }
+    let mut fields = lines.fields()?;
+    let objective = aim_of(&mut fields);
+    lines.row(objective, &fields)
 }
 
 /// Reads the line of the objective, which only format 2 has.
@@ -80,28 +62,14 @@ fn price_of(fields: &mut Fields<'_>) -> Option<Price>
     Some(Price { p, q: q as u64 })
 }
 
-/// The price of all of these fields.
-#[tactic(auto, using(line_text::proofs::Cursors::whole_read, line_text::proofs::Cursors::whole_left, line_text::proofs::Cursors::whole_refused))]
-fn price_all(mut fields: Fields<'_>) -> Option<Price>
-    ensures { result ≡ accepted (read_all price_fields fields.entry) }
-{
-    let price = price_of(&mut fields)?;
-    if fields.is_empty() { Some(price) } else { None }
-}
-
 /// Reads the line of the price.
-#[tactic(auto, using(line_text::proofs::Cursors::line_read, line_text::proofs::Cursors::line_refused, line_text::proofs::Cursors::line_missing))]
+#[tactic(auto, using(line_text::proofs::Cursors::line_missing))]
 pub(crate) fn price_line(lines: &mut Lines<'_>) -> Result<Price, BadLine>
     ensures { Reads (λ p. p) result lines.new (price_line.read lines.old) }
 {
-    let fields = lines.fields()?;
-    match price_all(fields) {
-        Some(price) => {
-            lines.pass();
-            Ok(price)
-        }
-        None => Err(BadLine),
-    }
+    let mut fields = lines.fields()?;
+    let price = price_of(&mut fields);
+    lines.row(price, &fields)
 }
 
 /// Takes `split,AT,FROM`.
@@ -114,28 +82,14 @@ fn split_of(fields: &mut Fields<'_>) -> Option<(u128, u128)>
     Some((at, from))
 }
 
-/// The split of all of these fields.
-#[tactic(auto, using(line_text::proofs::Cursors::whole_read, line_text::proofs::Cursors::whole_left, line_text::proofs::Cursors::whole_refused))]
-fn split_all(mut fields: Fields<'_>) -> Option<(u128, u128)>
-    ensures { result ≡ accepted (read_all split_fields fields.entry) }
-{
-    let split = split_of(&mut fields)?;
-    if fields.is_empty() { Some(split) } else { None }
-}
-
 /// Reads the line of a split.
-#[tactic(auto, using(line_text::proofs::Cursors::line_read, line_text::proofs::Cursors::line_refused, line_text::proofs::Cursors::line_missing))]
+#[tactic(auto, using(line_text::proofs::Cursors::line_missing))]
 fn split_line(lines: &mut Lines<'_>) -> Result<(u128, u128), BadLine>
     ensures { Reads (λ s. s) result lines.new ((one (line split_fields)).read lines.old) }
 {
-    let fields = lines.fields()?;
-    match split_all(fields) {
-        Some(split) => {
-            lines.pass();
-            Ok(split)
-        }
-        None => Err(BadLine),
-    }
+    let mut fields = lines.fields()?;
+    let split = split_of(&mut fields);
+    lines.row(split, &fields)
 }
 
 /// Reads the line of a leaf: true for `whole`, false for `cost`.

@@ -1,12 +1,13 @@
 //! The trimmed cover of a family: boxes whose cost alone shows the floor, and one whole box.
 
-ghost use Rattle.std.specs.Prelude.{◌≡◌, ◌+◌, ◌^◌, ◌≤◌, ◌<◌, All, List, ℕ, length, map, true, false, nat_le, replicate, MatchOption, IfOk, OnOk, ◌++◌};
+ghost use Rattle.std.specs.Prelude.{◌≡◌, ◌+◌, ◌≤◌, ◌<◌, All, List, ℕ, length, map, true, false, nat_le, replicate, MatchOption, IfOk, OnOk, ◌++◌};
 ghost use Rattle.spares_input.specs.Rows.{is_line};
-ghost use Rattle.spares_input.specs.Frames.{is_shop_of, part_at};
+ghost use Rattle.spares_input.specs.Frames.{part_at};
 ghost use Rattle.spares_input.specs.Stocks.{limit_at};
+ghost use Rattle.hull.specs.Limits.{most_price_units};
 ghost use Rattle.price_certificate.specs.declared.place.Place.{Place};
 ghost use Rattle.price_certificate.specs.declared.certificate.Node.TheVariants as node;
-ghost use Rattle.price_certificate.specs.Covers.{CutsAt, IsHeld, family, place_of, place_count, places_of, IsPlace, IsTrim, nodes_of, reach, trimmed_from, trimmed};
+ghost use Rattle.price_certificate.specs.Covers.{CutsAt, AreWithinMost, parts_of_family, place_for, place_count, places_of, IsPlace, IsTrim, nodes_of, reach, trimmed_from, trimmed};
 
 use crate::certificate::Node;
 use crate::place::Place;
@@ -19,7 +20,7 @@ use std::alloc::Global;
 /// it.
 fn reach(p: u128, floor: u128, place: &Place) -> Option<u8>
     requires some { 1 ≤ p }
-    requires most { p ≤ 2 ^ 74 }
+    requires most { p ≤ most_price_units }
     requires place { IsPlace place.now }
     ensures { MatchOption result (nat_le (reach p floor place.now) place.now.most ≡ false)
         (λ from. (nat_le (reach p floor place.now) place.now.most ≡ true) × (from ≡ reach p floor place.now)) }
@@ -43,7 +44,7 @@ fn push_cut(
     place: &Place,
 ) -> Result<usize, NoMemory>
     requires some { 1 ≤ p }
-    requires most { p ≤ 2 ^ 74 }
+    requires most { p ≤ most_price_units }
     requires few { at < 144 }
     requires place { IsPlace place.now }
     ensures { IfOk result (λ n. CutsAt p floor at place.now nodes.old.items nodes.new.items n) }
@@ -73,7 +74,7 @@ fn push_costs(nodes: &mut Vec<Node>, count: usize) -> Result<(), NoMemory>
 /// The nodes of the trimmed cover at a price above 0.
 fn trim_places(alloc: Global, places: &[Place], p: u128, floor: u128) -> Result<Vec<Node>, NoMemory>
     requires some { 1 ≤ p }
-    requires most { p ≤ 2 ^ 74 }
+    requires most { p ≤ most_price_units }
     requires few { length places.now ≤ 144 }
     requires places { All IsPlace places.now }
     ensures { IfOk result (λ v. v.items ≡ nodes_of (trimmed_from p floor 0 places.now)) }
@@ -88,27 +89,12 @@ fn trim_places(alloc: Global, places: &[Place], p: u128, floor: u128) -> Result<
     Ok(nodes)
 }
 
-/// A line unit and its shop units, in part order.
-fn family(alloc: Global, case: &Case, line: PartId) -> Result<Vec<PartId>, NoMemory>
-    requires { line.0 < length case.now.parts }
-    ensures { IfOk result (λ v. map (λ p. p.0) v.items ≡ family case.now line.0) }
-{
-    let mut parts = Vec::new(alloc);
-    parts.push(line)?;
-    for p in 0..case.part_count() {
-        if case.is_shop_of(PartId(p), line) {
-            parts.push(PartId(p))?;
-        }
-    }
-    Ok(parts)
-}
-
 /// A part at a site with this held stock.
 fn place_of(case: &Case, part: PartId, site: SiteId, held: u8) -> Place
     requires part { part.0 < length case.now.parts }
     requires site { site.0 < length case.now.sites }
     requires held { held ≤ limit_at case.now.parts part.0 site.0 }
-    ensures place { result ≡ place_of case.now part.0 site.0 held }
+    ensures place { result ≡ place_for case.now part.0 site.0 held }
     ensures valid { IsPlace result }
 {
     Place {
@@ -126,11 +112,11 @@ fn places(
     parts: &[PartId],
     held: &[u8],
 ) -> Result<Vec<Place>, NoMemory>
-    requires parts { map (λ p. p.0) parts.now ≡ family case.now line.0 }
+    requires parts { map (λ p. p.0) parts.now ≡ parts_of_family case.now line.0 }
     requires few { length parts.now ≤ 9 }
     requires ids { All (λ p. p.0 < length case.now.parts) parts.now }
     requires count { length held.now ≡ place_count case.now line.0 }
-    requires within { IsHeld case.now line.0 held.now }
+    requires within { AreWithinMost case.now line.0 held.now }
     ensures places { IfOk result (λ v. v.items ≡ places_of case.now line.0 held.now) }
     ensures valid { IfOk result (λ v. All IsPlace v.items) }
 {
@@ -155,16 +141,16 @@ fn trim_family(
     floor: u128,
 ) -> Result<Vec<Node>, NoMemory>
     requires line { line.0 < length case.now.parts }
-    requires few { length (family case.now line.0) ≤ 9 }
+    requires few { length (parts_of_family case.now line.0) ≤ 9 }
     requires count { length held.now ≡ place_count case.now line.0 }
-    requires within { IsHeld case.now line.0 held.now }
+    requires within { AreWithinMost case.now line.0 held.now }
     requires some { 1 ≤ p }
-    requires most { p ≤ 2 ^ 74 }
+    requires most { p ≤ most_price_units }
     ensures { IfOk result (λ v. v.items ≡ nodes_of (trimmed_from p floor 0 (places_of case.now line.0 held.now))) }
 {
     case.invariant();
-    let parts = family(alloc, case, line)?;
-    let places = places(alloc, case, line, parts.as_slice(), held)?;
+    let parts = case.family(line);
+    let places = places(alloc, case, line, parts, held)?;
     trim_places(alloc, places.as_slice(), p, floor)
 }
 
@@ -182,8 +168,8 @@ pub fn trim(
     requires line { line.0 < length case.now.parts }
     requires is_line { is_line (part_at case.now.parts line.0) ≡ true }
     requires count { length held.now ≡ place_count case.now line.0 }
-    requires within { IsHeld case.now line.0 held.now }
-    requires price { price.p ≤ 2 ^ 74 }
+    requires within { AreWithinMost case.now line.0 held.now }
+    requires price { price.p ≤ most_price_units }
     ensures nodes { IfOk result (λ v. v.items ≡ nodes_of (trimmed price.p floor (places_of case.now line.0 held.now))) }
     ensures shown { IsTrim price.p floor (places_of case.now line.0 held.now)
         (trimmed price.p floor (places_of case.now line.0 held.now)) }

@@ -1,12 +1,13 @@
 //! The text of a certificate.
 
-ghost use Rattle.std.specs.Prelude.{◌≡◌, ℕ, ◌^◌, ◌++◌, length, OnOk, IfOk};
+ghost use Rattle.std.specs.Prelude.{◌≡◌, ℕ, ◌++◌, length, OnOk, IfOk};
 ghost use Rattle.std.specs.List.{concat};
 ghost use Rattle.line_text.specs.Formats.{each, and_then, one};
 ghost use Rattle.line_text.specs.Files.{line, file_text};
 ghost use Rattle.case_lines.specs.Grammar.{case_format};
 ghost use Rattle.line_text.specs.Texts.{counted, numbers_from, word, number};
 ghost use Rattle.spares_input.specs.Stocks.{IsFor};
+ghost use Rattle.hull.specs.Limits.{most_floor};
 ghost use Rattle.price_certificate.specs.Grammar.{objective_fields, objective_line, price_fields, floors, node_line, cover, covers, stocks};
 ghost use Rattle.line_text.specs.Texts.{number_line};
 ghost use Rattle.price_certificate.specs.Certificates.{IsWellFormed, cert_text};
@@ -75,7 +76,7 @@ fn put_price(out: &mut Vec<u8>, price: &Price) -> Result<(), NoMemory>
 /// Writes a line for each floor.
 fn put_each_floor(out: &mut Vec<u8>, list: &[u128]) -> Result<(), NoMemory>
     ensures { OnOk result (out.new.items ≡ out.old.items
-        ++ concat ((each (numbers_from 0 (length list.now)) (λ _. number_line (2 ^ 115))).print list.now)) }
+        ++ concat ((each (numbers_from 0 (length list.now)) (λ _. number_line most_floor)).print list.now)) }
 {
     for k in 0..list.len() {
         put_number_line(out, list[k])?;
@@ -157,10 +158,10 @@ fn put_covers_of(out: &mut Vec<u8>, format: u8, list: &[List<Node>]) -> Result<(
     }
 }
 
-/// Writes a line for each stock.
-fn put_each_stock(out: &mut Vec<u8>, list: &[u8]) -> Result<(), NoMemory>
-    ensures { OnOk result (out.new.items ≡ out.old.items
-        ++ concat ((each (numbers_from 0 (length list.now)) (λ _. number_line 63)).print list.now)) }
+/// Writes a line for each stock. After want of memory a part of them may be written.
+pub fn put_each_stock(out: &mut Vec<u8>, list: &[u8]) -> Result<(), NoMemory>
+    ensures { OnOk result ((most : ℕ → ℕ) → out.new.items ≡ out.old.items
+        ++ concat ((each (numbers_from 0 (length list.now)) (λ i. number_line (most i))).print list.now)) }
 {
     for k in 0..list.len() {
         put_number_line(out, list[k] as u128)?;

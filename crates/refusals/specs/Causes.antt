@@ -8,7 +8,7 @@ use Rattle.refusals.specs.declared.failure.Failure.{Failure}
 use Rattle.refusals.specs.declared.refusal.File.{File}
 use Rattle.refusals.specs.declared.refusal.Refusal.{Refusal}
 use Rattle.refusals.specs.declared.refusal.Refusal.TheVariants as refusal
-use Rattle.refusals.specs.Lines.{line_of, no_names}
+use Rattle.refusals.specs.Lines.{line_of_refusal, no_names}
 
 -- The cause of a refusal: the words, the reading of a file, the writing of an answer, memory, or the task itself.
 pub data Kind : Type 0 where
@@ -36,7 +36,7 @@ kind_of refusal.NoMemory = of_memory
 
 -- a refusal with its line, with the names of this frame
 abbrev pub failure_of : FrameRows → Refusal → Failure
-failure_of names refusal = record { refusal = refusal; line = line_of names refusal }
+failure_of names refusal = record { refusal = refusal; line = line_of_refusal names refusal }
 
 -- a refusal that names no pair of a case
 abbrev pub plain_failure : Refusal → Failure

@@ -175,5 +175,5 @@ refusal_text names refusal.WriteFault = codes "write"
 refusal_text names refusal.NoMemory = codes "memory"
 
 -- the line of a refusal, with these names
-unfoldable pub line_of : FrameRows → Refusal → List ℕ
-line_of names refusal = codes "fault," ++ (refusal_text names refusal ++ 10 ∷ [])
+unfoldable pub line_of_refusal : FrameRows → Refusal → List ℕ
+line_of_refusal names refusal = codes "fault," ++ (refusal_text names refusal ++ 10 ∷ [])

@@ -1,7 +1,7 @@
 //! A refusal on its way to its line.
 ghost use Rattle.std.specs.Prelude.{◌≡◌, ◌≤◌, ◌++◌, Some, None, length};
 ghost use Rattle.std.specs.Option.{option_map};
-ghost use Rattle.refusals.specs.Lines.{line_of, names_of, no_names, refusal_text, which_text, words_text};
+ghost use Rattle.refusals.specs.Lines.{line_of_refusal, names_of, no_names, refusal_text, which_text, words_text};
 ghost use Rattle.refusals.specs.Causes.{failure_of, stopped};
 
 use crate::line::Line;
@@ -112,9 +112,9 @@ fn which_text(which: Which) -> &'static [u8]
 
 /// The line of a refusal: `fault`, the fault and its place, separated by commas, and a line feed. The frame has the
 /// names of a pair.
-#[tactic(auto, unfolding(crate::specs::Lines::line_of))]
+#[tactic(auto, unfolding(crate::specs::Lines::line_of_refusal))]
 fn refusal_line(frame: Option<&Frame>, refusal: &Refusal) -> Line
-    ensures { result ≡ line_of (names_of (option_map (λ f. f.now) frame.entry)) refusal.now }
+    ensures { result ≡ line_of_refusal (names_of (option_map (λ f. f.now) frame.entry)) refusal.now }
 {
     let mut line = Line::new();
     line.put(b"fault,");

@@ -6,13 +6,26 @@ use Rattle.std.proofs.Math.ListN.{get_or-append}
 use Rattle.std.proofs.Math.Seq.{get_or-append_seam}
 use Rattle.std.proofs.lemmas.Bool.{cases_eq}
 use Rattle.std.proofs.lemmas.List.{get_or-map, length-map, map-set, map_push}
-use Rattle.spares_input.specs.Frames.{family, is_shop_of, line_of, part_at, part_names, place_of, shops_below}
+use Rattle.spares_input.specs.Rows.{is_line}
+use Rattle.spares_input.specs.Frames.{is_shop_of, line_of, lines_below, part_at, part_names, place_of, shops_below}
 use Rattle.spares_input.specs.Building.{AreFamiliesBelow, ids}
 use Rattle.spares_input.specs.declared.rows.PartId.{PartId}
 use Rattle.spares_input.specs.declared.rows.PartRow.{PartRow}
 use Rattle.spares_input.proofs.PartFacts.{part_named}
 use Rattle.spares_input.proofs.Ranges.{filter_next}
 use Rattle.spares_input.proofs.Standing.{shop_of_line, no_shop_unplaced}
+
+module _ (parts : List PartRow) (p : ℕ) (xs : List PartId) (below : ids xs ≡ lines_below parts p) where
+  -- the line units up to a part that is one
+  pub line_put : (ys : List PartId) (line : PartId) → line.0 ≡ p → is_line (part_at parts p) ≡ true → ys ≡ xs ++ line ∷ [] → ids ys ≡ lines_below parts (p + 1)
+  line_put ys line same h more =
+      ap ids more ∙ map_push (λ (q : PartId). q.0) xs line ∙ ap₂ (λ (zs : List ℕ) (q : ℕ). zs ++ q ∷ []) below same
+      ∙ sym (filter_next (λ q. is_line (part_at parts q)) p ∙ ap (λ b. lines_below parts p ++ cond b (p ∷ []) []) h)
+
+  -- and up to one that isn't
+  pub shop_passed : is_line (part_at parts p) ≡ false → ids xs ≡ lines_below parts (p + 1)
+  shop_passed h =
+      below ∙ sym (filter_next (λ q. is_line (part_at parts q)) p ∙ ap (λ b. lines_below parts p ++ cond b (p ∷ []) []) h ∙ append-nil (lines_below parts p))
 
 -- the shop units below the next part, if that is one of l
 one_more : (parts : List PartRow) (l p : ℕ) → is_shop_of (part_at parts l) (part_at parts p) ≡ true → shops_below parts l (p + 1) ≡ shops_below parts l p ++ p ∷ []

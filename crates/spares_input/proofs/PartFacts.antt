@@ -13,7 +13,7 @@ use Rattle.std.proofs.lemmas.Bool.{cases_Bool, cases_eq, leb-false, lt-leb, le-l
 use Rattle.std.proofs.lemmas.Slice.Eq.{bytes_eq-Decides}
 use Rattle.spares_input.specs.First.{first}
 use Rattle.spares_input.specs.Rows.{is_line, no_part, no_site}
-use Rattle.spares_input.specs.Frames.{double_part, has_line, is_among, is_shop_of, line_of, parent_fault, part_at, part_names, place_of, shop_fault, shop_units, site_at, site_names}
+use Rattle.spares_input.specs.Frames.{double_part, has_line, is_among, is_shop_of, line_of, parent_fault, part_at, part_names, place_of, shop_fault, shop_units_among, site_at, site_names}
 use Rattle.spares_input.specs.declared.rows.PartRow.{PartRow}
 use Rattle.spares_input.specs.declared.rows.PartId.{PartId}
 use Rattle.spares_input.specs.declared.rows.SiteRow.{SiteRow}
@@ -142,7 +142,7 @@ passing_places t parts =
     ∙ (sym (fold-map (λ (s : ℕ) (x : PartRow). s + (if t x then 1 else 0)) (part_at parts) 0 (range_with_len 0 (length parts))) ∙ ap (count_by t) (sym all))
 
 -- a line unit has as many shop units as there are parts that name it as their parent
-pub length_shop_units : (parts : List PartRow) (l : ℕ) → length (shop_units parts l) ≡ count_by (is_shop_of (part_at parts l)) parts
+pub length_shop_units : (parts : List PartRow) (l : ℕ) → length (shop_units_among parts l) ≡ count_by (is_shop_of (part_at parts l)) parts
 length_shop_units parts l = passing_places (is_shop_of (part_at parts l)) parts
 
 -- one parent more

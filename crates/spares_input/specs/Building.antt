@@ -5,7 +5,7 @@ use Rattle.answers.specs.declared.stop.Stop.TheVariants as stop
 use Rattle.std.specs.List.{IsDistinct}
 use Rattle.std.specs.Option.{option_flatten, option_map}
 use Rattle.indexmap.specs.IndexMap.{move_index}
-use Rattle.spares_input.specs.Frames.{part_names, line_of, frame_fault, family, shops_below, is_depot}
+use Rattle.spares_input.specs.Frames.{part_names, line_of, frame_fault, line_units, family_of_line, shops_below, is_depot}
 use Rattle.spares_input.specs.Pairs.{row_at, part_of_place, site_of_place}
 use Rattle.spares_input.specs.declared.rows.SiteRow.{SiteRow}
 use Rattle.spares_input.specs.declared.rows.PartRow.{PartRow}
@@ -42,7 +42,7 @@ ids parts = map (λ (p : PartId). p.0) parts
 -- list l is the family of part l
 pub record AreFamilies (parts : List PartRow) (families : List (List ℕ)) : Type 0 where
   pub whole : length families ≡ length parts
-  pub each : (l : ℕ) → l < length parts → get_or families l [] ≡ family parts l
+  pub each : (l : ℕ) → l < length parts → get_or families l [] ≡ family_of_line parts l
 
 -- list l has l and its shop units among the first n parts
 pub record AreFamiliesBelow (parts : List PartRow) (n : ℕ) (families : List (List ℕ)) : Type 0 where
@@ -70,12 +70,13 @@ missing_rate_at n i = fault.MissingRate (part_of_place n i) (site_of_place n i)
 abbrev pub missing_stock_at : ℕ → ℕ → StockFault
 missing_stock_at n i = stock_fault.Missing (part_of_place n i) (site_of_place n i)
 
--- rows that break no rule, the sites with the depot moved to the front, and the names, the parents and the families of
--- the parts
+-- rows that break no rule, the sites with the depot moved to the front, and the names, the parents, the line units and
+-- the families of the parts
 pub record AreLinked (sites moved : List SiteRow) (parts : List PartRow) (parts_by_name : List (List ℕ))
-    (parents : List (Option PartId)) (families : List (List ℕ)) : Type 0 where
+    (parents : List (Option PartId)) (units : List ℕ) (families : List (List ℕ)) : Type 0 where
   pub depot : ℕ
   pub numbered : IsNumbered sites parts parts_by_name depot
   pub to_front : moved ≡ move_index sites depot 0
   pub lines : AreParents parts parents
+  pub units_are : units ≡ line_units parts
   pub shops : AreFamilies parts families

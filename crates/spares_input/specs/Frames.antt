@@ -3,6 +3,7 @@ use Rattle.std.specs.Prelude.{◌≡◌, ℕ, ◌+◌, ◌<◌, ◌≤◌, Bool,
 use Rattle.std.specs.List.{list_any, range_with_len, IsDistinct}
 use Rattle.std.specs.Option.{option_map_or, option_and_then}
 use Rattle.spares_input.specs.First.{first, first_of, unless}
+use Rattle.spares_input.specs.Limits.{most_parts}
 use Rattle.spares_input.specs.Rows.{is_line, IsSiteRow, IsPartRow, no_site, no_part}
 use Rattle.spares_input.specs.declared.rows.SiteRow.{SiteRow}
 use Rattle.spares_input.specs.declared.rows.PartRow.{PartRow}
@@ -106,28 +107,36 @@ frame_of sites parts = unless (frame_fault sites parts) (record { sites = sites_
 abbrev pub has_line : List PartRow → ℕ → Bool
 has_line parts p = option_map_or (λ l. is_line (part_at parts l)) (line_of parts p) false
 
+-- the line units among the first n parts, in part order
+abbrev pub lines_below : List PartRow → ℕ → List ℕ
+lines_below parts n = filter (λ p. is_line (part_at parts p)) (range_with_len 0 n)
+
+-- the line units, in part order
+abbrev pub line_units : List PartRow → List ℕ
+line_units parts = lines_below parts (length parts)
+
 -- the shop units of line unit l among the first n parts, in part order
 abbrev pub shops_below : List PartRow → ℕ → ℕ → List ℕ
 shops_below parts l n = filter (λ p. is_shop_of (part_at parts l) (part_at parts p)) (range_with_len 0 n)
 
 -- the shop units of line unit l, in part order
-abbrev pub shop_units : List PartRow → ℕ → List ℕ
-shop_units parts l = shops_below parts l (length parts)
+abbrev pub shop_units_among : List PartRow → ℕ → List ℕ
+shop_units_among parts l = shops_below parts l (length parts)
 
 -- the family of line unit l: l, and then its shop units. A shop unit has none: its family is itself alone.
-abbrev pub family : List PartRow → ℕ → List ℕ
-family parts l = l ∷ shop_units parts l
+abbrev pub family_of_line : List PartRow → ℕ → List ℕ
+family_of_line parts l = l ∷ shop_units_among parts l
 
 -- the invariant of every frame
 pub record IsFrame (f : FrameRows) : Type 0 where
   pub fewest_sites : 2 ≤ length f.sites
   pub most_sites : length f.sites ≤ 16
-  pub most_parts : length f.parts ≤ 2000
+  pub most_parts : length f.parts ≤ most_parts
   pub depot : (site_at f.sites 0).depot ≡ true
   pub bases : (k : ℕ) → 0 < k → k < length f.sites → (site_at f.sites k).depot ≡ false
   pub distinct_sites : IsDistinct bytes_eq (site_names f.sites)
   pub distinct_parts : IsDistinct bytes_eq (part_names f.parts)
   pub parents : (p : ℕ) → p < length f.parts → is_line (part_at f.parts p) ≡ false → has_line f.parts p ≡ true
-  pub few_shop_units : (l : ℕ) → l < length f.parts → length (shop_units f.parts l) ≤ 8
+  pub few_shop_units : (l : ℕ) → l < length f.parts → length (shop_units_among f.parts l) ≤ 8
   pub site_rows : All IsSiteRow f.sites
   pub part_rows : All IsPartRow f.parts

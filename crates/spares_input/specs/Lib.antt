@@ -1,4 +1,5 @@
 pub mod First
+pub mod Limits
 pub mod Money
 pub mod Names
 pub mod Rows

@@ -11,32 +11,32 @@ abbrev pub is_line : PartRow → Bool
 is_line r = is_none r.parent
 
 -- a field that is used has a number from least to most, and one that must be empty has 0
-pub record IsField (used : Bool) (least most n : ℕ) : Type 0 where
+pub record IsNumberField (used : Bool) (least most n : ℕ) : Type 0 where
   pub within : used ≡ true → (least ≤ n) × (n ≤ most)
   pub empty : used ≡ false → n ≡ 0
 
 -- a row of sites: the fields of a base, in systems and in hundredths of days; the depot's fields are empty
 pub record IsSiteRow (r : SiteRow) : Type 0 where
   pub name : is_name r.name ≡ true
-  pub systems : IsField (not r.depot) 1 10000 r.systems
-  pub ship : IsField (not r.depot) 0 999999 r.ship
+  pub systems : IsNumberField (not r.depot) 1 10000 r.systems
+  pub ship : IsNumberField (not r.depot) 0 999999 r.ship
 
 -- a row of parts: line units of one kind in a system and their weight are empty for a shop unit
 pub record IsPartRow (r : PartRow) : Type 0 where
   pub name : is_name r.name ≡ true
   pub parent : (name : List ℕ) → r.parent ≡ Some name → is_name name ≡ true
   pub cost : (1 ≤ r.cost) × (r.cost ≤ 100000000)
-  pub per_system : IsField (is_line r) 1 100 r.per_system
+  pub per_system : IsNumberField (is_line r) 1 100 r.per_system
   pub max_depot : r.max_depot ≤ 63
   pub max_base : r.max_base ≤ 63
-  pub weight : IsField (is_line r) 1 100 r.weight
+  pub weight : IsNumberField (is_line r) 1 100 r.weight
 
 -- a row of rates of a line unit or a shop unit, at the depot or at a base: demands a year, probabilities and shares
 -- in ten-thousandths, days in hundredths
 pub record IsRateRow (line depot : Bool) (r : RateRow) : Type 0 where
-  pub demand : IsField (line && not depot) 0 1000000000 r.demand
-  pub repair_here : IsField (not depot) 0 10000 r.repair_here
-  pub share : IsField (not line) 0 10000 r.share
+  pub demand : IsNumberField (line && not depot) 0 1000000000 r.demand
+  pub repair_here : IsNumberField (not depot) 0 10000 r.repair_here
+  pub share : IsNumberField (not line) 0 10000 r.share
   pub repair_days : r.repair_days ≤ 999999
 
 -- the value of a look-up past the last site: an empty name and zeros

@@ -84,11 +84,16 @@ pub record IsFor (c : CaseRows) (s : StockList) : Type 0 where
 abbrev pub IsWithinLimits : CaseRows → StockList → Type 0
 IsWithinLimits c s = (p k : ℕ) → p < length c.parts → k < length c.sites → stock_at s p k ≤ limit_at c.parts p k
 
+-- stocks of a case: a number for each pair, none of them over its limit
+pub record AreStocksOf (c : CaseRows) (s : StockList) : Type 0 where
+  pub is_for : IsFor c s
+  pub limits : IsWithinLimits c s
+
 -- no stock of any part at any site
 abbrev pub nothing_held : CaseRows → StockList
 nothing_held c = record { sites = length c.sites; list = replicate (pair_count (frame_rows c)) 0 }
 
 -- the sum over all pairs of stock times cost of the part
-abbrev pub cost_of : CaseRows → StockList → ℕ
-cost_of c s = sum (map (λ i. get_or s.list i 0 * (part_at c.parts (i / s.sites)).cost)
+abbrev pub cost_of_stocks : CaseRows → StockList → ℕ
+cost_of_stocks c s = sum (map (λ i. get_or s.list i 0 * (part_at c.parts (i / s.sites)).cost)
     (range_with_len 0 (length s.list)))

@@ -4,8 +4,9 @@ ghost use Rattle.std.specs.Prelude.{◌≡◌, true, ◌==◌, ◌+◌, ◌*◌,
 ghost use Rattle.std.specs.Option.{option_map};
 ghost use Rattle.answers.specs.Answers.{Gives};
 ghost use Rattle.spares_input.specs.First.{first};
+ghost use Rattle.spares_input.specs.Limits.{most_parts};
 ghost use Rattle.spares_input.specs.Rows.{is_line, no_rate, IsSiteRow, IsPartRow, IsRateRow};
-ghost use Rattle.spares_input.specs.Frames.{site_at, part_at, line_of, family, is_shop_of};
+ghost use Rattle.spares_input.specs.Frames.{site_at, part_at, line_of, line_units, family_of_line, is_shop_of};
 ghost use Rattle.spares_input.specs.Pairs.{rows_in_order};
 ghost use Rattle.spares_input.specs.Cases.{frame_rows, rate_at, rate_place, double_rate, rates_fault, case_of, without_frame, IsRateOf, IsCase};
 ghost use Rattle.spares_input.specs.Edits.{with_rate};
@@ -119,10 +120,17 @@ impl Case {
         self.frame.parent(part)
     }
 
+    /// The line units, in part order.
+    pub fn line_units(&self) -> &[PartId]
+        ensures { map (λ p. p.0) result.now ≡ line_units self.now.parts }
+    {
+        self.frame.line_units()
+    }
+
     /// The family of a line unit: the line unit, and then its shop units in part order. Of a shop unit, it alone.
     pub fn family(&self, line: PartId) -> &[PartId]
         requires { line.0 < length self.now.parts }
-        ensures { map (λ p. p.0) result.now ≡ family self.now.parts line.0 }
+        ensures { map (λ p. p.0) result.now ≡ family_of_line self.now.parts line.0 }
     {
         self.frame.family(line)
     }
@@ -187,7 +195,7 @@ fn rates_by_pair(
 ) -> Result<Vec<RateRow>, Stop<CaseFault>>
     requires some_sites { 0 < sites }
     requires few_sites { sites ≤ 16 }
-    requires few_parts { parts ≤ 2000 }
+    requires few_parts { parts ≤ most_parts }
     requires pairs { All (λ r. IsPairOf sites parts r.part r.site) rows.now }
     ensures fault { StopsAt (rates_fault sites (parts * sites) rows.now) result }
     ensures rows { IfOk result (λ v. v.items ≡ rows_in_order (rate_place sites) no_rate (parts * sites) rows.now) }
@@ -204,7 +212,7 @@ fn place_rows(
     parts: usize,
 ) -> Result<Vec<Option<RateRow>>, Stop<CaseFault>>
     requires few_sites { sites ≤ 16 }
-    requires few_parts { parts ≤ 2000 }
+    requires few_parts { parts ≤ most_parts }
     requires pairs { All (λ r. IsPairOf sites parts r.part r.site) rows.now }
     ensures fault { StopsAt (first (double_rate sites rows.now) (length rows.now)) result }
     ensures placed { IfOk result (λ v. ArePlaced (rate_place sites) (parts * sites) rows.now v.items) }
@@ -229,7 +237,7 @@ fn rows_of_places(
 ) -> Result<Vec<RateRow>, Stop<CaseFault>>
     requires some_sites { 0 < sites }
     requires few_sites { sites ≤ 16 }
-    requires few { length places.now ≤ 2000 * sites }
+    requires few { length places.now ≤ most_parts * sites }
     ensures fault { StopsAt (first (vacant (missing_rate_at sites) places.now) (length places.now)) result }
     ensures rows { IfOk result (λ v. map (λ r. Some r) v.items ≡ places.now) }
 {

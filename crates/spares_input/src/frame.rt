@@ -7,12 +7,13 @@ ghost use Rattle.indexmap.specs.IndexSet.{index_set_len};
 ghost use Rattle.indexmap.specs.IndexMap.{move_index};
 ghost use Rattle.answers.specs.Answers.{Gives};
 ghost use Rattle.spares_input.specs.First.{first};
+ghost use Rattle.spares_input.specs.Limits.{most_parts};
 ghost use Rattle.spares_input.specs.Rows.{is_line, IsSiteRow, IsPartRow};
-ghost use Rattle.spares_input.specs.Frames.{site_at, part_at, site_names, part_names, is_among, place_of, line_of, is_shop_of, is_depot, is_base, site_fault, kinds_fault, double_part, shop_fault, parent_fault, frame_fault, frame_of, family, IsFrame};
+ghost use Rattle.spares_input.specs.Frames.{site_at, part_at, site_names, part_names, is_among, place_of, line_of, is_shop_of, is_depot, is_base, site_fault, kinds_fault, double_part, shop_fault, parent_fault, frame_fault, frame_of, line_units, family_of_line, IsFrame};
 ghost use Rattle.spares_input.specs.Stocks.{limit_at};
 ghost use Rattle.spares_input.specs.Building.{AreLinked, AreParents, IsNumbered, StopsAt, ids};
 
-use crate::families::families_of;
+use crate::families::{families_of, line_units_of};
 use crate::fault::CaseFault;
 use crate::name::Name;
 use crate::rows::{PartId, PartRow, SiteId, SiteRow};
@@ -27,13 +28,14 @@ pub struct Frame {
     sites: Vec<SiteRow>,
     parts: Vec<PartRow>,
     parents: Vec<Option<PartId>>,
+    lines: Vec<PartId>,
     families: Vec<Vec<PartId>>,
     part_index: IndexSet<Name>,
 }
 
 impl Model for Frame {
     ghost use Rattle.std.specs.Prelude.{◌≡◌, map};
-    ghost use Rattle.spares_input.specs.Frames.{FrameRows, IsFrame, part_names};
+    ghost use Rattle.spares_input.specs.Frames.{FrameRows, IsFrame, part_names, line_units};
     ghost use Rattle.spares_input.specs.Building.{AreParents, AreFamilies, ids};
 
     ghost Value = { FrameRows };
@@ -43,6 +45,7 @@ impl Model for Frame {
     ghost invariant = { λ f. IsFrame (record { sites = f.sites.items; parts = f.parts.items })
         × (f.part_index.keys ≡ part_names f.parts.items)
         × AreParents f.parts.items f.parents.items
+        × (ids f.lines.items ≡ line_units f.parts.items)
         × AreFamilies f.parts.items (map (λ v. ids v.items) f.families.items) };
 }
 
@@ -55,7 +58,7 @@ impl Frame {
         parts: Vec<PartRow>,
     ) -> Result<Frame, Stop<CaseFault>>
         requires few_sites { length sites.items ≤ 16 }
-        requires few_parts { length parts.items ≤ 2000 }
+        requires few_parts { length parts.items ≤ most_parts }
         requires site_rows { All IsSiteRow sites.items }
         requires part_rows { All IsPartRow parts.items }
         ensures { Gives (frame_of sites.items parts.items) result }
@@ -66,9 +69,17 @@ impl Frame {
             sites,
             parts,
             parents: links.parents,
+            lines: links.lines,
             families: links.families,
             part_index: links.part_index,
         })
+    }
+
+    /// The rules of a frame, for a proof.
+    pub fn invariant(&self)
+        ensures valid { IsFrame self.now }
+    {
+        let _opened = &self.sites;
     }
 
     /// The number of sites.
@@ -125,10 +136,17 @@ impl Frame {
         self.parents[part.0 as usize]
     }
 
+    /// The line units, in part order.
+    pub fn line_units(&self) -> &[PartId]
+        ensures { map (λ p. p.0) result.now ≡ line_units self.now.parts }
+    {
+        self.lines.as_slice()
+    }
+
     /// The family of a line unit: the line unit, and then its shop units in part order. Of a shop unit, it alone.
     pub fn family(&self, line: PartId) -> &[PartId]
         requires { line.0 < length self.now.parts }
-        ensures { map (λ p. p.0) result.now ≡ family self.now.parts line.0 }
+        ensures { map (λ p. p.0) result.now ≡ family_of_line self.now.parts line.0 }
     {
         self.families[line.0 as usize].as_slice()
     }
@@ -139,7 +157,7 @@ impl Frame {
         requires line { line.0 < length self.now.parts }
         ensures { result ≡ is_shop_of (part_at self.now.parts line.0) (part_at self.now.parts part.0) }
     {
-        let _count = self.part_count();
+        self.invariant();
         match self.parent(part) {
             Some(parent) => parent.0 == line.0,
             None => false,
@@ -198,6 +216,7 @@ impl Frame {
 #[derive(Drop)]
 struct Links {
     parents: Vec<Option<PartId>>,
+    lines: Vec<PartId>,
     families: Vec<Vec<PartId>>,
     part_index: IndexSet<Name>,
 }
@@ -209,19 +228,21 @@ fn links_of(
     parts: &[PartRow],
 ) -> Result<Links, Stop<CaseFault>>
     requires sites { length sites.old.items ≤ 16 }
-    requires parts { length parts.now ≤ 2000 }
+    requires parts { length parts.now ≤ most_parts }
     ensures fault { StopsAt (frame_fault sites.old.items parts.now) result }
     ensures linked { IfOk result (λ l. AreLinked sites.old.items sites.new.items parts.now l.part_index.keys
-        l.parents.items (map (λ v. ids v.items) l.families.items)) }
+        l.parents.items (ids l.lines.items) (map (λ v. ids v.items) l.families.items)) }
 {
     let (part_index, depot) = number_rows(alloc, sites.as_slice(), parts)?;
     let Ok(()) = put_first(sites, depot) else {
         return Err(Stop::NoMemory);
     };
     let parents = parents_of(alloc, &part_index, parts)?;
+    let lines = line_units_of(alloc, parts)?;
     let families = families_of(alloc, parts, parents.as_slice())?;
     Ok(Links {
         parents,
+        lines,
         families,
         part_index,
     })
@@ -234,7 +255,7 @@ fn number_rows(
     parts: &[PartRow],
 ) -> Result<(IndexSet<Name>, usize), Stop<CaseFault>>
     requires sites { length sites.now ≤ 16 }
-    requires parts { length parts.now ≤ 2000 }
+    requires parts { length parts.now ≤ most_parts }
     ensures fault { StopsAt (frame_fault sites.now parts.now) result }
     ensures numbered { IfOk result (λ n. IsNumbered sites.now parts.now n.0.keys n.1) }
 {
@@ -364,7 +385,7 @@ fn put_first(sites: &mut Vec<SiteRow>, place: usize) -> Result<(), NoMemory>
 
 /// The names of the parts, each at its row's place, if no row repeats one.
 fn number_parts(alloc: Global, parts: &[PartRow]) -> Result<IndexSet<Name>, Stop<CaseFault>>
-    requires { length parts.now ≤ 2000 }
+    requires { length parts.now ≤ most_parts }
     ensures fault { StopsAt (first (double_part parts.now) (length parts.now)) result }
     ensures names { IfOk result (λ names. names.keys ≡ part_names parts.now) }
 {
@@ -385,7 +406,7 @@ fn parents_of(
     names: &IndexSet<Name>,
     parts: &[PartRow],
 ) -> Result<Vec<Option<PartId>>, NoMemory>
-    requires few { length parts.now ≤ 2000 }
+    requires few { length parts.now ≤ most_parts }
     requires numbered { names.now.keys ≡ part_names parts.now }
     ensures { IfOk result (λ v. AreParents parts.now v.items) }
 {
@@ -398,7 +419,7 @@ fn parents_of(
 
 /// The place of the part named as the parent of this one.
 fn parent_of(names: &IndexSet<Name>, part: &PartRow) -> Option<PartId>
-    requires { length names.now.keys ≤ 2000 }
+    requires { length names.now.keys ≤ most_parts }
     ensures { option_map (λ line. line.0) result ≡ option_and_then
         (λ name. place_of name names.now.keys) part.now.parent }
 {
@@ -408,7 +429,7 @@ fn parent_of(names: &IndexSet<Name>, part: &PartRow) -> Option<PartId>
 
 /// The first rule that a row breaks by its parent.
 fn parents_fault(names: &IndexSet<Name>, parts: &[PartRow]) -> Option<CaseFault>
-    requires few { length parts.now ≤ 2000 }
+    requires few { length parts.now ≤ most_parts }
     requires numbered { names.now.keys ≡ part_names parts.now }
     ensures { result ≡ first (parent_fault parts.now) (length parts.now) }
 {
@@ -422,7 +443,7 @@ fn parents_fault(names: &IndexSet<Name>, parts: &[PartRow]) -> Option<CaseFault>
 
 /// The rule that row k breaks by its parent.
 fn parent_fault(names: &IndexSet<Name>, parts: &[PartRow], k: usize) -> Option<CaseFault>
-    requires few { length parts.now ≤ 2000 }
+    requires few { length parts.now ≤ most_parts }
     requires within { k < length parts.now }
     requires numbered { names.now.keys ≡ part_names parts.now }
     ensures { result ≡ parent_fault parts.now k }
@@ -436,7 +457,7 @@ fn parent_fault(names: &IndexSet<Name>, parts: &[PartRow], k: usize) -> Option<C
 
 /// The rule that row k breaks as a shop unit; `line` is its parent's place, or None if no part has that name.
 fn shop_fault(parts: &[PartRow], k: usize, line: Option<usize>) -> Option<CaseFault>
-    requires few { length parts.now ≤ 2000 }
+    requires few { length parts.now ≤ most_parts }
     requires within { k < length parts.now }
     requires line { IfSome line (λ l. l < length parts.now) }
     ensures { result ≡ shop_fault parts.now k line }

@@ -4,9 +4,10 @@ ghost use Rattle.std.specs.Prelude.{◌≡◌, ◌+◌, ◌*◌, ◌%◌, ◌≤
 ghost use Rattle.std.specs.Option.{option_map};
 ghost use Rattle.answers.specs.Answers.{Gives};
 ghost use Rattle.spares_input.specs.First.{first};
+ghost use Rattle.spares_input.specs.Limits.{most_parts};
 ghost use Rattle.spares_input.specs.Pairs.{pair_place};
 ghost use Rattle.spares_input.specs.Cases.{frame_rows};
-ghost use Rattle.spares_input.specs.Stocks.{stock_at, stock_place, stock_fault, stocks_fault, stocks_in_order, stocks_of, cost_of, HasPair, IsFor, IsStockList, IsStockOf, IsWithinLimits, nothing_held};
+ghost use Rattle.spares_input.specs.Stocks.{stock_at, stock_place, stock_fault, stocks_fault, stocks_in_order, stocks_of, cost_of_stocks, AreStocksOf, HasPair, IsFor, IsStockList, IsStockOf, nothing_held};
 ghost use Rattle.spares_input.specs.Building.{ArePlaced, StopsAt, vacant, missing_stock_at};
 
 use crate::case::Case;
@@ -76,7 +77,7 @@ impl Stocks {
     /// The sum over all pairs of stock times cost of the part.
     pub fn cost(&self, case: &Case) -> u64
         requires { IsFor case.now self.now }
-        ensures { result ≡ cost_of case.now self.now }
+        ensures { result ≡ cost_of_stocks case.now self.now }
     {
         cost_of(self.list.as_slice(), self.sites as usize, case)
     }
@@ -85,7 +86,7 @@ impl Stocks {
 /// The sum over all pairs of stock times cost of the part.
 fn cost_of(list: &[u8], sites: usize, case: &Case) -> u64
     requires { IsFor case.now (record { sites = sites; list = list.now }) }
-    ensures { result ≡ cost_of case.now (record { sites = sites; list = list.now }) }
+    ensures { result ≡ cost_of_stocks case.now (record { sites = sites; list = list.now }) }
 {
     let pairs = case.part_count() as usize * sites;
     let mut cost = 0;
@@ -99,8 +100,7 @@ fn cost_of(list: &[u8], sites: usize, case: &Case) -> u64
 /// The stocks with no unit of any part at any site. Want of memory is the only error.
 pub fn nothing_held(alloc: Global, case: &Case) -> Result<Stocks, NoMemory>
     ensures held { IfOk result (λ held. held ≡ nothing_held case.now) }
-    ensures whole { IfOk result (IsFor case.now) }
-    ensures limits { IfOk result (IsWithinLimits case.now) }
+    ensures stocks { IfOk result (AreStocksOf case.now) }
 {
     let sites = case.site_count();
     let pairs = usize::from(case.part_count()) * usize::from(sites);
@@ -117,15 +117,11 @@ pub fn stocks_from(
 ) -> Result<Stocks, Stop<StockFault>>
     requires { All (IsStockOf (frame_rows case.now)) rows.now }
     ensures answer { Gives (stocks_of case.now rows.now) result }
-    ensures pairs { IfOk result (IsFor case.now) }
-    ensures limits { IfOk result (IsWithinLimits case.now) }
+    ensures stocks { IfOk result (AreStocksOf case.now) }
 {
     let sites = case.site_count();
-    // a `match`, so that what holds of the list is shown in the arm that has it
-    match stocks_by_pair(alloc, case, rows) {
-        Ok(list) => Ok(Stocks { list, sites }),
-        Err(stop) => Err(stop),
-    }
+    let list = stocks_by_pair(alloc, case, rows)?;
+    Ok(Stocks { list, sites })
 }
 
 /// The stock of each pair in the order of pairs, if the rows break no rule.
@@ -179,7 +175,7 @@ fn stocks_of_places(
 ) -> Result<Vec<u8>, Stop<StockFault>>
     requires some_sites { 0 < sites }
     requires few_sites { sites ≤ 16 }
-    requires few { length places.now ≤ 2000 * sites }
+    requires few { length places.now ≤ most_parts * sites }
     ensures fault { StopsAt (first (vacant (missing_stock_at sites) places.now) (length places.now)) result }
     ensures stocks { IfOk result (λ v. map (λ s. Some s) v.items ≡ map (option_map (λ r. r.stock)) places.now) }
 {

@@ -7,17 +7,16 @@ use Rattle.fixed_interval.proofs.Public.{up_above}
 use Rattle.spares_input.specs.Cases.{CaseRows, frame_rows}
 use Rattle.spares_input.specs.Frames.{FrameRows}
 use Rattle.spares_input.specs.First.{unless}
-use Rattle.spares_input.specs.Stocks.{StockList, cost_of}
+use Rattle.spares_input.specs.Stocks.{AreStocksOf, StockList, cost_of_stocks}
 use Rattle.answers.specs.declared.stop.Stop.TheVariants as stop
 use Rattle.price_certificate.specs.declared.certificate.Objective.{Objective}
 use Rattle.price_certificate.specs.declared.certificate.Objective.TheVariants.{Backorders}
 use Rattle.case_plan.specs.Truth.{NoneHasLessThanPrinted}
-use Rattle.certified_plan.specs.Accepted.{claims_of}
-use Rattle.certified_plan.specs.Inputs.{IsHeld}
+use Rattle.certified_plan.specs.Accepted.{case_claims_of}
 use Rattle.certified_plan.proofs.Public.{accepted_true, plain_true, scores_enclose}
 use Rattle.gap_rules.specs.Scores.{ends_of, value_of}
 use Rattle.fleet_plan.specs.Plans.{AreTrueClaims, ArePlainClaims}
-use Rattle.gap_rules.specs.Refusals.{cost_above, reject_of}
+use Rattle.gap_rules.specs.Refusals.{case_cost_above, reject_of}
 use Rattle.gap_rules.proofs.Public.{breaks_none, added_is}
 use Rattle.check_answers.specs.declared.refusal.Accepted.{Accepted}
 use Rattle.check_answers.specs.declared.refusal.Reject.{Reject}
@@ -60,8 +59,8 @@ above_printed : (upper : ℕ) (q : Fraction) → q *ℚ whole (2 ^ 48) ≤ℚ wh
 above_printed upper q h = up_above 48 6 (record { lo = 0; hi = upper }) q (upper_contains upper q h)
 
 -- the cost of stocks on hand, in the words of the model
-on_hand_cost : (c : CaseRows) (on_hand : Option StockList) → IsHeld c (held_in c on_hand)
-    → option_map (cost_of c) on_hand ≡ option_map (λ (s : StockList). cost c s.list) on_hand
+on_hand_cost : (c : CaseRows) (on_hand : Option StockList) → AreStocksOf c (held_in c on_hand)
+    → option_map (cost_of_stocks c) on_hand ≡ option_map (λ (s : StockList). cost c s.list) on_hand
 on_hand_cost c (Some held) h = ap Some (sym (cost_holds c held h.is_for))
 on_hand_cost c None h = refl
 
@@ -88,7 +87,7 @@ module _ (x : Claim) (h : IsClaim x) (bytes : List ℕ) (form : or_refuse no_nam
     unfolding claimed_of
     claimed_is = rw (form, j) refl
 
-    says : AreTrueClaims (value_of aimed) case held.list x.certificate.budget (claims_of x.certificate)
+    says : AreTrueClaims (value_of aimed) case held.list x.certificate.budget (case_claims_of x.certificate)
     says = accepted_true (ends_of aimed) (value_of aimed) x.certificate held (scores_enclose aimed) h.formed h.held.is_for none
 
     printed : NoneHasLessThanPrinted (value_of aimed) case held.list x.certificate.budget x.certificate.bound
@@ -97,12 +96,12 @@ module _ (x : Claim) (h : IsClaim x) (bytes : List ℕ) (form : or_refuse no_nam
     printed_upper : HasNoMoreThanPrinted (value_of aimed) case x.certificate.stocks.list x.certificate.upper
     printed_upper n deep = above_printed x.certificate.upper (aim (value_of aimed) case x.certificate.stocks.list n) (says.no_more n deep)
 
-    cost_is : cost_above case held x.certificate.stocks ≡ cost_beyond case held.list x.certificate.stocks.list
+    cost_is : case_cost_above case held x.certificate.stocks ≡ cost_beyond case held.list x.certificate.stocks.list
     cost_is =
         sym (added_is case held x.certificate.stocks h.formed.case h.held.is_for h.formed.stocks (breaks_none (ends_of aimed) x.certificate held none).kept)
         ∙ families_beyond case held.list x.certificate.stocks.list h.formed.case
 
-    plainly : aimed ≡ Backorders → x.on_hand ≡ None → ArePlainClaims case x.certificate.budget (claims_of x.certificate)
+    plainly : aimed ≡ Backorders → x.on_hand ≡ None → ArePlainClaims case x.certificate.budget (case_claims_of x.certificate)
     plainly o off =
         plain_true x.certificate h.formed
         (subst (λ (on_hand : Option StockList). reject_of (ends_of Backorders) x.certificate (held_in case on_hand) ≡ None) off

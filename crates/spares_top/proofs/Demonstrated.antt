@@ -14,7 +14,7 @@ use Rattle.certified_plan.proofs.Public.{accepted, none_is_held}
 use Rattle.demo_accepts.proofs.Public.{faultless}
 use Rattle.demonstration.specs.Demonstrations.{IsDemonstrated, budget_of, demo_terms}
 use Rattle.demonstration.proofs.Public.{are_terms, demo_work, zeros_hold}
-use Rattle.fleet_model.specs.Fleet.{IsAllocation, cost, total}
+use Rattle.fleet_model.specs.Fleet.{IsAllocation, cost, case_total}
 use Rattle.fleet_plan.specs.Laws.{IsAcceptedCase}
 use Rattle.fleet_plan.specs.Plans.{CasePlan, IsPlainPlan}
 use Rattle.fleet_plan.proofs.Public.{plain_plan}
@@ -62,12 +62,12 @@ module _ (number lines : ℕ) (few : lines ≤ 80) (summary : Summary) (h : IsDe
       plain_true case (nothing_held case).list (plain_request (budget_of lines)) (report_of plain_ends case (plain_request (budget_of lines)) plan) is_accepted (zeros_hold case)
       (record { plan = plan; is_plan = h.is_plan; is = refl })
 
-  encloses : Encloses 48 summary.total.lo summary.total.hi (total case plan.stocks)
-  encloses = subst (λ (z : Summary). Encloses 48 z.total.lo z.total.hi (total case plan.stocks)) (sym h.is) report.shows.total_in.encloses
+  encloses : Encloses 48 summary.total.lo summary.total.hi (case_total case plan.stocks)
+  encloses = subst (λ (z : Summary). Encloses 48 z.total.lo z.total.hi (case_total case plan.stocks)) (sym h.is) report.shows.total_in.encloses
 
   printed_bound : (n : ℕ) → 1024 ≤ n → (s : List ℕ) → IsAllocation case s → cost case s ≤ budget_of lines
-      → text_value 6 (millionths_down 48 summary.bound) ≤ℚ total case s n
-  printed_bound n deep s a f = subst (λ (z : Summary). text_value 6 (millionths_down 48 z.bound) ≤ℚ total case s n) (sym h.is) (report.printed n deep s a f)
+      → text_value 6 (millionths_down 48 summary.bound) ≤ℚ case_total case s n
+  printed_bound n deep s a f = subst (λ (z : Summary). text_value 6 (millionths_down 48 z.bound) ≤ℚ case_total case s n) (sym h.is) (report.printed n deep s a f)
 
   gap : summary.bound + summary.gap ≡ summary.total.hi
   gap = subst (λ (z : Summary). z.bound + z.gap ≡ z.total.hi) (sym h.is) report.gap
@@ -78,7 +78,7 @@ module _ (number lines : ℕ) (few : lines ≤ 80) (summary : Summary) (h : IsDe
     accepted = is_accepted;
     is = h.is;
     says = says;
-    shows = shown summary.total (total case plan.stocks) encloses;
+    shows = shown summary.total (case_total case plan.stocks) encloses;
     printed = printed_bound;
     gap = gap;
     acceptable = accepted case (nothing_held case) (demo_terms (budget_of lines)) outcome on_plan (demo_work number lines case (nothing_held case) few refl refl);

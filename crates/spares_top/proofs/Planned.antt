@@ -1,14 +1,14 @@
 -- What a plan makes is what its task asks for, and it is true.
 use Rattle.std.proofs.Common.{◌≡◌, ◌∙◌, ap, refl, subst, sym, Option, Some, None, Result, Ok, ℕ, ◌+◌, ◌≤◌, List, length, IfSome}
 use Rattle.spares_input.specs.Cases.{CaseRows, IsCase}
-use Rattle.spares_input.specs.Stocks.{StockList, IsFor, IsWithinLimits, nothing_held}
+use Rattle.spares_input.specs.Stocks.{AreStocksOf, StockList, nothing_held}
 use Rattle.case_plan.specs.Report.{IsOutcome, IsPlanned, outcome_of, report_of}
 use Rattle.case_plan.specs.Truth.{IsTruePlanReport, IsTrueReport}
 use Rattle.case_plan.specs.declared.outcome.Outcome as plans
 use Rattle.case_plan.specs.declared.request.Request.{Request}
 use Rattle.case_plan.proofs.Public.{plain_true, planned_true, report_fits}
 use Rattle.certified_plan.specs.Certificates.{certificate_of, text_of}
-use Rattle.certified_plan.specs.Inputs.{IsHeld, IsPlanOn}
+use Rattle.certified_plan.specs.Inputs.{IsPlanOn}
 use Rattle.price_certificate.specs.declared.certificate.Terms.{Terms}
 use Rattle.certified_plan.proofs.Public.{well_formed, accepted, nearest, scores_enclose, scores_leave_room, held_short, text_short}
 use Rattle.family_points.specs.Counts.{work_of}
@@ -37,10 +37,10 @@ use Rattle.spares_top.specs.Task.{make_plan}
 use Rattle.spares_top.specs.declared.check.Claim.{Claim}
 use Rattle.spares_top.specs.declared.done.Done.TheVariants.{Planned}
 use Rattle.spares_top.specs.Checks.{claimed_of, form_of}
-use Rattle.spares_top.specs.Headline.{IsTruePlan}
+use Rattle.spares_top.specs.Headline.{IsTrueAndShown}
 use Rattle.spares_top.specs.Held.{held_in}
 use Rattle.spares_top.specs.Planning.{IsGround, IsPlanFor, planning_on}
-use Rattle.spares_top.specs.Plans.{Planning, certificate_text, held_of, plan_certificate, plan_request, planned}
+use Rattle.spares_top.specs.Plans.{Planning, certificate_text, held_stocks_of, plan_certificate, plan_request, planned}
 use Rattle.spares_top.specs.declared.plan.Ground.{Ground}
 use Rattle.spares_top.proofs.Shown.{span_prints}
 
@@ -70,11 +70,11 @@ plain_work c held valid none work =
     (subst (λ (r : Result ℕ ℕ). IsOk r) (sym (all_work c (nothing_held c).list valid (zeros_hold c))) work)
 
 -- the plan by the score of the objective, from the held stocks and as it is asked for, is the planning's
-pub planned_by : (x : Planning) (held : StockList) (request : Request) (o : Objective) (r : Result plans.Outcome NoMemory) → x.terms.objective ≡ o → held ≡ held_of x
+pub planned_by : (x : Planning) (held : StockList) (request : Request) (o : Objective) (r : Result plans.Outcome NoMemory) → x.terms.objective ≡ o → held ≡ held_stocks_of x
     → request ≡ plan_request x → IfOk r (IsOutcome (ends_of o) x.case held.list request)
-    → IfOk r (IsOutcome (ends_of x.terms.objective) x.case (held_of x).list (plan_request x))
+    → IfOk r (IsOutcome (ends_of x.terms.objective) x.case (held_stocks_of x).list (plan_request x))
 planned_by x held request o r is held_is request_is h =
-    subst (λ (o : Objective). IfOk r (IsOutcome (ends_of o) x.case (held_of x).list (plan_request x))) (sym is)
+    subst (λ (o : Objective). IfOk r (IsOutcome (ends_of o) x.case (held_stocks_of x).list (plan_request x))) (sym is)
     (subst (λ (s : StockList). IfOk r (IsOutcome (ends_of o) x.case s.list (plan_request x))) held_is
     (subst (λ (k : Request). IfOk r (IsOutcome (ends_of o) x.case held.list k)) request_is h))
 
@@ -89,14 +89,13 @@ pub well_held : (g : Ground) → IsGround g → (cert : Certificate) → IsWellF
     → IfSome g.on_hand (λ (s : StockList). IsWellHeld (record { certificate = cert; held = s }))
 well_held g h cert formed (case_is, format_is) = held_by g.on_hand h.held h.format
   where
-    held_by : (on_hand : Option StockList) → IsHeld g.given.case (held_in g.given.case on_hand) → IfSome on_hand (λ _. g.terms.format ≡ 2)
+    held_by : (on_hand : Option StockList) → AreStocksOf g.given.case (held_in g.given.case on_hand) → IfSome on_hand (λ _. g.terms.format ≡ 2)
         → IfSome on_hand (λ (s : StockList). IsWellHeld (record { certificate = cert; held = s }))
     held_by None k two = tt
     held_by (Some s) k two = record {
       certificate = formed;
       format = format_is ∙ two;
-      held = subst (λ (c : CaseRows). IsFor c s) (sym case_is) k.is_for;
-      limits = subst (λ (c : CaseRows). IsWithinLimits c s) (sym case_is) k.limits;
+      held = subst (λ (c : CaseRows). AreStocksOf c s) (sym case_is) k;
     }
 
 module _ (g : Ground) (h : IsGround g) where
@@ -111,43 +110,43 @@ module _ (g : Ground) (h : IsGround g) where
     plan = is.plan
 
     -- the outcome is that of a plan on the ground's terms
-    pub on_plan : IsPlanOn x.case (held_of x) x.terms o
+    pub on_plan : IsPlanOn x.case (held_stocks_of x) x.terms o
     on_plan = record { accepted = h.accepted; are_terms = h.terms; is_held = h.held; plan = plan; is_plan = is.is_plan; request = plan_request x; same_budget = refl; is = is.is }
 
-    abbrev report : IsPlanned (ends_of aimed) x.case (held_of x).list (plan_request x) o.report
+    abbrev report : IsPlanned (ends_of aimed) x.case (held_stocks_of x).list (plan_request x) o.report
     report = record { plan = plan; is_plan = is.is_plan; is = ap (λ (z : plans.Outcome). z.report) is.is }
 
-    says : IsTrueReport (ends_of aimed) (value_of aimed) x.case (held_of x).list (plan_request x) plan o.report
-    says = planned_true (ends_of aimed) (value_of aimed) x.case (held_of x).list (plan_request x) o.report h.accepted (scores_enclose aimed) report
+    says : IsTrueReport (ends_of aimed) (value_of aimed) x.case (held_stocks_of x).list (plan_request x) plan o.report
+    says = planned_true (ends_of aimed) (value_of aimed) x.case (held_stocks_of x).list (plan_request x) o.report h.accepted (scores_enclose aimed) report
 
     -- with no stocks on hand, in the plain words
     plainly : aimed ≡ Backorders → x.on_hand ≡ None → IsTruePlanReport x.case x.terms.budget plan.stocks o.report
     plainly e off =
-        plain_true x.case (held_of x).list (plan_request x) o.report h.accepted
+        plain_true x.case (held_stocks_of x).list (plan_request x) o.report h.accepted
         (subst (λ (on_hand : Option StockList). IsNothing (held_in x.case on_hand).list) (sym off) (zeros_hold x.case))
         (record {
           plan = plan;
-          is_plan = subst (λ (ends : ScoreEnds). IsCasePlan ends x.case (held_of x).list x.terms.budget plan) (ap ends_of e) is.is_plan;
+          is_plan = subst (λ (ends : ScoreEnds). IsCasePlan ends x.case (held_stocks_of x).list x.terms.budget plan) (ap ends_of e) is.is_plan;
           is = subst (λ (ends : ScoreEnds). o.report ≡ report_of ends x.case (plan_request x) plan) (ap ends_of e) report.is;
         })
 
     -- no accepted certificate shows more than the report's bound and rounding
-    no_certificate : NoCertificateShowsMore x.case (held_of x) x.terms (o.report.bound + o.report.rounding)
-    no_certificate = nearest x.case (held_of x) x.terms o on_plan
+    no_certificate : NoCertificateShowsMore x.case (held_stocks_of x) x.terms (o.report.bound + o.report.rounding)
+    no_certificate = nearest x.case (held_stocks_of x) x.terms o on_plan
 
     -- ---- the certificate
 
     abbrev certificate : Certificate
     certificate = plan_certificate x plan
 
-    own : certificate_of x.case (held_of x) x.terms o ≡ plan_certificate x plan
-    own = ap (certificate_of x.case (held_of x) x.terms) is.is
+    own : certificate_of x.case (held_stocks_of x) x.terms o ≡ plan_certificate x plan
+    own = ap (certificate_of x.case (held_stocks_of x) x.terms) is.is
 
     formed : IsWellFormed (plan_certificate x plan)
-    formed = subst IsWellFormed own (well_formed x.case (held_of x) x.terms o on_plan)
+    formed = subst IsWellFormed own (well_formed x.case (held_stocks_of x) x.terms o on_plan)
 
-    acceptable : reject_of (ends_of aimed) (plan_certificate x plan) (held_of x) ≡ None
-    acceptable = subst (λ (k : Certificate). reject_of (ends_of aimed) k (held_of x) ≡ None) own (accepted x.case (held_of x) x.terms o on_plan h.work)
+    acceptable : reject_of (ends_of aimed) (plan_certificate x plan) (held_stocks_of x) ≡ None
+    acceptable = subst (λ (k : Certificate). reject_of (ends_of aimed) k (held_stocks_of x) ≡ None) own (accepted x.case (held_stocks_of x) x.terms o on_plan h.work)
 
     within : length (certificate_text x plan) ≤ certificate_limit
     within = subst (λ (k : Certificate). length (text_of k x.on_hand) ≤ certificate_limit) own (short x.case x.on_hand x.terms o on_plan)
@@ -165,7 +164,7 @@ module _ (g : Ground) (h : IsGround g) where
     -- ---- the whole
 
     module _ (name : List ℕ) where
-      is_true : IsTruePlan x name (Some (record { name = name; bytes = certificate_text x plan })) o.report
+      is_true : IsTrueAndShown x name (Some (record { name = name; bytes = certificate_text x plan })) o.report
       is_true = record {
         plan = plan;
         accepted = h.accepted;
@@ -185,11 +184,11 @@ module _ (g : Ground) (h : IsGround g) where
         is_due = refl;
         fulfils = record { plan = plan; is_plan = is.is_plan; is = same_outcome x name o plan (certificate_text x plan) is.is refl };
         is_true = record { report = o.report; is = refl; holds = is_true };
-        prints = report_fits (ends_of aimed) (value_of aimed) x.case (held_of x).list (plan_request x) o.report h.accepted (scores_enclose aimed) (scores_leave_room aimed) report;
+        prints = report_fits (ends_of aimed) (value_of aimed) x.case (held_stocks_of x).list (plan_request x) o.report h.accepted (scores_enclose aimed) (scores_leave_room aimed) report;
       }
 
       -- the bytes of the outcome's certificate under the name are what the task asks for
-      pub made_of : (bytes : List ℕ) → bytes ≡ text_of (certificate_of x.case (held_of x) x.terms o) x.on_hand
+      pub made_of : (bytes : List ℕ) → bytes ≡ text_of (certificate_of x.case (held_stocks_of x) x.terms o) x.on_hand
           → IsMade (Is (Ok (make_plan x name))) (record { done = Planned o.report; writes = Some (record { name = name; bytes = bytes }) })
       made_of bytes text =
           subst (λ (z : List ℕ). IsMade (Is (Ok (make_plan x name))) (record { done = Planned o.report; writes = Some (record { name = name; bytes = z }) }))

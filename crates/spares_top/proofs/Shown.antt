@@ -14,10 +14,10 @@ use Rattle.spares_input.specs.Cases.{CaseRows}
 use Rattle.spares_input.specs.Stocks.{StockList}
 use Rattle.metric_compare.specs.Shows.{ShowsComparison}
 use Rattle.metric_compare.specs.declared.report.CompareReport.{CompareReport}
-use Rattle.spares_top.specs.Headline.{IsTrueComparison, PrintsAround, Shows, ShowsCase, ShowsModel}
+use Rattle.spares_top.specs.Headline.{IsTrueComparison, PrintsAround, ShowsValue, ShowsCase, ShowsModel}
 
 -- the two printed numbers of an interval enclose what the interval does
-pub shown : (x : Ends) (value : ℕ → Fraction) → Encloses 48 x.lo x.hi value → Shows x value
+pub shown : (x : Ends) (value : ℕ → Fraction) → Encloses 48 x.lo x.hi value → ShowsValue x value
 shown x value h = record {
   encloses = h;
   above_low = λ n deep. down_below 48 6 x (value n) (h n deep);

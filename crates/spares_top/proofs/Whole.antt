@@ -16,7 +16,7 @@ use Rattle.order_inputs.specs.Cases.{case_to_edit, case_within_work, stocked_by}
 use Rattle.order_inputs.specs.Files.{Reads, StandStill, StopsAt, bytes_at, inputs, inputs_of, output_of, reads, tables_in}
 use Rattle.order_inputs.specs.Reading.{ReadsGive}
 use Rattle.spares_top.specs.declared.done.Done.{Done}
-use Rattle.spares_top.specs.declared.done.Outcome.{Outcome}
+use Rattle.spares_top.specs.declared.done.TaskOutcome.{TaskOutcome}
 use Rattle.spares_top.specs.declared.done.Written.{Written}
 use Rattle.refusals.specs.declared.failure.Failure.{Failure}
 use Rattle.refusals.specs.declared.refusal.File.TheVariants as file
@@ -33,21 +33,21 @@ use Rattle.spares_top.specs.State.{HasDelivered, HasFailed, HasFailedToWrite, Is
 use Rattle.spares_top.specs.Checks.{claimed_of}
 use Rattle.spares_top.specs.Plans.{planning_of}
 use Rattle.spares_top.specs.Task.{Fulfils, Task, confirm, demonstrate, evaluate, make_plan, plan_in_turn, price_target, set_beside, show_pipeline, sweep_budgets, task_of, task_on, task_on_words, unless_refused}
-use Rattle.spares_top.specs.Texts.{text_of}
+use Rattle.spares_top.specs.Texts.{done_text}
 use Rattle.case_edits.specs.Edits.{session_of}
 use Rattle.order_inputs.proofs.Public.{none_is, read_is, stops_kind}
 use Rattle.spares_top.proofs.OfTask.{task_kind}
 
 -- ---- what is due
 
-made_by : (P Q : Result Task Failure → Type 0) → ((t : Result Task Failure) → P t → Q t) → (r : Result Outcome (Stop Failure)) → MakesBy P r → MakesBy Q r
+made_by : (P Q : Result Task Failure → Type 0) → ((t : Result Task Failure) → P t → Q t) → (r : Result TaskOutcome (Stop Failure)) → MakesBy P r → MakesBy Q r
 made_by P Q f (Ok outcome) h = record { task = h.task; is_due = f (Ok h.task) h.is_due; fulfils = h.fulfils; is_true = h.is_true; prints = h.prints }
 made_by P Q f (Err stop.NoMemory) h = tt
 made_by P Q f (Err (stop.Fault failure)) h = f (Err failure) h
 
 module _ (o : Order) (told : Option Files) (before now : List ℕ → ℕ) where
   -- what is made of the bytes of the inputs comes of the order
-  pub made_of : (files : List (List ℕ)) (r : Result Outcome (Stop Failure)) → Reads told before now (inputs o) (Ok files) → MakesBy (Is (task_on o files)) r
+  pub made_of : (files : List (List ℕ)) (r : Result TaskOutcome (Stop Failure)) → Reads told before now (inputs o) (Ok files) → MakesBy (Is (task_on o files)) r
       → MakesBy (ComesOf o told before now) r
   made_of files r h m = made_by (Is (task_on o files)) (ComesOf o told before now) (λ t e. record { read = Ok files; reads = h; task_is = e }) r m
 
@@ -68,11 +68,11 @@ name_of (price_target case backorders) = None
 name_of (plan_in_turn due) = None
 name_of (set_beside case stocks) = None
 
-abbrev written_name : Outcome → Option (List ℕ)
+abbrev written_name : TaskOutcome → Option (List ℕ)
 written_name outcome = option_map (λ (w : Written). w.name) outcome.writes
 
 -- what fulfils a task is written under its name
-written_as : (task : Task) (outcome : Outcome) → Fulfils task outcome → written_name outcome ≡ name_of task
+written_as : (task : Task) (outcome : TaskOutcome) → Fulfils task outcome → written_name outcome ≡ name_of task
 written_as (show_pipeline mean variance stock) outcome h = ap written_name h
 written_as (evaluate case stocks bits) outcome h = ap written_name h
 written_as (make_plan planning name) outcome h = ap written_name h.is
@@ -119,7 +119,7 @@ nothing_of : (written : Option Written) (name : Option (List ℕ)) → option_ma
 nothing_of None name e n = refl
 nothing_of (Some w) name e n = grind (arith, e, n)
 
-names_due : (order : Result Order WordsFault) (bytes : List (List ℕ)) (task : Task) (outcome : Outcome) → task_on_words order bytes ≡ Ok task → Fulfils task outcome
+names_due : (order : Result Order WordsFault) (bytes : List (List ℕ)) (task : Task) (outcome : TaskOutcome) → task_on_words order bytes ≡ Ok task → Fulfils task outcome
     → written_name outcome ≡ output_of order
 names_due (Ok o) bytes task outcome e f = written_as task outcome f ∙ task_named o bytes task e
 names_due (Err fault) bytes task outcome e f = grind (arith, e)
@@ -172,14 +172,14 @@ pub record IsBefore (old mid new : Scene) : Type 0 where
   pub writes : StandStill old.write_faults mid.write_faults
   pub reads : StandStill mid.read_faults new.read_faults
 
-module _ (outcome : Outcome) (old mid new : Scene) (b : IsBefore old mid new) where
+module _ (outcome : TaskOutcome) (old mid new : Scene) (b : IsBefore old mid new) where
   untouched_from : IsUntouched mid new → IsUntouched old new
   untouched_from h = record { held = h.held ∙ b.untouched.held; out = h.out ∙ b.untouched.out; faults = h.faults ∙ b.untouched.faults }
 
   delivered_from : HasDelivered outcome mid new → HasDelivered outcome old new
   delivered_from h = record {
     held = h.held ∙ ap (after_write outcome.writes) b.untouched.held;
-    out = subst (λ out. Gains out new.out (text_of outcome.done)) b.untouched.out h.out;
+    out = subst (λ out. Gains out new.out (done_text outcome.done)) b.untouched.out h.out;
     faults = h.faults ∙ b.untouched.faults;
     writes = λ name. h.writes name ∙ b.writes name;
   }
@@ -197,7 +197,7 @@ module _ (outcome : Outcome) (old mid new : Scene) (b : IsBefore old mid new) wh
   failed_from (inl h) = inl (unwritten_from outcome.writes h)
   failed_from (inr h) = inr (record {
     held = h.held ∙ ap (after_write outcome.writes) b.untouched.held;
-    out = subst (λ out. GainsPart out new.out (text_of outcome.done)) b.untouched.out h.out;
+    out = subst (λ out. GainsPart out new.out (done_text outcome.done)) b.untouched.out h.out;
     rose = subst (λ count. Rose count new.faults) b.untouched.faults h.rose;
     writes = λ name. h.writes name ∙ b.writes name;
   })
@@ -291,7 +291,7 @@ module _ (order : Result Order WordsFault) (old new : Scene) (held : Files) (fai
     no_write None e h = absurd h
     no_write (Some w) e h = subst (λ (n : Option (List ℕ)). IfSome n (λ name. ¬ Rose (old.write_faults name) (new.write_faults name))) (sym e) failed.writes h.rose
 
-    undelivered : (outcome : Outcome) → option_map (λ (w : Written). w.name) outcome.writes ≡ output_of order → ¬ HasFailed outcome old new
+    undelivered : (outcome : TaskOutcome) → option_map (λ (w : Written). w.name) outcome.writes ≡ output_of order → ¬ HasFailed outcome old new
     undelivered outcome e (inl w) = no_write outcome.writes e w
     undelivered outcome e (inr p) = failed.puts p.rose
 

@@ -6,7 +6,7 @@ use Rattle.spares_words.specs.declared.order.Order.{Order}
 use Rattle.spares_words.specs.declared.order.WordsFault.{WordsFault}
 use Rattle.order_inputs.specs.Files.{Reads, StopsAt, inputs_of}
 use Rattle.spares_top.specs.declared.done.Done.{Done}
-use Rattle.spares_top.specs.declared.done.Outcome.{Outcome}
+use Rattle.spares_top.specs.declared.done.TaskOutcome.{TaskOutcome}
 use Rattle.refusals.specs.declared.failure.Failure.{Failure}
 use Rattle.refusals.specs.declared.refusal.Refusal.{Refusal}
 use Rattle.refusals.specs.declared.refusal.Refusal.TheVariants as refusal
@@ -30,7 +30,7 @@ pub record IsDue (order : Result Order WordsFault) (old new : Scene) (task : Tas
 pub record IsDone (order : Result Order WordsFault) (old new : Scene) (done : Done) : Type 0 where
   pub task : Task
   pub is_due : IsDue order old new task
-  pub outcome : Outcome
+  pub outcome : TaskOutcome
   pub done_is : outcome.done ≡ done
   pub fulfils : Fulfils task outcome
   pub is_true : IsTrue task outcome
@@ -67,7 +67,7 @@ pub record IsUndelivered (order : Result Order WordsFault) (old new : Scene) (fa
   pub failure_is : failure ≡ plain_failure refusal.WriteFault
   pub task : Task
   pub is_due : IsDue order old new task
-  pub outcome : Outcome
+  pub outcome : TaskOutcome
   pub fulfils : Fulfils task outcome
   pub is_true : IsTrue task outcome
   pub failed : HasFailed outcome old new

@@ -2,7 +2,7 @@
 use Rattle.std.specs.Prelude.{ℕ, List, Some, None, Result, Ok, Err, if◌then◌else◌}
 use Rattle.std.specs.Option.{option_map}
 use Rattle.gap_rules.specs.Scores.{ends_of}
-use Rattle.gap_rules.specs.Refusals.{cost_above, judged}
+use Rattle.gap_rules.specs.Refusals.{case_cost_above, judged}
 use Rattle.check_answers.specs.declared.refusal.Accepted.{Accepted}
 use Rattle.check_answers.specs.declared.refusal.Reject.{Reject}
 use Rattle.held_certificate.specs.Held.{held_of, is_held_form}
@@ -16,7 +16,7 @@ use Rattle.refusals.specs.Lines.{no_names}
 use Rattle.refusals.specs.declared.failure.Failure.{Failure}
 use Rattle.refusals.specs.declared.refusal.Refusal.TheVariants as refusal
 use Rattle.spares_input.specs.Cases.{frame_rows}
-use Rattle.spares_input.specs.Stocks.{cost_of}
+use Rattle.spares_input.specs.Stocks.{cost_of_stocks}
 use Rattle.answers.specs.Steps.{◌>>=◌}
 use Rattle.spares_top.specs.Held.{held_in}
 use Rattle.spares_top.specs.declared.check.Claim.{Claim}
@@ -55,8 +55,8 @@ abbrev pub check_of : Claim → CheckReport
 check_of x = record {
   format = x.certificate.format;
   budget = x.certificate.budget;
-  cost = cost_above x.certificate.case (held_in x.certificate.case x.on_hand) x.certificate.stocks;
-  on_hand = option_map (cost_of x.certificate.case) x.on_hand;
+  cost = case_cost_above x.certificate.case (held_in x.certificate.case x.on_hand) x.certificate.stocks;
+  on_hand = option_map (cost_of_stocks x.certificate.case) x.on_hand;
   upper = x.certificate.upper;
   bound = x.certificate.bound;
 }

@@ -6,7 +6,7 @@ use Rattle.exact_model.specs.Series.{ebo, vbo}
 use Rattle.fixed_interval.specs.Ends.{Ends}
 use Rattle.fixed_interval.specs.Text.{text_value}
 use Rattle.fleet_model.specs.Rows.{ten_thousandths}
-use Rattle.fleet_model.specs.Fleet.{IsAllocation, cost, total}
+use Rattle.fleet_model.specs.Fleet.{IsAllocation, cost, case_total}
 use Rattle.fleet_model.specs.Aims.{Value, aim, cost_beyond, weighted_backorders}
 use Rattle.exact_ratio.specs.declared.decimal.Decimal.{Decimal}
 use Rattle.budget_sweep.specs.Sweep.{state_at}
@@ -19,7 +19,7 @@ use Rattle.case_figures.specs.Spans.{ends, places}
 use Rattle.case_figures.specs.declared.figures.Span.{Span}
 use Rattle.case_maker.specs.Demonstration.{made}
 use Rattle.case_plan.specs.Truth.{IsTruePlanReport, IsTrueReport, NoneHasLessThanPrinted}
-use Rattle.certified_plan.specs.Accepted.{claims_of}
+use Rattle.certified_plan.specs.Accepted.{case_claims_of}
 use Rattle.certified_plan.specs.Laws.{NoCertificateShowsMore}
 use Rattle.gap_rules.specs.Scores.{ends_of, value_of}
 use Rattle.demonstration.specs.Demonstrations.{budget_of, demo_certificate, summary_of}
@@ -40,12 +40,12 @@ use Rattle.spares_input.specs.Cases.{CaseRows}
 use Rattle.spares_input.specs.Stocks.{StockList, nothing_held}
 use Rattle.spares_top.specs.Checks.{check_of, claimed_of}
 use Rattle.spares_top.specs.Held.{held_in}
-use Rattle.spares_top.specs.Plans.{Planning, certificate_text, held_of, plan_certificate, plan_request}
+use Rattle.spares_top.specs.Plans.{Planning, certificate_text, held_stocks_of, plan_certificate, plan_request}
 use Rattle.spares_top.specs.Task.{Task, confirm, demonstrate, evaluate, make_plan, plan_in_turn, price_target, set_beside, show_pipeline, sweep_budgets}
 use Rattle.spares_top.specs.declared.check.Claim.{Claim}
 use Rattle.spares_top.specs.declared.done.Done.{Done}
 use Rattle.spares_top.specs.declared.done.Done.TheVariants.{Single, Evaluated, Planned, Checked, Demo, Swept, Priced, Session, Compared}
-use Rattle.spares_top.specs.declared.done.Outcome.{Outcome}
+use Rattle.spares_top.specs.declared.done.TaskOutcome.{TaskOutcome}
 use Rattle.spares_top.specs.declared.done.Written.{Written}
 use Rattle.family_points.specs.Points.{plain_ends}
 use Rattle.case_plan.specs.Report.{plain_request}
@@ -61,7 +61,7 @@ abbrev pub printed_high : Ends → Fraction
 printed_high x = text_value 6 (upper_millionths 48 x)
 
 -- the interval encloses the value at each depth from 1024 on, and so do its two printed numbers
-pub record Shows (x : Ends) (value : ℕ → Fraction) : Type 0 where
+pub record ShowsValue (x : Ends) (value : ℕ → Fraction) : Type 0 where
   pub encloses : Encloses 48 x.lo x.hi value
   pub above_low : (n : ℕ) → 1024 ≤ n → printed_low x ≤ℚ value n
   pub below_high : (n : ℕ) → 1024 ≤ n → value n ≤ℚ printed_high x
@@ -69,8 +69,8 @@ pub record Shows (x : Ends) (value : ℕ → Fraction) : Type 0 where
 -- The report shows the expected backorders and their variance, for a pipeline with exactly this mean, variance and
 -- stock.
 pub record ShowsModel (mean variance : Fraction) (stock : ℕ) (report : SingleReport) : Type 0 where
-  pub backorders : Shows report.backorders (λ n. ebo n mean variance stock)
-  pub spread : Shows report.spread (λ n. vbo n mean variance stock)
+  pub backorders : ShowsValue report.backorders (λ n. ebo n mean variance stock)
+  pub spread : ShowsValue report.spread (λ n. vbo n mean variance stock)
 
 -- ---- a case
 
@@ -97,24 +97,24 @@ pub record ShowsCase (bits : ℕ) (c : CaseRows) (s : StockList) (report : EvalR
 -- ---- a plan
 
 -- A plan's report is true of its case, and its certificate shows it. The stocks are the plan's.
-pub record IsTruePlan (x : Planning) (name : List ℕ) (writes : Option Written) (report : PlanReport) : Type 0 where
+pub record IsTrueAndShown (x : Planning) (name : List ℕ) (writes : Option Written) (report : PlanReport) : Type 0 where
   pub plan : CasePlan
   -- the case is accepted: it is valid, and no rate of it is refused
   pub accepted : IsAcceptedCase x.case
   -- in the words of the model, for the objective and the held stocks
-  pub says : IsTrueReport (ends_of x.terms.objective) (value_of x.terms.objective) x.case (held_of x).list
+  pub says : IsTrueReport (ends_of x.terms.objective) (value_of x.terms.objective) x.case (held_stocks_of x).list
       (plan_request x) plan report
   -- and for weighted backorders with no stocks on hand, in its plain words
   pub plainly : x.terms.objective ≡ Backorders → x.on_hand ≡ None
       → IsTruePlanReport x.case x.terms.budget plan.stocks report
   -- no certificate of the same case, held stocks, budget and objective that breaks no rule of the checker has a bound
   -- above the report's bound plus its rounding
-  pub no_certificate : NoCertificateShowsMore x.case (held_of x) x.terms (report.bound + report.rounding)
+  pub no_certificate : NoCertificateShowsMore x.case (held_stocks_of x) x.terms (report.bound + report.rounding)
   -- if a span encloses a value, so do its two printed numbers
   pub prints : (span : Span) (value : ℕ → Fraction) → ShowsSpan 48 value span → PrintsAround span value
   -- the written certificate breaks no rule of the checker
   pub written : writes ≡ Some (record { name = name; bytes = certificate_text x plan })
-  pub acceptable : reject_of (ends_of x.terms.objective) (plan_certificate x plan) (held_of x) ≡ None
+  pub acceptable : reject_of (ends_of x.terms.objective) (plan_certificate x plan) (held_stocks_of x) ≡ None
   -- and `check` of these bytes confirms it
   pub within : length (certificate_text x plan) ≤ certificate_limit
   pub confirmed : claimed_of (certificate_text x plan) ≡ Ok
@@ -134,7 +134,7 @@ pub record IsTrueCheck (x : Claim) (report : CheckReport) : Type 0 where
   -- budget have less than its bound
   pub says : AreTrueClaims (value_of x.certificate.objective) x.certificate.case
       (held_in x.certificate.case x.on_hand).list x.certificate.budget
-      (claims_of x.certificate)
+      (case_claims_of x.certificate)
   -- or less than the printed bound
   pub printed : NoneHasLessThanPrinted (value_of x.certificate.objective) x.certificate.case
       (held_in x.certificate.case x.on_hand).list
@@ -148,7 +148,7 @@ pub record IsTrueCheck (x : Claim) (report : CheckReport) : Type 0 where
   pub on_hand_is : report.on_hand ≡ option_map (λ (stocks : StockList). cost x.certificate.case stocks.list) x.on_hand
   -- and for weighted backorders with no stocks on hand, in the model's plain words
   pub plainly : x.certificate.objective ≡ Backorders → x.on_hand ≡ None
-      → ArePlainClaims x.certificate.case x.certificate.budget (claims_of x.certificate)
+      → ArePlainClaims x.certificate.case x.certificate.budget (case_claims_of x.certificate)
 
 -- ---- a demonstration
 
@@ -161,11 +161,11 @@ pub record IsTrueDemo (number lines : ℕ) (summary : Summary) : Type 0 where
   -- the bound, and no price shows more than bound plus rounding
   pub says : IsPlainPlan (made number lines) (budget_of lines) plan
   -- the total is enclosed, and its two printed numbers enclose it too
-  pub shows : Shows summary.total (total (made number lines) plan.stocks)
+  pub shows : ShowsValue summary.total (case_total (made number lines) plan.stocks)
   -- no stocks within the budget have fewer backorders than the printed bound
   pub printed : (n : ℕ) → 1024 ≤ n → (s : List ℕ) → IsAllocation (made number lines) s
       → cost (made number lines) s ≤ budget_of lines
-      → text_value 6 (millionths_down 48 summary.bound) ≤ℚ total (made number lines) s n
+      → text_value 6 (millionths_down 48 summary.bound) ≤ℚ case_total (made number lines) s n
   -- the bound plus the gap is the total's upper end
   pub gap : summary.bound + summary.gap ≡ summary.total.hi
   -- the checker accepts the certificate
@@ -208,7 +208,7 @@ pub record IsTrueAnswer (d : PlanDue) (report : PlanReport) : Type 0 where
 -- the two weighted totals. If an interval encloses a value, so do its two printed numbers.
 pub record IsTrueComparison (c : CaseRows) (s : StockList) (report : CompareReport) : Type 0 where
   pub says : ShowsComparison c s report
-  pub prints : (x : Ends) (value : ℕ → Fraction) → Encloses 48 x.lo x.hi value → Shows x value
+  pub prints : (x : Ends) (value : ℕ → Fraction) → Encloses 48 x.lo x.hi value → ShowsValue x value
 
 -- ---- a task
 
@@ -219,11 +219,11 @@ pub record Reports {R : Type 0} (kind : R → Done) (Holds : R → Type 0) (done
   pub holds : Holds report
 
 -- This outcome is true of the task's subject, in the words of the model.
-abbrev pub IsTrue : Task → Outcome → Type 0
+abbrev pub IsTrue : Task → TaskOutcome → Type 0
 IsTrue (show_pipeline mean variance stock) outcome =
     Reports Single (ShowsModel (ten_thousandths mean) (ten_thousandths variance) stock) outcome.done
 IsTrue (evaluate case stocks bits) outcome = Reports Evaluated (ShowsCase bits case stocks) outcome.done
-IsTrue (make_plan planning name) outcome = Reports Planned (IsTruePlan planning name outcome.writes) outcome.done
+IsTrue (make_plan planning name) outcome = Reports Planned (IsTrueAndShown planning name outcome.writes) outcome.done
 IsTrue (confirm claimed) outcome = Reports Checked (IsTrueCheck claimed) outcome.done
 IsTrue (demonstrate number lines) outcome = Reports Demo (IsTrueDemo number lines) outcome.done
 IsTrue (sweep_budgets case) outcome = Reports Swept (IsTrueSweep case) outcome.done

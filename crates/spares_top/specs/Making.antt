@@ -6,7 +6,7 @@ use Rattle.answers.specs.declared.stop.Stop.{Stop}
 use Rattle.answers.specs.declared.stop.Stop.TheVariants as stop
 use Rattle.spares_words.specs.declared.order.Order.{Order}
 use Rattle.order_inputs.specs.Files.{Reads, inputs}
-use Rattle.spares_top.specs.declared.done.Outcome.{Outcome}
+use Rattle.spares_top.specs.declared.done.TaskOutcome.{TaskOutcome}
 use Rattle.spares_top.specs.declared.done.Written.{Written}
 use Rattle.refusals.specs.declared.failure.Failure.{Failure}
 use Rattle.refusals.specs.declared.refusal.Refusal.TheVariants as refusal
@@ -29,7 +29,7 @@ pub record ComesOf (order : Order) (told : Option Files) (before now : List ℕ 
   pub task_is : task ≡ (read >>= task_on order)
 
 -- an outcome of a due task; it is true and can be printed
-pub record IsMade (IsDue : Result Task Failure → Type 0) (outcome : Outcome) : Type 0 where
+pub record IsMade (IsDue : Result Task Failure → Type 0) (outcome : TaskOutcome) : Type 0 where
   pub task : Task
   pub is_due : IsDue (Ok task)
   pub fulfils : Fulfils task outcome
@@ -37,7 +37,7 @@ pub record IsMade (IsDue : Result Task Failure → Type 0) (outcome : Outcome) :
   pub prints : CanPrint outcome.done
 
 -- the outcome of a due task, or its refusal; want of memory may always come
-abbrev pub MakesBy : (Result Task Failure → Type 0) → Result Outcome (Stop Failure) → Type 0
+abbrev pub MakesBy : (Result Task Failure → Type 0) → Result TaskOutcome (Stop Failure) → Type 0
 MakesBy IsDue (Ok outcome) = IsMade IsDue outcome
 MakesBy IsDue (Err stop.NoMemory) = ⊤
 MakesBy IsDue (Err (stop.Fault failure)) = IsDue (Err failure)
@@ -50,12 +50,12 @@ WriteRefused writes old new before now failure =
     × IsSomeAnd writes (λ w. KeepsOthers w.name old new × Rose (before w.name) (now w.name)))
 
 -- the state after a delivery that failed
-abbrev pub HasNotDelivered : Outcome → Scene → Scene → Failure → Type 0
+abbrev pub HasNotDelivered : TaskOutcome → Scene → Scene → Failure → Type 0
 HasNotDelivered outcome old new failure =
     ((failure ≡ plain_failure refusal.NoMemory) × IsUntouched old new)
     ⊎ ((failure ≡ plain_failure refusal.WriteFault) × HasFailed outcome old new)
 
 -- the state after the delivery of an outcome
-abbrev pub Delivers : {A : Type 0} → Outcome → Scene → Scene → Result A Failure → Type 0
+abbrev pub Delivers : {A : Type 0} → TaskOutcome → Scene → Scene → Result A Failure → Type 0
 Delivers outcome old new (Ok done) = HasDelivered outcome old new
 Delivers outcome old new (Err failure) = HasNotDelivered outcome old new failure

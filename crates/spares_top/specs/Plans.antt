@@ -18,13 +18,13 @@ use Rattle.refusals.specs.declared.failure.Failure.{Failure}
 use Rattle.refusals.specs.declared.refusal.File.TheVariants.{OnHand}
 use Rattle.refusals.specs.declared.refusal.Refusal.TheVariants as refusal
 use Rattle.spares_input.specs.Cases.{CaseRows}
-use Rattle.spares_input.specs.Stocks.{StockList, cost_of}
+use Rattle.spares_input.specs.Stocks.{StockList, cost_of_stocks}
 use Rattle.answers.specs.Steps.{◌>>=◌}
 use Rattle.order_inputs.specs.Cases.{case_within_work, stocked_by}
 use Rattle.order_inputs.specs.Files.{CaseBytes}
 use Rattle.spares_top.specs.Held.{held_in}
 use Rattle.spares_top.specs.declared.done.Done.TheVariants.{Planned}
-use Rattle.spares_top.specs.declared.done.Outcome.{Outcome}
+use Rattle.spares_top.specs.declared.done.TaskOutcome.{TaskOutcome}
 
 -- The inputs of a plan: a case, the stocks on hand if there is a table of them, and the terms.
 pub record Planning : Type 0 where
@@ -47,8 +47,8 @@ planning_of tables (Some stocks) terms = do
 -- ---- the plan
 
 -- the held stocks: the stocks on hand, or zeros
-abbrev pub held_of : Planning → StockList
-held_of x = held_in x.case x.on_hand
+abbrev pub held_stocks_of : Planning → StockList
+held_stocks_of x = held_in x.case x.on_hand
 
 -- the objective is the loss
 abbrev pub is_loss : Objective → Bool
@@ -60,7 +60,7 @@ abbrev pub plan_request : Planning → Request
 plan_request x = record {
   budget = x.terms.budget;
   loss = is_loss x.terms.objective;
-  on_hand = option_map (cost_of x.case) x.on_hand;
+  on_hand = option_map (cost_of_stocks x.case) x.on_hand;
 }
 
 -- the outcome of a plan
@@ -69,21 +69,21 @@ plan_outcome x p = outcome_of (ends_of x.terms.objective) x.case (plan_request x
 
 -- its certificate
 abbrev pub plan_certificate : Planning → CasePlan → Certificate
-plan_certificate x p = certificate_of x.case (held_of x) x.terms (plan_outcome x p)
+plan_certificate x p = certificate_of x.case (held_stocks_of x) x.terms (plan_outcome x p)
 
 -- the text of its certificate
 abbrev pub certificate_text : Planning → CasePlan → List ℕ
 certificate_text x p = text_of (plan_certificate x p) x.on_hand
 
 -- the report of a plan, and the text of its certificate under this name
-abbrev pub planned : Planning → List ℕ → CasePlan → Outcome
+abbrev pub planned : Planning → List ℕ → CasePlan → TaskOutcome
 planned x name p = record {
   done = Planned (plan_outcome x p).report;
   writes = Some (record { name = name; bytes = certificate_text x p });
 }
 
 -- the outcome is the outcome of the case's plan on these terms; there is exactly one
-pub record IsPlanned (x : Planning) (name : List ℕ) (outcome : Outcome) : Type 0 where
+pub record IsPlannedOutcome (x : Planning) (name : List ℕ) (outcome : TaskOutcome) : Type 0 where
   pub plan : CasePlan
-  pub is_plan : IsCasePlan (ends_of x.terms.objective) x.case (held_of x).list x.terms.budget plan
+  pub is_plan : IsCasePlan (ends_of x.terms.objective) x.case (held_stocks_of x).list x.terms.budget plan
   pub is : outcome ≡ planned x name plan

@@ -8,7 +8,7 @@ use Rattle.spares_words.specs.declared.order.Order.{Order}
 use Rattle.spares_words.specs.declared.order.WordsFault.{WordsFault}
 use Rattle.order_inputs.specs.Files.{NoneRose, StandStill, inputs_of, output_of}
 use Rattle.spares_top.specs.declared.done.Done.{Done}
-use Rattle.spares_top.specs.declared.done.Outcome.{Outcome}
+use Rattle.spares_top.specs.declared.done.TaskOutcome.{TaskOutcome}
 use Rattle.refusals.specs.declared.failure.Failure.{Failure}
 use Rattle.refusals.specs.declared.refusal.Refusal.{Refusal}
 use Rattle.refusals.specs.declared.refusal.Refusal.TheVariants as refusal
@@ -36,13 +36,14 @@ pub record NoneFailed (order : Result Order WordsFault) (old new : Scene) : Type
   pub puts : ¬ Rose old.faults new.faults
 
 -- the answer is a report that fulfils this task
-abbrev pub IsReportOf : Result Done Failure → Task → Type 0
-IsReportOf result task = IsOkAnd result (λ done. (outcome : Outcome) × (Fulfils task outcome × (outcome.done ≡ done)))
+abbrev pub ReportsTask : Result Done Failure → Task → Type 0
+ReportsTask result task =
+    IsOkAnd result (λ done. (outcome : TaskOutcome) × (Fulfils task outcome × (outcome.done ≡ done)))
 
 -- the answer is the task's, or want of memory
 abbrev pub Completes : Result Task Failure → Result Done Failure → Type 0
 Completes task result = IsErrOf result (plain_failure refusal.NoMemory)
-    ⊎ MatchResult task (IsReportOf result) (IsErrOf result)
+    ⊎ MatchResult task (ReportsTask result) (IsErrOf result)
 
 -- an answer whose refusal has this line
 abbrev pub with_line : List ℕ → Result Done Refusal → Result Done Failure

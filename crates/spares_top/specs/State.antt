@@ -5,9 +5,9 @@ use Rattle.spares_io.specs.Causes.{Rose}
 use Rattle.spares_io.specs.Shelf.{Files, KeepsOthers, with_file}
 use Rattle.spares_io.specs.Sink.{Gains, GainsPart}
 use Rattle.order_inputs.specs.Files.{StandStill}
-use Rattle.spares_top.specs.declared.done.Outcome.{Outcome}
+use Rattle.spares_top.specs.declared.done.TaskOutcome.{TaskOutcome}
 use Rattle.spares_top.specs.declared.done.Written.{Written}
-use Rattle.spares_top.specs.Texts.{text_of}
+use Rattle.spares_top.specs.Texts.{done_text}
 
 -- The shelf and the output at a moment: their contents, if they are known, and their counts of faults.
 pub record Scene : Type 0 where
@@ -34,9 +34,9 @@ pub record IsUntouched (old new : Scene) : Type 0 where
   pub faults : new.faults ≡ old.faults
 
 -- an outcome was written and put, nothing else was written, and no write and no put failed
-pub record HasDelivered (outcome : Outcome) (old new : Scene) : Type 0 where
+pub record HasDelivered (outcome : TaskOutcome) (old new : Scene) : Type 0 where
   pub held : new.held ≡ after_write outcome.writes old.held
-  pub out : Gains old.out new.out (text_of outcome.done)
+  pub out : Gains old.out new.out (done_text outcome.done)
   pub faults : new.faults ≡ old.faults
   pub writes : StandStill old.write_faults new.write_faults
 
@@ -48,13 +48,13 @@ pub record HasFailedToWrite (written : Written) (old new : Scene) : Type 0 where
   pub rose : Rose (old.write_faults written.name) (new.write_faults written.name)
 
 -- the put of the report failed: the write is complete, and the output got a prefix of the report
-pub record HasFailedToPut (outcome : Outcome) (old new : Scene) : Type 0 where
+pub record HasFailedToPut (outcome : TaskOutcome) (old new : Scene) : Type 0 where
   pub held : new.held ≡ after_write outcome.writes old.held
-  pub out : GainsPart old.out new.out (text_of outcome.done)
+  pub out : GainsPart old.out new.out (done_text outcome.done)
   pub rose : Rose old.faults new.faults
   pub writes : StandStill old.write_faults new.write_faults
 
 -- the delivery of an outcome failed at one of its two places
-abbrev pub HasFailed : Outcome → Scene → Scene → Type 0
+abbrev pub HasFailed : TaskOutcome → Scene → Scene → Type 0
 HasFailed outcome old new = IsSomeAnd outcome.writes (λ written. HasFailedToWrite written old new)
     ⊎ HasFailedToPut outcome old new

@@ -27,14 +27,14 @@ use Rattle.order_inputs.specs.Files.{CaseBytes, bytes_at, inputs_of, reads, tabl
 use Rattle.spares_top.specs.declared.check.Claim.{Claim}
 use Rattle.spares_top.specs.declared.done.Done.{Done}
 use Rattle.spares_top.specs.declared.done.Done.TheVariants.{Single, Evaluated, Checked, Demo, Swept, Priced, Session, Compared}
-use Rattle.spares_top.specs.declared.done.Outcome.{Outcome}
+use Rattle.spares_top.specs.declared.done.TaskOutcome.{TaskOutcome}
 use Rattle.refusals.specs.declared.failure.Failure.{Failure}
 use Rattle.refusals.specs.declared.refusal.File.TheVariants as file
 use Rattle.refusals.specs.declared.refusal.Refusal.TheVariants as refusal
 use Rattle.answers.specs.Steps.{◌>>=◌}
 use Rattle.refusals.specs.Causes.{or_refuse, plain_failure}
 use Rattle.refusals.specs.Lines.{no_names}
-use Rattle.spares_top.specs.Plans.{Planning, IsPlanned, planning_of}
+use Rattle.spares_top.specs.Plans.{Planning, IsPlannedOutcome, planning_of}
 use Rattle.demonstration.specs.Demonstrations.{IsDemonstrated}
 use Rattle.spares_top.specs.Checks.{claimed_of, check_of}
 use Rattle.family_points.specs.Points.{plain_ends}
@@ -161,20 +161,20 @@ abbrev pub eval_of : ℕ → CaseRows → StockList → EvalReport
 eval_of bits c s = record { bits = bits; figures = figures_of bits c s }
 
 -- a printed report, with no write before it
-abbrev pub printed : Done → Outcome
+abbrev pub printed : Done → TaskOutcome
 printed done = record { done = done; writes = None }
 
 -- the outcome prints a report of this kind that satisfies `Holds`
-pub record Shows {R : Type 0} (kind : R → Done) (Holds : R → Type 0) (outcome : Outcome) : Type 0 where
+pub record Shows {R : Type 0} (kind : R → Done) (Holds : R → Type 0) (outcome : TaskOutcome) : Type 0 where
   pub report : R
   pub is : outcome ≡ printed (kind report)
   pub holds : Holds report
 
 -- This outcome fulfils the task.
-abbrev pub Fulfils : Task → Outcome → Type 0
+abbrev pub Fulfils : Task → TaskOutcome → Type 0
 Fulfils (show_pipeline mean variance stock) outcome = outcome ≡ printed (Single (single_of mean variance stock))
 Fulfils (evaluate case stocks bits) outcome = outcome ≡ printed (Evaluated (eval_of bits case stocks))
-Fulfils (make_plan planning name) outcome = IsPlanned planning name outcome
+Fulfils (make_plan planning name) outcome = IsPlannedOutcome planning name outcome
 Fulfils (confirm claimed) outcome = outcome ≡ printed (Checked (check_of claimed))
 Fulfils (demonstrate number lines) outcome = Shows Demo (IsDemonstrated number lines) outcome
 Fulfils (sweep_budgets case) outcome = Shows Swept (IsCaseSweep plain_ends case (nothing_held case).list) outcome

@@ -12,16 +12,16 @@ use Rattle.spares_top.specs.declared.done.Done.{Done}
 use Rattle.spares_top.specs.declared.done.Done.TheVariants.{Single, Evaluated, Planned, Checked, Demo, Swept, Priced, Session, Compared}
 
 -- the text of a report
-abbrev pub text_of : Done → List ℕ
-text_of (Single report) = single_text report
-text_of (Evaluated report) = eval_text report
-text_of (Planned report) = plan_text report
-text_of (Checked report) = check_text report
-text_of (Demo summary) = summary_text summary
-text_of (Swept report) = sweep_text report
-text_of (Priced report) = target_text report
-text_of (Session report) = flat_map plan_text report.plans
-text_of (Compared report) = compare_text report
+abbrev pub done_text : Done → List ℕ
+done_text (Single report) = single_text report
+done_text (Evaluated report) = eval_text report
+done_text (Planned report) = plan_text report
+done_text (Checked report) = check_text report
+done_text (Demo summary) = summary_text summary
+done_text (Swept report) = sweep_text report
+done_text (Priced report) = target_text report
+done_text (Session report) = flat_map plan_text report.plans
+done_text (Compared report) = compare_text report
 
 -- all numbers of a report can be printed
 abbrev pub CanPrint : Done → Type 0

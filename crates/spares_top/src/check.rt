@@ -15,7 +15,7 @@ ghost use Rattle.spares_top.specs.Checking.{IsClaim, confirmed_of};
 ghost use Rattle.spares_top.specs.Making.{Is, MakesBy};
 ghost use Rattle.spares_top.specs.Task.{check_task};
 
-use crate::done::{Done, Outcome};
+use crate::done::{Done, TaskOutcome};
 use crate::held::{cost_of, held_in};
 use answers::Stop;
 use check_answers::{Accepted, Reject};
@@ -133,12 +133,12 @@ fn confirmed(alloc: Global, claim: &Claim) -> Result<CheckReport, Stop<Failure>>
 }
 
 /// Carries out `check` on the bytes of a certificate.
-pub(crate) fn check(alloc: Global, bytes: &[u8]) -> Result<Outcome, Stop<Failure>>
+pub(crate) fn check(alloc: Global, bytes: &[u8]) -> Result<TaskOutcome, Stop<Failure>>
     requires { length bytes.now ≤ certificate_limit }
     ensures { MakesBy (Is (check_task bytes.now)) result }
 {
     let claim = claim_of(alloc, bytes)?;
     let report = confirmed(alloc, &claim);
     drop(claim);
-    Ok(Outcome::printed(Done::Checked(report?)))
+    Ok(TaskOutcome::printed(Done::Checked(report?)))
 }

@@ -11,7 +11,7 @@ ghost use Rattle.spares_top.specs.Headline.{IsTrueComparison};
 ghost use Rattle.spares_top.specs.Making.{Is, MakesBy};
 ghost use Rattle.spares_top.specs.Task.{compare_task};
 
-use crate::done::{Done, Outcome};
+use crate::done::{Done, TaskOutcome};
 use answers::{NoMemory, Stop};
 use case_tables::Stocked;
 use metric_compare::CompareReport;
@@ -40,11 +40,11 @@ pub(crate) fn compare(
     alloc: Global,
     tables: &Tables<'_>,
     stocks: &Table<'_>,
-) -> Result<Outcome, Stop<Failure>>
+) -> Result<TaskOutcome, Stop<Failure>>
     ensures { MakesBy (Is (compare_task (bytes_of tables.now) stocks.now.bytes.now)) result }
 {
     let given = stocked(alloc, tables, File::Stocks, stocks)?;
     let report = compared(alloc, &given);
     drop(given);
-    Ok(Outcome::printed(Done::Compared(report?)))
+    Ok(TaskOutcome::printed(Done::Compared(report?)))
 }

@@ -9,7 +9,7 @@ ghost use Rattle.spares_top.specs.Making.{Delivers, WriteRefused};
 ghost use Rattle.spares_top.specs.State.{after_write, scene};
 ghost use Rattle.spares_top.specs.Texts.{CanPrint};
 
-use crate::done::{Outcome, Written};
+use crate::done::{TaskOutcome, Written};
 use refusals::{Failure, Refusal};
 use spares_io::{Shelf, ShelfError, Sink, SinkFailed};
 use std::alloc::Global;
@@ -50,7 +50,7 @@ fn print<W: Sink>(out: &mut W, text: &[u8]) -> Result<(), Failure>
 /// Delivers an outcome. Its text is complete before any write.
 pub(crate) fn deliver<H: Shelf, W: Sink>(
     alloc: Global,
-    outcome: &Outcome,
+    outcome: &TaskOutcome,
     shelf: &mut H,
     out: &mut W,
 ) -> Result<(), Failure>

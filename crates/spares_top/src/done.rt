@@ -1,7 +1,7 @@
 //! The results of the commands.
 ghost use Rattle.std.specs.Prelude.{◌≡◌, IfOk};
 ghost use Rattle.spares_top.specs.Task.{printed};
-ghost use Rattle.spares_top.specs.Texts.{CanPrint, text_of};
+ghost use Rattle.spares_top.specs.Texts.{CanPrint, done_text};
 
 use answers::{List, NoMemory};
 use budget_sweep::{SweepReport, TargetReport};
@@ -38,7 +38,7 @@ impl Done {
     /// The text of the report.
     pub(crate) fn text(&self, alloc: Global) -> Result<Vec<u8>, NoMemory>
         requires { CanPrint self.now }
-        ensures { IfOk result (λ text. text.items ≡ text_of self.now) }
+        ensures { IfOk result (λ text. text.items ≡ done_text self.now) }
     {
         match self {
             Done::Single(report) => report.text(alloc),
@@ -76,16 +76,16 @@ impl Written {
 
 /// The result of a command: its report, and the write that comes before it.
 #[derive(Drop)]
-pub(crate) struct Outcome {
+pub(crate) struct TaskOutcome {
     pub(crate) done: Done,
     pub(crate) writes: Option<Written>,
 }
 
-impl Outcome {
+impl TaskOutcome {
     /// A report with no write before it.
-    pub(crate) fn printed(done: Done) -> Outcome
+    pub(crate) fn printed(done: Done) -> TaskOutcome
         ensures { result ≡ printed done }
     {
-        Outcome { done, writes: None }
+        TaskOutcome { done, writes: None }
     }
 }

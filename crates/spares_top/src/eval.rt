@@ -13,7 +13,7 @@ ghost use Rattle.spares_top.specs.Headline.{ShowsCase};
 ghost use Rattle.spares_top.specs.Making.{Is, MakesBy};
 ghost use Rattle.spares_top.specs.Task.{eval_of, eval_task};
 
-use crate::done::{Done, Outcome};
+use crate::done::{Done, TaskOutcome};
 use answers::{NoMemory, Stop};
 use case_figures::{Figures, figures_at};
 use case_tables::Stocked;
@@ -74,12 +74,12 @@ pub(crate) fn eval(
     tables: &Tables<'_>,
     stocks: &Table<'_>,
     bits: u8,
-) -> Result<Outcome, Stop<Failure>>
+) -> Result<TaskOutcome, Stop<Failure>>
     requires { IsWidth bits }
     ensures { MakesBy (Is (eval_task (bytes_of tables.now) stocks.now.bytes.now bits)) result }
 {
     let given = stocked(alloc, tables, File::Stocks, stocks)?;
     let report = evaluated(alloc, &given, bits);
     drop(given);
-    Ok(Outcome::printed(Done::Evaluated(report?)))
+    Ok(TaskOutcome::printed(Done::Evaluated(report?)))
 }

@@ -1,8 +1,7 @@
 //! The stocks that a plan or a check begins with.
 ghost use Rattle.std.specs.Prelude.{◌≡◌, IfOk};
 ghost use Rattle.std.specs.Option.{option_map};
-ghost use Rattle.certified_plan.specs.Inputs.{IsHeld};
-ghost use Rattle.spares_input.specs.Stocks.{IsFor, cost_of};
+ghost use Rattle.spares_input.specs.Stocks.{AreStocksOf, IsFor, cost_of_stocks};
 ghost use Rattle.spares_top.specs.Held.{held_in};
 
 use answers::NoMemory;
@@ -26,7 +25,7 @@ pub(crate) fn held_in(
     case: &Case,
     on_hand: &Option<Stocks>,
 ) -> Result<Stocks, NoMemory>
-    requires { IsHeld case.now (held_in case.now on_hand.now) }
+    requires { AreStocksOf case.now (held_in case.now on_hand.now) }
     ensures { IfOk result (λ held. held ≡ held_in case.now on_hand.now) }
 {
     match on_hand {
@@ -37,8 +36,8 @@ pub(crate) fn held_in(
 
 /// The cost of the stocks on hand, if there are any.
 pub(crate) fn cost_of(case: &Case, on_hand: &Option<Stocks>) -> Option<u64>
-    requires { IsHeld case.now (held_in case.now on_hand.now) }
-    ensures { result ≡ option_map (cost_of case.now) on_hand.now }
+    requires { AreStocksOf case.now (held_in case.now on_hand.now) }
+    ensures { result ≡ option_map (cost_of_stocks case.now) on_hand.now }
 {
     match on_hand {
         Some(stocks) => Some(stocks.cost(case)),

@@ -8,14 +8,14 @@ ghost use Rattle.certified_plan.specs.Inputs.{AreTerms};
 ghost use Rattle.order_inputs.specs.Given.{bytes_of};
 ghost use Rattle.spares_top.specs.Making.{Is, IsMade, MakesBy};
 ghost use Rattle.spares_top.specs.Planning.{IsGround, IsPlanFor, TellsGround, planning_on};
-ghost use Rattle.spares_top.specs.Plans.{held_of, is_loss, plan_request, planning_of};
+ghost use Rattle.spares_top.specs.Plans.{held_stocks_of, is_loss, plan_request, planning_of};
 ghost use Rattle.spares_top.specs.Task.{make_plan, plan_task};
 
-use crate::done::{Done, Outcome, Written};
+use crate::done::{Done, TaskOutcome, Written};
 use crate::held::{cost_of, held_in};
 use answers::{NoMemory, Stop};
 use case_plan::Request;
-use case_tables::{Accepted, Stocked};
+use case_tables::{AcceptedCase, Stocked};
 use certified_plan::{certificate, certificate_text};
 use held_work::held_work;
 use hull::Plain;
@@ -31,7 +31,7 @@ use std::alloc::Global;
 /// The ground of a plan: a case with its rates, the stocks on hand if there is a table of them, and the terms.
 #[derive(Drop)]
 pub(crate) struct Ground {
-    pub(crate) given: Accepted,
+    pub(crate) given: AcceptedCase,
     pub(crate) on_hand: Option<Stocks>,
     pub(crate) terms: Terms,
 }
@@ -69,7 +69,7 @@ fn held_ground(
     } = stocked(alloc, tables, File::OnHand, stocks)?;
     case.invariant();
     few_tables(held_work(&case, &stocks)).and(Ok(Ground {
-        given: Accepted { case, rates },
+        given: AcceptedCase { case, rates },
         on_hand: Some(stocks),
         terms,
     }))
@@ -119,10 +119,10 @@ fn request_of(ground: &Ground) -> Request
 /// The plan of a ground from its held stocks.
 fn plan_of(alloc: Global, ground: &Ground, held: &Stocks) -> Result<case_plan::Outcome, NoMemory>
     requires ground { IsGround ground.now }
-    requires held { held.now ≡ held_of (planning_on ground.now) }
+    requires held { held.now ≡ held_stocks_of (planning_on ground.now) }
     ensures { IfOk result (IsPlanFor ground.now) }
 {
-    let Accepted { case, rates } = &ground.given;
+    let AcceptedCase { case, rates } = &ground.given;
     let request = request_of(ground);
     match ground.terms.objective {
         Objective::Backorders => plan_case(alloc, case, rates, held, &Plain, request),
@@ -137,9 +137,9 @@ fn certified_outcome(
     held: &Stocks,
     plan: case_plan::Outcome,
     name: &Text,
-) -> Result<Outcome, NoMemory>
+) -> Result<TaskOutcome, NoMemory>
     requires ground { IsGround ground }
-    requires held { held.now ≡ held_of (planning_on ground) }
+    requires held { held.now ≡ held_stocks_of (planning_on ground) }
     requires plan { IsPlanFor ground plan }
     ensures { IfOk result (IsMade (Is (Ok (make_plan (planning_on ground) name.now)))) }
 {
@@ -151,14 +151,14 @@ fn certified_outcome(
     let made = certificate(alloc, given.case, held, terms, plan)?;
     let bytes = certificate_text(alloc, made.certificate, on_hand)?;
     let written = Written::new(alloc, name, bytes)?;
-    Ok(Outcome {
+    Ok(TaskOutcome {
         done: Done::Planned(made.report),
         writes: Some(written),
     })
 }
 
 /// The plan of a ground, and the text of its certificate under this name.
-fn planned(alloc: Global, ground: Ground, name: &Text) -> Result<Outcome, NoMemory>
+fn planned(alloc: Global, ground: Ground, name: &Text) -> Result<TaskOutcome, NoMemory>
     requires { IsGround ground }
     ensures { IfOk result (IsMade (Is (Ok (make_plan (planning_on ground) name.now)))) }
 {
@@ -174,7 +174,7 @@ pub(crate) fn plan(
     on_hand: &Option<Table<'_>>,
     terms: Terms,
     name: &Text,
-) -> Result<Outcome, Stop<Failure>>
+) -> Result<TaskOutcome, Stop<Failure>>
     requires terms { AreTerms terms }
     requires format { IfSome on_hand.now (λ _. terms.format ≡ 2) }
     ensures { MakesBy (Is (plan_task (bytes_of tables.now) (option_map (λ t. t.bytes.now) on_hand.now) terms name.now))

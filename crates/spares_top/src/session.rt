@@ -8,7 +8,7 @@ ghost use Rattle.order_inputs.specs.Given.{bytes_of};
 ghost use Rattle.spares_top.specs.Making.{Is, MakesBy};
 ghost use Rattle.spares_top.specs.Task.{session_task};
 
-use crate::done::{Done, Outcome};
+use crate::done::{Done, TaskOutcome};
 use answers::Stop;
 use order_inputs::{Tables, case_to_edit};
 use plan_session::run_edits;
@@ -20,12 +20,12 @@ pub(crate) fn session(
     alloc: Global,
     tables: &Tables<'_>,
     edits: &[u8],
-) -> Result<Outcome, Stop<Failure>>
+) -> Result<TaskOutcome, Stop<Failure>>
     ensures { MakesBy (Is (session_task (bytes_of tables.now) edits.now)) result }
 {
     let case = case_to_edit(alloc, tables)?;
     match run_edits(alloc, case, edits) {
-        Ok(report) => Ok(Outcome::printed(Done::Session(report))),
+        Ok(report) => Ok(TaskOutcome::printed(Done::Session(report))),
         Err(Stop::NoMemory) => Err(Stop::NoMemory),
         Err(Stop::Fault(fault)) => Err(Stop::Fault(Failure::of(Refusal::Edit(fault)))),
     }

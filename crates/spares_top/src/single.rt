@@ -13,7 +13,7 @@ ghost use Rattle.spares_top.specs.Headline.{ShowsModel};
 ghost use Rattle.spares_top.specs.Making.{Is, MakesBy};
 ghost use Rattle.spares_top.specs.Task.{single_of, single_task, variance_of};
 
-use crate::done::{Done, Outcome};
+use crate::done::{Done, TaskOutcome};
 use answers::{NoMemory, Stop};
 use demand_rates::check_single;
 use exact_ratio::Decimal;
@@ -64,7 +64,7 @@ pub(crate) fn single(
     mean: Decimal,
     variance: Option<Decimal>,
     stock: u8,
-) -> Result<Outcome, Stop<Failure>>
+) -> Result<TaskOutcome, Stop<Failure>>
     requires { IsInRange (order.Single mean variance stock) }
     ensures { MakesBy (Is (single_task mean.units (variance_of mean variance).units stock)) result }
 {
@@ -73,5 +73,5 @@ pub(crate) fn single(
         return Err(Stop::Fault(Failure::of(Refusal::Rate(fault))));
     }
     let report = single_report(alloc, mean, variance, stock)?;
-    Ok(Outcome::printed(Done::Single(report)))
+    Ok(TaskOutcome::printed(Done::Single(report)))
 }

@@ -13,16 +13,16 @@ ghost use Rattle.spares_top.specs.Making.{Is, MakesBy};
 ghost use Rattle.spares_top.specs.Task.{sweep_task};
 
 use crate::curves::curves_of;
-use crate::done::{Done, Outcome};
+use crate::done::{Done, TaskOutcome};
 use answers::{NoMemory, Stop};
 use budget_sweep::SweepReport;
-use case_tables::Accepted;
+use case_tables::AcceptedCase;
 use order_inputs::{Tables, case_within_work};
 use refusals::Failure;
 use std::alloc::Global;
 
 /// The sweep of a case.
-fn sweep_of(alloc: Global, given: &Accepted) -> Result<SweepReport, NoMemory>
+fn sweep_of(alloc: Global, given: &AcceptedCase) -> Result<SweepReport, NoMemory>
     requires { CanPlan given.now }
     ensures sweep { IfOk result (IsCaseSweep plain_ends given.now.case (nothing_held given.now.case).list) }
     ensures fits { IfOk result SweepFits }
@@ -32,11 +32,11 @@ fn sweep_of(alloc: Global, given: &Accepted) -> Result<SweepReport, NoMemory>
 }
 
 /// Carries out `sweep` on the tables of a case.
-pub(crate) fn sweep(alloc: Global, tables: &Tables<'_>) -> Result<Outcome, Stop<Failure>>
+pub(crate) fn sweep(alloc: Global, tables: &Tables<'_>) -> Result<TaskOutcome, Stop<Failure>>
     ensures { MakesBy (Is (sweep_task (bytes_of tables.now))) result }
 {
     let given = case_within_work(alloc, tables)?;
     let report = sweep_of(alloc, &given);
     drop(given);
-    Ok(Outcome::printed(Done::Swept(report?)))
+    Ok(TaskOutcome::printed(Done::Swept(report?)))
 }

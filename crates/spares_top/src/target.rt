@@ -13,17 +13,21 @@ ghost use Rattle.spares_top.specs.Making.{Is, MakesBy};
 ghost use Rattle.spares_top.specs.Task.{target_task};
 
 use crate::curves::curves_of;
-use crate::done::{Done, Outcome};
+use crate::done::{Done, TaskOutcome};
 use answers::{NoMemory, Stop};
 use budget_sweep::TargetReport;
-use case_tables::Accepted;
+use case_tables::AcceptedCase;
 use exact_ratio::Decimal;
 use order_inputs::{Tables, case_within_work};
 use refusals::Failure;
 use std::alloc::Global;
 
 /// The report of a target from the sweep of a case.
-fn target_of(alloc: Global, given: &Accepted, backorders: Decimal) -> Result<TargetReport, NoMemory>
+fn target_of(
+    alloc: Global,
+    given: &AcceptedCase,
+    backorders: Decimal,
+) -> Result<TargetReport, NoMemory>
     requires given { CanPlan given.now }
     requires places { backorders.places ≡ 4 }
     requires most { backorders.units ≤ 10000000000000 }
@@ -40,7 +44,7 @@ pub(crate) fn target(
     alloc: Global,
     tables: &Tables<'_>,
     backorders: Decimal,
-) -> Result<Outcome, Stop<Failure>>
+) -> Result<TaskOutcome, Stop<Failure>>
     requires places { backorders.places ≡ 4 }
     requires most { backorders.units ≤ 10000000000000 }
     ensures { MakesBy (Is (target_task (bytes_of tables.now) backorders)) result }
@@ -48,5 +52,5 @@ pub(crate) fn target(
     let given = case_within_work(alloc, tables)?;
     let report = target_of(alloc, &given, backorders);
     drop(given);
-    Ok(Outcome::printed(Done::Priced(report?)))
+    Ok(TaskOutcome::printed(Done::Priced(report?)))
 }

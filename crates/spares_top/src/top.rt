@@ -1,6 +1,6 @@
 //! The top call.
 ghost use Rattle.std.specs.Prelude.{◌≡◌};
-ghost use Rattle.refusals.specs.Lines.{line_of, no_names};
+ghost use Rattle.refusals.specs.Lines.{line_of_refusal, no_names};
 ghost use Rattle.spares_top.specs.Answer.{words_refusal};
 ghost use Rattle.spares_top.specs.Promises.{PutsLine, Runs, errors};
 ghost use Rattle.spares_top.specs.State.{scene};
@@ -24,7 +24,7 @@ fn put_line<E: Sink>(line: &Line, err: &mut E)
 /// fails, it does nothing else.
 pub fn refuse<E: Sink>(stop: Stop<WordsFault>, err: &mut E) -> Refusal
     ensures refusal { result ≡ words_refusal stop }
-    ensures line { PutsLine (line_of no_names result) (E.bytes err.old) (E.faults err.old) (E.bytes err.new)
+    ensures line { PutsLine (line_of_refusal no_names result) (E.bytes err.old) (E.faults err.old) (E.bytes err.new)
         (E.faults err.new) }
 {
     let failure = Failure::of(refusal_of(stop));

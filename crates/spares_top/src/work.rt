@@ -13,7 +13,7 @@ use crate::check::check;
 use crate::compare::compare;
 use crate::deliver::deliver;
 use crate::demo::demo;
-use crate::done::{Done, Outcome};
+use crate::done::{Done, TaskOutcome};
 use crate::eval::eval;
 use crate::plan::plan;
 use crate::session::session;
@@ -29,7 +29,11 @@ use spares_words::{Order, WordsFault, read_words};
 use std::alloc::Global;
 
 /// The outcome of an order on the bytes of its inputs.
-fn outcome_on(alloc: Global, order: &Order, files: &[List<u8>]) -> Result<Outcome, Stop<Failure>>
+fn outcome_on(
+    alloc: Global,
+    order: &Order,
+    files: &[List<u8>],
+) -> Result<TaskOutcome, Stop<Failure>>
     requires order { IsInRange order.now }
     requires files { AreWithin (inputs order.now) files.now }
     ensures { MakesBy (Is (task_on order.now files.now)) result }
@@ -71,7 +75,7 @@ fn outcome_of<H: Shelf>(
     alloc: Global,
     order: &Order,
     shelf: &mut H,
-) -> Result<Outcome, Stop<Failure>>
+) -> Result<TaskOutcome, Stop<Failure>>
     requires { IsInRange order.now }
     ensures makes { MakesBy (ComesOf order.now (H.held shelf.old) (H.read_faults shelf.old) (H.read_faults shelf.new))
         result }

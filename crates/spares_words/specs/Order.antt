@@ -57,8 +57,8 @@ within which places least most text = do
   if nat_le least number.units && nat_le number.units most then Ok number else Err (Range which)
 
 -- a whole number from `least` to `most`
-abbrev pub whole_of : Which → ℕ → ℕ → Text → Result ℕ WordsFault
-whole_of which least most text = do
+abbrev pub whole_word : Which → ℕ → ℕ → Text → Result ℕ WordsFault
+whole_word which least most text = do
   number ← within which 0 least most text
   Ok number.units
 
@@ -67,7 +67,7 @@ abbrev pub single_from : Text → Option Text → Text → Result Order WordsFau
 single_from mean_text variance_text stock_text = do
   mean ← number_of which.Mean 4 mean_text
   variance ← optional_of which.Variance 4 variance_text
-  stock ← whole_of which.Stock 0 63 stock_text
+  stock ← whole_word which.Stock 0 63 stock_text
   Ok (Single mean variance stock)
 
 -- the order of `single` from the rows of its words
@@ -120,12 +120,12 @@ lowest_format None None = 1
 -- the format of a text, by default the lowest
 abbrev pub format_of : ℕ → Option Text → Result ℕ WordsFault
 format_of lowest None = Ok lowest
-format_of lowest (Some text) = whole_of which.Format lowest 2 text
+format_of lowest (Some text) = whole_word which.Format lowest 2 text
 
 -- the numbers and the objective of `plan`: the budget, then the format, then the objective
 abbrev pub plan_terms_from : Option Text → Text → Option Text → Option Text → Result Terms WordsFault
 plan_terms_from on_hand budget_text format_text objective_text = do
-  budget ← whole_of which.Budget 0 most_budget budget_text
+  budget ← whole_word which.Budget 0 most_budget budget_text
   format ← format_of (lowest_format on_hand (objective_of objective_text)) format_text
   objective ← objective_from (objective_of objective_text)
   Ok (record { budget = budget; format = format; objective = objective })
@@ -155,8 +155,8 @@ check_of rows = Ok (Check (text_of rows (codes "certificate")))
 -- `demo` from the texts of its arguments: the number in 32 bits, then 1 to 80 lines
 abbrev pub demo_from : Text → Text → Result Order WordsFault
 demo_from number_text lines_text = do
-  number ← whole_of which.Number 0 4294967295 number_text
-  lines ← whole_of which.Lines 1 80 lines_text
+  number ← whole_word which.Number 0 4294967295 number_text
+  lines ← whole_word which.Lines 1 80 lines_text
   Ok (Demo number lines)
 
 -- the order of `demo` from the rows of its words

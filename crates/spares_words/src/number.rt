@@ -1,7 +1,7 @@
 //! The numbers and names of a command line.
 ghost use Rattle.std.specs.Prelude.{◌≡◌, ◌≤◌, IfOk, IfSome, option_map};
 ghost use Rattle.fixed_interval.specs.Widths.{IsWidth, is_width};
-ghost use Rattle.spares_words.specs.Order.{bits_of, format_of, lowest_format, number_of, objective_of, optional_of, whole_of, within};
+ghost use Rattle.spares_words.specs.Order.{bits_of, format_of, lowest_format, number_of, objective_of, optional_of, whole_word, within};
 
 use crate::{Which, WordsFault};
 use exact_ratio::{Decimal, read_decimal};
@@ -59,7 +59,7 @@ pub(crate) fn within(
 
 /// The whole number that a text spells, if it is from `least` to `most`.
 pub(crate) fn whole(which: Which, least: u64, most: u64, text: &str) -> Result<u64, WordsFault>
-    ensures value { result ≡ whole_of which least most text.now }
+    ensures value { result ≡ whole_word which least most text.now }
     ensures least { IfOk result (λ number. least ≤ number) }
     ensures most { IfOk result (λ number. number ≤ most) }
 {

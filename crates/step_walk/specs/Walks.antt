@@ -1,7 +1,8 @@
 -- Walks over the steps of curves.
-use Rattle.std.specs.Prelude.{◌≡◌, ℕ, ◌+◌, ◌^◌, ◌<◌, ◌≤◌, List, length, set, slice_index}
+use Rattle.std.specs.Prelude.{◌≡◌, ℕ, ◌+◌, ◌<◌, ◌≤◌, List, length, set, slice_index}
 use Rattle.std.specs.BinaryHeap.{IsHeap}
 use Rattle.hull.specs.declared.point.Point.{Point}
+use Rattle.hull.specs.Limits.{most_price_units, most_price_money, most_points, most_curves}
 use Rattle.step_walk.specs.Prefix.{curve_at, fall, rise, IsPrefix, IsNext, AllTaken, HaveShapes}
 use Rattle.step_walk.specs.declared.step.Step.{Step}
 use Rattle.step_walk.specs.declared.walk.Next.{Next}
@@ -15,11 +16,11 @@ pub record Walked : Type 0 where
 
 -- no curve has more vertices than a place can count
 abbrev pub AreShort : List (List Point) → Type 0
-AreShort curves = (f : ℕ) → f < length curves → length (curve_at curves f) ≤ 2 ^ 31
+AreShort curves = (f : ℕ) → f < length curves → length (curve_at curves f) ≤ most_points
 
 -- the steps taken are a prefix of all, and the next ones of the families wait
 pub record IsWalk (curves : List (List Point)) (picks : List ℕ) (waiting : List Step) : Type 0 where
-  pub few : length curves ≤ 2000
+  pub few : length curves ≤ most_curves
   pub short : AreShort curves
   pub shapes : HaveShapes curves
   pub prefix : IsPrefix curves picks
@@ -55,7 +56,7 @@ pub record TellsFirst (walk : Walked) (next : Next) : Type 0 where
   pub vertex : next.vertex ≡ slice_index walk.picks next.family + 1
   pub p : next.price.p ≡ fall walk.curves next.family (slice_index walk.picks next.family)
   pub q : next.price.q ≡ rise walk.curves next.family (slice_index walk.picks next.family)
-  pub small : (next.price.p < 2 ^ 74) × (0 < next.price.q) × (next.price.q ≤ 1000000000000)
+  pub small : (next.price.p < most_price_units) × (0 < next.price.q) × (next.price.q ≤ most_price_money)
 
 -- a step is left
 abbrev pub HasNext : Walked → Type 0

@@ -1,6 +1,7 @@
 //! The walk, and the steps that wait in it.
-ghost use Rattle.std.specs.Prelude.{◌≡◌, ℕ, ◌+◌, ◌^◌, ◌<◌, ◌≤◌, length, slice_index, IfOk, IfNone, IfSome, OnOk};
+ghost use Rattle.std.specs.Prelude.{◌≡◌, ℕ, ◌+◌, ◌<◌, ◌≤◌, length, slice_index, IfOk, IfNone, IfSome, OnOk};
 ghost use Rattle.std.specs.BinaryHeap.{IsHeap, heap_items};
+ghost use Rattle.hull.specs.Limits.{most_price_units, most_curves};
 ghost use Rattle.step_walk.specs.Prefix.{curve_at, AreVertices, HaveShapes};
 ghost use Rattle.step_walk.specs.Steps.{step_cmp, TellsNext, HoldsNext};
 ghost use Rattle.step_walk.specs.Walks.{AreShort, IsAfter, IsAtFirst, AllDone, TellsFirst, HasNext, MovesOn};
@@ -64,7 +65,7 @@ fn first_steps(
     curves: &[Curve],
     picks: &[u32],
 ) -> Result<BinaryHeap<Step, Global>, NoMemory>
-    requires few { length curves.now ≤ 2000 }
+    requires few { length curves.now ≤ most_curves }
     requires vertices { AreVertices curves.now picks.now }
     ensures order { IfOk result (λ steps. IsHeap step_cmp (heap_items steps)) }
     ensures held { IfOk result (λ steps. HoldsNext curves.now picks.now (length curves.now) (heap_items steps)) }
@@ -98,7 +99,7 @@ fn first_picks(alloc: Global, curves: &[Curve]) -> Result<Vec<u32>, NoMemory>
 impl<'a> Walk<'a> {
     /// A walk that has taken no step. Want of memory is the only error.
     pub fn begin(alloc: Global, curves: &'a [Curve]) -> Result<Walk<'a>, NoMemory>
-        requires { length curves.now ≤ 2000 }
+        requires { length curves.now ≤ most_curves }
         ensures { IfOk result (λ walk. IsAtFirst curves.now walk) }
     {
         let picks = first_picks(alloc, curves)?;
@@ -117,8 +118,8 @@ impl<'a> Walk<'a> {
         curves: &'a [Curve],
         price: u128,
     ) -> Result<Walk<'a>, NoMemory>
-        requires few { length curves.now ≤ 2000 }
-        requires price { price ≤ 2 ^ 74 }
+        requires few { length curves.now ≤ most_curves }
+        requires price { price ≤ most_price_units }
         ensures { IfOk result (λ walk. IsAfter price curves.now walk) }
     {
         let picks = all_after_steep(alloc, curves, price)?;

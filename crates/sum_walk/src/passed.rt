@@ -1,8 +1,9 @@
 //! The tests whether a sum, or all sums that are still to come, can be no vertex beside the points so far.
 
-ghost use Rattle.std.specs.Prelude.{◌≡◌, ◌+◌, ◌*◌, ◌^◌, ◌<◌, ◌≤◌, IsTrue, length};
+ghost use Rattle.std.specs.Prelude.{◌≡◌, ◌+◌, ◌*◌, ◌<◌, ◌≤◌, IsTrue, length};
 ghost use Rattle.hull.specs.declared.point.Point.{Point};
 ghost use Rattle.hull.specs.Curves.{Among, InRange, point_at};
+ghost use Rattle.hull.specs.Limits.{most_price_units, most_points};
 ghost use Rattle.sum_walk.specs.Lanes.{IsStep};
 ghost use Rattle.sum_walk.specs.Passed.{IsBehind, IsBetter, IsKeyOf, IsOver, IsPassed, IsPast};
 
@@ -44,7 +45,7 @@ fn lies_over(u: &Point, v: &Point, place: Place) -> bool
 /// point costs no more than this.
 pub(crate) fn last_within(points: &[Point], k: usize, cost: u64) -> usize
     requires within { k ≤ length points.now }
-    requires few { length points.now ≤ 2 ^ 31 }
+    requires few { length points.now ≤ most_points }
     ensures first { k ≤ result }
     ensures within { result ≤ length points.now }
     ensures there { k < length points.now → result < length points.now }
@@ -63,7 +64,7 @@ pub(crate) fn last_within(points: &[Point], k: usize, cost: u64) -> usize
 
 /// Whether the point at `k`, or its step to the next one, shows that `place` is no vertex.
 pub(crate) fn is_passed(below: &[Point], k: usize, place: Place) -> bool
-    requires few { length below.now ≤ 2 ^ 31 }
+    requires few { length below.now ≤ most_points }
     requires ranges { (v : Point) → Among v below.now → InRange v }
     ensures { IsTrue result → IsPassed below.now place }
 {
@@ -82,7 +83,7 @@ pub(crate) fn is_passed(below: &[Point], k: usize, place: Place) -> bool
 
 /// `floor(fall / (1024 * rise))` of a step. A step with a larger key is steeper.
 fn key_of(fall: u128, rise: u64) -> u64
-    requires small { fall < 2 ^ 74 }
+    requires small { fall < most_price_units }
     requires rises { 0 < rise }
     ensures { IsKeyOf fall rise result }
 {

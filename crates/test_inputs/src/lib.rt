@@ -2,7 +2,7 @@
 #![tactic(auto)]
 
 ghost use Rattle.std.specs.Prelude.{◌≤◌, IfSome, length};
-ghost use Rattle.spares_input.specs.Stocks.{IsFor, IsWithinLimits};
+ghost use Rattle.spares_input.specs.Stocks.{AreStocksOf};
 ghost use Rattle.csv_tables.specs.Rest.{table_limit};
 ghost use Rattle.demand_rates.specs.Rates.{AreRatesOf};
 ghost use Rattle.family_items.specs.Inputs.{IsLine};
@@ -47,8 +47,7 @@ pub fn family_of(alloc: Global, tables: [&str; 3]) -> Option<Case>
 
 /// The stocks of a case in a table, or None if the table has a fault.
 pub fn stocks_of(alloc: Global, case: &Case, table: &str) -> Option<Stocks>
-    ensures whole { IfSome result (IsFor case.now) }
-    ensures limits { IfSome result (IsWithinLimits case.now) }
+    ensures { IfSome result (AreStocksOf case.now) }
 {
     let rows = read_stocks(alloc, bytes_of(table)?, case.frame()).ok()?;
     stocks_from(alloc, case, rows.as_slice()).ok()

@@ -3,6 +3,7 @@
 ghost use Rattle.std.specs.Prelude.{◌<◌, ◌≤◌, ◌^◌};
 ghost use Rattle.demand_rates.specs.Rates.{AreRatesOf};
 ghost use Rattle.family_items.specs.Inputs.{IsLine};
+ghost use Rattle.hull.specs.Limits.{most_price_units, most_price_money};
 ghost use Rattle.family_points.specs.Counts.{most_tables, tables_of};
 ghost use Rattle.curve_parts.specs.Cuts.{IsSmall, IsWindow};
 
@@ -69,9 +70,9 @@ fn is_cut(
     requires few { tables_of case.now 0 ≤ most_tables }
     requires order { low ≤ high }
     requires some { 0 < high }
-    requires most { high ≤ 2 ^ 74 }
+    requires most { high ≤ most_price_units }
     requires some_money { 0 < money }
-    requires most_money { money ≤ 1000000000000 }
+    requires most_money { money ≤ most_price_money }
 {
     let (low, high) = (Price { p: low, q: money }, Price { p: high, q: money });
     let (part, beyond) = part(alloc, case, rates, low, high)?;
@@ -89,7 +90,7 @@ fn agrees(alloc: Global, case: &Case, rates: &Rates, step: Price) -> Result<bool
     requires fall { step.p < 2 ^ 70 }
     requires some_fall { 0 < step.p }
     requires some_rise { 0 < step.q }
-    requires rise { step.q ≤ 1000000000000 }
+    requires rise { step.q ≤ most_price_money }
 {
     let (p, q) = (step.p, step.q);
     let at = is_cut(alloc, case, rates, p, p, q)?;

@@ -1,10 +1,11 @@
 //! Certificates of plans, against those of another program.
 
 ghost use Rattle.std.specs.Prelude.{◌≡◌, ◌≤◌, IfOk, IfSome};
+ghost use Rattle.spares_input.specs.Stocks.{AreStocksOf};
 ghost use Rattle.demand_rates.specs.Rates.{AreRatesOf};
 ghost use Rattle.price_certificate.specs.declared.certificate.Objective.TheVariants.{Backorders};
 ghost use Rattle.price_certificate.specs.Certificates.{IsWellFormed};
-ghost use Rattle.certified_plan.specs.Inputs.{AreTerms, IsHeld, IsPlanOn, IsWithinWork};
+ghost use Rattle.certified_plan.specs.Inputs.{AreTerms, IsPlanOn, IsWithinWork};
 
 use answers::NoMemory;
 use case_plan::{Outcome, Request};
@@ -57,7 +58,7 @@ fn plan_on(
     terms: Terms,
 ) -> Result<Outcome, NoMemory>
     requires rates { AreRatesOf case.now rates.now }
-    requires held { IsHeld case.now held.now }
+    requires held { AreStocksOf case.now held.now }
     requires work { IsWithinWork case.now held.now.list }
     requires terms { AreTerms terms }
     ensures { IfOk result (IsPlanOn case.now held.now terms) }
@@ -78,7 +79,7 @@ fn plan_on(
 /// format.
 fn remade(alloc: Global, read: Certificate, held: &Stocks, format: u8) -> Option<Certificate>
     requires formed { IsWellFormed read }
-    requires held { IsHeld read.case held.now }
+    requires held { AreStocksOf read.case held.now }
     requires fewest { 1 ≤ format }
     requires most { format ≤ 2 }
     requires first { format ≡ 1 → read.objective ≡ Backorders }

@@ -4,7 +4,7 @@ ghost use Rattle.std.specs.Prelude.{◌≡◌, ◌≤◌, ◌<◌, ◌^◌, IfOk
 ghost use Rattle.case_figures.specs.Fits.{FitsPrint};
 
 use answers::{List, NoMemory};
-use case_figures::{BaseLine, Figures, HeldItem, Items, Narrow, Span};
+use case_figures::{BaseLine, CompactItem, Figures, Items, Narrow, Span};
 use fixed_interval::Iv;
 use plan_report::{EvalReport, SingleReport};
 use spares_input::{Name, PartId, SiteId};
@@ -61,7 +61,7 @@ fn narrow(lo: u64, hi: u64) -> Narrow
 fn mixed_figures(alloc: Global, part: Name, site: Name) -> Result<Figures, NoMemory>
     ensures { IfOk result FitsPrint }
 {
-    let held = [HeldItem {
+    let compact = [CompactItem {
         part: PartId(0),
         site: SiteId(0),
         stock: 63,
@@ -79,7 +79,7 @@ fn mixed_figures(alloc: Global, part: Name, site: Name) -> Result<Figures, NoMem
         items: Items::of::<52>(
             Vec::from_array(alloc, [part])?,
             Vec::from_array(alloc, [site])?,
-            Vec::from_array(alloc, held)?,
+            Vec::from_array(alloc, compact)?,
         ),
         bases: List::of(Vec::from_array(alloc, bases)?),
         fleet: Span::Bits52(Iv::of_ends(0, 1)),

@@ -5,7 +5,7 @@ ghost use Rattle.case_figures.specs.Fits.{FitsPrint, ItemFits, SpanFits};
 ghost use Rattle.plan_report.specs.Fits.{FitsPlan, IntervalFits, PriceFits, UnitsFit};
 
 use answers::{List, NoMemory};
-use case_figures::{BaseLine, Figures, HeldItem, Items, Narrow, Span};
+use case_figures::{BaseLine, CompactItem, Figures, Items, Narrow, Span};
 use fixed_interval::Iv;
 use hull::Price;
 use plan_report::{CheckReport, CriticalLine, PlanReport, Summary};
@@ -172,7 +172,7 @@ fn narrow(ends: Ends) -> Narrow
 }
 
 /// The item of the part at a site.
-fn held(site: u8, row: (u8, [Ends; 4])) -> HeldItem
+fn compact(site: u8, row: (u8, [Ends; 4])) -> CompactItem
     ensures site { result.site.0 ≡ site }
     ensures part { result.part.0 ≡ 0 }
     ensures mean { UnitsFit result.mean.hi }
@@ -180,7 +180,7 @@ fn held(site: u8, row: (u8, [Ends; 4])) -> HeldItem
     ensures backorders { UnitsFit result.backorders.hi }
     ensures spread { UnitsFit result.spread.hi }
 {
-    HeldItem {
+    CompactItem {
         part: PartId(0),
         site: SiteId(site),
         stock: row.0,
@@ -197,8 +197,8 @@ fn items(alloc: Global, names: [Name; 3], rows: [(u8, [Ends; 4]); 2]) -> Result<
 {
     let parts = Vec::from_array(alloc, [names[0]])?;
     let sites = Vec::from_array(alloc, [names[1], names[2]])?;
-    let held = Vec::from_array(alloc, [held(0, rows[0]), held(1, rows[1])])?;
-    Ok(Items::of::<48>(parts, sites, held))
+    let items = Vec::from_array(alloc, [compact(0, rows[0]), compact(1, rows[1])])?;
+    Ok(Items::of::<48>(parts, sites, items))
 }
 
 /// The price of a fall for 100 of money, or none.

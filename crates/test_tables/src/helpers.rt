@@ -1,6 +1,6 @@
 //! Helpers of the rows: a family's evaluator, and its figures at the stocks of a table.
 ghost use Rattle.std.specs.Prelude.{◌≡◌, [], IfSome};
-ghost use Rattle.spares_input.specs.Stocks.{IsFor, IsWithinLimits};
+ghost use Rattle.spares_input.specs.Stocks.{AreStocksOf};
 ghost use Rattle.demand_rates.specs.Rates.{AreRatesOf};
 ghost use Rattle.family_items.specs.Inputs.{IsLine};
 ghost use Rattle.family_numbers.specs.Numbers.{numbers_of};
@@ -30,8 +30,7 @@ fn at_stocks(
 ) -> Option<FamilyResult<48>>
     requires rates { AreRatesOf case.now rates.now }
     requires line { IsLine case.now 0 }
-    requires whole { IsFor case.now stocks.now }
-    requires limits { IsWithinLimits case.now stocks.now }
+    requires stocks { AreStocksOf case.now stocks.now }
     requires numbers { evaluator.old.numbers ≡ numbers_of 48 case.now 0 }
     ensures { evaluator.new.numbers ≡ numbers_of 48 case.now 0 }
 {

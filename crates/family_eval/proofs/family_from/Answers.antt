@@ -1,7 +1,4 @@
-use Rattle.std.proofs.Common.{ap, ◌∙◌, arith, lit<, map, flat_map, sym}
-use Rattle.spares_input.specs.Cases.{CaseRows}
-use Rattle.spares_input.specs.declared.rows.PartId.{PartId}
-use Rattle.fleet_model.specs.Rows.{shop_units}
+use Rattle.std.proofs.Common.{ap, ◌∙◌, arith, lit<, flat_map, sym}
 use Rattle.family_items.specs.Profile.{part_items}
 use Rattle.family_items.proofs.Public.{by_ids, depot_line_item, family_is, row_length, row_small, total_is}
 use Rattle.family_eval.proofs.family_from.Goals as goal
@@ -9,7 +6,7 @@ use Rattle.family_eval.proofs.family_from.Goals as goal
 pub line_items-requires : goal.line_items-requires
 line_items-requires g c =
     let x = c.args.inputs.now in
-    let ids = ap (map (λ (p : PartId). p.0)) c.as_slice.ensures.value ∙ c.in_ok-units.ensures ∙ ap (λ (k : CaseRows). shop_units k c.args.line.0) c.case.ensures in (
+    let ids = c.shop_units-shops.ensures in (
       lit< tt,
       (
         c.requires.scale,
@@ -20,7 +17,7 @@ line_items-requires g c =
             (
               ids,
               c.requires.shops
-                  ∙ sym (by_ids g.row.F x.case x.stocks.list c.as_slice.result.now ∙ ap (flat_map (part_items g.row.F x.case x.stocks.list)) ids),
+                  ∙ sym (by_ids g.row.F x.case x.stocks.list c.shop_units-shops.result.now ∙ ap (flat_map (part_items g.row.F x.case x.stocks.list)) ids),
             ),
           ),
         ),
@@ -30,7 +27,7 @@ line_items-requires g c =
 pub total_of-total-requires : goal.total_of-total-requires
 total_of-total-requires g c =
     let x = c.args.inputs.now in
-    let n = row_length g.row.F x.case x.stocks.list c.args.line.0 c.in_ok-items.items.items c.as_slice-2.result.now c.as_slice-2.ensures.value c.in_ok-items.ensures in
+    let n = row_length g.row.F x.case x.stocks.list c.args.line.0 c.in_ok-items.items.items c.as_slice.result.now c.as_slice.ensures.value c.in_ok-items.ensures in
     let valid = c.invariant.ensures.valid in (
       lit< tt,
       (
@@ -43,8 +40,8 @@ total_of-total-requires g c =
               omega (arith, n, valid.valid.frame.fewest_sites),
               (
                 omega (arith, n, valid.valid.frame.most_sites),
-                row_small g.row.F x.case x.stocks.list c.args.line.0 c.in_ok-items.items.items c.as_slice-2.result.now c.requires.scale.0 valid
-                    c.requires.line.is_part c.as_slice-2.ensures.value c.in_ok-items.ensures,
+                row_small g.row.F x.case x.stocks.list c.args.line.0 c.in_ok-items.items.items c.as_slice.result.now c.requires.scale.0 valid
+                    c.requires.line.is_part c.as_slice.ensures.value c.in_ok-items.ensures,
               ),
             ),
           ),
@@ -57,5 +54,5 @@ returns g c =
     let x = c.args.inputs.now in
     family_is g.row.F x.case x.stocks c.args.line.0 c.in_ok-items.items.items c.args.shop_items.now c.extend_from_slice.new.self.items c.of.result
     c.total_of-total.result c.in_ok-items.ensures c.requires.shops c.in_ok-extend_from_slice.ensures.items c.of.ensures
-    (total_is g.row.F x.case x.stocks.list c.args.line.0 c.weight.result c.in_ok-items.items.items c.as_slice-2.result.now c.total_of-total.result
-    c.as_slice-2.ensures.value c.in_ok-items.ensures c.weight.ensures.weight c.total_of-total.ensures)
+    (total_is g.row.F x.case x.stocks.list c.args.line.0 c.weight.result c.in_ok-items.items.items c.as_slice.result.now c.total_of-total.result
+    c.as_slice.ensures.value c.in_ok-items.ensures c.weight.ensures.weight c.total_of-total.ensures)

@@ -1,6 +1,6 @@
 use Rattle.std.proofs.Common.{◌+◌, arith, ◌≡◌, ◌∙◌, sym, ap, subst, List}
 use Rattle.fixed_interval.specs.Ends.{Ends}
-use Rattle.moment_table.specs.Held.{AreRowsTo, bare_row}
+use Rattle.moment_table.specs.Stored.{AreRowsTo, bare_row}
 use Rattle.moment_table.specs.Profile.{known_row, table_rows}
 use Rattle.moment_table.specs.Rows.{EnclosesRow, at_stock}
 use Rattle.moment_table.specs.Weighed.{IsWeighed}

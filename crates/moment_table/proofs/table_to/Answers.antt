@@ -3,18 +3,18 @@ use Rattle.moment_table.specs.declared.kinds.Row.{Row}
 use Rattle.moment_table.specs.Profile.{table_rows}
 use Rattle.moment_table.specs.Rows.{at_stock}
 use Rattle.moment_table.proofs.Enclosure.{length_table}
-use Rattle.moment_table.proofs.HeldRows.{count_stored, rows_held}
+use Rattle.moment_table.proofs.StoredRows.{count_stored, rows_stored}
 use Rattle.moment_table.proofs.Most.{rows_below}
 use Rattle.moment_table.proofs.Tables.{rows_enclose}
 use Rattle.moment_table.proofs.table_to.Goals as goal
 
 pub of-requires : goal.of-requires
-of-requires g c = (lit< tt, (lit< tt, (lit< tt, rows_held g.row.F c.args.mean c.args.variance _ _ c.in_ok-rows.rows c.requires.table c.in_ok-rows.ensures)))
+of-requires g c = (lit< tt, (lit< tt, (lit< tt, rows_stored g.row.F c.args.mean c.args.variance _ _ c.in_ok-rows.rows c.requires.table c.in_ok-rows.ensures)))
 
 pub returns-clause-ends : goal.returns-clause-ends
 returns-clause-ends g c =
     let rows = table_rows g.row.F c.args.mean c.args.variance in
-    let stored : length c.in_ok-rows.rows.held.items ≡ c.args.limit + 1 = count_stored g.row.F (at_stock rows) _ _ c.in_ok-rows.rows c.in_ok-rows.ensures ∙ search rules in
+    let stored : length c.in_ok-rows.rows.stored.items ≡ c.args.limit + 1 = count_stored g.row.F (at_stock rows) _ _ c.in_ok-rows.rows c.in_ok-rows.ensures ∙ search rules in
     ap₂ (λ (r : List (Row g.row.F)) (n : ℕ). record { rows = r; stored = n }) c.of.ensures.rows (c.of.ensures.stored ∙ stored)
 
 pub returns-clause-encloses : goal.returns-clause-encloses

@@ -11,9 +11,9 @@ use Rattle.family_items.specs.Profile.{families_of}
 use Rattle.spares_input.specs.Cases.{CaseRows}
 use Rattle.spares_input.specs.Frames.{part_names}
 use Rattle.spares_input.specs.Stocks.{StockList}
-use Rattle.case_figures.specs.Held.{IsHeldPair, line_under}
+use Rattle.case_figures.specs.Compact.{IsNamedPair, line_under}
 use Rattle.case_figures.specs.Gathering.{IsFamilyOf, weighted_from, base_line_from}
-use Rattle.case_figures.proofs.Families.{AreSmall, are_families, are_held, few_families, made}
+use Rattle.case_figures.proofs.Families.{AreSmall, are_families, are_compact, few_families, made}
 use Rattle.case_figures.proofs.Shown.{width_in_scale, evaluated_as}
 use Rattle.case_figures.proofs.gathering.figures_with_cost.Goals as goal
 
@@ -28,8 +28,8 @@ count_bases : (f : ℕ) (c : CaseRows) (rs : List (FamilyResult f)) (xs ys : Lis
     → length ys ≡ length c.sites - 1
 count_bases f c rs xs ys e h = ap length (h ∙ e) ∙ length-map-range_with_len (weighted_from f c rs) 1 (length c.sites - 1)
 
-pub held_by_pair-requires : goal.held_by_pair-requires
-held_by_pair-requires g c =
+pub compact_by_pair-requires : goal.compact_by_pair-requires
+compact_by_pair-requires g c =
     let f = g.row.F in
     let rows = c.args.case.now in
     let stocks = c.requires.evaluated.stocks in
@@ -50,12 +50,12 @@ of-requires g c =
     let rows = c.args.case.now in
     let stocks = c.requires.evaluated.stocks in
     let can = c.requires.evaluated.can in
-    let held = are_held f rows stocks (are_small f rows stocks can) can.valid c.args.families.now c.in_ok-held.held.items c.requires.evaluated.are c.in_ok-held.ensures in
+    let compact = are_compact f rows stocks (are_small f rows stocks can) can.valid c.args.families.now c.in_ok-compact.compact.items c.requires.evaluated.are c.in_ok-compact.ensures in
     record {
       width = c.requires.width;
       pairs =
-          subst (λ (names : List (List ℕ)). All (IsHeldPair names c.in_ok-sites.sites.items) c.in_ok-held.held.items) (sym c.in_ok-parts.ensures)
-          (subst (λ (names : List (List ℕ)). All (IsHeldPair (part_names rows.parts) names) c.in_ok-held.held.items) (sym c.in_ok-sites.ensures) held);
+          subst (λ (names : List (List ℕ)). All (IsNamedPair names c.in_ok-sites.sites.items) c.in_ok-compact.compact.items) (sym c.in_ok-parts.ensures)
+          (subst (λ (names : List (List ℕ)). All (IsNamedPair (part_names rows.parts) names) c.in_ok-compact.compact.items) (sym c.in_ok-sites.ensures) compact);
     }
 
 pub base_lines-requires : goal.base_lines-requires
@@ -113,17 +113,17 @@ pub returns : goal.returns
 returns g c = λ stocks can are.
     let f = g.row.F in
     let rows = c.args.case.now in
-    let held = c.in_ok-held.held.items in
-    made f rows stocks (are_small f rows stocks can) can.valid c.args.families.now held c.in_ok-bases.bases.items
+    let compact = c.in_ok-compact.compact.items in
+    made f rows stocks (are_small f rows stocks can) can.valid c.args.families.now compact c.in_ok-bases.bases.items
     c.fleet.result c.total_of.result c.args.cost _
     (record {
       families_are = are;
-      held_are = c.in_ok-held.ensures;
+      compact_are = c.in_ok-compact.ensures;
       weighted_from_families = c.in_ok-bases.ensures.bases;
       fleet_is = c.fleet.ensures.ends ∙ ap (λ (ws : List (Weighted f)). fleet_ends f ws) c.as_slice-2.ensures.value;
       total_is = c.total_of.ensures;
       cost_is = refl;
-      item_lines = c.of.ensures ∙ ap₂ (λ (parts sites : List (List ℕ)). map (line_under parts sites f) held) c.in_ok-parts.ensures c.in_ok-sites.ensures;
+      item_lines = c.of.ensures ∙ ap₂ (λ (parts sites : List (List ℕ)). map (line_under parts sites f) compact) c.in_ok-parts.ensures c.in_ok-sites.ensures;
       base_lines =
           c.of-2.ensures ∙ c.in_ok-base_lines.ensures ∙ ap (λ (ws : List (Weighted f)). map (base_line_from f rows ws) (bases rows)) c.as_slice.ensures.value;
       fleet_span = c.span_of.ensures;

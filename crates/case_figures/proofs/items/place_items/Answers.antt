@@ -4,17 +4,17 @@ use Rattle.std.proofs.lemmas.List.Sums.{fold_more}
 use Rattle.spares_input.specs.Cases.{CaseRows}
 use Rattle.spares_input.specs.Pairs.{pair_place}
 use Rattle.family_items.specs.declared.item.Item.{Item}
-use Rattle.case_figures.specs.declared.held.HeldItem.{HeldItem}
-use Rattle.case_figures.specs.Held.{held_of}
-use Rattle.case_figures.specs.Gathering.{IsItemOf, place_of, placed_held}
+use Rattle.case_figures.specs.declared.compact.CompactItem.{CompactItem}
+use Rattle.case_figures.specs.Compact.{compact_of}
+use Rattle.case_figures.specs.Gathering.{IsItemOf, item_place, placed_compact}
 use Rattle.case_figures.proofs.items.place_items.Goals as goal
 
 -- one item more
-next : (f : ℕ) (c : CaseRows) (start : List HeldItem) (xs : List (Item f)) (n : ℕ) (x : Item f) (old : List HeldItem) (place : ℕ) (held : HeldItem) → n < length xs → x ≡ get_or xs n x
-    → place ≡ place_of c x → held ≡ held_of x → old ≡ placed_held c start (take n xs) → slice_set old place held ≡ placed_held c start (take (n + 1) xs)
-next f c start xs n x old place held l is at same h =
-    (λ i. slice_set (h i) (at i) (same i)) ∙ ap (λ (y : Item f). slice_set (placed_held c start (take n xs)) (place_of c y) (held_of y)) is
-    ∙ sym (fold_more (λ (ys : List HeldItem) (y : Item f). slice_set ys (place_of c y) (held_of y)) start xs n x l)
+next : (f : ℕ) (c : CaseRows) (start : List CompactItem) (xs : List (Item f)) (n : ℕ) (x : Item f) (old : List CompactItem) (place : ℕ) (compact : CompactItem) → n < length xs → x ≡ get_or xs n x
+    → place ≡ item_place c x → compact ≡ compact_of x → old ≡ placed_compact c start (take n xs) → slice_set old place compact ≡ placed_compact c start (take (n + 1) xs)
+next f c start xs n x old place compact l is at same h =
+    (λ i. slice_set (h i) (at i) (same i)) ∙ ap (λ (y : Item f). slice_set (placed_compact c start (take n xs)) (item_place c y) (compact_of y)) is
+    ∙ sym (fold_more (λ (ys : List CompactItem) (y : Item f). slice_set ys (item_place c y) (compact_of y)) start xs n x l)
 
 pub of-requires : goal.of-requires
 of-requires g c =

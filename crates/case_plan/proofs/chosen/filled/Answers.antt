@@ -15,9 +15,11 @@ stocks_of-requires-clause-widths c = widths c.args.case.now c.invariant.ensures.
 
 pub returns-clause-fits : goal.returns-clause-fits
 returns-clause-fits c = record {
-  is_for = c.in_ok-stocks.ensures.is_for;
-  limits = within c.args.case.now c.invariant.ensures.valid c.args.curves.now c.args.picks.now c.requires.vectors c.requires.vertices c.in_ok-stocks.stocks
-      c.in_ok-stocks.ensures.is_for c.in_ok-stocks.ensures.vectors;
+  are_stocks = record {
+    is_for = c.in_ok-stocks.ensures.is_for;
+    limits = within c.args.case.now c.invariant.ensures.valid c.args.curves.now c.args.picks.now c.requires.vectors c.requires.vertices c.in_ok-stocks.stocks
+        c.in_ok-stocks.ensures.is_for c.in_ok-stocks.ensures.vectors;
+  };
   ordered = c.totals_of-sums.ensures.ordered;
   room = c.totals_of-sums.ensures.small;
   critical = c.requires.critical;

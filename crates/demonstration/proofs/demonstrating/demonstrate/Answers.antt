@@ -20,7 +20,7 @@ pub confirm_plan-requires-clause-plan : goal.confirm_plan-requires-clause-plan
 confirm_plan-requires-clause-plan c =
     on_plan c.in_ok-case.case c.in_ok-held.held (2000 * c.from-budget.result)
     (subst (λ (n : ℕ). AreTerms (demo_terms (2000 * n))) (sym c.from-budget.ensures) (are_terms c.args.lines c.requires.few))
-    c.part_count-parts.ensures.valid c.in_ok-case.ensures.rates.no_fault (record { is_for = c.in_ok-held.ensures.whole; limits = c.in_ok-held.ensures.limits })
+    c.part_count-parts.ensures.valid c.in_ok-case.ensures.rates.no_fault c.in_ok-held.ensures.stocks
     c.in_ok-plan.plan c.in_ok-plan.ensures
 
 pub returns-clause-summary : goal.returns-clause-summary
@@ -29,7 +29,7 @@ returns-clause-summary c =
     (subst (IsDemonstrated c.args.number c.args.lines) (sym c.summary_of-summary.ensures)
     (is_demonstrated c.in_ok-case.case c.in_ok-held.held (2000 * c.from-budget.result)
     (subst (λ (n : ℕ). AreTerms (demo_terms (2000 * n))) (sym c.from-budget.ensures) (are_terms c.args.lines c.requires.few))
-    c.part_count-parts.ensures.valid c.in_ok-case.ensures.rates.no_fault (record { is_for = c.in_ok-held.ensures.whole; limits = c.in_ok-held.ensures.limits })
+    c.part_count-parts.ensures.valid c.in_ok-case.ensures.rates.no_fault c.in_ok-held.ensures.stocks
     c.in_ok-plan.plan c.in_ok-plan.ensures c.args.number c.args.lines c.part_count-parts.result c.in_ok-case.ensures.case c.in_ok-held.ensures.held
     (ap (λ (n : ℕ). 2000 * n) c.from-budget.ensures) c.part_count-parts.ensures.count)))
 
@@ -39,5 +39,5 @@ returns-clause-fits c =
     (subst FitsSummary (sym c.summary_of-summary.ensures)
     (sums_fit c.in_ok-case.case c.in_ok-held.held (2000 * c.from-budget.result)
     (subst (λ (n : ℕ). AreTerms (demo_terms (2000 * n))) (sym c.from-budget.ensures) (are_terms c.args.lines c.requires.few))
-    c.part_count-parts.ensures.valid c.in_ok-case.ensures.rates.no_fault (record { is_for = c.in_ok-held.ensures.whole; limits = c.in_ok-held.ensures.limits })
+    c.part_count-parts.ensures.valid c.in_ok-case.ensures.rates.no_fault c.in_ok-held.ensures.stocks
     c.in_ok-plan.plan c.in_ok-plan.ensures c.args.number c.args.lines c.part_count-parts.result)))

@@ -1,7 +1,7 @@
 use Rattle.std.proofs.Common.{arith, lit<, length}
 use Rattle.fixed_interval.specs.Ends.{ends_add}
 use Rattle.depot_pipeline.specs.Profile.{mean_part}
-use Rattle.base_pipeline.specs.Profile.{held_at}
+use Rattle.base_pipeline.specs.Profile.{delay_at}
 use Rattle.family_items.proofs.Public.{added_least, can_table}
 use Rattle.family_eval.proofs.levels.base_line_item.Goals as goal
 
@@ -16,7 +16,7 @@ stocked-requires g c =
           (
             rw c.base_line.ensures.ends
                 (can_table g.row.F c.args.pair _ _ c.requires.pair
-                (omega (arith, added_least (ends_add c.args.pair.direct (mean_part g.row.F c.args.depot)) (λ k. (held_at c.args.shops.now k).backorders) (length c.args.shops.now)))),
+                (omega (arith, added_least (ends_add c.args.pair.direct (mean_part g.row.F c.args.depot)) (λ k. (delay_at c.args.shops.now k).backorders) (length c.args.shops.now)))),
             c.requires.pair.stock_most,
           ),
         ),

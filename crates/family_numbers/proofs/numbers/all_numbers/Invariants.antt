@@ -5,4 +5,4 @@ use Rattle.family_numbers.specs.Numbers.{pair_numbers}
 use Rattle.family_numbers.proofs.numbers.all_numbers.Given as goal
 
 abbrev pub invariant-loop-part : goal.invariant-loop-part
-invariant-loop-part g l = l.numbers.items ≡ flat_map (λ (p : PartId). map (pair_numbers g.row.F l.fn.case p.0) (all_sites l.fn.case)) (take l.part-index l.fn.parts)
+invariant-loop-part g l = l.numbers.items ≡ flat_map (λ (p : PartId). map (pair_numbers g.row.F l.fn.rated.case p.0) (all_sites l.fn.rated.case)) (take l.part-index l.fn.parts)

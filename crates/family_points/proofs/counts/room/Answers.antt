@@ -1,4 +1,4 @@
-use Rattle.std.proofs.Common.{◌+◌, ◌-◌, ◌*◌, ◌<◌, ◌≤◌, List, ℕ, length, get_or, sym, ap, ◌∙◌, subst, arith}
+use Rattle.std.proofs.Common.{◌+◌, ◌*◌, ◌≤◌, List, ℕ, length, get_or, sym, ap, ◌∙◌, subst, arith}
 use Rattle.family_points.specs.Rooms.{AreRooms, widths_at}
 use Rattle.family_points.proofs.Bounded.{ids_long}
 use Rattle.family_points.proofs.Placed.{ids_there}
@@ -30,7 +30,7 @@ get-requires c =
     let ids = c.family-members.result.now in
     let valid = c.invariant.ensures.valid in
     let own = subst (AreRooms k l) c.in-Held.is c.requires.rooms in
-    ids_there k l c.args.site.0 ids c.in-Held.held.now valid c.requires.line own.0 c.requires.site c.family-members.ensures c.args.place (record { 0 = 0 }) (omega (arith, c.requires.place, ids_long k l ids c.family-members.ensures))
+    ids_there k l c.args.site.0 ids c.in-Held.held.now valid c.requires.line own.is_for c.requires.site c.family-members.ensures c.args.place (record { 0 = 0 }) (omega (arith, c.requires.place, ids_long k l ids c.family-members.ensures))
 
 pub part_of-low-requires-clause-within : goal.part_of-low-requires-clause-within
 part_of-low-requires-clause-within c =
@@ -114,7 +114,7 @@ returns-in-Held-clause-room c =
     let own = subst (AreRooms k l) c.in-Held.is c.requires.rooms in
     ap (λ n. n + 1) c.from-in-Held.ensures
     ∙ room_held k l c.args.site.0 c.args.place c.limit-in-Held.result c.get.result c.in-Held.held.now ids (record { 0 = 0 }) c.family-members.ensures c.requires.site c.requires.place (omega (arith, c.requires.place, ids_long k l ids c.family-members.ensures))
-    valid c.requires.line own.0 own.1 c.limit-in-Held.ensures.limit c.get.ensures
+    valid c.requires.line own.is_for own.limits c.limit-in-Held.ensures.limit c.get.ensures
     ∙ sym (ap (λ r. get_or (widths_at k l r c.args.site.0) c.args.place 0) c.in-Held.is)
 
 pub returns-in-Within-clause-room : goal.returns-in-Within-clause-room

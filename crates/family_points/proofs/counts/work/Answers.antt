@@ -1,14 +1,12 @@
-use Rattle.std.proofs.Common.{sym, ◌∙◌}
 use Rattle.family_points.specs.Counts.{tables_of}
-use Rattle.family_points.proofs.Counting.{work_more, work_same}
+use Rattle.family_items.proofs.Public.{listed_is_line}
+use Rattle.family_points.proofs.Counting.{work_more}
 use Rattle.family_points.proofs.counts.work.Goals as goal
-use Rattle.family_points.proofs.counts.work.Goals.{then-is_line, else-is_line}
 
-pub loop-p-preserved : goal.loop-p-preserved
-loop-p-preserved c =
-    elim c.if-is_line.branch [
-      | then-is_line w ↦
-          rw w.work-is (work_more (tables_of c.args.case.now) c.args.case.now c.loop-p.p c.loop-p.work w.tables.result w.saturating_add-work.result (sym c.is_line.ensures ∙ w.if-is_line.true) w.tables.ensures
-          w.saturating_add-work.ensures c.loop-p.invariant)
-      | else-is_line w ↦ rw w.work-is (work_same (tables_of c.args.case.now) c.args.case.now c.loop-p.p c.loop-p.work (sym c.is_line.ensures ∙ w.if-is_line.false) c.loop-p.invariant)
-    ]
+pub tables-requires : goal.tables-requires
+tables-requires c = listed_is_line c.args.case.now c.line_units-lines.result.now c.line_units-lines.ensures c.loop-line.line-index (record { 0 = 0 }) c.loop-line-test.true
+
+pub loop-line-preserved : goal.loop-line-preserved
+loop-line-preserved c =
+    work_more (tables_of c.args.case.now) c.line_units-lines.result.now c.loop-line.line-index c.loop-line.work c.tables.result c.saturating_add-work.result c.loop-line-test.true c.tables.ensures
+    c.saturating_add-work.ensures c.loop-line.invariant

@@ -16,7 +16,7 @@ low_leaf-requires-clause-few g c = subst (λ z. length z ≤ 100000) (sym c.node
 
 pub low_leaf-requires-clause-ordered : goal.low_leaf-requires-clause-ordered
 low_leaf-requires-clause-ordered g c =
-    subst (λ z. IsOrdered c.args.cert.now.case c.args.line.0 z) (sym c.in_ok-bounds.ensures) (box_ordered c.args.cert.now.case c.args.line.0 c.args.held.now c.requires.is_line.is_part c.requires.held c.requires.limits)
+    rw c.of-rated.ensures (subst (λ z. IsOrdered c.args.cert.now.case c.args.line.0 z) (sym c.in_ok-bounds.ensures) (box_ordered c.args.cert.now.case c.args.line.0 c.args.held.now c.requires.is_line.is_part c.requires.held))
 
 pub low_leaf-requires-clause-tree : goal.low_leaf-requires-clause-tree
 low_leaf-requires-clause-tree g c =
@@ -24,17 +24,17 @@ low_leaf-requires-clause-tree g c =
 
 pub low_leaf-requires-clause-work : goal.low_leaf-requires-clause-work
 low_leaf-requires-clause-work g c =
-    own_work c.args.cert.now c.args.held.now c.args.family c.args.line.0 c.nodes_of-nodes.result.now c.in_ok-bounds.bounds c.requires.line c.nodes_of-nodes.ensures c.in_ok-bounds.ensures c.requires.work
+    rw c.of-rated.ensures (own_work c.args.cert.now c.args.held.now c.args.family c.args.line.0 c.nodes_of-nodes.result.now c.in_ok-bounds.bounds c.requires.line c.nodes_of-nodes.ensures c.in_ok-bounds.ensures c.requires.work)
 
 pub returns-in-Some : goal.returns-in-Some
 returns-in-Some g c =
     ap (λ z. Some z) c.too_low.ensures
     ∙ sym (ap (λ z. option_map (λ x. too_low c.args.cert.now.format c.args.family x.0 (get_or c.as_slice.result.now c.args.family 0) x.1) z) c.in-Some.is)
     ∙ own_low c.args.cert.now c.args.held.now c.args.family c.args.line.0 c.nodes_of-nodes.result.now c.in_ok-bounds.bounds c.requires.line c.nodes_of-nodes.ensures c.in_ok-bounds.ensures
-    g.S.Score.ends (get_or c.as_slice.result.now c.args.family 0) (ap (λ z. get_or z c.args.family 0) c.as_slice.ensures) c.in_ok-low.low c.in_ok-low.ensures
+    g.S.Score.ends (get_or c.as_slice.result.now c.args.family 0) (ap (λ z. get_or z c.args.family 0) c.as_slice.ensures) c.in_ok-low.low (rw c.of-rated.ensures at c.in_ok-low.ensures)
 
 pub returns : goal.returns
 returns g c =
     sym (ap (λ z. option_map (λ x. too_low c.args.cert.now.format c.args.family x.0 (get_or c.as_slice.result.now c.args.family 0) x.1) z) c.in-None.is)
     ∙ own_low c.args.cert.now c.args.held.now c.args.family c.args.line.0 c.nodes_of-nodes.result.now c.in_ok-bounds.bounds c.requires.line c.nodes_of-nodes.ensures c.in_ok-bounds.ensures
-    g.S.Score.ends (get_or c.as_slice.result.now c.args.family 0) (ap (λ z. get_or z c.args.family 0) c.as_slice.ensures) c.in_ok-low.low c.in_ok-low.ensures
+    g.S.Score.ends (get_or c.as_slice.result.now c.args.family 0) (ap (λ z. get_or z c.args.family 0) c.as_slice.ensures) c.in_ok-low.low (rw c.of-rated.ensures at c.in_ok-low.ensures)

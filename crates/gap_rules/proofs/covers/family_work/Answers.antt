@@ -10,7 +10,7 @@ nodes_of-nodes-requires-clause-covers c = has_cover c.args.cert.now c.args.famil
 
 pub cover_tables-requires-clause-ordered : goal.cover_tables-requires-clause-ordered
 cover_tables-requires-clause-ordered c =
-    subst (λ z. IsOrdered c.args.cert.now.case c.args.line.0 z) (sym c.in_ok-bounds.ensures) (box_ordered c.args.cert.now.case c.args.line.0 c.args.held.now c.requires.is_line.is_part c.requires.held c.requires.limits)
+    subst (λ z. IsOrdered c.args.cert.now.case c.args.line.0 z) (sym c.in_ok-bounds.ensures) (box_ordered c.args.cert.now.case c.args.line.0 c.args.held.now c.requires.is_line.is_part c.requires.held)
 
 pub returns : goal.returns
 returns c =

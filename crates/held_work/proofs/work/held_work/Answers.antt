@@ -1,16 +1,12 @@
-use Rattle.std.proofs.Common.{sym, ◌∙◌}
-use Rattle.family_points.proofs.Public.{work_more, work_same}
+use Rattle.family_items.proofs.Public.{listed_is_line}
+use Rattle.family_points.proofs.Public.{work_more}
 use Rattle.held_work.proofs.Kept.{tables_at}
 use Rattle.held_work.proofs.work.held_work.Goals as goal
-use Rattle.held_work.proofs.work.held_work.Goals.{then-is_line, else-is_line}
 
-pub loop-p-preserved : goal.loop-p-preserved
-loop-p-preserved c =
-    let rows = c.args.case.now in
-    let held = c.args.held.now.list in
-    elim c.if-is_line.branch [
-      | then-is_line w ↦
-          rw w.work-is (work_more (tables_at rows held) rows c.loop-p.p c.loop-p.work w.held_tables.result w.saturating_add-work.result (sym c.is_line.ensures ∙ w.if-is_line.true) w.held_tables.ensures
-          w.saturating_add-work.ensures c.loop-p.invariant)
-      | else-is_line w ↦ rw w.work-is (work_same (tables_at rows held) rows c.loop-p.p c.loop-p.work (sym c.is_line.ensures ∙ w.if-is_line.false) c.loop-p.invariant)
-    ]
+pub held_tables-requires-clause-line : goal.held_tables-requires-clause-line
+held_tables-requires-clause-line c = listed_is_line c.args.case.now c.line_units-lines.result.now c.line_units-lines.ensures c.loop-line.line-index (record { 0 = 0 }) c.loop-line-test.true
+
+pub loop-line-preserved : goal.loop-line-preserved
+loop-line-preserved c =
+    work_more (tables_at c.args.case.now c.args.held.now.list) c.line_units-lines.result.now c.loop-line.line-index c.loop-line.work c.held_tables.result c.saturating_add-work.result c.loop-line-test.true
+    c.held_tables.ensures c.saturating_add-work.ensures c.loop-line.invariant

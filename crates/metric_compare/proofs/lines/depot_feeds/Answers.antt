@@ -2,7 +2,7 @@ use Rattle.std.proofs.Common.{◌≡◌, ap₂, ◌∙◌, get_or, sym, subst}
 use Rattle.std.proofs.lemmas.List.Elements.{All-push}
 use Rattle.spares_input.specs.declared.rows.PartId.{PartId}
 use Rattle.depot_pipeline.specs.Exact.{IsSmallFeed}
-use Rattle.metric_compare.specs.Profile.{depot_feed, fed}
+use Rattle.metric_compare.specs.Profile.{poisson_depot_feed, fed}
 use Rattle.metric_compare.proofs.Adding.{taken_all, taken_more}
 use Rattle.metric_compare.proofs.lines.depot_feeds.Goals as goal
 
@@ -11,7 +11,7 @@ at_depot-depot-requires-clause-unit c = c.requires.units c.loop-unit.unit-index 
 
 pub loop-unit-preserved : goal.loop-unit-preserved
 loop-unit-preserved c =
-    let f = λ (p : PartId). depot_feed 48 c.args.inputs.now.case c.args.inputs.now.stocks.list p.0 in
+    let f = λ (p : PartId). poisson_depot_feed 48 c.args.inputs.now.case c.args.inputs.now.stocks.list p.0 in
     let unit : PartId = get_or c.args.units.now c.loop-unit.unit-index (record { 0 = 0 }) in
     let is : c.fed.result ≡ f unit = c.fed.ensures ∙ ap₂ (λ a b. fed 48 a b) c.share.ensures.share c.at_depot-depot.ensures.ends in
     let small : IsSmallFeed 48 c.fed.result =
@@ -24,5 +24,5 @@ loop-unit-preserved c =
 
 pub returns-clause-feeds : goal.returns-clause-feeds
 returns-clause-feeds c =
-    taken_all (λ (p : PartId). depot_feed 48 c.args.inputs.now.case c.args.inputs.now.stocks.list p.0) c.args.units.now c.loop-unit.unit-index c.loop-unit.feeds.items c.loop-unit-test.false
+    taken_all (λ (p : PartId). poisson_depot_feed 48 c.args.inputs.now.case c.args.inputs.now.stocks.list p.0) c.args.units.now c.loop-unit.unit-index c.loop-unit.feeds.items c.loop-unit-test.false
     c.loop-unit.invariant.feeds

@@ -1,8 +1,8 @@
 use Rattle.std.proofs.Common.{ap, ◌∙◌, lit<, rules}
 use Rattle.moment_table.specs.declared.kinds.Row.{Row}
-use Rattle.moment_table.specs.Held.{bare_row}
+use Rattle.moment_table.specs.Stored.{bare_row}
 use Rattle.fixed_interval.specs.Ends.{InScale}
-use Rattle.moment_table.proofs.HeldRows.{bare_short}
+use Rattle.moment_table.proofs.StoredRows.{bare_short}
 use Rattle.moment_table.proofs.Steps.{listed_none, listed_next}
 use Rattle.moment_table.proofs.backorders.bare.Goals as goal
 

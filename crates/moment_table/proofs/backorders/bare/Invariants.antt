@@ -1,6 +1,6 @@
 use Rattle.std.proofs.Common.{◌≡◌}
 use Rattle.series_bounds.specs.Profile.{listed}
-use Rattle.moment_table.specs.Held.{bare_row}
+use Rattle.moment_table.specs.Stored.{bare_row}
 use Rattle.moment_table.proofs.backorders.bare.Given as goal
 
 abbrev pub invariant-loop-s : goal.invariant-loop-s

@@ -1,6 +1,6 @@
 use Rattle.std.proofs.Common.{◌<◌, ◌∙◌, arith, ap}
 use Rattle.series_bounds.proofs.Public.{wide_answer}
-use Rattle.moment_table.specs.Held.{bare_row}
+use Rattle.moment_table.specs.Stored.{bare_row}
 use Rattle.moment_table.specs.Profile.{excess_ends}
 use Rattle.moment_table.proofs.Enclosure.{bare_empty, bare_wide}
 use Rattle.moment_table.proofs.plain.plain_row.Goals as goal

@@ -1,4 +1,4 @@
-use Rattle.moment_table.specs.Held.{HasRows, bare_row}
+use Rattle.moment_table.specs.Stored.{HasRows, bare_row}
 use Rattle.moment_table.proofs.rows.bare_to.Given as goal
 
 abbrev pub invariant-loop-s : goal.invariant-loop-s

@@ -1,4 +1,4 @@
-use Rattle.moment_table.specs.Held.{HasRows}
+use Rattle.moment_table.specs.Stored.{HasRows}
 use Rattle.moment_table.specs.Running.{IsRunning, AreSmall}
 use Rattle.moment_table.specs.Profile.{known_row}
 use Rattle.moment_table.proofs.rows.known_to.Given as goal

@@ -1,10 +1,10 @@
 use Rattle.std.proofs.Common.{◌+◌, ap, arith, subst, List}
 use Rattle.fixed_interval.specs.Ends.{Ends}
 use Rattle.moment_table.specs.declared.kinds.Row.{Row}
-use Rattle.moment_table.specs.Held.{AreHeldTo, AreRowsTo, HasRows, bare_row, held_row}
+use Rattle.moment_table.specs.Stored.{AreStoredTo, AreRowsTo, HasRows, bare_row, stored_row}
 use Rattle.moment_table.specs.Profile.{known_row, table_rows}
 use Rattle.moment_table.specs.Rows.{at_stock}
-use Rattle.moment_table.proofs.HeldRows.{rows_same}
+use Rattle.moment_table.proofs.StoredRows.{rows_same}
 use Rattle.moment_table.proofs.rows.rows_of.Goals as goal
 
 pub returns-in-Some : goal.returns-in-Some
@@ -13,9 +13,9 @@ returns-in-Some g c =
     let list = c.weigh_to.new.list.items in
     let u = known_row g.row.F c.args.mean c.args.variance list sum in
     let rows : AreRowsTo g.row.F c.args.mean c.args.variance c.args.last u = rw c.in-Some.is at c.in_ok-sum.ensures.rows in
-    let held : AreHeldTo g.row.F c.args.mean c.args.variance c.args.last u = rw c.in-Some.is at c.in_ok-sum.ensures.held in
+    let stored : AreStoredTo g.row.F c.args.mean c.args.variance c.args.last u = rw c.in-Some.is at c.in_ok-sum.ensures.stored in
     rows_same g.row.F u (at_stock (table_rows g.row.F c.args.mean c.args.variance)) (c.args.last + 1) c.args.tails c.in_ok-rows-in-Some.rows
-    (λ s l. held s (omega (arith, l))) (λ s l. ap (λ (r : Row g.row.F). r.tail) (rows s (omega (arith, l, c.requires.tails))))
+    (λ s l. stored s (omega (arith, l))) (λ s l. ap (λ (r : Row g.row.F). r.tail) (rows s (omega (arith, l, c.requires.tails))))
     (subst (λ (z : List Ends). HasRows g.row.F (known_row g.row.F c.args.mean c.args.variance z sum) (c.args.last + 1) c.args.tails c.in_ok-rows-in-Some.rows)
     c.as_slice.ensures.value c.in_ok-rows-in-Some.ensures)
 
@@ -23,5 +23,5 @@ pub returns : goal.returns
 returns g c =
     let bare : AreRowsTo g.row.F c.args.mean c.args.variance 64 (bare_row g.row.F c.args.mean c.args.variance) = rw c.in-None.is at c.in_ok-sum.ensures.bare in
     rows_same g.row.F (bare_row g.row.F c.args.mean c.args.variance) (at_stock (table_rows g.row.F c.args.mean c.args.variance))
-    (c.args.last + 1) c.args.tails c.in_ok-rows-in-None.rows (λ s l. ap (λ (r : Row g.row.F). held_row r) (bare s (omega (arith, l, c.requires.last))))
+    (c.args.last + 1) c.args.tails c.in_ok-rows-in-None.rows (λ s l. ap (λ (r : Row g.row.F). stored_row r) (bare s (omega (arith, l, c.requires.last))))
     (λ s l. ap (λ (r : Row g.row.F). r.tail) (bare s (omega (arith, l, c.requires.tails, c.requires.last)))) c.in_ok-rows-in-None.ensures

@@ -5,7 +5,7 @@ use Rattle.series_bounds.proofs.Public.{wide_answer}
 use Rattle.fixed_interval.specs.Ends.{Ends}
 use Rattle.moment_table.specs.Profile.{excess_ends}
 use Rattle.moment_table.proofs.Enclosure.{bare_empty, bare_wide}
-use Rattle.moment_table.proofs.Firsts.{none_then, some_then, first_held, first_rows, first_weights}
+use Rattle.moment_table.proofs.Firsts.{none_then, some_then, first_stored, first_rows, first_weights}
 use Rattle.moment_table.proofs.weighed.weigh_to.Goals as goal
 
 pub returns-then-hi-eq0-clause-bare : goal.returns-then-hi-eq0-clause-bare
@@ -38,10 +38,10 @@ returns-clause-rows g c =
     (omega (arith, c.if-hi-eq0.false, c.hi.ensures.end)) c.requires.wanted)
     c.first_weights.ensures.known
 
-pub returns-clause-held : goal.returns-clause-held
-returns-clause-held g c =
+pub returns-clause-stored : goal.returns-clause-stored
+returns-clause-stored g c =
     some_then c.first_weights.result
-    (λ sum h. first_held g.row.F c.args.mean c.args.variance c.args.wanted c.first_weights.new.list.items sum
+    (λ sum h. first_stored g.row.F c.args.mean c.args.variance c.args.wanted c.first_weights.new.list.items sum
     (subst (λ (z : Ends). IsBeginning g.row.F c.args.mean z c.args.wanted c.first_weights.new.list.items sum) c.excess_of-excess.ensures.ends h)
     (omega (arith, c.if-hi-eq0.false, c.hi.ensures.end)) c.requires.wanted)
     c.first_weights.ensures.known

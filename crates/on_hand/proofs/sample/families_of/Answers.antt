@@ -15,7 +15,7 @@ of-family-requires-clause-ordered c =
     let b : Bounds = c.index-bounds-k.result in
     let is = c.index-bounds-k.is ∙ ap (λ bs. get_or bs k b) c.requires.bounds
     ∙ get_or-map (λ (p : PartId). box_from case p.0 c.args.held.now.list) lines k (record { 0 = 0 }) b c.loop-k-test.true in
-    box_ordered case line.0 c.args.held.now b is c.invariant.ensures.valid (c.requires.lines k (record { 0 = 0 }) c.loop-k-test.true) c.requires.held c.requires.limits
+    box_ordered case line.0 c.args.held.now b is c.invariant.ensures.valid (c.requires.lines k (record { 0 = 0 }) c.loop-k-test.true) c.requires.held
 
 pub loop-k-preserved : goal.loop-k-preserved
 loop-k-preserved c = omega (arith, ap length c.in_ok-push.ensures.items, length_push c.loop-k.families.items c.of-family.result, c.loop-k.invariant)

@@ -18,7 +18,7 @@ renew_all-requires-clause-kept c =
     let new = c.args.stocks.now in
     let was =
     subst (λ (fs : List (Option (FamilyResult 48))). AreOfFamilies (IsEvaluation d x.stocks) d fs) (sym c.deref_mut.ensures.value) c.requires.kept.are_kept in
-    let settled = kept_at d c.requires.inputs.valid x.stocks new c.requires.kept.is_for c.requires.inputs.are_stocks c.deref_mut.result.now c.settle.new.families c.settle.ensures was in
+    let settled = kept_at d c.requires.inputs.valid x.stocks new c.requires.kept.is_for c.requires.inputs.are_stocks.is_for c.deref_mut.result.now c.settle.new.families c.settle.ensures was in
     let count : length c.settle.new.families ≡ x.families.len = settled.count ∙ sym c.requires.kept.are_kept.count ∙ sym x.families.ok.0 in
     subst (λ (fs : List (Option (FamilyResult 48))). AreOfFamilies (IsEvaluation d new) d fs)
     (sym (c.deref_mut-2.ensures.value ∙ written x.families.len c.settle.new.families x.families.items count (sym x.families.ok.0))) settled

@@ -3,7 +3,7 @@ use Rattle.std.proofs.lemmas.List.Elements.{All-nil, All-push}
 use Rattle.std.proofs.lemmas.Nat.{mod_below}
 use Rattle.std.specs.List.{range_with_len}
 use Rattle.price_certificate.specs.declared.place.Place.{Place}
-use Rattle.price_certificate.specs.Covers.{IsPlace, family, place_at, place_count}
+use Rattle.price_certificate.specs.Covers.{IsPlace, parts_of_family, place_at, place_count}
 use Rattle.price_certificate.proofs.Families.{same_length, place_is, site_below, places_more}
 use Rattle.price_certificate.proofs.Refused.{if_err}
 use Rattle.price_certificate.proofs.trimming.places.Goals as goal
@@ -37,17 +37,17 @@ returns-in_err-push-clause-valid c = if_err c.from_residual.result _ c.from_resi
 
 -- a family has its line unit
 some_parts : (c : goal.In-loop-m) → 0 < length c.args.parts.now
-some_parts c = omega (arith, same_length c.args.parts.now (family c.args.case.now c.args.line.0) c.requires.parts)
+some_parts c = omega (arith, same_length c.args.parts.now (parts_of_family c.args.case.now c.args.line.0) c.requires.parts)
 
 pub nonzero_rem-part : goal.nonzero_rem-part
 nonzero_rem-part c = some_parts c
 
 pub nonzero_div-site : goal.nonzero_div-site
-nonzero_div-site c = omega (arith, same_length c.args.parts.now (family c.args.case.now c.args.line.0) c.requires.parts)
+nonzero_div-site c = omega (arith, same_length c.args.parts.now (parts_of_family c.args.case.now c.args.line.0) c.requires.parts)
 
 pub place_of-requires-clause-part : goal.place_of-requires-clause-part
 place_of-requires-clause-part c =
-    let some : 0 < length c.args.parts.now = omega (arith, same_length c.args.parts.now (family c.args.case.now c.args.line.0) c.requires.parts) in
+    let some : 0 < length c.args.parts.now = omega (arith, same_length c.args.parts.now (parts_of_family c.args.case.now c.args.line.0) c.requires.parts) in
     c.requires.ids (c.loop-m.m % length c.args.parts.now) (record { 0 = 0 }) (mod_below c.loop-m.m (length c.args.parts.now) some)
 
 pub place_of-requires-clause-site : goal.place_of-requires-clause-site

@@ -14,5 +14,5 @@ returns c =
     ap (λ (x : ℕ). x * c.site_count.result) c.part_count.ensures.count ∙ ap (λ (x : ℕ). length rows.parts * x) c.site_count.ensures.count ∙ sym c.requires.pairs in
     after_ok c.put_each_stock.result
     (λ h. counted_written (codes "stocks") pairs pairs (number_line 63) c.args.list.now.list c.args.out.now.items c.put_count_line.new.out.items c.put_each_stock.new.out.items (c.part_count.result * c.site_count.result) count (c.in_ok-put_count_line.ensures pairs pairs)
-    (rw c.as_slice.ensures.list at h))
+    (rw c.as_slice.ensures.list at h (λ _. 63)))
     c.put_each_stock.ensures

@@ -19,5 +19,6 @@ returns-clause-linked c =
       numbered = n;
       to_front = c.in-Ok.ensures;
       lines = c.in_ok-parents.ensures;
+      units_are = c.in_ok-lines.ensures;
       shops = c.in_ok-families.ensures;
     }

@@ -29,8 +29,8 @@ held c =
 pub returns-clause-held : goal.returns-clause-held
 returns-clause-held c = held c
 
-pub returns-clause-whole : goal.returns-clause-whole
-returns-clause-whole c = none_whole c.args.case.now c.of.result (held c)
-
-pub returns-clause-limits : goal.returns-clause-limits
-returns-clause-limits c = none_within c.args.case.now c.of.result (held c)
+pub returns-clause-stocks : goal.returns-clause-stocks
+returns-clause-stocks c = record {
+  is_for = none_whole c.args.case.now c.of.result (held c);
+  limits = none_within c.args.case.now c.of.result (held c);
+}

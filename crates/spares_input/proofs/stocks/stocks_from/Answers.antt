@@ -9,15 +9,15 @@ invariant_of-result c =
     record {
       fewest_sites = rw c.site_count-sites.ensures.count frame.fewest_sites;
       most_sites = rw c.site_count-sites.ensures.count frame.most_sites;
-      whole = rw (c.site_count-sites.ensures.count, c.in-Ok.ensures.stocks, stocks_long c.args.case.now c.args.rows.now) (mul-mod_left (length c.args.case.now.parts) (length c.args.case.now.sites));
+      whole = rw (c.site_count-sites.ensures.count, c.in_ok-list.ensures.stocks, stocks_long c.args.case.now c.args.rows.now) (mul-mod_left (length c.args.case.now.parts) (length c.args.case.now.sites));
     }
 
-pub returns-in-Ok-clause-pairs : goal.returns-in-Ok-clause-pairs
-returns-in-Ok-clause-pairs c = record {
-  sites = c.site_count-sites.ensures.count;
-  pairs = rw c.in-Ok.ensures.stocks (stocks_long c.args.case.now c.args.rows.now);
+pub returns-clause-stocks : goal.returns-clause-stocks
+returns-clause-stocks c = record {
+  is_for = record {
+    sites = c.site_count-sites.ensures.count;
+    pairs = rw c.in_ok-list.ensures.stocks (stocks_long c.args.case.now c.args.rows.now);
+  };
+  limits = rw c.site_count-sites.ensures.count
+      (stocks_within c.args.case.now c.args.rows.now c.requires c.in_ok-list.ensures.fault c.site_count-sites.ensures.valid.frame.fewest_sites c.in_ok-list.list.items c.in_ok-list.ensures.stocks);
 }
-
-pub returns-in-Ok-clause-limits : goal.returns-in-Ok-clause-limits
-returns-in-Ok-clause-limits c =
-    rw c.site_count-sites.ensures.count (stocks_within c.args.case.now c.args.rows.now c.requires c.in-Ok.ensures.fault c.site_count-sites.ensures.valid.frame.fewest_sites c.in-Ok.list.items c.in-Ok.ensures.stocks)

@@ -20,4 +20,4 @@ pub returns-clause-answer : goal.returns-clause-answer
 returns-clause-answer c = ap with_held c.in_ok-read.ensures.answer
 
 pub returns-clause-claim : goal.returns-clause-claim
-returns-clause-claim c = let well = c.in_ok-read.ensures.found.0 in record { formed = well.certificate; held = record { is_for = well.held; limits = well.limits } }
+returns-clause-claim c = let well = c.in_ok-read.ensures.found.0 in record { formed = well.certificate; held = well.held }

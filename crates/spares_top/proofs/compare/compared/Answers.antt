@@ -8,7 +8,7 @@ use Rattle.spares_top.proofs.compare.compared.Goals as goal
 
 pub compare-requires-clause-inputs : goal.compare-requires-clause-inputs
 compare-requires-clause-inputs c =
-    can_evaluate 48 c.args.given.now.case c.args.given.now.stocks refl c.invariant.ensures.valid c.requires.rates.no_fault c.requires.whole c.requires.limits
+    can_evaluate 48 c.args.given.now.case c.args.given.now.stocks refl c.invariant.ensures.valid c.requires.rates.no_fault c.requires.stocks
 
 pub returns-clause-is_true : goal.returns-clause-is_true
 returns-clause-is_true c =

@@ -7,7 +7,7 @@ evaluate_all-requires g c =
     let given = c.requires.given in (
       lit< tt,
       (
-        can_evaluate g.row.F c.args.given.now.case c.args.given.now.stocks c.requires.width c.invariant.ensures.valid given.rates.no_fault given.whole given.limits,
+        can_evaluate g.row.F c.args.given.now.case c.args.given.now.stocks c.requires.width c.invariant.ensures.valid given.rates.no_fault given.stocks,
         given.rates,
       ),
     )
@@ -19,7 +19,7 @@ figures_at-requires g c =
       (
         c.requires.width,
         (
-          can_evaluate g.row.F c.args.given.now.case c.args.given.now.stocks c.requires.width c.invariant.ensures.valid given.rates.no_fault given.whole given.limits,
+          can_evaluate g.row.F c.args.given.now.case c.args.given.now.stocks c.requires.width c.invariant.ensures.valid given.rates.no_fault given.stocks,
           c.as_slice.ensures.value ∙ c.in_ok-families.ensures.ends,
         ),
       ),

@@ -28,11 +28,8 @@ returns-in_err-case-clause-answer c =
 pub returns-in_err-case-clause-ground : goal.returns-in_err-case-clause-ground
 returns-in_err-case-clause-ground c = let p = err_from_is_err_and c.from_residual.result c.from_residual.ensures.1 in rw p.1 tt
 
-pub held_work-requires-clause-held : goal.held_work-requires-clause-held
-held_work-requires-clause-held c = c.in_ok-case.ensures.given.whole
-
-pub held_work-requires-clause-limits : goal.held_work-requires-clause-limits
-held_work-requires-clause-limits c = c.in_ok-case.ensures.given.limits
+pub held_work-requires : goal.held_work-requires
+held_work-requires c = record { held = c.in_ok-case.ensures.given.stocks }
 
 pub returns-clause-answer : goal.returns-clause-answer
 returns-clause-answer c =
@@ -47,7 +44,7 @@ returns-clause-ground c =
     (subst (λ (work : Result ℕ ℕ). Gives {T = ℕ} (or_refuse no_names refusal.Work work) c.few_tables.result) c.held_work.ensures c.few_tables.ensures) (λ few. record {
       accepted = record { valid = c.invariant.ensures.valid; no_fault = given.rates.no_fault };
       rates = given.rates;
-      held = record { is_for = given.whole; limits = given.limits };
+      held = given.stocks;
       work = few;
       terms = c.requires.terms;
       format = c.requires.format;

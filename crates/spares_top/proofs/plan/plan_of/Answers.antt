@@ -3,7 +3,7 @@ use Rattle.case_plan.specs.declared.request.Request.{Request}
 use Rattle.held_work.specs.Work.{held_work_of}
 use Rattle.price_certificate.specs.declared.certificate.Objective.TheVariants.{Backorders, LogAvailability}
 use Rattle.spares_input.specs.Money.{most_budget}
-use Rattle.spares_input.specs.Stocks.{StockList, IsFor, IsWithinLimits}
+use Rattle.spares_input.specs.Stocks.{AreStocksOf, StockList}
 use Rattle.spares_top.specs.Planning.{planning_on}
 use Rattle.spares_top.proofs.Planned.{planned_by}
 use Rattle.spares_top.proofs.plan.plan_of.Goals as goal
@@ -15,10 +15,7 @@ pub plan_case-requires-clause-rates : goal.plan_case-requires-clause-rates
 plan_case-requires-clause-rates c = c.requires.ground.rates
 
 pub plan_case-requires-clause-held : goal.plan_case-requires-clause-held
-plan_case-requires-clause-held c = subst (λ (s : StockList). IsFor c.args.ground.now.given.case s) (sym c.requires.held) c.requires.ground.held.is_for
-
-pub plan_case-requires-clause-limits : goal.plan_case-requires-clause-limits
-plan_case-requires-clause-limits c = subst (λ (s : StockList). IsWithinLimits c.args.ground.now.given.case s) (sym c.requires.held) c.requires.ground.held.limits
+plan_case-requires-clause-held c = subst (λ (s : StockList). AreStocksOf c.args.ground.now.given.case s) (sym c.requires.held) c.requires.ground.held
 
 pub plan_case-requires-clause-work : goal.plan_case-requires-clause-work
 plan_case-requires-clause-work c = subst (λ (s : StockList). IsOk (held_work_of c.args.ground.now.given.case s.list)) (sym c.requires.held) c.requires.ground.work
@@ -31,11 +28,7 @@ plan_case-requires-in-LogAvailability-clause-rates c = c.requires.ground.rates
 
 pub plan_case-requires-in-LogAvailability-clause-held : goal.plan_case-requires-in-LogAvailability-clause-held
 plan_case-requires-in-LogAvailability-clause-held c =
-    subst (λ (s : StockList). IsFor c.args.ground.now.given.case s) (sym c.requires.held) c.requires.ground.held.is_for
-
-pub plan_case-requires-in-LogAvailability-clause-limits : goal.plan_case-requires-in-LogAvailability-clause-limits
-plan_case-requires-in-LogAvailability-clause-limits c =
-    subst (λ (s : StockList). IsWithinLimits c.args.ground.now.given.case s) (sym c.requires.held) c.requires.ground.held.limits
+    subst (λ (s : StockList). AreStocksOf c.args.ground.now.given.case s) (sym c.requires.held) c.requires.ground.held
 
 pub plan_case-requires-in-LogAvailability-clause-work : goal.plan_case-requires-in-LogAvailability-clause-work
 plan_case-requires-in-LogAvailability-clause-work c =

@@ -17,7 +17,7 @@ kept_items-requires g c =
     let family : c.self.inside.family ≡ numbers_of g.row.F c.args.case.now l = ap (λ (e : Evaluation g.row.F). e.numbers) c.self.view_is ∙ c.requires.numbers in
     let inputs = c.requires.inputs in (
       lit< tt,
-      (lit< tt, (lit< tt, (c.self.invariant, stocks_there g.row.F c.args.case.now l c.args.stocks.now c.self.inside.family inputs.valid c.requires.line inputs.are_stocks inputs.limits family))),
+      (lit< tt, (lit< tt, (c.self.invariant, stocks_there g.row.F c.args.case.now l c.args.stocks.now c.self.inside.family inputs.valid c.requires.line inputs.are_stocks.is_for inputs.are_stocks.limits family))),
     )
 
 pub family_of-requires : goal.family_of-requires
@@ -38,7 +38,7 @@ family_of-requires g c =
             (
               subst (IsLine k) (sym part) c.requires.line,
               c.as_slice.ensures.value ∙ c.in_ok-items.ensures.items
-                  ∙ items_are f k l s c.self.inside.family c.requires.inputs.valid c.requires.line c.requires.inputs.are_stocks family
+                  ∙ items_are f k l s c.self.inside.family c.requires.inputs.valid c.requires.line c.requires.inputs.are_stocks.is_for family
                   ∙ ap (λ p. flat_map (part_items f k s.list) (shop_units k p) ++ item_of f k s.list p 0 ∷ []) (sym part),
             ),
           ),

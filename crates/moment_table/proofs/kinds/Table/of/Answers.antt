@@ -1,6 +1,6 @@
 use Rattle.std.proofs.Common.{lit<, rules}
 use Rattle.fixed_interval.specs.Ends.{InScale}
-use Rattle.moment_table.proofs.HeldRows.{limit_short}
+use Rattle.moment_table.proofs.StoredRows.{limit_short}
 use Rattle.moment_table.proofs.kinds.Table.of.Goals as goal
 
 pub of-requires : goal.of-requires

@@ -1,6 +1,6 @@
 use Rattle.std.proofs.Common.{◌∙◌, lit<, rules}
 use Rattle.fixed_interval.specs.Ends.{InScale}
-use Rattle.moment_table.proofs.HeldRows.{limit_short}
+use Rattle.moment_table.proofs.StoredRows.{limit_short}
 use Rattle.moment_table.proofs.Steps.{falling_first}
 use Rattle.moment_table.proofs.running.Falling.first.Goals as goal
 

@@ -1,7 +1,7 @@
 use Rattle.std.proofs.Common.{◌∙◌, lit<, rules}
 use Rattle.std.proofs.Math.Nat.{max-le}
 use Rattle.fixed_interval.specs.Ends.{InScale, ends_max}
-use Rattle.moment_table.proofs.HeldRows.{limit_short}
+use Rattle.moment_table.proofs.StoredRows.{limit_short}
 use Rattle.moment_table.proofs.Steps.{spread_first}
 use Rattle.moment_table.proofs.running.Running.first.Goals as goal
 

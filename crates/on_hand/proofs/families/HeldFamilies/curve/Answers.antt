@@ -9,14 +9,14 @@ use Rattle.on_hand.proofs.families.HeldFamilies.curve.Goals as goal
 pub curve_within-requires-clause-ordered : goal.curve_within-requires-clause-ordered
 curve_within-requires-clause-ordered g c =
     let line = subst (λ (x : HeldCase). IsLine x.case c.line-line.result.0) (sym c.self.view_is) c.line-line.ensures.is_line in
-    box_ordered c.self.inside.case.now c.line-line.result.0 c.self.inside.held.now c.in_ok-bounds.bounds c.in_ok-bounds.ensures c.self.invariant.0.valid line
-    c.self.invariant.0.held c.self.invariant.0.limits
+    box_ordered c.self.inside.case.now c.line-line.result.0 c.self.inside.held.now c.in_ok-bounds.bounds c.in_ok-bounds.ensures c.self.invariant.valid line
+    c.self.invariant.held
 
 pub curve_within-requires-clause-few : goal.curve_within-requires-clause-few
 curve_within-requires-clause-few g c =
     let line = subst (λ (x : HeldCase). IsLine x.case c.line-line.result.0) (sym c.self.view_is) c.line-line.ensures.is_line in
-    box_few c.self.inside.case.now c.line-line.result.0 c.self.inside.held.now.list c.in_ok-bounds.bounds c.in_ok-bounds.ensures c.self.invariant.0.valid line
-    c.self.invariant.0.work
+    box_few c.self.inside.case.now c.line-line.result.0 c.self.inside.held.now.list c.in_ok-bounds.bounds c.in_ok-bounds.ensures c.self.invariant.valid line
+    c.self.invariant.work
 
 pub returns : goal.returns
 returns g c =

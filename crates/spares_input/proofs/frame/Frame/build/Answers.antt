@@ -5,7 +5,7 @@ pub invariant_of-result : goal.invariant_of-result
 invariant_of-result c =
     let l = rw c.as_slice.ensures.value at c.in_ok-links.ensures.linked in
     let f = frame_numbered _ _ _ _ l.depot l.numbered c.requires.few_sites c.requires.few_parts c.requires.site_rows c.requires.part_rows l.to_front in
-    (f.0, f.1, l.lines, l.shops)
+    (f.0, f.1, l.lines, l.units_are, l.shops)
 
 pub returns : goal.returns
 returns c =

@@ -1,5 +1,0 @@
-use Rattle.moment_table.proofs.Steps.{held_known}
-use Rattle.moment_table.proofs.running.Running.held.Goals as goal
-
-pub returns : goal.returns
-returns g c m v sum list s h = held_known g.row.F m v list sum s c.args.self.now h c.expected.result c.expected.ensures
