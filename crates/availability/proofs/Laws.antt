@@ -6,10 +6,10 @@ use Rattle.std.proofs.Math.Nat.{mul-pos}
 use Rattle.std.proofs.lemmas.Nat.{mul-le}
 use Rattle.std.proofs.lemmas.List.Sums.{fold_more}
 use Rattle.exact_model.specs.Fraction.{Fraction, whole, sum_below, ◌≈◌, ◌+ℚ◌, ◌-ℚ◌, ◌*ℚ◌, ◌/ℚ◌}
-use Rattle.exact_model.specs.Sums.{power, product_below}
-use Rattle.exact_model.proofs.Public.{same, turned, ◌≈≈◌, add_same, div_same, contains_same, whole_plus, first_power, next_power}
+use Rattle.exact_model.specs.Sums.{product_below}
+use Rattle.exact_model.proofs.Public.{same, turned, ◌≈≈◌, add_same, div_same, contains_same, whole_plus}
 use Rattle.fixed_interval.specs.Ends.{Ends, In, ends_exact, ends_add, ends_less, ends_times, ends_over, ends_mul, ends_power}
-use Rattle.fixed_interval.proofs.Public.{add_encloses, less_encloses, exact_encloses, mul_encloses, over_encloses, times_encloses, mul_below, unit_most}
+use Rattle.fixed_interval.proofs.Public.{add_encloses, less_encloses, exact_encloses, mul_encloses, over_encloses, times_encloses, power_encloses, mul_below, unit_most}
 use Rattle.availability.specs.declared.Weighted.{Weighted}
 use Rattle.availability.specs.Profile.{filled_ends, factor_ends, base_ends, weighted_sum, all_systems, fleet_ends}
 use Rattle.availability.specs.Exact.{factor_of, weighted_mean, AllIn, base_at, BaseIn, BasesIn}
@@ -23,19 +23,13 @@ next_fold f a xs i d l =
 
 -- ---- the factor of a line unit
 
-multiplied_in : (f : ℕ) (g : Ends) (q : Fraction) (n : ℕ) → In f g q → In f (ends_power f g n) (power q (suc n))
-unfolding ends_power
-multiplied_in f g q zero h = contains_same (first_power q) h
-multiplied_in f g q (suc n) h =
-    contains_same (next_power q (suc n)) (mul_encloses f (ends_power f g n) g (power q (suc n)) q (multiplied_in f g q n h) h)
-
 -- the interval of a line unit's factor contains the factor of the backorders in its interval
 pub factor_in : (f : ℕ) (e : Ends) (x : Fraction) (systems per_system : ℕ) → 0 < systems → 0 < per_system → In f e x
     → In f (factor_ends f e systems per_system) (factor_of x systems per_system)
 factor_in f e x systems zero s p h = absurd (omega arith)
 factor_in f e x systems (suc z) s p h =
     subst (λ n. In f (ends_power f (filled_ends f e (systems * suc z)) n) (factor_of x systems (suc z))) (omega arith)
-    (multiplied_in f (filled_ends f e (systems * suc z)) (whole 1 -ℚ x /ℚ whole (systems * suc z)) z
+    (power_encloses f (filled_ends f e (systems * suc z)) (whole 1 -ℚ x /ℚ whole (systems * suc z)) z
     (less_encloses f (ends_exact f 1) (ends_over e (systems * suc z)) (whole 1) (x /ℚ whole (systems * suc z)) (exact_encloses f 1)
     (over_encloses f e (systems * suc z) x (mul-pos s p) h)))
 

@@ -3,11 +3,11 @@ use Rattle.std.proofs.Common.{◌≡◌, ℕ, zero, suc, ◌+◌, ◌-◌, ◌*�
 use Rattle.std.proofs.Math.Nat.{mul-pos, div-le_of_le-mul, div-mul-le_self}
 use Rattle.std.proofs.lemmas.Nat.{le-div}
 use Rattle.std.proofs.lemmas.Bool.{cases_lt, cases_Bool}
-use Rattle.exact_model.proofs.Public.{total}
+use Rattle.list_laws.proofs.Public.{total, total_most}
 use Rattle.fixed_interval.specs.Ends.{Ends}
 use Rattle.series_bounds.specs.Profile.{back_ends, is_wide, last_index, pivot_at, ratio_ends, weight_ends}
 use Rattle.series_bounds.specs.Answer.{at_place}
-use Rattle.series_bounds.proofs.Public.{known_answer, listed_at, sum_hi, total_most, wide_answer, weight_at_pivot, weight_down, weight_up, end_from_63, last_start, pivot_below_last}
+use Rattle.series_bounds.proofs.Public.{known_answer, listed_at, sum_hi, wide_answer, weight_at_pivot, weight_down, weight_up, end_from_63, last_start, pivot_below_last}
 use Rattle.moment_table.specs.declared.kinds.Row.{Row}
 use Rattle.moment_table.specs.Profile.{below_ends, chance_ends, ebo_ends, empty_row, excess_ends, known_row, table_rows, tail_ends, wide_row}
 use Rattle.moment_table.specs.Rows.{at_stock}

@@ -4,8 +4,8 @@ use Rattle.std.specs.Int.{div_ceil}
 use Rattle.std.proofs.Math.Nat.{div-mul-le_self, lt-mul-div-succ}
 use Rattle.std.proofs.lemmas.Bool.{cases_lt}
 use Rattle.std.proofs.lemmas.Grind.{div_ceil_times}
+use Rattle.list_laws.proofs.Public.{floor_below_ceil}
 use Rattle.fixed_interval.specs.Ends.{Ends}
-use Rattle.fixed_interval.proofs.Public.{floor_below_ceil}
 use Rattle.moment_table.specs.Profile.{excess_ends}
 use Rattle.backorder_bounds.specs.Lead.{IsInverse}
 use Rattle.backorder_bounds.specs.declared.scale.Coarse.{Coarse}

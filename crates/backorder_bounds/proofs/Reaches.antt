@@ -4,11 +4,10 @@ use Rattle.std.specs.Int.{div_ceil}
 use Rattle.std.proofs.Math.Nat.{div-le_of_le-mul, div-mul-le_self, lt-mul-div-succ, lt_of_mul-lt-mul_right}
 use Rattle.std.proofs.lemmas.Nat.{le-div}
 use Rattle.std.proofs.lemmas.Bool.{cases_lt}
-use Rattle.exact_model.proofs.Public.{total}
+use Rattle.list_laws.proofs.Public.{below_more, ceil_above, ceil_most, total}
 use Rattle.fixed_interval.specs.Ends.{Ends}
-use Rattle.fixed_interval.proofs.Public.{ceil_above, ceil_most}
 use Rattle.series_bounds.specs.Profile.{back_ends, far_ratio, pivot_at, ratio_ends, weight_ends}
-use Rattle.series_bounds.proofs.Public.{sum_hi, below_more, weight_down, weight_up}
+use Rattle.series_bounds.proofs.Public.{sum_hi, weight_down, weight_up}
 use Rattle.backorder_bounds.specs.declared.sums.Rising.{Rising}
 use Rattle.backorder_bounds.specs.declared.sums.Reached.{Reached}
 use Rattle.backorder_bounds.specs.declared.sums.Start.{Start}

@@ -3,8 +3,8 @@ use Rattle.std.proofs.Common.{◌≡◌, ℕ, ◌+◌, ◌-◌, ◌*◌, ◌/◌
 use Rattle.std.specs.Int.{div_ceil}
 use Rattle.std.proofs.Math.Nat.{div-mul-le_self, lt-mul-div-succ}
 use Rattle.std.proofs.lemmas.Nat.{le-div}
+use Rattle.list_laws.proofs.Public.{ceil_most}
 use Rattle.fixed_interval.specs.Ends.{Ends}
-use Rattle.fixed_interval.proofs.Public.{ceil_most}
 use Rattle.series_bounds.specs.Profile.{back_ends, pivot_at, weight_ends}
 use Rattle.series_bounds.proofs.Public.{weight_at_pivot, weight_down}
 use Rattle.backorder_bounds.specs.declared.sums.Rising.{Rising}

@@ -5,11 +5,10 @@ use Rattle.std.proofs.Math.Nat.{mul-pos}
 use Rattle.std.proofs.lemmas.Nat.{le-div}
 use Rattle.std.proofs.lemmas.Grind.{div_ceil_times}
 use Rattle.std.proofs.lemmas.Bool.{cases_lt}
-use Rattle.exact_model.proofs.Public.{total}
+use Rattle.list_laws.proofs.Public.{ceil_above, ceil_most, ratio_stays, total}
 use Rattle.fixed_interval.specs.Ends.{Ends}
-use Rattle.fixed_interval.proofs.Public.{ceil_above, ceil_most}
 use Rattle.series_bounds.specs.Profile.{ends_sum, far_ratio, is_wide, last_index, listed, pivot_at, ratio_bound, ratio_ends, remainder_at, remainder_from, weight_ends}
-use Rattle.series_bounds.proofs.Public.{sum_hi, last_most, narrow_from, weight_up, end_from_63, last_start, exists_is, falls_on}
+use Rattle.series_bounds.proofs.Public.{sum_hi, last_most, narrow_from, weight_up, end_from_63, last_start, exists_is}
 use Rattle.backorder_bounds.specs.declared.sums.Rising.{Rising}
 use Rattle.backorder_bounds.specs.Coarse.{coarse_unit}
 use Rattle.backorder_bounds.specs.Lead.{AreOver, all_sum}
@@ -36,7 +35,7 @@ pub ratios_most : (f : ℕ) (m d : Ends) (over : Rising) (k q : ℕ) → AreOver
 ratios_most f m d over k q h a s x i =
     let z : k + 1 - 1 ≡ k = omega arith in
     ratio_most f m d over x q (omega (arith, i)) h
-    (falls_on over.first over.step q (k + 1) x (omega arith) (omega (arith, i)) (subst (λ y. over.first + over.step * y ≤ q * (k + 1)) (sym z) a) s)
+    (ratio_stays over.first over.step q (k + 1) x (omega arith) (omega (arith, i)) (subst (λ y. over.first + over.step * y ≤ q * (k + 1)) (sym z) a) s)
 
 -- what the ratios tend to is at most the step
 pub far_most : (f : ℕ) (m d : Ends) (over : Rising) → AreOver f m d over → far_ratio f d ≤ over.step * coarse_unit f

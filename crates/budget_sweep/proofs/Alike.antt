@@ -1,15 +1,15 @@
 -- As many steps taken in order are the same ones, so a sweep is a function of its curves.
 use Rattle.std.proofs.Common.{◌≡◌, ℕ, zero, suc, ◌<◌, ◌≤◌, inl, inr, List, [], ◌∷◌, Option, Some, None, length, slice_index, sum, refl, sym, ap, ap₂, ◌∙◌, subst, arith}
 use Rattle.std.proofs.lemmas.List.{ext_get_or}
+use Rattle.list_laws.proofs.Public.{less_or, sum_cons}
 use Rattle.hull.specs.declared.point.Point.{Point}
 use Rattle.hull.specs.declared.price.Price.{Price}
 use Rattle.marginal_alloc.specs.declared.allocation.Critical.{Critical}
 use Rattle.marginal_alloc.specs.declared.allocation.Chosen.{Chosen}
 use Rattle.price_bounds.specs.Sums.{cost_of, lo_of, hi_of}
-use Rattle.price_bounds.proofs.Public.{sum_cons}
 use Rattle.step_walk.specs.Prefix.{fall, rise, IsPrefix, picked, HaveShapes}
 use Rattle.marginal_alloc.specs.Choice.{IsHullChoice, StopsWith}
-use Rattle.marginal_alloc.proofs.Public.{told, less_or, not_crossed}
+use Rattle.marginal_alloc.proofs.Public.{told, not_crossed}
 use Rattle.step_walk.proofs.Public.{one_next}
 use Rattle.budget_sweep.specs.declared.report.SweepPoint.{SweepPoint}
 use Rattle.budget_sweep.specs.Sweep.{TellsPrice, IsStateAt, IsState, IsSweep, no_state, state_at}

@@ -2,6 +2,7 @@
 use Rattle.std.proofs.Common.{◌≡◌, ℕ, zero, suc, ◌+◌, ◌-◌, ◌*◌, ◌^◌, ◌<◌, ◌≤◌, List, [], ◌∷◌, Option, Some, None, IfSome, length, slice_index, refl, sym, subst, arith}
 use Rattle.std.specs.List.{All}
 use Rattle.std.proofs.lemmas.List.Elements.{All-from_get_or, All-weaker}
+use Rattle.list_laws.proofs.Public.{ceil_most}
 use Rattle.hull.specs.declared.point.Point.{Point}
 use Rattle.hull.specs.declared.price.Price.{Price}
 use Rattle.hull.specs.Curves.{Steps, InRange, nowhere, point_at}
@@ -11,7 +12,6 @@ use Rattle.step_walk.specs.Prefix.{curve_at, vertex_at, fall, rise, picked, AreV
 use Rattle.step_walk.proofs.Public.{own_step, rises_at}
 use Rattle.marginal_alloc.proofs.Public.{critical_stops, all_least, all_picked}
 use Rattle.price_bounds.proofs.Public.{lagrangian_of_all, least_together}
-use Rattle.fixed_interval.proofs.Public.{ceil_most}
 use Rattle.plan_report.specs.Fits.{PriceFits}
 use Rattle.budget_sweep.specs.declared.report.SweepPoint.{SweepPoint}
 use Rattle.budget_sweep.specs.Sweep.{TellsPrice, IsState, IsSweep, no_state, state_at, last_state}

@@ -2,6 +2,7 @@
 use Rattle.std.proofs.Common.{◌≡◌, ℕ, zero, suc, ◌+◌, ◌-◌, ◌*◌, ◌<◌, ◌≤◌, List, [], ◌∷◌, Option, Some, None, length, slice_index, sum, max, refl, sym, subst, arith}
 use Rattle.std.specs.Int.{div_ceil}
 use Rattle.std.proofs.Math.Nat.{mul-le-mul_left, le_of_mul-le-mul_left, le_refl}
+use Rattle.list_laws.proofs.Public.{ceil_most, sum_cons}
 use Rattle.hull.specs.declared.point.Point.{Point}
 use Rattle.hull.specs.declared.price.Price.{Price}
 use Rattle.hull.specs.Curves.{Steps}
@@ -11,8 +12,7 @@ use Rattle.step_walk.specs.Prefix.{curve_at, vertex_at, picked, AreVertices, IsP
 use Rattle.marginal_alloc.specs.Choice.{IsHullChoice, AreCurves}
 use Rattle.marginal_alloc.proofs.Public.{told, choice_least}
 use Rattle.step_walk.proofs.Public.{own_step, rises_at}
-use Rattle.price_bounds.proofs.Public.{lagrangian_of_all, least_together, sum_cons}
-use Rattle.fixed_interval.proofs.Public.{ceil_most}
+use Rattle.price_bounds.proofs.Public.{lagrangian_of_all, least_together}
 use Rattle.budget_sweep.specs.declared.report.SweepPoint.{SweepPoint}
 use Rattle.budget_sweep.specs.Sweep.{all_steps, TellsPrice, IsState, state_at, last_state}
 use Rattle.budget_sweep.specs.Target.{cost_floor, floor_at, least_cost}

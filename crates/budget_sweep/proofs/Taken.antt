@@ -1,9 +1,10 @@
 -- The states so far, and one more.
 use Rattle.std.proofs.Common.{◌≡◌, ℕ, zero, suc, ◌+◌, ◌<◌, inl, inr, List, [], ◌∷◌, ◌++◌, Some, None, length, length-append, set, slice_index, sum, refl, sym, ap, ◌∙◌, subst, arith}
 use Rattle.std.proofs.lemmas.List.Sums.{sum_by-cons, sum_by-set}
+use Rattle.list_laws.proofs.Public.{below_or}
 use Rattle.hull.specs.declared.point.Point.{Point}
 use Rattle.step_walk.specs.Prefix.{curve_at, IsPrefix, HaveShapes}
-use Rattle.step_walk.proofs.Public.{steps_left, left_falls, below_or}
+use Rattle.step_walk.proofs.Public.{steps_left, left_falls}
 use Rattle.budget_sweep.specs.declared.report.SweepPoint.{SweepPoint}
 use Rattle.step_walk.specs.declared.walk.Next.{Next}
 use Rattle.step_walk.specs.Walks.{Walked, AllDone, TellsFirst, MovesOn}

@@ -1,4 +1,4 @@
--- The sums over the vertices at picks.
+-- The sums over the vertices at picks. No promise of the crate rests on these words.
 use Rattle.std.specs.Prelude.{◌≡◌, ℕ, List}
 use Rattle.hull.specs.declared.point.Point.{Point}
 use Rattle.price_bounds.specs.Sums.{cost_of, lo_of, hi_of}

@@ -5,6 +5,7 @@ use Rattle.std.specs.List.{AllByRecursion}
 use Rattle.std.proofs.lemmas.List.{get_or-map, length-map, map-set}
 use Rattle.std.proofs.lemmas.List.Elements.{All-map}
 use Rattle.std.proofs.lemmas.Simd.{map-map}
+use Rattle.list_laws.proofs.Public.{map_each}
 use Rattle.spares_input.specs.Rows.{no_site, no_part}
 use Rattle.spares_input.specs.Frames.{part_names, site_names}
 use Rattle.spares_input.specs.declared.rows.PartRow.{PartRow}
@@ -17,7 +18,6 @@ use Rattle.case_figures.specs.declared.figures.ItemLine.{ItemLine}
 use Rattle.case_figures.specs.Figures.{named}
 use Rattle.case_figures.specs.Compact.{IsNamedPair, compact_line, compact_of, line_under}
 use Rattle.case_figures.specs.Gathering.{IsItemOf, compact_by_pair, items_by_pair, item_place, placed, placed_compact}
-use Rattle.case_figures.proofs.Each.{map_each}
 
 map_replicate : {A B : Type 0} (h : A → B) (n : ℕ) (x : A) → replicate n (h x) ≡ map h (replicate n x)
 map_replicate h zero x = refl

@@ -1,10 +1,10 @@
 -- The ends of availabilities and totals enclose the model's values.
-use Rattle.std.proofs.Common.{◌≡◌, ℕ, zero, suc, ◌+◌, ◌-◌, ◌<◌, true, List, [], ◌∷◌, length, map, Option, Some, None, is_none, refl, sym, ap, subst, arith}
+use Rattle.std.proofs.Common.{◌≡◌, ℕ, zero, suc, ◌+◌, ◌-◌, ◌<◌, true, List, [], ◌∷◌, length, map, Option, None, refl, sym, ap, subst, arith}
 use Rattle.std.specs.List.{fold, range_with_len, AllByRecursion}
 use Rattle.std.specs.Option.{option_and_then}
-use Rattle.std.proofs.lemmas.Bool.{false≢true}
 use Rattle.std.proofs.lemmas.List.Sums.{sum_by-cons}
 use Rattle.std.proofs.lemmas.List.FromFn.{get_or-map-range_with_len, length-map-range_with_len}
+use Rattle.list_laws.proofs.Public.{each_that_passes, none_of}
 use Rattle.exact_model.specs.Fraction.{Fraction, whole, ◌≈◌, ◌+ℚ◌, ◌*ℚ◌}
 use Rattle.exact_model.specs.Series.{ebo}
 use Rattle.exact_model.proofs.Public.{turned, div_same, positive_same, contains_same, times_assoc, nothing_more, one_times, plus_assoc, none_plus}
@@ -27,7 +27,6 @@ use Rattle.availability.proofs.Public.{factor_in, fleet_in}
 use Rattle.family_items.specs.Profile.{item_of}
 use Rattle.family_items.specs.Profile as family
 use Rattle.case_figures.specs.Figures.{factor_at, availability_at, weighted_at, fleet_of, case_total_of}
-use Rattle.case_figures.proofs.Each.{each_that_passes}
 
 -- ---- sums and products over a list
 
@@ -56,13 +55,9 @@ product_in f h q ls t = contains_same (one_times (product_over ls q)) (products_
 
 -- ---- a line unit at a base
 
-no_parent : {A : Type 0} (o : Option A) → is_none o ≡ true → o ≡ None
-no_parent None h = refl
-no_parent (Some x) h = absurd (false≢true h)
-
 no_line : (c : CaseRows) (l : ℕ) → is_line (part_at c.parts l) ≡ true → line_of c.parts l ≡ None
 no_line c l h =
-    ap (λ (o : Option (List ℕ)). option_and_then (λ name. place_of name (part_names c.parts)) o) (no_parent (part_at c.parts l).parent h)
+    ap (λ (o : Option (List ℕ)). option_and_then (λ name. place_of name (part_names c.parts)) o) (none_of (part_at c.parts l).parent h)
 
 line_pipeline : (c : CaseRows) (s : List ℕ) (n l j : ℕ) → is_line (part_at c.parts l) ≡ true → pipeline c s n l (suc j) ≡ pipeline_0j c s n l (suc j)
 line_pipeline c s n l j h =

@@ -6,6 +6,7 @@ use Rattle.std.proofs.Math.Nat.{div-lt_iff_lt-mul}
 use Rattle.std.proofs.lemmas.List.{get_or_append_left, length-append, length-map}
 use Rattle.std.proofs.lemmas.List.FromFn.{get_or-map-range_with_len, length-map-range_with_len}
 use Rattle.std.proofs.lemmas.Simd.{map-map}
+use Rattle.list_laws.proofs.Public.{all_of, each_in_range, each_map, each_that_passes, few_that_pass, map_each}
 use Rattle.fixed_interval.specs.Ends.{Ends, ends_exact, ends_add}
 use Rattle.spares_input.specs.Rows.{is_line}
 use Rattle.spares_input.specs.Frames.{part_at, part_names, site_at, site_names, is_shop_of}
@@ -20,7 +21,6 @@ use Rattle.family_items.specs.declared.item.FamilyResult.{FamilyResult}
 use Rattle.family_items.specs.Encloses.{IsSmallItem, no_item}
 use Rattle.family_items.specs.Profile.{item_of, part_items, family_of, families_of}
 use Rattle.family_items.specs.Profile as evaluated
-use Rattle.family_items.proofs.Public.{each_in_range}
 use Rattle.case_figures.specs.declared.figures.BaseLine.{BaseLine}
 use Rattle.case_figures.specs.declared.figures.Figures.{Figures}
 use Rattle.case_figures.specs.Spans.{span_of}
@@ -30,7 +30,7 @@ use Rattle.case_figures.specs.Compact.{IsNamedPair, compact_of, line_under}
 use Rattle.case_figures.specs.Gathering.{IsItemOf, IsFamilyOf, compact_by_pair, factor_from, weighted_from, base_line_from}
 use Rattle.case_figures.proofs.Covering.{item_pair, placed_all}
 use Rattle.case_figures.proofs.CompactLines.{compact_items, compact_pairs, lines_named}
-use Rattle.case_figures.proofs.Each.{all_of, each_map, each_that_passes, each_flat, map_each, few_that_pass}
+use Rattle.case_figures.proofs.Each.{each_flat}
 
 module _ (f : ℕ) (c : CaseRows) (t : StockList) where
   abbrev item : ℕ → ℕ → Item f

@@ -4,8 +4,9 @@ use Rattle.std.specs.List.{fold, AllByRecursion}
 use Rattle.std.proofs.Math.Nat.{suc-mul}
 use Rattle.std.proofs.lemmas.Nat.{mul-le}
 use Rattle.std.proofs.lemmas.List.Sums.{sum_by-cons}
+use Rattle.list_laws.proofs.Public.{ceil_most}
 use Rattle.fixed_interval.specs.Ends.{Ends, IsWithinLimit, ends_exact, ends_add, ends_mul, ends_times, ends_power}
-use Rattle.fixed_interval.proofs.Public.{ceil_most, unit_most}
+use Rattle.fixed_interval.proofs.Public.{unit_most}
 use Rattle.availability.specs.declared.Weighted.{Weighted}
 use Rattle.availability.specs.Profile.{filled_ends, factor_ends, base_ends, weighted_sum, all_systems, fleet_ends}
 use Rattle.availability.proofs.Public.{product_most}

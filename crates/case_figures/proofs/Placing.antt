@@ -1,10 +1,11 @@
 -- Values that are put at their places: what a place holds afterwards.
-use Rattle.std.proofs.Common.{◌≡◌, ◌≢◌, ℕ, zero, suc, ◌+◌, ◌<◌, ◌≤◌, ◌⊎◌, Bool, true, false, cond, List, [], ◌∷◌, ◌++◌, length, get_or, filter, map, inl, inr, refl, sym, ap, ◌∙◌, subst, arith}
+use Rattle.std.proofs.Common.{◌≡◌, ◌≢◌, ℕ, zero, suc, ◌+◌, ◌<◌, ◌≤◌, Bool, true, false, cond, List, [], ◌∷◌, ◌++◌, length, get_or, filter, map, inl, inr, refl, sym, ap, ◌∙◌, subst, arith}
 use Rattle.std.specs.Prelude.{slice_set, flat_map}
 use Rattle.std.specs.List.{fold, range_with_len}
 use Rattle.std.proofs.lemmas.Bool.{cases_order}
 use Rattle.std.proofs.lemmas.Grind.{fold-append}
 use Rattle.std.proofs.lemmas.List.{get_or-set_same, get_or-set_other, length-set}
+use Rattle.list_laws.proofs.Public.{first_or_later}
 
 module _ {A : Type 0} (place : A → ℕ) (value : ℕ → A) (count : ℕ) (d : A) where
   abbrev pub put : List A → A → List A
@@ -75,9 +76,6 @@ module _ {A : Type 0} (place : A → ℕ) (value : ℕ → A) (count : ℕ) (d :
   fills_behind i x xs f = record { fills = λ zs l. f.fills (put zs x) (length-set zs (place x) x ∙ l) }
 
   -- ---- values for each number of a range
-
-  first_or_later : (a j : ℕ) → a ≤ j → (j ≡ a) ⊎ (a + 1 ≤ j)
-  first_or_later a j h = grind arith
 
   -- a list of values, each that of its place, keeps what places hold
   pub keeps_map : (h : ℕ → A) (n a : ℕ) → ((k : ℕ) → k < a + n → IsAt (h k)) → Keeps (map h (range_with_len a n))

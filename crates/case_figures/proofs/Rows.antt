@@ -1,9 +1,9 @@
 -- What the rows of a case allow, and how loops read and push.
-use Rattle.std.proofs.Common.{◌≡◌, ℕ, ◌+◌, ◌-◌, ◌<◌, ◌≤◌, ◌==◌, true, false, not, List, [], ◌∷◌, ◌++◌, length, get_or, map, take, sym, ap, ap₂, ◌∙◌, subst, arith}
+use Rattle.std.proofs.Common.{◌≡◌, ℕ, ◌+◌, ◌-◌, ◌<◌, ◌≤◌, ◌==◌, true, false, not, List, [], ◌∷◌, ◌++◌, length, get_or, map, sym, ap, ap₂, ◌∙◌, subst, arith}
 use Rattle.std.specs.Prelude.{All}
 use Rattle.std.specs.List.{range_with_len}
 use Rattle.std.proofs.lemmas.Bool.Decides.{nat_tests}
-use Rattle.std.proofs.lemmas.List.{get_or_read, map_more, take_all}
+use Rattle.std.proofs.lemmas.List.{get_or_read}
 use Rattle.std.proofs.lemmas.List.Elements.{All-push}
 use Rattle.std.proofs.lemmas.List.FromFn.{map-range_with_len_more}
 use Rattle.spares_input.specs.Rows.{is_line, IsSiteRow, IsPartRow}
@@ -32,15 +32,6 @@ pushed h k old new x l e f v =
     let more : k - 1 + 1 ≡ k + 1 - 1 = omega arith in
     e ∙ ap₂ (λ (xs : List _) (y : _). xs ++ y ∷ []) f v ∙ sym (map-range_with_len_more h 1 (k - 1) k (omega arith))
     ∙ ap (λ n. map h (range_with_len 1 n)) more
-
--- a value for one entry more of a list
-pub pushed_next : {A B : Type 0} (h : A → B) (xs : List A) (n : ℕ) (d : A) (old new : List B) (y : B) → n < length xs → new ≡ old ++ y ∷ [] → old ≡ map h (take n xs)
-    → y ≡ h (get_or xs n d) → new ≡ map h (take (n + 1) xs)
-pushed_next h xs n d old new y l e f v = e ∙ ap₂ (λ (ys : List _) (z : _). ys ++ z ∷ []) f v ∙ sym (map_more h xs n d l)
-
--- the values for all entries of a list
-pub pushed_all : {A B : Type 0} (h : A → B) (xs : List A) (n : ℕ) (made : List B) → length xs ≤ n → made ≡ map h (take n xs) → made ≡ map h xs
-pushed_all h xs n made l e = e ∙ ap (map h) (take_all n xs l)
 
 -- what holds of all entries and of one more
 pub pushed_has : {A : Type 0} (P : A → Type 0) (old new : List A) (x : A) → new ≡ old ++ x ∷ [] → All P old → P x → All P new

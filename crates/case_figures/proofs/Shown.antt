@@ -7,6 +7,7 @@ use Rattle.std.proofs.lemmas.Bool.{eqb-true, or_cases}
 use Rattle.std.proofs.lemmas.Nat.{mul-le}
 use Rattle.std.proofs.lemmas.List.{get_or-map, length-map}
 use Rattle.std.proofs.lemmas.List.FromFn.{get_or-map-range_with_len, length-map-range_with_len}
+use Rattle.list_laws.proofs.Public.{all_of, each_in_range, each_map, each_that_passes, few_that_pass}
 use Rattle.exact_model.specs.Fraction.{Fraction, Encloses}
 use Rattle.fixed_interval.specs.Ends.{Ends, InScale, ends_exact}
 use Rattle.spares_input.specs.Rows.{is_line}
@@ -24,7 +25,7 @@ use Rattle.family_items.specs.declared.item.Item.{Item}
 use Rattle.family_items.specs.Encloses.{CanEvaluate, EnclosesItem, IsSmallItem, no_item}
 use Rattle.family_items.specs.Profile.{item_of}
 use Rattle.family_items.specs.Profile as evaluated
-use Rattle.family_items.proofs.Public.{item_in, item_small, evaluable, family_in, family_small, each_in_range}
+use Rattle.family_items.proofs.Public.{item_in, item_small, evaluable, family_in, family_small}
 use Rattle.case_figures.specs.Fits.{SpanFits, ItemFits, BaseFits, FitsPrint}
 use Rattle.case_figures.specs.Spans.{places, ends, span_of}
 use Rattle.fixed_interval.specs.Widths.{IsWidth}
@@ -32,7 +33,6 @@ use Rattle.fixed_interval.proofs.Public.{unit_most}
 use Rattle.case_figures.specs.Figures.{named, item_at_place, all_items, factor_at, availability_at, availability_line, weighted_at, fleet_of, case_total_of, figures_of}
 use Rattle.case_figures.specs.Shows.{ShowsSpan, ShowsItem, ShowsBase, ShowsFigures, no_item_line, no_base_line}
 use Rattle.case_figures.proofs.Covering.{item_pair, at_place, pair_within}
-use Rattle.case_figures.proofs.Each.{all_of, each_map, each_that_passes, few_that_pass}
 use Rattle.case_figures.proofs.Enclosing.{availability_in, fleet_at_in, fleet_has_systems, total_at_in}
 use Rattle.case_figures.proofs.Limits.{factor_most, base_most, fleet_most, sum_most}
 

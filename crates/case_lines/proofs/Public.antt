@@ -7,4 +7,3 @@ pub use Rattle.case_lines.proofs.Rows.{fits_at}
 pub use Rattle.case_lines.proofs.Shape.{case_is_exact}
 pub use Rattle.case_lines.proofs.Taken.{gathers_next}
 pub use Rattle.case_lines.proofs.Valid.{case_fits, in_range_holds, range_parts}
-pub use Rattle.case_lines.proofs.Written.{after_ok, back}

@@ -9,7 +9,7 @@ use Rattle.line_text.specs.Formats.{Token, Format, one, and_then, fits_after}
 use Rattle.line_text.specs.Files.{line, comma, unended}
 use Rattle.line_text.specs.Texts.{number, word, count_fields, count_line, numbers_from, Either, Left, Right, only}
 use Rattle.line_text.specs.Exact.{IsExact, IsField, IsLine}
-use Rattle.line_text.proofs.Public.{one_is_exact, both_are_exact, as_shape_is_exact, each_after_is_exact, length_after, all_are, line_is_exact, split_of, unended_again, number_is_exact, word_is_exact, a_field, count_fields_are_exact, one_for_each_is_exact, length_numbers_from, either_is_exact}
+use Rattle.line_text.proofs.Public.{one_is_exact, both_are_exact, as_shape_is_exact, each_after_is_exact, length_after, line_is_exact, split_of, unended_again, number_is_exact, word_is_exact, a_field, count_fields_are_exact, one_for_each_is_exact, length_numbers_from, either_is_exact}
 use Rattle.spares_input.specs.Names.{is_name}
 use Rattle.spares_input.specs.Frames.{site_at, part_at}
 use Rattle.spares_input.specs.declared.rows.SiteRow.{SiteRow}
@@ -18,6 +18,7 @@ use Rattle.case_lines.specs.Grammar.{depot_fields, base_fields, site_line, sites
 use Rattle.case_lines.proofs.Valid.{part_fields_fit}
 use Rattle.case_lines.proofs.Exact.{sites_are_exact, part_line_is_exact, rate_line_is_exact}
 use lib.Chars.{codes}
+use Rattle.list_laws.proofs.Public.{all_are}
 
 -- ---- the line before the parts
 

@@ -1,10 +1,11 @@
 -- What is written is the text of the format.
-use Rattle.std.specs.Prelude.{not, is_some, is_none, Result, Ok, Err, OnOk}
+use Rattle.std.specs.Prelude.{not, is_some, is_none}
 use Rattle.std.proofs.Common.{◌≡◌, ℕ, Bool, true, false, List, [], ◌∷◌, ◌++◌, length, Option, Some, None, refl, sym, ap, ◌∙◌, append_assoc}
 use Rattle.std.proofs.lemmas.List.{append-nil}
 use Rattle.std.proofs.lemmas.List.Folds.{concat-append}
 use Rattle.std.specs.Fmt.{decimal}
 use Rattle.std.specs.List.{concat}
+use Rattle.list_laws.proofs.Public.{joined_more}
 use Rattle.line_text.specs.Files.{line, file_text}
 use Rattle.fixed_interval.specs.Text.{fixed_text}
 use Rattle.spares_input.specs.declared.rows.SiteRow.{SiteRow}
@@ -56,10 +57,6 @@ parts_printed rows = parts_at (are_weighted rows) (length rows) rows
 
 -- ---- one write after the other
 
--- what was written last, with what was written before it
-pub back : (new o p y s : List ℕ) → o ≡ p ++ y → new ≡ o ++ s → new ≡ p ++ (y ++ s)
-back new o p y s h e = e ∙ ap (λ (z : List ℕ). z ++ s) h ∙ append_assoc p y s
-
 -- seven fields and a line feed, written one after the other
 pub seven_steps : (out o1 o2 o3 o4 o5 o6 o7 o8 o9 o10 o11 o12 o13 a b c d e f g : List ℕ)
     → o1 ≡ out ++ a → o2 ≡ o1 ++ 44 ∷ [] → o3 ≡ o2 ++ b → o4 ≡ o3 ++ 44 ∷ [] → o5 ≡ o4 ++ c → o6 ≡ o5 ++ 44 ∷ [] → o7 ≡ o6 ++ d → o8 ≡ o7 ++ 44 ∷ [] → o9 ≡ o8 ++ e → o10 ≡ o9 ++ 44 ∷ []
@@ -78,18 +75,18 @@ seven_steps out o1 o2 o3 o4 o5 o6 o7 o8 o9 o10 o11 o12 o13 a b c d e f g h1 h2 h
     let s4 = 44 ∷ s5 in
     let s3 = b ++ s4 in
     let s2 = 44 ∷ s3 in
-    let e12 = back o13 o12 o11 g (10 ∷ []) h12 h13 in
-    let e11 = back o13 o11 o10 f s12 h11 e12 in
-    let e10 = back o13 o10 o9 comma s11 h10 e11 in
-    let e9 = back o13 o9 o8 e s10 h9 e10 in
-    let e8 = back o13 o8 o7 comma s9 h8 e9 in
-    let e7 = back o13 o7 o6 d s8 h7 e8 in
-    let e6 = back o13 o6 o5 comma s7 h6 e7 in
-    let e5 = back o13 o5 o4 c s6 h5 e6 in
-    let e4 = back o13 o4 o3 comma s5 h4 e5 in
-    let e3 = back o13 o3 o2 b s4 h3 e4 in
-    let e2 = back o13 o2 o1 comma s3 h2 e3 in
-    back o13 o1 out a s2 h1 e2
+    let e12 = joined_more o11 g (10 ∷ []) o12 o13 h12 h13 in
+    let e11 = joined_more o10 f s12 o11 o13 h11 e12 in
+    let e10 = joined_more o9 comma s11 o10 o13 h10 e11 in
+    let e9 = joined_more o8 e s10 o9 o13 h9 e10 in
+    let e8 = joined_more o7 comma s9 o8 o13 h8 e9 in
+    let e7 = joined_more o6 d s8 o7 o13 h7 e8 in
+    let e6 = joined_more o5 comma s7 o6 o13 h6 e7 in
+    let e5 = joined_more o4 c s6 o5 o13 h5 e6 in
+    let e4 = joined_more o3 comma s5 o4 o13 h4 e5 in
+    let e3 = joined_more o2 b s4 o3 o13 h3 e4 in
+    let e2 = joined_more o1 comma s3 o2 o13 h2 e3 in
+    joined_more out a s2 o1 o13 h1 e2
 
 -- what is false exactly where there is a value says that there is none
 pub is_none_of : {A : Type 0} (o : Option A) (b : Bool) → is_some o ≡ not b → b ≡ is_none o
@@ -120,10 +117,3 @@ rate_printed i p j s r = rate_is (is_none p.parent) s.depot i j p.name s.name r
 -- bytes with none appended are the same bytes
 pub nothing_more : (o : List ℕ) → o ≡ o ++ []
 nothing_more o = sym (append-nil o)
-
--- ---- parts of a file
-
--- where one thing follows from another, a success that promises the one promises the other
-pub after_ok : {T E : Type 0} {P Q : Type 0} (r : Result T E) → (P → Q) → OnOk r P → OnOk r Q
-after_ok (Ok v) f h = f h
-after_ok (Err e) f h = h

@@ -1,4 +1,5 @@
--- The bytes of fields that a line has or leaves empty, and of the lines that have them.
+-- The bytes of fields that a line has or leaves empty, and of the lines that have them. No promise of the crate rests
+-- on these words.
 use Rattle.std.specs.Prelude.{ℕ, Bool, not, ◌&&◌, List, [], ◌∷◌, ◌++◌, Option, Some, None, if◌then◌else◌}
 use Rattle.std.specs.Fmt.{decimal}
 use Rattle.fixed_interval.specs.Text.{fixed_text}

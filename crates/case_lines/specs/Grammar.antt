@@ -4,7 +4,7 @@ use Rattle.std.specs.List.{list_any}
 use Rattle.line_text.specs.Formats.{Format, one, and_then, as_shape, each_after}
 use Rattle.line_text.specs.Files.{line}
 use Rattle.line_text.specs.Texts.{number, fixed, plain, word, no_field, empty_field, count_fields, counted, one_for_each, numbers_from, Either, Left, Right, either, if_any, only}
-use Rattle.spares_input.specs.Limits.{most_parts}
+use Rattle.spares_input.specs.Limits.{most_sites, most_parts, most_stock, most_part_cost, most_days}
 use Rattle.spares_input.specs.Names.{is_name}
 use Rattle.spares_input.specs.Frames.{site_at, part_at}
 use Rattle.spares_input.specs.Cases.{CaseRows}
@@ -37,7 +37,7 @@ chance_if has = fixed_if has 4 10000
 
 -- days, with 2 decimals
 abbrev pub days_field : Format ℕ
-days_field = one (fixed 2 0 999999)
+days_field = one (fixed 2 0 most_days)
 
 -- ---- sites: the first is the depot, and the others are bases
 
@@ -64,7 +64,7 @@ site_line k = if k == 0 then one (line depot_fields) else one (line base_fields)
 
 -- the number of sites, and then a line for each
 abbrev pub sites : Format (List SiteRow)
-sites = counted (codes "sites") 2 16 site_line
+sites = counted (codes "sites") 2 most_sites site_line
 
 -- ---- parts: one without a parent is a line unit
 
@@ -74,7 +74,7 @@ parent_field = one (if_any (plain is_name))
 
 -- the largest stock of a part at a site
 abbrev pub limit_field : Format ℕ
-limit_field = one (number 0 63)
+limit_field = one (number 0 most_stock)
 
 -- the weight of a part if no weights are written
 abbrev pub usual : Bool → ℕ
@@ -89,7 +89,7 @@ abbrev pub part_fields : Bool → Format PartRow
 part_fields weighted =
     as_shape
     (and_then name_field (λ _. and_then parent_field
-    (λ parent. and_then (one (number 1 100000000))
+    (λ parent. and_then (one (number 1 most_part_cost))
     (λ _. and_then (number_if (is_none parent) 1 100)
     (λ _. and_then limit_field (λ _. and_then limit_field (λ _. weight_field weighted (is_none parent))))))))
     (λ x. record {

@@ -12,7 +12,7 @@ use crate::parts::are_weighted;
 use crate::read_fields::{name_in, number_if, parent_in};
 use answers::Stop;
 use line_text::{BadLine, Fields, Lines, count_line};
-use spares_input::PartRow;
+use spares_input::{MOST_PART_COST, MOST_PARTS, MOST_STOCK, PartRow};
 use std::alloc::Global;
 
 /// Takes the weight if weights are written; otherwise a line unit has 1 and a shop unit 0.
@@ -32,10 +32,10 @@ fn part_of(fields: &mut Fields<'_>, weighted: bool) -> Option<PartRow>
     let name = name_in(fields)?;
     let parent = parent_in(fields)?;
     let is_line = parent.is_none();
-    let cost = fields.number(1, 100_000_000)?;
+    let cost = fields.number(1, MOST_PART_COST as u128)?;
     let per_system = number_if(fields, is_line, 1, 100)?;
-    let max_depot = fields.number(0, 63)?;
-    let max_base = fields.number(0, 63)?;
+    let max_depot = fields.number(0, MOST_STOCK as u128)?;
+    let max_base = fields.number(0, MOST_STOCK as u128)?;
     let weight = weight_in(fields, weighted, is_line)?;
     Some(PartRow {
         name,
@@ -117,7 +117,7 @@ fn weights_of(fields: &mut Fields<'_>) -> Option<u128>
     ensures { Takes (λ n. n) result fields.new (weights_fields.read fields.old) }
 {
     fields.word(b"parts")?;
-    let count = fields.number(1, 2000)?;
+    let count = fields.number(1, MOST_PARTS as u128)?;
     fields.word(b"weights")?;
     Some(count)
 }
@@ -136,7 +136,7 @@ fn weights_line(lines: &mut Lines<'_>) -> Result<u128, BadLine>
 fn parts_line(lines: &mut Lines<'_>) -> Result<(bool, u128), BadLine>
     ensures { Reads (λ h. header h.0 h.1) result lines.new (parts_line.read lines.old) }
 {
-    match count_line(lines, b"parts", 0, 2000) {
+    match count_line(lines, b"parts", 0, MOST_PARTS as u128) {
         Ok(count) => Ok((false, count)),
         Err(BadLine) => {
             let count = weights_line(lines)?;

@@ -4,7 +4,7 @@ ghost use Rattle.std.specs.Prelude.{◌≤◌, ◌<◌, ◌*◌, length};
 ghost use Rattle.line_text.specs.Formats.{each};
 ghost use Rattle.line_text.specs.Texts.{numbers_from};
 ghost use Rattle.line_text.specs.Reading.{Reads, Gathers, Takes};
-ghost use Rattle.spares_input.specs.Limits.{most_parts};
+ghost use Rattle.spares_input.specs.Limits.{most_sites, most_parts};
 ghost use Rattle.case_lines.specs.Rates.{pair_rates};
 ghost use Rattle.case_lines.specs.Grammar.{pair_of, pair_at, rate_fields, rate_line, rates};
 
@@ -12,7 +12,7 @@ use crate::rates::has_demand;
 use crate::read_fields::fixed_if;
 use answers::Stop;
 use line_text::{BadLine, Fields, Lines, count_line};
-use spares_input::{PartId, PartRow, RateRow, SiteId, SiteRow};
+use spares_input::{MOST_DAYS, PartId, PartRow, RateRow, SiteId, SiteRow};
 use std::alloc::Global;
 
 /// Takes `PART,SITE,DEMAND,REPAIR_HERE,SHARE,DAYS`; a field that the pair lacks is empty.
@@ -32,7 +32,7 @@ fn rate_of(
     let demand = fixed_if(fields, has_demand(is_line, place.depot), 4, 1_000_000_000)?;
     let repair_here = fixed_if(fields, !place.depot, 4, 10_000)?;
     let share = fixed_if(fields, !is_line, 4, 10_000)?;
-    let repair_days = fields.fixed(2, 0, 999_999)?;
+    let repair_days = fields.fixed(2, 0, MOST_DAYS as u128)?;
     Some(RateRow {
         part,
         site,
@@ -68,7 +68,7 @@ fn rate_at(
     i: usize,
 ) -> Result<RateRow, BadLine>
     requires some_sites { 0 < length sites.now }
-    requires few_sites { length sites.now ≤ 16 }
+    requires few_sites { length sites.now ≤ most_sites }
     requires few_parts { length parts.now ≤ most_parts }
     requires within { i < length parts.now * length sites.now }
     ensures { Reads (λ r. r) result lines.new ((rate_line (pair_at sites.now parts.now i)).read lines.old) }
@@ -92,7 +92,7 @@ fn each_rate(
     parts: &[PartRow],
 ) -> Result<Vec<RateRow>, Stop<BadLine>>
     requires some_sites { 0 < length sites.now }
-    requires few_sites { length sites.now ≤ 16 }
+    requires few_sites { length sites.now ≤ most_sites }
     requires few_parts { length parts.now ≤ most_parts }
     ensures { Gathers (λ v. v.items) result lines.new
         ((each (numbers_from 0 (length parts.now * length sites.now))
@@ -115,7 +115,7 @@ fn counted_rates(
     parts: &[PartRow],
 ) -> Result<Vec<RateRow>, Stop<BadLine>>
     requires some_sites { 0 < length sites.now }
-    requires few_sites { length sites.now ≤ 16 }
+    requires few_sites { length sites.now ≤ most_sites }
     requires few_parts { length parts.now ≤ most_parts }
     ensures { Gathers (λ v. v.items) result lines.new
         ((pair_rates (length parts.now * length sites.now)
@@ -134,7 +134,7 @@ pub(crate) fn rates(
     parts: &[PartRow],
 ) -> Result<Vec<RateRow>, Stop<BadLine>>
     requires some_sites { 0 < length sites.now }
-    requires few_sites { length sites.now ≤ 16 }
+    requires few_sites { length sites.now ≤ most_sites }
     requires few_parts { length parts.now ≤ most_parts }
     ensures { Gathers (λ v. v.items) result lines.new ((rates sites.now parts.now).read lines.old) }
 {

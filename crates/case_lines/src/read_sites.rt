@@ -9,7 +9,7 @@ ghost use Rattle.case_lines.specs.Grammar.{depot_fields, base_fields, site_line,
 use crate::read_fields::name_in;
 use answers::Stop;
 use line_text::{BadLine, Fields, Lines, count_line};
-use spares_input::SiteRow;
+use spares_input::{MOST_DAYS, MOST_SITES, SiteRow};
 use std::alloc::Global;
 
 /// Takes `NAME,depot,,`.
@@ -35,7 +35,7 @@ fn base_of(fields: &mut Fields<'_>) -> Option<SiteRow>
     let name = name_in(fields)?;
     fields.word(b"base")?;
     let systems = fields.number(1, 10_000)?;
-    let ship = fields.fixed(2, 0, 999_999)?;
+    let ship = fields.fixed(2, 0, MOST_DAYS as u128)?;
     Some(SiteRow {
         name,
         depot: false,
@@ -95,6 +95,6 @@ fn each_site(
 pub(crate) fn sites(alloc: Global, lines: &mut Lines<'_>) -> Result<Vec<SiteRow>, Stop<BadLine>>
     ensures { Gathers (λ v. v.items) result lines.new (sites.read lines.old) }
 {
-    let count = count_line(lines, b"sites", 2, 16)?;
+    let count = count_line(lines, b"sites", 2, MOST_SITES as u128)?;
     each_site(alloc, lines, count as usize)
 }

@@ -1,8 +1,9 @@
 -- The families of a case, one after another.
-use Rattle.std.proofs.Common.{◌≡◌, ℕ, zero, suc, ◌+◌, ◌*◌, ◌<◌, ◌≤◌, Bool, true, false, cond, List, [], ◌∷◌, ◌++◌, length, map, filter, get_or, slice_index, refl, sym, ap, ap₂, ◌∙◌, subst, arith, mul-le-mul_right}
+use Rattle.std.proofs.Common.{◌≡◌, ℕ, zero, suc, ◌+◌, ◌*◌, ◌<◌, ◌≤◌, Bool, true, false, cond, List, [], ◌∷◌, ◌++◌, length, map, filter, get_or, slice_index, refl, sym, ap, ap₂, ◌∙◌, subst, arith}
 use Rattle.std.specs.List.{range_with_len, AllZip}
 use Rattle.std.proofs.lemmas.List.{map_push, ext_get_or, get_or-map, length-map, length-append, take_more, take_all}
 use Rattle.std.proofs.lemmas.Bool.{false≢true}
+use Rattle.list_laws.proofs.Public.{kept_more, left_out}
 use Rattle.hull.specs.declared.point.Point.{Point}
 use Rattle.hull.specs.Curves.{Among}
 use Rattle.hull.proofs.Public.{among_at, range_has}
@@ -15,7 +16,7 @@ use Rattle.fleet_model.specs.Rows.{stock, line_units}
 use Rattle.fleet_model.specs.Fleet.{family}
 use Rattle.fleet_model.proofs.Public.{stock_holds}
 use Rattle.family_items.specs.Inputs.{IsLine}
-use Rattle.family_items.proofs.Public.{kept_more, left_out}
+use Rattle.family_items.proofs.Public.{pair_in}
 use Rattle.family_points.specs.Vectors.{Pair, places, vector_of, site_part}
 use Rattle.step_walk.specs.Prefix.{vertex_at, picked}
 use Rattle.price_bounds.specs.Soundness.{stocks_of}
@@ -187,16 +188,6 @@ here c valid curves picks s p f h k e widths a =
     below_most : (t : ℕ → Bool) (a m : ℕ) → length (filter t (range_with_len a m)) ≤ m
     below_most t a zero = omega arith
     below_most t a (suc m) = below_step (t a) a (filter t (range_with_len (a + 1) m)) m (below_most t (a + 1) m)
-
--- Stocks of a case have the pair of each of its parts and sites.
-pub pair_in : (c : CaseRows) (s : StockList) (q k : ℕ) → IsFor c s → q < length c.parts → k < length c.sites → HasPair s q k
-pair_in c s q k h lq lk = record {
-  site = subst (λ n. k < n) (sym h.sites) lk;
-  within = subst (λ n. q * n + k < length s.list) (sym h.sites) (let e = h.pairs in let m : (q + 1) * length c.sites ≤ length c.parts * length c.sites = rows q (length c.parts) (length c.sites) lq in omega (arith, e, m, lk));
-}
-  where
-    rows : (q m n : ℕ) → q < m → (q + 1) * n ≤ m * n
-    rows q m n h = (let l : q + 1 ≤ m = omega (arith, h) in mul-le-mul_right n l)
 
 -- each of a family's units has its pairs
 pub unit_pair : (c : CaseRows) (s : StockList) (units : List PartId) (p i k : ℕ) (d : PartId) → IsCase c → IsFor c s → p < length c.parts → is_line_at c p ≡ true → ids units ≡ family c p → i < length units → k < length c.sites

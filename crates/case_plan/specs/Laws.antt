@@ -2,6 +2,7 @@
 use Rattle.std.specs.Prelude.{◌≡◌, ℕ, ◌≤◌, ◌↔◌, [], List, length, All}
 use Rattle.hull.specs.Limits.{most_price_units, most_price_money, most_floor, most_total}
 use Rattle.hull.specs.Scores.{EnclosesValue, LeavesRoom}
+use Rattle.spares_input.specs.Limits.{most_stock}
 use Rattle.spares_input.specs.Cases.{CaseRows, IsCase}
 use Rattle.fleet_model.specs.Rows.{line_units}
 use Rattle.family_points.specs.Points.{ScoreEnds, plain_ends}
@@ -53,7 +54,7 @@ pub record FitsItsPlace (c : CaseRows) (p : CasePlan) : Type 0 where
   pub most_money : p.numbers.price.q ≤ most_price_money
   pub floor_count : length p.floors ≡ length (line_units c)
   pub floors_most : All (λ floor. floor ≤ most_floor) p.floors
-  pub stocks_most : All (λ stock. stock ≤ 63) p.stocks
+  pub stocks_most : All (λ stock. stock ≤ most_stock) p.stocks
   pub upper : p.numbers.upper ≤ most_total
   pub bound : p.numbers.bound ≤ most_total
   pub gap : p.numbers.gap ≤ most_total

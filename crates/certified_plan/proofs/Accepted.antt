@@ -8,6 +8,7 @@ use Rattle.std.specs.Option.{option_map}
 use Rattle.std.proofs.lemmas.Nat.{div-add-mod'}
 use Rattle.std.proofs.lemmas.List.Sums.{sum_by-cons}
 use Rattle.std.proofs.Math.Nat.{mod-lt, div-lt_iff_lt-mul}
+use Rattle.list_laws.proofs.Public.{else_none}
 use Rattle.answers.specs.Counts.{count64}
 use Rattle.hull.specs.declared.point.Point.{Point}
 use Rattle.hull.specs.declared.price.Price.{Price}
@@ -37,7 +38,7 @@ use Rattle.gap_rules.specs.Covers.{leaves}
 use Rattle.gap_rules.specs.Trees.{leaves_of}
 use Rattle.gap_rules.specs.Values.{value_of_leaf, cover_tables}
 use Rattle.gap_rules.specs.Refusals.{case_family_count, cover_of, family_leaves, gap_at, family_tables, check_work_of, over_limit, too_low, below_held, case_cost_above, leaf_value, low_reject_at, reject_of}
-use Rattle.gap_rules.proofs.Public.{added_is, none_broken, trees_are_read, else_none}
+use Rattle.gap_rules.proofs.Public.{added_is, none_broken, trees_are_read}
 use Rattle.price_certificate.specs.declared.certificate.Terms.{Terms}
 use Rattle.gap_rules.specs.Scores as scores
 use Rattle.gap_rules.specs.Scores.{ends_of}

@@ -2,13 +2,14 @@
 use Rattle.std.proofs.Common.{◌≡◌, refl, ℕ, ◌+◌, ◌-◌, ◌*◌, ◌≤◌, inl, inr, List, [], length, replicate, None, sym, ap, ◌∙◌, subst, arith}
 use Rattle.std.proofs.lemmas.List.{get_or-replicate, get_or_past, length-replicate}
 use Rattle.std.proofs.lemmas.Bool.{cases_lt}
+use Rattle.list_laws.proofs.Public.{map_none, sum_each}
 use Rattle.hull.specs.Scores.{EnclosesValue}
 use Rattle.spares_input.specs.Frames.{part_at}
 use Rattle.spares_input.specs.Cases.{CaseRows, frame_rows, pair_count}
 use Rattle.spares_input.specs.Stocks.{StockList, IsFor, nothing_held}
 use Rattle.fleet_model.specs.Rows.{all_parts, all_sites, stock}
 use Rattle.fleet_model.specs.Aims.{Value, weighted_backorders, part_cost_beyond, cost_beyond}
-use Rattle.fleet_model.proofs.Public.{sum_each, plain_words}
+use Rattle.fleet_model.proofs.Public.{plain_words}
 use Rattle.family_points.specs.Points.{ScoreEnds, plain_ends}
 use Rattle.fleet_plan.specs.Plans.{AreTrueClaims, ArePlainClaims}
 use Rattle.fleet_plan.specs.Laws.{IsAcceptedCase}
@@ -16,7 +17,7 @@ use Rattle.fleet_plan.proofs.Public.{claims_true, from_points, plain_encloses}
 use Rattle.price_certificate.specs.declared.certificate.Certificate.{Certificate}
 use Rattle.price_certificate.specs.Certificates.{IsWellFormed}
 use Rattle.gap_rules.specs.Refusals.{reject_of}
-use Rattle.gap_rules.proofs.Public.{accepted_are_acceptable, breaks_none, map_none}
+use Rattle.gap_rules.proofs.Public.{accepted_are_acceptable, breaks_none}
 use Rattle.certified_plan.specs.Accepted.{case_claims_of}
 
 -- what a certificate claims is true of its case, where it breaks no rule and its score encloses the value

@@ -10,7 +10,6 @@ pub mod Made
 pub mod Accepted
 pub mod Nearest
 pub mod Zeros
-pub mod Widths
 pub mod Sizes
 pub mod Short
 pub mod Believed

@@ -3,10 +3,10 @@ use Rattle.std.proofs.Common.{◌≡◌, ℕ, suc, ◌+◌, ◌-◌, ◌*◌, �
 use Rattle.std.specs.Prelude.{⊤, ◌==◌, nat_le}
 use Rattle.std.specs.List.{AllByRecursion}
 use Rattle.std.proofs.lemmas.List.{length-append}
+use Rattle.list_laws.proofs.Public.{each_append}
 use Rattle.price_certificate.specs.declared.place.Place.{Place}
 use Rattle.price_certificate.specs.Certificates.{IsNode}
 use Rattle.price_certificate.specs.Covers.{Tree, Whole, Cost, Cut, Corner, put, IsLawful, nodes_of, reach, trimmed_from, trimmed}
-use Rattle.family_items.proofs.Public.{each_append}
 
 -- ---- one leaf is shown whole
 

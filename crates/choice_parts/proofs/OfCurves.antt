@@ -1,22 +1,15 @@
 -- Families have curves, and the parts of families are parts of these.
 use Rattle.std.proofs.Common.{ℕ, zero, suc, ◌<◌, List, [], ◌∷◌, length, refl, arith}
 use Rattle.hull.specs.declared.point.Point.{Point}
-use Rattle.hull.specs.declared.price.Price.{Price}
 use Rattle.hull.specs.Curves.{IsCurve}
 use Rattle.hull.proofs.Public.{convex}
 use Rattle.step_walk.specs.Prefix.{HaveShapes, curve_at}
 use Rattle.step_walk.proofs.Public.{rises_at}
 use Rattle.marginal_alloc.specs.Choice.{AreCurves}
-use Rattle.curve_parts.proofs.Public.{has_curve, part_is_cut, part_some, part_is_whole}
+use Rattle.curve_parts.proofs.Public.{curve_some, has_curve, part_is_cut}
 use Rattle.choice_parts.specs.Parts.{AreFamilies}
 use Rattle.choice_parts.specs.Laws.{CurvesExist, PartsAreOfCurves}
 use Rattle.choice_parts.proofs.Placing.{HasPlaces, places}
-
--- the curve of points has a vertex
-pub curve_some : (points curve : List Point) → 0 < length points → IsCurve points curve → 0 < length curve
-curve_some points curve some is =
-    part_some (let p : Price = record { p = 0; q = 1 } in p) (let p : Price = record { p = 1; q = 0 } in p) points curve some
-    (record { steep = omega arith; money = omega arith; order = omega arith }) ((part_is_whole points curve).1 is)
 
 more_curves : (x c : List Point) (xs cs : List (List Point)) → IsCurve x c → AreCurves xs cs → AreCurves (x ∷ xs) (c ∷ cs)
 more_curves x c xs cs here rest = record { count = (let n = rest.count in omega (arith, n)); each = each }

@@ -2,7 +2,8 @@
 use Rattle.std.proofs.Common.{◌≡◌, ℕ, zero, suc, ◌+◌, ◌-◌, ◌*◌, ◌<◌, ◌≤◌, ◌⊎◌, inl, inr, List, [], ◌∷◌, length, refl, sym, ap, ap₂, ◌∙◌, arith}
 use Rattle.std.specs.Prelude.{slice_index}
 use Rattle.std.proofs.lemmas.Bool.{cases_lt}
-use Rattle.std.proofs.Math.Nat.{mul-le-mul_left, mul-lt-mul_of_pos_left, lt_of_mul-lt-mul_left, le_of_mul-le-mul_left}
+use Rattle.std.proofs.Math.Nat.{mul-le-mul_left, le_of_mul-le-mul_left}
+use Rattle.list_laws.proofs.Public.{fraction_below, fractions_fall_on, some_of_less}
 use Rattle.hull.specs.declared.point.Point.{Point}
 use Rattle.hull.specs.declared.price.Price.{Price}
 use Rattle.hull.specs.Curves.{point_at}
@@ -20,24 +21,6 @@ shifted_at [] picks f e h = absurd (omega (arith, h))
 shifted_at (a ∷ froms) [] f e h = absurd (omega (arith, e))
 shifted_at (a ∷ froms) (k ∷ picks) zero e h = refl
 shifted_at (a ∷ froms) (k ∷ picks) (suc f) e h = shifted_at froms picks f (omega (arith, e)) (omega (arith, h))
-
--- a step that falls p/q per money or more comes before one that falls less
-at_least_then_less : (p q ff rf fg rg : ℕ) → 0 < rf → p * rf ≤ ff * q → fg * q < p * rg → fg * rf < ff * rg
-at_least_then_less p q ff rf fg rg some a b =
-    let x : rf * (fg * q) < rf * (p * rg) = mul-lt-mul_of_pos_left b some in
-    let y : rg * (p * rf) ≤ rg * (ff * q) = mul-le-mul_left rg a in
-    lt_of_mul-lt-mul_left q (let z : q * (fg * rf) < q * (ff * rg) = omega (arith, x, y) in z)
-
--- and one that falls more before one that falls as much or less
-more_then_at_most : (p q ff rf fg rg : ℕ) → 0 < rg → p * rf < ff * q → fg * q ≤ p * rg → fg * rf < ff * rg
-more_then_at_most p q ff rf fg rg some a b =
-    let x : rg * (p * rf) < rg * (ff * q) = mul-lt-mul_of_pos_left a some in
-    let y : rf * (fg * q) ≤ rf * (p * rg) = mul-le-mul_left rf b in
-    lt_of_mul-lt-mul_left q (let z : q * (fg * rf) < q * (ff * rg) = omega (arith, x, y) in z)
-
-some_of_less : (a b q : ℕ) → a < b * q → 0 < q
-some_of_less a b zero h = absurd (omega (arith, h))
-some_of_less a b (suc q) h = omega arith
 
 -- more than the high price is at least the low one
 above : (ph qh pl ql ff rf : ℕ) → pl * qh ≤ ph * ql → ph * rf < ff * qh → pl * rf ≤ ff * ql
@@ -108,13 +91,12 @@ module _ (low high : Price) (curves parts : List (List Point)) (froms picks : Li
       let from : slice_index froms g ≤ j = omega (arith, n, ag) in
       elim (cases_lt k (slice_index froms f)) [
         | inl early ↦ (let s = are.before f k hf early in elim (cases_lt (j + 1) (slice_index froms g + length (curve_at parts g))) [
-          | inl d ↦ inl (more_then_at_most high.p high.q (fall curves f k) (rise curves f k) (fall curves g j) (rise curves g j) rg s (are.flatter g j hg from d))
-          | inr late ↦ inl (at_least_then_less low.p low.q (fall curves f k) (rise curves f k) (fall curves g j) (rise curves g j) rf
-              (above high.p high.q low.p low.q (fall curves f k) (rise curves f k) are.order s) (are.behind g j hg late))
+          | inl d ↦ inl (fraction_below high.p high.q (fall curves g j) (rise curves g j) (fall curves f k) (rise curves f k) (are.flatter g j hg from d) s rg)
+          | inr late ↦ inl (fractions_fall_on (fall curves f k) (rise curves f k) low.p low.q (fall curves g j) (rise curves g j) (are.behind g j hg late) (above high.p high.q low.p low.q (fall curves f k) (rise curves f k) are.order s) rf)
         ])
         | inr a ↦ elim (cases_lt (j + 1) (slice_index froms g + length (curve_at parts g))) [
           | inl d ↦ inside f k g j hf hg a last from d (omega (arith, t, af)) (omega (arith, n, ag))
-          | inr late ↦ inl (at_least_then_less low.p low.q (fall curves f k) (rise curves f k) (fall curves g j) (rise curves g j) rf (are.steeper f k hf a last) (are.behind g j hg late))
+          | inr late ↦ inl (fractions_fall_on (fall curves f k) (rise curves f k) low.p low.q (fall curves g j) (rise curves g j) (are.behind g j hg late) (are.steeper f k hf a last) rf)
         ]
       ]
 
@@ -164,8 +146,7 @@ module _ (low high : Price) (curves parts : List (List Point)) (froms picks : Li
                   )
                 ])
               ]
-          | inr late ↦ inr (inl (at_least_then_less low.p low.q (fall curves f k) (rise curves f k) (fall curves g j) (rise curves g j) (are.rises f k own_step)
-              (are.steeper f k own_step (omega (arith, own_place)) (omega (arith, own_place, p))) (are.behind g j hg late)))
+          | inr late ↦ inr (inl (fractions_fall_on (fall curves f k) (rise curves f k) low.p low.q (fall curves g j) (rise curves g j) (are.behind g j hg late) (are.steeper f k own_step (omega (arith, own_place)) (omega (arith, own_place, p))) (are.rises f k own_step)))
         ]
 
     own_next : IsNextOfAll curves parts froms picks f

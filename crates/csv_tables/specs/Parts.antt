@@ -1,7 +1,7 @@
 -- The rows of the table of parts.
 use Rattle.std.specs.Prelude.{ℕ, Bool, ◌==◌, List, [], ◌∷◌, length, Option, Some, None, is_none, Result, Ok, if◌then◌else◌, codes}
 use Rattle.spares_input.specs.declared.rows.PartRow.{PartRow}
-use Rattle.spares_input.specs.Limits.{most_parts}
+use Rattle.spares_input.specs.Limits.{most_parts, most_stock, most_part_cost}
 use Rattle.csv_tables.specs.Rest.{Record, all_records}
 use Rattle.answers.specs.Steps.{◌>>=◌}
 use Rattle.csv_tables.specs.Fields.{field, has_none, name_in, number_in, used_in}
@@ -22,10 +22,10 @@ unfoldable pub part_of : ℕ → Record → Result PartRow TableFault
 part_of row r = do
   name ← name_in row 1 (field r 0)
   parent ← parent_in row 2 (field r 1)
-  cost ← number_in row 3 0 1 100000000 (field r 2)
+  cost ← number_in row 3 0 1 most_part_cost (field r 2)
   per_system ← used_in (is_none parent) row 4 0 1 100 (field r 3)
-  max_depot ← number_in row 5 0 0 63 (field r 4)
-  max_base ← number_in row 6 0 0 63 (field r 5)
+  max_depot ← number_in row 5 0 0 most_stock (field r 4)
+  max_base ← number_in row 6 0 0 most_stock (field r 5)
   weight ← weight_in (is_none parent) row r
   Ok (record {
     name = name;

@@ -2,6 +2,7 @@
 use Rattle.std.specs.Prelude.{◌≡◌, ℕ, ◌==◌, ◌&&◌, not, List, [], ◌∷◌, length, Option, Some, None, Result, Ok, Err, codes, if◌then◌else◌}
 use Rattle.std.specs.List.{slice_split}
 use Rattle.line_text.specs.Files.{comma}
+use Rattle.spares_input.specs.Limits.{most_pairs, most_days}
 use Rattle.spares_input.specs.Rows.{is_line}
 use Rattle.spares_input.specs.Frames.{FrameRows, part_at, part_names, place_of, site_names}
 use Rattle.spares_input.specs.declared.rows.RateRow.{RateRow}
@@ -36,7 +37,7 @@ rate_in f row at = do
   demand ← used_in (is_line (part_at f.parts part) && not (site == 0)) row 3 4 0 1000000000 (at 2)
   repair_here ← used_in (not (site == 0)) row 4 4 0 10000 (at 3)
   share ← used_in (not (is_line (part_at f.parts part))) row 5 4 0 10000 (at 4)
-  repair_days ← number_in row 6 2 0 999999 (at 5)
+  repair_days ← number_in row 6 2 0 most_days (at 5)
   Ok (record {
     part = record { 0 = part };
     site = record { 0 = site };
@@ -57,7 +58,7 @@ rates_header =
 
 -- the rows of a table of rates, or its first fault
 abbrev pub rates_of : FrameRows → List ℕ → Result (List RateRow) TableFault
-rates_of f bytes = table_of (rate_of f) 32000 6 rates_header (all_records bytes)
+rates_of f bytes = table_of (rate_of f) most_pairs 6 rates_header (all_records bytes)
 
 -- ---- a single line
 

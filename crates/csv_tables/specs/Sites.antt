@@ -1,5 +1,6 @@
 -- The rows of the table of sites.
 use Rattle.std.specs.Prelude.{ℕ, Bool, true, false, not, List, [], ◌∷◌, Result, Ok, Err, if◌then◌else◌, bytes_eq, codes}
+use Rattle.spares_input.specs.Limits.{most_sites, most_days}
 use Rattle.spares_input.specs.declared.rows.SiteRow.{SiteRow}
 use Rattle.csv_tables.specs.Rest.{Record, all_records}
 use Rattle.answers.specs.Steps.{◌>>=◌}
@@ -21,7 +22,7 @@ site_of row r = do
   name ← name_in row 1 (field r 0)
   depot ← depot_in row (field r 1)
   systems ← used_in (not depot) row 3 0 1 10000 (field r 2)
-  ship ← used_in (not depot) row 4 2 0 999999 (field r 3)
+  ship ← used_in (not depot) row 4 2 0 most_days (field r 3)
   Ok (record { name = name; depot = depot; systems = systems; ship = ship })
 
 -- the columns of the table of sites
@@ -30,4 +31,4 @@ sites_header = codes "site" ∷ codes "kind" ∷ codes "systems" ∷ codes "ship
 
 -- the rows of a table of sites, or its first fault
 abbrev pub sites_of : List ℕ → Result (List SiteRow) TableFault
-sites_of bytes = table_of site_of 16 4 sites_header (all_records bytes)
+sites_of bytes = table_of site_of most_sites 4 sites_header (all_records bytes)

@@ -14,7 +14,7 @@ use crate::fields::{field, name_at, name_in, number_at, used_at};
 use crate::table::{Table, read_table};
 use answers::Stop;
 use csv::ByteRecord;
-use spares_input::{Name, PartRow};
+use spares_input::{MOST_PART_COST, MOST_PARTS, MOST_STOCK, Name, PartRow};
 use std::alloc::Global;
 
 /// The rows of a table of parts, or its first fault. The last column, `weight`, may be missing: then each line unit has
@@ -25,7 +25,7 @@ pub fn read_parts(alloc: Global, bytes: &[u8]) -> Result<Vec<PartRow>, Stop<Tabl
     ensures few { IfOk result (λ v. length v.items ≤ most_parts) }
     ensures fields { IfOk result (λ v. All IsPartRow v.items) }
 {
-    read_table(alloc, bytes, &Parts, 6, header().as_slice(), 2000)
+    read_table(alloc, bytes, &Parts, 6, header().as_slice(), MOST_PARTS)
 }
 
 /// The columns of a table of parts.
@@ -64,10 +64,10 @@ fn part_of(row: u32, record: &ByteRecord) -> Result<PartRow, TableFault>
     let name = name_at(row, 1, record)?;
     let parent = parent_in(row, 2, field(record, 1))?;
     let line = parent.is_none();
-    let cost = number_at(row, 3, 0, 1, 100_000_000, record)?;
+    let cost = number_at(row, 3, 0, 1, MOST_PART_COST, record)?;
     let per_system = used_at(line, row, 4, 0, 1, 100, record)?;
-    let max_depot = number_at(row, 5, 0, 0, 63, record)?;
-    let max_base = number_at(row, 6, 0, 0, 63, record)?;
+    let max_depot = number_at(row, 5, 0, 0, MOST_STOCK, record)?;
+    let max_base = number_at(row, 6, 0, 0, MOST_STOCK, record)?;
     let weight = weight_in(line, row, record)?;
     Ok(PartRow {
         name,

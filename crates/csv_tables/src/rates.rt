@@ -4,6 +4,7 @@ ghost use Rattle.std.specs.Prelude.{◌≡◌, ◌≤◌, ◌<◌, [], IfOk, All
 ghost use Rattle.std.specs.Result.{result_map_both};
 ghost use Rattle.csv.specs.Records.{fields_of};
 ghost use Rattle.answers.specs.Answers.{Gives};
+ghost use Rattle.spares_input.specs.Limits.{most_pairs};
 ghost use Rattle.spares_input.specs.Cases.{IsRateOf};
 ghost use Rattle.csv_tables.specs.Rest.{table_limit};
 ghost use Rattle.csv_tables.specs.Tables.{rows_of};
@@ -14,7 +15,7 @@ use crate::fields::{field, name_in, number_in, used_in};
 use crate::table::{Table, read_table};
 use answers::Stop;
 use csv::ByteRecord;
-use spares_input::{Frame, PartId, RateRow, SiteId};
+use spares_input::{Frame, MOST_DAYS, MOST_PAIRS, PartId, RateRow, SiteId};
 use std::alloc::Global;
 
 /// The rows of a table of rates for this frame, or its first fault.
@@ -25,7 +26,7 @@ pub fn read_rates(
 ) -> Result<Vec<RateRow>, Stop<TableFault>>
     requires { length bytes.now ≤ table_limit }
     ensures answer { Gives (rates_of frame.now bytes.now) (rows_of result) }
-    ensures few { IfOk result (λ v. length v.items ≤ 32000) }
+    ensures few { IfOk result (λ v. length v.items ≤ most_pairs) }
     ensures fields { IfOk result (λ v. All (IsRateOf frame.now) v.items) }
 {
     read_table(
@@ -34,7 +35,7 @@ pub fn read_rates(
         &Rates { frame },
         6,
         header().as_slice(),
-        32_000,
+        MOST_PAIRS,
     )
 }
 
@@ -95,7 +96,7 @@ pub fn rate_in(frame: &Frame, row: u32, fields: &[&[u8]; 6]) -> Result<RateRow, 
     let demand = used_in(line && base, row, 3, 4, 0, 1_000_000_000, fields[2])?;
     let repair_here = used_in(base, row, 4, 4, 0, 10_000, fields[3])?;
     let share = used_in(!line, row, 5, 4, 0, 10_000, fields[4])?;
-    let repair_days = number_in(row, 6, 2, 0, 999_999, fields[5])?;
+    let repair_days = number_in(row, 6, 2, 0, MOST_DAYS, fields[5])?;
     Ok(RateRow {
         part,
         site,

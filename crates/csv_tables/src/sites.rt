@@ -3,6 +3,7 @@
 ghost use Rattle.std.specs.Prelude.{◌≡◌, ◌≤◌, IfOk, All, length, map};
 ghost use Rattle.csv.specs.Records.{fields_of};
 ghost use Rattle.answers.specs.Answers.{Gives};
+ghost use Rattle.spares_input.specs.Limits.{most_sites};
 ghost use Rattle.spares_input.specs.Rows.{IsSiteRow};
 ghost use Rattle.csv_tables.specs.Rest.{table_limit};
 ghost use Rattle.csv_tables.specs.Tables.{rows_of};
@@ -13,17 +14,17 @@ use crate::fields::{field, name_at, used_at};
 use crate::table::{Table, read_table};
 use answers::Stop;
 use csv::ByteRecord;
-use spares_input::SiteRow;
+use spares_input::{MOST_DAYS, MOST_SITES, SiteRow};
 use std::alloc::Global;
 
 /// The rows of a table of sites, or its first fault.
 pub fn read_sites(alloc: Global, bytes: &[u8]) -> Result<Vec<SiteRow>, Stop<TableFault>>
     requires { length bytes.now ≤ table_limit }
     ensures answer { Gives (sites_of bytes.now) (rows_of result) }
-    ensures few { IfOk result (λ v. length v.items ≤ 16) }
+    ensures few { IfOk result (λ v. length v.items ≤ most_sites) }
     ensures fields { IfOk result (λ v. All IsSiteRow v.items) }
 {
-    read_table(alloc, bytes, &Sites, 4, header().as_slice(), 16)
+    read_table(alloc, bytes, &Sites, 4, header().as_slice(), MOST_SITES)
 }
 
 /// The columns of a table of sites.
@@ -59,7 +60,7 @@ fn site_of(row: u32, record: &ByteRecord) -> Result<SiteRow, TableFault>
     let name = name_at(row, 1, record)?;
     let depot = depot_in(row, field(record, 1))?;
     let systems = used_at(!depot, row, 3, 0, 1, 10_000, record)?;
-    let ship = used_at(!depot, row, 4, 2, 0, 999_999, record)?;
+    let ship = used_at(!depot, row, 4, 2, 0, MOST_DAYS, record)?;
     Ok(SiteRow {
         name,
         depot,

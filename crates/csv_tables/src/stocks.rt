@@ -3,6 +3,7 @@
 ghost use Rattle.std.specs.Prelude.{◌≡◌, ◌≤◌, IfOk, All, length, map};
 ghost use Rattle.csv.specs.Records.{fields_of};
 ghost use Rattle.answers.specs.Answers.{Gives};
+ghost use Rattle.spares_input.specs.Limits.{most_pairs};
 ghost use Rattle.spares_input.specs.Stocks.{IsStockOf};
 ghost use Rattle.csv_tables.specs.Rest.{table_limit};
 ghost use Rattle.csv_tables.specs.Tables.{rows_of};
@@ -14,7 +15,7 @@ use crate::rates::{part_in, site_in};
 use crate::table::{Table, read_table};
 use answers::Stop;
 use csv::ByteRecord;
-use spares_input::{Frame, StockRow};
+use spares_input::{Frame, MOST_PAIRS, MOST_STOCK, StockRow};
 use std::alloc::Global;
 
 /// The rows of a table of stocks for this frame, or its first fault.
@@ -25,7 +26,7 @@ pub fn read_stocks(
 ) -> Result<Vec<StockRow>, Stop<TableFault>>
     requires { length bytes.now ≤ table_limit }
     ensures answer { Gives (stocks_of frame.now bytes.now) (rows_of result) }
-    ensures few { IfOk result (λ v. length v.items ≤ 32000) }
+    ensures few { IfOk result (λ v. length v.items ≤ most_pairs) }
     ensures fields { IfOk result (λ v. All (IsStockOf frame.now) v.items) }
 {
     read_table(
@@ -34,7 +35,7 @@ pub fn read_stocks(
         &Stocks { frame },
         3,
         header().as_slice(),
-        32_000,
+        MOST_PAIRS,
     )
 }
 
@@ -68,7 +69,7 @@ fn stock_of(frame: &Frame, row: u32, record: &ByteRecord) -> Result<StockRow, Ta
 {
     let part = part_in(frame, row, 1, field(record, 0))?;
     let site = site_in(frame, row, 2, field(record, 1))?;
-    let stock = number_at(row, 3, 0, 0, 63, record)?;
+    let stock = number_at(row, 3, 0, 0, MOST_STOCK, record)?;
     Ok(StockRow {
         part,
         site,

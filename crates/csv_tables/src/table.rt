@@ -4,6 +4,7 @@ ghost use Rattle.std.specs.Prelude.{◌≡◌, ◌+◌, ◌<◌, ◌≤◌, ◌^
 ghost use Rattle.std.specs.Result.{result_map_both};
 ghost use Rattle.csv.specs.Records.{fields_of};
 ghost use Rattle.answers.specs.Answers.{Gives};
+ghost use Rattle.spares_input.specs.Limits.{most_pairs};
 ghost use Rattle.csv_tables.specs.Rest.{all_records, rest_of, IsTable, Record, table_limit};
 ghost use Rattle.csv_tables.specs.Tables.{column_fault, header_in, row_with, rows_from, rows_of, table_of};
 ghost use Rattle.csv_tables.specs.declared.fault.TableFault.{TableFault};
@@ -39,7 +40,7 @@ pub fn read_table<T: Table>(
 ) -> Result<Vec<T::Row>, Stop<TableFault>>
     requires small { length bytes.now ≤ table_limit }
     requires columns { length header.now < 256 }
-    requires few { limit ≤ 32000 }
+    requires few { limit ≤ most_pairs }
     ensures { Gives (table_of (T.row_of table.now) limit least (map (λ f. f.now) header.now) (all_records bytes.now))
         (rows_of result) }
 {
@@ -60,7 +61,7 @@ fn read_records<T: Table>(
 ) -> Result<Vec<T::Row>, Stop<TableFault>>
     requires reader { IsTable rdr.old }
     requires columns { length header.now < 256 }
-    requires few { limit ≤ 32000 }
+    requires few { limit ≤ most_pairs }
     ensures { Gives (table_of (T.row_of table.now) limit least (map (λ f. f.now) header.now) (rest_of rdr.old))
         (rows_of result) }
 {
@@ -120,7 +121,7 @@ fn read_rows<T: Table>(
     limit: u32,
 ) -> Result<Vec<T::Row>, Stop<TableFault>>
     requires reader { IsTable rdr.old }
-    requires few { limit ≤ 32000 }
+    requires few { limit ≤ most_pairs }
     ensures { Gives (rows_from (T.row_of table.now) limit columns 2 (rest_of rdr.old)) (rows_of result) }
 {
     let mut rows = Vec::new(alloc);
@@ -139,7 +140,7 @@ fn put_rows<T: Table>(
 ) -> Result<(), Stop<TableFault>>
     requires empty { rows.old.items ≡ [] }
     requires reader { IsTable rdr.old }
-    requires few { limit ≤ 32000 }
+    requires few { limit ≤ most_pairs }
     ensures { Gives (rows_from (T.row_of table.now) limit columns 2 (rest_of rdr.old))
         (result_map_both (λ _. rows.new.items) (λ e. e) result) }
 {

@@ -4,7 +4,7 @@ use Rattle.std.proofs.Math.Nat.{mul-le-mul_left, le_of_mul-le-mul_left}
 use Rattle.hull.specs.declared.point.Point.{Point}
 use Rattle.hull.specs.declared.price.Price.{Price}
 use Rattle.hull.specs.Curves.{lagrangian, Among, IsChain, Steps, point_at}
-use Rattle.hull.proofs.Public.{same_self, among_either}
+use Rattle.hull.proofs.Public.{same_self, among_either, cost_from_head}
 use Rattle.curve_parts.specs.Cuts.{AreFlatter, Flatter, IsCutOf, IsWindow, StepAt}
 use Rattle.curve_parts.specs.Beyond.{LieBeyond}
 use Rattle.curve_parts.proofs.Cuts.{all_flatter, back_above, back_chain, first_in, front_above, front_chain, in_whole}
@@ -116,19 +116,9 @@ behind_cut low high curve part window chain k beyond high_enough = λ w m h.
           omega (arith, l, above))
       | inr n ↦ elim (among_either w part k.back n) [
         | inl a ↦ inl (w, a, same_self w)
-        | inr a ↦ inr (high_enough w m (dearer k.last k.back (back_chain low high curve part chain k) w a))
+        | inr a ↦ inr (high_enough w m (cost_from_head k.last k.back (back_chain low high curve part chain k) w a))
       ]
     ]
-  where
-    dearer : (v : Point) (rest : List Point) → IsChain (v ∷ rest) → (w : Point) → Among w rest → v.cost < w.cost
-    dearer v [] c w m = absurd m
-    dearer v (x ∷ rest) c w m =
-        let s : Steps v x = c.0 in
-        let up = s.cost in
-        elim m [
-          | inl e ↦ subst (λ (z : Point). v.cost < z.cost) (sym e) (omega (arith, up))
-          | inr n ↦ (let more = dearer x rest c.2 w n in omega (arith, up, more))
-        ]
 
 -- the last vertex of a cut by places
 pub last_of_cut : (low high : Price) (l part : List Point) (from n : ℕ) → part ≡ take (suc n) (drop from l) → length part ≡ suc n → (k : IsCutOf low high l part) → k.last ≡ point_at l (from + n)

@@ -1,13 +1,14 @@
 -- How high all vertices behind a part lie: of lists together, of sums, and of what stands for points.
 use Rattle.std.proofs.Common.{ℕ, ◌+◌, ◌-◌, ◌<◌, ◌≤◌, ◌⊎◌, inl, inr, List, [], ◌++◌, ◌↔◌, sym, subst, arith}
 use Rattle.std.proofs.lemmas.List.{append-nil}
+use Rattle.list_laws.proofs.Public.{le_or_gt}
 use Rattle.hull.specs.declared.point.Point.{Point}
 use Rattle.hull.specs.declared.price.Price.{Price}
 use Rattle.hull.specs.Curves.{lagrangian, Among, IsCurve, StandFor, plus, sums}
 use Rattle.hull.proofs.Public.{same_sym, same_trans, same_lagrangian, among_left, among_right, among_either, curve_stands, Parts, parts_of, sum_among}
 use Rattle.curve_parts.specs.Parts.{IsVertexBetween, IsPartOf, IsPassedOver, StandForBetween}
 use Rattle.curve_parts.specs.Beyond.{HavePlaceOf, IsKnownPart, LieBeyond, no_price}
-use Rattle.curve_parts.proofs.Between.{between_at_place, between_of_part, both_between, le_or_gt, part_left_out, part_of_members, part_stands, stands_between, trans_between}
+use Rattle.curve_parts.proofs.Between.{between_at_place, between_of_part, both_between, part_left_out, part_of_members, part_stands, stands_between, trans_between}
 use Rattle.curve_parts.proofs.Sums.{first_between, second_between}
 
 -- no vertex that is known need lie anywhere

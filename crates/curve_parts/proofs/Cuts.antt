@@ -137,9 +137,6 @@ module _ (low : Price) (p q : ℕ) (p_positive : 0 < p) (q_positive : 0 < q) (fr
 -- ---- the cut
 
 module _ (low high : Price) (curve part : List Point) (chain : IsChain curve) (k : IsCutOf low high curve part) where
-  whole : List Point
-  whole = k.front ++ (part ++ k.back)
-
   whole_chain : IsChain (k.front ++ (part ++ k.back))
   whole_chain = subst IsChain k.is chain
 

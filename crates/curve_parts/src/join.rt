@@ -3,7 +3,7 @@
 ghost use Rattle.std.specs.Prelude.{◌≡◌, ◌+◌, ◌<◌, ◌≤◌, [], ◌∷◌, ◌++◌, length, sum_by, IfOk, IsTrue, OnOk, OnErr};
 ghost use Rattle.hull.specs.declared.point.Point.{Point};
 ghost use Rattle.hull.specs.Curves.{lagrangian, Among, HaveOneWidth, InRange};
-ghost use Rattle.hull.specs.Limits.{most_points};
+ghost use Rattle.hull.specs.Limits.{most_points, most_summed};
 ghost use Rattle.sum_walk.specs.Sums.{sums_of_each};
 ghost use Rattle.curve_parts.specs.Cuts.{IsSmall, IsWindow};
 ghost use Rattle.curve_parts.specs.Beyond.{LieBeyond};
@@ -27,7 +27,7 @@ pub fn part_of_sums<T: Spot>(
     high: Price,
 ) -> Result<(Curve, u128), NoMemory>
     requires some { 0 < length parts.now }
-    requires few_parts { length parts.now ≤ 16 }
+    requires few_parts { length parts.now ≤ most_summed }
     requires few { 1 + sum_by length parts.now ≤ most_points }
     requires first { InRange first.now }
     requires ranges { (v : Point) → Among v (sums_of_each (first.now ∷ []) parts.now) → InRange v }
@@ -85,7 +85,7 @@ pub fn join_sums<T: Spot>(
     high: Price,
 ) -> Result<u128, NoMemory>
     requires some { 0 < length parts.now }
-    requires few_parts { length parts.now ≤ 16 }
+    requires few_parts { length parts.now ≤ most_summed }
     requires few { length curve.old + (1 + sum_by length parts.now) ≤ most_points }
     requires first { InRange first.now }
     requires ranges { (v : Point) → Among v (sums_of_each (first.now ∷ []) parts.now) → InRange v }

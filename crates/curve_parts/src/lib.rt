@@ -15,4 +15,4 @@ pub use laws::{
     part_of_curve, part_of_members, part_of_part, part_of_standing, part_reaches_least,
     passes_over, sums_stand,
 };
-pub use window::{Vertices, best_between, cut, least_at_low, part_of};
+pub use window::{Vertices, cut, least_at_low, part_of};

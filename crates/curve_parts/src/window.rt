@@ -3,9 +3,9 @@
 ghost use Rattle.std.specs.Prelude.{◌≡◌, ◌+◌, ◌-◌, ◌*◌, ◌<◌, ◌≤◌, ℕ, List, IfOk, IsFalse, IsTrue, length, drop, take};
 ghost use Rattle.hull.specs.declared.point.Point.{Point};
 ghost use Rattle.hull.specs.declared.price.Price.{Price};
-ghost use Rattle.hull.specs.Curves.{lagrangian, Among, HaveOneWidth, InRange, IsBestAt, IsLeastAt, IsShape, point_at};
+ghost use Rattle.hull.specs.Curves.{lagrangian, Among, HaveOneWidth, InRange, IsShape, point_at};
 ghost use Rattle.hull.specs.Limits.{most_cost, end_limit, most_points};
-ghost use Rattle.curve_parts.specs.Parts.{IsPartOf, IsPriceBetween};
+ghost use Rattle.curve_parts.specs.Parts.{IsPartOf};
 ghost use Rattle.curve_parts.specs.Cuts.{IsCutOf, IsWindow, Steeper, NoSteeper, Flatter, NoFlatter, StepAt, IsSmall};
 ghost use Rattle.curve_parts.specs.Beyond.{LieBeyond};
 
@@ -239,15 +239,4 @@ pub fn part_of(
     let mut curve = Curve::of(alloc, points)?;
     cut(&mut curve, low, high);
     Ok(curve)
-}
-
-/// The place of the first vertex of a part with the least Lagrangian at the price. If the price lies between the part's
-/// two prices, no point that the part is of has a smaller one.
-pub fn best_between(part: &Curve, price: Price) -> u32
-    requires { IsSmall price }
-    ensures first { IsBestAt price.p price.q part.now result }
-    ensures reaches { (low high : Price) (points : List Point) → IsPriceBetween low high price.p price.q
-        → IsPartOf low high points part.now → IsLeastAt price.p price.q points (point_at part.now result) }
-{
-    part.best_at(price.p, price.q)
 }

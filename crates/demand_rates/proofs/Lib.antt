@@ -1,7 +1,7 @@
 pub mod Public
 pub mod Sums
-pub mod Grown
 pub mod Within
+pub mod Ranges
 pub mod DepotFacts
 pub mod WaitFacts
 pub mod RateFacts

@@ -4,9 +4,10 @@ use Rattle.std.specs.List.{range_with_len}
 use Rattle.std.proofs.lemmas.Nat.{div-mul-add, mod-mul-add}
 use Rattle.std.proofs.lemmas.List.Sums.{get_or-le-sum_by}
 use Rattle.std.proofs.lemmas.List.FromFn.{get_or-range_with_len, length-range_with_len, get_or-map-range_with_len, length-map-range_with_len}
+use Rattle.list_laws.proofs.Public.{place_fits}
 use Rattle.exact_model.specs.Fraction.{whole, ◌≈◌, ◌/ℚ◌, scaled}
 use Rattle.exact_model.proofs.Public.{same, turned, ◌≈≈◌}
-use Rattle.spares_input.proofs.Public.{first_none, place_fits}
+use Rattle.spares_input.proofs.Public.{first_none}
 use Rattle.spares_input.specs.Frames.{line_of}
 use Rattle.spares_input.specs.Pairs.{part_of_place, site_of_place}
 use Rattle.spares_input.specs.Cases.{CaseRows, IsCase, frame_rows, pair_count}
@@ -42,10 +43,6 @@ rates_of_place c n i part site r e p s t =
     ∙ ap (λ (q : PartId). pair_rates c q.0 site.0) p
     ∙ ap (λ (q : SiteId). pair_rates c (part_of_place n i).0 q.0) s
     ∙ ap (λ m. pair_rates c (part_of_place m i).0 (site_of_place m i).0) e
-
--- a place within so many parts and sites is within the same numbers by another name
-pub within_pairs : (i a b x y : ℕ) → a ≡ x → b ≡ y → i < a * b → i < x * y
-within_pairs i a b x y e f h = subst (λ m. i < m * y) e (subst (λ m. i < a * m) f h)
 
 -- ---- shares
 

@@ -1,21 +1,8 @@
 -- Sums over a range and over a list, as loops add them up.
-use Rattle.std.proofs.Common.{◌≡◌, ℕ, zero, suc, ◌+◌, ◌-◌, ◌*◌, ◌≤◌, [], sum_by, ap, ◌∙◌, arith, mul-le-mul_right}
+use Rattle.std.proofs.Common.{◌≡◌, ℕ, zero, suc, ◌+◌, ◌-◌, ◌*◌, ◌≤◌, sum_by, ap, ◌∙◌, arith, mul-le-mul_right}
 use Rattle.std.specs.List.{range_with_len}
 use Rattle.std.proofs.lemmas.List.Sums.{sum_by-cons}
-
--- one more number of a range
-alone : (a : ℕ) → a ≡ a + 0
-alone a = omega arith
-
--- the 1 may be taken to either number
-pub later : (a n : ℕ) → a + 1 + n ≡ a + suc n
-later a n = omega arith
-
--- a sum over one number more has one term more
-pub sum_more : (g : ℕ → ℕ) (a n : ℕ) → sum_by g (range_with_len a (suc n)) ≡ sum_by g (range_with_len a n) + g (a + n)
-sum_more g a zero = omega (arith, sum_by-cons g a [], ap g (alone a))
-sum_more g a (suc n) =
-    omega (arith, sum_by-cons g a (range_with_len (a + 1) (suc n)), sum_by-cons g a (range_with_len (a + 1) n), sum_more g (a + 1) n, ap g (later a n))
+use Rattle.list_laws.proofs.Public.{sum_more}
 
 -- a loop's sum over the bases below k, with one more
 pub grown : (g : ℕ → ℕ) (k sum term : ℕ) → 1 ≤ k → sum ≡ sum_by g (range_with_len 1 (k - 1)) → term ≡ g k → sum + term ≡ sum_by g (range_with_len 1 (k + 1 - 1))

@@ -14,6 +14,7 @@ use Rattle.std.proofs.lemmas.Slice.Eq.{bytes_eq-Decides}
 use Rattle.std.proofs.lemmas.Nat.{mul-le}
 use mir.Val.{Fits}
 use mir.Syntax.{w128}
+use Rattle.list_laws.proofs.Public.{later, zero_most}
 use Rattle.exact_ratio.specs.declared.ratio.Ratio.{Ratio}
 use Rattle.spares_input.specs.Rows.{is_line, no_part}
 use Rattle.spares_input.specs.Frames.{is_shop_of, line_of, part_at, site_at, part_names, place_of, shops_below}
@@ -27,7 +28,6 @@ use Rattle.fleet_model.specs.Units.{demand_00, demand_i0, direct_units_00, neede
 use Rattle.demand_rates.specs.declared.kinds.PairRates.{PairRates}
 use Rattle.demand_rates.specs.Rates.{rates_of_pair, share_ratio}
 use Rattle.demand_rates.specs.Waits.{wait, wait_most, wait_sum, AreAllWaits, AreWaits}
-use Rattle.demand_rates.proofs.Sums.{later}
 
 -- ---- whose shop unit a part is
 
@@ -105,9 +105,6 @@ zero_at n q xs e l = elim (cases_lt q n) [
   | inr i ↦ get_or_past xs q 0 (omega (arith, l, i))
 ]
 
-nothing : (n m : ℕ) → n ≡ 0 → n ≤ m
-nothing n m e = omega (arith, e)
-
 -- before the first part there are no waits
 pub waits_none : (c : CaseRows) (k n : ℕ) (xs : List ℕ) → xs ≡ replicate n 0 → n ≡ length c.parts → AreWaitsBelow c k 0 xs
 waits_none c k n xs e count =
@@ -115,7 +112,7 @@ waits_none c k n xs e count =
     record {
       count = len ∙ count;
       each = λ q l. zero_at n q xs e len;
-      small = λ q. nothing (get_or xs q 0) (0 * wait_most k) (zero_at n q xs e len);
+      small = λ q. zero_most (get_or xs q 0) (0 * wait_most k) (zero_at n q xs e len);
     }
 
 -- after the last part the waits are those of the site

@@ -2,6 +2,7 @@
 use Rattle.std.specs.Prelude.{ℕ, ◌*◌, ◌<◌, ◌≤◌, ◌&&◌, nat_lt, length, Option, Some, None, if◌then◌else◌}
 use Rattle.exact_ratio.specs.declared.ratio.Ratio.{Ratio}
 use Rattle.spares_input.specs.First.{first}
+use Rattle.spares_input.specs.Limits.{most_days}
 use Rattle.spares_input.specs.Pairs.{part_of_place, site_of_place}
 use Rattle.spares_input.specs.Cases.{CaseRows, frame_rows, pair_count}
 use Rattle.spares_input.specs.declared.rows.PartId.{PartId}
@@ -18,7 +19,7 @@ pub record IsRate (r : RateRow) : Type 0 where
   pub demand : r.demand ≤ 1000000000
   pub here : r.repair_here ≤ 10000
   pub share : r.share ≤ 10000
-  pub days : r.repair_days ≤ 999999
+  pub days : r.repair_days ≤ most_days
 
 -- a pipeline as a ratio, from its numerator over 365 * 10^18
 abbrev pub in_days : ℕ → Ratio

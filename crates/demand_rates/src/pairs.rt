@@ -1,6 +1,7 @@
 //! The rates of a pair, by the four levels.
 
 ghost use Rattle.std.specs.Prelude.{◌≡◌, ◌≤◌, ◌<◌, ◌+◌, ◌*◌, true, [], get_or, length, map, Some, None};
+ghost use Rattle.spares_input.specs.Limits.{most_days};
 ghost use Rattle.spares_input.specs.Rows.{is_line};
 ghost use Rattle.spares_input.specs.Frames.{line_of, part_at};
 ghost use Rattle.fleet_model.specs.Units.{demand_00, demand_i0};
@@ -55,7 +56,7 @@ fn depot_line(case: &Case, line: PartId, demand: u128, wait: u128) -> PairRates
 /// The part of a line unit's zero-stock mean at a base that waits for the depot's repairs, in 10^-18 / 365.
 fn base_line_wait(sent: u128, days: u32, wait: u128) -> u128
     requires sent { sent ≤ 10000000000000 }
-    requires days { days ≤ 999999 }
+    requires days { days ≤ most_days }
     requires wait { wait ≤ 20000000000000 }
     ensures value { result ≡ sent * (days * 10000 + wait) * 10000 }
     ensures small { result ≤ 3000000000000000000000000000000 }

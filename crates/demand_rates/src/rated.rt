@@ -25,7 +25,7 @@ impl<'a> Model for Rated<'a> {
 }
 
 impl<'a> Rated<'a> {
-    /// The case with these rates.
+    /// A case with its rates: they must be those of this case.
     pub fn of(case: &'a Case, rates: &'a Rates) -> Rated<'a>
         requires { AreRatesOf case.now rates.now }
         ensures { result ≡ record { case = case.now; rates = rates.now } }

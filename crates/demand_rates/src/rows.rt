@@ -1,6 +1,7 @@
 //! Numbers of one row of rates, or of a line unit's and its shop unit's rows, in whole units.
 
 ghost use Rattle.std.specs.Prelude.{◌≡◌, ◌+◌, ◌-◌, ◌*◌, ◌≤◌, ◌<◌, length};
+ghost use Rattle.spares_input.specs.Limits.{most_days};
 ghost use Rattle.spares_input.specs.Frames.{site_at};
 ghost use Rattle.spares_input.specs.Cases.{rate_at};
 ghost use Rattle.demand_rates.specs.Limits.{IsRate};
@@ -31,7 +32,7 @@ pub(crate) fn depot_row(case: &Case, part: PartId) -> RateRow
 pub(crate) fn ship_days(case: &Case, site: SiteId) -> u32
     requires { site.0 < length case.now.sites }
     ensures row { result ≡ (site_at case.now.sites site.0).ship }
-    ensures small { result ≤ 999999 }
+    ensures small { result ≤ most_days }
 {
     case.site(site).ship
 }
@@ -39,7 +40,7 @@ pub(crate) fn ship_days(case: &Case, site: SiteId) -> u32
 /// (1 - r) O + r T, in 10^-6 days.
 pub(crate) fn days_at(row: RateRow, ship: u32) -> u128
     requires row { IsRate row }
-    requires ship { ship ≤ 999999 }
+    requires ship { ship ≤ most_days }
     ensures value { result ≡ (10000 - row.repair_here) * ship + row.repair_here * row.repair_days }
     ensures small { result ≤ 20000000000 }
 {
@@ -91,7 +92,7 @@ pub(crate) fn in_repair(demand: u128, row: RateRow) -> u128
     requires demand { demand ≤ 30000000000000000000000 }
     requires row { IsRate row }
     ensures value { result ≡ demand * row.repair_days }
-    ensures small { result ≤ demand * 999999 }
+    ensures small { result ≤ demand * most_days }
 {
     demand * u128::from(row.repair_days)
 }

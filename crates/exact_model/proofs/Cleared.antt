@@ -2,9 +2,10 @@
 use Rattle.std.proofs.Common.{◌≡◌, ℕ, zero, suc, ◌+◌, ◌-◌, ◌*◌, ◌/◌, ◌<◌, ◌≤◌, refl, sym, ap, ◌∙◌, arith, zero-lt-suc, inl, inr, mul-le-mul_left, mul-le-mul_right, le_trans, le_of_eq, eq-zero-or-pos}
 use Rattle.std.specs.Int.{◌∣◌}
 use Rattle.std.proofs.Math.Nat.{mul-pos, eq_of_mul-eq-mul_right, dvd_refl, dvd-mul_left, dvd-mul_right_of_dvd, mul-div_cancel', le-suc_iff}
+use Rattle.list_laws.proofs.Public.{total}
 use Rattle.exact_model.specs.Fraction.{Fraction, whole, ◌≈◌, ◌≤ℚ◌, ◌+ℚ◌, ◌*ℚ◌, sum_below}
 use Rattle.exact_model.specs.Series.{excess, weight, weight_sum, chance, unless_zero, ebo, tail}
-use Rattle.exact_model.proofs.Whole.{total, InProportion, mean_bound, cover, past, short_sum, total_mono}
+use Rattle.exact_model.proofs.Whole.{InProportion, mean_bound, cover, past, short_sum, total_mono}
 use Rattle.exact_model.proofs.Fractions.{over, same, turned, ◌≈≈◌, add_same, sub_same, mul_same, div_same, quotient, add_over, sub_over, div_over, total_over, positive_same, whole_times, widened, le_same}
 
 -- w(0) .. w(n) over one denominator

@@ -6,4 +6,3 @@ pub use Rattle.exact_model.proofs.Same.{ebo_none, ebo_same, vbo_same, zeros_same
 pub use Rattle.exact_model.proofs.Spread.{spread_falls}
 pub use Rattle.exact_model.proofs.Sums.{ebo_within, vbo_within}
 pub use Rattle.exact_model.proofs.Table.{chance_relative, ebo_first, ebo_least, ebo_most, ebo_next, tail_first, tail_most, vbo_first, vbo_most}
-pub use Rattle.exact_model.proofs.Whole.{total}

@@ -1,9 +1,10 @@
 -- The step of the variance of backorders from a stock to the next one.
 use Rattle.std.proofs.Common.{◌≡◌, ℕ, suc, ◌+◌, ◌-◌, ◌*◌, ◌<◌, ◌≤◌, ap, ◌∙◌, arith, inl, inr, mul-le-mul_left, eq-zero-or-pos}
 use Rattle.std.proofs.Math.Nat.{mul-pos}
+use Rattle.list_laws.proofs.Public.{total}
 use Rattle.exact_model.specs.Fraction.{Fraction, whole, ◌≈◌, ◌+ℚ◌, ◌-ℚ◌, ◌*ℚ◌, larger}
 use Rattle.exact_model.specs.Series.{excess, weight, chance, unless_zero, ebo, tail, second, vbo, raised, lowered}
-use Rattle.exact_model.proofs.Whole.{total, square_sum, spread_balance, spread_whole}
+use Rattle.exact_model.proofs.Whole.{square_sum, spread_balance, spread_whole}
 use Rattle.exact_model.proofs.Fractions.{over, same, turned, ◌≈≈◌, add_same, sub_same, mul_same, add_over, sub_over, total_over, whole_times, widened, lifted, product_lifted, whole_over, fraction_lifted}
 use Rattle.exact_model.proofs.Cleared.{Cleared, cleared, a, b, all, all_positive, b_all_positive, short, mean_is, chance_is, ebo_is, tail_is, unless_positive, falls_whole, below_all, reach_bound}
 

@@ -1,9 +1,10 @@
 -- The mean of the cut series, what the terms past an index come to, and the cuts that lose nothing.
 use Rattle.std.proofs.Common.{◌≡◌, ℕ, zero, suc, ◌+◌, ◌-◌, ◌*◌, ◌<◌, ◌≤◌, refl, ap, ◌∙◌, arith, subst, inl, inr, mul-le-mul_left, mul-le-mul_right, eq-zero-or-pos}
 use Rattle.std.proofs.Math.Nat.{mul-pos, le_of_mul-le-mul_left}
+use Rattle.list_laws.proofs.Public.{total}
 use Rattle.exact_model.specs.Fraction.{Fraction, whole, ◌≈◌, ◌≤ℚ◌, ◌+ℚ◌, ◌-ℚ◌, ◌*ℚ◌, ◌/ℚ◌, sum_below, larger}
 use Rattle.exact_model.specs.Series.{excess, weight, weight_sum, chance, ratio, unless_zero, ebo, second, vbo, raised, lowered}
-use Rattle.exact_model.proofs.Whole.{total, mean_bound, falls_by, geometric}
+use Rattle.exact_model.proofs.Whole.{mean_bound, falls_by, geometric}
 use Rattle.exact_model.proofs.Fractions.{over, same, turned, ◌≈≈◌, add_same, sub_same, mul_same, div_same, quotient, mul_cancel, add_over, total_over, whole_times, widened, le_same, cuts_join}
 use Rattle.exact_model.proofs.Cleared.{Cleared, cleared, proportion, weight_sum_is, chance_is, all, all_positive, below_all}
 use Rattle.exact_model.proofs.Remainder.{ratio_is}

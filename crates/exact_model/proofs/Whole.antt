@@ -1,10 +1,6 @@
 -- Weights cleared of denominators: whole numbers in the proportions of the model's weights.
 use Rattle.std.proofs.Common.{◌≡◌, ℕ, zero, suc, ◌+◌, ◌-◌, ◌*◌, ◌<◌, ◌≤◌, refl, sym, ap, ◌∙◌, arith, mul-le-mul_left, mul-le-mul_right, le_of_mul-le-mul_right, le_of_eq, le_trans, ap₂}
-
--- f(0) + .. + f(n - 1)
-abbrev pub total : (ℕ → ℕ) → ℕ → ℕ
-total f zero = 0
-total f (suc n) = total f n + f n
+use Rattle.list_laws.proofs.Public.{total}
 
 -- c(0) .. c(n) stand in the proportions of the weights of mean a / b and excess e / b
 abbrev pub InProportion : ℕ → ℕ → ℕ → (ℕ → ℕ) → ℕ → Type 0

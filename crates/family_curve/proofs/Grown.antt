@@ -3,13 +3,13 @@ use Rattle.std.proofs.Common.{◌≡◌, ◌==◌, Bool, true, refl, ℕ, ◌+�
 use Rattle.std.specs.List.{range_with_len}
 use Rattle.std.proofs.lemmas.Bool.{cases_lt, eqb-true}
 use Rattle.std.proofs.lemmas.List.{append-nil}
-use Rattle.std.proofs.Math.Nat.{mul-le-mul_right}
+use Rattle.list_laws.proofs.Public.{room_for}
 use Rattle.hull.specs.declared.point.Point.{Point}
 use Rattle.hull.specs.Curves.{Among, InRange, IsChain, IsCurve, StandFor}
 use Rattle.hull.specs.Scores.{LeavesRoom}
 use Rattle.hull.proofs.Public.{chain_is_curve, of_members, among_either, among_left, among_right, curve_stands, stand_for, stand_for_both, stand_self}
 use Rattle.family_points.specs.Inputs.{FamilyBox, IsAt, IsFamilyBox}
-use Rattle.family_curve.specs.Joining.{HaveWidthOf, middle, run_start}
+use Rattle.family_curve.specs.Joining.{HaveWidthOf, run_start}
 use Rattle.family_points.specs.Points.{ScoreEnds}
 use Rattle.family_points.specs.Separation.{depot_points}
 use Rattle.family_points.proofs.Public.{low_long, depot_points_small, flat_stock_before, flat_stock_behind, small_range, size}
@@ -46,29 +46,29 @@ curve_grows_before so ps qs c e a h =
 pub curve_grows_behind : (so ps qs c e : List Point) → IsCurve (so ++ ps) c → IsCurve (c ++ qs) e → IsCurve (so ++ (ps ++ qs)) e
 curve_grows_behind so ps qs c e a h = subst (λ (l : List Point). IsCurve l e) (append_assoc so ps qs) (curve_grows (so ++ ps) qs c e a h)
 
--- the curve of n stocks that go from the middle up and then down, and of the next one
-pub run_grows : (so : List Point) (own : ℕ → List Point) (low high n s : ℕ) (c e : List Point) → low ≤ high → n ≤ high - low
-    → (middle low high + n ≤ high → s ≡ middle low high + n) → (high < middle low high + n → s ≡ high - n)
-    → IsCurve (so ++ flat_map own (range_with_len (run_start low high n) n)) c → IsCurve (c ++ own s) e
-    → IsCurve (so ++ flat_map own (range_with_len (run_start low high (n + 1)) (n + 1))) e
-run_grows so own low high n s c e order within up down a h =
-    elim (cases_lt high (middle low high + n)) as (λ _. IsCurve (so ++ flat_map own (range_with_len (run_start low high (n + 1)) (n + 1))) e) [
+-- the curve of n stocks that go from `from` up and then down, and of the next one
+pub run_grows : (so : List Point) (own : ℕ → List Point) (from low high n s : ℕ) (c e : List Point) → low ≤ from → from ≤ high → n ≤ high - low
+    → (from + n ≤ high → s ≡ from + n) → (high < from + n → s ≡ high - n)
+    → IsCurve (so ++ flat_map own (range_with_len (run_start from high n) n)) c → IsCurve (c ++ own s) e
+    → IsCurve (so ++ flat_map own (range_with_len (run_start from high (n + 1)) (n + 1))) e
+run_grows so own from low high n s c e least order within up down a h =
+    elim (cases_lt high (from + n)) as (λ _. IsCurve (so ++ flat_map own (range_with_len (run_start from high (n + 1)) (n + 1))) e) [
       | inl past ↦
-          let start : run_start low high n ≡ high + 1 - n = omega (arith, past, order) in
-          let next : run_start low high (n + 1) ≡ high + 1 - (n + 1) = omega (arith, past, order) in
-          let all = flat_stock_before own high n s (omega (arith, within, order)) (down past) in
+          let start : run_start from high n ≡ high + 1 - n = omega (arith, past, order) in
+          let next : run_start from high (n + 1) ≡ high + 1 - (n + 1) = omega (arith, past, order) in
+          let all = flat_stock_before own high n s (omega (arith, within, least, order)) (down past) in
           let so_far : IsCurve (so ++ flat_map own (range_with_len (high + 1 - n) n)) c =
           subst (λ k. IsCurve (so ++ flat_map own (range_with_len k n)) c) start a in
           subst (λ k. IsCurve (so ++ flat_map own (range_with_len k (n + 1))) e) (sym next)
           (subst (λ (ps : List Point). IsCurve (so ++ ps) e) (sym all) (curve_grows_before so (flat_map own (range_with_len (high + 1 - n) n)) (own s) c e so_far h))
       | inr room ↦
-          let start : run_start low high n ≡ middle low high = omega (arith, room, order) in
-          let next : run_start low high (n + 1) ≡ middle low high = omega (arith, room, order) in
-          let all = flat_stock_behind own (middle low high) n s (up room) in
-          let so_far : IsCurve (so ++ flat_map own (range_with_len (middle low high) n)) c =
+          let start : run_start from high n ≡ from = omega (arith, room, order) in
+          let next : run_start from high (n + 1) ≡ from = omega (arith, room, order) in
+          let all = flat_stock_behind own from n s (up room) in
+          let so_far : IsCurve (so ++ flat_map own (range_with_len from n)) c =
           subst (λ k. IsCurve (so ++ flat_map own (range_with_len k n)) c) start a in
           subst (λ k. IsCurve (so ++ flat_map own (range_with_len k (n + 1))) e) (sym next)
-          (subst (λ (ps : List Point). IsCurve (so ++ ps) e) (sym all) (curve_grows_behind so (flat_map own (range_with_len (middle low high) n)) (own s) c e so_far h))
+          (subst (λ (ps : List Point). IsCurve (so ++ ps) e) (sym all) (curve_grows_behind so (flat_map own (range_with_len from n)) (own s) c e so_far h))
     ]
 
 -- where nothing comes to it, it stays
@@ -99,10 +99,6 @@ nil_of (x ∷ l) e = absurd (omega (arith, e))
 -- a list whose length is found to be 0 is empty
 pub none_of : (l : List Point) (n : ℕ) (b : Bool) → n ≡ length l → b ≡ (n == 0) → b ≡ true → l ≡ []
 none_of l n b long e h = nil_of l (sym long ∙ eqb-true n 0 (sym e ∙ h))
-
--- what is held so far and one part more, of as many as there is room for
-pub room_for : (n most v a b m : ℕ) → a ≤ b + n * v → n < most → b + most * v ≤ m → a + v ≤ m
-room_for n most v a b m f l h = let more : (n + 1) * v ≤ most * v = mul-le-mul_right v (let k : n + 1 ≤ most = omega arith in k) in omega (arith, f, more, h)
 
 -- where there is room for as many parts as there may be, there is room for one more
 pub room_for_one : (most v b m : ℕ) → 0 < most → b + most * v ≤ m → b + v ≤ m

@@ -20,10 +20,6 @@ pub record IsDepotPoint (x : FamilyBox) (p : Point) : Type 0 where
   pub is : p ≡ depot_point x p.stocks
   pub range : InRange p
 
--- the stock in the middle between low and high
-abbrev pub middle : ℕ → ℕ → ℕ
-middle low high = low + (high - low) / 2
-
--- the least of the first n stocks, in the order from the middle one up to high and then from the middle down
+-- the least of the first n stocks, in the order from `start` up to high and then from `start` down
 abbrev pub run_start : ℕ → ℕ → ℕ → ℕ
-run_start low high n = min (middle low high) (high + 1 - n)
+run_start start high n = min start (high + 1 - n)

@@ -17,7 +17,7 @@ ghost use Rattle.family_points.specs.Inputs.{
   vertex_count,
 };
 ghost use Rattle.family_rows.specs.Sources.{AreSources};
-ghost use Rattle.family_curve.specs.Joining.{HaveWidthOf, IsDepotPoint, middle, vertices_of};
+ghost use Rattle.family_curve.specs.Joining.{HaveWidthOf, IsDepotPoint, vertices_of};
 ghost use Rattle.family_rows.specs.Tabled.{AreTables};
 ghost use Rattle.sum_walk.specs.Sums.{sums_of_each};
 
@@ -27,7 +27,7 @@ use family_points::family::{Family, joined};
 use family_points::order::Base;
 use family_rows::base::BaseSpot;
 use family_rows::base_at::BaseAt;
-use family_rows::depot::{DepotTables, ShopParts, depot_tables};
+use family_rows::depot::{DepotTables, ShopParts, depot_tables, likely_line};
 use family_rows::sources::Sources;
 use hull::{Chain, Curve, Point, Score};
 use series_bounds::short::Iv64;
@@ -168,26 +168,18 @@ fn with_depot<'b, S: Score>(
     Ok(curve)
 }
 
-/// The stock in the middle between `low` and `high`.
-fn middle(low: u8, high: u8) -> u8
-    requires { low ≤ high }
-    ensures { result ≡ middle low high }
-{
-    low + (high - low) / 2
-}
-
-/// The `n`-th stock after the middle one, in the order from the middle up to `high` and then from the middle down.
-fn behind_middle(low: u8, high: u8, n: u8) -> u8
-    requires order { low ≤ high }
+/// The `n`-th stock after `start`, in the order from `start` up to `high` and then from `start` down to `low`.
+fn behind(start: u8, low: u8, high: u8, n: u8) -> u8
+    requires from { low ≤ start }
+    requires to { start ≤ high }
     requires within { n ≤ high - low }
-    ensures up { middle low high + n ≤ high → result ≡ middle low high + n }
-    ensures down { high < middle low high + n → result ≡ high - n }
+    ensures up { start + n ≤ high → result ≡ start + n }
+    ensures down { high < start + n → result ≡ high - n }
     ensures least { low ≤ result }
     ensures most { result ≤ high }
 {
-    let middle = middle(low, high);
-    if n <= high - middle {
-        middle + n
+    if n <= high - start {
+        start + n
     } else {
         high - n
     }
@@ -227,8 +219,8 @@ fn first_point(
     Ok(depot_point(family, stocks))
 }
 
-/// The curve of the points so far and of all vectors with the shop units' stocks `shops` at the depot. The line unit's
-/// middle stock comes first, because its points pass most of the others.
+/// The curve of the points so far and of all vectors with the shop units' stocks `shops` at the depot. A likely stock
+/// of the line unit comes first, because its points pass most of the others.
 fn with_lines<'b, S: Score>(
     alloc: Global,
     so_far: Option<Curve>,
@@ -256,10 +248,11 @@ fn with_lines<'b, S: Score>(
     family.invariant();
     let low = family.line_low(SiteId(0));
     let high = family.line_high(SiteId(0));
-    let mut first = first_point(alloc, family, middle(low, high), shops)?;
+    let start = likely_line(tables, low, high);
+    let mut first = first_point(alloc, family, start, shops)?;
     let mut curve = with_depot(alloc, so_far, work, sources, score, tables, &first)?;
     for n in 1..high - low + 1 {
-        first = with_line(family, first, behind_middle(low, high, n));
+        first = with_line(family, first, behind(start, low, high, n));
         curve = with_depot(alloc, Some(curve), work, sources, score, tables, &first)?;
     }
     Ok(curve)

@@ -1,6 +1,7 @@
 //! A pair's item, from the pairs that feed its pipeline.
 
 ghost use Rattle.std.specs.Prelude.{◌≡◌, ◌*◌, ◌^◌, ◌<◌, ◌≤◌, IfOk, length, All};
+ghost use Rattle.spares_input.specs.Limits.{most_shop_units, most_stock};
 ghost use Rattle.moment_table.specs.Inputs.{CanTable};
 ghost use Rattle.depot_pipeline.specs.Exact.{IsSmallFeed};
 ghost use Rattle.depot_pipeline.specs.Profile.{depot_shop_ends, depot_line_ends};
@@ -25,7 +26,7 @@ fn stocked<const F: u32>(
     moments: Moments<F>,
 ) -> Result<Item<F>, NoMemory>
     requires table { CanTable F moments.mean moments.variance }
-    requires stock { pair.stock ≤ 63 }
+    requires stock { pair.stock ≤ most_stock }
     ensures { IfOk result (λ x. x ≡ stocked F pair.entry moments.entry) }
 {
     let row = row_at(alloc, moments.mean, moments.variance, pair.stock)?;
@@ -79,7 +80,7 @@ pub(crate) fn depot_line_item<const F: u32>(
     feeds: &[Feed<F>],
 ) -> Result<Item<F>, NoMemory>
     requires pair { IsPipeline F pair }
-    requires few { length feeds.now ≤ 8 }
+    requires few { length feeds.now ≤ most_shop_units }
     requires small { All (IsSmallFeed F) feeds.now }
     ensures { IfOk result (λ x. x ≡ stocked F pair.entry
         (depot_line_ends F pair.entry.direct pair.entry.cap feeds.now)) }
@@ -110,7 +111,7 @@ pub(crate) fn base_line_item<const F: u32>(
 ) -> Result<Item<F>, NoMemory>
     requires pair { IsPipeline F pair }
     requires small { IsSmallFeed F depot }
-    requires few { length shops.now ≤ 8 }
+    requires few { length shops.now ≤ most_shop_units }
     requires delays { All (IsSmallDelay F) shops.now }
     ensures { IfOk result (λ x. x ≡ stocked F pair.entry
         (base_line_ends F pair.entry.direct pair.entry.cap depot.entry shops.now)) }

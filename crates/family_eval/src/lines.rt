@@ -2,6 +2,7 @@
 
 ghost use Rattle.std.specs.Prelude.{◌≡◌, ◌+◌, ◌-◌, ◌<◌, ◌≤◌, IfOk, length, map, flat_map, get_or, All};
 ghost use Rattle.fixed_interval.specs.Ends.{InScale, ends_exact, ends_times};
+ghost use Rattle.spares_input.specs.Limits.{most_sites, most_shop_units};
 ghost use Rattle.depot_pipeline.specs.Profile.{added};
 ghost use Rattle.fleet_model.specs.Rows.{shop_units};
 ghost use Rattle.family_items.specs.Profile.{base_line, depot_line, feed_of, delay_of, item_of, part_items, share_of};
@@ -26,7 +27,7 @@ fn depot_feeds<const F: u32>(
     items: &[Item<F>],
 ) -> Result<Vec<Feed<F>>, NoMemory>
     requires scale { InScale F }
-    requires few { length shops.now ≤ 8 }
+    requires few { length shops.now ≤ most_shop_units }
     requires shops { All (λ p. p.0 < length inputs.now.case.parts) shops.now }
     requires items { items.now ≡ flat_map (λ p. part_items F inputs.now.case inputs.now.stocks.list p.0) shops.now }
     ensures { IfOk result (λ v. v.items ≡ map
@@ -52,7 +53,7 @@ fn delays_at<const F: u32>(
 ) -> Result<Vec<Held<F>>, NoMemory>
     requires scale { InScale F }
     requires site { site.0 < length inputs.now.case.sites }
-    requires few { length shops.now ≤ 8 }
+    requires few { length shops.now ≤ most_shop_units }
     requires items { items.now ≡ flat_map (λ p. part_items F inputs.now.case inputs.now.stocks.list p.0) shops.now }
     ensures { IfOk result (λ v. v.items ≡ map
         (λ p. delay_of F (item_of F inputs.now.case inputs.now.stocks.list p.0 site.0)) shops.now) }
@@ -139,7 +140,7 @@ pub(crate) fn total_of<const F: u32>(items: &[Item<F>], weight: u32) -> Iv<F>
     requires scale { InScale F }
     requires weight { weight ≤ 100 }
     requires some { 0 < length items.now }
-    requires few { length items.now ≤ 16 }
+    requires few { length items.now ≤ most_sites }
     requires small { All (IsSmallItem F) items.now }
     ensures { result ≡ added (ends_exact F 0) (λ j. ends_times (get_or items.now (j + 1) (no_item F)).backorders weight)
         (length items.now - 1) }

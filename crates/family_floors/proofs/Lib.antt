@@ -2,5 +2,4 @@ pub mod Public
 pub mod LowPoints
 pub mod RoughFacts
 pub mod Uppers
-pub mod Firsts
 pub mod Moved

@@ -3,6 +3,7 @@ use Rattle.std.proofs.Common.{◌≡◌, ℕ, suc, ◌+◌, ◌-◌, ◌*◌, �
 use Rattle.std.specs.List.{range_with_len}
 use Rattle.std.proofs.lemmas.Bool.{cases_lt}
 use Rattle.std.proofs.lemmas.List.{take_all}
+use Rattle.list_laws.proofs.Public.{begins_with_first, take_next}
 use Rattle.spares_input.specs.Frames.{part_at}
 use Rattle.fixed_interval.specs.Ends.{Ends, IsWithinLimit}
 use Rattle.backorder_bounds.specs.Places.{low_end}
@@ -25,7 +26,7 @@ use Rattle.family_points.specs.Least.{AreAtLeast}
 use Rattle.family_rows.specs.Tabled.{box_numbers}
 use Rattle.family_floors.specs.declared.lows.Lows.{Lows}
 use Rattle.family_floors.specs.Lows.{AreNoHigher, AreUnder, IsReached, line_place, lower_of}
-use Rattle.family_points.proofs.Public.{at_long, family_stocks_in, at_least_sums, base_small, begins, high_begins, joined_at, low_begins, over_more, take_next, backorders_small, at_base, line_dearer}
+use Rattle.family_points.proofs.Public.{at_long, family_stocks_in, at_least_sums, base_small, high_begins, joined_at, low_begins, over_more, backorders_small, at_base, line_dearer}
 
 -- a score that is at most the point's, and no larger than any score
 pub record IsLowScore (scored : ℕ) (v : Point) : Type 0 where
@@ -41,7 +42,7 @@ place_tabled x valid j d b s base h g =
     let depot_long = at_long x valid 0 d (omega (arith, some)) h in
     let item : base_backorders 48 (box_numbers x) j (get_or d 0 0) (drop 1 d) b s ≡ (item_of 48 x.case (base_stocks x d j (s ∷ b)) x.line j).backorders =
     sym (backorders_alone 48 x.case x.line j (base_stocks x d j (s ∷ b)) (get_or d 0 0) (drop 1 d) s b valid.is_line base.0 base.1
-    (family_stocks_in x.case x.line own 0 valid.valid valid.is_line (omega (arith, some)) depot_long ∙ sym (begins d (omega (arith, depot_long))))
+    (family_stocks_in x.case x.line own 0 valid.valid valid.is_line (omega (arith, some)) depot_long ∙ sym (begins_with_first d (omega (arith, depot_long))))
     (family_stocks_in x.case x.line own j valid.valid valid.is_line base.1 (ap length (at_base d j (s ∷ b) base.0) ∙ at_long x valid j (s ∷ b) base.1 g)
     ∙ at_base d j (s ∷ b) base.0)) in
     ap (λ (e : Ends). e.lo) item

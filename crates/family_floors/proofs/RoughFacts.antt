@@ -6,6 +6,7 @@ use Rattle.std.proofs.lemmas.Nat.{le-div}
 use Rattle.std.proofs.lemmas.Bool.{cases_lt}
 use Rattle.std.proofs.lemmas.List.{drop_all, get_or_append_left, get_or_push}
 use Rattle.std.proofs.lemmas.List.Sums.{sum_by-drop_more}
+use Rattle.list_laws.proofs.Public.{begins_with_first}
 use Rattle.spares_input.specs.Frames.{part_at}
 use Rattle.fixed_interval.specs.Ends.{Ends, IsWithinLimit, ends_add, ends_exact}
 use Rattle.series_bounds.specs.Profile.{weights_of}
@@ -29,7 +30,7 @@ use Rattle.hull.specs.Scores.{LeavesRoom}
 use Rattle.family_points.specs.Points.{ScoreEnds, cost_above}
 use Rattle.family_points.specs.Separation.{base_point, base_points, points_over}
 use Rattle.family_points.specs.Inputs.{AreShopsAt, FamilyBox, IsAt, IsFamilyBox, held_at, line_high, line_low, high_at, low_at, shop_high, shop_low}
-use Rattle.family_points.proofs.Public.{at_long, begins, box_begins, high_begins, line_cost, line_cost_most, line_cost_small, low_begins}
+use Rattle.family_points.proofs.Public.{at_long, box_begins, high_begins, line_cost, line_cost_most, line_cost_small, low_begins}
 use Rattle.family_points.specs.Least.{AreAtLeast}
 use Rattle.family_rows.specs.Tabled.{box_numbers}
 use Rattle.family_floors.specs.declared.lows.Lows.{Lows}
@@ -108,9 +109,9 @@ line_within x valid d at =
     let long : 0 < length d = omega (arith, at_long x valid 0 d some at) in
     let own : List ℕ = get_or d 0 0 ∷ drop 1 d in
     let least : AllZip (λ m n. m ≤ n) (line_low x 0 ∷ shop_low x 0) own =
-    subst (λ (l : List ℕ). AllZip (λ m n. m ≤ n) l own) (sym (low_begins x valid 0 some)) (subst (AllZip (λ m n. m ≤ n) (low_at x 0)) (sym (begins d long)) at.least) in
+    subst (λ (l : List ℕ). AllZip (λ m n. m ≤ n) l own) (sym (low_begins x valid 0 some)) (subst (AllZip (λ m n. m ≤ n) (low_at x 0)) (sym (begins_with_first d long)) at.least) in
     let most : AllZip (λ m n. m ≤ n) own (line_high x 0 ∷ shop_high x 0) =
-    subst (λ (l : List ℕ). AllZip (λ m n. m ≤ n) own l) (sym (high_begins x valid 0 some)) (subst (λ (l : List ℕ). AllZip (λ m n. m ≤ n) l (high_at x 0)) (sym (begins d long)) at.most) in
+    subst (λ (l : List ℕ). AllZip (λ m n. m ≤ n) own l) (sym (high_begins x valid 0 some)) (subst (λ (l : List ℕ). AllZip (λ m n. m ≤ n) l (high_at x 0)) (sym (begins_with_first d long)) at.most) in
     (least.0, most.0)
 
 -- what the line unit has of its pipeline at a base, from the fewest backorders at the depot, without stock there is backordered whatever its stock at the depot

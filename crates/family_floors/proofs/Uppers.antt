@@ -1,6 +1,7 @@
 -- The upper end of one of a family's points: of a base by a choice, of the depot's stocks by their bases.
-use Rattle.std.proofs.Common.{◌≡◌, ℕ, suc, ◌+◌, ◌-◌, ◌<◌, ◌≤◌, List, [], ◌∷◌, flat_map, length, map, get_or, refl, sym, ap, ap₂, ◌∙◌, subst, inl, arith}
-use Rattle.std.specs.List.{AllZip, range_with_len}
+use Rattle.std.proofs.Common.{◌≡◌, ℕ, suc, ◌+◌, ◌-◌, ◌<◌, List, [], ◌∷◌, flat_map, length, map, get_or, refl, sym, ap, ap₂, ◌∙◌, subst, inl, arith}
+use Rattle.std.specs.List.{range_with_len}
+use Rattle.list_laws.proofs.Public.{no_more_than_self}
 use Rattle.fleet_model.specs.Laws.{IsBase}
 use Rattle.hull.specs.declared.point.Point.{Point}
 use Rattle.hull.specs.Curves.{Among, plus, sums}
@@ -33,17 +34,13 @@ upper_of_choice x valid j order is ends d base w hi some e h =
 
 -- ---- the least stocks of a site are within its bounds
 
-least_self : (v : List ℕ) → AllZip (λ x y. x ≤ y) v v
-least_self [] = tt
-least_self (x ∷ v) = (omega arith, least_self v)
-
 -- the least stocks are within the bounds of the site
 pub low_is_at : (x : FamilyBox) (valid : IsFamilyBox x) (k : ℕ) → k < length x.case.sites → IsAt x k (low_at x k)
-low_is_at x valid k m = record { least = least_self (low_at x k); most = (box_at x k valid m).ordered }
+low_is_at x valid k m = record { least = no_more_than_self (low_at x k); most = (box_at x k valid m).ordered }
 
 -- the shop units' least stocks are within the bounds of the site
 pub low_shops_at : (x : FamilyBox) (valid : IsFamilyBox x) (k : ℕ) → k < length x.case.sites → AreShopsAt x k (shop_low x k)
-low_shops_at x valid k m = record { least = least_self (shop_low x k); most = (box_shops x valid k m).ordered }
+low_shops_at x valid k m = record { least = no_more_than_self (shop_low x k); most = (box_shops x valid k m).ordered }
 
 -- ---- base by base
 

@@ -27,11 +27,8 @@ use family_points::order::ShopVector;
 use family_rows::base_at::BaseAt;
 use family_rows::depot::{DepotTables, own_at, shops_at};
 use family_rows::sources::Sources;
-use hull::{Price, Score};
+use hull::{MOST_FLOOR, Price, Score};
 use spares_input::SiteId;
-
-/// No Lagrangian of a base is larger.
-pub(crate) const MOST: u128 = 1 << 115;
 
 /// Lower bounds on Lagrangians at two prices.
 #[derive(Clone, Copy, Drop)]
@@ -208,8 +205,8 @@ pub fn lows_at_base<S: Score>(
     let own = own_at(&here, numbers, tables);
     let parts = shops_at(tables, &here);
     let mut least = Lows {
-        at_low: MOST,
-        at_high: MOST,
+        at_low: MOST_FLOOR,
+        at_high: MOST_FLOOR,
     };
     for n in 0..here.base.shops.len() {
         let shops = &here.base.shops[n];

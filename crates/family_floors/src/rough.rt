@@ -14,14 +14,14 @@ ghost use Rattle.family_floors.specs.Lows.{AreNoHigher, IsSmallPrice};
 ghost use Rattle.family_floors.specs.Rough.{AreFewest, AreFewestWithout, AreRough, AreUnderBase, AreUnderLines};
 
 use crate::bases::base_of;
-use crate::lows::{Lows, MOST, lagrangian};
+use crate::lows::{Lows, lagrangian};
 use answers::NoMemory;
 use family_points::family::Family;
 use family_points::order::ShopVector;
 use family_rows::base_at::BaseAt;
 use family_rows::depot::{DepotTables, shops_at};
 use family_rows::sources::Sources;
-use hull::{Price, Score};
+use hull::{MOST_FLOOR, Price, Score};
 use spares_input::SiteId;
 use std::alloc::Global;
 
@@ -137,8 +137,8 @@ fn rough_at_base<S: Score>(
     let own = pair.direct.lo() + pair.share.lo() * fewest / UNIT;
     let parts = shops_at(tables, &here);
     let mut least = Lows {
-        at_low: MOST,
-        at_high: MOST,
+        at_low: MOST_FLOOR,
+        at_high: MOST_FLOOR,
     };
     for n in 0..here.base.shops.len() {
         let shops = &here.base.shops[n];

@@ -3,6 +3,7 @@ use Rattle.std.proofs.Common.{◌≡◌, ℕ, zero, suc, ◌+◌, ◌-◌, ◌*�
 use Rattle.std.specs.List.{AllByRecursion, AllZip}
 use Rattle.std.proofs.lemmas.List.{get_or-map, length-map}
 use Rattle.std.proofs.lemmas.Simd.{map-map}
+use Rattle.list_laws.proofs.Public.{all_follow, flat_at, passed}
 use Rattle.exact_model.specs.Fraction.{Encloses, whole, ◌*ℚ◌}
 use Rattle.exact_model.proofs.Public.{contains_same, ◌≈≈◌, none_plus}
 use Rattle.fixed_interval.specs.Ends.{Ends, In, ends_exact}
@@ -18,7 +19,7 @@ use Rattle.fleet_model.specs.Rows.{line_units, weight}
 use Rattle.fleet_model.specs.Pipelines.{ebo_0j}
 use Rattle.fleet_model.specs.Fleet.{family, family_total}
 use Rattle.fleet_model.specs.Laws.{IsBase}
-use Rattle.fleet_model.proofs.Public.{passed, sum_range, all_follow}
+use Rattle.fleet_model.proofs.Public.{sum_range}
 use Rattle.demand_rates.specs.Rates.{all_rates}
 use Rattle.demand_rates.proofs.Public.{rates_model}
 use Rattle.family_items.specs.declared.item.Item.{Item}
@@ -29,7 +30,7 @@ use Rattle.family_items.specs.Inputs.{IsLine, IsSound}
 use Rattle.family_items.proofs.Ranges.{sound_of}
 use Rattle.family_items.proofs.Units.{all_at, shop_at}
 use Rattle.family_items.proofs.Enclosed.{in_0j, item_in, item_small}
-use Rattle.family_items.proofs.Items.{base_line_item, flat_at, weighed_most}
+use Rattle.family_items.proofs.Items.{base_line_item, weighed_most}
 
 -- what can be evaluated has accepted rates at each pair, and stocks within the limits
 pub evaluable : (f : ℕ) (c : CaseRows) (s : StockList) → CanEvaluate f c s → IsSound c s.list

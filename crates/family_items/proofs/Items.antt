@@ -1,9 +1,10 @@
 -- The lists of items that the loops make.
-use Rattle.std.proofs.Common.{◌≡◌, ℕ, zero, suc, ◌+◌, ◌-◌, ◌*◌, ◌^◌, ◌<◌, ◌≤◌, Bool, true, false, cond, List, [], ◌∷◌, ◌++◌, length, get_or, map, filter, flat_map, take, Option, Some, refl, sym, ap, ap₂, ◌∙◌, subst, arith, length-append, append-nil, mul-le-mul_left, mul-le-mul_right}
-use Rattle.std.specs.List.{range_with_len, All, AllByRecursion}
-use Rattle.std.proofs.lemmas.List.{get_or-map, get_or_default, length-map, map_more, get_or_append_left, get_or-append-add}
+use Rattle.std.proofs.Common.{◌≡◌, ℕ, zero, suc, ◌+◌, ◌-◌, ◌*◌, ◌^◌, ◌<◌, ◌≤◌, List, [], ◌∷◌, ◌++◌, length, get_or, map, flat_map, take, Option, Some, refl, sym, ap, ap₂, ◌∙◌, subst, arith, mul-le-mul_left, mul-le-mul_right}
+use Rattle.std.specs.List.{All, AllByRecursion}
+use Rattle.std.proofs.lemmas.List.{get_or-map, get_or_default, length-map, map_more}
 use Rattle.std.proofs.lemmas.List.Folds.{flat_map-map}
 use Rattle.std.proofs.lemmas.List.FromFn.{get_or-map-range_with_len, length-map-range_with_len}
+use Rattle.list_laws.proofs.Public.{flat_at, flat_length, place_fits}
 use Rattle.fixed_interval.specs.Ends.{Ends, ends_add, ends_exact, ends_times}
 use Rattle.fixed_interval.proofs.Public.{unit_most}
 use Rattle.depot_pipeline.specs.declared.Feed.{Feed}
@@ -16,7 +17,6 @@ use Rattle.spares_input.specs.Frames.{line_of}
 use Rattle.spares_input.specs.Cases.{CaseRows, IsCase}
 use Rattle.spares_input.specs.Stocks.{StockList}
 use Rattle.spares_input.specs.declared.rows.PartId.{PartId}
-use Rattle.spares_input.proofs.Public.{filter_next}
 use Rattle.fleet_model.specs.Rows.{shop_units, weight}
 use Rattle.fleet_model.specs.Pairs.{by_pair}
 use Rattle.demand_rates.specs.Rates.{pair_rates}
@@ -31,41 +31,6 @@ use Rattle.family_items.proofs.Units.{few_shops, shop_at, shops_all}
 use Rattle.family_items.proofs.Enclosed.{item_small, small_i0, small_ij}
 
 -- ---- lists
-
--- one number more, by its test
-pub kept_more : (t : ℕ → Bool) (n : ℕ) → t n ≡ true → filter t (range_with_len 0 (n + 1)) ≡ filter t (range_with_len 0 n) ++ n ∷ []
-kept_more t n h = filter_next t n ∙ ap (λ b. filter t (range_with_len 0 n) ++ cond b (n ∷ []) []) h
-
--- a number that fails the test adds nothing to those that pass it
-pub left_out : (t : ℕ → Bool) (n : ℕ) → t n ≡ false → filter t (range_with_len 0 (n + 1)) ≡ filter t (range_with_len 0 n)
-left_out t n h =
-    filter_next t n ∙ ap (λ b. filter t (range_with_len 0 n) ++ cond b (n ∷ []) []) h
-    ∙ append-nil (filter t (range_with_len 0 n))
-
--- the element at place k of row i, where each row has n elements
-pub flat_at : {X : Type 0} (g : ℕ → ℕ → X) (n : ℕ) (d : X) (xs : List ℕ) (i k : ℕ) → i < length xs → k < n
-    → get_or (flat_map (λ p. map (g p) (range_with_len 0 n)) xs) (i * n + k) d ≡ g (get_or xs i 0) k
-flat_at g n d [] i k h l = absurd (omega arith)
-flat_at g n d (x ∷ xs) zero k h l =
-    let at : 0 * n + k ≡ k = omega arith in
-    ap (λ j. get_or (map (g x) (range_with_len 0 n) ++ flat_map (λ p. map (g p) (range_with_len 0 n)) xs) j d) at
-    ∙ get_or_append_left (map (g x) (range_with_len 0 n)) (flat_map (λ p. map (g p) (range_with_len 0 n)) xs) d k (omega (arith, l, length-map-range_with_len (g x) 0 n))
-    ∙ get_or-map-range_with_len (g x) 0 n k k d l (omega arith)
-flat_at g n d (x ∷ xs) (suc i) k h l =
-    let at : suc i * n + k ≡ length (map (g x) (range_with_len 0 n)) + (i * n + k) = omega (arith, length-map-range_with_len (g x) 0 n) in
-    ap (λ j. get_or (map (g x) (range_with_len 0 n) ++ flat_map (λ p. map (g p) (range_with_len 0 n)) xs) j d) at
-    ∙ get_or-append-add (map (g x) (range_with_len 0 n)) (flat_map (λ p. map (g p) (range_with_len 0 n)) xs) (i * n + k) d
-    ∙ flat_at g n d xs i k (omega arith) l
-
--- rows of n elements each make n elements for each row
-pub flat_length : {X : Type 0} (g : ℕ → ℕ → X) (n : ℕ) (xs : List ℕ) → length (flat_map (λ p. map (g p) (range_with_len 0 n)) xs) ≡ length xs * n
-flat_length g n [] = omega arith
-flat_length g n (x ∷ xs) =
-    length-append (map (g x) (range_with_len 0 n)) (flat_map (λ p. map (g p) (range_with_len 0 n)) xs)
-    ∙ ap₂ (λ a b. a + b) (length-map-range_with_len (g x) 0 n) (flat_length g n xs) ∙ more (length xs) n
-  where
-    more : (m n : ℕ) → n + m * n ≡ suc m * n
-    more m n = omega arith
 
 -- the same function of the numbers
 pub same_maps : {X : Type 0} (P : ℕ → Type 0) (g : PartId → X) (h : ℕ → X) (xs : List PartId) → AllByRecursion P (map (λ (p : PartId). p.0) xs)
@@ -176,9 +141,6 @@ unit_items f c s xs = flat_map (λ (p : PartId). part_items f c s p.0) xs
 pub by_ids : (f : ℕ) (c : CaseRows) (s : List ℕ) (xs : List PartId) → unit_items f c s xs ≡ flat_map (part_items f c s) (map (λ (p : PartId). p.0) xs)
 by_ids f c s xs = sym (flat_map-map (part_items f c s) (λ (p : PartId). p.0) xs)
 
-before_end : (i n k m : ℕ) → i < m → k < n → i * n + k < m * n
-before_end i n k m h l = let q : suc i * n ≤ m * n = mul-le-mul_right n h in omega (arith, q)
-
 -- the items of shop units, by unit and then by site, have one for each such pair
 pub index_within : (f : ℕ) (c : CaseRows) (s : List ℕ) (xs : List PartId) (items : List (Item f)) (i k : ℕ) → items ≡ unit_items f c s xs → i < length xs → k < length c.sites
     → i * length c.sites + k < length items
@@ -186,7 +148,7 @@ index_within f c s xs items i k e h l =
     let all : length items ≡ length xs * length c.sites =
     ap (λ (ys : List (Item f)). length ys) (e ∙ by_ids f c s xs) ∙ flat_length (item_of f c s) (length c.sites) (map (λ (p : PartId). p.0) xs)
     ∙ ap (λ n. n * length c.sites) (length-map xs (λ (p : PartId). p.0)) in
-    omega (arith, all, before_end i (length c.sites) k (length xs) h l)
+    omega (arith, all, place_fits i k (length xs) (length c.sites) h l)
 
 -- the item found at the place of a unit and a site is that of this pair
 pub item_read : (f : ℕ) (c : CaseRows) (s : List ℕ) (xs : List PartId) (items : List (Item f)) (i k place : ℕ) (d : PartId) (x : Item f) → items ≡ unit_items f c s xs
@@ -253,10 +215,6 @@ pub total_room : (f j n sum t : ℕ) → f ≤ 52 → j < n → n ≤ 16 → sum
 total_room f j n sum t s l few h k =
     let m : (j - 1 + 1) * (25600 * 2 ^ f) ≤ 16 * (25600 * 2 ^ f) = mul-le-mul_right (25600 * 2 ^ f) (omega (arith, l, few)) in
     omega (arith, m, unit_most f s)
-
--- one base more than those before base j are those before base j + 1
-pub bases_next : (j : ℕ) → 1 ≤ j → j - 1 + 1 ≡ j + 1 - 1
-bases_next j h = omega (arith, h)
 
 -- sums of ends that agree term by term are the same
 pub added_same : (first : Ends) (p q : ℕ → Ends) (n : ℕ) → ((k : ℕ) → k < n → p k ≡ q k) → added first p n ≡ added first q n

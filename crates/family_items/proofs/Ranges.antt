@@ -2,16 +2,17 @@
 use Rattle.std.proofs.Common.{◌≡◌, ◌∙◌, ℕ, zero, suc, ◌+◌, ◌*◌, ◌/◌, ◌^◌, ◌<◌, ◌≤◌, ◌⊎◌, inl, inr, Option, Some, None, sym, ap, subst, arith, lit<, length, mul-le-mul_right, mul-le-mul_left, le_of_mul-le-mul_right, le_trans, zero-lt-suc, List, eq-zero-or-pos}
 use Rattle.std.proofs.Math.Nat.{pow-le-pow_right, le_refl}
 use Rattle.std.proofs.Math.Dec.{lit≤}
-use Rattle.std.proofs.lemmas.Nat.{le-div, div-add-mod', mod_below, mul-add-lt}
+use Rattle.std.proofs.lemmas.Nat.{le-div, div-add-mod', mod_below}
+use Rattle.list_laws.proofs.Public.{ceil_above, ceil_most, floor_below_ceil}
 use Rattle.exact_model.specs.Fraction.{Fraction, whole, ◌≈◌, ◌≤ℚ◌, ◌/ℚ◌}
 use Rattle.exact_model.proofs.Public.{contains_same, le_same, over, same, turned, ◌≈≈◌}
 use Rattle.fixed_interval.specs.Ends.{Ends, In, ends_ratio}
-use Rattle.fixed_interval.proofs.Public.{ceil_above, floor_below_ceil, ratio_encloses, quotient_is, ceil_most}
+use Rattle.fixed_interval.proofs.Public.{ratio_encloses, quotient_is}
 use Rattle.depot_pipeline.specs.Exact.{IsAtMost}
 use Rattle.depot_pipeline.specs.Profile.{added, capped_at}
 use Rattle.spares_input.specs.Frames.{line_of}
 use Rattle.spares_input.specs.Cases.{CaseRows, rate_at}
-use Rattle.spares_input.specs.Stocks.{HasPair, stock_at}
+use Rattle.spares_input.specs.Stocks.{HasPair, IsFor, StockList, stock_at}
 use Rattle.spares_input.specs.declared.rows.PartId.{PartId}
 use Rattle.spares_input.specs.declared.rows.SiteId.{SiteId}
 use Rattle.fleet_model.specs.Rows.{stock}
@@ -113,6 +114,10 @@ nothing_cap f z h = (let c = ceil_most (z * 2 ^ f) 365000000000000000000 0 (lit<
 
 -- ---- pairs
 
+-- stocks of a case have the pair of each of its parts and sites
+pub pair_in : (c : CaseRows) (s : StockList) (p k : ℕ) → IsFor c s → p < length c.parts → k < length c.sites → HasPair s p k
+pair_in c s p k for l m = grind (arith, for.sites, for.pairs, mul-le-mul_right (length c.sites) l)
+
 -- valid inputs have accepted rates at each pair, and stocks within the limits
 pub sound_of : (x : InputRows) → AreInputs x → IsSound x.case x.stocks.list
 sound_of x h = record {
@@ -160,16 +165,9 @@ module _ (x y : InputRows) (p : PartId) (k : SiteId) (h : AreInputs x) (e : x �
   pub its_rates : ArePairRates x.case p.0 k.0 (rates_at x.rates p.0 k.0)
   its_rates = h.are_rates.pairs p.0 k.0 is_part is_site
 
-  place_within : (n m : ℕ) → n ≡ length x.case.sites → m ≡ length x.case.parts * length x.case.sites → p.0 * n + k.0 < m
-  place_within n m sites pairs =
-      rw (sites, pairs) (omega (arith, mul-add-lt p.0 (length x.case.sites) k.0 (length x.case.parts) is_part is_site))
-
   -- the pair has a stock
   pub has_pair : HasPair x.stocks p.0 k.0
-  has_pair = record {
-    site = subst (λ n. k.0 < n) (sym h.are_stocks.is_for.sites) is_site;
-    within = place_within x.stocks.sites (length x.stocks.list) h.are_stocks.is_for.sites h.are_stocks.is_for.pairs;
-  }
+  has_pair = pair_in x.case x.stocks p.0 k.0 h.are_stocks.is_for is_part is_site
 
   -- which is at most 63
   pub few : (s : ℕ) → s ≡ stock_at x.stocks p.0 k.0 → s ≤ 63

@@ -1,16 +1,16 @@
 -- The shop units of a line unit.
-use Rattle.std.proofs.Common.{◌≡◌, ℕ, zero, suc, ◌<◌, ◌≤◌, true, false, inl, inr, List, [], ◌∷◌, length, get_or, bytes_eq, Option, Some, None, refl, sym, ap, ◌∙◌, arith, ◌++◌, ◌+◌}
-use Rattle.std.specs.List.{AllByRecursion, range_with_len}
+use Rattle.std.proofs.Common.{◌≡◌, ℕ, zero, suc, ◌<◌, ◌≤◌, true, false, inl, inr, List, [], ◌∷◌, length, get_or, bytes_eq, Option, Some, None, refl, sym, ap, ◌∙◌, arith}
+use Rattle.std.specs.List.{AllByRecursion}
 use Rattle.std.specs.Option.{option_and_then, option_map_or}
 use Rattle.std.proofs.lemmas.Bool.{cases_Bool, false≢true, cases_eq}
 use Rattle.std.proofs.lemmas.List.{length-map}
 use Rattle.std.proofs.lemmas.List.Quantifiers.{position-Some}
+use Rattle.list_laws.proofs.Public.{all_follow, passed}
 use Rattle.spares_input.specs.Rows.{is_line}
 use Rattle.spares_input.specs.Frames.{is_shop_of, line_of, part_at, part_names, place_of}
 use Rattle.spares_input.specs.Cases.{CaseRows, IsCase}
 use Rattle.spares_input.specs.declared.rows.PartRow.{PartRow}
 use Rattle.fleet_model.specs.Rows.{shop_units}
-use Rattle.fleet_model.proofs.Public.{passed, all_follow}
 use Rattle.demand_rates.proofs.Public.{line_of_none, other_shop}
 use Rattle.family_items.specs.Inputs.{IsLine, IsShop}
 
@@ -69,15 +69,3 @@ line_at c p valid w e = record {
     | inr n ↦ absurd (false≢true (sym (ap (λ o. option_map_or (λ m. is_line (part_at c.parts m)) o false) e) ∙ valid.frame.parents p w n))
   ];
 }
-
--- ---- lists
-
--- what is true of all members of two lists is so of the two joined
-pub each_append : {X : Type 0} (P : X → Type 0) (xs ys : List X) → AllByRecursion P xs → AllByRecursion P ys → AllByRecursion P (xs ++ ys)
-each_append P [] ys a b = b
-each_append P (x ∷ xs) ys a b = (a.0, each_append P xs ys a.1 b)
-
--- what holds of each number from a on below a + n holds along these numbers
-pub each_in_range : (P : ℕ → Type 0) (n a : ℕ) → ((k : ℕ) → a ≤ k → k < a + n → P k) → AllByRecursion P (range_with_len a n)
-each_in_range P zero a h = tt
-each_in_range P (suc n) a h = (h a (omega arith) (omega arith), each_in_range P n (a + 1) (λ k l m. h k (omega arith) (omega arith)))

@@ -3,6 +3,7 @@ use Rattle.std.specs.Prelude.{◌≡◌, true, ℕ, ◌*◌, ◌^◌, ◌<◌, �
 use Rattle.fixed_interval.specs.Ends.{IsWithinLimit}
 use Rattle.moment_table.specs.Inputs.{CanTable}
 use Rattle.depot_pipeline.specs.declared.Moments.{Moments}
+use Rattle.spares_input.specs.Limits.{most_stock}
 use Rattle.spares_input.specs.Rows.{is_line}
 use Rattle.spares_input.specs.Frames.{part_at, line_of}
 use Rattle.spares_input.specs.Cases.{CaseRows, IsCase}
@@ -58,7 +59,7 @@ pub record IsPipeline (f : ℕ) (x : Pipeline f) : Type 0 where
   pub order : x.direct.lo ≤ x.cap
   pub direct_most : IsWithinLimit f x.direct
   pub cap_most : x.cap ≤ 256 * 2 ^ f
-  pub stock_most : x.stock ≤ 63
+  pub stock_most : x.stock ≤ most_stock
 
 -- the pipeline has a table
 abbrev pub HasTable : (f : ℕ) → Moments f → Type 0

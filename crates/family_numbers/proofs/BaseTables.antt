@@ -1,30 +1,12 @@
 -- The tables of the shop units at the bases: how the lists are made, and what is read of them.
-use Rattle.std.proofs.Common.{◌≡◌, ℕ, suc, ◌+◌, ◌-◌, ◌<◌, ◌≤◌, List, [], ◌∷◌, ◌++◌, length, get_or, map, sym, ap, ap₂, ◌∙◌, arith}
+use Rattle.std.proofs.Common.{◌≡◌, ℕ, suc, ◌+◌, ◌-◌, ◌<◌, ◌≤◌, List, [], ◌∷◌, length, get_or, map, ap, ◌∙◌, arith}
 use Rattle.std.specs.List.{range_with_len, AllZip}
 use Rattle.std.proofs.lemmas.List.Elements.{AllZip-get_or}
-use Rattle.std.proofs.lemmas.List.FromFn.{get_or-map-range_with_len, length-map-range_with_len, map-range_with_len_more}
+use Rattle.list_laws.proofs.Public.{count_from, read_from}
 use Rattle.moment_table.specs.Rows.{TableRows}
 use Rattle.family_numbers.specs.declared.base_shops.BaseShops.{BaseShops}
 use Rattle.family_numbers.specs.BaseTables.{AreShopBounds, HaveShops, tables_by_shop, tables_by_stock}
 use Rattle.family_numbers.specs.Numbers.{FamilyNumbers, nth_stock}
-
--- with one more number's entry appended, there is one for each number from a to s
-pub mapped_from : {X : Type 0} (f : ℕ → X) (a s : ℕ) (xs ys : List X) (x : X) → a ≤ s → ys ≡ xs ++ x ∷ [] → xs ≡ map f (range_with_len a (s - a)) → x ≡ f s
-    → ys ≡ map f (range_with_len a (s + 1 - a))
-mapped_from {X} f a s xs ys x h e g t =
-    let next : s - a + 1 ≡ s + 1 - a = omega (arith, h) in
-    let at : a + (s - a) ≡ s = omega (arith, h) in
-    e ∙ ap₂ (λ (zs : List X) (z : X). zs ++ z ∷ []) g t
-    ∙ sym (map-range_with_len_more f a (s - a) s at)
-    ∙ ap (λ n. map f (range_with_len a n)) next
-
--- where there is an entry for each of n numbers from a on, there is one at each such place
-pub count_from : {X : Type 0} (f : ℕ → X) (a n i : ℕ) (xs : List X) → xs ≡ map f (range_with_len a n) → i < n → i < length xs
-count_from f a n i xs e l = omega (arith, l, ap (λ (ys : List _). length ys) e, length-map-range_with_len f a n)
-
--- the entry at such a place is that of its number
-pub read_from : {X : Type 0} (f : ℕ → X) (a n i s : ℕ) (xs : List X) (x : X) → xs ≡ map f (range_with_len a n) → i < n → s ≡ a + i → x ≡ get_or xs i x → x ≡ f s
-read_from f a n i s xs x e l t r = r ∙ ap (λ ys. get_or ys i x) e ∙ get_or-map-range_with_len f a n i s x l (omega (arith, t))
 
 -- the bounds of a shop unit are in order, and at most 63
 pub record IsShopBound (low high : List ℕ) (i : ℕ) : Type 0 where

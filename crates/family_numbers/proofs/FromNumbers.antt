@@ -2,6 +2,7 @@
 use Rattle.std.proofs.Common.{◌≡◌, ℕ, suc, ◌+◌, ◌-◌, ◌<◌, ◌≤◌, List, [], ◌∷◌, length, get_or, map, refl, sym, ap, ap₂, ◌∙◌, arith, add-one}
 use Rattle.std.specs.List.{range_with_len}
 use Rattle.std.proofs.lemmas.List.{get_or-map}
+use Rattle.list_laws.proofs.Public.{flat_at}
 use Rattle.fixed_interval.specs.Ends.{Ends}
 use Rattle.moment_table.specs.Rows.{at_stock}
 use Rattle.depot_pipeline.specs.declared.Moments.{Moments}
@@ -18,7 +19,7 @@ use Rattle.family_items.specs.Inputs.{HasTable, IsLine}
 use Rattle.family_numbers.specs.Numbers.{ArePairNumbers, nth_stock, base_backorders, base_delays, base_shop_moments, base_shop_row, depot_feeds, depot_line_moments, depot_line_row, depot_shop_moments, depot_shop_row, family_stocks, feed_from, delay_from, numbers_of, no_numbers, pair_at, pair_numbers, rows_of}
 use Rattle.family_numbers.specs.Numbers.{moments_of}
 use Rattle.family_items.specs.Profile.{base_line, base_shop, depot_feed, depot_line, depot_shop, feed_of, delay_of, item_of, share_of, stocked}
-use Rattle.family_items.proofs.Public.{base_line_item, flat_at, can_capped}
+use Rattle.family_items.proofs.Public.{base_line_item, can_capped}
 
 -- a mean that begins at or above a pair's direct part has a table once it is capped
 pub can_rows : (f : ℕ) (x : PairNumbers f) (m v : Ends) → ArePairNumbers f x → x.direct.lo ≤ m.lo → HasTable f (capped_at f x.cap m v)

@@ -1,8 +1,8 @@
 -- The numbers that are read from a case are those of its definition, and they are a family's.
-use Rattle.std.proofs.Common.{◌≡◌, Bool, cond, not, nat_lt, position, Some, None, refl, ℕ, [], ◌∷◌, ◌+◌, ◌<◌, ◌≤◌, List, length, get_or, map, flat_map, sym, ap, ap₂, ◌∙◌, subst, arith}
-use Rattle.std.specs.List.{position_or_len}
+use Rattle.std.proofs.Common.{◌≡◌, ℕ, ◌<◌, ◌≤◌, List, length, get_or, map, flat_map, sym, ap, ap₂, ◌∙◌, subst, arith}
 use Rattle.std.proofs.lemmas.List.{get_or-map, length-map}
 use Rattle.std.proofs.lemmas.List.Folds.{flat_map-map}
+use Rattle.list_laws.proofs.Public.{flat_at, flat_length}
 use Rattle.spares_input.specs.Cases.{CaseRows, IsCase}
 use Rattle.spares_input.specs.declared.rows.PartId.{PartId}
 use Rattle.fleet_model.specs.Rows.{all_sites, weight}
@@ -13,7 +13,7 @@ use Rattle.demand_rates.specs.Rates.{pair_rates, ArePairRates, AreRatesOf}
 use Rattle.family_numbers.specs.declared.numbers.PairNumbers.{PairNumbers}
 use Rattle.family_items.specs.Inputs.{IsLine}
 use Rattle.family_numbers.specs.Numbers.{AreNumbers, ArePairNumbers, FamilyNumbers, numbers_of, no_numbers, pair_numbers}
-use Rattle.family_items.proofs.Public.{weight_most, member_in_case, flat_at, flat_length, pipeline_from_is, rated, share_most, few_shops}
+use Rattle.family_items.proofs.Public.{weight_most, member_in_case, pipeline_from_is, rated, share_most, few_shops}
 
 -- each id of a family is that of a part of the case
 pub member_in : (c : CaseRows) (l : ℕ) (xs ys : List PartId) (k : ℕ) (d : PartId) → IsCase c → IsLine c l → ys ≡ xs → map (λ (p : PartId). p.0) xs ≡ family c l
@@ -63,15 +63,3 @@ numbers_valid f c r l least valid rates line = record {
 -- a family's numbers, whatever stands for them
 pub numbers_made : (f : ℕ) (c : CaseRows) (r : RateList) (l : ℕ) (x : FamilyNumbers f) → 24 ≤ f → IsCase c → AreRatesOf c r → IsLine c l → x ≡ numbers_of f c l → AreNumbers f x
 numbers_made f c r l x least valid rates line e = subst (AreNumbers f) (sym e) (numbers_valid f c r l least valid rates line)
-
--- ---- places
-
--- the same test of what the elements have
-places_same : {X Y : Type 0} (g : X → Y) (p : Y → Bool) (xs : List X) → position_or_len p (map g xs) ≡ position_or_len (λ x. p (g x)) xs
-places_same g p [] = refl
-places_same g p (x ∷ xs) = ap (λ n. cond (not (p (g x))) (1 + n) 0) (places_same g p xs)
-
--- the first image that passes a test is at the place of the first entry whose image does
-pub position_mapped : {X Y : Type 0} (g : X → Y) (p : Y → Bool) (xs : List X) → position p (map g xs) ≡ position (λ x. p (g x)) xs
-position_mapped g p xs =
-    ap₂ (λ (n m : ℕ). cond (nat_lt n m) (Some n) None) (places_same g p xs) (length-map xs g)

@@ -4,6 +4,7 @@ use Rattle.std.proofs.Math.Nat.{le_refl}
 use Rattle.std.specs.List.{range_with_len, All}
 use Rattle.std.proofs.lemmas.List.{get_or_default}
 use Rattle.std.proofs.lemmas.List.FromFn.{get_or-map-range_with_len, length-map-range_with_len}
+use Rattle.list_laws.proofs.Public.{all_numbered}
 use Rattle.fixed_interval.specs.Ends.{Ends, ends_add, ends_max}
 use Rattle.moment_table.specs.declared.kinds.Row.{Row}
 use Rattle.moment_table.specs.Profile.{table_rows}
@@ -28,12 +29,6 @@ count_of h n i xs e l = omega (arith, l, ap (λ (ys : List _). length ys) e, len
 -- the entry at such a place is that of its number
 pub read_of : {X : Type 0} (h : ℕ → X) (n i : ℕ) (xs : List X) (x : X) → xs ≡ map h (range_with_len 0 n) → i < n → x ≡ get_or xs i x → x ≡ h i
 read_of h n i xs x e l r = r ∙ ap (λ ys. get_or ys i x) e ∙ get_or-map-range_with_len h 0 n i i x l (omega arith)
-
--- what holds of the entry of each number below n holds of all entries
-pub all_numbered : {X : Type 0} (Q : X → Type 0) (h : ℕ → X) (n : ℕ) → ((k : ℕ) → k < n → Q (h k)) → All Q (map h (range_with_len 0 n))
-all_numbered Q h n e k d l =
-    let m : k < n = omega (arith, l, length-map-range_with_len h 0 n) in
-    subst Q (sym (get_or-map-range_with_len h 0 n k k d m (omega arith))) (e k m)
 
 -- ---- what is passed on is small
 

@@ -2,6 +2,7 @@
 -- depot.
 use Rattle.std.specs.Prelude.{◌≡◌, ℕ, suc, ◌-◌, ◌≤◌, List, length, map, All}
 use Rattle.std.specs.List.{AllZip, range_with_len}
+use Rattle.spares_input.specs.Limits.{most_stock}
 use Rattle.moment_table.specs.Rows.{TableRows}
 use Rattle.family_numbers.specs.declared.base_shops.BaseShops.{BaseShops}
 use Rattle.family_numbers.specs.Numbers.{FamilyNumbers, base_shop_table, nth_stock, shop_numbers}
@@ -10,7 +11,7 @@ use Rattle.family_numbers.specs.Numbers.{FamilyNumbers, base_shop_table, nth_sto
 pub record AreShopBounds {f : ℕ} (x : FamilyNumbers f) (low high : List ℕ) : Type 0 where
   pub count : length low ≡ length x.parts - 1
   pub order : AllZip (λ a b. a ≤ b) low high
-  pub most : All (λ s. s ≤ 63) high
+  pub most : All (λ s. s ≤ most_stock) high
 
 -- the tables of shop unit i at base k, for its stocks at the depot from a to b
 abbrev pub tables_by_stock : (f : ℕ) → FamilyNumbers f → ℕ → ℕ → ℕ → ℕ → List (TableRows f)

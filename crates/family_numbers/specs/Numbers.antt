@@ -12,6 +12,7 @@ use Rattle.depot_pipeline.specs.declared.Feed.{Feed}
 use Rattle.depot_pipeline.specs.Profile.{added, depot_shop_ends, depot_line_ends}
 use Rattle.base_pipeline.specs.declared.Held.{Held}
 use Rattle.base_pipeline.specs.Profile.{base_shop_ends, base_own_ends, base_line_ends, delay_at}
+use Rattle.spares_input.specs.Limits.{most_sites, most_family, most_stock}
 use Rattle.spares_input.specs.Cases.{CaseRows}
 use Rattle.spares_input.specs.Stocks.{limit_at}
 use Rattle.fleet_model.specs.Rows.{all_sites, stock, weight}
@@ -72,14 +73,14 @@ pub record ArePairNumbers (f : ℕ) (x : PairNumbers f) : Type 0 where
   pub direct_most : IsWithinLimit f x.direct
   pub cap_most : x.cap ≤ 256 * 2 ^ f
   pub share_most : x.share.hi ≤ 2 ^ f
-  pub limit_most : x.limit ≤ 63
+  pub limit_most : x.limit ≤ most_stock
 
 -- 1 to 9 parts, 2 to 16 sites, the numbers of each pair in order, and a weight of at most 100
 pub record AreNumbers (f : ℕ) (x : FamilyNumbers f) : Type 0 where
   pub some : 0 < length x.parts
-  pub few : length x.parts ≤ 9
+  pub few : length x.parts ≤ most_family
   pub fewest_sites : 2 ≤ x.sites
-  pub most_sites : x.sites ≤ 16
+  pub most_sites : x.sites ≤ most_sites
   pub complete : length x.pairs ≡ length x.parts * x.sites
   pub pairs : (i k : ℕ) → i < length x.parts → k < x.sites → ArePairNumbers f (pair_at x i k)
   pub weight_most : x.weight ≤ 100

@@ -1,6 +1,7 @@
 //! The tables of the shop units at the bases, each made once.
 
 ghost use Rattle.std.specs.Prelude.{◌≡◌, ◌+◌, ◌-◌, ◌<◌, ◌≤◌, IfOk, length, map};
+ghost use Rattle.spares_input.specs.Limits.{most_stock};
 ghost use Rattle.family_numbers.specs.BaseTables.{AreBaseShops, AreShopBounds, HaveShops, tables_by_shop, tables_by_stock};
 ghost use Rattle.family_numbers.specs.Numbers.{base_shop_table, depot_shop_table, nth_stock, shop_numbers};
 
@@ -34,7 +35,7 @@ fn by_stock<const F: u32>(
     requires shop { shop < length numbers.now.parts - 1 }
     requires site { site.0 < numbers.now.sites }
     requires order { low ≤ high }
-    requires most { high ≤ 63 }
+    requires most { high ≤ most_stock }
     ensures { IfOk result (λ v. v ≡ tables_by_stock F numbers.now site.0 shop low high) }
 {
     numbers.invariant();

@@ -1,6 +1,7 @@
 //! The levels of a family from its numbers and its stocks, by tables that serve many stocks.
 
 ghost use Rattle.std.specs.Prelude.{◌≡◌, ◌+◌, ◌-◌, ◌*◌, ◌^◌, ◌<◌, ◌≤◌, IfOk, length, map, All};
+ghost use Rattle.spares_input.specs.Limits.{most_stock};
 ghost use Rattle.family_numbers.specs.Numbers.{depot_feeds, depot_line_table, depot_shop_table, shop_numbers};
 
 use crate::numbers::Numbers;
@@ -35,7 +36,7 @@ fn feeds_at<const F: u32>(
 ) -> Result<Vec<Feed<F>>, NoMemory>
     requires tables { tables.now ≡ map (λ i. depot_shop_table F numbers.now i) (shop_numbers numbers.now) }
     requires count { length depot.now ≡ length numbers.now.parts - 1 }
-    requires stocks { All (λ n. n ≤ 63) depot.now }
+    requires stocks { All (λ n. n ≤ most_stock) depot.now }
     ensures { IfOk result (λ v. v.items ≡ depot_feeds F numbers.now depot.now) }
 {
     numbers.invariant();
@@ -56,7 +57,7 @@ pub fn depot_line<const F: u32>(
 ) -> Result<Table<F>, NoMemory>
     requires tables { tables.now ≡ map (λ i. depot_shop_table F numbers.now i) (shop_numbers numbers.now) }
     requires count { length depot.now ≡ length numbers.now.parts - 1 }
-    requires stocks { All (λ n. n ≤ 63) depot.now }
+    requires stocks { All (λ n. n ≤ most_stock) depot.now }
     ensures { IfOk result (λ t. t ≡ depot_line_table F numbers.now depot.now) }
 {
     numbers.invariant();

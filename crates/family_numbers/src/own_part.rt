@@ -3,6 +3,7 @@
 
 ghost use Rattle.std.specs.Prelude.{◌≡◌, ◌+◌, ◌-◌, ◌*◌, ◌^◌, ◌<◌, ◌≤◌, OnOk, length, All};
 ghost use Rattle.fixed_interval.specs.Ends.{InScale, IsWithinLimit, ends_add};
+ghost use Rattle.spares_input.specs.Limits.{most_stock};
 ghost use Rattle.depot_pipeline.specs.Profile.{capped_at};
 ghost use Rattle.family_numbers.specs.Numbers.{AreBaseBackorders, base_line_place, depot_line_table, own_part, shop_part};
 
@@ -38,7 +39,7 @@ pub fn own_part<const F: u32>(
     site: SiteId,
 ) -> OwnPart<F>
     requires line { line.now ≡ depot_line_table F numbers.now depot.now }
-    requires own { own ≤ 63 }
+    requires own { own ≤ most_stock }
     requires site { site.0 < numbers.now.sites }
     ensures { result ≡ own_part F numbers.now site.0 own depot.now }
 {
@@ -82,11 +83,11 @@ pub fn put_line_backorders<const F: u32>(
 ) -> Result<(), NoMemory>
     requires scale { InScale F }
     requires part { part.now ≡ own_part F numbers.now site.0 own depot.now }
-    requires own { own ≤ 63 }
+    requires own { own ≤ most_stock }
     requires site { site.0 < numbers.now.sites }
     requires shops { shops.now ≡ shop_part F numbers.now site.0 depot.now base.now }
     requires count { length base.now ≡ length numbers.now.parts - 1 }
-    requires stocks { All (λ n. n ≤ 63) base.now }
+    requires stocks { All (λ n. n ≤ most_stock) base.now }
     ensures ends { OnOk result (AreBaseBackorders F numbers.now site.0 own depot.now base.now found.new.items) }
     ensures most { OnOk result (All (IsWithinLimit F) found.new.items) }
 {
@@ -108,11 +109,11 @@ pub fn line_walk<const F: u32>(
 ) -> Walk<F>
     requires scale { InScale F }
     requires part { part.now ≡ own_part F numbers.now site.0 own depot.now }
-    requires own { own ≤ 63 }
+    requires own { own ≤ most_stock }
     requires site { site.0 < numbers.now.sites }
     requires shops { shops.now ≡ shop_part F numbers.now site.0 depot.now base.now }
     requires count { length base.now ≡ length numbers.now.parts - 1 }
-    requires stocks { All (λ n. n ≤ 63) base.now }
+    requires stocks { All (λ n. n ≤ most_stock) base.now }
     ensures { result ≡ base_line_place F numbers.now site.0 own depot.now base.now 0 }
 {
     numbers.invariant();

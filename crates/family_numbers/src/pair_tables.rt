@@ -1,6 +1,7 @@
 //! The tables of a pair from what feeds its pipeline.
 
 ghost use Rattle.std.specs.Prelude.{◌≡◌, ◌+◌, ◌*◌, ◌^◌, ◌<◌, ◌≤◌, IfOk, length, All};
+ghost use Rattle.spares_input.specs.Limits.{most_shop_units, most_stock};
 ghost use Rattle.moment_table.specs.Rows.{at_stock};
 ghost use Rattle.depot_pipeline.specs.Exact.{IsSmallFeed};
 ghost use Rattle.depot_pipeline.specs.Profile.{depot_shop_ends, depot_line_ends};
@@ -18,7 +19,7 @@ use std::alloc::Global;
 
 /// The feed of a pair with this table to another pair at its stock, by a share.
 pub fn feed_from<const F: u32>(share: Iv<F>, table: &Table<F>, stock: u8) -> Feed<F>
-    requires { stock ≤ 63 }
+    requires { stock ≤ most_stock }
     ensures { result ≡ feed_from F share.entry (at_stock table.now.rows stock) }
 {
     Feed {
@@ -47,7 +48,7 @@ pub fn depot_line_table<const F: u32>(
     feeds: &[Feed<F>],
 ) -> Result<Table<F>, NoMemory>
     requires pair { ArePairNumbers F pair }
-    requires few { length feeds.now ≤ 8 }
+    requires few { length feeds.now ≤ most_shop_units }
     requires small { All (IsSmallFeed F) feeds.now }
     ensures { IfOk result (λ t. t ≡ table_of F
         (depot_line_ends F pair.entry.direct pair.entry.cap feeds.now) pair.entry.limit) }

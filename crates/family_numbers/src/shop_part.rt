@@ -2,6 +2,7 @@
 
 ghost use Rattle.std.specs.Prelude.{◌≡◌, ◌-◌, ◌<◌, ◌≤◌, length, All};
 ghost use Rattle.fixed_interval.specs.Ends.{InScale};
+ghost use Rattle.spares_input.specs.Limits.{most_stock};
 ghost use Rattle.family_numbers.specs.BaseTables.{HaveShops};
 ghost use Rattle.family_numbers.specs.Numbers.{shop_part};
 
@@ -25,7 +26,7 @@ pub fn shop_part<const F: u32>(
     requires base { 0 < site.0 }
     requires site { site.0 < numbers.now.sites }
     requires count { length base.now ≡ length numbers.now.parts - 1 }
-    requires stocks { All (λ n. n ≤ 63) base.now }
+    requires stocks { All (λ n. n ≤ most_stock) base.now }
     ensures { result ≡ shop_part F numbers.now site.0 depot.now base.now }
 {
     numbers.invariant();

@@ -12,8 +12,9 @@ use Rattle.family_points.specs.Vectors.{IsBetween, between, vectors}
 use Rattle.family_points.specs.Points.{ScoreEnds, point_at_vector, points_within}
 use Rattle.family_points.specs.Separation.{depot_points, shop_points}
 use Rattle.family_points.specs.Inputs.{FamilyBox, IsFamilyBox, box_points, line_high, line_low, shop_high, shop_low, shop_vectors}
-use Rattle.family_points.proofs.Public.{each_any, each_mapped, flat_flat, same_flat, each_between, high_begins, low_begins, of_each, separated_is, turn_lists}
+use Rattle.family_points.proofs.Public.{each_between, high_begins, low_begins, of_each, separated_is, turn_lists}
 use Rattle.std.specs.List.{AllZip}
+use Rattle.list_laws.proofs.Public.{each_any, each_mapped, flat_flat, same_flat}
 
 -- the part of all stocks at the depot, the shop units' first
 part_turned : (low high : Price) (at : List ℕ → List Point) (a b : ℕ) (least most : List ℕ) (part : List Point) (beyond : ℕ)

@@ -3,7 +3,7 @@
 ghost use Rattle.std.specs.Prelude.{◌≡◌, ◌+◌, ◌-◌, ◌*◌, ◌^◌, ◌<◌, ◌≤◌, ◌∷◌, ◌++◌, [], IfOk, drop, get_or, length, sum_by};
 ghost use Rattle.hull.specs.declared.point.Point.{Point};
 ghost use Rattle.hull.specs.Curves.{Among, HaveOneWidth, InRange};
-ghost use Rattle.hull.specs.Limits.{most_points};
+ghost use Rattle.hull.specs.Limits.{most_points, most_summed};
 ghost use Rattle.sum_walk.specs.Sums.{sums_of_each};
 ghost use Rattle.curve_parts.specs.Cuts.{IsSmall, IsWindow};
 ghost use Rattle.curve_parts.specs.Joins.{Joins};
@@ -65,7 +65,7 @@ fn join_parts<T: Spot>(
     high: Price,
 ) -> Result<u128, NoMemory>
     requires some { 0 < length parts.now }
-    requires few_parts { length parts.now ≤ 16 }
+    requires few_parts { length parts.now ≤ most_summed }
     requires few { length (vertices_of part.old) + (1 + sum_by length parts.now) ≤ most_points }
     requires first { InRange first.now }
     requires ranges { (v : Point) → Among v (sums_of_each (first.now ∷ []) parts.now) → InRange v }

@@ -16,12 +16,9 @@ use family_floors::stocks::stocks_at;
 use family_points::family::shops_of;
 use family_rows::depot::{DepotTables, ShopParts, depot_tables};
 use family_rows::sources::Sources;
-use hull::{Price, Score};
+use hull::{MOST_COST, Price, Score};
 use spares_input::SiteId;
 use std::alloc::Global;
-
-/// No vector of a family costs more, in whole money.
-const MOST_COST: u128 = 1_000_000_000_000;
 
 /// The lower, at each of two prices, of `least` and of the bounds of the vectors with these stocks at the depot. Base
 /// by base a nearer bound takes the place of the rough one, as long as the sums are below `least` at one of the prices.

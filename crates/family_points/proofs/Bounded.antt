@@ -1,7 +1,7 @@
 -- Facts of a family and of the bounds of its vectors.
-use Rattle.std.proofs.Common.{◌≡◌, ◌==◌, ℕ, zero, suc, ◌+◌, ◌-◌, ◌*◌, ◌<◌, ◌≤◌, Bool, true, false, cond, ltb-true, List, [], ◌∷◌, ◌++◌, length, get_or, map, flat_map, take, drop, position, nat_lt, Option, Some, None, refl, sym, ap, ap₂, ◌∙◌, subst, arith, add-one, length-append}
+use Rattle.std.proofs.Common.{◌≡◌, ◌==◌, ℕ, zero, suc, ◌+◌, ◌-◌, ◌*◌, ◌<◌, ◌≤◌, Bool, true, false, cond, ltb-true, List, [], ◌∷◌, ◌++◌, length, get_or, map, flat_map, take, drop, position, nat_lt, Option, Some, None, refl, sym, ap, ◌∙◌, subst, arith, length-append}
 use Rattle.std.specs.List.{position_or_len, range_with_len, All, AllZip, AllByRecursion}
-use Rattle.std.proofs.lemmas.List.{length-map, get_or-map, drop_all, append-nil}
+use Rattle.std.proofs.lemmas.List.{length-map, get_or-map, drop_all}
 use Rattle.std.proofs.lemmas.Nat.{mul-le}
 use Rattle.std.proofs.lemmas.List.Sums.{passes_at_first}
 use Rattle.std.proofs.lemmas.Simd.{map-map}
@@ -9,7 +9,7 @@ use Rattle.std.proofs.lemmas.Bool.{eqb-true}
 use Rattle.std.proofs.Math.Seq.{take-append_seam, drop-append-add}
 use Rattle.std.specs.Option.{option_map_or}
 use Rattle.std.proofs.lemmas.List.FromFn.{length-range_with_len}
-use Rattle.std.proofs.lemmas.List.Concat.{flat_map-append}
+use Rattle.list_laws.proofs.Public.{each_mapped, flat_length, map_flat, same_length}
 use Rattle.spares_input.specs.declared.rows.PartId.{PartId}
 use Rattle.spares_input.specs.Rows.{no_part}
 use Rattle.spares_input.specs.Frames.{part_at}
@@ -19,15 +19,15 @@ use Rattle.fleet_model.specs.Rows.{all_sites}
 use Rattle.fleet_model.specs.Fleet.{family}
 use Rattle.fleet_model.proofs.Public.{limit_most}
 use Rattle.family_items.specs.Inputs.{IsLine}
-use Rattle.family_items.proofs.Public.{flat_length, few_shops, shop_at}
+use Rattle.family_items.proofs.Public.{few_shops, shop_at}
 use Rattle.family_points.specs.Vectors.{Pair, limits, places, places_at, site_part, stock_in, stocks_in, stock_list}
 use Rattle.family_points.specs.Points.{AreOrdered, cost_above}
 use Rattle.family_points.specs.Boxes.{IsBox}
 use Rattle.family_points.specs.Separation.{depot_and_base, base_stocks}
 use Rattle.family_points.specs.Inputs.{FamilyBox, IsFamilyBox, low_at, high_at, held_at, IsAt}
-use Rattle.family_points.proofs.Boxes.{map_flat, each_flat, each_mapped}
+use Rattle.family_points.proofs.Boxes.{each_flat}
 use Rattle.family_points.proofs.Sites.{stock_is, members, part_long, size}
-use Rattle.family_points.proofs.Numbers.{ordered_at, same_length}
+use Rattle.family_points.proofs.Numbers.{ordered_at}
 
 -- ---- the members, one by one
 
@@ -303,19 +303,3 @@ module _ (x : FamilyBox) (valid : IsFamilyBox x) where
     pairs = flat_length (stock_in x.case x.line own) (length x.case.sites) (range_with_len 0 (length x.case.parts))
         ∙ ap (λ n. n * length x.case.sites) (length-range_with_len 0 (length x.case.parts));
   }
-
--- ---- lists that grow
-
--- a list of the first p rows, with row p put behind it, has the first p + 1 rows
-pub rows_more : (f : ℕ → List ℕ) (p : ℕ) (list row next : List ℕ) → next ≡ list ++ row → list ≡ flat_map f (range_with_len 0 p) → row ≡ f p
-    → next ≡ flat_map f (range_with_len 0 (p + 1))
-rows_more f p list row next e h g =
-    e ∙ ap₂ (λ (a b : List ℕ). a ++ b) h g
-    ∙ sym (ap (flat_map f) (range_one_more p) ∙ flat_map-append f (range_with_len 0 p) (p ∷ []) ∙ ap (λ (r : List ℕ). flat_map f (range_with_len 0 p) ++ r) (append-nil (f p)))
-  where
-    from : (a n j : ℕ) → a + n ≡ j → range_with_len a (suc n) ≡ range_with_len a n ++ j ∷ []
-    from a zero j e = let same : a ≡ j = omega arith in ap (λ k. k ∷ []) same
-    from a (suc n) j e = ap (λ l. a ∷ l) (from (a + 1) n j (omega arith))
-
-    range_one_more : (p : ℕ) → range_with_len 0 (p + 1) ≡ range_with_len 0 p ++ p ∷ []
-    range_one_more p = ap (range_with_len 0) (add-one p) ∙ from 0 p p (omega arith)

@@ -1,12 +1,11 @@
 -- Lists that are made of lists, and boxes of vectors.
-use Rattle.std.proofs.Common.{◌≡◌, ℕ, zero, suc, ◌+◌, ◌*◌, List, [], ◌∷◌, ◌++◌, length, map, flat_map, take, drop, refl, sym, ap, ap₂, ◌∙◌, arith}
+use Rattle.std.proofs.Common.{◌≡◌, ℕ, zero, suc, ◌+◌, ◌*◌, List, [], ◌∷◌, ◌++◌, length, map, flat_map, take, drop, refl, sym, ap, ◌∙◌, arith}
 use Rattle.std.specs.List.{range_with_len, AllByRecursion}
-use Rattle.std.proofs.lemmas.List.{map-append, map-id, append-nil, drop-drop}
-use Rattle.std.proofs.lemmas.List.Concat.{flat_map-append}
+use Rattle.std.proofs.lemmas.List.{map-id, append-nil, drop-drop}
 use Rattle.std.proofs.lemmas.List.Folds.{flat_map-map}
 use Rattle.std.proofs.lemmas.Simd.{map-map}
 use Rattle.std.proofs.Math.Seq.{take-add}
-pub use Rattle.family_items.proofs.Public.{each_append}
+use Rattle.list_laws.proofs.Public.{each_any, each_append, each_mapped, flat_flat, map_flat, same_flat}
 use Rattle.family_points.specs.Vectors.{between, vectors}
 
 -- ---- something of each element
@@ -15,39 +14,6 @@ use Rattle.family_points.specs.Vectors.{between, vectors}
 pub each_flat : {X Y : Type 0} (P : Y → Type 0) (f : X → List Y) (xs : List X) → ((x : X) → AllByRecursion P (f x)) → AllByRecursion P (flat_map f xs)
 each_flat P f [] h = tt
 each_flat P f (x ∷ xs) h = each_append P (f x) (flat_map f xs) (h x) (each_flat P f xs h)
-
--- what a map makes of members with one property all has the other, where the map leads from the one to the other
-pub each_mapped : {X Y : Type 0} (P : X → Type 0) (Q : Y → Type 0) (g : X → Y) (xs : List X) → ((x : X) → P x → Q (g x)) → AllByRecursion P xs
-    → AllByRecursion Q (map g xs)
-each_mapped P Q g [] h a = tt
-each_mapped P Q g (x ∷ xs) h a = (h x a.0, each_mapped P Q g xs h a.1)
-
--- two maps that agree on what all members have in common give the same list
-pub same_map : {X Y : Type 0} (P : X → Type 0) (g h : X → Y) (xs : List X) → ((x : X) → P x → g x ≡ h x) → AllByRecursion P xs → map g xs ≡ map h xs
-same_map P g h [] e a = refl
-same_map {X} {Y} P g h (x ∷ xs) e a = ap₂ (λ (y : Y) (ys : List Y). y ∷ ys) (e x a.0) (same_map P g h xs e a.1)
-
--- two maps to lists that agree on what all members have in common give the same rows
-pub same_flat : {X Y : Type 0} (P : X → Type 0) (g h : X → List Y) (xs : List X) → ((x : X) → P x → g x ≡ h x) → AllByRecursion P xs → flat_map g xs ≡ flat_map h xs
-same_flat P g h [] e a = refl
-same_flat {X} {Y} P g h (x ∷ xs) e a = ap₂ (λ (y : List Y) (ys : List Y). y ++ ys) (e x a.0) (same_flat P g h xs e a.1)
-
--- nothing is asked of any member
-pub each_any : {X : Type 0} (xs : List X) → AllByRecursion (λ (x : X). Unit {0}) xs
-each_any [] = tt
-each_any (x ∷ xs) = (tt, each_any xs)
-
--- ---- maps of maps
-
--- to map rows that stand one after another is to map each row
-pub map_flat : {X Y Z : Type 0} (g : Y → Z) (f : X → List Y) (xs : List X) → map g (flat_map f xs) ≡ flat_map (λ x. map g (f x)) xs
-map_flat g f [] = refl
-map_flat {X} {Y} {Z} g f (x ∷ xs) = map-append g (f x) (flat_map f xs) ∙ ap (λ (r : List Z). map g (f x) ++ r) (map_flat g f xs)
-
--- rows made of the members of rows may be made row by row
-pub flat_flat : {X Y Z : Type 0} (g : Y → List Z) (f : X → List Y) (xs : List X) → flat_map g (flat_map f xs) ≡ flat_map (λ x. flat_map g (f x)) xs
-flat_flat g f [] = refl
-flat_flat {X} {Y} {Z} g f (x ∷ xs) = flat_map-append g (f x) (flat_map f xs) ∙ ap (λ (r : List Z). flat_map g (f x) ++ r) (flat_flat g f xs)
 
 -- ---- boxes
 

@@ -3,6 +3,7 @@ use Rattle.std.proofs.Common.{◌≡◌, ◌≢◌, ◌==◌, ℕ, zero, suc, �
 use Rattle.std.specs.List.{position_or_len, range_with_len}
 use Rattle.std.specs.Option.{option_and_then, option_map_or}
 use Rattle.std.proofs.lemmas.Bool.{eq-eqb, lt-ltb, ne_eqb}
+use Rattle.list_laws.proofs.Public.{same_map}
 use Rattle.spares_input.specs.Frames.{is_shop_of, line_of, part_at, part_names, place_of}
 use Rattle.spares_input.specs.Cases.{CaseRows, IsCase}
 use Rattle.fleet_model.specs.Rows.{stock}
@@ -10,7 +11,6 @@ use Rattle.fleet_model.specs.Fleet.{family}
 use Rattle.family_items.specs.Inputs.{IsLine}
 use Rattle.family_items.proofs.Public.{shop_at}
 use Rattle.family_points.specs.Vectors.{stock_in, stocks_in}
-use Rattle.family_points.proofs.Boxes.{same_map}
 use Rattle.family_points.proofs.Sites.{members, size, stock_is}
 
 -- no element stands twice

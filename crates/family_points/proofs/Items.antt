@@ -1,6 +1,7 @@
 -- What a line unit has at a base depends on its family's stocks at the depot and at that base alone.
-use Rattle.std.proofs.Common.{◌≡◌, ℕ, ◌<◌, List, [], ◌∷◌, map, drop, get_or, refl, sym, ap, ap₂, ◌∙◌}
+use Rattle.std.proofs.Common.{◌≡◌, ℕ, ◌<◌, List, [], ◌∷◌, map, drop, get_or, sym, ap, ap₂, ◌∙◌}
 use Rattle.std.specs.List.{AllByRecursion}
+use Rattle.list_laws.proofs.Public.{all_follow, each_both, map_each}
 use Rattle.depot_pipeline.specs.declared.Feed.{Feed}
 use Rattle.depot_pipeline.specs.Profile.{depot_shop_ends, depot_line_ends}
 use Rattle.base_pipeline.specs.declared.Held.{Held}
@@ -23,14 +24,6 @@ each_same : (g h : ℕ → ℕ) (xs : List ℕ) → map g xs ≡ map h xs → Al
 each_same g h [] e = tt
 each_same g h (x ∷ xs) e = (ap (λ v. get_or v 0 0) e, each_same g h xs (ap (drop 1) e))
 
-map_same : {X : Type 0} (P : ℕ → Type 0) (g h : ℕ → X) (xs : List ℕ) → ((x : ℕ) → P x → g x ≡ h x) → AllByRecursion P xs → map g xs ≡ map h xs
-map_same P g h [] e a = refl
-map_same {X} P g h (x ∷ xs) e a = ap₂ (λ (y : X) (ys : List X). y ∷ ys) (e x a.0) (map_same P g h xs e a.1)
-
-both : (P Q : ℕ → Type 0) (xs : List ℕ) → AllByRecursion P xs → AllByRecursion Q xs → AllByRecursion (λ x. P x × Q x) xs
-both P Q [] a b = a
-both P Q (x ∷ xs) a b = ((a.0, b.0), both P Q xs a.1 b.1)
-
 module _ (f : ℕ) (c : CaseRows) (s t : List ℕ) where
   depot_shop_same : (i : ℕ) → stock c s i 0 ≡ stock c t i 0 → depot_shop f c s i ≡ depot_shop f c t i
   unfolding depot_shop
@@ -43,8 +36,8 @@ module _ (f : ℕ) (c : CaseRows) (s t : List ℕ) where
   depot_line_same l a =
       ap₂ (λ (n : ℕ) (feeds : List (Feed f)). stocked f (pipeline_from f l 0 (pair_rates c l 0) n)
       (depot_line_ends f (pipeline_from f l 0 (pair_rates c l 0) n).direct (pipeline_from f l 0 (pair_rates c l 0) n).cap feeds)) a.0
-      (map_same (λ i. stock c s i 0 ≡ stock c t i 0) (depot_feed f c s) (depot_feed f c t) (shop_units c l)
-      (λ i e. ap (feed_of f (share_of f c i 0)) (depot_shop_same i e)) a.1)
+      (map_each (depot_feed f c s) (depot_feed f c t) (shop_units c l)
+      (all_follow (λ i. stock c s i 0 ≡ stock c t i 0) _ (shop_units c l) (λ i e. ap (feed_of f (share_of f c i 0)) (depot_shop_same i e)) a.1))
 
   base_shop_same : (i j : ℕ) → stock c s i 0 ≡ stock c t i 0 → stock c s i j ≡ stock c t i j → base_shop f c s i j ≡ base_shop f c t i j
   unfolding base_shop
@@ -60,8 +53,9 @@ module _ (f : ℕ) (c : CaseRows) (s t : List ℕ) where
       (base_line_ends f (pipeline_from f l j (pair_rates c l j) n).direct (pipeline_from f l j (pair_rates c l j) n).cap (feed_of f (share_of f c l j) rest.0) rest.1))
       a.0
       (ap₂ (λ (y : Item f) (held : List (Held f)). (y, held)) (depot_line_same l d)
-      (map_same (λ i. (stock c s i 0 ≡ stock c t i 0) × (stock c s i j ≡ stock c t i j)) (λ i. delay_of f (base_shop f c s i j)) (λ i. delay_of f (base_shop f c t i j))
-      (shop_units c l) (λ i e. ap (delay_of f) (base_shop_same i j e.0 e.1)) (both _ _ (shop_units c l) d.1 a.1)))
+      (map_each (λ i. delay_of f (base_shop f c s i j)) (λ i. delay_of f (base_shop f c t i j)) (shop_units c l)
+      (each_both (λ i. stock c s i 0 ≡ stock c t i 0) (λ i. stock c s i j ≡ stock c t i j) _ (shop_units c l)
+      (λ i d e. ap (delay_of f) (base_shop_same i j d e)) d.1 a.1)))
 
 -- stocks that agree on each part of a family at the depot and at a base give its line unit the same item there
 pub item_agrees : (f : ℕ) (c : CaseRows) (s t : List ℕ) (l j : ℕ) → IsLine c l → 0 < j → Agree c l s t 0 → Agree c l s t j

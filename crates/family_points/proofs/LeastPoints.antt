@@ -5,8 +5,8 @@ use Rattle.std.proofs.lemmas.List.{length-map, map-append, take_all}
 use Rattle.std.proofs.lemmas.List.Folds.{flat_map-map}
 use Rattle.std.proofs.lemmas.List.Sums.{sum_by-append}
 use Rattle.std.proofs.lemmas.Simd.{map-map}
+use Rattle.list_laws.proofs.Public.{each_any, flat_flat, map_flat, range_more, same_flat, take_on}
 use Rattle.spares_input.specs.Cases.{CaseRows, IsCase}
-use Rattle.spares_input.proofs.Public.{range_more}
 use Rattle.fleet_model.specs.Laws.{IsBase}
 use Rattle.family_items.specs.Inputs.{IsLine}
 use Rattle.hull.specs.declared.point.Point.{Point}
@@ -21,10 +21,9 @@ use Rattle.family_points.specs.Least.{AreAtLeast, IsLeast, Decides, base_least, 
 use Rattle.family_points.specs.Choices.{IsOrder, choice_point}
 use Rattle.family_points.specs.Turned.{turned_points}
 use Rattle.family_points.proofs.Bounded.{box_of}
-use Rattle.family_points.proofs.Boxes.{each_any, flat_flat, map_flat, same_flat}
 use Rattle.family_points.proofs.Leasts.{at_least_both, is_least_some, least_flat, least_is, least_more, least_one, least_permuted, least_same, least_sums, decides_false, decides_same, decides_true}
 use Rattle.family_points.proofs.Numbers.{product_some, vectors_count}
-use Rattle.family_points.proofs.Ordered.{points_permuted, points_to, take_on}
+use Rattle.family_points.proofs.Ordered.{points_permuted, points_to}
 use Rattle.family_points.proofs.Points.{flat_next, flat_stock_behind, high_begins, low_begins, over_more}
 use Rattle.family_points.proofs.Separate.{separated_is}
 use Rattle.family_points.proofs.Turns.{turn, turn_lists}

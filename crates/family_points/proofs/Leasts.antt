@@ -10,7 +10,8 @@ use Rattle.family_points.specs.Least.{AreAtLeast, IsLeast, Decides, least, least
 
 -- ---- the least as a number
 
-least_most : (f : Point → ℕ) (points : List Point) (w : Point) → Among w points → least f points ≤ f w
+-- the least of a number over points is at most that of each point
+pub least_most : (f : Point → ℕ) (points : List Point) (w : Point) → Among w points → least f points ≤ f w
 least_most f [] w h = absurd h
 least_most f (v ∷ []) w h = elim h [ inl e ↦ (let q = ap f e in omega (arith, q)) | inr m ↦ absurd m ]
 least_most f (v ∷ u ∷ rest) w h = elim h [

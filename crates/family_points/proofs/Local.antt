@@ -1,11 +1,12 @@
 -- What a family has depends on its own parts' rates alone, in a case of given sites and parts.
-use Rattle.std.proofs.Common.{◌≡◌, ◌≢◌, ℕ, zero, suc, ◌+◌, ◌-◌, ◌*◌, ◌^◌, ◌<◌, List, [], ◌∷◌, length, map, sum_by, Option, Some, None, is_none, true, refl, sym, ap, ap₂, ◌∙◌, subst, arith, get_or-set_other, unwrap_or}
+use Rattle.std.proofs.Common.{◌≡◌, ◌≢◌, ℕ, zero, suc, ◌+◌, ◌-◌, ◌*◌, ◌^◌, ◌<◌, List, length, map, sum_by, Option, Some, None, is_none, true, refl, sym, ap, ap₂, ◌∙◌, subst, arith, get_or-set_other, unwrap_or}
 use Rattle.std.specs.List.{AllByRecursion}
 use Rattle.std.specs.Option.{option_and_then}
 use Rattle.std.proofs.lemmas.Nat.{same_from_place}
-use Rattle.fixed_interval.specs.Ends.{Ends, ends_add, ends_exact}
+use Rattle.list_laws.proofs.Public.{all_follow, count_each, each_both, map_each, same_sum_range}
+use Rattle.fixed_interval.specs.Ends.{ends_exact}
 use Rattle.depot_pipeline.specs.declared.Feed.{Feed}
-use Rattle.depot_pipeline.specs.Profile.{added, depot_line_ends, depot_shop_ends}
+use Rattle.depot_pipeline.specs.Profile.{depot_line_ends, depot_shop_ends}
 use Rattle.base_pipeline.specs.Profile.{base_line_ends, base_shop_ends}
 use Rattle.spares_input.specs.declared.rows.SiteRow.{SiteRow}
 use Rattle.spares_input.specs.declared.rows.PartRow.{PartRow}
@@ -18,13 +19,12 @@ use Rattle.fleet_model.specs.Rows.{bases, per_system, shop_units, stock, systems
 use Rattle.fleet_model.specs.Pairs.{by_pair}
 use Rattle.fleet_model.specs.Fleet.{family}
 use Rattle.fleet_model.specs.Units.{demand_00, demand_0j, demand_i0, demand_ij, days_at, direct_units_00, direct_units_0j, direct_units_i0, direct_units_ij, needed_i0, sent_0j, sent_ij, zero_stock_units_00, zero_stock_units_0j, zero_stock_units_ij}
-use Rattle.fleet_model.proofs.Public.{same_sum_range, all_follow, count_each}
 use Rattle.demand_rates.specs.declared.kinds.PairRates.{PairRates}
 use Rattle.demand_rates.specs.Rates.{pair_rates, rates_of_pair, share_ratio}
 use Rattle.family_items.specs.declared.item.Item.{Item}
 use Rattle.family_items.specs.Profile.{base_line, base_shop, depot_feed, depot_line, depot_shop, feed_of, delay_of, item_of, pipeline_from, share_from, stocked}
 use Rattle.family_items.specs.Inputs.{IsLine, IsShop}
-use Rattle.family_items.proofs.Public.{shops_all}
+use Rattle.family_items.proofs.Public.{shops_all, added_same}
 use Rattle.family_points.specs.Vectors.{stocks_with, vectors}
 use Rattle.family_points.specs.Points.{ScoreEnds, added_cost, points_within, scored, scored_total}
 use Rattle.family_points.specs.Local.{home_of, HaveOneFamily, SameFamily, SameRates}
@@ -181,22 +181,14 @@ module _ (sites : List SiteRow) (parts : List PartRow) (ra rb : List RateRow) (s
   line_alike : (l : ℕ) → line_of parts l ≡ None → Same l → AllByRecursion Same (shop_units one l) → Alike l
   line_alike l none h all k lk = subst (λ o. SamePair o l k) (sym none) (line_pair l k lk h all)
 
-  both : (P Q R : ℕ → Type 0) (xs : List ℕ) → ((i : ℕ) → P i → Q i → R i) → AllByRecursion P xs → AllByRecursion Q xs → AllByRecursion R xs
-  both P Q R [] f a b = a
-  both P Q R (x ∷ xs) f a b = (f x a.0 b.0, both P Q R xs f a.1 b.1)
-
   pub family_alike : (l : ℕ) → line_of parts l ≡ None → AllByRecursion (λ i. line_of parts i ≡ Some l) (shop_units one l)
       → AllByRecursion Same (family one l) → AllByRecursion Alike (family one l)
   family_alike l none owners h =
-      (line_alike l none h.0 h.1, both (λ i. line_of parts i ≡ Some l) Same Alike (shop_units one l) (λ i o g. shop_alike l i o h.0 g) owners h.1)
+      (line_alike l none h.0 h.1, each_both (λ i. line_of parts i ≡ Some l) Same Alike (shop_units one l) (λ i o g. shop_alike l i o h.0 g) owners h.1)
 
   -- ---- items, from the rates of the pairs
 
   module _ (f : ℕ) (s : List ℕ) where
-    map_each : {X : Type 0} (xs : List ℕ) (p q : ℕ → X) → AllByRecursion (λ i. p i ≡ q i) xs → map p xs ≡ map q xs
-    map_each [] p q h = refl
-    map_each (x ∷ xs) p q h = ap₂ (λ a b. a ∷ b) h.0 (map_each xs p q h.1)
-
     depot_shop_same : (i : ℕ) → Alike i → depot_shop f one s i ≡ depot_shop f two s i
     unfolding depot_shop
     depot_shop_same i h =
@@ -211,7 +203,7 @@ module _ (sites : List SiteRow) (parts : List PartRow) (ra rb : List RateRow) (s
     depot_line_same l h all =
         ap₂ (λ (r : PairRates) (feeds : List (Feed f)). stocked f (pipeline_from f l 0 r (stock one s l 0))
         (depot_line_ends f (pipeline_from f l 0 r (stock one s l 0)).direct (pipeline_from f l 0 r (stock one s l 0)).cap feeds)) (h 0 some)
-        (map_each (shop_units one l) (depot_feed f one s) (depot_feed f two s) (all_follow Alike _ (shop_units one l) depot_feed_same all))
+        (map_each (depot_feed f one s) (depot_feed f two s) (shop_units one l) (all_follow Alike _ (shop_units one l) depot_feed_same all))
 
     base_shop_same : (i j : ℕ) → j < length sites → Alike i → base_shop f one s i j ≡ base_shop f two s i j
     unfolding base_shop
@@ -225,7 +217,7 @@ module _ (sites : List SiteRow) (parts : List PartRow) (ra rb : List RateRow) (s
     base_line_same l j lj h all =
         let r = h j lj in
         let x = depot_line_same l h all in
-        let helds = map_each (shop_units one l) (λ i. delay_of f (base_shop f one s i j)) (λ i. delay_of f (base_shop f two s i j))
+        let helds = map_each (λ i. delay_of f (base_shop f one s i j)) (λ i. delay_of f (base_shop f two s i j)) (shop_units one l)
         (all_follow Alike _ (shop_units one l) (λ i a. ap (λ (y : Item f). delay_of f y) (base_shop_same i j lj a)) all) in
         λ t. stocked f (pipeline_from f l j (r t) (stock one s l j))
         (base_line_ends f (pipeline_from f l j (r t) (stock one s l j)).direct (pipeline_from f l j (r t) (stock one s l j)).cap
@@ -248,16 +240,11 @@ module _ (sites : List SiteRow) (parts : List PartRow) (ra rb : List RateRow) (s
         → AllByRecursion (λ p. (k : ℕ) → k < length sites → item_of f one s p k ≡ item_of f two s p k) (family one l)
     family_items l none owners h = (
       λ k lk. subst (λ o. item_by one o l k ≡ item_by two o l k) (sym none) (line_item l k lk h.0 h.1),
-      both (λ i. line_of parts i ≡ Some l) Alike _ (shop_units one l)
+      each_both (λ i. line_of parts i ≡ Some l) Alike _ (shop_units one l)
           (λ i o a k lk. subst (λ x. item_by one x i k ≡ item_by two x i k) (sym o) (shop_item l i k lk a)) owners h.1,
     )
 
   -- ---- points
-
-  added_same : (first : Ends) (p q : ℕ → Ends) (n : ℕ) → ((k : ℕ) → k < n → p k ≡ q k) → added first p n ≡ added first q n
-  unfolding added
-  added_same first p q zero h = refl
-  added_same first p q (suc n) h = ap₂ ends_add (added_same first p q n (λ k l. h k (omega arith))) (h n (omega arith))
 
   pub points_same : (l : ℕ) (ends : ScoreEnds) (held low high : List ℕ)
       → ((s : List ℕ) (k : ℕ) → k < length sites → item_of 48 one s l k ≡ item_of 48 two s l k)

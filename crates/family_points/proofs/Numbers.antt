@@ -5,16 +5,10 @@ use Rattle.std.proofs.lemmas.List.{append_assoc, get_or-map, get_or_append_left,
 use Rattle.std.proofs.lemmas.List.Sums.{sum_by-cons}
 use Rattle.std.proofs.Math.Nat.{mul_assoc, pow-suc, pow-le-pow_right}
 use Rattle.std.proofs.lemmas.Nat.{div-mul-add, div-add-mod', div_below, mod_below, mul-le}
+use Rattle.list_laws.proofs.Public.{same_length}
 use Rattle.family_points.specs.Vectors.{vectors}
 use Rattle.family_points.specs.Counts.{product, widths}
 use Rattle.family_points.specs.Boxes.{IsBox, nth}
-
--- a list that is at least another place by place is as long
-pub same_length : (low high : List ℕ) → AllZip (λ x y. x ≤ y) low high → length high ≡ length low
-same_length [] [] h = refl
-same_length [] (b ∷ high) h = absurd h
-same_length (a ∷ low) [] h = absurd h
-same_length (a ∷ low) (b ∷ high) h = ap suc (same_length low high h.1)
 
 -- of ordered bounds the least at each place is at most the most
 pub ordered_at : (low high : List ℕ) → AllZip (λ x y. x ≤ y) low high → (i : ℕ) → i < length low → get_or low i 0 ≤ get_or high i 0

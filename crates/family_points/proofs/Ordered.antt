@@ -4,6 +4,7 @@ use Rattle.std.specs.List.Sorted.{IsPermutation}
 use Rattle.std.proofs.lemmas.List.{get_or-take, length-map, map-append}
 use Rattle.std.proofs.lemmas.List.Sorted.{IsPermutation-map, length_permutation}
 use Rattle.std.proofs.lemmas.Simd.{map-map}
+use Rattle.list_laws.proofs.Public.{at_each, each_any, map_flat, same_flat, take_on}
 use Rattle.fleet_model.specs.Laws.{IsBase}
 use Rattle.hull.specs.declared.point.Point.{Point}
 use Rattle.hull.specs.Curves.{Among, InRange, StandFor}
@@ -15,8 +16,7 @@ use Rattle.family_points.specs.Separation.{base_point}
 use Rattle.family_points.specs.Turned.{turned_points}
 use Rattle.family_points.specs.Inputs.{AreShopsAt, FamilyBox, IsAt, IsFamilyBox, line_stocks, shop_vectors, vector_count}
 use Rattle.family_points.specs.Choices.{IsChoice, IsOrder, choice_point, choice_stocks, turned_stocks}
-use Rattle.family_points.proofs.Boxes.{each_any, map_flat, same_flat}
-use Rattle.family_points.proofs.Points.{at_each, base_small, joined_at, shops_between, small_range, turned_count}
+use Rattle.family_points.proofs.Points.{base_small, joined_at, shops_between, small_range, turned_count}
 use Rattle.family_points.proofs.Sites.{size}
 
 -- ---- places of lists
@@ -26,15 +26,6 @@ take_below zero xs k h = absurd (let l : k < 0 = h in omega (arith, l))
 take_below (suc n) [] k h = absurd (let l : k < 0 = h in omega (arith, l))
 take_below (suc n) (x ∷ xs) zero h = omega arith
 take_below (suc n) (x ∷ xs) (suc k) h = let l = take_below n xs k (omega (arith, h)) in omega (arith, l)
-
--- the first of a list and the one at the place behind them
-pub take_on : {X : Type 0} (xs : List X) (n : ℕ) (x : X) → n < length xs → x ≡ get_or xs n x → take (n + 1) xs ≡ take n xs ++ x ∷ []
-take_on [] n x h e = absurd (omega (arith, h))
-take_on {X} (y ∷ ys) zero x h e = ap (λ (z : X). z ∷ []) (sym e)
-take_on {X} (y ∷ ys) (suc n) x h e = ap (λ k. take k (y ∷ ys)) (next n) ∙ ap (λ (zs : List X). y ∷ zs) (take_on ys n x (omega (arith, h)) e)
-  where
-    next : (n : ℕ) → suc n + 1 ≡ suc (n + 1)
-    next n = omega arith
 
 -- ---- a choice is within its bounds
 

@@ -1,7 +1,8 @@
 -- What stands at the places of a family's vectors, site by site.
-use Rattle.std.proofs.Common.{◌≡◌, ℕ, suc, ◌+◌, ◌*◌, ◌<◌, ◌≤◌, List, [], ◌∷◌, length, get_or, map, flat_map, refl, sym, ap, ◌∙◌, subst, arith, mul-le-mul_right}
+use Rattle.std.proofs.Common.{◌≡◌, ℕ, ◌<◌, List, [], ◌∷◌, length, get_or, map, flat_map, refl, sym, ap, ◌∙◌}
 use Rattle.std.specs.List.{range_with_len}
 use Rattle.std.proofs.lemmas.Simd.{map-map}
+use Rattle.list_laws.proofs.Public.{each_any, map_flat, same_flat, same_map}
 use Rattle.spares_input.specs.declared.rows.PartId.{PartId}
 use Rattle.spares_input.specs.Stocks.{HasPair, IsFor, StockList, stock_at}
 use Rattle.spares_input.specs.Cases.{CaseRows, IsCase}
@@ -9,8 +10,8 @@ use Rattle.fleet_model.specs.Rows.{stock}
 use Rattle.fleet_model.specs.Fleet.{family}
 use Rattle.fleet_model.proofs.Public.{stock_holds}
 use Rattle.family_items.specs.Inputs.{IsLine}
+use Rattle.family_items.proofs.Public.{pair_in}
 use Rattle.family_points.specs.Vectors.{Pair, places, places_at, vector_of}
-use Rattle.family_points.proofs.Boxes.{each_any, map_flat, same_flat, same_map}
 use Rattle.family_points.proofs.Whole.{ids_within}
 
 -- what each place has, site by site
@@ -41,13 +42,7 @@ parts_rows c l =
 pub ids_there : (c : CaseRows) (l k : ℕ) (ids : List PartId) (s : StockList) → IsCase c → IsLine c l → IsFor c s → k < length c.sites
     → map (λ (p : PartId). p.0) ids ≡ family c l → (i : ℕ) (d : PartId) → i < length ids → HasPair s (get_or ids i d).0 k
 ids_there c l k ids s valid line for inside h i d m =
-    let p : ℕ = (get_or ids i d).0 in
-    let part : p < length c.parts = ids_within c l ids valid line h i d m in
-    let more : suc p * length c.sites ≤ length c.parts * length c.sites = mul-le-mul_right (length c.sites) part in
-    record {
-      site = omega (arith, for.sites, inside);
-      within = subst (λ n. p * n + k < length s.list) (sym for.sites) (omega (arith, more, inside, for.pairs));
-    }
+    pair_in c s (get_or ids i d).0 k for (ids_within c l ids valid line h i d m) inside
 
 -- the stocks read by the ids of a family's parts at a site are those of its parts there
 pub ids_stocks : (c : CaseRows) (l k : ℕ) (ids : List PartId) (s : StockList) → IsFor c s → map (λ (p : PartId). p.0) ids ≡ family c l

@@ -1,11 +1,12 @@
 -- The points of a box, one by one.
-use Rattle.std.proofs.Common.{◌≡◌, ℕ, zero, suc, ◌+◌, ◌-◌, ◌*◌, ◌^◌, ◌<◌, ◌≤◌, inl, inr, List, [], ◌∷◌, ◌++◌, length, get_or, map, flat_map, take, drop, not, refl, sym, ap, ap₂, ◌∙◌, subst, arith, add-one, length-append, sum_by, ◌⊎◌, mul-le-mul_right}
+use Rattle.std.proofs.Common.{◌≡◌, ℕ, zero, suc, ◌+◌, ◌-◌, ◌*◌, ◌^◌, ◌<◌, ◌≤◌, inl, inr, List, [], ◌∷◌, ◌++◌, length, get_or, map, flat_map, take, drop, not, refl, sym, ap, ap₂, ◌∙◌, subst, arith, add-one, length-append, sum_by, ◌⊎◌}
 use Rattle.std.specs.List.{range_with_len, AllZip, AllByRecursion}
 use Rattle.std.proofs.Math.Nat.{mul_assoc, mul_comm}
 use Rattle.std.proofs.lemmas.List.{length-map, append-nil, drop_all, drop_more}
 use Rattle.std.proofs.lemmas.List.Concat.{flat_map-append}
 use Rattle.std.proofs.lemmas.List.FromFn.{length-range_with_len}
 use Rattle.std.proofs.lemmas.List.Sums.{fold-append, sum_by-cons, sum_by-append}
+use Rattle.list_laws.proofs.Public.{at_each, begins_with_first, each_append, each_in_range, each_mapped, range_more, take_next}
 use Rattle.fixed_interval.specs.Ends.{Ends}
 use Rattle.hull.specs.declared.point.Point.{Point}
 use Rattle.hull.specs.Curves.{Among, InRange, IsCurve, plus, sums, point_at}
@@ -14,12 +15,10 @@ use Rattle.hull.specs.Scores.{InLimits, LeavesRoom}
 use Rattle.spares_input.specs.Rows.{no_part, no_site}
 use Rattle.spares_input.specs.Frames.{part_at}
 use Rattle.spares_input.specs.Cases.{CaseRows}
-use Rattle.spares_input.proofs.Public.{range_more}
 use Rattle.fleet_model.specs.Rows.{systems, per_system, weight, bases}
 use Rattle.fleet_model.specs.Fleet.{family}
 use Rattle.fleet_model.specs.Laws.{IsBase}
 use Rattle.family_items.specs.Profile.{item_of}
-use Rattle.family_items.proofs.Public.{each_append, each_in_range}
 use Rattle.family_points.specs.Vectors.{Pair, places, between, vectors, IsBetween}
 use Rattle.family_points.specs.Points.{ScoreEnds, cost_above, added_cost, point_at_vector, points_within}
 use Rattle.family_points.specs.Counts.{product, widths}
@@ -27,7 +26,6 @@ use Rattle.family_points.specs.Boxes.{nth}
 use Rattle.family_points.specs.Separation.{base_point, base_points, base_stocks, depot_point, points_over, depot_points}
 use Rattle.family_points.specs.Turned.{turned_points}
 use Rattle.family_points.specs.Inputs.{AreShopsAt, FamilyBox, IsFamilyBox, IsAt, box_points, held_at, high_at, line_high, line_low, line_stocks, low_at, shop_high, shop_low, shop_vectors, vector_count}
-use Rattle.family_points.proofs.Boxes.{each_mapped}
 use Rattle.family_points.proofs.Numbers.{block_length, nth_is, product_some, vectors_count}
 use Rattle.family_points.proofs.Bounded.{Costs, at_long, box_at, cost_end, costs_on, few_members, low_long, high_long}
 use Rattle.family_points.proofs.Separate.{separated_is}
@@ -41,12 +39,6 @@ use Rattle.family_points.proofs.Turns.{curve_of_turned, curve_turned}
 pub of_each : {X : Type 0} (P : X → Type 0) (xs : List X) → AllByRecursion P xs → (x : X) → Among x xs → P x
 of_each P [] a x m = absurd m
 of_each P (y ∷ ys) a x m = elim m [ inl e ↦ subst P (sym e) a.0 | inr n ↦ of_each P ys a.1 x n ]
-
--- what is true of all members is true of the one at a place
-pub at_each : {X : Type 0} (P : X → Type 0) (xs : List X) → AllByRecursion P xs → (n : ℕ) (d : X) → n < length xs → P (get_or xs n d)
-at_each P [] a n d h = absurd (omega (arith, h))
-at_each P (x ∷ xs) a zero d h = a.0
-at_each P (x ∷ xs) a (suc n) d h = at_each P xs a.1 n d (omega (arith, h))
 
 -- ---- each vector of a box is within it
 
@@ -206,15 +198,6 @@ module _ (x : FamilyBox) (valid : IsFamilyBox x) (ends : ScoreEnds) (room : Leav
 
 -- ---- all stocks at the depot
 
--- the first n + 1 vectors are the first n and the one at n
-pub take_next : (vs : List (List ℕ)) (n : ℕ) → n < length vs → take (n + 1) vs ≡ take n vs ++ get_or vs n [] ∷ []
-take_next [] n h = absurd (omega (arith, h))
-take_next (v ∷ vs) zero h = refl
-take_next (v ∷ vs) (suc n) h = ap (λ k. take k (v ∷ vs)) (next n) ∙ ap (λ (ps : List (List ℕ)). v ∷ ps) (take_next vs n (omega (arith, h)))
-  where
-    next : (n : ℕ) → suc n + 1 ≡ suc (n + 1)
-    next n = omega arith
-
 flat_one : {X Y : Type 0} (f : X → List Y) (xs : List X) (x : X) → flat_map f (xs ++ x ∷ []) ≡ flat_map f xs ++ f x
 flat_one {X} {Y} f xs x = flat_map-append f xs (x ∷ []) ∙ ap (λ (r : List Y). flat_map f xs ++ r) (append-nil (f x))
 
@@ -253,23 +236,14 @@ flat_stock_behind f a n s e =
     let more : n + 1 ≡ suc n = omega arith in
     ap (λ k. flat_map f (range_with_len a k)) more ∙ ap (flat_map f) (range_more a n s (omega (arith, e))) ∙ flat_one f (range_with_len a n) s
 
--- how many vertices curves have together
-pub one_of : (n v m : ℕ) → 0 < n → n * v ≤ m → v ≤ m
-one_of n v m some h = let one : 1 * v ≤ n * v = mul-le-mul_right v some in omega (arith, one, h)
-
--- a list that isn't empty begins with its first element
-pub begins : (xs : List ℕ) → 0 < length xs → get_or xs 0 0 ∷ drop 1 xs ≡ xs
-begins [] h = absurd (omega (arith, h))
-begins (x ∷ xs) h = refl
-
 module _ (x : FamilyBox) (valid : IsFamilyBox x) where
   -- the low bounds of a site are the line unit's and then the shop units'
   pub low_begins : (k : ℕ) → k < length x.case.sites → line_low x k ∷ shop_low x k ≡ low_at x k
-  low_begins k m = begins (low_at x k) (omega (arith, part_long x.case x.line x.low k (length x.case.sites) (low_long x valid) m))
+  low_begins k m = begins_with_first (low_at x k) (omega (arith, part_long x.case x.line x.low k (length x.case.sites) (low_long x valid) m))
 
   -- the high bounds of a site are the line unit's and then the shop units'
   pub high_begins : (k : ℕ) → k < length x.case.sites → line_high x k ∷ shop_high x k ≡ high_at x k
-  high_begins k m = begins (high_at x k) (omega (arith, part_long x.case x.line x.high k (length x.case.sites) (high_long x valid) m))
+  high_begins k m = begins_with_first (high_at x k) (omega (arith, part_long x.case x.line x.high k (length x.case.sites) (high_long x valid) m))
 
   -- the low bounds of a site are not empty
   pub low_some : (k : ℕ) → k < length x.case.sites → 0 < length (low_at x k)

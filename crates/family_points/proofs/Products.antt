@@ -3,12 +3,12 @@ use Rattle.std.proofs.Common.{◌≡◌, ℕ, zero, suc, ◌+◌, ◌-◌, ◌*�
 use Rattle.std.specs.List.{range_with_len}
 use Rattle.std.proofs.lemmas.Simd.{map-map}
 use Rattle.std.proofs.Math.Nat.{mul_assoc, mul_comm, pow-suc, pow-zero}
+use Rattle.list_laws.proofs.Public.{each_any, map_flat, same_flat, same_map}
 use Rattle.spares_input.specs.Stocks.{limit_at}
 use Rattle.spares_input.specs.Cases.{CaseRows, IsCase}
 use Rattle.fleet_model.specs.Fleet.{family}
 use Rattle.family_points.specs.Vectors.{Pair, limits, places, vectors, zeros}
 use Rattle.family_points.specs.Counts.{product, depot_width, base_width, choices_of}
-use Rattle.family_points.proofs.Boxes.{each_any, map_flat, same_flat, same_map}
 use Rattle.family_points.proofs.Counting.{product_split}
 use Rattle.family_points.proofs.Numbers.{vectors_count}
 use Rattle.family_points.proofs.Whole.{base_limit, limits_rows, none_zip, widths_all}

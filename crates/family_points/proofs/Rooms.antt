@@ -6,16 +6,15 @@ use Rattle.std.proofs.lemmas.List.{drop_all, length-map, get_or-map, append-nil}
 use Rattle.std.proofs.lemmas.List.Concat.{flat_map-append}
 use Rattle.std.proofs.lemmas.Nat.{mul-le}
 use Rattle.std.proofs.lemmas.Simd.{map-map}
+use Rattle.list_laws.proofs.Public.{each_in_range, each_mapped, map_flat, no_more_than_self, range_more}
 use Rattle.answers.specs.Counts.{count64}
 use Rattle.spares_input.specs.declared.rows.PartId.{PartId}
 use Rattle.spares_input.specs.Cases.{CaseRows, IsCase}
 use Rattle.spares_input.specs.Stocks.{StockList, IsFor, IsWithinLimits, limit_at, stock_at}
-use Rattle.spares_input.proofs.Public.{range_more}
 use Rattle.fleet_model.specs.Fleet.{family}
 use Rattle.fleet_model.specs.Rows.{stock}
 use Rattle.fleet_model.proofs.Public.{stock_holds}
 use Rattle.family_items.specs.Inputs.{IsLine}
-use Rattle.family_items.proofs.Public.{each_in_range}
 use Rattle.family_points.specs.declared.counts.Rooms.{Rooms}
 use Rattle.family_points.specs.declared.counts.Rooms.TheVariants.{Held, Whole, Within}
 use Rattle.family_points.specs.Counts.{choices_of, product, widths}
@@ -24,14 +23,13 @@ use Rattle.family_points.specs.Points.{AreOrdered}
 use Rattle.family_points.specs.Rooms.{AreRooms, bounds_of, widths_at}
 use Rattle.family_points.specs.Vectors.{Pair, limits, places, places_at, site_part, vector_of, zeros}
 use Rattle.family_points.proofs.Bounded.{id_at, part_of_flat}
-use Rattle.family_points.proofs.Boxes.{each_mapped, map_flat}
 use Rattle.family_points.proofs.Counting.{counted_times}
 use Rattle.family_points.proofs.Numbers.{ordered_at, sum_from, vectors_count, widths_long, width_at}
 use Rattle.family_points.proofs.Points.{each_flat_in}
 use Rattle.family_points.proofs.Products.{choices_counted, product_append}
 use Rattle.family_points.proofs.Sites.{all_joined, joined, members, part_long, size}
 use Rattle.family_points.proofs.TableFacts.{least_long, part_box, part_widths, top_long}
-use Rattle.family_points.proofs.Whole.{ids_within, same_zip, whole_ordered}
+use Rattle.family_points.proofs.Whole.{ids_within, whole_ordered}
 
 -- ---- the bounds are in order
 
@@ -51,11 +49,11 @@ places_in c l valid line =
 pub held_ordered : (c : CaseRows) (l : ℕ) (held : StockList) → IsCase c → IsLine c l → IsFor c held → IsWithinLimits c held
     → AreOrdered c l (vector_of c l held.list) (vector_of c l held.list) (limits c l)
 held_ordered c l held valid line is_for within = record {
-  held_least = same_zip (vector_of c l held.list);
+  held_least = no_more_than_self (vector_of c l held.list);
   low_least = zip_maps (λ (x : Pair). stock c held.list x.part x.site) (λ (x : Pair). limit_at c.parts x.part x.site)
       (λ (x : Pair). (x.part < length c.parts) × (x.site < length c.sites))
       (λ x h. subst (λ n. n ≤ limit_at c.parts x.part x.site) (sym (stock_holds c held x.part x.site is_for)) (within x.part x.site h.0 h.1)) (places c l) (places_in c l valid line);
-  within = same_zip (limits c l);
+  within = no_more_than_self (limits c l);
 }
 
 -- the bounds of all that is counted are in order

@@ -6,11 +6,11 @@ use Rattle.std.proofs.lemmas.List.Concat.{flat_map-append}
 use Rattle.std.proofs.lemmas.List.Sums.{fold-append}
 use Rattle.std.proofs.lemmas.Simd.{map-map}
 use Rattle.std.proofs.lemmas.Bool.{ne_eqb, eq-eqb}
+use Rattle.list_laws.proofs.Public.{each_any, map_flat, range_more, same_flat, same_length, same_map}
 use Rattle.fixed_interval.specs.Ends.{Ends, ends_exact, ends_add}
 use Rattle.depot_pipeline.specs.Profile.{added}
 use Rattle.spares_input.specs.Frames.{part_at}
 use Rattle.spares_input.specs.Cases.{CaseRows, IsCase}
-use Rattle.spares_input.proofs.Public.{range_more}
 use Rattle.fleet_model.specs.Fleet.{family}
 use Rattle.family_items.specs.Inputs.{IsLine}
 use Rattle.family_items.proofs.Public.{added_same}
@@ -22,8 +22,7 @@ use Rattle.family_points.specs.Inputs.{FamilyBox, box_points, held_at, high_at, 
 use Rattle.family_points.specs.Separation.{depot_and_base, depot_point, base_stocks, base_point, base_points, depot_points, separated}
 use Rattle.family_points.proofs.Bounded.{limits_long}
 use Rattle.family_points.proofs.Depend.{scored_same}
-use Rattle.family_points.proofs.Boxes.{each_any, each_long, map_flat, same_flat, same_map, vectors_joined}
-use Rattle.family_points.proofs.Numbers.{same_length}
+use Rattle.family_points.proofs.Boxes.{each_long, vectors_joined}
 use Rattle.family_points.proofs.Sites.{agree, all_joined, joined, part_before, part_behind, part_long, size}
 
 -- ---- sums of mapped points

@@ -3,13 +3,13 @@ use Rattle.std.proofs.Common.{◌≡◌, ℕ, zero, suc, ◌+◌, ◌-◌, ◌*�
 use Rattle.std.specs.List.{All, AllZip, range_with_len}
 use Rattle.std.proofs.lemmas.List.{append_assoc, get_or_default}
 use Rattle.std.proofs.lemmas.List.FromFn.{map-range_with_len_more}
+use Rattle.list_laws.proofs.Public.{same_length}
 use Rattle.fixed_interval.specs.Ends.{Ends}
 use Rattle.series_bounds.specs.Answer.{at_place}
 use Rattle.fleet_model.specs.Fleet.{family}
 use Rattle.family_points.specs.Boxes.{IsBox}
 use Rattle.family_points.specs.Inputs.{FamilyBox, IsFamilyBox, high_at, low_at, shop_high, shop_low}
 use Rattle.family_points.proofs.Bounded.{box_at, high_long}
-use Rattle.family_points.proofs.Numbers.{same_length}
 use Rattle.family_points.proofs.Points.{low_begins}
 use Rattle.family_points.proofs.Sites.{part_long, size}
 

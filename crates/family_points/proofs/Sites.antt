@@ -6,12 +6,12 @@ use Rattle.std.proofs.lemmas.List.{length-take-le, take_all, drop-append-le}
 use Rattle.std.proofs.lemmas.List.FromFn.{get_or-range_with_len, length-range_with_len}
 use Rattle.std.proofs.Math.Seq.{drop-append_seam}
 use Rattle.std.proofs.lemmas.List.{take-append-le}
+use Rattle.list_laws.proofs.Public.{all_follow, flat_at}
 use Rattle.spares_input.specs.Cases.{CaseRows, IsCase}
 use Rattle.fleet_model.specs.Rows.{shop_units, stock}
 use Rattle.fleet_model.specs.Fleet.{family}
-use Rattle.fleet_model.proofs.Public.{all_follow}
 use Rattle.family_items.specs.Inputs.{IsLine, IsShop}
-use Rattle.family_items.proofs.Public.{flat_at, shops_all}
+use Rattle.family_items.proofs.Public.{shops_all}
 use Rattle.family_points.proofs.Items.{Agree}
 use Rattle.family_points.specs.Vectors.{site_part, stock_in, stocks_in}
 use Rattle.family_points.proofs.Boxes.{parts_joined}

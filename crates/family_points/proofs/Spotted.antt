@@ -1,6 +1,7 @@
 -- Stocks at a base as the code keeps them.
 use Rattle.std.proofs.Common.{◌≡◌, ℕ, zero, suc, ◌+◌, ◌-◌, ◌*◌, ◌<◌, ◌≤◌, List, [], ◌∷◌, ◌++◌, length, map, take, get_or, refl, sym, ap, ap₂, ◌∙◌, arith}
 use Rattle.std.proofs.lemmas.List.{map-append}
+use Rattle.list_laws.proofs.Public.{take_next}
 use Rattle.spares_input.specs.Frames.{part_at}
 use Rattle.spares_input.specs.Cases.{CaseRows}
 use Rattle.fleet_model.specs.Fleet.{family}
@@ -9,7 +10,7 @@ use Rattle.family_points.specs.declared.order.ShopVector.{ShopVector}
 use Rattle.family_points.specs.Points.{cost_above}
 use Rattle.family_points.specs.Inputs.{AreShopsAt, FamilyBox, IsAt, IsFamilyBox, held_at, line_high, line_low}
 use Rattle.family_points.proofs.Bounded.{held_most, held_part_long}
-use Rattle.family_points.proofs.Points.{joined_at, site_cost_most, take_next}
+use Rattle.family_points.proofs.Points.{joined_at, site_cost_most}
 
 -- each more of a part adds its cost
 dearer : (c : CaseRows) (p : ℕ) (ps held v : List ℕ) (low s : ℕ) → 0 < length held → get_or held 0 0 ≤ low → low ≤ s

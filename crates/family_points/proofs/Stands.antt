@@ -2,13 +2,13 @@
 use Rattle.std.proofs.Common.{◌≡◌, ℕ, zero, suc, ◌+◌, ◌*◌, ◌<◌, ◌≤◌, List, length, map, sym, ◌∙◌, arith}
 use Rattle.std.specs.List.{range_with_len, AllByRecursion}
 use Rattle.std.proofs.lemmas.List.{length-map}
+use Rattle.list_laws.proofs.Public.{same_flat}
 use Rattle.spares_input.specs.Stocks.{limit_at}
 use Rattle.spares_input.specs.Cases.{CaseRows, IsCase}
 use Rattle.fleet_model.specs.Rows.{stock}
 use Rattle.fleet_model.specs.Fleet.{family}
 use Rattle.family_items.specs.Inputs.{IsLine}
 use Rattle.family_points.specs.Vectors.{Pair, places, site_part, stocks_with, vector_of}
-use Rattle.family_points.proofs.Boxes.{same_flat}
 use Rattle.family_points.proofs.Bounded.{limits_long}
 use Rattle.family_points.proofs.Distinct.{family_stocks_in}
 use Rattle.family_points.proofs.Placed.{vector_rows}

@@ -4,9 +4,9 @@ use Rattle.std.specs.List.{range_with_len}
 use Rattle.std.proofs.lemmas.List.{map_push}
 use Rattle.std.proofs.lemmas.List.FromFn.{length-map-range_with_len}
 use Rattle.std.proofs.lemmas.List.Sums.{sum_by-append}
+use Rattle.list_laws.proofs.Public.{range_more, same_length}
 use Rattle.answers.specs.Counts.{count64}
 use Rattle.spares_input.specs.Cases.{CaseRows, IsCase}
-use Rattle.spares_input.proofs.Public.{range_more}
 use Rattle.fleet_model.specs.Rows.{bases, shop_units}
 use Rattle.family_items.specs.Inputs.{IsLine}
 use Rattle.family_points.specs.Vectors.{limits, site_part}
@@ -14,7 +14,7 @@ use Rattle.family_points.specs.Points.{AreOrdered}
 use Rattle.family_points.specs.Counts.{product, widths, tables_between}
 use Rattle.family_points.specs.Boxes.{IsBox}
 use Rattle.family_points.proofs.Bounded.{box_of, limits_long, part_within}
-use Rattle.family_points.proofs.Numbers.{same_length, widths_long, widths_part}
+use Rattle.family_points.proofs.Numbers.{widths_long, widths_part}
 use Rattle.family_points.proofs.Sites.{part_long, size}
 
 -- what the shop units of a site have in a box

@@ -2,6 +2,7 @@
 use Rattle.std.proofs.Common.{ℕ, inl, inr, List, [], ◌∷◌, map, flat_map, refl, sym, ◌∙◌, subst}
 use Rattle.std.proofs.lemmas.List.Folds.{flat_map-map}
 use Rattle.std.proofs.lemmas.Simd.{map-map}
+use Rattle.list_laws.proofs.Public.{each_any, flat_flat, map_flat, same_flat}
 use Rattle.hull.specs.declared.point.Point.{Point}
 use Rattle.hull.specs.Curves.{Among, IsCurve}
 use Rattle.hull.proofs.Public.{of_members, among_left, among_right, among_either}
@@ -10,7 +11,6 @@ use Rattle.family_points.specs.Points.{ScoreEnds}
 use Rattle.family_points.specs.Separation.{base_point}
 use Rattle.family_points.specs.Turned.{turned_points}
 use Rattle.family_points.specs.Inputs.{FamilyBox, line_high, line_low, line_stocks, shop_high, shop_low, shop_vectors}
-use Rattle.family_points.proofs.Boxes.{each_any, flat_flat, map_flat, same_flat}
 
 module _ {X Y : Type 0} (f : X → Y → Point) where
   -- one element's points, put before those of each

@@ -4,6 +4,7 @@ use Rattle.std.specs.List.{range_with_len, All, AllZip, AllByRecursion}
 use Rattle.std.proofs.lemmas.List.{get_or-map, get_or-replicate, length-replicate}
 use Rattle.std.proofs.lemmas.Simd.{map-map}
 use Rattle.std.proofs.lemmas.Bool.{ne_eqb}
+use Rattle.list_laws.proofs.Public.{at_each, each_any, map_flat, no_more_than_self, same_flat, same_map}
 use Rattle.spares_input.specs.declared.rows.PartId.{PartId}
 use Rattle.spares_input.specs.Frames.{part_at}
 use Rattle.spares_input.specs.Stocks.{StockList, limit_at, nothing_held}
@@ -16,9 +17,7 @@ use Rattle.family_points.specs.declared.bounds.Bounds.{Bounds}
 use Rattle.family_points.specs.Vectors.{Pair, box_from, limits, places, places_at, site_part, vector_of, zeros}
 use Rattle.family_points.specs.Points.{AreOrdered}
 use Rattle.family_points.specs.Counts.{widths, base_width, tables_by, tables_of, tables_between}
-use Rattle.family_points.proofs.Boxes.{same_map, each_any, map_flat, same_flat}
 use Rattle.family_points.proofs.Bounded.{limits_at, ids_long}
-use Rattle.family_points.proofs.Points.{at_each}
 use Rattle.family_points.proofs.Sites.{size, members}
 
 -- the widths from no stock up to given numbers are these numbers and one
@@ -83,11 +82,6 @@ limits_rows c l =
     ∙ same_flat (λ k. Unit {0}) (λ k. map limit (places_at c l k)) (λ k. map (λ p. limit_at c.parts p k) (family c l)) (range_with_len 0 (length c.sites))
     (λ k _. map-map limit (own k) (family c l)) (each_any (range_with_len 0 (length c.sites)))
 
--- each number is at most itself
-pub same_zip : (v : List ℕ) → AllZip (λ x y. x ≤ y) v v
-same_zip [] = tt
-same_zip (x ∷ v) = (omega arith, same_zip v)
-
 -- no stock is at most any number, at each place
 pub none_zip : (f : Pair → ℕ) (xs : List Pair) → AllZip (λ x y. x ≤ y) (map (λ (x : Pair). 0) xs) (map f xs)
 none_zip f [] = tt
@@ -96,9 +90,9 @@ none_zip f (x ∷ xs) = (omega arith, none_zip f xs)
 -- with nothing held, the bounds from no stock to the limits are in order
 pub whole_ordered : (c : CaseRows) (l : ℕ) → AreOrdered c l (zeros c l) (zeros c l) (limits c l)
 whole_ordered c l = record {
-  held_least = same_zip (zeros c l);
+  held_least = no_more_than_self (zeros c l);
   low_least = none_zip (λ (x : Pair). limit_at c.parts x.part x.site) (places c l);
-  within = same_zip (limits c l);
+  within = no_more_than_self (limits c l);
 }
 
 nothing_at : (xs : List ℕ) → All (λ n. n ≡ 0) xs → (i : ℕ) → get_or xs i 0 ≡ 0

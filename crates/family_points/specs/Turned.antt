@@ -1,4 +1,5 @@
--- The points of a base by the stocks of its shop units first: one table of the line unit serves all its stocks.
+-- The points of a base by the stocks of its shop units first: one table of the line unit serves all its stocks. No
+-- promise of the crate rests on these words.
 use Rattle.std.specs.Prelude.{ℕ, List, ◌∷◌, map, flat_map}
 use Rattle.hull.specs.declared.point.Point.{Point}
 use Rattle.family_points.specs.Points.{ScoreEnds}

@@ -108,7 +108,7 @@ fn count_tables(case: &Case, line: PartId, rooms: Rooms<'_>) -> u64
     )
 }
 
-/// The number of vectors of a line unit's family, or 2^64 - 1 if there are more.
+/// The number of vectors of a line unit's family, or 2^64 - 1 if there are more. No command calls it.
 pub fn choices(case: &Case, line: PartId) -> u64
     requires { IsLine case.now line.0 }
     ensures { result ≡ count64 (choices_of case.now line.0) }

@@ -1,6 +1,7 @@
 //! A family with the bounds of its vectors.
 
 ghost use Rattle.std.specs.Prelude.{◌≡◌, ◌+◌, ◌*◌, ◌<◌, ◌≤◌, IfOk, length, map, take, drop, get_or, [], ◌∷◌};
+ghost use Rattle.spares_input.specs.Limits.{most_sites, most_family, most_stock};
 ghost use Rattle.spares_input.specs.Frames.{part_at};
 ghost use Rattle.fleet_model.specs.Laws.{IsBase};
 ghost use Rattle.fleet_model.specs.Fleet.{family};
@@ -58,7 +59,7 @@ impl<'a> Model for Family<'a> {
 
 /// The part of a vector that belongs to a site; `size` is the number of parts of the family.
 pub fn part_of(vector: &[u8], site: SiteId, size: usize) -> &[u8]
-    requires few { size ≤ 9 }
+    requires few { size ≤ most_family }
     requires within { site.0 * size + size ≤ length vector.now }
     ensures { result.now ≡ take size (drop (site.0 * size) vector.now) }
 {
@@ -111,7 +112,7 @@ impl<'a> Family<'a> {
 
     /// The rules of a family and its bounds, for a proof.
     pub fn invariant(&self)
-        ensures few { length (family self.now.case self.now.line) ≤ 9 }
+        ensures few { length (family self.now.case self.now.line) ≤ most_family }
         ensures valid { IsFamilyBox self.now }
     {
         let _opened = &self.case;
@@ -121,7 +122,7 @@ impl<'a> Family<'a> {
     pub fn invariant_at(&self, site: SiteId)
         requires { site.0 < length self.now.case.sites }
         ensures order { line_low self.now site.0 ≤ line_high self.now site.0 }
-        ensures most { line_high self.now site.0 ≤ 63 }
+        ensures most { line_high self.now site.0 ≤ most_stock }
     {
         let _high = self.line_high(site);
     }
@@ -151,7 +152,7 @@ impl<'a> Family<'a> {
     /// The number of parts, at most 9.
     pub fn size(&self) -> usize
         ensures size { result ≡ length (family self.now.case self.now.line) }
-        ensures few { result ≤ 9 }
+        ensures few { result ≤ most_family }
         ensures valid { IsFamilyBox self.now }
     {
         self.members.len()
@@ -161,7 +162,7 @@ impl<'a> Family<'a> {
     pub fn sites(&self) -> u8
         ensures sites { result ≡ length self.now.case.sites }
         ensures fewest { 2 ≤ result }
-        ensures most { result ≤ 16 }
+        ensures most { result ≤ most_sites }
     {
         self.case.site_count()
     }
@@ -199,7 +200,7 @@ impl<'a> Family<'a> {
         requires { site.0 < length self.now.case.sites }
         ensures high { result ≡ line_high self.now site.0 }
         ensures order { line_low self.now site.0 ≤ result }
-        ensures most { result ≤ 63 }
+        ensures most { result ≤ most_stock }
     {
         self.invariant();
         self.high(site)[0]

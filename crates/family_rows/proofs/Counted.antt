@@ -3,6 +3,7 @@ use Rattle.std.proofs.Common.{◌≡◌, ℕ, zero, suc, ◌+◌, ◌-◌, ◌*�
 use Rattle.std.specs.List.{AllZip, range_with_len}
 use Rattle.std.proofs.lemmas.List.FromFn.{length-map-range_with_len, length-range_with_len}
 use Rattle.std.proofs.lemmas.List.Sums.{sum_by-cons}
+use Rattle.list_laws.proofs.Public.{sum_mapped}
 use Rattle.fleet_model.specs.Rows.{bases}
 use Rattle.family_numbers.specs.BaseTables.{tables_by_shop, tables_by_stock}
 use Rattle.family_numbers.specs.Numbers.{FamilyNumbers, base_shop_table, depot_shop_table, nth_stock}
@@ -26,10 +27,6 @@ sum_along f (w ∷ ws) a h =
 
     next : (a i : ℕ) → a + 1 + i ≡ a + suc i
     next a i = omega arith
-
-sum_mapped : {X : Type 0} (f : X → ℕ) (g : ℕ → X) (xs : List ℕ) → sum_by f (map g xs) ≡ sum_by (λ n. f (g n)) xs
-sum_mapped f g [] = refl
-sum_mapped {X} f g (x ∷ xs) = sum_by-cons f (g x) (map g xs) ∙ ap (λ n. f (g x) + n) (sum_mapped f g xs) ∙ sym (sum_by-cons (λ n. f (g n)) x xs)
 
 sum_same : (f : ℕ → ℕ) (n a w : ℕ) → ((k : ℕ) → f k ≡ w) → sum_by f (range_with_len a n) ≡ n * w
 sum_same f zero a w h = omega arith

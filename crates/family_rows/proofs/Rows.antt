@@ -2,6 +2,7 @@
 use Rattle.std.proofs.Common.{◌≡◌, ℕ, zero, suc, ◌+◌, ◌<◌, List, [], ◌∷◌, ◌++◌, length, get_or, map, set, take, sym, ap, ◌∙◌, subst, arith}
 use Rattle.std.specs.List.{AllZip}
 use Rattle.std.proofs.lemmas.List.{get_or-map, map-append, take_more_set}
+use Rattle.list_laws.proofs.Public.{take_on, zip_push}
 use Rattle.fixed_interval.specs.Ends.{Ends}
 use Rattle.depot_pipeline.specs.declared.Moments.{Moments}
 use Rattle.family_numbers.specs.Numbers.{shop_part}
@@ -9,8 +10,6 @@ use Rattle.family_points.specs.Inputs.{FamilyBox, shop_vectors}
 use Rattle.family_rows.specs.declared.base_at.BaseAt.{BaseAt}
 use Rattle.family_rows.specs.Spots.{AreRows}
 use Rattle.family_rows.specs.Tabled.{box_numbers, parts_at}
-use Rattle.family_points.proofs.Public.{take_on}
-use Rattle.sum_walk.proofs.Public.{zip_push}
 
 -- what stands for an entry at the place of another is related to that other
 pub row_read : {X Y V : Type 0} (f : V → Y) (R : X → Y → Type 0) (xs : List X) (rows : List V) (n : ℕ) (row : V) (d : X) → AllZip R xs (map f rows) → n < length xs

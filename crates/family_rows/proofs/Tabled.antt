@@ -1,12 +1,12 @@
 -- What the tables of a family give is what the model's profile gives at the stocks of the case.
 use Rattle.std.proofs.Common.{◌≡◌, ℕ, ◌<◌, List, ◌∷◌, length, get_or, drop, sym, ap, ◌∙◌, subst, arith}
+use Rattle.list_laws.proofs.Public.{begins_with_first, flat_at, same_length}
 use Rattle.fixed_interval.specs.Ends.{Ends}
 use Rattle.series_bounds.specs.Answer.{at_place}
 use Rattle.spares_input.specs.Stocks.{limit_at}
 use Rattle.fleet_model.specs.Fleet.{family}
 use Rattle.fleet_model.specs.Laws.{IsBase}
 use Rattle.family_items.specs.Profile.{item_of}
-use Rattle.family_items.proofs.Public.{flat_at}
 use Rattle.family_numbers.specs.declared.base_shops.BaseShops.{BaseShops}
 use Rattle.family_numbers.specs.BaseTables.{AreBaseShops, AreShopBounds, HaveShops}
 use Rattle.family_numbers.specs.Numbers.{AreBaseBackorders, FamilyNumbers, no_numbers, pair_at, pair_numbers}
@@ -15,7 +15,7 @@ use Rattle.family_points.specs.Separation.{base_stocks, depot_and_base}
 use Rattle.family_points.specs.Inputs.{AreShopsAt, FamilyBox, IsFamilyBox, IsAt, shop_high, shop_low}
 use Rattle.family_rows.specs.declared.depot.DepotTables.{DepotTables}
 use Rattle.family_rows.specs.Tabled.{AreShopStocks, AreTables, box_numbers}
-use Rattle.family_points.proofs.Public.{at_limit, at_long, family_stocks_in, same_length, begins, at_base, all_below, box_shops, shops_low_long}
+use Rattle.family_points.proofs.Public.{at_limit, at_long, family_stocks_in, at_base, all_below, box_shops, shops_low_long}
 
 -- ---- stocks of shop units
 
@@ -68,7 +68,7 @@ module _ (x : FamilyBox) (valid : IsFamilyBox x) where
       let depot_long = at_long x valid 0 d (omega (arith, some)) h in
       is.ends s (omega (arith, line_limit j base.1, at_limit x valid j 0 (s ∷ b) base.1 g (omega arith)))
       ∙ sym (backorders_alone 48 x.case x.line j (base_stocks x d j (s ∷ b)) (get_or d 0 0) (drop 1 d) s b valid.is_line base.0 base.1
-      (family_stocks_in x.case x.line own 0 valid.valid valid.is_line (omega (arith, some)) depot_long ∙ sym (begins d (omega (arith, depot_long))))
+      (family_stocks_in x.case x.line own 0 valid.valid valid.is_line (omega (arith, some)) depot_long ∙ sym (begins_with_first d (omega (arith, depot_long))))
       (family_stocks_in x.case x.line own j valid.valid valid.is_line base.1 (ap length (at_base d j (s ∷ b) base.0) ∙ at_long x valid j (s ∷ b) base.1 g)
       ∙ at_base d j (s ∷ b) base.0))
 

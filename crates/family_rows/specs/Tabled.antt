@@ -1,6 +1,7 @@
 -- The tables from which the points of a family are made. No promise of the crate rests on these words.
 use Rattle.std.specs.Prelude.{◌≡◌, ℕ, ◌-◌, ◌≤◌, List, drop, length, map}
 use Rattle.std.specs.List.{All}
+use Rattle.spares_input.specs.Limits.{most_stock}
 use Rattle.moment_table.specs.Rows.{TableRows}
 use Rattle.depot_pipeline.specs.declared.Moments.{Moments}
 use Rattle.fleet_model.specs.Rows.{bases}
@@ -17,7 +18,7 @@ box_numbers x = numbers_of 48 x.case x.line
 -- a stock for each shop unit
 pub record AreShopStocks (n : FamilyNumbers 48) (v : List ℕ) : Type 0 where
   pub count : length v ≡ length n.parts - 1
-  pub small : All (λ s. s ≤ 63) v
+  pub small : All (λ s. s ≤ most_stock) v
 
 -- the tables of the shop units at the depot
 abbrev pub depot_shops : FamilyNumbers 48 → List (TableRows 48)

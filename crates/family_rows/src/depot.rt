@@ -1,6 +1,6 @@
 //! The tables from which the points of a family are made, and the backorders computed by them.
 
-ghost use Rattle.std.specs.Prelude.{◌≡◌, IfOk, drop, length, map};
+ghost use Rattle.std.specs.Prelude.{◌≡◌, ◌≤◌, IfOk, drop, length, map};
 ghost use Rattle.fleet_model.specs.Laws.{IsBase};
 ghost use Rattle.fleet_model.specs.Rows.{bases};
 ghost use Rattle.family_numbers.specs.Numbers.{shop_part};
@@ -128,6 +128,23 @@ pub fn depot_tables<'a>(
     let at_depot = sources.depot_shops.as_slice();
     let line = depot_line(alloc, &sources.numbers, at_depot, depot)?;
     Ok(DepotTables { line, shops })
+}
+
+/// The line unit's first stock at the depot, from `low` on, that leaves at most a quarter of its pipeline there as
+/// backorders, or `high` if none below does. A guess at the depot's stock of most vertices, of which no proof speaks.
+pub fn likely_line(tables: &DepotTables<'_>, low: u8, high: u8) -> u8
+    requires order { low ≤ high }
+    requires most { high ≤ 63 }
+    ensures least { low ≤ result }
+    ensures most { result ≤ high }
+{
+    let few = tables.line.ebo(0).hi() / 4;
+    for stock in low..high {
+        if tables.line.ebo(stock).hi() <= few {
+            return stock;
+        }
+    }
+    high
 }
 
 /// The shop units' parts at a base.

@@ -7,6 +7,7 @@ use Rattle.std.proofs.lemmas.List.Quantifiers.{position-Some}
 use Rattle.std.proofs.lemmas.List.Sums.{position_or_len_is, fails_before_first, passes_at_first}
 use Rattle.std.proofs.lemmas.List.Folds.{list_any-append, list_any_at, list_any_none}
 use Rattle.std.proofs.lemmas.Slice.Eq.{bytes_eq-Decides}
+use Rattle.list_laws.proofs.Public.{bytes_same, same_number}
 use Rattle.family_tables.specs.declared.keys.Key.{Key}
 use Rattle.family_tables.specs.declared.keys.Kept.{Kept}
 use Rattle.family_tables.specs.Kept.{Grows, Has, IsKept, is_among, is_key, moments_at, table_at, with_key, with_keys}
@@ -44,12 +45,6 @@ position_any p (y ∷ ys) = elim (cases_lt (position_or_len p (y ∷ ys)) (lengt
 
 -- ---- keys
 
-equal : (a b : ℕ) → (a == b) ≡ true → a ≡ b
-equal a b h = grind arith
-
-bytes_same : (xs ys : List ℕ) → bytes_eq xs ys ≡ true → xs ≡ ys
-bytes_same xs ys h = grind (arith, bytes_eq-Decides xs ys)
-
 -- what is kept under the first such key is of the pipeline of this place, this site and these stocks
 pub kept_found : (f : ℕ) (x : FamilyNumbers f) (kept : List (Kept f)) (n i k : ℕ) (s : List ℕ) (y : Kept f) → All (IsKept f x) kept → y ≡ get_or kept n y
     → position (λ (z : Kept f). is_key z.key i k s) kept ≡ Some n → (y.moments ≡ moments_at f x i k s) × (y.table ≡ table_at f x i k s)
@@ -60,8 +55,8 @@ kept_found f x kept n i k s y all r found =
     let first = and_parts (y.key.place == i) (y.key.site.0 == k) rest.0 in
     let is = subst (IsKept f x) (sym r) (all n y at.0) in
     let triple : (y.key.place, (y.key.site.0, y.key.stocks)) ≡ (i, (k, s)) =
-    ap₂ (λ (a : ℕ) (z : ℕ × List ℕ). (a, z)) (equal y.key.place i first.0)
-    (ap₂ (λ (b : ℕ) (v : List ℕ). (b, v)) (equal y.key.site.0 k first.1) (bytes_same y.key.stocks s rest.1)) in
+    ap₂ (λ (a : ℕ) (z : ℕ × List ℕ). (a, z)) (same_number y.key.place i first.0)
+    (ap₂ (λ (b : ℕ) (v : List ℕ). (b, v)) (same_number y.key.site.0 k first.1) (bytes_same y.key.stocks s rest.1)) in
     (is.moments ∙ ap (λ (z : ℕ × (ℕ × List ℕ)). moments_at f x z.0 z.1.0 z.1.1) triple, is.table ∙ ap (λ (z : ℕ × (ℕ × List ℕ)). table_at f x z.0 z.1.0 z.1.1) triple)
 
 -- ---- keys that come
@@ -91,8 +86,8 @@ key_same : (key : Key) (i k : ℕ) (s : List ℕ) → is_key key i k s ≡ true 
 key_same key i k s same keys =
     let rest = and_parts ((key.place == i) && (key.site.0 == k)) (bytes_eq key.stocks s) same in
     let first = and_parts (key.place == i) (key.site.0 == k) rest.0 in
-    ap₂ (λ (a : ℕ) (z : ℕ × List ℕ). is_among keys a z.0 z.1) (equal key.place i first.0)
-    (ap₂ (λ (b : ℕ) (v : List ℕ). (b, v)) (equal key.site.0 k first.1) (bytes_same key.stocks s rest.1))
+    ap₂ (λ (a : ℕ) (z : ℕ × List ℕ). is_among keys a z.0 z.1) (same_number key.place i first.0)
+    (ap₂ (λ (b : ℕ) (v : List ℕ). (b, v)) (same_number key.site.0 k first.1) (bytes_same key.stocks s rest.1))
 
 own_key : (key : Key) → is_key key key.place key.site.0 key.stocks ≡ true
 own_key key = grind (arith, bytes_eq-Decides key.stocks key.stocks)

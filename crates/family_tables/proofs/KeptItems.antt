@@ -1,9 +1,10 @@
 -- The tables that are kept are those of the case's items.
 use Rattle.std.proofs.Common.{◌≡◌, ◌==◌, ℕ, zero, suc, ◌+◌, ◌-◌, ◌<◌, List, [], ◌∷◌, ◌++◌, length, get_or, map, flat_map, Some, position, unwrap_or, refl, sym, ap, ap₂, ◌∙◌, subst, arith, add-one}
 use Rattle.std.specs.List.{range_with_len}
-use Rattle.std.proofs.lemmas.List.{map-append, map_push}
+use Rattle.std.proofs.lemmas.List.{map_push}
 use Rattle.std.proofs.lemmas.Simd.{map-map}
 use Rattle.std.proofs.lemmas.List.Quantifiers.{position-Some}
+use Rattle.list_laws.proofs.Public.{map_flat}
 use Rattle.depot_pipeline.specs.declared.Moments.{Moments}
 use Rattle.spares_input.specs.Cases.{CaseRows, IsCase}
 use Rattle.spares_input.specs.Stocks.{IsFor, StockList, stock_at}
@@ -61,10 +62,6 @@ flat_numbered {X} h g a (x ∷ xs) e =
     let first : a + 0 ≡ a = omega arith in
     ap₂ (λ (y z : List X). y ++ z) (ap h (sym first) ∙ e 0 (omega arith))
     (flat_numbered h g (a + 1) xs (λ n l. let next : a + 1 + n ≡ a + suc n = omega arith in ap h next ∙ e (suc n) (omega (arith, l))))
-
-map_flat : {X Y : Type 0} (g : X → Y) (h : ℕ → List X) (xs : List ℕ) → map g (flat_map h xs) ≡ flat_map (λ i. map g (h i)) xs
-map_flat g h [] = refl
-map_flat {X} {Y} g h (x ∷ xs) = map-append g (h x) (flat_map h xs) ∙ ap (λ (ys : List Y). map g (h x) ++ ys) (map_flat g h xs)
 
 module _ (f : ℕ) (c : CaseRows) (l : ℕ) (valid : IsCase c) (line : IsLine c l) (s : StockList) (for : IsFor c s) where
   -- an item is its pipeline with its backorders at its stock

@@ -2,12 +2,13 @@
 use Rattle.std.proofs.Common.{◌≡◌, ℕ, zero, suc, ◌+◌, ◌-◌, ◌<◌, ◌≤◌, List, [], ◌∷◌, ◌++◌, length, map, flat_map, sym, ap, ap₂, ◌∙◌, refl, arith, add-one, append-nil, append_assoc, subst}
 use Rattle.std.specs.List.{All, range_with_len}
 use Rattle.std.proofs.lemmas.List.Elements.{All-append}
+use Rattle.list_laws.proofs.Public.{all_numbered}
 use Rattle.depot_pipeline.specs.declared.Feed.{Feed}
 use Rattle.base_pipeline.specs.Profile.{base_shop_ends}
 use Rattle.family_numbers.specs.declared.numbers.PairNumbers.{PairNumbers}
 use Rattle.family_items.specs.Inputs.{HasTable}
 use Rattle.family_tables.specs.Kept.{IsKey, key_at, keys_of, moments_at, shop_key}
-use Rattle.family_numbers.proofs.Public.{all_numbered, base_shop_can, depot_line_can, depot_shop_can}
+use Rattle.family_numbers.proofs.Public.{base_shop_can, depot_line_can, depot_shop_can}
 use Rattle.family_numbers.specs.Numbers.{AreNumbers, FamilyNumbers, depot_shop_row, feed_from, nth_stock, pair_at, shop_numbers}
 
 flat_more : {X : Type 0} (h : ℕ → List X) (a n : ℕ) → flat_map h (range_with_len a (suc n)) ≡ flat_map h (range_with_len a n) ++ h (a + n)

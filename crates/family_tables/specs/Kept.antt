@@ -4,6 +4,7 @@ use Rattle.std.specs.List.{All, list_any, range_with_len}
 use Rattle.std.specs.Option.{option_map_or}
 use Rattle.moment_table.specs.Rows.{TableRows, at_stock}
 use Rattle.depot_pipeline.specs.declared.Moments.{Moments}
+use Rattle.spares_input.specs.Limits.{most_stock}
 use Rattle.spares_input.specs.Stocks.{HasPair, StockList, stock_at}
 use Rattle.family_items.specs.declared.item.Item.{Item}
 use Rattle.family_tables.specs.declared.keys.Key.{Key}
@@ -71,7 +72,7 @@ pub record IsKey {f : ℕ} (x : FamilyNumbers f) (key : Key) : Type 0 where
   pub site : key.site.0 < x.sites
   pub depot : key.place ≡ 0 → (key.site.0 ≡ 0) × (length key.stocks ≡ length x.parts - 1)
   pub base : 0 < key.place → 0 < key.site.0 → length key.stocks ≡ 1
-  pub stocks : All (λ n. n ≤ 63) key.stocks
+  pub stocks : All (λ n. n ≤ most_stock) key.stocks
 
 -- the key of place i at site k with these stocks
 abbrev pub key_at : ℕ → ℕ → List ℕ → Key
@@ -114,7 +115,7 @@ with_keys keys (key ∷ rest) = with_keys (with_key keys key) rest
 -- there is a stock of at most 63 for each part of the family at each site
 pub record HaveStocks {f : ℕ} (x : FamilyNumbers f) (s : StockList) : Type 0 where
   pub pairs : (i k : ℕ) → i < length x.parts → k < x.sites → HasPair s (get_or x.parts i 0) k
-  pub most : (i k : ℕ) → i < length x.parts → k < x.sites → stock_at s (get_or x.parts i 0) k ≤ 63
+  pub most : (i k : ℕ) → i < length x.parts → k < x.sites → stock_at s (get_or x.parts i 0) k ≤ most_stock
 
 -- the item of a key's pair, at the stocks s of a case
 abbrev pub key_item : (f : ℕ) → FamilyNumbers f → StockList → Key → Item f

@@ -1,4 +1,5 @@
-//! Evaluators, which answer from the tables that they have kept and make only those that are missing.
+//! Evaluators, which answer from the tables that they have kept and make only those that are missing. No command uses
+//! one.
 #![tactic(auto)]
 
 ghost use Rattle.std.specs.Prelude.{◌≡◌, ◌==◌, ℕ, ◌<◌, ◌∷◌, List, Some, length, position};

@@ -2,6 +2,7 @@
 
 ghost use Rattle.std.specs.Prelude.{◌≡◌, ◌+◌, ◌-◌, ◌<◌, ◌≤◌, IfOk, OnOk, OnErr, length, map, get_or, ℕ};
 ghost use Rattle.std.specs.List.{All, range_with_len};
+ghost use Rattle.spares_input.specs.Limits.{most_stock};
 ghost use Rattle.spares_input.specs.Stocks.{HasPair};
 ghost use Rattle.family_tables.specs.Kept.{Grows, IsKept, IsKey, depot_stocks, key_at, key_moments, keys_of, shop_key, with_key, with_keys};
 ghost use Rattle.family_numbers.specs.Numbers.{depot_feeds, depot_shop_row, feed_from, pair_at};
@@ -28,7 +29,7 @@ fn feed_at<const F: u32>(
     requires kept { All (IsKept F numbers.now) kept.now }
     requires shop { shop < length numbers.now.parts - 1 }
     requires site { site < numbers.now.sites }
-    requires stock { stock ≤ 63 }
+    requires stock { stock ≤ most_stock }
     ensures { IfOk result (λ x. x ≡ feed_from F (pair_at numbers.now (shop + 1) site).share
         (depot_shop_row F numbers.now shop stock)) }
 {
@@ -52,7 +53,7 @@ fn feeds_at<const F: u32>(
 ) -> Result<Vec<Feed<F>>, NoMemory>
     requires kept { All (IsKept F numbers.now) kept.now }
     requires count { length depot.now ≡ length numbers.now.parts - 1 }
-    requires stocks { All (λ n. n ≤ 63) depot.now }
+    requires stocks { All (λ n. n ≤ most_stock) depot.now }
     ensures { IfOk result (λ v. v.items ≡ depot_feeds F numbers.now depot.now) }
 {
     numbers.invariant();

@@ -1,13 +1,15 @@
 -- What the operations on ends keep: where the arguments contain their fractions, the answer contains the exact result.
-use Rattle.std.specs.Prelude.{◌≡◌, ℕ, zero, suc, ◌+◌, ◌-◌, ◌*◌, ◌/◌, ◌%◌, ◌^◌, ◌≤◌, ◌<◌, min, max}
+use Rattle.std.specs.Prelude.{◌≡◌, ℕ, zero, suc, ◌+◌, ◌-◌, ◌*◌, ◌/◌, ◌%◌, ◌^◌, ◌≤◌, ◌<◌, max}
 use Rattle.std.specs.Int.{div_ceil}
 use Rattle.std.proofs.Common.{arith, ap, lit<, inl, inr, ◌⊎◌, le_trans, mul-le-mul, le_of_mul-le-mul_right, zero-lt-suc}
-use Rattle.std.proofs.Math.Nat.{mul-pos, le-max_left, le-max_right, mul-le-mul_left, mul-le-mul_right, div-mul-le_self, mul-sub, pow-le-pow_right, le-mul_of_pos_right, lt_of_mul-lt-mul_right, div-eq_of_lt-le, add-mul-div_left, le_refl, one-le-pow}
-use Rattle.std.proofs.lemmas.Nat.{mul-le, le-div, pow_pos, shl_below, div-add-mod', mod_below}
+use Rattle.std.proofs.Math.Nat.{mul-pos, le-max_left, le-max_right, mul-le-mul_left, mul-le-mul_right, div-mul-le_self, mul-sub, pow-le-pow_right, lt_of_mul-lt-mul_right, add-mul-div_left, le_refl, one-le-pow}
+use Rattle.std.proofs.lemmas.Nat.{mul-le, pow_pos, shl_below, div-add-mod', mod_below}
 use Rattle.std.proofs.lemmas.Grind.{div_ceil_times}
+use Rattle.list_laws.proofs.Public.{ceil_above, ceil_is, ceil_le, floor_below_ceil, min_steps, sum_no_less, sum_no_more}
 use Rattle.exact_model.specs.Fraction.{Fraction, whole, larger, ◌≈◌, ◌≤ℚ◌, ◌+ℚ◌, ◌-ℚ◌, ◌*ℚ◌, ◌/ℚ◌}
-use Rattle.exact_model.proofs.Public.{over, same, le_same, turned, ◌≈≈◌, mul_cancel, quotient, contains_same, larger_is}
-use Rattle.fixed_interval.specs.Ends.{Ends, In, ends_exact, ends_add, ends_less, ends_times, ends_over, ends_mul, ends_div, ends_ratio, ends_max, ends_capped, InScale, IsInterval}
+use Rattle.exact_model.specs.Sums.{power}
+use Rattle.exact_model.proofs.Public.{over, same, le_same, turned, ◌≈≈◌, mul_cancel, quotient, contains_same, larger_is, first_power, next_power}
+use Rattle.fixed_interval.specs.Ends.{Ends, In, ends_exact, ends_add, ends_less, ends_times, ends_over, ends_mul, ends_div, ends_ratio, ends_max, ends_capped, ends_power, InScale, IsInterval}
 use Rattle.fixed_interval.specs.Text.{text_value}
 
 -- a factor above 0 on both sides may be left out
@@ -18,22 +20,12 @@ cancel k a b p h = grind arith
 pub ends_ordered : (f : ℕ) (x : Ends) (q : Fraction) → In f x q → x.lo ≤ x.hi
 ends_ordered f x q h = cancel q.den x.lo x.hi q.positive (omega (arith, h.low, h.high))
 
--- a quotient rounded up, times its divisor, is at least the dividend
-pub ceil_above : (a b : ℕ) → 0 < b → a ≤ div_ceil a b * b
-ceil_above a b p = (div_ceil_times a b p).0
-
-add_low : (o al a b bl c d : ℕ) → al * b ≤ a * o → bl * d ≤ c * o → (al + bl) * (b * d) ≤ (a * d + c * b) * o
-add_low o al a b bl c d h k = omega (arith, mul-le-mul_left d h, mul-le-mul_left b k)
-
-add_high : (o ah a b bh c d : ℕ) → a * o ≤ ah * b → c * o ≤ bh * d → (a * d + c * b) * o ≤ (ah + bh) * (b * d)
-add_high o ah a b bh c d h k = omega (arith, mul-le-mul_left d h, mul-le-mul_left b k)
-
 -- the sum of two intervals contains the sum of what they contain
 pub add_encloses : (f : ℕ) (a b : Ends) (q r : Fraction) → In f a q → In f b r → In f (ends_add a b) (q +ℚ r)
 unfolding ◌+ℚ◌
 add_encloses f a b q r h k = record {
-  low = add_low (2 ^ f) a.lo q.num q.den b.lo r.num r.den h.low k.low;
-  high = add_high (2 ^ f) a.hi q.num q.den b.hi r.num r.den h.high k.high;
+  low = sum_no_more (2 ^ f) a.lo q.num q.den b.lo r.num r.den h.low k.low;
+  high = sum_no_less (2 ^ f) a.hi q.num q.den b.hi r.num r.den h.high k.high;
 }
 
 less_low : (o al a b bh c d : ℕ) → al * b ≤ a * o → c * o ≤ bh * d → (al - bh) * (b * d) ≤ (a * d - c * b) * o
@@ -133,6 +125,13 @@ div_encloses f a b q r p o h k =
       high = div_high (2 ^ f) (div_ceil (a.hi * 2 ^ f) b.lo) a.hi q.num q.den b.lo r.num r.den p (ceil_above (a.hi * 2 ^ f) b.lo p) h.high k.low;
     })
 
+-- the power of an interval contains the power of what it contains
+pub power_encloses : (f : ℕ) (a : Ends) (q : Fraction) (n : ℕ) → In f a q → In f (ends_power f a n) (power q (suc n))
+unfolding ends_power
+power_encloses f a q zero h = contains_same (first_power q) h
+power_encloses f a q (suc n) h =
+    contains_same (next_power q (suc n)) (mul_encloses f (ends_power f a n) a (power q (suc n)) q (power_encloses f a q n h) h)
+
 over_low : (o al k a b n : ℕ) → n * k ≤ al → al * b ≤ a * o → n * (b * k) ≤ a * 1 * o
 over_low o al k a b n h l = omega (arith, mul-le-mul_right b h)
 
@@ -198,16 +197,6 @@ max_encloses f a b q r h k = elim (larger_is q r) [
   })
 ]
 
-grows : (a b k : ℕ) → a ≤ b → a * k ≤ b * k
-grows a b k h = mul-le-mul_right k h
-
-grows_turned : (a b k : ℕ) → b ≤ a → b * k ≤ a * k
-grows_turned a b k h = mul-le-mul_right k h
-
--- the smaller of two numbers, times a third, is the smaller of both times it
-pub min_steps : (a c k : ℕ) → min a c * k ≡ min (a * k) (c * k)
-min_steps a c k = grind (arith, grows a c k, grows_turned a c k)
-
 -- an interval cut at a cap still contains what is at most the cap
 pub capped_encloses : (f : ℕ) (a : Ends) (c : ℕ) (q : Fraction) → q.num * 2 ^ f ≤ c * q.den → In f a q → In f (ends_capped a c) q
 capped_encloses f a c q h x = record {
@@ -227,37 +216,6 @@ scaled_room f x h r =
     let e : (127 - f) + f ≡ 127 = omega arith in
     let b = shl_below x (127 - f) f r in
     rw e at b
-
--- a quotient rounded up is at most its dividend
-pub ceil_le : (a b : ℕ) → 0 < b → div_ceil a b ≤ a
-ceil_le a b p = omega (arith, div-add-mod' a b, le-mul_of_pos_right (a / b) p)
-
--- a quotient of at most top is still so when it is rounded up
-pub ceil_most : (a b top : ℕ) → 0 < b → a ≤ top * b → div_ceil a b ≤ top
-ceil_most a b top p h =
-    let t = div_ceil_times a b p in
-    let x : div_ceil a b < top + 1 = lt_of_mul-lt-mul_right b (omega (arith, t.1, h)) in
-    omega arith
-
--- a quotient rounded down is at most one rounded up of a dividend no smaller by a divisor no larger
-pub floor_below_ceil : (a b c d : ℕ) → a ≤ c → 0 < d → d ≤ b → a / b ≤ div_ceil c d
-floor_below_ceil a b c d h p q =
-    let k : a / b ≤ c / d = le-div (a / b) c d p (omega (arith, mul-le-mul_left (a / b) q, div-mul-le_self a b, h)) in
-    omega arith
-
--- the quotient rounded up is the only number of this kind
-pub ceil_is : (a b k : ℕ) → 0 < b → a ≤ k * b → k * b < a + b → k ≡ div_ceil a b
-ceil_is a b k p l u =
-    let t = div_ceil_times a b p in
-    let x : k < div_ceil a b + 1 = lt_of_mul-lt-mul_right b (omega (arith, t.0, u)) in
-    let y : div_ceil a b < k + 1 = lt_of_mul-lt-mul_right b (omega (arith, t.1, l)) in
-    omega arith
-
--- to round up is to add the divisor less 1 and round down
-pub ceil_by_sum : (a b : ℕ) → 0 < b → (a + (b - 1)) / b ≡ div_ceil a b
-ceil_by_sum a b p =
-    let t = div_ceil_times a b p in
-    div-eq_of_lt-le b (omega (arith, t.1)) (omega (arith, t.0))
 
 -- a scaled quotient rounded down is its whole part scaled and what is left, scaled and rounded down
 pub floor_split : (num den s : ℕ) → 0 < den → num / den * s + num % den * s / den ≡ num * s / den
@@ -336,8 +294,6 @@ mul_below f x y a b p q =
     let m = mul-le a.hi b.hi (x * 2 ^ f) (y * 2 ^ f) p q in
     let k : div_ceil (a.hi * b.hi) (2 ^ f) < x * y * 2 ^ f + 1 = lt_of_mul-lt-mul_right (2 ^ f) (omega (arith, t.1, m)) in
     omega arith
-
--- ---- for callers: a wider interval contains what a narrower one does
 
 -- ---- ends in decimals
 

@@ -1,5 +1,5 @@
 -- Allocations: which depths reach every stock of one, and the stocks of a case as one.
-use Rattle.std.proofs.Common.{◌≡◌, ℕ, zero, suc, ◌+◌, ◌*◌, ◌/◌, ◌%◌, ◌<◌, ◌≤◌, Bool, true, false, ◌==◌, if◌then◌else◌, inl, inr, refl, sym, ap, ◌∙◌, subst, arith, zero-lt-suc, le_trans}
+use Rattle.std.proofs.Common.{◌≡◌, ℕ, zero, suc, ◌+◌, ◌*◌, ◌/◌, ◌%◌, ◌<◌, ◌≤◌, ◌==◌, inl, inr, refl, sym, ap, ◌∙◌, subst, arith, le_trans}
 use Rattle.std.specs.Prelude.{List, [], length, get_or, sum_by}
 use Rattle.std.specs.List.{range_with_len}
 use Rattle.std.proofs.lemmas.Nat.{div-add-mod', div-mul-add}
@@ -7,6 +7,7 @@ use Rattle.std.proofs.lemmas.List.{get_or_past}
 use Rattle.std.proofs.lemmas.List.Sums.{sum_by-cons, sum-map}
 use Rattle.std.proofs.Math.Nat.{mod-lt, div-lt_iff_lt-mul}
 use Rattle.std.proofs.lemmas.Bool.{cases_lt}
+use Rattle.list_laws.proofs.Public.{chosen_most, some_of_less}
 use Rattle.spares_input.specs.Rows.{no_part}
 use Rattle.spares_input.specs.Frames.{part_at}
 use Rattle.spares_input.specs.Cases.{CaseRows, IsCase}
@@ -18,26 +19,17 @@ use Rattle.fleet_model.specs.Laws.{Reaches}
 
 -- ---- depths
 
--- either of two numbers that are at most another is so
-pub chosen_most : (b : Bool) (m n most : ℕ) → m ≤ most → n ≤ most → (if b then m else n) ≤ most
-chosen_most true m n most h k = h
-chosen_most false m n most h k = k
-
 -- a limit of a valid case is at most 63
 pub limit_most : (c : CaseRows) (p k : ℕ) → IsCase c → p < length c.parts → limit_at c.parts p k ≤ 63
 limit_most c p k h l =
     let row = h.frame.part_rows p no_part l in
     chosen_most (k == 0) (part_at c.parts p).max_depot (part_at c.parts p).max_base 63 row.max_depot row.max_base
 
-some_site : (i p n : ℕ) → i < p * n → 0 < n
-some_site i p zero h = absurd (omega arith)
-some_site i p (suc n) h = zero-lt-suc n
-
 stock_most : (c : CaseRows) (s : List ℕ) (i : ℕ) → IsCase c → IsAllocation c s → i < length c.parts * length c.sites → get_or s i 0 ≤ 63
 stock_most c s i h a l =
-    let part : i / length c.sites < length c.parts = (div-lt_iff_lt-mul (some_site i (length c.parts) (length c.sites) l)).1 l in
+    let part : i / length c.sites < length c.parts = (div-lt_iff_lt-mul (some_of_less i (length c.parts) (length c.sites) l)).1 l in
     subst (λ j. get_or s j 0 ≤ 63) (div-add-mod' i (length c.sites))
-    (le_trans (a.within (i / length c.sites) (i % length c.sites) part (mod-lt i (some_site i (length c.parts) (length c.sites) l)))
+    (le_trans (a.within (i / length c.sites) (i % length c.sites) part (mod-lt i (some_of_less i (length c.parts) (length c.sites) l)))
     (limit_most c (i / length c.sites) (i % length c.sites) h part))
 
 -- each depth from 62 on reaches the stocks of an allocation of a valid case

@@ -1,7 +1,7 @@
 -- A family's backorders and cost depend on its own stocks alone.
-use Rattle.std.proofs.Common.{◌≡◌, ℕ, zero, suc, ◌+◌, ◌-◌, ◌*◌, ◌<◌, ◌≤◌, List, [], ◌∷◌, length, sum_by, refl, sym, ap, ap₂, ◌∙◌, arith}
+use Rattle.std.proofs.Common.{◌≡◌, ℕ, zero, suc, ◌+◌, ◌-◌, ◌*◌, ◌<◌, ◌≤◌, List, [], ◌∷◌, length, refl, ap, ap₂, arith}
 use Rattle.std.specs.List.{AllByRecursion, range_with_len}
-use Rattle.std.proofs.lemmas.List.Sums.{sum_by-cons}
+use Rattle.list_laws.proofs.Public.{all_follow, count_each}
 use Rattle.exact_model.specs.Fraction.{Fraction, ◌+ℚ◌, ◌*ℚ◌}
 use Rattle.exact_model.specs.Sums.{sum_over}
 use Rattle.exact_model.specs.Series.{ebo, vbo}
@@ -16,20 +16,10 @@ use Rattle.fleet_model.specs.Fleet.{family}
 use Rattle.fleet_model.specs.Aims.{Value, family_aim, part_cost_beyond, family_cost_beyond}
 use Rattle.fleet_model.specs.Laws.{AgreeOnFamily}
 
--- where one fact gives another at each part, it gives it along a list of parts
-pub all_follow : (P Q : ℕ → Type 0) (xs : List ℕ) → ((i : ℕ) → P i → Q i) → AllByRecursion P xs → AllByRecursion Q xs
-all_follow P Q [] h a = a
-all_follow P Q (x ∷ xs) h a = (h x a.0, all_follow P Q xs h a.1)
-
 sum_each : (xs : List ℕ) (f g : ℕ → Fraction) → AllByRecursion (λ i. f i ≡ g i) xs → sum_over xs f ≡ sum_over xs g
 unfolding sum_over
 sum_each [] f g h = refl
 sum_each (x ∷ xs) f g h = ap₂ (λ a b. a +ℚ b) h.0 (sum_each xs f g h.1)
-
--- sums over a list are equal where the terms are equal at each of its members
-pub count_each : (xs : List ℕ) (f g : ℕ → ℕ) → AllByRecursion (λ i. f i ≡ g i) xs → sum_by f xs ≡ sum_by g xs
-count_each [] f g h = refl
-count_each (x ∷ xs) f g h = sum_by-cons f x xs ∙ ap₂ (λ a b. a + b) h.0 (count_each xs f g h.1) ∙ sym (sum_by-cons g x xs)
 
 all_in_range : (P : ℕ → Type 0) (n a m : ℕ) → a + n ≤ m → ((k : ℕ) → k < m → P k) → AllByRecursion P (range_with_len a n)
 all_in_range P zero a m l h = tt

@@ -4,12 +4,12 @@ use Rattle.std.specs.List.{range_with_len}
 use Rattle.std.proofs.lemmas.List.Sums.{sum_by-cons}
 use Rattle.spares_input.specs.Cases.{CaseRows}
 use Rattle.std.specs.Option.{option_map_or}
+use Rattle.list_laws.proofs.Public.{first_or_later, same_sum_range, sum_each, sum_plus, sum_turned}
 use Rattle.spares_input.specs.Frames.{is_shop_of, part_at}
 use Rattle.spares_input.specs.Rows.{is_line}
 use Rattle.fleet_model.specs.Rows.{all_parts, line_units, shop_units}
 use Rattle.fleet_model.specs.Fleet.{part_cost, cost, family, family_cost}
 use Rattle.fleet_model.specs.Aims.{part_cost_beyond, family_cost_beyond, cost_beyond}
-use Rattle.fleet_model.proofs.SumLaws.{first_or_later}
 
 -- one part alone has this name, and it is a line unit
 pub record HasLine (c : CaseRows) (name : List ℕ) : Type 0 where
@@ -38,29 +38,6 @@ sum_filter t g (x ∷ xs) =
     ∙ ap (λ z. where_true (t x) (g x) + z) (sum_filter t g xs)
     ∙ sym (sum_by-cons (λ y. where_true (t y) (g y)) x xs)
 
--- the sum of two terms for each member is the two sums together
-pub sum_plus : (f g : ℕ → ℕ) (xs : List ℕ) → sum_by (λ x. f x + g x) xs ≡ sum_by f xs + sum_by g xs
-sum_plus f g [] = refl
-sum_plus f g (x ∷ xs) = omega (arith, sum_by-cons (λ y. f y + g y) x xs, sum_by-cons f x xs, sum_by-cons g x xs, sum_plus f g xs)
-
--- sums over a list are equal where the terms are equal everywhere
-pub sum_each : (f g : ℕ → ℕ) (xs : List ℕ) → ((x : ℕ) → f x ≡ g x) → sum_by f xs ≡ sum_by g xs
-sum_each f g [] h = refl
-sum_each f g (x ∷ xs) h = omega (arith, sum_by-cons f x xs, sum_by-cons g x xs, h x, sum_each f g xs h)
-
-sum_zero : (xs : List ℕ) → sum_by (λ x. 0) xs ≡ 0
-sum_zero [] = refl
-sum_zero (x ∷ xs) = omega (arith, sum_by-cons (λ y. 0) x xs, sum_zero xs)
-
--- the order of two sums
-pub sum_turned : (f : ℕ → ℕ → ℕ) (xs ys : List ℕ) → sum_by (λ x. sum_by (f x) ys) xs ≡ sum_by (λ y. sum_by (λ x. f x y) xs) ys
-sum_turned f [] ys = sym (sum_zero ys)
-sum_turned f (x ∷ xs) ys =
-    sum_by-cons (λ z. sum_by (f z) ys) x xs
-    ∙ ap (λ z. sum_by (f x) ys + z) (sum_turned f xs ys)
-    ∙ sym (sum_plus (f x) (λ y. sum_by (λ z. f z y) xs) ys)
-    ∙ sum_each _ _ ys (λ y. sym (sum_by-cons (λ z. f z y) x xs))
-
 counted_step : (b : Bool) (n : ℕ) → where_true b n ≡ where_true b 1 * n
 counted_step true n = omega arith
 counted_step false n = omega arith
@@ -68,18 +45,6 @@ counted_step false n = omega arith
 sum_counted : (t : ℕ → Bool) (n : ℕ) (xs : List ℕ) → sum_by (λ x. where_true (t x) n) xs ≡ count_by t xs * n
 sum_counted t n [] = omega arith
 sum_counted t n (x ∷ xs) = omega (arith, sum_by-cons (λ y. where_true (t y) n) x xs, ap (λ z. z * n) (sum_by-cons (λ y. where_true (t y) 1) x xs), counted_step (t x) n, sum_counted t n xs)
-
--- sums over numbers in a row are equal where the terms are equal below the end
-pub same_sum_range : (f g : ℕ → ℕ) (n a : ℕ) → ((x : ℕ) → x < a + n → f x ≡ g x) → sum_by f (range_with_len a n) ≡ sum_by g (range_with_len a n)
-same_sum_range f g zero a h = refl
-same_sum_range f g (suc n) a h =
-    omega (
-      arith,
-      sum_by-cons f a (range_with_len (a + 1) n),
-      sum_by-cons g a (range_with_len (a + 1) n),
-      h a (omega arith),
-      same_sum_range f g n (a + 1) (λ x l. h x (omega arith)),
-    )
 
 none_there : (t : ℕ → Bool) (n a : ℕ) → ((x : ℕ) → a ≤ x → x < a + n → t x ≡ false) → count_by t (range_with_len a n) ≡ 0
 none_there t zero a h = refl

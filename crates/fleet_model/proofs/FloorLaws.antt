@@ -3,6 +3,7 @@
 use Rattle.std.proofs.Common.{◌≡◌, ℕ, ◌+◌, ◌-◌, ◌*◌, ◌^◌, ◌<◌, ◌≤◌, ◌⊎◌, inl, inr, true, List, [], ◌∷◌, length, sum_by, refl, sym, ap, ◌∙◌, subst, arith, mul-le-mul_left, eq-zero-or-pos}
 use Rattle.std.proofs.Math.Nat.{mul-pos}
 use Rattle.std.proofs.lemmas.List.Sums.{sum_by-cons}
+use Rattle.list_laws.proofs.Public.{passed}
 use Rattle.exact_model.specs.Fraction.{Fraction, whole, ◌≈◌, ◌≤ℚ◌, ◌+ℚ◌, ◌*ℚ◌}
 use Rattle.exact_model.proofs.Public.{same, turned, ◌≈≈◌, add_same, mul_same, le_same, le_self, le_chain, times_right_comm, whole_plus}
 use Rattle.spares_input.specs.Cases.{CaseRows, IsCase}
@@ -13,7 +14,7 @@ use Rattle.fleet_model.specs.Rows.{line_units}
 use Rattle.fleet_model.specs.Aims.{Value, family_aim, aim, IsHeldAllocation, family_cost_beyond, cost_beyond}
 use Rattle.fleet_model.specs.Bounds.{AreFloors, NoneHasLess, NoPriceShowsMore, HasNoMore, AreAround}
 use Rattle.fleet_model.proofs.Order.{le_add, le_mul, le_cancel}
-use Rattle.fleet_model.proofs.SumLaws.{sum_most_in, passed, sum_times, sum_same}
+use Rattle.fleet_model.proofs.SumLaws.{sum_most_in, sum_times, sum_same}
 use Rattle.fleet_model.proofs.FamilyLaws.{HasFamilies, cost_beyond_families}
 use Rattle.fleet_model.proofs.FrameLaws.{has_families}
 use Rattle.fleet_model.proofs.PriceLaws.{cancel_plus, whole_most, bound_within, bound_between}

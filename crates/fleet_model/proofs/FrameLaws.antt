@@ -8,6 +8,7 @@ use Rattle.std.proofs.lemmas.Map.Made.{AllPairs-from_IsDistinct}
 use Rattle.std.proofs.lemmas.Slice.Eq.{bytes_eq-Decides}
 use Rattle.std.proofs.lemmas.List.Sums.{length-filter, count_by-le-length}
 use Rattle.std.proofs.lemmas.List.FromFn.{length-range_with_len}
+use Rattle.list_laws.proofs.Public.{none_of}
 use Rattle.spares_input.specs.Rows.{is_line, no_part}
 use Rattle.spares_input.specs.Frames.{IsFrame, part_at, part_names, place_of}
 use Rattle.spares_input.specs.Cases.{CaseRows, IsCase, frame_rows}
@@ -31,10 +32,6 @@ same_part c p i f lp li e = elim (cases_order p i) [
 
     apart : (a b : ℕ) → a < b → b < length c.parts → get_or (part_names c.parts) a [] ≡ get_or (part_names c.parts) b [] → ⊥
     apart a b l m h = AllPairs-from_IsDistinct {eq = bytes_eq} bytes_eq-Decides (part_names c.parts) f.distinct_parts a b [] l (omega (arith, length_names c)) h
-
-none_of : (o : Option (List ℕ)) → is_none o ≡ true → o ≡ None
-none_of None h = refl
-none_of (Some x) h = absurd (false≢true h)
 
 line_at : (c : CaseRows) (name : List ℕ) (o : Option ℕ) → IsFrame (frame_rows c) → place_of name (part_names c.parts) ≡ o
     → option_map_or (λ l. is_line (part_at c.parts l)) o false ≡ true → HasLine c name

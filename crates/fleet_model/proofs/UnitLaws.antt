@@ -2,6 +2,7 @@
 use Rattle.std.proofs.Common.{◌≡◌, ℕ, zero, suc, ◌+◌, ◌-◌, ◌*◌, ◌^◌, ◌<◌, List, [], ◌∷◌, Option, Some, None, sum_by, inl, inr, refl, sym, ap, ◌∙◌, arith, zero-lt-suc, eq-zero-or-pos}
 use Rattle.std.proofs.Math.Nat.{mul-pos}
 use Rattle.std.proofs.lemmas.List.Sums.{sum_by-cons}
+use Rattle.list_laws.proofs.Public.{products_same}
 use Rattle.exact_model.specs.Fraction.{Fraction, whole, ◌≈◌, ◌+ℚ◌, ◌-ℚ◌, ◌*ℚ◌, ◌/ℚ◌, scaled}
 use Rattle.exact_model.proofs.Public.{over, same, turned, ◌≈≈◌, mul_same, mul_cancel, quotient, times_assoc, zeros_same}
 use Rattle.spares_input.specs.Cases.{CaseRows, rate_at}
@@ -18,15 +19,9 @@ use Rattle.fleet_model.proofs.Order.{over_zero}
 record Is (x : Fraction) (n d : ℕ) : Type 0 where
   cross : x.num * d ≡ n * x.den
 
-times_step : (a b n d c e m f : ℕ) → a * d ≡ n * b → c * f ≡ m * e → (a * c) * (d * f) ≡ (n * m) * (b * e)
-times_step a b n d c e m f h k =
-    let i : (c * f) * (a * d) ≡ (c * f) * (n * b) = ap (λ z. (c * f) * z) h in
-    let j : (n * b) * (c * f) ≡ (n * b) * (m * e) = ap (λ z. (n * b) * z) k in
-    omega arith
-
 times_is : {x y : Fraction} {n d m f : ℕ} → Is x n d → Is y m f → Is (x *ℚ y) (n * m) (d * f)
 unfolding ◌*ℚ◌
-times_is {x} {y} {n} {d} {m} {f} h k = record { cross = times_step x.num x.den n d y.num y.den m f h.cross k.cross }
+times_is {x} {y} {n} {d} {m} {f} h k = record { cross = products_same x.num x.den y.num y.den n d m f h.cross k.cross }
 
 plus_step : (a b c e n m d : ℕ) → a * d ≡ n * b → c * d ≡ m * e → (a * e + c * b) * d ≡ (n + m) * (b * e)
 plus_step a b c e n m d h k = omega (arith, ap (λ z. z * e) h, ap (λ z. z * b) k)

@@ -1,13 +1,13 @@
 -- Weighted backorders where nothing is held: the words of a score and of held stocks beside the plain ones.
 use Rattle.std.proofs.Common.{◌≡◌, ℕ, ◌+◌, ◌-◌, ◌*◌, ◌≤◌, List, [], refl, sym, ap, ◌∙◌, arith}
+use Rattle.list_laws.proofs.Public.{count_each, sum_each, sum_plus}
 use Rattle.spares_input.specs.Frames.{part_at}
 use Rattle.spares_input.specs.Cases.{CaseRows}
 use Rattle.fleet_model.specs.Rows.{all_parts, all_sites, stock}
 use Rattle.fleet_model.specs.Fleet.{cost, family_total, case_total, part_cost}
 use Rattle.fleet_model.specs.Aims.{weighted_backorders, family_aim, aim, IsHeldAllocation, part_cost_beyond, cost_beyond}
 use Rattle.fleet_model.specs.Laws.{ArePlainWords}
-use Rattle.fleet_model.proofs.FamilyLaws.{sum_each, sum_plus}
-use Rattle.fleet_model.proofs.DependLaws.{count_each, at_sites, at_parts}
+use Rattle.fleet_model.proofs.DependLaws.{at_sites, at_parts}
 
 family_plain : (c : CaseRows) (s : List ℕ) (n l : ℕ) → family_aim weighted_backorders c s n l ≡ family_total c s n l
 unfolding family_aim family_total

@@ -1,12 +1,13 @@
 -- Costs of families against the cost of a case.
-use Rattle.std.proofs.Common.{◌≡◌, ℕ, ◌+◌, ◌-◌, ◌*◌, inl, inr, List, [], ◌∷◌, map, flat_map, sum_by, refl, sym, ap, ap₂, ◌∙◌}
-use Rattle.std.proofs.lemmas.List.Sums.{sum_by-append, sum_by-cons}
+use Rattle.std.proofs.Common.{◌≡◌, ℕ, ◌+◌, ◌-◌, ◌*◌, inl, inr, List, [], ◌∷◌, map, sum_by, refl, sym, ap, ap₂, ◌∙◌}
+use Rattle.std.proofs.lemmas.List.Sums.{sum_by-cons}
+use Rattle.list_laws.proofs.Public.{sum_flat, sum_mapped, sum_turned}
 use Rattle.hull.specs.Curves.{Among}
 use Rattle.spares_input.specs.Frames.{part_at}
 use Rattle.spares_input.specs.Cases.{CaseRows, IsCase}
 use Rattle.fleet_model.specs.Rows.{all_sites, stock, line_units}
 use Rattle.fleet_model.specs.Fleet.{family}
-use Rattle.fleet_model.proofs.Public.{sum_turned, cost_beyond_families, has_families}
+use Rattle.fleet_model.proofs.Public.{cost_beyond_families, has_families}
 use Rattle.family_points.specs.Vectors.{Pair, places_at, places, vector_of}
 use Rattle.family_points.specs.Points.{cost_above, added_cost}
 use Rattle.fleet_model.specs.Aims.{family_cost_beyond, cost_beyond}
@@ -15,14 +16,6 @@ use Rattle.fleet_model.specs.Aims.{family_cost_beyond, cost_beyond}
 pub sum_among : {X : Type 0} (f g : X → ℕ) (xs : List X) → ((x : X) → Among x xs → f x ≡ g x) → sum_by f xs ≡ sum_by g xs
 sum_among f g [] h = refl
 sum_among f g (x ∷ xs) h = sum_by-cons f x xs ∙ ap₂ (λ a b. a + b) (h x (inl refl)) (sum_among f g xs (λ y a. h y (inr a))) ∙ sym (sum_by-cons g x xs)
-
-sum_mapped : {X : Type 0} (f : X → ℕ) (g : ℕ → X) (xs : List ℕ) → sum_by f (map g xs) ≡ sum_by (λ x. f (g x)) xs
-sum_mapped f g [] = refl
-sum_mapped f g (x ∷ xs) = sum_by-cons f (g x) (map g xs) ∙ ap (λ z. f (g x) + z) (sum_mapped f g xs) ∙ sym (sum_by-cons (λ y. f (g y)) x xs)
-
-sum_flat : {X : Type 0} (f : X → ℕ) (g : ℕ → List X) (xs : List ℕ) → sum_by f (flat_map g xs) ≡ sum_by (λ x. sum_by f (g x)) xs
-sum_flat f g [] = refl
-sum_flat f g (x ∷ xs) = sum_by-append f (g x) (flat_map g xs) ∙ ap (λ z. sum_by f (g x) + z) (sum_flat f g xs) ∙ sym (sum_by-cons (λ y. sum_by f (g y)) x xs)
 
 -- the money for the stock s above the stock held of part p at site k
 abbrev beyond : CaseRows → List ℕ → List ℕ → ℕ → ℕ → ℕ

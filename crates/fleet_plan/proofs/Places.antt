@@ -10,6 +10,7 @@ use Rattle.std.proofs.lemmas.List.Sums.{position_or_len_is}
 use Rattle.std.proofs.lemmas.Nat.{div-add-mod'}
 use Rattle.std.proofs.Math.Nat.{mod-lt, div-lt_iff_lt-mul}
 use Rattle.std.proofs.lemmas.List.FromFn.{length-range_with_len, get_or-range_with_len}
+use Rattle.list_laws.proofs.Public.{flat_at, flat_length, map_flat}
 use Rattle.hull.specs.Curves.{Among}
 use Rattle.hull.proofs.Public.{among_at, among_map, among_mapped, among_flat, among_flattened, in_range, range_has}
 use Rattle.spares_input.specs.Rows.{is_line}
@@ -20,8 +21,8 @@ use Rattle.fleet_model.specs.Fleet.{family}
 use Rattle.fleet_model.proofs.Public.{HasLine, HasFamilies, has_families}
 use Rattle.demand_rates.proofs.Public.{no_line_there}
 use Rattle.family_items.specs.Inputs.{IsLine, IsShop}
-use Rattle.family_items.proofs.Public.{flat_at, flat_length, shops_all}
-use Rattle.family_points.proofs.Public.{map_flat, all_joined, members, part_long}
+use Rattle.family_items.proofs.Public.{shops_all}
+use Rattle.family_points.proofs.Public.{all_joined, members, part_long}
 use Rattle.family_points.specs.Vectors.{Pair, places_at, places, vector_of, site_part}
 use Rattle.fleet_model.specs.Laws.{AgreeOnFamily}
 use Rattle.fleet_plan.specs.Families.{HasWidth}

@@ -4,6 +4,7 @@ use Rattle.std.specs.List.{AllByRecursion, AllZip}
 use Rattle.std.specs.Option.{option_map_or}
 use Rattle.std.proofs.lemmas.List.Quantifiers.{position-Some}
 use Rattle.std.proofs.lemmas.List.Elements.{length_all_zip}
+use Rattle.list_laws.proofs.Public.{chosen_most}
 use Rattle.exact_model.specs.Fraction.{Encloses, whole}
 use Rattle.exact_model.proofs.Public.{contains_same, ◌≈≈◌, none_plus}
 use Rattle.fixed_interval.specs.Ends.{Ends, In, ends_exact}
@@ -23,7 +24,7 @@ use Rattle.fleet_model.specs.Rows.{stock, systems, per_system, weight, line_unit
 use Rattle.fleet_model.specs.Pipelines.{ebo_0j}
 use Rattle.fleet_model.specs.Fleet.{family}
 use Rattle.fleet_model.specs.Laws.{IsBase}
-use Rattle.fleet_model.proofs.Public.{sum_range, chosen_most}
+use Rattle.fleet_model.proofs.Public.{sum_range}
 use Rattle.family_items.specs.Profile.{item_of}
 use Rattle.family_items.specs.Inputs.{IsLine, IsSound}
 use Rattle.family_items.proofs.Public.{few_shops, evaluable, line_in, item_small, added_same}

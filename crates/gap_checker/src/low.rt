@@ -3,6 +3,7 @@
 ghost use Rattle.std.specs.Prelude.{◌≡◌, ◌∷◌, [], ◌<◌, ◌≤◌, true, is_some, unwrap_or, IfOk, length, map};
 ghost use Rattle.family_items.specs.Inputs.{IsLine};
 ghost use Rattle.hull.specs.Limits.{most_price_units, most_price_money};
+ghost use Rattle.price_certificate.specs.Grammar.{most_nodes};
 ghost use Rattle.gap_rules.specs.Boxes.{IsOrdered};
 ghost use Rattle.family_points.specs.Counts.{most_tables};
 ghost use Rattle.family_points.specs.Vectors.{places};
@@ -35,7 +36,7 @@ pub(crate) fn low_leaf<S: Score>(
     requires line { IsLine rated.now.case line.0 }
     requires parts { map (λ p. p.0) parts.now ≡ map (λ x. x.part) (places rated.now.case line.0) }
     requires ordered { IsOrdered rated.now.case line.0 bounds }
-    requires few { length nodes.now ≤ 100000 }
+    requires few { length nodes.now ≤ most_nodes }
     requires tree { is_some (leaves nodes.now (bounds ∷ [])) ≡ true }
     requires work { cover_tables rated.now.case line.0 (unwrap_or (leaves nodes.now (bounds ∷ [])) []) ≤ most_tables }
     requires money { 0 < price.q }

@@ -2,6 +2,7 @@
 use Rattle.std.proofs.Common.{◌≡◌, ℕ, zero, suc, ◌+◌, ◌<◌, ◌≤◌, inl, inr, Bool, true, false, nat_lt, List, [], ◌∷◌, map, length, get_or, Option, Some, None, is_none, refl, ap, arith, ltb-false}
 use Rattle.std.specs.Prelude.{if◌then◌else◌, unwrap_or}
 use Rattle.std.specs.Option.{option_map}
+use Rattle.list_laws.proofs.Public.{else_none, map_none}
 use Rattle.hull.specs.declared.point.Point.{Point}
 use Rattle.hull.specs.declared.price.Price.{Price}
 use Rattle.hull.specs.Curves.{lagrangian, Among}
@@ -28,7 +29,6 @@ use Rattle.gap_rules.proofs.FloorLaws.{floors_hold}
 use Rattle.gap_rules.proofs.Places.{if_none, line_part, vectors_ordered, vector_limited}
 use Rattle.gap_rules.proofs.Costs.{added_is, total_map}
 use Rattle.gap_rules.proofs.Formed.{has_floors}
-use Rattle.gap_rules.proofs.StockFaults.{else_none}
 
 -- each of the nine rules holds
 pub record BreaksNone (score : ScoreEnds) (cert : Certificate) (held : StockList) : Type 0 where
@@ -91,11 +91,6 @@ pub none_low : (value : Leaf → ℕ) (floor k : ℕ) (ls : List Leaf) → low_l
 unfolding low_leaf
 none_low value floor k [] h x m = absurd m
 none_low value floor k (y ∷ ls) h x m = low_step value floor k y ls (nat_lt (value y) floor) refl h (λ z i n. none_low value floor (k + 1) ls i z n) x m
-
--- what is mapped to none was none
-pub map_none : {A B : Type 0} (f : A → B) (o : Option A) → option_map f o ≡ None → o ≡ None
-map_none f None h = refl
-map_none f (Some x) h = absurd (cc)
 
 -- a family whose nodes are a tree
 pub some_leaves : {A : Type 0} (o : Option (List A)) (x : Reject) → (if is_none o then Some x else None) ≡ None → o ≡ Some (unwrap_or o [])

@@ -1,7 +1,7 @@
 -- What the families' vectors cost above what is held is what the stocks cost above it.
-use Rattle.std.proofs.Common.{◌≡◌, ℕ, ◌+◌, ◌-◌, ◌*◌, ◌<◌, ◌≤◌, inl, inr, List, [], ◌∷◌, ◌++◌, map, length, sum_by, None, refl, sym, ap, ◌∙◌, arith}
-use Rattle.std.specs.List.{flat_map}
+use Rattle.std.proofs.Common.{◌≡◌, ℕ, ◌+◌, ◌-◌, ◌*◌, ◌<◌, ◌≤◌, inl, inr, List, [], ◌∷◌, map, length, sum_by, None, refl, sym, ap, ◌∙◌, arith}
 use Rattle.std.proofs.lemmas.List.Sums.{sum_by-cons}
+use Rattle.list_laws.proofs.Public.{sum_flat, sum_mapped, sum_turned}
 use Rattle.hull.specs.declared.point.Point.{Point}
 use Rattle.hull.specs.Curves.{Among}
 use Rattle.spares_input.specs.First.{first}
@@ -10,7 +10,7 @@ use Rattle.spares_input.specs.Cases.{CaseRows, IsCase, frame_rows, pair_count}
 use Rattle.spares_input.specs.Stocks.{StockList, IsFor}
 use Rattle.fleet_model.specs.Rows.{all_sites, line_units, stock}
 use Rattle.fleet_model.specs.Fleet.{cost, family, family_cost}
-use Rattle.fleet_model.proofs.Public.{cost_families, sum_turned, has_families, cost_holds}
+use Rattle.fleet_model.proofs.Public.{cost_families, has_families, cost_holds}
 use Rattle.price_bounds.specs.Sums.{total}
 use Rattle.family_points.specs.Vectors.{Pair, places, vector_of}
 use Rattle.gap_rules.proofs.Added.{added_at}
@@ -32,18 +32,6 @@ added_maps c (x ∷ xs) f g h =
     ap (λ z. (g x - f x) * (part_at c.parts x.part).cost + added_at c xs (map f xs) (map g xs) + z) (sum_by-cons (λ x. f x * (part_at c.parts x.part).cost) x xs)
     ∙ e ∙ sym (sum_by-cons (λ x. g x * (part_at c.parts x.part).cost) x xs)
 
-sum_append : {A : Type 0} (f : A → ℕ) (xs ys : List A) → sum_by f (xs ++ ys) ≡ sum_by f xs + sum_by f ys
-sum_append f [] ys = omega arith
-sum_append f (x ∷ xs) ys = omega (arith, sum_by-cons f x (xs ++ ys), sum_by-cons f x xs, sum_append f xs ys)
-
-sum_of_map : {A B : Type 0} (f : B → ℕ) (g : A → B) (xs : List A) → sum_by f (map g xs) ≡ sum_by (λ x. f (g x)) xs
-sum_of_map f g [] = refl
-sum_of_map f g (x ∷ xs) = omega (arith, sum_by-cons f (g x) (map g xs), sum_by-cons (λ y. f (g y)) x xs, sum_of_map f g xs)
-
-sum_flat : {A B : Type 0} (f : B → ℕ) (g : A → List B) (xs : List A) → sum_by f (flat_map g xs) ≡ sum_by (λ x. sum_by f (g x)) xs
-sum_flat f g [] = refl
-sum_flat f g (x ∷ xs) = omega (arith, sum_append f (g x) (flat_map g xs), sum_by-cons (λ y. sum_by f (g y)) x xs, sum_flat f g xs)
-
 sum_each : {A : Type 0} (f g : A → ℕ) (xs : List A) → ((x : A) → f x ≡ g x) → sum_by f xs ≡ sum_by g xs
 sum_each f g [] h = refl
 sum_each f g (x ∷ xs) h = omega (arith, sum_by-cons f x xs, sum_by-cons g x xs, h x, sum_each f g xs h)
@@ -52,7 +40,7 @@ sum_each f g (x ∷ xs) h = omega (arith, sum_by-cons f x xs, sum_by-cons g x xs
 family_places : (c : CaseRows) (l : ℕ) (s : List ℕ) → sum_by (λ x. stock c s x.part x.site * (part_at c.parts x.part).cost) (places c l) ≡ family_cost c s l
 family_places c l s =
     sum_flat {A = ℕ} {B = Pair} (λ x. stock c s x.part x.site * (part_at c.parts x.part).cost) (λ k. map (λ p. record { part = p; site = k }) (family c l)) (all_sites c)
-    ∙ sum_each _ _ (all_sites c) (λ k. sum_of_map {A = ℕ} {B = Pair} (λ x. stock c s x.part x.site * (part_at c.parts x.part).cost) (λ p. record { part = p; site = k }) (family c l))
+    ∙ sum_each _ _ (all_sites c) (λ k. sum_mapped {A = ℕ} {B = Pair} (λ x. stock c s x.part x.site * (part_at c.parts x.part).cost) (λ p. record { part = p; site = k }) (family c l))
     ∙ sum_turned (λ k p. stock c s p k * (part_at c.parts p).cost) (all_sites c) (family c l)
 
 pub family_added : (c : CaseRows) (l : ℕ) (held s : StockList) → l < length c.parts → first (below_held c held s) (pair_count (frame_rows c)) ≡ None

@@ -5,6 +5,7 @@ use Rattle.std.specs.List.{range_with_len}
 use Rattle.std.specs.Option.{option_map}
 use Rattle.std.proofs.lemmas.List.Sums.{sum_by-cons}
 use Rattle.std.proofs.lemmas.List.{length-map}
+use Rattle.list_laws.proofs.Public.{else_none, sum_more}
 use Rattle.answers.specs.Counts.{count64}
 use Rattle.spares_input.specs.declared.rows.PartId.{PartId}
 use Rattle.spares_input.specs.First.{first, first_of, or_else}
@@ -13,7 +14,6 @@ use Rattle.spares_input.specs.Stocks.{AreStocksOf, StockList, limit_at}
 use Rattle.spares_input.proofs.Public.{first_none, first_found, first_more}
 use Rattle.fleet_model.specs.Rows.{line_units}
 use Rattle.fleet_model.proofs.Public.{stock_holds}
-use Rattle.demand_rates.proofs.Public.{sum_more}
 use Rattle.family_items.specs.Inputs.{IsLine}
 use Rattle.family_points.specs.declared.bounds.Bounds.{Bounds}
 use Rattle.hull.proofs.Public.{among_at}
@@ -32,7 +32,7 @@ use Rattle.gap_rules.proofs.Places.{IsPair, place_pair, line_part, at_most_maps}
 use Rattle.gap_rules.proofs.Adding.{part_first}
 use Rattle.gap_rules.proofs.Acceptable.{some_leaves}
 use Rattle.family_points.specs.Points.{ScoreEnds}
-use Rattle.gap_rules.proofs.StockFaults.{then_some, else_none}
+use Rattle.gap_rules.proofs.StockFaults.{then_some}
 
 -- ---- line units
 

@@ -1,8 +1,7 @@
 -- A floor that no leaf's value is below is at most each Lagrangian.
-use Rattle.std.proofs.Common.{◌≡◌, ℕ, ◌+◌, ◌*◌, ◌≤◌, inl, inr, List, [], ◌∷◌, map, refl, sym, ap, subst, arith, mul-le-mul_left}
-use Rattle.hull.specs.declared.point.Point.{Point}
+use Rattle.std.proofs.Common.{◌≡◌, ℕ, ◌+◌, ◌*◌, ◌≤◌, inl, List, [], ◌∷◌, map, refl, sym, subst, arith, mul-le-mul_left}
 use Rattle.hull.specs.declared.price.Price.{Price}
-use Rattle.hull.specs.Curves.{lagrangian, Among}
+use Rattle.hull.specs.Curves.{lagrangian}
 use Rattle.hull.proofs.Public.{among_map, Mapped, among_mapped}
 use Rattle.spares_input.specs.Cases.{CaseRows}
 use Rattle.family_points.specs.declared.bounds.Bounds.{Bounds}
@@ -11,21 +10,12 @@ use Rattle.family_points.specs.Vectors.{places, vectors}
 use Rattle.gap_rules.specs.declared.leaf.Leaf.{Leaf}
 use Rattle.gap_rules.specs.declared.leaf.Leaf.TheVariants as leaf
 use Rattle.gap_rules.specs.Covers.{box_of, IsIn}
-use Rattle.family_points.specs.Least.{least}
+use Rattle.family_points.proofs.Public.{least_most}
 use Rattle.gap_rules.specs.Values.{least_within, value_of_leaf}
 use Rattle.gap_rules.specs.Laws.{FloorsHold}
 use Rattle.gap_rules.proofs.Boxes.{added_more}
 use Rattle.gap_rules.proofs.AmongLaws.{IsBetween, among_vectors, between}
 use Rattle.gap_rules.proofs.Trees.{Finds, finds}
-
--- the least of a number over points is at most that of each point
-pub least_most : (f : Point → ℕ) (points : List Point) (w : Point) → Among w points → least f points ≤ f w
-least_most f [] w h = absurd h
-least_most f (v ∷ []) w h = elim h [ inl e ↦ (let q = ap f e in omega (arith, q)) | inr m ↦ absurd m ]
-least_most f (v ∷ u ∷ rest) w h = elim h [
-  | inl e ↦ (let q = ap f e in omega (arith, q))
-  | inr m ↦ (let q = least_most f (u ∷ rest) w m in omega (arith, q))
-]
 
 module _ (score : ScoreEnds) (c : CaseRows) (l : ℕ) (price : Price) where
   by_cost : (p q lo low cost : ℕ) → low ≤ cost → p * low ≤ q * lo + p * cost

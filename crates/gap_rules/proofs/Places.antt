@@ -1,7 +1,8 @@
 -- The places of a family are pairs of the case, and what the stocks are there.
-use Rattle.std.proofs.Common.{◌≡◌, ℕ, suc, ◌+◌, ◌*◌, ◌/◌, ◌%◌, ◌<◌, ◌≤◌, inl, inr, Bool, true, false, cond, filter, nat_lt, List, [], ◌∷◌, map, length, get_or, Some, None, refl, sym, ap, ◌∙◌, subst, arith, mul-le-mul_left, ltb-false}
+use Rattle.std.proofs.Common.{◌≡◌, ℕ, ◌+◌, ◌*◌, ◌/◌, ◌%◌, ◌<◌, ◌≤◌, inl, inr, Bool, true, false, cond, filter, nat_lt, List, [], ◌∷◌, map, length, get_or, Some, None, refl, sym, ap, ◌∙◌, subst, arith, ltb-false}
 use Rattle.std.specs.Prelude.{if◌then◌else◌}
 use Rattle.std.proofs.lemmas.Nat.{div-mul-add, mod-mul-add}
+use Rattle.list_laws.proofs.Public.{place_fits}
 use Rattle.hull.specs.Curves.{Among}
 use Rattle.hull.proofs.Public.{Mapped, among_mapped, Flattened, among_flattened, range_has}
 use Rattle.spares_input.specs.First.{first}
@@ -68,15 +69,11 @@ pub if_none : {A : Type 0} (t : Bool) (x : A) → (if t then Some x else None) �
 if_none true x h = absurd (cc)
 if_none false x h = refl
 
--- the place of a pair is below the number of all pairs
-pub pair_below : (p k n m : ℕ) → p < m → k < n → p * n + k < m * n
-pair_below p k n m a b = (let s : suc p ≤ m = omega arith in let e : n * suc p ≤ n * m = mul-le-mul_left n s in omega (arith, e, b))
-
 pub stock_most : (c : CaseRows) (s : StockList) (x : Pair) → IsPair c x → first (over_limit c s) (pair_count (frame_rows c)) ≡ None → stock c s.list x.part x.site ≤ limit_at c.parts x.part x.site
 stock_most c s x h none =
     let n = length c.sites in
     let i : ℕ = x.part * length c.sites + x.site in
-    let e = first_none (over_limit c s) (pair_count (frame_rows c)) i none (pair_below x.part x.site (length c.sites) (length c.parts) h.part h.site) in
+    let e = first_none (over_limit c s) (pair_count (frame_rows c)) i none (place_fits x.part x.site (length c.parts) (length c.sites) h.part h.site) in
     let f = ltb-false _ _ (if_none (nat_lt (limit_at c.parts (i / length c.sites) (i % length c.sites)) (get_or s.list i 0)) _ e) in
     subst (λ k. stock c s.list x.part x.site ≤ limit_at c.parts x.part k) (mod-mul-add x.part (length c.sites) x.site h.site)
     (subst (λ p. stock c s.list x.part x.site ≤ limit_at c.parts p (i % length c.sites)) (div-mul-add x.part (length c.sites) x.site h.site) f)
@@ -85,7 +82,7 @@ stock_most c s x h none =
 pub held_most : (c : CaseRows) (held s : StockList) (x : Pair) → IsPair c x → first (below_held c held s) (pair_count (frame_rows c)) ≡ None → stock c held.list x.part x.site ≤ stock c s.list x.part x.site
 held_most c held s x h none =
     let i : ℕ = x.part * length c.sites + x.site in
-    let e = first_none (below_held c held s) (pair_count (frame_rows c)) i none (pair_below x.part x.site (length c.sites) (length c.parts) h.part h.site) in
+    let e = first_none (below_held c held s) (pair_count (frame_rows c)) i none (place_fits x.part x.site (length c.parts) (length c.sites) h.part h.site) in
     ltb-false _ _ (if_none (nat_lt (get_or s.list i 0) (get_or held.list i 0)) _ e)
 
 -- what is at most another for each pair is so for lists of pairs, place by place

@@ -1,7 +1,8 @@
 -- The fault of the stock at a place.
-use Rattle.std.proofs.Common.{◌≡◌, ℕ, ◌+◌, ◌*◌, ◌/◌, ◌%◌, ◌<◌, ◌≤◌, nat_lt, length, get_or, Option, Some, None, sym, ap, ◌∙◌, subst, lt-ltb, le-ltb}
+use Rattle.std.proofs.Common.{◌≡◌, ℕ, ◌+◌, ◌*◌, ◌/◌, ◌%◌, ◌<◌, ◌≤◌, nat_lt, length, get_or, Option, Some, None, sym, ap, ◌∙◌, lt-ltb}
 use Rattle.std.specs.Prelude.{if◌then◌else◌}
 use Rattle.std.proofs.lemmas.Nat.{div-add-mod'}
+use Rattle.list_laws.proofs.Public.{else_none}
 use Rattle.spares_input.specs.declared.rows.PartId.{PartId}
 use Rattle.spares_input.specs.declared.rows.SiteId.{SiteId}
 use Rattle.spares_input.specs.First.{first}
@@ -16,10 +17,6 @@ use Rattle.gap_rules.specs.Refusals.{over_limit, below_held}
 -- a fault is answered where the first number is less
 pub then_some : {A : Type 0} (a b : ℕ) (x : A) → a < b → (if nat_lt a b then Some x else None) ≡ Some x
 then_some a b x h = ap (λ t. if t then Some x else None) (lt-ltb a b h)
-
--- no fault is answered where the second number is at most the first
-pub else_none : {A : Type 0} (a b : ℕ) (x : A) → b ≤ a → (if nat_lt a b then Some x else None) ≡ None
-else_none a b x h = ap (λ t. if t then Some x else None) (le-ltb a b h)
 
 -- the pair at place i of n sites, and its stock
 pub record IsThere (c : CaseRows) (s : StockList) (n i stock : ℕ) (part : PartId) (site : SiteId) : Type 0 where
@@ -93,7 +90,3 @@ module _ (c : CaseRows) (s : StockList) (n i stock : ℕ) (part : PartId) (site 
     pub below_more : first (below_held c held s) i ≡ None → had ≤ stock → first (below_held c held s) (i + 1) ≡ None
     unfolding at_held
     below_more before l = first_more (below_held c held s) i before (sym same_held ∙ else_none stock had _ l)
-
--- a place below parts times sites is a place of the case's pairs
-pub in_pairs : (i a b m n : ℕ) → i < a * b → a ≡ m → b ≡ n → i < m * n
-in_pairs i a b m n h e f = subst (λ z. i < z * n) e (subst (λ z. i < a * z) f h)

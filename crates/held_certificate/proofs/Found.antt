@@ -9,7 +9,6 @@ use Rattle.answers.specs.Answers.{Gives}
 use Rattle.answers.specs.declared.stop.Stop.{Stop}
 use Rattle.spares_input.specs.Cases.{CaseRows, frame_rows, pair_count}
 use Rattle.spares_input.specs.Stocks.{AreStocksOf, StockList, limit_at}
-use Rattle.spares_input.proofs.Public.{place_fits}
 use Rattle.case_lines.specs.Grammar.{case_format}
 use Rattle.case_lines.proofs.Public.{fits_at}
 use Rattle.price_certificate.specs.declared.certificate.Certificate.{Certificate}
@@ -21,6 +20,7 @@ use Rattle.held_certificate.specs.declared.held.HeldCertificate.{HeldCertificate
 use Rattle.held_certificate.specs.Held.{rest, held_line, held_lines, held, front, held_format, IsWellHeld, held_text, held_of}
 use Rattle.held_certificate.proofs.Inverse.{again, its_text}
 use lib.Chars.{codes}
+use Rattle.list_laws.proofs.Public.{place_fits}
 
 is_second : (c : Certificate) → (certificate_format 2).fits c ≡ true → c.format ≡ 2
 is_second c h =

@@ -55,7 +55,8 @@ bad_line bytes n e = answer_refuses held_format held_format_is_exact bytes n (ju
 range : (most n : ℕ) → n ≤ most → (number_line most).fits n ≡ true
 range most n h = and_from _ _ (le-leb 0 n (omega arith)) (le-leb n most h)
 
-held_fits : (c : CaseRows) (s : StockList) → 2 ≤ length c.sites → AreStocksOf c s → (held c).fits s ≡ true
+-- stocks of a case fit the lines of what is held
+pub held_fits : (c : CaseRows) (s : StockList) → 2 ≤ length c.sites → AreStocksOf c s → (held c).fits s ≡ true
 held_fits c s two h =
     let is = h.is_for in
     let n = length c.sites in

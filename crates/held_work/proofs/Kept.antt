@@ -4,6 +4,7 @@ use Rattle.std.specs.Result.{IsOk}
 use Rattle.std.proofs.lemmas.Bool.{false≢true}
 use Rattle.std.proofs.lemmas.Bool.Decides.{nat_tests}
 use Rattle.std.proofs.lemmas.List.Sums.{sum_by-cons}
+use Rattle.list_laws.proofs.Public.{each_any, same_map, sum_each}
 use Rattle.answers.specs.Counts.{count64}
 use Rattle.hull.specs.Curves.{Among, IsCurve, point_at}
 use Rattle.hull.specs.declared.point.Point.{Point}
@@ -11,14 +12,12 @@ use Rattle.spares_input.specs.Cases.{CaseRows, IsCase}
 use Rattle.spares_input.specs.Pairs.{pair_place}
 use Rattle.spares_input.specs.Stocks.{AreStocksOf, StockList}
 use Rattle.fleet_model.specs.Rows.{line_units, stock}
-use Rattle.fleet_model.proofs.Public.{sum_each}
 use Rattle.family_items.specs.Inputs.{IsLine}
 use Rattle.family_points.specs.declared.bounds.Bounds.{Bounds}
 use Rattle.family_points.specs.Vectors.{IsBetween, Pair, box_from, limits, places, vector_of, zeros}
 use Rattle.family_points.specs.Points.{ScoreEnds, points_within, AreOrdered}
 use Rattle.family_points.specs.Counts.{limited, most_tables, tables_between, tables_of, work_of}
-use Rattle.family_points.proofs.Public.{each_any, same_map, held_ordered, tables_whole}
-pub use Rattle.sum_walk.proofs.Public.{zip_push}
+use Rattle.family_points.proofs.Public.{held_ordered, tables_whole}
 use Rattle.fleet_plan.specs.Families.{case_points, family_points}
 use Rattle.fleet_plan.proofs.Public.{line_among}
 use Rattle.held_work.specs.Curves.{IsFamilyCurve}

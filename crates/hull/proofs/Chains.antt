@@ -1,17 +1,10 @@
 -- A chain is the curve of its own points.
-use Rattle.std.proofs.Common.{◌≡◌, ℕ, zero, suc, ◌+◌, ◌-◌, ◌*◌, ◌<◌, ◌≤◌, ◌⊎◌, inl, inr, List, [], ◌∷◌, refl, sym, ap, ◌∙◌, subst, arith}
-use Rattle.std.proofs.Math.Nat.{mul-le-mul_left, mul-lt-mul_of_pos_left, lt_of_mul-lt-mul_left, mul-pos}
+use Rattle.std.proofs.Common.{◌≡◌, ℕ, zero, suc, ◌+◌, ◌-◌, ◌*◌, ◌<◌, ◌⊎◌, inl, inr, List, [], ◌∷◌, refl, sym, ap, ◌∙◌, subst, arith}
+use Rattle.std.proofs.Math.Nat.{mul-pos}
+use Rattle.list_laws.proofs.Public.{fractions_fall}
 use Rattle.hull.specs.declared.point.Point.{Point}
 use Rattle.hull.specs.Curves.{lagrangian, SamePlace, Among, IsVertexAt, IsVertex, IsFirstOf, Rises, IsCurve, Steps, TurnsInto, IsChain}
 use Rattle.hull.proofs.Stand.{same_self, same_lagrangian, first_self}
-
--- fractions f/c, g/d, h/e that fall: with 0 < d
-pub falls_on : (f c g d h e : ℕ) → h * d < g * e → g * c < f * d → 0 < c → h * c < f * e
-falls_on f c g d h e x y z =
-    let k : c * (h * d) < c * (g * e) = mul-lt-mul_of_pos_left x z in
-    let l : e * (g * c) ≤ e * (f * d) = mul-le-mul_left e (let i : g * c ≤ f * d = omega arith in i) in
-    let m : d * (h * c) < d * (f * e) = omega arith in
-    lt_of_mul-lt-mul_left d m
 
 -- a price above a step makes its end dearer, one below its start
 step_up : (p q vl vc wl wc : ℕ) → vc < wc → wl < vl → (vl - wl) * q < p * (wc - vc) → q * vl + p * vc < q * wl + p * wc
@@ -42,7 +35,7 @@ flatter_next p q v w [] s h t k = (positive (w.cost - v.cost) (v.lo - w.lo) k)
   where
     positive : (d f : ℕ) → f * q < p * d → 0 < p
     positive d f h = grind arith
-flatter_next p q v w (x ∷ rest) s h t k = falls_on p q (v.lo - w.lo) (w.cost - v.cost) (w.lo - x.lo) (x.cost - w.cost) t k h
+flatter_next p q v w (x ∷ rest) s h t k = fractions_fall p q (v.lo - w.lo) (w.cost - v.cost) (w.lo - x.lo) (x.cost - w.cost) t k h
 
 -- at such a price the head of a chain has a smaller Lagrangian than the rest
 pub head_least : (p q : ℕ) (v : Point) (rest : List Point) → 0 < q → IsChain (v ∷ rest) → Flatter p q v rest → (w : Point) → Among w rest → lagrangian p q v < lagrangian p q w
@@ -88,7 +81,7 @@ falls_over f zero g d h e x y =
     let ep : 0 < e = (both_positive (h * d) g e x).1 in
     let k : 0 < f * e = mul-pos fp ep in
     omega (arith, k)
-falls_over f (suc c) g d h e x y = falls_on f (suc c) g d h e x y (omega arith)
+falls_over f (suc c) g d h e x y = fractions_fall f (suc c) g d h e x y (omega arith)
 
 alone_at_head : (P Q : ℕ) (u x : Point) (rest : List Point) → IsChain (u ∷ x ∷ rest) → Flatter P Q u (x ∷ rest) → (v : Point) → v ≡ u → Alone P Q (u ∷ x ∷ rest) v
 alone_at_head P Q u x rest c h v e =
@@ -159,15 +152,17 @@ chain_rises [] c = tt
 chain_rises (v ∷ []) c = tt
 chain_rises (v ∷ w ∷ rest) c = let s : Steps v w = c.0 in (s.cost, chain_rises (w ∷ rest) c.2)
 
+-- in a list by rising cost each other point costs more than the head
+pub rises_from_head : (u : Point) (rest : List Point) → Rises (u ∷ rest) → (w : Point) → Among w rest → u.cost < w.cost
+rises_from_head u [] r w m = absurd m
+rises_from_head u (x ∷ rest) r w m = elim m [
+  | inl e ↦ subst (λ y. u.cost < y.cost) (sym e) r.0
+  | inr n ↦ (let k = rises_from_head x rest r.1 w n in let l = r.0 in omega (arith, k, l))
+]
+
 -- in a chain each point costs more than the head
-cost_from_head : (u : Point) (rest : List Point) → IsChain (u ∷ rest) → (w : Point) → Among w rest → u.cost < w.cost
-cost_from_head u [] c w m = absurd m
-cost_from_head u (x ∷ rest) c w m =
-    let s : Steps u x = c.0 in
-    elim m [
-      | inl e ↦ subst (λ y. u.cost < y.cost) (sym e) s.cost
-      | inr n ↦ (let k = cost_from_head x rest c.2 w n in let l = s.cost in omega (arith, k))
-    ]
+pub cost_from_head : (u : Point) (rest : List Point) → IsChain (u ∷ rest) → (w : Point) → Among w rest → u.cost < w.cost
+cost_from_head u rest c = rises_from_head u rest (chain_rises (u ∷ rest) c)
 
 -- two points of a chain at one place are one
 chain_places : (points : List Point) → IsChain points → (v w : Point) → Among v points → Among w points → SamePlace w v → v ≡ w

@@ -1,13 +1,14 @@
 -- What the definition by prices makes of a curve.
 use Rattle.std.proofs.Common.{◌≡◌, ℕ, ◌+◌, ◌-◌, ◌*◌, ◌<◌, ◌≤◌, ◌⊎◌, inl, inr, List, [], ◌∷◌, ◌++◌, refl, sym, ap, ◌∙◌, subst, arith}
 use Rattle.std.proofs.Math.Nat.{mul-le-mul_left}
+use Rattle.list_laws.proofs.Public.{fractions_fall}
 use Rattle.hull.specs.declared.point.Point.{Point}
 use Rattle.hull.specs.Curves.{lagrangian, SamePlace, Among, IsVertexAt, IsVertex, IsFirstOf, Rises, IsCurve, IsChain, Steps, Turns}
 use Rattle.hull.specs.Laws.{IsOfMembers, StocksTell, HasOneCurve, IsConvex, BeginsCheapest, EndsLowest}
 use Rattle.hull.proofs.Prices.{LeastOf, Leads, least_of}
 use Rattle.hull.proofs.Stand.{same_sym, stand_for, among_right}
 use Rattle.hull.proofs.StepsOf.{stand_same}
-use Rattle.hull.proofs.Chains.{falls_on}
+use Rattle.hull.proofs.Chains.{rises_from_head}
 use Rattle.hull.proofs.Sums.{first_falls}
 
 -- order and repetition of the points don't matter for their curve
@@ -15,14 +16,6 @@ pub of_members : IsOfMembers
 of_members points other curve same c = stand_for other points curve (stand_same other points (λ v m. (same v).1 m) (λ v m. (same v).0 m)) c
 
 -- ---- one curve
-
--- in a list by rising cost each other point costs more than the head
-rises_from_head : (u : Point) (rest : List Point) → Rises (u ∷ rest) → (w : Point) → Among w rest → u.cost < w.cost
-rises_from_head u [] r w m = absurd m
-rises_from_head u (x ∷ rest) r w m = elim m [
-  | inl e ↦ subst (λ y. u.cost < y.cost) (sym e) r.0
-  | inr n ↦ (let k = rises_from_head x rest r.1 w n in let l = r.0 in omega (arith, k, l))
-]
 
 rises_tail : (u : Point) (rest : List Point) → Rises (u ∷ rest) → Rises rest
 rises_tail u [] r = tt
@@ -57,7 +50,7 @@ same_lists (x ∷ xs) (y ∷ ys) rx ry f g =
     ap (λ z. z ∷ xs) e ∙ ap (λ t. y ∷ t) tails
 
 -- of two lists each is before the other only where they are the same
-first_both : (xs ys : List ℕ) → IsFirstOf xs ys → IsFirstOf ys xs → xs ≡ ys
+pub first_both : (xs ys : List ℕ) → IsFirstOf xs ys → IsFirstOf ys xs → xs ≡ ys
 first_both [] [] h k = refl
 first_both [] (y ∷ ys) h k = absurd k
 first_both (x ∷ xs) [] h k = absurd h
@@ -117,7 +110,7 @@ turn_of points u v w m n h s t =
     let tc = t.cost in
     let before : lagrangian h.p h.q v < lagrangian h.p h.q u = less_there h.p h.q points v u h.at m (λ e. omega (arith, sc, e)) in
     let after : lagrangian h.p h.q v < lagrangian h.p h.q w = less_there h.p h.q points v w h.at n (λ e. omega (arith, tc, e)) in
-    falls_on (u.lo - v.lo) (v.cost - u.cost) h.p h.q (v.lo - w.lo) (w.cost - v.cost)
+    fractions_fall (u.lo - v.lo) (v.cost - u.cost) h.p h.q (v.lo - w.lo) (w.cost - v.cost)
     (first_falls h.p h.q v.lo v.cost w.lo w.cost t.cost t.lo after)
     (rise_below h.p h.q v.lo v.cost u.lo u.cost s.cost s.lo before)
     (omega (arith, sc))
@@ -160,7 +153,8 @@ cheap_vertex points r = record {
 least_first : (a b c d : ℕ) → (a < b) ⊎ ((a ≡ b) × (c ≤ d)) → a ≤ b
 least_first a b c d h = grind arith
 
-cost_of_head : (v : Point) (rest : List Point) → Rises (v ∷ rest) → (w : Point) → Among w (v ∷ rest) → v.cost ≤ w.cost
+-- in a list by rising cost none costs less than the first
+pub cost_of_head : (v : Point) (rest : List Point) → Rises (v ∷ rest) → (w : Point) → Among w (v ∷ rest) → v.cost ≤ w.cost
 cost_of_head v rest r w m = elim m [ inl e ↦ subst (λ y. v.cost ≤ y.cost) (sym e) (omega arith) | inr n ↦ (let k = rises_from_head v rest r w n in omega (arith, k)) ]
 
 -- a curve begins at the least cost
@@ -194,7 +188,8 @@ low_vertex points r = record {
   at = record { p_positive = omega arith; q_positive = omega arith; alone = λ w m. low_alone r.one w (r.leads w m) };
 }
 
-cost_of_last : (front : List Point) (v : Point) → Rises (front ++ v ∷ []) → (w : Point) → Among w (front ++ v ∷ []) → w.cost ≤ v.cost
+-- nor more than the last
+pub cost_of_last : (front : List Point) (v : Point) → Rises (front ++ v ∷ []) → (w : Point) → Among w (front ++ v ∷ []) → w.cost ≤ v.cost
 cost_of_last [] v r w m = elim m [ inl e ↦ subst (λ y. y.cost ≤ v.cost) (sym e) (omega arith) | inr n ↦ absurd n ]
 cost_of_last (x ∷ front) v r w m = elim m [
   | inl e ↦ (let k = rises_from_head x (front ++ v ∷ []) r v (among_right v front (v ∷ []) (inl refl)) in subst (λ y. y.cost ≤ v.cost) (sym e) (omega (arith, k)))

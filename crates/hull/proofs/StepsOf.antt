@@ -2,6 +2,7 @@
 use Rattle.std.proofs.Common.{◌≡◌, ℕ, ◌+◌, ◌-◌, ◌*◌, ◌<◌, ◌≤◌, ◌⊎◌, inl, inr, List, [], ◌∷◌, ◌++◌, refl, sym, ap, subst, arith}
 use Rattle.std.proofs.Math.Nat.{mul-le-mul_left, mul-lt-mul_of_pos_left}
 use Rattle.std.proofs.lemmas.Bool.{cases_lt}
+use Rattle.list_laws.proofs.Public.{weighted_no_less}
 use Rattle.hull.specs.declared.point.Point.{Point}
 use Rattle.hull.specs.Curves.{SamePlace, Among, IsVertex, IsFirstOf, StandFor, Steps, Turns, IsChain}
 use Rattle.hull.proofs.Stand.{same_self, same_sym, same_trans, first_self, first_trans, vertex_of_part, vertex_at_place, among_left, among_right, among_either}
@@ -35,15 +36,11 @@ stand_drop all kept t sub split cover = record {
   ];
 }
 
--- a point with no less of either is no less in the lagrangian
-pub lagrangian_no_less : (p q vl vc wl wc : ℕ) → vl ≤ wl → vc ≤ wc → q * vl + p * vc ≤ q * wl + p * wc
-lagrangian_no_less p q vl vc wl wc a b = let k = mul-le-mul_left q a in let l = mul-le-mul_left p b in omega (arith, k, l)
-
 -- a vertex that costs no less and is no lower than another point stands at its place
 beaten : (all : List Point) (t u : Point) → Among u all → u.cost ≤ t.cost → u.lo ≤ t.lo → IsVertex all t → SamePlace u t
 beaten all t u m a b h = elim (h.at.alone u m) [
   | inl s ↦ s
-  | inr l ↦ absurd (let k = lagrangian_no_less h.p h.q u.lo u.cost t.lo t.cost b a in omega (arith, l, k))
+  | inr l ↦ absurd (let k = weighted_no_less h.p h.q u.lo u.cost t.lo t.cost b a in omega (arith, l, k))
 ]
 
 -- the last point of a list goes where its place is taken, or it is beaten

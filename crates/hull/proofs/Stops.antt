@@ -1,6 +1,6 @@
 -- Where a price stops a chain, the Lagrangian is least.
 use Rattle.std.proofs.Common.{◌≡◌, ℕ, zero, suc, ◌+◌, ◌-◌, ◌*◌, ◌<◌, ◌≤◌, inl, inr, List, [], ◌∷◌, get_or, refl, sym, ap, subst, arith}
-use Rattle.std.proofs.Math.Nat.{mul-le-mul_left, mul-lt-mul_of_pos_left, lt_of_mul-lt-mul_left}
+use Rattle.list_laws.proofs.Public.{fractions_fall_on}
 use Rattle.hull.specs.declared.point.Point.{Point}
 use Rattle.hull.specs.Curves.{lagrangian, IsCurve, IsLeastAt, Steps, IsChain, StopsAt}
 use Rattle.hull.proofs.Stand.{same_lagrangian}
@@ -25,14 +25,6 @@ step_down_weak p q vl vc wl wc a b h = moved (vl - wl) (wc - vc) (omega arith) (
         let y : p * (d + vc) ≡ p * wc = ap (λ t. p * t) g in
         omega arith
 
--- a step flatter than one whose slope is at most f/c has itself a slope below f/c
-pub falls_after : (f c g d h e : ℕ) → h * d < g * e → g * c ≤ f * d → 0 < c → h * c < f * e
-falls_after f c g d h e x y z =
-    let k : c * (h * d) < c * (g * e) = mul-lt-mul_of_pos_left x z in
-    let l : e * (g * c) ≤ e * (f * d) = mul-le-mul_left e y in
-    let m : d * (h * c) < d * (f * e) = omega arith in
-    lt_of_mul-lt-mul_left d m
-
 head_stops : (p q : ℕ) (v : Point) (rest : List Point) → 0 < q → IsChain (v ∷ rest) → StopsAt p q (v ∷ rest) zero → IsLeastAt p q (v ∷ rest) v
 head_stops p q v [] hq c s w m = elim m [ inl e ↦ subst (λ u. lagrangian p q v ≤ lagrangian p q u) (sym e) (omega arith) | inr n ↦ absurd n ]
 head_stops p q v (x ∷ []) hq c s w m =
@@ -44,7 +36,7 @@ head_stops p q v (x ∷ []) hq c s w m =
 head_stops p q v (x ∷ y ∷ rest) hq c s w m =
     let t : Steps v x = c.0 in
     let one : lagrangian p q v ≤ lagrangian p q x = step_up_weak p q v.lo v.cost x.lo x.cost t.cost t.lo s in
-    let flat : (x.lo - y.lo) * q < p * (y.cost - x.cost) = falls_after p q (v.lo - x.lo) (x.cost - v.cost) (x.lo - y.lo) (y.cost - x.cost) c.1 s hq in
+    let flat : (x.lo - y.lo) * q < p * (y.cost - x.cost) = fractions_fall_on p q (v.lo - x.lo) (x.cost - v.cost) (x.lo - y.lo) (y.cost - x.cost) c.1 s hq in
     elim m [
       | inl e ↦ subst (λ u. lagrangian p q v ≤ lagrangian p q u) (sym e) (omega arith)
       | inr n ↦ elim n [

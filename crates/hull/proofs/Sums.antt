@@ -1,6 +1,6 @@
 -- A vertex of all sums is the sum of one vertex of each.
 use Rattle.std.proofs.Common.{◌≡◌, ℕ, suc, ◌+◌, ◌-◌, ◌*◌, ◌<◌, ◌≤◌, ◌⊎◌, inl, inr, List, [], ◌∷◌, ◌++◌, length, get_or, drop, refl, sym, ap, ◌∙◌, subst, arith, length-append}
-use Rattle.std.proofs.Math.Nat.{mul-le-mul_left, mul-lt-mul_of_pos_left, lt_of_mul-lt-mul_left}
+use Rattle.list_laws.proofs.Public.{fraction_below}
 use Rattle.hull.specs.declared.point.Point.{Point}
 use Rattle.hull.specs.Curves.{lagrangian, SamePlace, Among, IsVertexAt, IsVertex, IsFirstOf, StandFor, Steps, IsChain, plus, plus_each, sums}
 use Rattle.hull.specs.Verdicts.{Blocks, LeadsTo}
@@ -65,7 +65,8 @@ module _ (p q : ℕ) (vs ws : List Point) (v w : Point) (v_in : Among v vs) (w_i
     ];
   }
 
-first_joined : (xs ys us ws : List ℕ) → length xs ≡ length ys → IsFirstOf xs ys → IsFirstOf us ws → IsFirstOf (xs ++ us) (ys ++ ws)
+-- where parts of one length are first, what they are joined to is first
+pub first_joined : (xs ys us ws : List ℕ) → length xs ≡ length ys → IsFirstOf xs ys → IsFirstOf us ws → IsFirstOf (xs ++ us) (ys ++ ws)
 first_joined [] [] us ws n a b = b
 first_joined [] (y ∷ ys) us ws n a b = absurd (let k : 0 ≡ suc (length ys) = n in omega arith)
 first_joined (x ∷ xs) [] us ws n a b = absurd a
@@ -97,13 +98,6 @@ pub record Passed (a b path left right : List Point) : Type 0 where
   pub right_in : (w : Point) → Among w right → Among w b
   pub or_ahead : (p q : ℕ) (v w : Point) → Among v a → Among w b → IsVertexAt p q a v → IsVertexAt p q b w → Among (plus v w) path ⊎ (Among v left × Among w right)
 
--- a step that falls no more per money than one below a price is below it
-pub below_price : (f c g d p q : ℕ) → g * c ≤ f * d → f * q < p * c → 0 < d → g * q < p * d
-below_price f c g d p q h k z =
-    let m : c * (g * q) ≤ d * (f * q) = (let i : q * (g * c) ≤ q * (f * d) = mul-le-mul_left q h in omega arith) in
-    let n : d * (f * q) < d * (p * c) = mul-lt-mul_of_pos_left k z in
-    lt_of_mul-lt-mul_left c (let i : c * (g * q) < c * (p * d) = omega arith in i)
-
 -- at a price where v is alone in a chain from v, the first step falls less
 pub first_falls : (p q vl vc wl wc : ℕ) → vc < wc → wl < vl → q * vl + p * vc < q * wl + p * wc → (vl - wl) * q < p * (wc - vc)
 first_falls p q vl vc wl wc a b h = moved (vl - wl) (wc - vc) (omega arith) (omega arith)
@@ -123,7 +117,7 @@ module _ (p q : ℕ) (v x : Point) (ms : List Point) (u y : Point) (ns : List Po
       let dearer : lagrangian p q v < lagrangian p q x = elim (av.alone x (inr (inl refl))) [ inl e ↦ absurd (let k = e.cost in let l = sa.cost in omega (arith, k, l)) | inr l ↦ l ] in
       let flat : (v.lo - x.lo) * q < p * (x.cost - v.cost) = first_falls p q v.lo v.cost x.lo x.cost sa.cost sa.lo dearer in
       let rise : 0 < y.cost - u.cost = (let l = sb.cost in omega (arith, l)) in
-      let other : (u.lo - y.lo) * q < p * (y.cost - u.cost) = below_price (v.lo - x.lo) (x.cost - v.cost) (u.lo - y.lo) (y.cost - u.cost) p q steeper flat rise in
+      let other : (u.lo - y.lo) * q < p * (y.cost - u.cost) = fraction_below (v.lo - x.lo) (x.cost - v.cost) (u.lo - y.lo) (y.cost - u.cost) p q steeper flat rise in
       let less : lagrangian p q u < lagrangian p q w = head_least p q u (y ∷ ns) aw.q_positive cb other w m in
       elim (aw.alone u (inl refl)) [
         | inl e ↦ (let z : lagrangian p q u ≡ lagrangian p q w = same_lagrangian p q e in omega (arith, less, z))

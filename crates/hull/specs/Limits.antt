@@ -29,6 +29,10 @@ most_points = 2 ^ 31
 abbrev pub most_curves : ℕ
 most_curves = 2000
 
+-- the most curves that are summed: each is a base's, and there are 15 bases
+abbrev pub most_summed : ℕ
+most_summed = 16
+
 -- the largest sum of an end of each curve, in units of 2^-48: 2,000 ends below 2^74 come to less
 abbrev pub most_total : ℕ
 most_total = 2 ^ 85

@@ -54,7 +54,7 @@ fn cheaper(vertices: &[Point], cost: u64) -> usize
 }
 
 impl Curve {
-    /// The curve of a single point. Want of memory is the only error.
+    /// The curve of a single point. Want of memory is the only error. No command calls it.
     pub fn one(alloc: Global, first: Point) -> Result<Curve, NoMemory>
         requires { InRange first }
         ensures { IfOk result (λ curve. curve ≡ first ∷ []) }
@@ -83,7 +83,7 @@ impl Curve {
     /// Adds a point, whose stocks have the curve's length. Of points with the same cost and the same lower end, the one
     /// whose stocks come first in dictionary order is kept.
     ///
-    /// After `NoMemory` the curve is as before.
+    /// After `NoMemory` the curve is as before. No command calls it.
     pub fn add_point(&mut self, point: Point) -> Result<(), NoMemory>
         requires few { length self.old + 1 ≤ most_points }
         requires range { InRange point }
@@ -124,7 +124,7 @@ impl Curve {
 
     /// Joins the points of both curves, whose stocks have one length. Ties are broken as in [`Curve::add_point`].
     ///
-    /// After `NoMemory` the curve is as before.
+    /// After `NoMemory` the curve is as before. No command calls it.
     pub fn merge(&mut self, other: Curve) -> Result<(), NoMemory>
         requires few { length self.old + length other ≤ most_points }
         requires widths { (v w : Point) → Among v self.old → Among w other → length v.stocks ≡ length w.stocks }
@@ -136,7 +136,7 @@ impl Curve {
     }
 
     /// The curve of all sums of a point of `a` and a point of `b`. The stocks of a sum are those of `a`, then of `b`.
-    /// Ties are broken as in [`Curve::add_point`]. Want of memory is the only error.
+    /// Ties are broken as in [`Curve::add_point`]. Want of memory is the only error. No command calls it.
     pub fn sum(alloc: Global, a: &Curve, b: &Curve) -> Result<Curve, NoMemory>
         requires few { length a.now + length b.now ≤ most_points }
         requires ranges { (v w : Point) → Among v a.now → Among w b.now → InRange (plus v w) }

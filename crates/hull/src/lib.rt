@@ -27,3 +27,18 @@ pub use point::Point;
 pub use price::Price;
 pub use score::{Plain, Score};
 pub use spot::{Spot, is_first};
+
+/// The most cost of a point, in whole money.
+pub const MOST_COST: u128 = 1_000_000_000_000;
+
+/// The most units of a price, in units of 2^-48.
+pub const MOST_PRICE_UNITS: u128 = 1 << 74;
+
+/// The most money of a price, in whole money.
+pub const MOST_PRICE_MONEY: u64 = 1_000_000_000_000;
+
+/// The largest Lagrangian of a point.
+pub const MOST_FLOOR: u128 = 1 << 115;
+
+/// The largest sum of an end of each curve, in units of 2^-48.
+pub const MOST_TOTAL: u128 = 1 << 85;

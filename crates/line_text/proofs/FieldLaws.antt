@@ -7,10 +7,11 @@ use Rattle.std.specs.Str.Parse.{digits_value}
 use Rattle.std.proofs.lemmas.Bool.{and_parts, and_from, leb-true, le-leb, ne_eqb, not-true}
 use Rattle.std.proofs.lemmas.Nat.{mod_below}
 use Rattle.std.proofs.lemmas.Fmt.{decimal_by_steps_wide, decimal_is_IsNumeral_wide}
+use Rattle.list_laws.proofs.Public.{all_are}
 use Rattle.line_text.specs.Formats.{Token, Format, one, nothing, and_then, as_shape, each, fits_after}
 use Rattle.line_text.specs.Texts.{in_range, number, plain, word, word_line, number_line, count_line, numbers_from, counted, one_for_each, no_field, empty_field}
 use Rattle.line_text.specs.Exact.{IsExactText, IsExact, IsField, IsPlain, IsLine}
-use Rattle.line_text.proofs.Laws.{one_is_exact, both_are_exact, as_shape_is_exact, nothing_is_exact, each_after_is_exact, all_are, length_after}
+use Rattle.line_text.proofs.Laws.{one_is_exact, both_are_exact, as_shape_is_exact, nothing_is_exact, each_after_is_exact, length_after}
 use Rattle.line_text.proofs.LineLaws.{spelled_is_exact, line_is_exact}
 
 -- two fields' texts together are a field's text

@@ -287,11 +287,6 @@ length_after format before [] (x ∷ xs) h = absurd cc
 length_after format before (k ∷ ks) [] h = absurd cc
 length_after format before (k ∷ ks) (x ∷ xs) h = omega (arith, length_after format (before ++ x ∷ []) ks xs (and_parts _ _ h).1)
 
--- what holds of every key holds along a list of keys
-pub all_are : {K : Type 0} (Q : K → Type 0) (keys : List K) → ((k : K) → Q k) → AllByRecursion Q keys
-all_are Q [] h = tt
-all_are Q (k ∷ ks) h = (h k, all_are Q ks h)
-
 -- each of the formats of these keys is exact
 pub each_after_is_exact : {K A : Type 0} (P : Token → Type 0) (before : List A) (keys : List K) (format : List A → K → Format A)
     → AllByRecursion (λ k. (b : List A) → IsExact P (format b k)) keys → IsExact P (each_after before keys format)

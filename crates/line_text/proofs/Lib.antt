@@ -10,3 +10,4 @@ pub mod MoreFields
 pub mod FixedLaws
 pub mod Parts
 pub mod Steps
+pub mod Sizes

@@ -1,9 +1,10 @@
 -- Reading values one after the other, as a loop does.
-use Rattle.std.proofs.Common.{◌≡◌, ℕ, zero, suc, ◌-◌, ◌+◌, ◌≤◌, ◌<◌, List, [], ◌∷◌, ◌++◌, length, take, drop, get_or, Result, Ok, Err, refl, sym, ap, ◌∙◌, append_assoc, arith}
+use Rattle.std.proofs.Common.{◌≡◌, ℕ, suc, ◌-◌, ◌+◌, ◌≤◌, ◌<◌, List, [], ◌∷◌, ◌++◌, length, take, drop, get_or, Result, Ok, Err, refl, sym, ap, ◌∙◌, append_assoc, arith}
 use Rattle.std.proofs.lemmas.Grind.{take_at_read}
 use Rattle.std.proofs.lemmas.List.{append-nil}
 use Rattle.std.specs.List.{concat}
 use Rattle.std.proofs.lemmas.List.Folds.{concat-append}
+use Rattle.list_laws.proofs.Public.{rest_begins}
 use Rattle.answers.specs.Steps.{◌>>=◌}
 use Rattle.line_text.specs.Formats.{Token, Text, Format, one, each_after, read_after, print_after}
 use Rattle.line_text.specs.Texts.{numbers_from}
@@ -72,12 +73,6 @@ print_on format before out new total k ks keys x rest xs e f n so_far =
 pub print_done : {K A : Type 0} (format : List A → K → Format A) (before : List A) (out total : List ℕ) (keys : List K) (xs : List A) → keys ≡ [] → out ++ concat (print_after format before keys xs) ≡ total → out ≡ total
 print_done format before out total keys xs e so_far = sym (append-nil out) ∙ ap (λ (ks : List _). out ++ concat (print_after format before ks xs)) (sym e) ∙ so_far
 
--- what is left of a list from an entry on begins with that entry
-pub item_more : {X : Type 0} (xs : List X) (i : ℕ) (d : X) → i < length xs → drop i xs ≡ get_or xs i d ∷ drop (i + 1) xs
-item_more [] i d h = absurd (omega (arith, h))
-item_more (x ∷ xs) zero d h = refl
-item_more (x ∷ xs) (suc i) d h = let p : suc (i + 1) ≡ suc i + 1 = omega arith in item_more xs i d (omega (arith, h)) ∙ ap (λ (n : ℕ). get_or xs i d ∷ drop n (x ∷ xs)) p
-
 -- ---- writing a value for each of so many places
 
 -- what is still written after the first k values, where there are n
@@ -90,7 +85,7 @@ pub print_step : {A : Type 0} (format : List A → ℕ → Format A) (xs : List 
 print_step format xs d n k out new total h l e so_far =
     let rest = numbers_from (k + 1) (n - (k + 1)) in
     rw (take_at_read xs k d l).1
-    (print_on format (take k xs) out new total k rest (numbers_from k (n - k)) (get_or xs k d) (drop (k + 1) xs) (drop k xs) (numbers_more n k h) (item_more xs k d l) e so_far)
+    (print_on format (take k xs) out new total k rest (numbers_from k (n - k)) (get_or xs k d) (drop (k + 1) xs) (drop k xs) (numbers_more n k h) (rest_begins xs k d l) e so_far)
 
 text_from_start : {A : Type 0} (format : List A → ℕ → Format A) (xs : List A) (n : ℕ) → text_from format xs n 0 ≡ concat ((each_after [] (numbers_from 0 n) format).print xs)
 text_from_start format xs n = let e : n - 0 ≡ n = omega arith in ap (λ (m : ℕ). concat (print_after format [] (numbers_from 0 m) xs)) e

@@ -8,8 +8,9 @@ use Rattle.std.proofs.Math.Nat.{one-le-pow, le-mul_of_pos_right}
 use Rattle.std.proofs.lemmas.Bool.{and_parts, and_from, leb-true, le-leb, ne_eqb}
 use Rattle.std.proofs.lemmas.Nat.{div-add-mod', mod_below, div_below}
 use Rattle.std.proofs.lemmas.Fmt.{decimal_is_IsNumeral_wide}
+use Rattle.list_laws.proofs.Public.{after_append, not_some}
 use Rattle.fixed_interval.specs.Text.{last_digits, fixed_text}
-use Rattle.fixed_interval.proofs.Public.{after_append, after_last_digits}
+use Rattle.fixed_interval.proofs.Public.{after_last_digits}
 use Rattle.line_text.specs.Formats.{Token, Text}
 use Rattle.line_text.specs.Texts.{in_range, without_point, fixed, Either, Left, Right, left_or, either, if_any, read_any, kept_by, only}
 use Rattle.line_text.specs.Exact.{IsExactText, IsField}
@@ -71,17 +72,13 @@ none_or o p b h k = rw (h, k) refl
 some_or : {A B : Type 0} (o : Option B) (p : Option A) (a : A) → p ≡ Some a → left_or o p ≡ Some (Left a)
 some_or o p a k = rw k refl
 
-no_value : {A : Type 0} (o : Option A) → ((a : A) → o ≡ Some a → ⊥) → o ≡ None
-no_value None h = refl
-no_value (Some a) h = absurd (h a refl)
-
 either_again : {A B : Type 0} (P : Token → Type 0) (first : Text A) (second : Text B) → IsExactText P first → IsExactText P second
     → ((a : A) (b : B) → first.fits a ≡ true → second.fits b ≡ true → first.print a ≡ second.print b → ⊥)
     → (x : Either A B) → (either first second).fits x ≡ true → (either first second).read ((either first second).print x) ≡ Some x
 either_again P first second e g apart (Left a) h = some_or (second.read (first.print a)) (first.read (first.print a)) a (e.again a h)
 either_again P first second e g apart (Right b) h =
     none_or (second.read (second.print b)) (first.read (second.print b)) b (g.again b h)
-    (no_value (first.read (second.print b)) (λ a k. let t = e.takes (second.print b) a k in apart a b t.0 h (sym t.1)))
+    (not_some (first.read (second.print b)) (λ a k. let t = e.takes (second.print b) a k in apart a b t.0 h (sym t.1)))
 
 either_takes : {A B : Type 0} (P : Token → Type 0) (first : Text A) (second : Text B) → IsExactText P first → IsExactText P second
     → (t : Token) (p : Option A) (o : Option B) → first.read t ≡ p → second.read t ≡ o → (x : Either A B) → left_or o p ≡ Some x

@@ -11,7 +11,7 @@ use Rattle.std.proofs.lemmas.Fmt.{decimal_by_steps_wide, decimal_step_wide, deci
 use Rattle.std.proofs.lemmas.Grind.{take_at_read}
 use Rattle.std.proofs.lemmas.Slice.Eq.{bytes_eq-Decides}
 use Rattle.std.proofs.Math.Numerals.{add-one}
-use Rattle.fixed_interval.proofs.Public.{after_append, first_digit, part_below}
+use Rattle.list_laws.proofs.Public.{after_append, first_digit, part_below}
 use Rattle.line_text.specs.Texts.{AreDigits, IsShort, number, in_range}
 
 -- the digits up to i + 1

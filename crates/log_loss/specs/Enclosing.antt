@@ -1,24 +1,18 @@
 -- Laws of the ends, placed here because `Score for LogLoss` cites them: they enclose the series and the loss.
 use Rattle.std.proofs.Common.{ℕ, zero, suc, ◌+◌, ◌-◌, ◌*◌, ◌^◌, ◌<◌, ◌≤◌, ◌≡◌, ◌∙◌, ◌⊎◌, inl, inr, arith, refl, ap, subst, zero-lt-suc, min, mul-le-mul}
 use Rattle.std.proofs.Math.Nat.{mul-pos, mul-le-mul_left, mul-le-mul_right, le_of_mul-le-mul_right, mul-sub, lt_of_mul-lt-mul_right, le_refl}
+use Rattle.list_laws.proofs.Public.{ceil_above, floor_below_ceil, min_steps}
 use Rattle.exact_model.specs.Fraction.{Fraction, whole, sum_below, scaled, Contains, Encloses, ◌≈◌, ◌≤ℚ◌, ◌+ℚ◌, ◌-ℚ◌, ◌*ℚ◌, ◌/ℚ◌}
-use Rattle.exact_model.proofs.Public.{over, same, turned, ◌≈≈◌, le_same, le_chain, le_self, le_plus, add_same, sub_same, contains_same, nothing_less, first_power, next_power}
+use Rattle.exact_model.proofs.Public.{over, same, turned, ◌≈≈◌, le_same, le_chain, le_self, le_plus, plus_assoc, add_same, sub_same, contains_same, nothing_less}
 use Rattle.fixed_interval.specs.Ends.{Ends, In, ends_times, ends_over, ends_capped, ends_power}
-use Rattle.fixed_interval.proofs.Public.{add_encloses, exact_encloses, mul_encloses, over_encloses, times_encloses, quotient_is, ceil_above, high_le, low_le, capped_encloses, min_steps, floor_below_ceil}
+use Rattle.fixed_interval.proofs.Public.{add_encloses, exact_encloses, power_encloses, over_encloses, times_encloses, quotient_is, high_le, low_le, capped_encloses}
 use Rattle.hull.specs.Scores.{EnclosesValue, LeavesRoom}
 use Rattle.exact_model.specs.Sums.{power}
 use Rattle.log_loss.specs.Loss.{term, loss, smaller, empty_share, loss_of}
 use Rattle.log_loss.specs.Profile.{sum_ends, rest_past, series_past, series_ends, share_ends, loss_ends}
 use Rattle.log_loss.specs.Ranges.{IsShare, gap_positive, series_most, series_ordered}
 
--- ---- the powers and the sum of the first terms
-
-pub power_in : (f : ℕ) (y : Ends) (q : Fraction) (k : ℕ) → In f y q → In f (ends_power f y k) (power q (suc k))
-unfolding ends_power
-power_in f y q zero h = contains_same (first_power q) h
-power_in f y q (suc k) h =
-    contains_same (next_power q (suc k)) (mul_encloses f (ends_power f y k) y (power q (suc k)) q
-    (power_in f y q k h) h)
+-- ---- the sum of the first terms
 
 next_loss : (q : Fraction) (n : ℕ) → loss n q +ℚ term q n ≈ loss (suc n) q
 unfolding sum_below
@@ -34,7 +28,7 @@ sum_in f y q zero h = contains_same (no_loss q) (exact_encloses f 0)
 sum_in f y q (suc n) h =
     contains_same (next_loss q n)
     (add_encloses f (sum_ends f y n) (ends_over (ends_power f y n) (suc n)) (loss n q) (term q n) (sum_in f y q n h)
-    (over_encloses f (ends_power f y n) (suc n) (power q (suc n)) (zero-lt-suc n) (power_in f y q n h)))
+    (over_encloses f (ends_power f y n) (suc n) (power q (suc n)) (zero-lt-suc n) (power_encloses f y q n h)))
 
 -- ---- the terms past them
 
@@ -44,10 +38,6 @@ add_left_step a b c d e f h = omega (arith, mul-le-mul_left (b * b) h)
 add_left : (q : Fraction) {r s : Fraction} → r ≤ℚ s → q +ℚ r ≤ℚ q +ℚ s
 unfolding ◌+ℚ◌
 add_left q {r} {s} h = record { cross = add_left_step q.num q.den r.num r.den s.num s.den h.cross }
-
-add_assoc : (q r s : Fraction) → (q +ℚ r) +ℚ s ≈ q +ℚ (r +ℚ s)
-unfolding ◌+ℚ◌
-add_assoc q r s = record { cross = omega arith }
 
 -- q is below 1 by g over its denominator
 pub record IsBelowOne (q : Fraction) (g : ℕ) : Type 0 where
@@ -104,7 +94,7 @@ tails_step : (q : Fraction) (g n m : ℕ) (h : IsBelowOne q g) → n ≤ m
     → loss (suc m) q +ℚ tail_at q g n (suc m) h ≤ℚ loss m q +ℚ tail_at q g n m h
 tails_step q g n m h l =
     le_same
-    (turned (add_same (turned (next_loss q m)) (same (tail_at q g n (suc m) h)) ≈≈ add_assoc (loss m q) (term q m)
+    (turned (add_same (turned (next_loss q m)) (same (tail_at q g n (suc m) h)) ≈≈ plus_assoc (loss m q) (term q m)
     (tail_at q g n (suc m) h)))
     (same (loss m q +ℚ tail_at q g n m h))
     (add_left (loss m q) (term_and_tail q g n m h l))
@@ -161,7 +151,7 @@ rest_in f y q g n h s i = record {
       (suc n) (2 ^ f - y.hi) (gap_positive f y s)
       (ceil_above ((ends_power f y n).hi * 2 ^ f) (suc n * (2 ^ f - y.hi))
       (mul-pos (zero-lt-suc n) (gap_positive f y s)))
-      (power_in f y q n i).high
+      (power_encloses f y q n i).high
       (gap_step (2 ^ f) y.hi q.num q.den g h.gap i.high);
 }
 

@@ -1,5 +1,6 @@
 -- The best change, family by family.
 use Rattle.std.proofs.Common.{◌≡◌, ℕ, zero, suc, ◌+◌, ◌-◌, ◌<◌, ◌≤◌, inl, inr, List, [], ◌∷◌, ◌++◌, Option, Some, None, MatchOption, length, set, slice_index, refl, sym, ap, subst, arith}
+use Rattle.list_laws.proofs.Public.{below_or}
 use Rattle.hull.specs.declared.point.Point.{Point}
 use Rattle.hull.specs.Curves.{IsShape}
 use Rattle.marginal_alloc.specs.declared.change.Change.{Change}
@@ -7,7 +8,6 @@ use Rattle.price_bounds.specs.Sums.{cost_of}
 use Rattle.step_walk.specs.Prefix.{curve_at, vertex_at, picked}
 use Rattle.marginal_alloc.specs.Filling.{HasChange, gain}
 use Rattle.marginal_alloc.specs.Changes.{IsLower, IsLowest, IsBestAmong, IsBestBefore}
-use Rattle.step_walk.proofs.Public.{below_or}
 use Rattle.price_bounds.proofs.Public.{swapped}
 use Rattle.marginal_alloc.proofs.Bounds.{Around, around}
 use Rattle.marginal_alloc.proofs.Along.{lo_below}

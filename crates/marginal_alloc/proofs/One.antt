@@ -1,7 +1,8 @@
 -- Two prefixes of the steps are nested, so only one stops at the budget.
-use Rattle.std.proofs.Common.{◌≡◌, ℕ, zero, suc, ◌+◌, ◌<◌, ◌≤◌, ◌⊎◌, inl, inr, Option, Some, None, List, [], ◌∷◌, length, set, slice_index, refl, sym, ap, ◌∙◌, subst, arith, get_or-set_other, get_or-set_same, length-set}
+use Rattle.std.proofs.Common.{◌≡◌, ℕ, zero, suc, ◌+◌, ◌<◌, ◌≤◌, inl, inr, Option, Some, None, List, [], ◌∷◌, length, set, slice_index, refl, sym, ap, ◌∙◌, subst, arith, get_or-set_other, get_or-set_same, length-set}
 use Rattle.std.proofs.lemmas.List.{ext_get_or}
 use Rattle.std.proofs.lemmas.Bool.{cases_lt, cases_eq}
+use Rattle.list_laws.proofs.Public.{less_or}
 use Rattle.hull.specs.declared.point.Point.{Point}
 use Rattle.hull.specs.declared.price.Price.{Price}
 use Rattle.hull.specs.Curves.{point_at}
@@ -11,25 +12,8 @@ use Rattle.step_walk.specs.Prefix.{curve_at, HasStep, fall, rise, picked, IsPref
 use Rattle.marginal_alloc.specs.Choice.{IsHullChoice}
 use Rattle.marginal_alloc.proofs.Told.{told}
 use Rattle.marginal_alloc.proofs.Walking.{cost_taken}
-use Rattle.step_walk.proofs.Public.{cost_rises, not_both, one_next, below_or}
+use Rattle.step_walk.proofs.Public.{cost_rises, not_both, one_next}
 use Rattle.marginal_alloc.proofs.Along.{costs_up}
-
--- a place below n at which xs has less than ys, or none
-pub record Less (xs ys : List ℕ) (n : ℕ) : Type 0 where
-  pub at : ℕ
-  pub below : at < n
-  pub less : slice_index xs at < slice_index ys at
-
--- of two lists of picks the first is behind the second at some place, or nowhere
-pub less_or : (xs ys : List ℕ) (n : ℕ) → Less xs ys n ⊎ ((f : ℕ) → f < n → slice_index ys f ≤ slice_index xs f)
-less_or xs ys zero = inr (λ f l. absurd (let m : f < 0 = l in omega arith))
-less_or xs ys (suc n) = elim (cases_lt (slice_index xs n) (slice_index ys n)) [
-  | inl l ↦ inl (record { at = n; below = omega arith; less = l })
-  | inr l ↦ elim (less_or xs ys n) [
-    | inl r ↦ inl (record { at = r.at; below = (let b = r.below in omega (arith, b)); less = r.less })
-    | inr h ↦ inr (λ f b. elim (below_or f n (omega (arith, b))) [ inl c ↦ h f c | inr e ↦ subst (λ z. slice_index ys z ≤ slice_index xs z) (sym e) l ])
-  ]
-]
 
 -- picks further on cost no less
 dearer : (curves : List (List Point)) (xs ys : List ℕ) → HaveShapes curves → length xs ≡ length curves → length ys ≡ length curves

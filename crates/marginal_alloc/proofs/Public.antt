@@ -5,7 +5,7 @@ pub use Rattle.marginal_alloc.proofs.Bounds.{Around, all_least, all_picked, arou
 pub use Rattle.marginal_alloc.proofs.Filled.{changed_vertices, hi_falls}
 pub use Rattle.marginal_alloc.proofs.Kept.{plan_acceptable}
 pub use Rattle.marginal_alloc.proofs.Least.{critical_stops}
-pub use Rattle.marginal_alloc.proofs.One.{choices_are_one, less_or, not_crossed}
+pub use Rattle.marginal_alloc.proofs.One.{choices_are_one, not_crossed}
 pub use Rattle.marginal_alloc.proofs.OnePlan.{one_plan}
 pub use Rattle.marginal_alloc.proofs.Sound.{plan_sound}
 pub use Rattle.marginal_alloc.proofs.Told.{told}

@@ -32,7 +32,8 @@ pub struct Chosen {
 /// The hull choice of the curves under a budget in whole money.
 ///
 /// The steps of all curves are taken by falling slope, of equal slopes by family and then by place, until one would
-/// exceed the budget. There are at most 2,000 curves, and each begins at cost 0. Want of memory is the only error.
+/// exceed the budget. There are at most 2,000 curves, and each begins at cost 0. Want of memory is the only error. No
+/// command calls it: they have a guess of the price.
 pub fn allocate(alloc: Global, curves: &[Curve], budget: u64) -> Result<Chosen, NoMemory>
     requires few { length curves.now ≤ most_curves }
     requires free { (f : ℕ) → f < length curves.now → (vertex_at curves.now f 0).cost ≡ 0 }

@@ -7,12 +7,9 @@ ghost use Rattle.marginal_alloc.specs.Choice.{firsts};
 
 use crate::filling::cost_at;
 use answers::NoMemory;
-use hull::Curve;
+use hull::{Curve, MOST_PRICE_UNITS};
 use std::alloc::Global;
 use step_walk::{Walk, all_after_steep};
-
-/// A price that no step is above, in units of 2^-48 for whole money.
-const MOST: u128 = 1 << 74;
 
 /// The cost after the steps above a price. No clause says so.
 fn cost_after(alloc: Global, curves: &[Curve], price: u128) -> Result<u64, NoMemory>
@@ -47,7 +44,7 @@ fn price_found(alloc: Global, curves: &[Curve], budget: u64) -> Result<u128, NoM
     requires few { length curves.now ≤ most_curves }
     ensures { IfOk result (λ p. p ≤ most_price_units) }
 {
-    let mut price = MOST;
+    let mut price = MOST_PRICE_UNITS;
     let mut halves: u32 = 32;
     'halves: while halves > 0 {
         price = lower_within(alloc, curves, budget, price, price >> halves)?;
@@ -63,7 +60,7 @@ fn price_within(alloc: Global, curves: &[Curve], budget: u64, near: u128) -> Res
     requires few { length curves.now ≤ most_curves }
     ensures { IfOk result (λ p. p ≤ most_price_units) }
 {
-    if near <= MOST && cost_after(alloc, curves, near)? <= budget {
+    if near <= MOST_PRICE_UNITS && cost_after(alloc, curves, near)? <= budget {
         return Ok(near);
     }
     price_found(alloc, curves, budget)

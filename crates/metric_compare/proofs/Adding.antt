@@ -1,9 +1,10 @@
 -- Sums of ends as loops make them.
-use Rattle.std.proofs.Common.{◌≡◌, ℕ, zero, suc, ◌+◌, ◌*◌, ◌^◌, ◌<◌, ◌≤◌, Bool, true, false, List, [], ◌∷◌, ◌++◌, length, take, get_or, map, filter, Option, Some, None, refl, sym, ap, ap₂, ◌∙◌, subst, arith, mul-le-mul_left, zero-add}
+use Rattle.std.proofs.Common.{◌≡◌, ℕ, zero, suc, ◌+◌, ◌*◌, ◌^◌, ◌<◌, ◌≤◌, Bool, true, false, List, [], ◌∷◌, length, get_or, map, filter, Option, Some, None, refl, sym, ap, ap₂, ◌∙◌, subst, arith, mul-le-mul_left, zero-add}
 use Rattle.std.specs.List.{fold, range_with_len}
-use Rattle.std.proofs.lemmas.List.{map_more, map_push, take_all}
+use Rattle.std.proofs.lemmas.List.{map_push}
 use Rattle.std.proofs.lemmas.List.Sums.{fold-append}
 use Rattle.std.proofs.lemmas.List.FromFn.{get_or-range_with_len, length-range_with_len, map-range_with_len_more}
+use Rattle.list_laws.proofs.Public.{flat_at, flat_length, kept_more, left_out}
 use Rattle.fixed_interval.specs.Ends.{Ends, IsWithinLimit, ends_add, ends_capped, ends_exact}
 use Rattle.moment_table.specs.Profile.{table_rows}
 use Rattle.moment_table.proofs.Public.{rows_below}
@@ -13,7 +14,7 @@ use Rattle.fleet_model.specs.Rows.{all_parts, stock}
 use Rattle.fleet_model.specs.Pairs.{by_pair}
 use Rattle.family_items.specs.Inputs.{IsSound}
 use Rattle.family_items.specs.Profile.{pipeline_of}
-use Rattle.family_items.proofs.Public.{flat_at, flat_length, kept_more, left_out, pipeline_is}
+use Rattle.family_items.proofs.Public.{pipeline_is}
 use Rattle.spares_input.specs.Pairs.{pair_place}
 use Rattle.metric_compare.specs.Levels.{by_part, of_shop}
 use Rattle.metric_compare.specs.Profile.{backorders_at, poisson_at, poisson_base_line, poisson_base_shop, poisson_depot_line, poisson_depot_shop, poisson_of}
@@ -115,14 +116,3 @@ line_less h t n most x lines off = record {
   is = lines.is ∙ sym (ap (λ ls. fold ends_add (ends_exact 48 0) (map h ls)) (left_out t n off));
   top = omega (arith, lines.top);
 }
-
--- ---- a loop that puts a value for each item
-
--- one item more is read, and its value put at the end
-pub taken_more : {X Y : Type 0} (f : X → Y) (xs : List X) (i : ℕ) (d : X) (old new : List Y) (y : Y) → i < length xs → new ≡ old ++ y ∷ [] → old ≡ map f (take i xs) → y ≡ f (get_or xs i d)
-    → new ≡ map f (take (i + 1) xs)
-taken_more f xs i d old new y inside put before is = put ∙ ap₂ (λ l z. l ++ z ∷ []) before is ∙ sym (map_more f xs i d inside)
-
--- all items were read
-pub taken_all : {X Y : Type 0} (f : X → Y) (xs : List X) (i : ℕ) (ys : List Y) → length xs ≤ i → ys ≡ map f (take i xs) → ys ≡ map f xs
-taken_all f xs i ys all is = is ∙ ap (map f) (take_all i xs all)

@@ -2,6 +2,7 @@
 use Rattle.std.proofs.Common.{◌≡◌, ℕ, zero, suc, ◌-◌, ◌<◌, ◌≤◌, true, List, length, get_or, map, Option, Some, None, refl, sym, subst, arith, zero-lt-suc}
 use Rattle.std.proofs.Math.Nat.{le_refl}
 use Rattle.std.proofs.lemmas.List.{get_or-map, length-map}
+use Rattle.list_laws.proofs.Public.{all_follow, each_in_range, passed}
 use Rattle.exact_model.specs.Fraction.{Encloses, Fraction, whole, ◌≤ℚ◌, ◌+ℚ◌, ◌*ℚ◌}
 use Rattle.exact_model.specs.Series.{ebo}
 use Rattle.exact_model.proofs.Public.{contains_same, le_chain, le_self, turned, ebo_within as ebo_most}
@@ -21,14 +22,14 @@ use Rattle.fleet_model.specs.Demand.{f_i0, f_ij, f_0j}
 use Rattle.fleet_model.specs.ZeroStock.{direct_i0, direct_00, direct_ij, direct_0j, zero_stock_i0, zero_stock_00, zero_stock_ij, zero_stock_0j}
 use Rattle.fleet_model.specs.Pairs.{by_pair}
 use Rattle.fleet_model.specs.Laws.{IsBase, Reaches}
-use Rattle.fleet_model.proofs.Public.{le_add, le_mul, le_of_same, passed, sum_most, allocation_reaches, all_follow}
+use Rattle.fleet_model.proofs.Public.{le_add, le_mul, le_of_same, sum_most, allocation_reaches}
 use Rattle.fleet_model.proofs.Public.{mean_00 as zero_mean_mean_00, mean_0j as zero_mean_mean_0j, mean_ij as zero_mean_mean_ij}
 use Rattle.demand_rates.proofs.Public.{no_line_there}
 use Rattle.family_items.specs.Profile.{pipeline_of, share_of}
 use Rattle.moment_table.specs.Inputs.{CanTable}
 use Rattle.family_items.specs.Inputs.{IsLine, IsPipeline, IsShop, IsSound}
 use Rattle.moment_table.proofs.Public.{table_encloses}
-use Rattle.family_items.proofs.Public.{added_least, can_table, cap_in, pipeline_is, line_at, shop_at, each_in_range, sum_by_places, direct_level, share_level}
+use Rattle.family_items.proofs.Public.{added_least, can_table, cap_in, pipeline_is, line_at, shop_at, sum_by_places, direct_level, share_level}
 use Rattle.fleet_model.specs.Poisson.{mean_i0, mean_00, mean_ij, mean_0j, poisson, poisson_i0, poisson_00, poisson_ij, poisson_0j, poisson_family_total, poisson_total}
 use Rattle.case_figures.proofs.Public.{sum_in}
 use Rattle.metric_compare.specs.Profile.{backorders_at, poisson_at, poisson_base_line, poisson_base_shop, poisson_depot_feed, poisson_depot_line, poisson_depot_shop, fed, delay, poisson_family_total_of, poisson_of, poisson_total_of, poisson_weighed}

@@ -1,7 +1,7 @@
 -- What its level makes of a pair's pipeline.
-use Rattle.std.proofs.Common.{◌≡◌, ℕ, zero, suc, Option, Some, ◌<◌, ◌≤◌, ◌+◌, List, [], ◌∷◌, ◌++◌, length, get_or, map, flat_map, replicate, refl, sym, ap, ap₂, ◌∙◌, subst, arith}
+use Rattle.std.proofs.Common.{◌≡◌, ℕ, zero, suc, Option, Some, ◌<◌, ◌≤◌, ◌+◌, List, ◌∷◌, length, get_or, map, replicate, refl, sym, ap, ap₂, ◌∙◌, subst, arith}
 use Rattle.std.specs.List.{range_with_len}
-use Rattle.std.proofs.lemmas.List.{flat_map_more, length-map}
+use Rattle.std.proofs.lemmas.List.{length-map}
 use Rattle.std.proofs.lemmas.Simd.{map-map}
 use Rattle.fixed_interval.specs.Ends.{Ends, ends_add, ends_capped, ends_exact}
 use Rattle.depot_pipeline.specs.declared.Moments.{Moments}
@@ -15,7 +15,6 @@ use Rattle.spares_input.specs.Cases.{CaseRows, IsCase}
 use Rattle.spares_input.specs.Frames.{line_of}
 use Rattle.spares_input.specs.declared.rows.PartId.{PartId}
 use Rattle.demand_rates.proofs.Public.{no_line_there}
-use Rattle.spares_input.proofs.Public.{range_next}
 use Rattle.moment_table.specs.Inputs.{CanTable}
 use Rattle.family_items.specs.Inputs.{IsLine, IsPipeline, IsShopUnit}
 use Rattle.family_items.specs.declared.pipeline.Pipeline.{Pipeline}
@@ -149,11 +148,3 @@ units_are c l xs valid line e k d h = record { line = l; is_shop = shop_of c l x
 pub few_of : {X : Type 0} (c : CaseRows) (l : ℕ) (g : PartId → X) (xs : List PartId) (ys : List X) → IsCase c → IsLine c l
     → map (λ (p : PartId). p.0) xs ≡ shop_units c l → ys ≡ map g xs → length ys ≤ 8
 few_of {X} c l g xs ys valid line e h = omega (arith, ids_few c l xs valid line e, ap (λ (zs : List X). length zs) h, length-map xs g)
-
--- ---- lists
-
--- with the next part's row appended, there are the rows of one more part
-pub rows_more : {X : Type 0} (g : ℕ → List X) (p : ℕ) (all row new : List X) → new ≡ all ++ row → all ≡ flat_map g (range_with_len 0 p) → row ≡ g p
-    → new ≡ flat_map g (range_with_len 0 (p + 1))
-rows_more {X} g p all row new e h k =
-    e ∙ ap₂ (λ (a b : List X). a ++ b) h k ∙ flat_map_more g [] (range_with_len 0 p) p ∙ ap (flat_map g) (sym (range_next p))

@@ -5,6 +5,7 @@ use Rattle.std.proofs.lemmas.List.{get_or-map, length-map}
 use Rattle.std.proofs.lemmas.List.FromFn.{get_or-map-range_with_len, length-map-range_with_len, length-range_with_len}
 use Rattle.std.proofs.Math.Nat.{div-lt_iff_lt-mul}
 use Rattle.std.proofs.lemmas.Nat.{div-add-mod', div-mul-add, mod-mul-add, mod_below}
+use Rattle.list_laws.proofs.Public.{all_of, each_in_range, each_map, each_that_passes, few_that_pass}
 use Rattle.fixed_interval.specs.Ends.{Ends, ends_exact}
 use Rattle.spares_input.specs.Rows.{is_line}
 use Rattle.spares_input.specs.Frames.{part_at, site_at}
@@ -15,11 +16,11 @@ use Rattle.fleet_model.specs.Rows.{bases, line_units, weight}
 use Rattle.family_items.specs.Encloses.{CanEvaluate}
 use Rattle.family_items.specs.Encloses as evaluated
 use Rattle.family_items.specs.Inputs.{IsLine}
-use Rattle.family_items.proofs.Public.{item_in, item_small, evaluable, family_in, weight_most, each_in_range}
+use Rattle.family_items.proofs.Public.{item_in, item_small, evaluable, family_in, weight_most}
 use Rattle.case_figures.specs.Spans.{ends, places}
 use Rattle.case_figures.specs.Figures.{all_items, item_at_place, named}
 use Rattle.case_figures.specs.declared.figures.ItemLine.{ItemLine}
-use Rattle.case_figures.proofs.Public.{item_pair, pair_within, all_of, each_map, each_that_passes, few_that_pass, total_at_in, sum_most, evaluated_as, figures_fit}
+use Rattle.case_figures.proofs.Public.{item_pair, pair_within, total_at_in, sum_most, evaluated_as, figures_fit}
 use Rattle.metric_compare.specs.declared.report.CompareItem.{CompareItem}
 use Rattle.metric_compare.specs.Profile.{poisson_family_total_of, poisson_of, poisson_total_of, poisson_weighed}
 use Rattle.metric_compare.specs.Report.{comparison_of, compared, compared_at}

@@ -2,6 +2,7 @@
 
 ghost use Rattle.std.specs.Prelude.{◌≡◌, ◌≤◌, IfOk};
 ghost use Rattle.fixed_interval.specs.Ends.{IsWithinLimit};
+ghost use Rattle.spares_input.specs.Limits.{most_stock};
 ghost use Rattle.moment_table.specs.Inputs.{CanTable};
 ghost use Rattle.metric_compare.specs.Profile.{backorders_at, fed};
 
@@ -19,7 +20,7 @@ pub(crate) fn backorders_at(
     stock: u8,
 ) -> Result<Iv<48>, NoMemory>
     requires table { CanTable 48 mean variance }
-    requires stock { stock ≤ 63 }
+    requires stock { stock ≤ most_stock }
     ensures ends { IfOk result (λ x. x ≡ backorders_at 48 mean variance stock) }
     ensures small { IfOk result (IsWithinLimit 48) }
 {

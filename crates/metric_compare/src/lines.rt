@@ -2,6 +2,7 @@
 
 ghost use Rattle.std.specs.Prelude.{◌≡◌, ◌<◌, ◌≤◌, IfOk, length, map, All};
 ghost use Rattle.fixed_interval.specs.Ends.{IsWithinLimit};
+ghost use Rattle.spares_input.specs.Limits.{most_shop_units};
 ghost use Rattle.depot_pipeline.specs.Exact.{IsSmallFeed};
 ghost use Rattle.base_pipeline.specs.Exact.{IsSmallDelay};
 ghost use Rattle.fleet_model.specs.Rows.{shop_units};
@@ -76,7 +77,7 @@ fn depot_line_at(
     feeds: &[Feed<48>],
 ) -> Result<Iv<48>, NoMemory>
     requires line { line.0 < length inputs.now.case.parts }
-    requires few { length feeds.now ≤ 8 }
+    requires few { length feeds.now ≤ most_shop_units }
     requires small { All (IsSmallFeed 48) feeds.now }
     requires feeds { feeds.now
         ≡ map (poisson_depot_feed 48 inputs.now.case inputs.now.stocks.list) (shop_units inputs.now.case line.0) }
@@ -103,7 +104,7 @@ fn base_line_at(
     requires site { site.0 < length inputs.now.case.sites }
     requires depot { depot ≡ poisson_depot_line 48 inputs.now.case inputs.now.stocks.list line.0 }
     requires small { IsWithinLimit 48 depot }
-    requires few { length delays.now ≤ 8 }
+    requires few { length delays.now ≤ most_shop_units }
     requires most { All (IsSmallDelay 48) delays.now }
     requires delay { delays.now
         ≡ map (λ i. delay 48 (poisson_base_shop 48 inputs.now.case inputs.now.stocks.list i site.0))

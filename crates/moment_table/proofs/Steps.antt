@@ -1,8 +1,8 @@
 -- The steps of a table from a stock to the next one.
 use Rattle.std.proofs.Common.{◌≡◌, ℕ, suc, min, ◌+◌, ◌-◌, ◌*◌, ◌<◌, ◌≤◌, ◌^◌, List, [], ◌∷◌, ◌++◌, length, get_or, refl, sym, ap, ap₂, ◌∙◌, arith, subst, le_trans, add-one, mul-le-mul_left, mul-le-mul_right, pow_pos}
 use Rattle.std.proofs.lemmas.List.{get_or_default}
+use Rattle.list_laws.proofs.Public.{ceil_most}
 use Rattle.fixed_interval.specs.Ends.{Ends, ends_exact, ends_add, ends_capped, ends_less, ends_times, ends_mul, ends_div, ends_max}
-use Rattle.fixed_interval.proofs.Public.{ceil_most}
 use Rattle.series_bounds.specs.Profile.{listed}
 use Rattle.series_bounds.specs.Answer.{at_place}
 use Rattle.moment_table.specs.declared.stored.StoredRow.{StoredRow}

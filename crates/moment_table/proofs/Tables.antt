@@ -2,9 +2,10 @@
 use Rattle.std.proofs.Common.{◌≡◌, ℕ, ◌*◌, ◌^◌, ◌<◌, ◌≤◌, true, false, inl, inr, List, refl, subst, arith, pow_pos, mul-le-mul_right}
 use Rattle.std.proofs.Math.Nat.{div-le_of_le-mul, le_refl}
 use Rattle.std.proofs.lemmas.Bool.{cases_Bool}
+use Rattle.list_laws.proofs.Public.{floor_below_ceil}
 use Rattle.exact_model.specs.Series.{excess, relative_sum}
 use Rattle.fixed_interval.specs.Ends.{Ends}
-use Rattle.fixed_interval.proofs.Public.{floor_below_ceil, ends_ordered}
+use Rattle.fixed_interval.proofs.Public.{ends_ordered}
 use Rattle.series_bounds.specs.Profile.{is_wide, pivot_at, weights_of}
 use Rattle.series_bounds.specs.declared.kinds.Weights.TheVariants.{Known}
 use Rattle.series_bounds.specs.Answer.{EncloseWeights, Sized}

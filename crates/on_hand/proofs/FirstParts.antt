@@ -1,9 +1,9 @@
 -- The parts of the first families, as they are made one after another.
 use Rattle.std.proofs.Common.{◌≡◌, ℕ, zero, suc, ◌+◌, ◌<◌, List, [], ◌∷◌, ◌++◌, length, length-append, slice_index, inl, inr, refl, sym, subst, arith}
+use Rattle.list_laws.proofs.Public.{below_or}
 use Rattle.hull.specs.declared.point.Point.{Point}
 use Rattle.hull.specs.declared.price.Price.{Price}
 use Rattle.step_walk.specs.Prefix.{curve_at}
-use Rattle.step_walk.proofs.Public.{below_or}
 use Rattle.curve_parts.specs.Beyond.{IsKnownPart}
 
 -- the curves are the parts between two prices of the first n families, and all vertices behind them lie as high as the

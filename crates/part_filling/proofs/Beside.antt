@@ -1,6 +1,7 @@
 -- Vertices that aren't known.
 use Rattle.std.proofs.Common.{◌≡◌, ℕ, ◌+◌, ◌-◌, ◌*◌, ◌<◌, ◌≤◌, ◌⊎◌, inl, inr, List, [], ◌∷◌, length, sym, ap, ◌∙◌, subst, arith, length-append}
 use Rattle.std.proofs.Math.Nat.{mul-le-mul_left, mul-lt-mul_of_pos_left, le_of_mul-le-mul_left, lt_of_mul-lt-mul_left}
+use Rattle.list_laws.proofs.Public.{le_or_gt}
 use Rattle.hull.specs.declared.point.Point.{Point}
 use Rattle.hull.specs.declared.price.Price.{Price}
 use Rattle.hull.specs.Curves.{lagrangian, Among, InRange, IsChain, IsCurve, IsLeastAt, IsVertex, Steps, nowhere, point_at}
@@ -11,7 +12,7 @@ use Rattle.marginal_alloc.proofs.Public.{costs_up}
 use Rattle.curve_parts.specs.Parts.{IsPartOf, IsPriceBetween}
 use Rattle.curve_parts.specs.Cuts.{IsCutOf}
 use Rattle.curve_parts.specs.Beyond.{LieBeyond, no_price}
-use Rattle.curve_parts.proofs.Public.{alone_between, le_or_gt, first_least, last_least, part_convex, part_is_cut, none_dearer}
+use Rattle.curve_parts.proofs.Public.{alone_between, first_least, last_least, part_convex, part_is_cut, none_dearer}
 use Rattle.choice_parts.proofs.Public.{IsPlacedPart, at_right, cut_placed}
 use Rattle.part_filling.specs.Known.{HasNoBetter, IsPriceWindow}
 

@@ -7,10 +7,10 @@ use Rattle.hull.specs.Curves.{Among, nowhere, point_at}
 use Rattle.hull.specs.Laws.{StocksTell}
 use Rattle.hull.proofs.Public.{among_at}
 use Rattle.step_walk.specs.Prefix.{AreVertices, curve_at, picked, vertex_at}
-use Rattle.curve_parts.specs.Parts.{IsPartOf, IsVertexBetween}
+use Rattle.curve_parts.specs.Parts.{IsPartOf}
 use Rattle.curve_parts.specs.Cuts.{IsWindow, IsWithin}
 use Rattle.curve_parts.specs.Beyond.{LieBeyond}
-use Rattle.curve_parts.proofs.Public.{has_curve, part_convex, part_has_those, price_within}
+use Rattle.curve_parts.proofs.Public.{between_within, has_curve, part_convex, part_has_those}
 use Rattle.choice_parts.specs.Parts.{AreFamilies}
 use Rattle.part_filling.specs.declared.window.Window.{Window}
 use Rattle.part_filling.specs.Known.{AreKnown, HasCost, IsPriceWindow, no_window, window_at}
@@ -28,16 +28,6 @@ member_at (x ∷ xs) v m = elim m [
   | inl e ↦ record { place = 0; below = omega arith; is = sym e }
   | inr n ↦ (let r : HasPlace xs v = member_at xs v n in record { place = suc r.place; below = (let b = r.below in omega (arith, b)); is = r.is })
 ]
-
--- a vertex between two prices is one between two that are further apart
-between_within : (low high least most : Price) (points : List Point) (v : Point) → IsWindow low high → IsWithin low high least most → IsVertexBetween low high points v → IsVertexBetween least most points v
-between_within low high least most points v w i h = record {
-  p = h.p;
-  q = h.q;
-  between = price_within low high least most h.p h.q w i h.between;
-  least = h.least;
-  vertex = h.vertex;
-}
 
 -- a wider part has the vertices of a part
 in_wider : (low high least most : Price) (points known part : List Point) → StocksTell points → IsWindow low high → IsWithin low high least most → IsPartOf low high points known → IsPartOf least most points part

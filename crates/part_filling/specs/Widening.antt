@@ -1,4 +1,5 @@
--- How far the parts that are known can widen, and what a widening leaves as it was.
+-- How far the parts that are known can widen, and what a widening leaves as it was. No promise of the crate rests on
+-- these words.
 use Rattle.std.specs.Prelude.{◌≡◌, ◌≢◌, ℕ, ◌+◌, ◌-◌, ◌/◌, ◌<◌, Bool, true, false, List, [], ◌∷◌, slice_index}
 use Rattle.hull.specs.Limits.{most_price_units, most_price_money}
 use Rattle.step_walk.specs.Prefix.{curve_at}

@@ -4,7 +4,7 @@ ghost use Rattle.std.specs.Prelude.{◌+◌, ◌-◌, ◌*◌, ◌<◌, ◌≤�
 ghost use Rattle.hull.specs.Limits.{most_price_money};
 ghost use Rattle.curve_parts.specs.Cuts.{IsSmall};
 
-use hull::Price;
+use hull::{MOST_PRICE_MONEY, Price};
 
 /// A low and a high price.
 #[derive(Clone, Copy, Drop)]
@@ -16,7 +16,7 @@ pub struct Window {
 /// A price at which no vertex lies behind a part: each step falls at least 1 for at most 10^12 money.
 const LEAST: Price = Price {
     p: 1,
-    q: 1_000_000_000_000,
+    q: MOST_PRICE_MONEY,
 };
 
 /// A lower price than `low`: two thirds of it, or the least one if it is small or below an eighth of `start`.

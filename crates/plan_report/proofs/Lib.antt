@@ -1,3 +1,1 @@
-pub mod Public
-pub mod Names
 pub mod Chains

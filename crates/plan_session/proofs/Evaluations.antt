@@ -2,6 +2,7 @@
 use Rattle.std.proofs.Common.{◌≡◌, ℕ, zero, suc, ◌+◌, ◌-◌, ◌<◌, List, [], ◌∷◌, ◌++◌, length, map, Option, Some, None, refl, sym, ap, ap₂, subst, arith}
 use Rattle.std.specs.Prelude.{flat_map}
 use Rattle.std.specs.List.{range_with_len, AllByRecursion}
+use Rattle.list_laws.proofs.Public.{all_follow, each_both, map_each}
 use Rattle.fixed_interval.specs.Ends.{Ends, ends_exact, ends_times}
 use Rattle.depot_pipeline.specs.declared.Feed.{Feed}
 use Rattle.depot_pipeline.specs.Profile.{depot_shop_ends, depot_line_ends}
@@ -16,7 +17,6 @@ use Rattle.fleet_model.specs.Rows.{shop_units, stock, weight}
 use Rattle.fleet_model.specs.Pairs.{by_pair}
 use Rattle.fleet_model.specs.Fleet.{family}
 use Rattle.fleet_model.specs.Laws.{AgreeOnFamily}
-use Rattle.fleet_model.proofs.Public.{all_follow}
 use Rattle.demand_rates.specs.Rates.{pair_rates}
 use Rattle.family_items.specs.declared.item.Item.{Item}
 use Rattle.family_items.specs.declared.item.FamilyResult.{FamilyResult}
@@ -26,14 +26,6 @@ use Rattle.family_items.proofs.Public.{shops_all, added_same}
 use Rattle.family_points.proofs.Public.{line_owner}
 
 -- ---- lists
-
-both : (P Q R : ℕ → Type 0) (xs : List ℕ) → ((i : ℕ) → P i → Q i → R i) → AllByRecursion P xs → AllByRecursion Q xs → AllByRecursion R xs
-both P Q R [] h a b = a
-both P Q R (x ∷ xs) h a b = (h x a.0 b.0, both P Q R xs h a.1 b.1)
-
-map_each : {X : Type 0} (xs : List ℕ) (g h : ℕ → X) → AllByRecursion (λ i. g i ≡ h i) xs → map g xs ≡ map h xs
-map_each [] g h a = refl
-map_each {X} (x ∷ xs) g h a = ap₂ (λ (y : X) (ys : List X). y ∷ ys) a.0 (map_each xs g h a.1)
 
 map_sites : {X : Type 0} (g h : ℕ → X) (n a m : ℕ) → a + n ≡ m → ((k : ℕ) → k < m → g k ≡ h k) → map g (range_with_len a n) ≡ map h (range_with_len a n)
 map_sites g h zero a m e same = refl
@@ -81,7 +73,7 @@ module _ (f : ℕ) (c : CaseRows) (s t : List ℕ) (some : 0 < length c.sites) w
   depot_line_same l h all =
       ap₂ (λ (n : ℕ) (feeds : List (Feed f)). stocked f (pipeline_from f l 0 (pair_rates c l 0) n)
       (depot_line_ends f (pipeline_from f l 0 (pair_rates c l 0) n).direct (pipeline_from f l 0 (pair_rates c l 0) n).cap feeds)) (h 0 some)
-      (map_each (shop_units c l) (depot_feed f c s) (depot_feed f c t)
+      (map_each (depot_feed f c s) (depot_feed f c t) (shop_units c l)
       (all_follow Alike _ (shop_units c l) (λ i a. ap (feed_of f (share_of f c i 0)) (depot_shop_same i a)) all))
 
   base_shop_same : (i j : ℕ) → j < length c.sites → Alike i → base_shop f c s i j ≡ base_shop f c t i j
@@ -98,7 +90,7 @@ module _ (f : ℕ) (c : CaseRows) (s t : List ℕ) (some : 0 < length c.sites) w
       (base_line_ends f (pipeline_from f l j (pair_rates c l j) n).direct (pipeline_from f l j (pair_rates c l j) n).cap (feed_of f (share_of f c l j) rest.0) rest.1))
       (h j lj)
       (ap₂ (λ (y : Item f) (held : List (Held f)). (y, held)) (depot_line_same l h all)
-      (map_each (shop_units c l) (λ i. delay_of f (base_shop f c s i j)) (λ i. delay_of f (base_shop f c t i j))
+      (map_each (λ i. delay_of f (base_shop f c s i j)) (λ i. delay_of f (base_shop f c t i j)) (shop_units c l)
       (all_follow Alike _ (shop_units c l) (λ i a. ap (delay_of f) (base_shop_same i j lj a)) all)))
 
   -- of part p, whose line unit is o
@@ -116,7 +108,7 @@ module _ (f : ℕ) (c : CaseRows) (s t : List ℕ) (some : 0 < length c.sites) w
   family_items : (l : ℕ) → line_of c.parts l ≡ None → AllByRecursion (λ i. line_of c.parts i ≡ Some l) (shop_units c l) → AllByRecursion Alike (family c l) → SameItems f c c s t l
   family_items l none owners h = (
     λ k lk. subst (λ o. item_by s o l k ≡ item_by t o l k) (sym none) (line_item l k lk h.0 h.1),
-    both (λ i. line_of c.parts i ≡ Some l) Alike _ (shop_units c l) (λ i o a k lk. subst (λ x. item_by s x i k ≡ item_by t x i k) (sym o) (shop_item l i k lk a)) owners h.1,
+    each_both (λ i. line_of c.parts i ≡ Some l) Alike _ (shop_units c l) (λ i o a k lk. subst (λ x. item_by s x i k ≡ item_by t x i k) (sym o) (shop_item l i k lk a)) owners h.1,
   )
 
 -- a family's evaluation depends on its own stocks alone

@@ -5,6 +5,7 @@ use Rattle.std.proofs.lemmas.Bool.{false≢true, ltb-false}
 use Rattle.std.proofs.lemmas.List.{map-set}
 use Rattle.std.proofs.lemmas.List.Sums.{fails_before_first}
 use Rattle.std.proofs.lemmas.List.Quantifiers.{position-Some}
+use Rattle.list_laws.proofs.Public.{same_number}
 use Rattle.spares_input.specs.Cases.{CaseRows, frame_rows, rate_place, IsCase, IsRateOf}
 use Rattle.spares_input.specs.Edits.{with_rate}
 use Rattle.spares_input.proofs.Public.{set_valid}
@@ -32,9 +33,6 @@ use Rattle.family_points.specs.Points.{plain_ends}
 
 before_or_after : (a b : ℕ) → (a ≡ b) ⊎ ((a < b) ⊎ (b < a))
 before_or_after a b = grind arith
-
-same_number : (a b : ℕ) → (a == b) ≡ true → a ≡ b
-same_number a b h = grind arith
 
 number_same : (a b : ℕ) → a ≡ b → (a == b) ≡ true
 number_same a b h = grind arith

@@ -1,15 +1,15 @@
 -- How a session follows the lines of an edits file.
-use Rattle.std.proofs.Common.{◌≡◌, ◌==◌, ℕ, suc, ◌+◌, ◌<◌, ◌≤◌, Bool, true, false, nat_le, nat_lt, List, [], ◌∷◌, ◌++◌, length, Option, Some, Result, Ok, Err, if◌then◌else◌, refl, sym, ap, ◌∙◌, subst, arith}
+use Rattle.std.proofs.Common.{◌≡◌, ◌==◌, ℕ, suc, ◌+◌, ◌<◌, ◌≤◌, Bool, true, false, nat_le, List, [], ◌∷◌, ◌++◌, length, Option, Some, Result, Ok, Err, if◌then◌else◌, refl, sym, ap, ◌∙◌, subst, arith}
 use Rattle.std.specs.List.{AllZip}
 use Rattle.std.proofs.lemmas.Bool.Decides.{nat_tests}
 use Rattle.std.proofs.lemmas.Slice.Zip.{AllZip-long}
+use Rattle.list_laws.proofs.Public.{zip_push}
 use Rattle.answers.specs.Steps.{◌>>=◌}
 use Rattle.answers.specs.declared.stop.Stop.{Stop}
 use Rattle.answers.specs.declared.stop.Stop.TheVariants as stop
 use Rattle.spares_input.specs.Cases.{CaseRows}
 use Rattle.demand_rates.specs.Limits.{rate_fault_of}
 use Rattle.demand_rates.specs.declared.fault.RateFault.{RateFault}
-use Rattle.held_work.proofs.Public.{zip_push}
 use Rattle.plan_report.specs.declared.plan.PlanReport.{PlanReport}
 use Rattle.case_edits.specs.declared.fault.EditFault.{EditFault}
 use Rattle.case_edits.specs.declared.fault.EditFault.TheVariants as fault
@@ -56,12 +56,6 @@ module _ (n : ℕ) (s : SessionRows) (ds : List PlanDue) (plans : List PlanRepor
     is = is_due (rate_fault_of s.case) ∙ ap (due_at n (standing s ds)) is.accepted.no_fault ∙ rw (later.case_is, later.budget_is) refl;
     told = subst (λ (z : List PlanReport). AllZip IsReportOf (ds ++ due s ∷ []) z) (sym e) (zip_push IsReportOf ds plans (due s) report told is);
   }
-
--- ---- a line
-
-module _ (n : ℕ) (at : Standing) (line : List ℕ) (few : n ≤ most_lines) where
-  within : nat_lt most_lines n ≡ false
-  within = grind (arith, nat_tests, few)
 
 -- ---- all lines
 

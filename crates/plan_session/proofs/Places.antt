@@ -2,6 +2,7 @@
 use Rattle.std.proofs.Common.{◌≡◌, ◌≢◌, ℕ, zero, suc, ◌+◌, ◌-◌, ◌<◌, ◌≤◌, ◌⊎◌, inl, inr, Bool, true, false, List, [], ◌∷◌, ◌++◌, length, map, take, drop, get_or, set, replicate, All, Option, Some, None, is_some, IfSome, IsSome, refl, sym, ap, ◌∙◌, subst, arith, get_or-set_other, get_or-set_same, length-set}
 use Rattle.std.proofs.lemmas.Bool.{false≢true}
 use Rattle.std.proofs.lemmas.List.{append-nil, ext_get_or, get_or-append_right, get_or-drop, get_or-map, get_or-replicate, get_or_past, length-map, length-replicate, take_all}
+use Rattle.list_laws.proofs.Public.{same_or_not}
 use Rattle.spares_input.specs.Cases.{CaseRows}
 use Rattle.spares_input.specs.declared.rows.PartId.{PartId}
 use Rattle.fleet_model.specs.Rows.{line_units}
@@ -25,9 +26,6 @@ pub some_of : {X : Type 0} (o : Option X) (v : X) → o ≡ Some v → IsSome o
 some_of o v e = ap is_some e
 
 -- ---- lists of them
-
-pub here_or_not : (a b : ℕ) → (a ≡ b) ⊎ (a ≢ b)
-here_or_not a b = grind arith
 
 in_or_past : (i n : ℕ) → (i < n) ⊎ (n ≤ i)
 in_or_past i n = grind arith
@@ -55,7 +53,7 @@ mark_is (v ∷ values) (suc k) = mark_is values k
 -- a value that is kept after one was forgotten: it isn't that one, and was kept before
 pub still_kept : {X : Type 0} (values : List (Option X)) (place k : ℕ) → place < length values → IsSome (get_or (set values place None) k None)
     → (k ≢ place) × (get_or (set values place None) k None ≡ get_or values k None)
-still_kept values place k b on = elim (here_or_not k place) [
+still_kept values place k b on = elim (same_or_not k place) [
   | inl here ↦ absurd (false≢true (sym (ap (λ i. is_some (get_or (set values place None) i None)) here ∙ ap is_some (get_or-set_same values place None None b)) ∙ on))
   | inr other ↦ (other, get_or-set_other values place k None None other)
 ]
@@ -166,7 +164,7 @@ module _ {X : Type 0} (IsOf : ℕ → X → Type 0) (c : CaseRows) (units : List
     pub kept_one : AreOfFamilies IsOf c (set values place value)
     kept_one = record {
       count = length-set values place value ∙ h.are_kept.count;
-      each = λ k. (elim (here_or_not k place) [
+      each = λ k. (elim (same_or_not k place) [
         | inl here ↦
             subst (λ i. IfSome (get_or (set values place value) i None) (IsOf (get_or (line_units c) i 0))) (sym here)
             (subst (λ (v : Option X). IfSome v (IsOf (get_or (line_units c) place 0))) (sym value_here)
@@ -182,7 +180,7 @@ module _ {X : Type 0} (IsOf : ℕ → X → Type 0) (c : CaseRows) (units : List
       count = length-map (set values place value) (is_some {T = X}) ∙ length-set values place value ∙ sym (length-map values (is_some {T = X})) ∙ h.later.count;
       stay = λ k on.
           let was : IsSome (get_or values k None) = sym (mark_is values k) ∙ h.later.stay k on in
-          mark_is (set values place value) k ∙ (elim (here_or_not k place) [
+          mark_is (set values place value) k ∙ (elim (same_or_not k place) [
             | inl here ↦
                 let there = ap is_some (any_default values place other None place_within) ∙ ap (λ i. is_some (get_or values i None)) (sym here) ∙ was in
                 ap (λ i. is_some (get_or (set values place value) i None)) here ∙ ap is_some value_here ∙ stays there
@@ -195,7 +193,7 @@ module _ {X : Type 0} (IsOf : ℕ → X → Type 0) (c : CaseRows) (units : List
     kept_next some = record {
       are_kept = kept_one;
       later = later_one;
-      on = λ k b. (elim (here_or_not k place) [
+      on = λ k b. (elim (same_or_not k place) [
         | inl here ↦ ap (λ i. is_some (get_or (set values place value) i None)) here ∙ ap is_some value_here ∙ some
         | inr away ↦ ap is_some (get_or-set_other values place k value None away) ∙ h.on k (below k place b away)
       ]);

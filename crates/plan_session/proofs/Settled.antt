@@ -1,12 +1,13 @@
 -- What is forgotten where stocks have changed leaves what is kept at the new stocks.
-use Rattle.std.proofs.Common.{◌≡◌, ℕ, ◌+◌, ◌<◌, ◌⊎◌, inl, inr, List, length, map, get_or, set, Option, Some, None, is_some, IfSome, IsSome, unwrap_or, refl, sym, ap, ◌∙◌, subst, arith, length-set}
+use Rattle.std.proofs.Common.{◌≡◌, ℕ, ◌+◌, ◌<◌, inl, inr, List, length, map, get_or, set, Option, Some, None, is_some, IfSome, IsSome, unwrap_or, refl, sym, ap, ◌∙◌, subst, arith, length-set}
 use Rattle.std.proofs.lemmas.Bool.{false≢true}
 use Rattle.std.proofs.lemmas.List.{ext_get_or, get_or-map, length-map}
+use Rattle.list_laws.proofs.Public.{all_follow, below_or}
 use Rattle.spares_input.specs.Cases.{CaseRows, IsCase}
 use Rattle.spares_input.specs.Stocks.{StockList, stock_at, IsFor}
 use Rattle.fleet_model.specs.Rows.{line_units, shop_units, stock}
 use Rattle.fleet_model.specs.Laws.{AgreeOnFamily}
-use Rattle.fleet_model.proofs.Public.{stock_holds, all_follow}
+use Rattle.fleet_model.proofs.Public.{stock_holds}
 use Rattle.family_items.specs.declared.item.FamilyResult.{FamilyResult}
 use Rattle.family_items.specs.Inputs.{IsShop}
 use Rattle.family_items.specs.Profile.{families_of, family_of}
@@ -22,16 +23,13 @@ use Rattle.family_points.proofs.Public.{line_owner}
 
 -- ---- part after part
 
-below_or_last : (p n : ℕ) → p < n + 1 → (p < n) ⊎ (p ≡ n)
-below_or_last p n b = grind arith
-
 module _ {X : Type 0} (c : CaseRows) (old new : StockList) (before kept : List (Option X)) (n : ℕ) (h : AreSettled c old new before kept n) where
   -- part n is stocked alike
   pub same_part : ((k : ℕ) → k < length c.sites → stock_at old n k ≡ stock_at new n k) → AreSettled c old new before kept (n + 1)
   same_part alike = record {
     count = h.count;
     stay = h.stay;
-    same = λ p b on. (elim (below_or_last p n b) [
+    same = λ p b on. (elim (below_or p n b) [
       | inl l ↦ h.same p l on
       | inr e ↦ subst (λ q. (k : ℕ) → k < length c.sites → stock_at old q k ≡ stock_at new q k) (sym e) alike
     ]);
@@ -44,7 +42,7 @@ module _ {X : Type 0} (c : CaseRows) (old new : StockList) (before kept : List (
     stay = λ k on. (let was = still_kept kept place k within on in was.1 ∙ h.stay k (sym (ap is_some was.1) ∙ on));
     same = λ p b on.
         let was = still_kept kept place (family_place c p) within on in
-        (elim (below_or_last p n b) [
+        (elim (below_or p n b) [
           | inl l ↦ h.same p l (sym (ap is_some was.1) ∙ on)
           | inr q ↦ absurd (was.0 (ap (family_place c) q ∙ sym e))
         ]);

@@ -173,7 +173,7 @@ impl Session {
     }
 
     /// The curve of a family, by its index among the families: the curve of its weighted backorders, over all its
-    /// vectors, in the current case. None exactly if its mark is off.
+    /// vectors, in the current case. None exactly if its mark is off. No command calls it.
     pub fn curve(&self, family: u32) -> Option<&Curve>
         requires { family < length (line_units self.now.case) }
         ensures mark { is_none result ≡ not (has_mark self.now.marks family) }

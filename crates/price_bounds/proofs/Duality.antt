@@ -1,6 +1,6 @@
 -- The bound of a price, over choices of one point for each family.
 use Rattle.std.proofs.Common.{◌≡◌, ℕ, ◌+◌, ◌-◌, ◌*◌, ◌<◌, ◌≤◌, ◌⊎◌, inl, inr, List, [], ◌∷◌, ◌++◌, ap, arith}
-use Rattle.std.proofs.Math.Nat.{mul-le-mul_left, le_of_mul-le-mul_left}
+use Rattle.std.proofs.Math.Nat.{mul-le-mul_left, le_of_mul-le-mul_left, le_refl}
 use Rattle.hull.specs.declared.point.Point.{Point}
 use Rattle.hull.specs.Curves.{lagrangian}
 use Rattle.price_bounds.specs.Sums.{total, cost_of, lo_of, hi_of, width_of, Picks, AllLeast, bound_of, IsWithin}
@@ -23,23 +23,35 @@ least_together p q (x ∷ xs) (v ∷ vs) (w ∷ ws) a b =
     let k = least_together p q xs vs ws a.1 b.1 in
     omega (arith, h, k)
 
-bound_low : (p q S B : ℕ) → 0 < q → q * bound_of p q S B ≤ S - p * B
-bound_low p q S B h = omega arith
-
 pub bound_high : (p q S B : ℕ) → 0 < q → S < q * (bound_of p q S B + 1) + p * B
 bound_high p q S B h = omega arith
 
-fewer : (p q S B N l c : ℕ) → 0 < q → q * N ≤ S - p * B → S ≤ q * l + p * c → c ≤ B → N ≤ l
-fewer p q S B N l c h n s b =
-    let k : p * c ≤ p * B = mul-le-mul_left p b in
-    let m : q * N ≤ q * l = omega arith in
+-- what is at most the bound of a price is, q times, at most what a choice is lagrangian without the budget's money
+pub bound_step : (p q S B N l c : ℕ) → 0 < q → N ≤ bound_of p q S B → S ≤ q * l + p * c → q * N ≤ q * l + p * c - p * B
+bound_step p q S B N l c h n s =
+    let i : q * N ≤ q * bound_of p q S B = mul-le-mul_left q n in
+    let j : q * bound_of p q S B ≤ S - p * B = low p q S B h in
+    omega (arith, i, j, s)
+  where
+    low : (p q S B : ℕ) → 0 < q → q * bound_of p q S B ≤ S - p * B
+    low p q S B h = omega arith
+
+-- a bound that a price shows of a choice is at most its sum, where its cost is within the budget
+pub fewer_step : (p q N l c B : ℕ) → 0 < q → q * N ≤ q * l + p * c - p * B → c ≤ B → N ≤ l
+fewer_step p q N l c B h n s =
+    let k : p * c ≤ p * B = mul-le-mul_left p s in
+    let m : q * N ≤ q * l = omega (arith, k, n) in
     le_of_mul-le-mul_left m h
 
 -- no choice within the budget has a lower sum than the bound
 pub no_fewer : (p q budget : ℕ) (families : List (List Point)) (vs ws : List Point) → 0 < q → AllLeast p q families vs → Picks families ws → cost_of ws ≤ budget → bound_of p q (total (lagrangian p q) vs) budget ≤ lo_of ws
 no_fewer p q budget families vs ws h a b c =
-    fewer p q (total (lagrangian p q) vs) budget (bound_of p q (total (lagrangian p q) vs) budget) (lo_of ws) (cost_of ws) h (bound_low p q (total (lagrangian p q) vs) budget h)
-    (let k = least_together p q families vs ws a b in let e = lagrangian_of_all p q ws in omega (arith, k, e)) c
+    let sum : ℕ = total (lagrangian p q) vs in
+    let bound : ℕ = bound_of p q sum budget in
+    let k = least_together p q families vs ws a b in
+    let e = lagrangian_of_all p q ws in
+    let most = bound_step p q sum budget bound (lo_of ws) (cost_of ws) h (le_refl bound) (omega (arith, k, e)) in
+    fewer_step p q bound (lo_of ws) (cost_of ws) budget h most c
 
 -- one point in another's place moves the sum of a choice by the difference of the two
 pub swapped : (f : Point → ℕ) (front : List Point) (v u : Point) (back : List Point) → total f (front ++ u ∷ back) + f v ≡ total f (front ++ v ∷ back) + f u

@@ -1,18 +1,13 @@
 -- What floors and their bound say of each choice.
-use Rattle.std.proofs.Common.{◌≡◌, ℕ, ◌+◌, ◌-◌, ◌*◌, ◌<◌, ◌≤◌, List, [], ◌∷◌, refl, arith}
+use Rattle.std.proofs.Common.{◌≡◌, ℕ, ◌+◌, ◌-◌, ◌*◌, ◌≤◌, List, [], ◌∷◌, refl, arith}
 use Rattle.std.specs.List.{sum}
-use Rattle.std.proofs.lemmas.List.Sums.{sum_by-cons}
-use Rattle.std.proofs.Math.Nat.{mul-le-mul_left, le_of_mul-le-mul_left}
+use Rattle.list_laws.proofs.Public.{sum_cons}
 use Rattle.hull.specs.declared.point.Point.{Point}
 use Rattle.hull.specs.declared.price.Price.{Price}
 use Rattle.hull.specs.Curves.{lagrangian}
-use Rattle.price_bounds.specs.Sums.{total, cost_of, lo_of, Picks, AllLeast, bound_of}
+use Rattle.price_bounds.specs.Sums.{total, cost_of, lo_of, Picks, AllLeast}
 use Rattle.price_bounds.specs.Certificates.{AreFloors, AreLeastFloors, Claims, IsAcceptable}
-use Rattle.price_bounds.proofs.Duality.{lagrangian_of_all}
-
--- a sum is its first number and the sum of the rest
-pub sum_cons : (c : ℕ) (cs : List ℕ) → sum (c ∷ cs) ≡ c + sum cs
-sum_cons c cs = sum_by-cons (λ x. x) c cs
+use Rattle.price_bounds.proofs.Duality.{lagrangian_of_all, bound_step}
 
 -- floors are together at most what any choice is lagrangian
 floors_together : (price : Price) (families : List (List Point)) (cs : List ℕ) (ws : List Point) → AreFloors price families cs → Picks families ws → sum cs ≤ total (lagrangian price.p price.q) ws
@@ -26,22 +21,6 @@ floors_together price (x ∷ xs) (c ∷ cs) (w ∷ ws) a b =
     let k = floors_together price xs cs ws a.1 b.1 in
     let e = sum_cons c cs in
     omega (arith, h, k, e)
-
-bound_step : (p q S B N l c : ℕ) → 0 < q → N ≤ bound_of p q S B → S ≤ q * l + p * c → q * N ≤ q * l + p * c - p * B
-bound_step p q S B N l c h n s =
-    let i : q * N ≤ q * bound_of p q S B = mul-le-mul_left q n in
-    let j : q * bound_of p q S B ≤ S - p * B = low p q S B h in
-    omega (arith, i, j, s)
-  where
-    low : (p q S B : ℕ) → 0 < q → q * bound_of p q S B ≤ S - p * B
-    low p q S B h = omega arith
-
--- a bound that a price shows of a choice is at most its sum, where its cost is within the budget
-pub fewer_step : (p q N l c B : ℕ) → 0 < q → q * N ≤ q * l + p * c - p * B → c ≤ B → N ≤ l
-fewer_step p q N l c B h n s =
-    let k : p * c ≤ p * B = mul-le-mul_left p s in
-    let m : q * N ≤ q * l = omega (arith, k, n) in
-    le_of_mul-le-mul_left m h
 
 -- a claimed bound is what the floors give at most, q times
 pub claimed : (families : List (List Point)) (budget : ℕ) (claims : Claims) → IsAcceptable families budget claims → (ws : List Point) → Picks families ws

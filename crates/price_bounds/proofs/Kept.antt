@@ -6,7 +6,8 @@ use Rattle.price_bounds.specs.Sums.{cost_of, lo_of, hi_of, Picks}
 use Rattle.price_bounds.specs.Values.{sum_of, AllContain, IsAtLeast, IsAtMost}
 use Rattle.price_bounds.specs.Certificates.{Claims, IsAcceptable}
 use Rattle.price_bounds.proofs.Units.{sum_contains, at_least, at_most}
-use Rattle.price_bounds.proofs.Floors.{fewer_step, claimed}
+use Rattle.price_bounds.proofs.Duality.{fewer_step}
+use Rattle.price_bounds.proofs.Floors.{claimed}
 
 -- no values within the budget come to less than the bound, and those of the chosen to no more than the upper end
 pub record CertificateKept (families : List (List Point)) (budget : ℕ) (claims : Claims) : Type 0 where

@@ -1,22 +1,11 @@
 -- Values of choices against sums of ends.
 use Rattle.std.proofs.Common.{ℕ, ◌+◌, ◌*◌, ◌^◌, ◌<◌, ◌≤◌, List, [], ◌∷◌, arith}
 use Rattle.std.proofs.Math.Nat.{mul-le-mul_left, mul-le-mul_right, le_of_mul-le-mul_left, mul-pos}
+use Rattle.list_laws.proofs.Public.{sum_no_less, sum_no_more}
 use Rattle.exact_model.specs.Fraction.{Fraction, whole, ◌+ℚ◌, ◌*ℚ◌, ◌≤ℚ◌, Contains}
 use Rattle.hull.specs.declared.point.Point.{Point}
 use Rattle.price_bounds.specs.Sums.{lo_of, hi_of}
 use Rattle.price_bounds.specs.Values.{sum_of, AllContain, IsAtLeast, IsAtMost}
-
-low_step : (E a b l n m d : ℕ) → a * d ≤ n * E → b * l ≤ m * E → (a + b) * (d * l) ≤ (n * l + m * d) * E
-low_step E a b l n m d h k =
-    let i = mul-le-mul_left l h in
-    let j = mul-le-mul_left d k in
-    omega (arith, i, j)
-
-high_step : (E a b l n m d : ℕ) → n * E ≤ a * d → m * E ≤ b * l → (n * l + m * d) * E ≤ (a + b) * (d * l)
-high_step E a b l n m d h k =
-    let i = mul-le-mul_left l h in
-    let j = mul-le-mul_left d k in
-    omega (arith, i, j)
 
 -- values within their ends are within the ends together
 pub sum_contains : (vs : List Point) (ts : List Fraction) → AllContain vs ts → Contains 48 (lo_of vs) (hi_of vs) (sum_of ts)
@@ -27,8 +16,8 @@ sum_contains (v ∷ vs) [] h = absurd h
 sum_contains (v ∷ vs) (t ∷ ts) h =
     let k : Contains 48 (lo_of vs) (hi_of vs) (sum_of ts) = sum_contains vs ts h.1 in
     record {
-      low = low_step (2 ^ 48) v.lo (lo_of vs) (sum_of ts).den t.num (sum_of ts).num t.den h.0.low k.low;
-      high = high_step (2 ^ 48) v.hi (hi_of vs) (sum_of ts).den t.num (sum_of ts).num t.den h.0.high k.high;
+      low = sum_no_more (2 ^ 48) v.lo t.num t.den (lo_of vs) (sum_of ts).num (sum_of ts).den h.0.low k.low;
+      high = sum_no_less (2 ^ 48) v.hi t.num t.den (hi_of vs) (sum_of ts).num (sum_of ts).den h.0.high k.high;
     }
 
 below : (E N l n d : ℕ) → N ≤ l → l * d ≤ n * E → N * d ≤ n * E

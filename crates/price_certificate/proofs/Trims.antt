@@ -6,7 +6,7 @@ use Rattle.std.specs.Int.{div_ceil}
 use Rattle.std.proofs.lemmas.Bool.{leb-true, eqb-true, eq-eqb, ne_eqb, false≢true}
 use Rattle.std.proofs.lemmas.Grind.{div_ceil_times}
 use Rattle.std.proofs.lemmas.Nat.{mul-le}
-use Rattle.line_text.proofs.Public.{item_more}
+use Rattle.list_laws.proofs.Public.{rest_begins}
 use Rattle.price_certificate.specs.declared.certificate.Node.{Node}
 use Rattle.price_certificate.specs.declared.certificate.Node.TheVariants as node
 use Rattle.price_certificate.specs.declared.place.Place.{Place}
@@ -194,7 +194,7 @@ pub cut_step : (p floor : ℕ) (all : List Place) (at cuts n : ℕ) (found new :
 cut_step p floor all at cuts n found new total lt cut so_far =
     let x = get_or all at no_place in
     let xs = drop (at + 1) all in
-    let parts : drop at all ≡ x ∷ xs = item_more all at no_place lt in
+    let parts : drop at all ≡ x ∷ xs = rest_begins all at no_place lt in
     let next : trimmed_from p floor (suc at) xs ≡ trimmed_from p floor (at + 1) xs = ap (λ (k : ℕ). trimmed_from p floor k xs) (let e : suc at ≡ at + 1 = omega arith in e) in
     let before : found ++ (nodes_of (trimmed_from p floor at (x ∷ xs)) ++ replicate cuts node.Cost) ≡ total = ap (λ (ys : List Place). found ++ (nodes_of (trimmed_from p floor at ys) ++ replicate cuts node.Cost)) (sym parts) ∙ so_far in
     elim cut [

@@ -6,11 +6,11 @@ use Rattle.line_text.specs.Formats.{Token, Format, each}
 use Rattle.line_text.specs.Files.{file_text}
 use Rattle.line_text.specs.Texts.{count_line, counted, numbers_from, word_line}
 use Rattle.case_lines.specs.Grammar.{case_format}
-use Rattle.case_lines.proofs.Public.{back}
 use Rattle.price_certificate.specs.declared.certificate.Certificate.{Certificate}
 use Rattle.price_certificate.specs.Grammar.{objective_line, budget_line, price_line, family_count, floors, covers, stocks}
 use Rattle.price_certificate.specs.Certificates.{cert_text}
 use lib.Chars.{codes}
+use Rattle.list_laws.proofs.Public.{joined_more}
 
 -- a line with their number, and then each
 pub counted_written : {A : Type 0} (w : Token) (least most : ℕ) (format : Format A) (xs : List A) (out o new : List ℕ) (n : ℕ) → n ≡ length xs → o ≡ out ++ file_text (count_line w least most) n
@@ -18,7 +18,7 @@ pub counted_written : {A : Type 0} (w : Token) (least most : ℕ) (format : Form
 counted_written w least most format xs out o new n e h g =
     let head = count_line w least most in
     let lines = (each (numbers_from 0 (length xs)) (λ _. format)).print xs in
-    back new o out (file_text head n) (concat lines) h g
+    joined_more out (file_text head n) (concat lines) o new h g
     ∙ ap (λ (m : ℕ). out ++ (file_text head m ++ concat lines)) e
     ∙ ap (λ (z : List ℕ). out ++ z) (sym (concat-append (head.print (length xs)) lines))
 
@@ -73,13 +73,13 @@ pub text_written : (c : Certificate) (out o1 o2 o3 o4 o5 o6 o7 o8 o9 o10 new : L
     → new ≡ o10 ++ codes "end\n"
     → new ≡ out ++ cert_text c
 text_written c out o1 o2 o3 o4 o5 o6 o7 o8 o9 o10 new h1 h2 h3 h4 h5 h6 h7 h8 h9 h10 h11 =
-    let e10 = back new o10 o9 _ _ h10 h11 in
-    let e9 = back new o9 o8 _ _ h9 e10 in
-    let e8 = back new o8 o7 _ _ h8 e9 in
-    let e7 = back new o7 o6 _ _ h7 e8 in
-    let e6 = back new o6 o5 _ _ h6 e7 in
-    let e5 = back new o5 o4 _ _ h5 e6 in
-    let e4 = back new o4 o3 _ _ h4 e5 in
-    let e3 = back new o3 o2 _ _ h3 e4 in
-    let e2 = back new o2 o1 _ _ h2 e3 in
-    back new o1 out _ _ h1 e2 ∙ ap (λ (z : List ℕ). out ++ z) (sym (parts_of_text c))
+    let e10 = joined_more o9 _ _ o10 new h10 h11 in
+    let e9 = joined_more o8 _ _ o9 new h9 e10 in
+    let e8 = joined_more o7 _ _ o8 new h8 e9 in
+    let e7 = joined_more o6 _ _ o7 new h7 e8 in
+    let e6 = joined_more o5 _ _ o6 new h6 e7 in
+    let e5 = joined_more o4 _ _ o5 new h5 e6 in
+    let e4 = joined_more o3 _ _ o4 new h4 e5 in
+    let e3 = joined_more o2 _ _ o3 new h3 e4 in
+    let e2 = joined_more o1 _ _ o2 new h2 e3 in
+    joined_more out _ _ o1 new h1 e2 ∙ ap (λ (z : List ℕ). out ++ z) (sym (parts_of_text c))

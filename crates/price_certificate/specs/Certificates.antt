@@ -1,6 +1,7 @@
 -- Well formed certificates, their text, and their reading.
 use Rattle.std.specs.Prelude.{◌≡◌, ⊤, ℕ, ◌≤◌, List, [], length, All, Result, Ok, Err}
 use Rattle.line_text.specs.Files.{file_text, file_answer}
+use Rattle.spares_input.specs.Limits.{most_stock}
 use Rattle.spares_input.specs.Frames.{FrameRows, frame_of}
 use Rattle.spares_input.specs.Cases.{IsCase}
 use Rattle.spares_input.specs.Money.{most_budget}
@@ -13,7 +14,7 @@ use Rattle.price_certificate.specs.declared.certificate.Node.{Node}
 use Rattle.price_certificate.specs.declared.certificate.Node.TheVariants as node
 use Rattle.price_certificate.specs.declared.fault.CertFault.{CertFault}
 use Rattle.price_certificate.specs.declared.fault.CertFault.TheVariants as fault
-use Rattle.price_certificate.specs.Grammar.{family_count, certificate_format}
+use Rattle.price_certificate.specs.Grammar.{family_count, certificate_format, last_place, most_nodes}
 
 -- the most bytes of a certificate
 abbrev pub certificate_limit : ℕ
@@ -27,14 +28,14 @@ AreUpTo most numbers = All (λ n. n ≤ most) numbers
 
 -- a cut is at one of 144 places and from 1 to 63 units; any leaf is a node
 abbrev pub IsNode : Node → Type 0
-IsNode (node.Split at from) = (at ≤ 143) × ((1 ≤ from) × (from ≤ 63))
+IsNode (node.Split at from) = (at ≤ last_place) × ((1 ≤ from) × (from ≤ most_stock))
 IsNode node.Cost = ⊤
 IsNode node.Whole = ⊤
 
 -- a cover has 1 to 100,000 nodes, each within its ranges
 pub record IsCover (cover : List Node) : Type 0 where
   pub some : 1 ≤ length cover
-  pub few : length cover ≤ 100000
+  pub few : length cover ≤ most_nodes
   pub nodes : All IsNode cover
 
 -- format 1 has no covers, and its objective is backorders
@@ -60,7 +61,7 @@ pub record IsWellFormed (c : Certificate) : Type 0 where
   pub first : c.format ≡ 1 → IsFirst c
   pub second : c.format ≡ 2 → IsSecond c
   pub stocks : IsFor c.case c.stocks
-  pub stock_numbers : AreUpTo 63 c.stocks.list
+  pub stock_numbers : AreUpTo most_stock c.stocks.list
   pub upper : c.upper ≤ most_total
   pub bound : c.bound ≤ most_total
 

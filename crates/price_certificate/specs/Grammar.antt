@@ -5,6 +5,7 @@ use Rattle.line_text.specs.Files.{line}
 use Rattle.line_text.specs.Texts.{number, word, no_field, word_line, number_line, count_line, counted, Either, Left, Right, either}
 use Rattle.hull.specs.declared.price.Price.{Price}
 use Rattle.hull.specs.Limits.{most_price_units, most_price_money, most_floor, most_total}
+use Rattle.spares_input.specs.Limits.{most_stock}
 use Rattle.spares_input.specs.Rows.{is_line}
 use Rattle.spares_input.specs.Cases.{CaseRows, frame_rows, pair_count}
 use Rattle.spares_input.specs.Money.{most_budget}
@@ -80,10 +81,20 @@ floors families = counted (codes "floors") families families (λ _. number_line 
 
 -- ---- covers, one for each line unit, only in format 2
 
+-- the last place of a family: it has at most 9 parts at 16 sites
+abbrev pub last_place : ℕ
+last_place = 143
+
+-- the most nodes of a cover
+abbrev pub most_nodes : ℕ
+most_nodes = 100000
+
 -- split,AT,FROM
 abbrev pub split_fields : Format (ℕ × ℕ)
 split_fields =
-    as_shape (and_then (word (codes "split")) (λ _. and_then (one (number 0 143)) (λ _. one (number 1 63))))
+    as_shape
+    (and_then (word (codes "split"))
+    (λ _. and_then (one (number 0 last_place)) (λ _. one (number 1 most_stock))))
     (λ x. x.1) (λ x. (tt, x)) (λ _. true)
 
 -- split,AT,FROM or cost or whole
@@ -108,7 +119,7 @@ node_line = as_shape (one node_text) node_of node_parts (λ _. true)
 
 -- the count of nodes, and then each in preorder
 abbrev pub cover : Format (List Node)
-cover = counted (codes "cover") 1 100000 (λ _. node_line)
+cover = counted (codes "cover") 1 most_nodes (λ _. node_line)
 
 -- there are no covers, as in format 1
 abbrev pub is_empty : List (List Node) → Bool
@@ -123,7 +134,7 @@ covers format families = if format == 2 then counted (codes "covers") families f
 
 -- the count of pairs, and then a stock for each
 abbrev pub stock_lines : ℕ → Format (List ℕ)
-stock_lines pairs = counted (codes "stocks") pairs pairs (λ _. number_line 63)
+stock_lines pairs = counted (codes "stocks") pairs pairs (λ _. number_line most_stock)
 
 -- the stocks of a case from these lines: the number of sites is the case's own
 abbrev pub stocks : CaseRows → Format StockList

@@ -26,3 +26,9 @@ pub use writing::{put_each_stock, text};
 
 /// The most bytes of a certificate.
 pub const CERTIFICATE_LIMIT: usize = 16_777_216;
+
+/// The last place of a family, which has at most 9 parts at 16 sites.
+pub const LAST_PLACE: u128 = 143;
+
+/// The most nodes of a cover.
+pub const MOST_NODES: u128 = 100_000;

@@ -4,15 +4,19 @@ ghost use Rattle.std.specs.Prelude.{◌^◌};
 ghost use Rattle.line_text.specs.Formats.{each};
 ghost use Rattle.line_text.specs.Texts.{counted, numbers_from};
 ghost use Rattle.line_text.specs.Reading.{Gathers};
+ghost use Rattle.spares_input.specs.Limits.{most_stock};
 ghost use Rattle.hull.specs.Limits.{most_floor};
 ghost use Rattle.price_certificate.specs.Grammar.{floors, node_line, cover, covers, stock_lines};
 ghost use Rattle.line_text.specs.Texts.{number_line};
 ghost use lib.Chars.{codes};
 
+use crate::MOST_NODES;
 use crate::certificate::Node;
 use crate::single_lines::node_line;
 use answers::{List, Stop};
+use hull::MOST_FLOOR;
 use line_text::{BadLine, Lines, count_line, number_line};
+use spares_input::MOST_STOCK;
 use std::alloc::Global;
 
 /// Reads `count` floors.
@@ -26,7 +30,7 @@ fn each_floor(
 {
     let mut found = Vec::new(alloc);
     for k in 0..count {
-        let floor = number_line(lines, 1 << 115)?;
+        let floor = number_line(lines, MOST_FLOOR)?;
         found.push(floor)?;
     }
     Ok(found)
@@ -60,7 +64,7 @@ fn each_node(alloc: Global, lines: &mut Lines<'_>, count: usize) -> Result<Vec<N
 fn cover(alloc: Global, lines: &mut Lines<'_>) -> Result<List<Node>, Stop<BadLine>>
     ensures { Gathers (λ v. v) result lines.new (cover.read lines.old) }
 {
-    let count = count_line(lines, b"cover", 1, 100_000)?;
+    let count = count_line(lines, b"cover", 1, MOST_NODES)?;
     let found = each_node(alloc, lines, count as usize)?;
     Ok(List::of(found))
 }
@@ -113,11 +117,11 @@ pub(crate) fn covers(
 /// Reads `count` stocks.
 fn each_stock(alloc: Global, lines: &mut Lines<'_>, count: usize) -> Result<Vec<u8>, Stop<BadLine>>
     ensures { Gathers (λ v. v.items) result lines.new
-        ((each (numbers_from 0 count) (λ _. number_line 63)).read lines.old) }
+        ((each (numbers_from 0 count) (λ _. number_line most_stock)).read lines.old) }
 {
     let mut found = Vec::new(alloc);
     for k in 0..count {
-        let stock = number_line(lines, 63)?;
+        let stock = number_line(lines, MOST_STOCK as u128)?;
         found.push(stock as u8)?;
     }
     Ok(found)

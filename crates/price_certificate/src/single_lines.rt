@@ -8,9 +8,11 @@ ghost use Rattle.line_text.specs.Reading.{Reads, Takes};
 ghost use Rattle.price_certificate.specs.Reading.{leaf_text, leaf_named};
 ghost use Rattle.price_certificate.specs.Grammar.{objective_word, objective_fields, objective_line, price_fields, price_line, split_fields, node_line};
 
+use crate::LAST_PLACE;
 use crate::certificate::{Node, Objective};
-use hull::Price;
+use hull::{MOST_PRICE_MONEY, MOST_PRICE_UNITS, Price};
 use line_text::{BadLine, Fields, Lines, word_line};
+use spares_input::MOST_STOCK;
 
 /// Takes the name of an objective.
 #[tactic(auto, using(line_text::proofs::Cursors::field_read, line_text::proofs::Cursors::field_refused, line_text::proofs::Cursors::none_left))]
@@ -57,8 +59,8 @@ fn price_of(fields: &mut Fields<'_>) -> Option<Price>
     ensures { Takes (λ p. p) result fields.new (price_fields.read fields.old) }
 {
     fields.word(b"price")?;
-    let p = fields.number(0, 1 << 74)?;
-    let q = fields.number(1, 1_000_000_000_000)?;
+    let p = fields.number(0, MOST_PRICE_UNITS)?;
+    let q = fields.number(1, MOST_PRICE_MONEY as u128)?;
     Some(Price { p, q: q as u64 })
 }
 
@@ -77,8 +79,8 @@ fn split_of(fields: &mut Fields<'_>) -> Option<(u128, u128)>
     ensures { Takes (λ s. s) result fields.new (split_fields.read fields.old) }
 {
     fields.word(b"split")?;
-    let at = fields.number(0, 143)?;
-    let from = fields.number(1, 63)?;
+    let at = fields.number(0, LAST_PLACE)?;
+    let from = fields.number(1, MOST_STOCK as u128)?;
     Some((at, from))
 }
 

@@ -1,6 +1,7 @@
 //! The trimmed cover of a family: boxes whose cost alone shows the floor, and one whole box.
 
 ghost use Rattle.std.specs.Prelude.{◌≡◌, ◌+◌, ◌≤◌, ◌<◌, All, List, ℕ, length, map, true, false, nat_le, replicate, MatchOption, IfOk, OnOk, ◌++◌};
+ghost use Rattle.spares_input.specs.Limits.{most_family};
 ghost use Rattle.spares_input.specs.Rows.{is_line};
 ghost use Rattle.spares_input.specs.Frames.{part_at};
 ghost use Rattle.spares_input.specs.Stocks.{limit_at};
@@ -113,7 +114,7 @@ fn places(
     held: &[u8],
 ) -> Result<Vec<Place>, NoMemory>
     requires parts { map (λ p. p.0) parts.now ≡ parts_of_family case.now line.0 }
-    requires few { length parts.now ≤ 9 }
+    requires few { length parts.now ≤ most_family }
     requires ids { All (λ p. p.0 < length case.now.parts) parts.now }
     requires count { length held.now ≡ place_count case.now line.0 }
     requires within { AreWithinMost case.now line.0 held.now }
@@ -141,7 +142,7 @@ fn trim_family(
     floor: u128,
 ) -> Result<Vec<Node>, NoMemory>
     requires line { line.0 < length case.now.parts }
-    requires few { length (parts_of_family case.now line.0) ≤ 9 }
+    requires few { length (parts_of_family case.now line.0) ≤ most_family }
     requires count { length held.now ≡ place_count case.now line.0 }
     requires within { AreWithinMost case.now line.0 held.now }
     requires some { 1 ≤ p }

@@ -3,16 +3,8 @@ use Rattle.std.proofs.Common.{ℕ, ◌≡◌, ◌∙◌, ap, ap₂, ◌+◌, ◌
 use Rattle.std.specs.Int.{div_ceil}
 use Rattle.std.proofs.Math.Nat.{lt_of_mul-lt-mul_right, mod-eq_of_lt, mod-lt, mul-le-mul_left, pow-le-pow_right}
 use Rattle.std.proofs.lemmas.Nat.{div-add-mod'}
-use Rattle.std.proofs.lemmas.Grind.{div_ceil_times}
+use Rattle.list_laws.proofs.Public.{ceil_is}
 use Rattle.quotients.specs.Divisors.{IsDivisor}
-
--- a quotient rounded up, known by its bounds
-pub ceil_is : (a b k : ℕ) → 0 < b → a ≤ k * b → k * b < a + b → k ≡ div_ceil a b
-ceil_is a b k p l u =
-    let t = div_ceil_times a b p in
-    let x : k < div_ceil a b + 1 = lt_of_mul-lt-mul_right b (omega (arith, t.0, u)) in
-    let y : div_ceil a b < k + 1 = lt_of_mul-lt-mul_right b (omega (arith, t.1, l)) in
-    omega arith
 
 -- the inverse times its divisor is at most 1
 pub inverse_most : (f d i : ℕ) → i ≡ 2 ^ (f + 62) / d → i * d ≤ 2 ^ f * 2 ^ 62

@@ -1,4 +1,4 @@
--- A divisor and its inverse.
+-- A divisor and its inverse. No promise of the crate rests on these words.
 use Rattle.std.specs.Prelude.{ℕ, ◌≡◌, ◌+◌, ◌/◌, ◌^◌, ◌<◌, ◌≤◌}
 
 -- a divisor of at least 1 in units of 2^-f, and its inverse in units of 2^-62, rounded down

@@ -3,8 +3,8 @@ use Rattle.std.proofs.Common.{◌≡◌, ℕ, ◌+◌, ◌-◌, ◌*◌, ◌/◌
 use Rattle.std.specs.Int.{div_ceil}
 use Rattle.std.proofs.Math.Nat.{mul-pos, lt_of_mul-lt-mul_right, zero-div}
 use Rattle.std.proofs.lemmas.Bool.{lt-ltb, le-ltb}
+use Rattle.list_laws.proofs.Public.{ceil_most, ratio_stays}
 use Rattle.fixed_interval.specs.Ends.{Ends, ends_less, ends_mul}
-use Rattle.fixed_interval.proofs.Public.{ceil_most}
 use Rattle.series_bounds.specs.Profile.{ratio_ends, far_ratio, ratio_bound, has_remainder, remainder_from, pivot_at}
 use Rattle.series_bounds.specs.Walk.{StaysFrom}
 use Rattle.series_bounds.proofs.Ranges.{ceil_above}
@@ -63,19 +63,10 @@ weight_stays f m d w x p q l h k =
     let least : 0 < (ratio_ends f m d x).hi = many_gaps ((m.hi + d.hi * (x - 1)) * 2 ^ f) ((1 * 2 ^ f + d.lo) * x) 0 b (omega (arith, mul-pos {m = m.hi + d.hi * (x - 1)} {n = 2 ^ f} (omega arith) o)) in
     i ∙ sym (small_stays f (ratio_ends f m d x) least top) ∙ ap (λ (z : Ends). ends_mul f z (ratio_ends f m d x)) (sym i)
 
--- ratios of at most 1 stay so where the numerator gains no more than the denominator
-pub falls_on : (m e q x y : ℕ) → 0 < x → x ≤ y → m + e * (x - 1) ≤ q * x → e ≤ q → m + e * (y - 1) ≤ q * y
-falls_on m e q x y p h l s =
-    let i : y - 1 ≡ (x - 1) + (y - x) = omega arith in
-    let j : y ≡ x + (y - x) = omega arith in
-    let a : e * (y - 1) ≡ e * (x - 1) + e * (y - x) = ap (λ z. e * z) i ∙ omega arith in
-    let b : q * y ≡ q * x + q * (y - x) = ap (λ z. q * z) j ∙ omega arith in
-    omega (arith, a, b, l, mul-le-mul_right (y - x) s)
-
 -- a weight from 0 to 1 unit stays the same over every ratio from x on, where those are at most 1
 pub weight_stays_on : (f : ℕ) (m d w : Ends) (x y : ℕ) → 0 < x → x ≤ y → 0 < m.hi → StaysFrom f m d w x → w ≡ ends_mul f w (ratio_ends f m d y)
 weight_stays_on f m d w x y p h q s =
-    weight_stays f m d w y (omega arith) q s.least s.most (falls_on m.hi d.hi (1 * 2 ^ f + d.lo) x y p h s.falls s.goes_on)
+    weight_stays f m d w y (omega arith) q s.least s.most (ratio_stays m.hi d.hi (1 * 2 ^ f + d.lo) x y p h s.falls s.goes_on)
 
 -- twice the numerator at most the denominator: the ratio is at most a half
 half_ratio : (n d h : ℕ) → 0 < d → n * 2 ≤ d → div_ceil (n * (2 * h)) d ≤ h

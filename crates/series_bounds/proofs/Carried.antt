@@ -3,8 +3,9 @@ use Rattle.std.proofs.Common.{◌≡◌, ℕ, ◌+◌, ◌-◌, ◌*◌, ◌/◌
 use Rattle.std.specs.Int.{div_ceil}
 use Rattle.std.proofs.Math.Nat.{mul-pos, mul-le-mul_left, lt_of_mul-lt-mul_right, div-mul-le_self, mul-div-mul_left, mod-eq_of_lt}
 use Rattle.std.proofs.lemmas.Grind.{div_ceil_times}
+use Rattle.list_laws.proofs.Public.{ceil_by_sum, ceil_is, floor_below_ceil}
 use Rattle.fixed_interval.specs.Ends.{Ends, ends_add, ends_div, ends_exact}
-use Rattle.fixed_interval.proofs.Public.{floor_below_ceil, ceil_by_sum, ceil_is, unit_most}
+use Rattle.fixed_interval.proofs.Public.{unit_most}
 use Rattle.series_bounds.specs.Profile.{ratio_ends}
 use Rattle.quotients.specs.Parts.{AreParts}
 use Rattle.quotients.specs.declared.parts.Parts.{Parts}

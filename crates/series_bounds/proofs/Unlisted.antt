@@ -4,6 +4,7 @@ use Rattle.std.specs.Int.{div_ceil}
 use Rattle.std.proofs.Math.Nat.{eq-or-lt_of_le}
 use Rattle.std.proofs.lemmas.Bool.{and_right, lt-leb}
 use Rattle.std.proofs.lemmas.List.Sums.{fold-append}
+use Rattle.list_laws.proofs.Public.{below_more}
 use Rattle.fixed_interval.specs.Ends.{Ends, ends_add, ends_exact, ends_mul}
 use Rattle.fixed_interval.proofs.Public.{unit_most}
 use Rattle.series_bounds.specs.Profile.{ratio_ends, back_ends, pivot_at, weight_ends, has_remainder, ratio_bound, remainder_at, may_end, last_index, is_wide, ends_sum, ends_raised, least_end, listed, weights_of}
@@ -12,7 +13,7 @@ use Rattle.series_bounds.specs.declared.kinds.Weights.TheVariants.{Known}
 use Rattle.series_bounds.specs.Answer.{IsSum, at_place}
 use Rattle.series_bounds.proofs.Enclosure.{profile_sized, known_answer, listed_at, rest_small}
 use Rattle.series_bounds.proofs.Bounds.{exists_is, missing_is, rest_is, weight_stays_on}
-use Rattle.series_bounds.proofs.Walks.{Passed, below_more, end_from_63, end_most, end_past_pivot, last_is, last_least, last_start, listed_next, may_from, may_not, narrow_from, pivot_below_last, weight_at_pivot, weight_down, weight_up, wide_at, wide_unended}
+use Rattle.series_bounds.proofs.Walks.{Passed, end_from_63, end_most, end_past_pivot, last_is, last_least, last_start, listed_next, may_from, may_not, narrow_from, pivot_below_last, weight_at_pivot, weight_down, weight_up, wide_at, wide_unended}
 
 -- ---- sums
 

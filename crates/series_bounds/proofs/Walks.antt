@@ -296,13 +296,6 @@ pub least_from : (f : ℕ) (m d : Ends) (c x : ℕ) → c ≡ pivot_at f m d →
 unfolding least_end
 least_from f m d c x h k = k ∙ ap (λ y. max (y + 1) 63) h
 
--- what holds below a number and at it holds below the next
-pub below_more : (P : ℕ → Type 0) (n : ℕ) → ((x : ℕ) → x < n → P x) → P n → (x : ℕ) → x < n + 1 → P x
-below_more P n h k x l = elim (eq-or-lt_of_le {n = suc x} {m = n + 1} l) [
-  | inl e ↦ (let i : n ≡ x = omega arith in subst P i k)
-  | inr m ↦ h x (omega arith)
-]
-
 -- the list may end at an index with a remainder of at most 256
 pub may_from : (f : ℕ) (m d : Ends) (x rem : ℕ) → has_remainder f m d x ≡ true → rem ≡ remainder_at f m d x → rem ≤ 256 → may_end f m d x ≡ true
 unfolding may_end

@@ -10,6 +10,7 @@ use Rattle.std.proofs.lemmas.Nat.{rows as rows_fit}
 use Rattle.std.proofs.lemmas.Bool.{cases_eq}
 use mir.Val.{Fits}
 use mir.Syntax.{w64}
+use Rattle.list_laws.proofs.Public.{place_fits}
 use Rattle.spares_input.specs.First.{first}
 use Rattle.spares_input.specs.Rows.{is_line, no_rate, IsRateRow}
 use Rattle.spares_input.specs.Frames.{FrameRows, IsFrame, part_at}
@@ -49,10 +50,6 @@ module _ (f : FrameRows) (rows : List RateRow) (valid : All (IsRateOf f) rows) (
       }
 
 -- ---- a row in the place of its pair's
-
--- a row and a column within their counts give a place within the table
-pub place_fits : (a k m n : ℕ) → a < m → k < n → a * n + k < m * n
-place_fits a k m n la lk = grind (arith, rows_fit)
 
 -- a valid case stays valid when a row of rates takes the place of its pair's
 pub set_valid : (c : CaseRows) (r : RateRow) (i : ℕ) → IsCase c → IsRateOf (frame_rows c) r → i ≡ rate_place (length c.sites) r
@@ -110,10 +107,6 @@ site_within i n m site e f some = subst (λ (q : SiteId). q.0 < m) (sym e) (subs
 -- a place within so many parts and sites is within a list of as many entries
 pub place_in_list : (i a n len m p s : ℕ) → len ≡ m → m ≡ p * s → a ≡ p → n ≡ s → i < a * n → i < len
 place_in_list i a n len m p s e f g h within = rw (e, f, ← g, ← h) within
-
--- a loop over all places ends at their number
-pub all_places : (i a n p s : ℕ) → a ≡ p → n ≡ s → a * n ≤ i → i ≤ a * n → i ≡ p * s
-all_places i a n p s e f past within = rw (← e, ← f) (omega (arith, past, within))
 
 -- ---- the row of a pair of the case x, which is the one that a contract sees as y
 

@@ -1,18 +1,18 @@
 -- A pass over the parts puts each shop unit to the family of its line unit.
-use Rattle.std.proofs.Common.{◌≡◌, ◌≢◌, ◌==◌, inl, inr, ℕ, ◌+◌, ◌<◌, true, false, cond, List, [], ◌∷◌, ◌++◌, length, map, get_or, set, Option, None, Some, bytes_eq, refl, sym, ap, ap₂, ◌∙◌, subst, arith, append-nil, length-set, get_or-set_other, get_or-set_same}
+use Rattle.std.proofs.Common.{◌≡◌, ◌≢◌, ◌==◌, inl, inr, ℕ, ◌+◌, ◌<◌, true, false, cond, List, [], ◌∷◌, ◌++◌, length, map, get_or, set, Option, None, Some, bytes_eq, sym, ap, ap₂, ◌∙◌, subst, arith, append-nil, length-set, get_or-set_other, get_or-set_same}
 use Rattle.std.specs.List.{IsDistinct}
 use Rattle.std.specs.Option.{option_and_then}
 use Rattle.std.proofs.Math.ListN.{get_or-append}
 use Rattle.std.proofs.Math.Seq.{get_or-append_seam}
 use Rattle.std.proofs.lemmas.Bool.{cases_eq}
 use Rattle.std.proofs.lemmas.List.{get_or-map, length-map, map-set, map_push}
+use Rattle.list_laws.proofs.Public.{filter_next}
 use Rattle.spares_input.specs.Rows.{is_line}
 use Rattle.spares_input.specs.Frames.{is_shop_of, line_of, lines_below, part_at, part_names, place_of, shops_below}
 use Rattle.spares_input.specs.Building.{AreFamiliesBelow, ids}
 use Rattle.spares_input.specs.declared.rows.PartId.{PartId}
 use Rattle.spares_input.specs.declared.rows.PartRow.{PartRow}
 use Rattle.spares_input.proofs.PartFacts.{part_named}
-use Rattle.spares_input.proofs.Ranges.{filter_next}
 use Rattle.spares_input.proofs.Standing.{shop_of_line, no_shop_unplaced}
 
 module _ (parts : List PartRow) (p : ℕ) (xs : List PartId) (below : ids xs ≡ lines_below parts p) where
@@ -42,11 +42,6 @@ line_passed parts p rows h i = record {
   whole = i.whole;
   each = λ l b. i.each l b ∙ ap (λ xs. l ∷ xs) (sym (none_more parts l p (no_shop_unplaced parts p l b h)));
 }
-
--- an option that is no Some
-pub not_some : {A : Type 0} (o : Option A) → ((x : A) → o ≡ Some x → ⊥) → o ≡ None
-not_some None h = refl
-not_some (Some x) h = absurd (h x refl)
 
 place_within : (parts : List PartRow) (o : Option (List ℕ)) (m : ℕ) → option_and_then (λ name. place_of name (part_names parts)) o ≡ Some m → m < length parts
 place_within parts None m h = absurd cc

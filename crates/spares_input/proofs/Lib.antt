@@ -9,5 +9,4 @@ pub mod PlaceFacts
 pub mod CaseFacts
 pub mod StockFacts
 pub mod Standing
-pub mod Ranges
 pub mod FamilyFacts

@@ -1,7 +1,7 @@
 -- A frame breaks no rule, nor do the rates of a case; and shop units are told by the places of their line units.
 use Rattle.std.proofs.Common.{◌≡◌, ◌==◌, ◌⊎◌, inl, inr, ℕ, zero, suc, ◌+◌, ◌*◌, ◌/◌, ◌%◌, ◌<◌, ◌≤◌, List, [], ◌∷◌, take, length, get_or, map, filter, count_by, Bool, true, false, cond, Option, Some, None, Ok, unwrap_or, refl, sym, ap, subst, ◌∙◌, arith, bytes_eq}
 use Rattle.std.specs.Prelude.{is_none, is_some, not}
-use Rattle.std.specs.List.{AllByRecursion, find, list_any, IsDistinct, position_or_len, take-map}
+use Rattle.std.specs.List.{find, list_any, IsDistinct, position_or_len, take-map}
 use Rattle.std.specs.Option.{option_and_then, option_map_or}
 use Rattle.std.proofs.lemmas.Bool.{false≢true, false_from_ne_true, lt-leb, ne_eqb, eq-eqb}
 use Rattle.std.proofs.lemmas.List.{get_or-map, get_or-take, length-map, length-take}
@@ -11,6 +11,7 @@ use Rattle.std.proofs.lemmas.Grind.{common_steps}
 use Rattle.std.proofs.lemmas.List.Sums.{count_by_more_yes, fails_before_first, sum_by-take-le}
 use Rattle.std.proofs.lemmas.Nat.{div-add-mod', div_below, mod_below}
 use Rattle.std.proofs.lemmas.Slice.Eq.{bytes_eq-Decides}
+use Rattle.list_laws.proofs.Public.{at_each}
 use Rattle.spares_input.specs.First.{first}
 use Rattle.spares_input.specs.Rows.{is_line, no_site, no_part, no_rate}
 use Rattle.spares_input.specs.Frames.{FrameRows, IsFrame, part_at, part_names, place_of, is_depot, is_base, is_shop_of, line_of, site_fault, kinds_fault, double_part, shop_fault, parent_fault, frame_fault, frame_of, sites_in_order}
@@ -49,17 +50,12 @@ stand_in_order (x ∷ xs) h =
 flip_false : (x y : List ℕ) → bytes_eq x y ≡ false → bytes_eq y x ≡ false
 flip_false x y h = false_from_ne_true (bytes_eq y x) (λ t. false≢true (sym h ∙ (bytes_eq-Decides x y).1 (sym ((bytes_eq-Decides y x).0 t))))
 
-at_place : {A : Type 0} (P : A → Type 0) (xs : List A) (d : A) → AllByRecursion P xs → (i : ℕ) → i < length xs → P (get_or xs i d)
-at_place P [] d h i lt = absurd (omega (arith, lt))
-at_place P (x ∷ xs) d h zero lt = h.0
-at_place P (x ∷ xs) d h (suc i) lt = at_place P xs d h.1 i (omega (arith, lt))
-
 fresh_in : (names : List (List ℕ)) (k : ℕ) → IsDistinct bytes_eq names → k < length names → list_any (bytes_eq (get_or names k [])) (take k names) ≡ false
 unfolding IsDistinct
 fresh_in [] k h lt = absurd (omega (arith, lt))
 fresh_in (x ∷ xs) zero h lt = refl
 fresh_in (x ∷ xs) (suc k) h lt =
-    rw (flip_false x (get_or xs k []) (at_place (λ y. bytes_eq x y ≡ false) xs [] h.0 k (omega (arith, lt))), fresh_in xs k h.1 (omega (arith, lt))) refl
+    rw (flip_false x (get_or xs k []) (at_each (λ y. bytes_eq x y ≡ false) xs h.0 k [] (omega (arith, lt))), fresh_in xs k h.1 (omega (arith, lt))) refl
 
 fresh_by : {A : Type 0} (name : A → List ℕ) (xs : List A) (d : A) (k : ℕ) → IsDistinct bytes_eq (map name xs) → k < length xs → list_any (bytes_eq (name (get_or xs k d))) (map name (take k xs)) ≡ false
 fresh_by name xs d k h lt =
@@ -136,7 +132,7 @@ apart : (names : List (List ℕ)) (i j : ℕ) → IsDistinct bytes_eq names → 
 unfolding IsDistinct
 apart [] i j h lt within = absurd (omega (arith, within))
 apart (x ∷ xs) i zero h lt within = absurd (omega (arith, lt))
-apart (x ∷ xs) zero (suc j) h lt within = at_place (λ y. bytes_eq x y ≡ false) xs [] h.0 j (omega (arith, within))
+apart (x ∷ xs) zero (suc j) h lt within = at_each (λ y. bytes_eq x y ≡ false) xs h.0 j [] (omega (arith, within))
 apart (x ∷ xs) (suc i) (suc j) h lt within = apart xs i j h.1 (omega (arith, lt)) (omega (arith, within))
 
 module _ (parts : List PartRow) (distinct : IsDistinct bytes_eq (part_names parts)) where
@@ -174,10 +170,6 @@ module _ (parts : List PartRow) (distinct : IsDistinct bytes_eq (part_names part
 pub no_shop_at : (line : PartRow) (o : Option (List ℕ)) → is_none o ≡ true → option_map_or (bytes_eq line.name) o false ≡ false
 no_shop_at line None h = refl
 no_shop_at line (Some name) h = absurd (false≢true h)
-
--- a line unit is no shop unit
-pub no_shop : (parts : List PartRow) (p l : ℕ) → is_line (part_at parts p) ≡ true → is_shop_of (part_at parts l) (part_at parts p) ≡ false
-no_shop parts p l h = no_shop_at (part_at parts l) (part_at parts p).parent h
 
 -- a name that has no place is that of no part
 unnamed : (parts : List PartRow) (l : ℕ) (o : Option (List ℕ)) → l < length parts → option_and_then (λ name. place_of name (part_names parts)) o ≡ None

@@ -21,10 +21,10 @@ use Rattle.spares_input.specs.Stocks.{IsFor, IsStockOf, IsWithinLimits, limit_at
 use Rattle.spares_input.specs.Building.{ArePlaced, missing_stock_at}
 use Rattle.spares_input.specs.declared.rows.StockRow.{StockRow}
 use Rattle.spares_input.specs.declared.fault.StockFault.TheVariants as fault
-use Rattle.spares_input.proofs.CaseFacts.{place_fits}
 use Rattle.spares_input.proofs.Firsts.{first_none, or_else_none}
 use Rattle.spares_input.proofs.PlaceFacts.{at_place}
 use Rattle.std.proofs.Math.Nat.{mul-mod_left}
+use Rattle.list_laws.proofs.Public.{place_fits, zero_most}
 
 module _ (c : CaseRows) (rows : List StockRow) (k limit : ℕ) where
   -- a row with a stock over its limit is refused for it, by its line
@@ -170,12 +170,9 @@ none_held c held s a b list e sites zeros parts same = e ∙ rw (zeros, sites, p
 pub none_whole : (c : CaseRows) (held : StockList) → held ≡ nothing_held c → IsFor c held
 none_whole c held e = subst (IsFor c) (sym e) (record { sites = refl; pairs = length-replicate (pair_count (frame_rows c)) 0 })
 
-none_above : (n most : ℕ) → n ≡ 0 → n ≤ most
-none_above n most e = omega (arith, e)
-
 -- and over no limit
 pub none_within : (c : CaseRows) (held : StockList) → held ≡ nothing_held c → IsWithinLimits c held
 none_within c held e =
     subst (IsWithinLimits c) (sym e)
-    (λ p k part site. none_above _ (limit_at c.parts p k)
+    (λ p k part site. zero_most _ (limit_at c.parts p k)
     (get_or-replicate (pair_count (frame_rows c)) (p * length c.sites + k) 0 0 (place_fits p k (length c.parts) (length c.sites) part site)))

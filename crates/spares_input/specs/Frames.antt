@@ -3,7 +3,7 @@ use Rattle.std.specs.Prelude.{◌≡◌, ℕ, ◌+◌, ◌<◌, ◌≤◌, Bool,
 use Rattle.std.specs.List.{list_any, range_with_len, IsDistinct}
 use Rattle.std.specs.Option.{option_map_or, option_and_then}
 use Rattle.spares_input.specs.First.{first, first_of, unless}
-use Rattle.spares_input.specs.Limits.{most_parts}
+use Rattle.spares_input.specs.Limits.{most_sites, most_parts, most_shop_units}
 use Rattle.spares_input.specs.Rows.{is_line, IsSiteRow, IsPartRow, no_site, no_part}
 use Rattle.spares_input.specs.declared.rows.SiteRow.{SiteRow}
 use Rattle.spares_input.specs.declared.rows.PartRow.{PartRow}
@@ -79,7 +79,8 @@ abbrev pub shop_fault : List PartRow → ℕ → Option ℕ → Option CaseFault
 shop_fault parts k None = Some (fault.UnknownParent (k + 2))
 shop_fault parts k (Some l) =
     if not (is_line (part_at parts l)) then Some (fault.ParentNotLine (k + 2))
-    else if nat_le 8 (count_by (is_shop_of (part_at parts l)) (take k parts)) then Some (fault.TooManyShopUnits (k + 2))
+    else if nat_le most_shop_units (count_by (is_shop_of (part_at parts l)) (take k parts))
+    then Some (fault.TooManyShopUnits (k + 2))
     else None
 
 -- the rule that row k of the parts breaks by its parent
@@ -130,13 +131,13 @@ family_of_line parts l = l ∷ shop_units_among parts l
 -- the invariant of every frame
 pub record IsFrame (f : FrameRows) : Type 0 where
   pub fewest_sites : 2 ≤ length f.sites
-  pub most_sites : length f.sites ≤ 16
+  pub most_sites : length f.sites ≤ most_sites
   pub most_parts : length f.parts ≤ most_parts
   pub depot : (site_at f.sites 0).depot ≡ true
   pub bases : (k : ℕ) → 0 < k → k < length f.sites → (site_at f.sites k).depot ≡ false
   pub distinct_sites : IsDistinct bytes_eq (site_names f.sites)
   pub distinct_parts : IsDistinct bytes_eq (part_names f.parts)
   pub parents : (p : ℕ) → p < length f.parts → is_line (part_at f.parts p) ≡ false → has_line f.parts p ≡ true
-  pub few_shop_units : (l : ℕ) → l < length f.parts → length (shop_units_among f.parts l) ≤ 8
+  pub few_shop_units : (l : ℕ) → l < length f.parts → length (shop_units_among f.parts l) ≤ most_shop_units
   pub site_rows : All IsSiteRow f.sites
   pub part_rows : All IsPartRow f.parts

@@ -1,4 +1,4 @@
--- The rules of a name.
+-- The rules of a name, and a lemma that `Model for Name` cites.
 use Rattle.std.specs.Prelude.{◌≡◌, ℕ, ◌-◌, ◌≤◌, Bool, true, not, ◌&&◌, ◌==◌, nat_le, List, ◌++◌, length, take, get_or, replicate}
 use Rattle.std.proofs.Common.{arith, sym, length-take-le}
 use Rattle.std.specs.List.{list_all}

@@ -1,5 +1,6 @@
 -- The fields of the rows of a case.
 use Rattle.std.specs.Prelude.{◌≡◌, ℕ, ◌≤◌, Bool, true, false, not, ◌&&◌, List, [], Some, None, is_none}
+use Rattle.spares_input.specs.Limits.{most_stock, most_part_cost, most_days}
 use Rattle.spares_input.specs.Names.{is_name}
 use Rattle.spares_input.specs.declared.rows.SiteRow.{SiteRow}
 use Rattle.spares_input.specs.declared.rows.PartRow.{PartRow}
@@ -19,16 +20,16 @@ pub record IsNumberField (used : Bool) (least most n : ℕ) : Type 0 where
 pub record IsSiteRow (r : SiteRow) : Type 0 where
   pub name : is_name r.name ≡ true
   pub systems : IsNumberField (not r.depot) 1 10000 r.systems
-  pub ship : IsNumberField (not r.depot) 0 999999 r.ship
+  pub ship : IsNumberField (not r.depot) 0 most_days r.ship
 
 -- a row of parts: line units of one kind in a system and their weight are empty for a shop unit
 pub record IsPartRow (r : PartRow) : Type 0 where
   pub name : is_name r.name ≡ true
   pub parent : (name : List ℕ) → r.parent ≡ Some name → is_name name ≡ true
-  pub cost : (1 ≤ r.cost) × (r.cost ≤ 100000000)
+  pub cost : (1 ≤ r.cost) × (r.cost ≤ most_part_cost)
   pub per_system : IsNumberField (is_line r) 1 100 r.per_system
-  pub max_depot : r.max_depot ≤ 63
-  pub max_base : r.max_base ≤ 63
+  pub max_depot : r.max_depot ≤ most_stock
+  pub max_base : r.max_base ≤ most_stock
   pub weight : IsNumberField (is_line r) 1 100 r.weight
 
 -- a row of rates of a line unit or a shop unit, at the depot or at a base: demands a year, probabilities and shares
@@ -37,7 +38,7 @@ pub record IsRateRow (line depot : Bool) (r : RateRow) : Type 0 where
   pub demand : IsNumberField (line && not depot) 0 1000000000 r.demand
   pub repair_here : IsNumberField (not depot) 0 10000 r.repair_here
   pub share : IsNumberField (not line) 0 10000 r.share
-  pub repair_days : r.repair_days ≤ 999999
+  pub repair_days : r.repair_days ≤ most_days
 
 -- the value of a look-up past the last site: an empty name and zeros
 abbrev pub no_site : SiteRow

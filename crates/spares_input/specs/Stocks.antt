@@ -2,6 +2,7 @@
 use Rattle.std.specs.Prelude.{◌≡◌, ◌==◌, ℕ, ◌+◌, ◌*◌, ◌/◌, ◌%◌, ◌<◌, ◌≤◌, nat_lt, List, [], ◌∷◌, map, take, length, get_or, Option, Some, None, Result, if◌then◌else◌, sum, replicate}
 use Rattle.std.specs.List.{range_with_len}
 use Rattle.spares_input.specs.First.{first, first_of, unless}
+use Rattle.spares_input.specs.Limits.{most_sites}
 use Rattle.spares_input.specs.Rows.{no_stock}
 use Rattle.spares_input.specs.Frames.{FrameRows, part_at}
 use Rattle.spares_input.specs.Pairs.{pair_place, part_of_place, site_of_place, has_row, rows_in_order}
@@ -67,7 +68,7 @@ pub record IsStockOf (f : FrameRows) (r : StockRow) : Type 0 where
 -- the invariant of all stocks
 pub record IsStockList (s : StockList) : Type 0 where
   pub fewest_sites : 2 ≤ s.sites
-  pub most_sites : s.sites ≤ 16
+  pub most_sites : s.sites ≤ most_sites
   pub whole : length s.list % s.sites ≡ 0
 
 -- a pair has a number in the list

@@ -4,9 +4,9 @@ ghost use Rattle.std.specs.Prelude.{◌≡◌, true, ◌==◌, ◌+◌, ◌*◌,
 ghost use Rattle.std.specs.Option.{option_map};
 ghost use Rattle.answers.specs.Answers.{Gives};
 ghost use Rattle.spares_input.specs.First.{first};
-ghost use Rattle.spares_input.specs.Limits.{most_parts};
+ghost use Rattle.spares_input.specs.Limits.{most_sites, most_parts, most_stock};
 ghost use Rattle.spares_input.specs.Rows.{is_line, no_rate, IsSiteRow, IsPartRow, IsRateRow};
-ghost use Rattle.spares_input.specs.Frames.{site_at, part_at, line_of, line_units, family_of_line, is_shop_of};
+ghost use Rattle.spares_input.specs.Frames.{site_at, part_at, line_of, line_units, family_of_line};
 ghost use Rattle.spares_input.specs.Pairs.{rows_in_order};
 ghost use Rattle.spares_input.specs.Cases.{frame_rows, rate_at, rate_place, double_rate, rates_fault, case_of, without_frame, IsRateOf, IsCase};
 ghost use Rattle.spares_input.specs.Edits.{with_rate};
@@ -135,15 +135,6 @@ impl Case {
         self.frame.family(line)
     }
 
-    /// Whether a part is a shop unit of this line unit.
-    pub fn is_shop_of(&self, part: PartId, line: PartId) -> bool
-        requires part { part.0 < length self.now.parts }
-        requires line { line.0 < length self.now.parts }
-        ensures { result ≡ is_shop_of (part_at self.now.parts line.0) (part_at self.now.parts part.0) }
-    {
-        self.frame.is_shop_of(part, line)
-    }
-
     /// Whether a part is a line unit.
     pub fn is_line(&self, part: PartId) -> bool
         requires { part.0 < length self.now.parts }
@@ -157,7 +148,7 @@ impl Case {
         requires part { part.0 < length self.now.parts }
         requires site { site.0 < length self.now.sites }
         ensures limit { result ≡ limit_at self.now.parts part.0 site.0 }
-        ensures most { result ≤ 63 }
+        ensures most { result ≤ most_stock }
     {
         self.frame.limit(part, site)
     }
@@ -194,7 +185,7 @@ fn rates_by_pair(
     parts: usize,
 ) -> Result<Vec<RateRow>, Stop<CaseFault>>
     requires some_sites { 0 < sites }
-    requires few_sites { sites ≤ 16 }
+    requires few_sites { sites ≤ most_sites }
     requires few_parts { parts ≤ most_parts }
     requires pairs { All (λ r. IsPairOf sites parts r.part r.site) rows.now }
     ensures fault { StopsAt (rates_fault sites (parts * sites) rows.now) result }
@@ -211,7 +202,7 @@ fn place_rows(
     sites: usize,
     parts: usize,
 ) -> Result<Vec<Option<RateRow>>, Stop<CaseFault>>
-    requires few_sites { sites ≤ 16 }
+    requires few_sites { sites ≤ most_sites }
     requires few_parts { parts ≤ most_parts }
     requires pairs { All (λ r. IsPairOf sites parts r.part r.site) rows.now }
     ensures fault { StopsAt (first (double_rate sites rows.now) (length rows.now)) result }
@@ -236,7 +227,7 @@ fn rows_of_places(
     sites: usize,
 ) -> Result<Vec<RateRow>, Stop<CaseFault>>
     requires some_sites { 0 < sites }
-    requires few_sites { sites ≤ 16 }
+    requires few_sites { sites ≤ most_sites }
     requires few { length places.now ≤ most_parts * sites }
     ensures fault { StopsAt (first (vacant (missing_rate_at sites) places.now) (length places.now)) result }
     ensures rows { IfOk result (λ v. map (λ r. Some r) v.items ≡ places.now) }

@@ -7,12 +7,13 @@ ghost use Rattle.indexmap.specs.IndexSet.{index_set_len};
 ghost use Rattle.indexmap.specs.IndexMap.{move_index};
 ghost use Rattle.answers.specs.Answers.{Gives};
 ghost use Rattle.spares_input.specs.First.{first};
-ghost use Rattle.spares_input.specs.Limits.{most_parts};
+ghost use Rattle.spares_input.specs.Limits.{most_sites, most_parts, most_stock};
 ghost use Rattle.spares_input.specs.Rows.{is_line, IsSiteRow, IsPartRow};
 ghost use Rattle.spares_input.specs.Frames.{site_at, part_at, site_names, part_names, is_among, place_of, line_of, is_shop_of, is_depot, is_base, site_fault, kinds_fault, double_part, shop_fault, parent_fault, frame_fault, frame_of, line_units, family_of_line, IsFrame};
 ghost use Rattle.spares_input.specs.Stocks.{limit_at};
 ghost use Rattle.spares_input.specs.Building.{AreLinked, AreParents, IsNumbered, StopsAt, ids};
 
+use crate::MOST_SHOP_UNITS;
 use crate::families::{families_of, line_units_of};
 use crate::fault::CaseFault;
 use crate::name::Name;
@@ -57,7 +58,7 @@ impl Frame {
         sites: Vec<SiteRow>,
         parts: Vec<PartRow>,
     ) -> Result<Frame, Stop<CaseFault>>
-        requires few_sites { length sites.items ≤ 16 }
+        requires few_sites { length sites.items ≤ most_sites }
         requires few_parts { length parts.items ≤ most_parts }
         requires site_rows { All IsSiteRow sites.items }
         requires part_rows { All IsPartRow parts.items }
@@ -151,19 +152,6 @@ impl Frame {
         self.families[line.0 as usize].as_slice()
     }
 
-    /// Whether a part is a shop unit of this line unit.
-    pub fn is_shop_of(&self, part: PartId, line: PartId) -> bool
-        requires part { part.0 < length self.now.parts }
-        requires line { line.0 < length self.now.parts }
-        ensures { result ≡ is_shop_of (part_at self.now.parts line.0) (part_at self.now.parts part.0) }
-    {
-        self.invariant();
-        match self.parent(part) {
-            Some(parent) => parent.0 == line.0,
-            None => false,
-        }
-    }
-
     /// Whether a part is a line unit.
     pub fn is_line(&self, part: PartId) -> bool
         requires { part.0 < length self.now.parts }
@@ -177,7 +165,7 @@ impl Frame {
         requires part { part.0 < length self.now.parts }
         requires site { site.0 < length self.now.sites }
         ensures limit { result ≡ limit_at self.now.parts part.0 site.0 }
-        ensures most { result ≤ 63 }
+        ensures most { result ≤ most_stock }
     {
         let row = self.part(part);
         if site.0 == 0 {
@@ -227,7 +215,7 @@ fn links_of(
     sites: &mut Vec<SiteRow>,
     parts: &[PartRow],
 ) -> Result<Links, Stop<CaseFault>>
-    requires sites { length sites.old.items ≤ 16 }
+    requires sites { length sites.old.items ≤ most_sites }
     requires parts { length parts.now ≤ most_parts }
     ensures fault { StopsAt (frame_fault sites.old.items parts.now) result }
     ensures linked { IfOk result (λ l. AreLinked sites.old.items sites.new.items parts.now l.part_index.keys
@@ -254,7 +242,7 @@ fn number_rows(
     sites: &[SiteRow],
     parts: &[PartRow],
 ) -> Result<(IndexSet<Name>, usize), Stop<CaseFault>>
-    requires sites { length sites.now ≤ 16 }
+    requires sites { length sites.now ≤ most_sites }
     requires parts { length parts.now ≤ most_parts }
     ensures fault { StopsAt (frame_fault sites.now parts.now) result }
     ensures numbered { IfOk result (λ n. IsNumbered sites.now parts.now n.0.keys n.1) }
@@ -276,7 +264,7 @@ fn number_rows(
 
 /// The first rule that a row of sites breaks.
 fn sites_fault(sites: &[SiteRow]) -> Option<CaseFault>
-    requires { length sites.now ≤ 16 }
+    requires { length sites.now ≤ most_sites }
     ensures { result ≡ first (site_fault sites.now) (length sites.now) }
 {
     for k in 0..sites.len() {
@@ -289,7 +277,7 @@ fn sites_fault(sites: &[SiteRow]) -> Option<CaseFault>
 
 /// The rule that row k of the sites breaks.
 fn site_fault(sites: &[SiteRow], k: usize) -> Option<CaseFault>
-    requires few { length sites.now ≤ 16 }
+    requires few { length sites.now ≤ most_sites }
     requires within { k < length sites.now }
     ensures { result ≡ site_fault sites.now k }
 {
@@ -470,7 +458,7 @@ fn shop_fault(parts: &[PartRow], k: usize, line: Option<usize>) -> Option<CaseFa
     if line.parent.is_some() {
         return Some(CaseFault::ParentNotLine(row));
     }
-    if count_shop_units(&line, &parts[..k]) >= 8 {
+    if count_shop_units(&line, &parts[..k]) >= MOST_SHOP_UNITS {
         return Some(CaseFault::TooManyShopUnits(row));
     }
     None

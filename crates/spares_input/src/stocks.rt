@@ -4,7 +4,7 @@ ghost use Rattle.std.specs.Prelude.{◌≡◌, ◌+◌, ◌*◌, ◌%◌, ◌≤
 ghost use Rattle.std.specs.Option.{option_map};
 ghost use Rattle.answers.specs.Answers.{Gives};
 ghost use Rattle.spares_input.specs.First.{first};
-ghost use Rattle.spares_input.specs.Limits.{most_parts};
+ghost use Rattle.spares_input.specs.Limits.{most_sites, most_parts};
 ghost use Rattle.spares_input.specs.Pairs.{pair_place};
 ghost use Rattle.spares_input.specs.Cases.{frame_rows};
 ghost use Rattle.spares_input.specs.Stocks.{stock_at, stock_place, stock_fault, stocks_fault, stocks_in_order, stocks_of, cost_of_stocks, AreStocksOf, HasPair, IsFor, IsStockList, IsStockOf, nothing_held};
@@ -39,7 +39,7 @@ impl Stocks {
     /// Stocks of these numbers, with this number of sites.
     pub fn of(list: Vec<u8>, sites: u8) -> Stocks
         requires fewest_sites { 2 ≤ sites }
-        requires most_sites { sites ≤ 16 }
+        requires most_sites { sites ≤ most_sites }
         requires whole { length list.items % sites ≡ 0 }
         ensures { result ≡ record { sites = sites; list = list.items } }
     {
@@ -174,7 +174,7 @@ fn stocks_of_places(
     sites: usize,
 ) -> Result<Vec<u8>, Stop<StockFault>>
     requires some_sites { 0 < sites }
-    requires few_sites { sites ≤ 16 }
+    requires few_sites { sites ≤ most_sites }
     requires few { length places.now ≤ most_parts * sites }
     ensures fault { StopsAt (first (vacant (missing_stock_at sites) places.now) (length places.now)) result }
     ensures stocks { IfOk result (λ v. map (λ s. Some s) v.items ≡ map (option_map (λ r. r.stock)) places.now) }

@@ -7,6 +7,7 @@ use Rattle.std.proofs.lemmas.List.Quantifiers.{position-Some}
 use Rattle.std.proofs.lemmas.List.Sums.{fails_before_first}
 use Rattle.std.proofs.lemmas.Map.Text.{is_eq-slice_cmp}
 use Rattle.std.proofs.lemmas.List.{at_drop_more}
+use Rattle.list_laws.proofs.Public.{bytes_same}
 use Rattle.spares_io.specs.Memory.{files_of, are_distinct}
 use Rattle.spares_io.specs.Shelf.{Files, file_of, with_file}
 
@@ -84,15 +85,12 @@ swapped true true x y z apart = absurd (apart refl refl)
 swapped true false x y z apart = refl
 swapped false b x y z apart = refl
 
-same_name : (name other : List ℕ) → bytes_eq name other ≡ true → name ≡ other
-same_name name other e = (bytes_decides name other).0 e
-
 -- no query is both of two names that differ
 apart : (name other query : List ℕ) → bytes_eq name other ≡ false
     → eq_by_cmp (slice_cmp nat_cmp) query other ≡ true → eq_by_cmp (slice_cmp nat_cmp) query name ≡ true → ⊥
 apart name other query differ is_other is_name =
-    let of_other : query ≡ other = same_name query other (sym (is_eq-slice_cmp query other) ∙ is_other) in
-    let of_name : query ≡ name = same_name query name (sym (is_eq-slice_cmp query name) ∙ is_name) in
+    let of_other : query ≡ other = bytes_same query other (sym (is_eq-slice_cmp query other) ∙ is_other) in
+    let of_name : query ≡ name = bytes_same query name (sym (is_eq-slice_cmp query name) ∙ is_name) in
     true≢false (sym ((bytes_decides name other).1 (sym of_name ∙ of_other)) ∙ differ)
 
 -- with new bytes at the place of a name, a look-up finds them there, and elsewhere what it found before
@@ -103,7 +101,7 @@ find_set name bytes query [] place p = absurd (omega (arith, p.below))
 find_set name bytes query (file ∷ files) zero p =
     covered (eq_by_cmp (slice_cmp nat_cmp) query name) (Some bytes) (Some file.1) (find (slice_cmp nat_cmp) query files)
     ∙ ap (λ key. cond (eq_by_cmp (slice_cmp nat_cmp) query name) (Some bytes) (cond (eq_by_cmp (slice_cmp nat_cmp) query key) (Some file.1) (find (slice_cmp nat_cmp) query files)))
-    (same_name name file.0 (p.here file))
+    (bytes_same name file.0 (p.here file))
 find_set name bytes query (file ∷ files) (suc place) p =
     ap (cond (eq_by_cmp (slice_cmp nat_cmp) query file.0) (Some file.1)) (find_set name bytes query files place (next_place name file files place p))
     ∙ swapped _ _ _ _ _ (apart name file.0 query (p.before 0 file (omega arith)))
@@ -117,7 +115,7 @@ pub files_of_set : (name bytes : List ℕ) (files : List Entry) (place : ℕ) (k
     → files_of (set files place (key, bytes)) ≡ with_file (files_of files) name bytes
 files_of_set name bytes files place key e d is =
     let p = IsPlace_position name files place e in
-    ap (λ k. files_of (set files place (k, bytes))) (is ∙ sym (same_name name _ (p.here d)))
+    ap (λ k. files_of (set files place (k, bytes))) (is ∙ sym (bytes_same name _ (p.here d)))
     ∙ same_map nat_list_cmp_total names_tie _ _ (λ query.
     get-from_entries nat_list_cmp_total _ query
     ∙ find_set name bytes query files place p

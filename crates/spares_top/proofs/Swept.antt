@@ -15,7 +15,7 @@ use Rattle.answers.specs.Steps.{◌>>=◌}
 use Rattle.spares_top.specs.Headline.{IsTruePrice, IsTrueSweep}
 use Rattle.spares_top.specs.Making.{Is, IsMade}
 use Rattle.spares_top.specs.Task.{price_target, printed, sweep_budgets}
-use Rattle.spares_top.specs.declared.done.Done.TheVariants.{Priced, Swept}
+use Rattle.spares_top.specs.declared.done.Done.TheVariants.{Targeted, Swept}
 use Rattle.family_points.specs.Points.{plain_ends}
 use Rattle.spares_input.specs.Stocks.{nothing_held}
 
@@ -48,7 +48,7 @@ module _ (c : CaseRows) (accepted : IsAcceptedCase c) (given : Result CaseRows F
 
     -- the price of a target in backorders is what its task asks for
     pub priced : (report : TargetReport) → IsCaseTarget plain_ends c (nothing_held c).list backorders report → TargetFits report
-        → IsMade (Is (given >>= λ case. Ok (price_target case backorders))) (printed (Priced report))
+        → IsMade (Is (given >>= λ case. Ok (price_target case backorders))) (printed (Targeted report))
     priced report h fits = record {
       task = price_target c backorders;
       is_due = rw is_given refl;

@@ -44,7 +44,7 @@ use Rattle.spares_top.specs.Plans.{Planning, certificate_text, held_stocks_of, p
 use Rattle.spares_top.specs.Task.{Task, confirm, demonstrate, evaluate, make_plan, plan_in_turn, price_target, set_beside, show_pipeline, sweep_budgets}
 use Rattle.spares_top.specs.declared.check.Claim.{Claim}
 use Rattle.spares_top.specs.declared.done.Done.{Done}
-use Rattle.spares_top.specs.declared.done.Done.TheVariants.{Single, Evaluated, Planned, Checked, Demo, Swept, Priced, Session, Compared}
+use Rattle.spares_top.specs.declared.done.Done.TheVariants.{Single, Evaluated, Planned, Checked, Demo, Swept, Targeted, Session, Compared}
 use Rattle.spares_top.specs.declared.done.TaskOutcome.{TaskOutcome}
 use Rattle.spares_top.specs.declared.done.Written.{Written}
 use Rattle.family_points.specs.Points.{plain_ends}
@@ -227,6 +227,6 @@ IsTrue (make_plan planning name) outcome = Reports Planned (IsTrueAndShown plann
 IsTrue (confirm claimed) outcome = Reports Checked (IsTrueCheck claimed) outcome.done
 IsTrue (demonstrate number lines) outcome = Reports Demo (IsTrueDemo number lines) outcome.done
 IsTrue (sweep_budgets case) outcome = Reports Swept (IsTrueSweep case) outcome.done
-IsTrue (price_target case backorders) outcome = Reports Priced (IsTruePrice case backorders) outcome.done
+IsTrue (price_target case backorders) outcome = Reports Targeted (IsTruePrice case backorders) outcome.done
 IsTrue (plan_in_turn due) outcome = Reports Session (λ report. AllZip IsTrueAnswer due report.plans) outcome.done
 IsTrue (set_beside case stocks) outcome = Reports Compared (IsTrueComparison case stocks) outcome.done

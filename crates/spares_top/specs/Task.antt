@@ -26,7 +26,7 @@ use Rattle.order_inputs.specs.Cases.{case_to_edit, case_within_work, stocked_by}
 use Rattle.order_inputs.specs.Files.{CaseBytes, bytes_at, inputs_of, reads, tables_in}
 use Rattle.spares_top.specs.declared.check.Claim.{Claim}
 use Rattle.spares_top.specs.declared.done.Done.{Done}
-use Rattle.spares_top.specs.declared.done.Done.TheVariants.{Single, Evaluated, Checked, Demo, Swept, Priced, Session, Compared}
+use Rattle.spares_top.specs.declared.done.Done.TheVariants.{Single, Evaluated, Checked, Demo, Swept, Targeted, Session, Compared}
 use Rattle.spares_top.specs.declared.done.TaskOutcome.{TaskOutcome}
 use Rattle.refusals.specs.declared.failure.Failure.{Failure}
 use Rattle.refusals.specs.declared.refusal.File.TheVariants as file
@@ -179,6 +179,6 @@ Fulfils (confirm claimed) outcome = outcome ≡ printed (Checked (check_of claim
 Fulfils (demonstrate number lines) outcome = Shows Demo (IsDemonstrated number lines) outcome
 Fulfils (sweep_budgets case) outcome = Shows Swept (IsCaseSweep plain_ends case (nothing_held case).list) outcome
 Fulfils (price_target case backorders) outcome =
-    Shows Priced (IsCaseTarget plain_ends case (nothing_held case).list backorders) outcome
+    Shows Targeted (IsCaseTarget plain_ends case (nothing_held case).list backorders) outcome
 Fulfils (plan_in_turn due) outcome = Shows Session (λ report. AllZip IsReportOf due report.plans) outcome
 Fulfils (set_beside case stocks) outcome = outcome ≡ printed (Compared (comparison_of case stocks))

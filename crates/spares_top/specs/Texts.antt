@@ -9,7 +9,7 @@ use Rattle.metric_compare.specs.Texts.{compare_text}
 use Rattle.plan_report.specs.Fits.{FitsPlan, FitsCheck, FitsSummary}
 use Rattle.plan_report.specs.Texts.{check_text, eval_text, plan_text, single_text, summary_text}
 use Rattle.spares_top.specs.declared.done.Done.{Done}
-use Rattle.spares_top.specs.declared.done.Done.TheVariants.{Single, Evaluated, Planned, Checked, Demo, Swept, Priced, Session, Compared}
+use Rattle.spares_top.specs.declared.done.Done.TheVariants.{Single, Evaluated, Planned, Checked, Demo, Swept, Targeted, Session, Compared}
 
 -- the text of a report
 abbrev pub done_text : Done → List ℕ
@@ -19,7 +19,7 @@ done_text (Planned report) = plan_text report
 done_text (Checked report) = check_text report
 done_text (Demo summary) = summary_text summary
 done_text (Swept report) = sweep_text report
-done_text (Priced report) = target_text report
+done_text (Targeted report) = target_text report
 done_text (Session report) = flat_map plan_text report.plans
 done_text (Compared report) = compare_text report
 
@@ -31,6 +31,6 @@ CanPrint (Planned report) = FitsPlan report
 CanPrint (Checked report) = FitsCheck report
 CanPrint (Demo summary) = FitsSummary summary
 CanPrint (Swept report) = SweepFits report
-CanPrint (Priced report) = TargetFits report
+CanPrint (Targeted report) = TargetFits report
 CanPrint (Session report) = All FitsPlan report.plans
 CanPrint (Compared report) = FitsComparison report

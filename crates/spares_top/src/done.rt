@@ -27,7 +27,7 @@ pub enum Done {
     /// The best backorders of a case for every budget.
     Swept(SweepReport),
     /// The cost of a target for a case.
-    Priced(TargetReport),
+    Targeted(TargetReport),
     /// The plans that a file of edits asks for.
     Session(SessionReport),
     /// The backorders of a case at given stocks, beside those with Poisson pipelines.
@@ -47,7 +47,7 @@ impl Done {
             Done::Checked(report) => report.text(alloc),
             Done::Demo(summary) => summary.text(alloc),
             Done::Swept(report) => report.text(alloc),
-            Done::Priced(report) => report.text(alloc),
+            Done::Targeted(report) => report.text(alloc),
             Done::Session(report) => report.text(alloc),
             Done::Compared(report) => report.text(alloc),
         }

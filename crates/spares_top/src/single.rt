@@ -4,6 +4,7 @@
 //! - Refuses a mean or a variance beyond the limits of the model.
 //! - Makes the report.
 ghost use Rattle.std.specs.Prelude.{◌≡◌, ◌≤◌, ◌<◌, ◌^◌, IfOk};
+ghost use Rattle.spares_input.specs.Limits.{most_stock};
 ghost use Rattle.demand_rates.specs.Single.{WithinLimits};
 ghost use Rattle.fixed_interval.specs.Ends.{In, IsWithinLimit, ends_ratio};
 ghost use Rattle.fleet_model.specs.Rows.{ten_thousandths};
@@ -43,7 +44,7 @@ fn single_report(
     stock: u8,
 ) -> Result<SingleReport, NoMemory>
     requires limits { WithinLimits mean.units variance.units }
-    requires stock { stock ≤ 63 }
+    requires stock { stock ≤ most_stock }
     ensures report { IfOk result (λ report. report ≡ single_of mean.units variance.units stock) }
     ensures shows { IfOk result (ShowsModel (ten_thousandths mean.units) (ten_thousandths variance.units) stock) }
     ensures backorders { IfOk result (λ report. report.backorders.hi < 2 ^ 86) }

@@ -52,5 +52,5 @@ pub(crate) fn target(
     let given = case_within_work(alloc, tables)?;
     let report = target_of(alloc, &given, backorders);
     drop(given);
-    Ok(TaskOutcome::printed(Done::Priced(report?)))
+    Ok(TaskOutcome::printed(Done::Targeted(report?)))
 }

@@ -1,3 +1,2 @@
 mod Plain
 mod Taken
-pub mod Refused

@@ -14,6 +14,7 @@ use Rattle.price_certificate.specs.Grammar.{objective_word}
 use Rattle.price_certificate.specs.declared.certificate.Objective.{Objective}
 use Rattle.price_certificate.specs.declared.certificate.Objective.TheVariants as objective
 use Rattle.price_certificate.specs.declared.certificate.Terms.{Terms}
+use Rattle.spares_input.specs.Limits.{most_stock}
 use Rattle.spares_input.specs.Money.{most_budget}
 use Rattle.answers.specs.Answers.{Gives}
 use Rattle.answers.specs.Steps.{◌>>=◌}
@@ -67,7 +68,7 @@ abbrev pub single_from : Text → Option Text → Text → Result Order WordsFau
 single_from mean_text variance_text stock_text = do
   mean ← number_of which.Mean 4 mean_text
   variance ← optional_of which.Variance 4 variance_text
-  stock ← whole_word which.Stock 0 63 stock_text
+  stock ← whole_word which.Stock 0 most_stock stock_text
   Ok (Single mean variance stock)
 
 -- the order of `single` from the rows of its words
@@ -229,7 +230,7 @@ AreInRange on_hand terms =
 -- the ranges of the numbers of an order
 abbrev pub IsInRange : Order → Type 0
 IsInRange (Single mean variance stock) =
-    (mean.places ≡ 4) × IfSome variance (λ v. v.places ≡ 4) × (stock ≤ 63)
+    (mean.places ≡ 4) × IfSome variance (λ v. v.places ≡ 4) × (stock ≤ most_stock)
 IsInRange (Eval sites parts rates stocks bits) = IsWidth bits
 IsInRange (Plan sites parts rates on_hand budget format objective certificate) =
     AreInRange on_hand (record { budget = budget; format = format; objective = objective })

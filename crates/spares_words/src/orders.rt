@@ -25,7 +25,7 @@ use crate::{Order, Which, WordsFault};
 use answers::Stop;
 use clap::ArgMatches;
 use price_certificate::Terms;
-use spares_input::MOST_BUDGET;
+use spares_input::{MOST_BUDGET, MOST_STOCK};
 use spares_io::Text;
 use std::alloc::Global;
 
@@ -36,7 +36,12 @@ fn single_order(matches: &ArgMatches<'_>) -> Result<Order, WordsFault>
 {
     let mean = number(Which::Mean, 4, text_of(matches, "mean"))?;
     let variance = optional(Which::Variance, 4, value_of(matches, "variance"))?;
-    let stock = whole(Which::Stock, 0, 63, text_of(matches, "stock"))? as u8;
+    let stock = whole(
+        Which::Stock,
+        0,
+        MOST_STOCK as u64,
+        text_of(matches, "stock"),
+    )? as u8;
     Ok(Order::Single {
         mean,
         variance,

@@ -13,9 +13,9 @@ use Rattle.step_walk.specs.Walks.{AreShort, IsWalk, TellsFirst, MovesOn}
 use Rattle.step_walk.proofs.Waiting.{own_of, steepest_of, with_step, without, none_left}
 use Rattle.step_walk.proofs.Turns.{Turn, turn_of}
 
-module _ (curves : List (List Point)) (picks : List ℕ) (x : Step) (old rest : List Step) (few : length curves ≤ 2000) (short : AreShort curves) (shapes : HaveShapes curves) (pre : IsPrefix curves picks) (popped : IsPermutation old (x ∷ rest)) (top : IsUpperBound step_cmp x old) (held : HoldsNext curves picks (length curves) old) (pick : ℕ) (is : pick ≡ get_or picks x.family pick) where
+module _ (curves : List (List Point)) (picks : List ℕ) (x : Step) (old rest : List Step) (few : length curves ≤ 2000) (short : AreShort curves) (shapes : HaveShapes curves) (pre : IsPrefix curves picks) (popped : IsPermutation old (x ∷ rest)) (top : IsUpperBound step_cmp x old) (waits : HoldsNext curves picks (length curves) old) (pick : ℕ) (is : pick ≡ get_or picks x.family pick) where
   turn : Turn curves picks x rest (pick + 1)
-  turn = turn_of curves picks x old rest shapes pre popped top held pick is
+  turn = turn_of curves picks x old rest shapes pre popped top waits pick is
 
   -- with the next step of the same family among those that wait, the walk is a step further
   pub goes_with : (y : Step) (new : List Step) → TellsStep curves x.family (pick + 1) y → IsPermutation (y ∷ rest) new → IsHeap step_cmp new → IsWalk curves (set picks x.family (pick + 1)) new
@@ -25,7 +25,7 @@ module _ (curves : List (List Point)) (picks : List ℕ) (x : Step) (old rest : 
     shapes = shapes;
     prefix = turn.prefix;
     order = order;
-    held = with_step curves (set picks x.family (pick + 1)) (length curves) x.family y rest new turn.family turn.others
+    waits = with_step curves (set picks x.family (pick + 1)) (length curves) x.family y rest new turn.family turn.others
         (subst (λ k. TellsStep curves x.family k y) (sym turn.own) told) pushed;
   }
 
@@ -37,7 +37,7 @@ module _ (curves : List (List Point)) (picks : List ℕ) (x : Step) (old rest : 
     shapes = shapes;
     prefix = turn.prefix;
     order = order;
-    held = without curves (set picks x.family (pick + 1)) (length curves) x.family rest turn.others (subst (λ k. HasStep curves x.family k → ⊥) (sym turn.own) out);
+    waits = without curves (set picks x.family (pick + 1)) (length curves) x.family rest turn.others (subst (λ k. HasStep curves x.family k → ⊥) (sym turn.own) out);
   }
 
   -- the greatest waiting step is the next of all steps
@@ -56,15 +56,15 @@ pub record Peeked (curves : List (List Point)) (picks : List ℕ) (x : Step) : T
 -- the greatest of the waiting steps is the next of all steps
 pub peeked : (curves : List (List Point)) (picks : List ℕ) (x : Step) (waiting : List Step) → HaveShapes curves → HoldsNext curves picks (length curves) waiting
     → 0 < length waiting → x ≡ slice_index_or waiting 0 x → IsUpperBound step_cmp x waiting → Peeked curves picks x
-peeked curves picks x [] shapes held some is top = absurd (let l : 0 < 0 = some in omega arith)
-peeked curves picks x (y ∷ ys) shapes held some is top =
+peeked curves picks x [] shapes waits some is top = absurd (let l : 0 < 0 = some in omega arith)
+peeked curves picks x (y ∷ ys) shapes waits some is top =
     let e : x ≡ y = is in
     subst (λ z. Peeked curves picks z) (sym e) (from_top (subst (λ z. IsUpperBound step_cmp z (y ∷ ys)) e top))
   where
     from_top : IsUpperBound step_cmp y (y ∷ ys) → Peeked curves picks y
     from_top t = record {
-      next = next_of curves picks y.family shapes (steepest_of curves picks y (y ∷ ys) ys (IsPermutation-refl (y ∷ ys)) t held);
-      told = own_of curves picks y (y ∷ ys) ys (IsPermutation-refl (y ∷ ys)) held;
+      next = next_of curves picks y.family shapes (steepest_of curves picks y (y ∷ ys) ys (IsPermutation-refl (y ∷ ys)) t waits);
+      told = own_of curves picks y (y ∷ ys) ys (IsPermutation-refl (y ∷ ys)) waits;
     }
 
 -- what is told of it
@@ -118,5 +118,5 @@ moves_on curves picks new f pick next e is = record {
 
 -- where no step waits, none is next
 pub none_next : (curves : List (List Point)) (picks : List ℕ) (waiting : List Step) → HoldsNext curves picks (length curves) waiting → length waiting ≡ 0 → (f : ℕ) → IsNext curves picks f → ⊥
-none_next curves picks [] held e f next = none_left curves picks held f next.step
-none_next curves picks (x ∷ waiting) held e f next = absurd (let l : suc (length waiting) ≡ 0 = e in omega arith)
+none_next curves picks [] waits e f next = none_left curves picks waits f next.step
+none_next curves picks (x ∷ waiting) waits e f next = absurd (let l : suc (length waiting) ≡ 0 = e in omega arith)

@@ -1,13 +1,9 @@
 -- Steps as the curves tell them.
 use Rattle.hull.specs.Curves.{point_at}
-use Rattle.std.proofs.Common.{◌≡◌, ℕ, ◌+◌, ◌<◌, ◌⊎◌, List, [], length, get_or, ap, ◌∙◌, arith}
+use Rattle.std.proofs.Common.{◌≡◌, ℕ, ◌<◌, List, [], length, get_or, ap, ◌∙◌}
 use Rattle.std.proofs.lemmas.List.{get_or_default}
 use Rattle.hull.specs.declared.point.Point.{Point}
 use Rattle.step_walk.specs.Prefix.{curve_at, vertex_at}
-
--- what is below f + 1 is below f or is f
-pub below_or : (g f : ℕ) → g < f + 1 → (g < f) ⊎ (g ≡ f)
-below_or g f h = grind arith
 
 module _ (curves : List (List Point)) (f k p q : ℕ) (r : List Point) (is : r ≡ get_or curves f r) (b : f < length curves) where
   -- the curve that is read is that of family f

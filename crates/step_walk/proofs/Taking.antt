@@ -1,8 +1,8 @@
 -- Taking the next step keeps the prefix.
 use Rattle.std.proofs.Common.{◌≡◌, ℕ, zero, suc, ◌+◌, ◌-◌, ◌*◌, ◌<◌, ◌≤◌, ◌≢◌, ◌⊎◌, inl, inr, List, [], ◌∷◌, ◌++◌, length, set, slice_index, refl, sym, ap, ◌∙◌, subst, arith, get_or-set_other, get_or-set_same, length-set}
+use Rattle.list_laws.proofs.Public.{fractions_fall, fractions_fall_on}
 use Rattle.hull.specs.declared.point.Point.{Point}
 use Rattle.hull.specs.Curves.{Steps, IsChain, point_at}
-use Rattle.hull.proofs.Public.{falls_on, falls_after}
 use Rattle.step_walk.specs.Prefix.{curve_at, vertex_at, HasStep, fall, rise, IsBefore, IsPrefix, IsNext, HaveShapes}
 
 -- the falls and rises of one curve
@@ -44,7 +44,7 @@ head_slopes v w (x ∷ c) h (suc j) b =
     let s : Steps v w = h.0 in
     let more : Slopes (w ∷ x ∷ c) zero (suc j) = head_slopes w x c h.2 j (omega arith) in
     let here : Slopes (v ∷ w ∷ x ∷ c) (suc zero) (suc (suc j)) = from_tail v (w ∷ x ∷ c) zero (suc j) more in
-    falls_on (v.lo - w.lo) (w.cost - v.cost) (own_fall (v ∷ w ∷ x ∷ c) (suc zero)) (own_rise (v ∷ w ∷ x ∷ c) (suc zero)) (own_fall (v ∷ w ∷ x ∷ c) (suc (suc j))) (own_rise (v ∷ w ∷ x ∷ c) (suc (suc j))) here h.1 (let l = s.cost in omega arith)
+    fractions_fall (v.lo - w.lo) (w.cost - v.cost) (own_fall (v ∷ w ∷ x ∷ c) (suc zero)) (own_rise (v ∷ w ∷ x ∷ c) (suc zero)) (own_fall (v ∷ w ∷ x ∷ c) (suc (suc j))) (own_rise (v ∷ w ∷ x ∷ c) (suc (suc j))) here h.1 (let l = s.cost in omega arith)
 
 -- a later step of a chain falls less for its money
 pub slopes_fall : (c : List Point) → IsChain c → (k j : ℕ) → k < j → j + 1 < length c → Slopes c k j
@@ -66,7 +66,7 @@ apart k j h = grind arith
 before_later : (curves : List (List Point)) (f k g i j : ℕ) → IsChain (curve_at curves g) → i < j → HasStep curves g j → IsBefore curves f k g i → 0 < rise curves f k → IsBefore curves f k g j
 before_later curves f k g i j c l s h pos =
     let later : fall curves g j * rise curves g i < fall curves g i * rise curves g j = slopes_fall (curve_at curves g) c i j l s.place in
-    inl (falls_after (fall curves f k) (rise curves f k) (fall curves g i) (rise curves g i) (fall curves g j) (rise curves g j) later (before_is_steeper curves f k g i h) pos)
+    inl (fractions_fall_on (fall curves f k) (rise curves f k) (fall curves g i) (rise curves g i) (fall curves g j) (rise curves g j) later (before_is_steeper curves f k g i h) pos)
 
 -- a step of a family's curve costs money
 pub rises_at : (curves : List (List Point)) (f k : ℕ) → IsChain (curve_at curves f) → HasStep curves f k → 0 < rise curves f k

@@ -23,11 +23,11 @@ pub record Turn (curves : List (List Point)) (picks : List ℕ) (x : Step) (rest
   pub own : slice_index (set picks x.family vertex) x.family ≡ vertex
   pub smaller : steps_left curves (set picks x.family vertex) < steps_left curves picks
 
-module _ (curves : List (List Point)) (picks : List ℕ) (x : Step) (old rest : List Step) (shapes : HaveShapes curves) (pre : IsPrefix curves picks) (popped : IsPermutation old (x ∷ rest)) (top : IsUpperBound step_cmp x old) (held : HoldsNext curves picks (length curves) old) where
+module _ (curves : List (List Point)) (picks : List ℕ) (x : Step) (old rest : List Step) (shapes : HaveShapes curves) (pre : IsPrefix curves picks) (popped : IsPermutation old (x ∷ rest)) (top : IsUpperBound step_cmp x old) (waits : HoldsNext curves picks (length curves) old) where
   by_pick : Turn curves picks x rest (slice_index picks x.family + 1)
   by_pick =
-      let told = own_of curves picks x old rest popped held in
-      let next = next_of curves picks x.family shapes (steepest_of curves picks x old rest popped top held) in
+      let told = own_of curves picks x old rest popped waits in
+      let next = next_of curves picks x.family shapes (steepest_of curves picks x old rest popped top waits) in
       let family = told.step.family in
       let count = pre.vertices.count in
       record {
@@ -38,7 +38,7 @@ module _ (curves : List (List Point)) (picks : List ℕ) (x : Step) (old rest : 
         told = told;
         next = next;
         prefix = taken_prefix curves picks x.family pre next;
-        others = others_of curves picks x old rest (slice_index picks x.family + 1) popped held;
+        others = others_of curves picks x old rest (slice_index picks x.family + 1) popped waits;
         own = get_or-set_same picks x.family (slice_index picks x.family + 1) 0 (omega (arith, family, count));
         smaller = left_falls curves picks x.family family count (pre.vertices.below x.family family);
       }

@@ -113,7 +113,7 @@ module _ (curves : List (List Point)) (picks : List ℕ) where
             (λ y. (y.family ≡ x.family) ⊎ IsBefore curves x.family (slice_index picks x.family) y.family (slice_index picks y.family)) g old
             (both (λ y. is_lt (step_cmp x y) ≡ false) (IsNextOfOwn curves picks (length curves)) (λ y. (y.family ≡ x.family) ⊎ IsBefore curves x.family (slice_index picks x.family) y.family (slice_index picks y.family))
             (λ y l o. comes_first x y own.told o.told l) old top all.own)
-            (all.held g s.family s));
+            (all.waits g s.family s));
       }
     where
       from : (g : ℕ) → Found (λ y. (y.family ≡ x.family) ⊎ IsBefore curves x.family (slice_index picks x.family) y.family (slice_index picks y.family)) g
@@ -126,23 +126,23 @@ module _ (curves : List (List Point)) (picks : List ℕ) where
 
   -- where no step is left in the heap, none is left
   pub none_left : HoldsNext curves picks (length curves) [] → (g : ℕ) → HasStep curves g (slice_index picks g) → ⊥
-  none_left all g s = let l : 0 < 0 = all.held g s.family s in absurd (omega arith)
+  none_left all g s = let l : 0 < 0 = all.waits g s.family s in absurd (omega arith)
 
 -- the steps that wait for the families below n, but for f
 pub record HoldsOthers (curves : List (List Point)) (picks : List ℕ) (n f : ℕ) (steps : List Step) : Type 0 where
   pub own : AllByRecursion (IsNextOfOwn curves picks n) steps
   pub once : (g : ℕ) → count_of g steps ≤ 1
   pub no_own : count_of f steps ≡ 0
-  pub held : (g : ℕ) → g < n → g ≢ f → HasStep curves g (slice_index picks g) → 0 < count_of g steps
+  pub waits : (g : ℕ) → g < n → g ≢ f → HasStep curves g (slice_index picks g) → 0 < count_of g steps
 
 -- with no step of f
 pub without : (curves : List (List Point)) (picks : List ℕ) (n f : ℕ) (steps : List Step) → HoldsOthers curves picks n f steps → (HasStep curves f (slice_index picks f) → ⊥) → HoldsNext curves picks n steps
 without curves picks n f steps all out = record {
   own = all.own;
   once = all.once;
-  held = λ g l s. elim (cases_eq g f) [
+  waits = λ g l s. elim (cases_eq g f) [
     | inl e ↦ absurd (out (subst (λ z. HasStep curves z (slice_index picks z)) e s))
-    | inr d ↦ all.held g l d s
+    | inr d ↦ all.waits g l d s
   ];
 }
 
@@ -157,9 +157,9 @@ with_step curves picks n f x steps new b all told h = record {
     | inl e ↦ (let c = count_pushed g x steps new h in let z = ap (λ k. count_of k steps) e ∙ all.no_own in omega (arith, c, z))
     | inr d ↦ (let c = count_pushed g x steps new h in let o = all.once g in let z = of_other g f d in let y = ap (λ k. is_of g k) told.family in omega (arith, c, o, y, z))
   ];
-  held = λ g l s. elim (cases_eq g f) [
+  waits = λ g l s. elim (cases_eq g f) [
     | inl e ↦ (let c = count_pushed g x steps new h in let y = of_own g x.family (told.family ∙ sym e) in omega (arith, c, y))
-    | inr d ↦ (let c = count_pushed g x steps new h in let o = all.held g l d s in omega (arith, c, o))
+    | inr d ↦ (let c = count_pushed g x steps new h in let o = all.waits g l d s in omega (arith, c, o))
   ];
 }
 
@@ -171,9 +171,9 @@ others_of curves picks x old rest pick h all = record {
       rest (none_of x.family rest gone) (moved (IsNextOfOwn curves picks (length curves)) old (x ∷ rest) h all.own).1;
   once = λ g. (let c = count_popped g x old rest h in let o = all.once g in omega (arith, c, o));
   no_own = gone;
-  held = λ g l n s. (
+  waits = λ g l n s. (
       let c = count_popped g x old rest h in
-      let o = all.held g l (subst (λ k. HasStep curves g k) (get_or-set_other picks x.family g pick 0 n) s) in
+      let o = all.waits g l (subst (λ k. HasStep curves g k) (get_or-set_other picks x.family g pick 0 n) s) in
       let z = of_other g x.family n in
       omega (arith, c, o, z));
 }
@@ -191,7 +191,7 @@ one_more curves picks n steps all = record {
   own = weaker (IsNextOfOwn curves picks n) (IsNextOfOwn curves picks (n + 1)) (λ s o. record { below = (let l = o.below in omega (arith, l)); told = o.told }) steps all.own;
   once = all.once;
   no_own = none_counted n steps (weaker (IsNextOfOwn curves picks n) (λ s. s.family < n) (λ s o. o.below) steps all.own);
-  held = λ g l d s. all.held g (below_other g n l d) s;
+  waits = λ g l d s. all.waits g (below_other g n l d) s;
 }
   where
     below_other : (g n : ℕ) → g < n + 1 → g ≢ n → g < n

@@ -45,4 +45,4 @@ pub record IsNextOfOwn (curves : List (List Point)) (picks : List ℕ) (n : ℕ)
 pub record HoldsNext (curves : List (List Point)) (picks : List ℕ) (n : ℕ) (steps : List Step) : Type 0 where
   pub own : AllByRecursion (IsNextOfOwn curves picks n) steps
   pub once : (g : ℕ) → count_of g steps ≤ 1
-  pub held : (g : ℕ) → g < n → HasStep curves g (slice_index picks g) → 0 < count_of g steps
+  pub waits : (g : ℕ) → g < n → HasStep curves g (slice_index picks g) → 0 < count_of g steps

@@ -25,7 +25,7 @@ pub record IsWalk (curves : List (List Point)) (picks : List ℕ) (waiting : Lis
   pub shapes : HaveShapes curves
   pub prefix : IsPrefix curves picks
   pub order : IsHeap step_cmp waiting
-  pub held : HoldsNext curves picks (length curves) waiting
+  pub waits : HoldsNext curves picks (length curves) waiting
 
 -- the properties of each walk
 pub record IsOnWay (walk : Walked) : Type 0 where

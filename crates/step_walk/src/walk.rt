@@ -68,7 +68,7 @@ fn first_steps(
     requires few { length curves.now ≤ most_curves }
     requires vertices { AreVertices curves.now picks.now }
     ensures order { IfOk result (λ steps. IsHeap step_cmp (heap_items steps)) }
-    ensures held { IfOk result (λ steps. HoldsNext curves.now picks.now (length curves.now) (heap_items steps)) }
+    ensures waits { IfOk result (λ steps. HoldsNext curves.now picks.now (length curves.now) (heap_items steps)) }
 {
     let mut steps = BinaryHeap::with_capacity(alloc, curves.len())?;
     for f in 0..curves.len() {

@@ -1,3 +1,2 @@
 -- The lemmas of this crate that crates above may cite, by the files that prove them.
-pub use Rattle.sum_walk.proofs.Lists.{zip_push}
 pub use Rattle.sum_walk.proofs.Parts.{sums_one_more}

@@ -2,6 +2,7 @@
 
 ghost use Rattle.std.specs.Prelude.{◌≡◌, ◌+◌, ◌≤◌, IfOk, length, sum_by};
 ghost use Rattle.std.specs.List.{AllZip};
+ghost use Rattle.hull.specs.Limits.{most_summed};
 ghost use Rattle.hull.specs.declared.point.Point.{Point};
 ghost use Rattle.hull.specs.Curves.{InRange};
 ghost use Rattle.sum_walk.specs.Lanes.{IsOn, lasts, stands, together};
@@ -16,7 +17,7 @@ use std::alloc::Global;
 /// The place of `first` and the lanes' vertices together.
 pub(crate) fn place_at<T: Spot>(first: &Point, curves: &[Chain<T>], lanes: &[Lane]) -> Place
     requires on { AllZip IsOn curves.now lanes.now }
-    requires few { length curves.now ≤ 16 }
+    requires few { length curves.now ≤ most_summed }
     requires range { InRange first.now }
     ensures { IsPlaceOf (together first.now (stands curves.now lanes.now)) result }
 {
@@ -34,7 +35,7 @@ pub(crate) fn place_at<T: Spot>(first: &Point, curves: &[Chain<T>], lanes: &[Lan
 
 /// The least lower end of a sum of `first` and a vertex of each curve.
 pub(crate) fn lowest<T: Spot>(first: &Point, curves: &[Chain<T>]) -> u128
-    requires few { length curves.now ≤ 16 }
+    requires few { length curves.now ≤ most_summed }
     requires range { InRange first.now }
     ensures { result ≡ first.now.lo + sum_by (λ v. v.lo) (lasts curves.now) }
 {
@@ -51,7 +52,7 @@ pub(crate) fn lowest<T: Spot>(first: &Point, curves: &[Chain<T>]) -> u128
 /// The upper end of `first` and the lanes' vertices together.
 fn upper_end<T: Spot>(first: &Point, curves: &[Chain<T>], lanes: &[Lane]) -> u128
     requires on { AllZip IsOn curves.now lanes.now }
-    requires few { length curves.now ≤ 16 }
+    requires few { length curves.now ≤ most_summed }
     requires range { InRange first.now }
     ensures { result ≡ (together first.now (stands curves.now lanes.now)).hi }
 {
@@ -72,7 +73,7 @@ fn stocks_of<T: Spot>(
     curves: &[Chain<T>],
     lanes: &[Lane],
 ) -> Result<Vec<u8>, NoMemory>
-    requires few { length curves.now ≤ 16 }
+    requires few { length curves.now ≤ most_summed }
     requires on { AllZip IsOn curves.now lanes.now }
     ensures { IfOk result (λ stocks. stocks.items ≡ (together first.now (stands curves.now lanes.now)).stocks) }
 {
@@ -97,7 +98,7 @@ pub(crate) fn sum_at<T: Spot>(
     place: Place,
 ) -> Result<Point, NoMemory>
     requires on { AllZip IsOn curves.now lanes.now }
-    requires few { length curves.now ≤ 16 }
+    requires few { length curves.now ≤ most_summed }
     requires range { InRange first.now }
     requires place { IsPlaceOf (together first.now (stands curves.now lanes.now)) place }
     ensures { IfOk result (λ sum. sum ≡ together first.now (stands curves.now lanes.now)) }

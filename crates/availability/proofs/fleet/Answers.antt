@@ -1,8 +1,8 @@
 use Rattle.std.proofs.Common.{List, ◌≡◌, ◌∙◌, ◌<◌, ◌^◌, length, take, arith, lit<, sym, ap, ap₂, subst}
 use Rattle.std.proofs.Math.Seq.{take-length}
 use Rattle.std.proofs.lemmas.List.Elements.{All-get_or}
+use Rattle.list_laws.proofs.Public.{ceil_most}
 use Rattle.fixed_interval.specs.Ends.{Ends, In, ends_over}
-use Rattle.fixed_interval.proofs.Public.{ceil_most}
 use Rattle.availability.specs.declared.Weighted.{Weighted}
 use Rattle.availability.specs.Profile.{weighted_sum, all_systems}
 use Rattle.availability.specs.Exact.{weighted_mean, IsWeighted}

@@ -1,6 +1,5 @@
 use Rattle.std.proofs.Common.{mul-le-mul_left, length, ◌≡◌, ◌<◌, ap, arith, map, subst}
 use Rattle.spares_input.specs.Cases.{frame_rows, pair_count}
-use Rattle.demand_rates.proofs.Public.{mapped_more}
 use Rattle.case_figures.specs.Figures.{all_items, named}
 use Rattle.case_figures.specs.Shows.{no_item_line}
 use Rattle.case_figures.specs.declared.figures.Figures.{Figures}
@@ -8,6 +7,7 @@ use Rattle.metric_compare.specs.Levels.{poisson_numbers}
 use Rattle.metric_compare.specs.Profile.{poisson_of}
 use Rattle.metric_compare.specs.Report.{compared_at}
 use Rattle.std.specs.List.{range_with_len}
+use Rattle.list_laws.proofs.Public.{mapped_more}
 use Rattle.metric_compare.proofs.Adding.{all_within, read_all}
 use Rattle.metric_compare.proofs.Shown.{line_is, lines_length, place_at, row_is, span_places}
 use Rattle.metric_compare.proofs.compared_items.Goals as goal

@@ -1,5 +1,6 @@
 use Rattle.std.proofs.Common.{◌<◌, ◌-◌, ◌*◌, ◌^◌, arith, inr, subst}
-use Rattle.fixed_interval.proofs.Public.{ceil_most, unit_most}
+use Rattle.list_laws.proofs.Public.{ceil_most}
+use Rattle.fixed_interval.proofs.Public.{unit_most}
 use Rattle.series_bounds.proofs.Bounds.{many_gaps}
 use Rattle.series_bounds.proofs.Ranges.{product_room}
 use Rattle.series_bounds.proofs.rest_at.Goals as goal

@@ -1,7 +1,7 @@
 use Rattle.budget_sweep.specs.Texts.{next_price_text, state_text}
 use Rattle.std.specs.Prelude.{codes}
 use Rattle.std.proofs.Common.{◌++◌, ◌∷◌, []}
-use Rattle.plan_report.proofs.Public.{joined_more}
+use Rattle.list_laws.proofs.Public.{joined_more}
 use Rattle.budget_sweep.proofs.texts.put_point.Goals as goal
 
 pub returns : goal.returns

@@ -1,6 +1,6 @@
 use Rattle.budget_sweep.specs.Texts.{point_text}
 use Rattle.std.proofs.Common.{refl}
-use Rattle.plan_report.proofs.Public.{put_next, put_all}
+use Rattle.list_laws.proofs.Public.{put_all, put_next}
 use Rattle.budget_sweep.proofs.texts.put_points.Goals as goal
 
 pub loop-point-preserved : goal.loop-point-preserved

@@ -1,7 +1,8 @@
 use Rattle.std.proofs.Common.{◌≤◌, ◌^◌, lit<, ap, sym, ◌∙◌, subst}
+use Rattle.list_laws.proofs.Public.{pushed_all, pushed_next}
 use Rattle.fixed_interval.specs.Ends.{Ends}
 use Rattle.case_figures.specs.Gathering.{IsFamilyOf, factor_from}
-use Rattle.case_figures.proofs.Rows.{pushed_all, pushed_has, pushed_next}
+use Rattle.case_figures.proofs.Rows.{pushed_has}
 use Rattle.case_figures.proofs.bases.base_factors.Goals as goal
 
 pub factor_from-requires : goal.factor_from-requires

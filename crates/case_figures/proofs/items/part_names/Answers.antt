@@ -1,7 +1,7 @@
 use Rattle.std.proofs.Common.{ap, arith}
+use Rattle.list_laws.proofs.Public.{pushed_all, pushed_next}
 use Rattle.spares_input.specs.Rows.{no_part}
 use Rattle.spares_input.specs.declared.rows.PartRow.{PartRow}
-use Rattle.case_figures.proofs.Rows.{pushed_all, pushed_next}
 use Rattle.case_figures.proofs.items.part_names.Goals as goal
 
 pub part-requires : goal.part-requires

@@ -1,7 +1,7 @@
 use Rattle.std.proofs.Common.{ap, arith}
+use Rattle.list_laws.proofs.Public.{pushed_all, pushed_next}
 use Rattle.spares_input.specs.Rows.{no_site}
 use Rattle.spares_input.specs.declared.rows.SiteRow.{SiteRow}
-use Rattle.case_figures.proofs.Rows.{pushed_all, pushed_next}
 use Rattle.case_figures.proofs.items.site_names.Goals as goal
 
 pub site-requires : goal.site-requires

@@ -1,8 +1,8 @@
 use Rattle.std.proofs.Common.{◌++◌, ap, ◌∙◌}
+use Rattle.list_laws.proofs.Public.{after_ok}
 use Rattle.line_text.specs.Files.{line}
 use Rattle.spares_input.specs.Frames.{part_at, site_at}
 use Rattle.case_lines.specs.Grammar.{pair_of, rate_fields}
-use Rattle.case_lines.proofs.Written.{after_ok}
 use Rattle.case_lines.proofs.rates.put_pair.Goals as goal
 
 pub returns : goal.returns

@@ -5,9 +5,9 @@ use Rattle.line_text.specs.Formats.{each}
 use Rattle.line_text.specs.Files.{file_text}
 use Rattle.line_text.specs.Texts.{count_line, numbers_from}
 use Rattle.case_lines.specs.Grammar.{pair_at, rate_line}
-use Rattle.case_lines.proofs.Written.{after_ok, back}
 use Rattle.case_lines.proofs.rates.put_rates.Goals as goal
 use lib.Chars.{codes}
+use Rattle.list_laws.proofs.Public.{after_ok, joined_more}
 
 pub returns : goal.returns
 returns c =
@@ -21,7 +21,7 @@ returns c =
     ∙ ap (λ (x : ℕ). length rows.parts * x) c.site_count.ensures.count
     ∙ sym c.part_count.ensures.valid.rate_count in
     after_ok c.put_each_rate.result
-    (λ h. back c.put_each_rate.new.out.items c.put_count_line.new.out.items out (file_text head (c.part_count.result * c.site_count.result)) (concat lines) (c.in_ok-put_count_line.ensures (length keys) (length keys)) h
+    (λ h. joined_more out (file_text head (c.part_count.result * c.site_count.result)) (concat lines) c.put_count_line.new.out.items c.put_each_rate.new.out.items (c.in_ok-put_count_line.ensures (length keys) (length keys)) h
     ∙ ap (λ (n : ℕ). out ++ (file_text head n ++ concat lines)) count
     ∙ ap (λ (z : List ℕ). out ++ z) (sym (concat-append (head.print (length rows.rates)) lines)))
     c.put_each_rate.ensures

@@ -1,11 +1,11 @@
 use Rattle.std.proofs.Common.{◌≡◌, ◌*◌, ◌∙◌, refl, sym, ap, subst, length, map, None}
 use Rattle.std.specs.List.{range_with_len}
+use Rattle.list_laws.proofs.Public.{all_places, mapped_more, within_product}
 use Rattle.spares_input.specs.First.{first}
-use Rattle.spares_input.proofs.Public.{all_places, few_parts, few_sites, part_within, place_few, places_fit, site_within, some_sites, first_found, first_more}
+use Rattle.spares_input.proofs.Public.{few_parts, few_sites, part_within, place_few, places_fit, site_within, some_sites, first_found, first_more}
 use Rattle.demand_rates.specs.Limits.{place_fault}
 use Rattle.demand_rates.specs.Rates.{place_rates}
-use Rattle.demand_rates.proofs.Grown.{mapped_more}
-use Rattle.demand_rates.proofs.RateFacts.{fault_at, rates_of_place, within_pairs}
+use Rattle.demand_rates.proofs.RateFacts.{fault_at, rates_of_place}
 use Rattle.demand_rates.proofs.case_rates.all_pairs.Goals as goal
 
 pub loop-i-init : goal.loop-i-init
@@ -16,7 +16,7 @@ pub returns-in-Some-clause-fault : goal.returns-in-Some-clause-fault
 returns-in-Some-clause-fault c =
     let rule = fault_at c.args.case.now c.site_count-sites.result c.loop-i.i c.pair_at.result.0 c.pair_at.result.1 c.pair_rates-rates.result
     c.site_count-sites.ensures.count c.pair_at.ensures.part c.pair_at.ensures.site c.pair_rates-rates.ensures.rates in
-    let within = within_pairs c.loop-i.i c.part_count.result c.site_count-sites.result (length c.args.case.now.parts) (length c.args.case.now.sites)
+    let within = within_product c.loop-i.i c.part_count.result c.site_count-sites.result (length c.args.case.now.parts) (length c.args.case.now.sites)
     c.part_count.ensures.count c.site_count-sites.ensures.count c.loop-i-test.true in
     first_found (place_fault c.args.case.now) c.loop-i.i (length c.args.case.now.parts * length c.args.case.now.sites) c.in-Some.fault
     c.loop-i.invariant.faultless (sym rule ∙ sym c.in-Some.ensures) within

@@ -1,7 +1,7 @@
 use Rattle.std.proofs.Common.{◌≡◌, ◌∙◌, map, ap, length, arith}
 use Rattle.std.specs.List.{range_with_len}
+use Rattle.list_laws.proofs.Public.{mapped_more}
 use Rattle.fleet_model.specs.Units.{demand_units}
-use Rattle.demand_rates.proofs.Grown.{mapped_more}
 use Rattle.demand_rates.proofs.DepotFacts.{demands_are}
 use Rattle.demand_rates.proofs.depot.depot_demands.Goals as goal
 

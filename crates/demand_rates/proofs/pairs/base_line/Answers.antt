@@ -3,6 +3,7 @@ use Rattle.std.proofs.lemmas.Nat.{mul-le}
 use mir.Val.{Fits}
 use mir.Syntax.{w128}
 use Rattle.spares_input.specs.declared.rows.RateRow.{RateRow}
+use Rattle.demand_rates.proofs.Ranges.{direct_fits, small_enough}
 use Rattle.demand_rates.proofs.WaitFacts.{base_line_holds}
 use Rattle.demand_rates.proofs.pairs.base_line.Goals as goal
 
@@ -12,17 +13,11 @@ direct_most demand days few_demands few_days =
     let product = mul-le demand days 1000000000 20000000000 few_demands few_days in
     (product, mul-le (demand * days) 100000000 20000000000000000000 100000000 product (omega arith))
 
-small_enough : (direct : ℕ) → direct ≤ 2000000000000000000000000000 → direct ≤ 30000000000000000000000000000
-small_enough direct few = omega arith
-
 sum_fits : (direct wait : ℕ) → direct ≤ 2000000000000000000000000000 → wait ≤ 3000000000000000000000000000000 → Fits w128 (direct + wait)
 sum_fits direct wait few few_wait = omega arith
 
 day_fits : (n : ℕ) → n ≤ 20000000000000000000 → Fits w128 n
 day_fits n few = omega (arith, few)
-
-direct_fits : (n : ℕ) → n ≤ 2000000000000000000000000000 → Fits w128 n
-direct_fits n few = omega (arith, few)
 
 mean_fits : (direct wait more : ℕ) → direct ≤ 2000000000000000000000000000 → wait ≤ 3000000000000000000000000000000 → more ≤ 6000000000000000000000000000000
     → Fits w128 (direct + wait + more)

@@ -1,18 +1,7 @@
-use Rattle.std.proofs.Common.{ℕ, ◌*◌, ◌≤◌, arith}
-use Rattle.std.proofs.lemmas.Nat.{mul-le}
-use mir.Val.{Fits}
-use mir.Syntax.{w128}
+use Rattle.std.proofs.Common.{◌*◌}
+use Rattle.demand_rates.proofs.Ranges.{direct_most, direct_fits, small_enough}
 use Rattle.demand_rates.proofs.WaitFacts.{base_shop_holds}
 use Rattle.demand_rates.proofs.pairs.base_shop.Goals as goal
-
-direct_most : (demand days : ℕ) → demand ≤ 100000000000000000 → days ≤ 20000000000 → demand * days ≤ 2000000000000000000000000000
-direct_most demand days few few_days = mul-le demand days 100000000000000000 20000000000 few few_days
-
-direct_fits : (direct : ℕ) → direct ≤ 2000000000000000000000000000 → Fits w128 direct
-direct_fits direct few = omega (arith, few)
-
-small_enough : (direct : ℕ) → direct ≤ 2000000000000000000000000000 → direct ≤ 30000000000000000000000000000
-small_enough direct few = omega (arith, few)
 
 pub overflow_mul-result : goal.overflow_mul-result
 overflow_mul-result c =

@@ -1,14 +1,8 @@
 use Rattle.std.proofs.Common.{ℕ, ◌+◌, ◌*◌, ◌≤◌, arith}
-use Rattle.std.proofs.lemmas.Nat.{mul-le}
 use mir.Val.{Fits}
 use mir.Syntax.{w128}
+use Rattle.demand_rates.proofs.Ranges.{direct_most, direct_fits}
 use Rattle.demand_rates.proofs.waits.shop_mean.Goals as goal
-
-direct_most : (demand days : ℕ) → demand ≤ 100000000000000000 → days ≤ 20000000000 → demand * days ≤ 2000000000000000000000000000
-direct_most demand days few few_days = mul-le demand days 100000000000000000 20000000000 few few_days
-
-direct_fits : (direct : ℕ) → direct ≤ 2000000000000000000000000000 → Fits w128 direct
-direct_fits direct few = omega arith
 
 mean_most : (direct sent repair : ℕ) → direct ≤ 2000000000000000000000000000 → sent ≤ 1000000000000000000000 → repair ≤ sent * 999999
     → direct + repair ≤ 3000000000000000000000000000

@@ -1,6 +1,6 @@
 use Rattle.std.proofs.Common.{◌+◌, arith}
+use Rattle.list_laws.proofs.Public.{part_below}
 use Rattle.exact_ratio.proofs.Reading.{after_more}
-use Rattle.fixed_interval.proofs.Public.{part_below}
 use Rattle.exact_ratio.proofs.decimal.read_on.Goals as goal
 
 pub returns-in_default : goal.returns-in_default

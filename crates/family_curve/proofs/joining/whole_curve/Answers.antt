@@ -1,10 +1,11 @@
 use Rattle.std.proofs.Common.{◌≡◌, ℕ, ◌-◌, ◌*◌, ◌<◌, ◌∷◌, List, [], drop, get_or, length, flat_map, sym, ap, subst, arith}
+use Rattle.list_laws.proofs.Public.{one_of, room_for}
 use Rattle.hull.specs.declared.point.Point.{Point}
 use Rattle.hull.specs.Curves.{IsCurve}
 use Rattle.family_points.specs.Separation.{depot_points}
 use Rattle.family_points.specs.Inputs.{line_stocks, shop_vectors, vertex_count}
-use Rattle.family_curve.proofs.Grown.{curve_grows_back, room_for}
-use Rattle.family_points.proofs.Public.{all_depots, flat_before, flat_last, one_of, whole_room}
+use Rattle.family_curve.proofs.Grown.{curve_grows_back}
+use Rattle.family_points.proofs.Public.{all_depots, flat_before, flat_last, whole_room}
 use Rattle.family_curve.proofs.joining.whole_curve.Goals as goal
 
 pub with_shops-requires-clause-number : goal.with_shops-requires-clause-number

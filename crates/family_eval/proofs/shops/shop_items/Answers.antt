@@ -1,5 +1,5 @@
 use Rattle.std.proofs.Common.{◌∙◌, arith}
-use Rattle.demand_rates.proofs.Public.{mapped_more}
+use Rattle.list_laws.proofs.Public.{mapped_more}
 use Rattle.family_items.specs.Profile.{item_of}
 use Rattle.family_items.proofs.Public.{base_shop_item}
 use Rattle.family_eval.proofs.shops.shop_items.Goals as goal

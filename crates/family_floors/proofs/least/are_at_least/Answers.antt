@@ -1,12 +1,12 @@
 use Rattle.std.proofs.Common.{◌≡◌, ℕ, suc, true, false, ◌+◌, ◌-◌, ◌≤◌, ◌∷◌, ◌∙◌, List, drop, length, set, flat_map, sym, ap, subst, refl, arith}
 use Rattle.std.specs.List.{range_with_len}
+use Rattle.list_laws.proofs.Public.{set_first}
 use Rattle.hull.specs.declared.point.Point.{Point}
 use Rattle.family_points.specs.Separation.{depot_points}
 use Rattle.family_points.specs.Inputs.{IsAt, line_high, line_low}
 use Rattle.family_points.specs.Least.{AreAtLeast, Decides}
 use Rattle.family_points.proofs.Public.{decides_true, stock_below, stock_more, joined_at}
 use Rattle.family_rows.specs.Tabled.{AreTables}
-use Rattle.family_floors.proofs.Firsts.{set_first}
 use Rattle.family_floors.proofs.least.are_at_least.Goals as goal
 
 pub depot_is_at_least-requires-clause-depot : goal.depot_is_at_least-requires-clause-depot

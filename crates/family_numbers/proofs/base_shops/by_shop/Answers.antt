@@ -1,6 +1,6 @@
 use Rattle.std.proofs.Common.{◌≡◌, ◌-◌, ◌<◌, ◌∙◌, map, ap, arith, length, lit<}
 use Rattle.std.specs.List.{range_with_len}
-use Rattle.demand_rates.proofs.Public.{mapped_more}
+use Rattle.list_laws.proofs.Public.{mapped_more}
 use Rattle.family_numbers.specs.BaseTables.{tables_by_stock}
 use Rattle.family_numbers.specs.Numbers.{depot_shop_table, nth_stock}
 use Rattle.family_numbers.proofs.BaseTables.{bound_of}

@@ -1,12 +1,12 @@
 use Rattle.std.proofs.Common.{◌≡◌, ◌-◌, ◌+◌, ◌≤◌, ◌∙◌, suc, map, ap, ap₂, arith, lit<}
 use Rattle.std.specs.List.{range_with_len}
+use Rattle.list_laws.proofs.Public.{mapped_from}
 use Rattle.fixed_interval.specs.Ends.{Ends}
 use Rattle.moment_table.specs.Rows.{TableRows, at_stock}
 use Rattle.depot_pipeline.specs.declared.Feed.{Feed}
 use Rattle.base_pipeline.specs.Profile.{base_shop_ends}
 use Rattle.family_numbers.specs.declared.numbers.PairNumbers.{PairNumbers}
 use Rattle.family_numbers.specs.Numbers.{base_shop_table, depot_shop_row, feed_from, table_of}
-use Rattle.family_numbers.proofs.BaseTables.{mapped_from}
 use Rattle.family_numbers.proofs.Served.{feed_is_small, depot_shop_small}
 use Rattle.family_numbers.proofs.base_shops.by_stock.Goals as goal
 

@@ -1,6 +1,7 @@
 use Rattle.std.proofs.Common.{◌≡◌, ℕ, ◌-◌, ◌<◌, ◌*◌, ◌∙◌, suc, ap, arith, length}
+use Rattle.list_laws.proofs.Public.{count_from, read_from}
 use Rattle.family_numbers.specs.Numbers.{base_shop_table, nth_stock}
-use Rattle.family_numbers.proofs.BaseTables.{bases_long, count_from, read_from, read_shop, shops_are, shops_long, within_of}
+use Rattle.family_numbers.proofs.BaseTables.{bases_long, read_shop, shops_are, shops_long, within_of}
 use Rattle.family_numbers.proofs.base_shops.table_of.Goals as goal
 
 pub bounds-bases-from : goal.bounds-bases-from

@@ -1,6 +1,6 @@
 use Rattle.std.proofs.Common.{◌∙◌, ap}
+use Rattle.list_laws.proofs.Public.{mapped_more}
 use Rattle.depot_pipeline.specs.Profile.{depot_shop_ends}
-use Rattle.demand_rates.proofs.Public.{mapped_more}
 use Rattle.family_numbers.specs.declared.numbers.PairNumbers.{PairNumbers}
 use Rattle.family_numbers.specs.Numbers.{depot_shop_table, table_of}
 use Rattle.family_numbers.proofs.by_numbers.depot_shop_tables.Goals as goal

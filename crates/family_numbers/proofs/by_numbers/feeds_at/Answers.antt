@@ -1,7 +1,7 @@
 use Rattle.std.proofs.Common.{◌+◌, ◌-◌, ◌∙◌, ap, ap₂, length}
+use Rattle.list_laws.proofs.Public.{mapped_more}
 use Rattle.fixed_interval.specs.Ends.{Ends}
 use Rattle.moment_table.specs.Rows.{TableRows, at_stock}
-use Rattle.demand_rates.proofs.Public.{mapped_more}
 use Rattle.family_numbers.specs.declared.numbers.PairNumbers.{PairNumbers}
 use Rattle.family_numbers.specs.Numbers.{depot_shop_row, depot_shop_table, feed_from, nth_stock, pair_at}
 use Rattle.family_numbers.proofs.Served.{count_of, read_of}

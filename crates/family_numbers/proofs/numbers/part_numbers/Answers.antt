@@ -1,4 +1,4 @@
-use Rattle.demand_rates.proofs.Public.{mapped_more}
+use Rattle.list_laws.proofs.Public.{mapped_more}
 use Rattle.family_numbers.specs.Numbers.{pair_numbers}
 use Rattle.family_numbers.proofs.numbers.part_numbers.Goals as goal
 

@@ -1,16 +1,15 @@
 use Rattle.std.proofs.Common.{◌≡◌, ℕ, suc, ◌+◌, ◌-◌, ◌*◌, ◌≤◌, List, ◌∷◌, ◌++◌, drop, length, set, flat_map, sym, ap, ◌∙◌, subst, refl, arith}
 use Rattle.std.specs.List.{range_with_len}
+use Rattle.list_laws.proofs.Public.{room_for, set_first}
 use Rattle.hull.specs.declared.point.Point.{Point}
 use Rattle.family_points.specs.Separation.{depot_points}
 use Rattle.family_points.specs.Inputs.{IsAt, line_high, line_low, line_stocks, vertex_count}
 use Rattle.family_rows.specs.Tabled.{AreTables}
 use Rattle.family_points.proofs.Public.{flat_stock_behind, joined_at, stocks_count}
 use Rattle.family_curve.specs.Joining.{vertices_of}
-use Rattle.family_curve.proofs.Public.{room_for}
 use Rattle.family_parts.specs.Growing.{Grows, in_turn, turn_points}
 use Rattle.family_parts.proofs.Grown.{grows_by_nothing, grows_members, grows_on}
 use Rattle.family_floors.specs.Rough.{AreRough}
-use Rattle.family_floors.proofs.Public.{set_first}
 use Rattle.family_parts.proofs.InTurn.{moved_back, moved_there, turned_back, turned_there}
 use Rattle.family_parts.proofs.joining.grow_with_lines.Goals as goal
 

@@ -1,6 +1,7 @@
 use Rattle.std.proofs.Common.{Option, None, Some, IsSome, refl, ◌≡◌, ℕ, suc, ◌+◌, ◌-◌, ◌/◌, ◌*◌, ◌^◌, ◌<◌, ◌≤◌, List, [], ◌++◌, get_or, length, flat_map, sym, ap, ◌∙◌, subst, arith, mul-le-mul_left}
 use Rattle.std.specs.List.{range_with_len}
 use Rattle.std.proofs.lemmas.Nat.{mul-le}
+use Rattle.list_laws.proofs.Public.{room_for}
 use Rattle.hull.specs.declared.point.Point.{Point}
 use Rattle.hull.specs.declared.price.Price.{Price}
 use Rattle.curve_parts.specs.Cuts.{IsWindow}
@@ -12,7 +13,6 @@ use Rattle.family_points.specs.Points.{ScoreEnds}
 use Rattle.family_points.proofs.Public.{box_some, box_begins, flat_stock_behind, stocks_count, whole_room}
 use Rattle.family_points.specs.Inputs.{FamilyBox, IsFamilyBox, box_points, line_stocks, shop_vectors, vector_count, vertex_count}
 use Rattle.family_points.specs.Separation.{shop_points}
-use Rattle.family_curve.proofs.Public.{room_for}
 use Rattle.family_parts.specs.Growing.{Grows, in_turn}
 use Rattle.family_parts.proofs.Grown.{grows_by_nothing, grows_members, grows_on}
 use Rattle.family_parts.proofs.InTurn.{placed_back, placed_there, turned_back, turned_there}

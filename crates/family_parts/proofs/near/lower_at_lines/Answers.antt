@@ -1,9 +1,9 @@
 use Rattle.std.proofs.Common.{◌≡◌, ℕ, ◌≤◌, List, ◌∷◌, drop, length, set, sym, ap, ◌∙◌, subst, refl, arith}
+use Rattle.list_laws.proofs.Public.{set_first}
 use Rattle.family_points.specs.Inputs.{IsAt, line_high, line_low}
 use Rattle.family_rows.specs.Tabled.{AreTables}
 use Rattle.family_points.proofs.Public.{joined_at}
 use Rattle.family_floors.specs.Rough.{AreRough}
-use Rattle.family_floors.proofs.Public.{set_first}
 use Rattle.family_parts.proofs.near.lower_at_lines.Goals as goal
 
 pub lower_at_depot-least-requires-clause-depot : goal.lower_at_depot-least-requires-clause-depot

@@ -1,8 +1,7 @@
 use Rattle.std.proofs.Common.{◌≡◌, suc, ◌+◌, ◌-◌, [], ◌∷◌, ◌++◌, length, sym, ap, ◌∙◌, subst, arith}
 use Rattle.std.specs.List.{AllZip, range_with_len}
-use Rattle.spares_input.proofs.Public.{range_more}
+use Rattle.list_laws.proofs.Public.{range_more, zip_push}
 use Rattle.family_points.specs.Choices.{IsBaseOf}
-use Rattle.sum_walk.proofs.Public.{zip_push}
 use Rattle.family_points.proofs.order.bases_of.Goals as goal
 
 pub loop-j-preserved : goal.loop-j-preserved

@@ -2,8 +2,8 @@ use Rattle.std.proofs.Common.{◌≡◌, ℕ, List, length, map, flat_map, sym, 
 use Rattle.spares_input.specs.declared.rows.PartId.{PartId}
 use Rattle.spares_input.specs.Stocks.{limit_at}
 use Rattle.std.specs.List.{range_with_len}
+use Rattle.list_laws.proofs.Public.{rows_more}
 use Rattle.fleet_model.specs.Fleet.{family}
-use Rattle.family_points.proofs.Bounded.{rows_more}
 use Rattle.family_points.proofs.Whole.{ids_limits, ids_within, limits_rows}
 use Rattle.family_points.proofs.places.limits_of.Goals as goal
 

@@ -1,9 +1,9 @@
 use Rattle.std.proofs.Common.{◌≡◌, ℕ, length, map, flat_map, sym, ap, ◌∙◌, arith}
 use Rattle.std.proofs.lemmas.List.{map-append}
 use Rattle.std.specs.List.{range_with_len}
+use Rattle.list_laws.proofs.Public.{rows_more}
 use Rattle.spares_input.specs.declared.rows.PartId.{PartId}
 use Rattle.fleet_model.specs.Fleet.{family}
-use Rattle.family_points.proofs.Bounded.{rows_more}
 use Rattle.family_points.proofs.Placed.{parts_rows}
 use Rattle.family_points.proofs.places.place_parts.Goals as goal
 

@@ -2,9 +2,9 @@ use Rattle.std.proofs.Common.{◌≡◌, ℕ, List, length, map, flat_map, sym, 
 use Rattle.spares_input.specs.declared.rows.PartId.{PartId}
 use Rattle.spares_input.specs.Stocks.{stock_at}
 use Rattle.std.specs.List.{range_with_len}
+use Rattle.list_laws.proofs.Public.{rows_more}
 use Rattle.fleet_model.specs.Rows.{stock}
 use Rattle.fleet_model.specs.Fleet.{family}
-use Rattle.family_points.proofs.Bounded.{rows_more}
 use Rattle.family_points.proofs.Placed.{ids_there, ids_stocks, vector_rows}
 use Rattle.family_points.proofs.places.vector_of.Goals as goal
 

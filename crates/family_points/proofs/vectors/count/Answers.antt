@@ -1,5 +1,6 @@
 use Rattle.std.proofs.Common.{◌+◌, ◌*◌, ◌<◌, sym, subst, arith}
-use Rattle.family_points.proofs.Numbers.{count_most, count_step, fits_count, ordered_at, same_length}
+use Rattle.list_laws.proofs.Public.{same_length}
+use Rattle.family_points.proofs.Numbers.{count_most, count_step, fits_count, ordered_at}
 use Rattle.family_points.proofs.vectors.count.Goals as goal
 
 pub bounds-high-i : goal.bounds-high-i

@@ -1,5 +1,6 @@
 use Rattle.std.proofs.Common.{◌≡◌, ◌+◌, ◌/◌, ◌<◌, [], ◌∷◌, ◌++◌, slice_index_or, refl, sym, subst, arith}
-use Rattle.family_points.proofs.Numbers.{next_size, some_choice, digit_most, stands_on, ordered_at, same_length}
+use Rattle.list_laws.proofs.Public.{same_length}
+use Rattle.family_points.proofs.Numbers.{next_size, some_choice, digit_most, stands_on, ordered_at}
 use Rattle.family_points.proofs.vectors.vector_at.Goals as goal
 
 pub bounds-high-i : goal.bounds-high-i

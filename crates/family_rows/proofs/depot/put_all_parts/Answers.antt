@@ -2,7 +2,7 @@ use Rattle.std.proofs.Common.{◌≡◌, ◌-◌, ◌+◌, ◌<◌, ◌++◌, �
 use Rattle.std.specs.List.{range_with_len}
 use Rattle.std.proofs.lemmas.List.{map-append, take_all, take_more_set}
 use Rattle.std.proofs.Math.ListN.{length-set}
-use Rattle.family_numbers.proofs.Public.{mapped_from}
+use Rattle.list_laws.proofs.Public.{mapped_from}
 use Rattle.family_points.proofs.Public.{bases_long}
 use Rattle.family_rows.specs.Tabled.{parts_at}
 use Rattle.family_rows.proofs.depot.put_all_parts.Goals as goal

@@ -1,12 +1,13 @@
 use Rattle.std.proofs.Common.{◌≡◌, ℕ, ◌-◌, ◌+◌, ◌<◌, ◌≤◌, ◌++◌, ◌∷◌, [], ◌∙◌, List, get_or, length, map, take, ap, ap₂, arith, lit<, subst, sym}
 use Rattle.std.proofs.lemmas.List.{length-map, map-append, take_all}
+use Rattle.list_laws.proofs.Public.{take_next}
 use Rattle.fixed_interval.specs.Ends.{InScale}
 use Rattle.family_numbers.specs.Numbers.{FamilyNumbers, shop_part}
 use Rattle.family_points.specs.declared.order.Base.{Base}
 use Rattle.family_points.specs.declared.order.ShopVector.{ShopVector}
 use Rattle.family_points.specs.Choices.{AreBases, IsBaseOf, IsShopVector}
 use Rattle.family_points.specs.Inputs.{AreShopsAt, FamilyBox, shop_vectors}
-use Rattle.family_points.proofs.Public.{base_read, bases_long, take_next, stock_read}
+use Rattle.family_points.proofs.Public.{base_read, bases_long, stock_read}
 use Rattle.family_rows.specs.Tabled.{box_numbers}
 use Rattle.family_rows.proofs.Tabled.{have_shops, shop_stocks}
 use Rattle.family_rows.proofs.depot.put_parts.Goals as goal

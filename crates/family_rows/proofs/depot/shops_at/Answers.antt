@@ -1,6 +1,6 @@
 use Rattle.std.proofs.Common.{◌≡◌, ◌-◌, ◌<◌, ◌∙◌, drop, get_or, length, map, ap, sym, arith}
 use Rattle.std.proofs.lemmas.List.{get_or-map, length-map}
-use Rattle.family_numbers.proofs.Public.{count_from, read_from}
+use Rattle.list_laws.proofs.Public.{count_from, read_from}
 use Rattle.family_rows.specs.Tabled.{parts_at}
 use Rattle.family_rows.proofs.depot.shops_at.Goals as goal
 

@@ -1,5 +1,6 @@
-use Rattle.std.proofs.Common.{◌≡◌, ℕ, ◌+◌, ◌<◌, ◌++◌, ◌∷◌, [], List, length, get_or, map, take, lit<, ap, ap₂, subst, sym, ◌∙◌}
-use Rattle.std.proofs.lemmas.List.{map_more, take_all}
+use Rattle.std.proofs.Common.{List, map, lit<, ap, subst, sym, ◌∙◌}
+use Rattle.std.proofs.lemmas.List.{take_all}
+use Rattle.list_laws.proofs.Public.{pushed_next}
 use Rattle.family_items.specs.declared.item.Item.{Item}
 use Rattle.family_tables.specs.declared.keys.Key.{Key}
 use Rattle.family_tables.specs.Kept.{IsKey, key_item}
@@ -28,15 +29,10 @@ item_at-requires g c =
       ),
     )
 
--- one entry more
-next : {A B : Type 0} (own : A → B) (xs : List A) (n : ℕ) (d : A) (old new : List B) (y : B) → n < length xs → new ≡ old ++ y ∷ [] → old ≡ map own (take n xs)
-    → y ≡ own (get_or xs n d) → new ≡ map own (take (n + 1) xs)
-next own xs n d old new y l e h same = e ∙ ap₂ (λ (zs : List _) (z : _). zs ++ z ∷ []) h same ∙ sym (map_more own xs n d l)
-
 pub loop-key-preserved : goal.loop-key-preserved
 loop-key-preserved g c =
     let own : Key → Item g.row.F = key_item g.row.F c.args.numbers.now c.args.stocks.now in
-    next own c.args.keys.now c.loop-key.key-index c.key-item.result c.loop-key.items.items c.push.new.self.items c.item_at.result c.loop-key-test.true c.in_ok-push.ensures.items
+    pushed_next own c.args.keys.now c.loop-key.key-index c.key-item.result c.loop-key.items.items c.push.new.self.items c.item_at.result c.loop-key-test.true c.in_ok-push.ensures.items
     c.loop-key.invariant (c.item_at.ensures ∙ ap own c.key-item.is)
 
 pub returns : goal.returns

@@ -1,8 +1,8 @@
 use Rattle.std.proofs.Common.{◌∙◌, is_some, map, sym, ap}
+use Rattle.list_laws.proofs.Public.{position_mapped}
 use Rattle.family_tables.specs.declared.keys.Key.{Key}
 use Rattle.family_tables.specs.declared.keys.Kept.{Kept}
 use Rattle.family_tables.specs.Kept.{is_key}
-use Rattle.family_numbers.proofs.Public.{position_mapped}
 use Rattle.family_tables.proofs.Found.{position_any, kept_found}
 use Rattle.family_tables.proofs.keys.kept_at.Goals as goal
 

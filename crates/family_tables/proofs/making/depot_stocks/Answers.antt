@@ -1,7 +1,7 @@
 use Rattle.std.specs.List.{range_with_len}
 use Rattle.std.proofs.Common.{◌+◌, ◌∙◌, ap, get_or, ◌≡◌, ◌-◌, length, map, arith}
+use Rattle.list_laws.proofs.Public.{mapped_more}
 use Rattle.spares_input.specs.Stocks.{stock_at}
-use Rattle.demand_rates.proofs.Public.{mapped_more}
 use Rattle.family_tables.proofs.making.depot_stocks.Goals as goal
 
 pub loop-i-preserved : goal.loop-i-preserved

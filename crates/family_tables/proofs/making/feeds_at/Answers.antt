@@ -1,6 +1,6 @@
 use Rattle.std.specs.List.{range_with_len}
 use Rattle.std.proofs.Common.{◌+◌, ◌≡◌, ◌-◌, ◌∙◌, ap, length, map, arith}
-use Rattle.demand_rates.proofs.Public.{mapped_more}
+use Rattle.list_laws.proofs.Public.{mapped_more}
 use Rattle.family_numbers.specs.Numbers.{nth_stock, depot_shop_row, feed_from, pair_at}
 use Rattle.family_tables.proofs.making.feeds_at.Goals as goal
 

@@ -1,4 +1,4 @@
-use Rattle.demand_rates.proofs.Public.{mapped_more}
+use Rattle.list_laws.proofs.Public.{mapped_more}
 use Rattle.family_tables.specs.Kept.{shop_key}
 use Rattle.family_tables.proofs.making.shop_keys.Goals as goal
 

@@ -1,7 +1,7 @@
 use Rattle.std.proofs.Common.{◌^◌}
 use Rattle.std.proofs.lemmas.Nat.{pow_pos}
 use Rattle.std.proofs.Math.Nat.{one-mul}
-use Rattle.fixed_interval.proofs.Laws.{ceil_by_sum}
+use Rattle.list_laws.proofs.Public.{ceil_by_sum}
 use Rattle.fixed_interval.proofs.rounding.rounded_up.Goals as goal
 
 pub returns : goal.returns

@@ -1,5 +1,5 @@
 use Rattle.std.proofs.Common.{◌+◌, arith}
-use Rattle.fixed_interval.proofs.Public.{part_below}
+use Rattle.list_laws.proofs.Public.{part_below}
 use Rattle.line_text.proofs.Numerals.{value_more}
 use Rattle.line_text.proofs.numbers.value_after.Goals as goal
 

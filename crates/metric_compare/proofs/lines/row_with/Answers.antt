@@ -1,5 +1,5 @@
 use Rattle.std.proofs.Common.{◌∙◌, arith}
-use Rattle.demand_rates.proofs.Public.{mapped_more}
+use Rattle.list_laws.proofs.Public.{mapped_more}
 use Rattle.metric_compare.specs.Profile.{poisson_of}
 use Rattle.metric_compare.proofs.Pipes.{base_line_at_pair}
 use Rattle.metric_compare.proofs.lines.row_with.Goals as goal

@@ -1,6 +1,6 @@
 use Rattle.metric_compare.specs.Texts.{compared_text}
 use Rattle.std.proofs.Common.{ap}
-use Rattle.plan_report.proofs.Public.{put_next, put_all}
+use Rattle.list_laws.proofs.Public.{put_all, put_next}
 use Rattle.metric_compare.proofs.report.put_items.Goals as goal
 
 pub loop-item-preserved : goal.loop-item-preserved

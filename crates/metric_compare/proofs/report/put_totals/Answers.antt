@@ -1,7 +1,7 @@
 use Rattle.metric_compare.specs.Texts.{columns_text}
 use Rattle.std.specs.Prelude.{codes}
 use Rattle.std.proofs.Common.{◌++◌, ◌∷◌, []}
-use Rattle.plan_report.proofs.Public.{joined_more}
+use Rattle.list_laws.proofs.Public.{joined_more}
 use Rattle.metric_compare.proofs.report.put_totals.Goals as goal
 
 pub returns : goal.returns

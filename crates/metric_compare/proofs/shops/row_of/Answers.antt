@@ -1,6 +1,6 @@
 use Rattle.std.specs.List.{range_with_len}
 use Rattle.std.proofs.Common.{◌∙◌, ◌≡◌, length, map, ap, arith}
-use Rattle.demand_rates.proofs.Public.{mapped_more}
+use Rattle.list_laws.proofs.Public.{mapped_more}
 use Rattle.metric_compare.specs.Profile.{poisson_of}
 use Rattle.metric_compare.proofs.Pipes.{shop_is_poisson}
 use Rattle.metric_compare.proofs.shops.row_of.Goals as goal

@@ -1,8 +1,8 @@
 use Rattle.spares_input.specs.Cases.{CaseRows}
 use Rattle.std.specs.List.{flat_map, range_with_len}
 use Rattle.std.proofs.Common.{◌≡◌, ◌∙◌, length, ap, arith}
+use Rattle.list_laws.proofs.Public.{rows_more}
 use Rattle.metric_compare.specs.Levels.{by_site, of_shop}
-use Rattle.metric_compare.proofs.Pipes.{rows_more}
 use Rattle.metric_compare.proofs.shops.shop_numbers.Goals as goal
 use Rattle.metric_compare.proofs.shops.shop_numbers.Goals.{then-is_line+in_ok-row, else-is_line+in_ok-row-2}
 

@@ -1,6 +1,6 @@
 use Rattle.std.specs.List.{range_with_len}
 use Rattle.std.proofs.Common.{◌∙◌, arith, sym, ◌≡◌, ◌≤◌, length, map, ap}
-use Rattle.demand_rates.proofs.Public.{mapped_more}
+use Rattle.list_laws.proofs.Public.{mapped_more}
 use Rattle.metric_compare.specs.Levels.{of_shop}
 use Rattle.metric_compare.proofs.Pipes.{base_of_shop}
 use Rattle.metric_compare.proofs.shops.shop_row.Goals as goal

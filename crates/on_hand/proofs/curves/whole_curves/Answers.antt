@@ -1,9 +1,9 @@
 use Rattle.std.proofs.Common.{ℕ, ◌+◌, List, [], ◌∷◌, ◌++◌, get_or, take, sym, subst, arith}
 use Rattle.std.specs.List.{AllZip}
 use Rattle.std.proofs.lemmas.List.{take_all, take_more}
+use Rattle.list_laws.proofs.Public.{zip_push}
 use Rattle.hull.specs.declared.point.Point.{Point}
 use Rattle.fleet_model.specs.Rows.{line_units}
-use Rattle.sum_walk.proofs.Public.{zip_push}
 use Rattle.held_work.specs.Curves.{IsFamilyCurve}
 use Rattle.on_hand.proofs.curves.whole_curves.Goals as goal
 

@@ -1,9 +1,10 @@
 use Rattle.std.proofs.Common.{ℕ, ◌*◌, ◌^◌, ◌<◌, lit<, arith}
 use Rattle.std.proofs.Math.Nat.{le_refl, mul-pos}
+use Rattle.list_laws.proofs.Public.{ceil_above}
 use Rattle.exact_model.specs.Fraction.{whole, ◌/ℚ◌, ◌≈◌}
 use Rattle.exact_model.proofs.Public.{over, same, le_same, turned, ◌≈≈◌}
 use Rattle.fixed_interval.specs.Ends.{In}
-use Rattle.fixed_interval.proofs.Public.{ceil_above, down_below, up_above, ratio_below, quotient_is}
+use Rattle.fixed_interval.proofs.Public.{down_below, up_above, ratio_below, quotient_is}
 use Rattle.case_figures.specs.Spans.{ends, places}
 use Rattle.hull.specs.declared.price.Price.{Price}
 use Rattle.plan_report.specs.Texts.{PrintsAbove, PrintsBelow, PrintsPriceBelow, PrintsWithin}

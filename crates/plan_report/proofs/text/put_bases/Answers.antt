@@ -1,6 +1,6 @@
 use Rattle.std.proofs.Common.{ap}
+use Rattle.list_laws.proofs.Public.{put_all, put_next}
 use Rattle.plan_report.specs.Texts.{base_text}
-use Rattle.plan_report.proofs.Chains.{put_all, put_next}
 use Rattle.plan_report.proofs.text.put_bases.Goals as goal
 
 pub loop-base-preserved : goal.loop-base-preserved

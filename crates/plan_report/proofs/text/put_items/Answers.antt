@@ -1,7 +1,7 @@
 use Rattle.std.proofs.Common.{ap, ◌∙◌, arith}
+use Rattle.list_laws.proofs.Public.{put_all, put_next}
 use Rattle.case_figures.specs.Shows.{no_item_line}
 use Rattle.plan_report.specs.Texts.{item_text}
-use Rattle.plan_report.proofs.Chains.{put_all, put_next}
 use Rattle.plan_report.proofs.text.put_items.Goals as goal
 
 pub loop-n-preserved : goal.loop-n-preserved

@@ -1,11 +1,11 @@
 use Rattle.std.proofs.Common.{◌≡◌, ◌<◌, ◌≤◌, ◌%◌, ap, length, map, subst, sym, ◌∙◌, arith}
 use Rattle.std.proofs.lemmas.List.Elements.{All-nil, All-push}
 use Rattle.std.proofs.lemmas.Nat.{mod_below}
+use Rattle.std.proofs.lemmas.Result.{IfOk-from_err}
 use Rattle.std.specs.List.{range_with_len}
 use Rattle.price_certificate.specs.declared.place.Place.{Place}
 use Rattle.price_certificate.specs.Covers.{IsPlace, parts_of_family, place_at, place_count}
 use Rattle.price_certificate.proofs.Families.{same_length, place_is, site_below, places_more}
-use Rattle.price_certificate.proofs.Refused.{if_err}
 use Rattle.price_certificate.proofs.trimming.places.Goals as goal
 
 pub overflow_cast-site : goal.overflow_cast-site
@@ -30,10 +30,10 @@ loop-m-preserved c =
     )
 
 pub returns-in_err-push-clause-places : goal.returns-in_err-push-clause-places
-returns-in_err-push-clause-places c = if_err c.from_residual.result _ c.from_residual.ensures.0
+returns-in_err-push-clause-places c = IfOk-from_err c.from_residual.result _ c.from_residual.ensures.0
 
 pub returns-in_err-push-clause-valid : goal.returns-in_err-push-clause-valid
-returns-in_err-push-clause-valid c = if_err c.from_residual.result _ c.from_residual.ensures.0
+returns-in_err-push-clause-valid c = IfOk-from_err c.from_residual.result _ c.from_residual.ensures.0
 
 -- a family has its line unit
 some_parts : (c : goal.In-loop-m) → 0 < length c.args.parts.now

@@ -2,7 +2,7 @@ use Rattle.std.proofs.Common.{◌≡◌, ◌++◌, Bool, true, ap, sym, ◌∙�
 use Rattle.std.specs.Prelude.{◌==◌}
 use Rattle.std.specs.List.{concat}
 use Rattle.std.proofs.lemmas.Bool.{eq-eqb}
-use Rattle.case_lines.proofs.Public.{after_ok}
+use Rattle.list_laws.proofs.Public.{after_ok}
 use Rattle.price_certificate.proofs.Fits.{covers_at}
 use Rattle.price_certificate.proofs.writing.put_covers_of.Goals as goal
 

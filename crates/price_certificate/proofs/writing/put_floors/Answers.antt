@@ -1,9 +1,9 @@
 use Rattle.std.proofs.Common.{◌^◌, length, refl}
 use Rattle.line_text.specs.Texts.{number_line}
-use Rattle.case_lines.proofs.Public.{after_ok}
 use Rattle.price_certificate.proofs.Written.{counted_written}
 use Rattle.price_certificate.proofs.writing.put_floors.Goals as goal
 use lib.Chars.{codes}
+use Rattle.list_laws.proofs.Public.{after_ok}
 
 pub returns : goal.returns
 returns c = after_ok c.put_each_floor.result

@@ -1,10 +1,10 @@
 use Rattle.std.proofs.Common.{◌≡◌, ◌*◌, ℕ, length, ap, sym, ◌∙◌}
 use Rattle.spares_input.specs.Cases.{frame_rows, pair_count}
 use Rattle.line_text.specs.Texts.{number_line}
-use Rattle.case_lines.proofs.Public.{after_ok}
 use Rattle.price_certificate.proofs.Written.{counted_written}
 use Rattle.price_certificate.proofs.writing.put_stocks.Goals as goal
 use lib.Chars.{codes}
+use Rattle.list_laws.proofs.Public.{after_ok}
 
 pub returns : goal.returns
 returns c =

@@ -1,5 +1,5 @@
 use Rattle.std.proofs.Common.{◌+◌, ◌-◌, ◌*◌, ◌/◌, ◌^◌, ◌∙◌, ap₂, pow_pos}
-use Rattle.fixed_interval.proofs.Public.{ceil_by_sum}
+use Rattle.list_laws.proofs.Public.{ceil_by_sum}
 use Rattle.series_bounds.proofs.short.product_up.Goals as goal
 
 pub overflow_cast-result-2 : goal.overflow_cast-result-2

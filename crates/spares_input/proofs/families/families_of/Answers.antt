@@ -1,8 +1,9 @@
 use Rattle.std.proofs.Common.{◌≡◌, ◌+◌, Some, map, refl, sym, ap, ◌∙◌, subst}
 use Rattle.std.specs.Option.{option_map}
+use Rattle.list_laws.proofs.Public.{not_some}
 use Rattle.spares_input.specs.Frames.{line_of}
 use Rattle.spares_input.specs.Building.{AreFamiliesBelow, ids}
-use Rattle.spares_input.proofs.FamilyFacts.{line_passed, line_within, not_some, shop_put}
+use Rattle.spares_input.proofs.FamilyFacts.{line_passed, line_within, shop_put}
 use Rattle.spares_input.proofs.families.families_of.Goals.{in-Some+in_ok-push, in_default}
 use Rattle.spares_input.proofs.families.families_of.Goals as goal
 

@@ -1,10 +1,11 @@
 use Rattle.std.proofs.Common.{◌*◌, ◌/◌, ◌<◌, ◌≤◌, arith, ap, sym, ◌∙◌, get_or, length, map, refl, sum}
 use Rattle.std.specs.List.{range_with_len}
 use Rattle.std.proofs.lemmas.Nat.{mul-le}
+use Rattle.list_laws.proofs.Public.{all_places}
 use Rattle.spares_input.specs.Frames.{part_at}
 use Rattle.spares_input.specs.declared.rows.PartId.{PartId}
 use Rattle.spares_input.specs.declared.rows.PartRow.{PartRow}
-use Rattle.spares_input.proofs.CaseFacts.{all_places, few_parts, few_sites, part_within, place_few, place_in_list, places_fit, some_sites}
+use Rattle.spares_input.proofs.CaseFacts.{few_parts, few_sites, part_within, place_few, place_in_list, places_fit, some_sites}
 use Rattle.spares_input.proofs.StockFacts.{cost_bound, cost_fits, cost_step}
 use Rattle.spares_input.proofs.stocks.cost_of.Goals as goal
 

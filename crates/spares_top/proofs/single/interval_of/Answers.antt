@@ -1,6 +1,6 @@
 use Rattle.std.proofs.Common.{◌∙◌, ◌*◌, ◌^◌, ◌≤◌, ap, arith, subst, zero-lt-suc, ℕ}
+use Rattle.list_laws.proofs.Public.{ceil_most}
 use Rattle.fixed_interval.specs.Ends.{In, ends_ratio}
-use Rattle.fixed_interval.proofs.Public.{ceil_most}
 use Rattle.fleet_model.specs.Rows.{ten_thousandths}
 use Rattle.spares_top.proofs.single.interval_of.Goals as goal
 

@@ -1,9 +1,10 @@
 use Rattle.std.proofs.Common.{◌≡◌, ◌+◌, inl, inr, [], ◌∷◌, ◌++◌, length, slice_index, sym, ap, ◌∙◌, subst, arith, length-append, rules}
 use Rattle.std.proofs.lemmas.List.{get_or_append_left}
 use Rattle.std.proofs.Math.Seq.{get_or-append_seam}
+use Rattle.list_laws.proofs.Public.{below_or}
 use Rattle.step_walk.specs.Prefix.{curve_at}
 use Rattle.step_walk.specs.Steep.{IsAfterSteep}
-use Rattle.step_walk.proofs.Greedy.{below_or, curve_is}
+use Rattle.step_walk.proofs.Greedy.{curve_is}
 use Rattle.step_walk.proofs.steep.all_after_steep.Goals as goal
 
 pub loop-f-preserved : goal.loop-f-preserved

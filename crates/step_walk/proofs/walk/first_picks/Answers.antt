@@ -1,7 +1,8 @@
 use Rattle.std.proofs.Common.{◌≡◌, ◌+◌, ◌^◌, ◌≤◌, inl, inr, List, [], ◌∷◌, ◌++◌, length, slice_index, sym, ap, ◌∙◌, subst, arith, length-append, rules}
+use Rattle.list_laws.proofs.Public.{below_or}
 use Rattle.hull.specs.declared.point.Point.{Point}
 use Rattle.step_walk.specs.Prefix.{IsRangedChain, curve_at}
-use Rattle.step_walk.proofs.Greedy.{below_or, curve_is}
+use Rattle.step_walk.proofs.Greedy.{curve_is}
 use Rattle.step_walk.proofs.Taking.{zeros_more}
 use Rattle.step_walk.proofs.walk.first_picks.Goals as goal
 

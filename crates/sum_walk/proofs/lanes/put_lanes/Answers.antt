@@ -1,10 +1,11 @@
 use Rattle.std.proofs.Common.{◌≡◌, ◌+◌, [], ◌∷◌, ◌++◌, take, sym, subst}
 use Rattle.std.specs.List.{AllZip, AllByRecursion}
 use Rattle.std.proofs.lemmas.List.{take_all, take_more}
+use Rattle.list_laws.proofs.Public.{zip_push}
 use Rattle.hull.specs.Curves.{IsShape}
 use Rattle.sum_walk.specs.declared.lanes.Lane.{Lane}
 use Rattle.sum_walk.specs.Lanes.{IsOn}
-use Rattle.sum_walk.proofs.Lists.{each_push, zip_push}
+use Rattle.sum_walk.proofs.Lists.{each_push}
 use Rattle.sum_walk.proofs.lanes.put_lanes.Goals as goal
 
 pub loop-j-preserved : goal.loop-j-preserved

@@ -3,7 +3,7 @@ use Rattle.plan_report.specs.Texts.{line}
 use Rattle.fixed_interval.specs.Text.{fixed_text}
 use Rattle.std.specs.Prelude.{codes}
 use Rattle.std.proofs.Common.{◌≡◌, ℕ, List, ◌++◌, ◌∷◌, [], ◌∙◌, ap}
-use Rattle.plan_report.proofs.Public.{joined_more}
+use Rattle.list_laws.proofs.Public.{joined_more}
 use Rattle.budget_sweep.proofs.report.TargetReport.text.Goals as goal
 
 pub returns : goal.returns

@@ -1,7 +1,7 @@
 use Rattle.std.proofs.Common.{◌≡◌, ◌-◌, ◌++◌, ◌∙◌, map, ap, arith}
 use Rattle.std.specs.List.{range_with_len}
+use Rattle.list_laws.proofs.Public.{mapped_from}
 use Rattle.family_numbers.specs.BaseTables.{tables_by_shop}
-use Rattle.family_numbers.proofs.BaseTables.{mapped_from}
 use Rattle.family_numbers.proofs.base_shops.BaseShops.of.Goals as goal
 
 pub loop-j-preserved : goal.loop-j-preserved

@@ -1,7 +1,7 @@
 use Rattle.std.proofs.Common.{◌==◌, ◌∙◌, ℕ, position, sym, ap}
+use Rattle.list_laws.proofs.Public.{position_mapped}
 use Rattle.spares_input.specs.declared.rows.PartId.{PartId}
 use Rattle.family_numbers.specs.Numbers.{FamilyNumbers}
-use Rattle.family_numbers.proofs.Numbered.{position_mapped}
 use Rattle.family_numbers.proofs.numbers.Numbers.place_of.Goals as goal
 
 pub returns : goal.returns

@@ -5,7 +5,7 @@ use Rattle.std.specs.List.{flat_map}
 use Rattle.std.specs.Fmt.{decimal}
 use Rattle.std.specs.Prelude.{codes}
 use Rattle.std.proofs.Common.{◌≡◌, ℕ, List, ◌++◌, ◌∙◌, ap}
-use Rattle.plan_report.proofs.Public.{joined_more}
+use Rattle.list_laws.proofs.Public.{joined_more}
 use Rattle.metric_compare.proofs.report.CompareReport.text.Goals as goal
 
 pub returns : goal.returns

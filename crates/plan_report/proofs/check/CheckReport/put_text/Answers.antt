@@ -1,7 +1,8 @@
 use Rattle.std.proofs.Common.{◌∙◌, ◌++◌, ℕ, ap, codes}
 use Rattle.std.specs.Fmt.{decimal}
+use Rattle.list_laws.proofs.Public.{joined_more}
 use Rattle.plan_report.specs.Texts.{down_text, line, on_hand_text, up_text}
-use Rattle.plan_report.proofs.Chains.{after, joined, joined_more}
+use Rattle.plan_report.proofs.Chains.{after, joined}
 use Rattle.plan_report.proofs.check.CheckReport.put_text.Goals as goal
 
 pub returns : goal.returns

@@ -1,7 +1,8 @@
 use Rattle.std.specs.Prelude.{◌++◌, codes}
 use Rattle.std.specs.Fmt.{decimal}
+use Rattle.list_laws.proofs.Public.{joined_more}
 use Rattle.plan_report.specs.Texts.{down_text, interval_text, line, up_text}
-use Rattle.plan_report.proofs.Chains.{after, joined, joined_more}
+use Rattle.plan_report.proofs.Chains.{after, joined}
 use Rattle.plan_report.proofs.summary.Summary.put_plan.Goals as goal
 
 pub returns : goal.returns

@@ -1,7 +1,7 @@
 use Rattle.std.proofs.Common.{◌*◌, ◌^◌, ◌≤◌, ◌∙◌, ap, ap₂, arith, lit<, pow_pos, mul-le-mul}
 use Rattle.std.proofs.Math.Nat.{le_refl}
+use Rattle.list_laws.proofs.Public.{floor_below_ceil}
 use Rattle.fixed_interval.specs.Ends.{Ends, ends_mul}
-use Rattle.fixed_interval.proofs.Public.{floor_below_ceil}
 use Rattle.series_bounds.proofs.Ranges.{weight_room}
 use Rattle.series_bounds.proofs.short.Iv64.times.Goals as goal
 

@@ -1,7 +1,7 @@
 use Rattle.std.proofs.Common.{◌*◌, ◌^◌, ◌<◌, ◌≤◌, ◌∙◌, ap, ap₂, arith, lit<, rules, pow_pos, mul-le-mul, mul-le-mul_left}
 use Rattle.std.proofs.Math.Nat.{le_refl}
+use Rattle.list_laws.proofs.Public.{ceil_most, floor_below_ceil}
 use Rattle.fixed_interval.specs.Ends.{Ends, ends_mul}
-use Rattle.fixed_interval.proofs.Public.{floor_below_ceil, ceil_most}
 use Rattle.series_bounds.proofs.short.Iv64.times_part.Goals as goal
 
 pub product_down-lower-requires-clause-room : goal.product_down-lower-requires-clause-room

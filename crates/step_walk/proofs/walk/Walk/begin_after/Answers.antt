@@ -13,7 +13,7 @@ invariant_of-result c =
       shapes = shapes_after c.args.price curves c.in_ok-picks.picks.items c.in_ok-picks.ensures;
       prefix = prefix_after c.args.price curves c.in_ok-picks.picks.items c.in_ok-picks.ensures;
       order = c.in_ok-waiting.ensures.order;
-      held = subst (λ picks. HoldsNext curves picks (length curves) (heap_items c.in_ok-waiting.waiting)) c.as_slice.ensures.value c.in_ok-waiting.ensures.held;
+      waits = subst (λ picks. HoldsNext curves picks (length curves) (heap_items c.in_ok-waiting.waiting)) c.as_slice.ensures.value c.in_ok-waiting.ensures.waits;
     }
 
 pub returns : goal.returns
