@@ -92,4 +92,43 @@ SCRIPT
   PATH=$first/bin python3 "$first/tools/rt.py" ci --now >"$room/out" 2>"$room/err" </dev/null
   compare 'a kit that finds things once' 3 $? \
     "below\nstamp\nci --now [1] sum sum\n['out', 'out.two'] {'low': ([], 105, 9), 'untested': ([], 0, 9)}\n" ''
+
+  printf 'a kit\n' >"$first/KIT-ID"
+  cat >"$first/bin/rt" <<SCRIPT
+#!$python
+import os, sys, types
+BACKENDS = {"one": ""}
+KIT = "$first"
+class Crate:
+    name, said, allowed, folder, rlib = "low", {}, (), "$first/crates/low", "$first/crates/low/out/rlib/low.rlib"
+    def below(self): return []
+    def stamp(self): return "sum"
+    def makes_rlib(self): return True
+    def compile_by(self, backend, words, to): return 0
+    def ci(self, flags, tests):
+        os.makedirs(self.rlib)
+        with open(f"{self.rlib}/made", "w") as made:
+            made.write(open(f"{self.folder}/src/lib.rt").read())
+        return print("proving") or self.compile_by("one", flags, "out")
+rtlib = types.SimpleNamespace(Crate=Crate, RATTLE="$first/KIT-ID")
+# all are methods of rtlib.Crate
+def in_lanes(tasks): return tasks
+def main(words):
+    print(Crate().ci([], False), open(f"{Crate.rlib}/made").read())
+    return 4
+if __name__ == "__main__":
+    sys.exit(main(sys.argv[1:]))
+SCRIPT
+  # keeps NAME OUT [CACHE]: the gate of a kit that keeps nothing prints this
+  keeps() {
+    PATH=$first/bin XDG_CACHE_HOME=${3:-$first/cache} python3 "$first/tools/rt.py" ci >"$room/out" 2>"$room/err" </dev/null
+    compare "$1" 4 $? "$2" ''
+  }
+  keeps 'a proof that is kept' 'proving\n0 pub fn one() {}\n\n'
+  keeps 'a proof that was kept' '0 pub fn one() {}\n\n'
+  printf 'pub fn two() {}\n' >"$first/crates/low/src/lib.rt"
+  keeps 'a proof of another text' 'proving\n0 pub fn two() {}\n\n'
+  printf 'another kit\n' >"$first/KIT-ID"
+  keeps 'a proof by another kit' 'proving\n0 pub fn two() {}\n\n'
+  keeps 'no room to keep a proof' 'proving\n0 pub fn two() {}\n\n' "$first/KIT-ID"
 fi

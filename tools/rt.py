@@ -7,17 +7,24 @@ It is `rt WORDS..`, but for three things that say nothing about what is proved:
 - Both compilers of a proved program work side by side. The kit has one wait for the other.
 - The kit begins with the crates that the most lines of others wait for. Here each crate counts some lines more, for what
   the prover loads at each, so that it begins with those that the most work waits for.
+- Some kits keep nothing that their gate proves. With these, each library that is proved stays in a folder of the user's,
+  and is taken from there while its text, the kit, and all that was built below it are the same.
 With a kit that works otherwise this is `rt` as it is.
 """
 import concurrent.futures
+import hashlib
 import importlib.machinery
 import importlib.util
 import os
 import shutil
 import sys
+import tempfile
 
 FOUND_ONCE = ("below", "stamp")
 LINES_TO_LOAD = 100  # with so many, the order is nearest to that by the seconds of each crate
+KEEPS = "rattle-kept"  # the folder of a kit that keeps what its gate proves
+KEPT_EACH = 2  # so many texts of a crate stay
+TEXTS = ("src", "specs", "proofs")
 SHAPE = (
     "rtlib.Crate",
     "BACKENDS = {",
@@ -37,6 +44,7 @@ def load(path):
     loader = importlib.machinery.SourceFileLoader("kit_command", path)
     module = importlib.util.module_from_spec(importlib.util.spec_from_loader(loader.name, loader))
     loader.exec_module(module)
+    module.keeps_nothing = KEEPS not in text and "def ci(self, flags, tests):" in text
     return module
 
 
@@ -79,6 +87,107 @@ def start_longest(kit):
     kit.in_lanes = answer
 
 
+def sum_of(*folders):
+    """Returns a sum of all files below the folders, with their paths."""
+    total = hashlib.sha256()
+    for folder in folders:
+        for at, inside, files in os.walk(folder):
+            inside.sort()
+            for name in sorted(files):
+                path = f"{at}/{name}"
+                with open(path, "rb") as it:
+                    data = it.read()
+                total.update(f"{os.path.basename(folder)} {os.path.relpath(path, folder)} {len(data)}\n".encode())
+                total.update(data)
+    return total.hexdigest()
+
+
+def copied(folder, to):
+    """Copies a folder as a whole or not at all, and returns whether it did."""
+    try:
+        os.makedirs(os.path.dirname(to), exist_ok=True)
+        with tempfile.TemporaryDirectory(prefix=".part-", dir=os.path.dirname(to)) as part:
+            shutil.copytree(folder, f"{part}/whole")
+            os.rename(f"{part}/whole", to)
+        return True
+    except (OSError, shutil.Error):
+        return False
+
+
+class Store:
+    """A folder with what is proved of libraries: of each text of a crate over the same libraries, its statements."""
+
+    def __init__(self, folder, kit):
+        self.folder, self.kit, self.sums = folder, kit_identity(kit), {}
+
+    def built(self, crate):
+        """Returns a sum of what is built of a library."""
+        if crate.rlib not in self.sums:
+            self.sums[crate.rlib] = sum_of(crate.rlib)
+        return self.sums[crate.rlib]
+
+    def place(self, crate):
+        """Returns the place of what is proved of a crate as it is now."""
+        text = sum_of(*(f"{crate.folder}/{it}" for it in TEXTS))
+        below = [(it.name, self.built(it)) for it in crate.below()]
+        made_from = self.kit, crate.said, crate.allowed, text, below
+        return f"{self.folder}/{crate.name}/{hashlib.sha256(repr(made_from).encode()).hexdigest()}"
+
+    def take(self, crate):
+        """Gives the crate what was proved of it before, and returns whether there is something."""
+        place = self.place(crate)
+        shutil.rmtree(crate.rlib, ignore_errors=True)
+        if not os.path.isdir(place) or not copied(place, crate.rlib):
+            return False
+        os.utime(place)
+        return True
+
+    def put(self, crate, place):
+        """Keeps what was proved of a crate, unless its text has changed since this was its place."""
+        if place == self.place(crate) and copied(crate.rlib, place):
+            drop_oldest(os.path.dirname(place))
+
+
+def keep_proved(kit, store):
+    """Has what is proved of each library stay in the store, and takes it from there."""
+    prove = kit.Crate.ci
+
+    def answer(self, flags, tests):
+        if tests or not self.makes_rlib():
+            return prove(self, flags, tests)
+        if store.take(self):
+            return 0
+        place = store.place(self)
+        status = prove(self, flags, tests)
+        if status == 0:
+            store.put(self, place)
+        return status
+
+    kit.Crate.ci = answer
+
+
+def users_folder():
+    """Returns the user's folder in which proved libraries stay."""
+    caches = os.environ.get("XDG_CACHE_HOME") or os.path.expanduser("~/.cache")
+    return f"{caches}/spares/proved"
+
+
+def kit_identity(kit):
+    """Returns what the kit says of itself, and its prover's size and time."""
+    with open(f"{kit.KIT}/KIT-ID", encoding="utf-8") as it:
+        said = it.read()
+    prover = os.stat(kit.rtlib.RATTLE)
+    return said, prover.st_size, prover.st_mtime_ns
+
+
+def drop_oldest(folder):
+    """Leaves the texts of a crate that were used last."""
+    kept = [it for it in os.scandir(folder) if not it.name.startswith(".")]
+    kept.sort(key=lambda it: -it.stat().st_mtime)
+    for it in kept[KEPT_EACH:]:
+        shutil.rmtree(it.path, ignore_errors=True)
+
+
 def main(words):
     """Runs the command, and returns its exit status."""
     command = shutil.which("rt")
@@ -91,6 +200,8 @@ def main(words):
             find_once(kit.rtlib.Crate, name)
         compile_at_once(kit.Crate, [*kit.BACKENDS])
         start_longest(kit)
+        if kit.keeps_nothing:
+            keep_proved(kit, Store(users_folder(), kit))
         run = kit.main
     except Exception:  # a kit of another shape
         os.execv(command, [command, *words])
