@@ -2,3 +2,4 @@ pub mod Public
 pub mod Vertices
 pub mod Bases
 pub mod Grown
+pub mod Under

@@ -8,13 +8,13 @@ ghost use Rattle.family_points.specs.Counts.{most_vertices};
 ghost use Rattle.family_points.specs.Separation.{base_points};
 ghost use Rattle.family_points.specs.Inputs.{vector_count};
 ghost use Rattle.family_points.specs.Choices.{IsChoice, choice_point, choice_stocks};
-ghost use Rattle.family_rows.specs.Spots.{AreRows, IsBaseAt};
+ghost use Rattle.family_rows.specs.Spots.{AreRows, IsBaseAt, IsRowOf};
 ghost use Rattle.family_rows.specs.Tabled.{AreTables, box_numbers};
 
 use answers::NoMemory;
 use family_numbers::Numbers;
 use family_points::order::{Base, Choice};
-use family_rows::base::{BaseSpot, put_rows, spot_at};
+use family_rows::base::{BaseSpot, put_rows, row_at, spot_at, spot_by_row};
 use family_rows::base_at::BaseAt;
 use family_rows::depot::DepotTables;
 use hull::{Chain, Score};
@@ -41,17 +41,19 @@ pub fn chains_of<'a>(alloc: Global, bases: &'a [Base]) -> Result<Vec<Chain<BaseS
     Ok(chains)
 }
 
-/// Adds the point of a choice to a chain.
-fn take_choice<'b, S: Score>(
+/// Adds the point of a choice to a chain, scored by the row of its shop units' stocks. Want of memory is the only
+/// error.
+#[inline(always)]
+pub fn take_choice<'b, S: Score>(
     chain: &mut Chain<BaseSpot<'b>>,
     here: &BaseAt<'_, 'b>,
     score: &S,
-    rows: &[Vec<Iv64<48>>],
+    row: &[Iv64<48>],
     choice: &Choice,
 ) -> Result<(), NoMemory>
     requires here { IsBaseAt here.now }
-    requires rows { AreRows here.now (map (λ r. r.items) rows.now) }
     requires choice { IsChoice here.now.family.now here.now.site.0 choice.now }
+    requires row { IsRowOf here.now choice.now.shops row.now }
     requires order { (v : Point) → Among v chain.old → v.cost ≤ choice.now.cost }
     requires width { (v : Point) → Among v chain.old
         → length v.stocks ≡ length (choice_stocks here.now.family.now here.now.site.0 choice.now) }
@@ -60,7 +62,7 @@ fn take_choice<'b, S: Score>(
         ++ choice_point S.ends here.now.family.now here.now.depot.now here.now.site.0 choice.now ∷ []) chain.new) }
     ensures few { IfOk result (λ _. length chain.new ≤ length chain.old + 1) }
 {
-    let spot = spot_at(here, score, rows, choice);
+    let spot = spot_by_row(here, score, row, choice);
     chain.take(spot)
 }
 
@@ -84,7 +86,7 @@ fn put_points<'b, S: Score>(
     chain.begin_with(spot_at(here, score, rows, first));
     for n in 1..here.base.order.len() {
         let choice = &here.base.order[n];
-        take_choice(chain, here, score, rows, choice)?;
+        take_choice(chain, here, score, row_at(here, rows, choice), choice)?;
     }
     Ok(())
 }

@@ -18,10 +18,12 @@ ghost use Rattle.family_points.specs.Inputs.{
 };
 ghost use Rattle.family_rows.specs.Sources.{AreSources};
 ghost use Rattle.family_curve.specs.Joining.{HaveWidthOf, IsDepotPoint, vertices_of};
+ghost use Rattle.family_curve.specs.Work.{HaveChains};
 ghost use Rattle.family_rows.specs.Tabled.{AreTables};
 ghost use Rattle.sum_walk.specs.Sums.{sums_of_each};
 
 use crate::base::{chains_of, put_curve};
+use crate::passed::{Lows, are_passed, lows_of};
 use answers::{List, NoMemory};
 use family_points::family::{Family, joined};
 use family_points::order::Base;
@@ -35,15 +37,24 @@ use spares_input::SiteId;
 use std::alloc::Global;
 use sum_walk::walk::{Walking, walk};
 
-/// Scratch lists; contents are not kept between calls.
+/// Scratch lists for exact curves; contents are not kept between calls.
 #[derive(Drop)]
-struct Work<'b> {
+struct Exact<'b> {
     /// The curves of the bases, the first base first.
     chains: Vec<Chain<BaseSpot<'b>>>,
     /// The backorders at a base.
     rows: Vec<Vec<Iv64<48>>>,
     /// The lists of a walk over the curves.
     walking: Walking,
+}
+
+/// Scratch lists for exact curves and for lower bounds.
+#[derive(Drop)]
+struct Work<'b> {
+    /// For exact curves.
+    exact: Exact<'b>,
+    /// For lower bounds.
+    lows: Lows,
 }
 
 /// The point of stocks at the depot: their cost above the stocks held, and no score.
@@ -63,7 +74,7 @@ pub fn depot_point(family: &Family<'_>, stocks: Vec<u8>) -> Point
 
 /// Sets the chains of `work` to the curves of all bases with these stocks at the depot.
 fn put_curves<'b, S: Score>(
-    work: &mut Work<'b>,
+    work: &mut Exact<'b>,
     sources: &'b Sources<'_>,
     score: &S,
     tables: &DepotTables<'_>,
@@ -101,7 +112,7 @@ fn put_curves<'b, S: Score>(
 /// `below`.
 fn depot_path<'b, S: Score>(
     alloc: Global,
-    work: &mut Work<'b>,
+    work: &mut Exact<'b>,
     sources: &'b Sources<'_>,
     score: &S,
     tables: &DepotTables<'_>,
@@ -144,24 +155,32 @@ fn with_depot<'b, S: Score>(
     requires tables { AreTables sources.now.family.now (drop 1 first.now.stocks) tables.now }
     requires room { length (vertices_of so_far) + vertex_count sources.now.family.now ≤ most_vertices }
     requires widths { HaveWidthOf sources.now.family.now (vertices_of so_far) }
-    requires work { length work.old.chains.items ≡ length sources.now.bases.items }
+    requires work { HaveChains sources.now.bases.items work.old }
     ensures curve { IfOk result
         (IsCurve (vertices_of so_far ++ depot_points S.ends sources.now.family.now first.now.stocks)) }
     ensures few { IfOk result
         (λ curve. length curve ≤ length (vertices_of so_far) + vertex_count sources.now.family.now) }
     ensures widths { IfOk result (HaveWidthOf sources.now.family.now) }
-    ensures work { IfOk result (λ _. length work.new.chains.items ≡ length sources.now.bases.items) }
+    ensures work { IfOk result (λ _. HaveChains sources.now.bases.items work.new) }
 {
     sources.family.invariant();
     let Some(mut curve) = so_far else {
         let below = [];
-        let path = depot_path(alloc, work, sources, score, tables, first, &below)?;
+        let exact = &mut work.exact;
+        let path = depot_path(alloc, exact, sources, score, tables, first, &below)?;
         let curve = Curve::of(alloc, path)?;
         return Ok(curve);
     };
     let below = curve.vertices();
-    let path = depot_path(alloc, work, sources, score, tables, first, below)?;
-    if path.is_empty() {
+    let lows = &mut work.lows;
+    if are_passed(alloc, lows, sources, score, tables, first, below)? {
+        return Ok(curve);
+    }
+    let exact = &mut work.exact;
+    let path = depot_path(alloc, exact, sources, score, tables, first, below)?;
+    let is_empty = path.is_empty();
+    work.lows.is_high = is_empty;
+    if is_empty {
         return Ok(curve);
     }
     curve.add_points(path)?;
@@ -236,13 +255,13 @@ fn with_lines<'b, S: Score>(
     requires room { let x = sources.now.family.now in
         length (vertices_of so_far) + length (line_stocks x 0) * vertex_count x ≤ most_vertices }
     requires widths { HaveWidthOf sources.now.family.now (vertices_of so_far) }
-    requires work { length work.old.chains.items ≡ length sources.now.bases.items }
+    requires work { HaveChains sources.now.bases.items work.old }
     ensures curve { IfOk result
         (IsCurve (vertices_of so_far ++ shop_points S.ends sources.now.family.now shops.now)) }
     ensures few { IfOk result (λ curve. let x = sources.now.family.now in
         length curve ≤ length (vertices_of so_far) + length (line_stocks x 0) * vertex_count x) }
     ensures widths { IfOk result (HaveWidthOf sources.now.family.now) }
-    ensures work { IfOk result (λ _. length work.new.chains.items ≡ length sources.now.bases.items) }
+    ensures work { IfOk result (λ _. HaveChains sources.now.bases.items work.new) }
 {
     let family = sources.family;
     family.invariant();
@@ -274,13 +293,13 @@ fn with_shops<'b, S: Score>(
     requires room { let x = sources.now.family.now in
         length (vertices_of so_far) + length (line_stocks x 0) * vertex_count x ≤ most_vertices }
     requires widths { HaveWidthOf sources.now.family.now (vertices_of so_far) }
-    requires work { length work.old.chains.items ≡ length sources.now.bases.items }
+    requires work { HaveChains sources.now.bases.items work.old }
     ensures curve { IfOk result (let x = sources.now.family.now in
         IsCurve (vertices_of so_far ++ shop_points S.ends x (get_or (shop_vectors x 0) number []))) }
     ensures few { IfOk result (λ curve. let x = sources.now.family.now in
         length curve ≤ length (vertices_of so_far) + length (line_stocks x 0) * vertex_count x) }
     ensures widths { IfOk result (HaveWidthOf sources.now.family.now) }
-    ensures work { IfOk result (λ _. length work.new.chains.items ≡ length sources.now.bases.items) }
+    ensures work { IfOk result (λ _. HaveChains sources.now.bases.items work.new) }
 {
     let family = sources.family;
     family.invariant();
@@ -301,7 +320,7 @@ fn whole_curve<'b, S: Score>(
 ) -> Result<Curve, NoMemory>
     requires sources { AreSources sources.now }
     requires room { vector_count sources.now.family.now 0 * vertex_count sources.now.family.now ≤ most_vertices }
-    requires work { length work.old.chains.items ≡ length sources.now.bases.items }
+    requires work { HaveChains sources.now.bases.items work.old }
     ensures { IfOk result (IsCurve (box_points S.ends sources.now.family.now)) }
 {
     let family = sources.family;
@@ -323,16 +342,25 @@ fn whole_curve<'b, S: Score>(
     Ok(curve)
 }
 
-/// The scratch lists for these bases.
-fn work_of<'b>(alloc: Global, bases: &'b [Base]) -> Result<Work<'b>, NoMemory>
-    ensures { IfOk result (λ work. length work.chains.items ≡ length bases.now) }
+/// The scratch lists for the exact curves of these bases.
+fn exact_of<'b>(alloc: Global, bases: &'b [Base]) -> Result<Exact<'b>, NoMemory>
+    ensures { IfOk result (λ exact. length exact.chains.items ≡ length bases.now) }
 {
     let chains = chains_of(alloc, bases)?;
-    Ok(Work {
+    Ok(Exact {
         chains,
         rows: Vec::new(alloc),
         walking: Walking::new(alloc),
     })
+}
+
+/// The scratch lists for these bases.
+fn work_of<'b>(alloc: Global, bases: &'b [Base]) -> Result<Work<'b>, NoMemory>
+    ensures { IfOk result (HaveChains bases.now) }
+{
+    let exact = exact_of(alloc, bases)?;
+    let lows = lows_of(alloc, bases)?;
+    Ok(Work { exact, lows })
 }
 
 /// The curve of all vectors of the family of these sources within its bounds.

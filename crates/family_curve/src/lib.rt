@@ -4,7 +4,7 @@
 //! curve has the strict lower vertices of these points. A family may have 2^96 vectors and more, and the curve is made
 //! without trying them all: at given stocks of the depot, cost and score are sums over the bases, and each term depends
 //! only on the stocks of its base. So each base has a curve, the curves of the bases are added, and the sums for all
-//! choices of the depot's stocks are joined.
+//! choices of the depot's stocks are joined. Choices that add nothing by lower bounds are passed over.
 #![tactic(auto)]
 
 ghost use Rattle.std.specs.Prelude.{◌≡◌, ◌≤◌, IfOk};
@@ -26,6 +26,7 @@ use std::alloc::Global;
 
 pub mod base;
 pub mod joining;
+mod passed;
 
 pub use family_points::{
     Bounds, MOST_TABLES, choices, limits_of, place_parts, tables, tables_within, vector_of, work,

@@ -3,3 +3,4 @@ pub mod LowPoints
 pub mod RoughFacts
 pub mod Uppers
 pub mod Moved
+pub mod LowCurves

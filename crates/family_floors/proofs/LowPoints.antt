@@ -48,18 +48,25 @@ place_tabled x valid j d b s base h g =
     ap (λ (e : Ends). e.lo) item
 
 -- a score that is at most that of all backorders from a lower bound on is one of the point of the bound's stocks
-pub score_under : (x : FamilyBox) (valid : IsFamilyBox x) (ends : ScoreEnds) → LeavesRoom ends → (d : List ℕ) → IsAt x 0 d → (j s : ℕ) (v : List ℕ) → IsBase x.case j
-    → AreShopsAt x j v → line_low x j ≤ s → s ≤ line_high x j → (bound scored : ℕ) → bound ≤ low_end 48 (line_place x d j v s)
+pub score_at : (x : FamilyBox) (valid : IsFamilyBox x) (ends : ScoreEnds) → LeavesRoom ends → (d : List ℕ) → IsAt x 0 d → (j s : ℕ) (v : List ℕ) → IsBase x.case j
+    → IsAt x j (s ∷ v) → (bound scored : ℕ) → bound ≤ low_end 48 (line_place x d j v s)
     → ((e : Ends) → IsWithinLimit 48 e → bound ≤ e.lo → scored ≤ (ends (systems x.case j) (per_system x.case x.line) (weight x.case x.line) e).lo)
     → IsLowScore scored (base_point ends x d j (s ∷ v))
-score_under x valid ends room d at_depot j s v base within low high bound scored is under =
-    let at : IsAt x j (s ∷ v) = joined_at x valid j s v base.1 within low high in
+score_at x valid ends room d at_depot j s v base at bound scored is under =
     let item = item_of 48 x.case (base_stocks x d j (s ∷ v)) x.line j in
     let below : bound ≤ item.backorders.lo = subst (λ n. bound ≤ n) (place_tabled x valid j d v s base at_depot at) is in
     let here : scored ≤ (base_point ends x d j (s ∷ v)).lo = under item.backorders (backorders_small x valid j d (s ∷ v) at_depot at base) below in
     let small = base_small x valid ends room d at_depot j (s ∷ v) base at in
     let order = small.ends in let most = small.room in
     record { low = here; most = omega (arith, here, order, most) }
+
+-- the same of stocks within their bounds
+pub score_under : (x : FamilyBox) (valid : IsFamilyBox x) (ends : ScoreEnds) → LeavesRoom ends → (d : List ℕ) → IsAt x 0 d → (j s : ℕ) (v : List ℕ) → IsBase x.case j
+    → AreShopsAt x j v → line_low x j ≤ s → s ≤ line_high x j → (bound scored : ℕ) → bound ≤ low_end 48 (line_place x d j v s)
+    → ((e : Ends) → IsWithinLimit 48 e → bound ≤ e.lo → scored ≤ (ends (systems x.case j) (per_system x.case x.line) (weight x.case x.line) e).lo)
+    → IsLowScore scored (base_point ends x d j (s ∷ v))
+score_under x valid ends room d at_depot j s v base within low high =
+    score_at x valid ends room d at_depot j s v base (joined_at x valid j s v base.1 within low high)
 
 -- the Lagrangian of a point's cost and of at most its score is at most the point's
 pub lagrangian_under : (p q cost scored value : ℕ) (v : Point) → value ≡ q * scored + p * cost → cost ≡ v.cost → scored ≤ v.lo → value ≤ lagrangian p q v

@@ -1,2 +1,4 @@
 pub mod Lows
 pub mod Rough
+pub mod LowCurves
+pub mod Under

@@ -1,13 +1,15 @@
 -- Lower bounds on Lagrangians at two prices. No promise of the crate rests on these words.
 use Rattle.std.specs.Prelude.{ℕ, ◌*◌, ◌≤◌, min, List, ◌∷◌, drop, get_or}
+use Rattle.std.specs.List.{AllZip}
 use Rattle.hull.specs.declared.price.Price.{Price}
 use Rattle.hull.specs.Curves.{lagrangian}
 use Rattle.hull.specs.Limits.{most_price_units, most_price_money}
 use Rattle.backorder_bounds.specs.Places.{Place}
 use Rattle.family_numbers.specs.Numbers.{base_line_place}
-use Rattle.family_points.specs.Inputs.{FamilyBox}
+use Rattle.family_points.specs.Inputs.{FamilyBox, line_high, line_low, shop_vectors}
 use Rattle.family_points.specs.Points.{ScoreEnds}
 use Rattle.family_points.specs.Separation.{base_point}
+use Rattle.family_rows.specs.declared.base_at.BaseAt.{BaseAt}
 use Rattle.family_rows.specs.Tabled.{box_numbers}
 use Rattle.family_floors.specs.declared.lows.Lows.{Lows}
 
@@ -40,3 +42,13 @@ pub record IsReached (lows : Lows) (low high : Price) (cost : ℕ) : Type 0 wher
 -- the lower number at each price
 abbrev pub lower_of : Lows → Lows → Lows
 lower_of a b = record { at_low = min a.at_low b.at_low; at_high = min a.at_high b.at_high }
+
+-- at most the Lagrangians at base j with these stocks of the shop units there, at each stock of the line unit
+abbrev pub AreUnderEach : ScoreEnds → FamilyBox → List ℕ → ℕ → Price → Price → List ℕ → Lows → Type 0
+AreUnderEach ends x d j low high shops lows =
+    (s : ℕ) → line_low x j ≤ s → s ≤ line_high x j → AreUnder ends x d j low high shops s lows
+
+-- such bounds for each vector of the shop units' stocks at a base
+abbrev pub AreLowsOf : ScoreEnds → BaseAt → Price → Price → List Lows → Type 0
+AreLowsOf ends b low high lows = AllZip (AreUnderEach ends b.family.now b.depot.now b.site.0 low high)
+    (shop_vectors b.family.now b.site.0) lows

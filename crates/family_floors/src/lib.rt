@@ -1,9 +1,10 @@
 //! Whether the Lagrangian of each vector of a family reaches a floor at one price, and the upper end of a vector's
-//! score. Neither needs a curve.
+//! score, neither of which needs a curve; and a base's curve of lower bounds.
 #![tactic(auto)]
 
 pub mod bases;
 mod least;
+pub mod low_curve;
 pub mod lows;
 pub mod rough;
 pub mod stocks;

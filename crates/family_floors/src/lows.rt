@@ -1,7 +1,7 @@
 //! Lower bounds on Lagrangians, of a base and of the depot's stocks, from lower bounds on backorders. They cost less
 //! work than exact backorders.
 
-ghost use Rattle.std.specs.Prelude.{◌≡◌, ℕ, ◌+◌, ◌-◌, ◌*◌, ◌<◌, ◌≤◌, ◌∷◌, IsTrue, drop};
+ghost use Rattle.std.specs.Prelude.{◌≡◌, ℕ, ◌+◌, ◌-◌, ◌*◌, ◌<◌, ◌≤◌, ◌∷◌, IfOk, IsTrue, drop};
 ghost use Rattle.fleet_model.specs.Fleet.{family};
 ghost use Rattle.fleet_model.specs.Laws.{IsBase};
 ghost use Rattle.hull.specs.Curves.{lagrangian};
@@ -14,10 +14,11 @@ ghost use Rattle.family_points.specs.Points.{cost_above};
 ghost use Rattle.family_points.specs.Separation.{base_points, depot_points};
 ghost use Rattle.family_points.specs.Choices.{IsShopVector};
 ghost use Rattle.family_rows.specs.Spots.{IsBaseAt};
-ghost use Rattle.family_rows.specs.Tabled.{AreTables, box_numbers, own_at};
-ghost use Rattle.family_floors.specs.Lows.{AreNoHigher, AreUnder, IsReached, IsSmallPrice, line_place, lower_of};
+ghost use Rattle.family_rows.specs.Tabled.{AreTables, box_numbers, own_at, parts_at};
+ghost use Rattle.family_floors.specs.Lows.{AreLowsOf, AreNoHigher, AreUnder, IsReached, IsSmallPrice, line_place, lower_of};
 
 use crate::bases::base_of;
+use answers::NoMemory;
 use backorder_bounds::Walk;
 use depot_pipeline::Moments;
 use family_numbers::Numbers;
@@ -75,7 +76,7 @@ pub(crate) fn lagrangian(price: Price, cost: u64, scored: u128) -> u128
 }
 
 /// A walk with lower bounds on the line unit's backorders at a base, at its least stock there.
-fn walk_at(
+pub(crate) fn walk_at(
     here: &BaseAt<'_, '_>,
     numbers: &Numbers<48>,
     own: &OwnPart<48>,
@@ -177,6 +178,40 @@ fn lower_at_shops<S: Score>(
         found = found.lower(lows_at_stocks(here, score, &walk, shops, cost, low, high));
     }
     found
+}
+
+/// Sets `lows` to lower bounds on the Lagrangians of a base, one pair for each choice of the shop units' stocks there.
+/// Want of memory is the only error.
+pub fn put_lows<S: Score>(
+    lows: &mut Vec<Lows>,
+    here: &BaseAt<'_, '_>,
+    score: &S,
+    numbers: &Numbers<48>,
+    own: &OwnPart<48>,
+    parts: &[Moments<48>],
+    low: Price,
+    high: Price,
+) -> Result<(), NoMemory>
+    requires here { IsBaseAt here.now }
+    requires numbers { numbers.now ≡ box_numbers here.now.family.now }
+    requires own { own.now ≡ own_at numbers.now here.now.depot.now here.now.site.0 }
+    requires parts { parts.now ≡ parts_at here.now.family.now (drop 1 here.now.depot.now) here.now.site.0 }
+    requires low { IsSmallPrice low }
+    requires high { IsSmallPrice high }
+    ensures { IfOk result (λ _. AreLowsOf S.ends here.now low high lows.new.items) }
+{
+    let most = Lows {
+        at_low: MOST_FLOOR,
+        at_high: MOST_FLOOR,
+    };
+    let count = here.base.shops.len();
+    lows.clear();
+    for n in 0..count {
+        let shops = &here.base.shops[n];
+        let found = lower_at_shops(most, here, score, numbers, own, &parts[n], shops, low, high);
+        lows.push(found)?;
+    }
+    Ok(())
 }
 
 /// Lower bounds on the Lagrangians of the base at site `j` with these stocks at the depot.

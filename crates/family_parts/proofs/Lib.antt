@@ -4,3 +4,4 @@ pub mod Whole
 pub mod Nearer
 pub mod Bases
 pub mod Sums
+pub mod Kept

@@ -14,10 +14,12 @@ ghost use Rattle.family_rows.specs.Sources.{AreSources};
 ghost use Rattle.family_rows.specs.Spots.{IsBaseAt};
 ghost use Rattle.family_rows.specs.Tabled.{AreTables, box_numbers};
 
+use crate::choices::put_choices;
 use answers::NoMemory;
 use curve_parts::{cut, least_at_low};
-use family_curve::base::{chains_of, put_curve};
+use family_curve::base::chains_of;
 use family_floors::bases::base_of;
+use family_floors::lows::Lows;
 use family_numbers::Numbers;
 use family_rows::base::BaseSpot;
 use family_rows::base_at::BaseAt;
@@ -36,6 +38,8 @@ pub(crate) struct Work<'b> {
     pub(crate) parts: Vec<Chain<BaseSpot<'b>>>,
     /// The backorders at a base.
     pub(crate) rows: Vec<Vec<Iv64<48>>>,
+    /// The lower bounds of the choices of the shop units' stocks there.
+    pub(crate) lows: Vec<Lows>,
     /// The lists of a walk over the parts.
     pub(crate) walking: Walking,
 }
@@ -48,6 +52,7 @@ impl<'b> Work<'b> {
         Ok(Work {
             parts: chains_of(alloc, sources.bases.as_slice())?,
             rows: Vec::new(alloc),
+            lows: Vec::new(alloc),
             walking: Walking::new(alloc),
         })
     }
@@ -62,10 +67,11 @@ struct Lowest {
     gap: u128,
 }
 
-/// Sets `part` to the part of a base's curve between two prices, and `rows` to the backorders there.
+/// Sets `part` to the part of a base's curve between two prices. `rows` and `lows` are scratch lists.
 fn put_part<'b, S: Score>(
     part: &mut Chain<BaseSpot<'b>>,
     rows: &mut Vec<Vec<Iv64<48>>>,
+    lows: &mut Vec<Lows>,
     here: &BaseAt<'_, 'b>,
     score: &S,
     numbers: &Numbers<48>,
@@ -90,8 +96,8 @@ fn put_part<'b, S: Score>(
         (base_points S.ends here.now.family.now here.now.depot.now here.now.site.0) part.new
         (lowest.least + lowest.gap)) }
 {
-    put_curve(part, rows, here, score, numbers, tables)?;
-    let beyond = cut(part, low, high);
+    let passed = put_choices(part, rows, lows, here, score, numbers, tables, low, high)?;
+    let beyond = cut(part, low, high).min(passed);
     let least = least_at_low(part, low);
     Ok(Lowest {
         least,
@@ -137,6 +143,7 @@ pub(crate) fn put_parts<'b, S: Score>(
         let lowest = put_part(
             &mut work.parts[usize::from(j) - 1],
             &mut work.rows,
+            &mut work.lows,
             &here,
             score,
             &sources.numbers,

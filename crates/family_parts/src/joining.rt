@@ -28,6 +28,7 @@ ghost use Rattle.family_curve.specs.Joining.{HaveWidthOf, vertices_of};
 ghost use Rattle.family_parts.specs.Growing.{Grows, in_turn};
 
 use crate::base::{Work, put_parts};
+use crate::first_line::likely_line;
 use crate::lows::low_if_passed;
 use answers::NoMemory;
 use curve_parts::{join_sums, part_of_sums};
@@ -151,23 +152,46 @@ fn in_turn(first: u64, last: u64, n: u64) -> u64
     if up <= last { up } else { last - n }
 }
 
-/// The place, from 0 on, of the line unit's stock at the depot that comes first: the stock of a vertex so far, or a
-/// third of the way up. The nearer it is to a new vertex, the more stocks are passed over.
-fn line_first(family: &Family<'_>, so_far: &Option<Curve>) -> u8
-    ensures { result ≤ line_high family.now 0 - line_low family.now 0 }
-{
-    family.invariant();
-    let low = family.line_low(SiteId(0));
-    let high = family.line_high(SiteId(0));
-    let third = (high - low) / 3;
-    let Some(part) = so_far else {
-        return third;
-    };
+/// The line unit's stock at the depot of the first vertex of a part.
+fn line_of(part: &Curve) -> u8 {
     part.invariant();
     match part.point(0).stocks.as_slice().first() {
-        Some(line) => (*line).max(low).min(high) - low,
-        None => third,
+        Some(line) => *line,
+        None => 0,
     }
+}
+
+/// The place, from 0 on, of the line unit's stock at the depot that comes first: the stock of a vertex so far, or one
+/// for which lower bounds are low.
+fn line_first<S: Score>(
+    alloc: Global,
+    so_far: &Option<Curve>,
+    sources: &Sources<'_>,
+    score: &S,
+    tables: &DepotTables<'_>,
+    rough: &RoughLows,
+    depot: &[u8],
+    low: Price,
+    high: Price,
+) -> Result<u8, NoMemory>
+    requires sources { AreSources sources.now }
+    requires some { 0 < length depot.now }
+    requires shops { AreShopsAt sources.now.family.now 0 (drop 1 depot.now) }
+    requires tables { AreTables sources.now.family.now (drop 1 depot.now) tables.now }
+    requires rough { AreRough S.ends sources.now.family.now (drop 1 depot.now) low high rough.now }
+    requires low { IsSmall low }
+    requires high { IsSmall high }
+    ensures { IfOk result (λ place. place ≤ line_high sources.now.family.now 0 - line_low sources.now.family.now 0) }
+{
+    let family = sources.family;
+    family.invariant();
+    let first = family.line_low(SiteId(0));
+    let last = family.line_high(SiteId(0));
+    let line = match so_far {
+        Some(part) => line_of(part),
+        None => likely_line(alloc, sources, score, tables, rough, depot, low, high)?,
+    };
+    Ok(line.max(first).min(last) - first)
 }
 
 /// The line unit's `n`-th stock at the depot, in the order from the one at the place `first` up and then down.
@@ -184,8 +208,8 @@ fn line_stock(family: &Family<'_>, first: u8, n: u8) -> u8
     low + in_turn(u64::from(first), u64::from(high - low), u64::from(n)) as u8
 }
 
-/// Adds to the part so far all vectors with the shop units' stocks of `stocks` at the depot. The line unit's stock, the
-/// first of `stocks`, is overwritten.
+/// Adds to the part so far all vectors with the shop units' stocks of `stocks` at the depot, from the line unit's stock
+/// at the place `begin` on. The first of `stocks` is overwritten.
 fn grow_with_lines<'b, S: Score>(
     alloc: Global,
     part: &mut Option<Curve>,
@@ -196,10 +220,12 @@ fn grow_with_lines<'b, S: Score>(
     tables: &DepotTables<'_>,
     rough: &RoughLows,
     stocks: &mut [u8],
+    begin: u8,
     low: Price,
     high: Price,
 ) -> Result<(), NoMemory>
     requires sources { AreSources sources.now }
+    requires begin { begin ≤ line_high sources.now.family.now 0 - line_low sources.now.family.now 0 }
     requires some { 0 < length stocks.old }
     requires shops { AreShopsAt sources.now.family.now 0 (drop 1 stocks.old) }
     requires tables { AreTables sources.now.family.now (drop 1 stocks.old) tables.now }
@@ -222,7 +248,6 @@ fn grow_with_lines<'b, S: Score>(
     let family = sources.family;
     family.invariant();
     let last = family.line_high(SiteId(0)) - family.line_low(SiteId(0));
-    let begin = line_first(family, part);
     for n in 0..last + 1 {
         stocks[0] = line_stock(family, begin, n);
         grow_with(
@@ -267,10 +292,14 @@ fn grow_with_shops<'b, S: Score>(
     let shops = shops_of(stocks.as_slice());
     parts.put(sources, shops)?;
     let tables = depot_tables(alloc, sources, shops, parts)?;
-    rough.put(sources, score, &tables, stocks.as_slice(), low, high)?;
+    let depot = stocks.as_slice();
+    rough.put(sources, score, &tables, depot, low, high)?;
+    let begin = line_first(
+        alloc, part, sources, score, &tables, rough, depot, low, high,
+    )?;
     let at_depot = stocks.as_mut_slice();
     grow_with_lines(
-        alloc, part, beyond, work, sources, score, &tables, rough, at_depot, low, high,
+        alloc, part, beyond, work, sources, score, &tables, rough, at_depot, begin, low, high,
     )
 }
 

@@ -27,6 +27,8 @@ use spares_input::{Case, PartId};
 use std::alloc::Global;
 
 mod base;
+mod choices;
+mod first_line;
 mod joining;
 mod lows;
 mod near;

@@ -22,7 +22,7 @@ use std::alloc::Global;
 
 /// The lower, at each of two prices, of `least` and of the bounds of the vectors with these stocks at the depot. Base
 /// by base a nearer bound takes the place of the rough one, as long as the sums are below `least` at one of the prices.
-fn lower_at_depot<S: Score>(
+pub(crate) fn lower_at_depot<S: Score>(
     least: Lows,
     sources: &Sources<'_>,
     score: &S,

@@ -130,7 +130,8 @@ fn choices_of(
         (λ v. map (choice_stocks family.now site.0) v.items ≡ turned_stocks family.now site.0) }
     ensures choices { IfOk result (λ v. All (IsChoice family.now site.0) v.items) }
 {
-    let mut choices = Vec::new(alloc);
+    let lines = usize::from(family.line_high(site) - family.line_low(site)) + 1;
+    let mut choices = Vec::with_capacity(alloc, shops.len().saturating_mul(lines))?;
     for n in 0..shops.len() {
         put_choices(&mut choices, family, site, &shops[n], n)?;
     }

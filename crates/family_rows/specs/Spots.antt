@@ -1,5 +1,5 @@
 -- A base at stocks of the depot, its rows of backorders, and its points. No promise of the crate rests on these words.
-use Rattle.std.specs.Prelude.{◌≡◌, ℕ, ◌<◌, List, ◌∷◌, length, All}
+use Rattle.std.specs.Prelude.{◌≡◌, ℕ, ◌<◌, List, [], ◌∷◌, get_or, length, All}
 use Rattle.std.specs.List.{AllZip}
 use Rattle.fixed_interval.specs.Ends.{Ends, IsWithinLimit}
 use Rattle.series_bounds.specs.Answer.{at_place}
@@ -37,3 +37,7 @@ pub record IsRow (x : FamilyBox) (d : List ℕ) (j : ℕ) (shops : List ℕ) (ro
 -- one such row for each vector of the shop units' stocks at a base
 abbrev pub AreRows : BaseAt → List (List Ends) → Type 0
 AreRows b rows = AllZip (IsRow b.family.now b.depot.now b.site.0) (shop_vectors b.family.now b.site.0) rows
+
+-- the row of the n-th vector of them
+abbrev pub IsRowOf : BaseAt → ℕ → List Ends → Type 0
+IsRowOf b n = IsRow b.family.now b.depot.now b.site.0 (get_or (shop_vectors b.family.now b.site.0) n [])

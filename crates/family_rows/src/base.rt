@@ -6,13 +6,15 @@ ghost use Rattle.family_items.specs.Profile.{item_of};
 ghost use Rattle.family_points.specs.Separation.{base_stocks};
 ghost use Rattle.family_points.specs.Inputs.{shop_vectors};
 ghost use Rattle.family_points.specs.Choices.{IsChoice, choice_point, choice_stocks};
-ghost use Rattle.family_rows.specs.Spots.{AreRows, IsBaseAt, spot_point};
-ghost use Rattle.family_rows.specs.Tabled.{AreTables, box_numbers};
+ghost use Rattle.family_rows.specs.Spots.{AreRows, IsBaseAt, IsRowOf, spot_point};
+ghost use Rattle.family_rows.specs.Tabled.{AreTables, box_numbers, own_at, parts_at};
 
 use crate::base_at::BaseAt;
 use crate::depot::{DepotTables, own_at, put_backorders, shops_at};
 use answers::NoMemory;
+use depot_pipeline::Moments;
 use family_numbers::Numbers;
+use family_numbers::own_part::OwnPart;
 use family_points::order::Choice;
 use fixed_interval::Iv;
 use hull::{Score, Spot, is_first};
@@ -73,6 +75,27 @@ fn make_rows(rows: &mut Vec<Vec<Iv64<48>>>, count: usize) -> Result<(), NoMemory
     Ok(())
 }
 
+/// Sets `row` to the line unit's backorders at a base for the `n`-th choice of the shop units' stocks, listed by the
+/// line unit's stock. `own` is the line unit's own part of its pipeline there, and `parts` are the shop units'.
+pub fn put_row(
+    row: &mut Vec<Iv64<48>>,
+    here: &BaseAt<'_, '_>,
+    numbers: &Numbers<48>,
+    own: &OwnPart<48>,
+    parts: &[Moments<48>],
+    n: usize,
+) -> Result<(), NoMemory>
+    requires here { IsBaseAt here.now }
+    requires numbers { numbers.now ≡ box_numbers here.now.family.now }
+    requires own { own.now ≡ own_at numbers.now here.now.depot.now here.now.site.0 }
+    requires parts { parts.now ≡ parts_at here.now.family.now (drop 1 here.now.depot.now) here.now.site.0 }
+    requires place { n < length (shop_vectors here.now.family.now here.now.site.0) }
+    ensures { IfOk result (λ _. IsRowOf here.now n row.new.items) }
+{
+    let stocks = here.base.shops[n].stocks.as_slice();
+    put_backorders(row, here, numbers, own, &parts[n], stocks)
+}
+
 /// Sets `rows` to the line unit's backorders at a base: one row for each choice of the shop units' stocks, listed by
 /// the line unit's stock.
 pub fn put_rows(
@@ -94,25 +117,63 @@ pub fn put_rows(
     let own = own_at(here, numbers, tables);
     let parts = shops_at(tables, here);
     for n in 0..count {
-        let stocks = here.base.shops[n].stocks.as_slice();
-        put_backorders(&mut rows[n], here, numbers, &own, &parts[n], stocks)?;
+        put_row(&mut rows[n], here, numbers, &own, parts, n)?;
     }
     Ok(())
 }
 
-/// The line unit's backorders for a choice, read from the base's rows.
-fn backorders_of(here: &BaseAt<'_, '_>, rows: &[Vec<Iv64<48>>], choice: &Choice) -> Iv<48>
+/// The line unit's backorders for a choice, read from the row of its shop units' stocks.
+#[inline(always)]
+fn backorders_of(here: &BaseAt<'_, '_>, row: &[Iv64<48>], choice: &Choice) -> Iv<48>
     requires here { IsBaseAt here.now }
-    requires rows { AreRows here.now (map (λ r. r.items) rows.now) }
     requires choice { IsChoice here.now.family.now here.now.site.0 choice.now }
+    requires row { IsRowOf here.now choice.now.shops row.now }
     ensures small { IsWithinLimit 48 result }
     ensures ends { let x = here.now.family.now in let j = here.now.site.0 in result ≡ (item_of 48 x.case
         (base_stocks x here.now.depot.now j (choice_stocks x j choice.now)) x.line j).backorders }
 {
+    row[usize::from(choice.line)].open()
+}
+
+/// The point of a choice, scored by the row of its shop units' stocks.
+#[inline(always)]
+pub fn spot_by_row<'b, S: Score>(
+    here: &BaseAt<'_, 'b>,
+    score: &S,
+    row: &[Iv64<48>],
+    choice: &Choice,
+) -> BaseSpot<'b>
+    requires here { IsBaseAt here.now }
+    requires choice { IsChoice here.now.family.now here.now.site.0 choice.now }
+    requires row { IsRowOf here.now choice.now.shops row.now }
+    ensures { spot_point result
+        ≡ choice_point S.ends here.now.family.now here.now.depot.now here.now.site.0 choice.now }
+{
+    let backorders = backorders_of(here, row, choice);
+    let scored = here.score(score, backorders);
+    BaseSpot {
+        cost: choice.cost,
+        lo: scored.lo(),
+        hi: scored.hi(),
+        line: choice.line,
+        shops: here.base.shops[choice.shops].stocks.as_slice(),
+    }
+}
+
+/// The row of a choice's shop units' stocks.
+#[inline(always)]
+pub fn row_at<'r>(
+    here: &BaseAt<'_, '_>,
+    rows: &'r [Vec<Iv64<48>>],
+    choice: &Choice,
+) -> &'r [Iv64<48>]
+    requires rows { AreRows here.now (map (λ r. r.items) rows.now) }
+    requires choice { IsChoice here.now.family.now here.now.site.0 choice.now }
+    ensures { IsRowOf here.now choice.now.shops result.now }
+{
     let count = rows.len();
     prove!(choice.shops < count);
-    let row = rows[choice.shops].as_slice();
-    row[usize::from(choice.line)].open()
+    rows[choice.shops].as_slice()
 }
 
 /// The point of a choice, scored by the base's rows.
@@ -128,13 +189,5 @@ pub fn spot_at<'b, S: Score>(
     ensures { spot_point result
         ≡ choice_point S.ends here.now.family.now here.now.depot.now here.now.site.0 choice.now }
 {
-    let backorders = backorders_of(here, rows, choice);
-    let scored = here.score(score, backorders);
-    BaseSpot {
-        cost: choice.cost,
-        lo: scored.lo(),
-        hi: scored.hi(),
-        line: choice.line,
-        shops: here.base.shops[choice.shops].stocks.as_slice(),
-    }
+    spot_by_row(here, score, row_at(here, rows, choice), choice)
 }

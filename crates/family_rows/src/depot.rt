@@ -1,6 +1,7 @@
 //! The tables from which the points of a family are made, and the backorders computed by them.
 
 ghost use Rattle.std.specs.Prelude.{◌≡◌, ◌≤◌, IfOk, drop, length, map};
+ghost use Rattle.spares_input.specs.Limits.{most_stock};
 ghost use Rattle.fleet_model.specs.Laws.{IsBase};
 ghost use Rattle.fleet_model.specs.Rows.{bases};
 ghost use Rattle.family_numbers.specs.Numbers.{shop_part};
@@ -131,10 +132,10 @@ pub fn depot_tables<'a>(
 }
 
 /// The line unit's first stock at the depot, from `low` on, that leaves at most a quarter of its pipeline there as
-/// backorders, or `high` if none below does. A guess at the depot's stock of most vertices, of which no proof speaks.
+/// backorders, or `high` if none below does. A guess at the depot's stock of most vertices; no promise rests on it.
 pub fn likely_line(tables: &DepotTables<'_>, low: u8, high: u8) -> u8
     requires order { low ≤ high }
-    requires most { high ≤ 63 }
+    requires most { high ≤ most_stock }
     ensures least { low ≤ result }
     ensures most { result ≤ high }
 {

@@ -80,6 +80,7 @@ pub(crate) fn goes_on<T: Spot>(stack: &[T], point: &T) -> bool
 }
 
 /// Adds a point that costs no less than the last of a chain. Returns whether it is the last one now.
+#[inline(always)]
 pub(crate) fn grow<T: Spot>(stack: &mut Vec<T>, point: T) -> bool
     requires room { vec_len stack.old < vec_capacity stack.old }
     requires chain { IsChain (map T.point stack.old.items) }

@@ -1,6 +1,6 @@
 -- The numbered prices.
-use Rattle.std.proofs.Common.{◌≡◌, ℕ, suc, ◌+◌, ◌*◌, ◌/◌, ◌%◌, ◌^◌, ◌<◌, ◌≤◌, ◌⊎◌, inl, inr, sym, ap, ◌∙◌, subst, arith}
-use Rattle.std.proofs.Math.Nat.{mul-le-mul_right, pow-le-pow_right, pow-suc}
+use Rattle.std.proofs.Common.{◌≡◌, ℕ, ◌+◌, ◌*◌, ◌/◌, ◌%◌, ◌^◌, ◌<◌, ◌≤◌, sym, subst, arith}
+use Rattle.std.proofs.Math.Nat.{mul-le-mul_right, pow-le-pow_right}
 use Rattle.std.proofs.lemmas.Nat.{shl_whole}
 
 -- the price of a number
@@ -25,26 +25,3 @@ price_most n last =
     let p : 2 ^ (n / 4) ≤ 2 ^ 69 = pow-le-pow_right {n = 2} (omega arith) {i = n / 4} {j = 69} (omega (arith, last)) in
     let m : (4 + n % 4) * 2 ^ (n / 4) ≤ 7 * 2 ^ (n / 4) = mul-le-mul_right (2 ^ (n / 4)) (omega arith) in
     omega (arith, p, m)
-
-low_or : (n : ℕ) → (n % 4 < 2) ⊎ (2 ≤ n % 4)
-low_or n = grind arith
-
--- the price two numbers on is no lower
-pub price_rises : (n : ℕ) → numbered n ≤ numbered (n + 2)
-price_rises n = elim (low_or n) [
-  | inl l ↦ (
-      let q : (n + 2) / 4 ≡ n / 4 = omega (arith, l) in
-      subst (λ k. (4 + n % 4) * 2 ^ (n / 4) ≤ (4 + (n + 2) % 4) * 2 ^ k) (sym q) (mul-le-mul_right (2 ^ (n / 4)) (omega (arith, l))))
-  | inr h ↦ (
-      let q : (n + 2) / 4 ≡ n / 4 + 1 = omega (arith, h) in
-      let up : 2 ^ (n / 4 + 1) ≡ 2 ^ (n / 4) * 2 = ap (λ k. 2 ^ k) (let e : n / 4 + 1 ≡ suc (n / 4) = omega arith in e) ∙ pow-suc 2 (n / 4) in
-      let here : (4 + n % 4) * 2 ^ (n / 4) ≤ 8 * 2 ^ (n / 4) = mul-le-mul_right (2 ^ (n / 4)) (omega arith) in
-      let on : 4 * 2 ^ (n / 4 + 1) ≤ (4 + (n + 2) % 4) * 2 ^ (n / 4 + 1) = mul-le-mul_right (2 ^ (n / 4 + 1)) (omega arith) in
-      subst (λ k. (4 + n % 4) * 2 ^ (n / 4) ≤ (4 + (n + 2) % 4) * 2 ^ k) (sym q) (omega (arith, here, on, up)))
-]
-
--- less than a price is below more than the one two numbers on
-pub price_window : (a b n : ℕ) → a ≡ numbered n → b ≡ numbered (n + 2) → a * 5 / 8 ≤ b * 9 / 8
-price_window a b n from to =
-    let h : a ≤ b = subst (λ x. x ≤ b) (sym from) (subst (λ x. numbered n ≤ x) (sym to) (price_rises n)) in
-    omega (arith, h)

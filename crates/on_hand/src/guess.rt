@@ -2,13 +2,12 @@
 //!
 //! Prices are numbered, each about a fifth above the one before.
 
-ghost use Rattle.std.specs.Prelude.{◌≡◌, ◌+◌, ◌*◌, ◌/◌, ◌%◌, ◌^◌, ◌<◌, ◌≤◌, All, IfOk, IfSome, length};
-ghost use Rattle.spares_input.specs.Limits.{most_parts};
-ghost use Rattle.spares_input.specs.Money.{most_budget};
+ghost use Rattle.std.specs.Prelude.{◌≡◌, ◌+◌, ◌*◌, ◌/◌, ◌%◌, ◌^◌, ◌<◌, ◌≤◌, All, IfOk, IfSome};
 ghost use Rattle.family_rows.specs.Sources.{AreSources};
 
 use crate::families::HeldFamilies;
 use crate::sample::{bounds_of, families_of, sources_of};
+use crate::size::{size_of, size_of_all};
 use answers::NoMemory;
 use family_parts::cost_near;
 use family_rows::sources::Sources;
@@ -22,7 +21,7 @@ const FIRST: u32 = 24;
 const LAST: u32 = 276;
 
 /// The price of a number, in units of 2^-48 for whole money.
-pub(crate) fn price_at(number: u32) -> u128
+fn price_at(number: u32) -> u128
     requires first { 24 ≤ number }
     requires last { number ≤ 279 }
     ensures price { result ≡ (4 + number % 4) * 2 ^ (number / 4) }
@@ -32,35 +31,32 @@ pub(crate) fn price_at(number: u32) -> u128
     u128::from(4 + number % 4) << (number / 4)
 }
 
-/// Whether each `every`-th of some families suggests that what is best at a price costs more than the budget of `count`
-/// families.
-fn is_dear<S: Score>(
+/// About what is best at a price costs in all, by each `every`-th of some families. `size` is about what all units of
+/// all families in pipelines cost.
+fn cost_of_all<S: Score>(
     alloc: Global,
     sources: &[Sources<'_>],
     score: &S,
     every: usize,
     number: u32,
-    budget: u64,
-    count: u32,
-) -> Result<bool, NoMemory>
+    size: u128,
+) -> Result<u128, NoMemory>
     requires sources { All AreSources sources.now }
-    requires few { length sources.now ≤ most_parts }
     requires every { 0 < every }
     requires first { 24 ≤ number }
     requires last { number ≤ 277 }
-    requires budget { budget ≤ most_budget }
-    requires count { count ≤ most_parts }
 {
     let price = price_at(number);
-    let mut cost = 0;
-    let mut taken = 0;
+    let mut cost: u128 = 0;
+    let mut taken: u128 = 0;
     for k in 0..sources.len() {
         if k % every == every / 2 {
-            cost += cost_near(alloc, &sources[k], score, price)?;
-            taken += 1;
+            let family = sources[k].family;
+            cost = cost.saturating_add(cost_near(alloc, &sources[k], score, price)?);
+            taken = taken.saturating_add(size_of(family.case(), family.rates(), family.line()));
         }
     }
-    Ok(cost * u128::from(count) > u128::from(budget) * taken)
+    Ok(cost.saturating_mul(size) / taken.max(1))
 }
 
 /// The number of about the highest price at which a quarter or so of the families suggests a cost above the budget.
@@ -68,13 +64,10 @@ fn guess_by_few<S: Score>(
     alloc: Global,
     sources: &[Sources<'_>],
     score: &S,
+    size: u128,
     budget: u64,
-    count: u32,
 ) -> Result<u32, NoMemory>
     requires sources { All AreSources sources.now }
-    requires few { length sources.now ≤ most_parts }
-    requires budget { budget ≤ most_budget }
-    requires count { count ≤ most_parts }
     ensures first { IfOk result (λ number. 24 ≤ number) }
     ensures last { IfOk result (λ number. number ≤ 276) }
 {
@@ -83,7 +76,7 @@ fn guess_by_few<S: Score>(
     let mut above = LAST;
     for _ in 0..8 {
         let middle = (number + above) / 2;
-        if is_dear(alloc, sources, score, every, middle, budget, count)? {
+        if cost_of_all(alloc, sources, score, every, middle, size)? > u128::from(budget) {
             number = middle;
         } else {
             above = middle;
@@ -92,105 +85,120 @@ fn guess_by_few<S: Score>(
     Ok(number)
 }
 
-/// The number of the last price from `number` up at which the families suggest a cost above the budget.
+/// About the price at which the budget is spent, between that of a number and the next one: what is best at these costs
+/// about `upper` and `lower` in all.
+fn price_between(number: u32, upper: u128, lower: u128, budget: u64) -> u128
+    requires first { 24 ≤ number }
+    requires last { number ≤ 276 }
+    ensures least { 256 ≤ result }
+    ensures most { result < 2 ^ 72 }
+{
+    let (first, last) = (price_at(number), price_at(number + 1));
+    let part = upper.saturating_sub(u128::from(budget));
+    let whole = upper.saturating_sub(lower).max(1);
+    let above = last.saturating_sub(first).saturating_mul(part) / whole;
+    first.saturating_add(above).max(first).min(last.max(first))
+}
+
+/// About the price from that of `number` up at which the families suggest that the budget is spent.
 fn step_up<S: Score>(
     alloc: Global,
     sources: &[Sources<'_>],
     score: &S,
     number: u32,
+    upper: u128,
+    size: u128,
     budget: u64,
-    count: u32,
-) -> Result<u32, NoMemory>
+) -> Result<u128, NoMemory>
     requires sources { All AreSources sources.now }
-    requires few { length sources.now ≤ most_parts }
     requires first { 24 ≤ number }
     requires last { number ≤ 276 }
-    requires budget { budget ≤ most_budget }
-    requires count { count ≤ most_parts }
-    ensures first { IfOk result (λ number. 24 ≤ number) }
-    ensures last { IfOk result (λ number. number ≤ 276) }
+    ensures least { IfOk result (λ price. 256 ≤ price) }
+    ensures most { IfOk result (λ price. price < 2 ^ 72) }
 {
+    let mut upper = upper;
     for n in number..LAST {
-        if !is_dear(alloc, sources, score, 1, n + 1, budget, count)? {
-            return Ok(n);
+        let lower = cost_of_all(alloc, sources, score, 1, n + 1, size)?;
+        if lower <= u128::from(budget) {
+            return Ok(price_between(n, upper, lower, budget));
         }
+        upper = lower;
     }
-    Ok(LAST)
+    Ok(price_at(LAST))
 }
 
-/// The number of the first price from `number` down at which the families suggest a cost above the budget.
+/// About the price from that of `number` down at which the families suggest that the budget is spent.
 fn step_down<S: Score>(
     alloc: Global,
     sources: &[Sources<'_>],
     score: &S,
     number: u32,
+    lower: u128,
+    size: u128,
     budget: u64,
-    count: u32,
-) -> Result<u32, NoMemory>
+) -> Result<u128, NoMemory>
     requires sources { All AreSources sources.now }
-    requires few { length sources.now ≤ most_parts }
     requires first { 24 ≤ number }
     requires last { number ≤ 276 }
-    requires budget { budget ≤ most_budget }
-    requires count { count ≤ most_parts }
-    ensures first { IfOk result (λ number. 24 ≤ number) }
-    ensures last { IfOk result (λ number. number ≤ 276) }
+    ensures least { IfOk result (λ price. 256 ≤ price) }
+    ensures most { IfOk result (λ price. price < 2 ^ 72) }
 {
+    let mut lower = lower;
     for down in 0..number - FIRST {
         let n = number - 1 - down;
-        if is_dear(alloc, sources, score, 1, n, budget, count)? {
-            return Ok(n);
+        let upper = cost_of_all(alloc, sources, score, 1, n, size)?;
+        if upper > u128::from(budget) {
+            return Ok(price_between(n, upper, lower, budget));
         }
+        lower = upper;
     }
-    Ok(FIRST)
+    Ok(price_at(FIRST))
 }
 
-/// The number of about the price at which the budget of `count` families is spent, by some of them. None if nearly all
-/// is bought.
+/// About the price at which the budget is spent, by some families. None if nearly all is bought.
 fn guess_by<S: Score>(
     alloc: Global,
     sources: &[Sources<'_>],
     score: &S,
+    size: u128,
     budget: u64,
-    count: u32,
-) -> Result<Option<u32>, NoMemory>
+) -> Result<Option<u128>, NoMemory>
     requires sources { All AreSources sources.now }
-    requires few { length sources.now ≤ most_parts }
-    requires budget { budget ≤ most_budget }
-    requires count { count ≤ most_parts }
-    ensures first { IfOk result (λ found. IfSome found (λ number. 24 ≤ number)) }
-    ensures last { IfOk result (λ found. IfSome found (λ number. number ≤ 276)) }
+    ensures least { IfOk result (λ found. IfSome found (λ price. 256 ≤ price)) }
+    ensures most { IfOk result (λ found. IfSome found (λ price. price < 2 ^ 72)) }
 {
-    let number = guess_by_few(alloc, sources, score, budget, count)?;
+    let number = guess_by_few(alloc, sources, score, size, budget)?;
     if number == FIRST {
         return Ok(None);
     }
-    let better = if is_dear(alloc, sources, score, 1, number, budget, count)? {
-        step_up(alloc, sources, score, number, budget, count)?
+    let cost = cost_of_all(alloc, sources, score, 1, number, size)?;
+    let price = if cost > u128::from(budget) {
+        step_up(alloc, sources, score, number, cost, size, budget)?
     } else {
-        step_down(alloc, sources, score, number, budget, count)?
+        step_down(alloc, sources, score, number, cost, size, budget)?
     };
-    Ok(Some(better))
+    Ok(Some(price))
 }
 
-/// The number of about the price at which the budget is spent, 24 to 276. None if nearly all is bought. The sources of
-/// the sampled families are made once and serve all prices. Want of memory is the only error.
+/// About the price at which the budget is spent, in units of 2^-48 for whole money. None if nearly all is bought. The
+/// sources of the sampled families are made once and serve all prices. Want of memory is the only error.
 pub(crate) fn guess<S: Score>(
     alloc: Global,
     families: &HeldFamilies<'_, S>,
     budget: u64,
-) -> Result<Option<u32>, NoMemory>
-    requires budget { budget ≤ most_budget }
-    ensures first { IfOk result (λ found. IfSome found (λ number. 24 ≤ number)) }
-    ensures last { IfOk result (λ found. IfSome found (λ number. number ≤ 276)) }
+) -> Result<Option<u128>, NoMemory>
+    ensures least { IfOk result (λ found. IfSome found (λ price. 256 ≤ price)) }
+    ensures most { IfOk result (λ found. IfSome found (λ price. price < 2 ^ 72)) }
 {
     let count = families.count();
     let every = (count / (count / 20).max(16)).max(1);
     let lines = families.sample(alloc, every)?;
     let lines = lines.as_slice();
     let (case, rates, held) = (families.case(), families.rates(), families.held());
+    let all = families.sample(alloc, 1)?;
+    let size = size_of_all(case, rates, all.as_slice());
     let bounds = bounds_of(alloc, case, held, lines)?;
     let sampled = families_of(alloc, case, rates, held, lines, bounds.as_slice())?;
     let sources = sources_of(alloc, sampled.as_slice())?;
-    guess_by(alloc, sources.as_slice(), families.score(), budget, count)
+    guess_by(alloc, sources.as_slice(), families.score(), size, budget)
 }

@@ -8,6 +8,7 @@ mod guess;
 mod parts;
 mod plan;
 mod sample;
+mod size;
 
 pub use curves::held_curves;
 pub use held_certificate::{HeldCertificate, is_held_form, read, text};

@@ -12,11 +12,12 @@ ghost use Rattle.case_plan.specs.Report.{IsOutcome};
 
 use crate::curves::whole_curves;
 use crate::families::HeldFamilies;
-use crate::guess::{guess, price_at};
+use crate::guess::guess;
 use crate::parts::parts_between;
 use answers::NoMemory;
 use case_plan::{Outcome, Request, plan, plan_by_parts};
 use demand_rates::kinds::Rates;
+use held_work::held_work;
 use hull::{Price, Score};
 use part_filling::Window;
 use spares_input::{Case, Stocks};
@@ -24,6 +25,12 @@ use std::alloc::Global;
 
 /// With fewer families a guess of the price costs more than parts of curves save.
 const MANY: u32 = 48;
+
+/// With fewer tables of backorders it does so too.
+const MANY_TABLES: u64 = 20_000;
+
+/// With as many families the sample is large enough for a close guess.
+const ENOUGH: u32 = 500;
 
 /// The prices from one to another, in units of 2^-48 for whole money.
 fn window_of(low: u128, high: u128) -> Window
@@ -60,8 +67,19 @@ fn plan_between<S: Score>(
     )
 }
 
-/// The plan by the parts of the curves near the price at which the budget is about spent. None if there are few
-/// families, nearly all is bought, or the guess of the price is wrong.
+/// Whether parts of curves are likely to cost less work than whole ones.
+fn are_parts_cheaper<S: Score>(families: &HeldFamilies<'_, S>) -> bool {
+    if families.count() < MANY {
+        return false;
+    }
+    match held_work(families.case(), families.held()) {
+        Ok(tables) => tables >= MANY_TABLES,
+        Err(_) => true,
+    }
+}
+
+/// The plan by the parts of the curves near the price at which the budget is about spent. None if whole curves likely
+/// cost less work, nearly all is bought, or the guess of the price is wrong.
 fn plan_near<S: Score>(
     alloc: Global,
     families: &HeldFamilies<'_, S>,
@@ -71,14 +89,17 @@ fn plan_near<S: Score>(
     ensures { IfOk result (λ found. IfSome found
         (IsOutcome S.ends families.now.case families.now.held.list request)) }
 {
-    if families.count() < MANY {
+    if !are_parts_cheaper(families) {
         return Ok(None);
     }
-    let Some(number) = guess(alloc, families, request.budget)? else {
+    let Some(price) = guess(alloc, families, request.budget)? else {
         return Ok(None);
     };
-    let price = price_at(number);
-    let close = window_of(price * 5 / 8, price_at(number + 2) * 9 / 8);
+    let close = if families.count() < ENOUGH {
+        window_of(price * 5 / 8, price * 13 / 8)
+    } else {
+        window_of(price * 3 / 4, price * 17 / 16)
+    };
     if let Some(outcome) = plan_between(alloc, families, close, request)? {
         return Ok(Some(outcome));
     }

@@ -1,11 +1,11 @@
 //! The tests whether a sum, or all sums that are still to come, can be no vertex beside the points so far.
 
-ghost use Rattle.std.specs.Prelude.{◌≡◌, ◌+◌, ◌*◌, ◌<◌, ◌≤◌, IsTrue, length};
+ghost use Rattle.std.specs.Prelude.{◌+◌, ◌<◌, ◌≤◌, IsTrue, length};
 ghost use Rattle.hull.specs.declared.point.Point.{Point};
 ghost use Rattle.hull.specs.Curves.{Among, InRange, point_at};
-ghost use Rattle.hull.specs.Limits.{most_price_units, most_points};
+ghost use Rattle.hull.specs.Limits.{most_points};
 ghost use Rattle.sum_walk.specs.Lanes.{IsStep};
-ghost use Rattle.sum_walk.specs.Passed.{IsBehind, IsBetter, IsKeyOf, IsOver, IsPassed, IsPast};
+ghost use Rattle.sum_walk.specs.Passed.{IsBehind, IsBetter, IsOver, IsPassed, IsPast, IsUnder, most_sum};
 
 use crate::lanes::Lane;
 use hull::Point;
@@ -81,35 +81,6 @@ pub(crate) fn is_passed(below: &[Point], k: usize, place: Place) -> bool
     lies_over(u, &below[k + 1], place)
 }
 
-/// `floor(fall / (1024 * rise))` of a step. A step with a larger key is steeper.
-fn key_of(fall: u128, rise: u64) -> u64
-    requires small { fall < most_price_units }
-    requires rises { 0 < rise }
-    ensures { IsKeyOf fall rise result }
-{
-    (fall / 1024) as u64 / rise
-}
-
-/// A lower bound of the place at which steps from `place` reach the lower end `lo`, if their keys are at most `key`.
-fn corner_of(place: Place, key: u64, lo: u128) -> Place
-    requires { lo ≤ place.lo }
-    ensures lo { result.lo ≡ lo }
-    ensures under { result.cost * ((key + 1) * 1024) + lo ≤ place.cost * ((key + 1) * 1024) + place.lo }
-{
-    let fall = (place.lo - lo) / 1024;
-    if fall >= 1 << 64 || key == u64::MAX {
-        return Place {
-            cost: place.cost,
-            lo,
-        };
-    }
-    let rise = fall as u64 / (key + 1);
-    Place {
-        cost: place.cost.saturating_add(rise),
-        lo,
-    }
-}
-
 /// Whether the point at `k` costs no more than `place` and is no higher, and differs from it.
 fn is_past(below: &[Point], k: usize, place: Place) -> bool
     ensures { IsTrue result → IsPast below.now place }
@@ -117,17 +88,47 @@ fn is_past(below: &[Point], k: usize, place: Place) -> bool
     k < below.len() && is_better(&below[k], place)
 }
 
-/// Whether no later step from `place` can reach a new vertex, because `below` already lies under every such step. The
-/// steps are no steeper than that of `lane`, and they lead to no lower end below `lo`.
-pub(crate) fn is_behind(below: &[Point], k: usize, place: Place, lane: Lane, lo: u128) -> bool
+/// The place of the first point that is no higher than `lo`, where the points lie lower and lower.
+pub(crate) fn first_down_to(points: &[Point], lo: u128) -> usize {
+    points.partition_point(|v| lo < v.lo)
+}
+
+/// Whether the point at `k` is no higher than `lo`, and costs less than a step like that of `lane` from `place` down to
+/// `lo` would.
+fn is_under(below: &[Point], k: usize, place: Place, lane: Lane, lo: u128) -> bool
+    requires ranges { (v : Point) → Among v below.now → InRange v }
     requires step { IsStep lane }
     requires lo { lo ≤ place.lo }
-    ensures { IsTrue result → IsBehind below.now place lane lo }
+    requires small { place.lo < most_sum }
+    ensures { IsTrue result → IsUnder below.now place lane lo }
 {
-    if !is_past(below, k, place) {
+    if k >= below.len() {
         return false;
     }
-    let corner = corner_of(place, key_of(lane.fall, lane.rise), lo);
-    let count = below.partition_point(|v| v.cost <= corner.cost);
-    is_past(below, count.saturating_sub(1), corner)
+    let point = &below[k];
+    if lo < point.lo {
+        return false;
+    }
+    let dearer = u128::from(point.cost.saturating_sub(place.cost));
+    dearer * lane.fall < (place.lo - lo) * u128::from(lane.rise)
+}
+
+/// Whether no later step from `place` can reach a new vertex, because `below` already lies under every such step: its
+/// points at `k` and `end` show it. The steps are no steeper than that of `lane`, and they lead to no lower end below
+/// `lo`.
+pub(crate) fn is_behind(
+    below: &[Point],
+    k: usize,
+    end: usize,
+    place: Place,
+    lane: Lane,
+    lo: u128,
+) -> bool
+    requires ranges { (v : Point) → Among v below.now → InRange v }
+    requires step { IsStep lane }
+    requires lo { lo ≤ place.lo }
+    requires small { place.lo < most_sum }
+    ensures { IsTrue result → IsBehind below.now place lane lo }
+{
+    is_under(below, end, place, lane, lo) && is_past(below, k, place)
 }

@@ -36,6 +36,13 @@ loop-n-init g c =
       few = omega (arith, ap length chain);
     }
 
+pub row_at-requires-clause-choice : goal.row_at-requires-clause-choice
+row_at-requires-clause-choice g c =
+    let here = c.args.here.now in
+    let choice = c.index-choice.result.now in
+    subst (IsChoice here.family.now here.site.0) (sym c.index-choice.ensures)
+    (c.requires.here.base.order.choices c.loop-n.n choice (omega (arith, c.loop-n-test.true, c.len-n-end.ensures, here.base.now.order.ok.0)))
+
 pub take_choice-requires-clause-choice : goal.take_choice-requires-clause-choice
 take_choice-requires-clause-choice g c =
     let here = c.args.here.now in

@@ -1,14 +1,15 @@
-use Rattle.std.proofs.Common.{◌≡◌, ◌-◌, ◌*◌, ◌≤◌, ◌∷◌, drop, flat_map, length}
+use Rattle.std.proofs.Common.{◌-◌, ◌*◌, ◌≤◌, ◌∷◌, drop, flat_map, length}
 use Rattle.hull.specs.Curves.{IsCurve}
 use Rattle.family_points.specs.Separation.{depot_points}
 use Rattle.family_points.specs.Inputs.{line_stocks, shop_vectors, vertex_count}
 use Rattle.family_curve.specs.Joining.{HaveWidthOf}
+use Rattle.family_curve.specs.Work.{HaveChains}
 use Rattle.family_curve.proofs.joining.whole_curve.Given as goal
 
 abbrev pub invariant-loop-n : goal.invariant-loop-n
 invariant-loop-n g l = record {
   few : length l.curve ≤ l.n * (length (line_stocks l.sources.family.now 0) * vertex_count l.sources.family.now);
   curve : IsCurve (flat_map (λ d. flat_map (λ s. depot_points g.S.Score.ends l.sources.family.now (s ∷ d)) (line_stocks l.sources.family.now 0)) (drop (length (shop_vectors l.sources.family.now 0) - l.n) (shop_vectors l.sources.family.now 0))) l.curve;
-  work : length l.work.chains.items ≡ length l.sources.bases.items;
+  work : HaveChains l.sources.bases.items l.work;
   widths : HaveWidthOf l.sources.family.now l.curve;
 }

@@ -6,6 +6,7 @@ use Rattle.hull.proofs.Public.{stand_for}
 use Rattle.family_curve.specs.Joining.{HaveWidthOf, vertices_of}
 use Rattle.family_points.specs.Separation.{depot_points}
 use Rattle.family_curve.proofs.Grown.{curve_stays, depot_ranges, depot_widths, none_of, widths_grow}
+use Rattle.family_curve.proofs.Under.{curve_suffices}
 use Rattle.family_curve.proofs.joining.with_depot.Goals as goal
 
 pub of-requires-clause-ranges : goal.of-requires-clause-ranges
@@ -80,7 +81,7 @@ returns-then-is_empty-clause-curve g c =
     let points : List Point = depot_points ends x d in
     let stands : StandFor (curve ++ points) (curve ++ c.in_ok-path-2.path.items) =
     subst (λ (l : List Point). StandFor (l ++ points) (l ++ c.in_ok-path-2.path.items)) c.vertices-below.ensures.vertices c.in_ok-path-2.ensures.stands in
-    let none : c.in_ok-path-2.path.items ≡ [] = none_of c.in_ok-path-2.path.items c.in_ok-path-2.path.len c.is_empty.result c.in_ok-path-2.path.ok.0 c.is_empty.ensures c.if-is_empty.true in
+    let none : c.in_ok-path-2.path.items ≡ [] = none_of c.in_ok-path-2.path.items c.in_ok-path-2.path.len c.is_empty-is_empty.result c.in_ok-path-2.path.ok.0 c.is_empty-is_empty.ensures c.if-is_empty.true in
     subst (λ (o : Option (List Point)). IsCurve (vertices_of o ++ points) curve) (sym c.in-Some.is) (curve_stays curve points c.in_ok-path-2.path.items c.vertices-below.ensures.shape.chain none stands)
 
 pub returns-clause-curve : goal.returns-clause-curve
@@ -133,7 +134,7 @@ pub depot_path-requires-clause-ranges : goal.depot_path-requires-clause-ranges
 depot_path-requires-clause-ranges g c = λ v m. absurd m
 
 pub depot_path-requires-clause-work : goal.depot_path-requires-clause-work
-depot_path-requires-clause-work g c = c.requires.work
+depot_path-requires-clause-work g c = c.requires.work.exact
 
 pub depot_path-requires-2-clause-sources : goal.depot_path-requires-2-clause-sources
 depot_path-requires-2-clause-sources g c = c.requires.sources
@@ -151,7 +152,7 @@ depot_path-requires-2-clause-room g c =
     (subst (λ (o : Option (List Point)). length (vertices_of o) + most ≤ 65000000) c.in-Some.is c.requires.room)
 
 pub depot_path-requires-2-clause-work : goal.depot_path-requires-2-clause-work
-depot_path-requires-2-clause-work g c = c.requires.work
+depot_path-requires-2-clause-work g c = c.requires.work.exact
 
 pub add_points-requires-clause-few : goal.add_points-requires-clause-few
 add_points-requires-clause-few g c =
@@ -163,7 +164,7 @@ pub returns-in_default-clause-few : goal.returns-in_default-clause-few
 returns-in_default-clause-few g c = omega (arith, c.in_ok-curve.ensures.few, c.in_ok-path.ensures.few)
 
 pub returns-in_default-clause-work : goal.returns-in_default-clause-work
-returns-in_default-clause-work g c = c.in_ok-path.ensures.work
+returns-in_default-clause-work g c = record { exact = c.in_ok-path.ensures.work; lows = c.requires.work.lows }
 
 pub returns-then-is_empty-clause-few : goal.returns-then-is_empty-clause-few
 returns-then-is_empty-clause-few g c =
@@ -171,7 +172,7 @@ returns-then-is_empty-clause-few g c =
     subst (λ (o : Option (List Point)). length c.in-Some.curve ≤ length (vertices_of o) + most) (sym c.in-Some.is) (omega arith)
 
 pub returns-then-is_empty-clause-work : goal.returns-then-is_empty-clause-work
-returns-then-is_empty-clause-work g c = c.in_ok-path-2.ensures.work
+returns-then-is_empty-clause-work g c = record { exact = c.in_ok-path-2.ensures.work; lows = c.in_ok-are_passed.ensures.chains }
 
 pub returns-clause-few : goal.returns-clause-few
 returns-clause-few g c =
@@ -180,4 +181,33 @@ returns-clause-few g c =
     (omega (arith, c.in_ok-add_points.ensures.few, c.in_ok-path-2.ensures.few))
 
 pub returns-clause-work : goal.returns-clause-work
-returns-clause-work g c = c.in_ok-path-2.ensures.work
+returns-clause-work g c = record { exact = c.in_ok-path-2.ensures.work; lows = c.in_ok-are_passed.ensures.chains }
+
+pub are_passed-requires-clause-ranges : goal.are_passed-requires-clause-ranges
+are_passed-requires-clause-ranges g c =
+    subst (λ (l : List Point). (v : Point) → Among v l → InRange v) (sym c.vertices-below.ensures.vertices) c.vertices-below.ensures.shape.ranges
+
+pub returns-then-branch-clause-curve : goal.returns-then-branch-clause-curve
+returns-then-branch-clause-curve g c =
+    let curve : List Point = c.in-Some.curve in
+    let points : List Point = depot_points g.S.Score.ends c.args.sources.now.family.now c.args.first.now.stocks in
+    let stands : StandFor (curve ++ points) curve =
+    subst (λ (l : List Point). StandFor (l ++ points) l) c.vertices-below.ensures.vertices (c.in_ok-are_passed.ensures.passed c.if-branch.true) in
+    subst (λ (o : Option (List Point)). IsCurve (vertices_of o ++ points) curve) (sym c.in-Some.is) (curve_suffices curve points c.vertices-below.ensures.shape.chain stands)
+
+pub returns-then-branch-clause-widths : goal.returns-then-branch-clause-widths
+returns-then-branch-clause-widths g c = subst (λ (o : Option (List Point)). HaveWidthOf c.args.sources.now.family.now (vertices_of o)) c.in-Some.is c.requires.widths
+
+pub returns-then-branch-clause-few : goal.returns-then-branch-clause-few
+returns-then-branch-clause-few g c =
+    let most = vertex_count c.args.sources.now.family.now in
+    subst (λ (o : Option (List Point)). length c.in-Some.curve ≤ length (vertices_of o) + most) (sym c.in-Some.is) (omega arith)
+
+pub returns-then-branch-clause-work : goal.returns-then-branch-clause-work
+returns-then-branch-clause-work g c = record { exact = c.requires.work.exact; lows = c.in_ok-are_passed.ensures.chains }
+
+pub are_passed-requires-clause-room : goal.are_passed-requires-clause-room
+are_passed-requires-clause-room g c =
+    let most = vertex_count c.args.sources.now.family.now in
+    subst (λ (l : List Point). length l + most ≤ 65000000) (sym c.vertices-below.ensures.vertices)
+    (subst (λ (o : Option (List Point)). length (vertices_of o) + most ≤ 65000000) c.in-Some.is c.requires.room)

@@ -61,13 +61,13 @@ loop-n-preserved g c =
     let high = c.args.high in
     let n = c.loop-n.n in
     let at : List ℕ → List Point = depot_points g.S.Score.ends x in
-    let turn : ℕ → List Point = turn_points g.S.Score.ends x (drop 1 c.args.stocks.now) c.line_first-begin.result in
+    let turn : ℕ → List Point = turn_points g.S.Score.ends x (drop 1 c.args.stocks.now) c.args.begin in
     let old : List Point = vertices_of c.loop-n.part in
     let made_part : List Point = vertices_of c.grow_with.new.part in
     let so : List Point = vertices_of c.args.part.now in
     let s : ℕ = c.line_stock.result in
     let first : set c.loop-n.stocks 0 s ≡ s ∷ drop 1 c.loop-n.stocks = set_first c.loop-n.stocks s c.loop-n.invariant.some in
-    let made : set c.loop-n.stocks 0 s ≡ (line_low x 0 + in_turn c.line_first-begin.result (line_high x 0 - line_low x 0) n) ∷ drop 1 c.args.stocks.now =
+    let made : set c.loop-n.stocks 0 s ≡ (line_low x 0 + in_turn c.args.begin (line_high x 0 - line_low x 0) n) ∷ drop 1 c.args.stocks.now =
     first ∙ ap (λ (l : List ℕ). s ∷ l) c.loop-n.invariant.shops ∙ ap (λ k. k ∷ drop 1 c.args.stocks.now) c.line_stock.ensures.is in
     let before : ℕ = c.loop-n.beyond in
     let after : ℕ = c.grow_with.new.beyond in
@@ -92,7 +92,7 @@ returns-clause-part g c =
     let n = c.loop-n.n in
     let a : ℕ = line_low x 0 in
     let last : ℕ = line_high x 0 - line_low x 0 in
-    let turn : ℕ → List Point = turn_points g.S.Score.ends x (drop 1 c.args.stocks.now) c.line_first-begin.result in
+    let turn : ℕ → List Point = turn_points g.S.Score.ends x (drop 1 c.args.stocks.now) c.args.begin in
     let own : ℕ → List Point = λ s. depot_points g.S.Score.ends x (s ∷ (drop 1 c.args.stocks.now)) in
     let order = c.line_high.ensures.order in
     let end : n ≤ c.line_high.result - c.line_low.result + 1 = c.loop-n.auto.n-end in
@@ -100,7 +100,7 @@ returns-clause-part g c =
     let count : n ≡ suc (line_high x 0) - line_low x 0 = omega (arith, all, c.line_high.ensures.high, order) in
     subst (λ k. Grows low high (flat_map own (range_with_len a k)) (vertices_of c.args.part.now) c.args.beyond.now (vertices_of c.loop-n.part) c.loop-n.beyond) count
     (grows_members low high (flat_map turn (range_with_len 0 n)) (flat_map own (range_with_len a n)) (vertices_of c.args.part.now) (vertices_of c.loop-n.part) c.args.beyond.now c.loop-n.beyond
-    (λ v m. moved_there own a n v (turned_there (λ i. own (a + i)) c.line_first-begin.result last n all v m)) (λ v m. turned_back (λ i. own (a + i)) c.line_first-begin.result last n all v (moved_back own a n v m))
+    (λ v m. moved_there own a n v (turned_there (λ i. own (a + i)) c.args.begin last n all v m)) (λ v m. turned_back (λ i. own (a + i)) c.args.begin last n all v (moved_back own a n v m))
     c.loop-n.invariant.part)
 
 pub returns-clause-few : goal.returns-clause-few
@@ -124,7 +124,7 @@ pub overflow_add-n-end : goal.overflow_add-n-end
 overflow_add-n-end g c = omega (arith, c.line_high.ensures.most)
 
 pub line_stock-requires-clause-order : goal.line_stock-requires-clause-order
-line_stock-requires-clause-order g c = c.line_first-begin.ensures
+line_stock-requires-clause-order g c = c.requires.begin
 
 pub line_stock-requires-clause-within : goal.line_stock-requires-clause-within
 line_stock-requires-clause-within g c = omega (arith, c.loop-n-test.true, c.line_low.ensures, c.line_high.ensures.high)
