@@ -126,6 +126,9 @@ SCRIPT
   }
   keeps 'a proof that is kept' 'proving\n0 pub fn one() {}\n\n'
   keeps 'a proof that was kept' '0 pub fn one() {}\n\n'
+  printf 'damage' >"$(find "$first/cache" -name made)"
+  keeps 'a proof that is damaged' 'proving\n0 pub fn one() {}\n\n'
+  keeps 'a proof that was kept anew' '0 pub fn one() {}\n\n'
   printf 'pub fn two() {}\n' >"$first/crates/low/src/lib.rt"
   keeps 'a proof of another text' 'proving\n0 pub fn two() {}\n\n'
   printf 'another kit\n' >"$first/KIT-ID"

@@ -12,6 +12,7 @@ It is `rt WORDS..`, but for three things that say nothing about what is proved:
 With a kit that works otherwise this is `rt` as it is.
 """
 import concurrent.futures
+import contextlib
 import hashlib
 import importlib.machinery
 import importlib.util
@@ -102,16 +103,11 @@ def sum_of(*folders):
     return total.hexdigest()
 
 
-def copied(folder, to):
-    """Copies a folder as a whole or not at all, and returns whether it did."""
-    try:
-        os.makedirs(os.path.dirname(to), exist_ok=True)
-        with tempfile.TemporaryDirectory(prefix=".part-", dir=os.path.dirname(to)) as part:
-            shutil.copytree(folder, f"{part}/whole")
-            os.rename(f"{part}/whole", to)
-        return True
-    except (OSError, shutil.Error):
-        return False
+def drop(place):
+    """Removes a folder at once, so that no other run takes half of it."""
+    with contextlib.suppress(OSError):
+        with tempfile.TemporaryDirectory(prefix=".part-", dir=os.path.dirname(place)) as part:
+            os.rename(place, f"{part}/gone")
 
 
 class Store:
@@ -134,18 +130,37 @@ class Store:
         return f"{self.folder}/{crate.name}/{hashlib.sha256(repr(made_from).encode()).hexdigest()}"
 
     def take(self, crate):
-        """Gives the crate what was proved of it before, and returns whether there is something."""
+        """Gives the crate what was proved of it before, and returns whether it is there as it was kept."""
         place = self.place(crate)
         shutil.rmtree(crate.rlib, ignore_errors=True)
-        if not os.path.isdir(place) or not copied(place, crate.rlib):
+        try:
+            with open(f"{place}/sum", encoding="utf-8") as it:
+                kept = it.read()
+            shutil.copytree(f"{place}/built", crate.rlib)
+            if sum_of(crate.rlib) != kept:
+                raise OSError(f"{place} is damaged")
+        except (OSError, shutil.Error):
+            shutil.rmtree(crate.rlib, ignore_errors=True)
+            drop(place)
             return False
-        os.utime(place)
+        self.sums[crate.rlib] = kept
+        with contextlib.suppress(OSError):
+            os.utime(place)
         return True
 
     def put(self, crate, place):
-        """Keeps what was proved of a crate, unless its text has changed since this was its place."""
-        if place == self.place(crate) and copied(crate.rlib, place):
-            drop_oldest(os.path.dirname(place))
+        """Keeps what was proved of a crate, unless its text has changed since this was its place, or there is no room."""
+        folder = os.path.dirname(place)
+        with contextlib.suppress(OSError, shutil.Error):
+            if place != self.place(crate):
+                return
+            os.makedirs(folder, exist_ok=True)
+            with tempfile.TemporaryDirectory(prefix=".part-", dir=folder) as part:
+                shutil.copytree(crate.rlib, f"{part}/whole/built")
+                with open(f"{part}/whole/sum", "w", encoding="utf-8") as it:
+                    it.write(self.built(crate))
+                os.rename(f"{part}/whole", place)
+            drop_oldest(folder)
 
 
 def keep_proved(kit, store):
@@ -185,7 +200,7 @@ def drop_oldest(folder):
     kept = [it for it in os.scandir(folder) if not it.name.startswith(".")]
     kept.sort(key=lambda it: -it.stat().st_mtime)
     for it in kept[KEPT_EACH:]:
-        shutil.rmtree(it.path, ignore_errors=True)
+        drop(it.path)
 
 
 def main(words):
