@@ -21,13 +21,16 @@ use hull::{Chain, Score};
 use series_bounds::short::Iv64;
 use std::alloc::Global;
 
+/// A chain has room for no more points at first.
+const FIRST_ROOM: usize = 64;
+
 /// A placeholder chain for each base: one point of cost and score 0, without stocks. Want of memory is the only error.
 pub fn chains_of<'a>(alloc: Global, bases: &'a [Base]) -> Result<Vec<Chain<BaseSpot<'a>>>, NoMemory>
     ensures { IfOk result (λ v. length v.items ≡ length bases.now) }
 {
     let count = bases.len();
     let mut chains = Vec::with_capacity(alloc, count)?;
-    for _place in 0..count {
+    for place in 0..count {
         let nothing = BaseSpot {
             cost: 0,
             lo: 0,
@@ -35,7 +38,8 @@ pub fn chains_of<'a>(alloc: Global, bases: &'a [Base]) -> Result<Vec<Chain<BaseS
             line: 0,
             shops: &[],
         };
-        let chain = Chain::one(alloc, 1, nothing)?;
+        let room = bases[place].order.len().min(FIRST_ROOM);
+        let chain = Chain::one(alloc, room, nothing)?;
         chains.push(chain)?;
     }
     Ok(chains)

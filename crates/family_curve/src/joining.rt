@@ -269,7 +269,9 @@ fn with_lines<'b, S: Score>(
     let high = family.line_high(SiteId(0));
     let start = likely_line(tables, low, high);
     let mut first = first_point(alloc, family, start, shops)?;
+    work.lows.begin();
     let mut curve = with_depot(alloc, so_far, work, sources, score, tables, &first)?;
+    work.lows.has_begun();
     for n in 1..high - low + 1 {
         first = with_line(family, first, behind(start, low, high, n));
         curve = with_depot(alloc, Some(curve), work, sources, score, tables, &first)?;

@@ -33,14 +33,21 @@ pub(crate) struct Lows {
     rows: Vec<Vec<u64>>,
     /// The lists of a walk over the lower bounds.
     walking: Walking,
-    /// Whether the stocks before added nothing.
+    /// Whether the next stocks likely add nothing.
     pub(crate) is_high: bool,
+    /// Whether the line unit's first stock added nothing with the last stocks of the shop units.
+    begins_high: bool,
     /// How often the bounds have failed, less how often they have sufficed.
     failures: u32,
+    /// The number of stocks so far.
+    seen: u32,
 }
 
-/// With more failures than this, bounds aren't tried.
+/// With more failures than this, and one for each 16 stocks so far, bounds aren't tried.
 const MOST_FAILURES: u32 = 2;
+
+/// The number of stocks for which one more failure is allowed.
+const FOR_A_FAILURE: u32 = 16;
 
 /// The scratch lists for these bases.
 pub(crate) fn lows_of(alloc: Global, bases: &[Base]) -> Result<Lows, NoMemory>
@@ -52,8 +59,26 @@ pub(crate) fn lows_of(alloc: Global, bases: &[Base]) -> Result<Lows, NoMemory>
         rows: Vec::new(alloc),
         walking: Walking::new(alloc),
         is_high: false,
+        begins_high: false,
         failures: 0,
+        seen: 0,
     })
+}
+
+impl Lows {
+    /// Expects of the line unit's first stock with other stocks of the shop units what came of the first one before.
+    pub(crate) fn begin(&mut self)
+        ensures { self.new.chains.items ≡ self.old.chains.items }
+    {
+        self.is_high = self.begins_high;
+    }
+
+    /// Keeps what came of the line unit's first stock with these stocks of the shop units.
+    pub(crate) fn has_begun(&mut self)
+        ensures { self.new.chains.items ≡ self.old.chains.items }
+    {
+        self.begins_high = self.is_high;
+    }
 }
 
 /// Sets the chains of `lows` to lower bounds of all bases with these stocks at the depot. Returns whether their sums
@@ -146,7 +171,8 @@ pub(crate) fn are_passed<S: Score>(
         (below.now ++ depot_points S.ends sources.now.family.now first.now.stocks) below.now) }
     ensures chains { IfOk result (λ _. length lows.new.chains.items ≡ length sources.now.bases.items) }
 {
-    if !lows.is_high || lows.failures > MOST_FAILURES {
+    lows.seen = lows.seen.saturating_add(1);
+    if !lows.is_high || lows.failures > MOST_FAILURES + lows.seen / FOR_A_FAILURE {
         return Ok(false);
     }
     let passed = lie_above(alloc, lows, sources, score, tables, first, below)?;

@@ -118,8 +118,8 @@ pub fn evaluate_all<const F: u32>(
     ensures small { IfOk result (λ v. AllZip (IsSmallFamily F case.now) (line_units case.now) v.items) }
 {
     let inputs = Inputs::of(case, rates, stocks);
-    let mut families = Vec::new(alloc);
     let lines = case.line_units();
+    let mut families = Vec::with_capacity(alloc, lines.len())?;
     for line in lines {
         families.push(evaluate_family(alloc, &inputs, *line)?)?;
     }

@@ -35,7 +35,7 @@ fn depot_feeds<const F: u32>(
         shops.now) }
 {
     let sites = usize::from(inputs.sites());
-    let mut feeds = Vec::new(alloc);
+    let mut feeds = Vec::with_capacity(alloc, shops.len())?;
     for i in 0..shops.len() {
         let share = inputs.share(shops[i], SiteId(0));
         feeds.push(feed_of(share, &items[i * sites]))?;
@@ -59,7 +59,7 @@ fn delays_at<const F: u32>(
         (λ p. delay_of F (item_of F inputs.now.case inputs.now.stocks.list p.0 site.0)) shops.now) }
 {
     let sites = usize::from(inputs.sites());
-    let mut delays = Vec::new(alloc);
+    let mut delays = Vec::with_capacity(alloc, shops.len())?;
     for i in 0..shops.len() {
         delays.push(delay_of(&items[i * sites + usize::from(site.0)]))?;
     }
@@ -126,7 +126,7 @@ pub(crate) fn line_items<const F: u32>(
     requires items { items.now ≡ flat_map (λ p. part_items F inputs.now.case inputs.now.stocks.list p.0) shops.now }
     ensures { IfOk result (λ v. v.items ≡ part_items F inputs.now.case inputs.now.stocks.list line.0) }
 {
-    let mut row = Vec::new(alloc);
+    let mut row = Vec::with_capacity(alloc, usize::from(inputs.sites()))?;
     row.push(depot)?;
     for j in 1..inputs.sites() {
         let item = base_line_at(alloc, inputs, line, SiteId(j), &depot, shops, items)?;

@@ -106,15 +106,19 @@ impl LowSpot {
     }
 }
 
+/// A chain has room for no more points at first.
+const FIRST_ROOM: usize = 64;
+
 /// A placeholder chain for each base: one point of cost and score 0. Want of memory is the only error.
 pub fn low_chains_of(alloc: Global, bases: &[Base]) -> Result<Vec<Chain<LowSpot>>, NoMemory>
     ensures { IfOk result (λ c. length c.items ≡ length bases.now) }
 {
     let count = bases.len();
     let mut chains = Vec::with_capacity(alloc, count)?;
-    for _place in 0..count {
+    for place in 0..count {
         let nothing = LowSpot { cost: 0, lo: 0 };
-        let chain = Chain::one(alloc, 1, nothing)?;
+        let room = bases[place].order.len().min(FIRST_ROOM);
+        let chain = Chain::one(alloc, room, nothing)?;
         chains.push(chain)?;
     }
     Ok(chains)

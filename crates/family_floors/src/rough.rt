@@ -181,6 +181,7 @@ impl RoughLows {
     {
         let fewest = fewest_at_depot(sources.family, tables);
         self.bases.clear();
+        self.bases.reserve(usize::from(sources.family.sites()))?;
         self.sum = Lows {
             at_low: 0,
             at_high: 0,

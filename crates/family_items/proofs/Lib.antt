@@ -4,3 +4,4 @@ pub mod Units
 pub mod Enclosed
 pub mod Items
 pub mod Families
+pub mod Shifted

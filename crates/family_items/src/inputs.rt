@@ -9,7 +9,8 @@ ghost use Rattle.family_items.specs.Profile.{pipeline_of, share_of};
 ghost use Rattle.family_items.specs.Inputs.{IsPipeline, IsSound};
 
 use crate::pipeline::Pipeline;
-use demand_rates::kinds::{PIPELINE_SCALE, Rates};
+use crate::ratios::{pipeline_ends, share_ends};
+use demand_rates::kinds::Rates;
 use fixed_interval::Iv;
 use spares_input::{Case, PartId, SiteId, Stocks};
 use std::marker::Model;
@@ -98,8 +99,8 @@ impl<'a> Inputs<'a> {
             part,
             site,
             stock: self.stocks.get(part, site),
-            direct: Iv::of_ratio(self.rates.direct(part, site), PIPELINE_SCALE),
-            cap: Iv::<F>::of_ratio(self.rates.zero_stock(part, site), PIPELINE_SCALE).hi(),
+            direct: pipeline_ends(self.rates.direct(part, site)),
+            cap: pipeline_ends::<F>(self.rates.zero_stock(part, site)).hi(),
         }
     }
 
@@ -112,6 +113,6 @@ impl<'a> Inputs<'a> {
         ensures most { result.hi ≤ 2 ^ F }
     {
         let share = self.rates.share(part, site);
-        Iv::of_ratio(share.num, share.den)
+        share_ends(share.num, share.den)
     }
 }

@@ -15,6 +15,7 @@ ghost use Rattle.family_items.specs.Inputs.{IsLine};
 pub mod inputs;
 mod item;
 pub mod pipeline;
+pub mod ratios;
 
 pub use item::{FamilyResult, Item};
 

@@ -39,7 +39,7 @@ fn by_stock<const F: u32>(
     ensures { IfOk result (λ v. v ≡ tables_by_stock F numbers.now site.0 shop low high) }
 {
     numbers.invariant();
-    let mut made = Vec::new(alloc);
+    let mut made = Vec::with_capacity(alloc, usize::from(high - low) + 1)?;
     for s in low..high + 1 {
         let pair = numbers.pair(shop + 1, site.0);
         let feed = feed_from(pair.share, depot, s);
@@ -64,7 +64,7 @@ fn by_shop<const F: u32>(
     requires bounds { AreShopBounds numbers.now low.now high.now }
     ensures { IfOk result (λ v. v ≡ tables_by_shop F numbers.now low.now high.now site.0) }
 {
-    let mut made = Vec::new(alloc);
+    let mut made = Vec::with_capacity(alloc, numbers.shops())?;
     for i in 0..numbers.shops() {
         let tables = by_stock(alloc, numbers, &depot[i], i, site, low[i], high[i])?;
         made.push(tables)?;
@@ -85,7 +85,7 @@ impl<const F: u32> BaseShops<F> {
         requires bounds { AreShopBounds numbers.now low.now high.now }
         ensures { IfOk result (AreBaseShops F numbers.now low.now high.now) }
     {
-        let mut tables = Vec::new(alloc);
+        let mut tables = Vec::with_capacity(alloc, usize::from(numbers.sites()))?;
         for j in 1..numbers.sites() {
             let at_base = by_shop(alloc, numbers, depot, SiteId(j), low, high)?;
             tables.push(at_base)?;

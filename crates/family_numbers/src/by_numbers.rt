@@ -19,7 +19,7 @@ pub fn depot_shop_tables<const F: u32>(
     ensures { IfOk result (λ v. v.items ≡ map (λ i. depot_shop_table F numbers.now i) (shop_numbers numbers.now)) }
 {
     numbers.invariant();
-    let mut tables = Vec::new(alloc);
+    let mut tables = Vec::with_capacity(alloc, numbers.shops())?;
     for i in 0..numbers.shops() {
         let table = depot_shop_table(alloc, numbers.pair(i + 1, 0))?;
         tables.push(table)?;
@@ -40,7 +40,7 @@ fn feeds_at<const F: u32>(
     ensures { IfOk result (λ v. v.items ≡ depot_feeds F numbers.now depot.now) }
 {
     numbers.invariant();
-    let mut feeds = Vec::new(alloc);
+    let mut feeds = Vec::with_capacity(alloc, numbers.shops())?;
     for i in 0..numbers.shops() {
         let share = numbers.pair(i + 1, 0).share;
         feeds.push(feed_from(share, &tables[i], depot[i]))?;

@@ -10,7 +10,8 @@ ghost use Rattle.family_numbers.specs.Numbers.{AreNumbers, ArePairNumbers, numbe
 
 use answers::NoMemory;
 use demand_rates::Rated;
-use demand_rates::kinds::{PIPELINE_SCALE, Rates};
+use demand_rates::kinds::Rates;
+use family_items::ratios::{pipeline_ends, share_ends};
 use fixed_interval::Iv;
 use spares_input::{Case, PartId, SiteId};
 use std::alloc::Global;
@@ -77,9 +78,9 @@ fn pair_numbers<const F: u32>(rated: &Rated<'_>, part: PartId, site: SiteId) -> 
     let rates = rated.rates();
     let share = rates.share(part, site);
     PairNumbers {
-        direct: Iv::of_ratio(rates.direct(part, site), PIPELINE_SCALE),
-        cap: Iv::<F>::of_ratio(rates.zero_stock(part, site), PIPELINE_SCALE).hi(),
-        share: Iv::of_ratio(share.num, share.den),
+        direct: pipeline_ends(rates.direct(part, site)),
+        cap: pipeline_ends::<F>(rates.zero_stock(part, site)).hi(),
+        share: share_ends(share.num, share.den),
         limit: rated.case().limit(part, site),
     }
 }
@@ -94,7 +95,7 @@ fn part_numbers<const F: u32>(
     requires part { part.0 < length rated.now.case.parts }
     ensures { IfOk result (λ v. v.items ≡ map (pair_numbers F rated.now.case part.0) (all_sites rated.now.case)) }
 {
-    let mut numbers = Vec::new(alloc);
+    let mut numbers = Vec::with_capacity(alloc, usize::from(rated.case().site_count()))?;
     for k in 0..rated.case().site_count() {
         numbers.push(pair_numbers(rated, part, SiteId(k)))?;
     }

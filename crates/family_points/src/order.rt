@@ -76,7 +76,7 @@ fn shops_of_base(
     ensures costs { IfOk result (λ v. All (IsShopVector family.now site.0) v.items) }
 {
     let count = family.shop_count(site);
-    let mut shops = Vec::new(alloc);
+    let mut shops = Vec::with_capacity(alloc, count as usize)?;
     for n in 0..count {
         shops.push(shops_at(alloc, family, site, n)?)?;
     }
@@ -163,7 +163,7 @@ pub fn bases_of(alloc: Global, family: &Family<'_>) -> Result<Vec<Base>, NoMemor
     ensures { IfOk result (λ v. AreBases family.now v.items) }
 {
     family.invariant();
-    let mut bases = Vec::new(alloc);
+    let mut bases = Vec::with_capacity(alloc, usize::from(family.sites()))?;
     for j in 1..family.sites() {
         let base = base_of(alloc, family, SiteId(j))?;
         bases.push(base)?;

@@ -10,13 +10,18 @@ use answers::{List, NoMemory};
 use spares_input::{Case, PartId, SiteId, Stocks};
 use std::alloc::Global;
 
+/// The number of places of a vector of a family with these members.
+fn places_of(case: &Case, members: &[PartId]) -> usize {
+    members.len().saturating_mul(usize::from(case.site_count()))
+}
+
 /// The part at each place of a family's vectors. Want of memory is the only error.
 pub fn place_parts(alloc: Global, case: &Case, line: PartId) -> Result<Vec<PartId>, NoMemory>
     requires { IsLine case.now line.0 }
     ensures { IfOk result (λ v. map (λ p. p.0) v.items ≡ map (λ x. x.part) (places case.now line.0)) }
 {
     let members = case.family(line);
-    let mut parts = Vec::new(alloc);
+    let mut parts = Vec::with_capacity(alloc, places_of(case, members))?;
     for _k in 0..case.site_count() {
         parts.extend_from_slice(members)?;
     }
@@ -47,7 +52,7 @@ pub fn limits_of(alloc: Global, case: &Case, line: PartId) -> Result<List<u8>, N
     ensures { IfOk result (λ v. v ≡ limits case.now line.0) }
 {
     let members = case.family(line);
-    let mut list = Vec::new(alloc);
+    let mut list = Vec::with_capacity(alloc, places_of(case, members))?;
     for k in 0..case.site_count() {
         put_limits(&mut list, case, members, SiteId(k))?;
     }
@@ -83,7 +88,7 @@ pub fn vector_of(
     ensures { IfOk result (λ v. v ≡ vector_of case.now line.0 stocks.now.list) }
 {
     let members = case.family(line);
-    let mut list = Vec::new(alloc);
+    let mut list = Vec::with_capacity(alloc, places_of(case, members))?;
     for k in 0..case.site_count() {
         put_stocks(&mut list, stocks, members, SiteId(k))?;
     }

@@ -55,6 +55,7 @@ fn put_parts(
     sources.family.invariant();
     let base = &sources.bases[usize::from(site.0) - 1];
     parts.clear();
+    parts.reserve(base.shops.len())?;
     for n in 0..base.shops.len() {
         let stocks = base.shops[n].stocks.as_slice();
         let part = shop_part(&sources.numbers, &sources.base_shops, depot, site, stocks);
@@ -69,6 +70,7 @@ fn make_lists(lists: &mut Vec<Vec<Moments<48>>>, count: usize) -> Result<(), NoM
 {
     let alloc = *lists.allocator();
     lists.truncate(count);
+    lists.reserve(count)?;
     for _place in lists.len()..count {
         lists.push(Vec::new(alloc))?;
     }

@@ -40,7 +40,7 @@ loop-n-init g c =
       few = omega (arith, c.in_ok-curve.ensures.few);
       curve = subst (λ k. IsCurve (so ++ flat_map own (range_with_len k 1)) c.in_ok-curve.curve) begins
           (subst (λ (ps : List Point). IsCurve (so ++ ps) c.in_ok-curve.curve) (ap at c.in_ok-first.ensures.stocks ∙ sym (append-nil (own start))) c.in_ok-curve.ensures.curve);
-      work = c.in_ok-curve.ensures.work;
+      work = record { exact = c.in_ok-curve.ensures.work.exact; lows = ap length c.has_begun.ensures ∙ c.in_ok-curve.ensures.work.lows };
       widths = c.in_ok-curve.ensures.widths;
       point = c.in_ok-first.ensures.point;
       some = omega (arith, ap length c.in_ok-first.ensures.stocks);
@@ -144,7 +144,7 @@ pub with_depot-requires-clause-widths : goal.with_depot-requires-clause-widths
 with_depot-requires-clause-widths g c = c.requires.widths
 
 pub with_depot-requires-clause-work : goal.with_depot-requires-clause-work
-with_depot-requires-clause-work g c = c.requires.work
+with_depot-requires-clause-work g c = record { exact = c.requires.work.exact; lows = ap length c.begin.ensures ∙ c.requires.work.lows }
 
 pub with_depot-requires-in-loop-n-clause-widths : goal.with_depot-requires-in-loop-n-clause-widths
 with_depot-requires-in-loop-n-clause-widths g c = c.loop-n.invariant.widths
