@@ -31,7 +31,7 @@ ghost use Rattle.family_rows.specs.Tabled.{AreTables, box_numbers, own_at};
 ghost use Rattle.family_floors.specs.LowCurves.{AreLowRows, IsLowRow, IsLowSpot, IsLowTo, TakesLow, low_point};
 ghost use Rattle.family_floors.specs.Under.{LieBelow, LieUnder};
 
-use crate::lows::walk_at;
+use crate::lows::{reach_least, walk_at};
 use answers::NoMemory;
 use depot_pipeline::Moments;
 use family_numbers::Numbers;
@@ -156,6 +156,7 @@ fn put_low_row(
     let first = here.family.line_low(here.site);
     let last = here.family.line_high(here.site);
     let mut walk = walk_at(here, numbers, own, part, shops);
+    reach_least(&mut walk, here);
     row.clear();
     row.push(walk.low())?;
     for _s in first..last {

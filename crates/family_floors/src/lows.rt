@@ -1,7 +1,7 @@
 //! Lower bounds on Lagrangians, of a base and of the depot's stocks, from lower bounds on backorders. They cost less
 //! work than exact backorders.
 
-ghost use Rattle.std.specs.Prelude.{◌≡◌, ℕ, ◌+◌, ◌-◌, ◌*◌, ◌<◌, ◌≤◌, ◌∷◌, IfOk, IsTrue, drop};
+ghost use Rattle.std.specs.Prelude.{◌≡◌, ℕ, List, ◌+◌, ◌-◌, ◌*◌, ◌<◌, ◌≤◌, ◌∷◌, IfOk, IsTrue, drop};
 ghost use Rattle.fleet_model.specs.Fleet.{family};
 ghost use Rattle.fleet_model.specs.Laws.{IsBase};
 ghost use Rattle.hull.specs.Curves.{lagrangian};
@@ -75,7 +75,8 @@ pub(crate) fn lagrangian(price: Price, cost: u64, scored: u128) -> u128
     u128::from(price.q) * scored + price.p * u128::from(cost)
 }
 
-/// A walk with lower bounds on the line unit's backorders at a base, at its least stock there.
+/// A walk with lower bounds on the line unit's backorders at a base, at the stock 0.
+#[inline(always)]
 pub(crate) fn walk_at(
     here: &BaseAt<'_, '_>,
     numbers: &Numbers<48>,
@@ -88,16 +89,26 @@ pub(crate) fn walk_at(
     requires own { own.now ≡ own_at numbers.now here.now.depot.now here.now.site.0 }
     requires part { part.now ≡ shop_part 48 numbers.now here.now.site.0 (drop 1 here.now.depot.now) shops.now }
     requires shops { AreShopsAt here.now.family.now here.now.site.0 shops.now }
-    ensures { let x = here.now.family.now in let j = here.now.site.0 in
-        result ≡ line_place x here.now.depot.now j shops.now (line_low x j) }
+    ensures { result ≡ line_place here.now.family.now here.now.depot.now here.now.site.0 shops.now 0 }
 {
     let (site, depot) = (here.site, here.depot);
-    here.family.invariant_at(site);
-    let mut walk = line_walk(numbers, own, depot[0], shops_of(depot), site, part, shops);
-    for _k in 0..here.family.line_low(site) {
+    line_walk(numbers, own, depot[0], shops_of(depot), site, part, shops)
+}
+
+/// Takes a walk from the stock 0 to the line unit's least stock at its base. The walk stays in its place, because it
+/// costs as much to copy as a bound.
+#[inline(always)]
+pub(crate) fn reach_least(walk: &mut Walk<48>, here: &BaseAt<'_, '_>)
+    requires here { IsBaseAt here.now }
+    requires start { walk.old.stock ≡ 0 }
+    ensures { (shops : List ℕ) → let x = here.now.family.now in let j = here.now.site.0 in
+        walk.old ≡ line_place x here.now.depot.now j shops 0
+        → walk.new ≡ line_place x here.now.depot.now j shops (line_low x j) }
+{
+    here.family.invariant_at(here.site);
+    for _k in 0..here.family.line_low(here.site) {
         walk.advance();
     }
-    walk
 }
 
 /// Lower bounds on the Lagrangian of a base at the stock of a walk and these of the shop units, which cost `cost`.
@@ -168,6 +179,7 @@ fn lower_at_shops<S: Score>(
         return least;
     }
     let mut walk = walk_at(here, numbers, own, part, shops.stocks.as_slice());
+    reach_least(&mut walk, here);
     let mut found = least.lower(lows_at_stocks(here, score, &walk, shops, shops.cost, low, high));
     for s in first..last {
         let cost = shops.cost + u64::from(s + 1 - first) * each;

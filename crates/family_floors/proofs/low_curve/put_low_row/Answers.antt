@@ -22,9 +22,9 @@ loop-s-init c =
     let items : c.push.new.self.items ≡ c.low.result ∷ [] = c.in_ok-push.ensures.items ∙ ap (λ (l : List ℕ). l ++ c.low.result ∷ []) c.clear.ensures.items in
     let none : line_low x j ≡ line_low x j + 0 = omega arith in
     let first : c.low.result ≤ low_end 48 (line_place x d j stocks (line_low x j + 0)) =
-    subst (λ (p : Place). c.low.result ≤ low_end 48 p) (c.walk_at-walk.ensures ∙ ap (λ s. line_place x d j stocks s) none) c.low.ensures in
+    subst (λ (p : Place). c.low.result ≤ low_end 48 p) ((c.reach_least.ensures c.args.shops.now c.walk_at-walk.ensures) ∙ ap (λ s. line_place x d j stocks s) none) c.low.ensures in
     record {
-      walk = c.walk_at-walk.ensures ∙ ap (λ s. line_place x d j stocks s) (sym c.line_low-first.ensures);
+      walk = (c.reach_least.ensures c.args.shops.now c.walk_at-walk.ensures) ∙ ap (λ s. line_place x d j stocks s) (sym c.line_low-first.ensures);
       long = omega (arith, ap length items, c.line_low-first.ensures);
       low = entry_more (λ i e. e ≤ low_end 48 (line_place x d j stocks (line_low x j + i))) [] c.push.new.self.items c.low.result items (λ i h. absurd (omega (arith, h))) first;
     }

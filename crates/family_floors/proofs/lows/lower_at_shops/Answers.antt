@@ -32,13 +32,13 @@ lows_at_stocks-requires g c =
     let x = here.family.now in
     let j = here.site.0 in
     let stocks = c.args.shops.now.stocks in
-    let low : c.walk_at-walk.result.stock ≡ line_low x j = ap (λ (p : Place). p.stock) c.walk_at-walk.ensures in
+    let low : c.reach_least.new.walk.stock ≡ line_low x j = ap (λ (p : Place). p.stock) (c.reach_least.ensures c.as_slice.result.now c.walk_at-walk.ensures) in
     let order : line_low x j ≤ line_high x j = omega (arith, c.line_high-last.ensures.high, c.line_high-last.ensures.order) in
     let most = line_cost_most x c.requires.here.valid j (line_low x j) stocks c.requires.here.site.1 c.requires.shops.within (omega arith) order in
     record {
       here = c.requires.here;
       shops = c.requires.shops;
-      walk = c.walk_at-walk.ensures ∙ ap (λ v. line_place x here.depot.now j v (line_low x j)) c.as_slice.ensures ∙ ap (λ s. line_place x here.depot.now j stocks s) (sym low);
+      walk = (c.reach_least.ensures c.as_slice.result.now c.walk_at-walk.ensures) ∙ ap (λ v. line_place x here.depot.now j v (line_low x j)) c.as_slice.ensures ∙ ap (λ s. line_place x here.depot.now j stocks s) (sym low);
       least = omega (arith, low);
       most = omega (arith, low, order);
       cost = c.requires.shops.cost ∙ ap (λ s. cost_above x.case (family x.case x.line) (held_at x j) (s ∷ stocks)) (sym low);
@@ -53,13 +53,13 @@ loop-s-init g c =
     let x = here.family.now in
     let j = here.site.0 in
     let stocks = c.args.shops.now.stocks in
-    let low : c.walk_at-walk.result.stock ≡ c.line_low-first.result = ap (λ (p : Place). p.stock) c.walk_at-walk.ensures ∙ sym c.line_low-first.ensures in
+    let low : c.reach_least.new.walk.stock ≡ c.line_low-first.result = ap (λ (p : Place). p.stock) (c.reach_least.ensures c.as_slice.result.now c.walk_at-walk.ensures) ∙ sym c.line_low-first.ensures in
     let here_is = subst (λ s. AreUnder g.S.Score.ends x here.depot.now j c.args.low c.args.high stocks s c.lows_at_stocks.result) low c.lows_at_stocks.ensures in
     let under : (k : ℕ) → c.line_low-first.result ≤ k → k ≤ c.line_low-first.result
     → AreUnder g.S.Score.ends x here.depot.now j c.args.low c.args.high stocks k (lower_of c.args.least c.lows_at_stocks.result) =
     first_stock x g.S.Score.ends here.depot.now j c.args.low c.args.high stocks c.line_low-first.result c.args.least c.lows_at_stocks.result here_is in
     record {
-      walk = c.walk_at-walk.ensures ∙ ap (λ v. line_place x here.depot.now j v (line_low x j)) c.as_slice.ensures ∙ ap (λ s. line_place x here.depot.now j stocks s) (sym c.line_low-first.ensures);
+      walk = (c.reach_least.ensures c.as_slice.result.now c.walk_at-walk.ensures) ∙ ap (λ v. line_place x here.depot.now j v (line_low x j)) c.as_slice.ensures ∙ ap (λ s. line_place x here.depot.now j stocks s) (sym c.line_low-first.ensures);
       lower = record {
         at_low = omega (arith, ap (λ (l : Lows). l.at_low) c.lower-found.ensures);
         at_high = omega (arith, ap (λ (l : Lows). l.at_high) c.lower-found.ensures);

@@ -1,11 +1,8 @@
 use Rattle.std.proofs.Common.{◌≡◌, ◌<◌, length, get_or, drop, sym, ap, ◌∙◌, subst, arith, lit<}
 use Rattle.fixed_interval.specs.Ends.{InScale}
-use Rattle.backorder_bounds.specs.Places.{Place, next_place}
 use Rattle.family_numbers.specs.Numbers.{FamilyNumbers, base_line_place, own_part, shop_part}
 use Rattle.family_points.proofs.Public.{at_long, stock_small}
 use Rattle.family_rows.proofs.Public.{shop_stocks}
-use Rattle.family_points.specs.Inputs.{line_low}
-use Rattle.family_floors.specs.Lows.{line_place}
 use Rattle.family_floors.proofs.lows.walk_at.Goals as goal
 
 pub bounds-depot-0 : goal.bounds-depot-0
@@ -19,8 +16,8 @@ shops_of-requires c =
     let here = c.args.here.now in
     omega (arith, at_long here.family.now c.requires.here.valid 0 here.depot.now (omega (arith, c.requires.here.site.1)) c.requires.here.depot)
 
-pub line_walk-walk-requires : goal.line_walk-walk-requires
-line_walk-walk-requires c =
+pub line_walk-requires : goal.line_walk-requires
+line_walk-requires c =
     let x = c.args.here.now.family.now in
     let n = c.args.numbers.now in
     let j = c.args.here.now.site.0 in
@@ -45,25 +42,9 @@ line_walk-walk-requires c =
       ),
     )
 
-pub loop-k-init : goal.loop-k-init
-loop-k-init c =
-    let j = c.args.here.now.site.0 in
-    let depot = c.args.here.now.depot.now in
-    record {
-      walk = c.line_walk-walk.ensures ∙ ap (λ d. base_line_place 48 c.args.numbers.now j (get_or depot 0 0) d c.args.shops.now 0) c.shops_of.ensures
-          ∙ ap (λ (n : FamilyNumbers 48). base_line_place 48 n j (get_or depot 0 0) (drop 1 depot) c.args.shops.now 0) c.requires.numbers;
-    }
-
-pub advance-requires : goal.advance-requires
-advance-requires c =
-    let e : c.loop-k.walk.stock ≡ c.loop-k._k = ap (λ (p : Place). p.stock) c.loop-k.invariant.walk in
-    omega (arith, e, c.loop-k-test.true, c.line_low-k-end.ensures, c.invariant_at.ensures.order, c.invariant_at.ensures.most)
-
-pub loop-k-preserved : goal.loop-k-preserved
-loop-k-preserved c = record { walk = c.advance.ensures ∙ ap next_place c.loop-k.invariant.walk }
-
 pub returns : goal.returns
 returns c =
-    let here = c.args.here.now in
-    let last : c.loop-k._k ≡ line_low here.family.now here.site.0 = omega (arith, c.loop-k-test.false, c.loop-k.auto._k-end, c.line_low-k-end.ensures) in
-    c.loop-k.invariant.walk ∙ ap (λ s. line_place here.family.now here.depot.now here.site.0 c.args.shops.now s) last
+    let j = c.args.here.now.site.0 in
+    let depot = c.args.here.now.depot.now in
+    c.line_walk.ensures ∙ ap (λ d. base_line_place 48 c.args.numbers.now j (get_or depot 0 0) d c.args.shops.now 0) c.shops_of.ensures
+    ∙ ap (λ (n : FamilyNumbers 48). base_line_place 48 n j (get_or depot 0 0) (drop 1 depot) c.args.shops.now 0) c.requires.numbers
