@@ -80,7 +80,7 @@ CurvesServe =
     → IsCase c → IsHeldAllocation c held held → HaveShapes curves → AreCurves (case_points ends c held) curves
     → AreFamilyCurves c curves
 
--- the points of a case, from held stocks within the limits, meet the requirements of a plan by parts
+-- the points of a case, from held stocks within the limits, meet the requirements of a choice by parts
 abbrev pub PointsServe : Type 0
 PointsServe =
     (ends : ScoreEnds) (c : CaseRows) (held : List ℕ) → IsAcceptedCase c → LeavesRoom ends

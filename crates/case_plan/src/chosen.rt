@@ -15,6 +15,7 @@ use crate::placing::stocks_of;
 use answers::NoMemory;
 use hull::Curve;
 use marginal_alloc::plans::PlanNumbers;
+use part_filling::Known;
 use spares_input::{Case, Stocks};
 use std::alloc::Global;
 
@@ -28,6 +29,13 @@ pub struct ChosenStocks {
     /// The lower end of the aim at these stocks.
     pub lower: u128,
     pub numbers: PlanNumbers,
+}
+
+/// Stocks that are chosen by parts of curves, with what is known of each family's curve at the end.
+#[derive(Drop)]
+pub struct ChosenByParts {
+    pub chosen: ChosenStocks,
+    pub known: Known,
 }
 
 /// What the picks choose that fill a hull choice: their stocks and sums, with the hull choice's floors and numbers.

@@ -138,6 +138,26 @@ pub fn outcome_at(
     })
 }
 
+/// The outcome of chosen stocks, as [`outcome_at`] returns it, from an evaluation of all families at these stocks. Want
+/// of memory is the only error.
+pub fn evaluated_outcome(
+    alloc: Global,
+    case: &Case,
+    rates: &Rates,
+    chosen: ChosenStocks,
+    request: Request,
+) -> Result<Outcome, NoMemory>
+    requires rates { AreRatesOf case.now rates.now }
+    requires fits { FitsCase case.now chosen }
+    ensures chosen { IfOk result (λ outcome. outcome ≡ chosen_outcome case.now request chosen) }
+    ensures case { IfOk result (λ outcome. (curves : List (List Point)) → IsChosen case.now curves request.budget chosen
+        → IsPlanOf case.now curves request outcome) }
+{
+    case.invariant();
+    let families = evaluate_all::<48>(alloc, case, rates, &chosen.stocks)?;
+    outcome_at(alloc, case, chosen, families.as_slice(), request)
+}
+
 /// The plan of a case under a budget in whole money, from a curve for each line unit in order.
 ///
 /// Each curve begins at cost 0, and the stocks of its points are vectors of its family within the limits. The outcome
@@ -161,13 +181,11 @@ pub fn plan(
     ensures case { IfOk result (IsPlanOf case.now curves.now
         (record { budget = budget; loss = loss; on_hand = on_hand })) }
 {
-    case.invariant();
     let chosen = choose_stocks(alloc, case, curves, budget, 0)?;
-    let families = evaluate_all::<48>(alloc, case, rates, &chosen.stocks)?;
     let request = Request {
         budget,
         loss,
         on_hand,
     };
-    outcome_at(alloc, case, chosen, families.as_slice(), request)
+    evaluated_outcome(alloc, case, rates, chosen, request)
 }

@@ -17,7 +17,8 @@ use Rattle.fleet_plan.specs.Families.{case_points, family_points}
 use Rattle.case_plan.proofs.Public.{points_are_families}
 use Rattle.on_hand.specs.Held.{HeldCase, IsHeldCase}
 
-points_in : (ends : ScoreEnds) (c : CaseRows) (held ls : List ℕ) (f : ℕ) → f < length ls
+-- the points of a family are those of its line unit
+pub points_in : (ends : ScoreEnds) (c : CaseRows) (held ls : List ℕ) (f : ℕ) → f < length ls
     → curve_at (map (family_points ends c held) ls) f ≡ family_points ends c held (get_or ls f 0)
 points_in ends c held [] f h = absurd (omega (arith, h))
 points_in ends c held (l ∷ ls) zero h = refl

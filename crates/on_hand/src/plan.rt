@@ -1,21 +1,26 @@
 //! The plan of a case, with no curves passed in.
 
-ghost use Rattle.std.specs.Prelude.{◌<◌, ◌≤◌, IfOk, IfSome};
+ghost use Rattle.std.specs.Prelude.{◌<◌, ◌≤◌, List, IfOk, IfSome};
 ghost use Rattle.std.specs.Result.{IsOk};
 ghost use Rattle.spares_input.specs.Money.{most_budget};
 ghost use Rattle.spares_input.specs.Stocks.{AreStocksOf};
 ghost use Rattle.demand_rates.specs.Rates.{AreRatesOf};
+ghost use Rattle.hull.specs.declared.point.Point.{Point};
 ghost use Rattle.hull.specs.Limits.{most_price_units};
+ghost use Rattle.marginal_alloc.specs.Choice.{AreCurves};
 ghost use Rattle.part_filling.specs.Known.{IsPriceWindow};
+ghost use Rattle.fleet_plan.specs.Families.{case_points};
 ghost use Rattle.held_work.specs.Work.{held_work_of};
+ghost use Rattle.case_plan.specs.Chosen.{FitsCase, IsChosen};
 ghost use Rattle.case_plan.specs.Report.{IsOutcome};
+ghost use Rattle.on_hand.specs.Kept.{AreKeptParts};
 
 use crate::curves::whole_curves;
 use crate::families::HeldFamilies;
 use crate::guess::guess;
-use crate::parts::parts_between;
+use crate::kept::KeptParts;
 use answers::NoMemory;
-use case_plan::{Outcome, Request, plan, plan_by_parts};
+use case_plan::{ChosenStocks, Outcome, Request, evaluated_outcome, plan};
 use demand_rates::kinds::Rates;
 use held_work::held_work;
 use hull::{Price, Score};
@@ -45,28 +50,6 @@ fn window_of(low: u128, high: u128) -> Window
     }
 }
 
-/// The plan by the parts of the curves between two prices. None if the parts' hull choice has no critical step.
-fn plan_between<S: Score>(
-    alloc: Global,
-    families: &HeldFamilies<'_, S>,
-    window: Window,
-    request: Request,
-) -> Result<Option<Outcome>, NoMemory>
-    requires window { IsPriceWindow window.low window.high }
-    requires budget { request.budget ≤ most_budget }
-    ensures { IfOk result (λ found. IfSome found
-        (IsOutcome S.ends families.now.case families.now.held.list request)) }
-{
-    let case = families.case();
-    let rates = families.rates();
-    let parts = parts_between(alloc, families, families.count(), window)?;
-    let near = window.high.p;
-    let (curves, beyond) = (parts.curves, parts.beyond);
-    plan_by_parts(
-        alloc, case, rates, families, window, curves, beyond, request, near,
-    )
-}
-
 /// Whether parts of curves are likely to cost less work than whole ones.
 fn are_parts_cheaper<S: Score>(families: &HeldFamilies<'_, S>) -> bool {
     if families.count() < MANY {
@@ -78,9 +61,92 @@ fn are_parts_cheaper<S: Score>(families: &HeldFamilies<'_, S>) -> bool {
     }
 }
 
-/// The plan by the parts of the curves near the price at which the budget is about spent. None if whole curves likely
-/// cost less work, nearly all is bought, or the guess of the price is wrong.
-fn plan_near<S: Score>(
+/// Windows of prices near the one at which the budget is about spent: a close one, and a wide one around it. None if
+/// nearly all is bought. Want of memory is the only error.
+fn windows_near<S: Score>(
+    alloc: Global,
+    families: &HeldFamilies<'_, S>,
+    budget: u64,
+) -> Result<Option<(Window, Window)>, NoMemory>
+    ensures close { IfOk result (λ found. IfSome found (λ x. IsPriceWindow x.0.low x.0.high)) }
+    ensures wide { IfOk result (λ found. IfSome found (λ x. IsPriceWindow x.1.low x.1.high)) }
+{
+    let Some(price) = guess(alloc, families, budget)? else {
+        return Ok(None);
+    };
+    let close = if families.count() < ENOUGH {
+        window_of(price * 5 / 8, price * 13 / 8)
+    } else {
+        window_of(price * 3 / 4, price * 17 / 16)
+    };
+    let wide = window_of(price / 2, price * 4);
+    Ok(Some((close, wide)))
+}
+
+/// The stocks that parts of the curves choose: in the window of the kept parts, or else in one near the price at which
+/// the budget is about spent. None if whole curves likely cost less work, nearly all is bought, or the guess of the
+/// price is wrong.
+fn choose_near<S: Score>(
+    alloc: Global,
+    families: &HeldFamilies<'_, S>,
+    kept: &mut KeptParts,
+    budget: u64,
+) -> Result<Option<ChosenStocks>, NoMemory>
+    requires budget { budget ≤ most_budget }
+    requires kept { AreKeptParts (case_points S.ends families.now.case families.now.held.list) kept.old }
+    ensures kept { AreKeptParts (case_points S.ends families.now.case families.now.held.list) kept.new }
+    ensures fits { IfOk result (λ found. IfSome found (FitsCase families.now.case)) }
+    ensures chosen { (curves : List (List Point))
+        → AreCurves (case_points S.ends families.now.case families.now.held.list) curves
+        → IfOk result (λ found. IfSome found (IsChosen families.now.case curves budget)) }
+{
+    if !are_parts_cheaper(families) {
+        return Ok(None);
+    }
+    if let Some(chosen) = kept.choose_again(alloc, families, budget)? {
+        return Ok(Some(chosen));
+    }
+    let Some((close, wide)) = windows_near(alloc, families, budget)? else {
+        return Ok(None);
+    };
+    if let Some(chosen) = kept.choose_anew(alloc, families, close, budget)? {
+        return Ok(Some(chosen));
+    }
+    kept.choose_anew(alloc, families, wide, budget)
+}
+
+/// Stocks for a case under a budget in whole money, from held stocks, by parts of the curves.
+///
+/// They are those of the one plan of all vectors of the families from the held stocks to the limits. Parts that are
+/// kept serve while the plan's price lies between their prices, and the parts that were used are kept for the next
+/// call. None if whole curves likely cost less work, or if no part near the likely price serves. What the case and the
+/// held stocks must meet is as of [`plan_case`]. Want of memory is the only error.
+pub fn choose_by_kept_parts<S: Score>(
+    alloc: Global,
+    case: &Case,
+    rates: &Rates,
+    held: &Stocks,
+    score: &S,
+    kept: &mut KeptParts,
+    budget: u64,
+) -> Result<Option<ChosenStocks>, NoMemory>
+    requires rates { AreRatesOf case.now rates.now }
+    requires held { AreStocksOf case.now held.now }
+    requires work { IsOk (held_work_of case.now held.now.list) }
+    requires budget { budget ≤ most_budget }
+    requires kept { AreKeptParts (case_points S.ends case.now held.now.list) kept.old }
+    ensures kept { AreKeptParts (case_points S.ends case.now held.now.list) kept.new }
+    ensures fits { IfOk result (λ found. IfSome found (FitsCase case.now)) }
+    ensures chosen { (curves : List (List Point)) → AreCurves (case_points S.ends case.now held.now.list) curves
+        → IfOk result (λ found. IfSome found (IsChosen case.now curves budget)) }
+{
+    let families = HeldFamilies::of(case, rates, held, score);
+    choose_near(alloc, &families, kept, budget)
+}
+
+/// The plan by parts of the curves. None if whole curves likely cost less work, nearly all is bought, or the guess of
+/// the price is wrong.
+fn plan_by_parts<S: Score>(
     alloc: Global,
     families: &HeldFamilies<'_, S>,
     request: Request,
@@ -89,22 +155,13 @@ fn plan_near<S: Score>(
     ensures { IfOk result (λ found. IfSome found
         (IsOutcome S.ends families.now.case families.now.held.list request)) }
 {
-    if !are_parts_cheaper(families) {
-        return Ok(None);
-    }
-    let Some(price) = guess(alloc, families, request.budget)? else {
+    let (case, rates) = (families.case(), families.rates());
+    let mut kept = KeptParts::new(alloc, families.count() as usize)?;
+    let Some(chosen) = choose_near(alloc, families, &mut kept, request.budget)? else {
         return Ok(None);
     };
-    let close = if families.count() < ENOUGH {
-        window_of(price * 5 / 8, price * 13 / 8)
-    } else {
-        window_of(price * 3 / 4, price * 17 / 16)
-    };
-    if let Some(outcome) = plan_between(alloc, families, close, request)? {
-        return Ok(Some(outcome));
-    }
-    let wide = window_of(price / 2, price * 4);
-    plan_between(alloc, families, wide, request)
+    let outcome = evaluated_outcome(alloc, case, rates, chosen, request)?;
+    Ok(Some(outcome))
 }
 
 /// The plan by the whole curves.
@@ -147,7 +204,7 @@ pub fn plan_case<S: Score>(
     ensures { IfOk result (IsOutcome S.ends case.now held.now.list request) }
 {
     let families = HeldFamilies::of(case, rates, held, score);
-    if let Some(outcome) = plan_near(alloc, &families, request)? {
+    if let Some(outcome) = plan_by_parts(alloc, &families, request)? {
         return Ok(outcome);
     }
     plan_by_curves(alloc, &families, request)

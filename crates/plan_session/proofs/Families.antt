@@ -1,5 +1,5 @@
 -- The places of the families, and what a change of a row leaves of what is kept of them.
-use Rattle.std.proofs.Common.{◌≡◌, ◌≢◌, ℕ, ◌<◌, ◌≤◌, ◌⊎◌, inl, inr, ◌==◌, Bool, true, false, cond, nat_lt, List, [], length, get_or, map, position, set, Option, Some, None, is_some, refl, sym, ap, ap₂, ◌∙◌, subst, arith, length-set}
+use Rattle.std.proofs.Common.{◌≡◌, ◌≢◌, ℕ, ◌<◌, ◌≤◌, ◌⊎◌, inl, inr, ◌==◌, Bool, true, false, cond, nat_lt, List, [], length, get_or, map, position, set, Option, Some, None, is_some, IsSome, refl, sym, ap, ap₂, ◌∙◌, subst, arith, length-set}
 use Rattle.std.specs.List.{position_or_len}
 use Rattle.std.proofs.lemmas.Bool.{false≢true, ltb-false}
 use Rattle.std.proofs.lemmas.List.{map-set}
@@ -22,10 +22,14 @@ use Rattle.family_points.proofs.Public.{changed, local}
 use Rattle.hull.specs.declared.point.Point.{Point}
 use Rattle.hull.specs.Curves.{IsCurve}
 use Rattle.fleet_plan.proofs.Public.{apart_at, at_among, lines_apart, lines_are}
+use Rattle.step_walk.specs.Prefix.{curve_at}
+use Rattle.fleet_plan.specs.Families.{case_points}
 use Rattle.held_work.specs.Curves.{IsFamilyCurve}
+use Rattle.on_hand.specs.Kept.{KeptRows}
+use Rattle.on_hand.proofs.Public.{families_long, kept_elsewhere, kept_with, points_in}
 use Rattle.case_plan.specs.Placing.{lines_below}
 use Rattle.case_plan.proofs.Public.{line_fewer, line_place}
-use Rattle.plan_session.specs.Sessions.{family_place, marks_of, with_row, AreEvaluated, AreKept, AreOfFamilies, IsEvaluation, IsSession, SessionRows}
+use Rattle.plan_session.specs.Sessions.{family_place, marks_of, with_row, AreEvaluated, AreKept, AreOfFamilies, ArePartsKept, IsEvaluation, IsSession, SessionRows}
 use Rattle.plan_session.specs.declared.evaluated.Evaluated.{Evaluated}
 use Rattle.plan_session.proofs.Evaluations.{same_with_rate}
 use Rattle.plan_session.proofs.Places.{if_some, kept_within, of_some, some_of, still_kept}
@@ -136,15 +140,39 @@ module _ (c : CaseRows) (valid : IsCase c) where
               (evaluations_kept x.stocks x.families.items place e b h.are_kept));
         }
 
+    points_kept : (f : ℕ) → f < length (line_units c) → f ≢ family_place c r.part.0
+        → curve_at (case_points plain_ends c []) f ≡ curve_at (case_points plain_ends (with_rate c r) []) f
+    points_kept f b away =
+        let l = get_or (line_units c) f 0 in
+        let line = line_at f b in
+        let one = local c (with_rate c r) l valid line (changed c r l valid line row (other_family r.part.0 f b away)) in
+        points_in plain_ends c [] (line_units c) f b ∙ one.points plain_ends (vector_of c l []) (vector_of c l []) (limits c l)
+        ∙ sym (points_in plain_ends (with_rate c r) [] (line_units (with_rate c r)) f b)
+
+    pub parts_after : (x : KeptRows) (place : ℕ) → place ≡ family_place c r.part.0 → place < length (line_units c) → ArePartsKept c x
+        → ArePartsKept (with_rate c r) (record { window = x.window; parts = set x.parts place None })
+    parts_after x place e b h =
+        let long = families_long plain_ends c [] in
+        let all = h.count in
+        kept_elsewhere x.window (case_points plain_ends c []) (case_points plain_ends (with_rate c r) []) (set x.parts place None)
+        (families_long plain_ends (with_rate c r) [] ∙ sym (families_long plain_ends c []))
+        (λ f on.
+        let was = still_kept x.parts place f (omega (arith, b, long, all)) on in
+        let within : f < length (line_units c) = omega (arith, kept_within x.parts f (subst IsSome was.1 on), long, all) in
+        points_kept f within (λ i. was.0 (i ∙ sym e)))
+        (kept_with x.window (case_points plain_ends c []) x.parts place None (omega (arith, b, long, all)) tt h)
+
 -- the session stays one
-pub changed_session : (c : CaseRows) (budget : ℕ) (curves : List (Option (List Point))) (x y : Evaluated) (r : RateRow) (place : ℕ) (new : CaseRows) → IsSession c budget curves x
-    → IsRateOf (frame_rows c) r → place ≡ family_place c r.part.0 → place < length (line_units c) → new ≡ with_rate c r
-    → y.stocks ≡ x.stocks → y.families.items ≡ set x.families.items place None → IsSession new budget (set curves place None) y
-changed_session c budget curves x y r place new h row e b is stocks families = rw is (record {
+pub changed_session : (c : CaseRows) (budget : ℕ) (curves : List (Option (List Point))) (parts left : KeptRows) (x y : Evaluated) (r : RateRow) (place : ℕ) (new : CaseRows)
+    → IsSession c budget curves parts x → IsRateOf (frame_rows c) r → place ≡ family_place c r.part.0 → place < length (line_units c) → new ≡ with_rate c r
+    → left ≡ record { window = parts.window; parts = set parts.parts place None }
+    → y.stocks ≡ x.stocks → y.families.items ≡ set x.families.items place None → IsSession new budget (set curves place None) left y
+changed_session c budget curves parts left x y r place new h row e b is forgotten stocks families = rw (is, forgotten) (record {
   valid = set_valid c r (rate_place (length c.sites) r) h.valid row refl;
   work = h.work;
   budget_most = h.budget_most;
   are_kept = curves_kept c h.valid r row curves place e b h.are_kept;
+  are_parts = parts_after c h.valid r row parts place e b h.are_parts;
   are_evaluated = evaluated_after c h.valid r row x y place e b stocks families h.are_evaluated;
 })
 

@@ -12,6 +12,7 @@ use Rattle.hull.specs.declared.point.Point.{Point}
 use Rattle.held_work.specs.Curves.{IsFamilyCurve}
 use Rattle.held_work.specs.Work.{IsNothing}
 use Rattle.held_work.proofs.Public.{all_work, few_tables}
+use Rattle.on_hand.specs.Kept.{KeptRows}
 use Rattle.plan_session.specs.Sessions.{has_mark, marks_of, IsSession, SessionRows}
 use Rattle.plan_session.specs.declared.evaluated.Evaluated.{Evaluated}
 use Rattle.plan_session.proofs.Places.{any_default, mark_is}
@@ -27,7 +28,7 @@ few c l valid line work =
     omega (arith, held, tables_whole c l valid)
 
 -- what a session lends of its curves
-module _ (s self : SessionRows) (curves : List (Option (List Point))) (evaluated : Evaluated) (e : s ≡ self) (h : IsSession s.case s.budget curves evaluated) (k : ℕ)
+module _ (s self : SessionRows) (curves : List (Option (List Point))) (parts : KeptRows) (evaluated : Evaluated) (e : s ≡ self) (h : IsSession s.case s.budget curves parts evaluated) (k : ℕ)
     (kept : Option (List Point)) (b : k < length (line_units self.case)) (is : kept ≡ get_or curves k kept) where
   there : get_or curves k None ≡ kept
   there =

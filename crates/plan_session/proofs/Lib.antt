@@ -2,6 +2,7 @@ pub mod Places
 pub mod Evaluations
 pub mod Families
 pub mod Keeping
+pub mod Later
 pub mod Settled
 pub mod Reported
 pub mod Followed

@@ -39,6 +39,17 @@ zip_from R [] (y ∷ ys) d e n h = absurd (omega (arith, n))
 zip_from R (x ∷ xs) [] d e n h = absurd (omega (arith, n))
 zip_from R (x ∷ xs) (y ∷ ys) d e n h = (h 0 (omega arith), zip_from R xs ys d e (omega (arith, n)) (λ k b. h (suc k) (omega (arith, b))))
 
+-- the report of a plan of curves of the case's points is that of the case under this budget
+pub reported_by : (c : CaseRows) (curves : List (List Point)) (budget : ℕ) (outcome : Outcome) → IsAcceptedCase c → AreCurves (case_points plain_ends c []) curves
+    → IsPlanOf c curves (plain_request budget) outcome → IsReportOf (record { case = c; budget = budget }) outcome.report
+reported_by c curves budget outcome accepted are h = record {
+  accepted = accepted;
+  is_planned = λ held nothing.
+      let of_case : AreCurves (case_points plain_ends c held) curves = subst (λ (points : List (List Point)). AreCurves points curves) (sym (all_points plain_ends c held nothing)) are in
+      let is = h plain_ends held of_case in
+      record { plan = is.plan; is_plan = is.is_plan; is = ap (λ (o : Outcome). o.report) is.is };
+}
+
 module _ (c : CaseRows) (kept : List (Option (List Point))) (curves : List (List Point)) (are : map Some curves ≡ kept) (h : AreKept c kept) where
   each_curve : AllZip (IsFamilyCurve plain_ends c []) (line_units c) curves
   each_curve =
@@ -56,14 +67,7 @@ module _ (c : CaseRows) (kept : List (Option (List Point))) (curves : List (List
   -- the report of a plan of these curves is that of the case under this budget
   pub reported : (budget : ℕ) (outcome : Outcome) → IsAcceptedCase c → IsPlanOf c curves (plain_request budget) outcome
       → IsReportOf (record { case = c; budget = budget }) outcome.report
-  reported budget outcome accepted h = record {
-    accepted = accepted;
-    is_planned = λ held nothing.
-        let of_case : AreCurves (case_points plain_ends c held) curves =
-        subst (λ (points : List (List Point)). AreCurves points curves) (sym (all_points plain_ends c held nothing)) (are_curves plain_ends c [] curves each_curve) in
-        let is = h plain_ends held of_case in
-        record { plan = is.plan; is_plan = is.is_plan; is = ap (λ (o : Outcome). o.report) is.is };
-  }
+  reported budget outcome accepted = reported_by c curves budget outcome accepted (are_curves plain_ends c [] curves each_curve)
 
 -- its text can be printed
 pub report_printed : (d : PlanDue) (report : PlanReport) → IsReportOf d report → FitsPlan report

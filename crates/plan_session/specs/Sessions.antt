@@ -24,6 +24,8 @@ use Rattle.held_work.specs.Curves.{IsFamilyCurve}
 use Rattle.plan_report.specs.declared.plan.PlanReport.{PlanReport}
 use Rattle.plan_session.specs.declared.evaluated.Evaluated.{Evaluated}
 use Rattle.family_points.specs.Points.{plain_ends}
+use Rattle.fleet_plan.specs.Families.{case_points}
+use Rattle.on_hand.specs.Kept.{AreKeptParts, KeptRows}
 use Rattle.session_report.specs.Reports.{IsReportOf}
 
 -- a case, a budget, and for each family in order whether its curve is kept
@@ -62,13 +64,18 @@ pub record AreEvaluated (c : CaseRows) (x : Evaluated) : Type 0 where
   pub is_for : IsFor c x.stocks
   pub are_kept : AreOfFamilies (IsEvaluation c x.stocks) c x.families.items
 
--- the invariant of every session with this case, this budget, these curves and these evaluations
-pub record IsSession (c : CaseRows) (budget : ℕ) (curves : List (Option (List Point))) (evaluated : Evaluated)
-    : Type 0 where
+-- parts that are kept are those of the families in this case, of their weighted backorders over all their vectors
+abbrev pub ArePartsKept : CaseRows → KeptRows → Type 0
+ArePartsKept c parts = AreKeptParts (case_points plain_ends c []) parts
+
+-- the invariant of every session with this case, this budget, these curves, parts of curves and evaluations
+pub record IsSession (c : CaseRows) (budget : ℕ) (curves : List (Option (List Point))) (parts : KeptRows)
+    (evaluated : Evaluated) : Type 0 where
   pub valid : IsCase c
   pub work : IsOk (work_of c)
   pub budget_most : budget ≤ most_budget
   pub are_kept : AreKept c curves
+  pub are_parts : ArePartsKept c parts
   pub are_evaluated : AreEvaluated c evaluated
 
 -- ---- sessions after each call

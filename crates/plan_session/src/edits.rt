@@ -123,7 +123,7 @@ fn put_plan(
     if plans.len() >= MOST_PLANS {
         return Err(Stop::Fault(EditFault::TooManyPlans(line)));
     }
-    match session.plan() {
+    match session.report() {
         Ok(report) => {
             plans.push(report)?;
             Ok(())

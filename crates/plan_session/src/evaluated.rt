@@ -10,7 +10,7 @@ ghost use Rattle.family_items.specs.Inputs.{IsLine};
 ghost use Rattle.family_items.specs.Profile.{families_of};
 ghost use Rattle.hull.specs.declared.point.Point.{Point};
 ghost use Rattle.case_plan.specs.Chosen.{FitsCase, IsChosen};
-ghost use Rattle.case_plan.specs.Report.{IsPlanOf};
+ghost use Rattle.case_plan.specs.Report.{plain_request, IsPlanOf};
 ghost use Rattle.plan_session.specs.Sessions.{AreEvaluated, AreOfFamilies, IsEvaluation};
 ghost use Rattle.plan_session.specs.Settling.{AreSettled};
 
@@ -134,7 +134,7 @@ fn renew_all(
 }
 
 /// Evaluates the case at these stocks: each family whose evaluation isn't kept or whose stocks have changed.
-pub(crate) fn evaluate_at(
+fn evaluate_at(
     alloc: Global,
     case: &Case,
     rates: &Rates,
@@ -155,7 +155,7 @@ pub(crate) fn evaluate_at(
 
 /// The outcome of chosen stocks at which all families are evaluated. Each evaluation stays kept, also if memory is
 /// wanted.
-pub(crate) fn outcome_by(
+fn outcome_by(
     alloc: Global,
     case: &Case,
     chosen: ChosenStocks,
@@ -173,4 +173,32 @@ pub(crate) fn outcome_by(
     let outcome = outcome_at(alloc, case, chosen, families.as_slice(), request);
     put_back(kept, families);
     outcome
+}
+
+/// The outcome of chosen stocks, by weighted backorders under a budget. Each evaluation at these stocks stays kept,
+/// also if memory is wanted.
+pub(crate) fn outcome_of(
+    alloc: Global,
+    case: &Case,
+    rates: &Rates,
+    chosen: ChosenStocks,
+    budget: u64,
+    evaluated: &mut Evaluated,
+) -> Result<Outcome, NoMemory>
+    requires rates { AreRatesOf case.now rates.now }
+    requires fits { FitsCase case.now chosen }
+    requires kept { AreEvaluated case.now evaluated.old }
+    ensures kept { AreEvaluated case.now evaluated.new }
+    ensures plan { IfOk result (λ outcome. (curves : List (List Point)) → IsChosen case.now curves budget chosen
+        → IsPlanOf case.now curves (plain_request budget) outcome) }
+{
+    case.invariant();
+    evaluate_at(alloc, case, rates, &chosen.stocks, evaluated)?;
+    let request = Request {
+        budget,
+        loss: false,
+        on_hand: None,
+    };
+    let outcome = outcome_by(alloc, case, chosen, &mut evaluated.families, request)?;
+    Ok(outcome)
 }

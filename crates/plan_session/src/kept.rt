@@ -1,6 +1,6 @@
-//! The curves that a session keeps.
+//! The curves, and the parts of curves, that a session keeps.
 
-ghost use Rattle.std.specs.Prelude.{◌≡◌, ◌==◌, ◌<◌, ◌≤◌, [], None, true, length, position, replicate, All, IfOk, IfSome, IsSome, OnOk};
+ghost use Rattle.std.specs.Prelude.{◌≡◌, ◌==◌, ◌<◌, ◌≤◌, List, [], None, true, length, position, replicate, All, IfOk, IfSome, IsSome, OnOk};
 ghost use Rattle.std.specs.Result.{IsOk};
 ghost use Rattle.spares_input.specs.Money.{most_budget};
 ghost use Rattle.fleet_model.specs.Rows.{line_units};
@@ -8,10 +8,13 @@ ghost use Rattle.demand_rates.specs.Rates.{AreRatesOf};
 ghost use Rattle.family_items.specs.Inputs.{IsLine};
 ghost use Rattle.family_points.specs.Counts.{work_of};
 ghost use Rattle.family_points.specs.Local.{home_of};
+ghost use Rattle.hull.specs.declared.point.Point.{Point};
+ghost use Rattle.marginal_alloc.specs.Choice.{AreCurves};
+ghost use Rattle.fleet_plan.specs.Families.{case_points};
 ghost use Rattle.held_work.specs.Curves.{IsFamilyCurve};
 ghost use Rattle.case_plan.specs.Chosen.{FitsCase, IsChosen};
 ghost use Rattle.family_points.specs.Points.{plain_ends};
-ghost use Rattle.plan_session.specs.Sessions.{family_place, marks_of, AreKept, AreLater};
+ghost use Rattle.plan_session.specs.Sessions.{family_place, marks_of, AreKept, AreLater, ArePartsKept};
 ghost use Rattle.plan_session.specs.Settling.{values_of};
 
 use crate::values::{all_taken, no_values, put_back};
@@ -20,7 +23,8 @@ use case_plan::{ChosenStocks, choose_stocks};
 use demand_rates::kinds::Rates;
 use family_curve::curve;
 use hull::{Curve, Plain};
-use spares_input::{Case, PartId};
+use on_hand::{KeptParts, choose_by_kept_parts};
+use spares_input::{Case, PartId, nothing_held};
 use std::alloc::Global;
 
 /// No curve is kept.
@@ -128,4 +132,26 @@ pub(crate) fn chosen_by(
     let chosen = choose_stocks(alloc, case, curves.as_slice(), budget, near);
     put_back(kept, curves);
     chosen
+}
+
+/// The stocks that parts of the curves of all families choose, if some serve. Parts that were used stay kept.
+pub(crate) fn chosen_by_parts(
+    alloc: Global,
+    case: &Case,
+    rates: &Rates,
+    parts: &mut KeptParts,
+    budget: u64,
+) -> Result<Option<ChosenStocks>, NoMemory>
+    requires rates { AreRatesOf case.now rates.now }
+    requires work { IsOk (work_of case.now) }
+    requires budget { budget ≤ most_budget }
+    requires parts { ArePartsKept case.now parts.old }
+    ensures parts { ArePartsKept case.now parts.new }
+    ensures fits { IfOk result (λ found. IfSome found (FitsCase case.now)) }
+    ensures chosen { (curves : List (List Point)) → AreCurves (case_points plain_ends case.now []) curves
+        → IfOk result (λ found. IfSome found (IsChosen case.now curves budget)) }
+{
+    case.invariant();
+    let held = nothing_held(alloc, case)?;
+    choose_by_kept_parts(alloc, case, rates, &held, &Plain, parts, budget)
 }

@@ -1,10 +1,14 @@
 //! A session plans a case again and again while its rates and the budget change, and keeps each result that a change
 //! doesn't touch.
 //!
-//! A session keeps the curve of each family, and its evaluation at the stocks of the last plan. The curve depends only
-//! on the sites and parts of the case and on the rates of the family's own parts, so a change of one row costs the
-//! curve of one family. The evaluation depends also on the stocks of these parts, so a plan costs the evaluations of
-//! that family and of each family whose stocks change. Every answer equals a plan from nothing.
+//! For an edits file a session keeps the part of each family's curve that the last plan used. The part serves while the
+//! prices of plans lie between its prices. It depends only on the sites and parts of the case and on the rates of the
+//! family's own parts, so a change of one row costs the part of one family. Where parts don't serve, and for a caller's
+//! plan, a session makes the whole curve of each family, and keeps and lends these likewise.
+//!
+//! A session also keeps the evaluation of each family at the stocks of the last plan. It depends also on the stocks of
+//! the family's parts, so a plan costs the evaluations of the changed family and of each family whose stocks change.
+//! Every answer equals a plan from nothing.
 #![tactic(auto)]
 
 mod edits;

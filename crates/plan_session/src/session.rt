@@ -1,4 +1,4 @@
-//! The case and the budget of a session, with the kept curves and evaluations.
+//! The case and the budget of a session, with the kept curves, parts of curves and evaluations.
 
 ghost use Rattle.std.specs.Prelude.{◌≡◌, ◌<◌, ◌≤◌, [], true, not, length, get_or, replicate, is_none, All, IfOk, IfSome, IsSome};
 ghost use Rattle.std.specs.Result.{IsOk};
@@ -14,20 +14,21 @@ ghost use Rattle.session_report.specs.Reports.{IsReportOf};
 ghost use Rattle.plan_session.specs.Sessions.{due, has_mark, started, with_budget, with_row, AnswersPlan, AreEvaluated, AreKept, IsLater};
 ghost use Rattle.plan_session.specs.Settling.{values_of};
 
-use crate::evaluated::{Evaluated, evaluate_at, nothing_evaluated, outcome_by};
-use crate::kept::{chosen_by, keep_all, nothing_kept, place_of};
+use crate::evaluated::{Evaluated, nothing_evaluated, outcome_of};
+use crate::kept::{chosen_by, chosen_by_parts, keep_all, nothing_kept, place_of};
 use answers::{NoMemory, Stop};
-use case_plan::{Outcome, Request};
+use case_plan::Outcome;
 use demand_rates::kinds::Rates;
 use demand_rates::{RateFault, rates};
 use hull::{Curve, Price};
+use on_hand::KeptParts;
 use plan_report::PlanReport;
 use spares_input::{Case, Frame, RateRow};
 use std::alloc::Global;
 use std::marker::Model;
 
-/// A case and a budget, with the curve of each marked family and the evaluations of the last plan. The search for the
-/// next price begins a little above that of the last plan.
+/// A case and a budget, with the curve of each marked family, the parts of curves that the last plans used, and the
+/// evaluations of the last plan. The search for the next price begins a little above that of the last plan.
 ///
 /// Its model is the case, the budget and one mark for each family. The mark is on if the family's curve is kept.
 #[derive(Drop)]
@@ -35,6 +36,7 @@ pub struct Session {
     case: Case,
     budget: u64,
     curves: Vec<Option<Curve>>,
+    parts: KeptParts,
     evaluated: Evaluated,
     near: u128,
 }
@@ -46,7 +48,7 @@ impl Model for Session {
 
     ghost view = { λ s. record { case = s.case; budget = s.budget; marks = marks_of s.curves.items } };
 
-    ghost invariant = { λ s. IsSession s.case s.budget s.curves.items s.evaluated };
+    ghost invariant = { λ s. IsSession s.case s.budget s.curves.items s.parts s.evaluated };
 }
 
 /// A price a little above another, in units of 2^-48 for whole money.
@@ -81,13 +83,7 @@ fn outcome_near(
     case.invariant();
     let chosen = chosen_by(alloc, case, curves, budget, *near)?;
     *near = above(chosen.numbers.price);
-    evaluate_at(alloc, case, rates, &chosen.stocks, evaluated)?;
-    let request = Request {
-        budget,
-        loss: false,
-        on_hand: None,
-    };
-    let outcome = outcome_by(alloc, case, chosen, &mut evaluated.families, request)?;
+    let outcome = outcome_of(alloc, case, rates, chosen, budget, evaluated)?;
     Ok(outcome)
 }
 
@@ -100,11 +96,13 @@ impl Session {
         ensures { IfOk result (λ s. s ≡ started case budget) }
     {
         let curves = nothing_kept(alloc, &case)?;
+        let parts = KeptParts::new(alloc, curves.len())?;
         let evaluated = nothing_evaluated(alloc, &case)?;
         Ok(Session {
             case,
             budget,
             curves,
+            parts,
             evaluated,
             near: 0,
         })
@@ -119,7 +117,7 @@ impl Session {
     }
 
     /// Replaces the row of this row's pair, and turns off the mark of its part's family. All else stays. The family's
-    /// evaluation is forgotten.
+    /// evaluation and the part of its curve are forgotten.
     pub fn set_rate(&mut self, row: RateRow)
         requires { IsRateOf (frame_rows self.old.case) row }
         ensures { self.new ≡ with_row self.old row }
@@ -127,6 +125,7 @@ impl Session {
         let place = place_of(&self.case, row.part);
         self.case.set_rate(row);
         self.curves[place] = None;
+        self.parts.forget(place);
         self.evaluated.families[place] = None;
     }
 
@@ -163,6 +162,60 @@ impl Session {
             &mut self.evaluated,
         )?;
         Ok(outcome.report)
+    }
+
+    /// The same plan or rule, for an edits file. While no curve is kept it is made of parts of curves, if some serve,
+    /// and no mark changes; else as [`Session::plan`] makes it.
+    pub(crate) fn report(&mut self) -> Result<PlanReport, Stop<RateFault>>
+        ensures answer { AnswersPlan (due self.old) result }
+        ensures later { IsLater self.old self.new }
+    {
+        let alloc = *self.curves.allocator();
+        let rates = rates(alloc, &self.case)?;
+        let report = self.reported(alloc, &rates)?;
+        Ok(report)
+    }
+
+    /// The plan of the current case under the current budget, by parts of the curves or by whole ones. Its rates break
+    /// no rule.
+    fn reported(&mut self, alloc: Global, rates: &Rates) -> Result<PlanReport, NoMemory>
+        requires { AreRatesOf self.old.case rates.now }
+        ensures report { IfOk result (IsReportOf (due self.old)) }
+        ensures later { IsLater self.old self.new }
+    {
+        if let Some(report) = self.planned_by_parts(alloc, rates)? {
+            return Ok(report);
+        }
+        let whole = self.planned(alloc, rates)?;
+        Ok(whole)
+    }
+
+    /// The same plan by parts of the curves. None if a whole curve is kept, or if no parts serve.
+    fn planned_by_parts(
+        &mut self,
+        alloc: Global,
+        rates: &Rates,
+    ) -> Result<Option<PlanReport>, NoMemory>
+        requires { AreRatesOf self.old.case rates.now }
+        ensures report { IfOk result (λ found. IfSome found (IsReportOf (due self.old))) }
+        ensures later { IsLater self.old self.new }
+    {
+        if self.curves.iter().any(|curve| curve.is_some()) {
+            return Ok(None);
+        }
+        let Some(chosen) = chosen_by_parts(alloc, &self.case, rates, &mut self.parts, self.budget)?
+        else {
+            return Ok(None);
+        };
+        let outcome = outcome_of(
+            alloc,
+            &self.case,
+            rates,
+            chosen,
+            self.budget,
+            &mut self.evaluated,
+        )?;
+        Ok(Some(outcome.report))
     }
 
     /// The count of families.

@@ -125,6 +125,9 @@ filled-requires-clause-critical g c =
 pub returns-clause-fits : goal.returns-clause-fits
 returns-clause-fits g c = c.in_ok-stocks.ensures.fits
 
+pub returns-clause-known : goal.returns-clause-known
+returns-clause-known g c = c.in_ok-fill_parts.ensures.known
+
 pub returns-clause-chosen : goal.returns-clause-chosen
 returns-clause-chosen g c = λ curves areas.
     let families = g.F.Families.points c.args.families.now in

@@ -12,7 +12,7 @@ pub returns-in_ok-push-in-Ok : goal.returns-in_ok-push-in-Ok
 returns-in_ok-push-in-Ok c = λ ds told.
     let n = c.len.ensures in
     plan_followed c.args.line c.args.session.now ds c.args.plans.now.items told (omega (arith, n, c.if-len-ge-MOST_PLANS.false))
-    c.plan.new.self c.in-Ok.report c.push.new.self.items c.in-Ok.ensures.answer c.plan.ensures.later c.in_ok-push-in-Ok.ensures.items
+    c.report.new.self c.in-Ok.report c.push.new.self.items c.in-Ok.ensures.answer c.report.ensures.later c.in_ok-push-in-Ok.ensures.items
 
 pub returns-in-Err-Fault : goal.returns-in-Err-Fault
 returns-in-Err-Fault c = λ ds told.

@@ -1,19 +1,5 @@
-use Rattle.std.proofs.Common.{List, Option, sym, subst, ◌∙◌}
-use Rattle.family_items.specs.declared.item.FamilyResult.{FamilyResult}
-use Rattle.plan_session.specs.Sessions.{AreOfFamilies, IsEvaluation}
 use Rattle.plan_session.specs.Settling.{values_of}
-use Rattle.plan_session.proofs.Places.{rewritten}
 use Rattle.plan_session.proofs.session.outcome_near.Goals as goal
 
-pub returns-clause-kept : goal.returns-clause-kept
-returns-clause-kept c =
-    let x = c.evaluate_at.new.evaluated in
-    record {
-      is_for = c.evaluate_at.ensures.kept.is_for;
-      are_kept =
-          subst (λ (fs : List (Option (FamilyResult 48))). AreOfFamilies (IsEvaluation c.args.case.now x.stocks) c.args.case.now fs)
-          (sym (rewritten x.families.len c.outcome_by.new.kept x.families.items (c.outcome_by.ensures.kept ∙ c.deref_mut.ensures.value) x.families.ok.0)) c.evaluate_at.ensures.kept.are_kept;
-    }
-
 pub returns-clause-plan : goal.returns-clause-plan
-returns-clause-plan c = c.in_ok-outcome.ensures.case (values_of c.args.curves.now) c.in_ok-chosen.ensures.chosen
+returns-clause-plan c = c.in_ok-outcome.ensures.plan (values_of c.args.curves.now) c.in_ok-chosen.ensures.chosen

@@ -9,6 +9,7 @@ use Rattle.case_plan.specs.Report.{IsPlanOf, plain_request}
 use Rattle.plan_session.specs.Sessions.{due, marks_of, AreEvaluated, AreKept, AreLater, IsLater, IsSession, SessionRows}
 use Rattle.plan_session.specs.Settling.{values_of}
 use Rattle.plan_session.specs.declared.evaluated.Evaluated.{Evaluated}
+use Rattle.on_hand.specs.Kept.{KeptRows}
 use Rattle.session_report.specs.Reports.{IsReportOf}
 use Rattle.plan_session.proofs.Places.{all_kept, all_there, written}
 use Rattle.plan_session.proofs.Reported.{reported}
@@ -16,17 +17,17 @@ use Rattle.plan_session.proofs.session.Session.planned.Goals as goal
 
 -- ---- a session whose curves were written, and again for a while
 
-module _ (c : CaseRows) (budget : ℕ) (x : Evaluated) (n : ℕ) (held lent kept : List (Option (List Point))) (many : n ≡ length held)
-    (are_lent : lent ≡ held) (was : IsSession c budget held x) (is : AreKept c kept) (since : AreLater (marks_of lent) (marks_of kept)) where
+module _ (c : CaseRows) (budget : ℕ) (parts : KeptRows) (x : Evaluated) (n : ℕ) (held lent kept : List (Option (List Point))) (many : n ≡ length held)
+    (are_lent : lent ≡ held) (was : IsSession c budget held parts x) (is : AreKept c kept) (since : AreLater (marks_of lent) (marks_of kept)) where
   abbrev first : List (Option (List Point))
   first = take n (kept ++ drop (length kept) held)
 
   there : first ≡ kept
   there = written n kept held (is.count ∙ sym was.are_kept.count ∙ sym many) (sym many)
 
-  session_by : (curves : List (Option (List Point))) (y : Evaluated) → curves ≡ kept → AreEvaluated c y → IsSession c budget curves y
+  session_by : (curves : List (Option (List Point))) (y : Evaluated) → curves ≡ kept → AreEvaluated c y → IsSession c budget curves parts y
   session_by curves y e evaluated =
-      rw e (record { valid = was.valid; work = was.work; budget_most = was.budget_most; are_kept = is; are_evaluated = evaluated })
+      rw e (record { valid = was.valid; work = was.work; budget_most = was.budget_most; are_kept = is; are_parts = was.are_parts; are_evaluated = evaluated })
 
   later_by : (self : SessionRows) → record { case = c; budget = budget; marks = marks_of held } ≡ self → (curves : List (Option (List Point))) → curves ≡ kept
       → IsLater self (record { case = c; budget = budget; marks = marks_of curves })
@@ -50,23 +51,23 @@ module _ (c : CaseRows) (budget : ℕ) (x : Evaluated) (n : ℕ) (held lent kept
 
 pub outcome_near-requires-clause-all : goal.outcome_near-requires-clause-all
 outcome_near-requires-clause-all c =
-    subst (λ (z : List (Option (List Point))). All IsSome z) (sym (still c.self.inside.case c.self.inside.budget c.self.inside.evaluated c.self.inside.curves.len c.self.inside.curves.items c.deref_mut.result.now c.keep_all.new.curves c.self.inside.curves.ok.0
+    subst (λ (z : List (Option (List Point))). All IsSome z) (sym (still c.self.inside.case c.self.inside.budget c.self.inside.parts c.self.inside.evaluated c.self.inside.curves.len c.self.inside.curves.items c.deref_mut.result.now c.keep_all.new.curves c.self.inside.curves.ok.0
     c.deref_mut.ensures.value c.self.invariant c.keep_all.ensures.kept c.keep_all.ensures.later
     c.deref_mut-2.result.now c.deref_mut-2.ensures.value))
     (all_kept c.keep_all.new.curves (length (line_units c.self.inside.case)) c.in_ok-keep_all.ensures.on)
 
 pub outcome_near-requires-clause-curves : goal.outcome_near-requires-clause-curves
 outcome_near-requires-clause-curves c =
-    subst (λ (z : List (Option (List Point))). AreKept c.self.inside.case z) (sym (still c.self.inside.case c.self.inside.budget c.self.inside.evaluated c.self.inside.curves.len c.self.inside.curves.items c.deref_mut.result.now c.keep_all.new.curves c.self.inside.curves.ok.0
+    subst (λ (z : List (Option (List Point))). AreKept c.self.inside.case z) (sym (still c.self.inside.case c.self.inside.budget c.self.inside.parts c.self.inside.evaluated c.self.inside.curves.len c.self.inside.curves.items c.deref_mut.result.now c.keep_all.new.curves c.self.inside.curves.ok.0
     c.deref_mut.ensures.value c.self.invariant c.keep_all.ensures.kept c.keep_all.ensures.later
     c.deref_mut-2.result.now c.deref_mut-2.ensures.value))
     c.keep_all.ensures.kept
 
 pub invariant_of-self-2 : goal.invariant_of-self-2
 invariant_of-self-2 c =
-    session_by c.self.inside.case c.self.inside.budget c.self.inside.evaluated c.self.inside.curves.len c.self.inside.curves.items c.deref_mut.result.now c.keep_all.new.curves c.self.inside.curves.ok.0
+    session_by c.self.inside.case c.self.inside.budget c.self.inside.parts c.self.inside.evaluated c.self.inside.curves.len c.self.inside.curves.items c.deref_mut.result.now c.keep_all.new.curves c.self.inside.curves.ok.0
     c.deref_mut.ensures.value c.self.invariant c.keep_all.ensures.kept c.keep_all.ensures.later
-    _ c.outcome_near.new.evaluated (back c.self.inside.case c.self.inside.budget c.self.inside.evaluated c.self.inside.curves.len c.self.inside.curves.items c.deref_mut.result.now c.keep_all.new.curves c.self.inside.curves.ok.0
+    _ c.outcome_near.new.evaluated (back c.self.inside.case c.self.inside.budget c.self.inside.parts c.self.inside.evaluated c.self.inside.curves.len c.self.inside.curves.items c.deref_mut.result.now c.keep_all.new.curves c.self.inside.curves.ok.0
     c.deref_mut.ensures.value c.self.invariant c.keep_all.ensures.kept c.keep_all.ensures.later
     c.deref_mut-2.result.now c.outcome_near.new.curves c.deref_mut-2.ensures.value c.outcome_near.ensures.curves) c.outcome_near.ensures.kept
 
@@ -78,21 +79,21 @@ returns-clause-report c =
     c.self.inside.budget c.in_ok-outcome.outcome
     (record { valid = c.self.invariant.valid; no_fault = subst (λ (s : SessionRows). rate_fault_of s.case ≡ None) (sym c.self.view_is) c.requires.no_fault })
     (subst (λ (z : List (Option (List Point))). IsPlanOf c.self.inside.case (values_of z) (plain_request c.self.inside.budget) c.in_ok-outcome.outcome)
-    (still c.self.inside.case c.self.inside.budget c.self.inside.evaluated c.self.inside.curves.len c.self.inside.curves.items c.deref_mut.result.now c.keep_all.new.curves c.self.inside.curves.ok.0
+    (still c.self.inside.case c.self.inside.budget c.self.inside.parts c.self.inside.evaluated c.self.inside.curves.len c.self.inside.curves.items c.deref_mut.result.now c.keep_all.new.curves c.self.inside.curves.ok.0
     c.deref_mut.ensures.value c.self.invariant c.keep_all.ensures.kept c.keep_all.ensures.later
     c.deref_mut-2.result.now c.deref_mut-2.ensures.value) c.in_ok-outcome.ensures.plan))
 
 pub returns-clause-later : goal.returns-clause-later
 returns-clause-later c =
-    later_by c.self.inside.case c.self.inside.budget c.self.inside.evaluated c.self.inside.curves.len c.self.inside.curves.items c.deref_mut.result.now c.keep_all.new.curves c.self.inside.curves.ok.0
+    later_by c.self.inside.case c.self.inside.budget c.self.inside.parts c.self.inside.evaluated c.self.inside.curves.len c.self.inside.curves.items c.deref_mut.result.now c.keep_all.new.curves c.self.inside.curves.ok.0
     c.deref_mut.ensures.value c.self.invariant c.keep_all.ensures.kept c.keep_all.ensures.later
-    c.args.self.now c.self.view_is _ (back c.self.inside.case c.self.inside.budget c.self.inside.evaluated c.self.inside.curves.len c.self.inside.curves.items c.deref_mut.result.now c.keep_all.new.curves c.self.inside.curves.ok.0
+    c.args.self.now c.self.view_is _ (back c.self.inside.case c.self.inside.budget c.self.inside.parts c.self.inside.evaluated c.self.inside.curves.len c.self.inside.curves.items c.deref_mut.result.now c.keep_all.new.curves c.self.inside.curves.ok.0
     c.deref_mut.ensures.value c.self.invariant c.keep_all.ensures.kept c.keep_all.ensures.later
     c.deref_mut-2.result.now c.outcome_near.new.curves c.deref_mut-2.ensures.value c.outcome_near.ensures.curves)
 
 pub returns-clause-marks : goal.returns-clause-marks
 returns-clause-marks c =
-    ap (λ (z : List (Option (List Point))). marks_of z) (back c.self.inside.case c.self.inside.budget c.self.inside.evaluated c.self.inside.curves.len c.self.inside.curves.items c.deref_mut.result.now c.keep_all.new.curves c.self.inside.curves.ok.0
+    ap (λ (z : List (Option (List Point))). marks_of z) (back c.self.inside.case c.self.inside.budget c.self.inside.parts c.self.inside.evaluated c.self.inside.curves.len c.self.inside.curves.items c.deref_mut.result.now c.keep_all.new.curves c.self.inside.curves.ok.0
     c.deref_mut.ensures.value c.self.invariant c.keep_all.ensures.kept c.keep_all.ensures.later
     c.deref_mut-2.result.now c.outcome_near.new.curves c.deref_mut-2.ensures.value c.outcome_near.ensures.curves)
     ∙ c.in_ok-keep_all.ensures.on ∙ ap (λ (s : SessionRows). replicate (length (line_units s.case)) true) c.self.view_is
@@ -101,9 +102,9 @@ returns-clause-marks c =
 
 pub invariant_of-self : goal.invariant_of-self
 invariant_of-self c =
-    session_by c.self.inside.case c.self.inside.budget c.self.inside.evaluated c.self.inside.curves.len c.self.inside.curves.items c.deref_mut.result.now c.keep_all.new.curves c.self.inside.curves.ok.0
+    session_by c.self.inside.case c.self.inside.budget c.self.inside.parts c.self.inside.evaluated c.self.inside.curves.len c.self.inside.curves.items c.deref_mut.result.now c.keep_all.new.curves c.self.inside.curves.ok.0
     c.deref_mut.ensures.value c.self.invariant c.keep_all.ensures.kept c.keep_all.ensures.later
-    _ c.self.inside.evaluated (there c.self.inside.case c.self.inside.budget c.self.inside.evaluated c.self.inside.curves.len c.self.inside.curves.items c.deref_mut.result.now c.keep_all.new.curves c.self.inside.curves.ok.0
+    _ c.self.inside.evaluated (there c.self.inside.case c.self.inside.budget c.self.inside.parts c.self.inside.evaluated c.self.inside.curves.len c.self.inside.curves.items c.deref_mut.result.now c.keep_all.new.curves c.self.inside.curves.ok.0
     c.deref_mut.ensures.value c.self.invariant c.keep_all.ensures.kept c.keep_all.ensures.later) c.self.invariant.are_evaluated
 
 pub returns-in_err-keep_all-clause-report : goal.returns-in_err-keep_all-clause-report
@@ -111,9 +112,9 @@ returns-in_err-keep_all-clause-report c = let p = err_from_is_err_and c.from_res
 
 pub returns-in_err-keep_all-clause-later : goal.returns-in_err-keep_all-clause-later
 returns-in_err-keep_all-clause-later c =
-    later_by c.self.inside.case c.self.inside.budget c.self.inside.evaluated c.self.inside.curves.len c.self.inside.curves.items c.deref_mut.result.now c.keep_all.new.curves c.self.inside.curves.ok.0
+    later_by c.self.inside.case c.self.inside.budget c.self.inside.parts c.self.inside.evaluated c.self.inside.curves.len c.self.inside.curves.items c.deref_mut.result.now c.keep_all.new.curves c.self.inside.curves.ok.0
     c.deref_mut.ensures.value c.self.invariant c.keep_all.ensures.kept c.keep_all.ensures.later
-    c.args.self.now c.self.view_is _ (there c.self.inside.case c.self.inside.budget c.self.inside.evaluated c.self.inside.curves.len c.self.inside.curves.items c.deref_mut.result.now c.keep_all.new.curves c.self.inside.curves.ok.0
+    c.args.self.now c.self.view_is _ (there c.self.inside.case c.self.inside.budget c.self.inside.parts c.self.inside.evaluated c.self.inside.curves.len c.self.inside.curves.items c.deref_mut.result.now c.keep_all.new.curves c.self.inside.curves.ok.0
     c.deref_mut.ensures.value c.self.invariant c.keep_all.ensures.kept c.keep_all.ensures.later)
 
 pub returns-in_err-keep_all-clause-marks : goal.returns-in_err-keep_all-clause-marks
@@ -121,9 +122,9 @@ returns-in_err-keep_all-clause-marks c = let p = err_from_is_err_and c.from_resi
 
 pub invariant_of-self-in_err-outcome : goal.invariant_of-self-in_err-outcome
 invariant_of-self-in_err-outcome c =
-    session_by c.self.inside.case c.self.inside.budget c.self.inside.evaluated c.self.inside.curves.len c.self.inside.curves.items c.deref_mut.result.now c.keep_all.new.curves c.self.inside.curves.ok.0
+    session_by c.self.inside.case c.self.inside.budget c.self.inside.parts c.self.inside.evaluated c.self.inside.curves.len c.self.inside.curves.items c.deref_mut.result.now c.keep_all.new.curves c.self.inside.curves.ok.0
     c.deref_mut.ensures.value c.self.invariant c.keep_all.ensures.kept c.keep_all.ensures.later
-    _ c.outcome_near.new.evaluated (back c.self.inside.case c.self.inside.budget c.self.inside.evaluated c.self.inside.curves.len c.self.inside.curves.items c.deref_mut.result.now c.keep_all.new.curves c.self.inside.curves.ok.0
+    _ c.outcome_near.new.evaluated (back c.self.inside.case c.self.inside.budget c.self.inside.parts c.self.inside.evaluated c.self.inside.curves.len c.self.inside.curves.items c.deref_mut.result.now c.keep_all.new.curves c.self.inside.curves.ok.0
     c.deref_mut.ensures.value c.self.invariant c.keep_all.ensures.kept c.keep_all.ensures.later
     c.deref_mut-2.result.now c.outcome_near.new.curves c.deref_mut-2.ensures.value c.outcome_near.ensures.curves) c.outcome_near.ensures.kept
 
@@ -132,9 +133,9 @@ returns-in_err-outcome-clause-report c = let p = err_from_is_err_and c.from_resi
 
 pub returns-in_err-outcome-clause-later : goal.returns-in_err-outcome-clause-later
 returns-in_err-outcome-clause-later c =
-    later_by c.self.inside.case c.self.inside.budget c.self.inside.evaluated c.self.inside.curves.len c.self.inside.curves.items c.deref_mut.result.now c.keep_all.new.curves c.self.inside.curves.ok.0
+    later_by c.self.inside.case c.self.inside.budget c.self.inside.parts c.self.inside.evaluated c.self.inside.curves.len c.self.inside.curves.items c.deref_mut.result.now c.keep_all.new.curves c.self.inside.curves.ok.0
     c.deref_mut.ensures.value c.self.invariant c.keep_all.ensures.kept c.keep_all.ensures.later
-    c.args.self.now c.self.view_is _ (back c.self.inside.case c.self.inside.budget c.self.inside.evaluated c.self.inside.curves.len c.self.inside.curves.items c.deref_mut.result.now c.keep_all.new.curves c.self.inside.curves.ok.0
+    c.args.self.now c.self.view_is _ (back c.self.inside.case c.self.inside.budget c.self.inside.parts c.self.inside.evaluated c.self.inside.curves.len c.self.inside.curves.items c.deref_mut.result.now c.keep_all.new.curves c.self.inside.curves.ok.0
     c.deref_mut.ensures.value c.self.invariant c.keep_all.ensures.kept c.keep_all.ensures.later
     c.deref_mut-2.result.now c.outcome_near.new.curves c.deref_mut-2.ensures.value c.outcome_near.ensures.curves)
 
