@@ -175,8 +175,8 @@ fn outcome_by(
     outcome
 }
 
-/// The outcome of chosen stocks, by weighted backorders under a budget. Each evaluation at these stocks stays kept, also
-/// if memory is wanted.
+/// The outcome of chosen stocks, by weighted backorders under a budget. Each evaluation at these stocks stays kept,
+/// also if memory is wanted.
 pub(crate) fn outcome_of(
     alloc: Global,
     case: &Case,

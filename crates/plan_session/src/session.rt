@@ -164,8 +164,8 @@ impl Session {
         Ok(outcome.report)
     }
 
-    /// The same plan or rule, for an edits file. While no curve is kept it is made of parts of curves, if some serve, and
-    /// no mark changes; else as [`Session::plan`] makes it.
+    /// The same plan or rule, for an edits file. While no curve is kept it is made of parts of curves, if some serve,
+    /// and no mark changes; else as [`Session::plan`] makes it.
     pub(crate) fn report(&mut self) -> Result<PlanReport, Stop<RateFault>>
         ensures answer { AnswersPlan (due self.old) result }
         ensures later { IsLater self.old self.new }
