@@ -105,8 +105,13 @@ impl KeptParts {
         self.parts[family] = None;
     }
 
-    /// The stocks that parts choose in the window of those that are kept. None if none is kept, or if the choice in
-    /// this window has no critical step. Want of memory is the only error.
+    /// Whether the part of some family is kept.
+    pub(crate) fn has_parts(&self) -> bool {
+        self.parts.iter().any(|part| part.is_some())
+    }
+
+    /// The stocks that parts choose in the window of those that are kept. None if the choice in this window has no
+    /// critical step. Want of memory is the only error.
     pub(crate) fn choose_again<S: Score>(
         &mut self,
         alloc: Global,
@@ -121,9 +126,6 @@ impl KeptParts {
             → AreCurves (case_points S.ends families.now.case families.now.held.list) curves
             → IfOk result (λ found. IfSome found (IsChosen families.now.case curves budget)) }
     {
-        if self.parts.iter().all(|part| part.is_none()) {
-            return Ok(None);
-        }
         choose_in(alloc, families, self.window, &mut self.parts, budget)
     }
 

@@ -83,9 +83,9 @@ fn windows_near<S: Score>(
     Ok(Some((close, wide)))
 }
 
-/// The stocks that parts of the curves choose: in the window of the kept parts, or else in one near the price at which
-/// the budget is about spent. None if whole curves likely cost less work, nearly all is bought, or the guess of the
-/// price is wrong.
+/// The stocks that parts of the curves choose: in the window of the kept parts, or, if none is kept, in one near the
+/// price at which the budget is about spent. None if whole curves likely cost less work: if there are few tables, if
+/// nearly all is bought, if the price left the window of the kept parts, or if the guess of the price is wrong.
 fn choose_near<S: Score>(
     alloc: Global,
     families: &HeldFamilies<'_, S>,
@@ -103,8 +103,8 @@ fn choose_near<S: Score>(
     if !are_parts_cheaper(families) {
         return Ok(None);
     }
-    if let Some(chosen) = kept.choose_again(alloc, families, budget)? {
-        return Ok(Some(chosen));
+    if kept.has_parts() {
+        return kept.choose_again(alloc, families, budget);
     }
     let Some((close, wide)) = windows_near(alloc, families, budget)? else {
         return Ok(None);
@@ -119,7 +119,7 @@ fn choose_near<S: Score>(
 ///
 /// They are those of the one plan of all vectors of the families from the held stocks to the limits. Parts that are
 /// kept serve while the plan's price lies between their prices, and the parts that were used are kept for the next
-/// call. None if whole curves likely cost less work, or if no part near the likely price serves. What the case and the
+/// call. None if whole curves likely cost less work, or if the plan's price doesn't lie there. What the case and the
 /// held stocks must meet is as of [`plan_case`]. Want of memory is the only error.
 pub fn choose_by_kept_parts<S: Score>(
     alloc: Global,
