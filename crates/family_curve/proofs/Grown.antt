@@ -5,14 +5,11 @@ use Rattle.std.proofs.lemmas.Bool.{cases_lt, eqb-true}
 use Rattle.std.proofs.lemmas.List.{append-nil}
 use Rattle.list_laws.proofs.Public.{room_for}
 use Rattle.hull.specs.declared.point.Point.{Point}
-use Rattle.hull.specs.Curves.{Among, InRange, IsChain, IsCurve, StandFor}
-use Rattle.hull.specs.Scores.{LeavesRoom}
+use Rattle.hull.specs.Curves.{Among, IsChain, IsCurve, StandFor}
 use Rattle.hull.proofs.Public.{chain_is_curve, of_members, among_either, among_left, among_right, curve_stands, stand_for, stand_for_both, stand_self}
-use Rattle.family_points.specs.Inputs.{FamilyBox, IsAt, IsFamilyBox}
-use Rattle.family_curve.specs.Joining.{HaveWidthOf, run_start}
-use Rattle.family_points.specs.Points.{ScoreEnds}
-use Rattle.family_points.specs.Separation.{depot_points}
-use Rattle.family_points.proofs.Public.{low_long, depot_points_small, flat_stock_before, flat_stock_behind, small_range, size}
+use Rattle.family_points.specs.Inputs.{FamilyBox}
+use Rattle.family_bases.specs.Joining.{HaveWidthOf, run_start}
+use Rattle.family_points.proofs.Public.{flat_stock_before, flat_stock_behind}
 
 -- the curve of points so far, and of what comes to it
 pub curve_grows : (ps qs c e : List Point) → IsCurve ps c → IsCurve (c ++ qs) e → IsCurve (ps ++ qs) e
@@ -79,18 +76,6 @@ curve_stays c qs path chain none stands =
 -- where the vertices so far and the points that come have a stock for each place, so has the curve of both
 pub widths_grow : (x : FamilyBox) (c qs e : List Point) → HaveWidthOf x c → HaveWidthOf x qs → IsCurve (c ++ qs) e → HaveWidthOf x e
 widths_grow x c qs e a b h v m = elim (among_either v c qs (h.among v m)) [ inl k ↦ a v k | inr k ↦ b v k ]
-
-module _ (x : FamilyBox) (valid : IsFamilyBox x) (ends : ScoreEnds) (room : LeavesRoom ends) (d : List ℕ) (at_depot : IsAt x 0 d) where
-  -- the points with these stocks at the depot have a stock for each place of the family
-  pub depot_widths : HaveWidthOf x (depot_points ends x d)
-  depot_widths v m = (depot_points_small x valid ends room d at_depot v m).width ∙ sym (low_long x valid)
-
-  -- the points with these stocks at the depot are in range
-  pub depot_ranges : (v : Point) → Among v (depot_points ends x d) → InRange v
-  depot_ranges v m =
-      let some = valid.valid.frame.fewest_sites in
-      let few = valid.valid.frame.most_sites in
-      small_range (size x.case x.line) (length x.case.sites) v (omega (arith, some)) (omega (arith, few)) (depot_points_small x valid ends room d at_depot v m)
 
 nil_of : (l : List Point) → length l ≡ 0 → l ≡ []
 nil_of [] e = refl

@@ -1,5 +1,3 @@
-pub mod Public
-pub mod Vertices
-pub mod Bases
+pub mod LowCurves
 pub mod Grown
 pub mod Under

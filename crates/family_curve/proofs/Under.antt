@@ -10,8 +10,8 @@ use Rattle.family_points.specs.Separation.{base_points, points_over}
 use Rattle.family_points.proofs.Public.{over_more}
 use Rattle.sum_walk.specs.Sums.{sums_of_each}
 use Rattle.sum_walk.proofs.Public.{sums_one_more}
-use Rattle.family_floors.specs.Under.{LieBelow, LieUnder}
-use Rattle.family_floors.proofs.Public.{stands_under, under_below}
+use Rattle.family_curve.specs.Under.{LieBelow, LieUnder}
+use Rattle.family_curve.proofs.LowCurves.{stands_under, under_below}
 
 -- points lie under themselves
 pub under_self : (points : List Point) → LieUnder points points

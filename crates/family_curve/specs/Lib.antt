@@ -1,2 +1,3 @@
-pub mod Joining
 pub mod Work
+pub mod LowCurves
+pub mod Under

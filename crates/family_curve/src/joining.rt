@@ -1,6 +1,6 @@
 //! The curve of a family: what each choice of stocks at the depot adds to the curve so far.
 
-ghost use Rattle.std.specs.Prelude.{◌≡◌, ◌+◌, ◌-◌, ◌*◌, ◌<◌, ◌≤◌, ◌++◌, ◌∷◌, [], List, IfOk, drop, get_or, length, sum_by};
+ghost use Rattle.std.specs.Prelude.{◌≡◌, ◌+◌, ◌-◌, ◌*◌, ◌<◌, ◌≤◌, ◌++◌, ◌∷◌, [], IfOk, drop, get_or, length, sum_by};
 ghost use Rattle.hull.specs.declared.point.Point.{Point};
 ghost use Rattle.hull.specs.Curves.{Among, InRange, IsCurve, StandFor};
 ghost use Rattle.family_points.specs.Counts.{most_vertices};
@@ -17,14 +17,15 @@ ghost use Rattle.family_points.specs.Inputs.{
   vertex_count,
 };
 ghost use Rattle.family_rows.specs.Sources.{AreSources};
-ghost use Rattle.family_curve.specs.Joining.{HaveWidthOf, IsDepotPoint, vertices_of};
+ghost use Rattle.family_bases.specs.Joining.{HaveWidthOf, IsDepotPoint, vertices_of};
 ghost use Rattle.family_curve.specs.Work.{HaveChains};
 ghost use Rattle.family_rows.specs.Tabled.{AreTables};
 ghost use Rattle.sum_walk.specs.Sums.{sums_of_each};
 
-use crate::base::{chains_of, put_curve};
 use crate::passed::{Lows, are_passed, lows_of};
-use answers::{List, NoMemory};
+use answers::NoMemory;
+use family_bases::curves::{chains_of, put_curve};
+use family_bases::stocks::depot_point;
 use family_points::family::{Family, joined};
 use family_points::order::Base;
 use family_rows::base::BaseSpot;
@@ -55,21 +56,6 @@ struct Work<'b> {
     exact: Exact<'b>,
     /// For lower bounds.
     lows: Lows,
-}
-
-/// The point of stocks at the depot: their cost above the stocks held, and no score.
-pub fn depot_point(family: &Family<'_>, stocks: Vec<u8>) -> Point
-    requires { IsAt family.now 0 stocks.items }
-    ensures point { result ≡ depot_point family.now stocks.items }
-    ensures range { InRange result }
-{
-    family.invariant();
-    Point {
-        cost: family.cost(SiteId(0), stocks.as_slice()),
-        lo: 0,
-        hi: 0,
-        stocks: List::of(stocks),
-    }
 }
 
 /// Sets the chains of `work` to the curves of all bases with these stocks at the depot.

@@ -24,8 +24,8 @@ use hull::{Curve, Score};
 use spares_input::{Case, PartId, nothing_held};
 use std::alloc::Global;
 
-pub mod base;
-pub mod joining;
+mod joining;
+mod low_curve;
 mod passed;
 
 pub use family_points::{

@@ -9,12 +9,12 @@ ghost use Rattle.family_points.specs.Separation.{depot_point, depot_points};
 ghost use Rattle.family_points.specs.Inputs.{IsAt, vertex_count};
 ghost use Rattle.family_rows.specs.Sources.{AreSources};
 ghost use Rattle.family_rows.specs.Tabled.{AreTables};
-ghost use Rattle.family_curve.specs.Joining.{IsDepotPoint};
-ghost use Rattle.family_floors.specs.Under.{LieBelow};
+ghost use Rattle.family_bases.specs.Joining.{IsDepotPoint};
+ghost use Rattle.family_curve.specs.Under.{LieBelow};
 ghost use Rattle.sum_walk.specs.Sums.{sums_of_each};
 
+use crate::low_curve::{LowSpot, low_chains_of, put_low_curve};
 use answers::NoMemory;
-use family_floors::low_curve::{LowSpot, low_chains_of, put_low_curve};
 use family_points::order::Base;
 use family_rows::base_at::BaseAt;
 use family_rows::depot::DepotTables;

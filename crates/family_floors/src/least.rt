@@ -15,11 +15,11 @@ ghost use Rattle.family_points.specs.Choices.{IsChoice, choice_point};
 ghost use Rattle.family_rows.specs.Spots.{AreRows, IsBaseAt};
 ghost use Rattle.family_rows.specs.Tabled.{AreTables, box_numbers};
 
-use crate::bases::base_of;
-use crate::lows::low_at_depot;
-use crate::stocks::stocks_at;
 use answers::NoMemory;
 use demand_rates::kinds::Rates;
+use family_bases::bases::base_of;
+use family_bases::lows::low_at_depot;
+use family_bases::stocks::stocks_at;
 use family_numbers::Numbers;
 use family_points::bounds::Bounds;
 use family_points::family::{Family, shops_of};

@@ -11,9 +11,9 @@ ghost use Rattle.family_points.specs.Separation.{base_points, depot_points};
 ghost use Rattle.family_rows.specs.Spots.{IsBaseAt};
 ghost use Rattle.family_rows.specs.Tabled.{AreTables, box_numbers};
 
-use crate::bases::base_of;
 use answers::NoMemory;
 use demand_rates::kinds::Rates;
+use family_bases::bases::base_of;
 use family_numbers::Numbers;
 use family_points::bounds::Bounds;
 use family_points::family::{Family, shops_of};

@@ -11,7 +11,7 @@ use Rattle.curve_parts.specs.Joins.{Begins, Joins}
 use Rattle.curve_parts.specs.Beyond.{IsKnownPart, LieBeyond}
 use Rattle.curve_parts.proofs.Public.{both_between, part_stands, self_between, known_joined, known_left_out, known_of_members}
 use Rattle.family_points.specs.Inputs.{FamilyBox}
-use Rattle.family_curve.specs.Joining.{HaveWidthOf}
+use Rattle.family_bases.specs.Joining.{HaveWidthOf}
 use Rattle.family_parts.specs.Growing.{Grows}
 
 -- no points change nothing

@@ -23,18 +23,17 @@ ghost use Rattle.family_points.specs.Inputs.{
 };
 ghost use Rattle.family_rows.specs.Sources.{AreSources};
 ghost use Rattle.family_rows.specs.Tabled.{AreTables};
-ghost use Rattle.family_floors.specs.Rough.{AreRough};
-ghost use Rattle.family_curve.specs.Joining.{HaveWidthOf, vertices_of};
+ghost use Rattle.depot_lows.specs.Rough.{AreRough};
+ghost use Rattle.family_bases.specs.Joining.{HaveWidthOf, vertices_of};
 ghost use Rattle.family_parts.specs.Growing.{Grows, in_turn};
 
-use crate::base::{Work, put_parts};
-use crate::first_line::likely_line;
-use crate::lows::low_if_passed;
 use answers::NoMemory;
+use base_parts::parts::{Work, put_parts};
 use curve_parts::{join_sums, part_of_sums};
-use family_curve::joining::depot_point;
-use family_floors::rough::RoughLows;
-use family_floors::stocks::stocks_at;
+use depot_lows::first_line::likely_line;
+use depot_lows::passed::low_if_passed;
+use depot_lows::rough::RoughLows;
+use family_bases::stocks::{depot_point, stocks_at};
 use family_points::family::{Family, shops_of};
 use family_rows::depot::{DepotTables, ShopParts, depot_tables};
 use family_rows::sources::Sources;

@@ -26,14 +26,9 @@ use hull::{Curve, Price, Score};
 use spares_input::{Case, PartId};
 use std::alloc::Global;
 
-mod base;
-mod choices;
-mod first_line;
 mod joining;
-mod lows;
-mod near;
 
-pub use near::cost_near;
+pub use depot_lows::near::cost_near;
 
 /// The part between two prices of the curve of a line unit's family, over the vectors from `low` to `high` of the
 /// bounds. The cost counts stocks above `held`. Also returns how high all vertices behind the part lie: no Lagrangian

@@ -1,7 +1,7 @@
 use Rattle.std.proofs.Common.{◌*◌, ◌≤◌, sym, subst}
 use Rattle.curve_parts.specs.Beyond.{IsKnownPart}
 use Rattle.family_points.specs.Inputs.{FamilyBox, box_points, vector_count, vertex_count}
-use Rattle.family_curve.proofs.Public.{few_vertices}
+use Rattle.family_bases.proofs.Public.{few_vertices}
 use Rattle.family_parts.proofs.Whole.{part_between}
 use Rattle.family_parts.proofs.part_within.Goals as goal
 

@@ -13,7 +13,7 @@ use Rattle.family_points.specs.Inputs.{FamilyBox, vector_count}
 use Rattle.family_points.specs.Choices.{AreBases}
 use Rattle.sum_walk.specs.Sums.{sums_of_each}
 use Rattle.family_rows.proofs.Public.{tables_at}
-use Rattle.family_curve.proofs.Bases.{base_more, lengths_one_more}
+use Rattle.family_bases.proofs.Public.{base_more, lengths_one_more}
 use Rattle.family_points.proofs.Public.{base_read, bases_long, over_count_more, room_at}
 use Rattle.family_curve.proofs.joining.put_curves.Goals as goal
 

@@ -2,7 +2,7 @@ use Rattle.std.proofs.Common.{◌-◌, ◌*◌, ◌≤◌, ◌∷◌, drop, flat
 use Rattle.hull.specs.Curves.{IsCurve}
 use Rattle.family_points.specs.Separation.{depot_points}
 use Rattle.family_points.specs.Inputs.{line_stocks, shop_vectors, vertex_count}
-use Rattle.family_curve.specs.Joining.{HaveWidthOf}
+use Rattle.family_bases.specs.Joining.{HaveWidthOf}
 use Rattle.family_curve.specs.Work.{HaveChains}
 use Rattle.family_curve.proofs.joining.whole_curve.Given as goal
 

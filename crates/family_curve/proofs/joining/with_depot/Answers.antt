@@ -3,9 +3,10 @@ use Rattle.family_points.specs.Inputs.{vertex_count}
 use Rattle.hull.specs.declared.point.Point.{Point}
 use Rattle.hull.specs.Curves.{Among, InRange, IsCurve, StandFor}
 use Rattle.hull.proofs.Public.{stand_for}
-use Rattle.family_curve.specs.Joining.{HaveWidthOf, vertices_of}
+use Rattle.family_bases.specs.Joining.{HaveWidthOf, vertices_of}
 use Rattle.family_points.specs.Separation.{depot_points}
-use Rattle.family_curve.proofs.Grown.{curve_stays, depot_ranges, depot_widths, none_of, widths_grow}
+use Rattle.family_bases.proofs.Public.{depot_ranges, depot_widths}
+use Rattle.family_curve.proofs.Grown.{curve_stays, none_of, widths_grow}
 use Rattle.family_curve.proofs.Under.{curve_suffices}
 use Rattle.family_curve.proofs.joining.with_depot.Goals as goal
 

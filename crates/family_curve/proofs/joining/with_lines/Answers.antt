@@ -7,7 +7,7 @@ use Rattle.hull.specs.Curves.{IsCurve}
 use Rattle.family_points.specs.Separation.{depot_points}
 use Rattle.family_rows.specs.Tabled.{AreTables}
 use Rattle.family_points.specs.Inputs.{AreShopsAt, line_high, line_low, line_stocks, vertex_count}
-use Rattle.family_curve.specs.Joining.{run_start, vertices_of}
+use Rattle.family_bases.specs.Joining.{run_start, vertices_of}
 use Rattle.family_curve.proofs.Grown.{room_for_one, run_grows}
 use Rattle.family_points.proofs.Public.{stocks_count}
 use Rattle.family_curve.proofs.joining.with_lines.Goals as goal

@@ -3,7 +3,7 @@ use Rattle.std.specs.List.{range_with_len}
 use Rattle.hull.specs.Curves.{IsCurve}
 use Rattle.family_points.specs.Separation.{depot_points}
 use Rattle.family_points.specs.Inputs.{line_high, vertex_count}
-use Rattle.family_curve.specs.Joining.{HaveWidthOf, IsDepotPoint, run_start, vertices_of}
+use Rattle.family_bases.specs.Joining.{HaveWidthOf, IsDepotPoint, run_start, vertices_of}
 use Rattle.family_curve.specs.Work.{HaveChains}
 use Rattle.family_curve.proofs.joining.with_lines.Given as goal
 

@@ -3,7 +3,7 @@ use Rattle.hull.specs.declared.point.Point.{Point}
 use Rattle.hull.specs.Curves.{IsCurve}
 use Rattle.family_points.specs.Separation.{depot_points}
 use Rattle.family_points.specs.Inputs.{AreShopsAt, line_stocks}
-use Rattle.family_curve.specs.Joining.{vertices_of}
+use Rattle.family_bases.specs.Joining.{vertices_of}
 use Rattle.family_curve.proofs.joining.with_shops.Goals as goal
 
 pub depot_tables-requires-clause-depot : goal.depot_tables-requires-clause-depot

@@ -5,7 +5,7 @@ use Rattle.hull.specs.Curves.{StandFor}
 use Rattle.family_points.specs.Separation.{depot_point, depot_points}
 use Rattle.sum_walk.specs.Sums.{sums_of_each}
 use Rattle.family_points.proofs.Public.{bases_long}
-use Rattle.family_floors.specs.Under.{LieBelow}
+use Rattle.family_curve.specs.Under.{LieBelow}
 use Rattle.family_curve.proofs.Grown.{none_of}
 use Rattle.family_curve.proofs.Under.{passed_by}
 use Rattle.family_curve.proofs.passed.lie_above.Goals as goal

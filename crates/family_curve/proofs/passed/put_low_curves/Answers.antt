@@ -9,7 +9,7 @@ use Rattle.sum_walk.specs.Sums.{sums_of_each}
 use Rattle.family_rows.specs.Tabled.{box_numbers}
 use Rattle.family_rows.proofs.Public.{tables_at}
 use Rattle.family_points.proofs.Public.{base_read, bases_long, room_at}
-use Rattle.family_floors.specs.Under.{LieBelow, LieUnder}
+use Rattle.family_curve.specs.Under.{LieBelow, LieUnder}
 use Rattle.family_curve.proofs.Under.{below_more, nothing_shown, over, under_more, under_self}
 use Rattle.family_curve.proofs.passed.put_low_curves.Goals as goal
 use Rattle.family_curve.proofs.passed.put_low_curves.Goals.{then-strict, else-strict}

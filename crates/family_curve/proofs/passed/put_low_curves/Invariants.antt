@@ -1,7 +1,7 @@
 use Rattle.std.proofs.Common.{◌≡◌, ◌-◌, IsTrue, [], ◌∷◌, length, take}
 use Rattle.family_points.specs.Separation.{depot_point}
 use Rattle.sum_walk.specs.Sums.{sums_of_each}
-use Rattle.family_floors.specs.Under.{LieBelow, LieUnder}
+use Rattle.family_curve.specs.Under.{LieBelow, LieUnder}
 use Rattle.family_curve.proofs.Under.{over}
 use Rattle.family_curve.proofs.passed.put_low_curves.Given as goal
 

@@ -7,7 +7,7 @@ use Rattle.hull.specs.declared.point.Point.{Point}
 use Rattle.family_points.specs.Least.{IsLeast}
 use Rattle.family_points.proofs.Public.{base_added, depot_begins}
 use Rattle.family_rows.proofs.Public.{tables_at}
-use Rattle.family_floors.proofs.Moved.{moved}
+use Rattle.family_bases.proofs.Public.{moved}
 use Rattle.family_floors.proofs.least.least_at_depot.Goals as goal
 
 pub loop-j-init : goal.loop-j-init

@@ -6,7 +6,7 @@ use Rattle.family_points.specs.Separation.{base_points, points_over}
 use Rattle.hull.specs.declared.point.Point.{Point}
 use Rattle.family_rows.proofs.Public.{tables_at}
 use Rattle.family_floors.proofs.Uppers.{upper_added, upper_begins}
-use Rattle.family_floors.proofs.Moved.{moved}
+use Rattle.family_bases.proofs.Public.{moved}
 use Rattle.family_floors.proofs.upper.upper_at_depot.Goals as goal
 
 pub loop-j-init : goal.loop-j-init

@@ -7,8 +7,8 @@ use Rattle.curve_parts.specs.Beyond.{LieBeyond}
 use Rattle.family_points.specs.Inputs.{IsAt, vertex_count}
 use Rattle.family_points.specs.Separation.{depot_point, depot_points}
 use Rattle.family_points.proofs.Public.{bases_long}
-use Rattle.family_curve.specs.Joining.{HaveWidthOf, vertices_of}
-use Rattle.family_curve.proofs.Public.{depot_ranges, depot_widths}
+use Rattle.family_bases.specs.Joining.{HaveWidthOf, vertices_of}
+use Rattle.family_bases.proofs.Public.{depot_ranges, depot_widths}
 use Rattle.family_parts.proofs.Grown.{grows_by_none, grows_by_sums, joined_among, widths_joined}
 use Rattle.family_parts.proofs.Sums.{standing, standing_beyond}
 use Rattle.family_parts.proofs.joining.grow_with.Goals as goal

@@ -6,10 +6,10 @@ use Rattle.family_points.specs.Separation.{depot_points}
 use Rattle.family_points.specs.Inputs.{IsAt, line_high, line_low, line_stocks, vertex_count}
 use Rattle.family_rows.specs.Tabled.{AreTables}
 use Rattle.family_points.proofs.Public.{flat_stock_behind, joined_at, stocks_count}
-use Rattle.family_curve.specs.Joining.{vertices_of}
+use Rattle.family_bases.specs.Joining.{vertices_of}
 use Rattle.family_parts.specs.Growing.{Grows, in_turn, turn_points}
 use Rattle.family_parts.proofs.Grown.{grows_by_nothing, grows_members, grows_on}
-use Rattle.family_floors.specs.Rough.{AreRough}
+use Rattle.depot_lows.specs.Rough.{AreRough}
 use Rattle.family_parts.proofs.InTurn.{moved_back, moved_there, turned_back, turned_there}
 use Rattle.family_parts.proofs.joining.grow_with_lines.Goals as goal
 

@@ -1,7 +1,7 @@
 use Rattle.std.proofs.Common.{◌≡◌, ◌+◌, ◌*◌, ◌<◌, ◌≤◌, drop, flat_map, length}
 use Rattle.std.specs.List.{range_with_len}
 use Rattle.family_points.specs.Inputs.{vertex_count}
-use Rattle.family_curve.specs.Joining.{HaveWidthOf, vertices_of}
+use Rattle.family_bases.specs.Joining.{HaveWidthOf, vertices_of}
 use Rattle.family_parts.specs.Growing.{Grows, turn_points}
 use Rattle.family_parts.proofs.joining.grow_with_lines.Given as goal
 

@@ -2,7 +2,7 @@ use Rattle.std.proofs.Common.{ℕ, List, IfOk, drop, length, sym, ap, ◌∙◌,
 use Rattle.family_points.specs.Inputs.{AreShopsAt}
 use Rattle.family_points.specs.Separation.{shop_points}
 use Rattle.family_rows.specs.Tabled.{AreTables}
-use Rattle.family_curve.specs.Joining.{vertices_of}
+use Rattle.family_bases.specs.Joining.{vertices_of}
 use Rattle.family_parts.specs.Growing.{Grows}
 use Rattle.family_parts.proofs.joining.grow_with_shops.Goals as goal
 

@@ -3,7 +3,7 @@ use Rattle.sum_walk.specs.Sums.{sums_of_each}
 use Rattle.curve_parts.specs.Beyond.{LieBeyond}
 use Rattle.hull.specs.declared.point.Point.{Point}
 use Rattle.curve_parts.specs.Joins.{Joins}
-use Rattle.family_curve.specs.Joining.{vertices_of}
+use Rattle.family_bases.specs.Joining.{vertices_of}
 use Rattle.family_parts.proofs.Grown.{begins_part}
 use Rattle.family_parts.proofs.joining.join_parts.Goals as goal
 

@@ -8,7 +8,7 @@ use Rattle.curve_parts.specs.Cuts.{IsWindow}
 use Rattle.curve_parts.specs.Parts.{IsPartOf}
 use Rattle.curve_parts.specs.Beyond.{IsKnownPart}
 use Rattle.curve_parts.proofs.Public.{part_some}
-use Rattle.family_curve.specs.Joining.{vertices_of}
+use Rattle.family_bases.specs.Joining.{vertices_of}
 use Rattle.family_points.specs.Points.{ScoreEnds}
 use Rattle.family_points.proofs.Public.{box_some, box_begins, flat_stock_behind, stocks_count, whole_room}
 use Rattle.family_points.specs.Inputs.{FamilyBox, IsFamilyBox, box_points, line_stocks, shop_vectors, vector_count, vertex_count}

@@ -2,7 +2,7 @@ use Rattle.std.proofs.Common.{◌≡◌, ◌-◌, ◌*◌, ◌^◌, ◌≤◌, [
 use Rattle.std.specs.List.{range_with_len}
 use Rattle.family_points.specs.Inputs.{line_stocks, shop_vectors, vertex_count}
 use Rattle.family_points.specs.Separation.{shop_points}
-use Rattle.family_curve.specs.Joining.{HaveWidthOf, vertices_of}
+use Rattle.family_bases.specs.Joining.{HaveWidthOf, vertices_of}
 use Rattle.family_parts.specs.Growing.{Grows, in_turn}
 use Rattle.family_parts.proofs.joining.whole_part.Given as goal
 

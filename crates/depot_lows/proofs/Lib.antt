@@ -1,0 +1,2 @@
+pub mod RoughFacts
+pub mod Nearer

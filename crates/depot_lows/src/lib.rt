@@ -1,0 +1,8 @@
+//! Lower bounds on all vectors with given stocks at the depot, at two prices: rough ones that hold for all stocks of
+//! the line unit there, and nearer ones base by base. They show what may be passed over, and which stocks are likely.
+#![tactic(auto)]
+
+pub mod first_line;
+pub mod near;
+pub mod passed;
+pub mod rough;

@@ -1,4 +1,0 @@
-pub mod Lows
-pub mod Rough
-pub mod LowCurves
-pub mod Under

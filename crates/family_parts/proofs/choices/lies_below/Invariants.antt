@@ -1,5 +1,0 @@
-use Rattle.std.specs.Bool.{⊤}
-use Rattle.family_parts.proofs.choices.lies_below.Given as goal
-
-abbrev pub invariant-loop-k : goal.invariant-loop-k
-invariant-loop-k l = ⊤
