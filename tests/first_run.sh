@@ -109,8 +109,9 @@ class Crate:
         os.makedirs(self.rlib)
         with open(f"{self.rlib}/made", "w") as made:
             made.write(open(f"{self.folder}/src/lib.rt").read())
-        return print("proving") or self.compile_by("one", flags, "out")
-rtlib = types.SimpleNamespace(Crate=Crate, RATTLE="$first/KIT-ID")
+        searching = "--empty-contracts" in rtlib.help_of("check")
+        return print("proving and searching" if searching else "proving") or self.compile_by("one", flags, "out")
+rtlib = types.SimpleNamespace(Crate=Crate, RATTLE="$first/KIT-ID", help_of=lambda command: "--empty-contracts")
 # all are methods of rtlib.Crate
 def in_lanes(tasks): return tasks
 def main(words):
@@ -119,19 +120,23 @@ def main(words):
 if __name__ == "__main__":
     sys.exit(main(sys.argv[1:]))
 SCRIPT
-  # keeps NAME OUT [CACHE]: the gate of a kit that keeps nothing prints this
+  # keeps NAME WORDS OUT [CACHE]: with these words a kit that keeps nothing prints this
   keeps() {
-    PATH=$first/bin XDG_CACHE_HOME=${3:-$first/cache} python3 "$first/tools/rt.py" ci >"$room/out" 2>"$room/err" </dev/null
-    compare "$1" 4 $? "$2" ''
+    # shellcheck disable=SC2086
+    PATH=$first/bin XDG_CACHE_HOME=${4:-$first/cache} python3 "$first/tools/rt.py" $2 >"$room/out" 2>"$room/err" </dev/null
+    compare "$1" 4 $? "$3" ''
   }
-  keeps 'a proof that is kept' 'proving\n0 pub fn one() {}\n\n'
-  keeps 'a proof that was kept' '0 pub fn one() {}\n\n'
+  keeps 'a proof that is kept' ci 'proving and searching\n0 pub fn one() {}\n\n'
+  keeps 'a proof that was kept' ci '0 pub fn one() {}\n\n'
+  keeps 'a build takes what the gate kept' '--build ci' '0 pub fn one() {}\n\n'
   printf 'damage' >"$(find "$first/cache" -name made)"
-  keeps 'a proof that is damaged' 'proving\n0 pub fn one() {}\n\n'
-  keeps 'a proof that was kept anew' '0 pub fn one() {}\n\n'
+  keeps 'a proof that is damaged' ci 'proving and searching\n0 pub fn one() {}\n\n'
+  keeps 'a proof that was kept anew' ci '0 pub fn one() {}\n\n'
   printf 'pub fn two() {}\n' >"$first/crates/low/src/lib.rt"
-  keeps 'a proof of another text' 'proving\n0 pub fn two() {}\n\n'
+  keeps 'a proof of another text' '--build ci' 'proving\n0 pub fn two() {}\n\n'
+  keeps 'a build goes on where it stopped' '--build ci' '0 pub fn two() {}\n\n'
+  keeps 'the gate takes nothing from a build' ci 'proving and searching\n0 pub fn two() {}\n\n'
   printf 'another kit\n' >"$first/KIT-ID"
-  keeps 'a proof by another kit' 'proving\n0 pub fn two() {}\n\n'
-  keeps 'no room to keep a proof' 'proving\n0 pub fn two() {}\n\n' "$first/KIT-ID"
+  keeps 'a proof by another kit' ci 'proving and searching\n0 pub fn two() {}\n\n'
+  keeps 'no room to keep a proof' ci 'proving and searching\n0 pub fn two() {}\n\n' "$first/KIT-ID"
 fi

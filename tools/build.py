@@ -63,7 +63,7 @@ def say(text):
 def prove(folder, count):
     """Runs the gate in the folder, says how far it is, and returns its status and its log."""
     begun, log, proved = time.monotonic(), [], 0
-    words = [sys.executable, f"{TOP}/tools/rt.py", "ci"]
+    words = [sys.executable, f"{TOP}/tools/rt.py", "--build", "ci"]
     how = {"stdin": subprocess.DEVNULL, "stdout": subprocess.PIPE, "stderr": subprocess.STDOUT}
     with subprocess.Popen(words, cwd=folder, text=True, errors="replace", **how) as gate:
         try:

@@ -1,7 +1,7 @@
 #!/usr/bin/env python3
-"""Runs the kit's command with these words, for less: python3 tools/rt.py WORDS..
+"""Runs the kit's command with these words, for less: python3 tools/rt.py [--build] WORDS..
 
-It is `rt WORDS..`, but for three things that say nothing about what is proved:
+It is `rt WORDS..`, but for four things that say nothing about what is proved:
 - It finds the crates below a crate, and the sum of all their files, once for each crate. The kit does both anew for each
   of the 30,000 paths from the program down to a crate, which takes minutes.
 - Both compilers of a proved program work side by side. The kit has one wait for the other.
@@ -9,6 +9,8 @@ It is `rt WORDS..`, but for three things that say nothing about what is proved:
   the prover loads at each, so that it begins with those that the most work waits for.
 - Some kits keep nothing that their gate proves. With these, each library that is proved stays in a folder of the user's,
   and is taken from there while its text, the kit, and all that was built below it are the same.
+- With these kits `--build` leaves out what the gate does besides proofs: the search for contracts that no call can meet,
+  a seventh of the work, and the program by the second compiler. What was kept without that search serves builds alone.
 With a kit that works otherwise this is `rt` as it is.
 """
 import concurrent.futures
@@ -26,6 +28,7 @@ LINES_TO_LOAD = 100  # with so many, the order is nearest to that by the seconds
 KEEPS = "rattle-kept"  # the folder of a kit that keeps what its gate proves
 KEPT_EACH = 2  # so many texts of a crate stay
 TEXTS = ("src", "specs", "proofs")
+SEARCH = "--empty-contracts"
 SHAPE = (
     "rtlib.Crate",
     "BACKENDS = {",
@@ -75,6 +78,13 @@ def compile_at_once(owner, compilers):
     owner.compile_by = answer
 
 
+def leave_out(kit):
+    """Has the kit prove without a search for contracts that no call can meet, and compile a program by LLVM alone."""
+    help_of, compile_by = kit.rtlib.help_of, kit.Crate.compile_by
+    kit.rtlib.help_of = lambda command: help_of(command).replace(SEARCH, "")
+    kit.Crate.compile_by = lambda self, compiler, *words: compile_by(self, compiler, *words) if compiler == "llvm" else 0
+
+
 def start_longest(kit):
     """Has each crate count some lines more."""
     in_lanes = kit.in_lanes
@@ -113,8 +123,8 @@ def drop(place):
 class Store:
     """A folder with what is proved of libraries: of each text of a crate over the same libraries, its statements."""
 
-    def __init__(self, folder, kit):
-        self.folder, self.kit, self.sums = folder, kit_identity(kit), {}
+    def __init__(self, folder, kit, is_build):
+        self.folder, self.kit, self.sums, self.is_build = folder, kit_identity(kit), {}, is_build
 
     def built(self, crate):
         """Returns a sum of what is built of a library."""
@@ -122,16 +132,21 @@ class Store:
             self.sums[crate.rlib] = sum_of(crate.rlib)
         return self.sums[crate.rlib]
 
-    def place(self, crate):
-        """Returns the place of what is proved of a crate as it is now."""
+    def places(self, crate):
+        """Returns the places of what is proved of a crate as it is now: where a run like this one keeps it, and, for a
+        build, where the gate does."""
         text = sum_of(*(f"{crate.folder}/{it}" for it in TEXTS))
         below = [(it.name, self.built(it)) for it in crate.below()]
         made_from = self.kit, crate.said, crate.allowed, text, below
-        return f"{self.folder}/{crate.name}/{hashlib.sha256(repr(made_from).encode()).hexdigest()}"
+        by_gate = f"{self.folder}/{crate.name}/{hashlib.sha256(repr(made_from).encode()).hexdigest()}"
+        return [f"{by_gate}.built", by_gate] if self.is_build else [by_gate]
 
     def take(self, crate):
         """Gives the crate what was proved of it before, and returns whether it is there as it was kept."""
-        place = self.place(crate)
+        return any(self.take_from(place, crate) for place in self.places(crate))
+
+    def take_from(self, place, crate):
+        """Gives the crate what is kept at a place, and returns whether it is there as it was kept."""
         shutil.rmtree(crate.rlib, ignore_errors=True)
         try:
             with open(f"{place}/sum", encoding="utf-8") as it:
@@ -152,7 +167,7 @@ class Store:
         """Keeps what was proved of a crate, unless its text has changed since this was its place, or there is no room."""
         folder = os.path.dirname(place)
         with contextlib.suppress(OSError, shutil.Error):
-            if place != self.place(crate):
+            if place != self.places(crate)[0]:
                 return
             os.makedirs(folder, exist_ok=True)
             with tempfile.TemporaryDirectory(prefix=".part-", dir=folder) as part:
@@ -172,7 +187,7 @@ def keep_proved(kit, store):
             return prove(self, flags, tests)
         if store.take(self):
             return 0
-        place = store.place(self)
+        place = store.places(self)[0]
         status = prove(self, flags, tests)
         if status == 0:
             store.put(self, place)
@@ -205,6 +220,8 @@ def drop_oldest(folder):
 
 def main(words):
     """Runs the command, and returns its exit status."""
+    is_build = words[:1] == ["--build"]
+    words = words[is_build:]
     command = shutil.which("rt")
     if command is None:
         sys.exit("tools/rt.py: no rt is on the path")
@@ -213,10 +230,12 @@ def main(words):
         kit = load(os.path.realpath(command))
         for name in FOUND_ONCE:
             find_once(kit.rtlib.Crate, name)
+        if is_build and kit.keeps_nothing:
+            leave_out(kit)
         compile_at_once(kit.Crate, [*kit.BACKENDS])
         start_longest(kit)
         if kit.keeps_nothing:
-            keep_proved(kit, Store(users_folder(), kit))
+            keep_proved(kit, Store(users_folder(), kit, is_build))
         run = kit.main
     except Exception:  # a kit of another shape
         os.execv(command, [command, *words])
