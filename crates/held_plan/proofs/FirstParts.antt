@@ -46,3 +46,7 @@ one_more low high families parts new beyond longer part number n is long a h =
             (subst (λ k. IsKnownPart low high (curve_at families n) part k) (sym (subst (λ k. slice_index (beyond ++ number ∷ []) k ≡ number) a.beyond_count (number_end beyond number))) h))
       ];
     }))
+
+-- before the first family there are none
+pub no_parts_yet : (low high : Price) (families parts : List (List Point)) (beyond : List ℕ) → parts ≡ [] → beyond ≡ [] → AreFirstParts low high families parts beyond 0
+no_parts_yet low high families parts beyond none nothing = rw (none, nothing) (record { count = refl; beyond_count = refl; each = λ f b. absurd (omega (arith, b)) })

@@ -1,6 +1,6 @@
 -- Parts that are kept of families, and those that are put to their places or taken away.
 use Rattle.std.proofs.Common.{◌≡◌, ℕ, zero, suc, ◌<◌, List, [], ◌∷◌, ◌++◌, length, get_or, set, replicate, slice_index, inl, inr, Option, Some, None, IfSome, IsSome, refl, sym, ap, ◌∙◌, subst, arith, append_assoc, get_or-set_other, get_or-set_same, length-set}
-use Rattle.std.proofs.lemmas.List.{get_or_default, length-replicate}
+use Rattle.std.proofs.lemmas.List.{append-nil, get_or_default, length-replicate}
 use Rattle.list_laws.proofs.Public.{same_or_not}
 use Rattle.hull.specs.declared.point.Point.{Point}
 use Rattle.step_walk.specs.Prefix.{curve_at}
@@ -85,13 +85,18 @@ module _ (w : Window) (curves : List (List Point)) (windows : List Window) (beyo
   pub put_none : ArePutBack w curves windows beyond before kept more
   put_none = record { places = h.places; rest = curve ∷ h.rest; all = all_left; are = h.are }
 
+  -- its place is among those of all
+  pub place_inside : (f : ℕ) → f ≡ length more → f < length curves
+  place_inside f at =
+      let last : length more < length curves = subst (λ (xs : List (List Point)). length more < length xs) (sym all_left) (shorter more h.rest curve) in
+      omega (arith, at, last)
+
   -- and if its window is the one, its part may be put to its place
   pub put_last : (f number : ℕ) (own : Window) → f ≡ length more → length windows ≡ length curves → length beyond ≡ length curves
       → own ≡ get_or windows f own → own ≡ w → number ≡ get_or beyond f number
       → ArePutBack w curves windows beyond before (set kept f (Some (curve, number))) more
   put_last f number own at windows_count beyond_count own_is same number_is =
-      let last : length more < length curves = subst (λ (xs : List (List Point)). length more < length xs) (sym all_left) (shorter more h.rest curve) in
-      let below : f < length curves = omega (arith, at, last) in
+      let below : f < length curves = place_inside f at in
       let places = h.places in
       let here : curve_at curves f ≡ curve =
       subst (λ k. curve_at curves k ≡ curve) (sym at) (subst (λ (xs : List (List Point)). curve_at xs (length more) ≡ curve) (sym all_left) (at_middle more h.rest curve)) in
@@ -107,3 +112,8 @@ module _ (w : Window) (curves : List (List Point)) (windows : List Window) (beyo
             (subst (λ k. IsPartIn w (curve_at families f) (curve_at curves f, k)) behind (known_in w families curves windows beyond f below window known)))
             (h.are families known was);
       }
+
+-- before the last curve nothing is put to its place
+pub not_put : (w : Window) (curves : List (List Point)) (windows : List Window) (beyond : List ℕ) (kept : List (Option (List Point × ℕ))) → length kept ≡ length curves
+    → ArePutBack w curves windows beyond kept kept curves
+not_put w curves windows beyond kept places = record { places = places; rest = []; all = sym (append-nil curves); are = λ families known h. h }

@@ -2,7 +2,9 @@
 //!
 //! Prices are numbered, each about a fifth above the one before.
 
-ghost use Rattle.std.specs.Prelude.{◌≡◌, ◌+◌, ◌*◌, ◌/◌, ◌%◌, ◌^◌, ◌<◌, ◌≤◌, All, IfOk, IfSome};
+ghost use Rattle.std.specs.Prelude.{◌≡◌, ◌+◌, ◌*◌, ◌/◌, ◌%◌, ◌^◌, ◌<◌, ◌≤◌, All, IfOk, IfSome, map};
+ghost use Rattle.family_items.specs.Inputs.{IsLine};
+ghost use Rattle.family_points.specs.Vectors.{box_from};
 ghost use Rattle.family_rows.specs.Sources.{AreSources};
 
 use crate::families::HeldFamilies;
@@ -10,8 +12,10 @@ use crate::maker::CurveMaker;
 use crate::sample::{bounds_of, families_of, sources_of};
 use crate::size::{size_of, size_of_all};
 use answers::NoMemory;
+use family_points::Bounds;
 use family_rows::sources::Sources;
 use hull::Score;
+use spares_input::PartId;
 use std::alloc::Global;
 
 /// The number of the lowest price that is tried.
@@ -185,8 +189,44 @@ fn guess_by<S: Score, M: CurveMaker>(
     Ok(Some(price))
 }
 
-/// About the price at which the budget is spent, in units of 2^-48 for whole money. None if nearly all is bought. The
-/// sources of the sampled families are made once and serve all prices. Want of memory is the only error.
+/// The same, by the families of line units within these bounds. Their sources are made once and serve all prices.
+fn guess_within<S: Score, M: CurveMaker>(
+    alloc: Global,
+    families: &HeldFamilies<'_, S, M>,
+    lines: &[PartId],
+    bounds: &[Bounds],
+    size: u128,
+    budget: u64,
+) -> Result<Option<u128>, NoMemory>
+    requires lines { All (λ p. IsLine families.now.case p.0) lines.now }
+    requires bounds { bounds.now ≡ map (λ p. box_from families.now.case p.0 families.now.held.list) lines.now }
+    ensures least { IfOk result (λ found. IfSome found (λ price. 256 ≤ price)) }
+    ensures most { IfOk result (λ found. IfSome found (λ price. price < 2 ^ 72)) }
+{
+    let (case, rates, held) = (families.case(), families.rates(), families.held());
+    let sampled = families_of(alloc, case, rates, held, lines, bounds)?;
+    let sources = sources_of(alloc, sampled.as_slice())?;
+    guess_by(
+        alloc,
+        sources.as_slice(),
+        families.score(),
+        families.maker(),
+        size,
+        budget,
+    )
+}
+
+/// About what all units of all families in pipelines cost.
+fn size_of_families<S: Score, M: CurveMaker>(
+    alloc: Global,
+    families: &HeldFamilies<'_, S, M>,
+) -> Result<u128, NoMemory> {
+    let lines = families.sample(alloc, 1)?;
+    Ok(size_of_all(families.case(), families.rates(), lines.as_slice()))
+}
+
+/// About the price at which the budget is spent, in units of 2^-48 for whole money, by a sample of the families. None
+/// if nearly all is bought. Want of memory is the only error.
 pub(crate) fn guess<S: Score, M: CurveMaker>(
     alloc: Global,
     families: &HeldFamilies<'_, S, M>,
@@ -197,19 +237,14 @@ pub(crate) fn guess<S: Score, M: CurveMaker>(
 {
     let count = families.count();
     let every = (count / (count / 20).max(16)).max(1);
+    let size = size_of_families(alloc, families)?;
     let lines = families.sample(alloc, every)?;
-    let lines = lines.as_slice();
-    let (case, rates, held) = (families.case(), families.rates(), families.held());
-    let all = families.sample(alloc, 1)?;
-    let size = size_of_all(case, rates, all.as_slice());
-    let bounds = bounds_of(alloc, case, held, lines)?;
-    let sampled = families_of(alloc, case, rates, held, lines, bounds.as_slice())?;
-    let sources = sources_of(alloc, sampled.as_slice())?;
-    guess_by(
+    let bounds = bounds_of(alloc, families.case(), families.held(), lines.as_slice())?;
+    guess_within(
         alloc,
-        sources.as_slice(),
-        families.score(),
-        families.maker(),
+        families,
+        lines.as_slice(),
+        bounds.as_slice(),
         size,
         budget,
     )
