@@ -9,28 +9,12 @@ ghost use Rattle.fleet_model.specs.Rows.{line_units};
 ghost use Rattle.held_work.specs.Work.{held_work_of};
 ghost use Rattle.held_work.specs.Curves.{IsFamilyCurve};
 
-use crate::families::HeldFamilies;
+use crate::maker::FamilyCurves;
 use answers::NoMemory;
 use demand_rates::kinds::Rates;
 use hull::{Curve, Score};
 use spares_input::{Case, Stocks};
 use std::alloc::Global;
-
-/// The curve of each family in order.
-pub(crate) fn whole_curves<S: Score>(
-    alloc: Global,
-    families: &HeldFamilies<'_, S>,
-) -> Result<Vec<Curve>, NoMemory>
-    ensures { IfOk result (λ curves. AllZip (IsFamilyCurve S.ends families.now.case families.now.held.list)
-        (line_units families.now.case) curves.items) }
-{
-    let mut curves = Vec::new(alloc);
-    for f in 0..families.count() {
-        let curve = families.curve(alloc, f)?;
-        curves.push(curve)?;
-    }
-    Ok(curves)
-}
 
 /// The curve of each line unit's family in order, over its vectors from the held stocks to the limits, with the cost of
 /// the stocks above the held ones. `held` has a number for each pair of the case, at most its limit, and the work from
@@ -48,6 +32,5 @@ pub fn held_curves<S: Score>(
     ensures { IfOk result (λ curves. AllZip (IsFamilyCurve S.ends case.now held.now.list)
         (line_units case.now) curves.items) }
 {
-    let families = HeldFamilies::of(case, rates, held, score);
-    whole_curves(alloc, &families)
+    held_plan::held_curves(alloc, case, rates, held, score, &FamilyCurves)
 }

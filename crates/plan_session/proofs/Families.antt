@@ -25,8 +25,8 @@ use Rattle.fleet_plan.proofs.Public.{apart_at, at_among, lines_apart, lines_are}
 use Rattle.step_walk.specs.Prefix.{curve_at}
 use Rattle.fleet_plan.specs.Families.{case_points}
 use Rattle.held_work.specs.Curves.{IsFamilyCurve}
-use Rattle.on_hand.specs.Kept.{KeptRows}
-use Rattle.on_hand.proofs.Public.{families_long, kept_elsewhere, kept_with, points_in}
+use Rattle.held_plan.specs.Kept.{KeptRows}
+use Rattle.held_plan.proofs.Public.{families_long, kept_elsewhere, kept_with, points_in}
 use Rattle.case_plan.specs.Placing.{lines_below}
 use Rattle.case_plan.proofs.Public.{line_fewer, line_place}
 use Rattle.plan_session.specs.Sessions.{family_place, marks_of, with_row, AreEvaluated, AreKept, AreOfFamilies, ArePartsKept, IsEvaluation, IsSession, SessionRows}

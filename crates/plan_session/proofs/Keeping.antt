@@ -12,7 +12,7 @@ use Rattle.hull.specs.declared.point.Point.{Point}
 use Rattle.held_work.specs.Curves.{IsFamilyCurve}
 use Rattle.held_work.specs.Work.{IsNothing}
 use Rattle.held_work.proofs.Public.{all_work, few_tables}
-use Rattle.on_hand.specs.Kept.{KeptRows}
+use Rattle.held_plan.specs.Kept.{KeptRows}
 use Rattle.plan_session.specs.Sessions.{has_mark, marks_of, IsSession, SessionRows}
 use Rattle.plan_session.specs.declared.evaluated.Evaluated.{Evaluated}
 use Rattle.plan_session.proofs.Places.{any_default, mark_is}

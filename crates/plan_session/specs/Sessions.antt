@@ -25,7 +25,7 @@ use Rattle.plan_report.specs.declared.plan.PlanReport.{PlanReport}
 use Rattle.plan_session.specs.declared.evaluated.Evaluated.{Evaluated}
 use Rattle.family_points.specs.Points.{plain_ends}
 use Rattle.fleet_plan.specs.Families.{case_points}
-use Rattle.on_hand.specs.Kept.{AreKeptParts, KeptRows}
+use Rattle.held_plan.specs.Kept.{AreKeptParts, KeptRows}
 use Rattle.session_report.specs.Reports.{IsReportOf}
 
 -- a case, a budget, and for each family in order whether its curve is kept

@@ -18,6 +18,7 @@ ghost use Rattle.plan_session.specs.Sessions.{started};
 use crate::session::Session;
 use answers::{List, Stop};
 use case_edits::{Edit, EditFault, edit_in, first_line};
+use held_plan::CurveMaker;
 use plan_report::PlanReport;
 use session_report::SessionReport;
 use spares_input::Case;
@@ -30,25 +31,31 @@ const MOST_LINES: u32 = 4000;
 const MOST_PLANS: usize = 64;
 
 /// The plans that an edits file asks for, or the file's first fault. The session begins with this case and a budget of
-/// 0.
+/// 0, and the maker makes the parts of its curves.
 ///
 /// The lines are `budget,N`, `plan`, and `rate,` with the fields of a row of rates. They are taken in order, and each
 /// plan is the plan of the case and the budget at that line. At each line the faults come in this order: line 4,001; a
 /// line of no such form; the 65th plan; a plan with refused rates. The work of the case is within its limit.
-pub fn run_edits(alloc: Global, case: Case, bytes: &[u8]) -> Result<SessionReport, Stop<EditFault>>
+pub fn run_edits<M: CurveMaker>(
+    alloc: Global,
+    case: Case,
+    bytes: &[u8],
+    maker: &M,
+) -> Result<SessionReport, Stop<EditFault>>
     requires work { IsOk (work_of case) }
     ensures answer { AnswersEdits (session_of case bytes.now) result }
     ensures fits { IfOk result (λ report. All FitsPlan report.plans) }
 {
     let mut session = Session::new(alloc, case, 0)?;
-    followed(alloc, &mut session, bytes)
+    followed(alloc, &mut session, bytes, maker)
 }
 
 /// The plans that the lines of an edits file ask for, in a new session.
-fn followed(
+fn followed<M: CurveMaker>(
     alloc: Global,
     session: &mut Session,
     bytes: &[u8],
+    maker: &M,
 ) -> Result<SessionReport, Stop<EditFault>>
     requires { session.old ≡ started session.old.case 0 }
     ensures answer { AnswersEdits (session_of session.old.case bytes.now) result }
@@ -60,7 +67,7 @@ fn followed(
     while !rest.is_empty() {
         let (text, left) = first_line(rest);
         line += 1;
-        take(session, &mut plans, line, text)?;
+        take(session, &mut plans, line, text, maker)?;
         rest = left;
     }
     Ok(SessionReport {
@@ -69,11 +76,12 @@ fn followed(
 }
 
 /// Takes one line, empty or not.
-fn take(
+fn take<M: CurveMaker>(
     session: &mut Session,
     plans: &mut Vec<PlanReport>,
     line: u32,
     text: &[u8],
+    maker: &M,
 ) -> Result<(), Stop<EditFault>>
     ensures due { (due : List PlanDue) → AllZip IsReportOf due plans.old.items
         → Follows (taken line (standing session.old due) text.now) session.new plans.new.items result }
@@ -86,17 +94,18 @@ fn take(
         return Ok(());
     }
     match edit_in(session.frame(), text) {
-        Some(edit) => carry_out(session, plans, line, edit),
+        Some(edit) => carry_out(session, plans, line, edit, maker),
         None => Err(Stop::Fault(EditFault::BadLine(line))),
     }
 }
 
 /// Carries out the edit of a line.
-fn carry_out(
+fn carry_out<M: CurveMaker>(
     session: &mut Session,
     plans: &mut Vec<PlanReport>,
     line: u32,
     edit: Edit,
+    maker: &M,
 ) -> Result<(), Stop<EditFault>>
     requires { IsEditOf (frame_rows session.old.case) edit }
     ensures { (due : List PlanDue) → AllZip IsReportOf due plans.old.items
@@ -105,16 +114,17 @@ fn carry_out(
     match edit {
         Edit::Budget(budget) => session.set_budget(budget),
         Edit::Rate(row) => session.set_rate(row),
-        Edit::Plan => return put_plan(session, plans, line),
+        Edit::Plan => return put_plan(session, plans, line, maker),
     }
     Ok(())
 }
 
 /// Plans at this line.
-fn put_plan(
+fn put_plan<M: CurveMaker>(
     session: &mut Session,
     plans: &mut Vec<PlanReport>,
     line: u32,
+    maker: &M,
 ) -> Result<(), Stop<EditFault>>
     ensures { (due : List PlanDue) → AllZip IsReportOf due plans.old.items
         → Follows (planned line (standing session.old due) (rate_fault_of session.old.case)) session.new plans.new.items
@@ -123,7 +133,7 @@ fn put_plan(
     if plans.len() >= MOST_PLANS {
         return Err(Stop::Fault(EditFault::TooManyPlans(line)));
     }
-    match session.report() {
+    match session.report(maker) {
         Ok(report) => {
             plans.push(report)?;
             Ok(())

@@ -22,8 +22,8 @@ use answers::NoMemory;
 use case_plan::{ChosenStocks, choose_stocks};
 use demand_rates::kinds::Rates;
 use family_curve::curve;
+use held_plan::{CurveMaker, KeptParts, choose_by_kept_parts};
 use hull::{Curve, Plain};
-use on_hand::{KeptParts, choose_by_kept_parts};
 use spares_input::{Case, PartId, nothing_held};
 use std::alloc::Global;
 
@@ -135,10 +135,11 @@ pub(crate) fn chosen_by(
 }
 
 /// The stocks that parts of the curves of all families choose, if some serve. Parts that were used stay kept.
-pub(crate) fn chosen_by_parts(
+pub(crate) fn chosen_by_parts<M: CurveMaker>(
     alloc: Global,
     case: &Case,
     rates: &Rates,
+    maker: &M,
     parts: &mut KeptParts,
     budget: u64,
 ) -> Result<Option<ChosenStocks>, NoMemory>
@@ -153,5 +154,5 @@ pub(crate) fn chosen_by_parts(
 {
     case.invariant();
     let held = nothing_held(alloc, case)?;
-    choose_by_kept_parts(alloc, case, rates, &held, &Plain, parts, budget)
+    choose_by_kept_parts(alloc, case, rates, &held, &Plain, maker, parts, budget)
 }

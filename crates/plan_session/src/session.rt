@@ -20,8 +20,8 @@ use answers::{NoMemory, Stop};
 use case_plan::Outcome;
 use demand_rates::kinds::Rates;
 use demand_rates::{RateFault, rates};
+use held_plan::{CurveMaker, KeptParts};
 use hull::{Curve, Price};
-use on_hand::KeptParts;
 use plan_report::PlanReport;
 use spares_input::{Case, Frame, RateRow};
 use std::alloc::Global;
@@ -166,24 +166,29 @@ impl Session {
 
     /// The same plan or rule, for an edits file. While no curve is kept it is made of parts of curves, if some serve,
     /// and no mark changes; else as [`Session::plan`] makes it.
-    pub(crate) fn report(&mut self) -> Result<PlanReport, Stop<RateFault>>
+    pub(crate) fn report<M: CurveMaker>(&mut self, maker: &M) -> Result<PlanReport, Stop<RateFault>>
         ensures answer { AnswersPlan (due self.old) result }
         ensures later { IsLater self.old self.new }
     {
         let alloc = *self.curves.allocator();
         let rates = rates(alloc, &self.case)?;
-        let report = self.reported(alloc, &rates)?;
+        let report = self.reported(alloc, &rates, maker)?;
         Ok(report)
     }
 
     /// The plan of the current case under the current budget, by parts of the curves or by whole ones. Its rates break
     /// no rule.
-    fn reported(&mut self, alloc: Global, rates: &Rates) -> Result<PlanReport, NoMemory>
+    fn reported<M: CurveMaker>(
+        &mut self,
+        alloc: Global,
+        rates: &Rates,
+        maker: &M,
+    ) -> Result<PlanReport, NoMemory>
         requires { AreRatesOf self.old.case rates.now }
         ensures report { IfOk result (IsReportOf (due self.old)) }
         ensures later { IsLater self.old self.new }
     {
-        if let Some(report) = self.planned_by_parts(alloc, rates)? {
+        if let Some(report) = self.planned_by_parts(alloc, rates, maker)? {
             return Ok(report);
         }
         let whole = self.planned(alloc, rates)?;
@@ -191,10 +196,11 @@ impl Session {
     }
 
     /// The same plan by parts of the curves. None if a whole curve is kept, or if no parts serve.
-    fn planned_by_parts(
+    fn planned_by_parts<M: CurveMaker>(
         &mut self,
         alloc: Global,
         rates: &Rates,
+        maker: &M,
     ) -> Result<Option<PlanReport>, NoMemory>
         requires { AreRatesOf self.old.case rates.now }
         ensures report { IfOk result (λ found. IfSome found (IsReportOf (due self.old))) }
@@ -203,7 +209,14 @@ impl Session {
         if self.curves.iter().any(|curve| curve.is_some()) {
             return Ok(None);
         }
-        let Some(chosen) = chosen_by_parts(alloc, &self.case, rates, &mut self.parts, self.budget)?
+        let Some(chosen) = chosen_by_parts(
+            alloc,
+            &self.case,
+            rates,
+            maker,
+            &mut self.parts,
+            self.budget,
+        )?
         else {
             return Ok(None);
         };

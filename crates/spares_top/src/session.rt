@@ -10,6 +10,7 @@ ghost use Rattle.spares_top.specs.Task.{session_task};
 
 use crate::done::{Done, TaskOutcome};
 use answers::Stop;
+use on_hand::FamilyCurves;
 use order_inputs::{Tables, case_to_edit};
 use plan_session::run_edits;
 use refusals::{Failure, Refusal};
@@ -24,7 +25,7 @@ pub(crate) fn session(
     ensures { MakesBy (Is (session_task (bytes_of tables.now) edits.now)) result }
 {
     let case = case_to_edit(alloc, tables)?;
-    match run_edits(alloc, case, edits) {
+    match run_edits(alloc, case, edits, &FamilyCurves) {
         Ok(report) => Ok(TaskOutcome::printed(Done::Session(report))),
         Err(Stop::NoMemory) => Err(Stop::NoMemory),
         Err(Stop::Fault(fault)) => Err(Stop::Fault(Failure::of(Refusal::Edit(fault)))),

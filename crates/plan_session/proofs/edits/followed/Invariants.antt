@@ -3,7 +3,7 @@ use Rattle.plan_session.proofs.Followed.{IsOnItsWay}
 use Rattle.plan_session.proofs.edits.followed.Given as goal
 
 abbrev pub invariant-loop-rest : goal.invariant-loop-rest
-invariant-loop-rest l = IsOnItsWay l.fn.session.case l.fn.bytes l.session l.plans.items l.line l.rest
+invariant-loop-rest g l = IsOnItsWay l.fn.session.case l.fn.bytes l.session l.plans.items l.line l.rest
 
 abbrev pub decreases-loop-rest : goal.decreases-loop-rest
-decreases-loop-rest l = length l.rest
+decreases-loop-rest g l = length l.rest

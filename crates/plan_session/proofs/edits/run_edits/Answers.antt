@@ -5,8 +5,8 @@ use Rattle.plan_session.specs.Sessions.{started, SessionRows}
 use Rattle.plan_session.proofs.edits.run_edits.Goals as goal
 
 pub followed-requires : goal.followed-requires
-followed-requires c = c.in_ok-session.ensures ∙ ap (λ (s : SessionRows). started s.case 0) (sym c.in_ok-session.ensures)
+followed-requires g c = c.in_ok-session.ensures ∙ ap (λ (s : SessionRows). started s.case 0) (sym c.in_ok-session.ensures)
 
 pub returns-clause-answer : goal.returns-clause-answer
-returns-clause-answer c =
+returns-clause-answer g c =
     subst (λ (s : SessionRows). AnswersEdits (session_of s.case c.args.bytes.now) c.followed.result) c.in_ok-session.ensures c.followed.ensures.answer

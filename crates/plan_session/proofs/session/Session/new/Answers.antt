@@ -5,7 +5,7 @@ use Rattle.fleet_model.specs.Rows.{line_units}
 use Rattle.hull.specs.declared.point.Point.{Point}
 use Rattle.fleet_plan.specs.Families.{case_points}
 use Rattle.held_work.specs.Curves.{IsFamilyCurve}
-use Rattle.on_hand.proofs.Public.{families_long}
+use Rattle.held_plan.proofs.Public.{families_long}
 use Rattle.plan_session.specs.Sessions.{SessionRows}
 use Rattle.plan_session.proofs.Places.{no_marks, none_kept}
 use Rattle.plan_session.proofs.session.Session.new.Goals as goal

@@ -9,7 +9,7 @@ use Rattle.case_plan.specs.Report.{IsPlanOf, plain_request}
 use Rattle.plan_session.specs.Sessions.{due, marks_of, AreEvaluated, AreKept, AreLater, IsLater, IsSession, SessionRows}
 use Rattle.plan_session.specs.Settling.{values_of}
 use Rattle.plan_session.specs.declared.evaluated.Evaluated.{Evaluated}
-use Rattle.on_hand.specs.Kept.{KeptRows}
+use Rattle.held_plan.specs.Kept.{KeptRows}
 use Rattle.session_report.specs.Reports.{IsReportOf}
 use Rattle.plan_session.proofs.Places.{all_kept, all_there, written}
 use Rattle.plan_session.proofs.Reported.{reported}

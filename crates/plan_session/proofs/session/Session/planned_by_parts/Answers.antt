@@ -11,7 +11,7 @@ use Rattle.plan_session.proofs.Reported.{reported_by}
 use Rattle.plan_session.proofs.session.Session.planned_by_parts.Goals as goal
 
 pub returns-clause-report : goal.returns-clause-report
-returns-clause-report c =
+returns-clause-report g c =
     let case = c.self.inside.case in
     let cs = curves_of (case_points plain_ends case []) in
     let chosen : IsChosen case cs.0 c.self.inside.budget c.in-Some.chosen =

@@ -5,6 +5,6 @@ use Rattle.plan_session.proofs.Reported.{unrated}
 use Rattle.plan_session.proofs.session.Session.report.Goals as goal
 
 pub returns-in_err-rates-clause-answer : goal.returns-in_err-rates-clause-answer
-returns-in_err-rates-clause-answer c =
+returns-in_err-rates-clause-answer g c =
     let p = err_from_is_err_and c.from_residual.result c.from_residual.ensures.1 in
     rw (p.1, p.2) (subst (λ (s : SessionRows). AnswersPlan (due s) (Err c.in_err-rates.field-0.0)) c.self.view_is (unrated (record { case = c.self.inside.case; budget = c.self.inside.budget }) _ c.in_err-rates.ensures.answer))

@@ -7,16 +7,16 @@ use Rattle.plan_session.proofs.Later.{due_same, later_twice}
 use Rattle.plan_session.proofs.session.Session.reported.Goals as goal
 
 pub planned-requires : goal.planned-requires
-planned-requires c = subst (λ (z : CaseRows). AreRatesOf z c.args.rates.now) (sym c.planned_by_parts.ensures.later.case_is) c.requires
+planned-requires g c = subst (λ (z : CaseRows). AreRatesOf z c.args.rates.now) (sym c.planned_by_parts.ensures.later.case_is) c.requires
 
 pub returns-clause-report : goal.returns-clause-report
-returns-clause-report c =
+returns-clause-report g c =
     subst (λ (d : PlanDue). IsReportOf d c.in_ok-whole.whole) (due_same c.args.self.now c.planned_by_parts.new.self c.planned_by_parts.ensures.later) c.in_ok-whole.ensures.report
 
 pub returns-clause-later : goal.returns-clause-later
-returns-clause-later c =
+returns-clause-later g c =
     later_twice c.args.self.now c.planned_by_parts.new.self c.planned.new.self c.planned_by_parts.ensures.later c.planned.ensures.later
 
 pub returns-in_err-whole-clause-later : goal.returns-in_err-whole-clause-later
-returns-in_err-whole-clause-later c =
+returns-in_err-whole-clause-later g c =
     later_twice c.args.self.now c.planned_by_parts.new.self c.planned.new.self c.planned_by_parts.ensures.later c.planned.ensures.later

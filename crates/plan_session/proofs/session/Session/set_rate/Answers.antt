@@ -1,7 +1,7 @@
 use Rattle.std.proofs.Common.{◌≡◌, [], None, set, refl, sym, subst, arith}
 use Rattle.spares_input.specs.Cases.{frame_rows, IsRateOf}
 use Rattle.family_points.specs.Points.{plain_ends}
-use Rattle.on_hand.proofs.Public.{families_long}
+use Rattle.held_plan.proofs.Public.{families_long}
 use Rattle.plan_session.specs.Sessions.{marks_of, with_row, SessionRows}
 use Rattle.plan_session.proofs.Families.{changed_session, changed_view}
 use Rattle.plan_session.proofs.session.Session.set_rate.Goals as goal

@@ -1,9 +1,0 @@
-use Rattle.on_hand.specs.Kept.{AreKeptIn}
-use Rattle.on_hand.proofs.FirstParts.{AreFirstParts}
-use Rattle.on_hand.proofs.parts.parts_between.Given as goal
-
-abbrev pub invariant-loop-f : goal.invariant-loop-f
-invariant-loop-f g l = record {
-  parts : AreFirstParts l.fn.window.low l.fn.window.high (g.F.Families.points l.fn.families) l.curves.items l.beyond.items l.f;
-  kept : AreKeptIn l.fn.window (g.F.Families.points l.fn.families) l.kept.items;
-}
