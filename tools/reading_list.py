@@ -26,7 +26,11 @@ def files(text):
 
 
 # The definitions that stand in the clause of `run`.
-ROOTS = [(("spares_top", "Promises"), "Runs"), (("spares_top", "Promises"), "errors"), (("spares_top", "State"), "scene")]
+ROOTS = [
+    (("command_outcomes", "Promises"), "Runs"),
+    (("command_outcomes", "Promises"), "errors"),
+    (("command_outcomes", "State"), "scene"),
+]
 
 # The lists, each with the files that it has in their order.
 LISTS = [
@@ -79,13 +83,13 @@ LISTS = [
             fleet_plan Laws Plans
             case_plan Report Truth
             budget_sweep Sweep Truth
-            demonstration Demonstrations
+            demo_accepts Demonstrations
             spares_input Edits Limits Money
             case_edits Lines Edits
             session_report Reports
             spares_io Causes Shelf Sink
             order_inputs Files Cases
-            spares_top Headline Held Plans Checks Task State Answer Promises
+            command_outcomes Headline Held Plans Checks Task State Answer Promises
         """),
     ),
 ]
@@ -96,7 +100,7 @@ STOPS = [
     (
         "the texts of reports and refusals",
         "[FORMATS](FORMATS.md)",
-        [("spares_top", "Texts", "done_text"), ("refusals", "Lines", "line_of_refusal")],
+        [("command_outcomes", "Texts", "done_text"), ("refusals", "Lines", "line_of_refusal")],
     ),
     ("the case of `demo`", "[FORMATS](FORMATS.md)", [("case_maker", "Demonstration", "made")]),
     (

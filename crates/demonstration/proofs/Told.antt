@@ -1,8 +1,7 @@
 -- A plan of the demonstration case is accepted, and its summary is what is asked for.
-use Rattle.std.proofs.Common.{◌≡◌, ◌∙◌, ap, arith, refl, subst, sym, ℕ, ◌<◌, ◌≤◌, length, None, IfOk, Result, Ok, Err}
+use Rattle.std.proofs.Common.{◌≡◌, ◌∙◌, ap, arith, refl, subst, sym, ℕ, ◌≤◌, length, None, IfOk, Result, Ok, Err}
 use Rattle.std.specs.Result.{IsOk, result_and}
-use Rattle.std.proofs.lemmas.List.{get_or-replicate, length-replicate}
-use Rattle.spares_input.specs.Cases.{CaseRows, IsCase, frame_rows, pair_count}
+use Rattle.spares_input.specs.Cases.{CaseRows, IsCase}
 use Rattle.spares_input.specs.Stocks.{AreStocksOf, StockList, nothing_held}
 use Rattle.case_figures.specs.Figures.{case_total_of}
 use Rattle.case_maker.specs.Demonstration.{made}
@@ -14,27 +13,24 @@ use Rattle.certified_plan.specs.Certificates.{certificate_of}
 use Rattle.certified_plan.specs.Inputs.{AreTerms, IsPlanOn}
 use Rattle.certified_plan.proofs.Public.{accepted, scores_enclose, scores_leave_room, text_short}
 use Rattle.demand_rates.specs.Limits.{rate_fault_of}
-use Rattle.demo_accepts.proofs.Public.{all_few, work_few}
+use Rattle.demo_accepts.proofs.Public.{all_few, work_few, zeros_hold}
+use Rattle.demo_accepts.specs.Demonstrations.{IsDemonstrated, budget_of, demo_terms}
 use Rattle.fleet_plan.specs.Plans.{IsCasePlan}
 use Rattle.gap_rules.specs.Refusals.{reject_of}
-use Rattle.held_work.specs.Work.{IsNothing, held_work_of}
+use Rattle.held_work.specs.Work.{held_work_of}
 use Rattle.held_work.proofs.Public.{all_work}
 use Rattle.plan_report.specs.Fits.{FitsPlan, FitsSummary}
 use Rattle.plan_report.specs.declared.summary.Summary.{Summary}
 use Rattle.price_certificate.specs.Certificates.{cert_text, certificate_limit}
 use Rattle.price_certificate.specs.declared.certificate.Certificate.{Certificate}
 use Rattle.price_certificate.specs.declared.certificate.Objective.TheVariants.{Backorders}
-use Rattle.demonstration.specs.Demonstrations.{IsDemonstrated, budget_of, demo_terms, summary_in}
+use Rattle.demonstration.specs.Summaries.{summary_in}
 use Rattle.family_points.specs.Points.{plain_ends}
 
 -- ---- the work
 
 is_ok : {A E : Type 0} (r : Result A E) (n : A) → r ≡ Ok n → IsOk r
 is_ok {A} {E} r n e = subst (λ (x : Result A E). IsOk x) (sym e) refl
-
--- where nothing is held, the list of that holds nothing of any pair
-pub zeros_hold : (c : CaseRows) → IsNothing (nothing_held c).list
-zeros_hold c i d b = get_or-replicate (pair_count (frame_rows c)) i 0 d (subst (λ n. i < n) (length-replicate {A = ℕ} (pair_count (frame_rows c)) 0) b)
 
 -- the curves of a demonstration case take few enough tables
 pub demo_work : (number lines : ℕ) (c : CaseRows) (held : StockList) → lines ≤ 80 → c ≡ made number lines → held ≡ nothing_held c

@@ -1,1 +1,1 @@
-pub mod Demonstrations
+pub mod Summaries

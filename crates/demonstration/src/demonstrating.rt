@@ -4,10 +4,11 @@ ghost use Rattle.std.specs.Prelude.{◌≡◌, ◌≤◌, IfOk};
 ghost use Rattle.std.specs.Result.{IsOk};
 ghost use Rattle.case_figures.specs.Spans.{places};
 ghost use Rattle.certified_plan.specs.Inputs.{IsPlanOn};
-ghost use Rattle.demonstration.specs.Demonstrations.{IsDemonstrated, demo_terms, summary_in};
+ghost use Rattle.demo_accepts.specs.Demonstrations.{IsDemonstrated, demo_terms};
 ghost use Rattle.held_work.specs.Work.{held_work_of};
 ghost use Rattle.plan_report.specs.Fits.{FitsSummary};
 ghost use Rattle.spares_input.specs.Stocks.{nothing_held};
+ghost use Rattle.demonstration.specs.Summaries.{summary_in};
 
 use crate::confirming::confirm;
 use answers::NoMemory;

@@ -1,16 +1,10 @@
 -- What a session makes is what its task asks for, and it is true.
-use Rattle.std.proofs.Common.{◌≡◌, refl, Result, Ok, Err, ℕ, List, [], ◌∷◌}
-use Rattle.std.specs.List.{AllZip}
+use Rattle.std.proofs.Common.{◌≡◌, refl, Result, Ok, Err, ℕ, List}
 use Rattle.std.specs.Prelude.{All}
 use Rattle.case_edits.specs.Edits.{PlanDue, session_of}
 use Rattle.case_edits.specs.declared.fault.EditFault.{EditFault}
-use Rattle.case_plan.proofs.Public.{plain_true, planned_true}
-use Rattle.fleet_model.specs.Aims.{weighted_backorders}
-use Rattle.fleet_plan.proofs.Public.{plain_encloses}
 use Rattle.plan_report.specs.Fits.{FitsPlan}
-use Rattle.plan_report.specs.declared.plan.PlanReport.{PlanReport}
 use Rattle.plan_session.specs.Answers.{AnswersEdits}
-use Rattle.session_report.specs.Reports.{IsReportOf}
 use Rattle.session_report.specs.declared.report.SessionReport.{SessionReport}
 use Rattle.refusals.specs.Causes.{or_refuse}
 use Rattle.refusals.specs.Lines.{no_names}
@@ -18,36 +12,10 @@ use Rattle.refusals.specs.declared.failure.Failure.{Failure}
 use Rattle.refusals.specs.declared.refusal.Refusal.TheVariants as refusal
 use Rattle.spares_input.specs.Cases.{CaseRows}
 use Rattle.answers.specs.Steps.{◌>>=◌}
-use Rattle.demonstration.proofs.Public.{zeros_hold}
-use Rattle.spares_top.specs.Headline.{IsTrueAnswer}
-use Rattle.spares_top.specs.Making.{Is, IsMade}
-use Rattle.spares_top.specs.Task.{Task, plan_in_turn, printed}
-use Rattle.spares_top.specs.declared.done.Done.TheVariants.{Session}
-use Rattle.spares_top.proofs.Shown.{span_prints}
-use Rattle.family_points.specs.Points.{plain_ends}
-use Rattle.case_plan.specs.Report.{plain_request}
-use Rattle.spares_input.specs.Stocks.{nothing_held}
-
--- the report of a plan is true of its case and budget
-answer_true : (d : PlanDue) (report : PlanReport) → IsReportOf d report → IsTrueAnswer d report
-answer_true d report h =
-    let none = zeros_hold d.case in
-    let planned = h.is_planned (nothing_held d.case).list none in
-    record {
-      plan = planned.plan;
-      accepted = h.accepted;
-      says = planned_true plain_ends weighted_backorders d.case (nothing_held d.case).list (plain_request d.budget) report h.accepted plain_encloses planned;
-      plainly = plain_true d.case (nothing_held d.case).list (plain_request d.budget) report h.accepted none planned;
-      prints = span_prints 48;
-    }
-
-answers_true : (due : List PlanDue) (plans : List PlanReport) → AllZip IsReportOf due plans → AllZip IsTrueAnswer due plans
-answers_true [] [] h = h
-answers_true (d ∷ due) (report ∷ plans) h = (answer_true d report h.0, answers_true due plans h.1)
-answers_true [] (report ∷ plans) h = h
-answers_true (d ∷ due) [] h = h
-
--- ---- what is made
+use Rattle.command_outcomes.specs.Making.{Is, IsMade}
+use Rattle.command_outcomes.specs.Task.{Task, plan_in_turn, printed}
+use Rattle.command_outcomes.specs.declared.done.Done.TheVariants.{Session}
+use Rattle.command_outcomes.proofs.Public.{made_in_turn}
 
 abbrev asked : Result CaseRows Failure → List ℕ → Result Task Failure
 asked given edits = given >>= λ case. (or_refuse no_names refusal.Edit (session_of case edits) >>= λ due. Ok (plan_in_turn due))
@@ -55,13 +23,7 @@ asked given edits = given >>= λ case. (or_refuse no_names refusal.Edit (session
 module _ (c : CaseRows) (edits : List ℕ) (given : Result CaseRows Failure) (is_given : given ≡ Ok c) where
   answered_by : (of : Result (List PlanDue) EditFault) (report : SessionReport) → session_of c edits ≡ of → AnswersEdits of (Ok report) → All FitsPlan report.plans
       → IsMade (Is (asked given edits)) (printed (Session report))
-  answered_by (Ok due) report e h fits = record {
-    task = plan_in_turn due;
-    is_due = rw (is_given, e) refl;
-    fulfils = record { report = report; is = refl; holds = h };
-    is_true = record { report = report; is = refl; holds = answers_true due report.plans h };
-    prints = fits;
-  }
+  answered_by (Ok due) report e h fits = made_in_turn c edits given is_given due e report h fits
   answered_by (Err f) report e h fits = absurd h
 
   -- a session whose reports answer its edits is what its task asks for

@@ -1,9 +1,1 @@
 pub mod Answered
-pub mod Confirmed
-pub mod Demonstrated
-pub mod OfTask
-pub mod Planned
-pub mod Shown
-pub mod Steps
-pub mod Swept
-pub mod Whole

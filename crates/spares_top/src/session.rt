@@ -5,11 +5,11 @@
 //!   whose plan isn't made.
 //! - Makes the report of all plans.
 ghost use Rattle.order_inputs.specs.Given.{bytes_of};
-ghost use Rattle.spares_top.specs.Making.{Is, MakesBy};
-ghost use Rattle.spares_top.specs.Task.{session_task};
+ghost use Rattle.command_outcomes.specs.Making.{Is, MakesBy};
+ghost use Rattle.command_outcomes.specs.Task.{session_task};
 
-use crate::done::{Done, TaskOutcome};
 use answers::Stop;
+use command_outcomes::{Done, TaskOutcome};
 use on_hand::FamilyCurves;
 use order_inputs::{Tables, case_to_edit};
 use plan_session::run_edits;

@@ -1,36 +1,12 @@
 //! The top call.
-ghost use Rattle.std.specs.Prelude.{◌≡◌};
-ghost use Rattle.refusals.specs.Lines.{line_of_refusal, no_names};
-ghost use Rattle.spares_top.specs.Answer.{words_refusal};
-ghost use Rattle.spares_top.specs.Promises.{PutsLine, Runs, errors};
-ghost use Rattle.spares_top.specs.State.{scene};
+ghost use Rattle.command_outcomes.specs.Promises.{Runs, errors};
+ghost use Rattle.command_outcomes.specs.State.{scene};
 
-use crate::done::Done;
-use crate::work::{refusal_of, work};
-use answers::Stop;
-use refusals::{Failure, Line, Refusal};
+use crate::work::work;
+use command_outcomes::{Done, put_line};
+use refusals::Refusal;
 use spares_io::{Shelf, Sink, Text};
-use spares_words::WordsFault;
 use std::alloc::Global;
-
-/// Puts a line, by one put. If the put fails, it does nothing else.
-fn put_line<E: Sink>(line: &Line, err: &mut E)
-    ensures { PutsLine line.now (E.bytes err.old) (E.faults err.old) (E.bytes err.new) (E.faults err.new) }
-{
-    let _ = err.put(line.as_slice());
-}
-
-/// Refuses words that can't be read: puts the line of the refusal, by one put, and returns the refusal. If the put
-/// fails, it does nothing else.
-pub fn refuse<E: Sink>(stop: Stop<WordsFault>, err: &mut E) -> Refusal
-    ensures refusal { result ≡ words_refusal stop }
-    ensures line { PutsLine (line_of_refusal no_names result) (E.bytes err.old) (E.faults err.old) (E.bytes err.new)
-        (E.faults err.new) }
-{
-    let failure = Failure::of(refusal_of(stop));
-    put_line(&failure.line, err);
-    failure.refusal
-}
 
 /// Carries out the words after the program's name, over a shelf, an output and a place for refusals.
 ///

@@ -3,29 +3,20 @@ ghost use Rattle.std.specs.Prelude.{◌≡◌, [], Ok};
 ghost use Rattle.spares_words.specs.Order.{IsInRange, order_of};
 ghost use Rattle.order_inputs.specs.Files.{StandStill, inputs};
 ghost use Rattle.order_inputs.specs.Reading.{AreWithin};
-ghost use Rattle.spares_top.specs.Answer.{words_refusal};
-ghost use Rattle.spares_top.specs.Making.{ComesOf, Is, MakesBy};
-ghost use Rattle.spares_top.specs.Promises.{Performs};
-ghost use Rattle.spares_top.specs.State.{scene};
-ghost use Rattle.spares_top.specs.Task.{task_on};
+ghost use Rattle.command_outcomes.specs.Making.{ComesOf, Is, MakesBy};
+ghost use Rattle.command_outcomes.specs.Promises.{Performs};
+ghost use Rattle.command_outcomes.specs.State.{scene};
+ghost use Rattle.command_outcomes.specs.Task.{task_on};
 
-use crate::check::check;
-use crate::compare::compare;
-use crate::deliver::deliver;
-use crate::demo::demo;
-use crate::done::{Done, TaskOutcome};
-use crate::eval::eval;
-use crate::plan::plan;
 use crate::session::session;
-use crate::single::single;
-use crate::sweep::sweep;
-use crate::target::target;
 use answers::{List, Stop};
+use command_outcomes::{Done, TaskOutcome, check, compare, eval, finish, refusal_of, single};
 use order_inputs::{files_of, fourth_of, table_at, tables_of};
+use plan_commands::{demo, plan, sweep, target};
 use price_certificate::Terms;
-use refusals::{Failure, Refusal};
+use refusals::Failure;
 use spares_io::{Shelf, Sink, Text};
-use spares_words::{Order, WordsFault, read_words};
+use spares_words::{Order, read_words};
 use std::alloc::Global;
 
 /// The outcome of an order on the bytes of its inputs.
@@ -102,18 +93,7 @@ fn perform<H: Shelf, W: Sink>(
         (W.bytes out.new) (W.faults out.new)) result }
 {
     let outcome = outcome_of(alloc, order, shelf)?;
-    deliver(alloc, &outcome, shelf, out)?;
-    Ok(outcome.done)
-}
-
-/// The refusal of words that are no order.
-pub(crate) fn refusal_of(stop: Stop<WordsFault>) -> Refusal
-    ensures { result ≡ words_refusal stop }
-{
-    match stop {
-        Stop::NoMemory => Refusal::NoMemory,
-        Stop::Fault(fault) => Refusal::Words(fault),
-    }
+    finish(alloc, outcome, shelf, out)
 }
 
 /// Reads the words, and carries out their order.

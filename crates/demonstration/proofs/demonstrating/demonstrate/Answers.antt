@@ -1,6 +1,6 @@
 use Rattle.std.proofs.Common.{ℕ, ◌*◌, ap, subst, sym}
 use Rattle.certified_plan.specs.Inputs.{AreTerms}
-use Rattle.demonstration.specs.Demonstrations.{IsDemonstrated, demo_terms}
+use Rattle.demo_accepts.specs.Demonstrations.{IsDemonstrated, demo_terms}
 use Rattle.plan_report.specs.Fits.{FitsSummary}
 use Rattle.demonstration.proofs.Told.{after_call, are_terms, demo_work, is_demonstrated, on_plan, sums_fit}
 use Rattle.demonstration.proofs.demonstrating.demonstrate.Goals as goal

@@ -1,5 +1,5 @@
 use Rattle.std.proofs.Common.{refl}
-use Rattle.spares_top.proofs.Whole.{done, refused}
+use Rattle.command_outcomes.proofs.Public.{done, refused}
 use Rattle.spares_top.proofs.top.run.Goals as goal
 
 pub returns-in-Ok : goal.returns-in-Ok

@@ -1,8 +1,8 @@
 use Rattle.std.proofs.Common.{subst}
 use Rattle.std.proofs.lemmas.Result.{err_from_is_err_and}
-use Rattle.spares_top.specs.Making.{Is, MakesBy}
-use Rattle.spares_top.specs.Task.{task_on}
-use Rattle.spares_top.proofs.Whole.{made_of, unread}
+use Rattle.command_outcomes.specs.Making.{Is, MakesBy}
+use Rattle.command_outcomes.specs.Task.{task_on}
+use Rattle.command_outcomes.proofs.Public.{made_of, unread}
 use Rattle.spares_top.proofs.work.outcome_of.Goals as goal
 
 pub returns-clause-makes : goal.returns-clause-makes

@@ -1,7 +1,7 @@
 use Rattle.std.proofs.Common.{refl}
 use Rattle.std.proofs.lemmas.Result.{err_from_is_err_and}
-use Rattle.spares_top.specs.State.{scene}
-use Rattle.spares_top.proofs.Whole.{delivers, fails, stops}
+use Rattle.command_outcomes.specs.State.{scene}
+use Rattle.command_outcomes.proofs.Public.{performed, stops}
 use Rattle.spares_top.proofs.work.perform.Goals as goal
 
 pub returns-in_err-outcome : goal.returns-in_err-outcome
@@ -12,17 +12,8 @@ returns-in_err-outcome g c =
 
 pub returns : goal.returns
 returns g c =
-    delivers c.in_ok-outcome.outcome _
+    performed c.in_ok-outcome.outcome _
     (scene (g.H.Shelf.held c.outcome_of.new.shelf) (g.H.Shelf.read_faults c.outcome_of.new.shelf) (g.H.Shelf.write_faults c.outcome_of.new.shelf)
     (g.W.Sink.bytes c.args.out.now) (g.W.Sink.faults c.args.out.now)) _
-    (record { untouched = record { held = c.outcome_of.ensures.held; out = refl; faults = refl }; writes = c.outcome_of.ensures.writes; reads = c.deliver.ensures.reads })
-    c.args.order.now c.in_ok-outcome.ensures.makes c.outcome_of.ensures.reads c.deliver.ensures.nothing c.in_ok-deliver.ensures.delivers
-
-pub returns-in_err-deliver : goal.returns-in_err-deliver
-returns-in_err-deliver g c =
-    let p = err_from_is_err_and c.from_residual-in_err-deliver.result c.from_residual-in_err-deliver.ensures.1 in
-    rw (p.1, p.2) (fails c.in_ok-outcome.outcome _
-    (scene (g.H.Shelf.held c.outcome_of.new.shelf) (g.H.Shelf.read_faults c.outcome_of.new.shelf) (g.H.Shelf.write_faults c.outcome_of.new.shelf)
-    (g.W.Sink.bytes c.args.out.now) (g.W.Sink.faults c.args.out.now)) _
-    (record { untouched = record { held = c.outcome_of.ensures.held; out = refl; faults = refl }; writes = c.outcome_of.ensures.writes; reads = c.deliver.ensures.reads })
-    c.args.order.now c.in_ok-outcome.ensures.makes c.outcome_of.ensures.reads c.deliver.ensures.nothing _ c.in_err-deliver.ensures.delivers)
+    (record { untouched = record { held = c.outcome_of.ensures.held; out = refl; faults = refl }; writes = c.outcome_of.ensures.writes; reads = c.finish.ensures.reads })
+    c.args.order.now c.in_ok-outcome.ensures.makes c.outcome_of.ensures.reads c.finish.ensures.nothing c.finish.result c.finish.ensures.delivers c.finish.ensures.report

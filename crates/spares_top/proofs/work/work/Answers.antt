@@ -1,5 +1,5 @@
 use Rattle.spares_words.specs.Order.{order_of}
-use Rattle.spares_top.proofs.Whole.{refused_words}
+use Rattle.command_outcomes.proofs.Public.{refused_words}
 use Rattle.spares_top.proofs.work.work.Goals as goal
 
 pub returns-in-Err : goal.returns-in-Err

@@ -1,0 +1,12 @@
+pub mod Answer
+pub mod Checking
+pub mod Checks
+pub mod Headline
+pub mod Held
+pub mod Making
+pub mod Plans
+pub mod Promises
+pub mod State
+pub mod Status
+pub mod Task
+pub mod Texts

@@ -1,0 +1,4 @@
+pub mod Demonstrated
+pub mod Grounds
+pub mod Planned
+pub mod Swept

@@ -1,0 +1,13 @@
+//! The commands that plan a case once: `plan`, `sweep`, `target` and `demo`.
+#![tactic(auto)]
+
+mod curves;
+mod demonstrating;
+mod planning;
+mod sweeping;
+mod targeting;
+
+pub use demonstrating::demo;
+pub use planning::plan;
+pub use sweeping::sweep;
+pub use targeting::target;

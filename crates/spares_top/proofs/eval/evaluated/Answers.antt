@@ -1,5 +1,0 @@
-use Rattle.spares_top.proofs.Shown.{case_shown}
-use Rattle.spares_top.proofs.eval.evaluated.Goals as goal
-
-pub returns-clause-shows : goal.returns-clause-shows
-returns-clause-shows c = case_shown c.args.bits c.args.given.now.case c.args.given.now.stocks c.in_ok-figures.figures c.in_ok-figures.ensures.shows

@@ -1,4 +1,0 @@
-use Rattle.spares_top.proofs.plan.request_of.Goals as goal
-
-pub cost_of-requires : goal.cost_of-requires
-cost_of-requires c = c.requires.held
