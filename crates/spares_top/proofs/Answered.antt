@@ -4,7 +4,7 @@ use Rattle.std.specs.Prelude.{All}
 use Rattle.case_edits.specs.Edits.{PlanDue, session_of}
 use Rattle.case_edits.specs.declared.fault.EditFault.{EditFault}
 use Rattle.plan_report.specs.Fits.{FitsPlan}
-use Rattle.plan_session.specs.Answers.{AnswersEdits}
+use Rattle.session_plans.specs.Answers.{AnswersEdits}
 use Rattle.session_report.specs.declared.report.SessionReport.{SessionReport}
 use Rattle.refusals.specs.Causes.{or_refuse}
 use Rattle.refusals.specs.Lines.{no_names}

@@ -10,7 +10,6 @@ ghost use Rattle.command_outcomes.specs.Task.{session_task};
 
 use answers::Stop;
 use command_outcomes::{Done, TaskOutcome};
-use on_hand::FamilyCurves;
 use order_inputs::{Tables, case_to_edit};
 use plan_session::run_edits;
 use refusals::{Failure, Refusal};
@@ -25,7 +24,7 @@ pub(crate) fn session(
     ensures { MakesBy (Is (session_task (bytes_of tables.now) edits.now)) result }
 {
     let case = case_to_edit(alloc, tables)?;
-    match run_edits(alloc, case, edits, &FamilyCurves) {
+    match run_edits(alloc, case, edits) {
         Ok(report) => Ok(TaskOutcome::printed(Done::Session(report))),
         Err(Stop::NoMemory) => Err(Stop::NoMemory),
         Err(Stop::Fault(fault)) => Err(Stop::Fault(Failure::of(Refusal::Edit(fault)))),
