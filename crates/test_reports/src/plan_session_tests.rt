@@ -6,7 +6,6 @@ ghost use Rattle.family_points.specs.Counts.{work_of};
 use answers::Stop;
 use csv_tables::{rate_line, read_parts, read_rates, read_sites};
 use family_points::work;
-use on_hand::FamilyCurves;
 use plan_session::{EditFault, Session, run_edits};
 use spares_input::{Case, Frame};
 use std::alloc::Global;
@@ -74,6 +73,6 @@ fn a_change_costs_the_curve_of_one_family(rt: HostRuntime) -> Result<(), Fail> {
 fn names_the_line_of_a_fault(rt: HostRuntime) {
     let case = case(rt.alloc()).expect(&rt, "case");
     let edits = b"budget,250\r\n\nplan\nrate,L,B,x,0,,0";
-    let fault = run_edits(rt.alloc(), case, edits, &FamilyCurves).err();
+    let fault = run_edits(rt.alloc(), case, edits).err();
     assert!(&rt; matches!(fault, Some(Stop::Fault(EditFault::BadLine(4)))));
 }
