@@ -1,4 +1,5 @@
-//! Every demonstration case is accepted: no rate of it is refused, and its curves take few tables.
+//! What a demonstration shows, and that every demonstration case is accepted: no rate of it is refused, and its curves
+//! take few tables.
 #![tactic(auto)]
 
 mod law;

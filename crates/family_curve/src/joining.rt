@@ -165,7 +165,7 @@ fn with_depot<'b, S: Score>(
     let exact = &mut work.exact;
     let path = depot_path(alloc, exact, sources, score, tables, first, below)?;
     let is_empty = path.is_empty();
-    work.lows.is_high = is_empty;
+    work.lows.has_tried(first, is_empty);
     if is_empty {
         return Ok(curve);
     }

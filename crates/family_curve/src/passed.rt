@@ -41,6 +41,8 @@ pub(crate) struct Lows {
     failures: u32,
     /// The number of stocks so far.
     seen: u32,
+    /// The line unit's stocks at which bounds failed last, each as a binary place.
+    failed_at: u64,
 }
 
 /// With more failures than this, and one for each 16 stocks so far, bounds aren't tried.
@@ -62,6 +64,7 @@ pub(crate) fn lows_of(alloc: Global, bases: &[Base]) -> Result<Lows, NoMemory>
         begins_high: false,
         failures: 0,
         seen: 0,
+        failed_at: 0,
     })
 }
 
@@ -73,11 +76,30 @@ impl Lows {
         self.is_high = self.begins_high;
     }
 
+    /// Keeps whether the exact points of these stocks added nothing. If so, bounds may be tried again at this stock of
+    /// the line unit.
+    pub(crate) fn has_tried(&mut self, first: &Point, is_empty: bool)
+        ensures { self.new.chains.items ≡ self.old.chains.items }
+    {
+        self.is_high = is_empty;
+        if is_empty {
+            self.failed_at &= !line_place(first);
+        }
+    }
+
     /// Keeps what came of the line unit's first stock with these stocks of the shop units.
     pub(crate) fn has_begun(&mut self)
         ensures { self.new.chains.items ≡ self.old.chains.items }
     {
         self.begins_high = self.is_high;
+    }
+}
+
+/// The line unit's stock as a binary place.
+fn line_place(first: &Point) -> u64 {
+    match first.stocks.as_slice().first() {
+        Some(line) => 1u64.wrapping_shl(u32::from(*line)),
+        None => 0,
     }
 }
 
@@ -150,8 +172,8 @@ fn lie_above<S: Score>(
     Ok(handed.is_empty())
 }
 
-/// The same where the bounds are likely worth their work: if the stocks before added nothing, and bounds have mostly
-/// sufficed. Otherwise false.
+/// The same where the bounds are likely worth their work: if the stocks before added nothing, bounds didn't fail at
+/// this stock of the line unit before something was added there, and they have mostly sufficed. Otherwise false.
 pub(crate) fn are_passed<S: Score>(
     alloc: Global,
     lows: &mut Lows,
@@ -171,15 +193,20 @@ pub(crate) fn are_passed<S: Score>(
         (below.now ++ depot_points S.ends sources.now.family.now first.now.stocks) below.now) }
     ensures chains { IfOk result (λ _. length lows.new.chains.items ≡ length sources.now.bases.items) }
 {
+    let place = line_place(first);
     lows.seen = lows.seen.saturating_add(1);
-    if !lows.is_high || lows.failures > MOST_FAILURES + lows.seen / FOR_A_FAILURE {
+    if !lows.is_high || lows.failed_at & place != 0 {
+        return Ok(false);
+    }
+    if lows.failures > MOST_FAILURES + lows.seen / FOR_A_FAILURE {
         return Ok(false);
     }
     let passed = lie_above(alloc, lows, sources, score, tables, first, below)?;
-    lows.failures = if passed {
-        lows.failures.saturating_sub(1)
+    if passed {
+        lows.failures = lows.failures.saturating_sub(1);
     } else {
-        lows.failures.saturating_add(1)
-    };
+        lows.failures = lows.failures.saturating_add(1);
+        lows.failed_at |= place;
+    }
     Ok(passed)
 }

@@ -1,4 +1,4 @@
-use Rattle.std.proofs.Common.{◌≡◌, ◌+◌, ◌≤◌, List, [], Option, ◌++◌, length, refl, sym, ◌∙◌, subst, arith}
+use Rattle.std.proofs.Common.{◌≡◌, ◌+◌, ◌≤◌, List, [], Option, ◌++◌, length, refl, sym, ap, ◌∙◌, subst, arith}
 use Rattle.family_points.specs.Inputs.{vertex_count}
 use Rattle.hull.specs.declared.point.Point.{Point}
 use Rattle.hull.specs.Curves.{Among, InRange, IsCurve, StandFor}
@@ -173,7 +173,7 @@ returns-then-is_empty-clause-few g c =
     subst (λ (o : Option (List Point)). length c.in-Some.curve ≤ length (vertices_of o) + most) (sym c.in-Some.is) (omega arith)
 
 pub returns-then-is_empty-clause-work : goal.returns-then-is_empty-clause-work
-returns-then-is_empty-clause-work g c = record { exact = c.in_ok-path-2.ensures.work; lows = c.in_ok-are_passed.ensures.chains }
+returns-then-is_empty-clause-work g c = record { exact = c.in_ok-path-2.ensures.work; lows = ap length c.has_tried.ensures ∙ c.in_ok-are_passed.ensures.chains }
 
 pub returns-clause-few : goal.returns-clause-few
 returns-clause-few g c =
@@ -182,7 +182,7 @@ returns-clause-few g c =
     (omega (arith, c.in_ok-add_points.ensures.few, c.in_ok-path-2.ensures.few))
 
 pub returns-clause-work : goal.returns-clause-work
-returns-clause-work g c = record { exact = c.in_ok-path-2.ensures.work; lows = c.in_ok-are_passed.ensures.chains }
+returns-clause-work g c = record { exact = c.in_ok-path-2.ensures.work; lows = ap length c.has_tried.ensures ∙ c.in_ok-are_passed.ensures.chains }
 
 pub are_passed-requires-clause-ranges : goal.are_passed-requires-clause-ranges
 are_passed-requires-clause-ranges g c =
