@@ -97,20 +97,22 @@ SCRIPT
   cat >"$first/bin/rt" <<SCRIPT
 #!$python
 import os, sys, types
-BACKENDS = {"one": ""}
+BACKENDS = {"llvm": "", "two": ".two"}
 KIT = "$first"
 class Crate:
     name, said, allowed, folder, rlib = "low", {}, (), "$first/crates/low", "$first/crates/low/out/rlib/low.rlib"
+    made = []
     def below(self): return []
     def stamp(self): return "sum"
     def makes_rlib(self): return True
-    def compile_by(self, backend, words, to): return 0
+    def compile_by(self, backend, words, to): return self.made.append(backend) or 0
     def ci(self, flags, tests):
         os.makedirs(self.rlib)
         with open(f"{self.rlib}/made", "w") as made:
             made.write(open(f"{self.folder}/src/lib.rt").read())
         searching = "--empty-contracts" in rtlib.help_of("check")
-        return print("proving and searching" if searching else "proving") or self.compile_by("one", flags, "out")
+        self.compile_by("llvm", flags, "out") or self.compile_by("two", flags, "out")
+        return print("proving and searching," if searching else "proving,", *sorted(self.made)) or 0
 rtlib = types.SimpleNamespace(Crate=Crate, RATTLE="$first/KIT-ID", help_of=lambda command: "--empty-contracts")
 # all are methods of rtlib.Crate
 def in_lanes(tasks): return tasks
@@ -126,17 +128,17 @@ SCRIPT
     PATH=$first/bin XDG_CACHE_HOME=${4:-$first/cache} python3 "$first/tools/rt.py" $2 >"$room/out" 2>"$room/err" </dev/null
     compare "$1" 4 $? "$3" ''
   }
-  keeps 'a proof that is kept' ci 'proving and searching\n0 pub fn one() {}\n\n'
+  keeps 'a proof that is kept' ci 'proving and searching, llvm two\n0 pub fn one() {}\n\n'
   keeps 'a proof that was kept' ci '0 pub fn one() {}\n\n'
   keeps 'a build takes what the gate kept' '--build ci' '0 pub fn one() {}\n\n'
   printf 'damage' >"$(find "$first/cache" -name made)"
-  keeps 'a proof that is damaged' ci 'proving and searching\n0 pub fn one() {}\n\n'
+  keeps 'a proof that is damaged' ci 'proving and searching, llvm two\n0 pub fn one() {}\n\n'
   keeps 'a proof that was kept anew' ci '0 pub fn one() {}\n\n'
   printf 'pub fn two() {}\n' >"$first/crates/low/src/lib.rt"
-  keeps 'a proof of another text' '--build ci' 'proving\n0 pub fn two() {}\n\n'
+  keeps 'a proof of another text' '--build ci' 'proving, llvm\n0 pub fn two() {}\n\n'
   keeps 'a build goes on where it stopped' '--build ci' '0 pub fn two() {}\n\n'
-  keeps 'the gate takes nothing from a build' ci 'proving and searching\n0 pub fn two() {}\n\n'
+  keeps 'the gate takes nothing from a build' ci 'proving and searching, llvm two\n0 pub fn two() {}\n\n'
   printf 'another kit\n' >"$first/KIT-ID"
-  keeps 'a proof by another kit' ci 'proving and searching\n0 pub fn two() {}\n\n'
-  keeps 'no room to keep a proof' ci 'proving and searching\n0 pub fn two() {}\n\n' "$first/KIT-ID"
+  keeps 'a proof by another kit' ci 'proving and searching, llvm two\n0 pub fn two() {}\n\n'
+  keeps 'no room to keep a proof' ci 'proving and searching, llvm two\n0 pub fn two() {}\n\n' "$first/KIT-ID"
 fi

@@ -1,9 +1,9 @@
 #!/usr/bin/env python3
 """Runs the kit's command with these words, for less: python3 tools/rt.py [--build] WORDS..
 
-It is `rt WORDS..`, but for four things that say nothing about what is proved:
+It is `rt WORDS..`, but for four things that say nothing about what is proved, and a fifth that a build asks for:
 - It finds the crates below a crate, and the sum of all their files, once for each crate. The kit does both anew for each
-  of the 30,000 paths from the program down to a crate, which takes minutes.
+  of the 190,000 paths from the program down to a crate, which takes minutes.
 - Both compilers of a proved program work side by side. The kit has one wait for the other.
 - The kit begins with the crates that the most lines of others wait for. Here each crate counts some lines more, for what
   the prover loads at each, so that it begins with those that the most work waits for.
@@ -26,9 +26,10 @@ import tempfile
 FOUND_ONCE = ("below", "stamp")
 LINES_TO_LOAD = 100  # with so many, the order is nearest to that by the seconds of each crate
 KEEPS = "rattle-kept"  # the folder of a kit that keeps what its gate proves
-KEPT_EACH = 2  # so many texts of a crate stay
+KEPT_EACH = 2  # so many texts of a crate stay, and as many of builds alone
 TEXTS = ("src", "specs", "proofs")
 SEARCH = "--empty-contracts"
+OF_BUILD = ".built"  # ends the places that serve builds alone
 SHAPE = (
     "rtlib.Crate",
     "BACKENDS = {",
@@ -80,6 +81,8 @@ def compile_at_once(owner, compilers):
 
 def leave_out(kit):
     """Has the kit prove without a search for contracts that no call can meet, and compile a program by LLVM alone."""
+    if "llvm" not in kit.BACKENDS:
+        raise KeyError("llvm")
     help_of, compile_by = kit.rtlib.help_of, kit.Crate.compile_by
     kit.rtlib.help_of = lambda command: help_of(command).replace(SEARCH, "")
     kit.Crate.compile_by = lambda self, compiler, *words: compile_by(self, compiler, *words) if compiler == "llvm" else 0
@@ -139,7 +142,7 @@ class Store:
         below = [(it.name, self.built(it)) for it in crate.below()]
         made_from = self.kit, crate.said, crate.allowed, text, below
         by_gate = f"{self.folder}/{crate.name}/{hashlib.sha256(repr(made_from).encode()).hexdigest()}"
-        return [f"{by_gate}.built", by_gate] if self.is_build else [by_gate]
+        return [f"{by_gate}{OF_BUILD}", by_gate] if self.is_build else [by_gate]
 
     def take(self, crate):
         """Gives the crate what was proved of it before, and returns whether it is there as it was kept."""
@@ -214,8 +217,10 @@ def drop_oldest(folder):
     """Leaves the texts of a crate that were used last."""
     kept = [it for it in os.scandir(folder) if not it.name.startswith(".")]
     kept.sort(key=lambda it: -it.stat().st_mtime)
-    for it in kept[KEPT_EACH:]:
-        drop(it.path)
+    for is_build in (False, True):
+        alike = [it for it in kept if it.name.endswith(OF_BUILD) == is_build]
+        for it in alike[KEPT_EACH:]:
+            drop(it.path)
 
 
 def main(words):

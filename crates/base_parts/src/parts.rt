@@ -45,7 +45,7 @@ pub struct Work<'b> {
 }
 
 impl<'b> Work<'b> {
-    /// Lists for the bases of these sources.
+    /// Lists for the bases of these sources. Want of memory is the only error.
     pub fn new(alloc: Global, sources: &'b Sources<'_>) -> Result<Work<'b>, NoMemory>
         ensures { IfOk result (λ work. length work.parts.items ≡ length sources.now.bases.items) }
     {
@@ -106,7 +106,7 @@ fn put_part<'b, S: Score>(
 }
 
 /// Sets the parts of all bases at these stocks of the depot. Returns how high the vertices lie at the low price that
-/// aren't sums of theirs.
+/// aren't sums of theirs. Want of memory is the only error.
 pub fn put_parts<'b, S: Score>(
     work: &mut Work<'b>,
     sources: &'b Sources<'_>,

@@ -16,7 +16,7 @@ pub fn put_line<E: Sink>(line: &Line, err: &mut E)
     let _ = err.put(line.as_slice());
 }
 
-/// The refusal of words that are no order.
+/// The refusal of words that are no order, or of want of memory.
 pub fn refusal_of(stop: Stop<WordsFault>) -> Refusal
     ensures { result ≡ words_refusal stop }
 {

@@ -110,7 +110,7 @@ fn reached<S: Score>(
 }
 
 /// The line unit's stock at the depot that is reached from a third of the way up, if the shop units there have the
-/// stocks of `depot`.
+/// stocks of `depot`. Want of memory is the only error.
 pub fn likely_line<S: Score>(
     alloc: Global,
     sources: &Sources<'_>,

@@ -44,7 +44,7 @@ use std::alloc::Global;
 
 /// A lower bound on the score of a choice at a base, with the choice's cost; without its stocks.
 #[derive(Clone, Copy, Drop)]
-pub struct LowSpot {
+pub(crate) struct LowSpot {
     /// The cost, as far as the stocks exceed those held.
     pub cost: u64,
     /// The bound, in units of 2^-48.
@@ -110,7 +110,7 @@ impl LowSpot {
 const FIRST_ROOM: usize = 64;
 
 /// A placeholder chain for each base: one point of cost and score 0. Want of memory is the only error.
-pub fn low_chains_of(alloc: Global, bases: &[Base]) -> Result<Vec<Chain<LowSpot>>, NoMemory>
+pub(crate) fn low_chains_of(alloc: Global, bases: &[Base]) -> Result<Vec<Chain<LowSpot>>, NoMemory>
     ensures { IfOk result (λ c. length c.items ≡ length bases.now) }
 {
     let count = bases.len();
@@ -315,7 +315,7 @@ fn put_low_points<S: Score>(
 /// Sets `chain` to the curve of lower bounds on the points of a base, and `rows` to lower bounds on the backorders
 /// there. The answer is whether the curve is below the points. Want of memory is the only error; `chain` may then hold
 /// only some of the bounds.
-pub fn put_low_curve<S: Score>(
+pub(crate) fn put_low_curve<S: Score>(
     chain: &mut Chain<LowSpot>,
     rows: &mut Vec<Vec<u64>>,
     here: &BaseAt<'_, '_>,

@@ -41,7 +41,7 @@ pub(crate) struct Lows {
     failures: u32,
     /// The number of stocks so far.
     seen: u32,
-    /// The line unit's stocks at which bounds failed last, each as a binary place.
+    /// The line unit's stocks at which bounds failed and that have added something each time since, each as a bit.
     failed_at: u64,
 }
 
@@ -83,7 +83,7 @@ impl Lows {
     {
         self.is_high = is_empty;
         if is_empty {
-            self.failed_at &= !line_place(first);
+            self.failed_at &= !line_bit(first);
         }
     }
 
@@ -95,8 +95,8 @@ impl Lows {
     }
 }
 
-/// The line unit's stock as a binary place.
-fn line_place(first: &Point) -> u64 {
+/// The bit of the line unit's stock; 0 if there is none.
+fn line_bit(first: &Point) -> u64 {
     match first.stocks.as_slice().first() {
         Some(line) => 1u64.wrapping_shl(u32::from(*line)),
         None => 0,
@@ -172,8 +172,8 @@ fn lie_above<S: Score>(
     Ok(handed.is_empty())
 }
 
-/// The same where the bounds are likely worth their work: if the stocks before added nothing, bounds didn't fail at
-/// this stock of the line unit before something was added there, and they have mostly sufficed. Otherwise false.
+/// The same where the bounds are likely worth their work: if the stocks before added nothing, bounds haven't failed at
+/// this stock of the line unit since it last added nothing, and they have mostly sufficed. Otherwise false.
 pub(crate) fn are_passed<S: Score>(
     alloc: Global,
     lows: &mut Lows,
@@ -193,9 +193,9 @@ pub(crate) fn are_passed<S: Score>(
         (below.now ++ depot_points S.ends sources.now.family.now first.now.stocks) below.now) }
     ensures chains { IfOk result (λ _. length lows.new.chains.items ≡ length sources.now.bases.items) }
 {
-    let place = line_place(first);
+    let bit = line_bit(first);
     lows.seen = lows.seen.saturating_add(1);
-    if !lows.is_high || lows.failed_at & place != 0 {
+    if !lows.is_high || lows.failed_at & bit != 0 {
         return Ok(false);
     }
     if lows.failures > MOST_FAILURES + lows.seen / FOR_A_FAILURE {
@@ -206,7 +206,7 @@ pub(crate) fn are_passed<S: Score>(
         lows.failures = lows.failures.saturating_sub(1);
     } else {
         lows.failures = lows.failures.saturating_add(1);
-        lows.failed_at |= place;
+        lows.failed_at |= bit;
     }
     Ok(passed)
 }

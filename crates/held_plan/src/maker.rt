@@ -23,7 +23,9 @@ use std::alloc::Global;
 /// Makes the curve of a family and its part between two prices, and estimates what a family costs at a price.
 pub trait CurveMaker {
     /// The curve of a line unit's family over the vectors from `low` to `high` of the bounds. The cost counts stocks
-    /// above `held`. Want of memory is the only error.
+    /// above `held`. The rates are those of the case, and the bounds are in order: held at most least, least at most
+    /// most, and most within the limits. The curve begins at cost 0 if `low` equals `held`. Want of memory is the only
+    /// error.
     fn curve_within<S: Score>(
         &self,
         alloc: Global,
@@ -43,8 +45,9 @@ pub trait CurveMaker {
         ensures stocks { IfOk result (λ curve. (v : Point) → Among v curve
             → IsBetween bounds.now.low bounds.now.high v.stocks) };
 
-    /// The part between two prices of the same curve, and how high all vertices behind it lie at the low price. Want of
-    /// memory is the only error.
+    /// The part between two prices of the same curve, and how high all vertices behind it lie at the low price. A price
+    /// is at most 2^74 units of 2^-48 for at most 10^12 of money. The high price is at least the low one and above 0.
+    /// Want of memory is the only error.
     fn part_within<S: Score>(
         &self,
         alloc: Global,
