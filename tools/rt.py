@@ -26,7 +26,7 @@ import tempfile
 FOUND_ONCE = ("below", "stamp")
 LINES_TO_LOAD = 100  # with so many, the order is nearest to that by the seconds of each crate
 KEEPS = "rattle-kept"  # the folder of a kit that keeps what its gate proves
-KEPT_EACH = 2  # so many texts of a crate stay, and as many of builds alone
+KEPT_EACH = 1  # so many texts of a crate stay, and as many of builds alone
 TEXTS = ("src", "specs", "proofs")
 SEARCH = "--empty-contracts"
 OF_BUILD = ".built"  # ends the places that serve builds alone
