@@ -9,12 +9,13 @@ It is `rt WORDS..`, but for four things that say nothing about what is proved, a
   the prover loads at each, so that it begins with those that the most work waits for.
 - Some kits keep nothing that their gate proves. With these, each library that is proved stays in a folder of the user's,
   and is taken from there while its text, the kit, and all that was built below it are the same.
-- With these kits `--build` leaves out what the gate does besides proofs: the search for contracts that no call can meet,
-  a seventh of the work, and the program by the second compiler. What was kept without that search serves builds alone.
+- `--build` leaves out what the gate does besides proofs: the search for contracts that no call can meet, a seventh of the
+  work, and the program by the second compiler. What a build keeps stays in that folder too, and serves builds alone.
 With a kit that works otherwise this is `rt` as it is.
 """
 import concurrent.futures
 import contextlib
+import copy
 import hashlib
 import importlib.machinery
 import importlib.util
@@ -26,6 +27,7 @@ import tempfile
 FOUND_ONCE = ("below", "stamp")
 LINES_TO_LOAD = 100  # with so many, the order is nearest to that by the seconds of each crate
 KEEPS = "rattle-kept"  # the folder of a kit that keeps what its gate proves
+GIVES = "def give(self, crate, tests, key):"  # how such a kit takes something from there
 KEPT_EACH = 1  # so many texts of a crate stay, and as many of builds alone
 TEXTS = ("src", "specs", "proofs")
 SEARCH = "--empty-contracts"
@@ -50,6 +52,7 @@ def load(path):
     module = importlib.util.module_from_spec(importlib.util.spec_from_loader(loader.name, loader))
     loader.exec_module(module)
     module.keeps_nothing = KEEPS not in text and "def ci(self, flags, tests):" in text
+    module.keeps_proofs = KEEPS in text and GIVES in text and "\nSTORE = " in text
     return module
 
 
@@ -81,11 +84,29 @@ def compile_at_once(owner, compilers):
 
 def leave_out(kit):
     """Has the kit prove without a search for contracts that no call can meet, and compile a program by LLVM alone."""
-    if "llvm" not in kit.BACKENDS:
-        raise KeyError("llvm")
     help_of, compile_by = kit.rtlib.help_of, kit.Crate.compile_by
+    kit.BACKENDS = {"llvm": kit.BACKENDS["llvm"]}
     kit.rtlib.help_of = lambda command: help_of(command).replace(SEARCH, "")
-    kit.Crate.compile_by = lambda self, compiler, *words: compile_by(self, compiler, *words) if compiler == "llvm" else 0
+    kit.Crate.compile_by = lambda self, compiler, *words: compile_by(self, compiler, *words) if compiler in kit.BACKENDS else 0
+
+
+def keep_apart(kit):
+    """Has a kit that keeps proofs keep those of this build in the user's folder, and take them from both places."""
+    of_gate, give = kit.STORE, kit.Kept.give
+
+    def answer(self, crate, tests, key):
+        if give(self, crate, tests, key):
+            return True
+        gate = copy.copy(self)
+        gate.at = of_gate if is_own(of_gate) else None
+        return give(gate, crate, tests, key)
+
+    kit.STORE, kit.Kept.give = users_folder(), answer
+
+
+def is_own(folder):
+    """Returns whether the folder is there and the user's."""
+    return os.path.isdir(folder) and not os.path.islink(folder) and os.stat(folder).st_uid == os.geteuid()
 
 
 def start_longest(kit):
@@ -235,12 +256,14 @@ def main(words):
         kit = load(os.path.realpath(command))
         for name in FOUND_ONCE:
             find_once(kit.rtlib.Crate, name)
-        if is_build and kit.keeps_nothing:
+        if is_build and (kit.keeps_nothing or kit.keeps_proofs):
             leave_out(kit)
         compile_at_once(kit.Crate, [*kit.BACKENDS])
         start_longest(kit)
         if kit.keeps_nothing:
             keep_proved(kit, Store(users_folder(), kit, is_build))
+        elif is_build and kit.keeps_proofs:
+            keep_apart(kit)
         run = kit.main
     except Exception:  # a kit of another shape
         os.execv(command, [command, *words])

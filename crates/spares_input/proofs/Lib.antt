@@ -4,6 +4,7 @@ pub mod Firsts
 pub mod Outcomes
 pub mod SiteFacts
 pub mod PartFacts
+pub mod PartPlaces
 pub mod FrameFacts
 pub mod PlaceFacts
 pub mod CaseFacts

@@ -3,9 +3,10 @@ use Rattle.std.specs.Prelude.{◌≡◌, ℕ, ◌<◌, List, [], ◌∷◌, leng
 use Rattle.answers.specs.declared.stop.Stop.{Stop}
 use Rattle.answers.specs.declared.stop.Stop.TheVariants as stop
 use Rattle.std.specs.List.{IsDistinct}
-use Rattle.std.specs.Option.{option_flatten, option_map}
-use Rattle.indexmap.specs.IndexMap.{move_index}
-use Rattle.spares_input.specs.Frames.{part_names, line_of, frame_fault, line_units, family_of_line, shops_below, is_depot}
+use Rattle.std.specs.List.{remove}
+use Rattle.std.specs.HashMap.{HashMap, get}
+use Rattle.std.specs.Option.{option_flatten, option_map, option_map_or}
+use Rattle.spares_input.specs.Frames.{part_names, place_of, line_of, frame_fault, line_units, family_of_line, shops_below, is_depot}
 use Rattle.spares_input.specs.Pairs.{row_at, part_of_place, site_of_place}
 use Rattle.spares_input.specs.declared.rows.SiteRow.{SiteRow}
 use Rattle.spares_input.specs.declared.rows.PartRow.{PartRow}
@@ -22,12 +23,23 @@ StopsAt due (Ok value) = due ≡ None
 StopsAt due (Err stop.NoMemory) = ⊤
 StopsAt due (Err (stop.Fault fault)) = due ≡ Some fault
 
--- rows that break no rule, with the names of the parts at their places, and the place of the depot
-pub record IsNumbered (sites : List SiteRow) (parts : List PartRow) (parts_by_name : List (List ℕ)) (depot : ℕ) :
-    Type 0 where
+-- no two parts have one name
+abbrev pub AreDistinct : List PartRow → Type 0
+AreDistinct parts = IsDistinct bytes_eq (part_names parts)
+
+-- the map has the place of each part's name, and no other name
+abbrev pub ArePlaces : {S : Type 0} → HashMap (List ℕ) PartId S → List PartRow → Type 0
+ArePlaces places parts = (name : List ℕ)
+    → option_map (λ (p : PartId). p.0) (get bytes_eq places name) ≡ place_of name (part_names parts)
+
+-- a list with the element at a place put before all others
+abbrev pub to_front : {X : Type 0} → List X → ℕ → List X
+to_front xs place = option_map_or (λ x. x ∷ remove xs place) (slice_get xs place) xs
+
+-- rows that break no rule, and the place of the depot
+pub record IsNumbered (sites : List SiteRow) (parts : List PartRow) (depot : ℕ) : Type 0 where
   pub no_fault : frame_fault sites parts ≡ None
-  pub parts_named : parts_by_name ≡ part_names parts
-  pub distinct_parts : IsDistinct bytes_eq parts_by_name
+  pub distinct_parts : AreDistinct parts
   pub depot_place : position is_depot sites ≡ Some depot
 
 -- the places of the line units of the parts, each at its shop unit's place
@@ -70,13 +82,13 @@ missing_rate_at n i = fault.MissingRate (part_of_place n i) (site_of_place n i)
 abbrev pub missing_stock_at : ℕ → ℕ → StockFault
 missing_stock_at n i = stock_fault.Missing (part_of_place n i) (site_of_place n i)
 
--- rows that break no rule, the sites with the depot moved to the front, and the names, the parents, the line units and
--- the families of the parts
-pub record AreLinked (sites moved : List SiteRow) (parts : List PartRow) (parts_by_name : List (List ℕ))
-    (parents : List (Option PartId)) (units : List ℕ) (families : List (List ℕ)) : Type 0 where
+-- rows that break no rule, the sites with the depot moved to the front, and the parents, the line units and the
+-- families of the parts
+pub record AreLinked (sites moved : List SiteRow) (parts : List PartRow) (parents : List (Option PartId))
+    (units : List ℕ) (families : List (List ℕ)) : Type 0 where
   pub depot : ℕ
-  pub numbered : IsNumbered sites parts parts_by_name depot
-  pub to_front : moved ≡ move_index sites depot 0
+  pub numbered : IsNumbered sites parts depot
+  pub moved_is : moved ≡ to_front sites depot
   pub lines : AreParents parts parents
   pub units_are : units ≡ line_units parts
   pub shops : AreFamilies parts families

@@ -1,17 +1,16 @@
 //! The frame of a case: its sites and its parts.
 
-ghost use Rattle.std.specs.Prelude.{◌≡◌, ◌==◌, ◌+◌, ◌≤◌, ◌<◌, ◌∷◌, [], ◌++◌, true, not, length, map, position, count_by, All, Some, None, IfSome, IfOk, OnOk, MatchResult, is_none, vec_len, bytes_eq};
+ghost use Rattle.std.specs.Prelude.{◌≡◌, ◌==◌, ◌+◌, ◌≤◌, ◌<◌, true, length, map, position, count_by, All, Some, None, IfSome, IfOk, OnOk, MatchResult, is_none, vec_len, bytes_eq};
 ghost use Rattle.std.specs.List.{list_any};
 ghost use Rattle.std.specs.Option.{option_map, option_and_then};
-ghost use Rattle.indexmap.specs.IndexSet.{index_set_len};
-ghost use Rattle.indexmap.specs.IndexMap.{move_index};
+ghost use Rattle.std.specs.HashMap.{Updates, get};
 ghost use Rattle.answers.specs.Answers.{Gives};
 ghost use Rattle.spares_input.specs.First.{first};
 ghost use Rattle.spares_input.specs.Limits.{most_sites, most_parts, most_stock};
 ghost use Rattle.spares_input.specs.Rows.{is_line, IsSiteRow, IsPartRow};
-ghost use Rattle.spares_input.specs.Frames.{site_at, part_at, site_names, part_names, is_among, place_of, line_of, is_shop_of, is_depot, is_base, site_fault, kinds_fault, double_part, shop_fault, parent_fault, frame_fault, frame_of, line_units, family_of_line, IsFrame};
+ghost use Rattle.spares_input.specs.Frames.{site_at, part_at, site_names, part_names, place_of, line_of, is_shop_of, is_depot, is_base, site_fault, kinds_fault, double_part, shop_fault, parent_fault, frame_fault, frame_of, line_units, family_of_line, IsFrame};
 ghost use Rattle.spares_input.specs.Stocks.{limit_at};
-ghost use Rattle.spares_input.specs.Building.{AreLinked, AreParents, IsNumbered, StopsAt, ids};
+ghost use Rattle.spares_input.specs.Building.{AreLinked, AreParents, ArePlaces, AreDistinct, IsNumbered, StopsAt, ids, to_front};
 
 use crate::MOST_SHOP_UNITS;
 use crate::families::{families_of, line_units_of};
@@ -19,8 +18,8 @@ use crate::fault::CaseFault;
 use crate::name::Name;
 use crate::rows::{PartId, PartRow, SiteId, SiteRow};
 use answers::{NoMemory, Stop};
-use indexmap::IndexSet;
 use std::alloc::Global;
+use std::collections::HashMap;
 use std::marker::Model;
 
 /// The sites and the parts of a case: the depot and then the bases in file order, and the parts in file order.
@@ -31,20 +30,20 @@ pub struct Frame {
     parents: Vec<Option<PartId>>,
     lines: Vec<PartId>,
     families: Vec<Vec<PartId>>,
-    part_index: IndexSet<Name>,
+    places: HashMap<Name, PartId>,
 }
 
 impl Model for Frame {
     ghost use Rattle.std.specs.Prelude.{◌≡◌, map};
-    ghost use Rattle.spares_input.specs.Frames.{FrameRows, IsFrame, part_names, line_units};
-    ghost use Rattle.spares_input.specs.Building.{AreParents, AreFamilies, ids};
+    ghost use Rattle.spares_input.specs.Frames.{FrameRows, IsFrame, line_units};
+    ghost use Rattle.spares_input.specs.Building.{AreParents, AreFamilies, ArePlaces, ids};
 
     ghost Value = { FrameRows };
 
     ghost view = { λ f. record { sites = f.sites.items; parts = f.parts.items } };
 
     ghost invariant = { λ f. IsFrame (record { sites = f.sites.items; parts = f.parts.items })
-        × (f.part_index.keys ≡ part_names f.parts.items)
+        × ArePlaces f.places f.parts.items
         × AreParents f.parts.items f.parents.items
         × (ids f.lines.items ≡ line_units f.parts.items)
         × AreFamilies f.parts.items (map (λ v. ids v.items) f.families.items) };
@@ -72,7 +71,7 @@ impl Frame {
             parents: links.parents,
             lines: links.lines,
             families: links.families,
-            part_index: links.part_index,
+            places: links.places,
         })
     }
 
@@ -181,10 +180,7 @@ impl Frame {
         ensures row { IfSome result (λ p. (p.0 < length self.now.parts)
             × ((part_at self.now.parts p.0).name ≡ name.now)) }
     {
-        match self.part_index.get_index_of(name) {
-            Some(place) => Some(PartId(place as u16)),
-            None => None,
-        }
+        place_among(&self.places, name)
     }
 
     /// The site of this name; None exactly if no row has it.
@@ -206,7 +202,7 @@ struct Links {
     parents: Vec<Option<PartId>>,
     lines: Vec<PartId>,
     families: Vec<Vec<PartId>>,
-    part_index: IndexSet<Name>,
+    places: HashMap<Name, PartId>,
 }
 
 /// The links of the parts, if no rule is broken. Moves the depot before the other sites.
@@ -218,34 +214,36 @@ fn links_of(
     requires sites { length sites.old.items ≤ most_sites }
     requires parts { length parts.now ≤ most_parts }
     ensures fault { StopsAt (frame_fault sites.old.items parts.now) result }
-    ensures linked { IfOk result (λ l. AreLinked sites.old.items sites.new.items parts.now l.part_index.keys
+    ensures linked { IfOk result (λ l. AreLinked sites.old.items sites.new.items parts.now
         l.parents.items (ids l.lines.items) (map (λ v. ids v.items) l.families.items)) }
+    ensures placed { IfOk result (λ l. ArePlaces l.places parts.now) }
 {
-    let (part_index, depot) = number_rows(alloc, sites.as_slice(), parts)?;
+    let (places, depot) = number_rows(alloc, sites.as_slice(), parts)?;
     let Ok(()) = put_first(sites, depot) else {
         return Err(Stop::NoMemory);
     };
-    let parents = parents_of(alloc, &part_index, parts)?;
+    let parents = parents_of(alloc, &places, parts)?;
     let lines = line_units_of(alloc, parts)?;
     let families = families_of(alloc, parts, parents.as_slice())?;
     Ok(Links {
         parents,
         lines,
         families,
-        part_index,
+        places,
     })
 }
 
-/// The names of the parts, each at its row's place, and the depot's place, if no rule is broken.
+/// The place of each part by its name, and the depot's place, if no rule is broken.
 fn number_rows(
     alloc: Global,
     sites: &[SiteRow],
     parts: &[PartRow],
-) -> Result<(IndexSet<Name>, usize), Stop<CaseFault>>
+) -> Result<(HashMap<Name, PartId>, usize), Stop<CaseFault>>
     requires sites { length sites.now ≤ most_sites }
     requires parts { length parts.now ≤ most_parts }
     ensures fault { StopsAt (frame_fault sites.now parts.now) result }
-    ensures numbered { IfOk result (λ n. IsNumbered sites.now parts.now n.0.keys n.1) }
+    ensures numbered { IfOk result (λ n. IsNumbered sites.now parts.now n.1) }
+    ensures placed { IfOk result (λ n. ArePlaces n.0 parts.now) }
 {
     if let Some(fault) = sites_fault(sites) {
         return Err(Stop::Fault(fault));
@@ -254,12 +252,11 @@ fn number_rows(
         Ok(depot) => depot,
         Err(fault) => return Err(Stop::Fault(fault)),
     };
-    let part_names = number_parts(alloc, parts)?;
-    if let Some(fault) = parents_fault(&part_names, parts) {
+    let places = places_of(alloc, parts)?;
+    if let Some(fault) = parents_fault(&places, parts) {
         return Err(Stop::Fault(fault));
     }
-    let _ = part_names.len();
-    Ok((part_names, depot))
+    Ok((places, depot))
 }
 
 /// The first rule that a row of sites breaks.
@@ -321,13 +318,24 @@ fn has_depot(sites: &[SiteRow]) -> bool
     sites.iter().any(|site| site.depot)
 }
 
-/// Adds a name, and returns whether it is new.
-fn add_name(names: &mut IndexSet<Name>, name: Name) -> Result<bool, NoMemory>
-    ensures fresh { IfOk result (λ fresh. fresh ≡ not (is_among name names.old.keys)) }
-    ensures added { IfOk result (λ fresh. fresh ≡ true → names.new.keys ≡ names.old.keys ++ name ∷ []) }
+/// The place of the part of this name; None exactly if it has none.
+fn place_among(places: &HashMap<Name, PartId>, name: &Name) -> Option<PartId>
+    ensures { result ≡ get bytes_eq places.now name.now }
 {
-    match names.insert_full(name) {
-        Ok((_, fresh)) => Ok(fresh),
+    places.get(name).copied()
+}
+
+/// Notes the place of a name, and returns whether it had none.
+fn put_place(
+    places: &mut HashMap<Name, PartId>,
+    name: Name,
+    place: PartId,
+) -> Result<bool, NoMemory>
+    ensures fresh { IfOk result (λ fresh. fresh ≡ is_none (get bytes_eq places.old name)) }
+    ensures placed { OnOk result (Updates bytes_eq places.old places.new name (Some place)) }
+{
+    match places.insert(name, place) {
+        Ok(before) => Ok(before.is_none()),
         Err(_) => Err(NoMemory),
     }
 }
@@ -364,65 +372,62 @@ fn has_base(sites: &[SiteRow]) -> bool
 /// Moves one row before all others.
 fn put_first(sites: &mut Vec<SiteRow>, place: usize) -> Result<(), NoMemory>
     requires { place < vec_len sites.old }
-    ensures { OnOk result (sites.new.items ≡ move_index sites.old.items place 0) }
+    ensures { OnOk result (sites.new.items ≡ to_front sites.old.items place) }
 {
     let row = sites.remove(place);
     sites.insert(0, row)?;
     Ok(())
 }
 
-/// The names of the parts, each at its row's place, if no row repeats one.
-fn number_parts(alloc: Global, parts: &[PartRow]) -> Result<IndexSet<Name>, Stop<CaseFault>>
+/// The place of each part by its name, if no row repeats a name.
+fn places_of(alloc: Global, parts: &[PartRow]) -> Result<HashMap<Name, PartId>, Stop<CaseFault>>
     requires { length parts.now ≤ most_parts }
     ensures fault { StopsAt (first (double_part parts.now) (length parts.now)) result }
-    ensures names { IfOk result (λ names. names.keys ≡ part_names parts.now) }
+    ensures placed { IfOk result (λ places. ArePlaces places parts.now) }
+    ensures distinct { IfOk result (λ _. AreDistinct parts.now) }
 {
-    let mut names = IndexSet::new(alloc);
+    let mut places = HashMap::new(alloc);
     for k in 0..parts.len() {
         let part = parts[k];
-        let fresh = add_name(&mut names, part.name)?;
+        let fresh = put_place(&mut places, part.name, PartId(k as u16))?;
         if !fresh {
             return Err(Stop::Fault(CaseFault::DoublePart(k as u32 + 2)));
         }
     }
-    Ok(names)
+    Ok(places)
 }
 
 /// The place of the line unit of each shop unit.
 fn parents_of(
     alloc: Global,
-    names: &IndexSet<Name>,
+    places: &HashMap<Name, PartId>,
     parts: &[PartRow],
 ) -> Result<Vec<Option<PartId>>, NoMemory>
-    requires few { length parts.now ≤ most_parts }
-    requires numbered { names.now.keys ≡ part_names parts.now }
+    requires { ArePlaces places.now parts.now }
     ensures { IfOk result (λ v. AreParents parts.now v.items) }
 {
     let mut parents = Vec::new(alloc);
     for part in parts {
-        parents.push(parent_of(names, part))?;
+        parents.push(parent_of(places, part))?;
     }
     Ok(parents)
 }
 
 /// The place of the part named as the parent of this one.
-fn parent_of(names: &IndexSet<Name>, part: &PartRow) -> Option<PartId>
-    requires { length names.now.keys ≤ most_parts }
-    ensures { option_map (λ line. line.0) result ≡ option_and_then
-        (λ name. place_of name names.now.keys) part.now.parent }
+fn parent_of(places: &HashMap<Name, PartId>, part: &PartRow) -> Option<PartId>
+    ensures { result ≡ option_and_then (get bytes_eq places.now) part.now.parent }
 {
-    let place = names.get_index_of(&part.parent?)?;
-    Some(PartId(place as u16))
+    place_among(places, &part.parent?)
 }
 
 /// The first rule that a row breaks by its parent.
-fn parents_fault(names: &IndexSet<Name>, parts: &[PartRow]) -> Option<CaseFault>
+fn parents_fault(places: &HashMap<Name, PartId>, parts: &[PartRow]) -> Option<CaseFault>
     requires few { length parts.now ≤ most_parts }
-    requires numbered { names.now.keys ≡ part_names parts.now }
+    requires placed { ArePlaces places.now parts.now }
     ensures { result ≡ first (parent_fault parts.now) (length parts.now) }
 {
     for k in 0..parts.len() {
-        if let Some(fault) = parent_fault(names, parts, k) {
+        if let Some(fault) = parent_fault(places, parts, k) {
             return Some(fault);
         }
     }
@@ -430,31 +435,31 @@ fn parents_fault(names: &IndexSet<Name>, parts: &[PartRow]) -> Option<CaseFault>
 }
 
 /// The rule that row k breaks by its parent.
-fn parent_fault(names: &IndexSet<Name>, parts: &[PartRow], k: usize) -> Option<CaseFault>
+fn parent_fault(places: &HashMap<Name, PartId>, parts: &[PartRow], k: usize) -> Option<CaseFault>
     requires few { length parts.now ≤ most_parts }
     requires within { k < length parts.now }
-    requires numbered { names.now.keys ≡ part_names parts.now }
+    requires placed { ArePlaces places.now parts.now }
     ensures { result ≡ parent_fault parts.now k }
 {
     let part = parts[k];
     match part.parent {
-        Some(line) => shop_fault(parts, k, names.get_index_of(&line)),
+        Some(line) => shop_fault(parts, k, place_among(places, &line)),
         None => None,
     }
 }
 
 /// The rule that row k breaks as a shop unit; `line` is its parent's place, or None if no part has that name.
-fn shop_fault(parts: &[PartRow], k: usize, line: Option<usize>) -> Option<CaseFault>
+fn shop_fault(parts: &[PartRow], k: usize, line: Option<PartId>) -> Option<CaseFault>
     requires few { length parts.now ≤ most_parts }
     requires within { k < length parts.now }
-    requires line { IfSome line (λ l. l < length parts.now) }
-    ensures { result ≡ shop_fault parts.now k line }
+    requires line { IfSome line (λ l. l.0 < length parts.now) }
+    ensures { result ≡ shop_fault parts.now k (option_map (λ l. l.0) line) }
 {
     let row = k as u32 + 2;
     let Some(place) = line else {
         return Some(CaseFault::UnknownParent(row));
     };
-    let line = parts[place];
+    let line = parts[place.0 as usize];
     if line.parent.is_some() {
         return Some(CaseFault::ParentNotLine(row));
     }
