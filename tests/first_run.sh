@@ -141,4 +141,41 @@ SCRIPT
   printf 'another kit\n' >"$first/KIT-ID"
   keeps 'a proof by another kit' ci 'proving and searching, llvm two\n0 pub fn two() {}\n\n'
   keeps 'no room to keep a proof' ci 'proving and searching, llvm two\n0 pub fn two() {}\n\n' "$first/KIT-ID"
+
+  cat >"$first/bin/rt" <<SCRIPT
+#!$python
+import os, sys, types
+BACKENDS = {"llvm": "", "two": ".two"}
+STORE = "$first/rattle-kept"
+class Kept:
+    def __init__(self): self.at = STORE
+    def give(self, crate, tests, key): return os.path.exists(f"{self.at}/{key}")
+    def keep(self, key):
+        os.makedirs(self.at, exist_ok=True)
+        open(f"{self.at}/{key}", "w").close()
+class Crate:
+    made = []
+    def below(self): return []
+    def stamp(self): return "sum"
+    def compile_by(self, backend, words, to): return self.made.append(backend) or 0
+    def ci(self):
+        searching = "--empty-contracts" in rtlib.help_of("check")
+        self.compile_by("llvm", [], "out") or self.compile_by("two", [], "out")
+        print("proving and searching," if searching else "proving,", *sorted(self.made), *sorted(BACKENDS))
+rtlib = types.SimpleNamespace(Crate=Crate, help_of=lambda command: "--empty-contracts")
+# all are methods of rtlib.Crate
+def in_lanes(tasks): return tasks
+def main(words):
+    kept = Kept()
+    print("given") if kept.give(Crate(), False, "low") else kept.keep(Crate().ci() or "low")
+    return 4
+if __name__ == "__main__":
+    sys.exit(main(sys.argv[1:]))
+SCRIPT
+  rm -rf "$first/cache"
+  keeps 'a build by a kit that keeps proofs' '--build ci' 'proving, llvm llvm\n'
+  keeps 'such a build goes on where it stopped' '--build ci' 'given\n'
+  keeps 'the gate of such a kit takes nothing from a build' ci 'proving and searching, llvm two llvm two\n'
+  rm -rf "$first/cache"
+  keeps 'such a build takes what the gate kept' '--build ci' 'given\n'
 fi

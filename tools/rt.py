@@ -256,9 +256,10 @@ def main(words):
         kit = load(os.path.realpath(command))
         for name in FOUND_ONCE:
             find_once(kit.rtlib.Crate, name)
+        compilers = [*kit.BACKENDS]
         if is_build and (kit.keeps_nothing or kit.keeps_proofs):
             leave_out(kit)
-        compile_at_once(kit.Crate, [*kit.BACKENDS])
+        compile_at_once(kit.Crate, compilers)
         start_longest(kit)
         if kit.keeps_nothing:
             keep_proved(kit, Store(users_folder(), kit, is_build))
