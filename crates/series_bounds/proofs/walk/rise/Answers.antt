@@ -88,6 +88,25 @@ pub rise_on-requires : goal.rise_on-requires
 rise_on-requires g c =
     let t = c.loop-x.invariant in
     let at : AtIndex g.row.F c.args.mean c.args.excess c.loop-x.sum c.loop-x.last c.loop-x.x =
-    climb_at g.row.F c.args.mean c.args.excess c.loop-x.last c.loop-x.sum c.loop-x.x t.climb c.loop-x-test.true in
-    (lit< tt, (lit< tt, (lit< tt, (c.requires.positive, (c.requires.mean_top, (c.requires.excess_top, (c.requires.near,
-    (omega (arith, c.requires.place, c.requires.depth), (omega (arith, c.loop-x-test.true), (at, t.ratios))))))))))
+    climb_at g.row.F c.args.mean c.args.excess c.loop-x.last c.loop-x.sum c.loop-x.x t.climb c.loop-x-test.true in (
+      lit< tt,
+      (
+        lit< tt,
+        (
+          lit< tt,
+          (
+            c.requires.positive,
+            (
+              c.requires.mean_top,
+              (
+                c.requires.excess_top,
+                (
+                  c.requires.near,
+                  (omega (arith, c.requires.place, c.requires.depth), (omega (arith, c.loop-x-test.true), (at, t.ratios))),
+                ),
+              ),
+            ),
+          ),
+        ),
+      ),
+    )
