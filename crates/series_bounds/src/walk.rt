@@ -152,7 +152,7 @@ fn hold<const F: u32>(
 
 /// The sum, from an index past the pivot up to the first index at which the list may end, or until the weights stay the
 /// same; None if one exceeds 8. No weight is listed. `from` is the walk below the index, and `ratios` are those there.
-#[inline(never)]
+#[inline(always)]
 fn rise_on<const F: u32>(
     mean: Iv<F>,
     excess: Iv<F>,
