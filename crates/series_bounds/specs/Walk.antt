@@ -28,8 +28,8 @@ pub record Begins (u : ℕ → Ends) (wanted x : ℕ) (list : List Ends) : Type 
   pub most : length list ≤ x
   pub all : length list < wanted → length list ≡ x
 
--- the sum of the weights below next, which is past the pivot and not past the first index at which the list may end, and
--- the last of them
+-- the sum of the weights below next and the last of them; next is past the pivot and not past the first index at which
+-- the list may end
 pub record AtIndex (f : ℕ) (m d sum last : Ends) (next : ℕ) : Type 0 where
   pub sums : SumsTo f m d sum next
   pub past : pivot_at f m d < next
