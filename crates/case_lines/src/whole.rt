@@ -29,7 +29,7 @@ pub fn write_case(alloc: Global, case: &Case) -> Result<Vec<u8>, NoMemory>
 {
     // Most lines belong to pairs, with 20 to 60 bytes each.
     let pairs = case.part_count() as usize * case.site_count() as usize;
-    let mut out = Vec::with_capacity(alloc, 40 * pairs)?;
+    let mut out = Vec::with_capacity(alloc, 60 * pairs)?;
     put_case(&mut out, case)?;
     Ok(out)
 }

@@ -22,7 +22,7 @@ use series_bounds::short::Iv64;
 use std::alloc::Global;
 
 /// A chain has room for no more points at first.
-const FIRST_ROOM: usize = 64;
+const FIRST_ROOM: usize = 16;
 
 /// A placeholder chain for each base: one point of cost and score 0, without stocks. Want of memory is the only error.
 pub fn chains_of<'a>(alloc: Global, bases: &'a [Base]) -> Result<Vec<Chain<BaseSpot<'a>>>, NoMemory>

@@ -107,7 +107,7 @@ impl LowSpot {
 }
 
 /// A chain has room for no more points at first.
-const FIRST_ROOM: usize = 64;
+const FIRST_ROOM: usize = 16;
 
 /// A placeholder chain for each base: one point of cost and score 0. Want of memory is the only error.
 pub(crate) fn low_chains_of(alloc: Global, bases: &[Base]) -> Result<Vec<Chain<LowSpot>>, NoMemory>

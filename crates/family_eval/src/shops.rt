@@ -56,7 +56,7 @@ fn shop_items<const F: u32>(
     ensures { IfOk result (λ v. v.items ≡ part_items F inputs.now.case inputs.now.stocks.list part.0) }
 {
     let depot = depot_shop_at(alloc, inputs, part)?;
-    let mut items = Vec::new(alloc);
+    let mut items = Vec::with_capacity(alloc, usize::from(inputs.sites()))?;
     items.push(depot)?;
     for j in 1..inputs.sites() {
         let item = base_shop_at(alloc, inputs, part, SiteId(j), &depot)?;
@@ -76,7 +76,8 @@ pub(crate) fn all_shop_items<const F: u32>(
     ensures { IfOk result (λ v. v.items ≡ flat_map
         (λ p. part_items F inputs.now.case inputs.now.stocks.list p.0) shops.now) }
 {
-    let mut items = Vec::new(alloc);
+    let sites = usize::from(inputs.sites());
+    let mut items = Vec::with_capacity(alloc, shops.len().saturating_mul(sites))?;
     for part in shops {
         let mut row = shop_items(alloc, inputs, *part)?;
         items.append(&mut row)?;

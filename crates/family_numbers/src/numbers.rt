@@ -113,7 +113,8 @@ fn all_numbers<const F: u32>(
     ensures { IfOk result (λ v. v.items ≡ flat_map
         (λ p. map (pair_numbers F rated.now.case p.0) (all_sites rated.now.case)) parts.now) }
 {
-    let mut numbers = Vec::new(alloc);
+    let sites = usize::from(rated.case().site_count());
+    let mut numbers = Vec::with_capacity(alloc, parts.len().saturating_mul(sites))?;
     for part in parts {
         let mut row = part_numbers(alloc, rated, *part)?;
         numbers.append(&mut row)?;

@@ -4,11 +4,12 @@ use Rattle.std.specs.Prelude.{nat_le, bytes_eq}
 use Rattle.std.specs.Fmt.{decimal}
 use Rattle.std.specs.Str.Parse.{digits_value, digits_value_after}
 use Rattle.std.specs.Char.{digit_value}
+use Rattle.std.proofs.Math.ListN.{set}
 use Rattle.std.proofs.Math.Nat.{div-div-eq-div-mul, pow-suc, div-le_self, one-le-pow}
 use Rattle.std.proofs.lemmas.Bool.{and_parts, and_from, leb-true, le-leb}
 use Rattle.std.proofs.lemmas.Nat.{div-add-mod'}
 use Rattle.std.proofs.lemmas.Str.{digit_value_digit}
-use Rattle.std.proofs.lemmas.List.{take-append-drop, length-drop}
+use Rattle.std.proofs.lemmas.List.{take-append-drop, length-drop, drop-set}
 use Rattle.std.proofs.lemmas.Slice.Eq.{bytes_eq-Decides}
 use Rattle.fixed_interval.specs.Text.{last_digits, fixed_text}
 use Rattle.fixed_interval.proofs.Public.{length_last_digits, after_last_digits, last_digits_none}
@@ -199,3 +200,15 @@ front_more places k n unit h e =
 -- where all places are written none is left
 pub last_at : (places k n : ℕ) → places ≤ k → last_digits (places - k) n ≡ []
 last_at places k n h = let z : places - k ≡ 0 = omega (arith, h) in rw z (last_digits_none n)
+
+-- the next digit from the last goes before those that end the bytes
+pub digit_before : (bytes : List ℕ) (i k n left : ℕ) → i < length bytes → left ≡ n / 10 ^ k → drop (i + 1) bytes ≡ last_digits k n → drop i (set bytes i (48 + left % 10)) ≡ last_digits (k + 1) n
+digit_before bytes i k n left h l e =
+    let p : k + 1 ≡ suc k = omega arith in
+    drop-set bytes i (48 + left % 10) h ∙ rw (p, l, e) (sym (last_front k n))
+
+-- the number without its last digits falls by one place
+pub tenth : (n k : ℕ) → n / 10 ^ k / 10 ≡ n / 10 ^ (k + 1)
+tenth n k =
+    let p : k + 1 ≡ suc k = omega arith in
+    rw (p, pow-suc 10 k) (div-div-eq-div-mul n (10 ^ k) 10)

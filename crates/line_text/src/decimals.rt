@@ -1,12 +1,26 @@
 //! Numbers with fixed places as fields: whole numbers of units of the last place.
 
-ghost use Rattle.std.specs.Prelude.{◌≡◌, ℕ, List, ◌^◌, ◌≤◌, ◌++◌, ◌∷◌, length, MatchOption};
+ghost use Rattle.std.specs.Prelude.{
+  ◌≡◌,
+  ℕ,
+  List,
+  ◌^◌,
+  ◌-◌,
+  ◌/◌,
+  ◌≤◌,
+  ◌++◌,
+  ◌∷◌,
+  drop,
+  length,
+  MatchOption,
+};
 ghost use Rattle.fixed_interval.specs.Text.{fixed_text, last_digits};
 ghost use Rattle.line_text.specs.Texts.{fixed};
 ghost use Rattle.line_text.specs.Writing.{Puts};
 
 use crate::numbers::{are_digits, number, put_number, value_after};
 use answers::NoMemory;
+use itoa::write_digits;
 
 /// The bytes before and after the point, if the point is before the last `places` bytes.
 #[tactic(auto, using(crate::proofs::FixedLaws::too_short, crate::proofs::FixedLaws::no_point, crate::proofs::FixedLaws::point_found))]
@@ -78,9 +92,8 @@ fn put_last_digits(
     Ok(())
 }
 
-/// Writes a number of units of the last of `places` decimals, with all of them. After want of memory a part of it may
-/// be written.
-pub fn put_fixed(out: &mut Vec<u8>, places: usize, number: u128) -> Result<(), NoMemory>
+/// Writes a number of any length with `places` decimals.
+fn put_wide_fixed(out: &mut Vec<u8>, places: usize, number: u128) -> Result<(), NoMemory>
     requires { places ≤ 18 }
     ensures { Puts result out.old.items out.new.items (fixed_text places number) }
 {
@@ -89,4 +102,45 @@ pub fn put_fixed(out: &mut Vec<u8>, places: usize, number: u128) -> Result<(), N
     out.push(b'.')?;
     put_last_digits(out, places, power, number)?;
     Ok(())
+}
+
+/// Ends the bytes with the last decimal digits of a number, and returns the number without them.
+fn end_with_digits(bytes: &mut [u8; 40], places: usize, number: u64) -> u64
+    requires { places ≤ 18 }
+    ensures rest { result ≡ number / 10 ^ places }
+    ensures written { drop (40 - places) bytes.new ≡ last_digits places number }
+{
+    let mut left = number;
+    for k in 0..places {
+        bytes[39 - k] = b'0' + (left % 10) as u8;
+        left /= 10;
+    }
+    left
+}
+
+/// Writes a number of 64 bits with `places` decimals, by no division but by 10.
+fn put_short_fixed(out: &mut Vec<u8>, places: usize, number: u64) -> Result<(), NoMemory>
+    requires { places ≤ 18 }
+    ensures { Puts result out.old.items out.new.items (fixed_text places number) }
+{
+    let mut bytes = [0; 40];
+    let whole = end_with_digits(&mut bytes, places, number);
+    let point = 39 - places;
+    bytes[point] = b'.';
+    let start = write_digits(whole, &mut bytes[..], point);
+    out.extend_from_slice(&bytes[start..])?;
+    Ok(())
+}
+
+/// Writes a number of units of the last of `places` decimals, with all of them. After want of memory a part of it may
+/// be written.
+pub fn put_fixed(out: &mut Vec<u8>, places: usize, number: u128) -> Result<(), NoMemory>
+    requires { places ≤ 18 }
+    ensures { Puts result out.old.items out.new.items (fixed_text places number) }
+{
+    if number < 1 << 64 {
+        put_short_fixed(out, places, number as u64)
+    } else {
+        put_wide_fixed(out, places, number)
+    }
 }

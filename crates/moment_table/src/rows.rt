@@ -126,6 +126,9 @@ fn bare_to<const F: u32>(
     Ok(rows)
 }
 
+/// The room for weights beyond those of a table: all weights up to the pivot are listed.
+const ROOM_BESIDE: usize = 4;
+
 /// The rows of a pipeline's table at the stocks 0 to `last`, with the first tails.
 pub(crate) fn rows_of<const F: u32>(
     alloc: Global,
@@ -139,7 +142,7 @@ pub(crate) fn rows_of<const F: u32>(
     requires tails { tails ≤ last }
     ensures { IfOk result (HasRows F (at_stock (table_rows F mean.entry variance.entry)) (last + 1) tails) }
 {
-    let mut list = Vec::with_capacity(alloc, last as usize)?;
+    let mut list = Vec::with_capacity(alloc, last as usize + ROOM_BESIDE)?;
     match weigh_to(&mut list, mean, variance, last)? {
         Some(sum) => {
             let rows = known_to(alloc, mean, variance, list.as_slice(), sum, last, tails)?;

@@ -208,7 +208,9 @@ pub fn text(alloc: Global, certificate: &Certificate) -> Result<Vec<u8>, NoMemor
     requires { IsWellFormed certificate.now }
     ensures { IfOk result (λ bytes. bytes.items ≡ cert_text certificate.now) }
 {
-    let mut out = Vec::new(alloc);
+    // Most lines belong to pairs, with 20 to 60 bytes each and a stock.
+    let pairs = certificate.case.part_count() as usize * certificate.case.site_count() as usize;
+    let mut out = Vec::with_capacity(alloc, 64 * pairs + 1_024)?;
     put_certificate(alloc, &mut out, certificate)?;
     Ok(out)
 }

@@ -8,7 +8,7 @@ use Rattle.list_laws.proofs.Public.{below_more}
 use Rattle.fixed_interval.specs.Ends.{Ends, ends_add, ends_exact, ends_mul}
 use Rattle.fixed_interval.proofs.Public.{unit_most}
 use Rattle.series_bounds.specs.Profile.{ratio_ends, back_ends, pivot_at, weight_ends, has_remainder, ratio_bound, remainder_at, may_end, last_index, is_wide, ends_sum, ends_raised, least_end, listed, weights_of}
-use Rattle.series_bounds.specs.Walk.{AtLeastEnd, EndsAt, GoesOn, Midway, StaysFrom, SumsTo}
+use Rattle.series_bounds.specs.Walk.{AtIndex, AtLeastEnd, EndsAt, GoesOn, Midway, StaysFrom, SumsTo}
 use Rattle.series_bounds.specs.declared.kinds.Weights.TheVariants.{Known}
 use Rattle.series_bounds.specs.Answer.{IsSum, at_place}
 use Rattle.series_bounds.proofs.Enclosure.{profile_sized, known_answer, listed_at, rest_small}
@@ -156,6 +156,27 @@ climb_unended f m d last sum x h q l =
     let e : last_index f m d ≡ 1024 =
     last_is f m d 1024 (omega (arith, q)) (omega arith) (omega arith) (λ y a b. h.passed y a (omega (arith, b, l))) (λ i. absurd (omega (arith, i))) in
     wide_unended f m d (rw e (h.unended l))
+
+-- ---- below the first index at which the list may end
+
+-- a walk up stands at its index
+pub climb_at : (f : ℕ) (m d last sum : Ends) (x : ℕ) → Climb f m d last sum x → x < 63 → AtIndex f m d sum last x
+climb_at f m d last sum x h l = record {
+  sums = h.sums;
+  past = h.past;
+  before_end = omega (arith, l, end_from_63 f m d);
+  last_is = h.last_is;
+}
+
+-- the walk up goes on from such an index
+pub climb_from : (f : ℕ) (m d last sum : Ends) (x : ℕ) → AtIndex f m d sum last x → x ≤ 63 → Climb f m d last sum x
+climb_from f m d last sum x h l = record {
+  past = h.past;
+  last_is = h.last_is;
+  sums = h.sums;
+  passed = λ y a b. absurd (omega (arith, a, b, h.before_end));
+  unended = λ i. absurd (omega (arith, i, l));
+}
 
 -- ---- at the first index at which the list may end
 

@@ -28,6 +28,14 @@ pub record Begins (u : ℕ → Ends) (wanted x : ℕ) (list : List Ends) : Type 
   pub most : length list ≤ x
   pub all : length list < wanted → length list ≡ x
 
+-- the sum of the weights below next and the last of them; next is past the pivot and not past the first index at which
+-- the list may end
+pub record AtIndex (f : ℕ) (m d sum last : Ends) (next : ℕ) : Type 0 where
+  pub sums : SumsTo f m d sum next
+  pub past : pivot_at f m d < next
+  pub before_end : next ≤ least_end f m d
+  pub last_is : last ≡ weight_ends f m d (next - 1)
+
 -- the sum of the weights below next, and the last of them; all later ones before the list may end are the same
 pub record Midway (f : ℕ) (m d sum last : Ends) (next : ℕ) : Type 0 where
   pub sums : SumsTo f m d sum next

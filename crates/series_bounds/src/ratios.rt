@@ -67,6 +67,7 @@ fn over<const F: u32>(lower: u64, upper: u64, x: u32) -> Iv64<F>
 }
 
 /// A number of any length over an index, rounded down.
+#[inline(never)]
 fn long_over(num: u64, x: u32) -> u64
     requires { 0 < x }
     ensures { result ≡ num / x }

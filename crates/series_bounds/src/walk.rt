@@ -4,8 +4,8 @@ ghost use Rattle.std.specs.Prelude.{◌≡◌, ◌+◌, ◌*◌, ◌^◌, ◌<�
 ghost use Rattle.std.specs.List.{All};
 ghost use Rattle.fixed_interval.specs.Ends.{Ends, InScale, IsWithinLimit};
 ghost use Rattle.series_bounds.specs.Profile.{back_ends, pivot_at, least_end, weight_ends, is_wide, ends_sum};
-ghost use Rattle.series_bounds.specs.Ratios.{IsNear};
-ghost use Rattle.series_bounds.specs.Walk.{AreWeighed, AtLeastEnd, Begins, Midway, StaysFrom, SumsTo, ToPivot};
+ghost use Rattle.series_bounds.specs.Ratios.{AreRatios, IsNear};
+ghost use Rattle.series_bounds.specs.Walk.{AreWeighed, AtIndex, AtLeastEnd, Begins, Midway, StaysFrom, SumsTo, ToPivot};
 ghost use Rattle.series_bounds.specs.Answer.{IsSum};
 
 use crate::plain::risen_plain;
@@ -150,6 +150,54 @@ fn hold<const F: u32>(
     Ok(())
 }
 
+/// The sum, from an index past the pivot up to the first index at which the list may end, or until the weights stay the
+/// same; None if one exceeds 8. No weight is listed. `from` is the walk below the index, and `ratios` are those there.
+#[inline(always)]
+fn rise_on<const F: u32>(
+    mean: Iv<F>,
+    excess: Iv<F>,
+    from: Walked<F>,
+    ratios: Ratios<F>,
+) -> Option<Walked<F>>
+    requires positive { 0 < mean.lo }
+    requires mean_top { IsWithinLimit F mean }
+    requires excess_top { excess.hi ≤ 2048 * 2 ^ F }
+    requires near { IsNear F excess }
+    requires depth { pivot_at F mean excess ≤ 256 }
+    requires within { from.next ≤ 63 }
+    requires begun { AtIndex F mean excess from.sum from.last from.next }
+    requires ratios { AreRatios F mean excess from.next ratios }
+    ensures wide { IfNone result (is_wide F mean.entry excess.entry ≡ true) }
+    ensures known { IfSome result (λ b. Midway F mean.entry excess.entry b.sum b.last b.next) }
+    ensures onward { IfSome result (λ b. from.entry.next ≤ b.next) }
+{
+    let Walked {
+        mut sum,
+        mut last,
+        next,
+    } = from;
+    let mut ratios = ratios;
+    for x in next..FIRST_END {
+        last = last.times(ratios.take(mean, excess, x));
+        if last.passes_8() {
+            return None;
+        }
+        sum = sum.add(last);
+        if stays(&mean, &excess, last, x + 1) {
+            return Some(Walked {
+                sum,
+                last,
+                next: x + 1,
+            });
+        }
+    }
+    Some(Walked {
+        sum,
+        last,
+        next: FIRST_END,
+    })
+}
+
 /// The first weights and the sum, from the pivot up to the first index at which the list may end, or until the weights
 /// stay the same; None if one exceeds 8. `list` has the weights to the pivot, and `low` is their sum.
 #[inline(never)]
@@ -180,6 +228,10 @@ fn rise<const F: u32>(
     let mut last = Iv64::one();
     let mut ratios = Ratios::at(mean, excess, first);
     for x in first..FIRST_END {
+        if list.len() >= wanted {
+            let from = Walked { sum, last, next: x };
+            return Ok(rise_on(mean, excess, from, ratios));
+        }
         last = last.times(ratios.take(mean, excess, x));
         if last.passes_8() {
             return Ok(None);

@@ -130,5 +130,5 @@ pub(crate) fn is_behind(
     requires small { place.lo < most_sum }
     ensures { IsTrue result → IsBehind below.now place lane lo }
 {
-    is_under(below, end, place, lane, lo) && is_past(below, k, place)
+    is_past(below, k, place) && is_under(below, end, place, lane, lo)
 }

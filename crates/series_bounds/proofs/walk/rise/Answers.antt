@@ -3,9 +3,9 @@ use Rattle.std.proofs.Math.Nat.{le-max_left, le-max_right}
 use Rattle.fixed_interval.specs.Ends.{InScale, IsInterval}
 use Rattle.fixed_interval.proofs.Public.{unit_most}
 use Rattle.series_bounds.specs.Profile.{pivot_at, least_end, weight_ends}
-use Rattle.series_bounds.specs.Walk.{Begins}
+use Rattle.series_bounds.specs.Walk.{AtIndex, Begins}
 use Rattle.series_bounds.proofs.Walks.{end_from_63, least_from}
-use Rattle.series_bounds.proofs.Unlisted.{Climb, climb_start, climb_top, climb_weight, climb_wide, climb_next, climb_least, climb_stays, early_on}
+use Rattle.series_bounds.proofs.Unlisted.{Climb, climb_start, climb_top, climb_weight, climb_wide, climb_next, climb_least, climb_stays, climb_at, early_on}
 use Rattle.series_bounds.proofs.walk.rise.Goals as goal
 
 pub loop-x-init : goal.loop-x-init
@@ -83,3 +83,30 @@ returns-clause-first g c =
     let p : c.from-first.result ≡ pivot_at g.row.F c.args.mean c.args.excess = c.from-first.ensures ∙ c.requires.place in
     let x : c.loop-x.x ≡ c.max-next.result = next_is c.from-first.result (pivot_at g.row.F c.args.mean c.args.excess) c.loop-x.x c.max-next.result p c.loop-x.auto.x (omega (arith, c.loop-x-test.false)) c.loop-x.invariant.most c.max-next.ensures in
     rw (← x) c.loop-x.invariant.first
+
+pub rise_on-requires : goal.rise_on-requires
+rise_on-requires g c =
+    let t = c.loop-x.invariant in
+    let at : AtIndex g.row.F c.args.mean c.args.excess c.loop-x.sum c.loop-x.last c.loop-x.x =
+    climb_at g.row.F c.args.mean c.args.excess c.loop-x.last c.loop-x.sum c.loop-x.x t.climb c.loop-x-test.true in (
+      lit< tt,
+      (
+        lit< tt,
+        (
+          lit< tt,
+          (
+            c.requires.positive,
+            (
+              c.requires.mean_top,
+              (
+                c.requires.excess_top,
+                (
+                  c.requires.near,
+                  (omega (arith, c.requires.place, c.requires.depth), (omega (arith, c.loop-x-test.true), (at, t.ratios))),
+                ),
+              ),
+            ),
+          ),
+        ),
+      ),
+    )
