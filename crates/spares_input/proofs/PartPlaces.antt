@@ -81,6 +81,7 @@ module _ {S : Type 0} (before : HashMap (List ℕ) PartId S) (parts : List PartR
   pub none_before : is_none (get bytes_eq before r.name) ≡ not (is_among r.name (part_names (take k parts)))
   none_before = none_kept (get bytes_eq before r.name) ∙ ap is_none (old r.name) ∙ no_place r.name names
 
+  -- the names stay distinct if the map has no place for the next part's name
   pub still_distinct : AreDistinct (take k parts) → is_none (get bytes_eq before r.name) ≡ true → AreDistinct (take (k + 1) parts)
   still_distinct distinct none =
       subst (IsDistinct bytes_eq) (part_names_more parts k r within row)
