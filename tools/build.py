@@ -2,10 +2,10 @@
 """Proves and builds the program of this checkout: python3 tools/build.py
 
 The script `spares` calls it when the program is missing or older than its sources. It copies the crates that the program
-needs, without their wrong bodies, to a folder of its own, and has the kit's gate (by rt.py) prove them there, with some
-kits without its search for contracts that no call can meet: as many side by side as there are processors and as memory
-holds, the longest chain of crates first. The kit keeps each crate that is proved, so an interrupted run goes on where it
-stopped, and of two runs at once each takes what the other has proved.
+needs, without their wrong bodies, to a folder of its own, and has the kit's gate (by rt.py) prove them there, without its
+search for contracts that no call can meet: as many side by side as there are processors and as memory holds, the longest
+chain of crates first. Each crate that is proved is kept, so an interrupted run goes on where it stopped, and of two runs
+at once each takes what the other has proved.
 
 One line on the standard error for each crate that is proved; nothing on the standard output. Ends with status 0 when the
 program is built, and else with 1, after the log of the run.
