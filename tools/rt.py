@@ -9,8 +9,8 @@ It is `rt WORDS..`, but for four things that say nothing about what is proved, a
   the prover loads at each, so that it begins with those that the most work waits for.
 - Some kits keep nothing that their gate proves. With these, each library that is proved stays in a folder of the user's,
   and is taken from there while its text, the kit, and all that was built below it are the same.
-- `--build` leaves out what the gate does besides proofs: the search for contracts that no call can meet, a seventh of the
-  work, and the program by the second compiler. What a build keeps stays in that folder too, and serves builds alone.
+- `--build` leaves out what the gate does besides proofs: the search for contracts that no call can meet, about a tenth of
+  the work, and the program by the second compiler. What a build keeps stays in that folder too, and serves builds alone.
 With a kit that works otherwise this is `rt` as it is.
 """
 import concurrent.futures
