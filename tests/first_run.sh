@@ -154,7 +154,7 @@ class Kept:
         os.makedirs(self.at, exist_ok=True)
         open(f"{self.at}/{key}", "w").close()
 class Crate:
-    made = []
+    made, is_program = [], os.path.exists("$first/is_program")
     def below(self): return []
     def stamp(self): return "sum"
     def compile_by(self, backend, words, to): return self.made.append(backend) or 0
@@ -178,4 +178,6 @@ SCRIPT
   keeps 'the gate of such a kit takes nothing from a build' ci 'proving and searching, llvm two llvm two\n'
   rm -rf "$first/cache"
   keeps 'such a build takes what the gate kept' '--build ci' 'given\n'
+  : >"$first/is_program"
+  keeps 'such a build leaves the program of the gate where it is' '--build ci' 'proving, llvm llvm\n'
 fi

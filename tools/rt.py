@@ -91,12 +91,15 @@ def leave_out(kit):
 
 
 def keep_apart(kit):
-    """Has a kit that keeps proofs keep those of this build in the user's folder, and take them from both places."""
+    """Has a kit that keeps proofs keep those of this build in the user's folder, and take libraries from both places. The
+    gate's program, by two compilers, would count as damaged here, and be dropped."""
     of_gate, give = kit.STORE, kit.Kept.give
 
     def answer(self, crate, tests, key):
         if give(self, crate, tests, key):
             return True
+        if crate.is_program:
+            return False
         gate = copy.copy(self)
         gate.at = of_gate if is_own(of_gate) else None
         return give(gate, crate, tests, key)
