@@ -62,7 +62,7 @@ pub(crate) fn last_within(points: &[Point], k: usize, cost: u64) -> usize
     last
 }
 
-/// Whether `place` is known to be no vertex: if `is_past`, or if the step from the point at `k` to the next one shows it.
+/// Whether `place` is known to be no vertex: `is_past` shows it, or the step from the point at `k` to the next one.
 pub(crate) fn is_passed(below: &[Point], k: usize, place: Place, is_past: bool) -> bool
     requires few { length below.now ≤ most_points }
     requires ranges { (v : Point) → Among v below.now → InRange v }
@@ -115,8 +115,8 @@ fn is_under(below: &[Point], k: usize, place: Place, lane: Lane, lo: u128) -> bo
 }
 
 /// Whether no later step from `place` can reach a new vertex, because `below` already lies under every such step:
-/// `is_past` and its point at `end` show it. The steps are no steeper than that of `lane`, and they lead to no lower end below
-/// `lo`.
+/// `is_past` and its point at `end` show it. The steps are no steeper than that of `lane`, and they lead to no lower
+/// end below `lo`.
 pub(crate) fn is_behind(
     below: &[Point],
     is_past: bool,
