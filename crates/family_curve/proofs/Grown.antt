@@ -16,8 +16,8 @@ pub curve_grows : (ps qs c e : List Point) → IsCurve ps c → IsCurve (c ++ qs
 curve_grows ps qs c e a h = stand_for (ps ++ qs) (c ++ qs) e (stand_for_both ps qs c qs (curve_stands ps c a) (stand_self qs)) h
 
 -- points in either order have one curve
-pub curve_grows_back : (ps qs c e : List Point) → IsCurve ps c → IsCurve (c ++ qs) e → IsCurve (qs ++ ps) e
-curve_grows_back ps qs c e a h = of_members (ps ++ qs) (qs ++ ps) e (λ v. (swapped ps qs v, swapped qs ps v)) (curve_grows ps qs c e a h)
+pub curve_turned : (ps qs c : List Point) → IsCurve (ps ++ qs) c → IsCurve (qs ++ ps) c
+curve_turned ps qs c h = of_members (ps ++ qs) (qs ++ ps) c (λ v. (swapped ps qs v, swapped qs ps v)) h
   where
     swapped : (xs ys : List Point) (v : Point) → Among v (xs ++ ys) → Among v (ys ++ xs)
     swapped xs ys v m = elim (among_either v xs ys m) [ inl k ↦ among_right v ys xs k | inr k ↦ among_left v ys xs k ]

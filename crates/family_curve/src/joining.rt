@@ -298,8 +298,8 @@ fn with_shops<'b, S: Score>(
     with_lines(alloc, so_far, work, sources, score, &tables, shops)
 }
 
-/// The curve of all vectors of the family within its bounds. The shop units' stocks at the depot are taken in falling
-/// dictionary order.
+/// The curve of all vectors of the family within its bounds. The most shop units at the depot come first, because their
+/// points pass many of the others; the other choices follow in dictionary order.
 fn whole_curve<'b, S: Score>(
     alloc: Global,
     work: &mut Work<'b>,
@@ -316,16 +316,9 @@ fn whole_curve<'b, S: Score>(
     let count = family.shop_count(SiteId(0));
     let mut parts = ShopParts::new(alloc);
     let mut curve = with_shops(alloc, None, work, sources, score, &mut parts, count - 1)?;
-    for n in 1..count {
-        curve = with_shops(
-            alloc,
-            Some(curve),
-            work,
-            sources,
-            score,
-            &mut parts,
-            count - 1 - n,
-        )?;
+    for n in 0..count - 1 {
+        let so_far = Some(curve);
+        curve = with_shops(alloc, so_far, work, sources, score, &mut parts, n)?;
     }
     Ok(curve)
 }

@@ -39,17 +39,24 @@ pub(crate) struct Lows {
     begins_high: bool,
     /// How often the bounds have failed, less how often they have sufficed.
     failures: u32,
-    /// The number of stocks so far.
+    /// The number of stocks so far, those at which bounds sufficed as several.
     seen: u32,
-    /// The line unit's stocks at which bounds failed and that have added something each time since, each as a bit.
+    /// The line unit's stocks at which bounds failed and that have added something each time since, each as a bit; and
+    /// the stock 0 until it adds nothing.
     failed_at: u64,
 }
 
-/// With more failures than this, and one for each 16 stocks so far, bounds aren't tried.
-const MOST_FAILURES: u32 = 2;
+/// With more failures than this, and one for each 64 stocks so far, bounds aren't tried.
+const MOST_FAILURES: u32 = 1;
 
 /// The number of stocks for which one more failure is allowed.
-const FOR_A_FAILURE: u32 = 16;
+const FOR_A_FAILURE: u32 = 64;
+
+/// Stocks at which bounds suffice count as so many more.
+const FOR_A_SUCCESS: u32 = 8;
+
+/// The bit of the line unit's stock 0: without line units the depot is so cheap that its points mostly add something.
+const WITHOUT_LINE_UNITS: u64 = 1;
 
 /// The scratch lists for these bases.
 pub(crate) fn lows_of(alloc: Global, bases: &[Base]) -> Result<Lows, NoMemory>
@@ -64,7 +71,7 @@ pub(crate) fn lows_of(alloc: Global, bases: &[Base]) -> Result<Lows, NoMemory>
         begins_high: false,
         failures: 0,
         seen: 0,
-        failed_at: 0,
+        failed_at: WITHOUT_LINE_UNITS,
     })
 }
 
@@ -204,6 +211,7 @@ pub(crate) fn are_passed<S: Score>(
     let passed = lie_above(alloc, lows, sources, score, tables, first, below)?;
     if passed {
         lows.failures = lows.failures.saturating_sub(1);
+        lows.seen = lows.seen.saturating_add(FOR_A_SUCCESS);
     } else {
         lows.failures = lows.failures.saturating_add(1);
         lows.failed_at |= bit;

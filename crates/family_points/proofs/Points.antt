@@ -213,16 +213,7 @@ flat_last f vs d h e =
     ap (flat_map f) (drop_more vs (length vs - 1) [] (omega (arith, h)) ∙ ap (λ (ws : List (List ℕ)). get_or vs (length vs - 1) [] ∷ ws) (drop_all (length vs - 1 + 1) vs all))
     ∙ append-nil (f (get_or vs (length vs - 1) [])) ∙ ap f (sym e)
 
--- the points of the last n + 1 vectors are those of the one before the last n and those of these
-pub flat_before : (f : List ℕ → List Point) (vs : List (List ℕ)) (n : ℕ) (d : List ℕ) → n < length vs → d ≡ get_or vs (length vs - 1 - n) []
-    → flat_map f (drop (length vs - (n + 1)) vs) ≡ f d ++ flat_map f (drop (length vs - n) vs)
-flat_before f vs n d h e =
-    let at : length vs - (n + 1) ≡ length vs - 1 - n = omega arith in
-    let next : length vs - 1 - n + 1 ≡ length vs - n = omega (arith, h) in
-    ap (λ k. flat_map f (drop k vs)) at ∙ ap (flat_map f) (drop_more vs (length vs - 1 - n) [] (omega (arith, h)))
-    ∙ ap (λ (v : List ℕ). f v ++ flat_map f (drop (length vs - 1 - n + 1) vs)) (sym e) ∙ ap (λ k. f d ++ flat_map f (drop k vs)) next
-
--- the same of n + 1 numbers up to b
+-- the points of n + 1 numbers up to b are those of the first, and those of the n after it
 pub flat_stock_before : (f : ℕ → List Point) (b n s : ℕ) → n ≤ b → s ≡ b - n → flat_map f (range_with_len (b + 1 - (n + 1)) (n + 1)) ≡ f s ++ flat_map f (range_with_len (b + 1 - n) n)
 flat_stock_before f b n s h e =
     let first : b + 1 - (n + 1) ≡ s = omega (arith, e) in

@@ -62,19 +62,20 @@ pub(crate) fn last_within(points: &[Point], k: usize, cost: u64) -> usize
     last
 }
 
-/// Whether the point at `k`, or its step to the next one, shows that `place` is no vertex.
-pub(crate) fn is_passed(below: &[Point], k: usize, place: Place) -> bool
+/// Whether `place` is known to be no vertex: `is_past` shows it, or the step from the point at `k` to the next one.
+pub(crate) fn is_passed(below: &[Point], k: usize, place: Place, is_past: bool) -> bool
     requires few { length below.now ≤ most_points }
     requires ranges { (v : Point) → Among v below.now → InRange v }
+    requires past { IsTrue is_past → IsPast below.now place }
     ensures { IsTrue result → IsPassed below.now place }
 {
+    if is_past {
+        return true;
+    }
     if k >= below.len() {
         return false;
     }
     let u = &below[k];
-    if is_better(u, place) {
-        return true;
-    }
     if k + 1 >= below.len() {
         return false;
     }
@@ -82,7 +83,7 @@ pub(crate) fn is_passed(below: &[Point], k: usize, place: Place) -> bool
 }
 
 /// Whether the point at `k` costs no more than `place` and is no higher, and differs from it.
-fn is_past(below: &[Point], k: usize, place: Place) -> bool
+pub(crate) fn is_past(below: &[Point], k: usize, place: Place) -> bool
     ensures { IsTrue result → IsPast below.now place }
 {
     k < below.len() && is_better(&below[k], place)
@@ -113,12 +114,12 @@ fn is_under(below: &[Point], k: usize, place: Place, lane: Lane, lo: u128) -> bo
     dearer * lane.fall < (place.lo - lo) * u128::from(lane.rise)
 }
 
-/// Whether no later step from `place` can reach a new vertex, because `below` already lies under every such step: its
-/// points at `k` and `end` show it. The steps are no steeper than that of `lane`, and they lead to no lower end below
-/// `lo`.
+/// Whether no later step from `place` can reach a new vertex, because `below` already lies under every such step:
+/// `is_past` and its point at `end` show it. The steps are no steeper than that of `lane`, and they lead to no lower
+/// end below `lo`.
 pub(crate) fn is_behind(
     below: &[Point],
-    k: usize,
+    is_past: bool,
     end: usize,
     place: Place,
     lane: Lane,
@@ -128,7 +129,8 @@ pub(crate) fn is_behind(
     requires step { IsStep lane }
     requires lo { lo ≤ place.lo }
     requires small { place.lo < most_sum }
+    requires past { IsTrue is_past → IsPast below.now place }
     ensures { IsTrue result → IsBehind below.now place lane lo }
 {
-    is_past(below, k, place) && is_under(below, end, place, lane, lo)
+    is_past && is_under(below, end, place, lane, lo)
 }
