@@ -7,6 +7,7 @@ ghost use Rattle.fleet_model.specs.Units.{pipeline_scale};
 
 use demand_rates::kinds::PIPELINE_SCALE;
 use fixed_interval::Iv;
+use quotients::quotient;
 
 /// The binary places that a pipeline's numerator and its denominator lose, so that the denominator has 64 bits.
 const LOST: u32 = 18;
@@ -19,7 +20,7 @@ fn quotient_ends<const F: u32>(num: u128, den: u128) -> Iv<F>
     requires room { div_ceil num den < 2 ^ 127 }
     ensures { result ≡ record { lo = num / den; hi = div_ceil num den } }
 {
-    let below = num / den;
+    let below = quotient(num, den);
     let above = if below * den == num { below } else { below + 1 };
     Iv::of_ends(below, above)
 }

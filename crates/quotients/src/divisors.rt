@@ -37,6 +37,7 @@ struct Rough {
 
 impl<const F: u32> Divisor<F> {
     /// The divisor `den`, in units.
+    #[inline(always)]
     pub fn of(den: u64) -> Divisor<F>
         requires scale { F ≤ 52 }
         requires least { 2 ^ F ≤ den }
@@ -67,6 +68,7 @@ impl<const F: u32> Divisor<F> {
     }
 
     /// Another divisor. If it is equal or slightly less, this takes two products and a trial.
+    #[inline(always)]
     pub fn beside(self, den: u64) -> Divisor<F>
         requires scale { F ≤ 52 }
         requires least { 2 ^ F ≤ den }
@@ -78,6 +80,7 @@ impl<const F: u32> Divisor<F> {
 
     /// The divisor `den`, in units, with a guess of its inverse. If the guess is the inverse or one less, no division
     /// is made.
+    #[inline(always)]
     fn by_guess(den: u64, guess: u64) -> Divisor<F>
         requires scale { F ≤ 52 }
         requires least { 2 ^ F ≤ den }

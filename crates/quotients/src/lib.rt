@@ -147,6 +147,31 @@ fn high_half(a: u64, b: u64) -> u64
     ((u128::from(a) * u128::from(b)) >> 64) as u64
 }
 
+/// A guess at `num / den`, for a quotient of at most 60 bits: it is that rounded down, or one less.
+#[inline(always)]
+fn quotient_guess(num: u128, den: u64) -> u64 {
+    let zeros = den.leading_zeros();
+    let inverse = full_inverse(den.wrapping_shl(zeros));
+    let shifted = num.wrapping_shl(zeros);
+    let upper = u128::from((shifted >> 64) as u64) * u128::from(inverse);
+    let lower = u128::from(high_half(low_half(shifted), inverse));
+    low_half(upper.wrapping_add(lower) >> 62)
+}
+
+/// `num / den`, rounded down: mostly without a division if `den` has 64 bits and the quotient at most 60.
+#[inline(always)]
+pub fn quotient(num: u128, den: u128) -> u128
+    requires { 0 < den }
+    ensures { result ≡ num / den }
+{
+    if den < 1 << 64 {
+        let den = den as u64;
+        quotient_near(num, den, quotient_guess(num, den))
+    } else {
+        num / den
+    }
+}
+
 /// A guess at `2^(F + 62) / den`, for a `den` of `2^F` or more: it is that rounded down, or one less.
 #[inline(always)]
 fn inverse_of<const F: u32>(den: u64) -> u64

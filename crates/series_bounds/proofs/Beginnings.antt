@@ -3,14 +3,14 @@ use Rattle.std.proofs.Common.{◌≡◌, ℕ, zero, suc, ◌+◌, ◌-◌, ◌*�
 use Rattle.std.specs.Int.{div_ceil}
 use Rattle.std.proofs.lemmas.Bool.{cases_lt}
 use Rattle.std.proofs.lemmas.List.{length-append}
-use Rattle.fixed_interval.specs.Ends.{Ends, ends_add, ends_mul, ends_times}
+use Rattle.fixed_interval.specs.Ends.{Ends, ends_add, ends_exact, ends_mul, ends_times}
 use Rattle.series_bounds.specs.Profile.{pivot_at, least_end, weight_ends, ratio_ends, ratio_bound, last_index, ends_sum, listed}
 use Rattle.series_bounds.specs.Walk.{ToPivot, SumsTo, Begins, AtLeastEnd, AreWeighed, EndsAt}
 use Rattle.series_bounds.specs.Answer.{IsSum, IsBeginning, at_place}
 use Rattle.series_bounds.proofs.Enclosure.{listed_at, length_listed, narrow_tops, last_most}
-use Rattle.series_bounds.proofs.Walks.{listed_next, end_from_63, end_most, last_start}
+use Rattle.series_bounds.proofs.Walks.{listed_next, end_from_63, end_most, last_start, weight_at_pivot}
 use Rattle.series_bounds.proofs.Bounds.{one_of, bound_half, weight_stays}
-use Rattle.series_bounds.proofs.Unlisted.{sums_next, climb_again, climb_weight, climb_done, late_end}
+use Rattle.series_bounds.proofs.Unlisted.{sums_next, climb_again, climb_weight, climb_done, late_end, first_top}
 
 -- ---- the first weights
 
@@ -112,6 +112,25 @@ all_listed f m d list sum q h =
     h.first.entries ∙ ap (listed (weight_ends f m d)) n
 
 -- ---- the list to the pivot
+
+-- where the pivot is 0, that is the weight 1
+pub one_to_pivot : (f : ℕ) (m d one : Ends) → pivot_at f m d ≡ 0 → one ≡ ends_exact f 1 → ToPivot f m d (one ∷ [])
+unfolding listed
+one_to_pivot f m d one p e =
+    let w : weight_ends f m d 0 ≡ ends_exact f 1 = ap (weight_ends f m d) (sym p) ∙ weight_at_pivot f m d in
+    let n : 1 ≡ suc (pivot_at f m d) = omega (arith, p) in
+    record {
+      weights = ap (λ z. z ∷ []) (e ∙ sym w) ∙ ap (listed (weight_ends f m d)) n;
+      tops = λ x l.
+          let i : pivot_at f m d ≡ x = omega (arith, l, p) in
+          subst (λ z. (weight_ends f m d z).hi ≤ 8 * 2 ^ f) i (first_top f (weight_ends f m d (pivot_at f m d)) (weight_at_pivot f m d));
+    }
+
+-- and its sum
+pub one_sums : (f : ℕ) (m d one : Ends) (c : ℕ) → c ≡ pivot_at f m d → c ≡ 0 → one ≡ ends_exact f 1 → SumsTo f m d one (c + 1)
+one_sums f m d one c p z e =
+    sums_low f m d one c (one ∷ []) p (one_to_pivot f m d one (omega (arith, p, z)) e)
+    (ap₂ (λ y z. record { lo = y; hi = z }) (omega arith) (omega arith)) (omega (arith, first_top f one e))
 
 -- the list of the weights from 0 to the pivot has at most 1025 entries
 pub low_long : (f : ℕ) (m d : Ends) (list : List Ends) → ToPivot f m d list → pivot_at f m d ≤ 256 → length list ≤ 1025

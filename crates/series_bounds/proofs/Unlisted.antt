@@ -160,7 +160,7 @@ climb_unended f m d last sum x h q l =
 -- ---- below the first index at which the list may end
 
 -- a walk up stands at its index
-pub climb_at : (f : ℕ) (m d last sum : Ends) (x : ℕ) → Climb f m d last sum x → x < 63 → AtIndex f m d sum last x
+pub climb_at : (f : ℕ) (m d last sum : Ends) (x : ℕ) → Climb f m d last sum x → x ≤ 63 → AtIndex f m d sum last x
 climb_at f m d last sum x h l = record {
   sums = h.sums;
   past = h.past;

@@ -36,6 +36,7 @@ fn shifted<const F: u32>(a: Iv<F>, places: u32) -> Iv64<F>
 }
 
 /// `a / b`, mostly without a division.
+#[inline(always)]
 pub fn quotient<const F: u32>(a: Iv<F>, b: Iv<F>) -> Iv<F>
     requires room { a.hi ≤ 65536 * 2 ^ F }
     requires divisor { 0 < b.lo }

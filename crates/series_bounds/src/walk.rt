@@ -93,6 +93,36 @@ fn sum_of<const F: u32>(list: &[Iv64<F>]) -> Iv<F>
     sum
 }
 
+/// Appends the weights from 0 to the pivot to an empty list, and returns their sum; None if one exceeds 8. Mostly the
+/// pivot is 0.
+#[inline(always)]
+fn lows<const F: u32>(
+    list: &mut Vec<Iv64<F>>,
+    mean: Iv<F>,
+    excess: Iv<F>,
+    pivot: u16,
+) -> Result<Option<Iv64<F>>, NoMemory>
+    requires empty { list.old.items ≡ [] }
+    requires mean_top { IsWithinLimit F mean }
+    requires depth { pivot ≤ 256 }
+    requires above { 0 < pivot → 2 ^ F + excess.hi ≤ mean.lo }
+    requires place { pivot ≡ pivot_at F mean excess }
+    ensures wide { IfOk result (λ found. IfNone found (is_wide F mean.entry excess.entry ≡ true)) }
+    ensures known { IfOk result (λ found. IfSome found (λ _. ToPivot F mean.entry excess.entry list.new.items)) }
+    ensures sums { IfOk result (λ found. IfSome found (λ low. SumsTo F mean.entry excess.entry low (pivot + 1))) }
+{
+    if pivot == 0 {
+        let one = Iv64::one();
+        list.push(one)?;
+        return Ok(Some(one));
+    }
+    let narrow = down(list, mean, excess, pivot)?;
+    if !narrow {
+        return Ok(None);
+    }
+    Ok(Some(Iv64::of(sum_of(list.as_slice()))))
+}
+
 /// Whether a weight is from 0 to 1 unit.
 #[inline(always)]
 fn is_least<const F: u32>(weight: Iv64<F>) -> bool
@@ -150,8 +180,41 @@ fn hold<const F: u32>(
     Ok(())
 }
 
+/// The walk with the weight at its index, which isn't listed, and the ratios at the next index; None if it exceeds 8.
+#[inline(always)]
+fn one_on<const F: u32>(
+    mean: Iv<F>,
+    excess: Iv<F>,
+    from: Walked<F>,
+    ratios: &mut Ratios<F>,
+) -> Option<Walked<F>>
+    requires mean_top { IsWithinLimit F mean }
+    requires excess_top { excess.hi ≤ 2048 * 2 ^ F }
+    requires near { IsNear F excess }
+    requires depth { pivot_at F mean excess ≤ 256 }
+    requires within { from.next < 63 }
+    requires begun { AtIndex F mean excess from.sum from.last from.next }
+    requires ratios { AreRatios F mean excess from.next ratios.old }
+    ensures wide { IfNone result (is_wide F mean.entry excess.entry ≡ true) }
+    ensures known { IfSome result (λ b. AtIndex F mean.entry excess.entry b.sum b.last b.next) }
+    ensures onward { IfSome result (λ b. b.next ≡ from.entry.next + 1) }
+    ensures ratios { AreRatios F mean.entry excess.entry (from.entry.next + 1) ratios.new }
+{
+    let Walked { sum, last, next } = from;
+    let last = last.times(ratios.take(mean, excess, next));
+    if last.passes_8() {
+        return None;
+    }
+    Some(Walked {
+        sum: sum.add(last),
+        last,
+        next: next + 1,
+    })
+}
+
 /// The sum, from an index past the pivot up to the first index at which the list may end, or until the weights stay the
 /// same; None if one exceeds 8. No weight is listed. `from` is the walk below the index, and `ratios` are those there.
+/// Whether the weights stay the same is asked at each second weight, which is quicker.
 #[inline(always)]
 fn rise_on<const F: u32>(
     mean: Iv<F>,
@@ -171,36 +234,25 @@ fn rise_on<const F: u32>(
     ensures known { IfSome result (λ b. Midway F mean.entry excess.entry b.sum b.last b.next) }
     ensures onward { IfSome result (λ b. from.entry.next ≤ b.next) }
 {
-    let Walked {
-        mut sum,
-        mut last,
-        next,
-    } = from;
+    let mut walked = from;
     let mut ratios = ratios;
-    for x in next..FIRST_END {
-        last = last.times(ratios.take(mean, excess, x));
-        if last.passes_8() {
-            return None;
-        }
-        sum = sum.add(last);
-        if stays(&mean, &excess, last, x + 1) {
-            return Some(Walked {
-                sum,
-                last,
-                next: x + 1,
-            });
+    while walked.next < FIRST_END - 1 {
+        let once = one_on(mean, excess, walked, &mut ratios)?;
+        walked = one_on(mean, excess, once, &mut ratios)?;
+        if stays(&mean, &excess, walked.last, walked.next) {
+            return Some(walked);
         }
     }
-    Some(Walked {
-        sum,
-        last,
-        next: FIRST_END,
-    })
+    if walked.next < FIRST_END {
+        let end = one_on(mean, excess, walked, &mut ratios)?;
+        return Some(end);
+    }
+    Some(walked)
 }
 
 /// The first weights and the sum, from the pivot up to the first index at which the list may end, or until the weights
 /// stay the same; None if one exceeds 8. `list` has the weights to the pivot, and `low` is their sum.
-#[inline(never)]
+#[inline(always)]
 fn rise<const F: u32>(
     list: &mut Vec<Iv64<F>>,
     mean: Iv<F>,
@@ -427,11 +479,9 @@ pub(crate) fn weigh<const F: u32>(
     ensures least { IfOk result (λ found. IfSome found (λ sum. 2 ^ F ≤ sum.lo)) }
 {
     let pivot = pivot_of(mean, excess);
-    let narrow = down(list, mean, excess, pivot)?;
-    if !narrow {
+    let Some(low) = lows(list, mean, excess, pivot)? else {
         return Ok(None);
-    }
-    let low = Iv64::of(sum_of(list.as_slice()));
+    };
     if is_near(excess) {
         risen(list, mean, excess, pivot, low, wanted)
     } else {

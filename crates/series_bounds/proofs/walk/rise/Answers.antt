@@ -88,7 +88,7 @@ pub rise_on-requires : goal.rise_on-requires
 rise_on-requires g c =
     let t = c.loop-x.invariant in
     let at : AtIndex g.row.F c.args.mean c.args.excess c.loop-x.sum c.loop-x.last c.loop-x.x =
-    climb_at g.row.F c.args.mean c.args.excess c.loop-x.last c.loop-x.sum c.loop-x.x t.climb c.loop-x-test.true in (
+    climb_at g.row.F c.args.mean c.args.excess c.loop-x.last c.loop-x.sum c.loop-x.x t.climb (omega (arith, c.loop-x-test.true)) in (
       lit< tt,
       (
         lit< tt,
